@@ -1,0 +1,5 @@
+mod Numbers
+mod Spellings
+mod Codecs
+mod Readings
+pub mod PublicLaws

@@ -1,0 +1,4 @@
+pub mod Codec
+pub mod Number
+pub mod Varint
+pub mod Reading

@@ -1,0 +1,186 @@
+//! Integers of variable length (RFC 9000, section 16).
+ghost use Rattle.std.specs.Prelude.{◌≡◌, ◌+◌, ◌<◌, ◌^◌, ◌++◌, List, ℕ, Ok, Some, drop, length, IfOk, OnErr, OnOk};
+ghost use Rattle.std.specs.Fmt.{decimal};
+ghost use Rattle.quic_base.specs.Codec.{Takes, NoFront, IsBegun, KeepsRoom};
+ghost use Rattle.quic_base.specs.Varint.{Spells, IsBounded, short, size};
+
+use crate::coding::{self, Codec, NoRoom, UnexpectedEnd, first_byte, get_array};
+use bytes::{Buf, BufMut};
+use std::fmt;
+use std::marker::Model;
+use thiserror::Error;
+
+/// A number too large for a varint: at least 2^62.
+#[derive(Clone, Copy, Debug, PartialEq, Eq, Error)]
+#[error("value too large for varint encoding")]
+pub struct VarIntBoundsExceeded;
+
+/// An integer below 2^62, which contracts see as that number.
+#[derive(Clone, Copy, PartialEq, Eq, PartialOrd, Ord, Hash)]
+pub struct VarInt(u64);
+
+impl Model for VarInt {
+    ghost Value = { ℕ };
+
+    ghost view = { λ v. v.0 };
+
+    ghost invariant = { λ v. v.0 < 2 ^ 62 };
+
+    ghost inverse = { λ n. record { 0 = n } };
+}
+
+impl VarInt {
+    /// The greatest value, 2^62 - 1.
+    pub const MAX: VarInt = VarInt((1 << 62) - 1);
+
+    /// The length in bytes of the longest spelling.
+    pub const MAX_SIZE: usize = 8;
+
+    /// The number `x`, which always fits.
+    pub const fn from_u32(x: u32) -> VarInt
+        ensures { result ≡ x }
+    {
+        VarInt(x as u64)
+    }
+
+    /// The number `x`, refused exactly from 2^62 on.
+    pub fn from_u64(x: u64) -> Result<VarInt, VarIntBoundsExceeded>
+        ensures { IsBounded x result }
+    {
+        if x < 1 << 62 {
+            Ok(VarInt(x))
+        } else {
+            Err(VarIntBoundsExceeded)
+        }
+    }
+
+    /// The number `x`, of which the caller owes that it is below 2^62.
+    pub const fn from_u64_unchecked(x: u64) -> VarInt
+        requires { x < 2 ^ 62 }
+        ensures { result ≡ x }
+    {
+        VarInt(x)
+    }
+
+    /// The number, which is below 2^62.
+    pub const fn into_inner(self) -> u64
+        ensures value { result ≡ self }
+        ensures bound { self < 2 ^ 62 }
+    {
+        self.0
+    }
+
+    /// The length in bytes of the shortest spelling: 1, 2, 4 or 8.
+    #[tactic(auto, unfolding(crate::specs::Varint::size))]
+    pub const fn size(self) -> usize
+        ensures { result ≡ size self }
+    {
+        let x = self.0;
+        if x < 1 << 6 {
+            1
+        } else if x < 1 << 14 {
+            2
+        } else if x < 1 << 30 {
+            4
+        } else {
+            8
+        }
+    }
+}
+
+impl fmt::Display for VarInt {
+    ghost output = { λ v. Some (decimal v) };
+
+    fn fmt<W: fmt::Write>(&self, f: &mut fmt::Formatter<W>) -> fmt::Result {
+        self.0.fmt(f)
+    }
+}
+
+impl fmt::Debug for VarInt {
+    fn fmt<W: fmt::Write>(&self, f: &mut fmt::Formatter<W>) -> fmt::Result {
+        fmt::Debug::fmt(&self.0, f)
+    }
+}
+
+// The number that a varint at the front spells, in any width: one look at the first byte, and one
+// load of the whole width.
+#[inline]
+fn read_number<B: Buf>(buf: &mut B) -> coding::Result<u64>
+    ensures ok { IfOk result (λ v. Takes (Spells v) (B.unread buf.old) (B.unread buf.new)) }
+    ensures bound { IfOk result (λ v. v < 2 ^ 62) }
+    ensures cut { OnErr result ((v : ℕ) → NoFront (Spells v) (B.unread buf.old)) }
+    ensures left { OnErr result (B.unread buf.new ≡ drop 1 (B.unread buf.old)) }
+    ensures kept { B.kept buf.new ≡ B.kept buf.old }
+{
+    let Some(first) = first_byte(buf) else {
+        return Err(UnexpectedEnd);
+    };
+    match first {
+        0..=0x3f => {
+            buf.advance(1);
+            return Ok(u64::from(first));
+        }
+        0x40..=0x7f => {
+            if let Ok(bytes) = get_array(buf) {
+                return Ok(u64::from(u16::from_be_bytes(bytes) - (1 << 14)));
+            }
+        }
+        0x80..=0xbf => {
+            if let Ok(bytes) = get_array(buf) {
+                return Ok(u64::from(u32::from_be_bytes(bytes) - (2 << 30)));
+            }
+        }
+        0xc0..=0xff => {
+            if let Ok(bytes) = get_array(buf) {
+                return Ok(u64::from_be_bytes(bytes) - (3 << 62));
+            }
+        }
+    }
+    buf.advance(1);
+    Err(UnexpectedEnd)
+}
+
+/// All four widths are read, the shortest is written. Where the first byte is there and others are
+/// missing, `decode` has consumed that one byte.
+impl Codec for VarInt {
+    ghost spelled = { Spells };
+
+    ghost encoding = { short };
+
+    ghost after_cut = { drop 1 };
+
+    fn decode<B: Buf>(buf: &mut B) -> coding::Result<VarInt>
+        ensures ok { IfOk result (λ v. Takes (Spells v) (B.unread buf.old) (B.unread buf.new)) }
+        ensures cut { OnErr result ((v : ℕ) → NoFront (Spells v) (B.unread buf.old)) }
+        ensures left { OnErr result (B.unread buf.new ≡ drop 1 (B.unread buf.old)) }
+        ensures kept { B.kept buf.new ≡ B.kept buf.old }
+        // What was written is read back, whatever follows it.
+        ensures own { (n : ℕ) (rest : List ℕ) → n < 2 ^ 62 → B.unread buf.old ≡ short n ++ rest
+            → (result ≡ Ok n) × (B.unread buf.new ≡ rest) }
+    {
+        Ok(VarInt(read_number(buf)?))
+    }
+
+    #[tactic(auto, using(crate::proofs::Spellings::shorts), unfolding(crate::specs::Number::bytes_of))]
+    fn encode<B: BufMut>(&self, buf: &mut B) -> Result<(), NoRoom>
+        ensures bound { self.now < 2 ^ 62 }
+        ensures spelled { Spells self.now (short self.now) }
+        ensures ok { OnOk result (B.written buf.new ≡ B.written buf.old ++ short self.now) }
+        ensures err { OnErr result
+            (IsBegun (B.written buf.old) (short self.now) (B.written buf.new)) }
+        ensures full { OnErr result (B.spare buf.old < length (short self.now)) }
+        ensures room { KeepsRoom (B.written buf.old) (B.spare buf.old)
+            (B.written buf.new) (B.spare buf.new) }
+    {
+        let x = self.0;
+        if x < 1 << 6 {
+            buf.put_u8(x as u8).map_err(|_| NoRoom)
+        } else if x < 1 << 14 {
+            buf.put_u16((1 << 14) + x as u16).map_err(|_| NoRoom)
+        } else if x < 1 << 30 {
+            buf.put_u32((2 << 30) + x as u32).map_err(|_| NoRoom)
+        } else {
+            buf.put_u64((3 << 62) + x).map_err(|_| NoRoom)
+        }
+    }
+}

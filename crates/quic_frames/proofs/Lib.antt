@@ -1,0 +1,9 @@
+mod Varints
+mod Steps
+mod Blocks
+mod Fields
+mod Rows
+mod Frames
+mod Items
+mod Finding
+mod Places

@@ -1,0 +1,240 @@
+-- Where frames stand in a payload, as an iterator comes over it.
+use Rattle.std.proofs.Common.{◌≡◌, ◌≢◌, ℕ, ◌+◌, ◌-◌, ◌<◌, ◌≤◌, Bool, true, false, eqb, List, [], ◌∷◌, ◌++◌, length, take, drop, Option, Some, None, Ok, Err, refl, sym, ap, subst, ◌∙◌, append_assoc, inl, inr, arith}
+use Rattle.std.specs.Prelude.{◌⊎◌, slice_range}
+use Rattle.std.proofs.lemmas.List.{append-nil, length-append, length-drop, length-take, take_at, take-append-drop, drop_at, take_rest}
+use Rattle.std.proofs.lemmas.Bool.Decides.{nat_tests}
+use Rattle.quic_base.specs.Number.{AreBytes}
+use Rattle.quic_base.proofs.PublicLaws.{back_bytes}
+use Rattle.quic_frames.specs.declared.frame.Frame.{Frame}
+use Rattle.quic_frames.specs.Field.{Value, Number, Bytes, Ranges, Field, IsField, AreFields}
+use Rattle.quic_frames.specs.Field as kinds
+use Rattle.quic_frames.specs.Table.{is_open}
+use Rattle.quic_frames.specs.Payload.{Found, IsFrame}
+use Rattle.quic_frames.specs.Reading.{Invalid, found_at, Whole, Broken, items_of}
+use Rattle.quic_frames.specs.Found.{found_as}
+use Rattle.quic_frames.specs.Way.{Way}
+use Rattle.quic_frames.specs.Walk.{left, bytes_of_value, last_bytes, Stands, Finds}
+use Rattle.quic_frames.proofs.Frames.{TakesFound, found_takes}
+use Rattle.quic_frames.proofs.Items.{frame_some, nothing, items_found, items_broken, no_items, all_read}
+
+-- ---- the last bytes of a frame
+
+last_bytes-push : (before : Option (List ℕ)) (values : List Value) (value : Value) → last_bytes before (values ++ value ∷ []) ≡ bytes_of_value value
+last_bytes-push before [] value = refl
+last_bytes-push before (first ∷ values) value = last_bytes-push (bytes_of_value first) values value
+
+-- what a field adds
+data Adds (values : List Value) (bytes : List ℕ) : Type 0 where
+  adds_none : values ≡ [] → bytes ≡ [] → Adds values bytes
+  adds_other : (value : Value) → bytes_of_value value ≡ None → values ≡ value ∷ [] → Adds values bytes
+  adds_bytes : (front back : List ℕ) → values ≡ Bytes back ∷ [] → bytes ≡ front ++ back → Adds values bytes
+
+field_adds : (field : Field) (before values : List Value) (bytes : List ℕ) → IsField field before values bytes → Adds values bytes
+field_adds kinds.Varint before values bytes s = adds_other (Number s.0) refl s.1
+field_adds kinds.Counted before values bytes s = adds_bytes s.0 s.1 s.2 s.4
+field_adds kinds.Id before values bytes s = adds_bytes (length s.0 ∷ []) s.0 s.1 s.4
+field_adds kinds.Eight before values bytes s = adds_other (Number s.0) refl s.1
+field_adds kinds.Sixteen before values bytes s = adds_bytes [] bytes s.0 refl
+field_adds kinds.Blocks before values bytes s = adds_other (Ranges (s.2 ∷ s.3)) refl s.4
+field_adds kinds.Rest before values bytes s = adds_bytes [] bytes s refl
+field_adds (kinds.Unwritten n) before values bytes s = adds_other (Number n) refl s.0
+field_adds kinds.Ordered before values bytes s = adds_none s.0 s.1
+
+abbrev EndsIn : List Value → List ℕ → List ℕ → Type 0
+EndsIn before bytes last = ((last_bytes None before ≡ Some last) × (bytes ≡ [])) ⊎ ((front : List ℕ) × (bytes ≡ front ++ last))
+
+none_is_some : (o : Option (List ℕ)) (last : List ℕ) → o ≡ None → o ≡ Some last → ⊥
+none_is_some o last none some = cc
+
+some_is : (a b : List ℕ) → bytes_of_value (Bytes a) ≡ Some b → a ≡ b
+some_is a b e = cc
+
+all_end_in : (fields : List Field) (before after : List Value) (bytes last : List ℕ) → AreFields fields before after bytes → last_bytes None after ≡ Some last → EndsIn before bytes last
+all_end_in [] before after bytes last s e = inl (sym (ap (last_bytes None) s.0) ∙ e, s.1)
+all_end_in (field ∷ fields) before after bytes last s e =
+    elim (all_end_in fields (before ++ s.0) after s.2 last s.5 e) [
+      | inr found ↦ inr (s.1 ++ found.0, s.3 ∙ ap (λ (l : List ℕ). s.1 ++ l) found.1 ∙ sym (append_assoc s.1 found.0 last))
+      | inl here ↦
+          let whole : bytes ≡ s.1 = s.3 ∙ ap (λ (l : List ℕ). s.1 ++ l) here.1 ∙ append-nil s.1 in
+          elim (field_adds field before s.0 s.1 s.4) [
+            | adds_none none nothing ↦ inl (sym (ap (last_bytes None) (ap (λ (l : List Value). before ++ l) none ∙ append-nil before)) ∙ here.0, whole ∙ nothing)
+            | adds_other value none is ↦
+                let e1 : last_bytes None (before ++ value ∷ []) ≡ Some last = ap (λ (l : List Value). last_bytes None (before ++ l)) (sym is) ∙ here.0 in
+                absurd (none_is_some (bytes_of_value value) last none (sym (last_bytes-push None before value) ∙ e1))
+            | adds_bytes front back is parts ↦
+                let e1 : last_bytes None (before ++ Bytes back ∷ []) ≡ Some last = ap (λ (l : List Value). last_bytes None (before ++ l)) (sym is) ∙ here.0 in
+                let same : back ≡ last = some_is back last (sym (last_bytes-push None before (Bytes back)) ∙ e1) in
+                inr (front, whole ∙ parts ∙ ap (λ (l : List ℕ). front ++ l) same)
+          ]
+    ]
+
+-- ---- places
+
+middle_is : (a b c : List ℕ) (start stop : ℕ) → length a ≡ start → length a + length b ≡ stop → slice_range (a ++ (b ++ c)) start stop ≡ b
+middle_is a b c start stop begins stops =
+    let long : length b ≡ stop - start = omega arith in
+    rw (drop_at a (b ++ c) start begins, take_at b c (stop - start) long) refl
+
+-- a payload cut at an offset and at the end of the frame there
+record Cut (payload : List ℕ) (offset stop : ℕ) (found : Found) (rest : List ℕ) : Type 0 where
+  first : List ℕ
+  front : List ℕ
+  whole : payload ≡ first ++ (front ++ rest)
+  begins : length first ≡ offset
+  ends : length first + length front ≡ stop
+  stop_is : stop ≡ length payload - length rest
+  within : stop ≤ length payload
+  some : offset < stop
+  frame : IsFrame false found front
+  opens : is_open found.type ≡ true → rest ≡ []
+
+cut_at : (payload : List ℕ) (offset : ℕ) (found : Found) (rest : List ℕ) → offset ≤ length payload → TakesFound false found (drop offset payload) rest → Cut payload offset (length payload - length rest) found rest
+cut_at payload offset found rest le t =
+    let first : List ℕ = take offset payload in
+    let whole : payload ≡ first ++ (t.front ++ rest) = sym (take-append-drop offset payload) ∙ ap (λ (l : List ℕ). take offset payload ++ l) t.parts in
+    let begins : length first ≡ offset = omega (arith, length-take offset payload) in
+    let sizes : length payload ≡ length first + (length t.front + length rest) = ap length whole ∙ length-append first (t.front ++ rest) ∙ ap (λ (n : ℕ). length first + n) (length-append t.front rest) in
+    let some = frame_some false found t.front t.frame in
+    record {
+      first = first;
+      front = t.front;
+      whole = whole;
+      begins = begins;
+      ends = omega (arith, sizes);
+      stop_is = refl;
+      within = omega arith;
+      some = omega (arith, sizes, begins, some);
+      frame = t.frame;
+      opens = t.opens;
+    }
+
+cut_stands : (payload : List ℕ) (offset stop : ℕ) (found : Found) (rest : List ℕ) → Cut payload offset stop found rest → Stands payload offset stop found
+cut_stands payload offset stop found rest c =
+    let here : slice_range payload offset stop ≡ c.front = ap (λ (l : List ℕ). slice_range l offset stop) c.whole ∙ middle_is c.first c.front rest offset stop c.begins c.ends in
+    record {
+      some = c.some;
+      within = c.within;
+      spelled = subst (λ (l : List ℕ). IsFrame false found l) (sym here) c.frame;
+      borrowed = λ bytes e.
+          elim (all_end_in c.frame.row.fields [] found.frame.values c.frame.field_bytes bytes c.frame.fields e) [
+            | inl none ↦ absurd (let h = none.0 in cc)
+            | inr f ↦
+                let before = c.first ++ (c.frame.type_bytes ++ f.0) in
+                let front_is : c.front ≡ (c.frame.type_bytes ++ f.0) ++ bytes = c.frame.parts ∙ ap (λ (l : List ℕ). c.frame.type_bytes ++ l) f.1 ∙ sym (append_assoc c.frame.type_bytes f.0 bytes) in
+                let all : payload ≡ before ++ (bytes ++ rest) =
+                c.whole ∙ ap (λ (l : List ℕ). c.first ++ (l ++ rest)) front_is ∙ ap (λ (l : List ℕ). c.first ++ l) (append_assoc (c.frame.type_bytes ++ f.0) bytes rest)
+                ∙ sym (append_assoc c.first (c.frame.type_bytes ++ f.0) (bytes ++ rest)) in
+                let sizes : length c.front ≡ length (c.frame.type_bytes ++ f.0) + length bytes = ap length front_is ∙ length-append (c.frame.type_bytes ++ f.0) bytes in
+                let before_len : length before ≡ length c.first + length (c.frame.type_bytes ++ f.0) = length-append c.first (c.frame.type_bytes ++ f.0) in
+                ap (λ (l : List ℕ). slice_range l (stop - length bytes) stop) all ∙ middle_is before bytes rest (stop - length bytes) stop (omega (arith, sizes, before_len, c.ends)) (omega (arith, sizes, before_len, c.ends))
+          ];
+    }
+
+cut_rest : (payload : List ℕ) (offset stop : ℕ) (found : Found) (rest : List ℕ) → Cut payload offset stop found rest → drop stop payload ≡ rest
+cut_rest payload offset stop found rest c =
+    let whole : payload ≡ (c.first ++ c.front) ++ rest = c.whole ∙ sym (append_assoc c.first c.front rest) in
+    let len : length (c.first ++ c.front) ≡ stop = length-append c.first c.front ∙ c.ends in
+    ap (drop stop) whole ∙ drop_at (c.first ++ c.front) rest stop len
+
+drop_nothing : (payload : List ℕ) (offset : ℕ) → offset ≤ length payload → drop offset payload ≡ [] → offset ≡ length payload
+drop_nothing payload offset le e = omega (arith, length-drop offset payload, ap length e, le)
+
+drop_all : (payload : List ℕ) (offset : ℕ) → offset ≡ length payload → drop offset payload ≡ []
+drop_all payload offset e = nothing (drop offset payload) (omega (arith, length-drop offset payload))
+
+-- the bytes from a place on, as the code cuts them
+pub rest_is : (payload : List ℕ) (offset : ℕ) → take (length payload - offset) (drop offset payload) ≡ drop offset payload
+rest_is payload offset = take_rest payload offset
+
+-- ---- steps of an iterator
+
+abbrev pub at_place : List ℕ → ℕ → Option ℕ → Way
+at_place payload offset last = record { payload = payload; offset = offset; last = last; is_broken = false }
+
+-- a frame at the offset
+pub finds : (payload : List ℕ) (offset : ℕ) (last : Option ℕ) (ty : ℕ) (frame : Frame) (rest : List ℕ) → AreBytes (drop offset payload) → offset ≤ length payload → offset < length payload
+    → found_at false last (drop offset payload) ≡ Ok (found_as ty frame, rest) → Finds (at_place payload offset last) frame (at_place payload (length payload - length rest) (Some ty))
+finds payload offset last ty frame rest fits le some e =
+    let found = found_as ty frame in
+    let bytes = drop offset payload in
+    let stop = length payload - length rest in
+    let t = found_takes false last bytes (found, rest) fits e in
+    let c = cut_at payload offset found rest le t in
+    let after : drop stop payload ≡ rest = cut_rest payload offset stop found rest c in
+    let size : length bytes ≡ length payload - offset = length-drop offset payload in
+    let some_left : bytes ≢ [] = λ h. absurd (omega (arith, ap length h, size, some)) in
+    let fewer : length rest ≤ length bytes = omega (arith, ap length t.parts, length-append t.front rest) in
+    let same : offset + (length bytes - length rest) ≡ stop = omega (arith, size, fewer, le) in
+    let items = items_found false offset last bytes (found, rest) fits some_left e in
+    let rest_fits : AreBytes rest = back_bytes t.front rest (subst AreBytes t.parts fits) in
+    record {
+      found = found;
+      says = refl;
+      comes = refl;
+      first = items ∙ ap (λ (n : ℕ). Whole offset n found ∷ items_of false n (Some ty) rest) same ∙ ap (λ (l : List ℕ). Whole offset stop found ∷ items_of false stop (Some ty) l) (sym after);
+      stands = cut_stands payload offset stop found rest c;
+      ends = λ opens. omega (arith, ap length (t.opens opens));
+      is_done = (
+        (λ none. drop_nothing payload stop c.within (after ∙ all_read false stop (Some ty) rest rest_fits (ap (items_of false stop (Some ty)) (sym after) ∙ none))),
+        (λ end. ap (items_of false stop (Some ty)) (drop_all payload stop end) ∙ no_items false stop (Some ty)),
+      );
+    }
+
+-- something that is no frame
+pub breaks : (payload : List ℕ) (offset : ℕ) (last : Option ℕ) (i : Invalid) → offset < length payload → found_at false last (drop offset payload) ≡ Err i → left (at_place payload offset last) ≡ Broken i ∷ []
+breaks payload offset last i some e =
+    items_broken false offset last (drop offset payload) i (λ h. absurd (omega (arith, ap length h, length-drop offset payload, some))) e
+
+-- nothing
+pub is_over : (payload : List ℕ) (offset : ℕ) (last : Option ℕ) → length (drop offset payload) ≡ 0 → left (at_place payload offset last) ≡ []
+is_over payload offset last none = ap (items_of false offset last) (nothing (drop offset payload) (omega arith)) ∙ no_items false offset last
+
+-- the same of a walk whose parts are told apart
+abbrev pub walk : List ℕ → ℕ → Option ℕ → Bool → Way
+walk payload offset last is_broken = record { payload = payload; offset = offset; last = last; is_broken = is_broken }
+
+is_not_broken : (payload : List ℕ) (offset : ℕ) (last : Option ℕ) (b : Bool) (old : Way) → walk payload offset last b ≡ old → b ≡ false → at_place payload offset last ≡ old
+is_not_broken payload offset last b old e f = ap (walk payload offset last) (sym f) ∙ e
+
+some_bytes : (payload : List ℕ) (offset : ℕ) → eqb (length (take (length payload - offset) (drop offset payload))) 0 ≡ false → offset < length payload
+some_bytes payload offset e =
+    let size : length (take (length payload - offset) (drop offset payload)) ≡ length payload - offset = ap length (rest_is payload offset) ∙ length-drop offset payload in
+    let some : eqb (length payload - offset) 0 ≡ false = rw size at e in
+    grind (arith, nat_tests)
+
+pub fewer_left : (payload : List ℕ) (offset : ℕ) (last : Option ℕ) (found : Found) (rest : List ℕ) → AreBytes (take (length payload - offset) (drop offset payload))
+    → found_at false last (take (length payload - offset) (drop offset payload)) ≡ Ok (found, rest) → length rest ≤ length payload
+fewer_left payload offset last found rest fits e =
+    let t = found_takes false last _ (found, rest) fits e in
+    let sizes = ap length t.parts ∙ length-append t.front rest in
+    let size : length (take (length payload - offset) (drop offset payload)) ≡ length payload - offset = ap length (rest_is payload offset) ∙ length-drop offset payload in
+    omega (arith, sizes, size)
+
+pub finds_here : (payload : List ℕ) (offset : ℕ) (last : Option ℕ) (b : Bool) (old : Way) (ty : ℕ) (frame : Frame) (rest : List ℕ) → walk payload offset last b ≡ old → b ≡ false → offset ≤ length payload
+    → eqb (length (take (length payload - offset) (drop offset payload))) 0 ≡ false → AreBytes (take (length payload - offset) (drop offset payload))
+    → found_at false last (take (length payload - offset) (drop offset payload)) ≡ Ok (found_as ty frame, rest) → Finds old frame (walk payload (length payload - length rest) (Some ty) b)
+finds_here payload offset last b old ty frame rest v f le some fits e =
+    let cut = rest_is payload offset in
+    let here = finds payload offset last ty frame rest (subst AreBytes cut fits) le (some_bytes payload offset some) (ap (found_at false last) (sym cut) ∙ e) in
+    subst (λ (o : Way). Finds o frame (walk payload (length payload - length rest) (Some ty) b)) (is_not_broken payload offset last b old v f)
+    (subst (λ (c : Bool). Finds (at_place payload offset last) frame (walk payload (length payload - length rest) (Some ty) c)) (sym f) here)
+
+pub breaks_here : (payload : List ℕ) (offset : ℕ) (last : Option ℕ) (b : Bool) (old : Way) (i : Invalid) → walk payload offset last b ≡ old → b ≡ false
+    → eqb (length (take (length payload - offset) (drop offset payload))) 0 ≡ false → found_at false last (take (length payload - offset) (drop offset payload)) ≡ Err i
+    → (left old ≡ Broken i ∷ []) × (walk payload offset last true ≡ record old { is_broken = true })
+breaks_here payload offset last b old i v f some e =
+    let cut = rest_is payload offset in
+    let is = is_not_broken payload offset last b old v f in (
+      ap left (sym is) ∙ breaks payload offset last i (some_bytes payload offset some) (ap (found_at false last) (sym cut) ∙ e),
+      ap (λ (o : Way). record o { is_broken = true }) is,
+    )
+
+pub is_broken_here : (payload : List ℕ) (offset : ℕ) (last : Option ℕ) (b : Bool) (old : Way) → walk payload offset last b ≡ old → b ≡ true → left old ≡ []
+is_broken_here payload offset last b old v t = ap left (sym v) ∙ ap (λ (c : Bool). left (walk payload offset last c)) t
+
+pub is_over_here : (payload : List ℕ) (offset : ℕ) (last : Option ℕ) (b : Bool) (old : Way) → walk payload offset last b ≡ old → b ≡ false
+    → eqb (length (take (length payload - offset) (drop offset payload))) 0 ≡ true → left old ≡ []
+is_over_here payload offset last b old v f none =
+    let size : length (take (length payload - offset) (drop offset payload)) ≡ length (drop offset payload) = ap length (rest_is payload offset) in
+    let zero_left : length (drop offset payload) ≡ 0 = let n : eqb (length (drop offset payload)) 0 ≡ true = rw size at none in grind (arith, nat_tests) in
+    ap left (sym (is_not_broken payload offset last b old v f)) ∙ is_over payload offset last zero_left

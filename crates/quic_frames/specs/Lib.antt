@@ -1,0 +1,13 @@
+pub use Rattle.quic_base.specs.Number
+pub use Rattle.quic_base.specs.Varint
+pub use Rattle.quic_base.specs.Codec
+pub mod Field
+pub mod Table
+pub mod Payload
+pub mod Reading
+pub mod Meaning
+pub mod Names
+pub mod Way
+pub mod Walk
+pub mod Found
+pub mod Codes

@@ -1,0 +1,61 @@
+-- How far an iterator has come over its payload, and what it still gives.
+use Rattle.std.specs.Prelude.{◌≡◌, ◌↔◌, ℕ, ◌-◌, ◌<◌, ◌≤◌, List, [], ◌∷◌, length, drop, slice_range, Option, Some, None, Result, Ok, Err, true, false, if◌then◌else◌}
+use Rattle.quic_frames.specs.declared.frame.Frame.{Frame}
+use Rattle.quic_frames.specs.declared.frame.found.InvalidFrame.{InvalidFrame}
+use Rattle.quic_frames.specs.Field.{Value, Number, Bytes, Ranges}
+use Rattle.quic_frames.specs.Table.{is_open}
+use Rattle.quic_frames.specs.Payload.{Found, IsFrame}
+use Rattle.quic_frames.specs.Reading.{Item, Whole, Broken, Invalid, items_of}
+use Rattle.quic_frames.specs.Meaning.{meaning_of}
+use Rattle.quic_frames.specs.Way.{Way}
+
+abbrev pub invalid_of : InvalidFrame → Invalid
+invalid_of i = record { type = i.ty; reason = i.reason.now }
+
+-- the items that are left
+abbrev pub left : Way → List Item
+left way = if way.is_broken then [] else items_of false way.offset way.last (drop way.offset way.payload)
+
+-- at the front of a payload
+abbrev pub first_of : List ℕ → Way
+first_of payload = record { payload = payload; offset = 0; last = None; is_broken = false }
+
+-- an item without its place
+abbrev pub unplaced : Item → Result Found Invalid
+unplaced (Whole start stop found) = Ok found
+unplaced (Broken i) = Err i
+
+abbrev pub given : Found → Result Found Invalid
+given found = Ok found
+
+abbrev pub bytes_of_value : Value → Option (List ℕ)
+bytes_of_value (Number n) = None
+bytes_of_value (Bytes bytes) = Some bytes
+bytes_of_value (Ranges ranges) = None
+
+abbrev pub last_bytes : Option (List ℕ) → List Value → Option (List ℕ)
+last_bytes before [] = before
+last_bytes before (value ∷ values) = last_bytes (bytes_of_value value) values
+
+-- The frame stands in the payload from start to stop, and where its last value is bytes, they end there too.
+pub record Stands (payload : List ℕ) (start stop : ℕ) (found : Found) : Type 0 where
+  pub some : start < stop
+  pub within : stop ≤ length payload
+  pub spelled : IsFrame false found (slice_range payload start stop)
+  pub borrowed : (bytes : List ℕ) → last_bytes None found.frame.values ≡ Some bytes → slice_range payload (stop - length bytes) stop ≡ bytes
+
+-- A frame was found, from the place before to the place after.
+pub record Finds (old : Way) (frame : Frame) (new : Way) : Type 0 where
+  pub found : Found
+  pub says : found.frame ≡ meaning_of frame
+  pub comes : new ≡ record old { offset = new.offset; last = Some found.type }
+  pub first : left old ≡ Whole old.offset new.offset found ∷ left new
+  pub stands : Stands old.payload old.offset new.offset found
+  pub ends : is_open found.type ≡ true → new.offset ≡ length old.payload
+  pub is_done : (left new ≡ []) ↔ (new.offset ≡ length old.payload)
+
+-- what a call of next does: the first item that is left is given
+abbrev pub Advances : Way → Option (Result Frame InvalidFrame) → Way → Type 0
+Advances old None new = (left old ≡ []) × (new ≡ old)
+Advances old (Some (Ok frame)) new = Finds old frame new
+Advances old (Some (Err i)) new = (left old ≡ Broken (invalid_of i) ∷ []) × (new ≡ record old { is_broken = true })

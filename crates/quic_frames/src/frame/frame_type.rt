@@ -1,0 +1,175 @@
+//! The types of frames, and their names.
+ghost use Rattle.std.specs.Prelude.{◌≡◌, ◌+◌, ◌<◌, ◌^◌, ℕ, None, Some, drop, MatchOption, if◌then◌else◌};
+ghost use Rattle.quic_base.specs.Varint.{Spells, short};
+ghost use Rattle.quic_frames.specs.Names.{name_of, own_name, shared_name};
+
+use bytes::{Buf, BufMut};
+use quic_base::coding::{self, Codec, NoRoom};
+use quic_base::varint::VarInt;
+use std::fmt;
+use std::marker::Model;
+
+/// The number that begins a frame, below 2^62, which contracts see as that number.
+#[derive(Clone, Copy, PartialEq, Eq)]
+pub struct FrameType(u64);
+
+impl Model for FrameType {
+    ghost Value = { ℕ };
+
+    ghost view = { λ t. t.0 };
+
+    ghost invariant = { λ t. t.0 < 2 ^ 62 };
+
+    ghost inverse = { λ n. record { 0 = n } };
+}
+
+/// The types that have a name of their own. STREAM and DATAGRAM frames have several types each.
+impl FrameType {
+    pub const PADDING: FrameType = FrameType(0x00);
+
+    pub const PING: FrameType = FrameType(0x01);
+
+    pub const ACK: FrameType = FrameType(0x02);
+
+    pub const ACK_ECN: FrameType = FrameType(0x03);
+
+    pub const RESET_STREAM: FrameType = FrameType(0x04);
+
+    pub const STOP_SENDING: FrameType = FrameType(0x05);
+
+    pub const CRYPTO: FrameType = FrameType(0x06);
+
+    pub const NEW_TOKEN: FrameType = FrameType(0x07);
+
+    pub const MAX_DATA: FrameType = FrameType(0x10);
+
+    pub const MAX_STREAM_DATA: FrameType = FrameType(0x11);
+
+    pub const MAX_STREAMS_BIDI: FrameType = FrameType(0x12);
+
+    pub const MAX_STREAMS_UNI: FrameType = FrameType(0x13);
+
+    pub const DATA_BLOCKED: FrameType = FrameType(0x14);
+
+    pub const STREAM_DATA_BLOCKED: FrameType = FrameType(0x15);
+
+    pub const STREAMS_BLOCKED_BIDI: FrameType = FrameType(0x16);
+
+    pub const STREAMS_BLOCKED_UNI: FrameType = FrameType(0x17);
+
+    pub const NEW_CONNECTION_ID: FrameType = FrameType(0x18);
+
+    pub const RETIRE_CONNECTION_ID: FrameType = FrameType(0x19);
+
+    pub const PATH_CHALLENGE: FrameType = FrameType(0x1a);
+
+    pub const PATH_RESPONSE: FrameType = FrameType(0x1b);
+
+    pub const CONNECTION_CLOSE: FrameType = FrameType(0x1c);
+
+    pub const APPLICATION_CLOSE: FrameType = FrameType(0x1d);
+
+    pub const HANDSHAKE_DONE: FrameType = FrameType(0x1e);
+
+    pub const IMMEDIATE_ACK: FrameType = FrameType(0x1f);
+
+    pub const ACK_FREQUENCY: FrameType = FrameType(0xaf);
+
+    // The type of a STREAM without its bit for the length.
+    pub(crate) fn of_stream(has_offset: bool, fin: bool) -> FrameType
+        ensures { result ≡ 8 + (if has_offset then 4 else 0) + (if fin then 1 else 0) }
+    {
+        match (has_offset, fin) {
+            (false, false) => FrameType(0x08),
+            (false, true) => FrameType(0x09),
+            (true, false) => FrameType(0x0c),
+            (true, true) => FrameType(0x0d),
+        }
+    }
+
+    pub(crate) fn into_inner(self) -> u64
+        ensures { result ≡ self }
+    {
+        self.0
+    }
+
+    // The name of the constant, where there is one.
+    fn own_name(self) -> Option<&'static str>
+        ensures { MatchOption result (own_name self ≡ None) (λ name. own_name self ≡ Some name.now) }
+    {
+        Some(match self.0 {
+            0x00 => "PADDING",
+            0x01 => "PING",
+            0x02 => "ACK",
+            0x03 => "ACK_ECN",
+            0x04 => "RESET_STREAM",
+            0x05 => "STOP_SENDING",
+            0x06 => "CRYPTO",
+            0x07 => "NEW_TOKEN",
+            0x10 => "MAX_DATA",
+            0x11 => "MAX_STREAM_DATA",
+            0x12 => "MAX_STREAMS_BIDI",
+            0x13 => "MAX_STREAMS_UNI",
+            0x14 => "DATA_BLOCKED",
+            0x15 => "STREAM_DATA_BLOCKED",
+            0x16 => "STREAMS_BLOCKED_BIDI",
+            0x17 => "STREAMS_BLOCKED_UNI",
+            0x18 => "NEW_CONNECTION_ID",
+            0x19 => "RETIRE_CONNECTION_ID",
+            0x1a => "PATH_CHALLENGE",
+            0x1b => "PATH_RESPONSE",
+            0x1c => "CONNECTION_CLOSE",
+            0x1d => "APPLICATION_CLOSE",
+            0x1e => "HANDSHAKE_DONE",
+            0x1f => "IMMEDIATE_ACK",
+            0xaf => "ACK_FREQUENCY",
+            _ => return None,
+        })
+    }
+}
+
+/// A type is spelled as the varint of its number.
+impl Codec for FrameType {
+    ghost spelled = { Spells };
+
+    ghost encoding = { short };
+
+    ghost after_cut = { drop 1 };
+
+    fn decode<B: Buf>(buf: &mut B) -> coding::Result<FrameType> {
+        Ok(FrameType(VarInt::decode(buf)?.into_inner()))
+    }
+
+    fn encode<B: BufMut>(&self, buf: &mut B) -> Result<(), NoRoom> {
+        VarInt::from_u64_unchecked(self.0).encode(buf)
+    }
+}
+
+impl fmt::Display for FrameType {
+    ghost output = { λ ty. Some (name_of ty) };
+
+    fn fmt<W: fmt::Write>(&self, f: &mut fmt::Formatter<W>) -> fmt::Result {
+        if let Some(name) = self.own_name() {
+            return f.write_str(name);
+        }
+        match self.0 {
+            0x08..=0x0f => f.write_str("STREAM"),
+            0x30 | 0x31 => f.write_str("DATAGRAM"),
+            ty if ty < 0x10 => write!(f, "<unknown 0{ty:x}>"),
+            ty => write!(f, "<unknown {ty:x}>"),
+        }
+    }
+}
+
+/// The name of the constant, else `Type(XX)`, hexadecimal of at least two digits.
+impl fmt::Debug for FrameType {
+    fn fmt<W: fmt::Write>(&self, f: &mut fmt::Formatter<W>) -> fmt::Result {
+        match self.own_name() {
+            Some(name) => f.write_str(name),
+            None => {
+                let ty = self.0;
+                write!(f, "Type({ty:02x})")
+            }
+        }
+    }
+}

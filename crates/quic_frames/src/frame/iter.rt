@@ -1,0 +1,106 @@
+//! The frames of a payload, one after the other.
+ghost use Rattle.std.specs.Prelude.{◌≡◌, ◌≤◌, ◌↔◌, ℕ, List, [], ◌∷◌, ◌++◌, Err, None, Option, IfErr, IfOk, IsErr, codes, false, length, map};
+ghost use Rattle.quic_frames.specs.Codes.{IsError, protocol_violation};
+ghost use Rattle.quic_frames.specs.Payload.{Found, AreFrames, IsBroken, IsEither};
+ghost use Rattle.quic_frames.specs.Reading.{invalid, items_of};
+ghost use Rattle.quic_frames.specs.declared.frame.fault.Fault.{Fault};
+ghost use Rattle.quic_frames.specs.Walk.{left, first_of, unplaced, given};
+
+use super::found::{InvalidFrame, read_found};
+use super::{Frame, FrameType};
+use crate::transport_error::Error;
+use std::marker::Model;
+
+/// Reads a payload frame by frame. Contracts see the payload, the end of the last whole frame, the
+/// last type that was read, and whether something was no frame.
+#[derive(Drop)]
+pub struct Iter<'a> {
+    payload: &'a [u8],
+    offset: usize,
+    last: Option<FrameType>,
+    is_broken: bool,
+}
+
+impl<'a> Model for Iter<'a> {
+    ghost use Rattle.std.specs.Prelude.{◌≤◌, length};
+    ghost use Rattle.quic_frames.specs.Way.{Way};
+
+    ghost Value = { Way };
+
+    ghost view = { λ it. record { payload = it.payload.now; offset = it.offset; last = it.last; is_broken = it.is_broken } };
+
+    ghost invariant = { λ it. it.offset ≤ length it.payload.now };
+}
+
+impl<'a> Iter<'a> {
+    /// The frames of a payload. An empty one is refused with `PROTOCOL_VIOLATION`. It takes no memory.
+    pub fn new(payload: &'a [u8]) -> Result<Self, Error>
+        ensures empty { IsErr result ↔ (payload.now ≡ []) }
+        ensures refusal { IfErr result (λ e. IsError e protocol_violation (codes "packet payload is empty")) }
+        ensures first { IfOk result (λ it. it ≡ first_of payload.now) }
+
+        // Each payload is frames, or frames and then something that is none.
+        ensures either { IsEither false None payload.now }
+
+        // It gives just the frames that the payload is,
+        ensures frames { IfOk result (λ it. (found : List Found) → AreFrames false found payload.now
+            → map unplaced (left it) ≡ map given found) }
+
+        // or those before what is none, and then what is told of that.
+        ensures broken { IfOk result (λ it. (found : List Found) (type : Option ℕ) (reason : Fault)
+            → IsBroken false None found payload.now type reason
+            → map unplaced (left it) ≡ map given found ++ Err (invalid type reason) ∷ []) }
+
+        // At most as many items as bytes.
+        ensures few { IfOk result (λ it. length (left it) ≤ length payload.now) }
+    {
+        if payload.is_empty() {
+            return Err(Error::PROTOCOL_VIOLATION("packet payload is empty"));
+        }
+        Ok(Iter {
+            payload,
+            offset: 0,
+            last: None,
+            is_broken: false,
+        })
+    }
+
+    /// The end of the last whole frame in the payload, in bytes.
+    pub fn offset(&self) -> usize
+        ensures value { result ≡ self.now.offset }
+        ensures within { result ≤ length self.now.payload }
+    {
+        self.offset
+    }
+}
+
+/// Gives each frame, and then one `InvalidFrame` where something is none; after that nothing. It takes
+/// no memory. The bytes of a frame are a slice of the payload that ends at `offset`.
+impl<'a> Iterator for Iter<'a> {
+    ghost use Rattle.std.specs.Iterator.{item_count};
+    ghost use Rattle.quic_frames.specs.Walk.{left, Advances};
+
+    type Item = Result<Frame<'a>, InvalidFrame>;
+
+    ghost next_gives = { Advances };
+
+    ghost remaining = { item_count left };
+
+    fn next(&mut self) -> Option<Result<Frame<'a>, InvalidFrame>> {
+        let rest = &self.payload[self.offset..];
+        if self.is_broken || rest.is_empty() {
+            return None;
+        }
+        match read_found(self.last, rest) {
+            Ok(first) => {
+                self.last = Some(first.ty);
+                self.offset = self.payload.len() - first.rest.len();
+                Some(Ok(first.frame))
+            }
+            Err(invalid) => {
+                self.is_broken = true;
+                Some(Err(invalid))
+            }
+        }
+    }
+}

@@ -1,0 +1,18 @@
+//! Laws of payloads, which no single call carries. The functions do nothing.
+ghost use Rattle.std.specs.Prelude.{◌≡◌, ◌++◌, ℕ, List, None, Option, false};
+ghost use Rattle.quic_base.specs.Number.{AreBytes};
+ghost use Rattle.quic_frames.specs.Payload.{Found, IsFrame, AreFrames, IsBroken, IsEither};
+ghost use Rattle.quic_frames.specs.Table.{is_open};
+ghost use Rattle.quic_frames.specs.declared.frame.fault.Fault.{Fault};
+
+/// A payload has one reading: it is frames, or frames and then something that is none, and never both.
+pub fn one_reading()
+    ensures either { (bytes : List ℕ) → AreBytes bytes → IsEither false None bytes }
+    ensures one { (some others : List Found) (bytes : List ℕ)
+        → AreFrames false some bytes → AreFrames false others bytes → some ≡ others }
+    ensures never_both { (some others : List Found) (bytes : List ℕ) (type : Option ℕ) (reason : Fault)
+        → AreBytes bytes → AreFrames false some bytes → IsBroken false None others bytes type reason → ⊥ }
+    // No frame that isn't open begins another one.
+    ensures begins_none { (one other : Found) (bytes longer rest : List ℕ) → is_open one.type ≡ false
+        → IsFrame false one bytes → IsFrame false other longer → longer ≡ bytes ++ rest → bytes ≡ longer }
+{}

@@ -1,5 +1,5 @@
 //! Errors by which a connection is closed (RFC 9000, section 20.1).
-ghost use Rattle.std.specs.Prelude.{◌<◌, ◌^◌, ℕ};
+ghost use Rattle.std.specs.Prelude.{◌≡◌, ◌<◌, ◌^◌, ℕ};
 
 use crate::frame::FrameType;
 use std::marker::Model;
@@ -33,6 +33,20 @@ pub enum Reason {
     Static(&'static str),
     /// A text that was made.
     Owned(String),
+}
+
+impl Reason {
+    ghost use Rattle.quic_frames.specs.Codes.{reason_bytes};
+
+    /// The text.
+    pub fn as_str(&self) -> &str
+        ensures { result.now ≡ reason_bytes self.now }
+    {
+        match self {
+            Reason::Static(text) => text,
+            Reason::Owned(text) => text.as_str(),
+        }
+    }
 }
 
 /// Why a connection is closed.

@@ -1,0 +1,58 @@
+//! `quic-show`: prints what the lines of standard input spell in hexadecimal.
+#![tactic(auto)]
+
+use quic_text::{FromRead, Mode, RunError, ToWrite, mode_of, run, status};
+use std::alloc::AllocError;
+use std::env;
+use std::io::ErrorKind;
+use std::process::ExitCode;
+
+const USAGE: &str = "usage: quic-show frames|canon|datagram LEN|params client|server";
+
+/// The status of wrong arguments.
+const WRONG_ARGUMENTS: u8 = 2;
+
+fn main(rt: HostRuntime) -> ExitCode {
+    ExitCode::from(match asked_mode(&rt) {
+        Ok(Some(mode)) => show(&rt, mode),
+        Ok(None) => {
+            let _ = rt.eprintln(USAGE);
+            WRONG_ARGUMENTS
+        }
+        Err(AllocError) => report(&rt, Err(RunError::OutOfMemory)),
+    })
+}
+
+/// The mode that the arguments ask for. A word that is no text is a wrong argument.
+fn asked_mode(rt: &HostRuntime) -> Result<Option<Mode>, AllocError> {
+    let args = match env::args(rt) {
+        Ok(args) => args,
+        Err(e) if e.kind() == ErrorKind::OutOfMemory => return Err(AllocError),
+        Err(_) => return Ok(None),
+    };
+    let args: Vec<String> = args.collect(rt.alloc())?;
+    let mut words = Vec::new(rt.alloc());
+    for arg in args.iter().skip(1) {
+        words.push(arg.as_str())?;
+    }
+    Ok(mode_of(words.as_slice()))
+}
+
+/// Runs a mode over the standard streams.
+fn show(rt: &HostRuntime, mode: Mode) -> u8 {
+    let mut source = FromRead::new(rt.stdin());
+    let mut sink = ToWrite::new(rt.stdout());
+    report(rt, run(rt.alloc(), mode, &mut source, &mut sink))
+}
+
+/// Says why a run ended early, and answers its exit status.
+fn report(rt: &HostRuntime, outcome: Result<bool, RunError>) -> u8 {
+    if let Err(e) = outcome {
+        let _ = rt.eprintln(match e {
+            RunError::Read => "quic-show: read failed",
+            RunError::Write => "quic-show: write failed",
+            RunError::OutOfMemory => "quic-show: out of memory",
+        });
+    }
+    status(&outcome)
+}

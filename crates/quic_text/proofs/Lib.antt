@@ -1,0 +1,4 @@
+mod LineLemmas
+mod TextLemmas
+mod HistorySteps
+mod FrameLines

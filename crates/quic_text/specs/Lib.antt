@@ -1,0 +1,6 @@
+pub mod Lines
+pub mod Text
+pub mod Transfer
+pub mod Whole
+pub mod Status
+pub mod Standard

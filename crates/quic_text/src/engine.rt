@@ -1,0 +1,128 @@
+//! From all that a source gives to the text that a sink takes.
+ghost use Rattle.std.specs.Prelude.{◌≡◌, ◌++◌, ◌↔◌, ℕ, List, ◌||◌, true, false, IsTrue, IfOk, OnOk, OnErr, IsErrOf, is_err, MatchResult};
+ghost use Rattle.quic_text.specs.Text.{text_of, is_clean};
+ghost use Rattle.quic_text.specs.Whole.{AppendsBeginning, WritesText, WritesBeginning};
+ghost use Rattle.quic_text.specs.declared.engine.RunError.TheVariants.{OutOfMemory};
+ghost use Rattle.quic_text.specs.Status.{status_of};
+
+use super::lines::first_line;
+use super::mode::Mode;
+use super::print::print_line;
+use super::transfer::{Failed, Sink, Source};
+use std::alloc::{AllocError, Global};
+
+/// Why a run ended early.
+#[derive(Clone, Copy, Debug, PartialEq, Eq)]
+pub enum RunError {
+    Read,
+    Write,
+    OutOfMemory,
+}
+
+impl From<AllocError> for RunError {
+    ghost from_gives = { λ _ e. e ≡ OutOfMemory };
+
+    fn from(_e: AllocError) -> RunError {
+        RunError::OutOfMemory
+    }
+}
+
+/// How much is read at once, and about how much is written.
+const PIECE: usize = 16384;
+
+/// Writes the text of all that the source gives, and answers whether no `error` line stands in it.
+pub fn run<R: Source, W: Sink>(
+    alloc: Global,
+    mode: Mode,
+    source: &mut R,
+    sink: &mut W,
+) -> Result<bool, RunError>
+    ensures ended { OnOk result (IsTrue (R.has_ended source.new)) }
+    ensures text { IfOk result (WritesText mode (R.given source.old) (R.given source.new) (W.taken sink.old) (W.taken sink.new)) }
+    ensures beginning { OnErr result (WritesBeginning mode (R.given source.old) (R.given source.new) (W.taken sink.old) (W.taken sink.new)) }
+    ensures read { R.has_failed source.old ≡ false → (IsErrOf result RunError.Read ↔ IsTrue (R.has_failed source.new)) }
+    ensures read_first { IsErrOf result RunError.Read → W.taken sink.new ≡ W.taken sink.old }
+    ensures write { W.has_failed sink.old ≡ false → (IsErrOf result RunError.Write ↔ IsTrue (W.has_failed sink.new)) }
+{
+    let input = read_all(alloc, source)?;
+    print_all(alloc, mode, input.as_slice(), sink)
+}
+
+/// All that the source gives, until it ends.
+fn read_all<R: Source>(alloc: Global, source: &mut R) -> Result<Vec<u8>, RunError>
+    ensures ok { IfOk result (λ input. IsTrue (R.has_ended source.new) × (R.given source.new ≡ R.given source.old ++ input.items)) }
+    ensures err { OnErr result ((input : List ℕ) × (R.given source.new ≡ R.given source.old ++ input)) }
+    ensures read { R.has_failed source.old ≡ false → IsErrOf result RunError.Read ↔ IsTrue (R.has_failed source.new) }
+    ensures write { IsErrOf result RunError.Write → ⊥ }
+{
+    let mut input = Vec::new(alloc);
+    let mut piece = [0; PIECE];
+    loop {
+        match source.read(&mut piece) {
+            Ok(0) => return Ok(input),
+            Ok(count) => input.extend_from_slice(&piece[..count])?,
+            Err(Failed) => return Err(RunError::Read),
+        }
+    }
+}
+
+/// Writes the text of an input, a piece at a time.
+fn print_all<W: Sink>(
+    alloc: Global,
+    mode: Mode,
+    input: &[u8],
+    sink: &mut W,
+) -> Result<bool, RunError>
+    ensures ok { OnOk result (W.taken sink.new ≡ W.taken sink.old ++ text_of mode input.now) }
+    ensures answer { IfOk result (λ clean. clean ≡ is_clean mode input.now) }
+    ensures err { OnErr result (AppendsBeginning (W.taken sink.old) (W.taken sink.new) (text_of mode input.now)) }
+    ensures read { IsErrOf result RunError.Read → ⊥ }
+    ensures write { W.has_failed sink.old ≡ false → IsErrOf result RunError.Write ↔ IsTrue (W.has_failed sink.new) }
+{
+    let mut text = String::new(alloc);
+    let mut clean = true;
+    let mut rest = input;
+    while !rest.is_empty() {
+        let (line, after) = first_line(rest);
+        let line_clean = print_line(alloc, mode, line, &mut text)?;
+        clean = clean && line_clean;
+        rest = after;
+        if text.len() >= PIECE {
+            if write_all(sink, text.as_bytes()).is_err() {
+                return Err(RunError::Write);
+            }
+            text.clear();
+        }
+    }
+    if write_all(sink, text.as_bytes()).is_err() {
+        return Err(RunError::Write);
+    }
+    match sink.flush() {
+        Ok(()) => Ok(clean),
+        Err(Failed) => Err(RunError::Write),
+    }
+}
+
+/// Writes all the bytes, in as many calls as the sink needs.
+fn write_all<W: Sink>(sink: &mut W, bytes: &[u8]) -> Result<(), Failed>
+    ensures ok { OnOk result (W.taken sink.new ≡ W.taken sink.old ++ bytes.now) }
+    ensures err { OnErr result (AppendsBeginning (W.taken sink.old) (W.taken sink.new) bytes.now) }
+    ensures failed { W.has_failed sink.new ≡ (W.has_failed sink.old || is_err result) }
+{
+    let mut done = 0;
+    while done < bytes.len() {
+        done += sink.write(&bytes[done..])?;
+    }
+    Ok(())
+}
+
+/// The exit status of a run.
+pub fn status(outcome: &Result<bool, RunError>) -> u8
+    ensures { result ≡ status_of outcome.now }
+{
+    match outcome {
+        Ok(true) => 0,
+        Ok(false) => 1,
+        Err(_) => 3,
+    }
+}

@@ -1,0 +1,207 @@
+//! Frames, read from payloads.
+use quic_base::coding::Codec;
+use quic_frames::frame::{Frame, FrameType, Iter};
+use quic_frames::transport_error::{Code, Error, Reason};
+use std::test::Fail;
+
+fn type_of(number: &[u8]) -> Result<FrameType, Fail> {
+    let mut left = number;
+    Ok(FrameType::decode(&mut left)?)
+}
+
+#[test]
+fn a_stream_with_offset_and_length(rt: HostRuntime) -> Result<(), Fail> {
+    let payload = b"\x0c\x04\x40\x10ab";
+    let mut iter = Iter::new(payload)?;
+    let Some(Ok(Frame::Stream(stream))) = iter.next() else {
+        return Err("a STREAM".into());
+    };
+    assert_eq!(rt; u64::from(stream.id), 4);
+    assert_eq!(rt; stream.offset, 16);
+    assert!(rt; !stream.fin);
+    assert_eq!(rt; stream.bytes, b"ab".as_slice());
+    assert_eq!(rt; iter.offset(), 6);
+    assert!(rt; iter.next().is_none());
+    Ok(())
+}
+
+#[test]
+fn all_eight_streams(rt: HostRuntime) -> Result<(), Fail> {
+    for bits in 0..8u8 {
+        let mut payload = Vec::new(rt.alloc());
+        payload.extend_from_slice(&[8 + bits, 9])?;
+        if bits & 4 != 0 {
+            payload.push(7)?;
+        }
+        if bits & 2 != 0 {
+            payload.push(1)?;
+        }
+        payload.push(b'x')?;
+        let mut iter = Iter::new(payload.as_slice())?;
+        let Some(Ok(frame)) = iter.next() else {
+            return Err("a frame".into());
+        };
+        // Never the bit for the length.
+        assert_eq!(rt; frame.ty(), type_of(&[8 + (bits & 5)])?, "{bits}");
+        let Frame::Stream(stream) = frame else {
+            return Err("a STREAM".into());
+        };
+        assert_eq!(rt; u64::from(stream.id), 9);
+        assert_eq!(rt; stream.offset, if bits & 4 != 0 { 7 } else { 0 });
+        assert_eq!(rt; stream.fin, bits & 1 != 0);
+        assert_eq!(rt; stream.bytes, b"x".as_slice());
+        assert_eq!(rt; iter.offset(), payload.len());
+    }
+    Ok(())
+}
+
+#[test]
+fn a_written_offset_of_zero_is_not_in_the_type(rt: HostRuntime) -> Result<(), Fail> {
+    let Some(Ok(frame)) = Iter::new(b"\x0d\x00\x00a")?.next() else {
+        return Err("a frame".into());
+    };
+    assert_eq!(rt; frame.ty(), type_of(b"\x09")?);
+    Ok(())
+}
+
+#[test]
+fn crypto_padding_and_ping(rt: HostRuntime) -> Result<(), Fail> {
+    let mut iter = Iter::new(b"\x06\x40\x05\x02hi\x00\x80\x00\x00\x01")?;
+    let Some(Ok(Frame::Crypto(crypto))) = iter.next() else {
+        return Err("a CRYPTO".into());
+    };
+    assert_eq!(rt; crypto.offset, 5);
+    assert_eq!(rt; crypto.bytes, b"hi".as_slice());
+    assert_eq!(rt; Frame::Crypto(crypto).ty(), FrameType::CRYPTO);
+    assert_eq!(rt; iter.offset(), 6);
+    let Some(Ok(Frame::Padding)) = iter.next() else {
+        return Err("a PADDING".into());
+    };
+    assert_eq!(rt; iter.offset(), 7);
+    let Some(Ok(Frame::Ping)) = iter.next() else {
+        return Err("a PING".into());
+    };
+    assert_eq!(rt; iter.offset(), 11);
+    assert!(rt; iter.next().is_none());
+    assert_eq!(rt; Frame::Padding.ty(), FrameType::PADDING);
+    assert_eq!(rt; Frame::Ping.ty(), FrameType::PING);
+    Ok(())
+}
+
+#[test]
+fn one_error_and_then_nothing(rt: HostRuntime) -> Result<(), Fail> {
+    let mut iter = Iter::new(b"\x01\x0a\x00\x05ab\x01")?;
+    assert!(rt; matches!(iter.next(), Some(Ok(Frame::Ping))));
+    let Some(Err(invalid)) = iter.next() else {
+        return Err("no frame".into());
+    };
+    assert_eq!(rt; invalid.ty, Some(type_of(b"\x0a")?));
+    assert_eq!(rt; invalid.reason, "unexpected end");
+    assert_eq!(rt; iter.offset(), 1);
+    assert!(rt; iter.next().is_none());
+    assert!(rt; iter.next().is_none());
+    Ok(())
+}
+
+#[test]
+fn an_empty_payload_is_a_protocol_violation(rt: HostRuntime) -> Result<(), Fail> {
+    let Err(error) = Iter::new(b"") else {
+        return Err("an error".into());
+    };
+    assert_eq!(rt; error.code, Code::PROTOCOL_VIOLATION);
+    assert_eq!(rt; error.frame, None);
+    assert_eq!(rt; error.reason.as_str(), "packet payload is empty");
+    Ok(())
+}
+
+#[test]
+fn errors(rt: HostRuntime) -> Result<(), Fail> {
+    let error = Error::FRAME_ENCODING_ERROR("malformed");
+    assert_eq!(rt; error.code, Code::FRAME_ENCODING_ERROR);
+    assert_eq!(rt; error.reason.as_str(), "malformed");
+    let error = Error::PROTOCOL_VIOLATION("x");
+    assert_eq!(rt; error.code, Code::PROTOCOL_VIOLATION);
+    assert_eq!(rt; error.reason.as_str(), "x");
+    let owned = Reason::Owned(String::from_str(rt.alloc(), "made")?);
+    assert_eq!(rt; owned.as_str(), "made");
+    Ok(())
+}
+
+// The types with a name of their own.
+const NAMES: [(FrameType, u8, &str); 24] = [
+    (FrameType::PADDING, 0x00, "PADDING"),
+    (FrameType::PING, 0x01, "PING"),
+    (FrameType::ACK, 0x02, "ACK"),
+    (FrameType::ACK_ECN, 0x03, "ACK_ECN"),
+    (FrameType::RESET_STREAM, 0x04, "RESET_STREAM"),
+    (FrameType::STOP_SENDING, 0x05, "STOP_SENDING"),
+    (FrameType::CRYPTO, 0x06, "CRYPTO"),
+    (FrameType::NEW_TOKEN, 0x07, "NEW_TOKEN"),
+    (FrameType::MAX_DATA, 0x10, "MAX_DATA"),
+    (FrameType::MAX_STREAM_DATA, 0x11, "MAX_STREAM_DATA"),
+    (FrameType::MAX_STREAMS_BIDI, 0x12, "MAX_STREAMS_BIDI"),
+    (FrameType::MAX_STREAMS_UNI, 0x13, "MAX_STREAMS_UNI"),
+    (FrameType::DATA_BLOCKED, 0x14, "DATA_BLOCKED"),
+    (FrameType::STREAM_DATA_BLOCKED, 0x15, "STREAM_DATA_BLOCKED"),
+    (
+        FrameType::STREAMS_BLOCKED_BIDI,
+        0x16,
+        "STREAMS_BLOCKED_BIDI",
+    ),
+    (FrameType::STREAMS_BLOCKED_UNI, 0x17, "STREAMS_BLOCKED_UNI"),
+    (FrameType::NEW_CONNECTION_ID, 0x18, "NEW_CONNECTION_ID"),
+    (
+        FrameType::RETIRE_CONNECTION_ID,
+        0x19,
+        "RETIRE_CONNECTION_ID",
+    ),
+    (FrameType::PATH_CHALLENGE, 0x1a, "PATH_CHALLENGE"),
+    (FrameType::PATH_RESPONSE, 0x1b, "PATH_RESPONSE"),
+    (FrameType::CONNECTION_CLOSE, 0x1c, "CONNECTION_CLOSE"),
+    (FrameType::APPLICATION_CLOSE, 0x1d, "APPLICATION_CLOSE"),
+    (FrameType::HANDSHAKE_DONE, 0x1e, "HANDSHAKE_DONE"),
+    (FrameType::IMMEDIATE_ACK, 0x1f, "IMMEDIATE_ACK"),
+];
+
+#[test]
+fn names_of_types(rt: HostRuntime) -> Result<(), Fail> {
+    let alloc = rt.alloc();
+    for (ty, number, name) in NAMES {
+        assert_eq!(rt; ty, type_of(&[number])?);
+        assert_eq!(rt; format!(in alloc; "{ty}")?.as_str(), name);
+        assert_eq!(rt; format!(in alloc; "{ty:?}")?.as_str(), name);
+    }
+    let ty = FrameType::ACK_FREQUENCY;
+    assert_eq!(rt; ty, type_of(b"\x40\xaf")?);
+    assert_eq!(rt;
+        format!(in alloc; "{ty} {ty:?}")?.as_str(),
+        "ACK_FREQUENCY ACK_FREQUENCY"
+    );
+    let ty = type_of(b"\x0b")?;
+    assert_eq!(rt;
+        format!(in alloc; "{ty} {ty:?}")?.as_str(),
+        "STREAM Type(0b)"
+    );
+    let ty = type_of(b"\x31")?;
+    assert_eq!(rt;
+        format!(in alloc; "{ty} {ty:?}")?.as_str(),
+        "DATAGRAM Type(31)"
+    );
+    let ty = type_of(b"\x30")?;
+    assert_eq!(rt; format!(in alloc; "{ty}")?.as_str(), "DATAGRAM");
+    let ty = type_of(b"\xff\xff\xff\xff\xff\xff\xff\xff")?;
+    assert_eq!(rt;
+        format!(in alloc; "{ty} {ty:?}")?.as_str(),
+        "<unknown 3fffffffffffffff> Type(3fffffffffffffff)"
+    );
+    Ok(())
+}
+
+#[test]
+fn a_type_is_written_as_its_number(rt: HostRuntime) -> Result<(), Fail> {
+    let mut out = Vec::new(rt.alloc());
+    FrameType::ACK_FREQUENCY.encode(&mut out)?;
+    FrameType::PING.encode(&mut out)?;
+    assert_eq!(rt; out.as_slice(), b"\x40\xaf\x01".as_slice());
+    Ok(())
+}

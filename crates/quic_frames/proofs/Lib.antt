@@ -7,3 +7,4 @@ mod Frames
 mod Items
 mod Finding
 mod Places
+mod Texts

@@ -34,3 +34,8 @@ own_or_shared ty None = shared_name ty
 
 abbrev pub name_of : ℕ → List ℕ
 name_of ty = own_or_shared ty (own_name ty)
+
+-- ` in TYPE`, where the type is known
+abbrev pub in_type : Option ℕ → List ℕ
+in_type None = []
+in_type (Some ty) = codes " in " ++ name_of ty

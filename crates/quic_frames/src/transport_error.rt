@@ -1,11 +1,21 @@
 //! Errors by which a connection is closed (RFC 9000, section 20.1).
-ghost use Rattle.std.specs.Prelude.{◌≡◌, ◌<◌, ◌^◌, ℕ};
+ghost use Rattle.std.specs.Prelude.{◌≡◌, ◌+◌, ◌<◌, ◌^◌, ℕ, [], None, Some, IfOk, IsOk, MatchOption, drop, true, nat_eq};
+ghost use Rattle.std.specs.Cmp.Lexicographic.{pointwise};
+ghost use Rattle.std.specs.Ordering.{on};
+ghost use Rattle.std.proofs.Common.{rules};
+ghost use Rattle.std.specs.Cmp.Rules.{comparing};
+ghost use Rattle.quic_base.specs.Varint.{Spells, short};
 
 use crate::frame::FrameType;
+use bytes::{Buf, BufMut};
+use quic_base::coding::{self, Codec, NoRoom};
+use quic_base::varint::VarInt;
+use std::alloc::Global;
+use std::fmt;
 use std::marker::Model;
 
 /// A transport error code, below 2^62, which contracts see as that number.
-#[derive(Clone, Copy, Debug, PartialEq, Eq)]
+#[derive(Clone, Copy, PartialEq, Eq)]
 pub struct Code(u64);
 
 impl Model for Code {
@@ -19,11 +29,186 @@ impl Model for Code {
 }
 
 impl Code {
+    ghost use Rattle.quic_frames.specs.Codes.{own_text};
+
+    /// There is no error: the connection ends.
+    pub const NO_ERROR: Code = Code(0x0);
+
+    /// The endpoint can't go on, for a reason of its own.
+    pub const INTERNAL_ERROR: Code = Code(0x1);
+
+    /// The server takes no new connection.
+    pub const CONNECTION_REFUSED: Code = Code(0x2);
+
+    /// More data came than was allowed.
+    pub const FLOW_CONTROL_ERROR: Code = Code(0x3);
+
+    /// A stream came above the limit of its kind.
+    pub const STREAM_LIMIT_ERROR: Code = Code(0x4);
+
+    /// A frame came that the stream's state doesn't allow.
+    pub const STREAM_STATE_ERROR: Code = Code(0x5);
+
+    /// A stream's size changed after it was settled.
+    pub const FINAL_SIZE_ERROR: Code = Code(0x6);
+
     /// A frame was badly formatted.
     pub const FRAME_ENCODING_ERROR: Code = Code(0x7);
 
-    /// A peer broke the protocol in a way that no other code says.
+    /// The transport parameters were in error.
+    pub const TRANSPORT_PARAMETER_ERROR: Code = Code(0x8);
+
+    /// More connection ids came than were allowed.
+    pub const CONNECTION_ID_LIMIT_ERROR: Code = Code(0x9);
+
+    /// The peer broke the protocol in a way that no other code says.
     pub const PROTOCOL_VIOLATION: Code = Code(0xa);
+
+    /// The token of a client's Initial was not valid.
+    pub const INVALID_TOKEN: Code = Code(0xb);
+
+    /// The application closed the connection during the handshake.
+    pub const APPLICATION_ERROR: Code = Code(0xc);
+
+    /// More handshake data came than can be kept.
+    pub const CRYPTO_BUFFER_EXCEEDED: Code = Code(0xd);
+
+    /// A key update went wrong.
+    pub const KEY_UPDATE_ERROR: Code = Code(0xe);
+
+    /// The keys were used as often as they may be.
+    pub const AEAD_LIMIT_REACHED: Code = Code(0xf);
+
+    /// No network path works.
+    pub const NO_VIABLE_PATH: Code = Code(0x10);
+
+    /// The code of an alert of the handshake: 0x100 and the alert.
+    pub fn crypto(alert: u8) -> Code
+        ensures { result ≡ 0x100 + alert }
+    {
+        Code(0x100 + u64::from(alert))
+    }
+
+    // The text of the code, where it has one of its own.
+    fn own_text(self) -> Option<&'static str>
+        ensures { MatchOption result (own_text self ≡ None) (λ text. own_text self ≡ Some text.now) }
+    {
+        Some(match self.0 {
+            0x0 => "the connection is being closed abruptly in the absence of any error",
+            0x1 =>
+                "the endpoint encountered an internal error and cannot continue with the connection",
+            0x2 => "the server refused to accept a new connection",
+            0x3 => "received more data than permitted in advertised data limits",
+            0x4 =>
+                "received a frame for a stream identifier that exceeded advertised the stream limit for the corresponding stream type",
+            0x5 =>
+                "received a frame for a stream that was not in a state that permitted that frame",
+            0x6 =>
+                "received a STREAM frame or a RESET_STREAM frame containing a different final size to the one already established",
+            0x7 => "received a frame that was badly formatted",
+            0x8 =>
+                "received transport parameters that were badly formatted, included an invalid value, was absent even though it is mandatory, was present though it is forbidden, or is otherwise in error",
+            0x9 =>
+                "the number of connection IDs provided by the peer exceeds the advertised active_connection_id_limit",
+            0xa =>
+                "detected an error with protocol compliance that was not covered by more specific error codes",
+            0xb => "received an invalid Retry Token in a client Initial",
+            0xc =>
+                "the application or application protocol caused the connection to be closed during the handshake",
+            0xd => "received more data in CRYPTO frames than can be buffered",
+            0xe => "key update error",
+            0xf =>
+                "the endpoint has reached the confidentiality or integrity limit for the AEAD algorithm",
+            0x10 => "no viable network path exists",
+            _ => return None,
+        })
+    }
+
+    // The name of the constant, where there is one.
+    fn own_name(self) -> Option<&'static str> {
+        Some(match self.0 {
+            0x0 => "NO_ERROR",
+            0x1 => "INTERNAL_ERROR",
+            0x2 => "CONNECTION_REFUSED",
+            0x3 => "FLOW_CONTROL_ERROR",
+            0x4 => "STREAM_LIMIT_ERROR",
+            0x5 => "STREAM_STATE_ERROR",
+            0x6 => "FINAL_SIZE_ERROR",
+            0x7 => "FRAME_ENCODING_ERROR",
+            0x8 => "TRANSPORT_PARAMETER_ERROR",
+            0x9 => "CONNECTION_ID_LIMIT_ERROR",
+            0xa => "PROTOCOL_VIOLATION",
+            0xb => "INVALID_TOKEN",
+            0xc => "APPLICATION_ERROR",
+            0xd => "CRYPTO_BUFFER_EXCEEDED",
+            0xe => "KEY_UPDATE_ERROR",
+            0xf => "AEAD_LIMIT_REACHED",
+            0x10 => "NO_VIABLE_PATH",
+            _ => return None,
+        })
+    }
+}
+
+impl From<Code> for u64 {
+    ghost from_gives = { λ c x. (x ≡ c) × (c < 2 ^ 62) };
+
+    fn from(code: Code) -> u64 {
+        code.0
+    }
+}
+
+/// A code is spelled as the varint of its number.
+impl Codec for Code {
+    ghost spelled = { Spells };
+
+    ghost encoding = { short };
+
+    ghost after_cut = { drop 1 };
+
+    fn decode<B: Buf>(buf: &mut B) -> coding::Result<Code> {
+        Ok(Code(VarInt::decode(buf)?.into_inner()))
+    }
+
+    fn encode<B: BufMut>(&self, buf: &mut B) -> Result<(), NoRoom> {
+        VarInt::from_u64_unchecked(self.0).encode(buf)
+    }
+}
+
+impl fmt::Display for Code {
+    ghost use Rattle.std.specs.Prelude.{Some};
+    ghost use Rattle.quic_frames.specs.Codes.{code_text};
+
+    ghost output = { λ c. Some (code_text c) };
+
+    fn fmt<W: fmt::Write>(&self, f: &mut fmt::Formatter<W>) -> fmt::Result {
+        if let Some(text) = self.own_text() {
+            return f.write_str(text);
+        }
+        match self.0 {
+            0x100..=0x1ff => {
+                let alert = self.0 % 256;
+                write!(f, "the cryptographic handshake failed: error {alert}")
+            }
+            _ => f.write_str("unknown error"),
+        }
+    }
+}
+
+/// The name of the constant, else `Code::crypto(XX)` or `Code(X)`, hexadecimal.
+impl fmt::Debug for Code {
+    fn fmt<W: fmt::Write>(&self, f: &mut fmt::Formatter<W>) -> fmt::Result {
+        if let Some(name) = self.own_name() {
+            return f.write_str(name);
+        }
+        let code = self.0;
+        match code {
+            0x100..=0x1ff => {
+                let alert = code % 256;
+                write!(f, "Code::crypto({alert:02x})")
+            }
+            _ => write!(f, "Code({code:x})"),
+        }
+    }
 }
 
 /// The text of an error. Two are equal where their texts are.
@@ -36,7 +221,7 @@ pub enum Reason {
 }
 
 impl Reason {
-    ghost use Rattle.quic_frames.specs.Codes.{reason_bytes};
+    ghost use Rattle.quic_frames.specs.Codes.{reason_bytes, is_static};
 
     /// The text.
     pub fn as_str(&self) -> &str
@@ -47,10 +232,48 @@ impl Reason {
             Reason::Owned(text) => text.as_str(),
         }
     }
+
+    /// An equal reason. A static one takes no memory.
+    pub fn try_clone(&self) -> Result<Reason, NoRoom>
+        ensures same { IfOk result (λ r. reason_bytes r ≡ reason_bytes self.now) }
+        ensures free { is_static self.now ≡ true → IsOk result }
+    {
+        match self {
+            Reason::Static(text) => Ok(Reason::Static(text)),
+            Reason::Owned(text) => match text.clone() {
+                Ok(text) => Ok(Reason::Owned(text)),
+                Err(_) => Err(NoRoom),
+            },
+        }
+    }
+}
+
+impl PartialEq for Reason {
+    ghost use Rattle.std.specs.Prelude.{nat_eq};
+    ghost use Rattle.std.specs.Cmp.Lexicographic.{pointwise};
+    ghost use Rattle.std.specs.Ordering.{on};
+    ghost use Rattle.std.proofs.Common.{rules};
+    ghost use Rattle.std.specs.Cmp.Rules.{comparing};
+    ghost use Rattle.quic_frames.specs.Codes.{reason_bytes};
+
+    ghost eq = { on reason_bytes (pointwise nat_eq) };
+
+    ghost laws = { Prim.search (comparing, rules) };
+
+    fn eq(&self, other: &Reason) -> bool {
+        self.as_str() == other.as_str()
+    }
+}
+
+impl Eq for Reason {
+    ghost use Rattle.std.proofs.Common.{rules};
+    ghost use Rattle.std.specs.Cmp.Rules.{comparing};
+
+    ghost laws = { Prim.search (comparing, rules) };
 }
 
 /// Why a connection is closed.
-#[derive(Debug, Drop)]
+#[derive(Debug, PartialEq, Eq, Drop)]
 pub struct Error {
     /// What kind of error it is.
     pub code: Code,
@@ -61,27 +284,180 @@ pub struct Error {
 }
 
 impl Error {
-    ghost use Rattle.quic_frames.specs.Codes.{IsError, frame_encoding_error, protocol_violation};
+    ghost use Rattle.quic_frames.specs.Codes.{IsError, IsSame, is_static};
 
-    /// The error of that code, for a reason.
-    pub fn PROTOCOL_VIOLATION(reason: &'static str) -> Error
-        ensures { IsError result protocol_violation reason.now }
+    /// An error with a text that is copied. Answers `NoRoom` where memory is missing.
+    pub fn with_text(alloc: Global, code: Code, text: &str) -> Result<Error, NoRoom>
+        ensures { IfOk result (λ e. IsError e code text.now) }
     {
-        Error {
-            code: Code::PROTOCOL_VIOLATION,
-            frame: None,
-            reason: Reason::Static(reason),
+        match String::from_str(alloc, text) {
+            Ok(text) => Ok(Error::of(code, Reason::Owned(text))),
+            Err(_) => Err(NoRoom),
         }
     }
 
-    /// The error of that code, for a reason.
-    pub fn FRAME_ENCODING_ERROR(reason: &'static str) -> Error
-        ensures { IsError result frame_encoding_error reason.now }
+    /// An equal error. Answers `NoRoom` where memory is missing; a static reason takes none.
+    pub fn try_clone(&self) -> Result<Error, NoRoom>
+        ensures same { IfOk result (IsSame self.now) }
+        ensures free { is_static self.now.reason ≡ true → IsOk result }
+    {
+        let reason = self.reason.try_clone()?;
+        Ok(Error {
+            code: self.code,
+            frame: self.frame,
+            reason,
+        })
+    }
+
+    fn of(code: Code, reason: Reason) -> Error
+        ensures code { result.code ≡ code }
+        ensures frame { result.frame ≡ None }
+        ensures reason { result.reason ≡ reason }
     {
         Error {
-            code: Code::FRAME_ENCODING_ERROR,
+            code,
             frame: None,
-            reason: Reason::Static(reason),
+            reason,
         }
     }
 }
+
+/// One constructor a code, named as the code; no frame is known.
+impl Error {
+    ghost use Rattle.quic_frames.specs.Codes.{IsError};
+    ghost use Rattle.quic_frames.specs.Codes as codes;
+
+    pub fn NO_ERROR(reason: &'static str) -> Error
+        ensures { IsError result codes.no_error reason.now }
+    {
+        Error::of(Code::NO_ERROR, Reason::Static(reason))
+    }
+
+    pub fn INTERNAL_ERROR(reason: &'static str) -> Error
+        ensures { IsError result codes.internal_error reason.now }
+    {
+        Error::of(Code::INTERNAL_ERROR, Reason::Static(reason))
+    }
+
+    pub fn CONNECTION_REFUSED(reason: &'static str) -> Error
+        ensures { IsError result codes.connection_refused reason.now }
+    {
+        Error::of(Code::CONNECTION_REFUSED, Reason::Static(reason))
+    }
+
+    pub fn FLOW_CONTROL_ERROR(reason: &'static str) -> Error
+        ensures { IsError result codes.flow_control_error reason.now }
+    {
+        Error::of(Code::FLOW_CONTROL_ERROR, Reason::Static(reason))
+    }
+
+    pub fn STREAM_LIMIT_ERROR(reason: &'static str) -> Error
+        ensures { IsError result codes.stream_limit_error reason.now }
+    {
+        Error::of(Code::STREAM_LIMIT_ERROR, Reason::Static(reason))
+    }
+
+    pub fn STREAM_STATE_ERROR(reason: &'static str) -> Error
+        ensures { IsError result codes.stream_state_error reason.now }
+    {
+        Error::of(Code::STREAM_STATE_ERROR, Reason::Static(reason))
+    }
+
+    pub fn FINAL_SIZE_ERROR(reason: &'static str) -> Error
+        ensures { IsError result codes.final_size_error reason.now }
+    {
+        Error::of(Code::FINAL_SIZE_ERROR, Reason::Static(reason))
+    }
+
+    pub fn FRAME_ENCODING_ERROR(reason: &'static str) -> Error
+        ensures { IsError result codes.frame_encoding_error reason.now }
+    {
+        Error::of(Code::FRAME_ENCODING_ERROR, Reason::Static(reason))
+    }
+
+    pub fn TRANSPORT_PARAMETER_ERROR(reason: &'static str) -> Error
+        ensures { IsError result codes.transport_parameter_error reason.now }
+    {
+        Error::of(Code::TRANSPORT_PARAMETER_ERROR, Reason::Static(reason))
+    }
+
+    pub fn CONNECTION_ID_LIMIT_ERROR(reason: &'static str) -> Error
+        ensures { IsError result codes.connection_id_limit_error reason.now }
+    {
+        Error::of(Code::CONNECTION_ID_LIMIT_ERROR, Reason::Static(reason))
+    }
+
+    pub fn PROTOCOL_VIOLATION(reason: &'static str) -> Error
+        ensures { IsError result codes.protocol_violation reason.now }
+    {
+        Error::of(Code::PROTOCOL_VIOLATION, Reason::Static(reason))
+    }
+
+    pub fn INVALID_TOKEN(reason: &'static str) -> Error
+        ensures { IsError result codes.invalid_token reason.now }
+    {
+        Error::of(Code::INVALID_TOKEN, Reason::Static(reason))
+    }
+
+    pub fn APPLICATION_ERROR(reason: &'static str) -> Error
+        ensures { IsError result codes.application_error reason.now }
+    {
+        Error::of(Code::APPLICATION_ERROR, Reason::Static(reason))
+    }
+
+    pub fn CRYPTO_BUFFER_EXCEEDED(reason: &'static str) -> Error
+        ensures { IsError result codes.crypto_buffer_exceeded reason.now }
+    {
+        Error::of(Code::CRYPTO_BUFFER_EXCEEDED, Reason::Static(reason))
+    }
+
+    pub fn KEY_UPDATE_ERROR(reason: &'static str) -> Error
+        ensures { IsError result codes.key_update_error reason.now }
+    {
+        Error::of(Code::KEY_UPDATE_ERROR, Reason::Static(reason))
+    }
+
+    pub fn AEAD_LIMIT_REACHED(reason: &'static str) -> Error
+        ensures { IsError result codes.aead_limit_reached reason.now }
+    {
+        Error::of(Code::AEAD_LIMIT_REACHED, Reason::Static(reason))
+    }
+
+    pub fn NO_VIABLE_PATH(reason: &'static str) -> Error
+        ensures { IsError result codes.no_viable_path reason.now }
+    {
+        Error::of(Code::NO_VIABLE_PATH, Reason::Static(reason))
+    }
+}
+
+/// The error of that code with an empty reason.
+impl From<Code> for Error {
+    ghost use Rattle.std.specs.Prelude.{[]};
+    ghost use Rattle.quic_frames.specs.Codes.{IsError};
+
+    ghost from_gives = { λ code e. IsError e code [] };
+
+    fn from(code: Code) -> Error {
+        Error::of(code, Reason::Static(""))
+    }
+}
+
+impl fmt::Display for Error {
+    ghost use Rattle.std.specs.Prelude.{Some};
+    ghost use Rattle.quic_frames.specs.Codes.{error_text};
+
+    ghost output = { λ e. Some (error_text e) };
+
+    fn fmt<W: fmt::Write>(&self, f: &mut fmt::Formatter<W>) -> fmt::Result {
+        let code = self.code;
+        let reason = self.reason.as_str();
+        match (self.frame, reason.is_empty()) {
+            (None, true) => write!(f, "{code}"),
+            (None, false) => write!(f, "{code}: {reason}"),
+            (Some(frame), true) => write!(f, "{code} in {frame}"),
+            (Some(frame), false) => write!(f, "{code} in {frame}: {reason}"),
+        }
+    }
+}
+
+impl std::error::Error for Error {}

@@ -1,12 +1,9 @@
 -- The line of a frame, and the lines of those that follow it.
-use Rattle.std.proofs.Common.{◌≡◌, ℕ, ◌++◌, ◌∷◌, List, map, sym, ap, ◌∙◌, append_assoc, codes}
+use Rattle.std.proofs.Common.{◌≡◌, ℕ, ◌++◌, ◌∷◌, List, map, sym, ap, ◌∙◌, append_assoc}
 use Rattle.std.specs.List.{flat_map, list_all}
-use Rattle.std.specs.Fmt.{decimal}
 use Rattle.quic_frames.specs.declared.frame.Frame.{Frame}
-use Rattle.quic_frames.specs.Names.{name_of}
 use Rattle.quic_frames.specs.Meaning.{meaning_of, type_of}
 use Rattle.quic_frames.specs.Payload.{Meaning}
-use Rattle.quic_frames.specs.Reading.{Item}
 use Rattle.quic_frames.specs.Way.{Way}
 use Rattle.quic_frames.specs.Walk.{left, Finds}
 use Rattle.quic_text.specs.Text.{Printed, shown, frame_line, is_plain, item_line}

@@ -1,10 +1,10 @@
 -- What the program prints, as a function of its mode and its input.
-use Rattle.std.specs.Prelude.{ℕ, Bool, true, false, List, [], ◌∷◌, ◌++◌, Option, None, Some, Result, Ok, Err, codes, map}
+use Rattle.std.specs.Prelude.{ℕ, Bool, true, false, List, [], ◌∷◌, ◌++◌, None, Result, Ok, Err, codes, map}
 use Rattle.std.specs.List.{flat_map, list_all}
 use Rattle.std.specs.Fmt.{decimal}
 use Rattle.hex.specs.Hex.{decode_of}
 use Rattle.hex.specs.declared.error.FromHexError.{FromHexError}
-use Rattle.quic_frames.specs.Names.{name_of}
+use Rattle.quic_frames.specs.Names.{name_of, in_type}
 use Rattle.quic_frames.specs.Meaning.{type_of}
 use Rattle.quic_frames.specs.Reading.{Item, Whole, Broken, items_of}
 use Rattle.quic_text.specs.declared.mode.Mode.{Mode}
@@ -25,11 +25,6 @@ shown (Error text) = codes "error " ++ text ++ codes "\n"
 abbrev pub is_plain : Printed → Bool
 is_plain (Plain text) = true
 is_plain (Error text) = false
-
--- ` in TYPE`, where the type is known
-abbrev pub in_type : Option ℕ → List ℕ
-in_type None = []
-in_type (Some ty) = codes " in " ++ name_of ty
 
 -- `START..END TYPE`
 abbrev pub frame_line : ℕ → ℕ → ℕ → Printed

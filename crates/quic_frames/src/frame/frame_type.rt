@@ -155,7 +155,6 @@ impl fmt::Display for FrameType {
         match self.0 {
             0x08..=0x0f => f.write_str("STREAM"),
             0x30 | 0x31 => f.write_str("DATAGRAM"),
-            ty if ty < 0x10 => write!(f, "<unknown 0{ty:x}>"),
             ty => write!(f, "<unknown {ty:x}>"),
         }
     }

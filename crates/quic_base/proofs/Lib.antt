@@ -2,4 +2,5 @@ mod Numbers
 mod Spellings
 mod Codecs
 mod Readings
+mod LongIds
 pub mod PublicLaws

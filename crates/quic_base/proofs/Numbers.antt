@@ -2,10 +2,13 @@
 use Rattle.std.proofs.Common.{◌≡◌, ℕ, zero, suc, ◌+◌, ◌*◌, ◌/◌, ◌%◌, ◌^◌, ◌<◌, List, [], ◌∷◌, ◌++◌, length, take, drop, refl, sym, ◌∙◌, ap, arith, lit<, length-append}
 use Rattle.std.proofs.Math.Nat.{pow-suc}
 use Rattle.std.proofs.Math.Seq.{take-append_seam, drop-append_seam}
-use Rattle.std.proofs.lemmas.Nat.{mul-add-lt, pow-add, div-mul-add, mod-mul-add, mod_below}
+use Rattle.std.proofs.lemmas.Nat.{mul-add-lt, pow-add, div-mul-add, mod-mul-add, mod_below, div-add-mod'}
 use Rattle.std.proofs.lemmas.Nat.{from_be_bytes-to_be_bytes_2, from_be_bytes-to_be_bytes_4, from_be_bytes-to_be_bytes_8}
 use Rattle.std.specs.Int.{w16, w32, w64, from_be_bytes, to_be_bytes, byte_at}
-use Rattle.quic_base.specs.Number.{AreBytes, num, IsNumber, bytes_of}
+use Rattle.std.specs.Net.Addr.{segments_of, octets_of, ipv4_octets, ipv6_octets}
+use Rattle.std.specs.declared.net.ipv4_addr.Ipv4Addr.{Ipv4Addr}
+use Rattle.std.specs.declared.net.ipv6_addr.Ipv6Addr.{Ipv6Addr}
+use Rattle.quic_base.specs.Number.{AreBytes, num, IsNumber, IsOctets, bytes_of}
 use Rattle.quic_base.specs.Codec.{Takes}
 
 pub tail_bytes : (x : ℕ) (xs : List ℕ) → AreBytes (x ∷ xs) → AreBytes xs
@@ -143,3 +146,44 @@ number_unique k m n b c r s e p q =
     let l : length b ≡ length c = p.width ∙ sym q.width in
     let f : b ≡ c = same_front b c r s l e in
     (sym p.value ∙ ap num f ∙ q.value, f, same_back b c r s l e)
+
+-- octets have one spelling
+pub octets_unique : (k : ℕ) (o p b c r s : List ℕ) → b ++ r ≡ c ++ s → IsOctets k o b → IsOctets k p c → (o ≡ p) × (b ≡ c) × (r ≡ s)
+octets_unique k o p b c r s e x y =
+    let l : length b ≡ length c = x.width ∙ sym y.width in
+    let f : b ≡ c = same_front b c r s l e in
+    (sym x.value ∙ f ∙ y.value, f, same_back b c r s l e)
+
+-- cutting segments in two loses nothing
+segments_of-octets_of : (s : List ℕ) → segments_of (octets_of s) ≡ s
+segments_of-octets_of [] = refl
+segments_of-octets_of (x ∷ xs) =
+    let e : x / 256 * 256 + x % 256 ≡ x = div-add-mod' x 256 in
+    let ih : segments_of (octets_of xs) ≡ xs = segments_of-octets_of xs in
+    rw (e, ih) refl
+
+-- an address has one spelling
+pub ipv4_unique : (x y : Ipv4Addr) (b c r s : List ℕ) → b ++ r ≡ c ++ s → IsOctets 4 (ipv4_octets x) b → IsOctets 4 (ipv4_octets y) c → (x ≡ y) × (b ≡ c) × (r ≡ s)
+ipv4_unique x y b c r s e p q =
+    let u = octets_unique 4 (ipv4_octets x) (ipv4_octets y) b c r s e p q in
+    (ap (λ (o : List ℕ). let a : Ipv4Addr = record { octets = o } in a) u.0, u.1, u.2)
+
+pub ipv6_unique : (x y : Ipv6Addr) (b c r s : List ℕ) → b ++ r ≡ c ++ s → IsOctets 16 (ipv6_octets x) b → IsOctets 16 (ipv6_octets y) c → (x ≡ y) × (b ≡ c) × (r ≡ s)
+ipv6_unique x y b c r s e p q =
+    let u = octets_unique 16 (ipv6_octets x) (ipv6_octets y) b c r s e p q in
+    let same : x.segments ≡ y.segments = sym (segments_of-octets_of x.segments) ∙ ap segments_of u.0 ∙ segments_of-octets_of y.segments in
+    (ap (λ (o : List ℕ). let a : Ipv6Addr = record { segments = o } in a) same, u.1, u.2)
+
+-- joining octets by twos loses nothing
+octets_of-segments_of : (n : ℕ) (b : List ℕ) → length b ≡ n + n → AreBytes b → octets_of (segments_of b) ≡ b
+octets_of-segments_of zero [] l h = refl
+octets_of-segments_of zero (x ∷ b) l h = absurd (omega arith)
+octets_of-segments_of (suc n) [] l h = absurd (omega arith)
+octets_of-segments_of (suc n) (x ∷ []) l h = absurd (omega arith)
+octets_of-segments_of (suc n) (x ∷ y ∷ b) l h =
+    let low : y < 256 = h 1 in
+    let ih : octets_of (segments_of b) ≡ b = octets_of-segments_of n b (omega arith) (λ i. h (suc (suc i))) in
+    rw (div-mul-add x 256 y low, mod-mul-add x 256 y low, ih) refl
+
+pub takes_ipv6 : (old new b s : List ℕ) → old ≡ b ++ new → length b ≡ 16 → AreBytes b → s ≡ segments_of b → Takes (IsOctets 16 (octets_of s)) old new
+takes_ipv6 old new b s e l h v = record { front = b; split = e; is = record { bytes = h; width = l; value = sym (octets_of-segments_of 8 b l h) ∙ ap octets_of (sym v) } }

@@ -1,9 +1,15 @@
--- The laws of numbers that proofs of the crates above cite. All other files here are this crate's own.
-use Rattle.std.proofs.Common.{◌≡◌, ℕ, ◌<◌, ◌≤◌, ◌^◌, List, ◌++◌, length, None, Some}
-use Rattle.quic_base.specs.Number.{AreBytes}
-use Rattle.quic_base.specs.Codec.{Takes, NoFront}
+-- The laws of numbers and ids that proofs of the crates above cite. All other files here are this crate's own.
+use Rattle.std.proofs.Common.{◌≡◌, ℕ, ◌+◌, ◌*◌, ◌<◌, ◌≤◌, ◌^◌, List, ◌++◌, length, None, Some, Result, Ok, OnErr, IfOk}
+use Rattle.std.specs.Net.Addr.{ipv4_octets, ipv6_octets}
+use Rattle.std.specs.declared.net.ipv4_addr.Ipv4Addr.{Ipv4Addr}
+use Rattle.std.specs.declared.net.ipv6_addr.Ipv6Addr.{Ipv6Addr}
+use Rattle.quic_base.specs.Number.{AreBytes, num, IsNumber, IsOctets, bytes_of}
+use Rattle.quic_base.specs.Codec.{Takes, NoFront, IsBegun, Follows, IsPrefixFree}
+use Rattle.quic_base.specs.ConnectionId.{IsLongId}
 use Rattle.quic_base.specs.Varint.{Spells, size, short}
 use Rattle.quic_base.specs.Reading.{number_at}
+use Rattle.quic_base.proofs.Codecs as codecs
+use Rattle.quic_base.proofs.LongIds as long_ids
 use Rattle.quic_base.proofs.Numbers as numbers
 use Rattle.quic_base.proofs.Spellings as spellings
 use Rattle.quic_base.proofs.Readings as readings
@@ -14,6 +20,52 @@ front_bytes = numbers.front_bytes
 
 pub back_bytes : (front back : List ℕ) → AreBytes (front ++ back) → AreBytes back
 back_bytes = numbers.back_bytes
+
+-- of two equal lists, fronts of one length are equal, and so are their rests
+pub same_front : (b c r s : List ℕ) → length b ≡ length c → b ++ r ≡ c ++ s → b ≡ c
+same_front = numbers.same_front
+
+pub same_back : (b c r s : List ℕ) → length b ≡ length c → b ++ r ≡ c ++ s → r ≡ s
+same_back = numbers.same_back
+
+-- the number of two parts; a number of k bytes is below 256 to the k, and has one spelling in k bytes
+pub num-append : (a b : List ℕ) → num (a ++ b) ≡ num a * 256 ^ length b + num b
+num-append = numbers.num-append
+
+pub num_below : (b : List ℕ) → AreBytes b → num b < 256 ^ length b
+num_below = numbers.num_below
+
+pub num_injective : (a b : List ℕ) → AreBytes a → AreBytes b → length a ≡ length b → num a ≡ num b → a ≡ b
+num_injective = numbers.num_injective
+
+-- the bytes that are written of a number spell it
+pub is_number_1 : (n : ℕ) → n < 2 ^ 8 → IsNumber 1 n (bytes_of 1 n)
+is_number_1 = numbers.is_number_1
+
+pub is_number_2 : (n : ℕ) → n < 2 ^ 16 → IsNumber 2 n (bytes_of 2 n)
+is_number_2 = numbers.is_number_2
+
+pub is_number_4 : (n : ℕ) → n < 2 ^ 32 → IsNumber 4 n (bytes_of 4 n)
+is_number_4 = numbers.is_number_4
+
+pub is_number_8 : (n : ℕ) → n < 2 ^ 64 → IsNumber 8 n (bytes_of 8 n)
+is_number_8 = numbers.is_number_8
+
+pub length-bytes_of : (k n : ℕ) → length (bytes_of k n) ≡ k
+length-bytes_of = numbers.length-bytes_of
+
+-- of fixed numbers, addresses and ids behind their length no spelling begins another
+pub number_unique : (k : ℕ) → IsPrefixFree (IsNumber k)
+number_unique = numbers.number_unique
+
+pub ipv4_unique : IsPrefixFree (λ (a : Ipv4Addr). IsOctets 4 (ipv4_octets a))
+ipv4_unique = numbers.ipv4_unique
+
+pub ipv6_unique : IsPrefixFree (λ (a : Ipv6Addr). IsOctets 16 (ipv6_octets a))
+ipv6_unique = numbers.ipv6_unique
+
+pub long_id_unique : IsPrefixFree IsLongId
+long_id_unique = long_ids.long_id_unique
 
 -- the shortest spelling is one, of the stated length
 pub short_spells : (v : ℕ) → v < 2 ^ 62 → Spells v (short v)
@@ -47,3 +99,33 @@ none_found = readings.none_found
 
 pub no_number : (bytes : List ℕ) → AreBytes bytes → ((v : ℕ) → NoFront (Spells v) bytes) → number_at bytes ≡ None
 no_number = readings.no_number
+
+-- what two decoders take, one after another
+pub takes_then : (K L : List ℕ → Type 0) (old mid new : List ℕ) → Takes K old mid → Takes L mid new → Takes (Follows K L) old new
+takes_then = codecs.takes_then
+
+-- where the first of two is cut off, and where the second is
+pub cut_first : (K L : List ℕ → Type 0) (old : List ℕ) → NoFront K old → NoFront (Follows K L) old
+cut_first = codecs.cut_first
+
+pub cut_second : {T : Type 0} (K : T → List ℕ → Type 0) (L : List ℕ → Type 0) (old mid : List ℕ) (x y : T) → IsPrefixFree K → Takes (K x) old mid → NoFront L mid → NoFront (Follows (K y) L) old
+cut_second = codecs.cut_second
+
+-- where the first of two encoders is refused, and where the second is
+pub begun_first : (old a b new : List ℕ) → IsBegun old a new → IsBegun old (a ++ b) new
+begun_first = codecs.begun_first
+
+pub begun_second : (old mid a b new : List ℕ) → mid ≡ old ++ a → IsBegun mid b new → IsBegun old (a ++ b) new
+begun_second = codecs.begun_second
+
+-- a fact at an early return
+pub on_err : {T E P : Type 0} (r : Result T E) → P → OnErr r P
+on_err = codecs.on_err
+
+-- decoding an encoding gives the value and leaves the rest
+pub reads_back : {T E : Type 0} (K : T → List ℕ → Type 0) (r : Result T E) (x : T) (old b rest new : List ℕ) → IsPrefixFree K → K x b → old ≡ b ++ rest
+    → IfOk r (λ v. Takes (K v) old new) → OnErr r ((v : T) → NoFront (K v) old) → (r ≡ Ok x) × (new ≡ rest)
+reads_back = codecs.reads_back
+
+-- what two decoders or two encoders in a row need
+pub ruleset in_turn = (takes_then, cut_first, begun_first, begun_second, on_err)

@@ -20,3 +20,9 @@ pub record IsNumber (k n : ℕ) (b : List ℕ) : Type 0 where
 -- the lowest k bytes of n, the highest of them first
 unfoldable pub bytes_of : ℕ → ℕ → List ℕ
 bytes_of k n = bytes_high_first k n
+
+-- b is these k octets, each one byte
+pub record IsOctets (k : ℕ) (octets b : List ℕ) : Type 0 where
+  pub bytes : AreBytes b
+  pub width : length b ≡ k
+  pub value : b ≡ octets

@@ -1,10 +1,14 @@
 //! How values are read from the front of a buffer and written to its end.
-ghost use Rattle.std.specs.Prelude.{◌≡◌, ◌<◌, ◌≤◌, ◌++◌, List, ℕ, length, slice_index, IfOk, IfSome, IsNone, OnErr, OnOk};
+ghost use Rattle.std.specs.Prelude.{◌≡◌, ◌<◌, ◌≤◌, ◌^◌, ◌++◌, List, ℕ, drop, length, slice_index, IfOk, IfSome, IsNone, OnErr, OnOk};
+ghost use Rattle.std.specs.Net.Addr.{ipv4_octets, ipv6_octets};
 ghost use Rattle.quic_base.specs.Codec.{Takes, NoFront, IsBegun, KeepsRoom};
-ghost use Rattle.quic_base.specs.Number.{AreBytes, IsNumber, bytes_of};
+ghost use Rattle.quic_base.specs.Number.{AreBytes, IsNumber, IsOctets, bytes_of};
+ghost use Rattle.quic_base.specs.Varint.{Spells, short};
 
+use crate::varint::VarInt;
 use bytes::{Buf, BufMut};
 use std::alloc::AllocError;
+use std::net::{Ipv4Addr, Ipv6Addr};
 use thiserror::Error;
 
 /// A buffer ended before a value did.
@@ -67,9 +71,9 @@ pub(crate) fn first_byte<B: Buf>(buf: &B) -> Option<u8>
     buf.chunk().first().copied()
 }
 
-// Each element is a byte.
+// Each element is a byte, which callers learn where their own bound on the elements is lost.
 #[inline]
-fn are_bytes(bytes: &[u8])
+pub(crate) fn are_bytes(bytes: &[u8])
     ensures { AreBytes bytes.now }
 {}
 
@@ -99,6 +103,7 @@ pub(crate) fn get_array<B: Buf, const N: usize>(buf: &mut B) -> Result<[u8; N]>
     Ok(bytes)
 }
 
+/// One byte.
 impl Codec for u8 {
     ghost spelled = { IsNumber 1 };
 
@@ -113,3 +118,155 @@ impl Codec for u8 {
         buf.put_u8(*self).map_err(|_| NoRoom)
     }
 }
+
+/// Two bytes, the higher one first. Nothing is consumed on `UnexpectedEnd`.
+impl Codec for u16 {
+    ghost spelled = { IsNumber 2 };
+
+    ghost encoding = { bytes_of 2 };
+
+    fn decode<B: Buf>(buf: &mut B) -> Result<u16> {
+        Ok(u16::from_be_bytes(get_array(buf)?))
+    }
+
+    #[tactic(auto, using(crate::proofs::Numbers::fixed_numbers), unfolding(crate::specs::Number::bytes_of))]
+    fn encode<B: BufMut>(&self, buf: &mut B) -> std::result::Result<(), NoRoom> {
+        buf.put_u16(*self).map_err(|_| NoRoom)
+    }
+}
+
+/// Four bytes, the highest one first. Nothing is consumed on `UnexpectedEnd`.
+impl Codec for u32 {
+    ghost spelled = { IsNumber 4 };
+
+    ghost encoding = { bytes_of 4 };
+
+    fn decode<B: Buf>(buf: &mut B) -> Result<u32> {
+        Ok(u32::from_be_bytes(get_array(buf)?))
+    }
+
+    #[tactic(auto, using(crate::proofs::Numbers::fixed_numbers), unfolding(crate::specs::Number::bytes_of))]
+    fn encode<B: BufMut>(&self, buf: &mut B) -> std::result::Result<(), NoRoom> {
+        buf.put_u32(*self).map_err(|_| NoRoom)
+    }
+}
+
+/// Eight bytes, the highest one first. Nothing is consumed on `UnexpectedEnd`.
+impl Codec for u64 {
+    ghost spelled = { IsNumber 8 };
+
+    ghost encoding = { bytes_of 8 };
+
+    #[tactic(auto, using(crate::proofs::Numbers::takes_8))]
+    fn decode<B: Buf>(buf: &mut B) -> Result<u64> {
+        Ok(u64::from_be_bytes(get_array(buf)?))
+    }
+
+    #[tactic(auto, using(crate::proofs::Numbers::fixed_numbers), unfolding(crate::specs::Number::bytes_of))]
+    fn encode<B: BufMut>(&self, buf: &mut B) -> std::result::Result<(), NoRoom> {
+        buf.put_u64(*self).map_err(|_| NoRoom)
+    }
+}
+
+/// The four octets, in the order in which an address is written.
+impl Codec for Ipv4Addr {
+    ghost spelled = { λ a. IsOctets 4 (ipv4_octets a) };
+
+    ghost encoding = { ipv4_octets };
+
+    fn decode<B: Buf>(buf: &mut B) -> Result<Ipv4Addr> {
+        Ok(Ipv4Addr::from_octets(get_array(buf)?))
+    }
+
+    fn encode<B: BufMut>(&self, buf: &mut B) -> std::result::Result<(), NoRoom> {
+        let octets: [u8; 4] = self.octets();
+        are_bytes(&octets);
+        buf.put_slice(&octets).map_err(|_| NoRoom)
+    }
+}
+
+/// The sixteen octets, in the order in which an address is written.
+impl Codec for Ipv6Addr {
+    ghost spelled = { λ a. IsOctets 16 (ipv6_octets a) };
+
+    ghost encoding = { ipv6_octets };
+
+    fn decode<B: Buf>(buf: &mut B) -> Result<Ipv6Addr> {
+        Ok(Ipv6Addr::from_octets(get_array(buf)?))
+    }
+
+    fn encode<B: BufMut>(&self, buf: &mut B) -> std::result::Result<(), NoRoom> {
+        let octets: [u8; 16] = self.octets();
+        are_bytes(&octets);
+        buf.put_slice(&octets).map_err(|_| NoRoom)
+    }
+}
+
+/// Reads from any buffer by the type of the value.
+pub trait BufExt: Buf {
+    /// The value at the front, as `T::decode` answers it.
+    final fn get<T: Codec>(&mut self) -> Result<T>
+    where
+        Self: Sized,
+        ensures ok { IfOk result
+            (λ v. Takes (T.spelled v) (Self.unread self.old) (Self.unread self.new)) }
+        ensures cut { OnErr result ((v : T) → NoFront (T.spelled v) (Self.unread self.old)) }
+        ensures left { OnErr result (Self.unread self.new ≡ T.after_cut (Self.unread self.old)) }
+        ensures kept { Self.kept self.new ≡ Self.kept self.old }
+    {
+        T::decode(self)
+    }
+
+    /// The number of the varint at the front (RFC 9000, section 16), as `VarInt::decode` answers it.
+    final fn get_var(&mut self) -> Result<u64>
+    where
+        Self: Sized,
+        ensures ok { IfOk result
+            (λ v. Takes (Spells v) (Self.unread self.old) (Self.unread self.new)) }
+        ensures bound { IfOk result (λ v. v < 2 ^ 62) }
+        ensures cut { OnErr result ((v : ℕ) → NoFront (Spells v) (Self.unread self.old)) }
+        ensures left { OnErr result (Self.unread self.new ≡ drop 1 (Self.unread self.old)) }
+        ensures kept { Self.kept self.new ≡ Self.kept self.old }
+    {
+        Ok(VarInt::decode(self)?.into_inner())
+    }
+}
+
+impl<B: Buf> BufExt for B {}
+
+/// Writes to any buffer by the type of the value.
+pub trait BufMutExt: BufMut {
+    /// Appends the spelling of `x`, as `T::encode` does.
+    final fn write<T: Codec + Drop>(&mut self, x: T) -> std::result::Result<(), NoRoom>
+    where
+        Self: Sized,
+        ensures spelled { T.spelled x (T.encoding x) }
+        ensures ok { OnOk result (Self.written self.new ≡ Self.written self.old ++ T.encoding x) }
+        ensures err { OnErr result
+            (IsBegun (Self.written self.old) (T.encoding x) (Self.written self.new)) }
+        ensures full { OnErr result (Self.spare self.old < length (T.encoding x)) }
+        ensures room { KeepsRoom (Self.written self.old) (Self.spare self.old)
+            (Self.written self.new) (Self.spare self.new) }
+    {
+        x.encode(self)
+    }
+
+    /// Appends the shortest spelling of `x` as a varint (RFC 9000, section 16). The caller owes that
+    /// `x` is below 2^62.
+    final fn write_var(&mut self, x: u64) -> std::result::Result<(), NoRoom>
+    where
+        Self: Sized,
+        requires { x < 2 ^ 62 }
+        ensures spelled { Spells x (short x) }
+        ensures ok { OnOk result (Self.written self.new ≡ Self.written self.old ++ short x) }
+        ensures err { OnErr result
+            (IsBegun (Self.written self.old) (short x) (Self.written self.new)) }
+        ensures full { OnErr result (Self.spare self.old < length (short x)) }
+        ensures room { KeepsRoom (Self.written self.old) (Self.spare self.old)
+            (Self.written self.new) (Self.spare self.new) }
+    {
+        VarInt::from_u64_unchecked(x).encode(self)
+    }
+}
+
+impl<B: BufMut> BufMutExt for B {}

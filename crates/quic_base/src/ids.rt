@@ -1,15 +1,122 @@
-//! Identifiers (RFC 9000, section 2.1).
-ghost use Rattle.std.specs.Prelude.{◌≡◌, ◌<◌, ◌^◌, ℕ, drop};
+//! Identifiers of sides, streams, connections and packet number spaces, and the limits on them
+//! (RFC 9000, sections 2.1, 5.1, 10.3, 12.3, 13.4 and 14).
+ghost use Rattle.std.specs.Prelude.{◌≡◌, ◌<◌, ◌^◌, ◌/◌, ◌%◌, ◌↔◌, List, ℕ, [], ◌∷◌, Some, drop, length, IsTrue, MatchOption};
+ghost use Rattle.std.specs.Array.Iter.{array_into_iter_items};
+ghost use Rattle.quic_base.specs.Ids.{side_number, dir_number, stream_number, other_side, dir_text, initiator_of, dir_of, stream_text, ecn_bits};
 ghost use Rattle.quic_base.specs.Varint.{Spells, short};
 
 use crate::coding::{self, Codec, NoRoom};
 use crate::varint::VarInt;
 use bytes::{Buf, BufMut};
-use std::fmt;
 use std::marker::Model;
+use std::ops::Not;
+use std::{array, fmt};
 
-/// The number of a stream, below 2^62, which contracts see as that number.
-#[derive(Clone, Copy, PartialEq, Eq, PartialOrd, Ord, Hash)]
+mod connection_id;
+
+pub use connection_id::{ConnectionId, MAX_CID_SIZE};
+
+/// How many connection ids an endpoint issues for one connection at most.
+pub const LOC_CID_COUNT: u64 = 8;
+
+/// How many streams there are at most of one side and direction: 2^60 (RFC 9000, section 4.6).
+pub const MAX_STREAM_COUNT: u64 = 1 << 60;
+
+/// The length of a stateless reset token in bytes (RFC 9000, section 10.3).
+pub const RESET_TOKEN_SIZE: usize = 16;
+
+/// The least payload in bytes of a datagram with an Initial packet (RFC 9000, section 14.1).
+pub const MIN_INITIAL_SIZE: u16 = 1200;
+
+/// The payload in bytes that every path carries (RFC 9000, section 14).
+pub const INITIAL_MTU: u16 = 1200;
+
+/// The greatest payload of a UDP datagram in bytes (RFC 9000, section 18.2).
+pub const MAX_UDP_PAYLOAD: u16 = 65527;
+
+/// The versions that an endpoint speaks where it isn't told others: version 1 (RFC 9000, section
+/// 15), then the drafts 29 to 34.
+pub const DEFAULT_SUPPORTED_VERSIONS: &[u32] = &[
+    0x0000_0001,
+    0xff00_001d,
+    0xff00_001e,
+    0xff00_001f,
+    0xff00_0020,
+    0xff00_0021,
+    0xff00_0022,
+];
+
+/// Which end of a connection.
+#[derive(Clone, Copy, Debug, PartialEq, Eq, PartialOrd, Ord, Hash)]
+pub enum Side {
+    /// The end that opened the connection.
+    Client = 0,
+    /// The end that accepted it.
+    Server = 1,
+}
+
+impl Side {
+    /// Whether this is the client.
+    pub fn is_client(self) -> bool
+        ensures { IsTrue result ↔ (self ≡ Side.Client) }
+    {
+        self == Side::Client
+    }
+
+    /// Whether this is the server.
+    pub fn is_server(self) -> bool
+        ensures { IsTrue result ↔ (self ≡ Side.Server) }
+    {
+        self == Side::Server
+    }
+}
+
+/// The other end.
+impl Not for Side {
+    type Output = Side;
+
+    ghost not_gives = { λ side other. other ≡ other_side side };
+
+    fn not(self) -> Side {
+        match self {
+            Side::Client => Side::Server,
+            Side::Server => Side::Client,
+        }
+    }
+}
+
+/// Whether data flow both ways on a stream (RFC 9000, section 2.1).
+#[derive(Clone, Copy, Debug, PartialEq, Eq, PartialOrd, Ord, Hash)]
+pub enum Dir {
+    /// Data flow both ways.
+    Bi = 0,
+    /// Data flow from the initiator alone.
+    Uni = 1,
+}
+
+impl Dir {
+    /// Both directions, in order.
+    pub fn iter() -> array::IntoIter<Dir, 2>
+        ensures { array_into_iter_items result ≡ Dir.Bi ∷ Dir.Uni ∷ [] }
+    {
+        [Dir::Bi, Dir::Uni].into_iter()
+    }
+}
+
+/// `bidirectional` or `unidirectional`.
+impl fmt::Display for Dir {
+    ghost output = { λ dir. Some (dir_text dir) };
+
+    fn fmt<W: fmt::Write>(&self, f: &mut fmt::Formatter<W>) -> fmt::Result {
+        f.pad(match self {
+            Dir::Bi => "bidirectional",
+            Dir::Uni => "unidirectional",
+        })
+    }
+}
+
+/// The number of a stream, below 2^62, which contracts see as that number (RFC 9000, section 2.1).
+#[derive(Clone, Copy, Debug, PartialEq, Eq, PartialOrd, Ord, Hash)]
 pub struct StreamId(u64);
 
 impl Model for StreamId {
@@ -20,6 +127,50 @@ impl Model for StreamId {
     ghost invariant = { λ s. s.0 < 2 ^ 62 };
 
     ghost inverse = { λ n. record { 0 = n } };
+}
+
+impl StreamId {
+    /// The id of the stream that comes after `index` others of the same initiator and direction.
+    /// The caller owes that `index` is below 2^60.
+    pub fn new(initiator: Side, dir: Dir, index: u64) -> StreamId
+        requires { index < 2 ^ 60 }
+        ensures number { result ≡ stream_number initiator dir index }
+        ensures initiator { initiator_of result ≡ initiator }
+        ensures dir { dir_of result ≡ dir }
+        ensures index { result / 4 ≡ index }
+    {
+        StreamId(4 * index + 2 * dir as u64 + initiator as u64)
+    }
+
+    /// Which end opened the stream.
+    pub fn initiator(self) -> Side
+        ensures { result ≡ initiator_of self }
+    {
+        if self.0 & 0x1 == 0 {
+            Side::Client
+        } else {
+            Side::Server
+        }
+    }
+
+    /// Whether data flow both ways.
+    pub fn dir(self) -> Dir
+        ensures { result ≡ dir_of self }
+    {
+        if (self.0 >> 1) & 0x1 == 0 {
+            Dir::Bi
+        } else {
+            Dir::Uni
+        }
+    }
+
+    /// How many streams of the same initiator and direction come before this one: below 2^60.
+    pub fn index(self) -> u64
+        ensures value { result ≡ self / 4 }
+        ensures bound { result < 2 ^ 60 }
+    {
+        self.0 >> 2
+    }
 }
 
 impl From<VarInt> for StreamId {
@@ -63,8 +214,122 @@ impl Codec for StreamId {
     }
 }
 
-impl fmt::Debug for StreamId {
+/// As `server unidirectional stream 5`.
+impl fmt::Display for StreamId {
+    ghost output = { λ n. Some (stream_text n) };
+
     fn fmt<W: fmt::Write>(&self, f: &mut fmt::Formatter<W>) -> fmt::Result {
-        fmt::Debug::fmt(&self.0, f)
+        let initiator = match self.initiator() {
+            Side::Client => "client",
+            Side::Server => "server",
+        };
+        let dir = match self.dir() {
+            Dir::Bi => "bidirectional",
+            Dir::Uni => "unidirectional",
+        };
+        write!(f, "{initiator} {dir} stream {}", self.index())
+    }
+}
+
+/// The explicit congestion notification of a datagram, whose number is its two bits (RFC 9000,
+/// section 13.4; RFC 3168, section 5).
+#[derive(Clone, Copy, Debug, PartialEq, Eq)]
+pub enum EcnCodepoint {
+    /// Able to notify, ECT(0).
+    Ect0 = 0b10,
+    /// Able to notify, ECT(1).
+    Ect1 = 0b01,
+    /// Congestion was met.
+    Ce = 0b11,
+}
+
+impl EcnCodepoint {
+    /// The codepoint of the two lowest bits of `x`; none where both are 0.
+    pub fn from_bits(x: u8) -> Option<EcnCodepoint>
+        ensures { MatchOption result (x % 4 ≡ 0) (λ codepoint. x % 4 ≡ ecn_bits codepoint) }
+    {
+        match x & 0b11 {
+            0b10 => Some(EcnCodepoint::Ect0),
+            0b01 => Some(EcnCodepoint::Ect1),
+            0b11 => Some(EcnCodepoint::Ce),
+            _ => None,
+        }
+    }
+
+    /// Whether congestion was met.
+    pub fn is_ce(self) -> bool
+        ensures { IsTrue result ↔ (self ≡ EcnCodepoint.Ce) }
+    {
+        self == EcnCodepoint::Ce
+    }
+}
+
+/// The token of a stateless reset, sixteen bytes, as which contracts see it (RFC 9000, section 10.3).
+#[derive(Clone, Copy, Debug, PartialEq, Eq, Hash)]
+pub struct ResetToken([u8; RESET_TOKEN_SIZE]);
+
+impl Model for ResetToken {
+    ghost Value = { List ℕ };
+
+    ghost view = { λ t. t.0 };
+
+    ghost inverse = { λ bytes. record { 0 = bytes } };
+}
+
+impl ResetToken {
+    /// The sixteen bytes.
+    pub fn as_slice(&self) -> &[u8]
+        ensures value { result.now ≡ self.now }
+        ensures width { length result.now ≡ RESET_TOKEN_SIZE }
+    {
+        &self.0
+    }
+}
+
+impl From<[u8; RESET_TOKEN_SIZE]> for ResetToken {
+    ghost from_gives = { λ bytes token. token ≡ bytes };
+
+    fn from(bytes: [u8; RESET_TOKEN_SIZE]) -> ResetToken {
+        ResetToken(bytes)
+    }
+}
+
+impl From<ResetToken> for [u8; RESET_TOKEN_SIZE] {
+    ghost from_gives = { λ token bytes. bytes ≡ token };
+
+    fn from(token: ResetToken) -> [u8; RESET_TOKEN_SIZE] {
+        token.0
+    }
+}
+
+/// A connection id that an endpoint issued, with its number and its token (RFC 9000, section 19.15).
+#[derive(Clone, Copy, Debug)]
+pub struct IssuedCid {
+    /// The number of the id among those that were issued for the connection.
+    pub sequence: u64,
+    /// The id.
+    pub id: ConnectionId,
+    /// The token of a stateless reset for the id.
+    pub reset_token: ResetToken,
+}
+
+/// The packet number spaces (RFC 9000, section 12.3).
+#[derive(Clone, Copy, Debug, PartialEq, Eq, PartialOrd, Ord)]
+pub enum SpaceId {
+    /// Initial packets.
+    Initial = 0,
+    /// Handshake packets.
+    Handshake = 1,
+    /// 0-RTT and 1-RTT packets.
+    Data = 2,
+}
+
+impl SpaceId {
+    /// All three spaces, in order.
+    pub fn iter() -> array::IntoIter<SpaceId, 3>
+        ensures { array_into_iter_items result
+            ≡ SpaceId.Initial ∷ SpaceId.Handshake ∷ SpaceId.Data ∷ [] }
+    {
+        [SpaceId::Initial, SpaceId::Handshake, SpaceId::Data].into_iter()
     }
 }

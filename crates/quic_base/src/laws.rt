@@ -1,9 +1,23 @@
-//! Laws of the spellings, which no single call carries. The functions do nothing.
-ghost use Rattle.std.specs.Prelude.{◌≡◌, ◌<◌, ◌≤◌, ◌^◌, ◌++◌, List, ℕ, None, Some, length};
-ghost use Rattle.quic_base.specs.Codec.{Takes, NoFront};
-ghost use Rattle.quic_base.specs.Number.{AreBytes};
+//! Laws of numbers and ids, which no single call carries. The functions do nothing.
+ghost use Rattle.std.specs.Prelude.{◌≡◌, ◌<◌, ◌≤◌, ◌^◌, ◌/◌, ◌++◌, ◌↔◌, List, ℕ, None, Some, length, IsTrue};
+ghost use Rattle.std.specs.Cmp.{IsTotalOrder};
+ghost use Rattle.std.specs.Cmp.Lexicographic.{slice_cmp};
+ghost use Rattle.std.specs.Ordering.{nat_cmp};
+ghost use Rattle.std.specs.declared.cmp.Ordering.TheVariants.{Less, Equal};
+ghost use Rattle.std.specs.Net.Addr.{ipv4_octets, ipv6_octets};
+ghost use Rattle.std.specs.declared.net.ipv4_addr.Ipv4Addr.{Ipv4Addr};
+ghost use Rattle.std.specs.declared.net.ipv6_addr.Ipv6Addr.{Ipv6Addr};
+ghost use Rattle.quic_base.specs.Codec.{Takes, NoFront, IsPrefixFree};
+ghost use Rattle.quic_base.specs.ConnectionId.{IsLongId};
+ghost use Rattle.quic_base.specs.Ids.{stream_number, initiator_of, dir_of};
+ghost use Rattle.quic_base.specs.Number.{AreBytes, IsNumber, IsOctets};
 ghost use Rattle.quic_base.specs.Reading.{number_at};
 ghost use Rattle.quic_base.specs.Varint.{Spells, short, size};
+ghost use Rattle.quic_base.specs.declared.ids.Dir.{Dir};
+ghost use Rattle.quic_base.specs.declared.ids.Side.{Side};
+
+use crate::ids::ConnectionId;
+use std::hash::Hash;
 
 /// Spellings of numbers below 2^62 (RFC 9000, section 16). That decoding the shortest one gives the
 /// number and leaves what follows is a clause of `VarInt::decode`.
@@ -28,4 +42,44 @@ pub fn readings()
     ensures again { (n : ℕ) (front rest : List ℕ) → Spells n front
         → number_at (front ++ rest) ≡ Some (n, rest) }
     ensures none { (bytes : List ℕ) → number_at bytes ≡ None → (v : ℕ) → NoFront (Spells v) bytes }
+{}
+
+/// Of fixed numbers, addresses and ids behind their length no spelling begins another, and none spells
+/// two values.
+pub fn fixed_spellings()
+    ensures numbers { (k : ℕ) → IsPrefixFree (IsNumber k) }
+    ensures ipv4 { IsPrefixFree (λ (a : Ipv4Addr). IsOctets 4 (ipv4_octets a)) }
+    ensures ipv6 { IsPrefixFree (λ (a : Ipv6Addr). IsOctets 16 (ipv6_octets a)) }
+    ensures long_ids { IsPrefixFree IsLongId }
+{}
+
+/// The number of a stream and its three parts (RFC 9000, section 2.1).
+pub fn stream_ids()
+    // The number gives its parts back, so different parts give different numbers.
+    ensures parts { (side : Side) (dir : Dir) (index : ℕ) →
+        (initiator_of (stream_number side dir index) ≡ side)
+        × (dir_of (stream_number side dir index) ≡ dir)
+        × (stream_number side dir index / 4 ≡ index) }
+    ensures different { (side other : Side) (dir turned : Dir) (index count : ℕ) →
+        stream_number side dir index ≡ stream_number other turned count
+        → (side ≡ other) × (dir ≡ turned) × (index ≡ count) }
+    // The parts give the number back.
+    ensures whole { (n : ℕ) → stream_number (initiator_of n) (dir_of n) (n / 4) ≡ n }
+{}
+
+/// How connection ids compare, and how they are hashed.
+pub fn connection_ids()
+    // Two ids are equal exactly where their bytes are.
+    ensures equal { (x y : List ℕ) → IsTrue (⟦<ConnectionId as PartialEq>⟧.eq x y) ↔ (x ≡ y) }
+    // Equal ids are hashed alike.
+    ensures hashed { (x y : List ℕ) → IsTrue (⟦<ConnectionId as PartialEq>⟧.eq x y)
+        → ⟦<ConnectionId as Hash>⟧.hash_input x ≡ ⟦<ConnectionId as Hash>⟧.hash_input y }
+    // The order is total, and ties exactly the equal ones.
+    ensures total { IsTotalOrder ⟦<ConnectionId as Ord>⟧.cmp }
+    ensures ties { (x y : List ℕ) → (⟦<ConnectionId as Ord>⟧.cmp x y ≡ Equal) ↔ (x ≡ y) }
+    // A shorter id comes first. Of ids of one length the bytes decide.
+    ensures shorter { (x y : List ℕ) → length x < length y
+        → ⟦<ConnectionId as Ord>⟧.cmp x y ≡ Less }
+    ensures as_long { (x y : List ℕ) → length x ≡ length y
+        → ⟦<ConnectionId as Ord>⟧.cmp x y ≡ slice_cmp nat_cmp x y }
 {}

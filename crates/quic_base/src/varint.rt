@@ -47,7 +47,7 @@ impl VarInt {
     pub fn from_u64(x: u64) -> Result<VarInt, VarIntBoundsExceeded>
         ensures { IsBounded x result }
     {
-        if x < 1 << 62 {
+        if x <= VarInt::MAX.0 {
             Ok(VarInt(x))
         } else {
             Err(VarIntBoundsExceeded)
@@ -85,6 +85,81 @@ impl VarInt {
         } else {
             8
         }
+    }
+}
+
+/// The default is 0.
+impl Default for VarInt {
+    ghost is_default = { λ v. v ≡ 0 };
+
+    fn default() -> VarInt {
+        VarInt(0)
+    }
+}
+
+impl From<u8> for VarInt {
+    ghost from_gives = { λ x v. v ≡ x };
+
+    fn from(x: u8) -> VarInt {
+        VarInt(u64::from(x))
+    }
+}
+
+impl From<u16> for VarInt {
+    ghost from_gives = { λ x v. v ≡ x };
+
+    fn from(x: u16) -> VarInt {
+        VarInt(u64::from(x))
+    }
+}
+
+impl From<u32> for VarInt {
+    ghost from_gives = { λ x v. v ≡ x };
+
+    fn from(x: u32) -> VarInt {
+        VarInt(u64::from(x))
+    }
+}
+
+impl From<VarInt> for u64 {
+    ghost from_gives = { λ v x. (x ≡ v) × (v < 2 ^ 62) };
+
+    fn from(v: VarInt) -> u64 {
+        v.0
+    }
+}
+
+/// Refused exactly from 2^62 on.
+impl TryFrom<u64> for VarInt {
+    type Error = VarIntBoundsExceeded;
+
+    ghost try_from_gives = { IsBounded };
+
+    fn try_from(x: u64) -> Result<VarInt, VarIntBoundsExceeded> {
+        VarInt::from_u64(x)
+    }
+}
+
+/// Refused exactly from 2^62 on.
+impl TryFrom<u128> for VarInt {
+    type Error = VarIntBoundsExceeded;
+
+    ghost try_from_gives = { IsBounded };
+
+    fn try_from(x: u128) -> Result<VarInt, VarIntBoundsExceeded> {
+        let x = u64::try_from(x).map_err(|_| VarIntBoundsExceeded)?;
+        VarInt::from_u64(x)
+    }
+}
+
+/// Refused exactly from 2^62 on.
+impl TryFrom<usize> for VarInt {
+    type Error = VarIntBoundsExceeded;
+
+    ghost try_from_gives = { IsBounded };
+
+    fn try_from(x: usize) -> Result<VarInt, VarIntBoundsExceeded> {
+        VarInt::from_u64(x as u64)
     }
 }
 

@@ -1,0 +1,193 @@
+//! The ids by which endpoints know a connection (RFC 9000, section 5.1).
+ghost use Rattle.std.specs.Prelude.{◌≡◌, ◌<◌, ◌≤◌, ◌++◌, List, ℕ, ⊤, Some, drop, length, nat_eq, refl, MatchOption, OnErr, OnOk};
+ghost use Rattle.std.specs.Cmp.{partial_equiv_from_equiv, po};
+ghost use Rattle.std.specs.Cmp.Lexicographic.{nat_list_eq_equiv, pointwise};
+ghost use Rattle.std.specs.Cmp.Rules.{hashing};
+ghost use Rattle.std.specs.Hash as fed;
+ghost use Rattle.std.proofs.Common.{rules};
+ghost use Rattle.quic_base.specs.Codec.{Takes, NoFront, IsBegun, KeepsRoom};
+ghost use Rattle.quic_base.specs.ConnectionId.{IsLongId, long_id, id_text};
+ghost use Rattle.quic_base.specs.ConnectionIdOrder.{id_cmp, id_total, id_ties};
+ghost use Rattle.quic_base.specs.Number.{AreBytes};
+
+use crate::coding::{NoRoom, are_bytes, get_array};
+use bytes::{Buf, BufMut};
+use std::cmp::Ordering;
+use std::fmt;
+use std::hash::{Hash, Hasher};
+use std::marker::Model;
+
+/// The greatest length of a connection id in bytes (RFC 9000, section 17.2).
+pub const MAX_CID_SIZE: usize = 20;
+
+/// A connection id of at most 20 bytes, which contracts see as the list of its bytes.
+#[derive(Clone, Copy)]
+pub struct ConnectionId {
+    len: u8,
+    bytes: [u8; MAX_CID_SIZE],
+}
+
+impl Model for ConnectionId {
+    ghost use Rattle.std.specs.Prelude.{◌-◌, ◌++◌, List, ℕ, length, refl, replicate, take};
+    ghost use Rattle.quic_base.specs.ConnectionId.{IsPadded, length_taken, padded_whole};
+
+    ghost Value = { List ℕ };
+
+    ghost view = { λ c. take c.len c.bytes };
+
+    ghost invariant = { λ c. IsPadded c.len c.bytes };
+
+    ghost inverse = { λ id. record { len = length id; bytes = id ++ replicate (20 - length id) 0 } };
+
+    ghost inverse_ok = { λ a h. Prim.rw (length_taken a.len a.bytes h, padded_whole a.len a.bytes h) refl };
+}
+
+impl ConnectionId {
+    /// The id of these bytes. The caller owes that they are at most 20.
+    pub fn new(bytes: &[u8]) -> ConnectionId
+        requires { length bytes.now ≤ MAX_CID_SIZE }
+        ensures { result ≡ bytes.now }
+    {
+        let mut padded = [0; MAX_CID_SIZE];
+        padded[..bytes.len()].copy_from_slice(bytes);
+        ConnectionId {
+            len: bytes.len() as u8,
+            bytes: padded,
+        }
+    }
+
+    /// Takes the next `len` bytes. The caller owes that they are there, and at most 20.
+    pub fn from_buf<B: Buf>(buf: &mut B, len: usize) -> ConnectionId
+        requires short { len ≤ MAX_CID_SIZE }
+        requires enough { len ≤ length (B.unread buf.old) }
+        ensures front { B.unread buf.old ≡ result ++ B.unread buf.new }
+        ensures width { length result ≡ len }
+        ensures bytes { AreBytes result }
+        ensures kept { B.kept buf.new ≡ B.kept buf.old }
+    {
+        let mut padded = [0; MAX_CID_SIZE];
+        buf.copy_to_slice(&mut padded[..len]);
+        are_bytes(&padded);
+        ConnectionId {
+            len: len as u8,
+            bytes: padded,
+        }
+    }
+
+    /// Takes a byte of length and that many bytes (RFC 9000, section 17.2). Answers `None` exactly
+    /// where a byte is missing or the length is above 20; then the length byte is consumed where
+    /// there was one, and nothing else.
+    pub fn decode_long<B: Buf>(buf: &mut B) -> Option<ConnectionId>
+        ensures some { MatchOption result ((id : List ℕ) → NoFront (IsLongId id) (B.unread buf.old))
+            (λ id. Takes (IsLongId id) (B.unread buf.old) (B.unread buf.new)) }
+        ensures left { MatchOption result (B.unread buf.new ≡ drop 1 (B.unread buf.old)) (λ _. ⊤) }
+        ensures kept { B.kept buf.new ≡ B.kept buf.old }
+    {
+        let Ok(bytes) = get_array(buf) else {
+            return None;
+        };
+        let len = usize::from(u8::from_be_bytes(bytes));
+        if len > MAX_CID_SIZE || buf.remaining() < len {
+            return None;
+        }
+        Some(ConnectionId::from_buf(buf, len))
+    }
+
+    /// Appends a byte of length and the bytes (RFC 9000, section 17.2). Answers `NoRoom` only where
+    /// the buffer's spare room is less than that; then what stood there stands, followed by a
+    /// beginning of these bytes.
+    pub fn encode_long<B: BufMut>(&self, buf: &mut B) -> Result<(), NoRoom>
+        ensures spelled { IsLongId self.now (long_id self.now) }
+        ensures ok { OnOk result (B.written buf.new ≡ B.written buf.old ++ long_id self.now) }
+        ensures err { OnErr result
+            (IsBegun (B.written buf.old) (long_id self.now) (B.written buf.new)) }
+        ensures full { OnErr result (B.spare buf.old < length (long_id self.now)) }
+        ensures room { KeepsRoom (B.written buf.old) (B.spare buf.old)
+            (B.written buf.new) (B.spare buf.new) }
+    {
+        let bytes = self.as_slice();
+        are_bytes(bytes);
+        buf.put_u8(self.len).map_err(|_| NoRoom)?;
+        buf.put_slice(bytes).map_err(|_| NoRoom)
+    }
+
+    /// The bytes.
+    pub fn as_slice(&self) -> &[u8]
+        ensures value { result.now ≡ self.now }
+        ensures short { length result.now ≤ MAX_CID_SIZE }
+    {
+        &self.bytes[..usize::from(self.len)]
+    }
+}
+
+/// Equal exactly where the bytes are.
+impl PartialEq for ConnectionId {
+    ghost eq = { pointwise nat_eq };
+
+    ghost laws = { partial_equiv_from_equiv nat_list_eq_equiv };
+
+    fn eq(&self, other: &ConnectionId) -> bool {
+        self.as_slice() == other.as_slice()
+    }
+}
+
+impl Eq for ConnectionId {
+    ghost laws = { nat_list_eq_equiv };
+}
+
+/// Hashes as the slice of the bytes does.
+impl Hash for ConnectionId {
+    ghost hash_input = { fed.slice fed.u8 };
+
+    ghost respects_eq = { Prim.search (hashing, rules) };
+
+    fn hash<H: Hasher>(&self, state: &mut H) {
+        self.as_slice().hash(state);
+    }
+}
+
+/// By length, then by bytes.
+impl Ord for ConnectionId {
+    ghost cmp = { id_cmp };
+
+    ghost total = { id_total };
+
+    ghost matches_partial_cmp = { λ a b. refl };
+
+    ghost matches_eq = { id_ties };
+
+    fn cmp(&self, other: &ConnectionId) -> Ordering {
+        self.len
+            .cmp(&other.len)
+            .then_with(|| self.as_slice().cmp(other.as_slice()))
+    }
+}
+
+impl PartialOrd for ConnectionId {
+    ghost partial_cmp = { λ a b. Some (id_cmp a b) };
+
+    ghost laws = { po id_total id_ties };
+
+    fn partial_cmp(&self, other: &ConnectionId) -> Option<Ordering> {
+        Some(self.cmp(other))
+    }
+}
+
+/// Two lower-case hexadecimal digits a byte.
+impl fmt::Display for ConnectionId {
+    ghost output = { λ id. Some (id_text id) };
+
+    fn fmt<W: fmt::Write>(&self, f: &mut fmt::Formatter<W>) -> fmt::Result {
+        for byte in self.as_slice() {
+            write!(f, "{byte:02x}")?;
+        }
+        Ok(())
+    }
+}
+
+/// As the slice of the bytes.
+impl fmt::Debug for ConnectionId {
+    fn fmt<W: fmt::Write>(&self, f: &mut fmt::Formatter<W>) -> fmt::Result {
+        fmt::Debug::fmt(self.as_slice(), f)
+    }
+}

@@ -1,6 +1,7 @@
 mod Varints
 mod Steps
 mod Blocks
+mod Gaps
 mod Fields
 mod Rows
 mod Frames

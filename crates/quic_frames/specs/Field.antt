@@ -97,10 +97,13 @@ BelowStops (suc count) low bytes reason =
     NumberStops bytes reason (λ gap. nat_lt low (gap + 2)) (λ gap rest.
     NumberStops rest reason (λ block. nat_lt (low - (gap + 2)) block) (λ block others. BelowStops count (low - (gap + 2) - block) others reason))
 
+-- the same, for a first block and so many ranges below it
+abbrev pub RangesStop : ℕ → ℕ → List ℕ → Fault → Type 0
+RangesStop count greatest bytes reason =
+    NumberStops bytes reason (λ block. nat_lt greatest block) (λ block others. BelowStops count (greatest - block) others reason)
+
 abbrev pub BlocksStop : ℕ → List ℕ → Fault → Type 0
-BlocksStop greatest bytes reason =
-    NumberStops bytes reason (λ count. false) (λ count rest.
-    NumberStops rest reason (λ block. nat_lt greatest block) (λ block others. BelowStops count (greatest - block) others reason))
+BlocksStop greatest bytes reason = NumberStops bytes reason (λ count. false) (λ count rest. RangesStop count greatest rest reason)
 
 -- why a field can't be read where it stands
 abbrev pub reason_of : Field → List ℕ → Fault

@@ -3,8 +3,11 @@ pub use Rattle.quic_base.specs.Varint
 pub use Rattle.quic_base.specs.Codec
 pub mod Field
 pub mod Table
+pub mod Types
 pub mod Payload
 pub mod Reading
+pub mod Refusal
+pub mod Acks
 pub mod Meaning
 pub mod Names
 pub mod Way

@@ -103,6 +103,11 @@ ranges_of greatest bytes = first_and greatest (block_at greatest bytes)
 abbrev pub IsBlocks : ℕ → List ℕ → Type 0
 IsBlocks greatest bytes = after_blocks (length (ranges_of greatest bytes) - 1) greatest bytes ≡ Ok []
 
+-- The same of bytes that may be no block at all: what is left of them.
+abbrev pub blocks_left : ℕ → List ℕ → Result (List ℕ) Fault
+blocks_left greatest [] = Ok []
+blocks_left greatest (b ∷ bytes) = after_blocks (length (ranges_of greatest (b ∷ bytes)) - 1) greatest (b ∷ bytes)
+
 abbrev pub of_ranges : ℕ → List ℕ × List ℕ → Result (List Value × List ℕ) Fault
 of_ranges greatest x = Ok (Ranges (ranges_of greatest x.0) ∷ [], x.1)
 

@@ -1,8 +1,11 @@
 //! Frames, and how a payload is read frame by frame (RFC 9000, section 19).
 ghost use Rattle.std.specs.Prelude.{◌≡◌};
 
-use quic_base::ids::StreamId;
+use quic_base::ids::{ConnectionId, Dir, ResetToken, StreamId};
+use quic_base::varint::VarInt;
 
+mod ack;
+mod close;
 mod fault;
 mod field;
 mod found;
@@ -10,41 +13,158 @@ mod frame_type;
 mod iter;
 mod reading;
 
+pub use ack::{Ack, AckError, AckIter, EcnCounts};
+pub use close::{ApplicationClose, Close, ConnectionClose};
 pub use found::InvalidFrame;
 pub use frame_type::FrameType;
 pub use iter::Iter;
 
-/// A frame of a payload, whose bytes it borrows.
+/// A frame of a payload, whose bytes it borrows. Numbers that were read are below 2^62, but for the
+/// eight bytes of a path's challenge and response.
 #[derive(Debug, Drop)]
 pub enum Frame<'a> {
     /// Nothing (RFC 9000, section 19.1).
     Padding,
     /// Asks for an acknowledgement (RFC 9000, section 19.2).
     Ping,
+    /// Which packets arrived (RFC 9000, section 19.3).
+    Ack(Ack<'a>),
+    /// The sender ends a stream early (RFC 9000, section 19.4).
+    ResetStream(ResetStream),
+    /// The receiver wants no more of a stream (RFC 9000, section 19.5).
+    StopSending(StopSending),
     /// Bytes of the handshake (RFC 9000, section 19.6).
     Crypto(Crypto<'a>),
+    /// A token for a later connection (RFC 9000, section 19.7).
+    NewToken(NewToken<'a>),
     /// Bytes of a stream (RFC 9000, section 19.8).
     Stream(Stream<'a>),
+    /// How many bytes may be sent on the connection (RFC 9000, section 19.9).
+    MaxData(VarInt),
+    /// How many bytes may be sent on a stream (RFC 9000, section 19.10).
+    MaxStreamData {
+        /// The stream.
+        id: StreamId,
+        /// The limit on its offsets.
+        offset: u64,
+    },
+    /// How many streams may be opened (RFC 9000, section 19.11).
+    MaxStreams {
+        /// Of which direction.
+        dir: Dir,
+        /// How many in all.
+        count: u64,
+    },
+    /// The limit of the connection holds back data (RFC 9000, section 19.12).
+    DataBlocked {
+        /// That limit.
+        offset: u64,
+    },
+    /// The limit of a stream holds back data (RFC 9000, section 19.13).
+    StreamDataBlocked {
+        /// The stream.
+        id: StreamId,
+        /// That limit.
+        offset: u64,
+    },
+    /// The limit on streams holds back one (RFC 9000, section 19.14).
+    StreamsBlocked {
+        /// Of which direction.
+        dir: Dir,
+        /// That limit.
+        limit: u64,
+    },
+    /// Another id for the connection (RFC 9000, section 19.15).
+    NewConnectionId(NewConnectionId),
+    /// An id will not be used any more (RFC 9000, section 19.16).
+    RetireConnectionId {
+        /// The number of the id.
+        sequence: u64,
+    },
+    /// Tests a path (RFC 9000, section 19.17).
+    PathChallenge(u64),
+    /// Answers such a test (RFC 9000, section 19.18).
+    PathResponse(u64),
+    /// Closes the connection (RFC 9000, section 19.19).
+    Close(Close<'a>),
+    /// Data that are sent once (RFC 9221, section 4).
+    Datagram(Datagram<'a>),
+    /// How often acknowledgements are wanted (the ACK frequency extension).
+    AckFrequency(AckFrequency),
+    /// Asks for an acknowledgement at once (the ACK frequency extension).
+    ImmediateAck,
+    /// The handshake is done (RFC 9000, section 19.20).
+    HandshakeDone,
 }
 
 impl Frame<'_> {
-    ghost use Rattle.quic_frames.specs.Meaning.{meaning_of, type_of};
+    ghost use Rattle.quic_frames.specs.Meaning.{meaning_of, type_of, is_eliciting};
 
-    /// The type by which the frame is named. That of a STREAM has the bit for the offset exactly
-    /// where the offset isn't 0, and never the bit for the length.
+    /// The type by which the frame is named: ACK also for one with counts, 0x30 for each DATAGRAM.
+    /// That of a STREAM has the bit for the offset exactly where the offset isn't 0, and never the bit
+    /// for the length.
     pub fn ty(&self) -> FrameType
         ensures { result ≡ type_of (meaning_of self.now) }
     {
         match self {
             Frame::Padding => FrameType::PADDING,
             Frame::Ping => FrameType::PING,
+            Frame::Ack(_) => FrameType::ACK,
+            Frame::ResetStream(_) => FrameType::RESET_STREAM,
+            Frame::StopSending(_) => FrameType::STOP_SENDING,
             Frame::Crypto(_) => FrameType::CRYPTO,
+            Frame::NewToken(_) => FrameType::NEW_TOKEN,
             Frame::Stream(stream) => FrameType::of_stream(stream.offset != 0, stream.fin),
+            Frame::MaxData(_) => FrameType::MAX_DATA,
+            Frame::MaxStreamData { .. } => FrameType::MAX_STREAM_DATA,
+            Frame::MaxStreams { dir: Dir::Bi, .. } => FrameType::MAX_STREAMS_BIDI,
+            Frame::MaxStreams { dir: Dir::Uni, .. } => FrameType::MAX_STREAMS_UNI,
+            Frame::DataBlocked { .. } => FrameType::DATA_BLOCKED,
+            Frame::StreamDataBlocked { .. } => FrameType::STREAM_DATA_BLOCKED,
+            Frame::StreamsBlocked { dir: Dir::Bi, .. } => FrameType::STREAMS_BLOCKED_BIDI,
+            Frame::StreamsBlocked { dir: Dir::Uni, .. } => FrameType::STREAMS_BLOCKED_UNI,
+            Frame::NewConnectionId(_) => FrameType::NEW_CONNECTION_ID,
+            Frame::RetireConnectionId { .. } => FrameType::RETIRE_CONNECTION_ID,
+            Frame::PathChallenge(_) => FrameType::PATH_CHALLENGE,
+            Frame::PathResponse(_) => FrameType::PATH_RESPONSE,
+            Frame::Close(Close::Connection(_)) => FrameType::CONNECTION_CLOSE,
+            Frame::Close(Close::Application(_)) => FrameType::APPLICATION_CLOSE,
+            Frame::Datagram(_) => FrameType::DATAGRAM,
+            Frame::AckFrequency(_) => FrameType::ACK_FREQUENCY,
+            Frame::ImmediateAck => FrameType::IMMEDIATE_ACK,
+            Frame::HandshakeDone => FrameType::HANDSHAKE_DONE,
         }
+    }
+
+    /// Whether the frame asks for an acknowledgement: all but ACK, PADDING and closes do.
+    pub fn is_ack_eliciting(&self) -> bool
+        ensures { result ≡ is_eliciting (meaning_of self.now).name }
+    {
+        !matches!(self, Frame::Ack(_) | Frame::Padding | Frame::Close(_))
     }
 }
 
-/// Bytes of the handshake, from an offset below 2^62 on.
+/// The sender ends a stream early.
+#[derive(Clone, Copy, Debug)]
+pub struct ResetStream {
+    /// The stream.
+    pub id: StreamId,
+    /// A code of the application.
+    pub error_code: VarInt,
+    /// How long the stream is.
+    pub final_offset: VarInt,
+}
+
+/// The receiver wants no more of a stream.
+#[derive(Clone, Copy, Debug)]
+pub struct StopSending {
+    /// The stream.
+    pub id: StreamId,
+    /// A code of the application.
+    pub error_code: VarInt,
+}
+
+/// Bytes of the handshake.
 #[derive(Clone, Copy, Debug)]
 pub struct Crypto<'a> {
     /// Where in the handshake the bytes stand.
@@ -53,7 +173,14 @@ pub struct Crypto<'a> {
     pub bytes: &'a [u8],
 }
 
-/// Bytes of a stream, from an offset below 2^62 on.
+/// A token for a later connection.
+#[derive(Clone, Copy, Debug)]
+pub struct NewToken<'a> {
+    /// A slice of the payload.
+    pub token: &'a [u8],
+}
+
+/// Bytes of a stream.
 #[derive(Clone, Copy, Debug)]
 pub struct Stream<'a> {
     /// The stream.
@@ -64,4 +191,37 @@ pub struct Stream<'a> {
     pub fin: bool,
     /// A slice of the payload.
     pub bytes: &'a [u8],
+}
+
+/// Another id for the connection.
+#[derive(Clone, Copy, Debug)]
+pub struct NewConnectionId {
+    /// The number of the id.
+    pub sequence: u64,
+    /// Ids with numbers below this one are to be retired.
+    pub retire_prior_to: u64,
+    /// The id.
+    pub id: ConnectionId,
+    /// The token of a stateless reset for the id.
+    pub reset_token: ResetToken,
+}
+
+/// Data that are sent once.
+#[derive(Clone, Copy, Debug)]
+pub struct Datagram<'a> {
+    /// A slice of the payload.
+    pub bytes: &'a [u8],
+}
+
+/// How often acknowledgements are wanted.
+#[derive(Clone, Copy, Debug, PartialEq, Eq)]
+pub struct AckFrequency {
+    /// The number of the frame, by which an older one is known.
+    pub sequence: VarInt,
+    /// How many packets that ask for an acknowledgement may come before one is sent.
+    pub ack_eliciting_threshold: VarInt,
+    /// How long an acknowledgement may wait, in microseconds.
+    pub request_max_ack_delay: VarInt,
+    /// How far packets may be out of order before one is sent.
+    pub reordering_threshold: VarInt,
 }

@@ -89,6 +89,14 @@ impl Code {
         Code(0x100 + u64::from(alert))
     }
 
+    // The code of this number.
+    pub(crate) fn of(number: u64) -> Code
+        requires { number < 2 ^ 62 }
+        ensures { result ≡ number }
+    {
+        Code(number)
+    }
+
     // The text of the code, where it has one of its own.
     fn own_text(self) -> Option<&'static str>
         ensures { MatchOption result (own_text self ≡ None) (λ text. own_text self ≡ Some text.now) }

@@ -25,6 +25,8 @@ impl Model for FrameType {
 
 /// The types that have a name of their own. STREAM and DATAGRAM frames have several types each.
 impl FrameType {
+    ghost use Rattle.quic_frames.specs.Types.{type_or_zero};
+
     pub const PADDING: FrameType = FrameType(0x00);
 
     pub const PING: FrameType = FrameType(0x01);
@@ -75,6 +77,9 @@ impl FrameType {
 
     pub const ACK_FREQUENCY: FrameType = FrameType(0xaf);
 
+    // The type of a DATAGRAM without its bit for the length.
+    pub(crate) const DATAGRAM: FrameType = FrameType(0x30);
+
     // The type of a STREAM without its bit for the length.
     pub(crate) fn of_stream(has_offset: bool, fin: bool) -> FrameType
         ensures { result ≡ 8 + (if has_offset then 4 else 0) + (if fin then 1 else 0) }
@@ -84,6 +89,18 @@ impl FrameType {
             (false, true) => FrameType(0x09),
             (true, false) => FrameType(0x0c),
             (true, true) => FrameType(0x0d),
+        }
+    }
+
+    // The type of this number, none where it is 0.
+    pub(crate) fn or_none(number: u64) -> Option<FrameType>
+        requires { number < 2 ^ 62 }
+        ensures { type_or_zero result ≡ number }
+    {
+        if number == 0 {
+            None
+        } else {
+            Some(FrameType(number))
         }
     }
 

@@ -1,21 +1,87 @@
 //! The fields of each type of frame.
 ghost use Rattle.std.specs.Prelude.{Bool};
-ghost use Rattle.quic_frames.specs.Table.{crypto_row, stream_row};
+ghost use Rattle.quic_frames.specs.Table as table;
 ghost use Rattle.quic_frames.specs.Reading.{Gives, row_at, frame_at};
 ghost use Rattle.quic_frames.specs.Meaning.{meaning_of};
 
 use super::fault::Fault;
-use super::{Crypto, Frame, Stream, field};
-use quic_base::ids::StreamId;
+use super::{
+    Ack, AckFrequency, ApplicationClose, Close, ConnectionClose, Crypto, Datagram, EcnCounts,
+    Frame, FrameType, NewConnectionId, NewToken, ResetStream, StopSending, Stream, field,
+};
+use crate::transport_error::Code;
+use quic_base::ids::{ConnectionId, Dir, ResetToken, StreamId};
 use quic_base::varint::VarInt;
 
 #[tactic(auto, unfolding(crate::specs::Reading::row_at))]
+fn read_ack(bytes: &[u8]) -> Result<(Frame<'_>, &[u8]), Fault>
+    ensures { Gives (λ x. (meaning_of x.0, x.1.now)) result (row_at table.ack_row bytes.now) }
+{
+    let (largest, rest) = field::varint(bytes)?;
+    let (delay, rest) = field::varint(rest)?;
+    let (blocks, rest) = field::blocks(largest, rest)?;
+    let ack = Ack::of_blocks(largest, delay, blocks, None);
+    Ok((Frame::Ack(ack), rest))
+}
+
+#[tactic(auto, unfolding(crate::specs::Reading::row_at))]
+fn read_ack_ecn(bytes: &[u8]) -> Result<(Frame<'_>, &[u8]), Fault>
+    ensures { Gives (λ x. (meaning_of x.0, x.1.now)) result (row_at table.ack_ecn_row bytes.now) }
+{
+    let (largest, rest) = field::varint(bytes)?;
+    let (delay, rest) = field::varint(rest)?;
+    let (blocks, rest) = field::blocks(largest, rest)?;
+    let (ect0, rest) = field::varint(rest)?;
+    let (ect1, rest) = field::varint(rest)?;
+    let (ce, rest) = field::varint(rest)?;
+    let ecn = EcnCounts { ect0, ect1, ce };
+    let ack = Ack::of_blocks(largest, delay, blocks, Some(ecn));
+    Ok((Frame::Ack(ack), rest))
+}
+
+#[tactic(auto, unfolding(crate::specs::Reading::row_at))]
+fn read_reset_stream(bytes: &[u8]) -> Result<(Frame<'_>, &[u8]), Fault>
+    ensures { Gives (λ x. (meaning_of x.0, x.1.now)) result (row_at table.reset_stream_row bytes.now) }
+{
+    let (id, rest) = field::varint(bytes)?;
+    let (error_code, rest) = field::varint(rest)?;
+    let (final_offset, rest) = field::varint(rest)?;
+    let reset = ResetStream {
+        id: StreamId::from(VarInt::from_u64_unchecked(id)),
+        error_code: VarInt::from_u64_unchecked(error_code),
+        final_offset: VarInt::from_u64_unchecked(final_offset),
+    };
+    Ok((Frame::ResetStream(reset), rest))
+}
+
+#[tactic(auto, unfolding(crate::specs::Reading::row_at))]
+fn read_stop_sending(bytes: &[u8]) -> Result<(Frame<'_>, &[u8]), Fault>
+    ensures { Gives (λ x. (meaning_of x.0, x.1.now)) result (row_at table.stop_sending_row bytes.now) }
+{
+    let (id, rest) = field::varint(bytes)?;
+    let (error_code, rest) = field::varint(rest)?;
+    let stop = StopSending {
+        id: StreamId::from(VarInt::from_u64_unchecked(id)),
+        error_code: VarInt::from_u64_unchecked(error_code),
+    };
+    Ok((Frame::StopSending(stop), rest))
+}
+
+#[tactic(auto, unfolding(crate::specs::Reading::row_at))]
 fn read_crypto(bytes: &[u8]) -> Result<(Frame<'_>, &[u8]), Fault>
-    ensures { Gives (λ x. (meaning_of x.0, x.1.now)) result (row_at crypto_row bytes.now) }
+    ensures { Gives (λ x. (meaning_of x.0, x.1.now)) result (row_at table.crypto_row bytes.now) }
 {
     let (offset, rest) = field::varint(bytes)?;
     let (bytes, rest) = field::counted(rest)?;
     Ok((Frame::Crypto(Crypto { offset, bytes }), rest))
+}
+
+#[tactic(auto, unfolding(crate::specs::Reading::row_at))]
+fn read_new_token(bytes: &[u8]) -> Result<(Frame<'_>, &[u8]), Fault>
+    ensures { Gives (λ x. (meaning_of x.0, x.1.now)) result (row_at table.new_token_row bytes.now) }
+{
+    let (token, rest) = field::counted(bytes)?;
+    Ok((Frame::NewToken(NewToken { token }), rest))
 }
 
 #[tactic(auto, unfolding(crate::specs::Reading::row_at))]
@@ -25,7 +91,7 @@ fn read_stream(
     fin: bool,
     bytes: &[u8],
 ) -> Result<(Frame<'_>, &[u8]), Fault>
-    ensures { Gives (λ x. (meaning_of x.0, x.1.now)) result (row_at (stream_row has_offset has_length fin) bytes.now) }
+    ensures { Gives (λ x. (meaning_of x.0, x.1.now)) result (row_at (table.stream_row has_offset has_length fin) bytes.now) }
 {
     let (id, rest) = field::varint(bytes)?;
     let (offset, rest) = field::offset(has_offset, rest)?;
@@ -39,6 +105,155 @@ fn read_stream(
     Ok((Frame::Stream(stream), rest))
 }
 
+#[tactic(auto, unfolding(crate::specs::Reading::row_at))]
+fn read_max_data(bytes: &[u8]) -> Result<(Frame<'_>, &[u8]), Fault>
+    ensures { Gives (λ x. (meaning_of x.0, x.1.now)) result (row_at (table.number_row table.MaxData) bytes.now) }
+{
+    let (limit, rest) = field::varint(bytes)?;
+    Ok((Frame::MaxData(VarInt::from_u64_unchecked(limit)), rest))
+}
+
+#[tactic(auto, unfolding(crate::specs::Reading::row_at))]
+fn read_max_stream_data(bytes: &[u8]) -> Result<(Frame<'_>, &[u8]), Fault>
+    ensures { Gives (λ x. (meaning_of x.0, x.1.now)) result (row_at table.max_stream_data_row bytes.now) }
+{
+    let (id, rest) = field::varint(bytes)?;
+    let (offset, rest) = field::varint(rest)?;
+    let id = StreamId::from(VarInt::from_u64_unchecked(id));
+    Ok((Frame::MaxStreamData { id, offset }, rest))
+}
+
+#[tactic(auto, unfolding(crate::specs::Reading::row_at))]
+fn read_max_streams(dir: Dir, bytes: &[u8]) -> Result<(Frame<'_>, &[u8]), Fault>
+    ensures { Gives (λ x. (meaning_of x.0, x.1.now)) result (row_at (table.max_streams_row dir) bytes.now) }
+{
+    let (count, rest) = field::varint(bytes)?;
+    Ok((Frame::MaxStreams { dir, count }, rest))
+}
+
+#[tactic(auto, unfolding(crate::specs::Reading::row_at))]
+fn read_data_blocked(bytes: &[u8]) -> Result<(Frame<'_>, &[u8]), Fault>
+    ensures { Gives (λ x. (meaning_of x.0, x.1.now)) result (row_at (table.number_row table.DataBlocked) bytes.now) }
+{
+    let (offset, rest) = field::varint(bytes)?;
+    Ok((Frame::DataBlocked { offset }, rest))
+}
+
+#[tactic(auto, unfolding(crate::specs::Reading::row_at))]
+fn read_stream_data_blocked(bytes: &[u8]) -> Result<(Frame<'_>, &[u8]), Fault>
+    ensures { Gives (λ x. (meaning_of x.0, x.1.now)) result (row_at table.stream_data_blocked_row bytes.now) }
+{
+    let (id, rest) = field::varint(bytes)?;
+    let (offset, rest) = field::varint(rest)?;
+    let id = StreamId::from(VarInt::from_u64_unchecked(id));
+    Ok((Frame::StreamDataBlocked { id, offset }, rest))
+}
+
+#[tactic(auto, unfolding(crate::specs::Reading::row_at))]
+fn read_streams_blocked(dir: Dir, bytes: &[u8]) -> Result<(Frame<'_>, &[u8]), Fault>
+    ensures { Gives (λ x. (meaning_of x.0, x.1.now)) result (row_at (table.streams_blocked_row dir) bytes.now) }
+{
+    let (limit, rest) = field::varint(bytes)?;
+    Ok((Frame::StreamsBlocked { dir, limit }, rest))
+}
+
+#[tactic(auto, unfolding(crate::specs::Reading::row_at))]
+fn read_new_connection_id(bytes: &[u8]) -> Result<(Frame<'_>, &[u8]), Fault>
+    ensures { Gives (λ x. (meaning_of x.0, x.1.now)) result (row_at table.new_connection_id_row bytes.now) }
+{
+    let (sequence, rest) = field::varint(bytes)?;
+    let (retire_prior_to, rest) = field::varint(rest)?;
+    if retire_prior_to > sequence {
+        return Err(Fault::Malformed);
+    }
+    let (id, rest) = field::connection_id(rest)?;
+    let (reset_token, rest) = field::reset_token(rest)?;
+    let frame = NewConnectionId {
+        sequence,
+        retire_prior_to,
+        id: ConnectionId::new(id),
+        reset_token: ResetToken::from(reset_token),
+    };
+    Ok((Frame::NewConnectionId(frame), rest))
+}
+
+#[tactic(auto, unfolding(crate::specs::Reading::row_at))]
+fn read_retire_connection_id(bytes: &[u8]) -> Result<(Frame<'_>, &[u8]), Fault>
+    ensures { Gives (λ x. (meaning_of x.0, x.1.now)) result (row_at (table.number_row table.RetireConnectionId) bytes.now) }
+{
+    let (sequence, rest) = field::varint(bytes)?;
+    Ok((Frame::RetireConnectionId { sequence }, rest))
+}
+
+#[tactic(auto, unfolding(crate::specs::Reading::row_at))]
+fn read_path_challenge(bytes: &[u8]) -> Result<(Frame<'_>, &[u8]), Fault>
+    ensures { Gives (λ x. (meaning_of x.0, x.1.now)) result (row_at (table.path_row table.PathChallenge) bytes.now) }
+{
+    let (token, rest) = field::eight(bytes)?;
+    Ok((Frame::PathChallenge(token), rest))
+}
+
+#[tactic(auto, unfolding(crate::specs::Reading::row_at))]
+fn read_path_response(bytes: &[u8]) -> Result<(Frame<'_>, &[u8]), Fault>
+    ensures { Gives (λ x. (meaning_of x.0, x.1.now)) result (row_at (table.path_row table.PathResponse) bytes.now) }
+{
+    let (token, rest) = field::eight(bytes)?;
+    Ok((Frame::PathResponse(token), rest))
+}
+
+#[tactic(auto, unfolding(crate::specs::Reading::row_at))]
+fn read_connection_close(bytes: &[u8]) -> Result<(Frame<'_>, &[u8]), Fault>
+    ensures { Gives (λ x. (meaning_of x.0, x.1.now)) result (row_at table.connection_close_row bytes.now) }
+{
+    let (error_code, rest) = field::varint(bytes)?;
+    let (ty, rest) = field::varint(rest)?;
+    let (reason, rest) = field::counted(rest)?;
+    let close = ConnectionClose {
+        error_code: Code::of(error_code),
+        frame_type: FrameType::or_none(ty),
+        reason,
+    };
+    Ok((Frame::Close(Close::Connection(close)), rest))
+}
+
+#[tactic(auto, unfolding(crate::specs::Reading::row_at))]
+fn read_application_close(bytes: &[u8]) -> Result<(Frame<'_>, &[u8]), Fault>
+    ensures { Gives (λ x. (meaning_of x.0, x.1.now)) result (row_at table.application_close_row bytes.now) }
+{
+    let (error_code, rest) = field::varint(bytes)?;
+    let (reason, rest) = field::counted(rest)?;
+    let close = ApplicationClose {
+        error_code: VarInt::from_u64_unchecked(error_code),
+        reason,
+    };
+    Ok((Frame::Close(Close::Application(close)), rest))
+}
+
+#[tactic(auto, unfolding(crate::specs::Reading::row_at))]
+fn read_datagram(has_length: bool, bytes: &[u8]) -> Result<(Frame<'_>, &[u8]), Fault>
+    ensures { Gives (λ x. (meaning_of x.0, x.1.now)) result (row_at (table.datagram_row has_length) bytes.now) }
+{
+    let (bytes, rest) = field::stream_bytes(has_length, bytes)?;
+    Ok((Frame::Datagram(Datagram { bytes }), rest))
+}
+
+#[tactic(auto, unfolding(crate::specs::Reading::row_at))]
+fn read_ack_frequency(bytes: &[u8]) -> Result<(Frame<'_>, &[u8]), Fault>
+    ensures { Gives (λ x. (meaning_of x.0, x.1.now)) result (row_at table.ack_frequency_row bytes.now) }
+{
+    let (sequence, rest) = field::varint(bytes)?;
+    let (threshold, rest) = field::varint(rest)?;
+    let (delay, rest) = field::varint(rest)?;
+    let (reordering, rest) = field::varint(rest)?;
+    let frequency = AckFrequency {
+        sequence: VarInt::from_u64_unchecked(sequence),
+        ack_eliciting_threshold: VarInt::from_u64_unchecked(threshold),
+        request_max_ack_delay: VarInt::from_u64_unchecked(delay),
+        reordering_threshold: VarInt::from_u64_unchecked(reordering),
+    };
+    Ok((Frame::AckFrequency(frequency), rest))
+}
+
 /// The frame of this type whose fields begin here, and what follows it.
 #[tactic(auto, unfolding(crate::specs::Reading::frame_at, crate::specs::Reading::row_at))]
 pub fn read_frame(ty: u64, bytes: &[u8]) -> Result<(Frame<'_>, &[u8]), Fault>
@@ -47,8 +262,32 @@ pub fn read_frame(ty: u64, bytes: &[u8]) -> Result<(Frame<'_>, &[u8]), Fault>
     match ty {
         0x00 => Ok((Frame::Padding, bytes)),
         0x01 => Ok((Frame::Ping, bytes)),
+        0x02 => read_ack(bytes),
+        0x03 => read_ack_ecn(bytes),
+        0x04 => read_reset_stream(bytes),
+        0x05 => read_stop_sending(bytes),
         0x06 => read_crypto(bytes),
+        0x07 => read_new_token(bytes),
         0x08..=0x0f => read_stream(ty & 4 != 0, ty & 2 != 0, ty & 1 != 0, bytes),
+        0x10 => read_max_data(bytes),
+        0x11 => read_max_stream_data(bytes),
+        0x12 => read_max_streams(Dir::Bi, bytes),
+        0x13 => read_max_streams(Dir::Uni, bytes),
+        0x14 => read_data_blocked(bytes),
+        0x15 => read_stream_data_blocked(bytes),
+        0x16 => read_streams_blocked(Dir::Bi, bytes),
+        0x17 => read_streams_blocked(Dir::Uni, bytes),
+        0x18 => read_new_connection_id(bytes),
+        0x19 => read_retire_connection_id(bytes),
+        0x1a => read_path_challenge(bytes),
+        0x1b => read_path_response(bytes),
+        0x1c => read_connection_close(bytes),
+        0x1d => read_application_close(bytes),
+        0x1e => Ok((Frame::HandshakeDone, bytes)),
+        0x1f => Ok((Frame::ImmediateAck, bytes)),
+        0x30 => read_datagram(false, bytes),
+        0x31 => read_datagram(true, bytes),
+        0xaf => read_ack_frequency(bytes),
         _ => Err(Fault::InvalidFrameId),
     }
 }

@@ -2,6 +2,7 @@ mod Varints
 mod Steps
 mod Blocks
 mod Gaps
+mod Apart
 mod Fields
 mod Rows
 mod Frames

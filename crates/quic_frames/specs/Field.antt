@@ -1,5 +1,5 @@
 -- What stands between the bytes of a frame: kinds of fields, and the bytes that spell each (RFC 9000, sections 16 and 19).
-use Rattle.std.specs.Prelude.{◌≡◌, ℕ, zero, suc, ◌+◌, ◌-◌, ◌≤◌, ◌<◌, List, [], ◌∷◌, ◌++◌, length, nat_lt, nat_le, ◌==◌, ◌||◌, Bool, true, false, if◌then◌else◌, ◌⊎◌}
+use Rattle.std.specs.Prelude.{◌≡◌, ⊤, ℕ, zero, suc, ◌+◌, ◌-◌, ◌≤◌, ◌<◌, List, [], ◌∷◌, ◌++◌, length, nat_lt, nat_le, ◌==◌, ◌||◌, Bool, true, false, if◌then◌else◌, ◌⊎◌}
 use Rattle.quic_base.specs.Codec.{NoFront}
 use Rattle.quic_base.specs.Number.{IsNumber}
 use Rattle.quic_base.specs.Varint.{Spells}
@@ -60,6 +60,12 @@ AreBlocks greatest [] bytes = ⊥
 AreBlocks greatest (range ∷ ranges) bytes =
     (block others : List ℕ) × (bytes ≡ block ++ others) × (range.1 ≡ greatest) × (range.0 ≤ range.1)
     × Spells (range.1 - range.0) block × AreBelow range.0 ranges others
+
+-- Each range stands below the one before it, and a number of neither is between them.
+abbrev pub AreApart : List (ℕ × ℕ) → Type 0
+AreApart [] = ⊤
+AreApart (range ∷ []) = range.0 ≤ range.1
+AreApart (range ∷ below ∷ ranges) = (range.0 ≤ range.1) × (below.1 + 2 ≤ range.0) × AreApart (below ∷ ranges)
 
 -- After fields with the values before, the bytes spell a field of this kind with these values.
 abbrev pub IsField : Field → List Value → List Value → List ℕ → Type 0

@@ -1,6 +1,7 @@
 //! Laws of payloads, which no single call carries. The functions do nothing.
 ghost use Rattle.std.specs.Prelude.{◌≡◌, ◌++◌, ℕ, List, None, Option, false};
 ghost use Rattle.quic_base.specs.Number.{AreBytes};
+ghost use Rattle.quic_frames.specs.Field.{AreApart, AreBlocks};
 ghost use Rattle.quic_frames.specs.Payload.{Found, IsFrame, AreFrames, IsBroken, IsEither};
 ghost use Rattle.quic_frames.specs.Table.{is_open};
 ghost use Rattle.quic_frames.specs.declared.frame.fault.Fault.{Fault};
@@ -15,4 +16,12 @@ pub fn one_reading()
     // No frame that isn't open begins another one.
     ensures begins_none { (one other : Found) (bytes longer rest : List ℕ) → is_open one.type ≡ false
         → IsFrame false one bytes → IsFrame false other longer → longer ≡ bytes ++ rest → bytes ≡ longer }
+{}
+
+/// The blocks of an ACK stand for one list of ranges, and no two of these touch.
+pub fn one_list_of_ranges()
+    ensures one { (greatest : ℕ) (some others : List (ℕ × ℕ)) (bytes : List ℕ)
+        → AreBlocks greatest some bytes → AreBlocks greatest others bytes → some ≡ others }
+    ensures apart { (greatest : ℕ) (ranges : List (ℕ × ℕ)) (bytes : List ℕ)
+        → AreBlocks greatest ranges bytes → AreApart ranges }
 {}

@@ -3,4 +3,5 @@ mod Spellings
 mod Codecs
 mod Readings
 mod LongIds
+mod IdMemory
 pub mod PublicLaws

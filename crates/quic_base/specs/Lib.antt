@@ -5,3 +5,4 @@ pub mod Reading
 pub mod Ids
 pub mod ConnectionId
 pub mod ConnectionIdOrder
+pub mod ConnectionIdLoan

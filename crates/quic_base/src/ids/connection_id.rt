@@ -1,5 +1,6 @@
 //! The ids by which endpoints know a connection (RFC 9000, section 5.1).
 ghost use Rattle.std.specs.Prelude.{◌≡◌, ◌<◌, ◌≤◌, ◌++◌, List, ℕ, ⊤, Some, drop, length, nat_eq, refl, MatchOption, OnErr, OnOk};
+ghost use Rattle.std.specs.Borrow.{sem};
 ghost use Rattle.std.specs.Cmp.{partial_equiv_from_equiv, po};
 ghost use Rattle.std.specs.Cmp.Lexicographic.{nat_list_eq_equiv, pointwise};
 ghost use Rattle.std.specs.Cmp.Rules.{hashing};
@@ -43,6 +44,8 @@ impl Model for ConnectionId {
 }
 
 impl ConnectionId {
+    ghost use Rattle.quic_base.specs.ConnectionIdLoan.{LendsBytes};
+
     /// The id of these bytes. The caller owes that they are at most 20.
     pub fn new(bytes: &[u8]) -> ConnectionId
         requires { length bytes.now ≤ MAX_CID_SIZE }
@@ -117,6 +120,24 @@ impl ConnectionId {
         ensures short { length result.now ≤ MAX_CID_SIZE }
     {
         &self.bytes[..usize::from(self.len)]
+    }
+
+    /// The bytes, for writing. Once the borrow ends, the id is what was written through it.
+    pub fn as_mut_slice(&mut self) -> &mut [u8]
+        ensures* writes_back { sem 𝓛 (LendsBytes self.entry result) }
+        ensures value { result.now ≡ self.old }
+    {
+        &mut self.bytes[..self.len as usize]
+    }
+
+    /// Replaces the bytes by as many others. The caller owes that the lengths are equal.
+    pub fn copy_from_slice(&mut self, bytes: &[u8])
+        requires { length bytes.now ≡ length self.old }
+        ensures { self.new ≡ bytes.now }
+    {
+        // By this the bound on the length is known.
+        let _ = &self.len;
+        *self = ConnectionId::new(bytes);
     }
 }
 

@@ -1,100 +1,713 @@
-//! Numbers and ids.
-use bytes::Buf;
-use quic_base::coding::{Codec, NoRoom, UnexpectedEnd};
-use quic_base::ids::StreamId;
+//! Rows, single calls and texts of `quic_base`.
+use crate::client::{Reset, first_number, read_back, read_reset, read_two, write_reset};
+use bytes::{Buf, BufMut, BytesMut};
+use quic_base::coding::{self, BufExt, BufMutExt, Codec, NoRoom, UnexpectedEnd};
+use quic_base::ids::{
+    ConnectionId, DEFAULT_SUPPORTED_VERSIONS, Dir, EcnCodepoint, INITIAL_MTU, IssuedCid,
+    LOC_CID_COUNT, MAX_CID_SIZE, MAX_STREAM_COUNT, MAX_UDP_PAYLOAD, MIN_INITIAL_SIZE,
+    RESET_TOKEN_SIZE, ResetToken, Side, SpaceId, StreamId,
+};
 use quic_base::varint::{VarInt, VarIntBoundsExceeded};
+use std::alloc::Global;
+use std::hash::{DefaultHasher, Hash, Hasher};
 use std::io::Cursor;
+use std::net::{Ipv4Addr, Ipv6Addr};
 use std::test::Fail;
 
-// Numbers and their shortest spellings.
-const SHORTEST: [(u64, &[u8]); 7] = [
-    (63, b"\x3f"),
-    (64, b"\x40\x40"),
-    (16383, b"\x7f\xff"),
-    (16384, b"\x80\x00\x40\x00"),
-    (1 << 30, b"\xc0\x00\x00\x00\x40\x00\x00\x00"),
-    ((1 << 62) - 1, b"\xff\xff\xff\xff\xff\xff\xff\xff"),
-    (0, b"\x00"),
-];
+// The bytes that a value is written as.
+fn written<T: Codec + Drop>(alloc: Global, x: T) -> Result<Vec<u8>, NoRoom> {
+    let mut out = Vec::new(alloc);
+    out.write(x)?;
+    Ok(out)
+}
 
+// What a decoder answers, and how many bytes it leaves.
+fn read<T: Codec>(bytes: &[u8]) -> (coding::Result<T>, usize) {
+    let mut left = bytes;
+    let value = T::decode(&mut left);
+    (value, left.len())
+}
+
+fn hash_of(id: &ConnectionId) -> u64 {
+    let mut state = DefaultHasher::new();
+    id.hash(&mut state);
+    state.finish()
+}
+
+// Worked rows: each number with its shortest spelling.
 #[test]
-fn numbers_are_written_in_their_shortest_spelling(rt: HostRuntime) -> Result<(), Fail> {
-    for (n, spelling) in SHORTEST {
-        let n = VarInt::from_u64(n)?;
+fn shortest_spellings(rt: HostRuntime) -> Result<(), Fail> {
+    for (n, bytes) in [
+        (63, b"\x3f".as_slice()),
+        (64, b"\x40\x40".as_slice()),
+        (16383, b"\x7f\xff".as_slice()),
+        (16384, b"\x80\x00\x40\x00".as_slice()),
+        (1 << 30, b"\xc0\x00\x00\x00\x40\x00\x00\x00".as_slice()),
+        (
+            (1 << 62) - 1,
+            b"\xff\xff\xff\xff\xff\xff\xff\xff".as_slice(),
+        ),
+    ] {
         let mut out = Vec::new(rt.alloc());
-        n.encode(&mut out)?;
-        assert_eq!(rt; out.as_slice(), spelling, "{n}");
-        assert_eq!(rt; n.size(), spelling.len(), "{n}");
-        let mut left = spelling;
-        assert_eq!(rt; VarInt::decode(&mut left)?, n);
+        out.write(VarInt::from_u64(n)?)?;
+        assert_eq!(rt; out.as_slice(), bytes, "at {n}");
+        assert_eq!(rt; VarInt::from_u64(n)?.size(), bytes.len(), "at {n}");
+        let mut left = bytes;
+        assert_eq!(rt; left.get_var()?, n);
         assert_eq!(rt; left.len(), 0);
     }
     Ok(())
 }
 
+// Worked rows: spellings that are no shortest ones, and others.
 #[test]
-fn each_width_is_read(rt: HostRuntime) -> Result<(), Fail> {
-    let mut left: &[u8] = b"\x40\x25\x7b\xbd\x9d\x7f\x3e\x7d\xc0\x00\x00\x00\x00\x00\x00\x25\x07";
-    assert_eq!(rt; VarInt::decode(&mut left)?.into_inner(), 37);
-    assert_eq!(rt; VarInt::decode(&mut left)?.into_inner(), 15293);
-    assert_eq!(rt; VarInt::decode(&mut left)?.into_inner(), 494878333);
-    assert_eq!(rt;
-        StreamId::decode(&mut left)?,
-        StreamId::from(VarInt::from_u32(37))
-    );
-    assert_eq!(rt; u8::decode(&mut left)?, 7);
-    assert_eq!(rt; u8::decode(&mut left), Err(UnexpectedEnd));
-    assert_eq!(rt; VarInt::decode(&mut left), Err(UnexpectedEnd));
+fn every_width_is_read(rt: HostRuntime) -> Result<(), Fail> {
+    for (bytes, n) in [
+        (b"\x25".as_slice(), 37),
+        (b"\x40\x25".as_slice(), 37),
+        (b"\x7b\xbd".as_slice(), 15293),
+        (b"\x9d\x7f\x3e\x7d".as_slice(), 494878333),
+        (
+            b"\xc2\x19\x7c\x5e\xff\x14\xe8\x8c".as_slice(),
+            151288809941952652,
+        ),
+    ] {
+        assert_eq!(rt;
+            read::<VarInt>(bytes),
+            (Ok(VarInt::from_u64(n)?), 0),
+            "at {n}"
+        );
+    }
     Ok(())
 }
 
 #[test]
-fn a_cut_number_has_its_first_byte_consumed(rt: HostRuntime) {
-    let mut left: &[u8] = b"\x80\xff\xff";
-    assert_eq!(rt; VarInt::decode(&mut left), Err(UnexpectedEnd));
-    assert_eq!(rt; left.remaining(), 2);
-}
-
-#[test]
-fn the_bound_of_numbers(rt: HostRuntime) {
+fn refused_numbers(rt: HostRuntime) -> Result<(), Fail> {
+    let cut = b"\x80\xff\xff".as_slice();
+    assert_eq!(rt; read::<VarInt>(cut), (Err(UnexpectedEnd), 2));
+    assert_eq!(rt; read::<u32>(cut), (Err(UnexpectedEnd), 3));
     assert_eq!(rt; VarInt::from_u64(1 << 62), Err(VarIntBoundsExceeded));
-    assert_eq!(rt; VarInt::from_u64((1 << 62) - 1), Ok(VarInt::MAX));
-    assert_eq!(rt; VarInt::from_u64_unchecked(5), VarInt::from_u32(5));
-    assert_eq!(rt; u64::from(StreamId::from(VarInt::MAX)), (1 << 62) - 1);
-    assert_eq!(rt; VarInt::MAX_SIZE, 8);
+    assert_eq!(rt; VarInt::try_from(1u64 << 62), Err(VarIntBoundsExceeded));
+    assert_eq!(rt; VarInt::try_from(1usize << 62), Err(VarIntBoundsExceeded));
+    assert_eq!(rt; VarInt::try_from(1u128 << 64), Err(VarIntBoundsExceeded));
+    Ok(())
 }
 
 #[test]
-fn without_room_a_beginning_is_written(rt: HostRuntime) -> Result<(), Fail> {
-    for (n, spelling) in SHORTEST {
-        let n = VarInt::from_u64(n)?;
-        for room in 0..spelling.len() {
-            let mut place = [0xee; 8];
-            let mut out = Cursor::new(&mut place[..room]);
-            assert_eq!(rt; n.encode(&mut out), Err(NoRoom), "{n} in {room}");
+fn conversions_of_varints(rt: HostRuntime) -> Result<(), Fail> {
+    assert_eq!(rt; VarInt::MAX.into_inner(), 4611686018427387903);
+    assert_eq!(rt; VarInt::MAX_SIZE, 8);
+    assert_eq!(rt; VarInt::default().into_inner(), 0);
+    assert_eq!(rt; VarInt::from_u32(42).into_inner(), 42);
+    assert_eq!(rt; VarInt::from_u64_unchecked(42).into_inner(), 42);
+    assert_eq!(rt; VarInt::from(42u8), VarInt::from_u32(42));
+    assert_eq!(rt; VarInt::from(42u16), VarInt::from_u32(42));
+    assert_eq!(rt; VarInt::from(42u32), VarInt::from_u32(42));
+    assert_eq!(rt; VarInt::try_from(42u64)?, VarInt::from_u32(42));
+    assert_eq!(rt; VarInt::try_from(42u128)?, VarInt::from_u32(42));
+    assert_eq!(rt; VarInt::try_from(42usize)?, VarInt::from_u32(42));
+    assert_eq!(rt; u64::from(VarInt::from_u32(42)), 42);
+    assert!(rt; VarInt::from_u32(41) < VarInt::from_u32(42));
+    let mut out = Vec::new(rt.alloc());
+    out.write_var(15293)?;
+    assert_eq!(rt; out.as_slice(), b"\x7b\xbd".as_slice());
+    Ok(())
+}
+
+#[test]
+fn fixed_numbers(rt: HostRuntime) -> Result<(), Fail> {
+    let alloc = rt.alloc();
+    assert_eq!(rt; written(alloc, 0x01u8)?.as_slice(), b"\x01".as_slice());
+    assert_eq!(rt;
+        written(alloc, 0x0102u16)?.as_slice(),
+        b"\x01\x02".as_slice()
+    );
+    assert_eq!(rt;
+        written(alloc, 0x01020304u32)?.as_slice(),
+        b"\x01\x02\x03\x04".as_slice()
+    );
+    let bytes = b"\x01\x02\x03\x04\x05\x06\x07\x08".as_slice();
+    assert_eq!(rt; written(alloc, 0x0102030405060708u64)?.as_slice(), bytes);
+    assert_eq!(rt; read::<u8>(bytes), (Ok(0x01), 7));
+    assert_eq!(rt; read::<u16>(bytes), (Ok(0x0102), 6));
+    assert_eq!(rt; read::<u32>(bytes), (Ok(0x01020304), 4));
+    assert_eq!(rt; read::<u64>(bytes), (Ok(0x0102030405060708), 0));
+    let v4 = b"\x7f\x00\x00\x01".as_slice();
+    assert_eq!(rt; written(alloc, Ipv4Addr::LOCALHOST)?.as_slice(), v4);
+    assert_eq!(rt; read::<Ipv4Addr>(v4), (Ok(Ipv4Addr::LOCALHOST), 0));
+    assert_eq!(rt; read::<Ipv4Addr>(b"\x7f\x00\x00"), (Err(UnexpectedEnd), 3));
+    let v6 = b"\x20\x01\x0d\xb8\0\0\0\0\0\0\0\0\0\0\x12\x34".as_slice();
+    let address = Ipv6Addr::new(0x2001, 0xdb8, 0, 0, 0, 0, 0, 0x1234);
+    assert_eq!(rt; written(alloc, address)?.as_slice(), v6);
+    assert_eq!(rt; read::<Ipv6Addr>(v6), (Ok(address), 0));
+    assert_eq!(rt; read::<Ipv6Addr>(&v6[1..]), (Err(UnexpectedEnd), 15));
+    Ok(())
+}
+
+#[test]
+fn stream_ids(rt: HostRuntime) -> Result<(), Fail> {
+    let alloc = rt.alloc();
+    let id = StreamId::new(Side::Server, Dir::Uni, 5);
+    assert_eq!(rt; u64::from(id), 23);
+    assert_eq!(rt; written(alloc, id)?.as_slice(), b"\x17".as_slice());
+    assert_eq!(rt;
+        format!(in alloc; "{id}")?.as_str(),
+        "server unidirectional stream 5"
+    );
+    assert_eq!(rt; format!(in alloc; "{id:?}")?.as_str(), "StreamId(23)");
+    assert_eq!(rt;
+        (id.initiator(), id.dir(), id.index()),
+        (Side::Server, Dir::Uni, 5)
+    );
+    assert_eq!(rt; StreamId::from(VarInt::from(id)), id);
+    assert_eq!(rt; read::<StreamId>(b"\x17\x00"), (Ok(id), 1));
+    let last = StreamId::new(Side::Client, Dir::Bi, MAX_STREAM_COUNT - 1);
+    let bytes = b"\xff\xff\xff\xff\xff\xff\xff\xfc".as_slice();
+    assert_eq!(rt; written(alloc, last)?.as_slice(), bytes);
+    let text = "client bidirectional stream 1152921504606846975";
+    assert_eq!(rt; format!(in alloc; "{last}")?.as_str(), text);
+    assert!(rt; id < last);
+    Ok(())
+}
+
+#[test]
+fn sides_and_directions(rt: HostRuntime) -> Result<(), Fail> {
+    let alloc = rt.alloc();
+    assert_eq!(rt;
+        (Side::Client.is_client(), Side::Client.is_server()),
+        (true, false)
+    );
+    assert_eq!(rt;
+        (Side::Server.is_client(), Side::Server.is_server()),
+        (false, true)
+    );
+    assert_eq!(rt;
+        (!Side::Client, !Side::Server),
+        (Side::Server, Side::Client)
+    );
+    assert_eq!(rt; (Side::Client as u8, Side::Server as u8), (0, 1));
+    assert_eq!(rt; (Dir::Bi as u8, Dir::Uni as u8), (0, 1));
+    let mut both = Dir::iter();
+    assert_eq!(rt;
+        (both.next(), both.next(), both.next()),
+        (Some(Dir::Bi), Some(Dir::Uni), None)
+    );
+    let (bi, uni) = (Dir::Bi, Dir::Uni);
+    assert_eq!(rt;
+        format!(in alloc; "{bi} {uni}")?.as_str(),
+        "bidirectional unidirectional"
+    );
+    assert_eq!(rt;
+        format!(in alloc; "{uni:>16}")?.as_str(),
+        "  unidirectional"
+    );
+    assert_eq!(rt;
+        format!(in alloc; "{:?} {:?} {:?}", bi, uni, Side::Server)?.as_str(),
+        "Bi Uni Server"
+    );
+    let mut spaces = SpaceId::iter();
+    assert_eq!(rt; spaces.next(), Some(SpaceId::Initial));
+    assert_eq!(rt; spaces.next(), Some(SpaceId::Handshake));
+    assert_eq!(rt; spaces.next(), Some(SpaceId::Data));
+    assert_eq!(rt; spaces.next(), None);
+    assert!(rt; SpaceId::Initial < SpaceId::Data);
+    Ok(())
+}
+
+#[test]
+fn codepoints(rt: HostRuntime) -> Result<(), Fail> {
+    assert_eq!(rt; EcnCodepoint::from_bits(0xfe), Some(EcnCodepoint::Ect0));
+    assert_eq!(rt; EcnCodepoint::from_bits(0xff), Some(EcnCodepoint::Ce));
+    assert_eq!(rt; EcnCodepoint::from_bits(0xfd), Some(EcnCodepoint::Ect1));
+    assert_eq!(rt; EcnCodepoint::from_bits(0x04), None);
+    assert_eq!(rt;
+        (
+            EcnCodepoint::Ect0 as u8,
+            EcnCodepoint::Ect1 as u8,
+            EcnCodepoint::Ce as u8
+        ),
+        (2, 1, 3)
+    );
+    assert_eq!(rt;
+        (EcnCodepoint::Ce.is_ce(), EcnCodepoint::Ect0.is_ce()),
+        (true, false)
+    );
+    Ok(())
+}
+
+#[test]
+fn connection_ids(rt: HostRuntime) -> Result<(), Fail> {
+    let alloc = rt.alloc();
+    // In order: the empty one, `00`, `ff`, `0000`.
+    let ids: &[ConnectionId] = &[
+        ConnectionId::new(b""),
+        ConnectionId::new(b"\x00"),
+        ConnectionId::new(b"\xff"),
+        ConnectionId::new(b"\x00\x00"),
+    ];
+    for (i, x) in ids.iter().enumerate() {
+        for (j, y) in ids.iter().enumerate() {
+            assert_eq!(rt; x.cmp(y), i.cmp(&j));
+            assert_eq!(rt; x.partial_cmp(y), Some(i.cmp(&j)));
+            assert_eq!(rt; x == y, i == j);
         }
-        let mut place = [0xee; 8];
-        let mut out = Cursor::new(&mut place[..spelling.len()]);
-        n.encode(&mut out)?;
-        assert_eq!(rt; out.position(), spelling.len() as u64);
-        assert_eq!(rt; &place[..spelling.len()], spelling);
     }
+    let id = ConnectionId::new(b"\x0a\xff");
+    assert_eq!(rt; hash_of(&id), hash_of(&ConnectionId::new(b"\x0a\xff")));
+    assert_eq!(rt; id.as_slice(), b"\x0a\xff".as_slice());
+    let mut other = id;
+    other.copy_from_slice(b"\x0b\x0c");
+    assert_eq!(rt; other.as_slice(), b"\x0b\x0c".as_slice());
+    other.as_mut_slice()[1] = 0xff;
+    assert_eq!(rt; other, ConnectionId::new(b"\x0b\xff"));
+    assert_eq!(rt; format!(in alloc; "{id}")?.as_str(), "0aff");
+    assert_eq!(rt; format!(in alloc; "{id:?}")?.as_str(), "[10, 255]");
+    let mut out = Vec::new(alloc);
+    id.encode_long(&mut out)?;
+    assert_eq!(rt; out.as_slice(), b"\x02\x0a\xff".as_slice());
+    let mut left = b"\x0a\xff\x01".as_slice();
+    assert_eq!(rt; ConnectionId::from_buf(&mut left, 2), id);
+    assert_eq!(rt; left, b"\x01".as_slice());
+    Ok(())
+}
+
+#[test]
+fn long_ids(rt: HostRuntime) -> Result<(), Fail> {
+    let mut left = b"\x02\xaa\xbb\xcc".as_slice();
+    assert_eq!(rt;
+        ConnectionId::decode_long(&mut left),
+        Some(ConnectionId::new(b"\xaa\xbb"))
+    );
+    assert_eq!(rt; left, b"\xcc".as_slice());
+    let mut left = b"\x03\xaa\xbb".as_slice();
+    assert_eq!(rt; ConnectionId::decode_long(&mut left), None);
+    assert_eq!(rt; left, b"\xaa\xbb".as_slice());
+    let mut left = b"\x15123456789012345678901".as_slice();
+    assert_eq!(rt; ConnectionId::decode_long(&mut left), None);
+    assert_eq!(rt; left.len(), 21);
+    let mut left = b"\x1412345678901234567890".as_slice();
+    assert_eq!(rt;
+        ConnectionId::decode_long(&mut left),
+        Some(ConnectionId::new(b"12345678901234567890"))
+    );
+    let mut left = b"".as_slice();
+    assert_eq!(rt; ConnectionId::decode_long(&mut left), None);
+    Ok(())
+}
+
+#[test]
+fn tokens_and_limits(rt: HostRuntime) -> Result<(), Fail> {
+    let alloc = rt.alloc();
+    let bytes = *b"0123456789abcdef";
+    let token = ResetToken::from(bytes);
+    assert_eq!(rt; token.as_slice(), bytes.as_slice());
+    assert_eq!(rt; <[u8; 16]>::from(token), bytes);
+    assert_eq!(rt; token == ResetToken::from([7; RESET_TOKEN_SIZE]), false);
+    let issued = IssuedCid {
+        sequence: 3,
+        id: ConnectionId::new(b"\x2a"),
+        reset_token: ResetToken::from([7; 16]),
+    };
+    let text = "IssuedCid { sequence: 3, id: [42], reset_token: \
+        ResetToken([7, 7, 7, 7, 7, 7, 7, 7, 7, 7, 7, 7, 7, 7, 7, 7]) }";
+    assert_eq!(rt; format!(in alloc; "{issued:?}")?.as_str(), text);
+    assert_eq!(rt; (MAX_CID_SIZE, RESET_TOKEN_SIZE), (20, 16));
+    assert_eq!(rt; (LOC_CID_COUNT, MAX_STREAM_COUNT), (8, 1152921504606846976));
+    assert_eq!(rt;
+        (MIN_INITIAL_SIZE, INITIAL_MTU, MAX_UDP_PAYLOAD),
+        (1200, 1200, 65527)
+    );
+    let versions: [u32; 7] = [
+        1, 0xff00001d, 0xff00001e, 0xff00001f, 0xff000020, 0xff000021, 0xff000022,
+    ];
+    assert_eq!(rt; DEFAULT_SUPPORTED_VERSIONS, versions.as_slice());
     Ok(())
 }
 
 #[test]
 fn texts(rt: HostRuntime) -> Result<(), Fail> {
     let alloc = rt.alloc();
-    let n = VarInt::from_u32(42);
-    let id = StreamId::from(n);
-    assert_eq!(rt; format!(in alloc; "{n} {n:?} {id:?}")?.as_str(), "42 42 42");
     assert_eq!(rt;
-        format!(in alloc; "{}", UnexpectedEnd)?.as_str(),
+        format!(in alloc; "{UnexpectedEnd}")?.as_str(),
         "unexpected end of buffer"
     );
     assert_eq!(rt;
-        format!(in alloc; "{}", VarIntBoundsExceeded)?.as_str(),
+        format!(in alloc; "{VarIntBoundsExceeded}")?.as_str(),
         "value too large for varint encoding"
     );
+    assert_eq!(rt;
+        format!(in alloc; "{NoRoom}")?.as_str(),
+        "no room in buffer"
+    );
+    assert_eq!(rt;
+        format!(in alloc;
+            "{:?} {:?} {:?}",
+            UnexpectedEnd, VarIntBoundsExceeded, NoRoom
+        )?
+        .as_str(),
+        "UnexpectedEnd VarIntBoundsExceeded NoRoom"
+    );
+    let n = VarInt::from_u32(42);
+    assert_eq!(rt; format!(in alloc; "{n} {n:?}")?.as_str(), "42 42");
+    assert_eq!(rt;
+        format!(in alloc; "{:?} {:?}", EcnCodepoint::Ect0, SpaceId::Data)?.as_str(),
+        "Ect0 Data"
+    );
+    Ok(())
+}
+
+// A refusal by room leaves a beginning of the spelling behind what stood there.
+#[test]
+fn refusals_by_room(rt: HostRuntime) -> Result<(), Fail> {
+    let mut room = [9u8; 3];
+    let mut out = Cursor::new(room.as_mut_slice());
+    assert_eq!(rt; out.write(7u8), Ok(()));
+    assert_eq!(rt; out.write(0x01020304u32), Err(NoRoom));
+    assert_eq!(rt; out.write_var(16384), Err(NoRoom));
+    assert_eq!(rt;
+        ConnectionId::new(b"\xaa\xbb").encode_long(&mut out),
+        Err(NoRoom)
+    );
+    assert_eq!(rt; out.position(), 2);
+    assert_eq!(rt; room.as_slice(), b"\x07\x02\x09".as_slice());
+    let mut limited = Vec::new(rt.alloc()).limit(8);
+    let reset = Reset {
+        id: StreamId::new(Side::Client, Dir::Bi, 1),
+        code: VarInt::from_u32(64),
+        final_offset: 5,
+    };
+    assert_eq!(rt; write_reset(&reset, &mut limited), Err(NoRoom));
+    assert_eq!(rt; limited.into_inner().as_slice(), b"\x04\x40\x40".as_slice());
+    Ok(())
+}
+
+// Each buffer that the codecs are used on, and the clients.
+#[test]
+fn buffers_and_clients(rt: HostRuntime) -> Result<(), Fail> {
+    let alloc = rt.alloc();
+    let reset = Reset {
+        id: StreamId::new(Side::Client, Dir::Bi, 1),
+        code: VarInt::from_u32(64),
+        final_offset: 5,
+    };
+    let mut out = BytesMut::new(alloc);
+    write_reset(&reset, &mut out)?;
+    let bytes = b"\x04\x40\x40\x00\x00\x00\x00\x00\x00\x00\x05".as_slice();
+    assert_eq!(rt; out.as_slice(), bytes);
+    assert_eq!(rt; read_reset(&mut out), Ok(reset));
+    // A number that lies in two chunks.
+    let mut apart = bytes[..6].chain(&bytes[6..]);
+    assert_eq!(rt; read_reset(&mut apart), Ok(reset));
+    let mut cut = &bytes[..10];
+    assert_eq!(rt; read_reset(&mut cut), Err(UnexpectedEnd));
+    assert_eq!(rt; first_number(&bytes[1..4]), Ok((64, b"\x00".as_slice())));
+    assert_eq!(rt;
+        read_two::<u16, &[u8]>(&mut b"\x01\x02\x03\x04".as_slice()),
+        Ok((0x0102, 0x0304))
+    );
+    Ok(())
+}
+
+// A sample of the lists of varints and of their spellings, which hold answers of the Rust crate
+// (quinn-proto 0.11.19): what the bytes are read as, as a varint with the bytes that are left, and
+// as a number of 1, 2, 4 and 8 bytes.
+#[test]
+fn answers_of_the_rust_crate(rt: HostRuntime) -> Result<(), Fail> {
+    let rows: [(&[u8], Option<u64>, usize, [Option<u64>; 4]); 21] = [
+        (b"".as_slice(), None, 0, [None, None, None, None]),
+        (
+            b"\x01\x66\x1c\x63\x0c\xbb\xea\x42".as_slice(),
+            Some(1),
+            7,
+            [Some(1), Some(358), Some(23469155), Some(100799253403396674)],
+        ),
+        (
+            b"\x10\xff\xff\xff\xff\xff\xff\xff\xff".as_slice(),
+            Some(16),
+            8,
+            [
+                Some(16),
+                Some(4351),
+                Some(285212671),
+                Some(1224979098644774911),
+            ],
+        ),
+        (
+            b"\x4c\xc0\x50\x0d\x62\xc5\xec\xe7".as_slice(),
+            Some(3264),
+            6,
+            [
+                Some(76),
+                Some(19648),
+                Some(1287671821),
+                Some(5530508360832904423),
+            ],
+        ),
+        (
+            b"\x99\x3a\x52\x5c\xf7\x78\xf0\xc3".as_slice(),
+            Some(423252572),
+            4,
+            [
+                Some(153),
+                Some(39226),
+                Some(2570736220),
+                Some(11041227995694559427),
+            ],
+        ),
+        (
+            b"\xe6\xd0\xd9\x76\xb3\x11\x26\x9c".as_slice(),
+            Some(2796974472430691996),
+            0,
+            [
+                Some(230),
+                Some(59088),
+                Some(3872446838),
+                Some(16632032527712855708),
+            ],
+        ),
+        (
+            b"\xba\x10\x71\xad\x30\x67\x5a\x9b".as_slice(),
+            Some(974156205),
+            4,
+            [
+                Some(186),
+                Some(47632),
+                Some(3121639853),
+                Some(13407341079337327259),
+            ],
+        ),
+        (b"\xfd".as_slice(), None, 0, [Some(253), None, None, None]),
+        (
+            b"\xbe\x37\x05\x4a\x6a\x66\x3c\x58\xee".as_slice(),
+            Some(1043793226),
+            5,
+            [
+                Some(190),
+                Some(48695),
+                Some(3191276874),
+                Some(13706429808096197720),
+            ],
+        ),
+        (b"\x5d".as_slice(), None, 0, [Some(93), None, None, None]),
+        (
+            b"\xd2\x24\x7b".as_slice(),
+            None,
+            2,
+            [Some(210), Some(53796), None, None],
+        ),
+        (
+            b"\x77\x63\xee\x2e\x5d".as_slice(),
+            Some(14179),
+            3,
+            [Some(119), Some(30563), Some(2003037742), None],
+        ),
+        (b"\xec".as_slice(), None, 0, [Some(236), None, None, None]),
+        (
+            b"\x7c\x29\xb1\xec\x9a\x43\x98\xe4\x2a".as_slice(),
+            Some(15401),
+            7,
+            [
+                Some(124),
+                Some(31785),
+                Some(2083107308),
+                Some(8946877764506720484),
+            ],
+        ),
+        (
+            b"\xae\x74\x49\xe0\xbb\x47\x80".as_slice(),
+            Some(779373024),
+            3,
+            [Some(174), Some(44660), Some(2926856672), None],
+        ),
+        (
+            b"\xac\x5b\x0b\x30\xeb\xb9\x54\xce".as_slice(),
+            Some(744164144),
+            4,
+            [
+                Some(172),
+                Some(44123),
+                Some(2891647792),
+                Some(12419532702145402062),
+            ],
+        ),
+        (
+            b"\x53\x3e\x52\xd8\x17\x7a".as_slice(),
+            Some(4926),
+            4,
+            [Some(83), Some(21310), Some(1396593368), None],
+        ),
+        (
+            b"\xc0\x00\x00".as_slice(),
+            None,
+            2,
+            [Some(192), Some(49152), None, None],
+        ),
+        (
+            b"\xc0\x00\x00\x00\x00\x00\x00\x01\x99".as_slice(),
+            Some(1),
+            1,
+            [
+                Some(192),
+                Some(49152),
+                Some(3221225472),
+                Some(13835058055282163713),
+            ],
+        ),
+        (
+            b"\xc0\x00\x00\x00".as_slice(),
+            None,
+            3,
+            [Some(192), Some(49152), Some(3221225472), None],
+        ),
+        (
+            b"\xff\xff\xff\xff".as_slice(),
+            None,
+            3,
+            [Some(255), Some(65535), Some(4294967295), None],
+        ),
+    ];
+    for (bytes, number, left, fixed) in rows {
+        let (read_number, rest) = read::<VarInt>(bytes);
+        assert_eq!(rt; read_number.ok().map(u64::from), number, "at {bytes:?}");
+        assert_eq!(rt; rest, left, "at {bytes:?}");
+        assert_eq!(rt;
+            read::<u8>(bytes).0.ok().map(u64::from),
+            fixed[0],
+            "at {bytes:?}"
+        );
+        assert_eq!(rt;
+            read::<u16>(bytes).0.ok().map(u64::from),
+            fixed[1],
+            "at {bytes:?}"
+        );
+        assert_eq!(rt;
+            read::<u32>(bytes).0.ok().map(u64::from),
+            fixed[2],
+            "at {bytes:?}"
+        );
+        assert_eq!(rt; read::<u64>(bytes).0.ok(), fixed[3], "at {bytes:?}");
+    }
+    for (n, bytes) in [
+        (0, b"\x00".as_slice()),
+        (1073741826, b"\xc0\x00\x00\x00\x40\x00\x00\x02".as_slice()),
+        (28257578, b"\x81\xaf\x2d\x2a".as_slice()),
+        (7918, b"\x5e\xee".as_slice()),
+        (
+            4177252023348267,
+            b"\xc0\x0e\xd7\x30\x46\xfd\x2c\x2b".as_slice(),
+        ),
+        (
+            10861348568369120,
+            b"\xc0\x26\x96\x56\xc7\x33\x07\xe0".as_slice(),
+        ),
+        (
+            1971248874462374,
+            b"\xc0\x07\x00\xd7\x24\xed\x1c\xa6".as_slice(),
+        ),
+        (
+            2652798057606,
+            b"\xc0\x00\x02\x69\xa7\x15\xfc\x86".as_slice(),
+        ),
+        (80119819, b"\x84\xc6\x88\x0b".as_slice()),
+        (1080, b"\x44\x38".as_slice()),
+        (891339934, b"\xb5\x20\xc4\x9e".as_slice()),
+        (
+            5338703549954,
+            b"\xc0\x00\x04\xdb\x03\x87\x56\x02".as_slice(),
+        ),
+        (15518766257, b"\xc0\x00\x00\x03\x9c\xfd\x94\xb1".as_slice()),
+        (222210088019, b"\xc0\x00\x00\x33\xbc\xc0\xdc\x53".as_slice()),
+        (1181525, b"\x80\x12\x07\x55".as_slice()),
+        (
+            61811815071411,
+            b"\xc0\x00\x38\x37\xaf\x47\xbe\xb3".as_slice(),
+        ),
+        (16552, b"\x80\x00\x40\xa8".as_slice()),
+        (207338, b"\x80\x03\x29\xea".as_slice()),
+        (412812, b"\x80\x06\x4c\x8c".as_slice()),
+        (
+            3091268424443,
+            b"\xc0\x00\x02\xcf\xbd\xf4\xd2\xfb".as_slice(),
+        ),
+        (
+            971519242282812430,
+            b"\xcd\x7b\x87\x9a\x80\xb9\x44\x0e".as_slice(),
+        ),
+        (
+            888912660858670870,
+            b"\xcc\x56\x0d\x5a\xfa\xd4\x0f\x16".as_slice(),
+        ),
+        (
+            33192638786102,
+            b"\xc0\x00\x1e\x30\x43\x71\xaa\x36".as_slice(),
+        ),
+        (418603, b"\x80\x06\x63\x2b".as_slice()),
+        (366512, b"\x80\x05\x97\xb0".as_slice()),
+        (15820, b"\x7d\xcc".as_slice()),
+        (
+            61669251819173135,
+            b"\xc0\xdb\x17\xdb\x98\x3e\xf5\x0f".as_slice(),
+        ),
+        (616106, b"\x80\x09\x66\xaa".as_slice()),
+    ] {
+        let mut out = Vec::new(rt.alloc());
+        out.write(VarInt::from_u64(n)?)?;
+        assert_eq!(rt; out.as_slice(), bytes, "at {n}");
+    }
+    for n in [
+        4611686018427387904,
+        4611686018427387906,
+        9223372036854775808,
+    ] {
+        assert_eq!(rt; VarInt::from_u64(n), Err(VarIntBoundsExceeded));
+    }
+    Ok(())
+}
+
+// The same of the list of texts: streams with their text and bytes, ids with both their texts.
+#[test]
+fn texts_of_the_rust_crate(rt: HostRuntime) -> Result<(), Fail> {
+    let alloc = rt.alloc();
+    for (n, text, bytes) in [
+        (24, "client bidirectional stream 6", b"\x18".as_slice()),
+        (
+            1694,
+            "client unidirectional stream 423",
+            b"\x46\x9e".as_slice(),
+        ),
+        (41, "server bidirectional stream 10", b"\x29".as_slice()),
+        (
+            1152921504606846975,
+            "server unidirectional stream 288230376151711743",
+            b"\xcf\xff\xff\xff\xff\xff\xff\xff".as_slice(),
+        ),
+        (64, "client bidirectional stream 16", b"\x40\x40".as_slice()),
+        (46, "client unidirectional stream 11", b"\x2e".as_slice()),
+        (
+            406,
+            "client unidirectional stream 101",
+            b"\x41\x96".as_slice(),
+        ),
+        (
+            445337273157562676,
+            "client bidirectional stream 111334318289390669",
+            b"\xc6\x2e\x27\xe3\xf3\xcc\x31\x34".as_slice(),
+        ),
+    ] {
+        let id = StreamId::from(VarInt::from_u64(n)?);
+        assert_eq!(rt; format!(in alloc; "{id}")?.as_str(), text);
+        assert_eq!(rt; written(alloc, id)?.as_slice(), bytes);
+    }
+    for (bytes, texts) in [
+        (b"".as_slice(), " []"),
+        (b"\x19".as_slice(), "19 [25]"),
+        (b"\x66\x4b".as_slice(), "664b [102, 75]"),
+        (b"\x76\x1f".as_slice(), "761f [118, 31]"),
+        (b"\x6a\x45\x44".as_slice(), "6a4544 [106, 69, 68]"),
+    ] {
+        assert!(rt; bytes.len() <= MAX_CID_SIZE);
+        let id = ConnectionId::new(bytes);
+        assert_eq!(rt; format!(in alloc; "{id} {id:?}")?.as_str(), texts);
+    }
     Ok(())
 }

@@ -4,7 +4,7 @@ use quic_text::{Mode, run, status};
 use std::test::Fail;
 
 // A line, and what is printed of it.
-const ROWS: [(&str, &str); 20] = [
+const ROWS: [(&str, &str); 39] = [
     ("40000a000161", "0..2 PADDING\n2..6 STREAM\n"),
     ("80000001", "0..4 PING\n"),
     ("0600026869", "0..5 CRYPTO\n"),
@@ -14,7 +14,7 @@ const ROWS: [(&str, &str); 20] = [
         "010a0005616201",
         "0..1 PING\nerror unexpected end in STREAM\n",
     ),
-    ("02", "error invalid frame ID in ACK\n"),
+    ("02", "error unexpected end in ACK\n"),
     (
         "ffffffffffffffff",
         "error invalid frame ID in <unknown 3fffffffffffffff>\n",
@@ -32,6 +32,29 @@ const ROWS: [(&str, &str); 20] = [
     ("\r", "error packet payload is empty\n"),
     (" 01", "error not hexadecimal\n"),
     ("0d0000", "0..3 STREAM\n"),
+    // One of every kind, and what breaks it.
+    ("04000102", "0..4 RESET_STREAM\n"),
+    ("0700", "0..2 NEW_TOKEN\n"),
+    ("1a0102030405060708", "0..9 PATH_CHALLENGE\n"),
+    ("3102686901", "0..4 DATAGRAM\n4..5 PING\n"),
+    ("30686901", "0..4 DATAGRAM\n"),
+    ("40af2a148000c35001", "0..9 ACK_FREQUENCY\n"),
+    (
+        "18050202aabb11111111111111111111111111111111",
+        "0..22 NEW_CONNECTION_ID\n",
+    ),
+    ("030e2a03000101030000022a180c", "0..14 ACK\n"),
+    ("0300000000", "error unexpected end in ACK_ECN\n"),
+    ("020000ffffffffffffffff00", "error unexpected end in ACK\n"),
+    ("020000ffffffffffffffff0000", "error malformed in ACK\n"),
+    ("020500010202", "error malformed in ACK\n"),
+    ("020500010201", "error unexpected end in ACK\n"),
+    ("0203000004", "error malformed in ACK\n"),
+    ("180102", "error malformed in NEW_CONNECTION_ID\n"),
+    ("18050200", "error malformed in NEW_CONNECTION_ID\n"),
+    ("18050215", "error malformed in NEW_CONNECTION_ID\n"),
+    ("180502", "error unexpected end in NEW_CONNECTION_ID\n"),
+    ("18050202aa", "error unexpected end in NEW_CONNECTION_ID\n"),
 ];
 
 #[test]

@@ -185,6 +185,10 @@ impl Iterator for AckIter<'_> {
 }
 
 impl<'a> IntoIterator for &Ack<'a> {
+    ghost use Rattle.quic_frames.specs.Acks.{ranges_acked, ranges_left};
+
+    ghost into_iter_gives = { λ ack it. ranges_left it ≡ ranges_acked ack.now };
+
     type Item = RangeInclusive<u64>;
 
     type IntoIter = AckIter<'a>;

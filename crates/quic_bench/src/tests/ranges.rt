@@ -1,0 +1,325 @@
+ghost use Rattle.std.specs.Prelude.{OnOk};
+ghost use Rattle.quic_ranges.specs.Runs.{IsRunsOf, in_union};
+
+use quic_base::coding::NoRoom;
+use quic_ranges::range_set::{ArrayRangeSet, RangeSet, Replace};
+use std::alloc::Global;
+use std::ops::Range;
+use std::test::Fail;
+
+// The map set and the array set of some ranges.
+fn map_of(alloc: Global, ranges: &[(u64, u64)]) -> Result<RangeSet, NoRoom> {
+    let mut set = RangeSet::new(alloc);
+    for &(start, end) in ranges {
+        let _ = set.insert(start..end)?;
+    }
+    Ok(set)
+}
+
+fn array_of(alloc: Global, ranges: &[(u64, u64)]) -> Result<ArrayRangeSet, NoRoom> {
+    let mut set = ArrayRangeSet::new(alloc);
+    for &(start, end) in ranges {
+        let _ = set.insert(start..end)?;
+    }
+    Ok(set)
+}
+
+// Whether the set has exactly these runs.
+fn map_is(set: &RangeSet, runs: &[(u64, u64)]) -> bool {
+    let mut rest = set.iter();
+    for &(start, end) in runs {
+        let Some(run) = rest.next() else {
+            return false;
+        };
+        if run.start != start || run.end != end {
+            return false;
+        }
+    }
+    rest.next().is_none() && set.len() == runs.len()
+}
+
+fn array_is(set: &ArrayRangeSet, runs: &[(u64, u64)]) -> bool {
+    let mut rest = set.iter();
+    for &(start, end) in runs {
+        let Some(run) = rest.next() else {
+            return false;
+        };
+        if run.start != start || run.end != end {
+            return false;
+        }
+    }
+    rest.next().is_none() && set.len() == runs.len()
+}
+
+// Whether these pieces come, and no more.
+fn gives(pieces: Replace<'_>, want: &[(u64, u64)]) -> bool {
+    let mut rest = pieces;
+    for &(start, end) in want {
+        let Some(piece) = rest.next() else {
+            return false;
+        };
+        if piece.start != start || piece.end != end {
+            return false;
+        }
+    }
+    rest.next().is_none()
+}
+
+// That the set is the union is known however much of the pieces is taken: of none, of one, of all.
+fn replace_unseen(set: &mut RangeSet, x: Range<u64>) -> Result<(), NoRoom>
+    ensures { OnOk result (IsRunsOf (in_union set.old x) set.new) }
+{
+    let _ = set.replace(x)?;
+    Ok(())
+}
+
+fn replace_at_a_look(set: &mut RangeSet, x: Range<u64>) -> Result<(), NoRoom>
+    ensures { OnOk result (IsRunsOf (in_union set.old x) set.new) }
+{
+    let mut pieces = set.replace(x)?;
+    let _ = pieces.next();
+    Ok(())
+}
+
+fn count_replaced(set: &mut RangeSet, x: Range<u64>) -> Result<u64, NoRoom>
+    ensures { OnOk result (IsRunsOf (in_union set.old x) set.new) }
+{
+    let mut count = 0u64;
+    for _piece in set.replace(x)? {
+        count = count.wrapping_add(1);
+    }
+    Ok(count)
+}
+
+type Runs = &'static [(u64, u64)];
+
+// The set before, a range, the pieces that `replace` gives, and the set after.
+const REPLACE_ROWS: &[(Runs, (u64, u64), Runs, Runs)] = &[
+    (&[(1, 5)], (2, 4), &[(2, 4)], &[(1, 5)]),
+    (&[(2, 4)], (1, 3), &[(2, 3)], &[(1, 4)]),
+    (&[(2, 4)], (4, 6), &[], &[(2, 6)]),
+    (&[(2, 4)], (1, 5), &[(2, 4)], &[(1, 5)]),
+    (&[(2, 4)], (3, 5), &[(3, 4)], &[(2, 5)]),
+    (&[(2, 4)], (0, 2), &[], &[(0, 4)]),
+    (
+        &[(2, 4), (6, 8), (15, 30)],
+        (1, 20),
+        &[(2, 4), (6, 8), (15, 20)],
+        &[(1, 30)],
+    ),
+    (&[(0, 10)], (5, 2), &[], &[(0, 10)]),
+];
+
+#[test]
+fn replaces(rt: HostRuntime) -> Result<(), Fail> {
+    for &(before, (start, end), pieces, after) in REPLACE_ROWS {
+        let mut set = map_of(rt.alloc(), before)?;
+        assert!(rt; gives(set.replace(start..end)?, pieces), "{start}..{end}");
+        assert!(rt; map_is(&set, after), "{start}..{end}");
+    }
+    Ok(())
+}
+
+// Dropped before its first `next`, a `Replace` leaves the same set.
+#[test]
+fn replaces_without_a_look(rt: HostRuntime) -> Result<(), Fail> {
+    for &(before, (start, end), pieces, after) in REPLACE_ROWS {
+        let mut set = map_of(rt.alloc(), before)?;
+        replace_unseen(&mut set, start..end)?;
+        assert!(rt; map_is(&set, after), "{start}..{end}");
+        let mut set = map_of(rt.alloc(), before)?;
+        replace_at_a_look(&mut set, start..end)?;
+        assert!(rt; map_is(&set, after), "{start}..{end}");
+        let mut set = map_of(rt.alloc(), before)?;
+        assert_eq!(rt; count_replaced(&mut set, start..end)?, pieces.len() as u64);
+    }
+    Ok(())
+}
+
+#[test]
+fn replaces_one_after_the_other(rt: HostRuntime) -> Result<(), Fail> {
+    let mut looked = RangeSet::new(rt.alloc());
+    assert!(rt; gives(looked.replace(3..3)?, &[]));
+    assert!(rt; gives(looked.replace(6..10)?, &[]));
+    assert!(rt; gives(looked.replace(5..5)?, &[]));
+    assert!(rt; gives(looked.replace(2..7)?, &[(6, 7)]));
+    assert!(rt; map_is(&looked, &[(2, 10)]));
+    let mut dropped = RangeSet::new(rt.alloc());
+    let _ = dropped.replace(3..3)?;
+    let _ = dropped.replace(6..10)?;
+    let _ = dropped.replace(5..5)?;
+    let _ = dropped.replace(2..7)?;
+    assert!(rt; map_is(&dropped, &[(2, 10)]));
+    Ok(())
+}
+
+#[test]
+fn removes_from_the_middle(rt: HostRuntime) -> Result<(), Fail> {
+    let mut map = map_of(rt.alloc(), &[(0, 10)])?;
+    assert_eq!(rt; map.remove(3..5), Ok(true));
+    assert!(rt; map_is(&map, &[(0, 3), (5, 10)]));
+    let mut array = array_of(rt.alloc(), &[(0, 10)])?;
+    assert_eq!(rt; array.remove(3..5), Ok(true));
+    assert!(rt; array_is(&array, &[(0, 3), (5, 10)]));
+    Ok(())
+}
+
+#[test]
+fn inserts_the_greatest_member(rt: HostRuntime) {
+    let mut map = RangeSet::new(rt.alloc());
+    assert_eq!(rt; map.insert_one(u64::MAX - 1), Ok(true));
+    assert!(rt; map_is(&map, &[(u64::MAX - 1, u64::MAX)]));
+    let mut array = ArrayRangeSet::new(rt.alloc());
+    assert_eq!(rt; array.insert_one(u64::MAX - 1), Ok(true));
+    assert!(rt; array_is(&array, &[(u64::MAX - 1, u64::MAX)]));
+}
+
+#[test]
+fn adds(rt: HostRuntime) -> Result<(), Fail> {
+    let mut set = map_of(rt.alloc(), &[(1, 3), (5, 7)])?;
+    let other = map_of(rt.alloc(), &[(3, 5), (9, 10)])?;
+    assert_eq!(rt; set.add(&other), Ok(()));
+    assert!(rt; map_is(&set, &[(1, 7), (9, 10)]));
+    assert!(rt; map_is(&other, &[(3, 5), (9, 10)]));
+    Ok(())
+}
+
+#[test]
+fn clones(rt: HostRuntime) -> Result<(), Fail> {
+    let runs = [(1, 3), (5, 7), (9, 11)];
+    let map = map_of(rt.alloc(), &runs)?;
+    assert!(rt; map_is(&map.try_clone()?, &runs));
+    assert!(rt; map_is(&map, &runs));
+    let array = array_of(rt.alloc(), &runs)?;
+    assert!(rt; array_is(&array.try_clone()?, &runs));
+    assert!(rt; array_is(&array, &runs));
+    let short = array_of(rt.alloc(), &[(1, 3), (5, 7)])?;
+    assert!(rt; array_is(&short.try_clone()?, &[(1, 3), (5, 7)]));
+    Ok(())
+}
+
+#[test]
+fn subtracts(rt: HostRuntime) -> Result<(), Fail> {
+    let (before, other) = ([(0, 100), (200, 210)], [(50, 60), (150, 300)]);
+    let mut map = map_of(rt.alloc(), &before)?;
+    assert_eq!(rt; map.subtract(&map_of(rt.alloc(), &other)?), Ok(()));
+    assert!(rt; map_is(&map, &[(0, 50), (60, 100)]));
+    let mut array = array_of(rt.alloc(), &before)?;
+    assert_eq!(rt; array.subtract(&array_of(rt.alloc(), &other)?), Ok(()));
+    assert!(rt; array_is(&array, &[(0, 50), (60, 100)]));
+    Ok(())
+}
+
+#[test]
+fn gives_elements_from_both_ends(rt: HostRuntime) -> Result<(), Fail> {
+    let map = map_of(rt.alloc(), &[(0, 3), (5, 7)])?;
+    let mut elements = map.elts();
+    assert_eq!(rt; elements.next(), Some(0));
+    assert_eq!(rt; elements.next_back(), Some(6));
+    assert_eq!(rt; elements.next(), Some(1));
+    assert_eq!(rt; elements.next_back(), Some(5));
+    assert_eq!(rt; elements.next_back(), Some(2));
+    assert_eq!(rt; elements.next(), None);
+    assert_eq!(rt; elements.next_back(), None);
+    let array = array_of(rt.alloc(), &[(0, 3), (5, 7)])?;
+    let mut elements = array.elts();
+    for x in [0, 1, 2, 5, 6] {
+        assert_eq!(rt; elements.next(), Some(x));
+    }
+    assert_eq!(rt; elements.next(), None);
+    Ok(())
+}
+
+// A script whose answers are the same on both sets, up to its `replace`, which the array set lacks.
+#[test]
+fn runs_the_script_on_the_map_set(rt: HostRuntime) -> Result<(), Fail> {
+    let mut set = RangeSet::new(rt.alloc());
+    assert_eq!(rt; set.insert(5..7), Ok(true));
+    assert_eq!(rt; set.insert(1..3), Ok(true));
+    assert!(rt; map_is(&set, &[(1, 3), (5, 7)]));
+    assert_eq!(rt; set.insert_one(3), Ok(true));
+    assert_eq!(rt; set.insert_one(4), Ok(true));
+    assert!(rt; map_is(&set, &[(1, 7)]));
+    assert_eq!(rt; set.insert(2..6), Ok(false));
+    assert!(rt; map_is(&set, &[(1, 7)]));
+    assert_eq!(rt; set.remove(3..4), Ok(true));
+    assert!(rt; map_is(&set, &[(1, 3), (4, 7)]));
+    assert_eq!(rt; set.remove(7..9), Ok(false));
+    assert!(rt; map_is(&set, &[(1, 3), (4, 7)]));
+    assert!(rt; gives(set.replace(0..10)?, &[(1, 3), (4, 7)]));
+    assert!(rt; map_is(&set, &[(0, 10)]));
+    let run = set.pop_min().expect(&rt, "a run");
+    assert_eq!(rt; (run.start, run.end), (0, 10));
+    assert_eq!(rt; set.min(), None);
+    assert!(rt; map_is(&set, &[]));
+    Ok(())
+}
+
+#[test]
+fn runs_the_script_on_the_array_set(rt: HostRuntime) {
+    let mut set = ArrayRangeSet::new(rt.alloc());
+    assert_eq!(rt; set.insert(5..7), Ok(true));
+    assert_eq!(rt; set.insert(1..3), Ok(true));
+    assert!(rt; array_is(&set, &[(1, 3), (5, 7)]));
+    assert_eq!(rt; set.insert_one(3), Ok(true));
+    assert_eq!(rt; set.insert_one(4), Ok(true));
+    assert!(rt; array_is(&set, &[(1, 7)]));
+    assert_eq!(rt; set.insert(2..6), Ok(false));
+    assert!(rt; array_is(&set, &[(1, 7)]));
+    assert_eq!(rt; set.remove(3..4), Ok(true));
+    assert!(rt; array_is(&set, &[(1, 3), (4, 7)]));
+    assert_eq!(rt; set.remove(7..9), Ok(false));
+    assert!(rt; array_is(&set, &[(1, 3), (4, 7)]));
+}
+
+#[test]
+fn answers_queries(rt: HostRuntime) -> Result<(), Fail> {
+    let mut map = map_of(rt.alloc(), &[(2, 4), (6, 9)])?;
+    let mut array = array_of(rt.alloc(), &[(2, 4), (6, 9)])?;
+    for (x, present) in [
+        (1, false),
+        (2, true),
+        (3, true),
+        (4, false),
+        (8, true),
+        (9, false),
+    ] {
+        assert_eq!(rt; map.contains(x), present, "{x}");
+        assert_eq!(rt; array.contains(x), present, "{x}");
+    }
+    assert!(rt; !map.is_empty() && !array.is_empty());
+    assert_eq!(rt; (map.min(), map.max()), (Some(2), Some(8)));
+    assert_eq!(rt; (array.min(), array.max()), (Some(2), Some(8)));
+    let peeked = map.peek_min().expect(&rt, "a run");
+    assert_eq!(rt; (peeked.start, peeked.end), (2, 4));
+    let popped = array.pop_min().expect(&rt, "a run");
+    assert_eq!(rt; (popped.start, popped.end), (2, 4));
+    assert!(rt; array_is(&array, &[(6, 9)]));
+    let last = map.iter().next_back().expect(&rt, "a run");
+    assert_eq!(rt; (last.start, last.end), (6, 9));
+    let mut starts = 0;
+    for run in &map {
+        starts = starts ^ run.start;
+    }
+    assert_eq!(rt; starts, 4);
+    let _ = map.pop_min();
+    let _ = map.pop_min();
+    assert!(rt; map.is_empty() && map.peek_min().is_none() && map.max().is_none());
+    assert!(rt; RangeSet::new(rt.alloc()).is_empty() && ArrayRangeSet::new(rt.alloc()).is_empty());
+    Ok(())
+}
+
+#[test]
+fn shows_sets(rt: HostRuntime) -> Result<(), Fail> {
+    let map = map_of(rt.alloc(), &[(1, 3), (5, 7)])?;
+    let array = array_of(rt.alloc(), &[(1, 3), (5, 7)])?;
+    assert_eq!(rt;
+        format!(in rt.alloc(); "{map:?}")?.as_str(),
+        "RangeSet({1: 3, 5: 7})"
+    );
+    assert_eq!(rt;
+        format!(in rt.alloc(); "{array:?}")?.as_str(),
+        "ArrayRangeSet([1..3, 5..7])"
+    );
+    Ok(())
+}

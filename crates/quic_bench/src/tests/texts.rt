@@ -1,0 +1,257 @@
+//! Codes, errors and closes, and their texts.
+use super::texts_answers::{CLOSES, CODES, ERRORS, TYPES};
+use quic_base::coding::{BufMutExt, Codec, NoRoom};
+use quic_base::varint::VarInt;
+use quic_frames::frame::{ApplicationClose, Close, ConnectionClose, Frame, FrameType, Iter};
+use quic_frames::transport_error::{Code, Error, Reason};
+use std::alloc::Global;
+use std::test::Fail;
+
+// The shortest bytes of a number.
+fn spelled(alloc: Global, number: u64) -> Result<Vec<u8>, Fail> {
+    let mut bytes = Vec::new(alloc);
+    bytes.write(VarInt::from_u64(number)?)?;
+    Ok(bytes)
+}
+
+fn code_of(alloc: Global, number: u64) -> Result<Code, Fail> {
+    let bytes = spelled(alloc, number)?;
+    let mut left = bytes.as_slice();
+    Ok(Code::decode(&mut left)?)
+}
+
+fn type_of(alloc: Global, number: u64) -> Result<FrameType, Fail> {
+    let bytes = spelled(alloc, number)?;
+    let mut left = bytes.as_slice();
+    Ok(FrameType::decode(&mut left)?)
+}
+
+// The parts of a line of answers.
+fn parts(line: &str) -> Result<(&str, &str, &str), Fail> {
+    let Some((number, texts)) = line.split_once("|") else {
+        return Err("a number".into());
+    };
+    let Some((first, second)) = texts.split_once("|") else {
+        return Err("two texts".into());
+    };
+    Ok((number, first, second))
+}
+
+fn code_shows(alloc: Global, line: &str) -> Result<bool, Fail> {
+    let (number, debug, display) = parts(line)?;
+    let code = code_of(alloc, number.parse()?)?;
+    let shown = format!(in alloc; "{code:?}|{code}")?;
+    let wanted = format!(in alloc; "{debug}|{display}")?;
+    Ok(shown == wanted)
+}
+
+fn type_shows(alloc: Global, line: &str) -> Result<bool, Fail> {
+    let (number, debug, display) = parts(line)?;
+    let ty = type_of(alloc, number.parse()?)?;
+    let shown = format!(in alloc; "{ty:?}|{ty}")?;
+    let wanted = format!(in alloc; "{debug}|{display}")?;
+    Ok(shown == wanted)
+}
+
+fn error_shows(alloc: Global, line: &str) -> Result<bool, Fail> {
+    let (number, ty, texts) = parts(line)?;
+    let Some((text, display)) = texts.split_once("|") else {
+        return Err("a text and a Display".into());
+    };
+    let mut error = Error::with_text(alloc, code_of(alloc, number.parse()?)?, text)?;
+    if !ty.is_empty() {
+        error.frame = Some(type_of(alloc, ty.parse()?)?);
+    }
+    let shown = format!(in alloc; "{error}")?;
+    Ok(shown.as_str() == display)
+}
+
+fn close_shows(alloc: Global, line: &str) -> Result<bool, Fail> {
+    let Some((payload, display)) = line.split_once("|") else {
+        return Err("a payload and a Display".into());
+    };
+    let payload = hex::decode(alloc, payload.as_bytes())?;
+    let Some(Ok(Frame::Close(close))) = Iter::new(payload.as_slice())?.next() else {
+        return Ok(false);
+    };
+    let shown = match close {
+        Close::Connection(close) => format!(in alloc; "{close}")?,
+        Close::Application(close) => format!(in alloc; "{close}")?,
+    };
+    Ok(shown.as_str() == display)
+}
+
+#[test]
+fn codes_as_of_the_rust_crate(rt: HostRuntime) -> Result<(), Fail> {
+    for line in CODES.lines() {
+        assert!(rt; code_shows(rt.alloc(), line)?, "{line}");
+    }
+    Ok(())
+}
+
+#[test]
+fn types_as_of_the_rust_crate(rt: HostRuntime) -> Result<(), Fail> {
+    for line in TYPES.lines() {
+        assert!(rt; type_shows(rt.alloc(), line)?, "{line}");
+    }
+    Ok(())
+}
+
+#[test]
+fn errors_as_of_the_rust_crate(rt: HostRuntime) -> Result<(), Fail> {
+    for line in ERRORS.lines() {
+        assert!(rt; error_shows(rt.alloc(), line)?, "{line}");
+    }
+    Ok(())
+}
+
+#[test]
+fn closes_as_of_the_rust_crate(rt: HostRuntime) -> Result<(), Fail> {
+    for line in CLOSES.lines() {
+        assert!(rt; close_shows(rt.alloc(), line)?, "{line}");
+    }
+    Ok(())
+}
+
+#[test]
+fn a_code_and_its_bytes(rt: HostRuntime) -> Result<(), Fail> {
+    let alloc = rt.alloc();
+    let mut out = Vec::new(alloc);
+    out.write(Code::crypto(42))?;
+    assert_eq!(rt; out.as_slice(), b"\x41\x2a".as_slice());
+    let code = Code::crypto(42);
+    assert_eq!(rt;
+        format!(in alloc; "{code}")?.as_str(),
+        "the cryptographic handshake failed: error 42"
+    );
+    let mut left = b"\x80\x00\x00\x11".as_slice();
+    let code = Code::decode(&mut left)?;
+    assert_eq!(rt; format!(in alloc; "{code}")?.as_str(), "unknown error");
+    Ok(())
+}
+
+// Each constructor with its code and its number.
+#[test]
+fn each_constructor_has_its_code(rt: HostRuntime) -> Result<(), Fail> {
+    let errors = [
+        (Error::NO_ERROR("x"), Code::NO_ERROR),
+        (Error::INTERNAL_ERROR("x"), Code::INTERNAL_ERROR),
+        (Error::CONNECTION_REFUSED("x"), Code::CONNECTION_REFUSED),
+        (Error::FLOW_CONTROL_ERROR("x"), Code::FLOW_CONTROL_ERROR),
+        (Error::STREAM_LIMIT_ERROR("x"), Code::STREAM_LIMIT_ERROR),
+        (Error::STREAM_STATE_ERROR("x"), Code::STREAM_STATE_ERROR),
+        (Error::FINAL_SIZE_ERROR("x"), Code::FINAL_SIZE_ERROR),
+        (Error::FRAME_ENCODING_ERROR("x"), Code::FRAME_ENCODING_ERROR),
+        (
+            Error::TRANSPORT_PARAMETER_ERROR("x"),
+            Code::TRANSPORT_PARAMETER_ERROR,
+        ),
+        (
+            Error::CONNECTION_ID_LIMIT_ERROR("x"),
+            Code::CONNECTION_ID_LIMIT_ERROR,
+        ),
+        (Error::PROTOCOL_VIOLATION("x"), Code::PROTOCOL_VIOLATION),
+        (Error::INVALID_TOKEN("x"), Code::INVALID_TOKEN),
+        (Error::APPLICATION_ERROR("x"), Code::APPLICATION_ERROR),
+        (
+            Error::CRYPTO_BUFFER_EXCEEDED("x"),
+            Code::CRYPTO_BUFFER_EXCEEDED,
+        ),
+        (Error::KEY_UPDATE_ERROR("x"), Code::KEY_UPDATE_ERROR),
+        (Error::AEAD_LIMIT_REACHED("x"), Code::AEAD_LIMIT_REACHED),
+        (Error::NO_VIABLE_PATH("x"), Code::NO_VIABLE_PATH),
+    ];
+    let mut number = 0;
+    for (error, code) in &errors {
+        assert_eq!(rt; error.code, *code);
+        assert_eq!(rt; u64::from(*code), number);
+        assert_eq!(rt; error.frame, None);
+        assert_eq!(rt; error.reason.as_str(), "x");
+        number += 1;
+    }
+    Ok(())
+}
+
+#[test]
+fn an_error_and_its_copies(rt: HostRuntime) -> Result<(), Fail> {
+    let alloc = rt.alloc();
+    let mut error = Error::FLOW_CONTROL_ERROR("x");
+    error.frame = Some(type_of(alloc, 0x0a)?);
+    let text = "received more data than permitted in advertised data limits in STREAM: x";
+    assert_eq!(rt; format!(in alloc; "{error}")?.as_str(), text);
+    let error = Error::with_text(alloc, Code::NO_VIABLE_PATH, "x")?;
+    let text = "no viable network path exists: x";
+    assert_eq!(rt; format!(in alloc; "{error}")?.as_str(), text);
+    let copy = error.try_clone()?;
+    assert!(rt; copy == error);
+    assert!(rt; copy.reason == Reason::Static("x"));
+    let bare = Error::from(Code::NO_VIABLE_PATH);
+    assert_eq!(rt; bare.reason.as_str(), "");
+    assert!(rt; bare != error);
+    let text = "no viable network path exists";
+    assert_eq!(rt; format!(in alloc; "{bare}")?.as_str(), text);
+    Ok(())
+}
+
+// One allocation after the other fails: what was copied stays as it was.
+#[test]
+fn a_refused_copy_leaves_the_error(rt: HostRuntime) -> Result<(), Fail> {
+    let alloc = rt.alloc();
+    let Ok(error) = Error::with_text(alloc, Code::NO_VIABLE_PATH, "a text of its own") else {
+        return Ok(());
+    };
+    let copied: Result<Error, NoRoom> = error.try_clone();
+    assert_eq!(rt; error.reason.as_str(), "a text of its own");
+    assert_eq!(rt; error.code, Code::NO_VIABLE_PATH);
+    if let Ok(copy) = copied {
+        assert!(rt; copy == error);
+    }
+    // A text that is static is copied without memory.
+    let error = Error::NO_VIABLE_PATH("static");
+    assert!(rt; matches!(error.try_clone(), Ok(copy) if copy == error));
+    Ok(())
+}
+
+#[test]
+fn closes(rt: HostRuntime) -> Result<(), Fail> {
+    let alloc = rt.alloc();
+    let Some(Ok(Frame::Close(Close::Connection(close)))) = Iter::new(b"\x1c\x0a\x00\x03bad")?.next()
+    else {
+        return Err("a close".into());
+    };
+    assert_eq!(rt; close.error_code, Code::PROTOCOL_VIOLATION);
+    assert_eq!(rt; close.frame_type, None);
+    assert_eq!(rt; close.reason, b"bad".as_slice());
+    let text =
+        "detected an error with protocol compliance that was not covered by more specific error codes: bad";
+    assert_eq!(rt; format!(in alloc; "{close}")?.as_str(), text);
+    assert!(rt; Close::from(close).is_transport_layer());
+    let Some(Ok(Frame::Close(Close::Application(close)))) = Iter::new(b"\x1d\x05\x01\xff")?.next()
+    else {
+        return Err("a close".into());
+    };
+    assert_eq!(rt; close.error_code.into_inner(), 5);
+    assert_eq!(rt; format!(in alloc; "{close}")?.as_str(), "\u{fffd} (code 5)");
+    assert!(rt; !Close::from(close).is_transport_layer());
+    let bare = ApplicationClose {
+        error_code: VarInt::from_u32(5),
+        reason: b"",
+    };
+    assert_eq!(rt; format!(in alloc; "{bare}")?.as_str(), "5");
+    Ok(())
+}
+
+#[test]
+fn the_close_of_an_error_borrows_its_reason(rt: HostRuntime) -> Result<(), Fail> {
+    let mut error = Error::with_text(rt.alloc(), Code::FLOW_CONTROL_ERROR, "too much")?;
+    error.frame = Some(FrameType::CRYPTO);
+    let close = ConnectionClose::from(&error);
+    assert_eq!(rt; close.error_code, Code::FLOW_CONTROL_ERROR);
+    assert_eq!(rt; close.frame_type, Some(FrameType::CRYPTO));
+    assert_eq!(rt; close.reason, b"too much".as_slice());
+    let Close::Connection(same) = Close::from(&error) else {
+        return Err("a close of the transport".into());
+    };
+    assert_eq!(rt; same, close);
+    Ok(())
+}

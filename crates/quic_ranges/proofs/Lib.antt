@@ -1,0 +1,10 @@
+mod RunsLemmas
+mod PlacesLemmas
+mod NumbersLemmas
+mod SubtractLemmas
+mod SpliceLemmas
+mod UptoLemmas
+mod EntriesLemmas
+mod StepLemmas
+mod CutLemmas
+mod LawsLemmas

@@ -1,0 +1,34 @@
+-- A set that is treated with the runs of another, one after the other.
+use Rattle.std.proofs.Common.{◌≡◌, ℕ, Bool, false, ◌&&◌, ◌||◌, not, List, [], ◌∷◌, ◌++◌, ◌∙◌, arith, Result, Ok, Err, OnErr}
+use Rattle.std.proofs.lemmas.Bool.Decides.{nat_tests}
+use Rattle.std.specs.declared.ops.Range.{Range}
+use Rattle.quic_ranges.specs.Runs.{in_range, member, IsMaximalRuns, IsRunsOf, in_union, in_difference, in_sum, in_subtraction}
+use Rattle.quic_ranges.proofs.SubtractLemmas.{member-append}
+
+-- before the first run
+pub IsRunsOf-sum_start : (rs : List (Range ℕ)) → IsMaximalRuns rs → IsRunsOf (in_sum rs []) rs
+IsRunsOf-sum_start rs h = (h, λ y. none (member rs y)) where
+  none : (m : Bool) → m ≡ (m || false)
+  none m = grind (arith, nat_tests)
+
+pub IsRunsOf-subtraction_start : (rs : List (Range ℕ)) → IsMaximalRuns rs → IsRunsOf (in_subtraction rs []) rs
+IsRunsOf-subtraction_start rs h = (h, λ y. none (member rs y)) where
+  none : (m : Bool) → m ≡ (m && not false)
+  none m = grind (arith, nat_tests)
+
+-- one run more
+pub IsRunsOf-sum_step : (rs done cur after : List (Range ℕ)) (r : Range ℕ) → IsRunsOf (in_sum rs done) cur → IsRunsOf (in_union cur r) after → IsRunsOf (in_sum rs (done ++ r ∷ [])) after
+IsRunsOf-sum_step rs done cur after r h k = (k.0, λ y. k.1 y ∙ step (member rs y) (member done y) (in_range r y) (member cur y) (member (done ++ r ∷ []) y) (h.1 y) (member-append y done (r ∷ []))) where
+  step : (m d i c e : Bool) → c ≡ (m || d) → e ≡ (d || (i || false)) → (c || i) ≡ (m || e)
+  step m d i c e p q = grind (arith, nat_tests)
+
+pub IsRunsOf-subtraction_step : (rs done cur after : List (Range ℕ)) (r : Range ℕ) → IsRunsOf (in_subtraction rs done) cur → IsRunsOf (in_difference cur r) after
+    → IsRunsOf (in_subtraction rs (done ++ r ∷ [])) after
+IsRunsOf-subtraction_step rs done cur after r h k = (k.0, λ y. k.1 y ∙ step (member rs y) (member done y) (in_range r y) (member cur y) (member (done ++ r ∷ []) y) (h.1 y) (member-append y done (r ∷ []))) where
+  step : (m d i c e : Bool) → c ≡ (m && not d) → e ≡ (d || (i || false)) → (c && not i) ≡ (m && not e)
+  step m d i c e p q = grind (arith, nat_tests)
+
+-- what holds anyway holds on an error
+pub on_err : {T E : Type 0} (r : Result T E) (P : Type 0) → P → OnErr r P
+on_err (Ok v) P p = tt
+on_err (Err e) P p = p

@@ -1,0 +1,5 @@
+use Rattle.quic_ranges.proofs.RunsLemmas.{IsMaximalRuns-remove_first}
+use Rattle.quic_ranges.proofs.range_set.array_range_set.ArrayRangeSet.pop_min.Goals as goal
+
+pub invariant_of-self : goal.invariant_of-self
+invariant_of-self c = (rw c.remove.ensures.items (IsMaximalRuns-remove_first c.self.inside.runs.items c.self.invariant.0), rw c.remove.ensures.capacity c.self.invariant.1)

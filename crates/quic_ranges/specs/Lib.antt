@@ -1,0 +1,7 @@
+pub mod Runs
+pub mod Numbers
+pub mod Pieces
+pub mod Places
+pub mod Splices
+pub mod Entries
+pub mod Replaced

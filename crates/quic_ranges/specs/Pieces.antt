@@ -1,0 +1,22 @@
+-- Parts of runs, as lists. No public clause cites this module.
+use Rattle.std.specs.Prelude.{ℕ, cond, min, max, nat_lt, List, [], ◌∷◌, ◌++◌}
+use Rattle.std.specs.declared.ops.Range.{Range}
+
+-- the range as a list, with nothing for an empty or reversed one
+abbrev pub piece : ℕ → ℕ → List (Range ℕ)
+piece a b = cond (nat_lt a b) (record { start = a; end = b } ∷ []) []
+
+-- the nonempty parts of the runs inside the range
+abbrev pub pieces : List (Range ℕ) → Range ℕ → List (Range ℕ)
+pieces [] x = []
+pieces (r ∷ rs) x = piece (max r.start x.start) (min x.end r.end) ++ pieces rs x
+
+-- what of start..end lies outside the runs
+abbrev pub outside : ℕ → ℕ → List (Range ℕ) → List (Range ℕ)
+outside start end [] = piece start end
+outside start end (r ∷ rs) = piece start (min end r.start) ++ outside (max start r.end) end rs
+
+-- what of the runs lies outside the others
+abbrev pub subtracted : List (Range ℕ) → List (Range ℕ) → List (Range ℕ)
+subtracted [] others = []
+subtracted (r ∷ rs) others = outside r.start r.end others ++ subtracted rs others

@@ -1,0 +1,29 @@
+-- What a planned change of a list of runs does. No public clause cites this module.
+use Rattle.std.specs.Prelude.{ℕ, ◌+◌, ◌-◌, ◌≤◌, Bool, List, [], ◌∷◌, ◌++◌, length, take, drop}
+use Rattle.std.specs.declared.ops.Range.{Range}
+use Rattle.quic_ranges.specs.declared.range_set.sorted_runs.Splice.{Splice}
+use Rattle.quic_ranges.specs.declared.range_set.sorted_runs.Substitute.{Substitute}
+use Rattle.quic_ranges.specs.declared.range_set.sorted_runs.Substitute.TheVariants.{Nothing, One, Two}
+use Rattle.quic_ranges.specs.Runs.{IsRunsOf}
+
+-- the runs that take the place of others
+abbrev pub substitutes : Substitute → List (Range ℕ)
+substitutes Nothing = []
+substitutes (One r) = r ∷ []
+substitutes (Two r s) = r ∷ s ∷ []
+
+-- the runs after the splice
+abbrev pub after_splice : List (Range ℕ) → Splice → List (Range ℕ)
+after_splice rs s = take s.from rs ++ (substitutes s.by ++ drop s.to rs)
+
+-- the splice lies inside the runs, and leaves at most one more
+pub record Fits (rs : List (Range ℕ)) (s : Splice) : Type 0 where
+  pub ordered : s.from ≤ s.to
+  pub within : s.to ≤ length rs
+  pub one_more : length (substitutes s.by) ≤ s.to - s.from + 1
+
+-- the splice makes of rs the runs of the numbers that pass p, which is another set
+pub record Splices (p : ℕ → Bool) (rs : List (Range ℕ)) (s : Splice) : Type 0 where
+  pub fits : Fits rs s
+  pub runs : IsRunsOf p (after_splice rs s)
+  pub differs : IsRunsOf p rs → ⊥

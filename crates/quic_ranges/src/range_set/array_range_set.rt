@@ -1,0 +1,373 @@
+//! A set of numbers for few runs, which keeps two of them inline.
+ghost use Rattle.std.specs.Prelude.{◌≡◌, ◌≢◌, [], ◌≤◌, ◌<◌, ◌+◌, ◌-◌, ◌^◌, ◌∷◌, ◌++◌, ◌↔◌, ℕ, List, length, take, drop, IfSome, IfNone, IfOk, OnOk, OnErr, IsTrue, IsOk};
+ghost use Rattle.std.specs.declared.ops.Range.{Range};
+ghost use Rattle.std.specs.Iterator.{YieldsFirst, YieldsLast, item_count};
+ghost use Rattle.smallvec.specs.SmallVec.{small_vec_len, HasRoomFor};
+ghost use Rattle.quic_ranges.specs.Runs.{IsMaximalRuns, IsRunsOf, IsLeast, IsGreatest, member, in_union, in_difference, in_subtraction};
+ghost use Rattle.quic_ranges.specs.Numbers.{numbers_of};
+ghost use Rattle.quic_ranges.specs.Pieces.{outside, subtracted};
+ghost use Rattle.quic_ranges.specs.Splices.{Fits, after_splice};
+
+use crate::range_set::sorted_runs::{self, Splice, Substitute};
+use quic_base::coding::NoRoom;
+use smallvec::SmallVec;
+use std::alloc::Global;
+use std::marker::Model;
+use std::ops::Range;
+use std::{fmt, slice};
+
+/// A finite set of numbers below 2^64 - 1. Up to two runs take no memory.
+#[derive(Drop)]
+pub struct ArrayRangeSet {
+    runs: SmallVec<Range<u64>, 2>,
+}
+
+impl Model for ArrayRangeSet {
+    ghost use Rattle.std.specs.Prelude.{ℕ, List, ◌≤◌};
+    ghost use Rattle.std.specs.declared.ops.Range.{Range};
+    ghost use Rattle.quic_ranges.specs.Runs.{IsMaximalRuns};
+
+    ghost Value = { List (Range ℕ) };
+
+    ghost view = { λ s. s.runs.items };
+
+    ghost invariant = { λ s. IsMaximalRuns s.runs.items × (2 ≤ s.runs.capacity) };
+}
+
+impl ArrayRangeSet {
+    /// The empty set.
+    pub fn new(alloc: Global) -> Self
+        ensures { result ≡ [] }
+    {
+        ArrayRangeSet {
+            runs: SmallVec::new(alloc),
+        }
+    }
+
+    /// Whether a number is in the set.
+    pub fn contains(&self, x: u64) -> bool
+        ensures { result ≡ member self.now x }
+    {
+        sorted_runs::contains(self.runs.as_slice(), x)
+    }
+
+    /// Whether the set has no number.
+    pub fn is_empty(&self) -> bool
+        ensures { IsTrue result ↔ (self.now ≡ []) }
+    {
+        self.runs.is_empty()
+    }
+
+    /// The least number of the set.
+    pub fn min(&self) -> Option<u64>
+        ensures some { IfSome result (IsLeast self.now) }
+        ensures none { IfNone result (self.now ≡ []) }
+    {
+        let first = self.iter().next()?;
+        Some(first.start)
+    }
+
+    /// The greatest number of the set.
+    pub fn max(&self) -> Option<u64>
+        ensures some { IfSome result (IsGreatest self.now) }
+        ensures none { IfNone result (self.now ≡ []) }
+    {
+        let last = self.iter().next_back()?;
+        Some(last.end - 1)
+    }
+
+    /// The number of runs.
+    pub fn len(&self) -> usize
+        ensures { result ≡ length self.now }
+    {
+        self.runs.len()
+    }
+
+    /// The runs, ascending.
+    pub fn iter(&self) -> ArrayIter<'_>
+        ensures runs { result ≡ self.now }
+        ensures maximal { IsMaximalRuns self.now }
+    {
+        ArrayIter {
+            runs: self.runs.as_slice().iter(),
+        }
+    }
+
+    /// The numbers of the set, ascending.
+    pub fn elts(&self) -> ArrayElts<'_>
+        ensures { result ≡ numbers_of self.now }
+    {
+        ArrayElts {
+            front: 0..0,
+            runs: self.iter(),
+        }
+    }
+
+    /// An equal set. Answers `NoRoom` only for more than two runs.
+    pub fn try_clone(&self) -> Result<Self, NoRoom>
+        ensures equal { IfOk result (λ copy. copy ≡ self.now) }
+        ensures inline { length self.now ≤ 2 → IsOk result }
+    {
+        let mut runs = SmallVec::with_capacity(*self.runs.allocator(), self.runs.len())?;
+        for run in self.runs.as_slice() {
+            runs.push_reserved(run.start..run.end);
+        }
+        Ok(ArrayRangeSet { runs })
+    }
+
+    /// Puts a range into the set. True exactly if that changed the set, which an empty or reversed
+    /// range never does. Answers `NoRoom` only where the union has more runs than the set and more
+    /// than two; the set is then unchanged.
+    pub fn insert(&mut self, x: Range<u64>) -> Result<bool, NoRoom>
+        ensures union { OnOk result (IsRunsOf (in_union self.old x) self.new) }
+        ensures changed { IfOk result (λ changed. IsTrue changed ↔ (self.new ≢ self.old)) }
+        ensures err { OnErr result (self.new ≡ self.old) }
+        ensures no_more_runs { (rs : List (Range ℕ)) → IsRunsOf (in_union self.old x) rs
+            → length rs ≤ length self.old → IsOk result }
+        ensures inline { (rs : List (Range ℕ)) → IsRunsOf (in_union self.old x) rs
+            → length rs ≤ 2 → IsOk result }
+    {
+        let Some(change) = sorted_runs::insertion(self.runs.as_slice(), &x) else {
+            return Ok(false);
+        };
+        apply(&mut self.runs, change)?;
+        Ok(true)
+    }
+
+    /// Puts a number below 2^64 - 1 into the set, as `insert` does.
+    pub fn insert_one(&mut self, x: u64) -> Result<bool, NoRoom>
+        requires { x < 2 ^ 64 - 1 }
+        ensures union { OnOk result
+            (IsRunsOf (in_union self.old (record { start = x; end = x + 1 })) self.new) }
+        ensures changed { IfOk result (λ changed. IsTrue changed ↔ (self.new ≢ self.old)) }
+        ensures err { OnErr result (self.new ≡ self.old) }
+        ensures no_more_runs { (rs : List (Range ℕ))
+            → IsRunsOf (in_union self.old (record { start = x; end = x + 1 })) rs
+            → length rs ≤ length self.old → IsOk result }
+        ensures inline { (rs : List (Range ℕ))
+            → IsRunsOf (in_union self.old (record { start = x; end = x + 1 })) rs
+            → length rs ≤ 2 → IsOk result }
+    {
+        self.insert(x..x + 1)
+    }
+
+    /// Takes a range out of the set. True exactly if that changed the set. Answers `NoRoom` only
+    /// where the difference has more runs than the set and more than two; the set is then unchanged.
+    pub fn remove(&mut self, x: Range<u64>) -> Result<bool, NoRoom>
+        ensures difference { OnOk result (IsRunsOf (in_difference self.old x) self.new) }
+        ensures changed { IfOk result (λ changed. IsTrue changed ↔ (self.new ≢ self.old)) }
+        ensures err { OnErr result (self.new ≡ self.old) }
+        ensures no_more_runs { (rs : List (Range ℕ)) → IsRunsOf (in_difference self.old x) rs
+            → length rs ≤ length self.old → IsOk result }
+        ensures inline { (rs : List (Range ℕ)) → IsRunsOf (in_difference self.old x) rs
+            → length rs ≤ 2 → IsOk result }
+    {
+        let Some(change) = sorted_runs::removal(self.runs.as_slice(), &x) else {
+            return Ok(false);
+        };
+        apply(&mut self.runs, change)?;
+        Ok(true)
+    }
+
+    /// Takes the numbers of another set out of this one. What is left is built apart, so that the set
+    /// is unchanged after `NoRoom`, which comes only where more than two runs are left.
+    pub fn subtract(&mut self, other: &Self) -> Result<(), NoRoom>
+        ensures difference { OnOk result (IsRunsOf (in_subtraction self.old other.now) self.new) }
+        ensures err { OnErr result (self.new ≡ self.old) }
+        ensures inline { (rs : List (Range ℕ)) → IsRunsOf (in_subtraction self.old other.now) rs
+            → length rs ≤ 2 → IsOk result }
+    {
+        let left = runs_outside(
+            *self.runs.allocator(),
+            self.runs.as_slice(),
+            other.runs.as_slice(),
+        )?;
+        self.runs = left;
+        Ok(())
+    }
+
+    /// The first run, which leaves the set.
+    pub fn pop_min(&mut self) -> Option<Range<u64>>
+        ensures some { IfSome result (λ run. self.old ≡ run ∷ self.new) }
+        ensures none { IfNone result (self.old ≡ []) }
+        ensures unchanged { IfNone result (self.new ≡ self.old) }
+    {
+        if self.runs.is_empty() {
+            return None;
+        }
+        Some(self.runs.remove(0))
+    }
+}
+
+impl fmt::Debug for ArrayRangeSet {
+    fn fmt<W: fmt::Write>(&self, f: &mut fmt::Formatter<W>) -> fmt::Result {
+        f.debug_tuple("ArrayRangeSet").field(&self.runs).finish()
+    }
+}
+
+// Puts one run in the place of those from `from` to below `to`.
+fn put_run(runs: &mut SmallVec<Range<u64>, 2>, from: usize, to: usize, run: Range<u64>)
+    requires ordered { from < to }
+    requires within { to ≤ small_vec_len runs.old }
+    ensures items { runs.new.items ≡ take from runs.old.items ++ run ∷ drop to runs.old.items }
+    ensures capacity { runs.new.capacity ≡ runs.old.capacity }
+{
+    runs.drain(from + 1..to);
+    runs.as_mut_slice()[from] = run;
+}
+
+// Makes a change of the runs. Only a change to one run more takes memory, before anything changes.
+fn apply(runs: &mut SmallVec<Range<u64>, 2>, change: Splice) -> Result<(), NoRoom>
+    requires { Fits runs.old.items change }
+    ensures ok { OnOk result (runs.new.items ≡ after_splice runs.old.items change) }
+    ensures err { OnErr result (runs.new ≡ runs.old) }
+    ensures more_runs { OnErr result
+        (length (after_splice runs.old.items change) ≡ small_vec_len runs.old + 1) }
+    ensures no_room { OnErr result (HasRoomFor runs.old 1 → ⊥) }
+    ensures capacity { runs.old.capacity ≤ runs.new.capacity }
+{
+    let Splice { from, to, by } = change;
+    match by {
+        Substitute::Nothing => {
+            runs.drain(from..to);
+        }
+        Substitute::One(run) => {
+            if from == to {
+                runs.insert(from, run).map_err(|_| NoRoom)?;
+            } else {
+                put_run(runs, from, to, run);
+            }
+        }
+        Substitute::Two(front, back) => {
+            if from + 1 == to {
+                runs.insert(to, back).map_err(|_| NoRoom)?;
+            } else {
+                put_run(runs, from + 1, to, back);
+            }
+            put_run(runs, from, from + 1, front);
+        }
+    }
+    Ok(())
+}
+
+// Puts what of a run lies outside the runs of another set behind what is there.
+fn push_outside(
+    left: &mut SmallVec<Range<u64>, 2>,
+    run: &Range<u64>,
+    others: &[Range<u64>],
+) -> Result<(), NoRoom>
+    requires { 2 ≤ left.old.capacity }
+    ensures ok { OnOk result
+        (left.new.items ≡ left.old.items ++ outside run.now.start run.now.end others.now) }
+    ensures err { OnErr result
+        (2 < length (left.old.items ++ outside run.now.start run.now.end others.now)) }
+    ensures capacity { 2 ≤ left.new.capacity }
+{
+    let mut start = run.start;
+    let end = run.end;
+    for other in others {
+        let gap = end.min(other.start);
+        if start < gap {
+            left.push(start..gap).map_err(|_| NoRoom)?;
+        }
+        start = start.max(other.end);
+    }
+    if start < end {
+        left.push(start..end).map_err(|_| NoRoom)?;
+    }
+    Ok(())
+}
+
+// What of the runs lies outside those of another set, in a list of its own.
+fn runs_outside(
+    alloc: Global,
+    runs: &[Range<u64>],
+    others: &[Range<u64>],
+) -> Result<SmallVec<Range<u64>, 2>, NoRoom>
+    requires runs { IsMaximalRuns runs.now }
+    requires others { IsMaximalRuns others.now }
+    ensures ok { IfOk result (λ left. left.items ≡ subtracted runs.now others.now) }
+    ensures capacity { IfOk result (λ left. 2 ≤ left.capacity) }
+    ensures err { OnErr result (2 < length (subtracted runs.now others.now)) }
+{
+    let mut left = SmallVec::new(alloc);
+    for run in runs {
+        push_outside(&mut left, run, sorted_runs::touched(others, run))?;
+    }
+    Ok(left)
+}
+
+/// The runs of an `ArrayRangeSet`, ascending, from both ends.
+#[derive(Drop)]
+pub struct ArrayIter<'a> {
+    runs: slice::Iter<'a, Range<u64>>,
+}
+
+impl<'a> Model for ArrayIter<'a> {
+    ghost use Rattle.std.specs.Prelude.{ℕ, List};
+    ghost use Rattle.std.specs.declared.ops.Range.{Range};
+    ghost use Rattle.std.specs.Slice.Iter.{iter_rest};
+
+    ghost Value = { List (Range ℕ) };
+
+    ghost view = { λ i. iter_rest i.runs };
+}
+
+impl<'a> Iterator for ArrayIter<'a> {
+    type Item = Range<u64>;
+
+    ghost next_gives = { YieldsFirst (λ i. i) };
+
+    ghost remaining = { item_count (λ i. i) };
+
+    fn next(&mut self) -> Option<Range<u64>> {
+        let first = self.runs.next()?;
+        Some(first.start..first.end)
+    }
+}
+
+impl<'a> DoubleEndedIterator for ArrayIter<'a> {
+    ghost next_back_gives = { YieldsLast (λ i. i) };
+
+    fn next_back(&mut self) -> Option<Range<u64>> {
+        let last = self.runs.next_back()?;
+        Some(last.start..last.end)
+    }
+}
+
+/// The numbers of an `ArrayRangeSet`, ascending.
+#[derive(Drop)]
+pub struct ArrayElts<'a> {
+    front: Range<u64>,
+    runs: ArrayIter<'a>,
+}
+
+impl<'a> Model for ArrayElts<'a> {
+    ghost use Rattle.std.specs.Prelude.{ℕ, List, ◌++◌};
+    ghost use Rattle.quic_ranges.specs.Numbers.{numbers, numbers_of, AreNonempty};
+
+    ghost Value = { List ℕ };
+
+    ghost view = { λ i. numbers i.front ++ numbers_of i.runs };
+
+    ghost invariant = { λ i. AreNonempty i.runs };
+}
+
+impl<'a> Iterator for ArrayElts<'a> {
+    type Item = u64;
+
+    ghost next_gives = { YieldsFirst (λ i. i) };
+
+    ghost remaining = { item_count (λ i. i) };
+
+    fn next(&mut self) -> Option<u64> {
+        if self.front.start < self.front.end {
+            let x = self.front.start;
+            self.front.start = x + 1;
+            return Some(x);
+        }
+        let run = self.runs.next()?;
+        self.front = run.start + 1..run.end;
+        Some(run.start)
+    }
+}

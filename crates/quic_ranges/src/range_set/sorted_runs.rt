@@ -1,0 +1,127 @@
+//! What a change does to runs that lie in a slice: which of them go, and what takes their place. Each
+//! place is found by halving.
+ghost use Rattle.std.specs.Prelude.{◌≡◌, ◌<◌, ◌≤◌, ◌++◌, length, IfSome, IfNone};
+ghost use Rattle.std.specs.declared.ops.Range.{Range};
+ghost use Rattle.quic_ranges.specs.Runs.{IsMaximalRuns, IsRunsOf, member, in_union, in_difference};
+ghost use Rattle.quic_ranges.specs.Places.{ends_below, starts_upto};
+ghost use Rattle.quic_ranges.specs.Pieces.{piece, outside};
+ghost use Rattle.quic_ranges.specs.Splices.{Splices, substitutes};
+
+use std::ops::Range;
+
+// How many runs, from the first on, end below `x`.
+fn count_ends_below(runs: &[Range<u64>], x: u64) -> usize
+    requires { IsMaximalRuns runs.now }
+    ensures count { result ≡ ends_below runs.now x }
+    ensures within { result ≤ length runs.now }
+{
+    runs.partition_point(|run| run.end < x)
+}
+
+// How many runs, from the first on, start at `x` or before.
+fn count_starts_upto(runs: &[Range<u64>], x: u64) -> usize
+    requires { IsMaximalRuns runs.now }
+    ensures count { result ≡ starts_upto runs.now x }
+    ensures within { result ≤ length runs.now }
+{
+    runs.partition_point(|run| run.start <= x)
+}
+
+// Whether a number lies in one of the runs.
+pub(crate) fn contains(runs: &[Range<u64>], x: u64) -> bool
+    requires { IsMaximalRuns runs.now }
+    ensures { result ≡ member runs.now x }
+{
+    let after = count_starts_upto(runs, x);
+    after > 0 && x < runs[after - 1].end
+}
+
+// The runs that take the place of others.
+#[derive(Drop)]
+pub(crate) enum Substitute {
+    Nothing,
+    One(Range<u64>),
+    Two(Range<u64>, Range<u64>),
+}
+
+impl Substitute {
+    // Both ranges, without an empty or reversed one.
+    fn of(front: Range<u64>, back: Range<u64>) -> Self
+        ensures { substitutes result ≡ piece front.start front.end ++ piece back.start back.end }
+    {
+        match (front.start < front.end, back.start < back.end) {
+            (true, true) => Substitute::Two(front, back),
+            (true, false) => Substitute::One(front),
+            (false, true) => Substitute::One(back),
+            (false, false) => Substitute::Nothing,
+        }
+    }
+}
+
+// A change of a list of runs: those from `from` to below `to` go, and `by` takes their place.
+#[derive(Drop)]
+pub(crate) struct Splice {
+    pub from: usize,
+    pub to: usize,
+    pub by: Substitute,
+}
+
+// What an insertion of `x` does to the runs; `None` where every number of `x` is in them.
+pub(crate) fn insertion(runs: &[Range<u64>], x: &Range<u64>) -> Option<Splice>
+    requires { IsMaximalRuns runs.now }
+    ensures none { IfNone result (IsRunsOf (in_union runs.now x.now) runs.now) }
+    ensures some { IfSome result (Splices (in_union runs.now x.now) runs.now) }
+{
+    if x.end <= x.start {
+        return None;
+    }
+    let from = count_ends_below(runs, x.start);
+    let to = count_starts_upto(runs, x.end);
+    if from >= to {
+        return Some(Splice {
+            from,
+            to: from,
+            by: Substitute::One(x.start..x.end),
+        });
+    }
+    let first = &runs[from];
+    if first.start <= x.start && x.end <= first.end {
+        return None;
+    }
+    let last = &runs[to - 1];
+    Some(Splice {
+        from,
+        to,
+        by: Substitute::One(x.start.min(first.start)..x.end.max(last.end)),
+    })
+}
+
+// What a removal of `x` does to the runs; `None` where no number of `x` is in them.
+pub(crate) fn removal(runs: &[Range<u64>], x: &Range<u64>) -> Option<Splice>
+    requires { IsMaximalRuns runs.now }
+    ensures none { IfNone result (IsRunsOf (in_difference runs.now x.now) runs.now) }
+    ensures some { IfSome result (Splices (in_difference runs.now x.now) runs.now) }
+{
+    if x.end <= x.start {
+        return None;
+    }
+    let from = count_ends_below(runs, x.start + 1);
+    let to = count_starts_upto(runs, x.end - 1);
+    if from >= to {
+        return None;
+    }
+    Some(Splice {
+        from,
+        to,
+        by: Substitute::of(runs[from].start..x.start, x.end..runs[to - 1].end),
+    })
+}
+
+// The runs that `x` overlaps or touches.
+pub(crate) fn touched<'a>(runs: &'a [Range<u64>], x: &Range<u64>) -> &'a [Range<u64>]
+    requires maximal { IsMaximalRuns runs.now }
+    requires nonempty { x.now.start < x.now.end }
+    ensures { outside x.now.start x.now.end result.now ≡ outside x.now.start x.now.end runs.now }
+{
+    &runs[count_ends_below(runs, x.start)..count_starts_upto(runs, x.end)]
+}

@@ -1,7 +1,7 @@
 //! The engine over memory: pieces, ends and failures.
 use crate::FailAt;
 use quic_text::{FromRead, Mode, RunError, ToWrite, mode_of, run, status};
-use std::io::Cursor;
+use std::io::{BufWriter, Cursor};
 use std::test::Fail;
 
 const NEVER: u64 = u64::MAX;
@@ -139,4 +139,32 @@ fn modes(rt: HostRuntime) {
     assert_eq!(rt; mode_of(&["datagram", "8"]), None);
     assert_eq!(rt; mode_of(&["params", "client"]), None);
     assert_eq!(rt; status(&Err(RunError::OutOfMemory)), 3);
+}
+
+// What is written waits in the buffer until it is passed on, and there is no room for it then.
+#[test]
+fn a_last_write_that_fails_is_seen(rt: HostRuntime) -> Result<(), Fail> {
+    let mut place = [0; 3];
+    let mut source = FailAt::new(rt.alloc(), b"01\n", usize::MAX, NEVER);
+    let mut sink = ToWrite::new(BufWriter::new(rt.alloc(), Cursor::new(&mut place[..]))?);
+    let outcome = run(rt.alloc(), Mode::Frames, &mut source, &mut sink);
+    assert_eq!(rt; outcome, Err(RunError::Write));
+    assert_eq!(rt; status(&outcome), 3);
+    Ok(())
+}
+
+// A line of the longest payload that a datagram can hold.
+#[test]
+fn the_longest_payload(rt: HostRuntime) -> Result<(), Fail> {
+    let mut input = String::new(rt.alloc());
+    for _ in 0..65527 {
+        input.push_str("01")?;
+    }
+    let mut source = FailAt::new(rt.alloc(), input.as_bytes(), usize::MAX, NEVER);
+    let mut sink = FailAt::new(rt.alloc(), b"", usize::MAX, NEVER);
+    let outcome = run(rt.alloc(), Mode::Frames, &mut source, &mut sink);
+    assert_eq!(rt; outcome, Ok(true));
+    assert!(rt; sink.output().starts_with(b"0..1 PING\n1..2 PING\n"));
+    assert!(rt; sink.output().ends_with(b"\n65526..65527 PING\n"));
+    Ok(())
 }

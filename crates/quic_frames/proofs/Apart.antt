@@ -1,5 +1,5 @@
 -- The blocks of an ACK stand for one list of ranges that never touch.
-use Rattle.std.proofs.Common.{◌≡◌, ℕ, ◌≤◌, List, [], ◌∷◌, refl, sym, ◌∙◌}
+use Rattle.std.proofs.Common.{◌≡◌, ℕ, ◌≤◌, List, [], ◌∷◌, sym, ◌∙◌}
 use Rattle.quic_frames.specs.Field.{AreBelow, AreBlocks, AreApart}
 use Rattle.quic_frames.proofs.Blocks.{ranges_are}
 

@@ -68,12 +68,7 @@ fn print_frames(payload: &[u8], text: &mut String) -> Result<bool, AllocError>
 }
 
 /// The line of a frame.
-fn print_frame(
-    start: usize,
-    end: usize,
-    ty: FrameType,
-    text: &mut String,
-) -> Result<(), AllocError>
+fn print_frame(start: usize, end: usize, ty: FrameType, text: &mut String) -> Result<(), AllocError>
     ensures { OnOk result (string_bytes text.new ≡ string_bytes text.old ++ shown (frame_line start end ty)) }
 {
     writeln!(text, "{start}..{end} {ty}")?;

@@ -1,6 +1,6 @@
 //! Codes, errors and closes, and their texts.
 use super::texts_answers::{CLOSES, CODES, ERRORS, TYPES};
-use quic_base::coding::{BufMutExt, Codec, NoRoom};
+use quic_base::coding::{BufMutExt, Codec};
 use quic_base::varint::VarInt;
 use quic_frames::frame::{ApplicationClose, Close, ConnectionClose, Frame, FrameType, Iter};
 use quic_frames::transport_error::{Code, Error, Reason};
@@ -190,25 +190,6 @@ fn an_error_and_its_copies(rt: HostRuntime) -> Result<(), Fail> {
     assert!(rt; bare != error);
     let text = "no viable network path exists";
     assert_eq!(rt; format!(in alloc; "{bare}")?.as_str(), text);
-    Ok(())
-}
-
-// One allocation after the other fails: what was copied stays as it was.
-#[test]
-fn a_refused_copy_leaves_the_error(rt: HostRuntime) -> Result<(), Fail> {
-    let alloc = rt.alloc();
-    let Ok(error) = Error::with_text(alloc, Code::NO_VIABLE_PATH, "a text of its own") else {
-        return Ok(());
-    };
-    let copied: Result<Error, NoRoom> = error.try_clone();
-    assert_eq!(rt; error.reason.as_str(), "a text of its own");
-    assert_eq!(rt; error.code, Code::NO_VIABLE_PATH);
-    if let Ok(copy) = copied {
-        assert!(rt; copy == error);
-    }
-    // A text that is static is copied without memory.
-    let error = Error::NO_VIABLE_PATH("static");
-    assert!(rt; matches!(error.try_clone(), Ok(copy) if copy == error));
     Ok(())
 }
 

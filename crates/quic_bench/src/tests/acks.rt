@@ -1,6 +1,7 @@
 //! Acknowledgements, and frames of every kind by their fields.
 use quic_base::ids::EcnCodepoint;
 use quic_frames::frame::{Ack, AckError, EcnCounts, Frame, FrameType, InvalidFrame, Iter};
+use quic_frames::transport_error::Error;
 use std::alloc::Global;
 use std::test::Fail;
 
@@ -193,6 +194,13 @@ fn a_new_connection_id_and_an_ack_frequency(rt: HostRuntime) -> Result<(), Fail>
     Ok(())
 }
 
+// A conversion, by its bound alone.
+fn converted<T: Copy, U: From<T>>(value: &T) -> U
+    ensures { U.from_gives value.now result }
+{
+    U::from(*value)
+}
+
 #[test]
 fn what_is_no_frame(rt: HostRuntime) -> Result<(), Fail> {
     let Some(Err(invalid)) = Iter::new(b"\x02\x05\x00\x01\x02\x02")?.next() else {
@@ -203,5 +211,11 @@ fn what_is_no_frame(rt: HostRuntime) -> Result<(), Fail> {
         reason: "malformed",
     };
     assert_eq!(rt; invalid, wanted);
+    let error = converted::<InvalidFrame, Error>(&invalid);
+    let alloc = rt.alloc();
+    assert_eq!(rt;
+        format!(in alloc; "{error}")?.as_str(),
+        "received a frame that was badly formatted in ACK: malformed"
+    );
     Ok(())
 }

@@ -10,3 +10,5 @@ mod Items
 mod Finding
 mod Places
 mod Texts
+mod Writing
+mod Encoding

@@ -9,6 +9,8 @@ pub mod Reading
 pub mod Refusal
 pub mod Acks
 pub mod Meaning
+pub mod Shortest
+pub mod Writing
 pub mod Names
 pub mod Way
 pub mod Walk

@@ -6,12 +6,14 @@ use quic_base::varint::VarInt;
 
 mod ack;
 mod close;
+mod encode;
 mod fault;
 mod field;
 mod found;
 mod frame_type;
 mod iter;
 mod reading;
+mod write;
 
 pub use ack::{Ack, AckError, AckIter, EcnCounts};
 pub use close::{ApplicationClose, Close, ConnectionClose};

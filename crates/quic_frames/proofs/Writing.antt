@@ -1,0 +1,76 @@
+-- Encoders one after the other.
+use Rattle.std.proofs.Common.{◌≡◌, ℕ, zero, suc, ◌+◌, ◌<◌, ◌≤◌, ◌^◌, List, [], ◌∷◌, ◌++◌, length, take, drop, get_or, Result, Ok, Err, refl, sym, ap, subst, ◌∙◌, append_assoc, arith, OnOk, OnErr}
+use Rattle.std.proofs.lemmas.List.{length-append, append-nil}
+use Rattle.quic_base.specs.Codec.{IsBegun, KeepsRoom}
+use Rattle.quic_base.specs.Varint.{short}
+use Rattle.quic_base.proofs.PublicLaws.{begun_first, begun_second}
+use Rattle.quic_frames.specs.Writing.{Writes, all_short, AreNumeric}
+
+err_is_not_ok : {A E : Type 0} {e : E} {x : A} → Err e ≡ Ok x → ⊥
+err_is_not_ok is = cc
+
+-- what was written so far
+pub record Wrote (bytes written : List ℕ) (spare : ℕ) (written' : List ℕ) (spare' : ℕ) : Type 0 where
+  pub stands : written' ≡ written ++ bytes
+  pub room : KeepsRoom written spare written' spare'
+
+pub wrote_nothing : (written : List ℕ) (spare : ℕ) → Wrote [] written spare written spare
+wrote_nothing written spare = record { stands = sym (append-nil written); room = omega arith }
+
+-- an encoder that was not refused, after others
+pub wrote_more : {E : Type 0} (result : Result (Unit {0}) E) (a b w w1 w2 : List ℕ) (s s1 s2 : ℕ) → Wrote a w s w1 s1 → Writes result b w1 s1 w2 s2 → result ≡ Ok tt → Wrote (a ++ b) w s w2 s2
+wrote_more (Ok u) a b w w1 w2 s s1 s2 so_far x e = record
+  { stands = x.ok ∙ ap (λ (k : List ℕ). k ++ b) so_far.stands ∙ append_assoc w a b
+  ; room = omega (arith, so_far.room, x.room) }
+wrote_more (Err e) a b w w1 w2 s s1 s2 so_far x is = absurd (err_is_not_ok is)
+
+-- the first encoder of several, where it was not refused
+pub wrote_first : {E : Type 0} (result : Result (Unit {0}) E) (b w w1 : List ℕ) (s s1 : ℕ) → Writes result b w s w1 s1 → result ≡ Ok tt → Wrote b w s w1 s1
+wrote_first result b w w1 s s1 x e = wrote_more result [] b w w w1 s s s1 (wrote_nothing w s) x e
+
+-- the last encoder after others, whether it is refused or not
+pub writes_last : {E : Type 0} (result : Result (Unit {0}) E) (a b w w1 w2 : List ℕ) (s s1 s2 : ℕ) → Wrote a w s w1 s1 → Writes result b w1 s1 w2 s2 → Writes result (a ++ b) w s w2 s2
+writes_last (Ok u) a b w w1 w2 s s1 s2 so_far x = record
+  { ok = x.ok ∙ ap (λ (k : List ℕ). k ++ b) so_far.stands ∙ append_assoc w a b
+  ; err = tt
+  ; full = tt
+  ; room = omega (arith, so_far.room, x.room) }
+writes_last (Err e) a b w w1 w2 s s1 s2 so_far x =
+    let all : length (a ++ b) ≡ length a + length b = length-append a b in
+    let before : length w1 ≡ length w + length a = ap length so_far.stands ∙ length-append w a in
+    record
+    { ok = tt
+    ; err = begun_second w w1 a b w2 so_far.stands x.err
+    ; full = omega (arith, so_far.room, x.full, all, before)
+    ; room = omega (arith, so_far.room, x.room) }
+
+-- an encoder that was refused, before others
+pub writes_begun : {D E : Type 0} (result : Result (Unit {0}) E) (refused : Result (Unit {0}) D) (d : D) (b c w w2 : List ℕ) (s s2 : ℕ) (e : E) → Writes result b w s w2 s2 → result ≡ Err e → refused ≡ Err d → Writes refused (b ++ c) w s w2 s2
+writes_begun (Ok u) refused d b c w w2 s s2 e x is r = absurd (err_is_not_ok (sym is))
+writes_begun (Err e0) (Ok u) d b c w w2 s s2 e x is r = absurd (err_is_not_ok (sym r))
+writes_begun (Err e0) (Err d0) d b c w w2 s s2 e x is r =
+    let all : length (b ++ c) ≡ length b + length c = length-append b c in
+    record { ok = tt; err = begun_first w b c w2 x.err; full = omega (arith, x.full, all); room = x.room }
+
+-- an encoder that was refused, between others
+pub writes_within : {D E : Type 0} (result : Result (Unit {0}) E) (refused : Result (Unit {0}) D) (d : D) (a b c whole w w1 w2 : List ℕ) (s s1 s2 : ℕ) (e : E) → whole ≡ a ++ (b ++ c)
+    → Wrote a w s w1 s1 → Writes result b w1 s1 w2 s2 → result ≡ Err e → refused ≡ Err d → Writes refused whole w s w2 s2
+writes_within result refused d a b c whole w w1 w2 s s1 s2 e parts so_far x is r =
+    subst (λ k. Writes refused k w s w2 s2) (sym parts) (writes_last refused a (b ++ c) w w1 w2 s s1 s2 so_far (writes_begun result refused d b c w1 w2 s1 s2 e x is r))
+
+-- ---- numbers
+
+pub numeric_at : (ns : List ℕ) (i : ℕ) → AreNumeric ns → i < length ns → get_or ns i 0 < 2 ^ 62
+numeric_at [] i n lt = absurd (omega (arith, lt))
+numeric_at (m ∷ ns) zero n lt = n.0
+numeric_at (m ∷ ns) (suc i) n lt = numeric_at ns i n.1 (omega (arith, lt))
+
+pub all_short-at : (ns : List ℕ) (i : ℕ) → i < length ns → all_short (take (suc i) ns) ≡ all_short (take i ns) ++ short (get_or ns i 0)
+all_short-at [] i lt = absurd (omega (arith, lt))
+all_short-at (m ∷ ns) zero lt = append-nil (short m)
+all_short-at (m ∷ ns) (suc i) lt = ap (λ (l : List ℕ). short m ++ l) (all_short-at ns i (omega (arith, lt))) ∙ sym (append_assoc (short m) (all_short (take i ns)) (short (get_or ns i 0)))
+
+pub all_short-parts : (ns : List ℕ) (i : ℕ) → i < length ns → all_short ns ≡ all_short (take i ns) ++ (short (get_or ns i 0) ++ all_short (drop (suc i) ns))
+all_short-parts [] i lt = absurd (omega (arith, lt))
+all_short-parts (m ∷ ns) zero lt = refl
+all_short-parts (m ∷ ns) (suc i) lt = ap (λ (l : List ℕ). short m ++ l) (all_short-parts ns i (omega (arith, lt))) ∙ sym (append_assoc (short m) (all_short (take i ns)) (short (get_or ns i 0) ++ all_short (drop (suc i) ns)))

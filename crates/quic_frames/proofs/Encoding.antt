@@ -1,23 +1,63 @@
 -- The shortest spellings of frames, cut where their encoders cut them.
-use Rattle.std.proofs.Common.{◌≡◌, ℕ, Bool, List, [], ◌∷◌, ◌++◌, length, refl, sym, ap, ◌∙◌, append_assoc}
-use Rattle.std.proofs.lemmas.List.{append-nil}
-use Rattle.quic_base.specs.Varint.{short}
+use Rattle.std.proofs.Common.{◌≡◌, ℕ, Bool, List, [], ◌∷◌, ◌++◌, length, refl, sym, ap, ◌∙◌, append_assoc, ◌≤◌, take, min, arith}
+use Rattle.std.proofs.lemmas.Bool.Decides.{nat_tests}
+use Rattle.std.proofs.lemmas.List.{append-nil, take_min, length-take}
+use Rattle.quic_base.specs.Varint.{short, size}
 use Rattle.quic_frames.specs.Field.{Number, Bytes}
-use Rattle.quic_frames.specs.Table.{Crypto, NewToken}
+use Rattle.quic_frames.specs.Table.{Crypto, NewToken, NewConnectionId, ConnectionClose, ApplicationClose}
 use Rattle.quic_frames.specs.Meaning.{frame_of}
 use Rattle.quic_frames.specs.Shortest.{shortest_frame}
 use Rattle.quic_frames.specs.Writing.{all_short}
 
--- counted bytes at the end
-counted_last : (a n bytes : List ℕ) → a ++ ((n ++ bytes) ++ []) ≡ (a ++ (n ++ [])) ++ bytes
-counted_last a n bytes =
-    ap (λ (k : List ℕ). a ++ k) (append-nil (n ++ bytes)) ∙ sym (append_assoc a n bytes) ∙ ap (λ (k : List ℕ). (a ++ k) ++ bytes) (sym (append-nil n))
+-- numbers, each before what follows it
+abbrev short_then : List ℕ → List ℕ → List ℕ
+short_then [] tail = tail
+short_then (n ∷ ns) tail = short n ++ short_then ns tail
+
+in_front : (ns tail : List ℕ) → short_then ns tail ≡ all_short ns ++ tail
+in_front [] tail = refl
+in_front (n ∷ ns) tail = ap (λ (k : List ℕ). short n ++ k) (in_front ns tail) ∙ sym (append_assoc (short n) (all_short ns) tail)
+
+-- numbers and then counted bytes
+counted : (ns bytes : List ℕ) (n : ℕ) → short_then ns ((short n ++ bytes) ++ []) ≡ all_short (ns ++ (n ∷ [])) ++ bytes
+counted [] bytes n = append-nil (short n ++ bytes) ∙ ap (λ (k : List ℕ). k ++ bytes) (sym (append-nil (short n)))
+counted (m ∷ ns) bytes n = ap (λ (k : List ℕ). short m ++ k) (counted ns bytes n) ∙ sym (append_assoc (short m) (all_short (ns ++ (n ∷ []))) bytes)
 
 pub token_parts : (last : Bool) (bytes : List ℕ) → shortest_frame last (frame_of NewToken (Bytes bytes ∷ [])) ≡ all_short (0x07 ∷ length bytes ∷ []) ++ bytes
 unfolding shortest_frame
-token_parts last bytes = counted_last (short 0x07) (short (length bytes)) bytes
+token_parts last bytes = counted (0x07 ∷ []) bytes (length bytes)
 
 pub crypto_parts : (last : Bool) (offset : ℕ) (bytes : List ℕ) → shortest_frame last (frame_of Crypto (Number offset ∷ Bytes bytes ∷ [])) ≡ all_short (0x06 ∷ offset ∷ length bytes ∷ []) ++ bytes
 unfolding shortest_frame
-crypto_parts last offset bytes =
-    ap (λ (k : List ℕ). short 0x06 ++ k) (counted_last (short offset) (short (length bytes)) bytes) ∙ sym (append_assoc (short 0x06) (short offset ++ (short (length bytes) ++ [])) bytes)
+crypto_parts last offset bytes = counted (0x06 ∷ offset ∷ []) bytes (length bytes)
+
+pub connection_close_parts : (last : Bool) (code ty : ℕ) (bytes : List ℕ)
+    → shortest_frame last (frame_of ConnectionClose (Number code ∷ Number ty ∷ Bytes bytes ∷ [])) ≡ all_short (0x1c ∷ code ∷ ty ∷ length bytes ∷ []) ++ bytes
+unfolding shortest_frame
+connection_close_parts last code ty bytes = counted (0x1c ∷ code ∷ ty ∷ []) bytes (length bytes)
+
+pub application_close_parts : (last : Bool) (code : ℕ) (bytes : List ℕ) → shortest_frame last (frame_of ApplicationClose (Number code ∷ Bytes bytes ∷ [])) ≡ all_short (0x1d ∷ code ∷ length bytes ∷ []) ++ bytes
+unfolding shortest_frame
+application_close_parts last code bytes = counted (0x1d ∷ code ∷ []) bytes (length bytes)
+
+pub id_parts : (last : Bool) (sequence retire : ℕ) (id token : List ℕ)
+    → shortest_frame last (frame_of NewConnectionId (Number sequence ∷ Number retire ∷ Bytes id ∷ Bytes token ∷ [])) ≡ all_short (0x18 ∷ sequence ∷ retire ∷ []) ++ ((length id ∷ id) ++ token)
+unfolding shortest_frame
+id_parts last sequence retire id token =
+    in_front (0x18 ∷ sequence ∷ retire ∷ []) ((length id ∷ id) ++ (token ++ [])) ∙ ap (λ (k : List ℕ). all_short (0x18 ∷ sequence ∷ retire ∷ []) ++ ((length id ∷ id) ++ k)) (append-nil token)
+
+-- ---- sizes
+
+pub size_small : (n : ℕ) → size n ≤ 8
+unfolding size
+size_small n = grind (arith, nat_tests)
+
+-- ---- the first bytes of a list
+
+pub cut_is : (n : ℕ) (bytes : List ℕ) → take (min (length bytes) n) bytes ≡ take n bytes
+cut_is n bytes =
+    let turned : min (length bytes) n ≡ min n (length bytes) = omega arith in
+    ap (λ (k : ℕ). take k bytes) turned ∙ take_min n bytes
+
+pub cut_short : (n : ℕ) (bytes : List ℕ) → length (take n bytes) ≤ length bytes
+cut_short n bytes = omega (arith, length-take n bytes)

@@ -1,11 +1,14 @@
 -- The shortest spelling of a frame at its place.
-use Rattle.std.specs.Prelude.{ℕ, ◌+◌, ◌-◌, List, [], ◌∷◌, ◌++◌, length, Option, Some, None, Bool, true, false, not, ◌==◌, if◌then◌else◌}
+use Rattle.std.specs.Prelude.{ℕ, ◌+◌, ◌-◌, List, [], ◌∷◌, ◌++◌, length, take, max, Option, Some, None, Bool, true, false, not, ◌==◌, if◌then◌else◌}
 use Rattle.quic_base.specs.Number.{bytes_of}
-use Rattle.quic_base.specs.Varint.{short}
+use Rattle.quic_base.specs.Varint.{short, size}
 use Rattle.quic_frames.specs.Field.{Value, Number, Bytes, Ranges, Field, Varint, Counted, Id, Eight, Sixteen, Blocks, Rest, Unwritten, Ordered}
-use Rattle.quic_frames.specs.Table.{Name, Ack, Stream, Datagram, Row, row_of}
+use Rattle.quic_frames.specs.Table.{Name, Ack, Stream, Datagram, ConnectionClose, ApplicationClose, Row, row_of}
 use Rattle.quic_frames.specs.Payload.{Meaning}
-use Rattle.quic_frames.specs.Meaning.{named_type}
+use Rattle.quic_frames.specs.Meaning.{frame_of, named_type}
+use Rattle.quic_frames.specs.Types.{type_or_zero}
+use Rattle.quic_frames.specs.declared.frame.close.Close.{Close}
+use Rattle.quic_frames.specs.declared.frame.close.Close.TheVariants as closes
 
 -- the blocks of ranges below one with the least number low, and of all ranges of an ACK behind their count
 abbrev pub shortest_below : ℕ → List (ℕ × ℕ) → List ℕ
@@ -52,3 +55,19 @@ shortest_row (Some r) values = shortest_fields r.fields values
 -- a frame, the last of its payload or not
 unfoldable pub shortest_frame : Bool → Meaning → List ℕ
 shortest_frame last frame = let t = written_type last frame.name frame.values in short t ++ shortest_row (row_of t) frame.values
+
+-- ---- closes that are cut to their room
+
+-- the least room that a close asks for: its type, two bytes or the code's, the type of the frame, and the length of the whole reason
+abbrev pub least_room : Close → ℕ
+least_room (closes.Connection c) = 1 + max 2 (size c.error_code) + size (type_or_zero c.frame_type) + size (length c.reason.now)
+least_room (closes.Application c) = 1 + max 2 (size c.error_code) + size (length c.reason.now)
+
+-- a close whose reason is cut to its first n bytes
+abbrev pub cut_close : ℕ → Close → Meaning
+cut_close n (closes.Connection c) = frame_of ConnectionClose (Number c.error_code ∷ Number (type_or_zero c.frame_type) ∷ Bytes (take n c.reason.now) ∷ [])
+cut_close n (closes.Application c) = frame_of ApplicationClose (Number c.error_code ∷ Bytes (take n c.reason.now) ∷ [])
+
+-- a close in so much room
+abbrev pub close_in : ℕ → Close → Meaning
+close_in room c = cut_close (room - least_room c) c

@@ -1,14 +1,21 @@
 //! Frames, written in their shortest form (RFC 9000, section 19).
-ghost use Rattle.std.specs.Prelude.{◌≡◌, ◌<◌, ◌^◌, ◌++◌, ℕ, List, length, Bool};
+ghost use Rattle.std.specs.Prelude.{◌≡◌, ◌<◌, ◌≤◌, ◌^◌, ◌++◌, max, ◌∷◌, [], ℕ, List, length, take, Bool};
+ghost use Rattle.quic_base.specs.Varint.{size};
 ghost use Rattle.quic_frames.specs.Meaning.{meaning_of};
-ghost use Rattle.quic_frames.specs.Shortest.{shortest_frame};
-ghost use Rattle.quic_frames.specs.Writing.{Writes};
+ghost use Rattle.quic_frames.specs.Shortest.{shortest_frame, least_room, close_in};
+ghost use Rattle.quic_frames.specs.declared.frame.close.Close.TheVariants as closes;
+ghost use Rattle.quic_frames.specs.Types.{type_or_zero};
+ghost use Rattle.quic_frames.specs.Writing.{Writes, all_short};
 ghost use Rattle.quic_frames.specs.declared.frame.Frame.TheVariants as frames;
 
 use super::write;
-use super::{AckFrequency, Crypto, NewToken, ResetStream, StopSending};
+use super::{
+    AckFrequency, ApplicationClose, ConnectionClose, Crypto, EcnCounts, FrameType, NewConnectionId, NewToken,
+    ResetStream, StopSending,
+};
 use bytes::BufMut;
 use quic_base::coding::NoRoom;
+use quic_base::varint::VarInt;
 
 impl ResetStream {
     /// Appends the frame. Answers `NoRoom` only where the spare room is less than that; then what stood
@@ -78,5 +85,123 @@ impl NewToken<'_> {
     {
         let length = self.token.len() as u64;
         write::numbers_and_bytes(out, &[0x07, length], self.token)
+    }
+}
+
+impl EcnCounts {
+    /// Appends the three counts, as `ResetStream::encode` does. The caller owes that they are below
+    /// 2^62.
+    pub fn encode<B: BufMut>(&self, out: &mut B) -> Result<(), NoRoom>
+        requires ect0 { self.now.ect0 < 2 ^ 62 }
+        requires ect1 { self.now.ect1 < 2 ^ 62 }
+        requires ce { self.now.ce < 2 ^ 62 }
+        ensures { Writes result (all_short (self.now.ect0 ∷ self.now.ect1 ∷ self.now.ce ∷ []))
+            (B.written out.old) (B.spare out.old) (B.written out.new) (B.spare out.new) }
+    {
+        write::numbers(out, &[self.ect0, self.ect1, self.ce])
+    }
+}
+
+impl NewConnectionId {
+    /// Appends the frame, as `ResetStream::encode` does. The caller owes that both sequence numbers are
+    /// below 2^62.
+    pub fn encode<B: BufMut>(&self, out: &mut B) -> Result<(), NoRoom>
+        requires sequence { self.now.sequence < 2 ^ 62 }
+        requires retire { self.now.retire_prior_to < 2 ^ 62 }
+        ensures { (last : Bool) → Writes result (shortest_frame last (meaning_of (frames.NewConnectionId self.now)))
+            (B.written out.old) (B.spare out.old) (B.written out.new) (B.spare out.new) }
+    {
+        write::numbers(out, &[0x18, self.sequence, self.retire_prior_to])?;
+        write::id_and_bytes(out, &self.id, self.reset_token.as_slice())
+    }
+}
+
+// The code's size where it is above two, and two bytes where not.
+#[tactic(auto, using(crate::proofs::Encoding::size_small))]
+fn code_room(code: VarInt) -> usize
+    ensures value { result ≡ max 2 (size code) }
+    ensures small { result ≤ 8 }
+{
+    code.size().max(2)
+}
+
+// The length of the shortest spelling of a number.
+#[tactic(auto, using(crate::proofs::Encoding::size_small))]
+fn size_of(n: u64) -> usize
+    requires { n < 2 ^ 62 }
+    ensures value { result ≡ size n }
+    ensures small { result ≤ 8 }
+{
+    VarInt::from_u64_unchecked(n).size()
+}
+
+// The number of a frame's type, 0 where there is none.
+fn type_or_zero(ty: Option<FrameType>) -> u64
+    ensures value { result ≡ type_or_zero ty }
+    ensures bound { result < 2 ^ 62 }
+{
+    match ty {
+        Some(ty) => ty.into_inner(),
+        None => 0,
+    }
+}
+
+// The first bytes of a reason, at most so many.
+#[tactic(auto, using(crate::proofs::Encoding::cut_is, crate::proofs::Encoding::cut_short))]
+fn cut(reason: &[u8], room: usize) -> &[u8]
+    ensures value { result.now ≡ take room reason.now }
+    ensures short { length result.now ≤ length reason.now }
+{
+    &reason[..reason.len().min(room)]
+}
+
+impl ConnectionClose<'_> {
+    /// The least room that `encode` asks for. The caller owes that the reason's length is below 2^62.
+    pub fn min_len(&self) -> usize
+        requires { length self.now.reason.now < 2 ^ 62 }
+        ensures { result ≡ least_room (closes.Connection self.now) }
+    {
+        let code = code_room(VarInt::from_u64_unchecked(self.error_code.into()));
+        let ty = size_of(type_or_zero(self.frame_type));
+        1 + code + ty + size_of(self.reason.len() as u64)
+    }
+
+    /// Appends the frame, as `ResetStream::encode` does, with as much of the reason as leaves the frame
+    /// at most `max_len` bytes. The caller owes that this is at least `min_len`, and that the reason's
+    /// length is below 2^62.
+    #[tactic(auto, using(crate::proofs::Encoding::connection_close_parts))]
+    pub fn encode<B: BufMut>(&self, out: &mut B, max_len: usize) -> Result<(), NoRoom>
+        requires reason { length self.now.reason.now < 2 ^ 62 }
+        requires room { least_room (closes.Connection self.now) ≤ max_len }
+        ensures { (last : Bool) → Writes result (shortest_frame last (close_in max_len (closes.Connection self.now)))
+            (B.written out.old) (B.spare out.old) (B.written out.new) (B.spare out.new) }
+    {
+        let reason = cut(self.reason, max_len - self.min_len());
+        let ty = type_or_zero(self.frame_type);
+        let head = [0x1c, self.error_code.into(), ty, reason.len() as u64];
+        write::numbers_and_bytes(out, &head, reason)
+    }
+}
+
+impl ApplicationClose<'_> {
+    /// The least room that `encode` asks for. The caller owes that the reason's length is below 2^62.
+    pub fn min_len(&self) -> usize
+        requires { length self.now.reason.now < 2 ^ 62 }
+        ensures { result ≡ least_room (closes.Application self.now) }
+    {
+        1 + code_room(self.error_code) + size_of(self.reason.len() as u64)
+    }
+
+    /// Appends the frame, as `ConnectionClose::encode` does.
+    #[tactic(auto, using(crate::proofs::Encoding::application_close_parts))]
+    pub fn encode<B: BufMut>(&self, out: &mut B, max_len: usize) -> Result<(), NoRoom>
+        requires reason { length self.now.reason.now < 2 ^ 62 }
+        requires room { least_room (closes.Application self.now) ≤ max_len }
+        ensures { (last : Bool) → Writes result (shortest_frame last (close_in max_len (closes.Application self.now)))
+            (B.written out.old) (B.spare out.old) (B.written out.new) (B.spare out.new) }
+    {
+        let reason = cut(self.reason, max_len - self.min_len());
+        let head = [0x1d, self.error_code.into_inner(), reason.len() as u64];
+        write::numbers_and_bytes(out, &head, reason)
     }
 }

@@ -1,8 +1,9 @@
 -- The shortest spellings of frames, cut where their encoders cut them.
-use Rattle.std.proofs.Common.{◌≡◌, ℕ, Bool, List, [], ◌∷◌, ◌++◌, length, refl, sym, ap, ◌∙◌, append_assoc, ◌≤◌, take, min, arith}
+use Rattle.std.proofs.Common.{◌≡◌, ℕ, Bool, List, [], ◌∷◌, ◌++◌, length, refl, sym, ap, ◌∙◌, append_assoc, ◌+◌, ◌≤◌, take, min, arith}
 use Rattle.std.proofs.lemmas.Bool.Decides.{nat_tests}
-use Rattle.std.proofs.lemmas.List.{append-nil, take_min, length-take}
+use Rattle.std.proofs.lemmas.List.{append-nil, length-append, take_min, length-take}
 use Rattle.quic_base.specs.Varint.{short, size}
+use Rattle.quic_base.proofs.PublicLaws.{length-short}
 use Rattle.quic_frames.specs.Field.{Number, Bytes}
 use Rattle.quic_frames.specs.Table.{Crypto, NewToken, NewConnectionId, ConnectionClose, ApplicationClose}
 use Rattle.quic_frames.specs.Meaning.{frame_of}
@@ -51,6 +52,16 @@ id_parts last sequence retire id token =
 pub size_small : (n : ℕ) → size n ≤ 8
 unfolding size
 size_small n = grind (arith, nat_tests)
+
+pub token_length : (last : Bool) (bytes : List ℕ) → length (shortest_frame last (frame_of NewToken (Bytes bytes ∷ []))) ≡ 1 + size (length bytes) + length bytes
+unfolding size
+token_length last bytes =
+    let parts = ap length (token_parts last bytes) in
+    let one = length-append (all_short (0x07 ∷ length bytes ∷ [])) bytes in
+    let two = length-append (short 0x07) (short (length bytes) ++ []) in
+    let three = length-append (short (length bytes)) [] in
+    let first : length (short 0x07) ≡ 1 = length-short 0x07 in
+    omega (arith, parts, one, two, three, first, length-short (length bytes))
 
 -- ---- the first bytes of a list
 

@@ -68,6 +68,10 @@ abbrev pub cut_close : ℕ → Close → Meaning
 cut_close n (closes.Connection c) = frame_of ConnectionClose (Number c.error_code ∷ Number (type_or_zero c.frame_type) ∷ Bytes (take n c.reason.now) ∷ [])
 cut_close n (closes.Application c) = frame_of ApplicationClose (Number c.error_code ∷ Bytes (take n c.reason.now) ∷ [])
 
+abbrev pub close_reason : Close → List ℕ
+close_reason (closes.Connection c) = c.reason.now
+close_reason (closes.Application c) = c.reason.now
+
 -- a close in so much room
 abbrev pub close_in : ℕ → Close → Meaning
 close_in room c = cut_close (room - least_room c) c

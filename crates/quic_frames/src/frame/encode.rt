@@ -2,7 +2,7 @@
 ghost use Rattle.std.specs.Prelude.{◌≡◌, ◌<◌, ◌≤◌, ◌^◌, ◌++◌, max, ◌∷◌, [], ℕ, List, length, take, Bool};
 ghost use Rattle.quic_base.specs.Varint.{size};
 ghost use Rattle.quic_frames.specs.Meaning.{meaning_of};
-ghost use Rattle.quic_frames.specs.Shortest.{shortest_frame, least_room, close_in};
+ghost use Rattle.quic_frames.specs.Shortest.{shortest_frame, least_room, close_reason, close_in};
 ghost use Rattle.quic_frames.specs.declared.frame.close.Close.TheVariants as closes;
 ghost use Rattle.quic_frames.specs.Types.{type_or_zero};
 ghost use Rattle.quic_frames.specs.Writing.{Writes, all_short};
@@ -10,8 +10,8 @@ ghost use Rattle.quic_frames.specs.declared.frame.Frame.TheVariants as frames;
 
 use super::write;
 use super::{
-    AckFrequency, ApplicationClose, ConnectionClose, Crypto, EcnCounts, FrameType, NewConnectionId, NewToken,
-    ResetStream, StopSending,
+    AckFrequency, ApplicationClose, Close, ConnectionClose, Crypto, Datagram, EcnCounts, FrameType,
+    NewConnectionId, NewToken, ResetStream, StopSending,
 };
 use bytes::BufMut;
 use quic_base::coding::NoRoom;
@@ -85,6 +85,15 @@ impl NewToken<'_> {
     {
         let length = self.token.len() as u64;
         write::numbers_and_bytes(out, &[0x07, length], self.token)
+    }
+
+    /// How many bytes `encode` appends. The caller owes that the length is below 2^62.
+    #[tactic(auto, using(crate::proofs::Encoding::token_length))]
+    pub fn size(&self) -> usize
+        requires { length self.now.token.now < 2 ^ 62 }
+        ensures { (last : Bool) → result ≡ length (shortest_frame last (meaning_of (frames.NewToken self.now))) }
+    {
+        1 + size_of(self.token.len() as u64) + self.token.len()
     }
 }
 
@@ -203,5 +212,31 @@ impl ApplicationClose<'_> {
         let reason = cut(self.reason, max_len - self.min_len());
         let head = [0x1d, self.error_code.into_inner(), reason.len() as u64];
         write::numbers_and_bytes(out, &head, reason)
+    }
+}
+
+impl Close<'_> {
+    /// The least room that `encode` asks for. The caller owes that the reason's length is below 2^62.
+    pub fn min_len(&self) -> usize
+        requires { length (close_reason self.now) < 2 ^ 62 }
+        ensures { result ≡ least_room self.now }
+    {
+        match self {
+            Close::Connection(close) => close.min_len(),
+            Close::Application(close) => close.min_len(),
+        }
+    }
+
+    /// Appends the frame, as `ConnectionClose::encode` does.
+    pub fn encode<B: BufMut>(&self, out: &mut B, max_len: usize) -> Result<(), NoRoom>
+        requires reason { length (close_reason self.now) < 2 ^ 62 }
+        requires room { least_room self.now ≤ max_len }
+        ensures { (last : Bool) → Writes result (shortest_frame last (close_in max_len self.now))
+            (B.written out.old) (B.spare out.old) (B.written out.new) (B.spare out.new) }
+    {
+        match self {
+            Close::Connection(close) => close.encode(out, max_len),
+            Close::Application(close) => close.encode(out, max_len),
+        }
     }
 }

@@ -1,5 +1,5 @@
 -- The shortest spellings of frames, cut where their encoders cut them.
-use Rattle.std.proofs.Common.{◌≡◌, ℕ, Bool, List, [], ◌∷◌, ◌++◌, length, refl, sym, ap, ◌∙◌, append_assoc, ◌+◌, ◌≤◌, take, min, arith}
+use Rattle.std.proofs.Common.{◌≡◌, ℕ, Bool, List, [], ◌∷◌, ◌++◌, length, refl, sym, ap, ◌∙◌, append_assoc, ◌+◌, ◌-◌, max, ◌≤◌, take, min, arith}
 use Rattle.std.proofs.lemmas.Bool.Decides.{nat_tests}
 use Rattle.std.proofs.lemmas.List.{append-nil, length-append, take_min, length-take}
 use Rattle.quic_base.specs.Varint.{short, size}
@@ -7,7 +7,10 @@ use Rattle.quic_base.proofs.PublicLaws.{length-short}
 use Rattle.quic_frames.specs.Field.{Number, Bytes}
 use Rattle.quic_frames.specs.Table.{Crypto, NewToken, NewConnectionId, ConnectionClose, ApplicationClose}
 use Rattle.quic_frames.specs.Meaning.{frame_of}
-use Rattle.quic_frames.specs.Shortest.{shortest_frame}
+use Rattle.quic_frames.specs.Shortest.{shortest_frame, least_room, close_in}
+use Rattle.quic_frames.specs.Types.{type_or_zero}
+use Rattle.quic_frames.specs.declared.frame.close.Close.{Close}
+use Rattle.quic_frames.specs.declared.frame.close.Close.TheVariants as closes
 use Rattle.quic_frames.specs.Writing.{all_short}
 
 -- numbers, each before what follows it
@@ -72,3 +75,51 @@ cut_is n bytes =
 
 pub cut_short : (n : ℕ) (bytes : List ℕ) → length (take n bytes) ≤ length bytes
 cut_short n bytes = omega (arith, length-take n bytes)
+
+-- ---- a close fits in its room
+
+size_grows : (m n : ℕ) → m ≤ n → size m ≤ size n
+unfolding size
+size_grows m n le = grind (arith, nat_tests)
+
+fits : (room least n total : ℕ) (reason : List ℕ) → n ≡ room - least → least ≤ room → total + size (length (take n reason)) + length (take n reason) ≤ total + size (length reason) + n
+fits room least n total reason e le =
+    let most : length (take n reason) ≤ n = omega (arith, length-take n reason) in
+    omega (arith, most, size_grows (length (take n reason)) (length reason) (cut_short n reason))
+
+pub connection_close_fits : (last : Bool) (room code ty : ℕ) (reason : List ℕ) → 1 + max 2 (size code) + size ty + size (length reason) ≤ room
+    → length (shortest_frame last (frame_of ConnectionClose (Number code ∷ Number ty ∷ Bytes (take (room - (1 + max 2 (size code) + size ty + size (length reason))) reason) ∷ []))) ≤ room
+unfolding size
+connection_close_fits last room code ty reason le =
+    let least = 1 + max 2 (size code) + size ty + size (length reason) in
+    let n = room - least in
+    let kept = take n reason in
+    let parts = ap length (connection_close_parts last code ty kept) in
+    let one = length-append (all_short (0x1c ∷ code ∷ ty ∷ length kept ∷ [])) kept in
+    let two = length-append (short 0x1c) (short code ++ (short ty ++ (short (length kept) ++ []))) in
+    let three = length-append (short code) (short ty ++ (short (length kept) ++ [])) in
+    let four = length-append (short ty) (short (length kept) ++ []) in
+    let five = length-append (short (length kept)) [] in
+    let first : length (short 0x1c) ≡ 1 = length-short 0x1c in
+    let enough = fits room least n (1 + size code + size ty) reason refl le in
+    omega (arith, parts, one, two, three, four, five, first, length-short code, length-short ty, length-short (length kept), enough, le)
+
+pub application_close_fits : (last : Bool) (room code : ℕ) (reason : List ℕ) → 1 + max 2 (size code) + size (length reason) ≤ room
+    → length (shortest_frame last (frame_of ApplicationClose (Number code ∷ Bytes (take (room - (1 + max 2 (size code) + size (length reason))) reason) ∷ []))) ≤ room
+unfolding size
+application_close_fits last room code reason le =
+    let least = 1 + max 2 (size code) + size (length reason) in
+    let n = room - least in
+    let kept = take n reason in
+    let parts = ap length (application_close_parts last code kept) in
+    let one = length-append (all_short (0x1d ∷ code ∷ length kept ∷ [])) kept in
+    let two = length-append (short 0x1d) (short code ++ (short (length kept) ++ [])) in
+    let three = length-append (short code) (short (length kept) ++ []) in
+    let four = length-append (short (length kept)) [] in
+    let first : length (short 0x1d) ≡ 1 = length-short 0x1d in
+    let enough = fits room least n (1 + size code) reason refl le in
+    omega (arith, parts, one, two, three, four, first, length-short code, length-short (length kept), enough, le)
+
+pub close_fits : (last : Bool) (room : ℕ) (c : Close) → least_room c ≤ room → length (shortest_frame last (close_in room c)) ≤ room
+close_fits last room (closes.Connection c) le = connection_close_fits last room c.error_code (type_or_zero c.frame_type) c.reason.now le
+close_fits last room (closes.Application c) le = application_close_fits last room c.error_code c.reason.now le

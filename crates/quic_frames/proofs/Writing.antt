@@ -19,9 +19,10 @@ wrote_nothing written spare = record { stands = sym (append-nil written); room =
 
 -- an encoder that was not refused, after others
 pub wrote_more : {E : Type 0} (result : Result (Unit {0}) E) (a b w w1 w2 : List ℕ) (s s1 s2 : ℕ) → Wrote a w s w1 s1 → Writes result b w1 s1 w2 s2 → result ≡ Ok tt → Wrote (a ++ b) w s w2 s2
-wrote_more (Ok u) a b w w1 w2 s s1 s2 so_far x e = record
-  { stands = x.ok ∙ ap (λ (k : List ℕ). k ++ b) so_far.stands ∙ append_assoc w a b
-  ; room = omega (arith, so_far.room, x.room) }
+wrote_more (Ok u) a b w w1 w2 s s1 s2 so_far x e = record {
+  stands = x.ok ∙ ap (λ (k : List ℕ). k ++ b) so_far.stands ∙ append_assoc w a b;
+  room = omega (arith, so_far.room, x.room);
+}
 wrote_more (Err e) a b w w1 w2 s s1 s2 so_far x is = absurd (err_is_not_ok is)
 
 -- the first encoder of several, where it was not refused
@@ -30,19 +31,21 @@ wrote_first result b w w1 s s1 x e = wrote_more result [] b w w w1 s s s1 (wrote
 
 -- the last encoder after others, whether it is refused or not
 pub writes_last : {E : Type 0} (result : Result (Unit {0}) E) (a b w w1 w2 : List ℕ) (s s1 s2 : ℕ) → Wrote a w s w1 s1 → Writes result b w1 s1 w2 s2 → Writes result (a ++ b) w s w2 s2
-writes_last (Ok u) a b w w1 w2 s s1 s2 so_far x = record
-  { ok = x.ok ∙ ap (λ (k : List ℕ). k ++ b) so_far.stands ∙ append_assoc w a b
-  ; err = tt
-  ; full = tt
-  ; room = omega (arith, so_far.room, x.room) }
+writes_last (Ok u) a b w w1 w2 s s1 s2 so_far x = record {
+  ok = x.ok ∙ ap (λ (k : List ℕ). k ++ b) so_far.stands ∙ append_assoc w a b;
+  err = tt;
+  full = tt;
+  room = omega (arith, so_far.room, x.room);
+}
 writes_last (Err e) a b w w1 w2 s s1 s2 so_far x =
     let all : length (a ++ b) ≡ length a + length b = length-append a b in
     let before : length w1 ≡ length w + length a = ap length so_far.stands ∙ length-append w a in
-    record
-    { ok = tt
-    ; err = begun_second w w1 a b w2 so_far.stands x.err
-    ; full = omega (arith, so_far.room, x.full, all, before)
-    ; room = omega (arith, so_far.room, x.room) }
+    record {
+      ok = tt;
+      err = begun_second w w1 a b w2 so_far.stands x.err;
+      full = omega (arith, so_far.room, x.full, all, before);
+      room = omega (arith, so_far.room, x.room);
+    }
 
 -- an encoder that was refused, before others
 pub writes_begun : {D E : Type 0} (result : Result (Unit {0}) E) (refused : Result (Unit {0}) D) (d : D) (b c w w2 : List ℕ) (s s2 : ℕ) (e : E) → Writes result b w s w2 s2 → result ≡ Err e → refused ≡ Err d → Writes refused (b ++ c) w s w2 s2

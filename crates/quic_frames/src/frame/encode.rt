@@ -8,10 +8,9 @@ ghost use Rattle.quic_frames.specs.Types.{type_or_zero};
 ghost use Rattle.quic_frames.specs.Writing.{Writes, all_short};
 ghost use Rattle.quic_frames.specs.declared.frame.Frame.TheVariants as frames;
 
-use super::write;
 use super::{
     AckFrequency, ApplicationClose, Close, ConnectionClose, Crypto, Datagram, EcnCounts, FrameType,
-    NewConnectionId, NewToken, ResetStream, StopSending,
+    NewConnectionId, NewToken, ResetStream, StopSending, write,
 };
 use bytes::BufMut;
 use quic_base::coding::NoRoom;
@@ -178,12 +177,13 @@ impl ConnectionClose<'_> {
     /// Appends the frame, as `ResetStream::encode` does, with as much of the reason as leaves the frame
     /// at most `max_len` bytes. The caller owes that this is at least `min_len`, and that the reason's
     /// length is below 2^62.
-    #[tactic(auto, using(crate::proofs::Encoding::connection_close_parts))]
+    #[tactic(auto, using(crate::proofs::Encoding::connection_close_parts, crate::proofs::Encoding::connection_close_fits))]
     pub fn encode<B: BufMut>(&self, out: &mut B, max_len: usize) -> Result<(), NoRoom>
         requires reason { length self.now.reason.now < 2 ^ 62 }
         requires room { least_room (closes.Connection self.now) ≤ max_len }
-        ensures { (last : Bool) → Writes result (shortest_frame last (close_in max_len (closes.Connection self.now)))
+        ensures writes { (last : Bool) → Writes result (shortest_frame last (close_in max_len (closes.Connection self.now)))
             (B.written out.old) (B.spare out.old) (B.written out.new) (B.spare out.new) }
+        ensures fits { (last : Bool) → length (shortest_frame last (close_in max_len (closes.Connection self.now))) ≤ max_len }
     {
         let reason = cut(self.reason, max_len - self.min_len());
         let ty = type_or_zero(self.frame_type);
@@ -202,12 +202,13 @@ impl ApplicationClose<'_> {
     }
 
     /// Appends the frame, as `ConnectionClose::encode` does.
-    #[tactic(auto, using(crate::proofs::Encoding::application_close_parts))]
+    #[tactic(auto, using(crate::proofs::Encoding::application_close_parts, crate::proofs::Encoding::application_close_fits))]
     pub fn encode<B: BufMut>(&self, out: &mut B, max_len: usize) -> Result<(), NoRoom>
         requires reason { length self.now.reason.now < 2 ^ 62 }
         requires room { least_room (closes.Application self.now) ≤ max_len }
-        ensures { (last : Bool) → Writes result (shortest_frame last (close_in max_len (closes.Application self.now)))
+        ensures writes { (last : Bool) → Writes result (shortest_frame last (close_in max_len (closes.Application self.now)))
             (B.written out.old) (B.spare out.old) (B.written out.new) (B.spare out.new) }
+        ensures fits { (last : Bool) → length (shortest_frame last (close_in max_len (closes.Application self.now))) ≤ max_len }
     {
         let reason = cut(self.reason, max_len - self.min_len());
         let head = [0x1d, self.error_code.into_inner(), reason.len() as u64];
@@ -228,11 +229,13 @@ impl Close<'_> {
     }
 
     /// Appends the frame, as `ConnectionClose::encode` does.
+    #[tactic(auto, using(crate::proofs::Encoding::close_fits))]
     pub fn encode<B: BufMut>(&self, out: &mut B, max_len: usize) -> Result<(), NoRoom>
         requires reason { length (close_reason self.now) < 2 ^ 62 }
         requires room { least_room self.now ≤ max_len }
-        ensures { (last : Bool) → Writes result (shortest_frame last (close_in max_len self.now))
+        ensures writes { (last : Bool) → Writes result (shortest_frame last (close_in max_len self.now))
             (B.written out.old) (B.spare out.old) (B.written out.new) (B.spare out.new) }
+        ensures fits { (last : Bool) → length (shortest_frame last (close_in max_len self.now)) ≤ max_len }
     {
         match self {
             Close::Connection(close) => close.encode(out, max_len),

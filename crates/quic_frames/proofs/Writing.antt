@@ -1,7 +1,7 @@
 -- Encoders one after the other.
-use Rattle.std.proofs.Common.{◌≡◌, ℕ, zero, suc, ◌+◌, ◌<◌, ◌≤◌, ◌^◌, List, [], ◌∷◌, ◌++◌, length, take, drop, get_or, Result, Ok, Err, refl, sym, ap, subst, ◌∙◌, append_assoc, arith, OnOk, OnErr}
+use Rattle.std.proofs.Common.{◌≡◌, ℕ, zero, suc, ◌+◌, ◌<◌, ◌^◌, List, [], ◌∷◌, ◌++◌, length, take, drop, get_or, Result, Ok, Err, refl, sym, ap, subst, ◌∙◌, append_assoc, arith}
 use Rattle.std.proofs.lemmas.List.{length-append, append-nil}
-use Rattle.quic_base.specs.Codec.{IsBegun, KeepsRoom}
+use Rattle.quic_base.specs.Codec.{KeepsRoom}
 use Rattle.quic_base.specs.Varint.{short}
 use Rattle.quic_base.proofs.PublicLaws.{begun_first, begun_second}
 use Rattle.quic_frames.specs.Writing.{Writes, all_short, AreNumeric}

@@ -1,8 +1,8 @@
 -- The shortest spelling of a frame at its place.
-use Rattle.std.specs.Prelude.{ℕ, ◌+◌, ◌-◌, List, [], ◌∷◌, ◌++◌, length, take, max, Option, Some, None, Bool, true, false, not, ◌==◌, if◌then◌else◌}
+use Rattle.std.specs.Prelude.{ℕ, ◌+◌, ◌-◌, List, [], ◌∷◌, ◌++◌, length, take, max, Option, Some, None, Bool, if◌then◌else◌}
 use Rattle.quic_base.specs.Number.{bytes_of}
 use Rattle.quic_base.specs.Varint.{short, size}
-use Rattle.quic_frames.specs.Field.{Value, Number, Bytes, Ranges, Field, Varint, Counted, Id, Eight, Sixteen, Blocks, Rest, Unwritten, Ordered}
+use Rattle.quic_frames.specs.Field.{Value, Number, Bytes, Ranges, Field, Varint, Counted, Id, Eight, Sixteen, Blocks, Rest, Ordered}
 use Rattle.quic_frames.specs.Table.{Name, Ack, Stream, Datagram, ConnectionClose, ApplicationClose, Row, row_of}
 use Rattle.quic_frames.specs.Payload.{Meaning}
 use Rattle.quic_frames.specs.Meaning.{frame_of, named_type}

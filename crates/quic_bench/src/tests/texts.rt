@@ -14,13 +14,13 @@ fn spelled(alloc: Global, number: u64) -> Result<Vec<u8>, Fail> {
     Ok(bytes)
 }
 
-fn code_of(alloc: Global, number: u64) -> Result<Code, Fail> {
+pub fn code_of(alloc: Global, number: u64) -> Result<Code, Fail> {
     let bytes = spelled(alloc, number)?;
     let mut left = bytes.as_slice();
     Ok(Code::decode(&mut left)?)
 }
 
-fn type_of(alloc: Global, number: u64) -> Result<FrameType, Fail> {
+pub fn type_of(alloc: Global, number: u64) -> Result<FrameType, Fail> {
     let bytes = spelled(alloc, number)?;
     let mut left = bytes.as_slice();
     Ok(FrameType::decode(&mut left)?)

@@ -1,6 +1,5 @@
 use Rattle.std.proofs.Common.{[], ◌∷◌}
 use Rattle.std.proofs.lemmas.Result.{err_from_is_err_and}
-use Rattle.quic_base.specs.ConnectionId.{long_id}
 use Rattle.quic_frames.specs.Writing.{all_short}
 use Rattle.quic_frames.proofs.Writing.{wrote_first, writes_last, writes_begun}
 use Rattle.quic_frames.proofs.Encoding.{id_parts}

@@ -1,4 +1,4 @@
-use Rattle.std.proofs.Common.{add-one, get_or, take, drop, suc, refl}
+use Rattle.std.proofs.Common.{add-one, get_or, take, drop, suc}
 use Rattle.std.proofs.lemmas.Result.{err_from_is_err_and}
 use Rattle.quic_base.specs.Varint.{short}
 use Rattle.quic_frames.specs.Writing.{all_short}

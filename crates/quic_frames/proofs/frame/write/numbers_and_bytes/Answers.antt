@@ -1,4 +1,3 @@
-use Rattle.std.proofs.Common.{refl}
 use Rattle.std.proofs.lemmas.Result.{err_from_is_err_and}
 use Rattle.quic_frames.specs.Writing.{all_short}
 use Rattle.quic_frames.proofs.Writing.{wrote_first, writes_last, writes_begun}

@@ -1,6 +1,9 @@
 //! `quic-show`: prints what the lines of standard input spell in hexadecimal.
 #![tactic(auto)]
 
+ghost use Rattle.std.specs.Prelude.{◌≡◌};
+ghost use Rattle.quic_text.specs.Status.{status_of};
+
 use quic_text::{FromRead, Mode, RunError, ToWrite, mode_of, run, status};
 use std::alloc::AllocError;
 use std::env;
@@ -46,7 +49,9 @@ fn show(rt: &HostRuntime, mode: Mode) -> u8 {
 }
 
 /// Says why a run ended early, and answers its exit status.
-fn report(rt: &HostRuntime, outcome: Result<bool, RunError>) -> u8 {
+fn report(rt: &HostRuntime, outcome: Result<bool, RunError>) -> u8
+    ensures { result ≡ status_of outcome }
+{
     if let Err(e) = outcome {
         let _ = rt.eprintln(match e {
             RunError::Read => "quic-show: read failed",

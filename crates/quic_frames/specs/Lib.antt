@@ -11,6 +11,8 @@ pub mod Acks
 pub mod Meaning
 pub mod Shortest
 pub mod Writing
+pub mod InRange
+pub mod Least
 pub mod Names
 pub mod Way
 pub mod Walk

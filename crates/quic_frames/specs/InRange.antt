@@ -1,0 +1,48 @@
+-- Which frames can be written.
+use Rattle.std.specs.Prelude.{◌≡◌, ◌≢◌, ⊤, ℕ, ◌<◌, ◌≤◌, ◌^◌, List, [], ◌∷◌, length, Option, Some, None, Bool, false}
+use Rattle.quic_frames.specs.declared.frame.Frame.{Frame}
+use Rattle.quic_frames.specs.declared.frame.Frame.TheVariants as frames
+use Rattle.quic_frames.specs.declared.frame.close.Close.{Close}
+use Rattle.quic_frames.specs.declared.frame.close.Close.TheVariants as closes
+use Rattle.quic_frames.specs.declared.frame.ack.EcnCounts.{EcnCounts}
+use Rattle.quic_frames.specs.Writing.{AreNumeric}
+use Rattle.quic_frames.specs.Least.{is_end}
+
+abbrev pub AreCounts : Option EcnCounts → Type 0
+AreCounts None = ⊤
+AreCounts (Some e) = AreNumeric (e.ect0 ∷ e.ect1 ∷ e.ce ∷ [])
+
+-- The frame has a spelling, by which it is read as it is: numbers of any width are below 2^62, an id has 1 to 20 bytes, and
+-- what is retired comes before it; type 0 isn't told from no type (RFC 9000, sections 16, 19.15 and 19.19). Numbers whose
+-- type holds the bound are not named.
+abbrev pub InRange : Frame → Type 0
+InRange (frames.Ack a) = AreNumeric (a.largest ∷ a.delay ∷ []) × AreCounts a.ecn
+InRange (frames.Crypto c) = AreNumeric (c.offset ∷ length c.bytes.now ∷ [])
+InRange (frames.NewToken t) = length t.token.now < 2 ^ 62
+InRange (frames.Stream s) = s.offset < 2 ^ 62
+InRange (frames.MaxStreamData id offset) = offset < 2 ^ 62
+InRange (frames.MaxStreams dir count) = count < 2 ^ 62
+InRange (frames.DataBlocked offset) = offset < 2 ^ 62
+InRange (frames.StreamDataBlocked id offset) = offset < 2 ^ 62
+InRange (frames.StreamsBlocked dir limit) = limit < 2 ^ 62
+InRange (frames.NewConnectionId n) = AreNumeric (n.sequence ∷ n.retire_prior_to ∷ []) × (n.retire_prior_to ≤ n.sequence) × (0 < length n.id) × (length n.id ≤ 20)
+InRange (frames.RetireConnectionId sequence) = sequence < 2 ^ 62
+InRange (frames.Close (closes.Connection c)) = (c.frame_type ≢ Some 0) × (length c.reason.now < 2 ^ 62)
+InRange (frames.Close (closes.Application c)) = length c.reason.now < 2 ^ 62
+InRange frame = ⊤
+
+-- the data whose length is written only where the frame isn't the last
+abbrev pub open_data : Frame → List ℕ
+open_data (frames.Stream s) = s.bytes.now
+open_data (frames.Datagram d) = d.bytes.now
+open_data frame = []
+
+-- The frame can be written where it is the last or not.
+pub record CanStand (last : Bool) (frame : Frame) : Type 0 where
+  pub in_range : InRange frame
+  pub counted : last ≡ false → length (open_data frame) < 2 ^ 62
+
+-- The same of frames one after the other.
+abbrev pub CanFollow : List Frame → Type 0
+CanFollow [] = ⊤
+CanFollow (frame ∷ others) = CanStand (is_end others) frame × CanFollow others

@@ -1,0 +1,17 @@
+-- The least of the spellings of frames.
+use Rattle.std.specs.Prelude.{◌≡◌, ◌⊎◌, ℕ, ◌<◌, List, [], ◌∷◌, ◌++◌, length, Bool, true, false}
+use Rattle.quic_frames.specs.Payload.{Meaning}
+use Rattle.quic_frames.specs.Shortest.{shortest_frame}
+
+-- The bytes are these, or more.
+abbrev pub AreOrExceed : List ℕ → List ℕ → Type 0
+AreOrExceed bytes least = (bytes ≡ least) ⊎ (length least < length bytes)
+
+abbrev pub is_end : {T : Type 0} → List T → Bool
+is_end [] = true
+is_end (frame ∷ frames) = false
+
+-- frames one after the other, of which the last one alone is written as the last
+abbrev pub shortest_frames : List Meaning → List ℕ
+shortest_frames [] = []
+shortest_frames (frame ∷ frames) = shortest_frame (is_end frames) frame ++ shortest_frames frames

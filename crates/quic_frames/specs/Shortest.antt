@@ -1,11 +1,11 @@
 -- The shortest spelling of a frame at its place.
-use Rattle.std.specs.Prelude.{ℕ, ◌+◌, ◌-◌, List, [], ◌∷◌, ◌++◌, length, take, max, Option, Some, None, Bool, if◌then◌else◌}
+use Rattle.std.specs.Prelude.{ℕ, ◌+◌, ◌-◌, List, [], ◌∷◌, ◌++◌, ◌==◌, length, take, max, Option, Some, None, Bool, if◌then◌else◌}
 use Rattle.quic_base.specs.Number.{bytes_of}
 use Rattle.quic_base.specs.Varint.{short, size}
 use Rattle.quic_frames.specs.Field.{Value, Number, Bytes, Ranges, Field, Varint, Counted, Id, Eight, Sixteen, Blocks, Rest, Ordered}
 use Rattle.quic_frames.specs.Table.{Name, Ack, Stream, Datagram, ConnectionClose, ApplicationClose, Row, row_of}
 use Rattle.quic_frames.specs.Payload.{Meaning}
-use Rattle.quic_frames.specs.Meaning.{frame_of, named_type}
+use Rattle.quic_frames.specs.Meaning.{frame_of, flag, named_type}
 use Rattle.quic_frames.specs.Types.{type_or_zero}
 use Rattle.quic_frames.specs.declared.frame.close.Close.{Close}
 use Rattle.quic_frames.specs.declared.frame.close.Close.TheVariants as closes
@@ -55,6 +55,14 @@ shortest_row (Some r) values = shortest_fields r.fields values
 -- a frame, the last of its payload or not
 unfoldable pub shortest_frame : Bool → Meaning → List ℕ
 shortest_frame last frame = let t = written_type last frame.name frame.values in short t ++ shortest_row (row_of t) frame.values
+
+abbrev pub written_offset : ℕ → List ℕ
+written_offset offset = if offset == 0 then [] else short offset
+
+-- the bytes of a STREAM before its data: its type, its id, its offset where that isn't 0, and the length of the data where it is written
+abbrev pub stream_head : ℕ → ℕ → Bool → Option ℕ → List ℕ
+stream_head id offset fin None = short (named_type Stream (flag fin ∷ Number id ∷ Number offset ∷ [])) ++ (short id ++ written_offset offset)
+stream_head id offset fin (Some n) = short (named_type Stream (flag fin ∷ Number id ∷ Number offset ∷ []) + 2) ++ (short id ++ (written_offset offset ++ short n))
 
 -- ---- closes that are cut to their room
 

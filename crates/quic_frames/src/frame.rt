@@ -11,8 +11,10 @@ mod fault;
 mod field;
 mod found;
 mod frame_type;
+mod in_range;
 mod iter;
 mod reading;
+mod stream_meta;
 mod write;
 
 pub use ack::{Ack, AckError, AckIter, EcnCounts};
@@ -20,6 +22,7 @@ pub use close::{ApplicationClose, Close, ConnectionClose};
 pub use found::InvalidFrame;
 pub use frame_type::FrameType;
 pub use iter::Iter;
+pub use stream_meta::{StreamMeta, StreamMetaVec};
 
 /// A frame of a payload, whose bytes it borrows. Numbers that were read are below 2^62, but for the
 /// eight bytes of a path's challenge and response.

@@ -1,11 +1,11 @@
 -- The shortest spellings of frames, cut where their encoders cut them.
-use Rattle.std.proofs.Common.{◌≡◌, ℕ, Bool, List, [], ◌∷◌, ◌++◌, length, refl, sym, ap, ◌∙◌, append_assoc, ◌+◌, ◌-◌, max, ◌≤◌, take, min, arith}
+use Rattle.std.proofs.Common.{◌≡◌, ℕ, Bool, true, false, List, [], ◌∷◌, ◌++◌, length, refl, sym, ap, ◌∙◌, append_assoc, ◌+◌, ◌-◌, max, ◌≤◌, take, min, arith}
 use Rattle.std.proofs.lemmas.Bool.Decides.{nat_tests}
 use Rattle.std.proofs.lemmas.List.{append-nil, length-append, take_min, length-take}
 use Rattle.quic_base.specs.Varint.{short, size}
 use Rattle.quic_base.proofs.PublicLaws.{length-short}
 use Rattle.quic_frames.specs.Field.{Number, Bytes}
-use Rattle.quic_frames.specs.Table.{Crypto, NewToken, NewConnectionId, ConnectionClose, ApplicationClose}
+use Rattle.quic_frames.specs.Table.{Crypto, NewToken, NewConnectionId, ConnectionClose, ApplicationClose, Datagram}
 use Rattle.quic_frames.specs.Meaning.{frame_of}
 use Rattle.quic_frames.specs.Shortest.{shortest_frame, least_room, close_in}
 use Rattle.quic_frames.specs.Types.{type_or_zero}
@@ -49,6 +49,14 @@ pub id_parts : (last : Bool) (sequence retire : ℕ) (id token : List ℕ)
 unfolding shortest_frame
 id_parts last sequence retire id token =
     in_front (0x18 ∷ sequence ∷ retire ∷ []) ((length id ∷ id) ++ (token ++ [])) ∙ ap (λ (k : List ℕ). all_short (0x18 ∷ sequence ∷ retire ∷ []) ++ ((length id ∷ id) ++ k)) (append-nil token)
+
+pub datagram_counted : (bytes : List ℕ) → shortest_frame false (frame_of Datagram (Bytes bytes ∷ [])) ≡ all_short (0x31 ∷ length bytes ∷ []) ++ bytes
+unfolding shortest_frame
+datagram_counted bytes = counted (0x31 ∷ []) bytes (length bytes)
+
+pub datagram_open : (bytes : List ℕ) → shortest_frame true (frame_of Datagram (Bytes bytes ∷ [])) ≡ all_short (0x30 ∷ []) ++ bytes
+unfolding shortest_frame
+datagram_open bytes = in_front (0x30 ∷ []) (bytes ++ []) ∙ ap (λ (k : List ℕ). all_short (0x30 ∷ []) ++ k) (append-nil bytes)
 
 -- ---- sizes
 
@@ -123,3 +131,9 @@ application_close_fits last room code reason le =
 pub close_fits : (last : Bool) (room : ℕ) (c : Close) → least_room c ≤ room → length (shortest_frame last (close_in room c)) ≤ room
 close_fits last room (closes.Connection c) le = connection_close_fits last room c.error_code (type_or_zero c.frame_type) c.reason.now le
 close_fits last room (closes.Application c) le = application_close_fits last room c.error_code c.reason.now le
+
+pub datagram_counted_length : (bytes : List ℕ) → length (shortest_frame false (frame_of Datagram (Bytes bytes ∷ []))) ≡ length (all_short (0x31 ∷ length bytes ∷ [])) + length bytes
+datagram_counted_length bytes = ap length (datagram_counted bytes) ∙ length-append (all_short (0x31 ∷ length bytes ∷ [])) bytes
+
+pub datagram_open_length : (bytes : List ℕ) → length (shortest_frame true (frame_of Datagram (Bytes bytes ∷ []))) ≡ length (all_short (0x30 ∷ [])) + length bytes
+datagram_open_length bytes = ap length (datagram_open bytes) ∙ length-append (all_short (0x30 ∷ [])) bytes

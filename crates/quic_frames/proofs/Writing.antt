@@ -1,9 +1,9 @@
 -- Encoders one after the other.
-use Rattle.std.proofs.Common.{◌≡◌, ℕ, zero, suc, ◌+◌, ◌<◌, ◌^◌, List, [], ◌∷◌, ◌++◌, length, take, drop, get_or, Result, Ok, Err, refl, sym, ap, subst, ◌∙◌, append_assoc, arith}
+use Rattle.std.proofs.Common.{◌≡◌, ℕ, zero, suc, ◌+◌, ◌<◌, ◌≤◌, ◌^◌, List, [], ◌∷◌, ◌++◌, length, take, drop, get_or, Result, Ok, Err, refl, sym, ap, subst, ◌∙◌, append_assoc, arith}
 use Rattle.std.proofs.lemmas.List.{length-append, append-nil}
 use Rattle.quic_base.specs.Codec.{KeepsRoom}
-use Rattle.quic_base.specs.Varint.{short}
-use Rattle.quic_base.proofs.PublicLaws.{begun_first, begun_second}
+use Rattle.quic_base.specs.Varint.{short, size}
+use Rattle.quic_base.proofs.PublicLaws.{begun_first, begun_second, length-short}
 use Rattle.quic_frames.specs.Writing.{Writes, all_short, AreNumeric}
 
 err_is_not_ok : {A E : Type 0} {e : E} {x : A} → Err e ≡ Ok x → ⊥
@@ -77,3 +77,14 @@ pub all_short-parts : (ns : List ℕ) (i : ℕ) → i < length ns → all_short 
 all_short-parts [] i lt = absurd (omega (arith, lt))
 all_short-parts (m ∷ ns) zero lt = refl
 all_short-parts (m ∷ ns) (suc i) lt = ap (λ (l : List ℕ). short m ++ l) (all_short-parts ns i (omega (arith, lt))) ∙ sym (append_assoc (short m) (all_short (take i ns)) (short (get_or ns i 0) ++ all_short (drop (suc i) ns)))
+
+-- how many bytes one number more takes
+pub all_short-longer : (ns : List ℕ) (i : ℕ) → i < length ns → length (all_short (take (suc i) ns)) ≡ length (all_short (take i ns)) + size (get_or ns i 0)
+all_short-longer ns i lt =
+    ap length (all_short-at ns i lt) ∙ length-append (all_short (take i ns)) (short (get_or ns i 0)) ∙ ap (λ (k : ℕ). length (all_short (take i ns)) + k) (length-short (get_or ns i 0))
+
+pub take_whole : (ns : List ℕ) (i : ℕ) → length ns ≤ i → take i ns ≡ ns
+take_whole [] zero le = refl
+take_whole [] (suc i) le = refl
+take_whole (n ∷ ns) zero le = absurd (omega (arith, le))
+take_whole (n ∷ ns) (suc i) le = ap (λ (l : List ℕ). n ∷ l) (take_whole ns i (omega (arith, le)))

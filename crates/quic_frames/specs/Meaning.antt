@@ -22,9 +22,16 @@ abbrev pub counts_of : Option EcnCounts → List Value
 counts_of None = []
 counts_of (Some e) = Number e.ect0 ∷ Number e.ect1 ∷ Number e.ce ∷ []
 
+-- a close by its code, perhaps the type of a frame, and a reason
+abbrev pub connection_close : ℕ → Option ℕ → List ℕ → Meaning
+connection_close code ty reason = frame_of ConnectionClose (Number code ∷ Number (type_or_zero ty) ∷ Bytes reason ∷ [])
+
+abbrev pub application_close : ℕ → List ℕ → Meaning
+application_close code reason = frame_of ApplicationClose (Number code ∷ Bytes reason ∷ [])
+
 abbrev pub close_meaning : Close → Meaning
-close_meaning (closes.Connection c) = frame_of ConnectionClose (Number c.error_code ∷ Number (type_or_zero c.frame_type) ∷ Bytes c.reason.now ∷ [])
-close_meaning (closes.Application c) = frame_of ApplicationClose (Number c.error_code ∷ Bytes c.reason.now ∷ [])
+close_meaning (closes.Connection c) = connection_close c.error_code c.frame_type c.reason.now
+close_meaning (closes.Application c) = application_close c.error_code c.reason.now
 
 -- what a frame says
 abbrev pub meaning_of : Frame → Meaning

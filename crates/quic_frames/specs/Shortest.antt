@@ -3,9 +3,9 @@ use Rattle.std.specs.Prelude.{ℕ, ◌+◌, ◌-◌, List, [], ◌∷◌, ◌++�
 use Rattle.quic_base.specs.Number.{bytes_of}
 use Rattle.quic_base.specs.Varint.{short, size}
 use Rattle.quic_frames.specs.Field.{Value, Number, Bytes, Ranges, Field, Varint, Counted, Id, Eight, Sixteen, Blocks, Rest, Ordered}
-use Rattle.quic_frames.specs.Table.{Name, Ack, Stream, Datagram, ConnectionClose, ApplicationClose, Row, row_of}
+use Rattle.quic_frames.specs.Table.{Name, Ack, Stream, Datagram, Row, row_of}
 use Rattle.quic_frames.specs.Payload.{Meaning}
-use Rattle.quic_frames.specs.Meaning.{frame_of, flag, named_type}
+use Rattle.quic_frames.specs.Meaning.{flag, named_type, connection_close, application_close}
 use Rattle.quic_frames.specs.Types.{type_or_zero}
 use Rattle.quic_frames.specs.declared.frame.close.Close.{Close}
 use Rattle.quic_frames.specs.declared.frame.close.Close.TheVariants as closes
@@ -73,8 +73,8 @@ least_room (closes.Application c) = 1 + max 2 (size c.error_code) + size (length
 
 -- a close whose reason is cut to its first n bytes
 abbrev pub cut_close : ℕ → Close → Meaning
-cut_close n (closes.Connection c) = frame_of ConnectionClose (Number c.error_code ∷ Number (type_or_zero c.frame_type) ∷ Bytes (take n c.reason.now) ∷ [])
-cut_close n (closes.Application c) = frame_of ApplicationClose (Number c.error_code ∷ Bytes (take n c.reason.now) ∷ [])
+cut_close n (closes.Connection c) = connection_close c.error_code c.frame_type (take n c.reason.now)
+cut_close n (closes.Application c) = application_close c.error_code (take n c.reason.now)
 
 abbrev pub close_reason : Close → List ℕ
 close_reason (closes.Connection c) = c.reason.now

@@ -6,6 +6,7 @@ use quic_base::varint::VarInt;
 
 mod ack;
 mod close;
+mod datagrams;
 mod encode;
 mod fault;
 mod field;
@@ -15,6 +16,7 @@ mod in_range;
 mod iter;
 mod reading;
 mod stream_meta;
+mod whole;
 mod write;
 
 pub use ack::{Ack, AckError, AckIter, EcnCounts};

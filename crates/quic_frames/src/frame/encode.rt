@@ -1,7 +1,7 @@
 //! Frames, written in their shortest form (RFC 9000, section 19).
 ghost use Rattle.std.specs.Prelude.{◌≡◌, ◌<◌, ◌≤◌, ◌^◌, ◌++◌, max, ◌∷◌, [], ℕ, List, length, take, Bool};
 ghost use Rattle.quic_base.specs.Varint.{size};
-ghost use Rattle.quic_frames.specs.Meaning.{meaning_of};
+ghost use Rattle.quic_frames.specs.Meaning.{meaning_of, connection_close, application_close};
 ghost use Rattle.quic_frames.specs.Shortest.{shortest_frame, least_room, close_reason, close_in};
 ghost use Rattle.quic_frames.specs.declared.frame.close.Close.TheVariants as closes;
 ghost use Rattle.quic_frames.specs.Types.{type_or_zero};
@@ -92,7 +92,7 @@ impl NewToken<'_> {
         requires { length self.now.token.now < 2 ^ 62 }
         ensures { (last : Bool) → result ≡ length (shortest_frame last (meaning_of (frames.NewToken self.now))) }
     {
-        1 + size_of(self.token.len() as u64) + self.token.len()
+        1 + write::size_of(self.token.len() as u64) + self.token.len()
     }
 }
 
@@ -133,16 +133,6 @@ fn code_room(code: VarInt) -> usize
     code.size().max(2)
 }
 
-// The length of the shortest spelling of a number.
-#[tactic(auto, using(crate::proofs::Encoding::size_small))]
-fn size_of(n: u64) -> usize
-    requires { n < 2 ^ 62 }
-    ensures value { result ≡ size n }
-    ensures small { result ≤ 8 }
-{
-    VarInt::from_u64_unchecked(n).size()
-}
-
 // The number of a frame's type, 0 where there is none.
 fn type_or_zero(ty: Option<FrameType>) -> u64
     ensures value { result ≡ type_or_zero ty }
@@ -170,14 +160,14 @@ impl ConnectionClose<'_> {
         ensures { result ≡ least_room (closes.Connection self.now) }
     {
         let code = code_room(VarInt::from_u64_unchecked(self.error_code.into()));
-        let ty = size_of(type_or_zero(self.frame_type));
-        1 + code + ty + size_of(self.reason.len() as u64)
+        let ty = write::size_of(type_or_zero(self.frame_type));
+        1 + code + ty + write::size_of(self.reason.len() as u64)
     }
 
     /// Appends the frame, as `ResetStream::encode` does, with as much of the reason as leaves the frame
     /// at most `max_len` bytes. The caller owes that this is at least `min_len`, and that the reason's
     /// length is below 2^62.
-    #[tactic(auto, using(crate::proofs::Encoding::connection_close_parts, crate::proofs::Encoding::connection_close_fits))]
+    #[tactic(auto, using(crate::proofs::Encoding::connection_close_fits))]
     pub fn encode<B: BufMut>(&self, out: &mut B, max_len: usize) -> Result<(), NoRoom>
         requires reason { length self.now.reason.now < 2 ^ 62 }
         requires room { least_room (closes.Connection self.now) ≤ max_len }
@@ -185,7 +175,16 @@ impl ConnectionClose<'_> {
             (B.written out.old) (B.spare out.old) (B.written out.new) (B.spare out.new) }
         ensures fits { (last : Bool) → length (shortest_frame last (close_in max_len (closes.Connection self.now))) ≤ max_len }
     {
-        let reason = cut(self.reason, max_len - self.min_len());
+        self.encode_with(out, cut(self.reason, max_len - self.min_len()))
+    }
+
+    // The frame with another reason.
+    #[tactic(auto, using(crate::proofs::Encoding::connection_close_parts))]
+    pub(super) fn encode_with<B: BufMut>(&self, out: &mut B, reason: &[u8]) -> Result<(), NoRoom>
+        requires { length reason.now < 2 ^ 62 }
+        ensures { (last : Bool) → Writes result (shortest_frame last (connection_close self.now.error_code self.now.frame_type reason.now))
+            (B.written out.old) (B.spare out.old) (B.written out.new) (B.spare out.new) }
+    {
         let ty = type_or_zero(self.frame_type);
         let head = [0x1c, self.error_code.into(), ty, reason.len() as u64];
         write::numbers_and_bytes(out, &head, reason)
@@ -198,11 +197,11 @@ impl ApplicationClose<'_> {
         requires { length self.now.reason.now < 2 ^ 62 }
         ensures { result ≡ least_room (closes.Application self.now) }
     {
-        1 + code_room(self.error_code) + size_of(self.reason.len() as u64)
+        1 + code_room(self.error_code) + write::size_of(self.reason.len() as u64)
     }
 
     /// Appends the frame, as `ConnectionClose::encode` does.
-    #[tactic(auto, using(crate::proofs::Encoding::application_close_parts, crate::proofs::Encoding::application_close_fits))]
+    #[tactic(auto, using(crate::proofs::Encoding::application_close_fits))]
     pub fn encode<B: BufMut>(&self, out: &mut B, max_len: usize) -> Result<(), NoRoom>
         requires reason { length self.now.reason.now < 2 ^ 62 }
         requires room { least_room (closes.Application self.now) ≤ max_len }
@@ -210,7 +209,16 @@ impl ApplicationClose<'_> {
             (B.written out.old) (B.spare out.old) (B.written out.new) (B.spare out.new) }
         ensures fits { (last : Bool) → length (shortest_frame last (close_in max_len (closes.Application self.now))) ≤ max_len }
     {
-        let reason = cut(self.reason, max_len - self.min_len());
+        self.encode_with(out, cut(self.reason, max_len - self.min_len()))
+    }
+
+    // The frame with another reason.
+    #[tactic(auto, using(crate::proofs::Encoding::application_close_parts))]
+    pub(super) fn encode_with<B: BufMut>(&self, out: &mut B, reason: &[u8]) -> Result<(), NoRoom>
+        requires { length reason.now < 2 ^ 62 }
+        ensures { (last : Bool) → Writes result (shortest_frame last (application_close self.now.error_code reason.now))
+            (B.written out.old) (B.spare out.old) (B.written out.new) (B.spare out.new) }
+    {
         let head = [0x1d, self.error_code.into_inner(), reason.len() as u64];
         write::numbers_and_bytes(out, &head, reason)
     }

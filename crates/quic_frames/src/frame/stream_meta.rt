@@ -40,26 +40,26 @@ impl Default for StreamMeta {
 }
 
 impl StreamMeta {
-    /// Appends the frame up to its data, with the length of these where `length` is set. Answers `NoRoom`
+    /// Appends the frame up to its data, with the length of these where `with_length` is set. Answers `NoRoom`
     /// only where the spare room is less than that; then what stood there stands, followed by a beginning
     /// of it. The caller owes that the range isn't reversed, that it starts below 2^62, and that its
     /// length is below 2^62 where it is written.
-    pub fn encode<B: BufMut>(&self, length: bool, out: &mut B) -> Result<(), NoRoom>
+    pub fn encode<B: BufMut>(&self, with_length: bool, out: &mut B) -> Result<(), NoRoom>
         requires ordered { self.now.offsets.start ≤ self.now.offsets.end }
         requires start { self.now.offsets.start < 2 ^ 62 }
-        requires counted { length ≡ true → self.now.offsets.end - self.now.offsets.start < 2 ^ 62 }
+        requires counted { with_length ≡ true → self.now.offsets.end - self.now.offsets.start < 2 ^ 62 }
         ensures { Writes result
-            (stream_head self.now.id self.now.offsets.start self.now.fin (if length then Some (self.now.offsets.end - self.now.offsets.start) else None))
+            (stream_head self.now.id self.now.offsets.start self.now.fin (if with_length then Some (self.now.offsets.end - self.now.offsets.start) else None))
             (B.written out.old) (B.spare out.old) (B.written out.new) (B.spare out.new) }
     {
         let Range { start, end } = self.offsets;
-        let counted = length.then_some(end - start);
+        let counted = with_length.then_some(end - start);
         encode_head(out, self.id, start, self.fin, counted)
     }
 }
 
 // A STREAM up to its data.
-fn encode_head<B: BufMut>(
+pub(super) fn encode_head<B: BufMut>(
     out: &mut B,
     id: StreamId,
     offset: u64,

@@ -1,11 +1,13 @@
 //! Numbers and bytes, appended to a buffer.
-ghost use Rattle.std.specs.Prelude.{◌≡◌, ◌<◌, ◌^◌, ◌++◌, ℕ, List, length};
+ghost use Rattle.std.specs.Prelude.{◌≡◌, ◌<◌, ◌≤◌, ◌+◌, ◌^◌, ◌++◌, ℕ, List, length, IsOk, OnOk, OnErr, vec_len, vec_capacity};
 ghost use Rattle.quic_base.specs.ConnectionId.{long_id};
+ghost use Rattle.quic_base.specs.Varint as varint;
 ghost use Rattle.quic_frames.specs.Writing.{Writes, AreNumeric, all_short};
 
 use bytes::BufMut;
 use quic_base::coding::{BufMutExt, NoRoom};
 use quic_base::ids::ConnectionId;
+use quic_base::varint::VarInt;
 
 /// Appends numbers in their shortest spellings. Answers `NoRoom` only where the spare room is less than
 /// those; then what stood there stands, followed by a beginning of them.
@@ -44,4 +46,43 @@ pub fn id_and_bytes<B: BufMut>(out: &mut B, id: &ConnectionId, tail: &[u8]) -> R
 {
     id.encode_long(out)?;
     bytes(out, tail)
+}
+
+/// The length of the shortest spelling of a number.
+#[tactic(auto, using(crate::proofs::Encoding::size_small))]
+pub fn size_of(n: u64) -> usize
+    requires { n < 2 ^ 62 }
+    ensures value { result ≡ varint.size n }
+    ensures small { result ≤ 8 }
+{
+    VarInt::from_u64_unchecked(n).size()
+}
+
+/// How many bytes numbers take in their shortest spellings.
+pub fn size(numbers: &[u64]) -> usize
+    requires few { length numbers.now ≤ 5 }
+    requires numeric { AreNumeric numbers.now }
+    ensures value { result ≡ length (all_short numbers.now) }
+    ensures small { result ≤ 40 }
+{
+    let mut size = 0;
+    for number in numbers {
+        size += size_of(*number);
+    }
+    size
+}
+
+/// Appends numbers and then bytes to a vector. One growth of at most these bytes is made, and where that
+/// is refused `out` is as it was; it can't be where there is spare room for them.
+pub fn append(out: &mut Vec<u8>, head: &[u64], tail: &[u8]) -> Result<(), NoRoom>
+    requires few { length head.now ≤ 5 }
+    requires numeric { AreNumeric head.now }
+    ensures ok { OnOk result (out.new.items ≡ out.old.items ++ (all_short head.now ++ tail.now)) }
+    ensures err { OnErr result (out.new.items ≡ out.old.items) }
+    ensures room { vec_len out.old + length (all_short head.now ++ tail.now) ≤ vec_capacity out.old → IsOk result }
+{
+    if out.reserve(size(head) + tail.len()).is_err() {
+        return Err(NoRoom);
+    }
+    numbers_and_bytes(out, head, tail)
 }

@@ -15,6 +15,7 @@ mod frame_type;
 mod in_range;
 mod iter;
 mod reading;
+mod size_bound;
 mod stream_meta;
 mod whole;
 mod write;
@@ -24,6 +25,7 @@ pub use close::{ApplicationClose, Close, ConnectionClose};
 pub use found::InvalidFrame;
 pub use frame_type::FrameType;
 pub use iter::Iter;
+pub use size_bound::{FrameStruct, RETIRE_CONNECTION_ID_SIZE_BOUND};
 pub use stream_meta::{StreamMeta, StreamMetaVec};
 
 /// A frame of a payload, whose bytes it borrows. Numbers that were read are below 2^62, but for the

@@ -1,0 +1,153 @@
+//! How long frames are at most beside their data.
+ghost use Rattle.std.specs.Prelude.{◌≡◌, ◌≤◌, ◌+◌, ℕ, Bool, [], List, length, false};
+ghost use Rattle.quic_frames.specs.Meaning.{meaning_of};
+ghost use Rattle.quic_frames.specs.Payload.{Meaning};
+ghost use Rattle.quic_frames.specs.Shortest.{shortest_frame};
+ghost use Rattle.quic_frames.specs.declared.frame.Frame.TheVariants as frames;
+ghost use Rattle.quic_frames.specs.declared.frame.close.Close.TheVariants as closes;
+
+use super::{
+    ApplicationClose, ConnectionClose, Crypto, Datagram, NewConnectionId, ResetStream, StopSending,
+    Stream,
+};
+use quic_base::ids::{ConnectionId, MAX_CID_SIZE, RESET_TOKEN_SIZE, ResetToken};
+
+/// A frame whose length has a bound, but for its data or reason.
+pub trait FrameStruct {
+    /// As many bytes, besides those of its data or reason, as the frame's shortest spelling has at most
+    /// where the length of the data is written.
+    const SIZE_BOUND: usize;
+
+    ghost says: { Self → Meaning };
+
+    ghost content: { Self → List ℕ };
+
+    /// The bound, which the frame keeps.
+    fn bound(&self) -> usize
+        ensures { length (shortest_frame false (says self.now)) ≤ result + length (content self.now) };
+}
+
+impl FrameStruct for ConnectionClose<'_> {
+    const SIZE_BOUND: usize = 1 + 8 + 8 + 8;
+
+    ghost says = { λ c. meaning_of (frames.Close (closes.Connection c)) };
+
+    ghost content = { λ c. c.reason.now };
+
+    #[tactic(auto, using(crate::proofs::SizeBounds::connection_close_bound))]
+    fn bound(&self) -> usize {
+        Self::SIZE_BOUND
+    }
+}
+
+impl FrameStruct for ApplicationClose<'_> {
+    const SIZE_BOUND: usize = 1 + 8 + 8;
+
+    ghost says = { λ c. meaning_of (frames.Close (closes.Application c)) };
+
+    ghost content = { λ c. c.reason.now };
+
+    #[tactic(auto, using(crate::proofs::SizeBounds::application_close_bound))]
+    fn bound(&self) -> usize {
+        Self::SIZE_BOUND
+    }
+}
+
+impl FrameStruct for Stream<'_> {
+    const SIZE_BOUND: usize = 1 + 8 + 8 + 8;
+
+    ghost says = { λ s. meaning_of (frames.Stream s) };
+
+    ghost content = { λ s. s.bytes.now };
+
+    #[tactic(auto, using(crate::proofs::SizeBounds::stream_bound))]
+    fn bound(&self) -> usize {
+        Self::SIZE_BOUND
+    }
+}
+
+impl FrameStruct for ResetStream {
+    const SIZE_BOUND: usize = 1 + 8 + 8 + 8;
+
+    ghost says = { λ r. meaning_of (frames.ResetStream r) };
+
+    ghost content = { λ r. [] };
+
+    #[tactic(auto, using(crate::proofs::SizeBounds::reset_bound))]
+    fn bound(&self) -> usize {
+        Self::SIZE_BOUND
+    }
+}
+
+impl FrameStruct for StopSending {
+    const SIZE_BOUND: usize = 1 + 8 + 8;
+
+    ghost says = { λ s. meaning_of (frames.StopSending s) };
+
+    ghost content = { λ s. [] };
+
+    #[tactic(auto, using(crate::proofs::SizeBounds::stop_bound))]
+    fn bound(&self) -> usize {
+        Self::SIZE_BOUND
+    }
+}
+
+impl FrameStruct for NewConnectionId {
+    const SIZE_BOUND: usize = 1 + 8 + 8 + 1 + MAX_CID_SIZE + RESET_TOKEN_SIZE;
+
+    ghost says = { λ n. meaning_of (frames.NewConnectionId n) };
+
+    ghost content = { λ n. [] };
+
+    #[tactic(auto, using(crate::proofs::SizeBounds::new_id_bound))]
+    fn bound(&self) -> usize {
+        has_bounds(self.id, self.reset_token);
+        Self::SIZE_BOUND
+    }
+}
+
+// What the types of an id and a token hold. It does nothing.
+fn has_bounds(id: ConnectionId, token: ResetToken)
+    ensures id { length id ≤ 20 }
+    ensures token { length token ≡ 16 }
+{}
+
+impl FrameStruct for Datagram<'_> {
+    const SIZE_BOUND: usize = 1 + 8;
+
+    ghost says = { λ d. meaning_of (frames.Datagram d) };
+
+    ghost content = { λ d. d.bytes.now };
+
+    #[tactic(auto, using(crate::proofs::SizeBounds::datagram_bound))]
+    fn bound(&self) -> usize {
+        Self::SIZE_BOUND
+    }
+}
+
+impl Crypto<'_> {
+    /// The bound of its `FrameStruct`.
+    pub const SIZE_BOUND: usize = 1 + 8 + 8;
+}
+
+impl FrameStruct for Crypto<'_> {
+    const SIZE_BOUND: usize = Crypto::SIZE_BOUND;
+
+    ghost says = { λ c. meaning_of (frames.Crypto c) };
+
+    ghost content = { λ c. c.bytes.now };
+
+    #[tactic(auto, using(crate::proofs::SizeBounds::crypto_bound))]
+    fn bound(&self) -> usize {
+        Self::SIZE_BOUND
+    }
+}
+
+/// As many bytes as a RETIRE_CONNECTION_ID has at most.
+pub const RETIRE_CONNECTION_ID_SIZE_BOUND: usize = 1 + 8;
+
+/// It keeps that bound. The function does nothing.
+#[tactic(auto, using(crate::proofs::SizeBounds::retire_bound))]
+pub fn retire_connection_id_is_bounded()
+    ensures { (last : Bool) (sequence : ℕ) → length (shortest_frame last (meaning_of (frames.RetireConnectionId sequence))) ≤ RETIRE_CONNECTION_ID_SIZE_BOUND }
+{}

@@ -12,3 +12,5 @@ mod Places
 mod Texts
 mod Writing
 mod Encoding
+mod Sets
+mod AckParts

@@ -8,6 +8,7 @@ use Rattle.quic_ranges.specs.Runs.{IsMaximalRuns, member}
 use Rattle.quic_frames.specs.declared.frame.ack.EcnCounts.{EcnCounts}
 use Rattle.quic_frames.specs.Field.{Number, Ranges}
 use Rattle.quic_frames.specs.Table.{Ack}
+use Rattle.quic_frames.specs.Payload.{Meaning}
 use Rattle.quic_frames.specs.Meaning.{frame_of, counts_of}
 use Rattle.quic_frames.specs.Sets.{ends_of, ranges_in, ack_of, ack_type, numbers_of}
 use Rattle.quic_frames.specs.Shortest.{shortest_below, shortest_frame}
@@ -101,3 +102,28 @@ set_parts delay whole runs run counts ty size e ty_is size_is delay_fits maximal
       numeric = (omega (arith, ty_is, small_type counts), (b.greatest, (delay_fits, (omega (arith, count, length-ranges_in runs, b.few), (omega (arith, b.greatest), tt)))));
       parts = λ last. rw (ranges, ty_is, count) (ack_parts last (run.end - 1) delay (ends_of run) (ranges_in runs) counts);
     }
+
+-- ---- what is read of an ACK
+
+same_counts : (some others : Option EcnCounts) → counts_of some ≡ counts_of others → some ≡ others
+same_counts None None e = refl
+same_counts None (Some others) e = absurd cc
+same_counts (Some some) None e = absurd cc
+same_counts (Some some) (Some others) e =
+    let one : some.ect0 ≡ others.ect0 = cc in
+    let two : some.ect1 ≡ others.ect1 = cc in
+    let three : some.ce ≡ others.ce = cc in
+    ap (λ (n : ℕ). Some (counts n some.ect1 some.ce)) one ∙ ap (λ (n : ℕ). Some (counts others.ect0 n some.ce)) two ∙ ap (λ (n : ℕ). Some (counts others.ect0 others.ect1 n)) three
+  where
+    counts : ℕ → ℕ → ℕ → EcnCounts
+    counts ect0 ect1 ce = record { ect0 = ect0; ect1 = ect1; ce = ce }
+
+pub same_ack : (greatest delay greatest' delay' : ℕ) (ranges ranges' : List (ℕ × ℕ)) (counts counts' : Option EcnCounts)
+    → frame_of Ack (Number greatest ∷ Number delay ∷ Ranges ranges ∷ counts_of counts) ≡ frame_of Ack (Number greatest' ∷ Number delay' ∷ Ranges ranges' ∷ counts_of counts')
+    → (ranges ≡ ranges') × (delay ≡ delay') × (counts ≡ counts')
+same_ack greatest delay greatest' delay' ranges ranges' counts counts' e =
+    let values = ap (λ (m : Meaning). m.values) e in
+    let one : ranges ≡ ranges' = cc in
+    let two : delay ≡ delay' = cc in
+    let others : counts_of counts ≡ counts_of counts' = cc in
+    (one, two, same_counts counts counts' others)

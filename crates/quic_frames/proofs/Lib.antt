@@ -12,5 +12,6 @@ mod Places
 mod Texts
 mod Writing
 mod Encoding
+mod Spelled
 mod Sets
 mod AckParts

@@ -1,11 +1,14 @@
 //! Numbers and bytes, appended to a buffer.
-ghost use Rattle.std.specs.Prelude.{◌≡◌, ◌<◌, ◌^◌, ◌++◌, ℕ, List, length};
+ghost use Rattle.std.specs.Prelude.{◌≡◌, ◌<◌, ◌≤◌, ◌*◌, ◌^◌, ◌++◌, ℕ, List, length};
 ghost use Rattle.quic_base.specs.ConnectionId.{long_id};
-ghost use Rattle.quic_frames.specs.Writing.{Writes, AreNumeric, all_short};
+ghost use Rattle.quic_base.specs.Number.{AreBytes};
+ghost use Rattle.quic_frames.specs.Writing.{Writes, AreNumeric, AreSpelled, all_short};
 
+use super::field;
 use bytes::BufMut;
 use quic_base::coding::{BufMutExt, NoRoom};
 use quic_base::ids::ConnectionId;
+use quic_base::varint::VarInt;
 
 /// Appends numbers in their shortest spellings. Answers `NoRoom` only where the spare room is less than
 /// those; then what stood there stands, followed by a beginning of them.
@@ -44,4 +47,58 @@ pub fn id_and_bytes<B: BufMut>(out: &mut B, id: &ConnectionId, tail: &[u8]) -> R
 {
     id.encode_long(out)?;
     bytes(out, tail)
+}
+
+/// Appends the numbers that the bytes spell, in their shortest spellings, in the same way.
+pub fn shortened<B: BufMut>(out: &mut B, spelled: &[u8]) -> Result<(), NoRoom>
+    ensures { (ns : List ℕ) → AreSpelled ns spelled.now
+        → Writes result (all_short ns) (B.written out.old) (B.spare out.old) (B.written out.new) (B.spare out.new) }
+{
+    let mut rest = spelled;
+    while let Ok((number, after)) = field::varint(rest) {
+        out.write_var(number)?;
+        rest = after;
+    }
+    Ok(())
+}
+
+/// How many numbers the bytes spell.
+pub fn count_of(spelled: &[u8]) -> u64
+    ensures count { (ns : List ℕ) → AreSpelled ns spelled.now → result ≡ length ns }
+    ensures bytes { AreBytes spelled.now }
+{
+    let mut count: u64 = 0;
+    let mut rest = spelled;
+    while let Ok((_, after)) = field::varint(rest) {
+        count += 1;
+        rest = after;
+    }
+    count
+}
+
+/// How many bytes `shortened` appends.
+pub fn shortened_len(spelled: &[u8]) -> u128
+    ensures value { (ns : List ℕ) → AreSpelled ns spelled.now → result ≡ length (all_short ns) }
+    ensures small { result ≤ 8 * length spelled.now }
+{
+    let mut total: u128 = 0;
+    let mut rest = spelled;
+    while let Ok((number, after)) = field::varint(rest) {
+        total += VarInt::from_u64_unchecked(number).size() as u128;
+        rest = after;
+    }
+    total
+}
+
+/// How many bytes `numbers` appends.
+pub fn numbers_len(numbers: &[u64]) -> u128
+    requires { AreNumeric numbers.now }
+    ensures value { result ≡ length (all_short numbers.now) }
+    ensures small { result ≤ 8 * length numbers.now }
+{
+    let mut total: u128 = 0;
+    for number in numbers {
+        total += VarInt::from_u64_unchecked(*number).size() as u128;
+    }
+    total
 }

@@ -87,7 +87,7 @@ pub record SetParts (delay : ℕ) (whole runs : List (Range ℕ)) (run : Range �
   pub parts : (last : Bool) → shortest_frame last (ack_of delay whole counts)
       ≡ all_short (ty ∷ (run.end - 1) ∷ delay ∷ count ∷ (run.end - 1 - run.start) ∷ []) ++ (shortest_below run.start (ranges_in runs) ++ all_short (numbers_of counts))
 
-small_type : (counts : Option EcnCounts) → ack_type counts < 2 ^ 62
+pub small_type : (counts : Option EcnCounts) → ack_type counts < 2 ^ 62
 small_type None = omega arith
 small_type (Some counts) = omega arith
 

@@ -15,3 +15,4 @@ mod Encoding
 mod Spelled
 mod Sets
 mod AckParts
+mod Held

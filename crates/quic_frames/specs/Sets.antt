@@ -1,11 +1,13 @@
 -- An ACK as a set of packet numbers (RFC 9000, section 19.3).
-use Rattle.std.specs.Prelude.{ℕ, ◌-◌, List, [], ◌∷◌, ◌++◌, Option, Some, None, Bool, false, ◌&&◌, ◌||◌, nat_le}
+use Rattle.std.specs.Prelude.{ℕ, ◌-◌, List, [], ◌∷◌, ◌++◌, length, Option, Some, None, Bool, false, ◌&&◌, ◌||◌, nat_le}
 use Rattle.std.specs.declared.ops.Range.{Range}
 use Rattle.quic_frames.specs.declared.frame.ack.EcnCounts.{EcnCounts}
+use Rattle.quic_frames.specs.declared.frame.ack.Ack as held
 use Rattle.quic_frames.specs.Field.{Number, Ranges}
 use Rattle.quic_frames.specs.Table.{Ack}
 use Rattle.quic_frames.specs.Payload.{Meaning}
 use Rattle.quic_frames.specs.Meaning.{frame_of, counts_of}
+use Rattle.quic_frames.specs.Acks.{ranges_acked}
 
 -- a run by its least and its greatest number
 abbrev pub ends_of : Range ℕ → ℕ × ℕ
@@ -40,3 +42,7 @@ ack_type (Some counts) = 0x03
 abbrev pub numbers_of : Option EcnCounts → List ℕ
 numbers_of None = []
 numbers_of (Some counts) = counts.ect0 ∷ counts.ect1 ∷ counts.ce ∷ []
+
+-- the numbers in front of the blocks of an ACK that is held, its type first
+abbrev pub head_numbers : held.Ack → List ℕ
+head_numbers a = ack_type a.ecn ∷ a.largest ∷ a.delay ∷ (length (ranges_acked a) - 1) ∷ []

@@ -1,11 +1,14 @@
 //! Acknowledgements, written in their shortest form (RFC 9000, section 19.3).
-ghost use Rattle.std.specs.Prelude.{◌≡◌, ◌≢◌, ◌<◌, ◌^◌, ◌∷◌, ◌++◌, [], ℕ, Bool, true};
+ghost use Rattle.std.specs.Prelude.{◌≡◌, ◌≢◌, ◌<◌, ◌≤◌, ◌^◌, ◌∷◌, ◌++◌, [], ℕ, Bool, true, length};
 ghost use Rattle.std.specs.Option.{option_copied};
+ghost use Rattle.quic_base.specs.Number.{AreBytes};
 ghost use Rattle.quic_ranges.specs.Runs.{IsMaximalRuns, member};
-ghost use Rattle.quic_frames.specs.InRange.{AreCounts};
-ghost use Rattle.quic_frames.specs.Sets.{ranges_in, ack_of, ack_type, numbers_of};
+ghost use Rattle.quic_frames.specs.InRange.{InRange, AreCounts};
+ghost use Rattle.quic_frames.specs.Meaning.{meaning_of};
+ghost use Rattle.quic_frames.specs.Sets.{ranges_in, ack_of, ack_type, numbers_of, head_numbers};
 ghost use Rattle.quic_frames.specs.Shortest.{shortest_frame, shortest_below};
 ghost use Rattle.quic_frames.specs.Writing.{Writes, all_short};
+ghost use Rattle.quic_frames.specs.declared.frame.Frame.TheVariants as frames;
 
 use super::ack::{Ack, EcnCounts};
 use super::write;
@@ -83,4 +86,48 @@ fn encode_counts<B: BufMut>(ecn: Option<EcnCounts>, out: &mut B) -> Result<(), N
         None => Ok(()),
         Some(counts) => counts.encode(out),
     }
+}
+
+// How many bytes `encode_counts` appends.
+fn counts_len(ecn: Option<EcnCounts>) -> u128
+    requires { AreCounts ecn }
+    ensures value { result ≡ length (all_short (numbers_of ecn)) }
+    ensures small { result ≤ 24 }
+{
+    match ecn {
+        None => 0,
+        Some(counts) => write::numbers_len(&[counts.ect0, counts.ect1, counts.ce]),
+    }
+}
+
+// The numbers in front of the blocks: the type, the greatest number, the delay, and how many ranges are
+// below the first.
+fn head_of(ack: &Ack<'_>) -> [u64; 4]
+    requires { InRange (frames.Ack ack.now) }
+    ensures numbers { result ≡ head_numbers ack.now }
+    ensures bytes { AreBytes ack.now.additional.now }
+{
+    let count = write::count_of(ack.additional()) / 2;
+    [type_of(ack.ecn()), ack.largest(), ack.delay(), count]
+}
+
+// Appends an acknowledgement that is held, whose numbers may have been spelled in any widths, as
+// `Ack::encode` appends that of a set. It takes no memory.
+pub(super) fn encode_ack<B: BufMut>(ack: &Ack<'_>, out: &mut B) -> Result<(), NoRoom>
+    requires { InRange (frames.Ack ack.now) }
+    ensures { (last : Bool) → Writes result (shortest_frame last (meaning_of (frames.Ack ack.now)))
+        (B.written out.old) (B.spare out.old) (B.written out.new) (B.spare out.new) }
+{
+    write::numbers(out, &head_of(ack))?;
+    write::shortened(out, ack.additional())?;
+    encode_counts(ack.ecn(), out)
+}
+
+// How many bytes `encode_ack` appends.
+pub(super) fn ack_len(ack: &Ack<'_>) -> u128
+    requires { InRange (frames.Ack ack.now) }
+    ensures { (last : Bool) → result ≡ length (shortest_frame last (meaning_of (frames.Ack ack.now))) }
+{
+    let head = write::numbers_len(&head_of(ack));
+    head + write::shortened_len(ack.additional()) + counts_len(ack.ecn())
 }

@@ -1,8 +1,5 @@
-use Rattle.std.proofs.Common.{◌∷◌, [], ◌++◌, ◌-◌, sym, ◌∙◌, arith}
+use Rattle.std.proofs.Common.{sym, ◌∙◌, arith}
 use Rattle.std.proofs.lemmas.Result.{err_from_is_err_and}
-use Rattle.quic_frames.specs.Sets.{ranges_in, numbers_of}
-use Rattle.quic_frames.specs.Shortest.{shortest_below}
-use Rattle.quic_frames.specs.Writing.{all_short}
 use Rattle.quic_frames.proofs.Sets.{bounded}
 use Rattle.quic_frames.proofs.Writing.{wrote_first, writes_third, writes_begun, writes_within}
 use Rattle.quic_frames.proofs.AckParts.{set_parts}

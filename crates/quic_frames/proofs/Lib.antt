@@ -14,3 +14,7 @@ mod Writing
 mod Encoding
 mod StreamParts
 mod SizeBounds
+mod Spelled
+mod Sets
+mod AckParts
+mod Held

@@ -61,6 +61,12 @@ pub writes_within : {D E : Type 0} (result : Result (Unit {0}) E) (refused : Res
 writes_within result refused d a b c whole w w1 w2 s s1 s2 e parts so_far x is r =
     subst (λ k. Writes refused k w s w2 s2) (sym parts) (writes_last refused a (b ++ c) w w1 w2 s s1 s2 so_far (writes_begun result refused d b c w1 w2 s1 s2 e x is r))
 
+-- the last of three encoders, after two that were not refused
+pub writes_third : {E F : Type 0} (second : Result (Unit {0}) E) (third : Result (Unit {0}) F) (a b c w w1 w2 w3 : List ℕ) (s s1 s2 s3 : ℕ)
+    → Wrote a w s w1 s1 → Writes second b w1 s1 w2 s2 → second ≡ Ok tt → Writes third c w2 s2 w3 s3 → Writes third (a ++ (b ++ c)) w s w3 s3
+writes_third second third a b c w w1 w2 w3 s s1 s2 s3 first x is y =
+    subst (λ k. Writes third k w s w3 s3) (append_assoc a b c) (writes_last third (a ++ b) c w w2 w3 s s2 s3 (wrote_more second a b w w1 w2 s s1 s2 first x is) y)
+
 -- ---- numbers
 
 pub numeric_at : (ns : List ℕ) (i : ℕ) → AreNumeric ns → i < length ns → get_or ns i 0 < 2 ^ 62

@@ -11,6 +11,7 @@ pub mod Acks
 pub mod Meaning
 pub mod Shortest
 pub mod Writing
+pub mod Sets
 pub mod InRange
 pub mod Least
 pub mod Names

@@ -5,6 +5,7 @@ use quic_base::ids::{ConnectionId, Dir, ResetToken, StreamId};
 use quic_base::varint::VarInt;
 
 mod ack;
+mod ack_encode;
 mod close;
 mod datagrams;
 mod encode;

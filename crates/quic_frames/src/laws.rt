@@ -1,9 +1,17 @@
 //! Laws of payloads, which no single call carries. The functions do nothing.
-ghost use Rattle.std.specs.Prelude.{◌≡◌, ◌++◌, ℕ, List, None, Option, false};
+ghost use Rattle.std.specs.Prelude.{◌≡◌, ◌≢◌, ◌++◌, ℕ, List, [], None, Option, false};
+ghost use Rattle.std.specs.declared.ops.Range.{Range};
 ghost use Rattle.quic_base.specs.Number.{AreBytes};
+ghost use Rattle.quic_ranges.specs.Runs.{IsMaximalRuns, IsGreatest, member};
+ghost use Rattle.quic_frames.specs.Acks.{ranges_acked};
 ghost use Rattle.quic_frames.specs.Field.{AreApart, AreBlocks};
+ghost use Rattle.quic_frames.specs.Meaning.{meaning_of};
 ghost use Rattle.quic_frames.specs.Payload.{Found, IsFrame, AreFrames, IsBroken, IsEither};
+ghost use Rattle.quic_frames.specs.Sets.{ranges_in, greatest_in, is_in, ack_of};
 ghost use Rattle.quic_frames.specs.Table.{is_open};
+ghost use Rattle.quic_frames.specs.declared.frame.Frame.TheVariants as frames;
+ghost use Rattle.quic_frames.specs.declared.frame.ack.Ack.{Ack};
+ghost use Rattle.quic_frames.specs.declared.frame.ack.EcnCounts.{EcnCounts};
 ghost use Rattle.quic_frames.specs.declared.frame.fault.Fault.{Fault};
 
 /// A payload has one reading: it is frames, or frames and then something that is none, and never both.
@@ -24,4 +32,17 @@ pub fn one_list_of_ranges()
         → AreBlocks greatest some bytes → AreBlocks greatest others bytes → some ≡ others }
     ensures apart { (greatest : ℕ) (ranges : List (ℕ × ℕ)) (bytes : List ℕ)
         → AreBlocks greatest ranges bytes → AreApart ranges }
+{}
+
+/// An ACK of a set acknowledges the numbers of that set and no others. Its ranges never touch, and the
+/// first ends at the greatest number.
+pub fn set_acknowledged()
+    ensures members { (runs : List (Range ℕ)) (n : ℕ) → IsMaximalRuns runs → is_in (ranges_in runs) n ≡ member runs n }
+    ensures apart { (runs : List (Range ℕ)) → IsMaximalRuns runs → AreApart (ranges_in runs) }
+    ensures greatest { (runs : List (Range ℕ)) → runs ≢ [] → IsMaximalRuns runs
+        → IsGreatest runs (greatest_in (ranges_in runs)) }
+    // What is read of it: its ranges, its delay and its counts.
+    ensures read { (ack : Ack) (delay : ℕ) (runs : List (Range ℕ)) (counts : Option EcnCounts)
+        → meaning_of (frames.Ack ack) ≡ ack_of delay runs counts
+        → (ranges_acked ack ≡ ranges_in runs) × (ack.delay ≡ delay) × (ack.ecn ≡ counts) }
 {}

@@ -35,9 +35,9 @@ impl Datagram<'_> {
         ensures { result ≡ length (shortest_frame (not with_length) (meaning_of (frames.Datagram self.now))) }
     {
         if with_length {
-            write::size(&[0x31, self.bytes.len() as u64]) + self.bytes.len()
+            write::numbers_len(&[0x31, self.bytes.len() as u64]) as usize + self.bytes.len()
         } else {
-            write::size(&[0x30]) + self.bytes.len()
+            write::numbers_len(&[0x30]) as usize + self.bytes.len()
         }
     }
 }

@@ -1,9 +1,11 @@
 //! Numbers and bytes, appended to a buffer.
-ghost use Rattle.std.specs.Prelude.{◌≡◌, ◌<◌, ◌≤◌, ◌+◌, ◌^◌, ◌++◌, ℕ, List, length, IsOk, OnOk, OnErr, vec_len, vec_capacity};
+ghost use Rattle.std.specs.Prelude.{◌≡◌, ◌<◌, ◌≤◌, ◌+◌, ◌*◌, ◌^◌, ◌++◌, ℕ, List, length, IsOk, OnOk, OnErr, vec_len, vec_capacity};
 ghost use Rattle.quic_base.specs.ConnectionId.{long_id};
-ghost use Rattle.quic_base.specs.Varint as varint;
-ghost use Rattle.quic_frames.specs.Writing.{Writes, AreNumeric, all_short};
+ghost use Rattle.quic_base.specs.Varint.{size};
+ghost use Rattle.quic_base.specs.Number.{AreBytes};
+ghost use Rattle.quic_frames.specs.Writing.{Writes, AreNumeric, AreSpelled, all_short};
 
+use super::field;
 use bytes::BufMut;
 use quic_base::coding::{BufMutExt, NoRoom};
 use quic_base::ids::ConnectionId;
@@ -52,24 +54,64 @@ pub fn id_and_bytes<B: BufMut>(out: &mut B, id: &ConnectionId, tail: &[u8]) -> R
 #[tactic(auto, using(crate::proofs::Encoding::size_small))]
 pub fn size_of(n: u64) -> usize
     requires { n < 2 ^ 62 }
-    ensures value { result ≡ varint.size n }
+    ensures value { result ≡ size n }
     ensures small { result ≤ 8 }
 {
     VarInt::from_u64_unchecked(n).size()
 }
 
-/// How many bytes numbers take in their shortest spellings.
-pub fn size(numbers: &[u64]) -> usize
-    requires few { length numbers.now ≤ 5 }
-    requires numeric { AreNumeric numbers.now }
-    ensures value { result ≡ length (all_short numbers.now) }
-    ensures small { result ≤ 40 }
+/// Appends the numbers that the bytes spell, in their shortest spellings, in the same way.
+pub fn shortened<B: BufMut>(out: &mut B, spelled: &[u8]) -> Result<(), NoRoom>
+    ensures { (ns : List ℕ) → AreSpelled ns spelled.now
+        → Writes result (all_short ns) (B.written out.old) (B.spare out.old) (B.written out.new) (B.spare out.new) }
 {
-    let mut size = 0;
-    for number in numbers {
-        size += size_of(*number);
+    let mut rest = spelled;
+    while let Ok((number, after)) = field::varint(rest) {
+        out.write_var(number)?;
+        rest = after;
     }
-    size
+    Ok(())
+}
+
+/// How many numbers the bytes spell.
+pub fn count_of(spelled: &[u8]) -> u64
+    ensures count { (ns : List ℕ) → AreSpelled ns spelled.now → result ≡ length ns }
+    ensures bytes { AreBytes spelled.now }
+{
+    let mut count: u64 = 0;
+    let mut rest = spelled;
+    while let Ok((_, after)) = field::varint(rest) {
+        count += 1;
+        rest = after;
+    }
+    count
+}
+
+/// How many bytes `shortened` appends.
+pub fn shortened_len(spelled: &[u8]) -> u128
+    ensures value { (ns : List ℕ) → AreSpelled ns spelled.now → result ≡ length (all_short ns) }
+    ensures small { result ≤ 8 * length spelled.now }
+{
+    let mut total: u128 = 0;
+    let mut rest = spelled;
+    while let Ok((number, after)) = field::varint(rest) {
+        total += size_of(number) as u128;
+        rest = after;
+    }
+    total
+}
+
+/// How many bytes `numbers` appends.
+pub fn numbers_len(numbers: &[u64]) -> u128
+    requires { AreNumeric numbers.now }
+    ensures value { result ≡ length (all_short numbers.now) }
+    ensures small { result ≤ 8 * length numbers.now }
+{
+    let mut total: u128 = 0;
+    for number in numbers {
+        total += size_of(*number) as u128;
+    }
+    total
 }
 
 /// Appends numbers and then bytes to a vector. One growth of at most these bytes is made, and where that
@@ -81,7 +123,7 @@ pub fn append(out: &mut Vec<u8>, head: &[u64], tail: &[u8]) -> Result<(), NoRoom
     ensures err { OnErr result (out.new.items ≡ out.old.items) }
     ensures room { vec_len out.old + length (all_short head.now ++ tail.now) ≤ vec_capacity out.old → IsOk result }
 {
-    if out.reserve(size(head) + tail.len()).is_err() {
+    if out.reserve(numbers_len(head) as usize + tail.len()).is_err() {
         return Err(NoRoom);
     }
     numbers_and_bytes(out, head, tail)

@@ -12,3 +12,4 @@ mod Places
 mod Texts
 mod Writing
 mod Encoding
+mod LeastFields

@@ -2,7 +2,6 @@
 use Rattle.std.specs.Prelude.{◌≡◌, ◌≢◌, ⊤, ℕ, ◌<◌, ◌≤◌, ◌^◌, List, [], ◌∷◌, length, Option, Some, None, Bool, false}
 use Rattle.quic_frames.specs.declared.frame.Frame.{Frame}
 use Rattle.quic_frames.specs.declared.frame.Frame.TheVariants as frames
-use Rattle.quic_frames.specs.declared.frame.close.Close.{Close}
 use Rattle.quic_frames.specs.declared.frame.close.Close.TheVariants as closes
 use Rattle.quic_frames.specs.declared.frame.ack.EcnCounts.{EcnCounts}
 use Rattle.quic_frames.specs.Writing.{AreNumeric}

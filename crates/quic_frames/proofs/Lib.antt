@@ -13,3 +13,4 @@ mod Texts
 mod Writing
 mod Encoding
 mod LeastFields
+mod LeastFrames

@@ -250,3 +250,130 @@ pub stream_row_fits : (last fin : Bool) (id offset : ℕ) (content : List ℕ) �
 stream_row_fits last fin id offset content i o d =
     let t = stream_type_is (eqb offset 0) last fin in
     record { small = t.small; row = stream_row (not (eqb offset 0)) (not last) fin; in_table = t.in_table; name = refl; fields = stream_fits (eqb offset 0) last fin id offset content refl i o d }
+
+stream_least : (at_start end fin : Bool) → IsLeastRow (stream_type at_start end fin) (stream_row (not at_start) (not end) fin)
+stream_least at_start end fin last values type_bytes field_bytes s =
+    let p = stream_parts at_start end fin values field_bytes s.fields in
+    let o = better_offset at_start p.offset p.offset_bytes p.offset_is in
+    let d = better_content end last p.content p.content_bytes (λ h. s.closed ((stream_type_is at_start end fin).opens ∙ h)) p.content_is in
+    let start = eqb p.offset 0 in
+    let ty = stream_type_is start last fin in
+    let row = stream_row (not start) (not last) fin in
+    let type_is : written_type last Stream values ≡ stream_type start last fin = ap (written_type last Stream) p.are in
+    let fits : FitsRow (stream_type start last fin) (frame_of Stream values) =
+    subst (λ (v : List Value). FitsRow (stream_type start last fin) (frame_of Stream v)) (sym p.are) (stream_row_fits last fin p.id p.offset p.content (spelled_bound p.id p.id_bytes p.id_is).0 o.0 d.0) in
+    let sizes : length (shortest_fields row.fields values) ≡ length (short p.id) + (length (least_offset start p.offset) + length (least_content last p.content)) =
+    ap (λ (v : List Value). length (shortest_fields row.fields v)) p.are ∙ ap length (stream_bytes start last fin p.id p.offset p.content)
+    ∙ lengths (short p.id) (least_offset start p.offset) (least_content last p.content) in
+    let stood : length field_bytes ≡ length p.id_bytes + (length p.offset_bytes + length p.content_bytes) = ap length p.parts ∙ lengths p.id_bytes p.offset_bytes p.content_bytes in
+    let id_le = short_enough p.id p.id_bytes p.id_is in
+    let other : length (shortest_fields row.fields values) < length field_bytes → LeastFrame last (frame_of Stream values) (type_bytes ++ field_bytes) =
+    λ lt. other_type last (stream_type start last fin) row values type_bytes field_bytes type_is fits ty.in_table (λ h. sym ty.opens ∙ h)
+    (omega (arith, varint_some (stream_type at_start end fin) type_bytes s.type_spelled, length-short (stream_type start last fin), ty.one_byte)) lt in
+    elim o.1.shorter [
+      | inr lt ↦ other (omega (arith, sizes, stood, id_le, lt, d.1.no_longer))
+      | inl same ↦ elim d.1.shorter [
+        | inr lt ↦ other (omega (arith, sizes, stood, id_le, lt, o.1.no_longer))
+        | inl same2 ↦ same_type last (stream_type at_start end fin) (stream_row (not at_start) (not end) fin) values type_bytes field_bytes s
+            (type_is ∙ ap (λ (b : Bool). stream_type b last fin) (sym same) ∙ ap (λ (b : Bool). stream_type at_start b fin) (sym same2))
+      ]
+    ]
+  where
+    lengths : (a b c : List ℕ) → length (a ++ (b ++ c)) ≡ length a + (length b + length c)
+    lengths a b c = length-append a (b ++ c) ∙ ap (λ (k : ℕ). length a + k) (length-append b c)
+
+-- ---- DATAGRAM
+
+abbrev datagram_type : Bool → ℕ
+datagram_type last = cond last 0x30 0x31
+
+record DatagramType (last : Bool) : Type 0 where
+  in_table : row_of (datagram_type last) ≡ Some (datagram_row (not last))
+  opens : is_open (datagram_type last) ≡ last
+  small : datagram_type last < 2 ^ 62
+  one_byte : size (datagram_type last) ≡ 1
+
+datagram_type_is : (last : Bool) → DatagramType last
+unfolding size
+datagram_type_is true = record { in_table = refl; opens = refl; small = omega arith; one_byte = refl }
+datagram_type_is false = record { in_table = refl; opens = refl; small = omega arith; one_byte = refl }
+
+datagram_bytes : (last : Bool) (content : List ℕ) → shortest_fields (datagram_row (not last)).fields (Bytes content ∷ []) ≡ least_content last content
+datagram_bytes true content = append-nil content
+datagram_bytes false content = append-nil (short (length content) ++ content)
+
+datagram_fits : (last : Bool) (content : List ℕ) → (last ≡ false → length content < 2 ^ 62) → AllFit (datagram_row (not last)).fields [] (Bytes content ∷ [])
+datagram_fits true content d = (tt, refl)
+datagram_fits false content d = (d refl, refl)
+
+pub datagram_row_fits : (last : Bool) (content : List ℕ) → (last ≡ false → length content < 2 ^ 62) → FitsRow (datagram_type last) (frame_of Datagram (Bytes content ∷ []))
+datagram_row_fits last content d =
+    let t = datagram_type_is last in
+    record { small = t.small; row = datagram_row (not last); in_table = t.in_table; name = refl; fields = datagram_fits last content d }
+
+datagram_least : (end : Bool) → IsLeastRow (datagram_type end) (datagram_row (not end))
+datagram_least end last values type_bytes field_bytes s =
+    let c = content_stands end [] s.fields.0 s.fields.1 s.fields.4 in
+    let content = c.0 in
+    let are : values ≡ Bytes content ∷ [] = s.fields.5.0 ∙ c.1 in
+    let stood : length field_bytes ≡ length s.fields.1 = ap length (s.fields.3 ∙ ap (λ (l : List ℕ). s.fields.1 ++ l) s.fields.5.1 ∙ append-nil s.fields.1) in
+    let d = better_content end last content s.fields.1 (λ h. s.closed ((datagram_type_is end).opens ∙ h)) c.2 in
+    let ty = datagram_type_is last in
+    let row = datagram_row (not last) in
+    let fits : FitsRow (datagram_type last) (frame_of Datagram values) = subst (λ (v : List Value). FitsRow (datagram_type last) (frame_of Datagram v)) (sym are) (datagram_row_fits last content d.0) in
+    let sizes : length (shortest_fields row.fields values) ≡ length (least_content last content) =
+    ap (λ (v : List Value). length (shortest_fields row.fields v)) are ∙ ap length (datagram_bytes last content) in
+    elim d.1.shorter [
+      | inr lt ↦ other_type last (datagram_type last) row values type_bytes field_bytes refl fits ty.in_table (λ h. sym ty.opens ∙ h)
+          (omega (arith, varint_some (datagram_type end) type_bytes s.type_spelled, length-short (datagram_type last), ty.one_byte)) (omega (arith, sizes, stood, lt))
+      | inl same ↦ same_type last (datagram_type end) (datagram_row (not end)) values type_bytes field_bytes s (ap datagram_type (sym same))
+    ]
+
+-- ---- the other frames
+
+-- the type depends on the values at most as these rows show
+one_type : {t : ℕ} {r : Row} → row_of t ≡ Some r → ((last : Bool) (values : List Value) (bytes : List ℕ) → AreFields r.fields [] values bytes → written_type last r.name values ≡ t) → IsLeastRow t r
+one_type {t} {r} in_table e last values type_bytes field_bytes s = same_type last t r values type_bytes field_bytes s (e last values field_bytes s.fields)
+
+ack_type : (last : Bool) (values : List Value) (bytes : List ℕ) → AreFields ack_row.fields [] values bytes → written_type last Ack values ≡ 2
+ack_type last values bytes s = let t = s.5 in let u = t.5 in rw (u.5.0, s.4.1, t.4.1, u.4.4) refl
+
+ack_ecn_type : (last : Bool) (values : List Value) (bytes : List ℕ) → AreFields ack_ecn_row.fields [] values bytes → written_type last Ack values ≡ 3
+ack_ecn_type last values bytes s =
+    let t = s.5 in let u = t.5 in let v = u.5 in let w = v.5 in let x = w.5 in
+    rw (x.5.0, s.4.1, t.4.1, u.4.4, v.4.1) refl
+
+max_streams_type : (dir : Dir) (last : Bool) (values : List Value) (bytes : List ℕ) → AreFields (max_streams_row dir).fields [] values bytes → written_type last MaxStreams values ≡ 0x12 + dir_number dir
+max_streams_type dir last values bytes s = rw (s.5.5.0, s.4.0) refl
+
+streams_blocked_type : (dir : Dir) (last : Bool) (values : List Value) (bytes : List ℕ) → AreFields (streams_blocked_row dir).fields [] values bytes → written_type last StreamsBlocked values ≡ 0x16 + dir_number dir
+streams_blocked_type dir last values bytes s = rw (s.5.5.0, s.4.0) refl
+
+-- a row whose name has one type
+plain : {t : ℕ} {r : Row} → row_of t ≡ Some r → ((last : Bool) (values : List Value) → written_type last r.name values ≡ t) → IsLeastRow t r
+plain in_table e = one_type in_table (λ last values bytes s. e last values)
+
+infixr 5 ◌&◌
+◌&◌ : {A B : Type 0} → A → B → A × B
+a & b = (a, b)
+
+each_least : Each IsLeastRow rows
+each_least =
+    plain refl (λ last values. refl) & plain refl (λ last values. refl) & one_type refl ack_type & one_type refl ack_ecn_type
+    & plain refl (λ last values. refl) & plain refl (λ last values. refl) & plain refl (λ last values. refl) & plain refl (λ last values. refl)
+    & stream_least true true false & stream_least true true true & stream_least true false false & stream_least true false true
+    & stream_least false true false & stream_least false true true & stream_least false false false & stream_least false false true
+    & plain refl (λ last values. refl) & plain refl (λ last values. refl) & one_type refl (max_streams_type Bi) & one_type refl (max_streams_type Uni)
+    & plain refl (λ last values. refl) & plain refl (λ last values. refl) & one_type refl (streams_blocked_type Bi) & one_type refl (streams_blocked_type Uni)
+    & plain refl (λ last values. refl) & plain refl (λ last values. refl) & plain refl (λ last values. refl) & plain refl (λ last values. refl)
+    & plain refl (λ last values. refl) & plain refl (λ last values. refl) & plain refl (λ last values. refl) & plain refl (λ last values. refl)
+    & datagram_least true & datagram_least false & plain refl (λ last values. refl) & tt
+
+pub frame_least : (last : Bool) (found : Found) (bytes : List ℕ) → IsFrame false found bytes → (is_open found.type ≡ true → last ≡ true) → LeastFrame last found.frame bytes
+frame_least last found bytes f closed =
+    let least = found_row IsLeastRow found.type f.row rows each_least f.in_table in
+    let stands : Stands last found.type f.row found.frame.values f.type_bytes f.field_bytes =
+    record { type_spelled = f.type_spelled.spelled; in_table = f.in_table; fields = f.fields; closed = closed } in
+    let frame_is : frame_of f.row.name found.frame.values ≡ found.frame = ap (λ (n : Name). frame_of n found.frame.values) (sym f.name) in
+    subst (λ (l : List ℕ). LeastFrame last found.frame l) (sym f.parts)
+    (subst (λ (m : Meaning). LeastFrame last m (f.type_bytes ++ f.field_bytes)) frame_is (least last found.frame.values f.type_bytes f.field_bytes stands))

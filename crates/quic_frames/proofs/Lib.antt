@@ -14,3 +14,4 @@ mod Writing
 mod Encoding
 mod LeastFields
 mod LeastFrames
+mod ReadBack

@@ -100,7 +100,6 @@ pub enum Frame<'a> {
 }
 
 impl Frame<'_> {
-    ghost use Rattle.quic_frames.specs.InRange.{IsTyped};
     ghost use Rattle.quic_frames.specs.Meaning.{meaning_of, type_of, is_eliciting};
 
     /// The type by which the frame is named: ACK also for one with counts, 0x30 for each DATAGRAM.
@@ -137,12 +136,6 @@ impl Frame<'_> {
             Frame::ImmediateAck => FrameType::IMMEDIATE_ACK,
             Frame::HandshakeDone => FrameType::HANDSHAKE_DONE,
         }
-    }
-
-    /// What the types of the parts of a frame hold, as a fact of the frame. It does nothing.
-    pub fn is_typed(&self)
-        ensures { IsTyped self.now }
-    {
     }
 
     /// Whether the frame asks for an acknowledgement: all but ACK, PADDING and closes do.

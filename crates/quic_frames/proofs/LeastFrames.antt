@@ -19,16 +19,17 @@ use Rattle.quic_frames.proofs.Steps.{true_is_not_false}
 use Rattle.quic_frames.proofs.Varints.{varint_some}
 use Rattle.quic_frames.proofs.LeastFields.{both_least, at_most, number_least, Fits, AllFit, fields_spelled, fields_least}
 
--- The type has a row of the frame's name, and the frame's values fit its fields.
-pub record FitsRow (t : ℕ) (frame : Meaning) : Type 0 where
+-- The type has a row of the frame's name, and the frame's values fit its fields. A frame that takes all that is left is the last.
+pub record FitsRow (last : Bool) (t : ℕ) (frame : Meaning) : Type 0 where
   pub small : t < 2 ^ 62
+  pub closed : is_open t ≡ true → last ≡ true
   pub row : Row
   pub in_table : row_of t ≡ Some row
   pub name : frame.name ≡ row.name
   pub fields : AllFit row.fields [] frame.values
 
 -- A frame that fits the row of the type by which it is written is spelled by its shortest spelling.
-pub frame_spelled : (strict last : Bool) (frame : Meaning) → FitsRow (written_type last frame.name frame.values) frame → IsFrame strict (as_written last frame) (shortest_frame last frame)
+pub frame_spelled : (strict last : Bool) (frame : Meaning) → FitsRow last (written_type last frame.name frame.values) frame → IsFrame strict (as_written last frame) (shortest_frame last frame)
 unfolding shortest_frame
 frame_spelled strict last frame f =
     let t = written_type last frame.name frame.values in
@@ -65,8 +66,7 @@ found_row P t r (entry ∷ entries) each e = by_test (eqb t entry.0) refl e (fou
 -- ---- what is shown of each row
 
 pub record LeastFrame (last : Bool) (frame : Meaning) (bytes : List ℕ) : Type 0 where
-  pub fits : FitsRow (written_type last frame.name frame.values) frame
-  pub closed : is_open (written_type last frame.name frame.values) ≡ true → last ≡ true
+  pub fits : FitsRow last (written_type last frame.name frame.values) frame
   pub least : AreOrExceed bytes (shortest_frame last frame)
 
 -- bytes of a frame of this type, which is the last where it takes all that is left
@@ -91,24 +91,22 @@ same_type last t r values type_bytes field_bytes s e =
     let whole : shortest_frame last (frame_of r.name values) ≡ short t ++ shortest_fields r.fields values =
     ap (λ (u : ℕ). short u ++ shortest_row (row_of u) values) e ∙ ap (λ (o : Option Row). short t ++ shortest_row o values) s.in_table in
     record {
-      fits = subst (λ (u : ℕ). FitsRow u (frame_of r.name values)) (sym e)
-          (record { small = (spelled_bound t type_bytes s.type_spelled).0; row = r; in_table = s.in_table; name = refl; fields = fits });
-      closed = λ h. s.closed (sym (ap is_open e) ∙ h);
+      fits = subst (λ (u : ℕ). FitsRow last u (frame_of r.name values)) (sym e)
+          (record { small = (spelled_bound t type_bytes s.type_spelled).0; closed = s.closed; row = r; in_table = s.in_table; name = refl; fields = fits });
       least = subst (AreOrExceed (type_bytes ++ field_bytes)) (sym whole) (both_least (short t) (shortest_fields r.fields values) type_bytes field_bytes n.1 least);
     }
 
 -- a frame that is written by another type, where its fields are shorter
-other_type : (last : Bool) (t : ℕ) (r : Row) (values : List Value) (type_bytes field_bytes : List ℕ) → written_type last r.name values ≡ t → FitsRow t (frame_of r.name values) → row_of t ≡ Some r
-    → (is_open t ≡ true → last ≡ true) → length (short t) ≤ length type_bytes → length (shortest_fields r.fields values) < length field_bytes
+other_type : (last : Bool) (t : ℕ) (r : Row) (values : List Value) (type_bytes field_bytes : List ℕ) → written_type last r.name values ≡ t → FitsRow last t (frame_of r.name values) → row_of t ≡ Some r
+    → length (short t) ≤ length type_bytes → length (shortest_fields r.fields values) < length field_bytes
     → LeastFrame last (frame_of r.name values) (type_bytes ++ field_bytes)
 unfolding shortest_frame
-other_type last t r values type_bytes field_bytes e fits in_table closed le lt =
+other_type last t r values type_bytes field_bytes e fits in_table le lt =
     let whole : shortest_frame last (frame_of r.name values) ≡ short t ++ shortest_fields r.fields values =
     ap (λ (u : ℕ). short u ++ shortest_row (row_of u) values) e ∙ ap (λ (o : Option Row). short t ++ shortest_row o values) in_table in
     let sizes = ap length whole ∙ length-append (short t) (shortest_fields r.fields values) in
     record {
-      fits = subst (λ (u : ℕ). FitsRow u (frame_of r.name values)) (sym e) fits;
-      closed = λ h. closed (sym (ap is_open e) ∙ h);
+      fits = subst (λ (u : ℕ). FitsRow last u (frame_of r.name values)) (sym e) fits;
       least = inr (omega (arith, sizes, length-append type_bytes field_bytes, le, lt));
     }
 
@@ -246,10 +244,10 @@ stream_fits false true fin id offset content e i o d = (refl, (i, (o, (tt, refl)
 stream_fits false false fin id offset content e i o d = (refl, (i, (o, (d refl, refl))))
 
 pub stream_row_fits : (last fin : Bool) (id offset : ℕ) (content : List ℕ) → id < 2 ^ 62 → offset < 2 ^ 62 → (last ≡ false → length content < 2 ^ 62)
-    → FitsRow (written_type last Stream (stream_values fin id offset content)) (frame_of Stream (stream_values fin id offset content))
+    → FitsRow last (written_type last Stream (stream_values fin id offset content)) (frame_of Stream (stream_values fin id offset content))
 stream_row_fits last fin id offset content i o d =
     let t = stream_type_is (eqb offset 0) last fin in
-    record { small = t.small; row = stream_row (not (eqb offset 0)) (not last) fin; in_table = t.in_table; name = refl; fields = stream_fits (eqb offset 0) last fin id offset content refl i o d }
+    record { small = t.small; closed = λ h. sym t.opens ∙ h; row = stream_row (not (eqb offset 0)) (not last) fin; in_table = t.in_table; name = refl; fields = stream_fits (eqb offset 0) last fin id offset content refl i o d }
 
 stream_least : (at_start end fin : Bool) → IsLeastRow (stream_type at_start end fin) (stream_row (not at_start) (not end) fin)
 stream_least at_start end fin last values type_bytes field_bytes s =
@@ -260,15 +258,15 @@ stream_least at_start end fin last values type_bytes field_bytes s =
     let ty = stream_type_is start last fin in
     let row = stream_row (not start) (not last) fin in
     let type_is : written_type last Stream values ≡ stream_type start last fin = ap (written_type last Stream) p.are in
-    let fits : FitsRow (stream_type start last fin) (frame_of Stream values) =
-    subst (λ (v : List Value). FitsRow (stream_type start last fin) (frame_of Stream v)) (sym p.are) (stream_row_fits last fin p.id p.offset p.content (spelled_bound p.id p.id_bytes p.id_is).0 o.0 d.0) in
+    let fits : FitsRow last (stream_type start last fin) (frame_of Stream values) =
+    subst (λ (v : List Value). FitsRow last (stream_type start last fin) (frame_of Stream v)) (sym p.are) (stream_row_fits last fin p.id p.offset p.content (spelled_bound p.id p.id_bytes p.id_is).0 o.0 d.0) in
     let sizes : length (shortest_fields row.fields values) ≡ length (short p.id) + (length (least_offset start p.offset) + length (least_content last p.content)) =
     ap (λ (v : List Value). length (shortest_fields row.fields v)) p.are ∙ ap length (stream_bytes start last fin p.id p.offset p.content)
     ∙ lengths (short p.id) (least_offset start p.offset) (least_content last p.content) in
     let stood : length field_bytes ≡ length p.id_bytes + (length p.offset_bytes + length p.content_bytes) = ap length p.parts ∙ lengths p.id_bytes p.offset_bytes p.content_bytes in
     let id_le = short_enough p.id p.id_bytes p.id_is in
     let other : length (shortest_fields row.fields values) < length field_bytes → LeastFrame last (frame_of Stream values) (type_bytes ++ field_bytes) =
-    λ lt. other_type last (stream_type start last fin) row values type_bytes field_bytes type_is fits ty.in_table (λ h. sym ty.opens ∙ h)
+    λ lt. other_type last (stream_type start last fin) row values type_bytes field_bytes type_is fits ty.in_table
     (omega (arith, varint_some (stream_type at_start end fin) type_bytes s.type_spelled, length-short (stream_type start last fin), ty.one_byte)) lt in
     elim o.1.shorter [
       | inr lt ↦ other (omega (arith, sizes, stood, id_le, lt, d.1.no_longer))
@@ -306,10 +304,10 @@ datagram_fits : (last : Bool) (content : List ℕ) → (last ≡ false → lengt
 datagram_fits true content d = (tt, refl)
 datagram_fits false content d = (d refl, refl)
 
-pub datagram_row_fits : (last : Bool) (content : List ℕ) → (last ≡ false → length content < 2 ^ 62) → FitsRow (datagram_type last) (frame_of Datagram (Bytes content ∷ []))
+pub datagram_row_fits : (last : Bool) (content : List ℕ) → (last ≡ false → length content < 2 ^ 62) → FitsRow last (datagram_type last) (frame_of Datagram (Bytes content ∷ []))
 datagram_row_fits last content d =
     let t = datagram_type_is last in
-    record { small = t.small; row = datagram_row (not last); in_table = t.in_table; name = refl; fields = datagram_fits last content d }
+    record { small = t.small; closed = λ h. sym t.opens ∙ h; row = datagram_row (not last); in_table = t.in_table; name = refl; fields = datagram_fits last content d }
 
 datagram_least : (end : Bool) → IsLeastRow (datagram_type end) (datagram_row (not end))
 datagram_least end last values type_bytes field_bytes s =
@@ -320,11 +318,11 @@ datagram_least end last values type_bytes field_bytes s =
     let d = better_content end last content s.fields.1 (λ h. s.closed ((datagram_type_is end).opens ∙ h)) c.2 in
     let ty = datagram_type_is last in
     let row = datagram_row (not last) in
-    let fits : FitsRow (datagram_type last) (frame_of Datagram values) = subst (λ (v : List Value). FitsRow (datagram_type last) (frame_of Datagram v)) (sym are) (datagram_row_fits last content d.0) in
+    let fits : FitsRow last (datagram_type last) (frame_of Datagram values) = subst (λ (v : List Value). FitsRow last (datagram_type last) (frame_of Datagram v)) (sym are) (datagram_row_fits last content d.0) in
     let sizes : length (shortest_fields row.fields values) ≡ length (least_content last content) =
     ap (λ (v : List Value). length (shortest_fields row.fields v)) are ∙ ap length (datagram_bytes last content) in
     elim d.1.shorter [
-      | inr lt ↦ other_type last (datagram_type last) row values type_bytes field_bytes refl fits ty.in_table (λ h. sym ty.opens ∙ h)
+      | inr lt ↦ other_type last (datagram_type last) row values type_bytes field_bytes refl fits ty.in_table
           (omega (arith, varint_some (datagram_type end) type_bytes s.type_spelled, length-short (datagram_type last), ty.one_byte)) (omega (arith, sizes, stood, lt))
       | inl same ↦ same_type last (datagram_type end) (datagram_row (not end)) values type_bytes field_bytes s (ap datagram_type (sym same))
     ]

@@ -14,4 +14,5 @@ mod Writing
 mod Encoding
 mod LeastFields
 mod LeastFrames
+mod LeastPayloads
 mod ReadBack

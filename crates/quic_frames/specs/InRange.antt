@@ -47,6 +47,10 @@ IsTyped (frames.Close (closes.Application c)) = c.error_code < 2 ^ 62
 IsTyped (frames.AckFrequency f) = AreNumeric (f.sequence ∷ f.ack_eliciting_threshold ∷ f.request_max_ack_delay ∷ f.reordering_threshold ∷ [])
 IsTyped frame = ⊤
 
+abbrev pub AreTyped : List Frame → Type 0
+AreTyped [] = ⊤
+AreTyped (frame ∷ others) = IsTyped frame × AreTyped others
+
 -- the data whose length is written only where the frame isn't the last
 abbrev pub open_data : Frame → List ℕ
 open_data (frames.Stream s) = s.bytes.now

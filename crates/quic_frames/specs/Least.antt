@@ -22,3 +22,8 @@ frame_in found = found.frame
 
 abbrev pub as_written : Bool → Meaning → Found
 as_written last frame = record { type = written_type last frame.name frame.values; frame = frame }
+
+-- the same of frames one after the other
+abbrev pub all_written : List Meaning → List Found
+all_written [] = []
+all_written (frame ∷ frames) = as_written (is_end frames) frame ∷ all_written frames

@@ -1,9 +1,14 @@
 //! Laws of payloads, which no single call carries. The functions do nothing.
-ghost use Rattle.std.specs.Prelude.{◌≡◌, ◌++◌, ℕ, List, None, Option, false};
+ghost use Rattle.std.specs.Prelude.{◌≡◌, ◌++◌, ℕ, List, None, Option, Bool, true, false, map};
 ghost use Rattle.quic_base.specs.Number.{AreBytes};
 ghost use Rattle.quic_frames.specs.Field.{AreApart, AreBlocks};
-ghost use Rattle.quic_frames.specs.Payload.{Found, IsFrame, AreFrames, IsBroken, IsEither};
+ghost use Rattle.quic_frames.specs.InRange.{IsTyped, AreTyped, CanStand, CanFollow};
+ghost use Rattle.quic_frames.specs.Least.{AreOrExceed, shortest_frames, frame_in, as_written, all_written};
+ghost use Rattle.quic_frames.specs.Meaning.{meaning_of};
+ghost use Rattle.quic_frames.specs.Payload.{Meaning, Found, IsFrame, AreFrames, IsBroken, IsEither};
+ghost use Rattle.quic_frames.specs.Shortest.{shortest_frame};
 ghost use Rattle.quic_frames.specs.Table.{is_open};
+ghost use Rattle.quic_frames.specs.declared.frame.Frame.{Frame};
 ghost use Rattle.quic_frames.specs.declared.frame.fault.Fault.{Fault};
 
 /// A payload has one reading: it is frames, or frames and then something that is none, and never both.
@@ -24,4 +29,31 @@ pub fn one_list_of_ranges()
         → AreBlocks greatest some bytes → AreBlocks greatest others bytes → some ≡ others }
     ensures apart { (greatest : ℕ) (ranges : List (ℕ × ℕ)) (bytes : List ℕ)
         → AreBlocks greatest ranges bytes → AreApart ranges }
+{}
+
+/// Of all spellings of a frame at its place, and of all payloads of the same frames, the shortest is one,
+/// and any other is longer. Its types are in their least widths, and an open frame stands last only.
+pub fn least_spelling()
+    ensures least { (last : Bool) (found : Found) (bytes : List ℕ) → IsFrame false found bytes
+        → (is_open found.type ≡ true → last ≡ true) → AreOrExceed bytes (shortest_frame last found.frame) }
+    ensures spelled { (strict last : Bool) (found : Found) (bytes : List ℕ) → IsFrame false found bytes
+        → (is_open found.type ≡ true → last ≡ true)
+        → IsFrame strict (as_written last found.frame) (shortest_frame last found.frame)
+        × (is_open (as_written last found.frame).type ≡ true → last ≡ true) }
+    ensures all_least { (found : List Found) (bytes : List ℕ) → AreFrames false found bytes
+        → AreOrExceed bytes (shortest_frames (map frame_in found)) }
+    ensures all_spelled { (strict : Bool) (found : List Found) (bytes : List ℕ) → AreFrames false found bytes
+        → AreFrames strict (all_written (map frame_in found)) (shortest_frames (map frame_in found)) }
+    ensures same { (frames : List Meaning) → map frame_in (all_written frames) ≡ frames }
+{}
+
+/// What is written of frames that can be written is read back as these frames, and by `one_reading` as
+/// nothing else. What the types of their parts hold comes of `Frame::is_typed`.
+pub fn read_back()
+    ensures one { (strict last : Bool) (frame : Frame) → IsTyped frame → CanStand last frame
+        → IsFrame strict (as_written last (meaning_of frame)) (shortest_frame last (meaning_of frame))
+        × (is_open (as_written last (meaning_of frame)).type ≡ true → last ≡ true) }
+    ensures all { (strict : Bool) (fs : List Frame) → AreTyped fs → CanFollow fs
+        → AreFrames strict (all_written (map meaning_of fs)) (shortest_frames (map meaning_of fs))
+        × (map frame_in (all_written (map meaning_of fs)) ≡ map meaning_of fs) }
 {}

@@ -5,6 +5,7 @@ use quic_base::ids::{ConnectionId, Dir, ResetToken, StreamId};
 use quic_base::varint::VarInt;
 
 mod ack;
+mod bounds;
 mod close;
 mod encode;
 mod fault;

@@ -48,7 +48,7 @@ pub fn least_spelling()
 {}
 
 /// What is written of frames that can be written is read back as these frames, and by `one_reading` as
-/// nothing else. What the types of their parts hold comes of `Frame::is_typed`.
+/// nothing else. What the types of their parts hold comes of `Frame::type_bounds`.
 pub fn read_back()
     ensures one { (strict last : Bool) (frame : Frame) → IsTyped frame → CanStand last frame
         → IsFrame strict (as_written last (meaning_of frame)) (shortest_frame last (meaning_of frame))

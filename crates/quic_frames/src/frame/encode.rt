@@ -144,7 +144,7 @@ fn size_of(n: u64) -> usize
 }
 
 // The number of a frame's type, 0 where there is none.
-fn type_or_zero(ty: Option<FrameType>) -> u64
+pub(super) fn type_or_zero(ty: Option<FrameType>) -> u64
     ensures value { result ≡ type_or_zero ty }
     ensures bound { result < 2 ^ 62 }
 {

@@ -27,8 +27,7 @@ at_most bytes least (inr lt) = omega (arith, lt)
 -- A number's spelling is the shortest one, or longer.
 pub number_least : (n : ℕ) (bytes : List ℕ) → Spells n bytes → Spells n (short n) × AreOrExceed bytes (short n)
 number_least n bytes s =
-    let l = short_least n bytes s in
-    (
+    let l = short_least n bytes s in (
       short_spells n (spelled_bound n bytes s).0,
       elim (cases_lt (length (short n)) (length bytes)) [
         | inl lt ↦ inr lt
@@ -85,18 +84,17 @@ blocks_fit range ranges lt a =
 
 below_spelled : (low : ℕ) (ranges : List (ℕ × ℕ)) → FitBelow low ranges → AreBelow low ranges (shortest_below low ranges)
 below_spelled low [] f = refl
-below_spelled low (range ∷ ranges) f =
-    (
-      short (low - (range.1 + 2)),
-      short (range.1 - range.0),
-      shortest_below range.0 ranges,
-      refl,
-      f.0,
-      f.1,
-      short_spells (low - (range.1 + 2)) f.2,
-      short_spells (range.1 - range.0) f.3,
-      below_spelled range.0 ranges f.4,
-    )
+below_spelled low (range ∷ ranges) f = (
+  short (low - (range.1 + 2)),
+  short (range.1 - range.0),
+  shortest_below range.0 ranges,
+  refl,
+  f.0,
+  f.1,
+  short_spells (low - (range.1 + 2)) f.2,
+  short_spells (range.1 - range.0) f.3,
+  below_spelled range.0 ranges f.4,
+)
 
 below_least : (low : ℕ) (ranges : List (ℕ × ℕ)) (bytes : List ℕ) → AreBelow low ranges bytes → FitBelow low ranges × AreOrExceed bytes (shortest_below low ranges)
 below_least low [] bytes s = (tt, inl s)
@@ -106,11 +104,10 @@ below_least low (range ∷ ranges) bytes s =
     let others = below_least range.0 ranges s.2 s.8 in
     let short_gap = short (low - (range.1 + 2)) in
     let short_block = short (range.1 - range.0) in
-    let short_others = shortest_below range.0 ranges in
-    (
+    let short_others = shortest_below range.0 ranges in (
       (s.4, s.5, (spelled_bound (low - (range.1 + 2)) s.0 s.6).0, (spelled_bound (range.1 - range.0) s.1 s.7).0, others.0),
       subst (λ (l : List ℕ). AreOrExceed l (short_gap ++ (short_block ++ short_others))) (sym s.3)
-      (both_least short_gap (short_block ++ short_others) s.0 (s.1 ++ s.2) gap.1 (both_least short_block short_others s.1 s.2 block.1 others.1)),
+          (both_least short_gap (short_block ++ short_others) s.0 (s.1 ++ s.2) gap.1 (both_least short_block short_others s.1 s.2 block.1 others.1)),
     )
 
 -- ---- fields
@@ -135,7 +132,7 @@ AllFit (field ∷ fields) before [] = ⊥
 AllFit (field ∷ fields) before (value ∷ values) = Fits field before value × AllFit fields (before ++ value ∷ []) values
 
 -- the shortest spelling of a field is one
-value_spelled : (field : Field) (before : List Value) (value : Value) (others : List Value) → Fits field before value
+pub value_spelled : (field : Field) (before : List Value) (value : Value) (others : List Value) → Fits field before value
     → IsField field before (value ∷ []) (shortest_of field (value ∷ others)) × (values_after field (value ∷ others) ≡ others)
 value_spelled Varint before (Number n) others f = ((n, refl, short_spells n f), refl)
 value_spelled Counted before (Bytes bytes) others f = ((short (length bytes), bytes, refl, short_spells (length bytes) f, refl), refl)
@@ -177,7 +174,7 @@ pub record LeastField (field : Field) (before values others : List Value) (bytes
   pub least : AreOrExceed bytes (shortest_of field (values ++ others))
   pub others_left : values_after field (values ++ others) ≡ others
 
-field_least : (field : Field) (before values others : List Value) (bytes : List ℕ) → IsField field before values bytes → LeastField field before values others bytes
+pub field_least : (field : Field) (before values others : List Value) (bytes : List ℕ) → IsField field before values bytes → LeastField field before values others bytes
 field_least Varint before values others bytes s =
     let a = number_least s.0 bytes s.2 in
     subst (λ (v : List Value). LeastField Varint before v others bytes) (sym s.1)

@@ -1,5 +1,5 @@
 -- The shortest spelling of each frame at its place: it is one, and no other is as short.
-use Rattle.std.proofs.Common.{◌≡◌, ℕ, zero, suc, ◌+◌, ◌-◌, ◌^◌, ◌<◌, ◌≤◌, Bool, true, false, eqb, cond, List, [], ◌∷◌, ◌++◌, length, Option, Some, None, refl, sym, ap, subst, ◌∙◌, append_assoc, inl, inr, arith}
+use Rattle.std.proofs.Common.{◌≡◌, ℕ, ◌+◌, ◌^◌, ◌<◌, ◌≤◌, Bool, true, false, eqb, cond, List, [], ◌∷◌, ◌++◌, length, Option, Some, refl, sym, ap, subst, ◌∙◌, inl, inr, arith}
 use Rattle.std.specs.Prelude.{⊤, ◌⊎◌, not}
 use Rattle.std.specs.Map.{lookup}
 use Rattle.std.proofs.lemmas.List.{length-append, append-nil}
@@ -9,15 +9,15 @@ use Rattle.quic_base.proofs.PublicLaws.{short_spells, length-short, spelled_boun
 use Rattle.quic_base.specs.declared.ids.Dir.{Dir}
 use Rattle.quic_base.specs.declared.ids.Dir.TheVariants.{Bi, Uni}
 use Rattle.quic_base.specs.Ids.{dir_number}
-use Rattle.quic_frames.specs.Field.{Value, Number, Bytes, Ranges, Field, Varint, Counted, Rest, Unwritten, Blocks, IsField, AreFields}
-use Rattle.quic_frames.specs.Table.{Name, Ack, Stream, Datagram, MaxStreams, StreamsBlocked, Row, rows, row_of, is_open, is_open_row, offset_field, data_field, stream_row, datagram_row, max_streams_row, streams_blocked_row, ack_row, ack_ecn_row}
-use Rattle.quic_frames.specs.Payload.{Meaning, Found, IsType, IsFrame}
+use Rattle.quic_frames.specs.Field.{Value, Number, Bytes, IsField, AreFields}
+use Rattle.quic_frames.specs.Table.{Name, Ack, Stream, Datagram, MaxStreams, StreamsBlocked, Row, rows, row_of, is_open, offset_field, data_field, stream_row, datagram_row, max_streams_row, streams_blocked_row, ack_row, ack_ecn_row}
+use Rattle.quic_frames.specs.Payload.{Meaning, Found, IsFrame}
 use Rattle.quic_frames.specs.Meaning.{frame_of, flag}
-use Rattle.quic_frames.specs.Shortest.{shortest_of, values_after, shortest_fields, shortest_row, written_type, shortest_frame}
+use Rattle.quic_frames.specs.Shortest.{shortest_fields, shortest_row, written_type, shortest_frame}
 use Rattle.quic_frames.specs.Least.{AreOrExceed, as_written}
 use Rattle.quic_frames.proofs.Steps.{true_is_not_false}
 use Rattle.quic_frames.proofs.Varints.{varint_some}
-use Rattle.quic_frames.proofs.LeastFields.{both_least, at_most, number_least, Fits, AllFit, fields_spelled, fields_least}
+use Rattle.quic_frames.proofs.LeastFields.{both_least, at_most, number_least, AllFit, fields_spelled, fields_least}
 
 -- The type has a row of the frame's name, and the frame's values fit its fields. A frame that takes all that is left is the last.
 pub record FitsRow (last : Bool) (t : ℕ) (frame : Meaning) : Type 0 where

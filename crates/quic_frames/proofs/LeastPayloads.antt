@@ -1,14 +1,13 @@
 -- Frames one after the other: the shortest of their spellings.
-use Rattle.std.proofs.Common.{◌≡◌, ℕ, ◌+◌, ◌<◌, Bool, true, false, List, [], ◌∷◌, ◌++◌, length, map, refl, sym, ap, subst, ◌∙◌, inl, inr, arith}
-use Rattle.std.specs.Prelude.{⊤, ◌⊎◌}
+use Rattle.std.proofs.Common.{◌≡◌, ℕ, Bool, true, false, List, [], ◌∷◌, ◌++◌, length, map, refl, sym, ap, subst, inl, arith}
+use Rattle.std.specs.Prelude.{⊤}
 use Rattle.std.proofs.lemmas.List.{length-append}
-use Rattle.quic_frames.specs.Table.{is_open}
-use Rattle.quic_frames.specs.Payload.{Meaning, Found, IsFrame, AreFrames}
+use Rattle.quic_frames.specs.Payload.{Meaning, Found, AreFrames}
 use Rattle.quic_frames.specs.Shortest.{written_type, shortest_frame}
-use Rattle.quic_frames.specs.Least.{AreOrExceed, is_end, shortest_frames, frame_in, as_written, all_written}
+use Rattle.quic_frames.specs.Least.{AreOrExceed, is_end, shortest_frames, frame_in, all_written}
 use Rattle.quic_frames.proofs.Items.{frame_some}
 use Rattle.quic_frames.proofs.LeastFields.{both_least}
-use Rattle.quic_frames.proofs.LeastFrames.{FitsRow, frame_spelled, LeastFrame, frame_least}
+use Rattle.quic_frames.proofs.LeastFrames.{FitsRow, frame_spelled, frame_least}
 
 -- Each frame fits the row of its type at its place.
 abbrev pub FitRows : List Meaning → Type 0

@@ -1,5 +1,5 @@
 -- What is written of frames is read back as these frames.
-use Rattle.std.proofs.Common.{◌≡◌, ℕ, ◌+◌, ◌^◌, ◌<◌, ◌≤◌, Bool, true, false, eqb, ltb, List, [], ◌∷◌, ◌++◌, length, map, Option, Some, None, refl, sym, ap, subst, ◌∙◌, arith}
+use Rattle.std.proofs.Common.{◌≡◌, ℕ, ◌^◌, ◌<◌, ◌≤◌, Bool, true, false, List, [], ◌∷◌, map, Option, Some, None, refl, sym, subst, ◌∙◌, arith}
 use Rattle.std.specs.Prelude.{nat_le}
 use Rattle.std.proofs.lemmas.Bool.Decides.{nat_tests}
 use Rattle.quic_base.specs.declared.ids.Dir.{Dir}
@@ -11,15 +11,14 @@ use Rattle.quic_frames.specs.declared.frame.close.Close.{Close}
 use Rattle.quic_frames.specs.declared.frame.close.Close.TheVariants as closes
 use Rattle.quic_frames.specs.declared.frame.ack.Ack.{Ack}
 use Rattle.quic_frames.specs.declared.frame.ack.EcnCounts.{EcnCounts}
-use Rattle.quic_frames.specs.Field.{Value, Number, Bytes, Ranges, AreApart}
+use Rattle.quic_frames.specs.Field.{Value, Number, Ranges, AreApart}
 use Rattle.quic_frames.specs.Table as table
 use Rattle.quic_frames.specs.Table.{Name, Row, row_of, is_open}
 use Rattle.quic_frames.specs.Acks.{ranges_acked}
 use Rattle.quic_frames.specs.Meaning.{frame_of, counts_of, meaning_of}
-use Rattle.quic_frames.specs.Payload.{Meaning, IsFrame, AreFrames}
+use Rattle.quic_frames.specs.Payload.{IsFrame, AreFrames}
 use Rattle.quic_frames.specs.Shortest.{written_type, shortest_frame}
 use Rattle.quic_frames.specs.Least.{is_end, shortest_frames, as_written, all_written}
-use Rattle.quic_frames.specs.Writing.{AreNumeric}
 use Rattle.quic_frames.specs.InRange.{AreCounts, InRange, IsTyped, AreTyped, CanStand, CanFollow}
 use Rattle.quic_frames.proofs.Steps.{true_is_not_false}
 use Rattle.quic_frames.proofs.Apart.{acked_apart}

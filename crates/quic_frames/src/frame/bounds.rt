@@ -10,7 +10,11 @@ impl Frame<'_> {
     {
         match self {
             Frame::ResetStream(r) => {
-                let _ = (u64::from(r.id), r.error_code.into_inner(), r.final_offset.into_inner());
+                let _ = (
+                    u64::from(r.id),
+                    r.error_code.into_inner(),
+                    r.final_offset.into_inner(),
+                );
             }
             Frame::StopSending(s) => {
                 let _ = (u64::from(s.id), s.error_code.into_inner());
@@ -37,8 +41,14 @@ impl Frame<'_> {
                 let _ = c.error_code.into_inner();
             }
             Frame::AckFrequency(f) => {
-                let _ = (f.sequence.into_inner(), f.ack_eliciting_threshold.into_inner());
-                let _ = (f.request_max_ack_delay.into_inner(), f.reordering_threshold.into_inner());
+                let _ = (
+                    f.sequence.into_inner(),
+                    f.ack_eliciting_threshold.into_inner(),
+                );
+                let _ = (
+                    f.request_max_ack_delay.into_inner(),
+                    f.reordering_threshold.into_inner(),
+                );
             }
             _ => {}
         }

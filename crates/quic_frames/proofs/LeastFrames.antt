@@ -96,18 +96,27 @@ same_type last t r values type_bytes field_bytes s e =
       least = subst (AreOrExceed (type_bytes ++ field_bytes)) (sym whole) (both_least (short t) (shortest_fields r.fields values) type_bytes field_bytes n.1 least);
     }
 
+-- a type of one byte, whose frames take all that is left where they are the last
+record HasRow (last : Bool) (t : ℕ) (r : Row) : Type 0 where
+  in_table : row_of t ≡ Some r
+  opens : is_open t ≡ last
+  small : t < 2 ^ 62
+  one_byte : size t ≡ 1
+
+fits_row : (last : Bool) (t : ℕ) (r : Row) (values : List Value) → HasRow last t r → AllFit r.fields [] values → FitsRow last t (frame_of r.name values)
+fits_row last t r values h fields = record { small = h.small; closed = λ opens. sym h.opens ∙ opens; row = r; in_table = h.in_table; name = refl; fields = fields }
+
 -- a frame that is written by another type, where its fields are shorter
-other_type : (last : Bool) (t : ℕ) (r : Row) (values : List Value) (type_bytes field_bytes : List ℕ) → written_type last r.name values ≡ t → FitsRow last t (frame_of r.name values) → row_of t ≡ Some r
-    → length (short t) ≤ length type_bytes → length (shortest_fields r.fields values) < length field_bytes
-    → LeastFrame last (frame_of r.name values) (type_bytes ++ field_bytes)
+other_type : (last : Bool) (t : ℕ) (r : Row) (values : List Value) (type_bytes field_bytes : List ℕ) → written_type last r.name values ≡ t → HasRow last t r → AllFit r.fields [] values
+    → 0 < length type_bytes → length (shortest_fields r.fields values) < length field_bytes → LeastFrame last (frame_of r.name values) (type_bytes ++ field_bytes)
 unfolding shortest_frame
-other_type last t r values type_bytes field_bytes e fits in_table le lt =
+other_type last t r values type_bytes field_bytes e h fields some lt =
     let whole : shortest_frame last (frame_of r.name values) ≡ short t ++ shortest_fields r.fields values =
-    ap (λ (u : ℕ). short u ++ shortest_row (row_of u) values) e ∙ ap (λ (o : Option Row). short t ++ shortest_row o values) in_table in
+    ap (λ (u : ℕ). short u ++ shortest_row (row_of u) values) e ∙ ap (λ (o : Option Row). short t ++ shortest_row o values) h.in_table in
     let sizes = ap length whole ∙ length-append (short t) (shortest_fields r.fields values) in
     record {
-      fits = subst (λ (u : ℕ). FitsRow last u (frame_of r.name values)) (sym e) fits;
-      least = inr (omega (arith, sizes, length-append type_bytes field_bytes, le, lt));
+      fits = subst (λ (u : ℕ). FitsRow last u (frame_of r.name values)) (sym e) (fits_row last t r values h fields);
+      least = inr (omega (arith, sizes, length-append type_bytes field_bytes, length-short t, h.one_byte, some, lt));
     }
 
 -- ---- an offset and data, left out or not
@@ -170,13 +179,7 @@ better_content false false content bytes closed s =
 abbrev stream_type : Bool → Bool → Bool → ℕ
 stream_type at_start last fin = 8 + cond at_start 0 4 + cond (eqb (cond fin 1 0) 1) 1 0 + cond last 0 2
 
-record StreamType (at_start last fin : Bool) : Type 0 where
-  in_table : row_of (stream_type at_start last fin) ≡ Some (stream_row (not at_start) (not last) fin)
-  opens : is_open (stream_type at_start last fin) ≡ last
-  small : stream_type at_start last fin < 2 ^ 62
-  one_byte : size (stream_type at_start last fin) ≡ 1
-
-stream_type_is : (at_start last fin : Bool) → StreamType at_start last fin
+stream_type_is : (at_start last fin : Bool) → HasRow last (stream_type at_start last fin) (stream_row (not at_start) (not last) fin)
 unfolding size
 stream_type_is true true true = record { in_table = refl; opens = refl; small = omega arith; one_byte = refl }
 stream_type_is true true false = record { in_table = refl; opens = refl; small = omega arith; one_byte = refl }
@@ -246,8 +249,8 @@ stream_fits false false fin id offset content e i o d = (refl, (i, (o, (d refl, 
 pub stream_row_fits : (last fin : Bool) (id offset : ℕ) (content : List ℕ) → id < 2 ^ 62 → offset < 2 ^ 62 → (last ≡ false → length content < 2 ^ 62)
     → FitsRow last (written_type last Stream (stream_values fin id offset content)) (frame_of Stream (stream_values fin id offset content))
 stream_row_fits last fin id offset content i o d =
-    let t = stream_type_is (eqb offset 0) last fin in
-    record { small = t.small; closed = λ h. sym t.opens ∙ h; row = stream_row (not (eqb offset 0)) (not last) fin; in_table = t.in_table; name = refl; fields = stream_fits (eqb offset 0) last fin id offset content refl i o d }
+    let start = eqb offset 0 in
+    fits_row last (stream_type start last fin) (stream_row (not start) (not last) fin) (stream_values fin id offset content) (stream_type_is start last fin) (stream_fits start last fin id offset content refl i o d)
 
 stream_least : (at_start end fin : Bool) → IsLeastRow (stream_type at_start end fin) (stream_row (not at_start) (not end) fin)
 stream_least at_start end fin last values type_bytes field_bytes s =
@@ -255,19 +258,17 @@ stream_least at_start end fin last values type_bytes field_bytes s =
     let o = better_offset at_start p.offset p.offset_bytes p.offset_is in
     let d = better_content end last p.content p.content_bytes (λ h. s.closed ((stream_type_is at_start end fin).opens ∙ h)) p.content_is in
     let start = eqb p.offset 0 in
-    let ty = stream_type_is start last fin in
     let row = stream_row (not start) (not last) fin in
     let type_is : written_type last Stream values ≡ stream_type start last fin = ap (written_type last Stream) p.are in
-    let fits : FitsRow last (stream_type start last fin) (frame_of Stream values) =
-    subst (λ (v : List Value). FitsRow last (stream_type start last fin) (frame_of Stream v)) (sym p.are) (stream_row_fits last fin p.id p.offset p.content (spelled_bound p.id p.id_bytes p.id_is).0 o.0 d.0) in
+    let fields : AllFit row.fields [] values =
+    subst (AllFit row.fields []) (sym p.are) (stream_fits start last fin p.id p.offset p.content refl (spelled_bound p.id p.id_bytes p.id_is).0 o.0 d.0) in
     let sizes : length (shortest_fields row.fields values) ≡ length (short p.id) + (length (least_offset start p.offset) + length (least_content last p.content)) =
     ap (λ (v : List Value). length (shortest_fields row.fields v)) p.are ∙ ap length (stream_bytes start last fin p.id p.offset p.content)
     ∙ lengths (short p.id) (least_offset start p.offset) (least_content last p.content) in
     let stood : length field_bytes ≡ length p.id_bytes + (length p.offset_bytes + length p.content_bytes) = ap length p.parts ∙ lengths p.id_bytes p.offset_bytes p.content_bytes in
     let id_le = short_enough p.id p.id_bytes p.id_is in
     let other : length (shortest_fields row.fields values) < length field_bytes → LeastFrame last (frame_of Stream values) (type_bytes ++ field_bytes) =
-    λ lt. other_type last (stream_type start last fin) row values type_bytes field_bytes type_is fits ty.in_table
-    (omega (arith, varint_some (stream_type at_start end fin) type_bytes s.type_spelled, length-short (stream_type start last fin), ty.one_byte)) lt in
+    λ lt. other_type last (stream_type start last fin) row values type_bytes field_bytes type_is (stream_type_is start last fin) fields (varint_some (stream_type at_start end fin) type_bytes s.type_spelled) lt in
     elim o.1.shorter [
       | inr lt ↦ other (omega (arith, sizes, stood, id_le, lt, d.1.no_longer))
       | inl same ↦ elim d.1.shorter [
@@ -285,13 +286,7 @@ stream_least at_start end fin last values type_bytes field_bytes s =
 abbrev datagram_type : Bool → ℕ
 datagram_type last = cond last 0x30 0x31
 
-record DatagramType (last : Bool) : Type 0 where
-  in_table : row_of (datagram_type last) ≡ Some (datagram_row (not last))
-  opens : is_open (datagram_type last) ≡ last
-  small : datagram_type last < 2 ^ 62
-  one_byte : size (datagram_type last) ≡ 1
-
-datagram_type_is : (last : Bool) → DatagramType last
+datagram_type_is : (last : Bool) → HasRow last (datagram_type last) (datagram_row (not last))
 unfolding size
 datagram_type_is true = record { in_table = refl; opens = refl; small = omega arith; one_byte = refl }
 datagram_type_is false = record { in_table = refl; opens = refl; small = omega arith; one_byte = refl }
@@ -306,8 +301,7 @@ datagram_fits false content d = (d refl, refl)
 
 pub datagram_row_fits : (last : Bool) (content : List ℕ) → (last ≡ false → length content < 2 ^ 62) → FitsRow last (datagram_type last) (frame_of Datagram (Bytes content ∷ []))
 datagram_row_fits last content d =
-    let t = datagram_type_is last in
-    record { small = t.small; closed = λ h. sym t.opens ∙ h; row = datagram_row (not last); in_table = t.in_table; name = refl; fields = datagram_fits last content d }
+    fits_row last (datagram_type last) (datagram_row (not last)) (Bytes content ∷ []) (datagram_type_is last) (datagram_fits last content d)
 
 datagram_least : (end : Bool) → IsLeastRow (datagram_type end) (datagram_row (not end))
 datagram_least end last values type_bytes field_bytes s =
@@ -316,14 +310,13 @@ datagram_least end last values type_bytes field_bytes s =
     let are : values ≡ Bytes content ∷ [] = s.fields.5.0 ∙ c.1 in
     let stood : length field_bytes ≡ length s.fields.1 = ap length (s.fields.3 ∙ ap (λ (l : List ℕ). s.fields.1 ++ l) s.fields.5.1 ∙ append-nil s.fields.1) in
     let d = better_content end last content s.fields.1 (λ h. s.closed ((datagram_type_is end).opens ∙ h)) c.2 in
-    let ty = datagram_type_is last in
     let row = datagram_row (not last) in
-    let fits : FitsRow last (datagram_type last) (frame_of Datagram values) = subst (λ (v : List Value). FitsRow last (datagram_type last) (frame_of Datagram v)) (sym are) (datagram_row_fits last content d.0) in
+    let fields : AllFit row.fields [] values = subst (AllFit row.fields []) (sym are) (datagram_fits last content d.0) in
     let sizes : length (shortest_fields row.fields values) ≡ length (least_content last content) =
     ap (λ (v : List Value). length (shortest_fields row.fields v)) are ∙ ap length (datagram_bytes last content) in
     elim d.1.shorter [
-      | inr lt ↦ other_type last (datagram_type last) row values type_bytes field_bytes refl fits ty.in_table
-          (omega (arith, varint_some (datagram_type end) type_bytes s.type_spelled, length-short (datagram_type last), ty.one_byte)) (omega (arith, sizes, stood, lt))
+      | inr lt ↦ other_type last (datagram_type last) row values type_bytes field_bytes refl (datagram_type_is last) fields
+          (varint_some (datagram_type end) type_bytes s.type_spelled) (omega (arith, sizes, stood, lt))
       | inl same ↦ same_type last (datagram_type end) (datagram_row (not end)) values type_bytes field_bytes s (ap datagram_type (sym same))
     ]
 
@@ -355,6 +348,7 @@ infixr 5 ◌&◌
 ◌&◌ : {A B : Type 0} → A → B → A × B
 a & b = (a, b)
 
+-- in the order of the table
 each_least : Each IsLeastRow rows
 each_least =
     plain refl (λ last values. refl) & plain refl (λ last values. refl) & one_type refl ack_type & one_type refl ack_ecn_type

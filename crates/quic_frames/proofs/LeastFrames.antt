@@ -190,7 +190,7 @@ stream_type_is false true false = record { in_table = refl; opens = refl; small 
 stream_type_is false false true = record { in_table = refl; opens = refl; small = omega arith; one_byte = refl }
 stream_type_is false false false = record { in_table = refl; opens = refl; small = omega arith; one_byte = refl }
 
-abbrev stream_values : Bool → ℕ → ℕ → List ℕ → List Value
+abbrev pub stream_values : Bool → ℕ → ℕ → List ℕ → List Value
 stream_values fin id offset content = flag fin ∷ Number id ∷ Number offset ∷ Bytes content ∷ []
 
 record StreamParts (at_start end fin : Bool) (values : List Value) (bytes : List ℕ) : Type 0 where
@@ -252,6 +252,23 @@ stream_row_fits last fin id offset content i o d =
     let start = eqb offset 0 in
     fits_row last (stream_type start last fin) (stream_row (not start) (not last) fin) (stream_values fin id offset content) (stream_type_is start last fin) (stream_fits start last fin id offset content refl i o d)
 
+row_is : (r s : Row) → (let o : Option Row = Some r in o) ≡ Some s → r ≡ s
+row_is r s e = cc
+
+-- the other way round: the values of a frame whose row is known
+pub in_row : {last : Bool} {t : ℕ} {frame : Meaning} {r : Row} → row_of t ≡ Some r → FitsRow last t frame → AllFit r.fields [] frame.values
+in_row {frame} {r} e f = subst (λ (x : Row). AllFit x.fields [] frame.values) (row_is f.row r (sym f.in_table ∙ e)) f.fields
+
+pub stream_limits : (last fin : Bool) (id offset : ℕ) (content : List ℕ) → FitsRow last (written_type last Stream (stream_values fin id offset content)) (frame_of Stream (stream_values fin id offset content))
+    → (offset < 2 ^ 62) × (last ≡ false → length content < 2 ^ 62)
+stream_limits last fin id offset content f = by_cases (eqb offset 0) last (in_row (stream_type_is (eqb offset 0) last fin).in_table f)
+  where
+    by_cases : (at_start last : Bool) → AllFit (stream_row (not at_start) (not last) fin).fields [] (stream_values fin id offset content) → (offset < 2 ^ 62) × (last ≡ false → length content < 2 ^ 62)
+    by_cases true true v = (omega (arith, v.1.1.0), λ e. absurd (true_is_not_false e))
+    by_cases true false v = (omega (arith, v.1.1.0), λ _. v.1.1.1.0)
+    by_cases false true v = (v.1.1.0, λ e. absurd (true_is_not_false e))
+    by_cases false false v = (v.1.1.0, λ _. v.1.1.1.0)
+
 stream_least : (at_start end fin : Bool) → IsLeastRow (stream_type at_start end fin) (stream_row (not at_start) (not end) fin)
 stream_least at_start end fin last values type_bytes field_bytes s =
     let p = stream_parts at_start end fin values field_bytes s.fields in
@@ -302,6 +319,10 @@ datagram_fits false content d = (d refl, refl)
 pub datagram_row_fits : (last : Bool) (content : List ℕ) → (last ≡ false → length content < 2 ^ 62) → FitsRow last (datagram_type last) (frame_of Datagram (Bytes content ∷ []))
 datagram_row_fits last content d =
     fits_row last (datagram_type last) (datagram_row (not last)) (Bytes content ∷ []) (datagram_type_is last) (datagram_fits last content d)
+
+pub datagram_limit : (last : Bool) (content : List ℕ) → FitsRow last (datagram_type last) (frame_of Datagram (Bytes content ∷ [])) → last ≡ false → length content < 2 ^ 62
+datagram_limit true content f e = absurd (true_is_not_false e)
+datagram_limit false content f e = (in_row (datagram_type_is false).in_table f).0
 
 datagram_least : (end : Bool) → IsLeastRow (datagram_type end) (datagram_row (not end))
 datagram_least end last values type_bytes field_bytes s =

@@ -16,3 +16,4 @@ mod LeastFields
 mod LeastFrames
 mod LeastPayloads
 mod ReadBack
+mod InRange

@@ -51,6 +51,11 @@ abbrev pub AreTyped : List Frame → Type 0
 AreTyped [] = ⊤
 AreTyped (frame ∷ others) = IsTyped frame × AreTyped others
 
+-- a close whose type isn't given as 0, which is read as no type
+abbrev pub IsToldApart : Frame → Type 0
+IsToldApart (frames.Close (closes.Connection c)) = c.frame_type ≢ Some 0
+IsToldApart frame = ⊤
+
 -- the data whose length is written only where the frame isn't the last
 abbrev pub open_data : Frame → List ℕ
 open_data (frames.Stream s) = s.bytes.now

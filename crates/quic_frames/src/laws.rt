@@ -2,7 +2,8 @@
 ghost use Rattle.std.specs.Prelude.{◌≡◌, ◌++◌, ℕ, List, None, Option, Bool, true, false, map};
 ghost use Rattle.quic_base.specs.Number.{AreBytes};
 ghost use Rattle.quic_frames.specs.Field.{AreApart, AreBlocks};
-ghost use Rattle.quic_frames.specs.InRange.{IsTyped, AreTyped, CanStand, CanFollow};
+ghost use Rattle.quic_frames.specs.Found.{found_as};
+ghost use Rattle.quic_frames.specs.InRange.{IsTyped, AreTyped, IsToldApart, CanStand, CanFollow};
 ghost use Rattle.quic_frames.specs.Least.{AreOrExceed, shortest_frames, frame_in, as_written, all_written};
 ghost use Rattle.quic_frames.specs.Meaning.{meaning_of};
 ghost use Rattle.quic_frames.specs.Payload.{Meaning, Found, IsFrame, AreFrames, IsBroken, IsEither};
@@ -56,4 +57,7 @@ pub fn read_back()
     ensures all { (strict : Bool) (fs : List Frame) → AreTyped fs → CanFollow fs
         → AreFrames strict (all_written (map meaning_of fs)) (shortest_frames (map meaning_of fs))
         × (map frame_in (all_written (map meaning_of fs)) ≡ map meaning_of fs) }
+    // What is asked of a frame that is written holds of each frame that is spelled.
+    ensures exact { (last : Bool) (t : ℕ) (frame : Frame) (bytes : List ℕ) → IsToldApart frame
+        → IsFrame false (found_as t frame) bytes → (is_open t ≡ true → last ≡ true) → CanStand last frame }
 {}

@@ -18,3 +18,8 @@ mod Spelled
 mod Sets
 mod AckParts
 mod Held
+mod LeastFields
+mod LeastFrames
+mod LeastPayloads
+mod ReadBack
+mod InRange

@@ -4,6 +4,7 @@ use Rattle.quic_frames.specs.declared.frame.Frame.{Frame}
 use Rattle.quic_frames.specs.declared.frame.Frame.TheVariants as frames
 use Rattle.quic_frames.specs.declared.frame.close.Close.TheVariants as closes
 use Rattle.quic_frames.specs.declared.frame.ack.EcnCounts.{EcnCounts}
+use Rattle.quic_frames.specs.Types.{type_or_zero}
 use Rattle.quic_frames.specs.Writing.{AreNumeric}
 use Rattle.quic_frames.specs.Least.{is_end}
 
@@ -29,6 +30,31 @@ InRange (frames.RetireConnectionId sequence) = sequence < 2 ^ 62
 InRange (frames.Close (closes.Connection c)) = (c.frame_type ≢ Some 0) × (length c.reason.now < 2 ^ 62)
 InRange (frames.Close (closes.Application c)) = length c.reason.now < 2 ^ 62
 InRange frame = ⊤
+
+-- What the types of a frame's parts hold by themselves: where numbers are below 2^62 or 2^64, and that a token has 16 bytes.
+abbrev pub IsTyped : Frame → Type 0
+IsTyped (frames.ResetStream r) = AreNumeric (r.id ∷ r.error_code ∷ r.final_offset ∷ [])
+IsTyped (frames.StopSending s) = AreNumeric (s.id ∷ s.error_code ∷ [])
+IsTyped (frames.Stream s) = s.id < 2 ^ 62
+IsTyped (frames.MaxData n) = n < 2 ^ 62
+IsTyped (frames.MaxStreamData id offset) = id < 2 ^ 62
+IsTyped (frames.StreamDataBlocked id offset) = id < 2 ^ 62
+IsTyped (frames.NewConnectionId n) = length n.reset_token ≡ 16
+IsTyped (frames.PathChallenge n) = n < 2 ^ 64
+IsTyped (frames.PathResponse n) = n < 2 ^ 64
+IsTyped (frames.Close (closes.Connection c)) = AreNumeric (c.error_code ∷ type_or_zero c.frame_type ∷ [])
+IsTyped (frames.Close (closes.Application c)) = c.error_code < 2 ^ 62
+IsTyped (frames.AckFrequency f) = AreNumeric (f.sequence ∷ f.ack_eliciting_threshold ∷ f.request_max_ack_delay ∷ f.reordering_threshold ∷ [])
+IsTyped frame = ⊤
+
+abbrev pub AreTyped : List Frame → Type 0
+AreTyped [] = ⊤
+AreTyped (frame ∷ others) = IsTyped frame × AreTyped others
+
+-- a close whose type isn't given as 0, which is read as no type
+abbrev pub IsToldApart : Frame → Type 0
+IsToldApart (frames.Close (closes.Connection c)) = c.frame_type ≢ Some 0
+IsToldApart frame = ⊤
 
 -- the data whose length is written only where the frame isn't the last
 abbrev pub open_data : Frame → List ℕ

@@ -1,7 +1,7 @@
 -- The least of the spellings of frames.
 use Rattle.std.specs.Prelude.{◌≡◌, ◌⊎◌, ℕ, ◌<◌, List, [], ◌∷◌, ◌++◌, length, Bool, true, false}
-use Rattle.quic_frames.specs.Payload.{Meaning}
-use Rattle.quic_frames.specs.Shortest.{shortest_frame}
+use Rattle.quic_frames.specs.Payload.{Meaning, Found}
+use Rattle.quic_frames.specs.Shortest.{written_type, shortest_frame}
 
 -- The bytes are these, or more.
 abbrev pub AreOrExceed : List ℕ → List ℕ → Type 0
@@ -15,3 +15,15 @@ is_end (frame ∷ frames) = false
 abbrev pub shortest_frames : List Meaning → List ℕ
 shortest_frames [] = []
 shortest_frames (frame ∷ frames) = shortest_frame (is_end frames) frame ++ shortest_frames frames
+
+-- a frame without the type that it has where it stands, and with the one by which it is written
+abbrev pub frame_in : Found → Meaning
+frame_in found = found.frame
+
+abbrev pub as_written : Bool → Meaning → Found
+as_written last frame = record { type = written_type last frame.name frame.values; frame = frame }
+
+-- the same of frames one after the other
+abbrev pub all_written : List Meaning → List Found
+all_written [] = []
+all_written (frame ∷ frames) = as_written (is_end frames) frame ∷ all_written frames

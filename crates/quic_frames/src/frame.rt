@@ -6,6 +6,7 @@ use quic_base::varint::VarInt;
 
 mod ack;
 mod ack_encode;
+mod bounds;
 mod close;
 mod datagrams;
 mod encode;

@@ -1,14 +1,19 @@
 //! Laws of payloads, which no single call carries. The functions do nothing.
-ghost use Rattle.std.specs.Prelude.{◌≡◌, ◌≢◌, ◌++◌, ℕ, List, [], None, Option, false};
+ghost use Rattle.std.specs.Prelude.{◌≡◌, ◌≢◌, ◌++◌, ℕ, List, [], None, Option, Bool, true, false, map};
 ghost use Rattle.std.specs.declared.ops.Range.{Range};
 ghost use Rattle.quic_base.specs.Number.{AreBytes};
 ghost use Rattle.quic_ranges.specs.Runs.{IsMaximalRuns, IsGreatest, member};
 ghost use Rattle.quic_frames.specs.Acks.{ranges_acked};
 ghost use Rattle.quic_frames.specs.Field.{AreApart, AreBlocks};
+ghost use Rattle.quic_frames.specs.Found.{found_as};
+ghost use Rattle.quic_frames.specs.InRange.{IsTyped, AreTyped, IsToldApart, CanStand, CanFollow};
+ghost use Rattle.quic_frames.specs.Least.{AreOrExceed, shortest_frames, frame_in, as_written, all_written};
 ghost use Rattle.quic_frames.specs.Meaning.{meaning_of};
-ghost use Rattle.quic_frames.specs.Payload.{Found, IsFrame, AreFrames, IsBroken, IsEither};
+ghost use Rattle.quic_frames.specs.Payload.{Meaning, Found, IsFrame, AreFrames, IsBroken, IsEither};
 ghost use Rattle.quic_frames.specs.Sets.{ranges_in, greatest_in, is_in, ack_of};
+ghost use Rattle.quic_frames.specs.Shortest.{shortest_frame};
 ghost use Rattle.quic_frames.specs.Table.{is_open};
+ghost use Rattle.quic_frames.specs.declared.frame.Frame.{Frame};
 ghost use Rattle.quic_frames.specs.declared.frame.Frame.TheVariants as frames;
 ghost use Rattle.quic_frames.specs.declared.frame.ack.Ack.{Ack};
 ghost use Rattle.quic_frames.specs.declared.frame.ack.EcnCounts.{EcnCounts};
@@ -45,4 +50,34 @@ pub fn set_acknowledged()
     ensures read { (ack : Ack) (delay : ℕ) (runs : List (Range ℕ)) (counts : Option EcnCounts)
         → meaning_of (frames.Ack ack) ≡ ack_of delay runs counts
         → (ranges_acked ack ≡ ranges_in runs) × (ack.delay ≡ delay) × (ack.ecn ≡ counts) }
+{}
+
+/// Of all spellings of a frame at its place, and of all payloads of the same frames, the shortest is one,
+/// and any other is longer. Its types are in their least widths, and an open frame stands last only.
+pub fn least_spelling()
+    ensures least { (last : Bool) (found : Found) (bytes : List ℕ) → IsFrame false found bytes
+        → (is_open found.type ≡ true → last ≡ true) → AreOrExceed bytes (shortest_frame last found.frame) }
+    ensures spelled { (strict last : Bool) (found : Found) (bytes : List ℕ) → IsFrame false found bytes
+        → (is_open found.type ≡ true → last ≡ true)
+        → IsFrame strict (as_written last found.frame) (shortest_frame last found.frame)
+        × (is_open (as_written last found.frame).type ≡ true → last ≡ true) }
+    ensures all_least { (found : List Found) (bytes : List ℕ) → AreFrames false found bytes
+        → AreOrExceed bytes (shortest_frames (map frame_in found)) }
+    ensures all_spelled { (strict : Bool) (found : List Found) (bytes : List ℕ) → AreFrames false found bytes
+        → AreFrames strict (all_written (map frame_in found)) (shortest_frames (map frame_in found)) }
+    ensures same { (frames : List Meaning) → map frame_in (all_written frames) ≡ frames }
+{}
+
+/// What is written of frames that can be written is read back as these frames, and by `one_reading` as
+/// nothing else. What the types of their parts hold comes of `Frame::type_bounds`.
+pub fn read_back()
+    ensures one { (strict last : Bool) (frame : Frame) → IsTyped frame → CanStand last frame
+        → IsFrame strict (as_written last (meaning_of frame)) (shortest_frame last (meaning_of frame))
+        × (is_open (as_written last (meaning_of frame)).type ≡ true → last ≡ true) }
+    ensures all { (strict : Bool) (fs : List Frame) → AreTyped fs → CanFollow fs
+        → AreFrames strict (all_written (map meaning_of fs)) (shortest_frames (map meaning_of fs))
+        × (map frame_in (all_written (map meaning_of fs)) ≡ map meaning_of fs) }
+    // What is asked of a frame that is written holds of each frame that is spelled.
+    ensures exact { (last : Bool) (t : ℕ) (frame : Frame) (bytes : List ℕ) → IsToldApart frame
+        → IsFrame false (found_as t frame) bytes → (is_open t ≡ true → last ≡ true) → CanStand last frame }
 {}

@@ -134,7 +134,7 @@ fn code_room(code: VarInt) -> usize
 }
 
 // The number of a frame's type, 0 where there is none.
-fn type_or_zero(ty: Option<FrameType>) -> u64
+pub(super) fn type_or_zero(ty: Option<FrameType>) -> u64
     ensures value { result ≡ type_or_zero ty }
     ensures bound { result < 2 ^ 62 }
 {

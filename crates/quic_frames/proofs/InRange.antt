@@ -1,0 +1,79 @@
+-- What is spelled can be written.
+use Rattle.std.proofs.Common.{◌≡◌, ℕ, ◌^◌, ◌<◌, ◌≤◌, Bool, true, false, List, [], ◌∷◌, length, Option, Some, None, refl, ap, arith}
+use Rattle.std.specs.Prelude.{nat_le}
+use Rattle.std.proofs.lemmas.Bool.Decides.{nat_tests}
+use Rattle.quic_base.specs.declared.ids.Dir.{Dir}
+use Rattle.quic_base.specs.declared.ids.Dir.TheVariants.{Bi, Uni}
+use Rattle.quic_base.specs.Ids.{dir_number}
+use Rattle.quic_frames.specs.declared.frame.Frame.{Frame}
+use Rattle.quic_frames.specs.declared.frame.Frame.TheVariants as frames
+use Rattle.quic_frames.specs.declared.frame.close.Close.TheVariants as closes
+use Rattle.quic_frames.specs.declared.frame.ack.Ack.{Ack}
+use Rattle.quic_frames.specs.declared.frame.ack.EcnCounts.{EcnCounts}
+use Rattle.quic_frames.specs.Field.{Number, Ranges}
+use Rattle.quic_frames.specs.Table as table
+use Rattle.quic_frames.specs.Table.{Row, row_of, is_open, stream_row, datagram_row}
+use Rattle.quic_frames.specs.Acks.{ranges_acked}
+use Rattle.quic_frames.specs.Payload.{IsFrame}
+use Rattle.quic_frames.specs.Meaning.{frame_of, counts_of, meaning_of}
+use Rattle.quic_frames.specs.Shortest.{written_type}
+use Rattle.quic_frames.specs.Writing.{AreNumeric}
+use Rattle.quic_frames.specs.InRange.{AreCounts, IsToldApart, InRange, open_data, CanStand}
+use Rattle.quic_frames.proofs.LeastFrames.{FitsRow, in_row, stream_limits, datagram_limit, frame_least}
+
+-- a frame whose data, if it has any, are counted wherever it stands
+closed_frame : {last : Bool} {frame : Frame} → open_data frame ≡ [] → InRange frame → CanStand last frame
+closed_frame {last} {frame} none r = record { in_range = r; counted = λ _. omega (arith, ap length none) }
+
+ack_range : (last : Bool) (a : Ack) (ecn : Option EcnCounts)
+    → FitsRow last (written_type last table.Ack (Number a.largest ∷ Number a.delay ∷ Ranges (ranges_acked a) ∷ counts_of ecn)) (frame_of table.Ack (Number a.largest ∷ Number a.delay ∷ Ranges (ranges_acked a) ∷ counts_of ecn))
+    → AreNumeric (a.largest ∷ a.delay ∷ []) × AreCounts ecn
+ack_range last a None f = let v = in_row refl f in ((v.0, (v.1.0, tt)), tt)
+ack_range last a (Some counts) f =
+    let v = in_row refl f in
+    let c = v.1.1.1 in
+    ((v.0, (v.1.0, tt)), (c.0, (c.1.0, (c.1.1.0, tt))))
+
+max_streams_range : (last : Bool) (dir : Dir) (n : ℕ) → FitsRow last (written_type last table.MaxStreams (Number (dir_number dir) ∷ Number n ∷ [])) (frame_of table.MaxStreams (Number (dir_number dir) ∷ Number n ∷ [])) → n < 2 ^ 62
+max_streams_range last Bi n f = (in_row refl f).1.0
+max_streams_range last Uni n f = (in_row refl f).1.0
+
+streams_blocked_range : (last : Bool) (dir : Dir) (n : ℕ) → FitsRow last (written_type last table.StreamsBlocked (Number (dir_number dir) ∷ Number n ∷ [])) (frame_of table.StreamsBlocked (Number (dir_number dir) ∷ Number n ∷ [])) → n < 2 ^ 62
+streams_blocked_range last Bi n f = (in_row refl f).1.0
+streams_blocked_range last Uni n f = (in_row refl f).1.0
+
+at_most : (m n : ℕ) → nat_le n m ≡ true → n ≤ m
+at_most m n e = grind (arith, nat_tests)
+
+pub can_stand : (last : Bool) (frame : Frame) → IsToldApart frame → FitsRow last (written_type last (meaning_of frame).name (meaning_of frame).values) (meaning_of frame) → CanStand last frame
+can_stand last frames.Padding z f = closed_frame refl tt
+can_stand last frames.Ping z f = closed_frame refl tt
+can_stand last (frames.Ack a) z f = closed_frame refl (ack_range last a a.ecn f)
+can_stand last (frames.ResetStream r) z f = closed_frame refl tt
+can_stand last (frames.StopSending s) z f = closed_frame refl tt
+can_stand last (frames.Crypto c) z f = let v = in_row refl f in closed_frame refl (v.0, (v.1.0, tt))
+can_stand last (frames.NewToken t) z f = closed_frame refl (in_row refl f).0
+can_stand last (frames.Stream s) z f = let v = stream_limits last s.fin s.id s.offset s.bytes.now f in record { in_range = v.0; counted = v.1 }
+can_stand last (frames.MaxData n) z f = closed_frame refl tt
+can_stand last (frames.MaxStreamData id offset) z f = closed_frame refl (in_row refl f).1.0
+can_stand last (frames.MaxStreams dir count) z f = closed_frame refl (max_streams_range last dir count f)
+can_stand last (frames.DataBlocked offset) z f = closed_frame refl (in_row refl f).0
+can_stand last (frames.StreamDataBlocked id offset) z f = closed_frame refl (in_row refl f).1.0
+can_stand last (frames.StreamsBlocked dir limit) z f = closed_frame refl (streams_blocked_range last dir limit f)
+can_stand last (frames.NewConnectionId n) z f =
+    let v = in_row refl f in
+    let id = v.1.1.1.0 in
+    closed_frame refl ((v.0, (v.1.0, tt)), at_most n.sequence n.retire_prior_to v.1.1.0, id.0, id.1)
+can_stand last (frames.RetireConnectionId sequence) z f = closed_frame refl (in_row refl f).0
+can_stand last (frames.PathChallenge n) z f = closed_frame refl tt
+can_stand last (frames.PathResponse n) z f = closed_frame refl tt
+can_stand last (frames.Close (closes.Connection c)) z f = closed_frame refl (z, (in_row refl f).1.1.0)
+can_stand last (frames.Close (closes.Application c)) z f = closed_frame refl (in_row refl f).1.0
+can_stand last frames.HandshakeDone z f = closed_frame refl tt
+can_stand last frames.ImmediateAck z f = closed_frame refl tt
+can_stand last (frames.Datagram d) z f = record { in_range = tt; counted = datagram_limit last d.bytes.now f }
+can_stand last (frames.AckFrequency g) z f = closed_frame refl tt
+
+-- A frame that is spelled where it may stand can be written there.
+pub spelled_can_stand : (last : Bool) (t : ℕ) (frame : Frame) (bytes : List ℕ) → IsToldApart frame → IsFrame false (record { type = t; frame = meaning_of frame }) bytes → (is_open t ≡ true → last ≡ true) → CanStand last frame
+spelled_can_stand last t frame bytes z f closed = can_stand last frame z (frame_least last (record { type = t; frame = meaning_of frame }) bytes f closed).fits

@@ -1,0 +1,102 @@
+-- What is written of frames is read back as these frames.
+use Rattle.std.proofs.Common.{◌≡◌, ℕ, ◌^◌, ◌<◌, ◌≤◌, Bool, true, false, List, [], ◌∷◌, map, Option, Some, None, refl, sym, subst, ◌∙◌, arith}
+use Rattle.std.specs.Prelude.{nat_le}
+use Rattle.std.proofs.lemmas.Bool.Decides.{nat_tests}
+use Rattle.quic_base.specs.declared.ids.Dir.{Dir}
+use Rattle.quic_base.specs.declared.ids.Dir.TheVariants.{Bi, Uni}
+use Rattle.quic_base.specs.Ids.{dir_number}
+use Rattle.quic_frames.specs.declared.frame.Frame.{Frame}
+use Rattle.quic_frames.specs.declared.frame.Frame.TheVariants as frames
+use Rattle.quic_frames.specs.declared.frame.close.Close.{Close}
+use Rattle.quic_frames.specs.declared.frame.close.Close.TheVariants as closes
+use Rattle.quic_frames.specs.declared.frame.ack.Ack.{Ack}
+use Rattle.quic_frames.specs.declared.frame.ack.EcnCounts.{EcnCounts}
+use Rattle.quic_frames.specs.Field.{Value, Number, Ranges, AreApart}
+use Rattle.quic_frames.specs.Table as table
+use Rattle.quic_frames.specs.Table.{Name, Row, row_of, is_open}
+use Rattle.quic_frames.specs.Acks.{ranges_acked}
+use Rattle.quic_frames.specs.Meaning.{frame_of, counts_of, meaning_of}
+use Rattle.quic_frames.specs.Payload.{IsFrame, AreFrames}
+use Rattle.quic_frames.specs.Shortest.{written_type, shortest_frame}
+use Rattle.quic_frames.specs.Least.{is_end, shortest_frames, as_written, all_written}
+use Rattle.quic_frames.specs.InRange.{AreCounts, InRange, IsTyped, AreTyped, CanStand, CanFollow}
+use Rattle.quic_frames.proofs.Steps.{true_is_not_false}
+use Rattle.quic_frames.proofs.Apart.{acked_apart}
+use Rattle.quic_frames.proofs.LeastFields.{FitBlocks, AllFit, blocks_fit}
+use Rattle.quic_frames.proofs.LeastFrames.{FitsRow, frame_spelled, stream_row_fits, datagram_row_fits}
+use Rattle.quic_frames.proofs.LeastPayloads.{FitRows, frames_spelled}
+
+-- a frame whose type is that of a row
+of_row : {last : Bool} {t : ℕ} {r : Row} {values : List Value} → t < 2 ^ 62 → is_open t ≡ false → row_of t ≡ Some r → AllFit r.fields [] values → FitsRow last t (frame_of r.name values)
+of_row {r} lt is_closed in_table fields =
+    record { small = lt; closed = λ opens. absurd (true_is_not_false (sym opens ∙ is_closed)); row = r; in_table = in_table; name = refl; fields = fields }
+
+ranges_fit : (a : Ack) → a.largest < 2 ^ 62 → FitBlocks a.largest (ranges_acked a)
+ranges_fit a lt =
+    let d = acked_apart a.largest a.additional.now a.valid in
+    let apart : AreApart (d.first ∷ d.others) = subst AreApart d.are d.apart in
+    let fits : FitBlocks d.first.1 (d.first ∷ d.others) = blocks_fit d.first d.others (omega (arith, d.top, lt)) apart in
+    subst (FitBlocks a.largest) (sym d.are) (subst (λ (n : ℕ). FitBlocks n (d.first ∷ d.others)) d.top fits)
+
+ack_fits : (last : Bool) (a : Ack) (ecn : Option EcnCounts) → (a.largest < 2 ^ 62) × (a.delay < 2 ^ 62) → AreCounts ecn
+    → FitsRow last (written_type last table.Ack (Number a.largest ∷ Number a.delay ∷ Ranges (ranges_acked a) ∷ counts_of ecn)) (frame_of table.Ack (Number a.largest ∷ Number a.delay ∷ Ranges (ranges_acked a) ∷ counts_of ecn))
+ack_fits last a None n e = of_row (omega arith) refl refl (n.0, (n.1, (ranges_fit a n.0, refl)))
+ack_fits last a (Some counts) n e = of_row (omega arith) refl refl (n.0, (n.1, (ranges_fit a n.0, (e.0, (e.1.0, (e.1.1.0, refl))))))
+
+close_fits : (last : Bool) (c : Close) → IsTyped (frames.Close c) → InRange (frames.Close c) → FitsRow last (written_type last (meaning_of (frames.Close c)).name (meaning_of (frames.Close c)).values) (meaning_of (frames.Close c))
+close_fits last (closes.Connection c) t r = of_row (omega arith) refl refl (t.0, (t.1.0, (r.1, refl)))
+close_fits last (closes.Application c) t r = of_row (omega arith) refl refl (t, (r, refl))
+
+max_streams_fit : (last : Bool) (dir : Dir) (n : ℕ) → n < 2 ^ 62 → FitsRow last (written_type last table.MaxStreams (Number (dir_number dir) ∷ Number n ∷ [])) (frame_of table.MaxStreams (Number (dir_number dir) ∷ Number n ∷ []))
+max_streams_fit last Bi n lt = of_row (omega arith) refl refl (refl, (lt, refl))
+max_streams_fit last Uni n lt = of_row (omega arith) refl refl (refl, (lt, refl))
+
+streams_blocked_fit : (last : Bool) (dir : Dir) (n : ℕ) → n < 2 ^ 62 → FitsRow last (written_type last table.StreamsBlocked (Number (dir_number dir) ∷ Number n ∷ [])) (frame_of table.StreamsBlocked (Number (dir_number dir) ∷ Number n ∷ []))
+streams_blocked_fit last Bi n lt = of_row (omega arith) refl refl (refl, (lt, refl))
+streams_blocked_fit last Uni n lt = of_row (omega arith) refl refl (refl, (lt, refl))
+
+is_at_most : (m n : ℕ) → n ≤ m → nat_le n m ≡ true
+is_at_most m n le = grind (arith, nat_tests)
+
+-- a frame that can be written fits the row of the type by which it is written
+pub frame_fits : (last : Bool) (frame : Frame) → IsTyped frame → CanStand last frame → FitsRow last (written_type last (meaning_of frame).name (meaning_of frame).values) (meaning_of frame)
+frame_fits last frames.Padding t c = of_row (omega arith) refl refl refl
+frame_fits last frames.Ping t c = of_row (omega arith) refl refl refl
+frame_fits last (frames.Ack a) t c = ack_fits last a a.ecn (c.in_range.0.0, c.in_range.0.1.0) c.in_range.1
+frame_fits last (frames.ResetStream r) t c = of_row (omega arith) refl refl (t.0, (t.1.0, (t.1.1.0, refl)))
+frame_fits last (frames.StopSending s) t c = of_row (omega arith) refl refl (t.0, (t.1.0, refl))
+frame_fits last (frames.Crypto d) t c = of_row (omega arith) refl refl (c.in_range.0, (c.in_range.1.0, refl))
+frame_fits last (frames.NewToken d) t c = of_row (omega arith) refl refl (c.in_range, refl)
+frame_fits last (frames.Stream s) t c = stream_row_fits last s.fin s.id s.offset s.bytes.now t c.in_range c.counted
+frame_fits last (frames.MaxData n) t c = of_row (omega arith) refl refl (t, refl)
+frame_fits last (frames.MaxStreamData id offset) t c = of_row (omega arith) refl refl (t, (c.in_range, refl))
+frame_fits last (frames.MaxStreams dir count) t c = max_streams_fit last dir count c.in_range
+frame_fits last (frames.DataBlocked offset) t c = of_row (omega arith) refl refl (c.in_range, refl)
+frame_fits last (frames.StreamDataBlocked id offset) t c = of_row (omega arith) refl refl (t, (c.in_range, refl))
+frame_fits last (frames.StreamsBlocked dir limit) t c = streams_blocked_fit last dir limit c.in_range
+frame_fits last (frames.NewConnectionId n) t c =
+    let r = c.in_range in
+    of_row (omega arith) refl refl (r.0.0, (r.0.1.0, (is_at_most n.sequence n.retire_prior_to r.1, ((r.2, r.3), (t, refl)))))
+frame_fits last (frames.RetireConnectionId sequence) t c = of_row (omega arith) refl refl (c.in_range, refl)
+frame_fits last (frames.PathChallenge n) t c = of_row (omega arith) refl refl (t, refl)
+frame_fits last (frames.PathResponse n) t c = of_row (omega arith) refl refl (t, refl)
+frame_fits last (frames.Close d) t c = close_fits last d t c.in_range
+frame_fits last frames.HandshakeDone t c = of_row (omega arith) refl refl refl
+frame_fits last frames.ImmediateAck t c = of_row (omega arith) refl refl refl
+frame_fits last (frames.Datagram d) t c = datagram_row_fits last d.bytes.now c.counted
+frame_fits last (frames.AckFrequency f) t c = of_row (omega arith) refl refl (t.0, (t.1.0, (t.1.1.0, (t.1.1.1.0, refl))))
+
+-- What is written of a frame is read back as this frame.
+pub frame_read_back : (strict last : Bool) (frame : Frame) → IsTyped frame → CanStand last frame → IsFrame strict (as_written last (meaning_of frame)) (shortest_frame last (meaning_of frame))
+frame_read_back strict last frame t c = frame_spelled strict last (meaning_of frame) (frame_fits last frame t c)
+
+end_of_map : (fs : List Frame) → is_end fs ≡ is_end (map meaning_of fs)
+end_of_map [] = refl
+end_of_map (frame ∷ fs) = refl
+
+frames_fit : (fs : List Frame) → AreTyped fs → CanFollow fs → FitRows (map meaning_of fs)
+frames_fit [] t c = tt
+frames_fit (frame ∷ fs) t c = (frame_fits (is_end (map meaning_of fs)) frame t.0 (subst (λ (last : Bool). CanStand last frame) (end_of_map fs) c.0), frames_fit fs t.1 c.1)
+
+pub frames_read_back : (strict : Bool) (fs : List Frame) → AreTyped fs → CanFollow fs → AreFrames strict (all_written (map meaning_of fs)) (shortest_frames (map meaning_of fs))
+frames_read_back strict fs t c = frames_spelled strict (map meaning_of fs) (frames_fit fs t c)

@@ -1,0 +1,56 @@
+//! What a frame holds by the types of its parts.
+ghost use Rattle.quic_frames.specs.InRange.{IsTyped};
+
+use super::{Close, Frame, encode};
+
+impl Frame<'_> {
+    /// The bounds that the types of the frame's parts hold, as a fact of the frame. It does nothing.
+    pub fn type_bounds(&self)
+        ensures { IsTyped self.now }
+    {
+        match self {
+            Frame::ResetStream(r) => {
+                let _ = (
+                    u64::from(r.id),
+                    r.error_code.into_inner(),
+                    r.final_offset.into_inner(),
+                );
+            }
+            Frame::StopSending(s) => {
+                let _ = (u64::from(s.id), s.error_code.into_inner());
+            }
+            Frame::Stream(s) => {
+                let _ = u64::from(s.id);
+            }
+            Frame::MaxData(n) => {
+                let _ = n.into_inner();
+            }
+            Frame::MaxStreamData { id, .. } | Frame::StreamDataBlocked { id, .. } => {
+                let _ = u64::from(*id);
+            }
+            Frame::NewConnectionId(n) => {
+                let _ = n.reset_token.as_slice();
+            }
+            Frame::PathChallenge(n) | Frame::PathResponse(n) => {
+                let _copy = *n;
+            }
+            Frame::Close(Close::Connection(c)) => {
+                let _ = (u64::from(c.error_code), encode::type_or_zero(c.frame_type));
+            }
+            Frame::Close(Close::Application(c)) => {
+                let _ = c.error_code.into_inner();
+            }
+            Frame::AckFrequency(f) => {
+                let _ = (
+                    f.sequence.into_inner(),
+                    f.ack_eliciting_threshold.into_inner(),
+                );
+                let _ = (
+                    f.request_max_ack_delay.into_inner(),
+                    f.reordering_threshold.into_inner(),
+                );
+            }
+            _ => {}
+        }
+    }
+}

@@ -2,10 +2,11 @@
 use Rattle.std.proofs.Common.{◌≡◌, ℕ, Bool, true, false, List, [], ◌∷◌, ◌++◌, length, refl, sym, ap, ◌∙◌, append_assoc, ◌+◌, ◌-◌, max, ◌≤◌, take, min, arith}
 use Rattle.std.proofs.lemmas.Bool.Decides.{nat_tests}
 use Rattle.std.proofs.lemmas.List.{append-nil, length-append, take_min, length-take}
+use Rattle.quic_base.specs.Number.{bytes_of}
 use Rattle.quic_base.specs.Varint.{short, size}
 use Rattle.quic_base.proofs.PublicLaws.{length-short}
 use Rattle.quic_frames.specs.Field.{Number, Bytes}
-use Rattle.quic_frames.specs.Table.{Crypto, NewToken, NewConnectionId, ConnectionClose, ApplicationClose, Datagram}
+use Rattle.quic_frames.specs.Table.{Crypto, NewToken, NewConnectionId, ConnectionClose, ApplicationClose, Datagram, PathChallenge, PathResponse}
 use Rattle.quic_frames.specs.Meaning.{frame_of}
 use Rattle.quic_frames.specs.Shortest.{shortest_frame, least_room, close_in}
 use Rattle.quic_frames.specs.Types.{type_or_zero}
@@ -57,6 +58,15 @@ datagram_counted bytes = counted (0x31 ∷ []) bytes (length bytes)
 pub datagram_open : (bytes : List ℕ) → shortest_frame true (frame_of Datagram (Bytes bytes ∷ [])) ≡ all_short (0x30 ∷ []) ++ bytes
 unfolding shortest_frame
 datagram_open bytes = in_front (0x30 ∷ []) (bytes ++ []) ∙ ap (λ (k : List ℕ). all_short (0x30 ∷ []) ++ k) (append-nil bytes)
+
+-- a frame of eight bytes
+pub challenge_parts : (last : Bool) (n : ℕ) → shortest_frame last (frame_of PathChallenge (Number n ∷ [])) ≡ short 0x1a ++ bytes_of 8 n
+unfolding shortest_frame
+challenge_parts last n = ap (λ (k : List ℕ). short 0x1a ++ k) (append-nil (bytes_of 8 n))
+
+pub response_parts : (last : Bool) (n : ℕ) → shortest_frame last (frame_of PathResponse (Number n ∷ [])) ≡ short 0x1b ++ bytes_of 8 n
+unfolding shortest_frame
+response_parts last n = ap (λ (k : List ℕ). short 0x1b ++ k) (append-nil (bytes_of 8 n))
 
 -- ---- sizes
 

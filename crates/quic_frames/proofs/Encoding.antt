@@ -147,3 +147,16 @@ datagram_counted_length bytes = ap length (datagram_counted bytes) ∙ length-ap
 
 pub datagram_open_length : (bytes : List ℕ) → length (shortest_frame true (frame_of Datagram (Bytes bytes ∷ []))) ≡ length (all_short (0x30 ∷ [])) + length bytes
 datagram_open_length bytes = ap length (datagram_open bytes) ∙ length-append (all_short (0x30 ∷ [])) bytes
+
+pub new_id_length : (last : Bool) (sequence retire : ℕ) (id token : List ℕ)
+    → length (shortest_frame last (frame_of NewConnectionId (Number sequence ∷ Number retire ∷ Bytes id ∷ Bytes token ∷ []))) ≡ length (all_short (0x18 ∷ sequence ∷ retire ∷ [])) + 1 + length id + length token
+new_id_length last sequence retire id token =
+    omega (arith, ap length (id_parts last sequence retire id token), length-append (all_short (0x18 ∷ sequence ∷ retire ∷ [])) ((length id ∷ id) ++ token), length-append (length id ∷ id) token)
+
+pub challenge_length : (last : Bool) (n : ℕ) → length (shortest_frame last (frame_of PathChallenge (Number n ∷ []))) ≡ 9
+unfolding short bytes_of
+challenge_length last n = ap length (challenge_parts last n)
+
+pub response_length : (last : Bool) (n : ℕ) → length (shortest_frame last (frame_of PathResponse (Number n ∷ []))) ≡ 9
+unfolding short bytes_of
+response_length last n = ap length (response_parts last n)

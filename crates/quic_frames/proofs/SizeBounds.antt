@@ -1,5 +1,5 @@
 -- The shortest spellings of frames keep their bounds.
-use Rattle.std.proofs.Common.{◌≡◌, ℕ, Bool, true, false, List, [], ◌∷◌, ◌++◌, length, Some, ◌+◌, ◌*◌, ◌≤◌, refl, eqb, ap, arith}
+use Rattle.std.proofs.Common.{◌≡◌, ℕ, Bool, true, false, List, [], ◌∷◌, ◌++◌, length, ◌+◌, ◌*◌, ◌≤◌, refl, eqb, ap, arith}
 use Rattle.std.specs.Prelude.{if◌then◌else◌}
 use Rattle.std.proofs.lemmas.List.{length-append}
 use Rattle.quic_base.specs.Varint.{short, size}
@@ -7,10 +7,10 @@ use Rattle.quic_base.proofs.PublicLaws.{length-short}
 use Rattle.quic_frames.specs.Field.{Number, Bytes}
 use Rattle.quic_frames.specs.Table.{ResetStream, StopSending, Crypto, Stream, NewConnectionId, RetireConnectionId, ConnectionClose, ApplicationClose, Datagram}
 use Rattle.quic_frames.specs.Meaning.{frame_of, flag}
-use Rattle.quic_frames.specs.Shortest.{shortest_frame, stream_head, written_offset}
+use Rattle.quic_frames.specs.Shortest.{shortest_frame}
 use Rattle.quic_frames.specs.Writing.{all_short}
 use Rattle.quic_frames.proofs.Encoding.{size_small, connection_close_parts, application_close_parts, crypto_parts, datagram_counted, id_parts}
-use Rattle.quic_frames.proofs.StreamParts.{stream_parts}
+use Rattle.quic_frames.proofs.StreamParts.{stream_length}
 
 -- numbers after a type of one byte
 numbers_bound : (ns : List ℕ) → length (all_short ns) ≤ 8 * length ns
@@ -62,39 +62,9 @@ new_id_bound last sequence retire id token short_id of_16 =
     let some = bound 0x18 (sequence ∷ retire ∷ []) ((length id ∷ id) ++ token) _ refl (id_parts last sequence retire id token) in
     omega (arith, some, length-append (length id ∷ id) token, short_id, of_16)
 
--- ---- STREAM
-
-type_size : (has_no_offset ends : Bool) → size (0x08 + (if has_no_offset then 0 else 4) + (if ends then 1 else 0) + 2) ≡ 1
-unfolding size
-type_size true true = refl
-type_size true false = refl
-type_size false true = refl
-type_size false false = refl
-
-offset_bound : (b : Bool) (offset : ℕ) → length (if b then [] else short offset) ≤ 8
-offset_bound true offset = omega arith
-offset_bound false offset = omega (arith, length-short offset, size_small offset)
-
-head_bound : (fin : Bool) (id offset n : ℕ) → length (stream_head id offset fin (Some n)) ≤ 25
-head_bound fin id offset n =
-    let t = 0x08 + (if eqb offset 0 then 0 else 4) + (if eqb (if fin then 1 else 0) 1 then 1 else 0) + 2 in
-    let back = written_offset offset ++ short n in
-    omega (
-      arith,
-      length-append (short t) (short id ++ back),
-      length-append (short id) back,
-      length-append (written_offset offset) (short n),
-      length-short t,
-      length-short id,
-      length-short n,
-      type_size (eqb offset 0) (eqb (if fin then 1 else 0) 1),
-      size_small id,
-      size_small n,
-      offset_bound (eqb offset 0) offset,
-    )
-
 pub stream_bound : (fin : Bool) (id offset : ℕ) (bytes : List ℕ) → length (shortest_frame false (frame_of Stream (flag fin ∷ Number id ∷ Number offset ∷ Bytes bytes ∷ []))) ≤ 25 + length bytes
-stream_bound fin id offset bytes =
-    let parts = stream_parts false fin id offset bytes in
-    let whole = length-append (stream_head id offset fin (Some (length bytes))) bytes in
-    omega (arith, ap length parts, whole, head_bound fin id offset (length bytes))
+stream_bound fin id offset bytes = omega (arith, stream_length false fin id offset bytes, size_small id, offset_bound (eqb offset 0), size_small (length bytes))
+  where
+    offset_bound : (b : Bool) → (if b then 0 else size offset) ≤ 8
+    offset_bound true = omega arith
+    offset_bound false = size_small offset

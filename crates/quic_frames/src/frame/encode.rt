@@ -5,7 +5,7 @@ ghost use Rattle.quic_frames.specs.Meaning.{meaning_of, connection_close, applic
 ghost use Rattle.quic_frames.specs.Shortest.{shortest_frame, least_room, close_reason, close_in};
 ghost use Rattle.quic_frames.specs.declared.frame.close.Close.TheVariants as closes;
 ghost use Rattle.quic_frames.specs.Types.{type_or_zero};
-ghost use Rattle.quic_frames.specs.Writing.{Writes, all_short};
+ghost use Rattle.quic_frames.specs.Writing.{Writes, AreNumeric, all_short};
 ghost use Rattle.quic_frames.specs.declared.frame.Frame.TheVariants as frames;
 
 use super::{
@@ -24,8 +24,16 @@ impl ResetStream {
         ensures { (last : Bool) → Writes result (shortest_frame last (meaning_of (frames.ResetStream self.now)))
             (B.written out.old) (B.spare out.old) (B.written out.new) (B.spare out.new) }
     {
+        write::numbers(out, &self.numbers())
+    }
+
+    // The numbers that the frame is.
+    pub(super) fn numbers(&self) -> [u64; 4]
+        ensures numbers { result ≡ 0x04 ∷ self.now.id ∷ self.now.error_code ∷ self.now.final_offset ∷ [] }
+        ensures numeric { AreNumeric result }
+    {
         let (id, code) = (u64::from(self.id), self.error_code.into_inner());
-        write::numbers(out, &[0x04, id, code, self.final_offset.into_inner()])
+        [0x04, id, code, self.final_offset.into_inner()]
     }
 }
 
@@ -36,8 +44,15 @@ impl StopSending {
         ensures { (last : Bool) → Writes result (shortest_frame last (meaning_of (frames.StopSending self.now)))
             (B.written out.old) (B.spare out.old) (B.written out.new) (B.spare out.new) }
     {
-        let (id, code) = (u64::from(self.id), self.error_code.into_inner());
-        write::numbers(out, &[0x05, id, code])
+        write::numbers(out, &self.numbers())
+    }
+
+    // The numbers that the frame is.
+    pub(super) fn numbers(&self) -> [u64; 3]
+        ensures numbers { result ≡ 0x05 ∷ self.now.id ∷ self.now.error_code ∷ [] }
+        ensures numeric { AreNumeric result }
+    {
+        [0x05, u64::from(self.id), self.error_code.into_inner()]
     }
 }
 
@@ -48,14 +63,21 @@ impl AckFrequency {
         ensures { (last : Bool) → Writes result (shortest_frame last (meaning_of (frames.AckFrequency self.now)))
             (B.written out.old) (B.spare out.old) (B.written out.new) (B.spare out.new) }
     {
-        let numbers = [
+        write::numbers(out, &self.numbers())
+    }
+
+    // The numbers that the frame is.
+    pub(super) fn numbers(&self) -> [u64; 5]
+        ensures numbers { result ≡ 0xaf ∷ self.now.sequence ∷ self.now.ack_eliciting_threshold ∷ self.now.request_max_ack_delay ∷ self.now.reordering_threshold ∷ [] }
+        ensures numeric { AreNumeric result }
+    {
+        [
             0xaf,
             self.sequence.into_inner(),
             self.ack_eliciting_threshold.into_inner(),
             self.request_max_ack_delay.into_inner(),
             self.reordering_threshold.into_inner(),
-        ];
-        write::numbers(out, &numbers)
+        ]
     }
 }
 

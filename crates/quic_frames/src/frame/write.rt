@@ -114,6 +114,15 @@ pub fn numbers_len(numbers: &[u64]) -> u128
     total
 }
 
+/// How many bytes `numbers_and_bytes` appends.
+pub fn numbers_and_bytes_len(head: &[u64], tail: &[u8]) -> u128
+    requires few { length head.now ≤ 5 }
+    requires numeric { AreNumeric head.now }
+    ensures { result ≡ length (all_short head.now ++ tail.now) }
+{
+    numbers_len(head) + tail.len() as u128
+}
+
 /// Appends numbers and then bytes to a vector. One growth of at most these bytes is made, and where that
 /// is refused `out` is as it was; it can't be where there is spare room for them.
 pub fn append(out: &mut Vec<u8>, head: &[u64], tail: &[u8]) -> Result<(), NoRoom>
@@ -123,7 +132,10 @@ pub fn append(out: &mut Vec<u8>, head: &[u64], tail: &[u8]) -> Result<(), NoRoom
     ensures err { OnErr result (out.new.items ≡ out.old.items) }
     ensures room { vec_len out.old + length (all_short head.now ++ tail.now) ≤ vec_capacity out.old → IsOk result }
 {
-    if out.reserve(numbers_len(head) as usize + tail.len()).is_err() {
+    if out
+        .reserve(numbers_len(head) as usize + tail.len())
+        .is_err()
+    {
         return Err(NoRoom);
     }
     numbers_and_bytes(out, head, tail)

@@ -12,6 +12,7 @@ use Rattle.quic_frames.specs.Table.{is_open}
 use Rattle.quic_frames.specs.Payload.{Found, IsFrame}
 use Rattle.quic_frames.specs.Reading.{Invalid, found_at, Whole, Broken, items_of}
 use Rattle.quic_frames.specs.Found.{found_as}
+use Rattle.quic_frames.specs.InRange.{IsToldApart}
 use Rattle.quic_frames.specs.Way.{Way}
 use Rattle.quic_frames.specs.Walk.{left, bytes_of_value, last_bytes, Stands, Finds}
 use Rattle.quic_frames.proofs.Frames.{TakesFound, found_takes}
@@ -152,9 +153,9 @@ abbrev pub at_place : List ℕ → ℕ → Option ℕ → Way
 at_place payload offset last = record { payload = payload; offset = offset; last = last; is_broken = false }
 
 -- a frame at the offset
-pub finds : (payload : List ℕ) (offset : ℕ) (last : Option ℕ) (ty : ℕ) (frame : Frame) (rest : List ℕ) → AreBytes (drop offset payload) → offset ≤ length payload → offset < length payload
+pub finds : (payload : List ℕ) (offset : ℕ) (last : Option ℕ) (ty : ℕ) (frame : Frame) (rest : List ℕ) → IsToldApart frame → AreBytes (drop offset payload) → offset ≤ length payload → offset < length payload
     → found_at false last (drop offset payload) ≡ Ok (found_as ty frame, rest) → Finds (at_place payload offset last) frame (at_place payload (length payload - length rest) (Some ty))
-finds payload offset last ty frame rest fits le some e =
+finds payload offset last ty frame rest apart fits le some e =
     let found = found_as ty frame in
     let bytes = drop offset payload in
     let stop = length payload - length rest in
@@ -170,6 +171,7 @@ finds payload offset last ty frame rest fits le some e =
     record {
       found = found;
       says = refl;
+      told_apart = apart;
       comes = refl;
       first = items ∙ ap (λ (n : ℕ). Whole offset n found ∷ items_of false n (Some ty) rest) same ∙ ap (λ (l : List ℕ). Whole offset stop found ∷ items_of false stop (Some ty) l) (sym after);
       stands = cut_stands payload offset stop found rest c;
@@ -210,12 +212,12 @@ fewer_left payload offset last found rest fits e =
     let size : length (take (length payload - offset) (drop offset payload)) ≡ length payload - offset = ap length (rest_is payload offset) ∙ length-drop offset payload in
     omega (arith, sizes, size)
 
-pub finds_here : (payload : List ℕ) (offset : ℕ) (last : Option ℕ) (b : Bool) (old : Way) (ty : ℕ) (frame : Frame) (rest : List ℕ) → walk payload offset last b ≡ old → b ≡ false → offset ≤ length payload
+pub finds_here : (payload : List ℕ) (offset : ℕ) (last : Option ℕ) (b : Bool) (old : Way) (ty : ℕ) (frame : Frame) (rest : List ℕ) → IsToldApart frame → walk payload offset last b ≡ old → b ≡ false → offset ≤ length payload
     → eqb (length (take (length payload - offset) (drop offset payload))) 0 ≡ false → AreBytes (take (length payload - offset) (drop offset payload))
     → found_at false last (take (length payload - offset) (drop offset payload)) ≡ Ok (found_as ty frame, rest) → Finds old frame (walk payload (length payload - length rest) (Some ty) b)
-finds_here payload offset last b old ty frame rest v f le some fits e =
+finds_here payload offset last b old ty frame rest apart v f le some fits e =
     let cut = rest_is payload offset in
-    let here = finds payload offset last ty frame rest (subst AreBytes cut fits) le (some_bytes payload offset some) (ap (found_at false last) (sym cut) ∙ e) in
+    let here = finds payload offset last ty frame rest apart (subst AreBytes cut fits) le (some_bytes payload offset some) (ap (found_at false last) (sym cut) ∙ e) in
     subst (λ (o : Way). Finds o frame (walk payload (length payload - length rest) (Some ty) b)) (is_not_broken payload offset last b old v f)
     (subst (λ (c : Bool). Finds (at_place payload offset last) frame (walk payload (length payload - length rest) (Some ty) c)) (sym f) here)
 

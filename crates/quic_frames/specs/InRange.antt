@@ -12,6 +12,11 @@ abbrev pub AreCounts : Option EcnCounts → Type 0
 AreCounts None = ⊤
 AreCounts (Some e) = AreNumeric (e.ect0 ∷ e.ect1 ∷ e.ce ∷ [])
 
+-- a close whose type isn't given as 0, which is read as no type
+abbrev pub IsToldApart : Frame → Type 0
+IsToldApart (frames.Close (closes.Connection c)) = c.frame_type ≢ Some 0
+IsToldApart frame = ⊤
+
 -- The frame has a spelling, by which it is read as it is: numbers of any width are below 2^62, an id has 1 to 20 bytes, and
 -- what is retired comes before it; type 0 isn't told from no type (RFC 9000, sections 16, 19.15 and 19.19). Numbers whose
 -- type holds the bound are not named.
@@ -27,7 +32,7 @@ InRange (frames.StreamDataBlocked id offset) = offset < 2 ^ 62
 InRange (frames.StreamsBlocked dir limit) = limit < 2 ^ 62
 InRange (frames.NewConnectionId n) = AreNumeric (n.sequence ∷ n.retire_prior_to ∷ []) × (n.retire_prior_to ≤ n.sequence) × (0 < length n.id) × (length n.id ≤ 20)
 InRange (frames.RetireConnectionId sequence) = sequence < 2 ^ 62
-InRange (frames.Close (closes.Connection c)) = (c.frame_type ≢ Some 0) × (length c.reason.now < 2 ^ 62)
+InRange (frames.Close (closes.Connection c)) = IsToldApart (frames.Close (closes.Connection c)) × (length c.reason.now < 2 ^ 62)
 InRange (frames.Close (closes.Application c)) = length c.reason.now < 2 ^ 62
 InRange frame = ⊤
 
@@ -50,11 +55,6 @@ IsTyped frame = ⊤
 abbrev pub AreTyped : List Frame → Type 0
 AreTyped [] = ⊤
 AreTyped (frame ∷ others) = IsTyped frame × AreTyped others
-
--- a close whose type isn't given as 0, which is read as no type
-abbrev pub IsToldApart : Frame → Type 0
-IsToldApart (frames.Close (closes.Connection c)) = c.frame_type ≢ Some 0
-IsToldApart frame = ⊤
 
 -- the data whose length is written only where the frame isn't the last
 abbrev pub open_data : Frame → List ℕ

@@ -7,6 +7,7 @@ use Rattle.quic_frames.specs.Table.{is_open}
 use Rattle.quic_frames.specs.Payload.{Found, IsFrame}
 use Rattle.quic_frames.specs.Reading.{Item, Whole, Broken, Invalid, items_of}
 use Rattle.quic_frames.specs.Meaning.{meaning_of}
+use Rattle.quic_frames.specs.InRange.{IsToldApart}
 use Rattle.quic_frames.specs.Way.{Way}
 
 abbrev pub invalid_of : InvalidFrame → Invalid
@@ -48,6 +49,7 @@ pub record Stands (payload : List ℕ) (start stop : ℕ) (found : Found) : Type
 pub record Finds (old : Way) (frame : Frame) (new : Way) : Type 0 where
   pub found : Found
   pub says : found.frame ≡ meaning_of frame
+  pub told_apart : IsToldApart frame
   pub comes : new ≡ record old { offset = new.offset; last = Some found.type }
   pub first : left old ≡ Whole old.offset new.offset found ∷ left new
   pub stands : Stands old.payload old.offset new.offset found

@@ -1,5 +1,5 @@
 //! The types of frames, and their names.
-ghost use Rattle.std.specs.Prelude.{◌≡◌, ◌+◌, ◌<◌, ◌^◌, ℕ, None, Some, drop, MatchOption, if◌then◌else◌};
+ghost use Rattle.std.specs.Prelude.{◌≡◌, ◌≢◌, ◌+◌, ◌<◌, ◌^◌, ℕ, None, Some, drop, MatchOption, if◌then◌else◌};
 ghost use Rattle.quic_base.specs.Varint.{Spells, short};
 ghost use Rattle.quic_frames.specs.Names.{name_of, own_name, shared_name};
 
@@ -95,7 +95,8 @@ impl FrameType {
     // The type of this number, none where it is 0.
     pub(crate) fn or_none(number: u64) -> Option<FrameType>
         requires { number < 2 ^ 62 }
-        ensures { type_or_zero result ≡ number }
+        ensures value { type_or_zero result ≡ number }
+        ensures apart { result ≢ Some 0 }
     {
         if number == 0 {
             None

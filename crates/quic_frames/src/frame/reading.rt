@@ -1,8 +1,8 @@
 //! The fields of each type of frame.
 ghost use Rattle.std.specs.Prelude.{Bool};
 ghost use Rattle.quic_frames.specs.Table as table;
-ghost use Rattle.quic_frames.specs.Reading.{Gives, row_at, frame_at};
-ghost use Rattle.quic_frames.specs.Meaning.{meaning_of};
+ghost use Rattle.quic_frames.specs.Found.{GivesFrame};
+ghost use Rattle.quic_frames.specs.Reading.{row_at, frame_at};
 
 use super::fault::Fault;
 use super::{
@@ -15,7 +15,7 @@ use quic_base::varint::VarInt;
 
 #[tactic(auto, unfolding(crate::specs::Reading::row_at))]
 fn read_ack(bytes: &[u8]) -> Result<(Frame<'_>, &[u8]), Fault>
-    ensures { Gives (λ x. (meaning_of x.0, x.1.now)) result (row_at table.ack_row bytes.now) }
+    ensures { GivesFrame (λ rest. rest.now) result (row_at table.ack_row bytes.now) }
 {
     let (largest, rest) = field::varint(bytes)?;
     let (delay, rest) = field::varint(rest)?;
@@ -26,7 +26,7 @@ fn read_ack(bytes: &[u8]) -> Result<(Frame<'_>, &[u8]), Fault>
 
 #[tactic(auto, unfolding(crate::specs::Reading::row_at))]
 fn read_ack_ecn(bytes: &[u8]) -> Result<(Frame<'_>, &[u8]), Fault>
-    ensures { Gives (λ x. (meaning_of x.0, x.1.now)) result (row_at table.ack_ecn_row bytes.now) }
+    ensures { GivesFrame (λ rest. rest.now) result (row_at table.ack_ecn_row bytes.now) }
 {
     let (largest, rest) = field::varint(bytes)?;
     let (delay, rest) = field::varint(rest)?;
@@ -41,7 +41,7 @@ fn read_ack_ecn(bytes: &[u8]) -> Result<(Frame<'_>, &[u8]), Fault>
 
 #[tactic(auto, unfolding(crate::specs::Reading::row_at))]
 fn read_reset_stream(bytes: &[u8]) -> Result<(Frame<'_>, &[u8]), Fault>
-    ensures { Gives (λ x. (meaning_of x.0, x.1.now)) result (row_at table.reset_stream_row bytes.now) }
+    ensures { GivesFrame (λ rest. rest.now) result (row_at table.reset_stream_row bytes.now) }
 {
     let (id, rest) = field::varint(bytes)?;
     let (error_code, rest) = field::varint(rest)?;
@@ -56,7 +56,7 @@ fn read_reset_stream(bytes: &[u8]) -> Result<(Frame<'_>, &[u8]), Fault>
 
 #[tactic(auto, unfolding(crate::specs::Reading::row_at))]
 fn read_stop_sending(bytes: &[u8]) -> Result<(Frame<'_>, &[u8]), Fault>
-    ensures { Gives (λ x. (meaning_of x.0, x.1.now)) result (row_at table.stop_sending_row bytes.now) }
+    ensures { GivesFrame (λ rest. rest.now) result (row_at table.stop_sending_row bytes.now) }
 {
     let (id, rest) = field::varint(bytes)?;
     let (error_code, rest) = field::varint(rest)?;
@@ -69,7 +69,7 @@ fn read_stop_sending(bytes: &[u8]) -> Result<(Frame<'_>, &[u8]), Fault>
 
 #[tactic(auto, unfolding(crate::specs::Reading::row_at))]
 fn read_crypto(bytes: &[u8]) -> Result<(Frame<'_>, &[u8]), Fault>
-    ensures { Gives (λ x. (meaning_of x.0, x.1.now)) result (row_at table.crypto_row bytes.now) }
+    ensures { GivesFrame (λ rest. rest.now) result (row_at table.crypto_row bytes.now) }
 {
     let (offset, rest) = field::varint(bytes)?;
     let (bytes, rest) = field::counted(rest)?;
@@ -78,7 +78,7 @@ fn read_crypto(bytes: &[u8]) -> Result<(Frame<'_>, &[u8]), Fault>
 
 #[tactic(auto, unfolding(crate::specs::Reading::row_at))]
 fn read_new_token(bytes: &[u8]) -> Result<(Frame<'_>, &[u8]), Fault>
-    ensures { Gives (λ x. (meaning_of x.0, x.1.now)) result (row_at table.new_token_row bytes.now) }
+    ensures { GivesFrame (λ rest. rest.now) result (row_at table.new_token_row bytes.now) }
 {
     let (token, rest) = field::counted(bytes)?;
     Ok((Frame::NewToken(NewToken { token }), rest))
@@ -91,7 +91,7 @@ fn read_stream(
     fin: bool,
     bytes: &[u8],
 ) -> Result<(Frame<'_>, &[u8]), Fault>
-    ensures { Gives (λ x. (meaning_of x.0, x.1.now)) result (row_at (table.stream_row has_offset has_length fin) bytes.now) }
+    ensures { GivesFrame (λ rest. rest.now) result (row_at (table.stream_row has_offset has_length fin) bytes.now) }
 {
     let (id, rest) = field::varint(bytes)?;
     let (offset, rest) = field::offset(has_offset, rest)?;
@@ -107,7 +107,7 @@ fn read_stream(
 
 #[tactic(auto, unfolding(crate::specs::Reading::row_at))]
 fn read_max_data(bytes: &[u8]) -> Result<(Frame<'_>, &[u8]), Fault>
-    ensures { Gives (λ x. (meaning_of x.0, x.1.now)) result (row_at (table.number_row table.MaxData) bytes.now) }
+    ensures { GivesFrame (λ rest. rest.now) result (row_at (table.number_row table.MaxData) bytes.now) }
 {
     let (limit, rest) = field::varint(bytes)?;
     Ok((Frame::MaxData(VarInt::from_u64_unchecked(limit)), rest))
@@ -115,7 +115,7 @@ fn read_max_data(bytes: &[u8]) -> Result<(Frame<'_>, &[u8]), Fault>
 
 #[tactic(auto, unfolding(crate::specs::Reading::row_at))]
 fn read_max_stream_data(bytes: &[u8]) -> Result<(Frame<'_>, &[u8]), Fault>
-    ensures { Gives (λ x. (meaning_of x.0, x.1.now)) result (row_at table.max_stream_data_row bytes.now) }
+    ensures { GivesFrame (λ rest. rest.now) result (row_at table.max_stream_data_row bytes.now) }
 {
     let (id, rest) = field::varint(bytes)?;
     let (offset, rest) = field::varint(rest)?;
@@ -125,7 +125,7 @@ fn read_max_stream_data(bytes: &[u8]) -> Result<(Frame<'_>, &[u8]), Fault>
 
 #[tactic(auto, unfolding(crate::specs::Reading::row_at))]
 fn read_max_streams(dir: Dir, bytes: &[u8]) -> Result<(Frame<'_>, &[u8]), Fault>
-    ensures { Gives (λ x. (meaning_of x.0, x.1.now)) result (row_at (table.max_streams_row dir) bytes.now) }
+    ensures { GivesFrame (λ rest. rest.now) result (row_at (table.max_streams_row dir) bytes.now) }
 {
     let (count, rest) = field::varint(bytes)?;
     Ok((Frame::MaxStreams { dir, count }, rest))
@@ -133,7 +133,7 @@ fn read_max_streams(dir: Dir, bytes: &[u8]) -> Result<(Frame<'_>, &[u8]), Fault>
 
 #[tactic(auto, unfolding(crate::specs::Reading::row_at))]
 fn read_data_blocked(bytes: &[u8]) -> Result<(Frame<'_>, &[u8]), Fault>
-    ensures { Gives (λ x. (meaning_of x.0, x.1.now)) result (row_at (table.number_row table.DataBlocked) bytes.now) }
+    ensures { GivesFrame (λ rest. rest.now) result (row_at (table.number_row table.DataBlocked) bytes.now) }
 {
     let (offset, rest) = field::varint(bytes)?;
     Ok((Frame::DataBlocked { offset }, rest))
@@ -141,7 +141,7 @@ fn read_data_blocked(bytes: &[u8]) -> Result<(Frame<'_>, &[u8]), Fault>
 
 #[tactic(auto, unfolding(crate::specs::Reading::row_at))]
 fn read_stream_data_blocked(bytes: &[u8]) -> Result<(Frame<'_>, &[u8]), Fault>
-    ensures { Gives (λ x. (meaning_of x.0, x.1.now)) result (row_at table.stream_data_blocked_row bytes.now) }
+    ensures { GivesFrame (λ rest. rest.now) result (row_at table.stream_data_blocked_row bytes.now) }
 {
     let (id, rest) = field::varint(bytes)?;
     let (offset, rest) = field::varint(rest)?;
@@ -151,7 +151,7 @@ fn read_stream_data_blocked(bytes: &[u8]) -> Result<(Frame<'_>, &[u8]), Fault>
 
 #[tactic(auto, unfolding(crate::specs::Reading::row_at))]
 fn read_streams_blocked(dir: Dir, bytes: &[u8]) -> Result<(Frame<'_>, &[u8]), Fault>
-    ensures { Gives (λ x. (meaning_of x.0, x.1.now)) result (row_at (table.streams_blocked_row dir) bytes.now) }
+    ensures { GivesFrame (λ rest. rest.now) result (row_at (table.streams_blocked_row dir) bytes.now) }
 {
     let (limit, rest) = field::varint(bytes)?;
     Ok((Frame::StreamsBlocked { dir, limit }, rest))
@@ -159,7 +159,7 @@ fn read_streams_blocked(dir: Dir, bytes: &[u8]) -> Result<(Frame<'_>, &[u8]), Fa
 
 #[tactic(auto, unfolding(crate::specs::Reading::row_at))]
 fn read_new_connection_id(bytes: &[u8]) -> Result<(Frame<'_>, &[u8]), Fault>
-    ensures { Gives (λ x. (meaning_of x.0, x.1.now)) result (row_at table.new_connection_id_row bytes.now) }
+    ensures { GivesFrame (λ rest. rest.now) result (row_at table.new_connection_id_row bytes.now) }
 {
     let (sequence, rest) = field::varint(bytes)?;
     let (retire_prior_to, rest) = field::varint(rest)?;
@@ -179,7 +179,7 @@ fn read_new_connection_id(bytes: &[u8]) -> Result<(Frame<'_>, &[u8]), Fault>
 
 #[tactic(auto, unfolding(crate::specs::Reading::row_at))]
 fn read_retire_connection_id(bytes: &[u8]) -> Result<(Frame<'_>, &[u8]), Fault>
-    ensures { Gives (λ x. (meaning_of x.0, x.1.now)) result (row_at (table.number_row table.RetireConnectionId) bytes.now) }
+    ensures { GivesFrame (λ rest. rest.now) result (row_at (table.number_row table.RetireConnectionId) bytes.now) }
 {
     let (sequence, rest) = field::varint(bytes)?;
     Ok((Frame::RetireConnectionId { sequence }, rest))
@@ -187,7 +187,7 @@ fn read_retire_connection_id(bytes: &[u8]) -> Result<(Frame<'_>, &[u8]), Fault>
 
 #[tactic(auto, unfolding(crate::specs::Reading::row_at))]
 fn read_path_challenge(bytes: &[u8]) -> Result<(Frame<'_>, &[u8]), Fault>
-    ensures { Gives (λ x. (meaning_of x.0, x.1.now)) result (row_at (table.path_row table.PathChallenge) bytes.now) }
+    ensures { GivesFrame (λ rest. rest.now) result (row_at (table.path_row table.PathChallenge) bytes.now) }
 {
     let (token, rest) = field::eight(bytes)?;
     Ok((Frame::PathChallenge(token), rest))
@@ -195,7 +195,7 @@ fn read_path_challenge(bytes: &[u8]) -> Result<(Frame<'_>, &[u8]), Fault>
 
 #[tactic(auto, unfolding(crate::specs::Reading::row_at))]
 fn read_path_response(bytes: &[u8]) -> Result<(Frame<'_>, &[u8]), Fault>
-    ensures { Gives (λ x. (meaning_of x.0, x.1.now)) result (row_at (table.path_row table.PathResponse) bytes.now) }
+    ensures { GivesFrame (λ rest. rest.now) result (row_at (table.path_row table.PathResponse) bytes.now) }
 {
     let (token, rest) = field::eight(bytes)?;
     Ok((Frame::PathResponse(token), rest))
@@ -203,7 +203,7 @@ fn read_path_response(bytes: &[u8]) -> Result<(Frame<'_>, &[u8]), Fault>
 
 #[tactic(auto, unfolding(crate::specs::Reading::row_at))]
 fn read_connection_close(bytes: &[u8]) -> Result<(Frame<'_>, &[u8]), Fault>
-    ensures { Gives (λ x. (meaning_of x.0, x.1.now)) result (row_at table.connection_close_row bytes.now) }
+    ensures { GivesFrame (λ rest. rest.now) result (row_at table.connection_close_row bytes.now) }
 {
     let (error_code, rest) = field::varint(bytes)?;
     let (ty, rest) = field::varint(rest)?;
@@ -218,7 +218,7 @@ fn read_connection_close(bytes: &[u8]) -> Result<(Frame<'_>, &[u8]), Fault>
 
 #[tactic(auto, unfolding(crate::specs::Reading::row_at))]
 fn read_application_close(bytes: &[u8]) -> Result<(Frame<'_>, &[u8]), Fault>
-    ensures { Gives (λ x. (meaning_of x.0, x.1.now)) result (row_at table.application_close_row bytes.now) }
+    ensures { GivesFrame (λ rest. rest.now) result (row_at table.application_close_row bytes.now) }
 {
     let (error_code, rest) = field::varint(bytes)?;
     let (reason, rest) = field::counted(rest)?;
@@ -231,7 +231,7 @@ fn read_application_close(bytes: &[u8]) -> Result<(Frame<'_>, &[u8]), Fault>
 
 #[tactic(auto, unfolding(crate::specs::Reading::row_at))]
 fn read_datagram(has_length: bool, bytes: &[u8]) -> Result<(Frame<'_>, &[u8]), Fault>
-    ensures { Gives (λ x. (meaning_of x.0, x.1.now)) result (row_at (table.datagram_row has_length) bytes.now) }
+    ensures { GivesFrame (λ rest. rest.now) result (row_at (table.datagram_row has_length) bytes.now) }
 {
     let (bytes, rest) = field::stream_bytes(has_length, bytes)?;
     Ok((Frame::Datagram(Datagram { bytes }), rest))
@@ -239,7 +239,7 @@ fn read_datagram(has_length: bool, bytes: &[u8]) -> Result<(Frame<'_>, &[u8]), F
 
 #[tactic(auto, unfolding(crate::specs::Reading::row_at))]
 fn read_ack_frequency(bytes: &[u8]) -> Result<(Frame<'_>, &[u8]), Fault>
-    ensures { Gives (λ x. (meaning_of x.0, x.1.now)) result (row_at table.ack_frequency_row bytes.now) }
+    ensures { GivesFrame (λ rest. rest.now) result (row_at table.ack_frequency_row bytes.now) }
 {
     let (sequence, rest) = field::varint(bytes)?;
     let (threshold, rest) = field::varint(rest)?;
@@ -257,7 +257,7 @@ fn read_ack_frequency(bytes: &[u8]) -> Result<(Frame<'_>, &[u8]), Fault>
 /// The frame of this type whose fields begin here, and what follows it.
 #[tactic(auto, unfolding(crate::specs::Reading::frame_at, crate::specs::Reading::row_at))]
 pub fn read_frame(ty: u64, bytes: &[u8]) -> Result<(Frame<'_>, &[u8]), Fault>
-    ensures { Gives (λ x. (meaning_of x.0, x.1.now)) result (frame_at ty bytes.now) }
+    ensures { GivesFrame (λ rest. rest.now) result (frame_at ty bytes.now) }
 {
     match ty {
         0x00 => Ok((Frame::Padding, bytes)),

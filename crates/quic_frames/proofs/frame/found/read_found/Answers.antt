@@ -8,8 +8,11 @@ returns-in_default-clause-gives c =
 
 pub returns-in-Ok-read_frame-clause-gives : goal.returns-in-Ok-read_frame-clause-gives
 returns-in-Ok-read_frame-clause-gives c =
-    found_whole c.args.before c.in-Ok.ty c.args.bytes.now _ (meaning_of c.in-Ok-read_frame.frame) c.in-Ok-read_frame.rest.now c.in-Ok.ensures.ok (rw (← c.into_inner.ensures) c.in-Ok-read_frame.ensures)
+    let given = c.in-Ok-read_frame.ensures in (
+      found_whole c.args.before c.in-Ok.ty c.args.bytes.now _ (meaning_of c.in-Ok-read_frame.frame) c.in-Ok-read_frame.rest.now c.in-Ok.ensures.ok (rw (← c.into_inner.ensures) given.0),
+      given.1,
+    )
 
 pub returns-in-Err-clause-gives : goal.returns-in-Err-clause-gives
 returns-in-Err-clause-gives c =
-    rw c.reason-in-Err.ensures (found_none c.args.before c.in-Ok.ty c.args.bytes.now _ c.in-Err.fault c.in-Ok.ensures.ok (rw (← c.into_inner.ensures) c.in-Err.ensures))
+    rw c.reason-in-Err.ensures (found_none c.args.before c.in-Ok.ty c.args.bytes.now _ c.in-Err.fault c.in-Ok.ensures.ok (rw (← c.into_inner.ensures) c.in-Err.ensures.0))

@@ -1,6 +1,6 @@
 use Rattle.std.proofs.Common.{◌≤◌, ◌<◌, arith, sym, ap, subst}
-use Rattle.quic_frames.specs.Reading.{Gives, frame_at, in_row}
-use Rattle.quic_frames.specs.Meaning.{meaning_of}
+use Rattle.quic_frames.specs.Reading.{frame_at, in_row}
+use Rattle.quic_frames.specs.Found.{GivesFrame}
 use Rattle.quic_frames.proofs.Rows.{row_of_stream}
 use Rattle.quic_frames.proofs.frame.reading.read_frame.Goals as goal
 
@@ -10,4 +10,4 @@ returns-in-8-to-15 c =
     let low : 8 ≤ c.args.ty = omega arith in
     let high : c.args.ty < 16 = omega arith in
     let e = sym (ap (λ r. in_row r c.args.bytes.now) (row_of_stream c.args.ty low high)) in
-    subst (λ read. Gives (λ x. (meaning_of x.0, x.1.now)) c.read_stream.result read) e c.read_stream.ensures
+    subst (λ read. GivesFrame (λ rest. rest.now) c.read_stream.result read) e c.read_stream.ensures

@@ -16,13 +16,13 @@ returns-then-self-clause-steps c =
 pub overflow_sub-self : goal.overflow_sub-self
 overflow_sub-self c =
     let self = c.self.inside in
-    fewer_left self.payload.now self.offset self.last (found_as c.in-Ok.first.ty c.in-Ok.first.frame) c.in-Ok.first.rest.now c.in-Ok.ensures.bytes c.in-Ok.ensures.gives
+    fewer_left self.payload.now self.offset self.last (found_as c.in-Ok.first.ty c.in-Ok.first.frame) c.in-Ok.first.rest.now c.in-Ok.ensures.bytes c.in-Ok.ensures.gives.0
 
 pub returns-in-Ok-clause-steps : goal.returns-in-Ok-clause-steps
 returns-in-Ok-clause-steps c =
     let self = c.self.inside in
-    finds_here self.payload.now self.offset self.last self.is_broken _ c.in-Ok.first.ty c.in-Ok.first.frame c.in-Ok.first.rest.now c.self.view_is c.if-self.false c.self.invariant
-    (sym c.is_empty.ensures ∙ c.if-is_empty.false) c.in-Ok.ensures.bytes c.in-Ok.ensures.gives
+    finds_here self.payload.now self.offset self.last self.is_broken _ c.in-Ok.first.ty c.in-Ok.first.frame c.in-Ok.first.rest.now c.in-Ok.ensures.gives.1 c.self.view_is c.if-self.false c.self.invariant
+    (sym c.is_empty.ensures ∙ c.if-is_empty.false) c.in-Ok.ensures.bytes c.in-Ok.ensures.gives.0
 
 pub returns-in-Ok-clause-goes : goal.returns-in-Ok-clause-goes
 returns-in-Ok-clause-goes c =

@@ -32,7 +32,7 @@ pub use stream_meta::{StreamMeta, StreamMetaVec};
 
 /// A frame of a payload, whose bytes it borrows. Numbers that were read are below 2^62, but for the
 /// eight bytes of a path's challenge and response.
-#[derive(Debug, Drop)]
+#[derive(Clone, Debug, Drop)]
 pub enum Frame<'a> {
     /// Nothing (RFC 9000, section 19.1).
     Padding,

@@ -23,7 +23,7 @@ fn set_of(alloc: Global, runs: &str) -> Result<ArrayRangeSet, Fail> {
 }
 
 fn are_small(counts: Option<&EcnCounts>) -> bool
-    ensures { IsTrue result → AreCounts (option_copied counts) }
+    ensures { IsTrue result → AreCounts (option_copied counts.entry) }
 {
     match counts {
         None => true,

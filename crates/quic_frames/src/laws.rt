@@ -3,7 +3,7 @@ ghost use Rattle.std.specs.Prelude.{◌≡◌, ◌≢◌, ◌++◌, ℕ, List, [
 ghost use Rattle.std.specs.declared.ops.Range.{Range};
 ghost use Rattle.quic_base.specs.Number.{AreBytes};
 ghost use Rattle.quic_ranges.specs.Runs.{IsMaximalRuns, IsGreatest, member};
-ghost use Rattle.quic_frames.specs.Acks.{ranges_acked};
+ghost use Rattle.quic_frames.specs.Acks.{parts_of, ranges_acked};
 ghost use Rattle.quic_frames.specs.Field.{AreApart, AreBlocks};
 ghost use Rattle.quic_frames.specs.Found.{found_as};
 ghost use Rattle.quic_frames.specs.InRange.{IsTyped, AreTyped, IsToldApart, CanStand, CanFollow};
@@ -49,7 +49,7 @@ pub fn set_acknowledged()
     // What is read of it: its ranges, its delay and its counts.
     ensures read { (ack : Ack) (delay : ℕ) (runs : List (Range ℕ)) (counts : Option EcnCounts)
         → meaning_of (frames.Ack ack) ≡ ack_of delay runs counts
-        → (ranges_acked ack ≡ ranges_in runs) × (ack.delay ≡ delay) × (ack.ecn ≡ counts) }
+        → (ranges_acked ack ≡ ranges_in runs) × ((parts_of ack).delay ≡ delay) × ((parts_of ack).ecn ≡ counts) }
 {}
 
 /// Of all spellings of a frame at its place, and of all payloads of the same frames, the shortest is one,

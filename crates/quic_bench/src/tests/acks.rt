@@ -6,7 +6,7 @@ use std::alloc::Global;
 use std::test::Fail;
 
 // The ranges of an acknowledgement, as they come.
-fn ranges_of(alloc: Global, ack: &Ack<'_>) -> Result<Vec<(u64, u64)>, Fail> {
+pub fn ranges_of(alloc: Global, ack: &Ack<'_>) -> Result<Vec<(u64, u64)>, Fail> {
     let mut ranges = Vec::new(alloc);
     for range in ack {
         ranges.push((*range.start(), *range.end()))?;

@@ -18,9 +18,10 @@ use quic_ranges::range_set::{ArrayIter, ArrayRangeSet};
 use std::ops::Range;
 
 impl Ack<'_> {
-    /// Appends an ACK of a set that has a number, each of which is below 2^62, as the delay and the
-    /// counts are. Answers `NoRoom` only where the spare room is less than the frame; then what stood
-    /// there stands, followed by a beginning of the frame. It takes no memory.
+    /// Appends an ACK of a set (RFC 9000, section 19.3). The caller owes that the set has a number, and
+    /// that its numbers, the delay and the counts are below 2^62. Answers `NoRoom` only where the spare
+    /// room is less than the frame; then what stood there stands, followed by a beginning of the frame.
+    /// It takes no memory.
     pub fn encode<B: BufMut>(
         delay: u64,
         ranges: &ArrayRangeSet,
@@ -39,9 +40,10 @@ impl Ack<'_> {
         let Some(first) = runs.next_back() else {
             unreachable!()
         };
-        let (count, greatest) = (ranges.len() as u64 - 1, first.end - 1);
+        let greatest = first.end - 1;
         let block = greatest - first.start;
-        write::numbers(out, &[type_of(counts), greatest, delay, count, block])?;
+        let below = ranges.len() as u64 - 1;
+        write::numbers(out, &[type_of(counts), greatest, delay, below, block])?;
         encode_below(first, runs, out)?;
         encode_counts(counts, out)
     }

@@ -1,0 +1,124 @@
+//! Acknowledgements of sets, written and read back.
+ghost use Rattle.std.specs.Prelude.{IsTrue};
+ghost use Rattle.std.specs.Option.{option_copied};
+ghost use Rattle.quic_frames.specs.InRange.{AreCounts};
+
+use super::acks::ranges_of;
+use super::acks_answers::ACKS;
+use quic_frames::frame::{Ack, EcnCounts, Frame, Iter};
+use quic_ranges::range_set::ArrayRangeSet;
+use std::alloc::Global;
+use std::test::Fail;
+
+// The set with these runs, as `1..4,5..6`.
+fn set_of(alloc: Global, runs: &str) -> Result<ArrayRangeSet, Fail> {
+    let mut set = ArrayRangeSet::new(alloc);
+    for run in runs.split(",") {
+        let Some((start, end)) = run.split_once("..") else {
+            return Err("a run".into());
+        };
+        set.insert(start.parse()?..end.parse()?)?;
+    }
+    Ok(set)
+}
+
+fn are_small(counts: Option<&EcnCounts>) -> bool
+    ensures { IsTrue result → AreCounts (option_copied counts.entry) }
+{
+    match counts {
+        None => true,
+        Some(counts) => counts.ect0 < 1 << 62 && counts.ect1 < 1 << 62 && counts.ce < 1 << 62,
+    }
+}
+
+fn ack_bytes(
+    alloc: Global,
+    delay: u64,
+    set: &ArrayRangeSet,
+    counts: Option<&EcnCounts>,
+) -> Result<Vec<u8>, Fail> {
+    let Some(greatest) = set.max() else {
+        return Err("a number".into());
+    };
+    if greatest >= 1 << 62 || delay >= 1 << 62 || !are_small(counts) {
+        return Err("a smaller number".into());
+    }
+    let mut out = Vec::new(alloc);
+    Ack::encode(delay, set, counts, &mut out)?;
+    Ok(out)
+}
+
+// The bytes of the ACK that the words say.
+fn written(alloc: Global, words: &[&str]) -> Result<Vec<u8>, Fail> {
+    match words {
+        [delay, runs] => ack_bytes(alloc, delay.parse()?, &set_of(alloc, runs)?, None),
+        [delay, runs, ect0, ect1, ce] => {
+            let counts = EcnCounts {
+                ect0: ect0.parse()?,
+                ect1: ect1.parse()?,
+                ce: ce.parse()?,
+            };
+            ack_bytes(
+                alloc,
+                delay.parse()?,
+                &set_of(alloc, runs)?,
+                Some(&counts),
+            )
+        }
+        _ => Err("an unknown line".into()),
+    }
+}
+
+// Whether the words before the bar are written as the bytes behind it.
+fn is_written(alloc: Global, line: &str) -> Result<bool, Fail> {
+    let Some((call, wanted)) = line.split_once("|") else {
+        return Err("a set and the bytes of its ACK".into());
+    };
+    let words: Vec<&str> = call.split(" ").collect(alloc)?;
+    let wanted = hex::decode(alloc, wanted.as_bytes())?;
+    Ok(written(alloc, words.as_slice())?.as_slice() == wanted.as_slice())
+}
+
+#[test]
+fn acks_are_written_as_by_the_rust_crate(rt: HostRuntime) -> Result<(), Fail> {
+    for line in ACKS.lines() {
+        assert!(rt; is_written(rt.alloc(), line)?, "{line}");
+    }
+    Ok(())
+}
+
+#[test]
+fn acks_of_few_numbers(rt: HostRuntime) -> Result<(), Fail> {
+    for line in [
+        "0 0..1|0200000000",
+        "0 0..1,2..3|02020001000000",
+        "42 1..4,5..6,10..12,14..15 42 24 12|030e2a03000101030000022a180c",
+    ] {
+        assert!(rt; is_written(rt.alloc(), line)?, "{line}");
+    }
+    Ok(())
+}
+
+#[test]
+fn an_ack_of_a_set_is_read_back(rt: HostRuntime) -> Result<(), Fail> {
+    let mut set = ArrayRangeSet::new(rt.alloc());
+    for number in [14, 1, 2, 10, 3, 5, 11] {
+        set.insert_one(number)?;
+    }
+    let counts = EcnCounts {
+        ect0: 42,
+        ect1: 24,
+        ce: 12,
+    };
+    let out = ack_bytes(rt.alloc(), 42, &set, Some(&counts))?;
+    let mut iter = Iter::new(out.as_slice())?;
+    let Some(Ok(Frame::Ack(ack))) = iter.next() else {
+        return Err("an ACK".into());
+    };
+    let wanted = [(14, 14), (10, 11), (5, 5), (1, 3)];
+    assert_eq!(rt; ranges_of(rt.alloc(), &ack)?.as_slice(), wanted.as_slice());
+    assert_eq!(rt; ack.delay(), 42);
+    assert!(rt; ack.ecn() == Some(counts));
+    assert!(rt; iter.next().is_none());
+    Ok(())
+}

@@ -120,7 +120,6 @@ fn bit_of(dir: Dir) -> u64
 }
 
 // A STREAM, the last frame of its payload or not.
-
 fn encode_stream<B: BufMut>(stream: &Stream<'_>, last: bool, out: &mut B) -> Result<(), NoRoom>
     requires { CanStand last (frames.Stream stream.now) }
     ensures { Writes result (shortest_frame last (meaning_of (frames.Stream stream.now)))

@@ -98,11 +98,7 @@ impl FrameType {
         ensures value { type_or_zero result ≡ number }
         ensures apart { result ≢ Some 0 }
     {
-        if number == 0 {
-            None
-        } else {
-            Some(FrameType(number))
-        }
+        (number != 0).then_some(FrameType(number))
     }
 
     pub(crate) fn into_inner(self) -> u64

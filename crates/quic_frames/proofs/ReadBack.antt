@@ -1,7 +1,8 @@
 -- What is written of frames is read back as these frames.
-use Rattle.std.proofs.Common.{◌≡◌, ℕ, ◌^◌, ◌<◌, ◌≤◌, Bool, true, false, List, [], ◌∷◌, map, Option, Some, None, refl, sym, subst, ◌∙◌, arith}
+use Rattle.std.proofs.Common.{◌≡◌, ◌≢◌, ◌++◌, length, ap, ℕ, ◌^◌, ◌<◌, ◌≤◌, Bool, true, false, List, [], ◌∷◌, map, Option, Some, None, refl, sym, subst, ◌∙◌, arith}
 use Rattle.std.specs.Prelude.{nat_le}
 use Rattle.std.proofs.lemmas.Bool.Decides.{nat_tests}
+use Rattle.std.proofs.lemmas.List.{length-append}
 use Rattle.quic_base.specs.declared.ids.Dir.{Dir}
 use Rattle.quic_base.specs.declared.ids.Dir.TheVariants.{Bi, Uni}
 use Rattle.quic_base.specs.Ids.{dir_number}
@@ -19,6 +20,10 @@ use Rattle.quic_frames.specs.Meaning.{frame_of, counts_of, meaning_of}
 use Rattle.quic_frames.specs.Payload.{IsFrame, AreFrames}
 use Rattle.quic_frames.specs.Shortest.{written_type, shortest_frame}
 use Rattle.quic_frames.specs.Least.{is_end, shortest_frames, as_written, all_written}
+use Rattle.std.specs.declared.ops.Range.{Range}
+use Rattle.quic_ranges.specs.Runs.{IsMaximalRuns, member}
+use Rattle.quic_frames.specs.Sets.{ends_of, ranges_in, greatest_in, ack_of}
+use Rattle.quic_frames.proofs.Sets.{are_apart, is_greatest}
 use Rattle.quic_frames.specs.InRange.{AreCounts, InRange, IsTyped, AreTyped, CanStand, CanFollow}
 use Rattle.quic_frames.proofs.Steps.{true_is_not_false}
 use Rattle.quic_frames.proofs.Apart.{acked_apart}
@@ -38,10 +43,10 @@ ranges_fit a lt =
     let fits : FitBlocks d.first.1 (d.first ∷ d.others) = blocks_fit d.first d.others (omega (arith, d.top, lt)) apart in
     subst (FitBlocks a.largest) (sym d.are) (subst (λ (n : ℕ). FitBlocks n (d.first ∷ d.others)) d.top fits)
 
-ack_fits : (last : Bool) (a : Ack) (ecn : Option EcnCounts) → (a.largest < 2 ^ 62) × (a.delay < 2 ^ 62) → AreCounts ecn
-    → FitsRow last (written_type last table.Ack (Number a.largest ∷ Number a.delay ∷ Ranges (ranges_acked a) ∷ counts_of ecn)) (frame_of table.Ack (Number a.largest ∷ Number a.delay ∷ Ranges (ranges_acked a) ∷ counts_of ecn))
-ack_fits last a None n e = of_row (omega arith) refl refl (n.0, (n.1, (ranges_fit a n.0, refl)))
-ack_fits last a (Some counts) n e = of_row (omega arith) refl refl (n.0, (n.1, (ranges_fit a n.0, (e.0, (e.1.0, (e.1.1.0, refl))))))
+pub ack_row_fits : (last : Bool) (greatest delay : ℕ) (ranges : List (ℕ × ℕ)) (counts : Option EcnCounts) → greatest < 2 ^ 62 → delay < 2 ^ 62 → FitBlocks greatest ranges → AreCounts counts
+    → FitsRow last (written_type last table.Ack (Number greatest ∷ Number delay ∷ Ranges ranges ∷ counts_of counts)) (frame_of table.Ack (Number greatest ∷ Number delay ∷ Ranges ranges ∷ counts_of counts))
+ack_row_fits last greatest delay ranges None high late blocks e = of_row (omega arith) refl refl (high, (late, (blocks, refl)))
+ack_row_fits last greatest delay ranges (Some counts) high late blocks e = of_row (omega arith) refl refl (high, (late, (blocks, (e.0, (e.1.0, (e.1.1.0, refl))))))
 
 close_fits : (last : Bool) (c : Close) → IsTyped (frames.Close c) → InRange (frames.Close c) → FitsRow last (written_type last (meaning_of (frames.Close c)).name (meaning_of (frames.Close c)).values) (meaning_of (frames.Close c))
 close_fits last (closes.Connection c) t r = of_row (omega arith) refl refl (t.0, (t.1.0, (r.1, refl)))
@@ -62,7 +67,9 @@ is_at_most m n le = grind (arith, nat_tests)
 pub frame_fits : (last : Bool) (frame : Frame) → IsTyped frame → CanStand last frame → FitsRow last (written_type last (meaning_of frame).name (meaning_of frame).values) (meaning_of frame)
 frame_fits last frames.Padding t c = of_row (omega arith) refl refl refl
 frame_fits last frames.Ping t c = of_row (omega arith) refl refl refl
-frame_fits last (frames.Ack a) t c = ack_fits last a a.ecn (c.in_range.0.0, c.in_range.0.1.0) c.in_range.1
+frame_fits last (frames.Ack a) t c =
+    let r = c.in_range in
+    ack_row_fits last a.largest a.delay (ranges_acked a) a.ecn r.0.0 r.0.1.0 (ranges_fit a r.0.0) r.1
 frame_fits last (frames.ResetStream r) t c = of_row (omega arith) refl refl (t.0, (t.1.0, (t.1.1.0, refl)))
 frame_fits last (frames.StopSending s) t c = of_row (omega arith) refl refl (t.0, (t.1.0, refl))
 frame_fits last (frames.Crypto d) t c = of_row (omega arith) refl refl (c.in_range.0, (c.in_range.1.0, refl))
@@ -100,3 +107,21 @@ frames_fit (frame ∷ fs) t c = (frame_fits (is_end (map meaning_of fs)) frame t
 
 pub frames_read_back : (strict : Bool) (fs : List Frame) → AreTyped fs → CanFollow fs → AreFrames strict (all_written (map meaning_of fs)) (shortest_frames (map meaning_of fs))
 frames_read_back strict fs t c = frames_spelled strict (map meaning_of fs) (frames_fit fs t c)
+
+-- An ACK of a set is read back as that.
+ranges_of_set : (ranges : List (ℕ × ℕ)) → ranges ≢ [] → greatest_in ranges < 2 ^ 62 → AreApart ranges → FitBlocks (greatest_in ranges) ranges
+ranges_of_set [] some lt apart = absurd (some refl)
+ranges_of_set (range ∷ ranges) some lt apart = blocks_fit range ranges lt apart
+
+some_ranges : (runs : List (Range ℕ)) → runs ≢ [] → ranges_in runs ≢ []
+some_ranges [] some none = some refl
+some_ranges (run ∷ runs) some none = absurd (omega (arith, ap length none, length-append (ranges_in runs) (ends_of run ∷ [])))
+
+pub set_read_back : (strict last : Bool) (delay : ℕ) (runs : List (Range ℕ)) (counts : Option EcnCounts) → IsMaximalRuns runs → runs ≢ [] → ((n : ℕ) → member runs n ≡ true → n < 2 ^ 62) → delay < 2 ^ 62 → AreCounts counts
+    → IsFrame strict (as_written last (ack_of delay runs counts)) (shortest_frame last (ack_of delay runs counts))
+set_read_back strict last delay runs counts maximal some members late e =
+    let ranges = ranges_in runs in
+    let greatest = is_greatest runs some maximal in
+    let high = members (greatest_in ranges) greatest.present in
+    frame_spelled strict last (ack_of delay runs counts)
+    (ack_row_fits last (greatest_in ranges) delay ranges counts high late (ranges_of_set ranges (some_ranges runs some) high (are_apart runs maximal)) e)

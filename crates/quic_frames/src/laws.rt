@@ -1,12 +1,12 @@
 //! Laws of payloads, which no single call carries. The functions do nothing.
-ghost use Rattle.std.specs.Prelude.{◌≡◌, ◌≢◌, ◌++◌, ℕ, List, [], None, Option, Bool, true, false, map};
+ghost use Rattle.std.specs.Prelude.{◌≡◌, ◌≢◌, ◌<◌, ◌^◌, ◌++◌, ℕ, List, [], None, Option, Bool, true, false, map};
 ghost use Rattle.std.specs.declared.ops.Range.{Range};
 ghost use Rattle.quic_base.specs.Number.{AreBytes};
 ghost use Rattle.quic_ranges.specs.Runs.{IsMaximalRuns, IsGreatest, member};
 ghost use Rattle.quic_frames.specs.Acks.{parts_of, ranges_acked};
 ghost use Rattle.quic_frames.specs.Field.{AreApart, AreBlocks};
 ghost use Rattle.quic_frames.specs.Found.{found_as};
-ghost use Rattle.quic_frames.specs.InRange.{IsTyped, AreTyped, IsToldApart, CanStand, CanFollow};
+ghost use Rattle.quic_frames.specs.InRange.{AreCounts, IsTyped, AreTyped, IsToldApart, CanStand, CanFollow};
 ghost use Rattle.quic_frames.specs.Least.{AreOrExceed, shortest_frames, frame_in, as_written, all_written};
 ghost use Rattle.quic_frames.specs.Meaning.{meaning_of};
 ghost use Rattle.quic_frames.specs.Payload.{Meaning, Found, IsFrame, AreFrames, IsBroken, IsEither};
@@ -46,7 +46,12 @@ pub fn set_acknowledged()
     ensures apart { (runs : List (Range ℕ)) → IsMaximalRuns runs → AreApart (ranges_in runs) }
     ensures greatest { (runs : List (Range ℕ)) → runs ≢ [] → IsMaximalRuns runs
         → IsGreatest runs (greatest_in (ranges_in runs)) }
-    // What is read of it: its ranges, its delay and its counts.
+    // What is written of it is such an ACK,
+    ensures spelled { (strict last : Bool) (delay : ℕ) (runs : List (Range ℕ)) (counts : Option EcnCounts)
+        → IsMaximalRuns runs → runs ≢ [] → ((n : ℕ) → member runs n ≡ true → n < 2 ^ 62)
+        → delay < 2 ^ 62 → AreCounts counts
+        → IsFrame strict (as_written last (ack_of delay runs counts)) (shortest_frame last (ack_of delay runs counts)) }
+    // and what is read of that: its ranges, its delay and its counts.
     ensures read { (ack : Ack) (delay : ℕ) (runs : List (Range ℕ)) (counts : Option EcnCounts)
         → meaning_of (frames.Ack ack) ≡ ack_of delay runs counts
         → (ranges_acked ack ≡ ranges_in runs) × ((parts_of ack).delay ≡ delay) × ((parts_of ack).ecn ≡ counts) }

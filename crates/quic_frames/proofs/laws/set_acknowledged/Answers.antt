@@ -1,5 +1,6 @@
 use Rattle.quic_frames.proofs.Sets.{are_members, are_apart, is_greatest}
 use Rattle.quic_frames.proofs.AckParts.{same_ack}
+use Rattle.quic_frames.proofs.ReadBack.{set_read_back}
 use Rattle.quic_frames.proofs.laws.set_acknowledged.Goals as goal
 
 pub returns-clause-members : goal.returns-clause-members
@@ -13,3 +14,6 @@ returns-clause-greatest c = is_greatest
 
 pub returns-clause-read : goal.returns-clause-read
 returns-clause-read c ack delay runs counts e = same_ack _ _ _ _ _ _ _ _ e
+
+pub returns-clause-spelled : goal.returns-clause-spelled
+returns-clause-spelled c = set_read_back

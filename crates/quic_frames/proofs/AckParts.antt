@@ -10,15 +10,15 @@ use Rattle.quic_frames.specs.Field.{Number, Ranges}
 use Rattle.quic_frames.specs.Table.{Ack}
 use Rattle.quic_frames.specs.Payload.{Meaning}
 use Rattle.quic_frames.specs.Meaning.{frame_of, counts_of}
-use Rattle.quic_frames.specs.Sets.{ends_of, ranges_in, ack_of, ack_type, numbers_of}
+use Rattle.quic_frames.specs.Sets.{ends_of, ranges_in, ack_of, ack_type, count_numbers}
 use Rattle.quic_frames.specs.Shortest.{shortest_below, shortest_frame}
 use Rattle.quic_frames.specs.Writing.{Writes, AreNumeric, all_short}
 use Rattle.quic_frames.proofs.Writing.{Wrote, wrote_nothing, wrote_more, writes_within}
-use Rattle.quic_frames.proofs.Sets.{Bounded, bounded, ranges_in-last, length-ranges_in, HasBelow, has_below}
+use Rattle.quic_frames.proofs.Sets.{bounded, ranges_in-last, length-ranges_in, HasBelow, has_below}
 
 pub ack_parts : (last : Bool) (greatest delay : ℕ) (range : ℕ × ℕ) (ranges : List (ℕ × ℕ)) (counts : Option EcnCounts)
     → shortest_frame last (frame_of Ack (Number greatest ∷ Number delay ∷ Ranges (range ∷ ranges) ∷ counts_of counts))
-    ≡ all_short (ack_type counts ∷ greatest ∷ delay ∷ length ranges ∷ (range.1 - range.0) ∷ []) ++ (shortest_below range.0 ranges ++ all_short (numbers_of counts))
+    ≡ all_short (ack_type counts ∷ greatest ∷ delay ∷ length ranges ∷ (range.1 - range.0) ∷ []) ++ (shortest_below range.0 ranges ++ all_short (count_numbers counts))
 unfolding shortest_frame
 ack_parts last greatest delay range ranges None = simp (append_assoc, append-nil)
 ack_parts last greatest delay range ranges (Some counts) = simp (append_assoc, append-nil)
@@ -82,10 +82,9 @@ refused_run r refused d error all above run runs left w w1 w2 s s1 s2 x e y is w
 
 -- an ACK of a set, by its greatest run and the runs below that
 pub record SetParts (delay : ℕ) (whole runs : List (Range ℕ)) (run : Range ℕ) (counts : Option EcnCounts) (ty count : ℕ) : Type 0 where
-  pub bounds : Bounded runs run
   pub numeric : AreNumeric (ty ∷ (run.end - 1) ∷ delay ∷ count ∷ (run.end - 1 - run.start) ∷ [])
   pub parts : (last : Bool) → shortest_frame last (ack_of delay whole counts)
-      ≡ all_short (ty ∷ (run.end - 1) ∷ delay ∷ count ∷ (run.end - 1 - run.start) ∷ []) ++ (shortest_below run.start (ranges_in runs) ++ all_short (numbers_of counts))
+      ≡ all_short (ty ∷ (run.end - 1) ∷ delay ∷ count ∷ (run.end - 1 - run.start) ∷ []) ++ (shortest_below run.start (ranges_in runs) ++ all_short (count_numbers counts))
 
 pub small_type : (counts : Option EcnCounts) → ack_type counts < 2 ^ 62
 small_type None = omega arith
@@ -98,7 +97,6 @@ set_parts delay whole runs run counts ty size e ty_is size_is delay_fits maximal
     let count : size - 1 ≡ length (ranges_in runs) = omega (arith, size_is, ap length e, length-append runs (run ∷ []), length-ranges_in runs) in
     let ranges : ranges_in whole ≡ ends_of run ∷ ranges_in runs = ap ranges_in e ∙ ranges_in-last runs run in
     record {
-      bounds = b;
       numeric = (omega (arith, ty_is, small_type counts), (b.greatest, (delay_fits, (omega (arith, count, length-ranges_in runs, b.few), (omega (arith, b.greatest), tt)))));
       parts = λ last. rw (ranges, ty_is, count) (ack_parts last (run.end - 1) delay (ends_of run) (ranges_in runs) counts);
     }

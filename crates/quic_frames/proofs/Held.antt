@@ -11,7 +11,7 @@ use Rattle.quic_frames.specs.Acks.{ranges_acked}
 use Rattle.quic_frames.specs.Field.{AreBelow, AreBlocks}
 use Rattle.quic_frames.specs.InRange.{InRange}
 use Rattle.quic_frames.specs.Meaning.{meaning_of}
-use Rattle.quic_frames.specs.Sets.{ack_type, numbers_of, head_numbers}
+use Rattle.quic_frames.specs.Sets.{ack_type, count_numbers, head_numbers}
 use Rattle.quic_frames.specs.Shortest.{shortest_below, shortest_frame}
 use Rattle.quic_frames.specs.Writing.{AreNumeric, AreSpelled, all_short}
 use Rattle.quic_frames.proofs.AckParts.{ack_parts, small_type}
@@ -53,7 +53,7 @@ pub record HeldParts (a : Ack) : Type 0 where
   pub spelled : AreSpelled numbers a.additional.now
   pub many : length numbers / 2 ≡ length (ranges_acked a) - 1
   pub numeric : AreNumeric (head_numbers a)
-  pub parts : (last : Bool) → shortest_frame last (meaning_of (frames.Ack a)) ≡ all_short (head_numbers a) ++ (all_short numbers ++ all_short (numbers_of a.ecn))
+  pub parts : (last : Bool) → shortest_frame last (meaning_of (frames.Ack a)) ≡ all_short (head_numbers a) ++ (all_short numbers ++ all_short (count_numbers a.ecn))
 
 pub held_parts : (a : Ack) → AreBytes a.additional.now → InRange (frames.Ack a) → HeldParts a
 held_parts a fits q =
@@ -71,20 +71,20 @@ held_parts a fits q =
       numeric = (small_type a.ecn, (q.0.0, (q.0.1.0, (omega (arith, count, few, ends, ordered, q.0.0), tt))));
       parts = λ last.
           rw (b.are, others, below_short b.range.0 b.ranges) (ack_parts last a.largest a.delay b.range b.ranges a.ecn
-          ∙ moved (ack_type a.ecn ∷ a.largest ∷ a.delay ∷ length b.ranges ∷ []) (b.range.1 - b.range.0) (shortest_below b.range.0 b.ranges) (all_short (numbers_of a.ecn)));
+          ∙ moved (ack_type a.ecn ∷ a.largest ∷ a.delay ∷ length b.ranges ∷ []) (b.range.1 - b.range.0) (shortest_below b.range.0 b.ranges) (all_short (count_numbers a.ecn)));
     }
 
 -- the same of a head and counts that were computed
 pub held_whole : (a : Ack) (h : HeldParts a) (last : Bool) (head : List ℕ) (counts : Option EcnCounts) → head ≡ head_numbers a → counts ≡ a.ecn
-    → shortest_frame last (meaning_of (frames.Ack a)) ≡ all_short head ++ (all_short h.numbers ++ all_short (numbers_of counts))
+    → shortest_frame last (meaning_of (frames.Ack a)) ≡ all_short head ++ (all_short h.numbers ++ all_short (count_numbers counts))
 held_whole a h last head counts head_is counts_are =
-    h.parts last ∙ ap (λ (l : List ℕ). all_short l ++ (all_short h.numbers ++ all_short (numbers_of a.ecn))) (sym head_is)
-    ∙ ap (λ (k : Option EcnCounts). all_short head ++ (all_short h.numbers ++ all_short (numbers_of k))) (sym counts_are)
+    h.parts last ∙ ap (λ (l : List ℕ). all_short l ++ (all_short h.numbers ++ all_short (count_numbers a.ecn))) (sym head_is)
+    ∙ ap (λ (k : Option EcnCounts). all_short head ++ (all_short h.numbers ++ all_short (count_numbers k))) (sym counts_are)
 
 pub held_length : (a : Ack) (h : HeldParts a) (last : Bool) (head : List ℕ) (counts : Option EcnCounts) (first second third : ℕ) → head ≡ head_numbers a → counts ≡ a.ecn → first ≡ length (all_short head)
-    → second ≡ length (all_short h.numbers) → third ≡ length (all_short (numbers_of counts)) → first + second + third ≡ length (shortest_frame last (meaning_of (frames.Ack a)))
+    → second ≡ length (all_short h.numbers) → third ≡ length (all_short (count_numbers counts)) → first + second + third ≡ length (shortest_frame last (meaning_of (frames.Ack a)))
 held_length a h last head counts first second third head_is counts_are one two three =
     let whole = ap length (held_whole a h last head counts head_is counts_are) in
-    let front = length-append (all_short head) (all_short h.numbers ++ all_short (numbers_of counts)) in
-    let back = length-append (all_short h.numbers) (all_short (numbers_of counts)) in
+    let front = length-append (all_short head) (all_short h.numbers ++ all_short (count_numbers counts)) in
+    let back = length-append (all_short h.numbers) (all_short (count_numbers counts)) in
     omega (arith, whole, front, back, one, two, three)

@@ -99,23 +99,16 @@ runs_apart least (run ∷ runs) h =
 pub are_apart : (runs : List (Range ℕ)) → IsMaximalRuns runs → AreApart (ranges_in runs)
 are_apart runs h = runs_apart 0 runs h
 
--- below the first of such ranges there are no more than its least number
-pub few_below : (range : ℕ × ℕ) (ranges : List (ℕ × ℕ)) → AreApart (range ∷ ranges) → length ranges ≤ range.0
-few_below range [] h = omega arith
-few_below range (below ∷ ranges) h =
-    let others = few_below below ranges h.2 in
-    let ordered : below.0 ≤ below.1 = first_ordered below ranges h.2 in
-    omega (arith, others, ordered, h.1)
-  where
-    first_ordered : (range : ℕ × ℕ) (ranges : List (ℕ × ℕ)) → AreApart (range ∷ ranges) → range.0 ≤ range.1
-    first_ordered range [] h = h
-    first_ordered range (below ∷ ranges) h = h.0
-
--- ---- the first range ends at the greatest number
-
 ordered : (range : ℕ × ℕ) (ranges : List (ℕ × ℕ)) → AreApart (range ∷ ranges) → range.0 ≤ range.1
 ordered range [] h = h
 ordered range (below ∷ ranges) h = h.0
+
+-- below the first of such ranges there are no more than its least number
+pub few_below : (range : ℕ × ℕ) (ranges : List (ℕ × ℕ)) → AreApart (range ∷ ranges) → length ranges ≤ range.0
+few_below range [] h = omega arith
+few_below range (below ∷ ranges) h = omega (arith, few_below below ranges h.2, ordered below ranges h.2, h.1)
+
+-- ---- the first range ends at the greatest number
 
 either_of : (b c : Bool) → (b || c) ≡ true → (b ≡ true) ⊎ (c ≡ true)
 either_of true c e = inl refl

@@ -39,9 +39,10 @@ abbrev pub ack_type : Option EcnCounts → ℕ
 ack_type None = 0x02
 ack_type (Some counts) = 0x03
 
-abbrev pub numbers_of : Option EcnCounts → List ℕ
-numbers_of None = []
-numbers_of (Some counts) = counts.ect0 ∷ counts.ect1 ∷ counts.ce ∷ []
+-- the numbers of counts, where they are given
+abbrev pub count_numbers : Option EcnCounts → List ℕ
+count_numbers None = []
+count_numbers (Some counts) = counts.ect0 ∷ counts.ect1 ∷ counts.ce ∷ []
 
 -- the numbers in front of the blocks of an ACK that is held, its type first
 abbrev pub head_numbers : held.Ack → List ℕ

@@ -5,7 +5,7 @@ ghost use Rattle.quic_base.specs.Number.{AreBytes};
 ghost use Rattle.quic_ranges.specs.Runs.{IsMaximalRuns, member};
 ghost use Rattle.quic_frames.specs.InRange.{InRange, AreCounts};
 ghost use Rattle.quic_frames.specs.Meaning.{meaning_of};
-ghost use Rattle.quic_frames.specs.Sets.{ranges_in, ack_of, ack_type, numbers_of, head_numbers};
+ghost use Rattle.quic_frames.specs.Sets.{ranges_in, ack_of, ack_type, count_numbers, head_numbers};
 ghost use Rattle.quic_frames.specs.Shortest.{shortest_frame, shortest_below};
 ghost use Rattle.quic_frames.specs.Writing.{Writes, all_short};
 ghost use Rattle.quic_frames.specs.declared.frame.Frame.TheVariants as frames;
@@ -81,7 +81,7 @@ fn encode_below<B: BufMut>(
 // Appends the counts, where they are given.
 fn encode_counts<B: BufMut>(ecn: Option<EcnCounts>, out: &mut B) -> Result<(), NoRoom>
     requires { AreCounts ecn }
-    ensures { Writes result (all_short (numbers_of ecn))
+    ensures { Writes result (all_short (count_numbers ecn))
         (B.written out.old) (B.spare out.old) (B.written out.new) (B.spare out.new) }
 {
     match ecn {
@@ -93,7 +93,7 @@ fn encode_counts<B: BufMut>(ecn: Option<EcnCounts>, out: &mut B) -> Result<(), N
 // How many bytes `encode_counts` appends.
 fn counts_len(ecn: Option<EcnCounts>) -> u128
     requires { AreCounts ecn }
-    ensures value { result ≡ length (all_short (numbers_of ecn)) }
+    ensures value { result ≡ length (all_short (count_numbers ecn)) }
     ensures small { result ≤ 24 }
 {
     match ecn {

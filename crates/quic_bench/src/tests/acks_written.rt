@@ -58,12 +58,7 @@ fn written(alloc: Global, words: &[&str]) -> Result<Vec<u8>, Fail> {
                 ect1: ect1.parse()?,
                 ce: ce.parse()?,
             };
-            ack_bytes(
-                alloc,
-                delay.parse()?,
-                &set_of(alloc, runs)?,
-                Some(&counts),
-            )
+            ack_bytes(alloc, delay.parse()?, &set_of(alloc, runs)?, Some(&counts))
         }
         _ => Err("an unknown line".into()),
     }

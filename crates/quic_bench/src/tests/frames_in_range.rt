@@ -3,7 +3,8 @@ use quic_base::ids::{ConnectionId, Dir, ResetToken, StreamId};
 use quic_base::varint::VarInt;
 use quic_frames::frame::{
     Ack, ApplicationClose, Close, ConnectionClose, Crypto, Datagram, EcnCounts, Frame, FrameStruct,
-    FrameType, NewConnectionId, RETIRE_CONNECTION_ID_SIZE_BOUND, ResetStream, StopSending, Stream,
+    FrameType, Iter, NewConnectionId, RETIRE_CONNECTION_ID_SIZE_BOUND, ResetStream, StopSending,
+    Stream,
 };
 use quic_frames::transport_error::Code;
 use std::test::Fail;
@@ -48,8 +49,13 @@ fn close_of(frame_type: Option<FrameType>) -> ConnectionClose<'static> {
     }
 }
 
+// Each kind is read once, and what is read is in range.
 #[test]
-fn offsets_in_range(rt: HostRuntime) {
+fn offsets_in_range(rt: HostRuntime) -> Result<(), Fail> {
+    let Some(Ok(frame)) = Iter::new(b"\x11\x04\x21")?.next() else {
+        return Err("a frame".into());
+    };
+    assert!(rt; frame.in_range());
     for (n, fits) in NUMBERS {
         assert_eq!(rt; Frame::Stream(stream(n)).in_range(), fits);
         assert_eq!(rt; Frame::Crypto(crypto(n)).in_range(), fits);
@@ -58,10 +64,15 @@ fn offsets_in_range(rt: HostRuntime) {
         assert_eq!(rt; Frame::StreamDataBlocked { id, offset: n }.in_range(), fits);
         assert_eq!(rt; Frame::DataBlocked { offset: n }.in_range(), fits);
     }
+    Ok(())
 }
 
 #[test]
-fn counts_in_range(rt: HostRuntime) {
+fn counts_in_range(rt: HostRuntime) -> Result<(), Fail> {
+    let Some(Ok(frame)) = Iter::new(b"\x12\x03")?.next() else {
+        return Err("a frame".into());
+    };
+    assert!(rt; frame.in_range());
     for (n, fits) in NUMBERS {
         for dir in [Dir::Bi, Dir::Uni] {
             assert_eq!(rt; Frame::MaxStreams { dir, count: n }.in_range(), fits);
@@ -69,10 +80,15 @@ fn counts_in_range(rt: HostRuntime) {
         }
         assert_eq!(rt; Frame::RetireConnectionId { sequence: n }.in_range(), fits);
     }
+    Ok(())
 }
 
 #[test]
 fn counts_of_an_acknowledgement_in_range(rt: HostRuntime) -> Result<(), Fail> {
+    let Some(Ok(frame)) = Iter::new(b"\x03\x05\x07\x00\x00\x01\x02\x03")?.next() else {
+        return Err("a frame".into());
+    };
+    assert!(rt; frame.in_range());
     for (n, fits) in NUMBERS {
         for (ect0, ect1, ce) in [(n, 0, 0), (0, n, 0), (0, 0, n)] {
             let counts = EcnCounts { ect0, ect1, ce };
@@ -86,7 +102,11 @@ fn counts_of_an_acknowledgement_in_range(rt: HostRuntime) -> Result<(), Fail> {
 }
 
 #[test]
-fn new_ids_in_range(rt: HostRuntime) {
+fn new_ids_in_range(rt: HostRuntime) -> Result<(), Fail> {
+    let Some(Ok(frame)) = Iter::new(b"\x18\x05\x02\x02\xaa\xbb0123456789abcdef")?.next() else {
+        return Err("a frame".into());
+    };
+    assert!(rt; frame.in_range());
     let id = ConnectionId::new(b"\xaa\xbb");
     for (n, fits) in NUMBERS {
         assert_eq!(rt; Frame::NewConnectionId(new_id(n, 0, id)).in_range(), fits);
@@ -98,10 +118,15 @@ fn new_ids_in_range(rt: HostRuntime) {
     assert!(rt; !Frame::NewConnectionId(new_id(5, 2, empty)).in_range());
     let longest = ConnectionId::new(b"01234567890123456789");
     assert!(rt; Frame::NewConnectionId(new_id(5, 2, longest)).in_range());
+    Ok(())
 }
 
 #[test]
-fn closes_in_range(rt: HostRuntime) {
+fn closes_in_range(rt: HostRuntime) -> Result<(), Fail> {
+    let Some(Ok(frame)) = Iter::new(b"\x1c\x07\x00\x03why")?.next() else {
+        return Err("a frame".into());
+    };
+    assert!(rt; frame.in_range());
     for (ty, fits) in [
         (None, true),
         (Some(FrameType::PADDING), false),
@@ -114,11 +139,16 @@ fn closes_in_range(rt: HostRuntime) {
         reason: b"why",
     };
     assert!(rt; Frame::Close(Close::from(close)).in_range());
+    Ok(())
 }
 
 // What always can be written.
 #[test]
-fn all_others_are_in_range(rt: HostRuntime) {
+fn all_others_are_in_range(rt: HostRuntime) -> Result<(), Fail> {
+    let Some(Ok(frame)) = Iter::new(b"\x01")?.next() else {
+        return Err("a frame".into());
+    };
+    assert!(rt; frame.in_range());
     let (id, error_code) = (stream_id(), VarInt::MAX);
     assert!(rt; Frame::StopSending(StopSending { id, error_code }).in_range());
     assert!(rt; Frame::MaxData(VarInt::MAX).in_range());
@@ -127,6 +157,7 @@ fn all_others_are_in_range(rt: HostRuntime) {
     assert!(rt; Frame::Datagram(Datagram { bytes: b"" }).in_range());
     assert!(rt; Frame::Padding.in_range() && Frame::Ping.in_range());
     assert!(rt; Frame::ImmediateAck.in_range() && Frame::HandshakeDone.in_range());
+    Ok(())
 }
 
 // The bound of a kind of frame, by its name and by its method.

@@ -1,7 +1,5 @@
 //! Frames of every kind, written at their place in a payload.
-ghost use Rattle.std.specs.Prelude.{◌<◌, ◌^◌, length, IsTrue};
-ghost use Rattle.quic_frames.specs.InRange.{open_data};
-
+use super::frames_written_refused::is_counted;
 use quic_frames::frame::{Frame, Iter};
 use std::alloc::Global;
 use std::test::Fail;
@@ -103,19 +101,8 @@ const OTHERS: &str = "\
 8000001f 1f 1f
 800000af402a4014c00000000000c3504001 40af2a148000c35001 40af2a148000c35001";
 
-// Whether a length of the data can be written.
-pub fn is_counted(frame: &Frame<'_>) -> bool
-    ensures { IsTrue result → length (open_data frame.now) < 2 ^ 62 }
-{
-    match frame {
-        Frame::Stream(stream) => (stream.bytes.len() as u64) < 1 << 62,
-        Frame::Datagram(datagram) => (datagram.bytes.len() as u64) < 1 << 62,
-        _ => true,
-    }
-}
-
 // The bytes of a frame, as many as are foretold.
-pub fn written(alloc: Global, frame: &Frame<'_>, last: bool) -> Result<Vec<u8>, Fail> {
+fn written(alloc: Global, frame: &Frame<'_>, last: bool) -> Result<Vec<u8>, Fail> {
     if !frame.in_range() || !is_counted(frame) {
         return Err("a frame in range".into());
     }
@@ -162,9 +149,11 @@ fn is_rewritten(alloc: Global, payload: &str, counted: &str, open: &str) -> Resu
     let Some(Ok(frame)) = iter.next() else {
         return Ok(false);
     };
-    Ok(iter.next().is_none()
-        && is_written(alloc, &frame, false, counted)?
-        && is_written(alloc, &frame, true, open)?)
+    Ok(
+        iter.next().is_none()
+            && is_written(alloc, &frame, false, counted)?
+            && is_written(alloc, &frame, true, open)?,
+    )
 }
 
 // Whether the first frame of a payload is read back from what is written of it.

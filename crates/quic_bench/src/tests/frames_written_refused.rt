@@ -1,11 +1,13 @@
 //! What encoders leave where a growth is refused. Each test passes whichever one allocation of its run
-//! fails, and where none does: `rt try --test --fail-alloc N` lets the Nth fail.
+//! fails, and where none does: `rt try --test --fail-alloc N` lets the Nth fail.ghost use Rattle.std.specs.Prelude.{◌<◌, ◌^◌, length, IsTrue};
+ghost use Rattle.quic_frames.specs.InRange.{open_data};
+
 use quic_base::coding::NoRoom;
 use quic_base::ids::{ConnectionId, ResetToken, StreamId};
 use quic_base::varint::VarInt;
 use quic_frames::frame::{
-    Ack, AckFrequency, ApplicationClose, Close, ConnectionClose, Crypto, Datagram, EcnCounts, Frame,
-    NewConnectionId, NewToken, ResetStream, StopSending, Stream, StreamMeta,
+    AckFrequency, ApplicationClose, ConnectionClose, Crypto, Datagram, EcnCounts, Frame, Iter,
+    NewConnectionId, NewToken, ResetStream, StopSending, StreamMeta,
 };
 use quic_frames::transport_error::Code;
 use std::test::Fail;
@@ -29,6 +31,17 @@ macro_rules! writes {
             assert_eq!($rt; $out.as_slice(), $whole);
         }
     };
+}
+
+// Whether a length of the data can be written.
+pub fn is_counted(frame: &Frame<'_>) -> bool
+    ensures { IsTrue result → length (open_data frame.now) < 2 ^ 62 }
+{
+    match frame {
+        Frame::Stream(stream) => (stream.bytes.len() as u64) < 1 << 62,
+        Frame::Datagram(datagram) => (datagram.bytes.len() as u64) < 1 << 62,
+        _ => true,
+    }
 }
 
 fn stream_id() -> StreamId {
@@ -177,28 +190,26 @@ fn a_datagram(rt: HostRuntime) {
 }
 
 #[test]
-fn a_frame_of_a_stream(rt: HostRuntime) {
-    let frame = Frame::Stream(Stream {
-        id: stream_id(),
-        offset: 64,
-        fin: true,
-        bytes: b"0123456789abcdef",
-    });
+fn a_frame_of_a_stream(rt: HostRuntime) -> Result<(), Fail> {
+    let payload = b"\x0d\x04\x40\x400123456789abcdef";
+    let Some(Ok(frame)) = Iter::new(payload)?.next() else {
+        return Err("a STREAM".into());
+    };
+    if !frame.in_range() || !is_counted(&frame) {
+        return Err("a frame in range".into());
+    }
     let whole = b"\x0f\x04\x40\x40\x100123456789abcdef".as_slice();
     writes!(rt, whole, |out| frame.encode(false, &mut out));
-    let whole = b"\x0d\x04\x40\x400123456789abcdef".as_slice();
-    writes!(rt, whole, |out| frame.encode(true, &mut out));
+    writes!(rt, payload.as_slice(), |out| frame.encode(true, &mut out));
+    Ok(())
 }
 
 #[test]
 fn an_acknowledgement(rt: HostRuntime) -> Result<(), Fail> {
-    let counts = EcnCounts {
-        ect0: 64,
-        ect1: 24,
-        ce: 12,
+    let payload = b"\x03\x0e\x40\x40\x03\x40\x00\x01\x40\x01\x03\x00\x00\x02\x40\x40\x18\x0c";
+    let Some(Ok(frame)) = Iter::new(payload)?.next() else {
+        return Err("an ACK".into());
     };
-    let blocks = b"\x40\x00\x01\x40\x01\x03\x00\x00\x02";
-    let frame = Frame::Ack(Ack::from_parts(14, 64, blocks, Some(counts))?);
     if !frame.in_range() {
         return Err("a frame in range".into());
     }
@@ -209,15 +220,13 @@ fn an_acknowledgement(rt: HostRuntime) -> Result<(), Fail> {
 
 #[test]
 fn a_frame_of_a_close(rt: HostRuntime) -> Result<(), Fail> {
-    let close = ApplicationClose {
-        error_code: VarInt::from_u32(16384),
-        reason: b"0123456789abcdef",
+    let payload = b"\x1d\x80\x00\x40\x00\x100123456789abcdef";
+    let Some(Ok(frame)) = Iter::new(payload)?.next() else {
+        return Err("a close".into());
     };
-    let frame = Frame::Close(Close::from(close));
     if !frame.in_range() {
         return Err("a frame in range".into());
     }
-    let whole = b"\x1d\x80\x00\x40\x00\x100123456789abcdef".as_slice();
-    writes!(rt, whole, |out| frame.encode(true, &mut out));
+    writes!(rt, payload.as_slice(), |out| frame.encode(true, &mut out));
     Ok(())
 }

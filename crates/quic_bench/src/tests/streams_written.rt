@@ -7,12 +7,7 @@ use std::ops::Range;
 use std::test::Fail;
 
 // A stream's head in hexadecimal, where it can be written.
-fn head(
-    alloc: Global,
-    offsets: Range<u64>,
-    fin: bool,
-    with_length: bool,
-) -> Result<String, Fail> {
+fn head(alloc: Global, offsets: Range<u64>, fin: bool, with_length: bool) -> Result<String, Fail> {
     let Range { start, end } = offsets;
     if start > end || end >= 1 << 62 {
         return Err("offsets in range".into());
@@ -45,7 +40,10 @@ fn heads_of_streams(rt: HostRuntime) -> Result<(), Fail> {
 fn the_head_of_no_data(rt: HostRuntime) -> Result<(), Fail> {
     let meta = StreamMeta::default();
     assert_eq!(rt; u64::from(meta.id), 0);
-    assert_eq!(rt; (meta.offsets.start, meta.offsets.end, meta.fin), (0, 0, false));
+    assert_eq!(rt;
+        (meta.offsets.start, meta.offsets.end, meta.fin),
+        (0, 0, false)
+    );
     let mut out = Vec::new(rt.alloc());
     meta.encode(true, &mut out)?;
     assert_eq!(rt; out.as_slice(), b"\x0a\x00\x00".as_slice());
@@ -87,7 +85,10 @@ fn one_head_is_held(rt: HostRuntime) -> Result<(), Fail> {
         return Err("one head".into());
     };
     assert_eq!(rt; u64::from(meta.id), 0);
-    assert_eq!(rt; (meta.offsets.start, meta.offsets.end, meta.fin), (0, 0, false));
+    assert_eq!(rt;
+        (meta.offsets.start, meta.offsets.end, meta.fin),
+        (0, 0, false)
+    );
     Ok(())
 }
 

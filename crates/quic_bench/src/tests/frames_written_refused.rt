@@ -1,5 +1,6 @@
 //! What encoders leave where a growth is refused. Each test passes whichever one allocation of its run
-//! fails, and where none does: `rt try --test --fail-alloc N` lets the Nth fail.ghost use Rattle.std.specs.Prelude.{◌<◌, ◌^◌, length, IsTrue};
+//! fails, and where none does: `rt try --test --fail-alloc N` lets the Nth fail.
+ghost use Rattle.std.specs.Prelude.{◌<◌, ◌^◌, length, IsTrue};
 ghost use Rattle.quic_frames.specs.InRange.{open_data};
 
 use quic_base::coding::NoRoom;

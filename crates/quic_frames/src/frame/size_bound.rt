@@ -18,17 +18,22 @@ pub trait FrameStruct {
     /// where the length of the data is written.
     const SIZE_BOUND: usize;
 
+    ghost most: { ℕ };
+
     ghost says: { Self → Meaning };
 
     ghost content: { Self → List ℕ };
 
     /// The bound, which the frame keeps.
     fn bound(&self) -> usize
-        ensures { length (shortest_frame false (says self.now)) ≤ result + length (content self.now) };
+        ensures value { result ≡ most }
+        ensures bounds { length (shortest_frame false (says self.now)) ≤ most + length (content self.now) };
 }
 
 impl FrameStruct for ConnectionClose<'_> {
     const SIZE_BOUND: usize = 1 + 8 + 8 + 8;
+
+    ghost most = { 25 };
 
     ghost says = { λ c. meaning_of (frames.Close (closes.Connection c)) };
 
@@ -43,6 +48,8 @@ impl FrameStruct for ConnectionClose<'_> {
 impl FrameStruct for ApplicationClose<'_> {
     const SIZE_BOUND: usize = 1 + 8 + 8;
 
+    ghost most = { 17 };
+
     ghost says = { λ c. meaning_of (frames.Close (closes.Application c)) };
 
     ghost content = { λ c. c.reason.now };
@@ -55,6 +62,8 @@ impl FrameStruct for ApplicationClose<'_> {
 
 impl FrameStruct for Stream<'_> {
     const SIZE_BOUND: usize = 1 + 8 + 8 + 8;
+
+    ghost most = { 25 };
 
     ghost says = { λ s. meaning_of (frames.Stream s) };
 
@@ -69,6 +78,8 @@ impl FrameStruct for Stream<'_> {
 impl FrameStruct for ResetStream {
     const SIZE_BOUND: usize = 1 + 8 + 8 + 8;
 
+    ghost most = { 25 };
+
     ghost says = { λ r. meaning_of (frames.ResetStream r) };
 
     ghost content = { λ r. [] };
@@ -82,6 +93,8 @@ impl FrameStruct for ResetStream {
 impl FrameStruct for StopSending {
     const SIZE_BOUND: usize = 1 + 8 + 8;
 
+    ghost most = { 17 };
+
     ghost says = { λ s. meaning_of (frames.StopSending s) };
 
     ghost content = { λ s. [] };
@@ -94,6 +107,8 @@ impl FrameStruct for StopSending {
 
 impl FrameStruct for NewConnectionId {
     const SIZE_BOUND: usize = 1 + 8 + 8 + 1 + MAX_CID_SIZE + RESET_TOKEN_SIZE;
+
+    ghost most = { 54 };
 
     ghost says = { λ n. meaning_of (frames.NewConnectionId n) };
 
@@ -115,6 +130,8 @@ fn has_bounds(id: ConnectionId, token: ResetToken)
 impl FrameStruct for Datagram<'_> {
     const SIZE_BOUND: usize = 1 + 8;
 
+    ghost most = { 9 };
+
     ghost says = { λ d. meaning_of (frames.Datagram d) };
 
     ghost content = { λ d. d.bytes.now };
@@ -132,6 +149,8 @@ impl Crypto<'_> {
 
 impl FrameStruct for Crypto<'_> {
     const SIZE_BOUND: usize = Crypto::SIZE_BOUND;
+
+    ghost most = { 17 };
 
     ghost says = { λ c. meaning_of (frames.Crypto c) };
 

@@ -7,10 +7,11 @@ use quic_base::coding::NoRoom;
 use quic_base::ids::{ConnectionId, ResetToken, StreamId};
 use quic_base::varint::VarInt;
 use quic_frames::frame::{
-    AckFrequency, ApplicationClose, ConnectionClose, Crypto, Datagram, EcnCounts, Frame, Iter,
+    Ack, AckFrequency, ApplicationClose, ConnectionClose, Crypto, Datagram, EcnCounts, Frame, Iter,
     NewConnectionId, NewToken, ResetStream, StopSending, StreamMeta,
 };
 use quic_frames::transport_error::Code;
+use quic_ranges::range_set::ArrayRangeSet;
 use std::test::Fail;
 
 // Whether the whole is there, or a part of it where there was no room.
@@ -216,6 +217,23 @@ fn an_acknowledgement(rt: HostRuntime) -> Result<(), Fail> {
     }
     let whole = b"\x03\x0e\x40\x40\x03\x00\x01\x01\x03\x00\x00\x02\x40\x40\x18\x0c".as_slice();
     writes!(rt, whole, |out| frame.encode(true, &mut out));
+    Ok(())
+}
+
+// The acknowledgement of a set whose two runs take no memory.
+#[test]
+fn an_acknowledgement_of_a_set(rt: HostRuntime) -> Result<(), Fail> {
+    let mut set = ArrayRangeSet::new(rt.alloc());
+    set.insert(1..4)?;
+    set.insert(100..101)?;
+    let Some(greatest) = set.max() else {
+        return Err("a number".into());
+    };
+    if greatest >= 1 << 62 {
+        return Err("a smaller number".into());
+    }
+    let whole = b"\x02\x40\x64\x40\x40\x01\x00\x40\x5f\x02".as_slice();
+    writes!(rt, whole, |out| Ack::encode(64, &set, None, &mut out));
     Ok(())
 }
 

@@ -31,7 +31,7 @@ pub trait FrameStruct {
 }
 
 impl FrameStruct for ConnectionClose<'_> {
-    const SIZE_BOUND: usize = 1 + 8 + 8 + 8;
+    const SIZE_BOUND: usize = 1 + 8 + 8 + 8; // type, code, type of the frame, length
 
     ghost most = { 25 };
 
@@ -46,7 +46,7 @@ impl FrameStruct for ConnectionClose<'_> {
 }
 
 impl FrameStruct for ApplicationClose<'_> {
-    const SIZE_BOUND: usize = 1 + 8 + 8;
+    const SIZE_BOUND: usize = 1 + 8 + 8; // type, code, length
 
     ghost most = { 17 };
 
@@ -61,7 +61,7 @@ impl FrameStruct for ApplicationClose<'_> {
 }
 
 impl FrameStruct for Stream<'_> {
-    const SIZE_BOUND: usize = 1 + 8 + 8 + 8;
+    const SIZE_BOUND: usize = 1 + 8 + 8 + 8; // type, stream, offset, length
 
     ghost most = { 25 };
 
@@ -76,7 +76,7 @@ impl FrameStruct for Stream<'_> {
 }
 
 impl FrameStruct for ResetStream {
-    const SIZE_BOUND: usize = 1 + 8 + 8 + 8;
+    const SIZE_BOUND: usize = 1 + 8 + 8 + 8; // type, stream, code, final size
 
     ghost most = { 25 };
 
@@ -91,7 +91,7 @@ impl FrameStruct for ResetStream {
 }
 
 impl FrameStruct for StopSending {
-    const SIZE_BOUND: usize = 1 + 8 + 8;
+    const SIZE_BOUND: usize = 1 + 8 + 8; // type, stream, code
 
     ghost most = { 17 };
 
@@ -168,5 +168,6 @@ pub const RETIRE_CONNECTION_ID_SIZE_BOUND: usize = 1 + 8;
 /// It keeps that bound. The function does nothing.
 #[tactic(auto, using(crate::proofs::SizeBounds::retire_bound))]
 pub fn retire_connection_id_is_bounded()
-    ensures { (last : Bool) (sequence : ℕ) → length (shortest_frame last (meaning_of (frames.RetireConnectionId sequence))) ≤ RETIRE_CONNECTION_ID_SIZE_BOUND }
+    ensures value { RETIRE_CONNECTION_ID_SIZE_BOUND ≡ 9 }
+    ensures bounds { (last : Bool) (sequence : ℕ) → length (shortest_frame last (meaning_of (frames.RetireConnectionId sequence))) ≤ RETIRE_CONNECTION_ID_SIZE_BOUND }
 {}

@@ -1,4 +1,5 @@
 //! Acknowledgements, and frames of every kind by their fields.
+use super::{displays, holds, holds_at, same};
 use quic_base::ids::EcnCodepoint;
 use quic_frames::frame::{Ack, AckError, EcnCounts, Frame, FrameType, InvalidFrame, Iter};
 use quic_frames::transport_error::Error;
@@ -18,16 +19,20 @@ pub fn ranges_of(alloc: Global, ack: &Ack<'_>) -> Result<Vec<(u64, u64)>, Fail> 
 fn parts_of_an_acknowledgement(rt: HostRuntime) -> Result<(), Fail> {
     let ack = Ack::from_parts(5, 7, b"\x00\x00\x03", None)?;
     let wanted = [(5, 5), (0, 3)];
-    assert_eq!(rt; ranges_of(rt.alloc(), &ack)?.as_slice(), wanted.as_slice());
-    assert_eq!(rt; ack.largest(), 5);
-    assert_eq!(rt; ack.delay(), 7);
-    assert_eq!(rt; ack.additional(), b"\x00\x00\x03".as_slice());
-    assert!(rt; ack.ecn().is_none());
+    same(
+        &rt,
+        ranges_of(rt.alloc(), &ack)?.as_slice(),
+        wanted.as_slice(),
+    );
+    same(&rt, ack.largest(), 5);
+    same(&rt, ack.delay(), 7);
+    same(&rt, ack.additional(), b"\x00\x00\x03".as_slice());
+    holds(&rt, ack.ecn().is_none());
     let mut iter = ack.iter();
-    assert_eq!(rt; iter.next(), Some(5..=5));
-    assert_eq!(rt; iter.next(), Some(0..=3));
-    assert_eq!(rt; iter.next(), None);
-    assert_eq!(rt; iter.next(), None);
+    same(&rt, iter.next(), Some(5..=5));
+    same(&rt, iter.next(), Some(0..=3));
+    same(&rt, iter.next(), None);
+    same(&rt, iter.next(), None);
     Ok(())
 }
 
@@ -41,16 +46,18 @@ fn parts_that_are_refused(rt: HostRuntime) -> Result<(), Fail> {
         (b"\x00\x00".as_slice(), AckError::UnexpectedEnd),
     ] {
         let answer = Ack::from_parts(5, 0, blocks, None);
-        assert!(rt;
+        holds_at(
+            &rt,
+            format_args!("{refused:?}"),
             matches!(answer, Err(error) if error == refused),
-            "{refused:?}"
         );
     }
     let alloc = rt.alloc();
     let (end, malformed) = (AckError::UnexpectedEnd, AckError::Malformed);
-    assert_eq!(rt;
+    same(
+        &rt,
         format!(in alloc; "{end}, {malformed}, {end:?}")?.as_str(),
-        "unexpected end, malformed, UnexpectedEnd"
+        "unexpected end, malformed, UnexpectedEnd",
     );
     Ok(())
 }
@@ -61,14 +68,18 @@ fn an_acknowledgement_with_counts(rt: HostRuntime) -> Result<(), Fail> {
     let Some(Ok(frame)) = Iter::new(payload)?.next() else {
         return Err("a frame".into());
     };
-    assert_eq!(rt; frame.ty(), FrameType::ACK);
-    assert!(rt; !frame.is_ack_eliciting());
+    same(&rt, frame.ty(), FrameType::ACK);
+    holds(&rt, !frame.is_ack_eliciting());
     let Frame::Ack(ack) = frame else {
         return Err("an ACK".into());
     };
     let wanted = [(14, 14), (10, 11), (5, 5), (1, 3)];
-    assert_eq!(rt; ranges_of(rt.alloc(), &ack)?.as_slice(), wanted.as_slice());
-    assert_eq!(rt; ack.delay(), 0x2a);
+    same(
+        &rt,
+        ranges_of(rt.alloc(), &ack)?.as_slice(),
+        wanted.as_slice(),
+    );
+    same(&rt, ack.delay(), 0x2a);
     let Some(counts) = ack.ecn() else {
         return Err("counts".into());
     };
@@ -77,7 +88,7 @@ fn an_acknowledgement_with_counts(rt: HostRuntime) -> Result<(), Fail> {
         ect1: 0x18,
         ce: 0x0c,
     };
-    assert_eq!(rt; counts, wanted);
+    same(&rt, counts, wanted);
     Ok(())
 }
 
@@ -94,7 +105,7 @@ fn counts_grow(rt: HostRuntime) {
         ect1: 1,
         ce: 3,
     };
-    assert_eq!(rt; counts, wanted);
+    same(&rt, counts, wanted);
 }
 
 // The Debug of the first frame of a payload.
@@ -138,7 +149,7 @@ fn frames_of_few_numbers(rt: HostRuntime) -> Result<(), Fail> {
             "StopSending(StopSending { id: StreamId(4), error_code: 5 })",
         ),
     ] {
-        assert_eq!(rt; shown(rt.alloc(), payload)?.as_str(), text);
+        same(&rt, shown(rt.alloc(), payload)?.as_str(), text);
     }
     Ok(())
 }
@@ -147,27 +158,30 @@ fn frames_of_few_numbers(rt: HostRuntime) -> Result<(), Fail> {
 fn frames_of_the_connection(rt: HostRuntime) -> Result<(), Fail> {
     let payload = b"\x1b\x00\x00\x00\x00\x00\x00\x01\x02\x1e\x1f\x07\x02ab\x1c\x00\x00\x00\x30xy";
     let mut iter = Iter::new(payload)?;
-    assert!(rt; matches!(iter.next(), Some(Ok(Frame::PathResponse(0x102)))));
+    holds(
+        &rt,
+        matches!(iter.next(), Some(Ok(Frame::PathResponse(0x102)))),
+    );
     let Some(Ok(frame)) = iter.next() else {
         return Err("a HANDSHAKE_DONE".into());
     };
-    assert_eq!(rt; frame.ty(), FrameType::HANDSHAKE_DONE);
-    assert!(rt; frame.is_ack_eliciting());
-    assert!(rt; matches!(iter.next(), Some(Ok(Frame::ImmediateAck))));
+    same(&rt, frame.ty(), FrameType::HANDSHAKE_DONE);
+    holds(&rt, frame.is_ack_eliciting());
+    holds(&rt, matches!(iter.next(), Some(Ok(Frame::ImmediateAck))));
     let Some(Ok(Frame::NewToken(token))) = iter.next() else {
         return Err("a NEW_TOKEN".into());
     };
-    assert_eq!(rt; token.token, b"ab".as_slice());
+    same(&rt, token.token, b"ab".as_slice());
     let Some(Ok(frame)) = iter.next() else {
         return Err("a CONNECTION_CLOSE".into());
     };
-    assert_eq!(rt; frame.ty(), FrameType::CONNECTION_CLOSE);
-    assert!(rt; !frame.is_ack_eliciting());
+    same(&rt, frame.ty(), FrameType::CONNECTION_CLOSE);
+    holds(&rt, !frame.is_ack_eliciting());
     let Some(Ok(Frame::Datagram(datagram))) = iter.next() else {
         return Err("a DATAGRAM".into());
     };
-    assert_eq!(rt; datagram.bytes, b"xy".as_slice());
-    assert!(rt; iter.next().is_none());
+    same(&rt, datagram.bytes, b"xy".as_slice());
+    holds(&rt, iter.next().is_none());
     Ok(())
 }
 
@@ -179,18 +193,18 @@ fn a_new_connection_id_and_an_ack_frequency(rt: HostRuntime) -> Result<(), Fail>
     let Some(Ok(Frame::NewConnectionId(new))) = iter.next() else {
         return Err("a NEW_CONNECTION_ID".into());
     };
-    assert_eq!(rt; new.sequence, 5);
-    assert_eq!(rt; new.retire_prior_to, 2);
-    assert_eq!(rt; new.id.as_slice(), b"\xaa\xbb".as_slice());
-    assert_eq!(rt; new.reset_token.as_slice()[15], 0x12);
+    same(&rt, new.sequence, 5);
+    same(&rt, new.retire_prior_to, 2);
+    same(&rt, new.id.as_slice(), b"\xaa\xbb".as_slice());
+    same(&rt, new.reset_token.as_slice()[15], 0x12);
     let Some(Ok(Frame::AckFrequency(frequency))) = iter.next() else {
         return Err("an ACK_FREQUENCY".into());
     };
-    assert_eq!(rt; frequency.sequence.into_inner(), 0x2a);
-    assert_eq!(rt; frequency.ack_eliciting_threshold.into_inner(), 0x14);
-    assert_eq!(rt; frequency.request_max_ack_delay.into_inner(), 50000);
-    assert_eq!(rt; frequency.reordering_threshold.into_inner(), 1);
-    assert!(rt; iter.next().is_none());
+    same(&rt, frequency.sequence.into_inner(), 0x2a);
+    same(&rt, frequency.ack_eliciting_threshold.into_inner(), 0x14);
+    same(&rt, frequency.request_max_ack_delay.into_inner(), 50000);
+    same(&rt, frequency.reordering_threshold.into_inner(), 1);
+    holds(&rt, iter.next().is_none());
     Ok(())
 }
 
@@ -213,9 +227,11 @@ fn what_is_no_frame(rt: HostRuntime) -> Result<(), Fail> {
     assert_eq!(rt; invalid, wanted);
     let error = converted::<InvalidFrame, Error>(&invalid);
     let alloc = rt.alloc();
-    assert_eq!(rt;
-        format!(in alloc; "{error}")?.as_str(),
-        "received a frame that was badly formatted in ACK: malformed"
-    );
+    displays(
+        &rt,
+        alloc,
+        &error,
+        "received a frame that was badly formatted in ACK: malformed",
+    )?;
     Ok(())
 }

@@ -5,6 +5,7 @@ ghost use Rattle.quic_frames.specs.InRange.{AreCounts};
 
 use super::acks::ranges_of;
 use super::acks_answers::ACKS;
+use super::{holds, holds_at, same};
 use quic_frames::frame::{Ack, EcnCounts, Frame, Iter};
 use quic_ranges::range_set::ArrayRangeSet;
 use std::alloc::Global;
@@ -77,7 +78,7 @@ fn is_written(alloc: Global, line: &str) -> Result<bool, Fail> {
 #[test]
 fn acks_are_written_as_by_the_rust_crate(rt: HostRuntime) -> Result<(), Fail> {
     for line in ACKS.lines() {
-        assert!(rt; is_written(rt.alloc(), line)?, "{line}");
+        holds_at(&rt, line, is_written(rt.alloc(), line)?);
     }
     Ok(())
 }
@@ -89,7 +90,7 @@ fn acks_of_few_numbers(rt: HostRuntime) -> Result<(), Fail> {
         "0 0..1,2..3|02020001000000",
         "42 1..4,5..6,10..12,14..15 42 24 12|030e2a03000101030000022a180c",
     ] {
-        assert!(rt; is_written(rt.alloc(), line)?, "{line}");
+        holds_at(&rt, line, is_written(rt.alloc(), line)?);
     }
     Ok(())
 }
@@ -111,9 +112,13 @@ fn an_ack_of_a_set_is_read_back(rt: HostRuntime) -> Result<(), Fail> {
         return Err("an ACK".into());
     };
     let wanted = [(14, 14), (10, 11), (5, 5), (1, 3)];
-    assert_eq!(rt; ranges_of(rt.alloc(), &ack)?.as_slice(), wanted.as_slice());
-    assert_eq!(rt; ack.delay(), 42);
-    assert!(rt; ack.ecn() == Some(counts));
-    assert!(rt; iter.next().is_none());
+    same(
+        &rt,
+        ranges_of(rt.alloc(), &ack)?.as_slice(),
+        wanted.as_slice(),
+    );
+    same(&rt, ack.delay(), 42);
+    holds(&rt, ack.ecn() == Some(counts));
+    holds(&rt, iter.next().is_none());
     Ok(())
 }

@@ -1,4 +1,5 @@
 //! Rows, single calls and texts of `quic_base`.
+use super::{debugs, displays, holds, same, same_at};
 use crate::client::{Reset, first_number, read_back, read_reset, read_two, write_reset};
 use bytes::{Buf, BufMut, BytesMut};
 use quic_base::coding::{self, BufExt, BufMutExt, Codec, NoRoom, UnexpectedEnd};
@@ -50,11 +51,11 @@ fn shortest_spellings(rt: HostRuntime) -> Result<(), Fail> {
     ] {
         let mut out = Vec::new(rt.alloc());
         out.write(VarInt::from_u64(n)?)?;
-        assert_eq!(rt; out.as_slice(), bytes, "at {n}");
-        assert_eq!(rt; VarInt::from_u64(n)?.size(), bytes.len(), "at {n}");
+        same_at(&rt, n, out.as_slice(), bytes);
+        same_at(&rt, n, VarInt::from_u64(n)?.size(), bytes.len());
         let mut left = bytes;
-        assert_eq!(rt; left.get_var()?, n);
-        assert_eq!(rt; left.len(), 0);
+        same(&rt, left.get_var()?, n);
+        same(&rt, left.len(), 0);
     }
     Ok(())
 }
@@ -72,11 +73,7 @@ fn every_width_is_read(rt: HostRuntime) -> Result<(), Fail> {
             151288809941952652,
         ),
     ] {
-        assert_eq!(rt;
-            read::<VarInt>(bytes),
-            (Ok(VarInt::from_u64(n)?), 0),
-            "at {n}"
-        );
+        same_at(&rt, n, read::<VarInt>(bytes), (Ok(VarInt::from_u64(n)?), 0));
     }
     Ok(())
 }
@@ -84,63 +81,81 @@ fn every_width_is_read(rt: HostRuntime) -> Result<(), Fail> {
 #[test]
 fn refused_numbers(rt: HostRuntime) -> Result<(), Fail> {
     let cut = b"\x80\xff\xff".as_slice();
-    assert_eq!(rt; read::<VarInt>(cut), (Err(UnexpectedEnd), 2));
-    assert_eq!(rt; read::<u32>(cut), (Err(UnexpectedEnd), 3));
-    assert_eq!(rt; VarInt::from_u64(1 << 62), Err(VarIntBoundsExceeded));
-    assert_eq!(rt; VarInt::try_from(1u64 << 62), Err(VarIntBoundsExceeded));
-    assert_eq!(rt; VarInt::try_from(1usize << 62), Err(VarIntBoundsExceeded));
-    assert_eq!(rt; VarInt::try_from(1u128 << 64), Err(VarIntBoundsExceeded));
+    same(&rt, read::<VarInt>(cut), (Err(UnexpectedEnd), 2));
+    same(&rt, read::<u32>(cut), (Err(UnexpectedEnd), 3));
+    same(&rt, VarInt::from_u64(1 << 62), Err(VarIntBoundsExceeded));
+    same(&rt, VarInt::try_from(1u64 << 62), Err(VarIntBoundsExceeded));
+    same(
+        &rt,
+        VarInt::try_from(1usize << 62),
+        Err(VarIntBoundsExceeded),
+    );
+    same(
+        &rt,
+        VarInt::try_from(1u128 << 64),
+        Err(VarIntBoundsExceeded),
+    );
     Ok(())
 }
 
 #[test]
 fn conversions_of_varints(rt: HostRuntime) -> Result<(), Fail> {
-    assert_eq!(rt; VarInt::MAX.into_inner(), 4611686018427387903);
-    assert_eq!(rt; VarInt::MAX_SIZE, 8);
-    assert_eq!(rt; VarInt::default().into_inner(), 0);
-    assert_eq!(rt; VarInt::from_u32(42).into_inner(), 42);
-    assert_eq!(rt; VarInt::from_u64_unchecked(42).into_inner(), 42);
-    assert_eq!(rt; VarInt::from(42u8), VarInt::from_u32(42));
-    assert_eq!(rt; VarInt::from(42u16), VarInt::from_u32(42));
-    assert_eq!(rt; VarInt::from(42u32), VarInt::from_u32(42));
-    assert_eq!(rt; VarInt::try_from(42u64)?, VarInt::from_u32(42));
-    assert_eq!(rt; VarInt::try_from(42u128)?, VarInt::from_u32(42));
-    assert_eq!(rt; VarInt::try_from(42usize)?, VarInt::from_u32(42));
-    assert_eq!(rt; u64::from(VarInt::from_u32(42)), 42);
-    assert!(rt; VarInt::from_u32(41) < VarInt::from_u32(42));
+    same(&rt, VarInt::MAX.into_inner(), 4611686018427387903);
+    same(&rt, VarInt::MAX_SIZE, 8);
+    same(&rt, VarInt::default().into_inner(), 0);
+    same(&rt, VarInt::from_u32(42).into_inner(), 42);
+    same(&rt, VarInt::from_u64_unchecked(42).into_inner(), 42);
+    same(&rt, VarInt::from(42u8), VarInt::from_u32(42));
+    same(&rt, VarInt::from(42u16), VarInt::from_u32(42));
+    same(&rt, VarInt::from(42u32), VarInt::from_u32(42));
+    same(&rt, VarInt::try_from(42u64)?, VarInt::from_u32(42));
+    same(&rt, VarInt::try_from(42u128)?, VarInt::from_u32(42));
+    same(&rt, VarInt::try_from(42usize)?, VarInt::from_u32(42));
+    same(&rt, u64::from(VarInt::from_u32(42)), 42);
+    holds(&rt, VarInt::from_u32(41) < VarInt::from_u32(42));
     let mut out = Vec::new(rt.alloc());
     out.write_var(15293)?;
-    assert_eq!(rt; out.as_slice(), b"\x7b\xbd".as_slice());
+    same(&rt, out.as_slice(), b"\x7b\xbd".as_slice());
     Ok(())
 }
 
 #[test]
 fn fixed_numbers(rt: HostRuntime) -> Result<(), Fail> {
     let alloc = rt.alloc();
-    assert_eq!(rt; written(alloc, 0x01u8)?.as_slice(), b"\x01".as_slice());
-    assert_eq!(rt;
+    same(&rt, written(alloc, 0x01u8)?.as_slice(), b"\x01".as_slice());
+    same(
+        &rt,
         written(alloc, 0x0102u16)?.as_slice(),
-        b"\x01\x02".as_slice()
+        b"\x01\x02".as_slice(),
     );
-    assert_eq!(rt;
+    same(
+        &rt,
         written(alloc, 0x01020304u32)?.as_slice(),
-        b"\x01\x02\x03\x04".as_slice()
+        b"\x01\x02\x03\x04".as_slice(),
     );
     let bytes = b"\x01\x02\x03\x04\x05\x06\x07\x08".as_slice();
-    assert_eq!(rt; written(alloc, 0x0102030405060708u64)?.as_slice(), bytes);
-    assert_eq!(rt; read::<u8>(bytes), (Ok(0x01), 7));
-    assert_eq!(rt; read::<u16>(bytes), (Ok(0x0102), 6));
-    assert_eq!(rt; read::<u32>(bytes), (Ok(0x01020304), 4));
-    assert_eq!(rt; read::<u64>(bytes), (Ok(0x0102030405060708), 0));
+    same(
+        &rt,
+        written(alloc, 0x0102030405060708u64)?.as_slice(),
+        bytes,
+    );
+    same(&rt, read::<u8>(bytes), (Ok(0x01), 7));
+    same(&rt, read::<u16>(bytes), (Ok(0x0102), 6));
+    same(&rt, read::<u32>(bytes), (Ok(0x01020304), 4));
+    same(&rt, read::<u64>(bytes), (Ok(0x0102030405060708), 0));
     let v4 = b"\x7f\x00\x00\x01".as_slice();
-    assert_eq!(rt; written(alloc, Ipv4Addr::LOCALHOST)?.as_slice(), v4);
-    assert_eq!(rt; read::<Ipv4Addr>(v4), (Ok(Ipv4Addr::LOCALHOST), 0));
-    assert_eq!(rt; read::<Ipv4Addr>(b"\x7f\x00\x00"), (Err(UnexpectedEnd), 3));
+    same(&rt, written(alloc, Ipv4Addr::LOCALHOST)?.as_slice(), v4);
+    same(&rt, read::<Ipv4Addr>(v4), (Ok(Ipv4Addr::LOCALHOST), 0));
+    same(
+        &rt,
+        read::<Ipv4Addr>(b"\x7f\x00\x00"),
+        (Err(UnexpectedEnd), 3),
+    );
     let v6 = b"\x20\x01\x0d\xb8\0\0\0\0\0\0\0\0\0\0\x12\x34".as_slice();
     let address = Ipv6Addr::new(0x2001, 0xdb8, 0, 0, 0, 0, 0, 0x1234);
-    assert_eq!(rt; written(alloc, address)?.as_slice(), v6);
-    assert_eq!(rt; read::<Ipv6Addr>(v6), (Ok(address), 0));
-    assert_eq!(rt; read::<Ipv6Addr>(&v6[1..]), (Err(UnexpectedEnd), 15));
+    same(&rt, written(alloc, address)?.as_slice(), v6);
+    same(&rt, read::<Ipv6Addr>(v6), (Ok(address), 0));
+    same(&rt, read::<Ipv6Addr>(&v6[1..]), (Err(UnexpectedEnd), 15));
     Ok(())
 }
 
@@ -148,89 +163,90 @@ fn fixed_numbers(rt: HostRuntime) -> Result<(), Fail> {
 fn stream_ids(rt: HostRuntime) -> Result<(), Fail> {
     let alloc = rt.alloc();
     let id = StreamId::new(Side::Server, Dir::Uni, 5);
-    assert_eq!(rt; u64::from(id), 23);
-    assert_eq!(rt; written(alloc, id)?.as_slice(), b"\x17".as_slice());
-    assert_eq!(rt;
-        format!(in alloc; "{id}")?.as_str(),
-        "server unidirectional stream 5"
-    );
-    assert_eq!(rt; format!(in alloc; "{id:?}")?.as_str(), "StreamId(23)");
-    assert_eq!(rt;
+    same(&rt, u64::from(id), 23);
+    same(&rt, written(alloc, id)?.as_slice(), b"\x17".as_slice());
+    displays(&rt, alloc, &id, "server unidirectional stream 5")?;
+    debugs(&rt, alloc, &id, "StreamId(23)")?;
+    same(
+        &rt,
         (id.initiator(), id.dir(), id.index()),
-        (Side::Server, Dir::Uni, 5)
+        (Side::Server, Dir::Uni, 5),
     );
-    assert_eq!(rt; StreamId::from(VarInt::from(id)), id);
-    assert_eq!(rt; read::<StreamId>(b"\x17\x00"), (Ok(id), 1));
+    same(&rt, StreamId::from(VarInt::from(id)), id);
+    same(&rt, read::<StreamId>(b"\x17\x00"), (Ok(id), 1));
     let last = StreamId::new(Side::Client, Dir::Bi, MAX_STREAM_COUNT - 1);
     let bytes = b"\xff\xff\xff\xff\xff\xff\xff\xfc".as_slice();
-    assert_eq!(rt; written(alloc, last)?.as_slice(), bytes);
+    same(&rt, written(alloc, last)?.as_slice(), bytes);
     let text = "client bidirectional stream 1152921504606846975";
-    assert_eq!(rt; format!(in alloc; "{last}")?.as_str(), text);
-    assert!(rt; id < last);
+    displays(&rt, alloc, &last, text)?;
+    holds(&rt, id < last);
     Ok(())
 }
 
 #[test]
 fn sides_and_directions(rt: HostRuntime) -> Result<(), Fail> {
     let alloc = rt.alloc();
-    assert_eq!(rt;
+    same(
+        &rt,
         (Side::Client.is_client(), Side::Client.is_server()),
-        (true, false)
+        (true, false),
     );
-    assert_eq!(rt;
+    same(
+        &rt,
         (Side::Server.is_client(), Side::Server.is_server()),
-        (false, true)
+        (false, true),
     );
-    assert_eq!(rt;
+    same(
+        &rt,
         (!Side::Client, !Side::Server),
-        (Side::Server, Side::Client)
+        (Side::Server, Side::Client),
     );
-    assert_eq!(rt; (Side::Client as u8, Side::Server as u8), (0, 1));
-    assert_eq!(rt; (Dir::Bi as u8, Dir::Uni as u8), (0, 1));
+    same(&rt, (Side::Client as u8, Side::Server as u8), (0, 1));
+    same(&rt, (Dir::Bi as u8, Dir::Uni as u8), (0, 1));
     let mut both = Dir::iter();
-    assert_eq!(rt;
+    same(
+        &rt,
         (both.next(), both.next(), both.next()),
-        (Some(Dir::Bi), Some(Dir::Uni), None)
+        (Some(Dir::Bi), Some(Dir::Uni), None),
     );
-    let (bi, uni) = (Dir::Bi, Dir::Uni);
-    assert_eq!(rt;
-        format!(in alloc; "{bi} {uni}")?.as_str(),
-        "bidirectional unidirectional"
-    );
-    assert_eq!(rt;
-        format!(in alloc; "{uni:>16}")?.as_str(),
-        "  unidirectional"
-    );
-    assert_eq!(rt;
-        format!(in alloc; "{:?} {:?} {:?}", bi, uni, Side::Server)?.as_str(),
-        "Bi Uni Server"
-    );
-    let mut spaces = SpaceId::iter();
-    assert_eq!(rt; spaces.next(), Some(SpaceId::Initial));
-    assert_eq!(rt; spaces.next(), Some(SpaceId::Handshake));
-    assert_eq!(rt; spaces.next(), Some(SpaceId::Data));
-    assert_eq!(rt; spaces.next(), None);
-    assert!(rt; SpaceId::Initial < SpaceId::Data);
+    displays(&rt, alloc, &Dir::Bi, "bidirectional")?;
+    displays(&rt, alloc, &Dir::Uni, "unidirectional")?;
+    let uni = Dir::Uni;
+    displays(&rt, alloc, &format_args!("{uni:>16}"), "  unidirectional")?;
+    debugs(&rt, alloc, &(Dir::Bi, Dir::Uni), "(Bi, Uni)")?;
+    debugs(&rt, alloc, &Side::Server, "Server")?;
     Ok(())
 }
 
 #[test]
+fn spaces(rt: HostRuntime) {
+    let mut spaces = SpaceId::iter();
+    same(&rt, spaces.next(), Some(SpaceId::Initial));
+    same(&rt, spaces.next(), Some(SpaceId::Handshake));
+    same(&rt, spaces.next(), Some(SpaceId::Data));
+    same(&rt, spaces.next(), None);
+    holds(&rt, SpaceId::Initial < SpaceId::Data);
+}
+
+#[test]
 fn codepoints(rt: HostRuntime) -> Result<(), Fail> {
-    assert_eq!(rt; EcnCodepoint::from_bits(0xfe), Some(EcnCodepoint::Ect0));
-    assert_eq!(rt; EcnCodepoint::from_bits(0xff), Some(EcnCodepoint::Ce));
-    assert_eq!(rt; EcnCodepoint::from_bits(0xfd), Some(EcnCodepoint::Ect1));
-    assert_eq!(rt; EcnCodepoint::from_bits(0x04), None);
-    assert_eq!(rt;
+    same(&rt, EcnCodepoint::from_bits(0xfe), Some(EcnCodepoint::Ect0));
+    same(&rt, EcnCodepoint::from_bits(0xff), Some(EcnCodepoint::Ce));
+    same(&rt, EcnCodepoint::from_bits(0xfd), Some(EcnCodepoint::Ect1));
+    same(&rt, EcnCodepoint::from_bits(0x04), None);
+    same(
+        &rt,
         (
             EcnCodepoint::Ect0 as u8,
             EcnCodepoint::Ect1 as u8,
-            EcnCodepoint::Ce as u8
+            EcnCodepoint::Ce as u8,
         ),
-        (2, 1, 3)
+        (2, 1, 3),
     );
-    assert_eq!(rt;
+    same(
+        &rt,
         (EcnCodepoint::Ce.is_ce(), EcnCodepoint::Ect0.is_ce()),
-        (true, false)
+        (true, false),
     );
     Ok(())
 }
@@ -247,51 +263,53 @@ fn connection_ids(rt: HostRuntime) -> Result<(), Fail> {
     ];
     for (i, x) in ids.iter().enumerate() {
         for (j, y) in ids.iter().enumerate() {
-            assert_eq!(rt; x.cmp(y), i.cmp(&j));
-            assert_eq!(rt; x.partial_cmp(y), Some(i.cmp(&j)));
-            assert_eq!(rt; x == y, i == j);
+            same(&rt, x.cmp(y), i.cmp(&j));
+            same(&rt, x.partial_cmp(y), Some(i.cmp(&j)));
+            same(&rt, x == y, i == j);
         }
     }
     let id = ConnectionId::new(b"\x0a\xff");
-    assert_eq!(rt; hash_of(&id), hash_of(&ConnectionId::new(b"\x0a\xff")));
-    assert_eq!(rt; id.as_slice(), b"\x0a\xff".as_slice());
+    same(&rt, hash_of(&id), hash_of(&ConnectionId::new(b"\x0a\xff")));
+    same(&rt, id.as_slice(), b"\x0a\xff".as_slice());
     let mut other = id;
     other.copy_from_slice(b"\x0b\x0c");
-    assert_eq!(rt; other.as_slice(), b"\x0b\x0c".as_slice());
+    same(&rt, other.as_slice(), b"\x0b\x0c".as_slice());
     other.as_mut_slice()[1] = 0xff;
-    assert_eq!(rt; other, ConnectionId::new(b"\x0b\xff"));
-    assert_eq!(rt; format!(in alloc; "{id}")?.as_str(), "0aff");
-    assert_eq!(rt; format!(in alloc; "{id:?}")?.as_str(), "[10, 255]");
+    same(&rt, other, ConnectionId::new(b"\x0b\xff"));
+    displays(&rt, alloc, &id, "0aff")?;
+    debugs(&rt, alloc, &id, "[10, 255]")?;
     let mut out = Vec::new(alloc);
     id.encode_long(&mut out)?;
-    assert_eq!(rt; out.as_slice(), b"\x02\x0a\xff".as_slice());
+    same(&rt, out.as_slice(), b"\x02\x0a\xff".as_slice());
     let mut left = b"\x0a\xff\x01".as_slice();
-    assert_eq!(rt; ConnectionId::from_buf(&mut left, 2), id);
-    assert_eq!(rt; left, b"\x01".as_slice());
+    same(&rt, ConnectionId::from_buf(&mut left, 2), id);
+    same(&rt, left, b"\x01".as_slice());
     Ok(())
 }
 
 #[test]
 fn long_ids(rt: HostRuntime) -> Result<(), Fail> {
     let mut left = b"\x02\xaa\xbb\xcc".as_slice();
-    assert_eq!(rt;
+    same(
+        &rt,
         ConnectionId::decode_long(&mut left),
-        Some(ConnectionId::new(b"\xaa\xbb"))
+        Some(ConnectionId::new(b"\xaa\xbb")),
     );
-    assert_eq!(rt; left, b"\xcc".as_slice());
+    same(&rt, left, b"\xcc".as_slice());
     let mut left = b"\x03\xaa\xbb".as_slice();
-    assert_eq!(rt; ConnectionId::decode_long(&mut left), None);
-    assert_eq!(rt; left, b"\xaa\xbb".as_slice());
+    same(&rt, ConnectionId::decode_long(&mut left), None);
+    same(&rt, left, b"\xaa\xbb".as_slice());
     let mut left = b"\x15123456789012345678901".as_slice();
-    assert_eq!(rt; ConnectionId::decode_long(&mut left), None);
-    assert_eq!(rt; left.len(), 21);
+    same(&rt, ConnectionId::decode_long(&mut left), None);
+    same(&rt, left.len(), 21);
     let mut left = b"\x1412345678901234567890".as_slice();
-    assert_eq!(rt;
+    same(
+        &rt,
         ConnectionId::decode_long(&mut left),
-        Some(ConnectionId::new(b"12345678901234567890"))
+        Some(ConnectionId::new(b"12345678901234567890")),
     );
     let mut left = b"".as_slice();
-    assert_eq!(rt; ConnectionId::decode_long(&mut left), None);
+    same(&rt, ConnectionId::decode_long(&mut left), None);
     Ok(())
 }
 
@@ -300,9 +318,9 @@ fn tokens_and_limits(rt: HostRuntime) -> Result<(), Fail> {
     let alloc = rt.alloc();
     let bytes = *b"0123456789abcdef";
     let token = ResetToken::from(bytes);
-    assert_eq!(rt; token.as_slice(), bytes.as_slice());
-    assert_eq!(rt; <[u8; 16]>::from(token), bytes);
-    assert_eq!(rt; token == ResetToken::from([7; RESET_TOKEN_SIZE]), false);
+    same(&rt, token.as_slice(), bytes.as_slice());
+    same(&rt, <[u8; 16]>::from(token), bytes);
+    same(&rt, token == ResetToken::from([7; RESET_TOKEN_SIZE]), false);
     let issued = IssuedCid {
         sequence: 3,
         id: ConnectionId::new(b"\x2a"),
@@ -310,49 +328,43 @@ fn tokens_and_limits(rt: HostRuntime) -> Result<(), Fail> {
     };
     let text = "IssuedCid { sequence: 3, id: [42], reset_token: \
         ResetToken([7, 7, 7, 7, 7, 7, 7, 7, 7, 7, 7, 7, 7, 7, 7, 7]) }";
-    assert_eq!(rt; format!(in alloc; "{issued:?}")?.as_str(), text);
-    assert_eq!(rt; (MAX_CID_SIZE, RESET_TOKEN_SIZE), (20, 16));
-    assert_eq!(rt; (LOC_CID_COUNT, MAX_STREAM_COUNT), (8, 1152921504606846976));
-    assert_eq!(rt;
+    debugs(&rt, alloc, &issued, text)?;
+    same(&rt, (MAX_CID_SIZE, RESET_TOKEN_SIZE), (20, 16));
+    same(
+        &rt,
+        (LOC_CID_COUNT, MAX_STREAM_COUNT),
+        (8, 1152921504606846976),
+    );
+    same(
+        &rt,
         (MIN_INITIAL_SIZE, INITIAL_MTU, MAX_UDP_PAYLOAD),
-        (1200, 1200, 65527)
+        (1200, 1200, 65527),
     );
     let versions: [u32; 7] = [
         1, 0xff00001d, 0xff00001e, 0xff00001f, 0xff000020, 0xff000021, 0xff000022,
     ];
-    assert_eq!(rt; DEFAULT_SUPPORTED_VERSIONS, versions.as_slice());
+    same(&rt, DEFAULT_SUPPORTED_VERSIONS, versions.as_slice());
     Ok(())
 }
 
 #[test]
 fn texts(rt: HostRuntime) -> Result<(), Fail> {
     let alloc = rt.alloc();
-    assert_eq!(rt;
-        format!(in alloc; "{UnexpectedEnd}")?.as_str(),
-        "unexpected end of buffer"
-    );
-    assert_eq!(rt;
-        format!(in alloc; "{VarIntBoundsExceeded}")?.as_str(),
-        "value too large for varint encoding"
-    );
-    assert_eq!(rt;
-        format!(in alloc; "{NoRoom}")?.as_str(),
-        "no room in buffer"
-    );
-    assert_eq!(rt;
-        format!(in alloc;
-            "{:?} {:?} {:?}",
-            UnexpectedEnd, VarIntBoundsExceeded, NoRoom
-        )?
-        .as_str(),
-        "UnexpectedEnd VarIntBoundsExceeded NoRoom"
-    );
-    let n = VarInt::from_u32(42);
-    assert_eq!(rt; format!(in alloc; "{n} {n:?}")?.as_str(), "42 42");
-    assert_eq!(rt;
-        format!(in alloc; "{:?} {:?}", EcnCodepoint::Ect0, SpaceId::Data)?.as_str(),
-        "Ect0 Data"
-    );
+    displays(&rt, alloc, &UnexpectedEnd, "unexpected end of buffer")?;
+    displays(
+        &rt,
+        alloc,
+        &VarIntBoundsExceeded,
+        "value too large for varint encoding",
+    )?;
+    displays(&rt, alloc, &NoRoom, "no room in buffer")?;
+    debugs(&rt, alloc, &UnexpectedEnd, "UnexpectedEnd")?;
+    debugs(&rt, alloc, &VarIntBoundsExceeded, "VarIntBoundsExceeded")?;
+    debugs(&rt, alloc, &NoRoom, "NoRoom")?;
+    displays(&rt, alloc, &VarInt::from_u32(42), "42")?;
+    debugs(&rt, alloc, &VarInt::from_u32(42), "42")?;
+    debugs(&rt, alloc, &EcnCodepoint::Ect0, "Ect0")?;
+    debugs(&rt, alloc, &SpaceId::Data, "Data")?;
     Ok(())
 }
 
@@ -361,23 +373,28 @@ fn texts(rt: HostRuntime) -> Result<(), Fail> {
 fn refusals_by_room(rt: HostRuntime) -> Result<(), Fail> {
     let mut room = [9u8; 3];
     let mut out = Cursor::new(room.as_mut_slice());
-    assert_eq!(rt; out.write(7u8), Ok(()));
-    assert_eq!(rt; out.write(0x01020304u32), Err(NoRoom));
-    assert_eq!(rt; out.write_var(16384), Err(NoRoom));
-    assert_eq!(rt;
+    same(&rt, out.write(7u8), Ok(()));
+    same(&rt, out.write(0x01020304u32), Err(NoRoom));
+    same(&rt, out.write_var(16384), Err(NoRoom));
+    same(
+        &rt,
         ConnectionId::new(b"\xaa\xbb").encode_long(&mut out),
-        Err(NoRoom)
+        Err(NoRoom),
     );
-    assert_eq!(rt; out.position(), 2);
-    assert_eq!(rt; room.as_slice(), b"\x07\x02\x09".as_slice());
+    same(&rt, out.position(), 2);
+    same(&rt, room.as_slice(), b"\x07\x02\x09".as_slice());
     let mut limited = Vec::new(rt.alloc()).limit(8);
     let reset = Reset {
         id: StreamId::new(Side::Client, Dir::Bi, 1),
         code: VarInt::from_u32(64),
         final_offset: 5,
     };
-    assert_eq!(rt; write_reset(&reset, &mut limited), Err(NoRoom));
-    assert_eq!(rt; limited.into_inner().as_slice(), b"\x04\x40\x40".as_slice());
+    same(&rt, write_reset(&reset, &mut limited), Err(NoRoom));
+    same(
+        &rt,
+        limited.into_inner().as_slice(),
+        b"\x04\x40\x40".as_slice(),
+    );
     Ok(())
 }
 
@@ -393,19 +410,36 @@ fn buffers_and_clients(rt: HostRuntime) -> Result<(), Fail> {
     let mut out = BytesMut::new(alloc);
     write_reset(&reset, &mut out)?;
     let bytes = b"\x04\x40\x40\x00\x00\x00\x00\x00\x00\x00\x05".as_slice();
-    assert_eq!(rt; out.as_slice(), bytes);
-    assert_eq!(rt; read_reset(&mut out), Ok(reset));
+    same(&rt, out.as_slice(), bytes);
+    same(&rt, read_reset(&mut out), Ok(reset));
     // A number that lies in two chunks.
     let mut apart = bytes[..6].chain(&bytes[6..]);
-    assert_eq!(rt; read_reset(&mut apart), Ok(reset));
+    same(&rt, read_reset(&mut apart), Ok(reset));
     let mut cut = &bytes[..10];
-    assert_eq!(rt; read_reset(&mut cut), Err(UnexpectedEnd));
-    assert_eq!(rt; first_number(&bytes[1..4]), Ok((64, b"\x00".as_slice())));
-    assert_eq!(rt;
+    same(&rt, read_reset(&mut cut), Err(UnexpectedEnd));
+    same(
+        &rt,
+        first_number(&bytes[1..4]),
+        Ok((64, b"\x00".as_slice())),
+    );
+    same(
+        &rt,
         read_two::<u16, &[u8]>(&mut b"\x01\x02\x03\x04".as_slice()),
-        Ok((0x0102, 0x0304))
+        Ok((0x0102, 0x0304)),
     );
     Ok(())
+}
+
+// What bytes are read as: a varint with what it leaves, and numbers of 1, 2, 4 and 8 bytes.
+fn numbers_read(bytes: &[u8]) -> (Option<u64>, usize, [Option<u64>; 4]) {
+    let (number, left) = read::<VarInt>(bytes);
+    let fixed = [
+        read::<u8>(bytes).0.ok().map(u64::from),
+        read::<u16>(bytes).0.ok().map(u64::from),
+        read::<u32>(bytes).0.ok().map(u64::from),
+        read::<u64>(bytes).0.ok(),
+    ];
+    (number.ok().map(u64::from), left, fixed)
 }
 
 // A sample of the lists of varints and of their spellings, which hold answers of the Rust crate
@@ -567,26 +601,14 @@ fn answers_of_the_rust_crate(rt: HostRuntime) -> Result<(), Fail> {
         ),
     ];
     for (bytes, number, left, fixed) in rows {
-        let (read_number, rest) = read::<VarInt>(bytes);
-        assert_eq!(rt; read_number.ok().map(u64::from), number, "at {bytes:?}");
-        assert_eq!(rt; rest, left, "at {bytes:?}");
-        assert_eq!(rt;
-            read::<u8>(bytes).0.ok().map(u64::from),
-            fixed[0],
-            "at {bytes:?}"
-        );
-        assert_eq!(rt;
-            read::<u16>(bytes).0.ok().map(u64::from),
-            fixed[1],
-            "at {bytes:?}"
-        );
-        assert_eq!(rt;
-            read::<u32>(bytes).0.ok().map(u64::from),
-            fixed[2],
-            "at {bytes:?}"
-        );
-        assert_eq!(rt; read::<u64>(bytes).0.ok(), fixed[3], "at {bytes:?}");
+        same(&rt, numbers_read(bytes), (number, left, fixed));
     }
+    Ok(())
+}
+
+// The same for the shortest spellings.
+#[test]
+fn spellings_of_the_rust_crate(rt: HostRuntime) -> Result<(), Fail> {
     for (n, bytes) in [
         (0, b"\x00".as_slice()),
         (1073741826, b"\xc0\x00\x00\x00\x40\x00\x00\x02".as_slice()),
@@ -650,16 +672,18 @@ fn answers_of_the_rust_crate(rt: HostRuntime) -> Result<(), Fail> {
         ),
         (616106, b"\x80\x09\x66\xaa".as_slice()),
     ] {
-        let mut out = Vec::new(rt.alloc());
-        out.write(VarInt::from_u64(n)?)?;
-        assert_eq!(rt; out.as_slice(), bytes, "at {n}");
+        same(
+            &rt,
+            written(rt.alloc(), VarInt::from_u64(n)?)?.as_slice(),
+            bytes,
+        );
     }
     for n in [
         4611686018427387904,
         4611686018427387906,
         9223372036854775808,
     ] {
-        assert_eq!(rt; VarInt::from_u64(n), Err(VarIntBoundsExceeded));
+        same(&rt, VarInt::from_u64(n), Err(VarIntBoundsExceeded));
     }
     Ok(())
 }
@@ -695,19 +719,20 @@ fn texts_of_the_rust_crate(rt: HostRuntime) -> Result<(), Fail> {
         ),
     ] {
         let id = StreamId::from(VarInt::from_u64(n)?);
-        assert_eq!(rt; format!(in alloc; "{id}")?.as_str(), text);
-        assert_eq!(rt; written(alloc, id)?.as_slice(), bytes);
+        displays(&rt, alloc, &id, text)?;
+        same(&rt, written(alloc, id)?.as_slice(), bytes);
     }
     for (bytes, texts) in [
-        (b"".as_slice(), " []"),
-        (b"\x19".as_slice(), "19 [25]"),
-        (b"\x66\x4b".as_slice(), "664b [102, 75]"),
-        (b"\x76\x1f".as_slice(), "761f [118, 31]"),
-        (b"\x6a\x45\x44".as_slice(), "6a4544 [106, 69, 68]"),
+        (b"".as_slice(), ("", "[]")),
+        (b"\x19".as_slice(), ("19", "[25]")),
+        (b"\x66\x4b".as_slice(), ("664b", "[102, 75]")),
+        (b"\x76\x1f".as_slice(), ("761f", "[118, 31]")),
+        (b"\x6a\x45\x44".as_slice(), ("6a4544", "[106, 69, 68]")),
     ] {
-        assert!(rt; bytes.len() <= MAX_CID_SIZE);
+        holds(&rt, bytes.len() <= MAX_CID_SIZE);
         let id = ConnectionId::new(bytes);
-        assert_eq!(rt; format!(in alloc; "{id} {id:?}")?.as_str(), texts);
+        displays(&rt, alloc, &id, texts.0)?;
+        debugs(&rt, alloc, &id, texts.1)?;
     }
     Ok(())
 }

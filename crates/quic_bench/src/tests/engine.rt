@@ -1,4 +1,5 @@
 //! The engine over memory: pieces, ends and failures.
+use super::{holds, holds_at, same, same_at};
 use crate::FailAt;
 use quic_text::{FromRead, Mode, RunError, ToWrite, mode_of, run, status};
 use std::io::{BufWriter, Cursor};
@@ -16,9 +17,9 @@ fn prints_each_line(rt: HostRuntime) {
     let mut source = FailAt::new(rt.alloc(), LINES, usize::MAX, NEVER);
     let mut sink = FailAt::new(rt.alloc(), b"", usize::MAX, NEVER);
     let outcome = run(rt.alloc(), Mode::Frames, &mut source, &mut sink);
-    assert_eq!(rt; outcome, Ok(false));
-    assert_eq!(rt; status(&outcome), 1);
-    assert_eq!(rt; sink.output(), TEXT);
+    same(&rt, outcome, Ok(false));
+    same(&rt, status(&outcome), 1);
+    same(&rt, sink.output(), TEXT);
 }
 
 #[test]
@@ -26,15 +27,16 @@ fn no_byte_is_no_line_and_a_line_feed_is_one(rt: HostRuntime) {
     let mut source = FailAt::new(rt.alloc(), b"", 1, NEVER);
     let mut sink = FailAt::new(rt.alloc(), b"", 1, NEVER);
     let outcome = run(rt.alloc(), Mode::Frames, &mut source, &mut sink);
-    assert_eq!(rt; outcome, Ok(true));
-    assert_eq!(rt; status(&outcome), 0);
-    assert_eq!(rt; sink.output(), b"".as_slice());
+    same(&rt, outcome, Ok(true));
+    same(&rt, status(&outcome), 0);
+    same(&rt, sink.output(), b"".as_slice());
     let mut source = FailAt::new(rt.alloc(), b"\n", 1, NEVER);
     let outcome = run(rt.alloc(), Mode::Frames, &mut source, &mut sink);
-    assert_eq!(rt; outcome, Ok(false));
-    assert_eq!(rt;
+    same(&rt, outcome, Ok(false));
+    same(
+        &rt,
         sink.output(),
-        b"error packet payload is empty\n".as_slice()
+        b"error packet payload is empty\n".as_slice(),
     );
 }
 
@@ -43,8 +45,8 @@ fn one_byte_a_call_is_the_whole_text(rt: HostRuntime) {
     let mut source = FailAt::new(rt.alloc(), LINES, 1, NEVER);
     let mut sink = FailAt::new(rt.alloc(), b"", 1, NEVER);
     let outcome = run(rt.alloc(), Mode::Frames, &mut source, &mut sink);
-    assert_eq!(rt; outcome, Ok(false));
-    assert_eq!(rt; sink.output(), TEXT);
+    same(&rt, outcome, Ok(false));
+    same(&rt, sink.output(), TEXT);
 }
 
 // The source and the sink are given room for at least 16 KiB, and all that was read comes before all that is written.
@@ -57,12 +59,12 @@ fn moves_large_pieces(rt: HostRuntime) -> Result<(), Fail> {
     let mut source = FailAt::new(rt.alloc(), input.as_bytes(), usize::MAX, NEVER);
     let mut sink = FailAt::new(rt.alloc(), b"", usize::MAX, NEVER);
     let outcome = run(rt.alloc(), Mode::Frames, &mut source, &mut sink);
-    assert_eq!(rt; outcome, Ok(true));
-    assert_eq!(rt; sink.output().len(), 5000 * 23);
-    assert!(rt; source.longest() >= 16384);
-    assert!(rt; source.calls() <= 4);
-    assert!(rt; sink.longest() >= 16384);
-    assert!(rt; sink.calls() <= 9);
+    same(&rt, outcome, Ok(true));
+    same(&rt, sink.output().len(), 5000 * 23);
+    holds(&rt, source.longest() >= 16384);
+    holds(&rt, source.calls() <= 4);
+    holds(&rt, sink.longest() >= 16384);
+    holds(&rt, sink.calls() <= 9);
     Ok(())
 }
 
@@ -73,16 +75,16 @@ fn each_read_fails_in_turn(rt: HostRuntime) {
         let mut source = FailAt::new(rt.alloc(), LINES, 1, k);
         let mut sink = FailAt::new(rt.alloc(), b"", 1, NEVER);
         let outcome = run(rt.alloc(), Mode::Frames, &mut source, &mut sink);
-        assert_eq!(rt; outcome, Err(RunError::Read), "read {k}");
-        assert_eq!(rt; status(&outcome), 3);
-        assert_eq!(rt; sink.calls(), 0, "read {k}");
-        assert_eq!(rt; source.calls(), k.wrapping_add(1), "read {k}");
+        same_at(&rt, k, outcome, Err(RunError::Read));
+        same(&rt, status(&outcome), 3);
+        same_at(&rt, k, sink.calls(), 0);
+        same_at(&rt, k, source.calls(), k.wrapping_add(1));
     }
     let mut source = FailAt::new(rt.alloc(), LINES, 1, reads);
     let mut sink = FailAt::new(rt.alloc(), b"", 1, NEVER);
     let outcome = run(rt.alloc(), Mode::Frames, &mut source, &mut sink);
-    assert_eq!(rt; outcome, Ok(false));
-    assert_eq!(rt; source.calls(), reads);
+    same(&rt, outcome, Ok(false));
+    same(&rt, source.calls(), reads);
 }
 
 // Ten bytes a call: as many writes as that takes, and one flush, which is the last call.
@@ -93,16 +95,16 @@ fn each_write_and_the_flush_fail_in_turn(rt: HostRuntime) {
         let mut source = FailAt::new(rt.alloc(), LINES, 1, NEVER);
         let mut sink = FailAt::new(rt.alloc(), b"", 10, k as u64);
         let outcome = run(rt.alloc(), Mode::Frames, &mut source, &mut sink);
-        assert_eq!(rt; outcome, Err(RunError::Write), "call {k}");
-        assert_eq!(rt; status(&outcome), 3);
-        assert!(rt; TEXT.starts_with(sink.output()), "call {k}");
-        assert_eq!(rt; sink.output().len(), TEXT.len().min(10 * k), "call {k}");
+        same_at(&rt, k, outcome, Err(RunError::Write));
+        same(&rt, status(&outcome), 3);
+        holds_at(&rt, k, TEXT.starts_with(sink.output()));
+        same_at(&rt, k, sink.output().len(), TEXT.len().min(10 * k));
     }
     let mut source = FailAt::new(rt.alloc(), LINES, 1, NEVER);
     let mut sink = FailAt::new(rt.alloc(), b"", 10, writes as u64 + 1);
     let outcome = run(rt.alloc(), Mode::Frames, &mut source, &mut sink);
-    assert_eq!(rt; outcome, Ok(false));
-    assert_eq!(rt; sink.calls(), writes as u64 + 1);
+    same(&rt, outcome, Ok(false));
+    same(&rt, sink.calls(), writes as u64 + 1);
 }
 
 #[test]
@@ -111,9 +113,9 @@ fn over_what_std_reads_and_writes(rt: HostRuntime) {
     let mut source = FromRead::new(LINES);
     let mut sink = ToWrite::new(&mut text);
     let outcome = run(rt.alloc(), Mode::Frames, &mut source, &mut sink);
-    assert_eq!(rt; outcome, Ok(false));
+    same(&rt, outcome, Ok(false));
     let ToWrite { .. } = sink;
-    assert_eq!(rt; text.as_slice(), TEXT);
+    same(&rt, text.as_slice(), TEXT);
 }
 
 // A writer that takes nothing more has failed.
@@ -124,21 +126,21 @@ fn a_full_writer_is_a_failed_write(rt: HostRuntime) {
         let mut source = FromRead::new(LINES);
         let mut sink = ToWrite::new(Cursor::new(&mut place[..room]));
         let outcome = run(rt.alloc(), Mode::Frames, &mut source, &mut sink);
-        assert_eq!(rt; outcome, Err(RunError::Write), "room for {room}");
-        assert_eq!(rt; &place[..room], &TEXT[..room], "room for {room}");
+        same_at(&rt, room, outcome, Err(RunError::Write));
+        same_at(&rt, room, &place[..room], &TEXT[..room]);
     }
 }
 
 #[test]
 fn modes(rt: HostRuntime) {
-    assert_eq!(rt; mode_of(&["frames"]), Some(Mode::Frames));
-    assert_eq!(rt; mode_of(&[]), None);
-    assert_eq!(rt; mode_of(&["frames", "frames"]), None);
-    assert_eq!(rt; mode_of(&["Frames"]), None);
-    assert_eq!(rt; mode_of(&["canon"]), None);
-    assert_eq!(rt; mode_of(&["datagram", "8"]), None);
-    assert_eq!(rt; mode_of(&["params", "client"]), None);
-    assert_eq!(rt; status(&Err(RunError::OutOfMemory)), 3);
+    same(&rt, mode_of(&["frames"]), Some(Mode::Frames));
+    same(&rt, mode_of(&[]), None);
+    same(&rt, mode_of(&["frames", "frames"]), None);
+    same(&rt, mode_of(&["Frames"]), None);
+    same(&rt, mode_of(&["canon"]), None);
+    same(&rt, mode_of(&["datagram", "8"]), None);
+    same(&rt, mode_of(&["params", "client"]), None);
+    same(&rt, status(&Err(RunError::OutOfMemory)), 3);
 }
 
 // What is written waits in the buffer until it is passed on, and there is no room for it then.
@@ -148,8 +150,8 @@ fn a_last_write_that_fails_is_seen(rt: HostRuntime) -> Result<(), Fail> {
     let mut source = FailAt::new(rt.alloc(), b"01\n", usize::MAX, NEVER);
     let mut sink = ToWrite::new(BufWriter::new(rt.alloc(), Cursor::new(&mut place[..]))?);
     let outcome = run(rt.alloc(), Mode::Frames, &mut source, &mut sink);
-    assert_eq!(rt; outcome, Err(RunError::Write));
-    assert_eq!(rt; status(&outcome), 3);
+    same(&rt, outcome, Err(RunError::Write));
+    same(&rt, status(&outcome), 3);
     Ok(())
 }
 
@@ -163,8 +165,8 @@ fn the_longest_payload(rt: HostRuntime) -> Result<(), Fail> {
     let mut source = FailAt::new(rt.alloc(), input.as_bytes(), usize::MAX, NEVER);
     let mut sink = FailAt::new(rt.alloc(), b"", usize::MAX, NEVER);
     let outcome = run(rt.alloc(), Mode::Frames, &mut source, &mut sink);
-    assert_eq!(rt; outcome, Ok(true));
-    assert!(rt; sink.output().starts_with(b"0..1 PING\n1..2 PING\n"));
-    assert!(rt; sink.output().ends_with(b"\n65526..65527 PING\n"));
+    same(&rt, outcome, Ok(true));
+    holds(&rt, sink.output().starts_with(b"0..1 PING\n1..2 PING\n"));
+    holds(&rt, sink.output().ends_with(b"\n65526..65527 PING\n"));
     Ok(())
 }

@@ -1,4 +1,5 @@
 //! Frames, read from payloads.
+use super::{debugs, displays, holds, same, same_at};
 use quic_base::coding::Codec;
 use quic_frames::frame::{Frame, FrameType, Iter};
 use quic_frames::transport_error::{Code, Error, Reason};
@@ -16,12 +17,12 @@ fn a_stream_with_offset_and_length(rt: HostRuntime) -> Result<(), Fail> {
     let Some(Ok(Frame::Stream(stream))) = iter.next() else {
         return Err("a STREAM".into());
     };
-    assert_eq!(rt; u64::from(stream.id), 4);
-    assert_eq!(rt; stream.offset, 16);
-    assert!(rt; !stream.fin);
-    assert_eq!(rt; stream.bytes, b"ab".as_slice());
-    assert_eq!(rt; iter.offset(), 6);
-    assert!(rt; iter.next().is_none());
+    same(&rt, u64::from(stream.id), 4);
+    same(&rt, stream.offset, 16);
+    holds(&rt, !stream.fin);
+    same(&rt, stream.bytes, b"ab".as_slice());
+    same(&rt, iter.offset(), 6);
+    holds(&rt, iter.next().is_none());
     Ok(())
 }
 
@@ -42,15 +43,15 @@ fn all_eight_streams(rt: HostRuntime) -> Result<(), Fail> {
             return Err("a frame".into());
         };
         // Never the bit for the length.
-        assert_eq!(rt; frame.ty(), type_of(&[8 + (bits & 5)])?, "{bits}");
+        same_at(&rt, bits, frame.ty(), type_of(&[8 + (bits & 5)])?);
         let Frame::Stream(stream) = frame else {
             return Err("a STREAM".into());
         };
-        assert_eq!(rt; u64::from(stream.id), 9);
-        assert_eq!(rt; stream.offset, if bits & 4 != 0 { 7 } else { 0 });
-        assert_eq!(rt; stream.fin, bits & 1 != 0);
-        assert_eq!(rt; stream.bytes, b"x".as_slice());
-        assert_eq!(rt; iter.offset(), payload.len());
+        same(&rt, u64::from(stream.id), 9);
+        same(&rt, stream.offset, if bits & 4 != 0 { 7 } else { 0 });
+        same(&rt, stream.fin, bits & 1 != 0);
+        same(&rt, stream.bytes, b"x".as_slice());
+        same(&rt, iter.offset(), payload.len());
     }
     Ok(())
 }
@@ -60,7 +61,7 @@ fn a_written_offset_of_zero_is_not_in_the_type(rt: HostRuntime) -> Result<(), Fa
     let Some(Ok(frame)) = Iter::new(b"\x0d\x00\x00a")?.next() else {
         return Err("a frame".into());
     };
-    assert_eq!(rt; frame.ty(), type_of(b"\x09")?);
+    same(&rt, frame.ty(), type_of(b"\x09")?);
     Ok(())
 }
 
@@ -70,36 +71,36 @@ fn crypto_padding_and_ping(rt: HostRuntime) -> Result<(), Fail> {
     let Some(Ok(Frame::Crypto(crypto))) = iter.next() else {
         return Err("a CRYPTO".into());
     };
-    assert_eq!(rt; crypto.offset, 5);
-    assert_eq!(rt; crypto.bytes, b"hi".as_slice());
-    assert_eq!(rt; Frame::Crypto(crypto).ty(), FrameType::CRYPTO);
-    assert_eq!(rt; iter.offset(), 6);
+    same(&rt, crypto.offset, 5);
+    same(&rt, crypto.bytes, b"hi".as_slice());
+    same(&rt, Frame::Crypto(crypto).ty(), FrameType::CRYPTO);
+    same(&rt, iter.offset(), 6);
     let Some(Ok(Frame::Padding)) = iter.next() else {
         return Err("a PADDING".into());
     };
-    assert_eq!(rt; iter.offset(), 7);
+    same(&rt, iter.offset(), 7);
     let Some(Ok(Frame::Ping)) = iter.next() else {
         return Err("a PING".into());
     };
-    assert_eq!(rt; iter.offset(), 11);
-    assert!(rt; iter.next().is_none());
-    assert_eq!(rt; Frame::Padding.ty(), FrameType::PADDING);
-    assert_eq!(rt; Frame::Ping.ty(), FrameType::PING);
+    same(&rt, iter.offset(), 11);
+    holds(&rt, iter.next().is_none());
+    same(&rt, Frame::Padding.ty(), FrameType::PADDING);
+    same(&rt, Frame::Ping.ty(), FrameType::PING);
     Ok(())
 }
 
 #[test]
 fn one_error_and_then_nothing(rt: HostRuntime) -> Result<(), Fail> {
     let mut iter = Iter::new(b"\x01\x0a\x00\x05ab\x01")?;
-    assert!(rt; matches!(iter.next(), Some(Ok(Frame::Ping))));
+    holds(&rt, matches!(iter.next(), Some(Ok(Frame::Ping))));
     let Some(Err(invalid)) = iter.next() else {
         return Err("no frame".into());
     };
-    assert_eq!(rt; invalid.ty, Some(type_of(b"\x0a")?));
-    assert_eq!(rt; invalid.reason, "unexpected end");
-    assert_eq!(rt; iter.offset(), 1);
-    assert!(rt; iter.next().is_none());
-    assert!(rt; iter.next().is_none());
+    same(&rt, invalid.ty, Some(type_of(b"\x0a")?));
+    same(&rt, invalid.reason, "unexpected end");
+    same(&rt, iter.offset(), 1);
+    holds(&rt, iter.next().is_none());
+    holds(&rt, iter.next().is_none());
     Ok(())
 }
 
@@ -108,22 +109,22 @@ fn an_empty_payload_is_a_protocol_violation(rt: HostRuntime) -> Result<(), Fail>
     let Err(error) = Iter::new(b"") else {
         return Err("an error".into());
     };
-    assert_eq!(rt; error.code, Code::PROTOCOL_VIOLATION);
-    assert_eq!(rt; error.frame, None);
-    assert_eq!(rt; error.reason.as_str(), "packet payload is empty");
+    same(&rt, error.code, Code::PROTOCOL_VIOLATION);
+    same(&rt, error.frame, None);
+    same(&rt, error.reason.as_str(), "packet payload is empty");
     Ok(())
 }
 
 #[test]
 fn errors(rt: HostRuntime) -> Result<(), Fail> {
     let error = Error::FRAME_ENCODING_ERROR("malformed");
-    assert_eq!(rt; error.code, Code::FRAME_ENCODING_ERROR);
-    assert_eq!(rt; error.reason.as_str(), "malformed");
+    same(&rt, error.code, Code::FRAME_ENCODING_ERROR);
+    same(&rt, error.reason.as_str(), "malformed");
     let error = Error::PROTOCOL_VIOLATION("x");
-    assert_eq!(rt; error.code, Code::PROTOCOL_VIOLATION);
-    assert_eq!(rt; error.reason.as_str(), "x");
+    same(&rt, error.code, Code::PROTOCOL_VIOLATION);
+    same(&rt, error.reason.as_str(), "x");
     let owned = Reason::Owned(String::from_str(rt.alloc(), "made")?);
-    assert_eq!(rt; owned.as_str(), "made");
+    same(&rt, owned.as_str(), "made");
     Ok(())
 }
 
@@ -167,33 +168,32 @@ const NAMES: [(FrameType, u8, &str); 24] = [
 fn names_of_types(rt: HostRuntime) -> Result<(), Fail> {
     let alloc = rt.alloc();
     for (ty, number, name) in NAMES {
-        assert_eq!(rt; ty, type_of(&[number])?);
-        assert_eq!(rt; format!(in alloc; "{ty}")?.as_str(), name);
-        assert_eq!(rt; format!(in alloc; "{ty:?}")?.as_str(), name);
+        same(&rt, ty, type_of(&[number])?);
+        displays(&rt, alloc, &ty, name)?;
+        debugs(&rt, alloc, &ty, name)?;
     }
-    let ty = FrameType::ACK_FREQUENCY;
-    assert_eq!(rt; ty, type_of(b"\x40\xaf")?);
-    assert_eq!(rt;
-        format!(in alloc; "{ty} {ty:?}")?.as_str(),
-        "ACK_FREQUENCY ACK_FREQUENCY"
-    );
-    let ty = type_of(b"\x0b")?;
-    assert_eq!(rt;
-        format!(in alloc; "{ty} {ty:?}")?.as_str(),
-        "STREAM Type(0b)"
-    );
-    let ty = type_of(b"\x31")?;
-    assert_eq!(rt;
-        format!(in alloc; "{ty} {ty:?}")?.as_str(),
-        "DATAGRAM Type(31)"
-    );
-    let ty = type_of(b"\x30")?;
-    assert_eq!(rt; format!(in alloc; "{ty}")?.as_str(), "DATAGRAM");
-    let ty = type_of(b"\xff\xff\xff\xff\xff\xff\xff\xff")?;
-    assert_eq!(rt;
-        format!(in alloc; "{ty} {ty:?}")?.as_str(),
-        "<unknown 3fffffffffffffff> Type(3fffffffffffffff)"
-    );
+    same(&rt, FrameType::ACK_FREQUENCY, type_of(b"\x40\xaf")?);
+    Ok(())
+}
+
+#[test]
+fn names_of_types_without_a_constant(rt: HostRuntime) -> Result<(), Fail> {
+    let alloc = rt.alloc();
+    for (bytes, display, debug) in [
+        (b"\x40\xaf".as_slice(), "ACK_FREQUENCY", "ACK_FREQUENCY"),
+        (b"\x0b".as_slice(), "STREAM", "Type(0b)"),
+        (b"\x30".as_slice(), "DATAGRAM", "Type(30)"),
+        (b"\x31".as_slice(), "DATAGRAM", "Type(31)"),
+        (
+            b"\xff\xff\xff\xff\xff\xff\xff\xff".as_slice(),
+            "<unknown 3fffffffffffffff>",
+            "Type(3fffffffffffffff)",
+        ),
+    ] {
+        let ty = type_of(bytes)?;
+        displays(&rt, alloc, &ty, display)?;
+        debugs(&rt, alloc, &ty, debug)?;
+    }
     Ok(())
 }
 
@@ -202,6 +202,6 @@ fn a_type_is_written_as_its_number(rt: HostRuntime) -> Result<(), Fail> {
     let mut out = Vec::new(rt.alloc());
     FrameType::ACK_FREQUENCY.encode(&mut out)?;
     FrameType::PING.encode(&mut out)?;
-    assert_eq!(rt; out.as_slice(), b"\x40\xaf\x01".as_slice());
+    same(&rt, out.as_slice(), b"\x40\xaf\x01".as_slice());
     Ok(())
 }

@@ -1,4 +1,5 @@
 //! Which frames can be written, and how long they are at most.
+use super::{holds, same};
 use quic_base::ids::{ConnectionId, Dir, ResetToken, StreamId};
 use quic_base::varint::VarInt;
 use quic_frames::frame::{
@@ -55,14 +56,18 @@ fn offsets_in_range(rt: HostRuntime) -> Result<(), Fail> {
     let Some(Ok(frame)) = Iter::new(b"\x11\x04\x21")?.next() else {
         return Err("a frame".into());
     };
-    assert!(rt; frame.in_range());
+    holds(&rt, frame.in_range());
     for (n, fits) in NUMBERS {
-        assert_eq!(rt; Frame::Stream(stream(n)).in_range(), fits);
-        assert_eq!(rt; Frame::Crypto(crypto(n)).in_range(), fits);
+        same(&rt, Frame::Stream(stream(n)).in_range(), fits);
+        same(&rt, Frame::Crypto(crypto(n)).in_range(), fits);
         let id = stream_id();
-        assert_eq!(rt; Frame::MaxStreamData { id, offset: n }.in_range(), fits);
-        assert_eq!(rt; Frame::StreamDataBlocked { id, offset: n }.in_range(), fits);
-        assert_eq!(rt; Frame::DataBlocked { offset: n }.in_range(), fits);
+        same(&rt, Frame::MaxStreamData { id, offset: n }.in_range(), fits);
+        same(
+            &rt,
+            Frame::StreamDataBlocked { id, offset: n }.in_range(),
+            fits,
+        );
+        same(&rt, Frame::DataBlocked { offset: n }.in_range(), fits);
     }
     Ok(())
 }
@@ -72,13 +77,21 @@ fn counts_in_range(rt: HostRuntime) -> Result<(), Fail> {
     let Some(Ok(frame)) = Iter::new(b"\x12\x03")?.next() else {
         return Err("a frame".into());
     };
-    assert!(rt; frame.in_range());
+    holds(&rt, frame.in_range());
     for (n, fits) in NUMBERS {
         for dir in [Dir::Bi, Dir::Uni] {
-            assert_eq!(rt; Frame::MaxStreams { dir, count: n }.in_range(), fits);
-            assert_eq!(rt; Frame::StreamsBlocked { dir, limit: n }.in_range(), fits);
+            same(&rt, Frame::MaxStreams { dir, count: n }.in_range(), fits);
+            same(
+                &rt,
+                Frame::StreamsBlocked { dir, limit: n }.in_range(),
+                fits,
+            );
         }
-        assert_eq!(rt; Frame::RetireConnectionId { sequence: n }.in_range(), fits);
+        same(
+            &rt,
+            Frame::RetireConnectionId { sequence: n }.in_range(),
+            fits,
+        );
     }
     Ok(())
 }
@@ -88,16 +101,16 @@ fn counts_of_an_acknowledgement_in_range(rt: HostRuntime) -> Result<(), Fail> {
     let Some(Ok(frame)) = Iter::new(b"\x03\x05\x07\x00\x00\x01\x02\x03")?.next() else {
         return Err("a frame".into());
     };
-    assert!(rt; frame.in_range());
+    holds(&rt, frame.in_range());
     for (n, fits) in NUMBERS {
         for (ect0, ect1, ce) in [(n, 0, 0), (0, n, 0), (0, 0, n)] {
             let counts = EcnCounts { ect0, ect1, ce };
             let ack = Ack::from_parts(5, 7, b"\x00", Some(counts))?;
-            assert_eq!(rt; Frame::Ack(ack).in_range(), fits);
+            same(&rt, Frame::Ack(ack).in_range(), fits);
         }
     }
     let ack = Ack::from_parts((1 << 62) - 1, (1 << 62) - 1, b"\x00", None)?;
-    assert!(rt; Frame::Ack(ack).in_range());
+    holds(&rt, Frame::Ack(ack).in_range());
     Ok(())
 }
 
@@ -106,18 +119,29 @@ fn new_ids_in_range(rt: HostRuntime) -> Result<(), Fail> {
     let Some(Ok(frame)) = Iter::new(b"\x18\x05\x02\x02\xaa\xbb0123456789abcdef")?.next() else {
         return Err("a frame".into());
     };
-    assert!(rt; frame.in_range());
+    holds(&rt, frame.in_range());
     let id = ConnectionId::new(b"\xaa\xbb");
     for (n, fits) in NUMBERS {
-        assert_eq!(rt; Frame::NewConnectionId(new_id(n, 0, id)).in_range(), fits);
-        assert_eq!(rt; Frame::NewConnectionId(new_id(n, n, id)).in_range(), fits);
+        same(
+            &rt,
+            Frame::NewConnectionId(new_id(n, 0, id)).in_range(),
+            fits,
+        );
+        same(
+            &rt,
+            Frame::NewConnectionId(new_id(n, n, id)).in_range(),
+            fits,
+        );
     }
-    assert!(rt; Frame::NewConnectionId(new_id(5, 5, id)).in_range());
-    assert!(rt; !Frame::NewConnectionId(new_id(5, 6, id)).in_range());
+    holds(&rt, Frame::NewConnectionId(new_id(5, 5, id)).in_range());
+    holds(&rt, !Frame::NewConnectionId(new_id(5, 6, id)).in_range());
     let empty = ConnectionId::new(b"");
-    assert!(rt; !Frame::NewConnectionId(new_id(5, 2, empty)).in_range());
+    holds(&rt, !Frame::NewConnectionId(new_id(5, 2, empty)).in_range());
     let longest = ConnectionId::new(b"01234567890123456789");
-    assert!(rt; Frame::NewConnectionId(new_id(5, 2, longest)).in_range());
+    holds(
+        &rt,
+        Frame::NewConnectionId(new_id(5, 2, longest)).in_range(),
+    );
     Ok(())
 }
 
@@ -126,19 +150,23 @@ fn closes_in_range(rt: HostRuntime) -> Result<(), Fail> {
     let Some(Ok(frame)) = Iter::new(b"\x1c\x07\x00\x03why")?.next() else {
         return Err("a frame".into());
     };
-    assert!(rt; frame.in_range());
+    holds(&rt, frame.in_range());
     for (ty, fits) in [
         (None, true),
         (Some(FrameType::PADDING), false),
         (Some(FrameType::PING), true),
     ] {
-        assert_eq!(rt; Frame::Close(Close::from(close_of(ty))).in_range(), fits);
+        same(
+            &rt,
+            Frame::Close(Close::from(close_of(ty))).in_range(),
+            fits,
+        );
     }
     let close = ApplicationClose {
         error_code: VarInt::MAX,
         reason: b"why",
     };
-    assert!(rt; Frame::Close(Close::from(close)).in_range());
+    holds(&rt, Frame::Close(Close::from(close)).in_range());
     Ok(())
 }
 
@@ -148,15 +176,21 @@ fn all_others_are_in_range(rt: HostRuntime) -> Result<(), Fail> {
     let Some(Ok(frame)) = Iter::new(b"\x01")?.next() else {
         return Err("a frame".into());
     };
-    assert!(rt; frame.in_range());
+    holds(&rt, frame.in_range());
     let (id, error_code) = (stream_id(), VarInt::MAX);
-    assert!(rt; Frame::StopSending(StopSending { id, error_code }).in_range());
-    assert!(rt; Frame::MaxData(VarInt::MAX).in_range());
-    assert!(rt; Frame::PathChallenge(u64::MAX).in_range());
-    assert!(rt; Frame::PathResponse(u64::MAX).in_range());
-    assert!(rt; Frame::Datagram(Datagram { bytes: b"" }).in_range());
-    assert!(rt; Frame::Padding.in_range() && Frame::Ping.in_range());
-    assert!(rt; Frame::ImmediateAck.in_range() && Frame::HandshakeDone.in_range());
+    holds(
+        &rt,
+        Frame::StopSending(StopSending { id, error_code }).in_range(),
+    );
+    holds(&rt, Frame::MaxData(VarInt::MAX).in_range());
+    holds(&rt, Frame::PathChallenge(u64::MAX).in_range());
+    holds(&rt, Frame::PathResponse(u64::MAX).in_range());
+    holds(&rt, Frame::Datagram(Datagram { bytes: b"" }).in_range());
+    holds(&rt, Frame::Padding.in_range() && Frame::Ping.in_range());
+    holds(
+        &rt,
+        Frame::ImmediateAck.in_range() && Frame::HandshakeDone.in_range(),
+    );
     Ok(())
 }
 
@@ -167,15 +201,15 @@ fn bounds_of<T: FrameStruct>(frame: &T) -> (usize, usize) {
 
 #[test]
 fn bounds_of_sizes(rt: HostRuntime) {
-    assert_eq!(rt; ConnectionClose::SIZE_BOUND, 25);
-    assert_eq!(rt; ApplicationClose::SIZE_BOUND, 17);
-    assert_eq!(rt; Stream::SIZE_BOUND, 25);
-    assert_eq!(rt; ResetStream::SIZE_BOUND, 25);
-    assert_eq!(rt; StopSending::SIZE_BOUND, 17);
-    assert_eq!(rt; NewConnectionId::SIZE_BOUND, 54);
-    assert_eq!(rt; Datagram::SIZE_BOUND, 9);
-    assert_eq!(rt; Crypto::SIZE_BOUND, 17);
-    assert_eq!(rt; RETIRE_CONNECTION_ID_SIZE_BOUND, 9);
+    same(&rt, ConnectionClose::SIZE_BOUND, 25);
+    same(&rt, ApplicationClose::SIZE_BOUND, 17);
+    same(&rt, Stream::SIZE_BOUND, 25);
+    same(&rt, ResetStream::SIZE_BOUND, 25);
+    same(&rt, StopSending::SIZE_BOUND, 17);
+    same(&rt, NewConnectionId::SIZE_BOUND, 54);
+    same(&rt, Datagram::SIZE_BOUND, 9);
+    same(&rt, Crypto::SIZE_BOUND, 17);
+    same(&rt, RETIRE_CONNECTION_ID_SIZE_BOUND, 9);
 }
 
 #[test]
@@ -185,18 +219,18 @@ fn bounds_of_frames(rt: HostRuntime) {
         error_code,
         reason: b"why",
     };
-    assert_eq!(rt; bounds_of(&close_of(None)), (25, 25));
-    assert_eq!(rt; bounds_of(&close), (17, 17));
-    assert_eq!(rt; bounds_of(&stream(7)), (25, 25));
+    same(&rt, bounds_of(&close_of(None)), (25, 25));
+    same(&rt, bounds_of(&close), (17, 17));
+    same(&rt, bounds_of(&stream(7)), (25, 25));
     let reset = ResetStream {
         id,
         error_code,
         final_offset: VarInt::MAX,
     };
-    assert_eq!(rt; bounds_of(&reset), (25, 25));
-    assert_eq!(rt; bounds_of(&StopSending { id, error_code }), (17, 17));
+    same(&rt, bounds_of(&reset), (25, 25));
+    same(&rt, bounds_of(&StopSending { id, error_code }), (17, 17));
     let new = new_id(5, 2, ConnectionId::new(b"\xaa\xbb"));
-    assert_eq!(rt; bounds_of(&new), (54, 54));
-    assert_eq!(rt; bounds_of(&Datagram { bytes: b"hi" }), (9, 9));
-    assert_eq!(rt; bounds_of(&crypto(7)), (17, 17));
+    same(&rt, bounds_of(&new), (54, 54));
+    same(&rt, bounds_of(&Datagram { bytes: b"hi" }), (9, 9));
+    same(&rt, bounds_of(&crypto(7)), (17, 17));
 }

@@ -1,5 +1,6 @@
 //! Frames of every kind, written at their place in a payload.
 use super::frames_written_refused::is_counted;
+use super::holds_at;
 use quic_frames::frame::{Frame, Iter};
 use std::alloc::Global;
 use std::test::Fail;
@@ -179,7 +180,7 @@ fn words(line: &str) -> Result<(&str, &str, &str), Fail> {
 #[test]
 fn shortest_frames_are_written_as_they_were_read(rt: HostRuntime) -> Result<(), Fail> {
     for line in SHORTEST.lines() {
-        assert!(rt; is_rewritten(rt.alloc(), line, line, line)?, "{line}");
+        holds_at(&rt, line, is_rewritten(rt.alloc(), line, line, line)?);
     }
     Ok(())
 }
@@ -187,7 +188,7 @@ fn shortest_frames_are_written_as_they_were_read(rt: HostRuntime) -> Result<(), 
 #[test]
 fn shortest_frames_come_back(rt: HostRuntime) -> Result<(), Fail> {
     for line in SHORTEST.lines() {
-        assert!(rt; comes_back(rt.alloc(), line)?, "{line}");
+        holds_at(&rt, line, comes_back(rt.alloc(), line)?);
     }
     Ok(())
 }
@@ -196,7 +197,7 @@ fn shortest_frames_come_back(rt: HostRuntime) -> Result<(), Fail> {
 fn others_are_written_in_their_shortest_form(rt: HostRuntime) -> Result<(), Fail> {
     for line in OTHERS.lines() {
         let (payload, counted, open) = words(line)?;
-        assert!(rt; is_rewritten(rt.alloc(), payload, counted, open)?, "{line}");
+        holds_at(&rt, line, is_rewritten(rt.alloc(), payload, counted, open)?);
     }
     Ok(())
 }
@@ -207,10 +208,10 @@ fn others_come_back(rt: HostRuntime) -> Result<(), Fail> {
         let (payload, counted, open) = words(line)?;
         // An acknowledgement shows its blocks as they are spelled.
         if !payload.starts_with("02") {
-            assert!(rt; comes_back(rt.alloc(), payload)?, "{line}");
+            holds_at(&rt, line, comes_back(rt.alloc(), payload)?);
         }
-        assert!(rt; comes_back(rt.alloc(), counted)?, "{line}");
-        assert!(rt; comes_back(rt.alloc(), open)?, "{line}");
+        holds_at(&rt, line, comes_back(rt.alloc(), counted)?);
+        holds_at(&rt, line, comes_back(rt.alloc(), open)?);
     }
     Ok(())
 }

@@ -3,6 +3,7 @@
 ghost use Rattle.std.specs.Prelude.{◌<◌, ◌^◌, length, IsTrue};
 ghost use Rattle.quic_frames.specs.InRange.{open_data};
 
+use super::{holds, same};
 use quic_base::coding::NoRoom;
 use quic_base::ids::{ConnectionId, ResetToken, StreamId};
 use quic_base::varint::VarInt;
@@ -27,10 +28,10 @@ macro_rules! writes {
     ($rt:expr, $whole:expr, |$out:ident| $call:expr) => {
         let mut $out = Vec::new($rt.alloc());
         let answer = $call;
-        assert!($rt; is_begun(answer, $out.as_slice(), $whole));
+        holds(&$rt, is_begun(answer, $out.as_slice(), $whole));
         if let Ok(mut $out) = Vec::with_capacity($rt.alloc(), 64) {
-            assert_eq!($rt; $call, Ok(()));
-            assert_eq!($rt; $out.as_slice(), $whole);
+            same(&$rt, $call, Ok(()));
+            same(&$rt, $out.as_slice(), $whole);
         }
     };
 }
@@ -182,11 +183,11 @@ fn a_datagram(rt: HostRuntime) {
                 Ok(()) => whole,
                 Err(NoRoom) => b"\x01".as_slice(),
             };
-            assert_eq!(rt; out.as_slice(), left);
+            same(&rt, out.as_slice(), left);
         }
         if let Ok(mut out) = Vec::with_capacity(rt.alloc(), 64) {
-            assert_eq!(rt; datagram.encode(with_length, &mut out), Ok(()));
-            assert_eq!(rt; out.as_slice(), &whole[1..]);
+            same(&rt, datagram.encode(with_length, &mut out), Ok(()));
+            same(&rt, out.as_slice(), &whole[1..]);
         }
     }
 }

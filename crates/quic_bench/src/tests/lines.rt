@@ -1,10 +1,11 @@
 //! Lines of the mode `frames`, through `run`.
+use super::{same, same_at};
 use crate::FailAt;
 use quic_text::{Mode, run, status};
 use std::test::Fail;
 
 // A line, and what is printed of it.
-const ROWS: [(&str, &str); 39] = [
+const ROWS: &[(&str, &str)] = &[
     ("40000a000161", "0..2 PADDING\n2..6 STREAM\n"),
     ("80000001", "0..4 PING\n"),
     ("0600026869", "0..5 CRYPTO\n"),
@@ -59,15 +60,15 @@ const ROWS: [(&str, &str); 39] = [
 
 #[test]
 fn each_row_by_itself(rt: HostRuntime) -> Result<(), Fail> {
-    for (line, text) in ROWS {
+    for &(line, text) in ROWS {
         let input = format!(in rt.alloc(); "{line}\n")?;
         let mut source = FailAt::new(rt.alloc(), input.as_bytes(), usize::MAX, u64::MAX);
         let mut sink = FailAt::new(rt.alloc(), b"", usize::MAX, u64::MAX);
         let outcome = run(rt.alloc(), Mode::Frames, &mut source, &mut sink);
         let clean = !text.contains("error");
-        assert_eq!(rt; outcome, Ok(clean), "{line}");
-        assert_eq!(rt; status(&outcome), if clean { 0 } else { 1 });
-        assert_eq!(rt; sink.output(), text.as_bytes(), "{line}");
+        same_at(&rt, line, outcome, Ok(clean));
+        same(&rt, status(&outcome), if clean { 0 } else { 1 });
+        same_at(&rt, line, sink.output(), text.as_bytes());
     }
     Ok(())
 }
@@ -76,14 +77,14 @@ fn each_row_by_itself(rt: HostRuntime) -> Result<(), Fail> {
 fn all_rows_together(rt: HostRuntime) -> Result<(), Fail> {
     let mut input = String::new(rt.alloc());
     let mut wanted = String::new(rt.alloc());
-    for (line, text) in ROWS {
+    for &(line, text) in ROWS {
         writeln!(input, "{line}")?;
         wanted.push_str(text)?;
     }
     let mut source = FailAt::new(rt.alloc(), input.as_bytes(), 1, u64::MAX);
     let mut sink = FailAt::new(rt.alloc(), b"", 1, u64::MAX);
     let outcome = run(rt.alloc(), Mode::Frames, &mut source, &mut sink);
-    assert_eq!(rt; outcome, Ok(false));
-    assert_eq!(rt; sink.output(), wanted.as_bytes());
+    same(&rt, outcome, Ok(false));
+    same(&rt, sink.output(), wanted.as_bytes());
     Ok(())
 }

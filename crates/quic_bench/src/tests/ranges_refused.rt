@@ -1,3 +1,4 @@
+use super::{holds, holds_at};
 // What stands after a refused growth. Each test passes whichever one growth of its run is refused, and
 // where none is: `rt try --test --fail-alloc N` refuses the Nth. After the refusal the set stands as
 // promised, and the same call then succeeds.
@@ -28,7 +29,7 @@ macro_rules! twice {
         match $call {
             Ok(answer) => answer,
             Err(NoRoom) => {
-                assert!($rt; $stands, "after the refusal");
+                holds_at(&$rt, "after the refusal", $stands);
                 $call.ok().expect(&$rt, "room at the second call")
             }
         }
@@ -112,7 +113,7 @@ fn refused_map_insertions(rt: HostRuntime) {
     let mut set = RangeSet::new(rt.alloc());
     for index in 0..COUNT {
         let changed = twice!(rt, set.insert(run(index)), map_has(&set, index));
-        assert!(rt; changed && map_has(&set, index + 1));
+        holds(&rt, changed && map_has(&set, index + 1));
     }
 }
 
@@ -121,7 +122,7 @@ fn refused_array_insertions(rt: HostRuntime) {
     let mut set = ArrayRangeSet::new(rt.alloc());
     for index in 0..COUNT {
         let changed = twice!(rt, set.insert(run(index)), array_has(&set, index));
-        assert!(rt; changed && array_has(&set, index + 1));
+        holds(&rt, changed && array_has(&set, index + 1));
     }
 }
 
@@ -131,13 +132,13 @@ fn refused_single_insertions(rt: HostRuntime) {
     let mut array = ArrayRangeSet::new(rt.alloc());
     for index in 0..COUNT {
         let changed = twice!(rt, map.insert_one(2 * index), map_has_even(&map, index));
-        assert!(rt; changed && map_has_even(&map, index + 1));
+        holds(&rt, changed && map_has_even(&map, index + 1));
         let changed = twice!(
             rt,
             array.insert_one(2 * index),
             array_has_even(&array, index)
         );
-        assert!(rt; changed && array_has_even(&array, index + 1));
+        holds(&rt, changed && array_has_even(&array, index + 1));
     }
 }
 
@@ -149,9 +150,9 @@ fn refused_removals(rt: HostRuntime) {
     let _ = twice!(rt, array.insert(0..END), array.is_empty());
     for index in 0..COUNT {
         let changed = twice!(rt, map.remove(gap(index)), map_is_cut(&map, index));
-        assert!(rt; changed && map_is_cut(&map, index + 1));
+        holds(&rt, changed && map_is_cut(&map, index + 1));
         let changed = twice!(rt, array.remove(gap(index)), array_is_cut(&array, index));
-        assert!(rt; changed && array_is_cut(&array, index + 1));
+        holds(&rt, changed && array_is_cut(&array, index + 1));
     }
 }
 
@@ -165,21 +166,21 @@ fn refused_replacements(rt: HostRuntime) {
             set.replace(run(index)).map(|_| ()),
             map_has(&set, index)
         );
-        assert!(rt; map_has(&set, index + 1));
+        holds(&rt, map_has(&set, index + 1));
     }
     // With many pieces, their list grows.
     match set.replace(0..END) {
         Ok(_) => {}
         Err(NoRoom) => {
-            assert!(rt; map_has(&set, COUNT));
+            holds(&rt, map_has(&set, COUNT));
             let mut pieces = set.replace(0..END).ok().expect(&rt, "room");
             for index in 0..COUNT {
-                assert!(rt; pieces.next() == Some(run(index)));
+                holds(&rt, pieces.next() == Some(run(index)));
             }
-            assert!(rt; pieces.next().is_none());
+            holds(&rt, pieces.next().is_none());
         }
     }
-    assert!(rt; set.iter().next() == Some(0..END) && set.len() == 1);
+    holds(&rt, set.iter().next() == Some(0..END) && set.len() == 1);
 }
 
 #[test]
@@ -190,7 +191,7 @@ fn refused_additions(rt: HostRuntime) {
     }
     let mut set = RangeSet::new(rt.alloc());
     twice!(rt, set.add(&other), is_begun_sum(&set));
-    assert!(rt; map_has(&set, COUNT) && map_has(&other, COUNT));
+    holds(&rt, map_has(&set, COUNT) && map_has(&other, COUNT));
 }
 
 #[test]
@@ -202,7 +203,7 @@ fn refused_map_subtractions(rt: HostRuntime) {
     let mut set = RangeSet::new(rt.alloc());
     let _ = twice!(rt, set.insert(0..END), set.is_empty());
     twice!(rt, set.subtract(&other), is_begun_difference(&set));
-    assert!(rt; map_is_cut(&set, COUNT));
+    holds(&rt, map_is_cut(&set, COUNT));
 }
 
 #[test]
@@ -214,7 +215,7 @@ fn refused_array_subtractions(rt: HostRuntime) {
     let mut set = ArrayRangeSet::new(rt.alloc());
     let _ = twice!(rt, set.insert(0..END), set.is_empty());
     twice!(rt, set.subtract(&other), array_is_cut(&set, 0));
-    assert!(rt; array_is_cut(&set, COUNT));
+    holds(&rt, array_is_cut(&set, COUNT));
 }
 
 #[test]
@@ -224,7 +225,7 @@ fn refused_map_clones(rt: HostRuntime) {
         let _ = twice!(rt, map.insert(run(index)), map_has(&map, index));
     }
     let copy = twice!(rt, map.try_clone(), map_has(&map, COUNT));
-    assert!(rt; map_has(&copy, COUNT) && map_has(&map, COUNT));
+    holds(&rt, map_has(&copy, COUNT) && map_has(&map, COUNT));
 }
 
 #[test]
@@ -234,17 +235,26 @@ fn refused_array_clones(rt: HostRuntime) {
         let _ = twice!(rt, array.insert(run(index)), array_has(&array, index));
     }
     let copy = twice!(rt, array.try_clone(), array_has(&array, COUNT));
-    assert!(rt; array_has(&copy, COUNT) && array_has(&array, COUNT));
+    holds(&rt, array_has(&copy, COUNT) && array_has(&array, COUNT));
 }
 
 // No call here takes memory, so each answers Ok whichever growth is refused.
 #[test]
 fn refused_nothing_at_two_runs(rt: HostRuntime) {
     let mut set = ArrayRangeSet::new(rt.alloc());
-    assert!(rt; set.insert(0..100) == Ok(true) && set.insert(200..210) == Ok(true));
+    holds(
+        &rt,
+        set.insert(0..100) == Ok(true) && set.insert(200..210) == Ok(true),
+    );
     let mut other = ArrayRangeSet::new(rt.alloc());
-    assert!(rt; other.insert(50..60) == Ok(true) && other.insert(150..300) == Ok(true));
-    assert!(rt; set.subtract(&other) == Ok(()));
-    assert!(rt; set.len() == 2 && set.try_clone().is_ok());
-    assert!(rt; set.remove(0..5) == Ok(true) && set.insert_one(60) == Ok(false));
+    holds(
+        &rt,
+        other.insert(50..60) == Ok(true) && other.insert(150..300) == Ok(true),
+    );
+    holds(&rt, set.subtract(&other) == Ok(()));
+    holds(&rt, set.len() == 2 && set.try_clone().is_ok());
+    holds(
+        &rt,
+        set.remove(0..5) == Ok(true) && set.insert_one(60) == Ok(false),
+    );
 }

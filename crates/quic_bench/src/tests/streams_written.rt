@@ -1,4 +1,5 @@
 //! Heads of streams, and datagrams, that are written by themselves.
+use super::{holds, same};
 use quic_base::ids::StreamId;
 use quic_base::varint::VarInt;
 use quic_frames::frame::{Datagram, Frame, Iter, StreamMeta, StreamMetaVec};
@@ -25,31 +26,36 @@ fn head(alloc: Global, offsets: Range<u64>, fin: bool, with_length: bool) -> Res
 #[test]
 fn heads_of_streams(rt: HostRuntime) -> Result<(), Fail> {
     let alloc = rt.alloc();
-    assert_eq!(rt; head(alloc, 16..18, false, true)?.as_str(), "0e041002");
-    assert_eq!(rt; head(alloc, 16..18, false, false)?.as_str(), "0c0410");
-    assert_eq!(rt; head(alloc, 16..18, true, true)?.as_str(), "0f041002");
-    assert_eq!(rt; head(alloc, 16..18, true, false)?.as_str(), "0d0410");
-    assert_eq!(rt; head(alloc, 0..64, false, true)?.as_str(), "0a044040");
-    assert_eq!(rt; head(alloc, 0..64, true, true)?.as_str(), "0b044040");
-    assert_eq!(rt; head(alloc, 0..64, true, false)?.as_str(), "0904");
-    assert_eq!(rt; head(alloc, 64..64, false, true)?.as_str(), "0e04404000");
+    same(&rt, head(alloc, 16..18, false, true)?.as_str(), "0e041002");
+    same(&rt, head(alloc, 16..18, false, false)?.as_str(), "0c0410");
+    same(&rt, head(alloc, 16..18, true, true)?.as_str(), "0f041002");
+    same(&rt, head(alloc, 16..18, true, false)?.as_str(), "0d0410");
+    same(&rt, head(alloc, 0..64, false, true)?.as_str(), "0a044040");
+    same(&rt, head(alloc, 0..64, true, true)?.as_str(), "0b044040");
+    same(&rt, head(alloc, 0..64, true, false)?.as_str(), "0904");
+    same(
+        &rt,
+        head(alloc, 64..64, false, true)?.as_str(),
+        "0e04404000",
+    );
     Ok(())
 }
 
 #[test]
 fn the_head_of_no_data(rt: HostRuntime) -> Result<(), Fail> {
     let meta = StreamMeta::default();
-    assert_eq!(rt; u64::from(meta.id), 0);
-    assert_eq!(rt;
+    same(&rt, u64::from(meta.id), 0);
+    same(
+        &rt,
         (meta.offsets.start, meta.offsets.end, meta.fin),
-        (0, 0, false)
+        (0, 0, false),
     );
     let mut out = Vec::new(rt.alloc());
     meta.encode(true, &mut out)?;
-    assert_eq!(rt; out.as_slice(), b"\x0a\x00\x00".as_slice());
+    same(&rt, out.as_slice(), b"\x0a\x00\x00".as_slice());
     let mut out = Vec::new(rt.alloc());
     meta.encode(false, &mut out)?;
-    assert_eq!(rt; out.as_slice(), b"\x08\x00".as_slice());
+    same(&rt, out.as_slice(), b"\x08\x00".as_slice());
     Ok(())
 }
 
@@ -68,11 +74,11 @@ fn a_head_and_its_data(rt: HostRuntime) -> Result<(), Fail> {
     let Some(Ok(Frame::Stream(stream))) = iter.next() else {
         return Err("a STREAM".into());
     };
-    assert_eq!(rt; u64::from(stream.id), 4);
-    assert_eq!(rt; (stream.offset, stream.fin), (16, true));
-    assert_eq!(rt; stream.bytes, b"ab".as_slice());
-    assert!(rt; matches!(iter.next(), Some(Ok(Frame::Ping))));
-    assert!(rt; iter.next().is_none());
+    same(&rt, u64::from(stream.id), 4);
+    same(&rt, (stream.offset, stream.fin), (16, true));
+    same(&rt, stream.bytes, b"ab".as_slice());
+    holds(&rt, matches!(iter.next(), Some(Ok(Frame::Ping))));
+    holds(&rt, iter.next().is_none());
     Ok(())
 }
 
@@ -80,14 +86,15 @@ fn a_head_and_its_data(rt: HostRuntime) -> Result<(), Fail> {
 #[test]
 fn one_head_is_held(rt: HostRuntime) -> Result<(), Fail> {
     let mut metas = StreamMetaVec::new(rt.alloc());
-    assert!(rt; metas.push(StreamMeta::default()).is_ok());
+    holds(&rt, metas.push(StreamMeta::default()).is_ok());
     let [meta] = metas.as_slice() else {
         return Err("one head".into());
     };
-    assert_eq!(rt; u64::from(meta.id), 0);
-    assert_eq!(rt;
+    same(&rt, u64::from(meta.id), 0);
+    same(
+        &rt,
         (meta.offsets.start, meta.offsets.end, meta.fin),
-        (0, 0, false)
+        (0, 0, false),
     );
     Ok(())
 }
@@ -97,13 +104,13 @@ fn datagrams(rt: HostRuntime) -> Result<(), Fail> {
     let datagram = Datagram { bytes: b"hi" };
     let mut out = Vec::new(rt.alloc());
     datagram.encode(true, &mut out)?;
-    assert_eq!(rt; out.as_slice(), b"\x31\x02hi".as_slice());
-    assert_eq!(rt; datagram.size(true), 4);
+    same(&rt, out.as_slice(), b"\x31\x02hi".as_slice());
+    same(&rt, datagram.size(true), 4);
     // Behind what stands there.
     datagram.encode(false, &mut out)?;
-    assert_eq!(rt; out.as_slice(), b"\x31\x02hi\x30hi".as_slice());
-    assert_eq!(rt; datagram.size(false), 3);
+    same(&rt, out.as_slice(), b"\x31\x02hi\x30hi".as_slice());
+    same(&rt, datagram.size(false), 3);
     let long = Datagram { bytes: &[0x61; 64] };
-    assert_eq!(rt; (long.size(true), long.size(false)), (67, 65));
+    same(&rt, (long.size(true), long.size(false)), (67, 65));
     Ok(())
 }

@@ -1,5 +1,6 @@
 //! Codes, errors and closes, and their texts.
 use super::texts_answers::{CLOSES, CODES, ERRORS, TYPES};
+use super::{displays, holds, holds_at, same};
 use quic_base::coding::{BufMutExt, Codec};
 use quic_base::varint::VarInt;
 use quic_frames::frame::{ApplicationClose, Close, ConnectionClose, Frame, FrameType, Iter};
@@ -84,7 +85,7 @@ fn close_shows(alloc: Global, line: &str) -> Result<bool, Fail> {
 #[test]
 fn codes_as_of_the_rust_crate(rt: HostRuntime) -> Result<(), Fail> {
     for line in CODES.lines() {
-        assert!(rt; code_shows(rt.alloc(), line)?, "{line}");
+        holds_at(&rt, line, code_shows(rt.alloc(), line)?);
     }
     Ok(())
 }
@@ -92,7 +93,7 @@ fn codes_as_of_the_rust_crate(rt: HostRuntime) -> Result<(), Fail> {
 #[test]
 fn types_as_of_the_rust_crate(rt: HostRuntime) -> Result<(), Fail> {
     for line in TYPES.lines() {
-        assert!(rt; type_shows(rt.alloc(), line)?, "{line}");
+        holds_at(&rt, line, type_shows(rt.alloc(), line)?);
     }
     Ok(())
 }
@@ -100,7 +101,7 @@ fn types_as_of_the_rust_crate(rt: HostRuntime) -> Result<(), Fail> {
 #[test]
 fn errors_as_of_the_rust_crate(rt: HostRuntime) -> Result<(), Fail> {
     for line in ERRORS.lines() {
-        assert!(rt; error_shows(rt.alloc(), line)?, "{line}");
+        holds_at(&rt, line, error_shows(rt.alloc(), line)?);
     }
     Ok(())
 }
@@ -108,7 +109,7 @@ fn errors_as_of_the_rust_crate(rt: HostRuntime) -> Result<(), Fail> {
 #[test]
 fn closes_as_of_the_rust_crate(rt: HostRuntime) -> Result<(), Fail> {
     for line in CLOSES.lines() {
-        assert!(rt; close_shows(rt.alloc(), line)?, "{line}");
+        holds_at(&rt, line, close_shows(rt.alloc(), line)?);
     }
     Ok(())
 }
@@ -118,15 +119,17 @@ fn a_code_and_its_bytes(rt: HostRuntime) -> Result<(), Fail> {
     let alloc = rt.alloc();
     let mut out = Vec::new(alloc);
     out.write(Code::crypto(42))?;
-    assert_eq!(rt; out.as_slice(), b"\x41\x2a".as_slice());
+    same(&rt, out.as_slice(), b"\x41\x2a".as_slice());
     let code = Code::crypto(42);
-    assert_eq!(rt;
-        format!(in alloc; "{code}")?.as_str(),
-        "the cryptographic handshake failed: error 42"
-    );
+    displays(
+        &rt,
+        alloc,
+        &code,
+        "the cryptographic handshake failed: error 42",
+    )?;
     let mut left = b"\x80\x00\x00\x11".as_slice();
     let code = Code::decode(&mut left)?;
-    assert_eq!(rt; format!(in alloc; "{code}")?.as_str(), "unknown error");
+    displays(&rt, alloc, &code, "unknown error")?;
     Ok(())
 }
 
@@ -161,13 +164,11 @@ fn each_constructor_has_its_code(rt: HostRuntime) -> Result<(), Fail> {
         (Error::AEAD_LIMIT_REACHED("x"), Code::AEAD_LIMIT_REACHED),
         (Error::NO_VIABLE_PATH("x"), Code::NO_VIABLE_PATH),
     ];
-    let mut number = 0;
-    for (error, code) in &errors {
-        assert_eq!(rt; error.code, *code);
-        assert_eq!(rt; u64::from(*code), number);
-        assert_eq!(rt; error.frame, None);
-        assert_eq!(rt; error.reason.as_str(), "x");
-        number += 1;
+    for (number, (error, code)) in errors.iter().enumerate() {
+        same(&rt, error.code, *code);
+        same(&rt, u64::from(*code), number as u64);
+        same(&rt, error.frame, None);
+        same(&rt, error.reason.as_str(), "x");
     }
     Ok(())
 }
@@ -178,18 +179,18 @@ fn an_error_and_its_copies(rt: HostRuntime) -> Result<(), Fail> {
     let mut error = Error::FLOW_CONTROL_ERROR("x");
     error.frame = Some(type_of(alloc, 0x0a)?);
     let text = "received more data than permitted in advertised data limits in STREAM: x";
-    assert_eq!(rt; format!(in alloc; "{error}")?.as_str(), text);
+    displays(&rt, alloc, &error, text)?;
     let error = Error::with_text(alloc, Code::NO_VIABLE_PATH, "x")?;
     let text = "no viable network path exists: x";
-    assert_eq!(rt; format!(in alloc; "{error}")?.as_str(), text);
+    displays(&rt, alloc, &error, text)?;
     let copy = error.try_clone()?;
-    assert!(rt; copy == error);
-    assert!(rt; copy.reason == Reason::Static("x"));
+    holds(&rt, copy == error);
+    holds(&rt, copy.reason == Reason::Static("x"));
     let bare = Error::from(Code::NO_VIABLE_PATH);
-    assert_eq!(rt; bare.reason.as_str(), "");
-    assert!(rt; bare != error);
+    same(&rt, bare.reason.as_str(), "");
+    holds(&rt, bare != error);
     let text = "no viable network path exists";
-    assert_eq!(rt; format!(in alloc; "{bare}")?.as_str(), text);
+    displays(&rt, alloc, &bare, text)?;
     Ok(())
 }
 
@@ -200,25 +201,25 @@ fn closes(rt: HostRuntime) -> Result<(), Fail> {
     else {
         return Err("a close".into());
     };
-    assert_eq!(rt; close.error_code, Code::PROTOCOL_VIOLATION);
-    assert_eq!(rt; close.frame_type, None);
-    assert_eq!(rt; close.reason, b"bad".as_slice());
+    same(&rt, close.error_code, Code::PROTOCOL_VIOLATION);
+    same(&rt, close.frame_type, None);
+    same(&rt, close.reason, b"bad".as_slice());
     let text =
         "detected an error with protocol compliance that was not covered by more specific error codes: bad";
-    assert_eq!(rt; format!(in alloc; "{close}")?.as_str(), text);
-    assert!(rt; Close::from(close).is_transport_layer());
+    displays(&rt, alloc, &close, text)?;
+    holds(&rt, Close::from(close).is_transport_layer());
     let Some(Ok(Frame::Close(Close::Application(close)))) = Iter::new(b"\x1d\x05\x01\xff")?.next()
     else {
         return Err("a close".into());
     };
-    assert_eq!(rt; close.error_code.into_inner(), 5);
-    assert_eq!(rt; format!(in alloc; "{close}")?.as_str(), "\u{fffd} (code 5)");
-    assert!(rt; !Close::from(close).is_transport_layer());
+    same(&rt, close.error_code.into_inner(), 5);
+    displays(&rt, alloc, &close, "\u{fffd} (code 5)")?;
+    holds(&rt, !Close::from(close).is_transport_layer());
     let bare = ApplicationClose {
         error_code: VarInt::from_u32(5),
         reason: b"",
     };
-    assert_eq!(rt; format!(in alloc; "{bare}")?.as_str(), "5");
+    displays(&rt, alloc, &bare, "5")?;
     Ok(())
 }
 
@@ -227,12 +228,12 @@ fn the_close_of_an_error_borrows_its_reason(rt: HostRuntime) -> Result<(), Fail>
     let mut error = Error::with_text(rt.alloc(), Code::FLOW_CONTROL_ERROR, "too much")?;
     error.frame = Some(FrameType::CRYPTO);
     let close = ConnectionClose::from(&error);
-    assert_eq!(rt; close.error_code, Code::FLOW_CONTROL_ERROR);
-    assert_eq!(rt; close.frame_type, Some(FrameType::CRYPTO));
-    assert_eq!(rt; close.reason, b"too much".as_slice());
-    let Close::Connection(same) = Close::from(&error) else {
+    same(&rt, close.error_code, Code::FLOW_CONTROL_ERROR);
+    same(&rt, close.frame_type, Some(FrameType::CRYPTO));
+    same(&rt, close.reason, b"too much".as_slice());
+    let Close::Connection(by_close) = Close::from(&error) else {
         return Err("a close of the transport".into());
     };
-    assert_eq!(rt; same, close);
+    same(&rt, by_close, close);
     Ok(())
 }

@@ -4,6 +4,7 @@ ghost use Rattle.quic_frames.specs.Shortest.{close_reason, least_room};
 
 use super::texts::{code_of, type_of};
 use super::written_answers::{CLOSES, FRAMES};
+use super::{holds, holds_at, same};
 use quic_base::coding::NoRoom;
 use quic_base::ids::{ConnectionId, ResetToken, StreamId};
 use quic_base::varint::VarInt;
@@ -124,7 +125,7 @@ fn is_written(alloc: Global, line: &str) -> Result<bool, Fail> {
 #[test]
 fn frames_are_written_as_by_the_rust_crate(rt: HostRuntime) -> Result<(), Fail> {
     for line in FRAMES.lines() {
-        assert!(rt; is_written(rt.alloc(), line)?, "{line}");
+        holds_at(&rt, line, is_written(rt.alloc(), line)?);
     }
     Ok(())
 }
@@ -132,7 +133,7 @@ fn frames_are_written_as_by_the_rust_crate(rt: HostRuntime) -> Result<(), Fail> 
 #[test]
 fn closes_are_written_as_by_the_rust_crate(rt: HostRuntime) -> Result<(), Fail> {
     for line in CLOSES.lines() {
-        assert!(rt; is_written(rt.alloc(), line)?, "{line}");
+        holds_at(&rt, line, is_written(rt.alloc(), line)?);
     }
     Ok(())
 }
@@ -146,7 +147,7 @@ fn closes_in_little_room(rt: HostRuntime) -> Result<(), Fail> {
         "connection 298 - 616263 7|1c412a00026162",
         "connection 0 - 616263 7|1c0000026162",
     ] {
-        assert!(rt; is_written(rt.alloc(), line)?, "{line}");
+        holds_at(&rt, line, is_written(rt.alloc(), line)?);
     }
     let mut error = Error::FRAME_ENCODING_ERROR("malformed");
     error.frame = Some(FrameType::ACK);
@@ -158,7 +159,7 @@ fn closes_in_little_room(rt: HostRuntime) -> Result<(), Fail> {
         close.reason,
         25,
     )?;
-    assert_eq!(rt; out.as_slice(), b"\x1c\x07\x02\x09malformed".as_slice());
+    same(&rt, out.as_slice(), b"\x1c\x07\x02\x09malformed".as_slice());
     Ok(())
 }
 
@@ -169,15 +170,15 @@ fn the_least_room_of_closes(rt: HostRuntime) -> Result<(), Fail> {
             error_code: VarInt::from_u32(code),
             reason: b"abcdef",
         };
-        assert_eq!(rt; close.min_len(), room);
-        assert_eq!(rt; Close::from(close).min_len(), room);
+        same(&rt, close.min_len(), room);
+        same(&rt, Close::from(close).min_len(), room);
     }
     let close = ConnectionClose {
         error_code: Code::crypto(42),
         frame_type: None,
         reason: b"abc",
     };
-    assert_eq!(rt; close.min_len(), 5);
+    same(&rt, close.min_len(), 5);
     Ok(())
 }
 
@@ -191,9 +192,10 @@ fn frames_of_a_few_numbers(rt: HostRuntime) -> Result<(), Fail> {
     };
     let mut out = Vec::new(rt.alloc());
     frequency.encode(&mut out)?;
-    assert_eq!(rt;
+    same(
+        &rt,
         out.as_slice(),
-        b"\x40\xaf\x2a\x14\x80\x00\xc3\x50\x01".as_slice()
+        b"\x40\xaf\x2a\x14\x80\x00\xc3\x50\x01".as_slice(),
     );
     let stop = StopSending {
         id: StreamId::from(VarInt::from_u32(4)),
@@ -201,7 +203,7 @@ fn frames_of_a_few_numbers(rt: HostRuntime) -> Result<(), Fail> {
     };
     let mut out = Vec::new(rt.alloc());
     stop.encode(&mut out)?;
-    assert_eq!(rt; out.as_slice(), b"\x05\x04\x05".as_slice());
+    same(&rt, out.as_slice(), b"\x05\x04\x05".as_slice());
     let counts = EcnCounts {
         ect0: 42,
         ect1: 24,
@@ -209,7 +211,7 @@ fn frames_of_a_few_numbers(rt: HostRuntime) -> Result<(), Fail> {
     };
     let mut out = Vec::new(rt.alloc());
     counts.encode(&mut out)?;
-    assert_eq!(rt; out.as_slice(), b"\x2a\x18\x0c".as_slice());
+    same(&rt, out.as_slice(), b"\x2a\x18\x0c".as_slice());
     Ok(())
 }
 
@@ -223,13 +225,13 @@ fn a_new_id_and_a_token(rt: HostRuntime) -> Result<(), Fail> {
     };
     let mut out = Vec::new(rt.alloc());
     new.encode(&mut out)?;
-    assert_eq!(rt; out.len(), 22);
-    assert!(rt; out.starts_with(b"\x18\x05\x02\x02\xaa\xbb\x11"));
-    assert!(rt; out.ends_with(&[0x11; 16]));
+    same(&rt, out.len(), 22);
+    holds(&rt, out.starts_with(b"\x18\x05\x02\x02\xaa\xbb\x11"));
+    holds(&rt, out.ends_with(&[0x11; 16]));
     let frame = NewToken { token: b"hi" };
     let mut out = Vec::new(rt.alloc());
     frame.encode(&mut out)?;
-    assert_eq!(rt; out.as_slice(), b"\x07\x02hi".as_slice());
-    assert_eq!(rt; frame.size(), 4);
+    same(&rt, out.as_slice(), b"\x07\x02hi".as_slice());
+    same(&rt, frame.size(), 4);
     Ok(())
 }

@@ -3,7 +3,7 @@ use Rattle.std.proofs.Common.{◌≡◌, ◌≢◌, ℕ, zero, suc, ◌^◌, ◌
 use Rattle.std.specs.Prelude.{OnOk}
 use Rattle.std.proofs.lemmas.List.{append-nil, length-append}
 use Rattle.quic_frames.specs.declared.frame.Frame.{Frame}
-use Rattle.quic_frames.specs.declared.frame.found.InvalidFrame.{InvalidFrame}
+use Rattle.quic_errors.specs.declared.invalid_frame.InvalidFrame.{InvalidFrame}
 use Rattle.quic_frames.specs.Payload.{Found, IsFrame, AreFrames}
 use Rattle.quic_frames.specs.Reading.{Whole, Invalid}
 use Rattle.quic_frames.specs.Meaning.{meaning_of}

@@ -9,7 +9,7 @@ use Rattle.quic_frames.specs.Field.{Number, Bytes}
 use Rattle.quic_frames.specs.Table.{Crypto, NewToken, NewConnectionId, ConnectionClose, ApplicationClose, Datagram, PathChallenge, PathResponse}
 use Rattle.quic_frames.specs.Meaning.{frame_of}
 use Rattle.quic_frames.specs.Shortest.{shortest_frame, least_room, close_in}
-use Rattle.quic_frames.specs.Types.{type_or_zero}
+use Rattle.quic_errors.specs.Types.{type_or_zero}
 use Rattle.quic_frames.specs.declared.frame.close.Close.{Close}
 use Rattle.quic_frames.specs.declared.frame.close.Close.TheVariants as closes
 use Rattle.quic_frames.specs.Writing.{all_short}

@@ -9,7 +9,6 @@ mod Frames
 mod Items
 mod Finding
 mod Places
-mod Texts
 mod Writing
 mod Encoding
 mod StreamParts

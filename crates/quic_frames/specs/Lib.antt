@@ -1,9 +1,11 @@
+pub use Rattle.quic_errors.specs.Types
+pub use Rattle.quic_errors.specs.Names
+pub use Rattle.quic_errors.specs.Codes
 pub use Rattle.quic_base.specs.Number
 pub use Rattle.quic_base.specs.Varint
 pub use Rattle.quic_base.specs.Codec
 pub mod Field
 pub mod Table
-pub mod Types
 pub mod Payload
 pub mod Reading
 pub mod Refusal
@@ -14,8 +16,7 @@ pub mod Writing
 pub mod Sets
 pub mod InRange
 pub mod Least
-pub mod Names
 pub mod Way
 pub mod Walk
 pub mod Found
-pub mod Codes
+pub mod Closes

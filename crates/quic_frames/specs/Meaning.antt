@@ -8,7 +8,7 @@ use Rattle.quic_frames.specs.declared.frame.close.Close.TheVariants as closes
 use Rattle.quic_frames.specs.declared.frame.ack.EcnCounts.{EcnCounts}
 use Rattle.quic_frames.specs.Field.{Value, Number, Bytes, Ranges}
 use Rattle.quic_frames.specs.Table.{Name, Padding, Ping, Ack, ResetStream, StopSending, Crypto, NewToken, Stream, MaxData, MaxStreamData, MaxStreams, DataBlocked, StreamDataBlocked, StreamsBlocked, NewConnectionId, RetireConnectionId, PathChallenge, PathResponse, ConnectionClose, ApplicationClose, HandshakeDone, ImmediateAck, Datagram, AckFrequency}
-use Rattle.quic_frames.specs.Types.{type_or_zero}
+use Rattle.quic_errors.specs.Types.{type_or_zero}
 use Rattle.quic_frames.specs.Payload.{Meaning}
 use Rattle.quic_frames.specs.Acks.{ranges_acked}
 

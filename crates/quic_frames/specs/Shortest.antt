@@ -6,7 +6,7 @@ use Rattle.quic_frames.specs.Field.{Value, Number, Bytes, Ranges, Field, Varint,
 use Rattle.quic_frames.specs.Table.{Name, Ack, Stream, Datagram, Row, row_of}
 use Rattle.quic_frames.specs.Payload.{Meaning}
 use Rattle.quic_frames.specs.Meaning.{flag, named_type, connection_close, application_close}
-use Rattle.quic_frames.specs.Types.{type_or_zero}
+use Rattle.quic_errors.specs.Types.{type_or_zero}
 use Rattle.quic_frames.specs.declared.frame.close.Close.{Close}
 use Rattle.quic_frames.specs.declared.frame.close.Close.TheVariants as closes
 

@@ -1,7 +1,7 @@
 -- How far an iterator has come over its payload, and what it still gives.
 use Rattle.std.specs.Prelude.{◌≡◌, ◌↔◌, ℕ, ◌-◌, ◌<◌, ◌≤◌, List, [], ◌∷◌, length, drop, slice_range, Option, Some, None, Result, Ok, Err, true, false, if◌then◌else◌}
 use Rattle.quic_frames.specs.declared.frame.Frame.{Frame}
-use Rattle.quic_frames.specs.declared.frame.found.InvalidFrame.{InvalidFrame}
+use Rattle.quic_errors.specs.declared.invalid_frame.InvalidFrame.{InvalidFrame}
 use Rattle.quic_frames.specs.Field.{Value, Number, Bytes, Ranges}
 use Rattle.quic_frames.specs.Table.{is_open}
 use Rattle.quic_frames.specs.Payload.{Found, IsFrame}

@@ -13,7 +13,6 @@ mod encode;
 mod fault;
 mod field;
 mod found;
-mod frame_type;
 mod in_range;
 mod iter;
 mod reading;
@@ -24,9 +23,9 @@ mod write;
 
 pub use ack::{Ack, AckError, AckIter, EcnCounts};
 pub use close::{ApplicationClose, Close, ConnectionClose};
-pub use found::InvalidFrame;
-pub use frame_type::FrameType;
 pub use iter::Iter;
+pub use quic_errors::frame_type::FrameType;
+pub use quic_errors::invalid_frame::InvalidFrame;
 pub use size_bound::{FrameStruct, RETIRE_CONNECTION_ID_SIZE_BOUND};
 pub use stream_meta::{StreamMeta, StreamMetaVec};
 

@@ -3,4 +3,5 @@
 
 pub mod frame;
 pub mod laws;
-pub mod transport_error;
+
+pub use quic_errors::transport_error;

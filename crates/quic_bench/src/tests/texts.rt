@@ -135,6 +135,16 @@ fn a_code_and_its_bytes(rt: HostRuntime) -> Result<(), Fail> {
 
 // Each constructor with its code and its number.
 #[test]
+fn types_and_codes_by_their_numbers(rt: HostRuntime) {
+    same(&rt, FrameType::of_stream(false, false).into_inner(), 0x08);
+    same(&rt, FrameType::of_stream(true, true).into_inner(), 0x0d);
+    same(&rt, FrameType::or_none(0), None);
+    same(&rt, FrameType::or_none(6), Some(FrameType::CRYPTO));
+    same(&rt, FrameType::DATAGRAM.into_inner(), 0x30);
+    same(&rt, u64::from(Code::of(0x10a)), 0x10a);
+}
+
+#[test]
 fn each_constructor_has_its_code(rt: HostRuntime) -> Result<(), Fail> {
     let errors = [
         (Error::NO_ERROR("x"), Code::NO_ERROR),

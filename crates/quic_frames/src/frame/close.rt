@@ -1,6 +1,6 @@
 //! Why a connection is closed (RFC 9000, section 19.19).
 ghost use Rattle.std.specs.Prelude.{◌≡◌, ◌↔◌, IsTrue, Some};
-ghost use Rattle.quic_frames.specs.Codes.{IsCloseOf, connection_close_text, application_close_text};
+ghost use Rattle.quic_frames.specs.Closes.{IsCloseOf, connection_close_text, application_close_text};
 
 use super::FrameType;
 use crate::transport_error::{Code, Error};
@@ -18,7 +18,7 @@ pub enum Close<'a> {
 }
 
 impl Close<'_> {
-    ghost use Rattle.quic_frames.specs.Codes.{is_connection};
+    ghost use Rattle.quic_frames.specs.Closes.{is_connection};
 
     /// Whether the transport closed, and not the application.
     pub fn is_transport_layer(&self) -> bool
@@ -93,7 +93,7 @@ impl<'a> From<&'a Error> for ConnectionClose<'a> {
 
 /// The close that an error causes, whose reason is borrowed.
 impl<'a> From<&'a Error> for Close<'a> {
-    ghost use Rattle.quic_frames.specs.Codes.{IsConnectionCloseOf};
+    ghost use Rattle.quic_frames.specs.Closes.{IsConnectionCloseOf};
 
     ghost from_gives = { λ e close. IsConnectionCloseOf e.now close };
 

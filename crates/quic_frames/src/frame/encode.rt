@@ -4,7 +4,7 @@ ghost use Rattle.quic_base.specs.Varint.{size};
 ghost use Rattle.quic_frames.specs.Meaning.{meaning_of, connection_close, application_close};
 ghost use Rattle.quic_frames.specs.Shortest.{shortest_frame, least_room, close_reason, close_in};
 ghost use Rattle.quic_frames.specs.declared.frame.close.Close.TheVariants as closes;
-ghost use Rattle.quic_frames.specs.Types.{type_or_zero};
+ghost use Rattle.quic_errors.specs.Types.{type_or_zero};
 ghost use Rattle.quic_frames.specs.Writing.{Writes, AreNumeric, all_short};
 ghost use Rattle.quic_frames.specs.declared.frame.Frame.TheVariants as frames;
 

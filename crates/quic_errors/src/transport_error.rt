@@ -6,7 +6,7 @@ ghost use Rattle.std.proofs.Common.{rules};
 ghost use Rattle.std.specs.Cmp.Rules.{comparing};
 ghost use Rattle.quic_base.specs.Varint.{Spells, short};
 
-use crate::frame::FrameType;
+use crate::frame_type::FrameType;
 use bytes::{Buf, BufMut};
 use quic_base::coding::{self, Codec, NoRoom};
 use quic_base::varint::VarInt;
@@ -29,7 +29,7 @@ impl Model for Code {
 }
 
 impl Code {
-    ghost use Rattle.quic_frames.specs.Codes.{own_text};
+    ghost use Rattle.quic_errors.specs.Codes.{own_text};
 
     /// There is no error: the connection ends.
     pub const NO_ERROR: Code = Code(0x0);
@@ -89,8 +89,8 @@ impl Code {
         Code(0x100 + u64::from(alert))
     }
 
-    // The code of this number.
-    pub(crate) fn of(number: u64) -> Code
+    /// The code of this number, which is below 2^62.
+    pub fn of(number: u64) -> Code
         requires { number < 2 ^ 62 }
         ensures { result ≡ number }
     {
@@ -184,7 +184,7 @@ impl Codec for Code {
 
 impl fmt::Display for Code {
     ghost use Rattle.std.specs.Prelude.{Some};
-    ghost use Rattle.quic_frames.specs.Codes.{code_text};
+    ghost use Rattle.quic_errors.specs.Codes.{code_text};
 
     ghost output = { λ c. Some (code_text c) };
 
@@ -229,7 +229,7 @@ pub enum Reason {
 }
 
 impl Reason {
-    ghost use Rattle.quic_frames.specs.Codes.{reason_bytes, is_static};
+    ghost use Rattle.quic_errors.specs.Codes.{reason_bytes, is_static};
 
     /// The text.
     pub fn as_str(&self) -> &str
@@ -262,7 +262,7 @@ impl PartialEq for Reason {
     ghost use Rattle.std.specs.Ordering.{on};
     ghost use Rattle.std.proofs.Common.{rules};
     ghost use Rattle.std.specs.Cmp.Rules.{comparing};
-    ghost use Rattle.quic_frames.specs.Codes.{reason_bytes};
+    ghost use Rattle.quic_errors.specs.Codes.{reason_bytes};
 
     ghost eq = { on reason_bytes (pointwise nat_eq) };
 
@@ -292,7 +292,7 @@ pub struct Error {
 }
 
 impl Error {
-    ghost use Rattle.quic_frames.specs.Codes.{IsError, IsSame, is_static};
+    ghost use Rattle.quic_errors.specs.Codes.{IsError, IsSame, is_static};
 
     /// An error with a text that is copied. Answers `NoRoom` where memory is missing.
     pub fn with_text(alloc: Global, code: Code, text: &str) -> Result<Error, NoRoom>
@@ -332,8 +332,8 @@ impl Error {
 
 /// One constructor a code, named as the code; no frame is known.
 impl Error {
-    ghost use Rattle.quic_frames.specs.Codes.{IsError};
-    ghost use Rattle.quic_frames.specs.Codes as codes;
+    ghost use Rattle.quic_errors.specs.Codes.{IsError};
+    ghost use Rattle.quic_errors.specs.Codes as codes;
 
     pub fn NO_ERROR(reason: &'static str) -> Error
         ensures { IsError result codes.no_error reason.now }
@@ -441,7 +441,7 @@ impl Error {
 /// The error of that code with an empty reason.
 impl From<Code> for Error {
     ghost use Rattle.std.specs.Prelude.{[]};
-    ghost use Rattle.quic_frames.specs.Codes.{IsError};
+    ghost use Rattle.quic_errors.specs.Codes.{IsError};
 
     ghost from_gives = { λ code e. IsError e code [] };
 
@@ -452,7 +452,7 @@ impl From<Code> for Error {
 
 impl fmt::Display for Error {
     ghost use Rattle.std.specs.Prelude.{Some};
-    ghost use Rattle.quic_frames.specs.Codes.{error_text};
+    ghost use Rattle.quic_errors.specs.Codes.{error_text};
 
     ghost output = { λ e. Some (error_text e) };
 

@@ -1,7 +1,7 @@
 use Rattle.std.proofs.Common.{ℕ, List, length, eqb, ap, ◌∙◌, subst}
 use Rattle.std.specs.Fmt.{HasWritten}
-use Rattle.quic_frames.proofs.Texts.{text_without_reason}
-use Rattle.quic_frames.proofs.transport_error.ErrorDisplay.fmt.Goals as goal
+use Rattle.quic_errors.proofs.Texts.{text_without_reason}
+use Rattle.quic_errors.proofs.transport_error.ErrorDisplay.fmt.Goals as goal
 
 pub returns-in-Some-true-clause-writes : goal.returns-in-Some-true-clause-writes
 returns-in-Some-true-clause-writes g c = λ plain ok.

@@ -1,7 +1,7 @@
 //! The types of frames, and their names.
 ghost use Rattle.std.specs.Prelude.{◌≡◌, ◌≢◌, ◌+◌, ◌<◌, ◌^◌, ℕ, None, Some, drop, MatchOption, if◌then◌else◌};
 ghost use Rattle.quic_base.specs.Varint.{Spells, short};
-ghost use Rattle.quic_frames.specs.Names.{name_of, own_name, shared_name};
+ghost use Rattle.quic_errors.specs.Names.{name_of, own_name, shared_name};
 
 use bytes::{Buf, BufMut};
 use quic_base::coding::{self, Codec, NoRoom};
@@ -25,7 +25,7 @@ impl Model for FrameType {
 
 /// The types that have a name of their own. STREAM and DATAGRAM frames have several types each.
 impl FrameType {
-    ghost use Rattle.quic_frames.specs.Types.{type_or_zero};
+    ghost use Rattle.quic_errors.specs.Types.{type_or_zero};
 
     pub const PADDING: FrameType = FrameType(0x00);
 
@@ -77,11 +77,11 @@ impl FrameType {
 
     pub const ACK_FREQUENCY: FrameType = FrameType(0xaf);
 
-    // The type of a DATAGRAM without its bit for the length.
-    pub(crate) const DATAGRAM: FrameType = FrameType(0x30);
+    /// The type of a DATAGRAM without its bit for the length (RFC 9221, section 4).
+    pub const DATAGRAM: FrameType = FrameType(0x30);
 
-    // The type of a STREAM without its bit for the length.
-    pub(crate) fn of_stream(has_offset: bool, fin: bool) -> FrameType
+    /// The type of a STREAM without its bit for the length (RFC 9000, section 19.8).
+    pub fn of_stream(has_offset: bool, fin: bool) -> FrameType
         ensures { result ≡ 8 + (if has_offset then 4 else 0) + (if fin then 1 else 0) }
     {
         match (has_offset, fin) {
@@ -92,8 +92,9 @@ impl FrameType {
         }
     }
 
-    // The type of this number, none where it is 0.
-    pub(crate) fn or_none(number: u64) -> Option<FrameType>
+    /// The type of this number, which is below 2^62, and none where it is 0: so a close names the
+    /// frame at fault (RFC 9000, section 19.19).
+    pub fn or_none(number: u64) -> Option<FrameType>
         requires { number < 2 ^ 62 }
         ensures value { type_or_zero result ≡ number }
         ensures apart { result ≢ Some 0 }
@@ -101,7 +102,8 @@ impl FrameType {
         (number != 0).then_some(FrameType(number))
     }
 
-    pub(crate) fn into_inner(self) -> u64
+    /// The number, below 2^62.
+    pub fn into_inner(self) -> u64
         ensures { result ≡ self }
     {
         self.0

@@ -25,17 +25,17 @@ use denote.RattleType.{RattleType}
 use denote.Struct.Field.{Field}
 use denote.Text.{str-field}
 use Rattle.std.specs.contracts.option.Option.{the_field, the_row}
-use Rattle.quic_frames.specs.contracts.frame.frame_type.FrameType.{the_row as FrameType}
-use Rattle.quic_frames.specs.Codes.{IsErrorOf}
-use Rattle.quic_frames.specs.contracts.frame.found.InvalidFrame.{the_row as From, the_type as from_type}
-use Rattle.quic_frames.proofs.frame.found.InvalidFrame.TheLaws as from_laws
-use Rattle.quic_frames.specs.contracts.transport_error.Error.{the_row as To, the_type as to_type}
-use Rattle.quic_frames.proofs.transport_error.Error.TheLaws as to_laws
-use Rattle.quic_frames.specs.contracts.frame.found.ErrorFromInvalidFrame.from as f
-use Rattle.quic_frames.proofs.frame.found.ErrorFromInvalidFrame.from.Statement.{statement}
-use Rattle.quic_frames.proofs.frame.found.ErrorFromInvalidFrame.from.Code as code
-use Rattle.quic_frames.specs.contracts.frame.found.error_of as g
-use Rattle.quic_frames.proofs.frame.found.error_of.Met.{met}
+use Rattle.quic_errors.specs.contracts.frame_type.FrameType.{the_row as FrameType}
+use Rattle.quic_errors.specs.Codes.{IsErrorOf}
+use Rattle.quic_errors.specs.contracts.invalid_frame.InvalidFrame.{the_row as From, the_type as from_type}
+use Rattle.quic_errors.proofs.invalid_frame.InvalidFrame.TheLaws as from_laws
+use Rattle.quic_errors.specs.contracts.transport_error.Error.{the_row as To, the_type as to_type}
+use Rattle.quic_errors.proofs.transport_error.Error.TheLaws as to_laws
+use Rattle.quic_errors.specs.contracts.invalid_frame.ErrorFromInvalidFrame.from as f
+use Rattle.quic_errors.proofs.invalid_frame.ErrorFromInvalidFrame.from.Statement.{statement}
+use Rattle.quic_errors.proofs.invalid_frame.ErrorFromInvalidFrame.from.Code as code
+use Rattle.quic_errors.specs.contracts.invalid_frame.error_of as g
+use Rattle.quic_errors.proofs.invalid_frame.error_of.Met.{met}
 
 abbrev ty_field : Field
 ty_field = the_field FrameType
@@ -74,7 +74,7 @@ from_spec 𝓤 𝓛 𝓜 𝓡 wired =
     enter ! _ _ _ _ _ $ alloc_all ! (λ l. pass_all ! refl ((lawful from_type from_laws.the_laws 𝓛).typed e _ are.0) $
     sets ! (of_opd ! (get_in ! (fld ! refl (stop !)) (sub ! 0 refl (whole !)))) refl ((ty_laws.lawful 𝓛).typed (ty_field.into e.ty) tys is_ty).0 $
     sets ! (of_opd ! (get_in ! (fld ! refl (stop !)) (sub ! 1 refl (whole !)))) refl ((text_laws.lawful 𝓛).typed e.reason texts is_text).0 $
-    calls_at ! (framed 𝓤 𝓛.H 𝓜 (tables 𝓤 𝓛.H 𝓜 𝓡 𝓡.env)) G (met 𝓤 𝓛 𝓜 𝓡 (code.calls-quic_frames::frame::found::error_of 𝓡.env wired)) z
+    calls_at ! (framed 𝓤 𝓛.H 𝓜 (tables 𝓤 𝓛.H 𝓜 𝓡 𝓡.env)) G (met 𝓤 𝓛 𝓜 𝓡 (code.calls-quic_errors::invalid_frame::error_of 𝓡.env wired)) z
     (and_then ! (get ! refl) (and_then ! (get ! refl) (no_more !))) (λ v.
     use1 𝓛 (later (some (λ (r : To.Denot). (‵ ftrue ⊛ ‵ (To.own_val r (v ∷ []))) ⊛
     some (λ (ws : Unit {0} × (Unit {0} × Unit {0})). ‵ (lasts g.ended tt z.0.3 ws) ⊛ raw (fact 𝓤 (IsErrorOf e.ty e.reason.now r)))))) (id⊢ 𝓤 _) $

@@ -1,8 +1,8 @@
 -- The text of an error without a reason.
 use Rattle.std.proofs.Common.{◌≡◌, ℕ, Bool, true, false, cond, List, [], ◌++◌, Some, codes, refl, sym, ap, ◌∙◌, append-nil, eqb, length}
-use Rattle.quic_frames.specs.declared.transport_error.Error.{Error}
-use Rattle.quic_frames.specs.Names.{name_of, in_type}
-use Rattle.quic_frames.specs.Codes.{code_text, reason_bytes, after_colon, error_text}
+use Rattle.quic_errors.specs.declared.transport_error.Error.{Error}
+use Rattle.quic_errors.specs.Names.{name_of, in_type}
+use Rattle.quic_errors.specs.Codes.{code_text, reason_bytes, after_colon, error_text}
 
 chosen : (b : Bool) (text : List ℕ) → true ≡ b → cond b [] text ≡ []
 chosen true text e = refl

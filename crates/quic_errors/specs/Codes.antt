@@ -1,17 +1,12 @@
 -- Transport errors and their texts (RFC 9000, section 20.1).
-use Rattle.std.specs.Prelude.{◌≡◌, ℕ, ◌%◌, List, [], ◌∷◌, ◌++◌, Option, None, Some, ◌==◌, ◌&&◌, length, nat_le, codes, encode_utf8_all, if◌then◌else◌, Bool, true, false}
+use Rattle.std.specs.Prelude.{◌≡◌, ℕ, ◌%◌, List, [], ◌∷◌, ◌++◌, Option, None, Some, ◌==◌, ◌&&◌, length, nat_le, codes, if◌then◌else◌, Bool, true, false}
 use Rattle.std.specs.Fmt.{decimal}
 use Rattle.std.specs.Map.{lookup}
 use Rattle.std.specs.String.{string_bytes}
-use Rattle.quic_frames.specs.declared.transport_error.Error.{Error}
-use Rattle.quic_frames.specs.declared.transport_error.Reason.{Reason}
-use Rattle.quic_frames.specs.declared.transport_error.Reason.TheVariants.{Static, Owned}
-use Rattle.quic_frames.specs.declared.frame.close.Close.{Close}
-use Rattle.quic_frames.specs.declared.frame.close.Close.TheVariants.{Connection, Application}
-use Rattle.quic_frames.specs.declared.frame.close.ConnectionClose.{ConnectionClose}
-use Rattle.quic_frames.specs.declared.frame.close.ApplicationClose.{ApplicationClose}
-use Rattle.bstr.specs.Utf8.{lossy_chars}
-use Rattle.quic_frames.specs.Names.{in_type}
+use Rattle.quic_errors.specs.declared.transport_error.Error.{Error}
+use Rattle.quic_errors.specs.declared.transport_error.Reason.{Reason}
+use Rattle.quic_errors.specs.declared.transport_error.Reason.TheVariants.{Static, Owned}
+use Rattle.quic_errors.specs.Names.{in_type}
 
 abbrev pub no_error : ℕ
 no_error = 0x00
@@ -129,34 +124,6 @@ pub record IsSame (one other : Error) : Type 0 where
   pub code_is : other.code ≡ one.code
   pub frame_is : other.frame ≡ one.frame
   pub reason_is : reason_bytes other.reason ≡ reason_bytes one.reason
-
--- ---- closes
-
-abbrev pub is_connection : Close → Bool
-is_connection (Connection c) = true
-is_connection (Application c) = false
-
--- bytes as text, where what is no UTF-8 is shown as U+FFFD
-abbrev pub lossy_text : List ℕ → List ℕ
-lossy_text bytes = encode_utf8_all (lossy_chars bytes)
-
-abbrev pub connection_close_text : ConnectionClose → List ℕ
-connection_close_text c =
-    if length c.reason.now == 0 then code_text c.error_code else code_text c.error_code ++ codes ": " ++ lossy_text c.reason.now
-
-abbrev pub application_close_text : ApplicationClose → List ℕ
-application_close_text c =
-    if length c.reason.now == 0 then decimal c.error_code else lossy_text c.reason.now ++ codes " (code " ++ decimal c.error_code ++ codes ")"
-
--- The close has the code, the frame and the reason of the error.
-pub record IsCloseOf (error : Error) (close : ConnectionClose) : Type 0 where
-  pub code_is : close.error_code ≡ error.code
-  pub frame_is : close.frame_type ≡ error.frame
-  pub reason_is : close.reason.now ≡ reason_bytes error.reason
-
-abbrev pub IsConnectionCloseOf : Error → Close → Type 0
-IsConnectionCloseOf error (Connection c) = IsCloseOf error c
-IsConnectionCloseOf error (Application c) = ⊥
 
 -- The error is what is told of something that is no frame.
 pub record IsErrorOf (ty : Option ℕ) (reason : List ℕ) (error : Error) : Type 0 where

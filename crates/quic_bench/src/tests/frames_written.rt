@@ -1,6 +1,7 @@
 //! Frames of every kind, written at their place in a payload.
 use super::frames_written_refused::is_counted;
-use super::holds_at;
+use super::{debugs, holds_at};
+use crate::frames::written_and_read;
 use quic_frames::frame::{Frame, Iter};
 use std::alloc::Global;
 use std::test::Fail;
@@ -214,4 +215,19 @@ fn others_come_back(rt: HostRuntime) -> Result<(), Fail> {
         holds_at(&rt, line, comes_back(rt.alloc(), open)?);
     }
     Ok(())
+}
+
+#[test]
+fn a_client_reads_what_it_writes(rt: HostRuntime) -> Result<(), Fail> {
+    let Some(Ok(frame)) = Iter::new(b"\x40\x14\x80\x00\x00\x22")?.next() else {
+        return Err("a frame".into());
+    };
+    if !frame.in_range() || !is_counted(&frame) {
+        return Err("a frame in range".into());
+    }
+    let mut out = Vec::new(rt.alloc());
+    let Ok(again) = written_and_read(&frame, &mut out) else {
+        return Err("room".into());
+    };
+    debugs(&rt, rt.alloc(), &again, "DataBlocked { offset: 34 }")
 }

@@ -5,3 +5,4 @@ mod Readings
 mod LongIds
 mod IdMemory
 pub mod PublicLaws
+pub mod Encoders

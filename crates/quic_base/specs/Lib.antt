@@ -1,4 +1,5 @@
 pub mod Codec
+pub mod Writing
 pub mod Number
 pub mod Varint
 pub mod Reading

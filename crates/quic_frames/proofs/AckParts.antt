@@ -12,8 +12,9 @@ use Rattle.quic_frames.specs.Payload.{Meaning}
 use Rattle.quic_frames.specs.Meaning.{frame_of, counts_of}
 use Rattle.quic_frames.specs.Sets.{ends_of, ranges_in, ack_of, ack_type, count_numbers}
 use Rattle.quic_frames.specs.Shortest.{shortest_below, shortest_frame}
-use Rattle.quic_frames.specs.Writing.{Writes, AreNumeric, all_short}
-use Rattle.quic_frames.proofs.Writing.{Wrote, wrote_nothing, wrote_more, writes_within}
+use Rattle.quic_base.specs.Writing.{Writes}
+use Rattle.quic_frames.specs.Numbers.{AreNumeric, all_short}
+use Rattle.quic_base.proofs.Encoders.{Wrote, wrote_nothing, wrote_more, writes_within}
 use Rattle.quic_frames.proofs.Sets.{bounded, ranges_in-last, length-ranges_in, HasBelow, has_below}
 
 pub ack_parts : (last : Bool) (greatest delay : ℕ) (range : ℕ × ℕ) (ranges : List (ℕ × ℕ)) (counts : Option EcnCounts)

@@ -12,7 +12,7 @@ use Rattle.quic_frames.specs.Shortest.{shortest_frame, least_room, close_in}
 use Rattle.quic_errors.specs.Types.{type_or_zero}
 use Rattle.quic_frames.specs.declared.frame.close.Close.{Close}
 use Rattle.quic_frames.specs.declared.frame.close.Close.TheVariants as closes
-use Rattle.quic_frames.specs.Writing.{all_short}
+use Rattle.quic_frames.specs.Numbers.{all_short}
 
 -- numbers, each before what follows it
 abbrev short_then : List ℕ → List ℕ → List ℕ

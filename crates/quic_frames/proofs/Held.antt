@@ -13,7 +13,7 @@ use Rattle.quic_frames.specs.InRange.{InRange}
 use Rattle.quic_frames.specs.Meaning.{meaning_of}
 use Rattle.quic_frames.specs.Sets.{ack_type, count_numbers, head_numbers}
 use Rattle.quic_frames.specs.Shortest.{shortest_below, shortest_frame}
-use Rattle.quic_frames.specs.Writing.{AreNumeric, AreSpelled, all_short}
+use Rattle.quic_frames.specs.Numbers.{AreNumeric, AreSpelled, all_short}
 use Rattle.quic_frames.proofs.AckParts.{ack_parts, small_type}
 use Rattle.quic_frames.proofs.Apart.{blocks_apart}
 use Rattle.quic_frames.proofs.Blocks.{blocks_of}

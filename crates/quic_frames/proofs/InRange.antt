@@ -17,7 +17,7 @@ use Rattle.quic_frames.specs.Acks.{ranges_acked}
 use Rattle.quic_frames.specs.Payload.{IsFrame}
 use Rattle.quic_frames.specs.Meaning.{frame_of, counts_of, meaning_of}
 use Rattle.quic_frames.specs.Shortest.{written_type}
-use Rattle.quic_frames.specs.Writing.{AreNumeric}
+use Rattle.quic_frames.specs.Numbers.{AreNumeric}
 use Rattle.quic_frames.specs.InRange.{AreCounts, IsToldApart, InRange, open_data, CanStand}
 use Rattle.quic_frames.proofs.LeastFrames.{FitsRow, in_row, stream_limits, datagram_limit, frame_least}
 

@@ -9,7 +9,7 @@ mod Frames
 mod Items
 mod Finding
 mod Places
-mod Writing
+mod Numbers
 mod Encoding
 mod StreamParts
 mod SizeBounds

@@ -8,7 +8,7 @@ use Rattle.quic_frames.specs.Field.{Number, Bytes}
 use Rattle.quic_frames.specs.Table.{ResetStream, StopSending, Crypto, Stream, NewConnectionId, RetireConnectionId, ConnectionClose, ApplicationClose, Datagram}
 use Rattle.quic_frames.specs.Meaning.{frame_of, flag}
 use Rattle.quic_frames.specs.Shortest.{shortest_frame}
-use Rattle.quic_frames.specs.Writing.{all_short}
+use Rattle.quic_frames.specs.Numbers.{all_short}
 use Rattle.quic_frames.proofs.Encoding.{size_small, connection_close_parts, application_close_parts, crypto_parts, datagram_counted, id_parts}
 use Rattle.quic_frames.proofs.StreamParts.{stream_length}
 

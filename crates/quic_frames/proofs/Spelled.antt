@@ -6,10 +6,12 @@ use Rattle.quic_base.specs.Varint.{short, size}
 use Rattle.quic_base.proofs.PublicLaws.{back_bytes, length-short}
 use Rattle.quic_frames.specs.declared.frame.fault.Fault.{Fault}
 use Rattle.quic_frames.specs.Reading.{varint_at}
-use Rattle.quic_frames.specs.Writing.{Writes, AreSpelled, all_short}
+use Rattle.quic_base.specs.Writing.{Writes}
+use Rattle.quic_frames.specs.Numbers.{AreSpelled, all_short}
 use Rattle.quic_frames.proofs.Steps.{ok_is, ok_is_not_err}
 use Rattle.quic_frames.proofs.Varints.{varint_takes, varint_again, varint_some}
-use Rattle.quic_frames.proofs.Writing.{Wrote, wrote_more, writes_within, all_short-at}
+use Rattle.quic_base.proofs.Encoders.{Wrote, wrote_more, writes_within}
+use Rattle.quic_frames.proofs.Numbers.{all_short-at}
 
 pub after_shorter : (rest : List ℕ) (n : ℕ) (after : List ℕ) → AreBytes rest → varint_at rest ≡ Ok (n, after) → length after < length rest
 after_shorter rest n after fits e =

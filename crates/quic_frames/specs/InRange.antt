@@ -5,7 +5,7 @@ use Rattle.quic_frames.specs.declared.frame.Frame.TheVariants as frames
 use Rattle.quic_frames.specs.declared.frame.close.Close.TheVariants as closes
 use Rattle.quic_frames.specs.declared.frame.ack.EcnCounts.{EcnCounts}
 use Rattle.quic_errors.specs.Types.{type_or_zero}
-use Rattle.quic_frames.specs.Writing.{AreNumeric}
+use Rattle.quic_frames.specs.Numbers.{AreNumeric}
 use Rattle.quic_frames.specs.Least.{is_end}
 
 abbrev pub AreCounts : Option EcnCounts → Type 0

@@ -12,7 +12,7 @@ pub mod Refusal
 pub mod Acks
 pub mod Meaning
 pub mod Shortest
-pub mod Writing
+pub mod Numbers
 pub mod Sets
 pub mod InRange
 pub mod Least

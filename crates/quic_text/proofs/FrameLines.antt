@@ -6,7 +6,8 @@ use Rattle.quic_frames.specs.Meaning.{meaning_of, type_of}
 use Rattle.quic_frames.specs.Payload.{Meaning}
 use Rattle.quic_frames.specs.Way.{Way}
 use Rattle.quic_frames.specs.Walk.{left, Finds}
-use Rattle.quic_text.specs.Text.{Printed, shown, frame_line, is_plain, item_line}
+use Rattle.quic_text.specs.Printed.{Printed, shown, is_plain}
+use Rattle.quic_text.specs.FrameText.{frame_line, item_line}
 
 pub first_line : (old new : Way) (frame : Frame) → Finds old frame new → map item_line (left old) ≡ frame_line old.offset new.offset (type_of (meaning_of frame)) ∷ map item_line (left new)
 first_line old new frame f =

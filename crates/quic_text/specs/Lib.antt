@@ -1,4 +1,6 @@
 pub mod Lines
+pub mod Printed
+pub mod FrameText
 pub mod Text
 pub mod Transfer
 pub mod Whole

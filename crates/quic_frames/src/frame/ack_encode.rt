@@ -7,7 +7,8 @@ ghost use Rattle.quic_frames.specs.InRange.{InRange, AreCounts};
 ghost use Rattle.quic_frames.specs.Meaning.{meaning_of};
 ghost use Rattle.quic_frames.specs.Sets.{ranges_in, ack_of, ack_type, count_numbers, head_numbers};
 ghost use Rattle.quic_frames.specs.Shortest.{shortest_frame, shortest_below};
-ghost use Rattle.quic_frames.specs.Writing.{Writes, all_short};
+ghost use Rattle.quic_base.specs.Writing.{Writes};
+ghost use Rattle.quic_frames.specs.Numbers.{all_short};
 ghost use Rattle.quic_frames.specs.declared.frame.Frame.TheVariants as frames;
 
 use super::ack::{Ack, EcnCounts};

@@ -5,7 +5,8 @@ ghost use Rattle.quic_frames.specs.Meaning.{meaning_of, connection_close, applic
 ghost use Rattle.quic_frames.specs.Shortest.{shortest_frame, least_room, close_reason, close_in};
 ghost use Rattle.quic_frames.specs.declared.frame.close.Close.TheVariants as closes;
 ghost use Rattle.quic_errors.specs.Types.{type_or_zero};
-ghost use Rattle.quic_frames.specs.Writing.{Writes, AreNumeric, all_short};
+ghost use Rattle.quic_base.specs.Writing.{Writes};
+ghost use Rattle.quic_frames.specs.Numbers.{AreNumeric, all_short};
 ghost use Rattle.quic_frames.specs.declared.frame.Frame.TheVariants as frames;
 
 use super::{

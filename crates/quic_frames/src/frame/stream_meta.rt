@@ -2,7 +2,7 @@
 ghost use Rattle.std.specs.Prelude.{◌≡◌, ◌≤◌, ◌<◌, ◌-◌, ◌^◌, ◌++◌, ℕ, List, length, Some, None, IfSome, true, false, if◌then◌else◌};
 ghost use Rattle.quic_frames.specs.Meaning.{meaning_of};
 ghost use Rattle.quic_frames.specs.Shortest.{shortest_frame, stream_head};
-ghost use Rattle.quic_frames.specs.Writing.{Writes};
+ghost use Rattle.quic_base.specs.Writing.{Writes};
 ghost use Rattle.quic_frames.specs.declared.frame.Frame.TheVariants as frames;
 
 use super::{FrameType, Stream, write};

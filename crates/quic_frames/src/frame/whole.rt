@@ -6,7 +6,7 @@ ghost use Rattle.quic_base.specs.Varint.{short, size};
 ghost use Rattle.quic_frames.specs.InRange.{CanStand, InRange};
 ghost use Rattle.quic_frames.specs.Meaning.{meaning_of, close_meaning};
 ghost use Rattle.quic_frames.specs.Shortest.{shortest_frame, close_reason};
-ghost use Rattle.quic_frames.specs.Writing.{Writes};
+ghost use Rattle.quic_base.specs.Writing.{Writes};
 ghost use Rattle.quic_frames.specs.declared.frame.Frame.TheVariants as frames;
 
 use super::ack_encode::{ack_len, encode_ack};

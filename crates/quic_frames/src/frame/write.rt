@@ -3,7 +3,8 @@ ghost use Rattle.std.specs.Prelude.{◌≡◌, ◌<◌, ◌≤◌, ◌+◌, ◌*
 ghost use Rattle.quic_base.specs.ConnectionId.{long_id};
 ghost use Rattle.quic_base.specs.Varint.{size};
 ghost use Rattle.quic_base.specs.Number.{AreBytes};
-ghost use Rattle.quic_frames.specs.Writing.{Writes, AreNumeric, AreSpelled, all_short};
+ghost use Rattle.quic_base.specs.Writing.{Writes};
+ghost use Rattle.quic_frames.specs.Numbers.{AreNumeric, AreSpelled, all_short};
 
 use super::field;
 use bytes::BufMut;

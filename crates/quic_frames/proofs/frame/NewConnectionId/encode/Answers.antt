@@ -1,7 +1,7 @@
 use Rattle.std.proofs.Common.{[], ◌∷◌}
 use Rattle.std.proofs.lemmas.Result.{err_from_is_err_and}
-use Rattle.quic_frames.specs.Writing.{all_short}
-use Rattle.quic_frames.proofs.Writing.{wrote_first, writes_last, writes_begun}
+use Rattle.quic_frames.specs.Numbers.{all_short}
+use Rattle.quic_base.proofs.Encoders.{wrote_first, writes_last, writes_begun}
 use Rattle.quic_frames.proofs.Encoding.{id_parts}
 use Rattle.quic_frames.proofs.frame.NewConnectionId.encode.Goals as goal
 

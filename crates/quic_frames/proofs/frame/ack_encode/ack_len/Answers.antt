@@ -1,5 +1,5 @@
 use Rattle.std.proofs.Common.{sym, subst}
-use Rattle.quic_frames.specs.Writing.{AreNumeric, AreSpelled}
+use Rattle.quic_frames.specs.Numbers.{AreNumeric, AreSpelled}
 use Rattle.quic_frames.proofs.Held.{held_parts, held_length}
 use Rattle.quic_frames.proofs.frame.ack_encode.ack_len.Goals as goal
 

@@ -1,7 +1,7 @@
 use Rattle.std.proofs.Common.{sym, subst, refl}
 use Rattle.std.proofs.lemmas.Result.{err_from_is_err_and}
-use Rattle.quic_frames.specs.Writing.{AreNumeric, AreSpelled}
-use Rattle.quic_frames.proofs.Writing.{wrote_first, writes_third, writes_begun, writes_within}
+use Rattle.quic_frames.specs.Numbers.{AreNumeric, AreSpelled}
+use Rattle.quic_base.proofs.Encoders.{wrote_first, writes_third, writes_begun, writes_within}
 use Rattle.quic_frames.proofs.Held.{held_parts, held_whole}
 use Rattle.quic_frames.proofs.frame.ack_encode.encode_ack.Goals as goal
 

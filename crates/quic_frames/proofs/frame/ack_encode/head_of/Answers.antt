@@ -1,7 +1,7 @@
 use Rattle.std.proofs.Common.{◌≡◌, ap, sym, subst, refl, ◌∙◌, ◌/◌, ◌-◌, length, ℕ}
 use Rattle.quic_base.specs.Number.{AreBytes}
 use Rattle.quic_frames.specs.Acks.{ranges_acked}
-use Rattle.quic_frames.specs.Writing.{AreSpelled}
+use Rattle.quic_frames.specs.Numbers.{AreSpelled}
 use Rattle.quic_frames.proofs.Held.{held_parts}
 use Rattle.quic_frames.proofs.frame.ack_encode.head_of.Goals as goal
 

@@ -1,6 +1,6 @@
 use Rattle.std.proofs.lemmas.Result.{err_from_is_err_and}
 use Rattle.quic_base.specs.ConnectionId.{long_id}
-use Rattle.quic_frames.proofs.Writing.{wrote_first, writes_last, writes_begun}
+use Rattle.quic_base.proofs.Encoders.{wrote_first, writes_last, writes_begun}
 use Rattle.quic_frames.proofs.frame.write.id_and_bytes.Goals as goal
 
 pub returns-in_err-encode_long : goal.returns-in_err-encode_long

@@ -1,8 +1,9 @@
 use Rattle.std.proofs.Common.{add-one, get_or, take, drop, suc}
 use Rattle.std.proofs.lemmas.Result.{err_from_is_err_and}
 use Rattle.quic_base.specs.Varint.{short}
-use Rattle.quic_frames.specs.Writing.{all_short}
-use Rattle.quic_frames.proofs.Writing.{numeric_at, all_short-at, all_short-parts, wrote_more, writes_within}
+use Rattle.quic_frames.specs.Numbers.{all_short}
+use Rattle.quic_base.proofs.Encoders.{wrote_more, writes_within}
+use Rattle.quic_frames.proofs.Numbers.{numeric_at, all_short-at, all_short-parts}
 use Rattle.quic_frames.proofs.frame.write.numbers.Goals as goal
 
 pub write_var-requires : goal.write_var-requires

@@ -1,6 +1,6 @@
 use Rattle.std.proofs.Common.{take}
-use Rattle.quic_frames.specs.Writing.{all_short}
-use Rattle.quic_frames.proofs.Writing.{Wrote}
+use Rattle.quic_frames.specs.Numbers.{all_short}
+use Rattle.quic_base.proofs.Encoders.{Wrote}
 use Rattle.quic_frames.proofs.frame.write.numbers.Given as goal
 
 abbrev pub invariant-loop-number : goal.invariant-loop-number

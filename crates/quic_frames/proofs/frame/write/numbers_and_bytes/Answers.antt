@@ -1,6 +1,6 @@
 use Rattle.std.proofs.lemmas.Result.{err_from_is_err_and}
-use Rattle.quic_frames.specs.Writing.{all_short}
-use Rattle.quic_frames.proofs.Writing.{wrote_first, writes_last, writes_begun}
+use Rattle.quic_frames.specs.Numbers.{all_short}
+use Rattle.quic_base.proofs.Encoders.{wrote_first, writes_last, writes_begun}
 use Rattle.quic_frames.proofs.frame.write.numbers_and_bytes.Goals as goal
 
 pub returns-in_err-numbers : goal.returns-in_err-numbers

@@ -1,6 +1,6 @@
 use Rattle.std.proofs.Common.{arith}
 use Rattle.quic_frames.proofs.Spelled.{longer_at}
-use Rattle.quic_frames.proofs.Writing.{numeric_at}
+use Rattle.quic_frames.proofs.Numbers.{numeric_at}
 use Rattle.quic_frames.proofs.frame.write.numbers_len.Goals as goal
 
 pub size_of-requires : goal.size_of-requires

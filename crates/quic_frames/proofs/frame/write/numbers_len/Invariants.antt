@@ -1,5 +1,5 @@
 use Rattle.std.proofs.Common.{◌≡◌, ◌≤◌, ◌*◌, take, length}
-use Rattle.quic_frames.specs.Writing.{all_short}
+use Rattle.quic_frames.specs.Numbers.{all_short}
 use Rattle.quic_frames.proofs.frame.write.numbers_len.Given as goal
 
 abbrev pub invariant-loop-number : goal.invariant-loop-number

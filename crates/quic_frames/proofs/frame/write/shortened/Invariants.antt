@@ -1,6 +1,6 @@
 use Rattle.std.proofs.Common.{ℕ, List, length}
 use Rattle.quic_base.specs.Number.{AreBytes}
-use Rattle.quic_frames.specs.Writing.{AreSpelled}
+use Rattle.quic_frames.specs.Numbers.{AreSpelled}
 use Rattle.quic_frames.proofs.Spelled.{ReadSome, WroteThem}
 use Rattle.quic_frames.proofs.frame.write.shortened.Given as goal
 

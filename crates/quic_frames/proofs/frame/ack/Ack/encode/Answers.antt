@@ -1,7 +1,7 @@
 use Rattle.std.proofs.Common.{sym, ◌∙◌, arith}
 use Rattle.std.proofs.lemmas.Result.{err_from_is_err_and}
 use Rattle.quic_frames.proofs.Sets.{bounded}
-use Rattle.quic_frames.proofs.Writing.{wrote_first, writes_third, writes_begun, writes_within}
+use Rattle.quic_base.proofs.Encoders.{wrote_first, writes_third, writes_begun, writes_within}
 use Rattle.quic_frames.proofs.AckParts.{set_parts}
 use Rattle.quic_frames.proofs.frame.ack.Ack.encode.Goals as goal
 

@@ -1,7 +1,7 @@
 use Rattle.std.proofs.Common.{sym, ◌∙◌}
 use Rattle.quic_frames.specs.Walk.{Finds}
 use Rattle.quic_text.proofs.FrameLines.{text_more, clean_more}
-use Rattle.quic_text.proofs.print.print_frames.Goals as goal
+use Rattle.quic_text.proofs.print.frames.print_frames.Goals as goal
 
 pub loop-item-preserved : goal.loop-item-preserved
 loop-item-preserved c =

@@ -2,8 +2,9 @@ use Rattle.std.proofs.Common.{◌≡◌, ◌++◌, map, length}
 use Rattle.std.specs.String.{string_bytes}
 use Rattle.std.specs.List.{flat_map, list_all}
 use Rattle.quic_frames.specs.Walk.{left}
-use Rattle.quic_text.specs.Text.{shown, is_plain, item_line, frame_lines}
-use Rattle.quic_text.proofs.print.print_frames.Given as goal
+use Rattle.quic_text.specs.Printed.{shown, is_plain}
+use Rattle.quic_text.specs.FrameText.{item_line, frame_lines}
+use Rattle.quic_text.proofs.print.frames.print_frames.Given as goal
 
 -- what was printed so far, with what is left, is all
 abbrev pub invariant-loop-item : goal.invariant-loop-item

@@ -1,6 +1,4 @@
 //! Rows, single calls and texts of `quic_base`.
-use super::{debugs, displays, holds, same, same_at};
-use crate::client::{Reset, first_number, read_back, read_reset, read_two, write_reset};
 use bytes::{Buf, BufMut, BytesMut};
 use quic_base::coding::{self, BufExt, BufMutExt, Codec, NoRoom, UnexpectedEnd};
 use quic_base::ids::{
@@ -9,6 +7,8 @@ use quic_base::ids::{
     RESET_TOKEN_SIZE, ResetToken, Side, SpaceId, StreamId,
 };
 use quic_base::varint::{VarInt, VarIntBoundsExceeded};
+use quic_bench::client::{Reset, first_number, read_back, read_reset, read_two, write_reset};
+use quic_testing::Checks;
 use std::alloc::Global;
 use std::hash::{DefaultHasher, Hash, Hasher};
 use std::io::Cursor;
@@ -38,6 +38,7 @@ fn hash_of(id: &ConnectionId) -> u64 {
 // Worked rows: each number with its shortest spelling.
 #[test]
 fn shortest_spellings(rt: HostRuntime) -> Result<(), Fail> {
+    let mut checks = Checks::new(rt.alloc());
     for (n, bytes) in [
         (63, b"\x3f".as_slice()),
         (64, b"\x40\x40".as_slice()),
@@ -51,18 +52,19 @@ fn shortest_spellings(rt: HostRuntime) -> Result<(), Fail> {
     ] {
         let mut out = Vec::new(rt.alloc());
         out.write(VarInt::from_u64(n)?)?;
-        same_at(&rt, n, out.as_slice(), bytes);
-        same_at(&rt, n, VarInt::from_u64(n)?.size(), bytes.len());
+        checks.same_at(n, out.as_slice(), bytes);
+        checks.same_at(n, VarInt::from_u64(n)?.size(), bytes.len());
         let mut left = bytes;
-        same(&rt, left.get_var()?, n);
-        same(&rt, left.len(), 0);
+        checks.same(left.get_var()?, n);
+        checks.same(left.len(), 0);
     }
-    Ok(())
+    checks.verdict()
 }
 
 // Worked rows: spellings that are no shortest ones, and others.
 #[test]
 fn every_width_is_read(rt: HostRuntime) -> Result<(), Fail> {
+    let mut checks = Checks::new(rt.alloc());
     for (bytes, n) in [
         (b"\x25".as_slice(), 37),
         (b"\x40\x25".as_slice(), 37),
@@ -73,169 +75,150 @@ fn every_width_is_read(rt: HostRuntime) -> Result<(), Fail> {
             151288809941952652,
         ),
     ] {
-        same_at(&rt, n, read::<VarInt>(bytes), (Ok(VarInt::from_u64(n)?), 0));
+        checks.same_at(n, read::<VarInt>(bytes), (Ok(VarInt::from_u64(n)?), 0));
     }
-    Ok(())
+    checks.verdict()
 }
 
 #[test]
 fn refused_numbers(rt: HostRuntime) -> Result<(), Fail> {
+    let mut checks = Checks::new(rt.alloc());
     let cut = b"\x80\xff\xff".as_slice();
-    same(&rt, read::<VarInt>(cut), (Err(UnexpectedEnd), 2));
-    same(&rt, read::<u32>(cut), (Err(UnexpectedEnd), 3));
-    same(&rt, VarInt::from_u64(1 << 62), Err(VarIntBoundsExceeded));
-    same(&rt, VarInt::try_from(1u64 << 62), Err(VarIntBoundsExceeded));
-    same(
-        &rt,
-        VarInt::try_from(1usize << 62),
-        Err(VarIntBoundsExceeded),
-    );
-    same(
-        &rt,
-        VarInt::try_from(1u128 << 64),
-        Err(VarIntBoundsExceeded),
-    );
-    Ok(())
+    checks.same(read::<VarInt>(cut), (Err(UnexpectedEnd), 2));
+    checks.same(read::<u32>(cut), (Err(UnexpectedEnd), 3));
+    checks.same(VarInt::from_u64(1 << 62), Err(VarIntBoundsExceeded));
+    checks.same(VarInt::try_from(1u64 << 62), Err(VarIntBoundsExceeded));
+    checks.same(VarInt::try_from(1usize << 62), Err(VarIntBoundsExceeded));
+    checks.same(VarInt::try_from(1u128 << 64), Err(VarIntBoundsExceeded));
+    checks.verdict()
 }
 
 #[test]
 fn conversions_of_varints(rt: HostRuntime) -> Result<(), Fail> {
-    same(&rt, VarInt::MAX.into_inner(), 4611686018427387903);
-    same(&rt, VarInt::MAX_SIZE, 8);
-    same(&rt, VarInt::default().into_inner(), 0);
-    same(&rt, VarInt::from_u32(42).into_inner(), 42);
-    same(&rt, VarInt::from_u64_unchecked(42).into_inner(), 42);
-    same(&rt, VarInt::from(42u8), VarInt::from_u32(42));
-    same(&rt, VarInt::from(42u16), VarInt::from_u32(42));
-    same(&rt, VarInt::from(42u32), VarInt::from_u32(42));
-    same(&rt, VarInt::try_from(42u64)?, VarInt::from_u32(42));
-    same(&rt, VarInt::try_from(42u128)?, VarInt::from_u32(42));
-    same(&rt, VarInt::try_from(42usize)?, VarInt::from_u32(42));
-    same(&rt, u64::from(VarInt::from_u32(42)), 42);
-    holds(&rt, VarInt::from_u32(41) < VarInt::from_u32(42));
+    let mut checks = Checks::new(rt.alloc());
+    checks.same(VarInt::MAX.into_inner(), 4611686018427387903);
+    checks.same(VarInt::MAX_SIZE, 8);
+    checks.same(VarInt::default().into_inner(), 0);
+    checks.same(VarInt::from_u32(42).into_inner(), 42);
+    checks.same(VarInt::from_u64_unchecked(42).into_inner(), 42);
+    checks.same(VarInt::from(42u8), VarInt::from_u32(42));
+    checks.same(VarInt::from(42u16), VarInt::from_u32(42));
+    checks.same(VarInt::from(42u32), VarInt::from_u32(42));
+    checks.same(VarInt::try_from(42u64)?, VarInt::from_u32(42));
+    checks.same(VarInt::try_from(42u128)?, VarInt::from_u32(42));
+    checks.same(VarInt::try_from(42usize)?, VarInt::from_u32(42));
+    checks.same(u64::from(VarInt::from_u32(42)), 42);
+    checks.holds(VarInt::from_u32(41) < VarInt::from_u32(42));
     let mut out = Vec::new(rt.alloc());
     out.write_var(15293)?;
-    same(&rt, out.as_slice(), b"\x7b\xbd".as_slice());
-    Ok(())
+    checks.same(out.as_slice(), b"\x7b\xbd".as_slice());
+    checks.verdict()
 }
 
 #[test]
 fn fixed_numbers(rt: HostRuntime) -> Result<(), Fail> {
+    let mut checks = Checks::new(rt.alloc());
     let alloc = rt.alloc();
-    same(&rt, written(alloc, 0x01u8)?.as_slice(), b"\x01".as_slice());
-    same(
-        &rt,
+    checks.same(written(alloc, 0x01u8)?.as_slice(), b"\x01".as_slice());
+    checks.same(
         written(alloc, 0x0102u16)?.as_slice(),
         b"\x01\x02".as_slice(),
     );
-    same(
-        &rt,
+    checks.same(
         written(alloc, 0x01020304u32)?.as_slice(),
         b"\x01\x02\x03\x04".as_slice(),
     );
     let bytes = b"\x01\x02\x03\x04\x05\x06\x07\x08".as_slice();
-    same(
-        &rt,
-        written(alloc, 0x0102030405060708u64)?.as_slice(),
-        bytes,
-    );
-    same(&rt, read::<u8>(bytes), (Ok(0x01), 7));
-    same(&rt, read::<u16>(bytes), (Ok(0x0102), 6));
-    same(&rt, read::<u32>(bytes), (Ok(0x01020304), 4));
-    same(&rt, read::<u64>(bytes), (Ok(0x0102030405060708), 0));
+    checks.same(written(alloc, 0x0102030405060708u64)?.as_slice(), bytes);
+    checks.same(read::<u8>(bytes), (Ok(0x01), 7));
+    checks.same(read::<u16>(bytes), (Ok(0x0102), 6));
+    checks.same(read::<u32>(bytes), (Ok(0x01020304), 4));
+    checks.same(read::<u64>(bytes), (Ok(0x0102030405060708), 0));
     let v4 = b"\x7f\x00\x00\x01".as_slice();
-    same(&rt, written(alloc, Ipv4Addr::LOCALHOST)?.as_slice(), v4);
-    same(&rt, read::<Ipv4Addr>(v4), (Ok(Ipv4Addr::LOCALHOST), 0));
-    same(
-        &rt,
-        read::<Ipv4Addr>(b"\x7f\x00\x00"),
-        (Err(UnexpectedEnd), 3),
-    );
+    checks.same(written(alloc, Ipv4Addr::LOCALHOST)?.as_slice(), v4);
+    checks.same(read::<Ipv4Addr>(v4), (Ok(Ipv4Addr::LOCALHOST), 0));
+    checks.same(read::<Ipv4Addr>(b"\x7f\x00\x00"), (Err(UnexpectedEnd), 3));
     let v6 = b"\x20\x01\x0d\xb8\0\0\0\0\0\0\0\0\0\0\x12\x34".as_slice();
     let address = Ipv6Addr::new(0x2001, 0xdb8, 0, 0, 0, 0, 0, 0x1234);
-    same(&rt, written(alloc, address)?.as_slice(), v6);
-    same(&rt, read::<Ipv6Addr>(v6), (Ok(address), 0));
-    same(&rt, read::<Ipv6Addr>(&v6[1..]), (Err(UnexpectedEnd), 15));
-    Ok(())
+    checks.same(written(alloc, address)?.as_slice(), v6);
+    checks.same(read::<Ipv6Addr>(v6), (Ok(address), 0));
+    checks.same(read::<Ipv6Addr>(&v6[1..]), (Err(UnexpectedEnd), 15));
+    checks.verdict()
 }
 
 #[test]
 fn stream_ids(rt: HostRuntime) -> Result<(), Fail> {
+    let mut checks = Checks::new(rt.alloc());
     let alloc = rt.alloc();
     let id = StreamId::new(Side::Server, Dir::Uni, 5);
-    same(&rt, u64::from(id), 23);
-    same(&rt, written(alloc, id)?.as_slice(), b"\x17".as_slice());
-    displays(&rt, alloc, &id, "server unidirectional stream 5")?;
-    debugs(&rt, alloc, &id, "StreamId(23)")?;
-    same(
-        &rt,
+    checks.same(u64::from(id), 23);
+    checks.same(written(alloc, id)?.as_slice(), b"\x17".as_slice());
+    checks.displays(alloc, &id, "server unidirectional stream 5")?;
+    checks.debugs(alloc, &id, "StreamId(23)")?;
+    checks.same(
         (id.initiator(), id.dir(), id.index()),
         (Side::Server, Dir::Uni, 5),
     );
-    same(&rt, StreamId::from(VarInt::from(id)), id);
-    same(&rt, read::<StreamId>(b"\x17\x00"), (Ok(id), 1));
+    checks.same(StreamId::from(VarInt::from(id)), id);
+    checks.same(read::<StreamId>(b"\x17\x00"), (Ok(id), 1));
     let last = StreamId::new(Side::Client, Dir::Bi, MAX_STREAM_COUNT - 1);
     let bytes = b"\xff\xff\xff\xff\xff\xff\xff\xfc".as_slice();
-    same(&rt, written(alloc, last)?.as_slice(), bytes);
+    checks.same(written(alloc, last)?.as_slice(), bytes);
     let text = "client bidirectional stream 1152921504606846975";
-    displays(&rt, alloc, &last, text)?;
-    holds(&rt, id < last);
-    Ok(())
+    checks.displays(alloc, &last, text)?;
+    checks.holds(id < last);
+    checks.verdict()
 }
 
 #[test]
 fn sides_and_directions(rt: HostRuntime) -> Result<(), Fail> {
+    let mut checks = Checks::new(rt.alloc());
     let alloc = rt.alloc();
-    same(
-        &rt,
+    checks.same(
         (Side::Client.is_client(), Side::Client.is_server()),
         (true, false),
     );
-    same(
-        &rt,
+    checks.same(
         (Side::Server.is_client(), Side::Server.is_server()),
         (false, true),
     );
-    same(
-        &rt,
-        (!Side::Client, !Side::Server),
-        (Side::Server, Side::Client),
-    );
-    same(&rt, (Side::Client as u8, Side::Server as u8), (0, 1));
-    same(&rt, (Dir::Bi as u8, Dir::Uni as u8), (0, 1));
+    checks.same((!Side::Client, !Side::Server), (Side::Server, Side::Client));
+    checks.same((Side::Client as u8, Side::Server as u8), (0, 1));
+    checks.same((Dir::Bi as u8, Dir::Uni as u8), (0, 1));
     let mut both = Dir::iter();
-    same(
-        &rt,
+    checks.same(
         (both.next(), both.next(), both.next()),
         (Some(Dir::Bi), Some(Dir::Uni), None),
     );
-    displays(&rt, alloc, &Dir::Bi, "bidirectional")?;
-    displays(&rt, alloc, &Dir::Uni, "unidirectional")?;
+    checks.displays(alloc, &Dir::Bi, "bidirectional")?;
+    checks.displays(alloc, &Dir::Uni, "unidirectional")?;
     let uni = Dir::Uni;
-    displays(&rt, alloc, &format_args!("{uni:>16}"), "  unidirectional")?;
-    debugs(&rt, alloc, &(Dir::Bi, Dir::Uni), "(Bi, Uni)")?;
-    debugs(&rt, alloc, &Side::Server, "Server")?;
-    Ok(())
+    checks.displays(alloc, &format_args!("{uni:>16}"), "  unidirectional")?;
+    checks.debugs(alloc, &(Dir::Bi, Dir::Uni), "(Bi, Uni)")?;
+    checks.debugs(alloc, &Side::Server, "Server")?;
+    checks.verdict()
 }
 
 #[test]
-fn spaces(rt: HostRuntime) {
+fn spaces(rt: HostRuntime) -> Result<(), Fail> {
+    let mut checks = Checks::new(rt.alloc());
     let mut spaces = SpaceId::iter();
-    same(&rt, spaces.next(), Some(SpaceId::Initial));
-    same(&rt, spaces.next(), Some(SpaceId::Handshake));
-    same(&rt, spaces.next(), Some(SpaceId::Data));
-    same(&rt, spaces.next(), None);
-    holds(&rt, SpaceId::Initial < SpaceId::Data);
+    checks.same(spaces.next(), Some(SpaceId::Initial));
+    checks.same(spaces.next(), Some(SpaceId::Handshake));
+    checks.same(spaces.next(), Some(SpaceId::Data));
+    checks.same(spaces.next(), None);
+    checks.holds(SpaceId::Initial < SpaceId::Data);
+    checks.verdict()
 }
 
 #[test]
 fn codepoints(rt: HostRuntime) -> Result<(), Fail> {
-    same(&rt, EcnCodepoint::from_bits(0xfe), Some(EcnCodepoint::Ect0));
-    same(&rt, EcnCodepoint::from_bits(0xff), Some(EcnCodepoint::Ce));
-    same(&rt, EcnCodepoint::from_bits(0xfd), Some(EcnCodepoint::Ect1));
-    same(&rt, EcnCodepoint::from_bits(0x04), None);
-    same(
-        &rt,
+    let mut checks = Checks::new(rt.alloc());
+    checks.same(EcnCodepoint::from_bits(0xfe), Some(EcnCodepoint::Ect0));
+    checks.same(EcnCodepoint::from_bits(0xff), Some(EcnCodepoint::Ce));
+    checks.same(EcnCodepoint::from_bits(0xfd), Some(EcnCodepoint::Ect1));
+    checks.same(EcnCodepoint::from_bits(0x04), None);
+    checks.same(
         (
             EcnCodepoint::Ect0 as u8,
             EcnCodepoint::Ect1 as u8,
@@ -243,16 +226,16 @@ fn codepoints(rt: HostRuntime) -> Result<(), Fail> {
         ),
         (2, 1, 3),
     );
-    same(
-        &rt,
+    checks.same(
         (EcnCodepoint::Ce.is_ce(), EcnCodepoint::Ect0.is_ce()),
         (true, false),
     );
-    Ok(())
+    checks.verdict()
 }
 
 #[test]
 fn connection_ids(rt: HostRuntime) -> Result<(), Fail> {
+    let mut checks = Checks::new(rt.alloc());
     let alloc = rt.alloc();
     // In order: the empty one, `00`, `ff`, `0000`.
     let ids: &[ConnectionId] = &[
@@ -263,64 +246,64 @@ fn connection_ids(rt: HostRuntime) -> Result<(), Fail> {
     ];
     for (i, x) in ids.iter().enumerate() {
         for (j, y) in ids.iter().enumerate() {
-            same(&rt, x.cmp(y), i.cmp(&j));
-            same(&rt, x.partial_cmp(y), Some(i.cmp(&j)));
-            same(&rt, x == y, i == j);
+            checks.same(x.cmp(y), i.cmp(&j));
+            checks.same(x.partial_cmp(y), Some(i.cmp(&j)));
+            checks.same(x == y, i == j);
         }
     }
     let id = ConnectionId::new(b"\x0a\xff");
-    same(&rt, hash_of(&id), hash_of(&ConnectionId::new(b"\x0a\xff")));
-    same(&rt, id.as_slice(), b"\x0a\xff".as_slice());
+    checks.same(hash_of(&id), hash_of(&ConnectionId::new(b"\x0a\xff")));
+    checks.same(id.as_slice(), b"\x0a\xff".as_slice());
     let mut other = id;
     other.copy_from_slice(b"\x0b\x0c");
-    same(&rt, other.as_slice(), b"\x0b\x0c".as_slice());
+    checks.same(other.as_slice(), b"\x0b\x0c".as_slice());
     other.as_mut_slice()[1] = 0xff;
-    same(&rt, other, ConnectionId::new(b"\x0b\xff"));
-    displays(&rt, alloc, &id, "0aff")?;
-    debugs(&rt, alloc, &id, "[10, 255]")?;
+    checks.same(other, ConnectionId::new(b"\x0b\xff"));
+    checks.displays(alloc, &id, "0aff")?;
+    checks.debugs(alloc, &id, "[10, 255]")?;
     let mut out = Vec::new(alloc);
     id.encode_long(&mut out)?;
-    same(&rt, out.as_slice(), b"\x02\x0a\xff".as_slice());
+    checks.same(out.as_slice(), b"\x02\x0a\xff".as_slice());
     let mut left = b"\x0a\xff\x01".as_slice();
-    same(&rt, ConnectionId::from_buf(&mut left, 2), id);
-    same(&rt, left, b"\x01".as_slice());
-    Ok(())
+    checks.same(ConnectionId::from_buf(&mut left, 2), id);
+    checks.same(left, b"\x01".as_slice());
+    checks.verdict()
 }
 
 #[test]
 fn long_ids(rt: HostRuntime) -> Result<(), Fail> {
+    let mut checks = Checks::new(rt.alloc());
     let mut left = b"\x02\xaa\xbb\xcc".as_slice();
-    same(
-        &rt,
+    checks.same(
         ConnectionId::decode_long(&mut left),
         Some(ConnectionId::new(b"\xaa\xbb")),
     );
-    same(&rt, left, b"\xcc".as_slice());
+    checks.same(left, b"\xcc".as_slice());
     let mut left = b"\x03\xaa\xbb".as_slice();
-    same(&rt, ConnectionId::decode_long(&mut left), None);
-    same(&rt, left, b"\xaa\xbb".as_slice());
+    checks.same(ConnectionId::decode_long(&mut left), None);
+    checks.same(left, b"\xaa\xbb".as_slice());
     let mut left = b"\x15123456789012345678901".as_slice();
-    same(&rt, ConnectionId::decode_long(&mut left), None);
-    same(&rt, left.len(), 21);
+    checks.same(ConnectionId::decode_long(&mut left), None);
+    checks.same(left.len(), 21);
     let mut left = b"\x1412345678901234567890".as_slice();
-    same(
-        &rt,
+    checks.same(
         ConnectionId::decode_long(&mut left),
         Some(ConnectionId::new(b"12345678901234567890")),
     );
     let mut left = b"".as_slice();
-    same(&rt, ConnectionId::decode_long(&mut left), None);
-    Ok(())
+    checks.same(ConnectionId::decode_long(&mut left), None);
+    checks.verdict()
 }
 
 #[test]
 fn tokens_and_limits(rt: HostRuntime) -> Result<(), Fail> {
+    let mut checks = Checks::new(rt.alloc());
     let alloc = rt.alloc();
     let bytes = *b"0123456789abcdef";
     let token = ResetToken::from(bytes);
-    same(&rt, token.as_slice(), bytes.as_slice());
-    same(&rt, <[u8; 16]>::from(token), bytes);
-    same(&rt, token == ResetToken::from([7; RESET_TOKEN_SIZE]), false);
+    checks.same(token.as_slice(), bytes.as_slice());
+    checks.same(<[u8; 16]>::from(token), bytes);
+    checks.same(token == ResetToken::from([7; RESET_TOKEN_SIZE]), false);
     let issued = IssuedCid {
         sequence: 3,
         id: ConnectionId::new(b"\x2a"),
@@ -328,79 +311,71 @@ fn tokens_and_limits(rt: HostRuntime) -> Result<(), Fail> {
     };
     let text = "IssuedCid { sequence: 3, id: [42], reset_token: \
         ResetToken([7, 7, 7, 7, 7, 7, 7, 7, 7, 7, 7, 7, 7, 7, 7, 7]) }";
-    debugs(&rt, alloc, &issued, text)?;
-    same(&rt, (MAX_CID_SIZE, RESET_TOKEN_SIZE), (20, 16));
-    same(
-        &rt,
-        (LOC_CID_COUNT, MAX_STREAM_COUNT),
-        (8, 1152921504606846976),
-    );
-    same(
-        &rt,
+    checks.debugs(alloc, &issued, text)?;
+    checks.same((MAX_CID_SIZE, RESET_TOKEN_SIZE), (20, 16));
+    checks.same((LOC_CID_COUNT, MAX_STREAM_COUNT), (8, 1152921504606846976));
+    checks.same(
         (MIN_INITIAL_SIZE, INITIAL_MTU, MAX_UDP_PAYLOAD),
         (1200, 1200, 65527),
     );
     let versions: [u32; 7] = [
         1, 0xff00001d, 0xff00001e, 0xff00001f, 0xff000020, 0xff000021, 0xff000022,
     ];
-    same(&rt, DEFAULT_SUPPORTED_VERSIONS, versions.as_slice());
-    Ok(())
+    checks.same(DEFAULT_SUPPORTED_VERSIONS, versions.as_slice());
+    checks.verdict()
 }
 
 #[test]
 fn texts(rt: HostRuntime) -> Result<(), Fail> {
+    let mut checks = Checks::new(rt.alloc());
     let alloc = rt.alloc();
-    displays(&rt, alloc, &UnexpectedEnd, "unexpected end of buffer")?;
-    displays(
-        &rt,
+    checks.displays(alloc, &UnexpectedEnd, "unexpected end of buffer")?;
+    checks.displays(
         alloc,
         &VarIntBoundsExceeded,
         "value too large for varint encoding",
     )?;
-    displays(&rt, alloc, &NoRoom, "no room in buffer")?;
-    debugs(&rt, alloc, &UnexpectedEnd, "UnexpectedEnd")?;
-    debugs(&rt, alloc, &VarIntBoundsExceeded, "VarIntBoundsExceeded")?;
-    debugs(&rt, alloc, &NoRoom, "NoRoom")?;
-    displays(&rt, alloc, &VarInt::from_u32(42), "42")?;
-    debugs(&rt, alloc, &VarInt::from_u32(42), "42")?;
-    debugs(&rt, alloc, &EcnCodepoint::Ect0, "Ect0")?;
-    debugs(&rt, alloc, &SpaceId::Data, "Data")?;
-    Ok(())
+    checks.displays(alloc, &NoRoom, "no room in buffer")?;
+    checks.debugs(alloc, &UnexpectedEnd, "UnexpectedEnd")?;
+    checks.debugs(alloc, &VarIntBoundsExceeded, "VarIntBoundsExceeded")?;
+    checks.debugs(alloc, &NoRoom, "NoRoom")?;
+    checks.displays(alloc, &VarInt::from_u32(42), "42")?;
+    checks.debugs(alloc, &VarInt::from_u32(42), "42")?;
+    checks.debugs(alloc, &EcnCodepoint::Ect0, "Ect0")?;
+    checks.debugs(alloc, &SpaceId::Data, "Data")?;
+    checks.verdict()
 }
 
 // A refusal by room leaves a beginning of the spelling behind what stood there.
 #[test]
 fn refusals_by_room(rt: HostRuntime) -> Result<(), Fail> {
+    let mut checks = Checks::new(rt.alloc());
     let mut room = [9u8; 3];
     let mut out = Cursor::new(room.as_mut_slice());
-    same(&rt, out.write(7u8), Ok(()));
-    same(&rt, out.write(0x01020304u32), Err(NoRoom));
-    same(&rt, out.write_var(16384), Err(NoRoom));
-    same(
-        &rt,
+    checks.same(out.write(7u8), Ok(()));
+    checks.same(out.write(0x01020304u32), Err(NoRoom));
+    checks.same(out.write_var(16384), Err(NoRoom));
+    checks.same(
         ConnectionId::new(b"\xaa\xbb").encode_long(&mut out),
         Err(NoRoom),
     );
-    same(&rt, out.position(), 2);
-    same(&rt, room.as_slice(), b"\x07\x02\x09".as_slice());
+    checks.same(out.position(), 2);
+    checks.same(room.as_slice(), b"\x07\x02\x09".as_slice());
     let mut limited = Vec::new(rt.alloc()).limit(8);
     let reset = Reset {
         id: StreamId::new(Side::Client, Dir::Bi, 1),
         code: VarInt::from_u32(64),
         final_offset: 5,
     };
-    same(&rt, write_reset(&reset, &mut limited), Err(NoRoom));
-    same(
-        &rt,
-        limited.into_inner().as_slice(),
-        b"\x04\x40\x40".as_slice(),
-    );
-    Ok(())
+    checks.same(write_reset(&reset, &mut limited), Err(NoRoom));
+    checks.same(limited.into_inner().as_slice(), b"\x04\x40\x40".as_slice());
+    checks.verdict()
 }
 
 // Each buffer that the codecs are used on, and the clients.
 #[test]
 fn buffers_and_clients(rt: HostRuntime) -> Result<(), Fail> {
+    let mut checks = Checks::new(rt.alloc());
     let alloc = rt.alloc();
     let reset = Reset {
         id: StreamId::new(Side::Client, Dir::Bi, 1),
@@ -410,24 +385,19 @@ fn buffers_and_clients(rt: HostRuntime) -> Result<(), Fail> {
     let mut out = BytesMut::new(alloc);
     write_reset(&reset, &mut out)?;
     let bytes = b"\x04\x40\x40\x00\x00\x00\x00\x00\x00\x00\x05".as_slice();
-    same(&rt, out.as_slice(), bytes);
-    same(&rt, read_reset(&mut out), Ok(reset));
+    checks.same(out.as_slice(), bytes);
+    checks.same(read_reset(&mut out), Ok(reset));
     // A number that lies in two chunks.
     let mut apart = bytes[..6].chain(&bytes[6..]);
-    same(&rt, read_reset(&mut apart), Ok(reset));
+    checks.same(read_reset(&mut apart), Ok(reset));
     let mut cut = &bytes[..10];
-    same(&rt, read_reset(&mut cut), Err(UnexpectedEnd));
-    same(
-        &rt,
-        first_number(&bytes[1..4]),
-        Ok((64, b"\x00".as_slice())),
-    );
-    same(
-        &rt,
+    checks.same(read_reset(&mut cut), Err(UnexpectedEnd));
+    checks.same(first_number(&bytes[1..4]), Ok((64, b"\x00".as_slice())));
+    checks.same(
         read_two::<u16, &[u8]>(&mut b"\x01\x02\x03\x04".as_slice()),
         Ok((0x0102, 0x0304)),
     );
-    Ok(())
+    checks.verdict()
 }
 
 // What bytes are read as: a varint with what it leaves, and numbers of 1, 2, 4 and 8 bytes.
@@ -447,6 +417,7 @@ fn numbers_read(bytes: &[u8]) -> (Option<u64>, usize, [Option<u64>; 4]) {
 // as a number of 1, 2, 4 and 8 bytes.
 #[test]
 fn answers_of_the_rust_crate(rt: HostRuntime) -> Result<(), Fail> {
+    let mut checks = Checks::new(rt.alloc());
     let rows: [(&[u8], Option<u64>, usize, [Option<u64>; 4]); 21] = [
         (b"".as_slice(), None, 0, [None, None, None, None]),
         (
@@ -601,14 +572,15 @@ fn answers_of_the_rust_crate(rt: HostRuntime) -> Result<(), Fail> {
         ),
     ];
     for (bytes, number, left, fixed) in rows {
-        same(&rt, numbers_read(bytes), (number, left, fixed));
+        checks.same(numbers_read(bytes), (number, left, fixed));
     }
-    Ok(())
+    checks.verdict()
 }
 
 // The same for the shortest spellings.
 #[test]
 fn spellings_of_the_rust_crate(rt: HostRuntime) -> Result<(), Fail> {
+    let mut checks = Checks::new(rt.alloc());
     for (n, bytes) in [
         (0, b"\x00".as_slice()),
         (1073741826, b"\xc0\x00\x00\x00\x40\x00\x00\x02".as_slice()),
@@ -672,25 +644,22 @@ fn spellings_of_the_rust_crate(rt: HostRuntime) -> Result<(), Fail> {
         ),
         (616106, b"\x80\x09\x66\xaa".as_slice()),
     ] {
-        same(
-            &rt,
-            written(rt.alloc(), VarInt::from_u64(n)?)?.as_slice(),
-            bytes,
-        );
+        checks.same(written(rt.alloc(), VarInt::from_u64(n)?)?.as_slice(), bytes);
     }
     for n in [
         4611686018427387904,
         4611686018427387906,
         9223372036854775808,
     ] {
-        same(&rt, VarInt::from_u64(n), Err(VarIntBoundsExceeded));
+        checks.same(VarInt::from_u64(n), Err(VarIntBoundsExceeded));
     }
-    Ok(())
+    checks.verdict()
 }
 
 // The same of the list of texts: streams with their text and bytes, ids with both their texts.
 #[test]
 fn texts_of_the_rust_crate(rt: HostRuntime) -> Result<(), Fail> {
+    let mut checks = Checks::new(rt.alloc());
     let alloc = rt.alloc();
     for (n, text, bytes) in [
         (24, "client bidirectional stream 6", b"\x18".as_slice()),
@@ -719,8 +688,8 @@ fn texts_of_the_rust_crate(rt: HostRuntime) -> Result<(), Fail> {
         ),
     ] {
         let id = StreamId::from(VarInt::from_u64(n)?);
-        displays(&rt, alloc, &id, text)?;
-        same(&rt, written(alloc, id)?.as_slice(), bytes);
+        checks.displays(alloc, &id, text)?;
+        checks.same(written(alloc, id)?.as_slice(), bytes);
     }
     for (bytes, texts) in [
         (b"".as_slice(), ("", "[]")),
@@ -729,10 +698,10 @@ fn texts_of_the_rust_crate(rt: HostRuntime) -> Result<(), Fail> {
         (b"\x76\x1f".as_slice(), ("761f", "[118, 31]")),
         (b"\x6a\x45\x44".as_slice(), ("6a4544", "[106, 69, 68]")),
     ] {
-        holds(&rt, bytes.len() <= MAX_CID_SIZE);
+        checks.holds(bytes.len() <= MAX_CID_SIZE);
         let id = ConnectionId::new(bytes);
-        displays(&rt, alloc, &id, texts.0)?;
-        debugs(&rt, alloc, &id, texts.1)?;
+        checks.displays(alloc, &id, texts.0)?;
+        checks.debugs(alloc, &id, texts.1)?;
     }
-    Ok(())
+    checks.verdict()
 }

@@ -1,6 +1,6 @@
 //! The engine over memory: pieces, ends and failures.
-use super::{holds, holds_at, same, same_at};
-use crate::FailAt;
+use quic_bench::FailAt;
+use quic_testing::Checks;
 use quic_text::{FromRead, Mode, RunError, ToWrite, mode_of, run, status};
 use std::io::{BufWriter, Cursor};
 use std::test::Fail;
@@ -13,45 +13,48 @@ const TEXT: &[u8] =
     b"0..1 PADDING\n1..2 PING\nerror packet payload is empty\nerror not hexadecimal\nerror unexpected end\n0..1 PING\n1..2 PADDING\n";
 
 #[test]
-fn prints_each_line(rt: HostRuntime) {
+fn prints_each_line(rt: HostRuntime) -> Result<(), Fail> {
+    let mut checks = Checks::new(rt.alloc());
     let mut source = FailAt::new(rt.alloc(), LINES, usize::MAX, NEVER);
     let mut sink = FailAt::new(rt.alloc(), b"", usize::MAX, NEVER);
     let outcome = run(rt.alloc(), Mode::Frames, &mut source, &mut sink);
-    same(&rt, outcome, Ok(false));
-    same(&rt, status(&outcome), 1);
-    same(&rt, sink.output(), TEXT);
+    checks.same(outcome, Ok(false));
+    checks.same(status(&outcome), 1);
+    checks.same(sink.output(), TEXT);
+    checks.verdict()
 }
 
 #[test]
-fn no_byte_is_no_line_and_a_line_feed_is_one(rt: HostRuntime) {
+fn no_byte_is_no_line_and_a_line_feed_is_one(rt: HostRuntime) -> Result<(), Fail> {
+    let mut checks = Checks::new(rt.alloc());
     let mut source = FailAt::new(rt.alloc(), b"", 1, NEVER);
     let mut sink = FailAt::new(rt.alloc(), b"", 1, NEVER);
     let outcome = run(rt.alloc(), Mode::Frames, &mut source, &mut sink);
-    same(&rt, outcome, Ok(true));
-    same(&rt, status(&outcome), 0);
-    same(&rt, sink.output(), b"".as_slice());
+    checks.same(outcome, Ok(true));
+    checks.same(status(&outcome), 0);
+    checks.same(sink.output(), b"".as_slice());
     let mut source = FailAt::new(rt.alloc(), b"\n", 1, NEVER);
     let outcome = run(rt.alloc(), Mode::Frames, &mut source, &mut sink);
-    same(&rt, outcome, Ok(false));
-    same(
-        &rt,
-        sink.output(),
-        b"error packet payload is empty\n".as_slice(),
-    );
+    checks.same(outcome, Ok(false));
+    checks.same(sink.output(), b"error packet payload is empty\n".as_slice());
+    checks.verdict()
 }
 
 #[test]
-fn one_byte_a_call_is_the_whole_text(rt: HostRuntime) {
+fn one_byte_a_call_is_the_whole_text(rt: HostRuntime) -> Result<(), Fail> {
+    let mut checks = Checks::new(rt.alloc());
     let mut source = FailAt::new(rt.alloc(), LINES, 1, NEVER);
     let mut sink = FailAt::new(rt.alloc(), b"", 1, NEVER);
     let outcome = run(rt.alloc(), Mode::Frames, &mut source, &mut sink);
-    same(&rt, outcome, Ok(false));
-    same(&rt, sink.output(), TEXT);
+    checks.same(outcome, Ok(false));
+    checks.same(sink.output(), TEXT);
+    checks.verdict()
 }
 
 // The source and the sink are given room for at least 16 KiB, and all that was read comes before all that is written.
 #[test]
 fn moves_large_pieces(rt: HostRuntime) -> Result<(), Fail> {
+    let mut checks = Checks::new(rt.alloc());
     let mut input = String::new(rt.alloc());
     for _ in 0..5000 {
         input.push_str("0001\n")?;
@@ -59,105 +62,117 @@ fn moves_large_pieces(rt: HostRuntime) -> Result<(), Fail> {
     let mut source = FailAt::new(rt.alloc(), input.as_bytes(), usize::MAX, NEVER);
     let mut sink = FailAt::new(rt.alloc(), b"", usize::MAX, NEVER);
     let outcome = run(rt.alloc(), Mode::Frames, &mut source, &mut sink);
-    same(&rt, outcome, Ok(true));
-    same(&rt, sink.output().len(), 5000 * 23);
-    holds(&rt, source.longest() >= 16384);
-    holds(&rt, source.calls() <= 4);
-    holds(&rt, sink.longest() >= 16384);
-    holds(&rt, sink.calls() <= 9);
-    Ok(())
+    checks.same(outcome, Ok(true));
+    checks.same(sink.output().len(), 5000 * 23);
+    checks.holds(source.longest() >= 16384);
+    checks.holds(source.calls() <= 4);
+    checks.holds(sink.longest() >= 16384);
+    checks.holds(sink.calls() <= 9);
+    checks.verdict()
 }
 
 #[test]
-fn each_read_fails_in_turn(rt: HostRuntime) {
+fn each_read_fails_in_turn(rt: HostRuntime) -> Result<(), Fail> {
+    let mut checks = Checks::new(rt.alloc());
     let reads = LINES.len() as u64 + 1;
     for k in 0..reads {
         let mut source = FailAt::new(rt.alloc(), LINES, 1, k);
         let mut sink = FailAt::new(rt.alloc(), b"", 1, NEVER);
         let outcome = run(rt.alloc(), Mode::Frames, &mut source, &mut sink);
-        same_at(&rt, k, outcome, Err(RunError::Read));
-        same(&rt, status(&outcome), 3);
-        same_at(&rt, k, sink.calls(), 0);
-        same_at(&rt, k, source.calls(), k.wrapping_add(1));
+        checks.same_at(k, outcome, Err(RunError::Read));
+        checks.same(status(&outcome), 3);
+        checks.same_at(k, sink.calls(), 0);
+        checks.same_at(k, source.calls(), k.wrapping_add(1));
     }
     let mut source = FailAt::new(rt.alloc(), LINES, 1, reads);
     let mut sink = FailAt::new(rt.alloc(), b"", 1, NEVER);
     let outcome = run(rt.alloc(), Mode::Frames, &mut source, &mut sink);
-    same(&rt, outcome, Ok(false));
-    same(&rt, source.calls(), reads);
+    checks.same(outcome, Ok(false));
+    checks.same(source.calls(), reads);
+    checks.verdict()
 }
 
 // Ten bytes a call: as many writes as that takes, and one flush, which is the last call.
 #[test]
-fn each_write_and_the_flush_fail_in_turn(rt: HostRuntime) {
+fn each_write_and_the_flush_fail_in_turn(rt: HostRuntime) -> Result<(), Fail> {
+    let mut checks = Checks::new(rt.alloc());
     let writes = TEXT.len().div_ceil(10);
     for k in 0..writes + 1 {
         let mut source = FailAt::new(rt.alloc(), LINES, 1, NEVER);
         let mut sink = FailAt::new(rt.alloc(), b"", 10, k as u64);
         let outcome = run(rt.alloc(), Mode::Frames, &mut source, &mut sink);
-        same_at(&rt, k, outcome, Err(RunError::Write));
-        same(&rt, status(&outcome), 3);
-        holds_at(&rt, k, TEXT.starts_with(sink.output()));
-        same_at(&rt, k, sink.output().len(), TEXT.len().min(10 * k));
+        checks.same_at(k, outcome, Err(RunError::Write));
+        checks.same(status(&outcome), 3);
+        checks.holds_at(k, TEXT.starts_with(sink.output()));
+        checks.same_at(k, sink.output().len(), TEXT.len().min(10 * k));
     }
     let mut source = FailAt::new(rt.alloc(), LINES, 1, NEVER);
     let mut sink = FailAt::new(rt.alloc(), b"", 10, writes as u64 + 1);
     let outcome = run(rt.alloc(), Mode::Frames, &mut source, &mut sink);
-    same(&rt, outcome, Ok(false));
-    same(&rt, sink.calls(), writes as u64 + 1);
+    checks.same(outcome, Ok(false));
+    checks.same(sink.calls(), writes as u64 + 1);
+    checks.verdict()
 }
 
 #[test]
-fn over_what_std_reads_and_writes(rt: HostRuntime) {
+fn over_what_std_reads_and_writes(rt: HostRuntime) -> Result<(), Fail> {
+    let mut checks = Checks::new(rt.alloc());
     let mut text: Vec<u8> = Vec::new(rt.alloc());
     let mut source = FromRead::new(LINES);
     let mut sink = ToWrite::new(&mut text);
     let outcome = run(rt.alloc(), Mode::Frames, &mut source, &mut sink);
-    same(&rt, outcome, Ok(false));
+    checks.same(outcome, Ok(false));
     let ToWrite { .. } = sink;
-    same(&rt, text.as_slice(), TEXT);
+    checks.same(text.as_slice(), TEXT);
+    checks.verdict()
 }
 
 // A writer that takes nothing more has failed.
 #[test]
-fn a_full_writer_is_a_failed_write(rt: HostRuntime) {
+fn a_full_writer_is_a_failed_write(rt: HostRuntime) -> Result<(), Fail> {
+    let mut checks = Checks::new(rt.alloc());
     for room in [0, 10, TEXT.len() - 1] {
         let mut place = [0u8; 200];
         let mut source = FromRead::new(LINES);
         let mut sink = ToWrite::new(Cursor::new(&mut place[..room]));
         let outcome = run(rt.alloc(), Mode::Frames, &mut source, &mut sink);
-        same_at(&rt, room, outcome, Err(RunError::Write));
-        same_at(&rt, room, &place[..room], &TEXT[..room]);
+        checks.same_at(room, outcome, Err(RunError::Write));
+        checks.same_at(room, &place[..room], &TEXT[..room]);
     }
+    checks.verdict()
 }
 
 #[test]
-fn modes(rt: HostRuntime) {
-    same(&rt, mode_of(&["frames"]), Some(Mode::Frames));
-    same(&rt, mode_of(&[]), None);
-    same(&rt, mode_of(&["frames", "frames"]), None);
-    same(&rt, mode_of(&["Frames"]), None);
-    same(&rt, mode_of(&["canon"]), None);
-    same(&rt, mode_of(&["datagram", "8"]), None);
-    same(&rt, mode_of(&["params", "client"]), None);
-    same(&rt, status(&Err(RunError::OutOfMemory)), 3);
+fn modes(rt: HostRuntime) -> Result<(), Fail> {
+    let mut checks = Checks::new(rt.alloc());
+    checks.same(mode_of(&["frames"]), Some(Mode::Frames));
+    checks.same(mode_of(&[]), None);
+    checks.same(mode_of(&["frames", "frames"]), None);
+    checks.same(mode_of(&["Frames"]), None);
+    checks.same(mode_of(&["canon"]), None);
+    checks.same(mode_of(&["datagram", "8"]), None);
+    checks.same(mode_of(&["params", "client"]), None);
+    checks.same(status(&Err(RunError::OutOfMemory)), 3);
+    checks.verdict()
 }
 
 // What is written waits in the buffer until it is passed on, and there is no room for it then.
 #[test]
 fn a_last_write_that_fails_is_seen(rt: HostRuntime) -> Result<(), Fail> {
+    let mut checks = Checks::new(rt.alloc());
     let mut place = [0; 3];
     let mut source = FailAt::new(rt.alloc(), b"01\n", usize::MAX, NEVER);
     let mut sink = ToWrite::new(BufWriter::new(rt.alloc(), Cursor::new(&mut place[..]))?);
     let outcome = run(rt.alloc(), Mode::Frames, &mut source, &mut sink);
-    same(&rt, outcome, Err(RunError::Write));
-    same(&rt, status(&outcome), 3);
-    Ok(())
+    checks.same(outcome, Err(RunError::Write));
+    checks.same(status(&outcome), 3);
+    checks.verdict()
 }
 
 // A line of the longest payload that a datagram can hold.
 #[test]
 fn the_longest_payload(rt: HostRuntime) -> Result<(), Fail> {
+    let mut checks = Checks::new(rt.alloc());
     let mut input = String::new(rt.alloc());
     for _ in 0..65527 {
         input.push_str("01")?;
@@ -165,8 +180,8 @@ fn the_longest_payload(rt: HostRuntime) -> Result<(), Fail> {
     let mut source = FailAt::new(rt.alloc(), input.as_bytes(), usize::MAX, NEVER);
     let mut sink = FailAt::new(rt.alloc(), b"", usize::MAX, NEVER);
     let outcome = run(rt.alloc(), Mode::Frames, &mut source, &mut sink);
-    same(&rt, outcome, Ok(true));
-    holds(&rt, sink.output().starts_with(b"0..1 PING\n1..2 PING\n"));
-    holds(&rt, sink.output().ends_with(b"\n65526..65527 PING\n"));
-    Ok(())
+    checks.same(outcome, Ok(true));
+    checks.holds(sink.output().starts_with(b"0..1 PING\n1..2 PING\n"));
+    checks.holds(sink.output().ends_with(b"\n65526..65527 PING\n"));
+    checks.verdict()
 }

@@ -1,6 +1,6 @@
 //! Lines of the mode `frames`, through `run`.
-use super::{same, same_at};
-use crate::FailAt;
+use quic_bench::FailAt;
+use quic_testing::Checks;
 use quic_text::{Mode, run, status};
 use std::test::Fail;
 
@@ -60,21 +60,23 @@ const ROWS: &[(&str, &str)] = &[
 
 #[test]
 fn each_row_by_itself(rt: HostRuntime) -> Result<(), Fail> {
+    let mut checks = Checks::new(rt.alloc());
     for &(line, text) in ROWS {
         let input = format!(in rt.alloc(); "{line}\n")?;
         let mut source = FailAt::new(rt.alloc(), input.as_bytes(), usize::MAX, u64::MAX);
         let mut sink = FailAt::new(rt.alloc(), b"", usize::MAX, u64::MAX);
         let outcome = run(rt.alloc(), Mode::Frames, &mut source, &mut sink);
         let clean = !text.contains("error");
-        same_at(&rt, line, outcome, Ok(clean));
-        same(&rt, status(&outcome), if clean { 0 } else { 1 });
-        same_at(&rt, line, sink.output(), text.as_bytes());
+        checks.same_at(line, outcome, Ok(clean));
+        checks.same(status(&outcome), if clean { 0 } else { 1 });
+        checks.same_at(line, sink.output(), text.as_bytes());
     }
-    Ok(())
+    checks.verdict()
 }
 
 #[test]
 fn all_rows_together(rt: HostRuntime) -> Result<(), Fail> {
+    let mut checks = Checks::new(rt.alloc());
     let mut input = String::new(rt.alloc());
     let mut wanted = String::new(rt.alloc());
     for &(line, text) in ROWS {
@@ -84,7 +86,7 @@ fn all_rows_together(rt: HostRuntime) -> Result<(), Fail> {
     let mut source = FailAt::new(rt.alloc(), input.as_bytes(), 1, u64::MAX);
     let mut sink = FailAt::new(rt.alloc(), b"", 1, u64::MAX);
     let outcome = run(rt.alloc(), Mode::Frames, &mut source, &mut sink);
-    same(&rt, outcome, Ok(false));
-    same(&rt, sink.output(), wanted.as_bytes());
-    Ok(())
+    checks.same(outcome, Ok(false));
+    checks.same(sink.output(), wanted.as_bytes());
+    checks.verdict()
 }

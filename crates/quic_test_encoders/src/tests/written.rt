@@ -2,9 +2,7 @@
 ghost use Rattle.std.specs.Prelude.{◌<◌, ◌≤◌, ◌^◌, length};
 ghost use Rattle.quic_frames.specs.Shortest.{close_reason, least_room};
 
-use super::texts::{code_of, type_of};
 use super::written_answers::{CLOSES, FRAMES};
-use super::{holds, holds_at, same};
 use quic_base::coding::NoRoom;
 use quic_base::ids::{ConnectionId, ResetToken, StreamId};
 use quic_base::varint::VarInt;
@@ -13,6 +11,8 @@ use quic_frames::frame::{
     NewConnectionId, NewToken, ResetStream, StopSending,
 };
 use quic_frames::transport_error::{Code, Error};
+use quic_testing::Checks;
+use quic_testing::codes::{code_of, type_of};
 use std::alloc::Global;
 use std::test::Fail;
 
@@ -124,22 +124,25 @@ fn is_written(alloc: Global, line: &str) -> Result<bool, Fail> {
 
 #[test]
 fn frames_are_written_as_by_the_rust_crate(rt: HostRuntime) -> Result<(), Fail> {
+    let mut checks = Checks::new(rt.alloc());
     for line in FRAMES.lines() {
-        holds_at(&rt, line, is_written(rt.alloc(), line)?);
+        checks.holds_at(line, is_written(rt.alloc(), line)?);
     }
-    Ok(())
+    checks.verdict()
 }
 
 #[test]
 fn closes_are_written_as_by_the_rust_crate(rt: HostRuntime) -> Result<(), Fail> {
+    let mut checks = Checks::new(rt.alloc());
     for line in CLOSES.lines() {
-        holds_at(&rt, line, is_written(rt.alloc(), line)?);
+        checks.holds_at(line, is_written(rt.alloc(), line)?);
     }
-    Ok(())
+    checks.verdict()
 }
 
 #[test]
 fn closes_in_little_room(rt: HostRuntime) -> Result<(), Fail> {
+    let mut checks = Checks::new(rt.alloc());
     for line in [
         "application 0 616263646566 8|1d000461626364",
         "application 16384 616263646566 8|1d80004000026162",
@@ -147,7 +150,7 @@ fn closes_in_little_room(rt: HostRuntime) -> Result<(), Fail> {
         "connection 298 - 616263 7|1c412a00026162",
         "connection 0 - 616263 7|1c0000026162",
     ] {
-        holds_at(&rt, line, is_written(rt.alloc(), line)?);
+        checks.holds_at(line, is_written(rt.alloc(), line)?);
     }
     let mut error = Error::FRAME_ENCODING_ERROR("malformed");
     error.frame = Some(FrameType::ACK);
@@ -159,31 +162,33 @@ fn closes_in_little_room(rt: HostRuntime) -> Result<(), Fail> {
         close.reason,
         25,
     )?;
-    same(&rt, out.as_slice(), b"\x1c\x07\x02\x09malformed".as_slice());
-    Ok(())
+    checks.same(out.as_slice(), b"\x1c\x07\x02\x09malformed".as_slice());
+    checks.verdict()
 }
 
 #[test]
 fn the_least_room_of_closes(rt: HostRuntime) -> Result<(), Fail> {
+    let mut checks = Checks::new(rt.alloc());
     for (code, room) in [(0, 4), (16384, 6)] {
         let close = ApplicationClose {
             error_code: VarInt::from_u32(code),
             reason: b"abcdef",
         };
-        same(&rt, close.min_len(), room);
-        same(&rt, Close::from(close).min_len(), room);
+        checks.same(close.min_len(), room);
+        checks.same(Close::from(close).min_len(), room);
     }
     let close = ConnectionClose {
         error_code: Code::crypto(42),
         frame_type: None,
         reason: b"abc",
     };
-    same(&rt, close.min_len(), 5);
-    Ok(())
+    checks.same(close.min_len(), 5);
+    checks.verdict()
 }
 
 #[test]
 fn frames_of_a_few_numbers(rt: HostRuntime) -> Result<(), Fail> {
+    let mut checks = Checks::new(rt.alloc());
     let frequency = AckFrequency {
         sequence: VarInt::from_u32(42),
         ack_eliciting_threshold: VarInt::from_u32(20),
@@ -192,8 +197,7 @@ fn frames_of_a_few_numbers(rt: HostRuntime) -> Result<(), Fail> {
     };
     let mut out = Vec::new(rt.alloc());
     frequency.encode(&mut out)?;
-    same(
-        &rt,
+    checks.same(
         out.as_slice(),
         b"\x40\xaf\x2a\x14\x80\x00\xc3\x50\x01".as_slice(),
     );
@@ -203,7 +207,7 @@ fn frames_of_a_few_numbers(rt: HostRuntime) -> Result<(), Fail> {
     };
     let mut out = Vec::new(rt.alloc());
     stop.encode(&mut out)?;
-    same(&rt, out.as_slice(), b"\x05\x04\x05".as_slice());
+    checks.same(out.as_slice(), b"\x05\x04\x05".as_slice());
     let counts = EcnCounts {
         ect0: 42,
         ect1: 24,
@@ -211,12 +215,13 @@ fn frames_of_a_few_numbers(rt: HostRuntime) -> Result<(), Fail> {
     };
     let mut out = Vec::new(rt.alloc());
     counts.encode(&mut out)?;
-    same(&rt, out.as_slice(), b"\x2a\x18\x0c".as_slice());
-    Ok(())
+    checks.same(out.as_slice(), b"\x2a\x18\x0c".as_slice());
+    checks.verdict()
 }
 
 #[test]
 fn a_new_id_and_a_token(rt: HostRuntime) -> Result<(), Fail> {
+    let mut checks = Checks::new(rt.alloc());
     let new = NewConnectionId {
         sequence: 5,
         retire_prior_to: 2,
@@ -225,13 +230,13 @@ fn a_new_id_and_a_token(rt: HostRuntime) -> Result<(), Fail> {
     };
     let mut out = Vec::new(rt.alloc());
     new.encode(&mut out)?;
-    same(&rt, out.len(), 22);
-    holds(&rt, out.starts_with(b"\x18\x05\x02\x02\xaa\xbb\x11"));
-    holds(&rt, out.ends_with(&[0x11; 16]));
+    checks.same(out.len(), 22);
+    checks.holds(out.starts_with(b"\x18\x05\x02\x02\xaa\xbb\x11"));
+    checks.holds(out.ends_with(&[0x11; 16]));
     let frame = NewToken { token: b"hi" };
     let mut out = Vec::new(rt.alloc());
     frame.encode(&mut out)?;
-    same(&rt, out.as_slice(), b"\x07\x02hi".as_slice());
-    same(&rt, frame.size(), 4);
-    Ok(())
+    checks.same(out.as_slice(), b"\x07\x02hi".as_slice());
+    checks.same(frame.size(), 4);
+    checks.verdict()
 }

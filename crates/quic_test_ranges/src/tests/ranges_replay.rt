@@ -2,12 +2,11 @@
 ghost use Rattle.std.specs.Prelude.{◌<◌, ◌-◌, ◌^◌};
 
 use super::ranges_scripts::SCRIPTS;
-use super::{same, same_at};
 use quic_base::coding::NoRoom;
 use quic_ranges::range_set::{ArrayRangeSet, RangeSet};
+use quic_testing::Checks;
 use std::alloc::{AllocError, Global};
 use std::ops::Range;
-use std::process::Abort;
 use std::test::Fail;
 
 // What scripts call on either set.
@@ -409,7 +408,7 @@ fn play(
 
 // A step is a call, its answer and the runs after it.
 fn replay_step(
-    rt: &impl Abort,
+    checks: &mut Checks,
     alloc: Global,
     map: &mut RangeSet,
     array: &mut ArrayRangeSet,
@@ -420,26 +419,27 @@ fn replay_step(
         return Err(Fail::new("a part of a step is missing"));
     };
     let (of_map, of_array) = play(alloc, map, array, call)?;
-    same_at(rt, call, of_map.as_str(), wanted);
+    checks.same_at(call, of_map.as_str(), wanted);
     if let Some(text) = of_array {
-        same_at(rt, call, text.as_str(), wanted);
+        checks.same_at(call, text.as_str(), wanted);
     }
-    same_at(rt, call, map.all_runs(alloc)?.as_str(), runs);
-    same_at(rt, call, array.all_runs(alloc)?.as_str(), runs);
+    checks.same_at(call, map.all_runs(alloc)?.as_str(), runs);
+    checks.same_at(call, array.all_runs(alloc)?.as_str(), runs);
     Ok(())
 }
 
 #[test]
 fn replays_the_scripts(rt: HostRuntime) -> Result<(), Fail> {
+    let mut checks = Checks::new(rt.alloc());
     let alloc = rt.alloc();
     let mut calls = 0u64;
     for script in SCRIPTS.lines() {
         let (mut map, mut array) = (RangeSet::new(alloc), ArrayRangeSet::new(alloc));
         for step in script.split("; ") {
-            replay_step(&rt, alloc, &mut map, &mut array, step)?;
+            replay_step(&mut checks, alloc, &mut map, &mut array, step)?;
             calls = calls.wrapping_add(1);
         }
     }
-    same(&rt, calls, 1440);
-    Ok(())
+    checks.same(calls, 1440);
+    checks.verdict()
 }

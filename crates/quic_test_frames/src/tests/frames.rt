@@ -1,8 +1,8 @@
 //! Frames, read from payloads.
-use super::{debugs, displays, holds, same, same_at};
 use quic_base::coding::Codec;
 use quic_frames::frame::{Frame, FrameType, Iter};
 use quic_frames::transport_error::{Code, Error, Reason};
+use quic_testing::Checks;
 use std::test::Fail;
 
 fn type_of(number: &[u8]) -> Result<FrameType, Fail> {
@@ -12,22 +12,24 @@ fn type_of(number: &[u8]) -> Result<FrameType, Fail> {
 
 #[test]
 fn a_stream_with_offset_and_length(rt: HostRuntime) -> Result<(), Fail> {
+    let mut checks = Checks::new(rt.alloc());
     let payload = b"\x0c\x04\x40\x10ab";
     let mut iter = Iter::new(payload)?;
     let Some(Ok(Frame::Stream(stream))) = iter.next() else {
         return Err("a STREAM".into());
     };
-    same(&rt, u64::from(stream.id), 4);
-    same(&rt, stream.offset, 16);
-    holds(&rt, !stream.fin);
-    same(&rt, stream.bytes, b"ab".as_slice());
-    same(&rt, iter.offset(), 6);
-    holds(&rt, iter.next().is_none());
-    Ok(())
+    checks.same(u64::from(stream.id), 4);
+    checks.same(stream.offset, 16);
+    checks.holds(!stream.fin);
+    checks.same(stream.bytes, b"ab".as_slice());
+    checks.same(iter.offset(), 6);
+    checks.holds(iter.next().is_none());
+    checks.verdict()
 }
 
 #[test]
 fn all_eight_streams(rt: HostRuntime) -> Result<(), Fail> {
+    let mut checks = Checks::new(rt.alloc());
     for bits in 0..8u8 {
         let mut payload = Vec::new(rt.alloc());
         payload.extend_from_slice(&[8 + bits, 9])?;
@@ -43,89 +45,94 @@ fn all_eight_streams(rt: HostRuntime) -> Result<(), Fail> {
             return Err("a frame".into());
         };
         // Never the bit for the length.
-        same_at(&rt, bits, frame.ty(), type_of(&[8 + (bits & 5)])?);
+        checks.same_at(bits, frame.ty(), type_of(&[8 + (bits & 5)])?);
         let Frame::Stream(stream) = frame else {
             return Err("a STREAM".into());
         };
-        same(&rt, u64::from(stream.id), 9);
-        same(&rt, stream.offset, if bits & 4 != 0 { 7 } else { 0 });
-        same(&rt, stream.fin, bits & 1 != 0);
-        same(&rt, stream.bytes, b"x".as_slice());
-        same(&rt, iter.offset(), payload.len());
+        checks.same(u64::from(stream.id), 9);
+        checks.same(stream.offset, if bits & 4 != 0 { 7 } else { 0 });
+        checks.same(stream.fin, bits & 1 != 0);
+        checks.same(stream.bytes, b"x".as_slice());
+        checks.same(iter.offset(), payload.len());
     }
-    Ok(())
+    checks.verdict()
 }
 
 #[test]
 fn a_written_offset_of_zero_is_not_in_the_type(rt: HostRuntime) -> Result<(), Fail> {
+    let mut checks = Checks::new(rt.alloc());
     let Some(Ok(frame)) = Iter::new(b"\x0d\x00\x00a")?.next() else {
         return Err("a frame".into());
     };
-    same(&rt, frame.ty(), type_of(b"\x09")?);
-    Ok(())
+    checks.same(frame.ty(), type_of(b"\x09")?);
+    checks.verdict()
 }
 
 #[test]
 fn crypto_padding_and_ping(rt: HostRuntime) -> Result<(), Fail> {
+    let mut checks = Checks::new(rt.alloc());
     let mut iter = Iter::new(b"\x06\x40\x05\x02hi\x00\x80\x00\x00\x01")?;
     let Some(Ok(Frame::Crypto(crypto))) = iter.next() else {
         return Err("a CRYPTO".into());
     };
-    same(&rt, crypto.offset, 5);
-    same(&rt, crypto.bytes, b"hi".as_slice());
-    same(&rt, Frame::Crypto(crypto).ty(), FrameType::CRYPTO);
-    same(&rt, iter.offset(), 6);
+    checks.same(crypto.offset, 5);
+    checks.same(crypto.bytes, b"hi".as_slice());
+    checks.same(Frame::Crypto(crypto).ty(), FrameType::CRYPTO);
+    checks.same(iter.offset(), 6);
     let Some(Ok(Frame::Padding)) = iter.next() else {
         return Err("a PADDING".into());
     };
-    same(&rt, iter.offset(), 7);
+    checks.same(iter.offset(), 7);
     let Some(Ok(Frame::Ping)) = iter.next() else {
         return Err("a PING".into());
     };
-    same(&rt, iter.offset(), 11);
-    holds(&rt, iter.next().is_none());
-    same(&rt, Frame::Padding.ty(), FrameType::PADDING);
-    same(&rt, Frame::Ping.ty(), FrameType::PING);
-    Ok(())
+    checks.same(iter.offset(), 11);
+    checks.holds(iter.next().is_none());
+    checks.same(Frame::Padding.ty(), FrameType::PADDING);
+    checks.same(Frame::Ping.ty(), FrameType::PING);
+    checks.verdict()
 }
 
 #[test]
 fn one_error_and_then_nothing(rt: HostRuntime) -> Result<(), Fail> {
+    let mut checks = Checks::new(rt.alloc());
     let mut iter = Iter::new(b"\x01\x0a\x00\x05ab\x01")?;
-    holds(&rt, matches!(iter.next(), Some(Ok(Frame::Ping))));
+    checks.holds(matches!(iter.next(), Some(Ok(Frame::Ping))));
     let Some(Err(invalid)) = iter.next() else {
         return Err("no frame".into());
     };
-    same(&rt, invalid.ty, Some(type_of(b"\x0a")?));
-    same(&rt, invalid.reason, "unexpected end");
-    same(&rt, iter.offset(), 1);
-    holds(&rt, iter.next().is_none());
-    holds(&rt, iter.next().is_none());
-    Ok(())
+    checks.same(invalid.ty, Some(type_of(b"\x0a")?));
+    checks.same(invalid.reason, "unexpected end");
+    checks.same(iter.offset(), 1);
+    checks.holds(iter.next().is_none());
+    checks.holds(iter.next().is_none());
+    checks.verdict()
 }
 
 #[test]
 fn an_empty_payload_is_a_protocol_violation(rt: HostRuntime) -> Result<(), Fail> {
+    let mut checks = Checks::new(rt.alloc());
     let Err(error) = Iter::new(b"") else {
         return Err("an error".into());
     };
-    same(&rt, error.code, Code::PROTOCOL_VIOLATION);
-    same(&rt, error.frame, None);
-    same(&rt, error.reason.as_str(), "packet payload is empty");
-    Ok(())
+    checks.same(error.code, Code::PROTOCOL_VIOLATION);
+    checks.same(error.frame, None);
+    checks.same(error.reason.as_str(), "packet payload is empty");
+    checks.verdict()
 }
 
 #[test]
 fn errors(rt: HostRuntime) -> Result<(), Fail> {
+    let mut checks = Checks::new(rt.alloc());
     let error = Error::FRAME_ENCODING_ERROR("malformed");
-    same(&rt, error.code, Code::FRAME_ENCODING_ERROR);
-    same(&rt, error.reason.as_str(), "malformed");
+    checks.same(error.code, Code::FRAME_ENCODING_ERROR);
+    checks.same(error.reason.as_str(), "malformed");
     let error = Error::PROTOCOL_VIOLATION("x");
-    same(&rt, error.code, Code::PROTOCOL_VIOLATION);
-    same(&rt, error.reason.as_str(), "x");
+    checks.same(error.code, Code::PROTOCOL_VIOLATION);
+    checks.same(error.reason.as_str(), "x");
     let owned = Reason::Owned(String::from_str(rt.alloc(), "made")?);
-    same(&rt, owned.as_str(), "made");
-    Ok(())
+    checks.same(owned.as_str(), "made");
+    checks.verdict()
 }
 
 // The types with a name of their own.
@@ -166,18 +173,20 @@ const NAMES: [(FrameType, u8, &str); 24] = [
 
 #[test]
 fn names_of_types(rt: HostRuntime) -> Result<(), Fail> {
+    let mut checks = Checks::new(rt.alloc());
     let alloc = rt.alloc();
     for (ty, number, name) in NAMES {
-        same(&rt, ty, type_of(&[number])?);
-        displays(&rt, alloc, &ty, name)?;
-        debugs(&rt, alloc, &ty, name)?;
+        checks.same(ty, type_of(&[number])?);
+        checks.displays(alloc, &ty, name)?;
+        checks.debugs(alloc, &ty, name)?;
     }
-    same(&rt, FrameType::ACK_FREQUENCY, type_of(b"\x40\xaf")?);
-    Ok(())
+    checks.same(FrameType::ACK_FREQUENCY, type_of(b"\x40\xaf")?);
+    checks.verdict()
 }
 
 #[test]
 fn names_of_types_without_a_constant(rt: HostRuntime) -> Result<(), Fail> {
+    let mut checks = Checks::new(rt.alloc());
     let alloc = rt.alloc();
     for (bytes, display, debug) in [
         (b"\x40\xaf".as_slice(), "ACK_FREQUENCY", "ACK_FREQUENCY"),
@@ -191,17 +200,18 @@ fn names_of_types_without_a_constant(rt: HostRuntime) -> Result<(), Fail> {
         ),
     ] {
         let ty = type_of(bytes)?;
-        displays(&rt, alloc, &ty, display)?;
-        debugs(&rt, alloc, &ty, debug)?;
+        checks.displays(alloc, &ty, display)?;
+        checks.debugs(alloc, &ty, debug)?;
     }
-    Ok(())
+    checks.verdict()
 }
 
 #[test]
 fn a_type_is_written_as_its_number(rt: HostRuntime) -> Result<(), Fail> {
+    let mut checks = Checks::new(rt.alloc());
     let mut out = Vec::new(rt.alloc());
     FrameType::ACK_FREQUENCY.encode(&mut out)?;
     FrameType::PING.encode(&mut out)?;
-    same(&rt, out.as_slice(), b"\x40\xaf\x01".as_slice());
-    Ok(())
+    checks.same(out.as_slice(), b"\x40\xaf\x01".as_slice());
+    checks.verdict()
 }

@@ -1,8 +1,8 @@
 //! Acknowledgements, and frames of every kind by their fields.
-use super::{displays, holds, holds_at, same};
 use quic_base::ids::EcnCodepoint;
 use quic_frames::frame::{Ack, AckError, EcnCounts, Frame, FrameType, InvalidFrame, Iter};
 use quic_frames::transport_error::Error;
+use quic_testing::Checks;
 use std::alloc::Global;
 use std::test::Fail;
 
@@ -17,27 +17,25 @@ pub fn ranges_of(alloc: Global, ack: &Ack<'_>) -> Result<Vec<(u64, u64)>, Fail> 
 
 #[test]
 fn parts_of_an_acknowledgement(rt: HostRuntime) -> Result<(), Fail> {
+    let mut checks = Checks::new(rt.alloc());
     let ack = Ack::from_parts(5, 7, b"\x00\x00\x03", None)?;
     let wanted = [(5, 5), (0, 3)];
-    same(
-        &rt,
-        ranges_of(rt.alloc(), &ack)?.as_slice(),
-        wanted.as_slice(),
-    );
-    same(&rt, ack.largest(), 5);
-    same(&rt, ack.delay(), 7);
-    same(&rt, ack.additional(), b"\x00\x00\x03".as_slice());
-    holds(&rt, ack.ecn().is_none());
+    checks.same(ranges_of(rt.alloc(), &ack)?.as_slice(), wanted.as_slice());
+    checks.same(ack.largest(), 5);
+    checks.same(ack.delay(), 7);
+    checks.same(ack.additional(), b"\x00\x00\x03".as_slice());
+    checks.holds(ack.ecn().is_none());
     let mut iter = ack.iter();
-    same(&rt, iter.next(), Some(5..=5));
-    same(&rt, iter.next(), Some(0..=3));
-    same(&rt, iter.next(), None);
-    same(&rt, iter.next(), None);
-    Ok(())
+    checks.same(iter.next(), Some(5..=5));
+    checks.same(iter.next(), Some(0..=3));
+    checks.same(iter.next(), None);
+    checks.same(iter.next(), None);
+    checks.verdict()
 }
 
 #[test]
 fn parts_that_are_refused(rt: HostRuntime) -> Result<(), Fail> {
+    let mut checks = Checks::new(rt.alloc());
     for (blocks, refused) in [
         (b"\x00\x00\x05".as_slice(), AckError::Malformed),
         (b"\x00\x04".as_slice(), AckError::Malformed),
@@ -46,40 +44,35 @@ fn parts_that_are_refused(rt: HostRuntime) -> Result<(), Fail> {
         (b"\x00\x00".as_slice(), AckError::UnexpectedEnd),
     ] {
         let answer = Ack::from_parts(5, 0, blocks, None);
-        holds_at(
-            &rt,
+        checks.holds_at(
             format_args!("{refused:?}"),
             matches!(answer, Err(error) if error == refused),
         );
     }
     let alloc = rt.alloc();
     let (end, malformed) = (AckError::UnexpectedEnd, AckError::Malformed);
-    same(
-        &rt,
+    checks.same(
         format!(in alloc; "{end}, {malformed}, {end:?}")?.as_str(),
         "unexpected end, malformed, UnexpectedEnd",
     );
-    Ok(())
+    checks.verdict()
 }
 
 #[test]
 fn an_acknowledgement_with_counts(rt: HostRuntime) -> Result<(), Fail> {
+    let mut checks = Checks::new(rt.alloc());
     let payload = b"\x03\x0e\x2a\x03\x00\x01\x01\x03\x00\x00\x02\x2a\x18\x0c";
     let Some(Ok(frame)) = Iter::new(payload)?.next() else {
         return Err("a frame".into());
     };
-    same(&rt, frame.ty(), FrameType::ACK);
-    holds(&rt, !frame.is_ack_eliciting());
+    checks.same(frame.ty(), FrameType::ACK);
+    checks.holds(!frame.is_ack_eliciting());
     let Frame::Ack(ack) = frame else {
         return Err("an ACK".into());
     };
     let wanted = [(14, 14), (10, 11), (5, 5), (1, 3)];
-    same(
-        &rt,
-        ranges_of(rt.alloc(), &ack)?.as_slice(),
-        wanted.as_slice(),
-    );
-    same(&rt, ack.delay(), 0x2a);
+    checks.same(ranges_of(rt.alloc(), &ack)?.as_slice(), wanted.as_slice());
+    checks.same(ack.delay(), 0x2a);
     let Some(counts) = ack.ecn() else {
         return Err("counts".into());
     };
@@ -88,12 +81,13 @@ fn an_acknowledgement_with_counts(rt: HostRuntime) -> Result<(), Fail> {
         ect1: 0x18,
         ce: 0x0c,
     };
-    same(&rt, counts, wanted);
-    Ok(())
+    checks.same(counts, wanted);
+    checks.verdict()
 }
 
 #[test]
-fn counts_grow(rt: HostRuntime) {
+fn counts_grow(rt: HostRuntime) -> Result<(), Fail> {
+    let mut checks = Checks::new(rt.alloc());
     let mut counts = EcnCounts::ZERO;
     counts += EcnCodepoint::Ect0;
     counts += EcnCodepoint::Ce;
@@ -105,7 +99,8 @@ fn counts_grow(rt: HostRuntime) {
         ect1: 1,
         ce: 3,
     };
-    same(&rt, counts, wanted);
+    checks.same(counts, wanted);
+    checks.verdict()
 }
 
 // The Debug of the first frame of a payload.
@@ -118,6 +113,7 @@ fn shown(alloc: Global, payload: &[u8]) -> Result<String, Fail> {
 
 #[test]
 fn frames_of_few_numbers(rt: HostRuntime) -> Result<(), Fail> {
+    let mut checks = Checks::new(rt.alloc());
     for (payload, text) in [
         (b"\x10\x20".as_slice(), "MaxData(32)"),
         (
@@ -149,63 +145,62 @@ fn frames_of_few_numbers(rt: HostRuntime) -> Result<(), Fail> {
             "StopSending(StopSending { id: StreamId(4), error_code: 5 })",
         ),
     ] {
-        same(&rt, shown(rt.alloc(), payload)?.as_str(), text);
+        checks.same(shown(rt.alloc(), payload)?.as_str(), text);
     }
-    Ok(())
+    checks.verdict()
 }
 
 #[test]
 fn frames_of_the_connection(rt: HostRuntime) -> Result<(), Fail> {
+    let mut checks = Checks::new(rt.alloc());
     let payload = b"\x1b\x00\x00\x00\x00\x00\x00\x01\x02\x1e\x1f\x07\x02ab\x1c\x00\x00\x00\x30xy";
     let mut iter = Iter::new(payload)?;
-    holds(
-        &rt,
-        matches!(iter.next(), Some(Ok(Frame::PathResponse(0x102)))),
-    );
+    checks.holds(matches!(iter.next(), Some(Ok(Frame::PathResponse(0x102)))));
     let Some(Ok(frame)) = iter.next() else {
         return Err("a HANDSHAKE_DONE".into());
     };
-    same(&rt, frame.ty(), FrameType::HANDSHAKE_DONE);
-    holds(&rt, frame.is_ack_eliciting());
-    holds(&rt, matches!(iter.next(), Some(Ok(Frame::ImmediateAck))));
+    checks.same(frame.ty(), FrameType::HANDSHAKE_DONE);
+    checks.holds(frame.is_ack_eliciting());
+    checks.holds(matches!(iter.next(), Some(Ok(Frame::ImmediateAck))));
     let Some(Ok(Frame::NewToken(token))) = iter.next() else {
         return Err("a NEW_TOKEN".into());
     };
-    same(&rt, token.token, b"ab".as_slice());
+    checks.same(token.token, b"ab".as_slice());
     let Some(Ok(frame)) = iter.next() else {
         return Err("a CONNECTION_CLOSE".into());
     };
-    same(&rt, frame.ty(), FrameType::CONNECTION_CLOSE);
-    holds(&rt, !frame.is_ack_eliciting());
+    checks.same(frame.ty(), FrameType::CONNECTION_CLOSE);
+    checks.holds(!frame.is_ack_eliciting());
     let Some(Ok(Frame::Datagram(datagram))) = iter.next() else {
         return Err("a DATAGRAM".into());
     };
-    same(&rt, datagram.bytes, b"xy".as_slice());
-    holds(&rt, iter.next().is_none());
-    Ok(())
+    checks.same(datagram.bytes, b"xy".as_slice());
+    checks.holds(iter.next().is_none());
+    checks.verdict()
 }
 
 #[test]
 fn a_new_connection_id_and_an_ack_frequency(rt: HostRuntime) -> Result<(), Fail> {
+    let mut checks = Checks::new(rt.alloc());
     let payload =
         b"\x18\x05\x02\x02\xaa\xbb\x11\x11\x11\x11\x11\x11\x11\x11\x11\x11\x11\x11\x11\x11\x11\x12\x40\xaf\x2a\x14\x80\x00\xc3\x50\x01";
     let mut iter = Iter::new(payload)?;
     let Some(Ok(Frame::NewConnectionId(new))) = iter.next() else {
         return Err("a NEW_CONNECTION_ID".into());
     };
-    same(&rt, new.sequence, 5);
-    same(&rt, new.retire_prior_to, 2);
-    same(&rt, new.id.as_slice(), b"\xaa\xbb".as_slice());
-    same(&rt, new.reset_token.as_slice()[15], 0x12);
+    checks.same(new.sequence, 5);
+    checks.same(new.retire_prior_to, 2);
+    checks.same(new.id.as_slice(), b"\xaa\xbb".as_slice());
+    checks.same(new.reset_token.as_slice()[15], 0x12);
     let Some(Ok(Frame::AckFrequency(frequency))) = iter.next() else {
         return Err("an ACK_FREQUENCY".into());
     };
-    same(&rt, frequency.sequence.into_inner(), 0x2a);
-    same(&rt, frequency.ack_eliciting_threshold.into_inner(), 0x14);
-    same(&rt, frequency.request_max_ack_delay.into_inner(), 50000);
-    same(&rt, frequency.reordering_threshold.into_inner(), 1);
-    holds(&rt, iter.next().is_none());
-    Ok(())
+    checks.same(frequency.sequence.into_inner(), 0x2a);
+    checks.same(frequency.ack_eliciting_threshold.into_inner(), 0x14);
+    checks.same(frequency.request_max_ack_delay.into_inner(), 50000);
+    checks.same(frequency.reordering_threshold.into_inner(), 1);
+    checks.holds(iter.next().is_none());
+    checks.verdict()
 }
 
 // A conversion, by its bound alone.
@@ -217,6 +212,7 @@ fn converted<T: Copy, U: From<T>>(value: &T) -> U
 
 #[test]
 fn what_is_no_frame(rt: HostRuntime) -> Result<(), Fail> {
+    let mut checks = Checks::new(rt.alloc());
     let Some(Err(invalid)) = Iter::new(b"\x02\x05\x00\x01\x02\x02")?.next() else {
         return Err("an error".into());
     };
@@ -224,14 +220,13 @@ fn what_is_no_frame(rt: HostRuntime) -> Result<(), Fail> {
         ty: Some(FrameType::ACK),
         reason: "malformed",
     };
-    assert_eq!(rt; invalid, wanted);
+    checks.holds(invalid == wanted);
     let error = converted::<InvalidFrame, Error>(&invalid);
     let alloc = rt.alloc();
-    displays(
-        &rt,
+    checks.displays(
         alloc,
         &error,
         "received a frame that was badly formatted in ACK: malformed",
     )?;
-    Ok(())
+    checks.verdict()
 }

@@ -1,8 +1,8 @@
 //! Frames of every kind, written at their place in a payload.
 use super::frames_written_refused::is_counted;
-use super::{debugs, holds_at};
-use crate::frames::written_and_read;
+use quic_bench::frames::written_and_read;
 use quic_frames::frame::{Frame, Iter};
+use quic_testing::Checks;
 use std::alloc::Global;
 use std::test::Fail;
 
@@ -180,45 +180,50 @@ fn words(line: &str) -> Result<(&str, &str, &str), Fail> {
 
 #[test]
 fn shortest_frames_are_written_as_they_were_read(rt: HostRuntime) -> Result<(), Fail> {
+    let mut checks = Checks::new(rt.alloc());
     for line in SHORTEST.lines() {
-        holds_at(&rt, line, is_rewritten(rt.alloc(), line, line, line)?);
+        checks.holds_at(line, is_rewritten(rt.alloc(), line, line, line)?);
     }
-    Ok(())
+    checks.verdict()
 }
 
 #[test]
 fn shortest_frames_come_back(rt: HostRuntime) -> Result<(), Fail> {
+    let mut checks = Checks::new(rt.alloc());
     for line in SHORTEST.lines() {
-        holds_at(&rt, line, comes_back(rt.alloc(), line)?);
+        checks.holds_at(line, comes_back(rt.alloc(), line)?);
     }
-    Ok(())
+    checks.verdict()
 }
 
 #[test]
 fn others_are_written_in_their_shortest_form(rt: HostRuntime) -> Result<(), Fail> {
+    let mut checks = Checks::new(rt.alloc());
     for line in OTHERS.lines() {
         let (payload, counted, open) = words(line)?;
-        holds_at(&rt, line, is_rewritten(rt.alloc(), payload, counted, open)?);
+        checks.holds_at(line, is_rewritten(rt.alloc(), payload, counted, open)?);
     }
-    Ok(())
+    checks.verdict()
 }
 
 #[test]
 fn others_come_back(rt: HostRuntime) -> Result<(), Fail> {
+    let mut checks = Checks::new(rt.alloc());
     for line in OTHERS.lines() {
         let (payload, counted, open) = words(line)?;
         // An acknowledgement shows its blocks as they are spelled.
         if !payload.starts_with("02") {
-            holds_at(&rt, line, comes_back(rt.alloc(), payload)?);
+            checks.holds_at(line, comes_back(rt.alloc(), payload)?);
         }
-        holds_at(&rt, line, comes_back(rt.alloc(), counted)?);
-        holds_at(&rt, line, comes_back(rt.alloc(), open)?);
+        checks.holds_at(line, comes_back(rt.alloc(), counted)?);
+        checks.holds_at(line, comes_back(rt.alloc(), open)?);
     }
-    Ok(())
+    checks.verdict()
 }
 
 #[test]
 fn a_client_reads_what_it_writes(rt: HostRuntime) -> Result<(), Fail> {
+    let mut checks = Checks::new(rt.alloc());
     let Some(Ok(frame)) = Iter::new(b"\x40\x14\x80\x00\x00\x22")?.next() else {
         return Err("a frame".into());
     };
@@ -229,5 +234,6 @@ fn a_client_reads_what_it_writes(rt: HostRuntime) -> Result<(), Fail> {
     let Ok(again) = written_and_read(&frame, &mut out) else {
         return Err("room".into());
     };
-    debugs(&rt, rt.alloc(), &again, "DataBlocked { offset: 34 }")
+    checks.debugs(rt.alloc(), &again, "DataBlocked { offset: 34 }")?;
+    checks.verdict()
 }

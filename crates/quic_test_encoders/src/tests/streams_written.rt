@@ -1,8 +1,8 @@
 //! Heads of streams, and datagrams, that are written by themselves.
-use super::{holds, same};
 use quic_base::ids::StreamId;
 use quic_base::varint::VarInt;
 use quic_frames::frame::{Datagram, Frame, Iter, StreamMeta, StreamMetaVec};
+use quic_testing::Checks;
 use std::alloc::Global;
 use std::ops::Range;
 use std::test::Fail;
@@ -25,43 +25,41 @@ fn head(alloc: Global, offsets: Range<u64>, fin: bool, with_length: bool) -> Res
 
 #[test]
 fn heads_of_streams(rt: HostRuntime) -> Result<(), Fail> {
+    let mut checks = Checks::new(rt.alloc());
     let alloc = rt.alloc();
-    same(&rt, head(alloc, 16..18, false, true)?.as_str(), "0e041002");
-    same(&rt, head(alloc, 16..18, false, false)?.as_str(), "0c0410");
-    same(&rt, head(alloc, 16..18, true, true)?.as_str(), "0f041002");
-    same(&rt, head(alloc, 16..18, true, false)?.as_str(), "0d0410");
-    same(&rt, head(alloc, 0..64, false, true)?.as_str(), "0a044040");
-    same(&rt, head(alloc, 0..64, true, true)?.as_str(), "0b044040");
-    same(&rt, head(alloc, 0..64, true, false)?.as_str(), "0904");
-    same(
-        &rt,
-        head(alloc, 64..64, false, true)?.as_str(),
-        "0e04404000",
-    );
-    Ok(())
+    checks.same(head(alloc, 16..18, false, true)?.as_str(), "0e041002");
+    checks.same(head(alloc, 16..18, false, false)?.as_str(), "0c0410");
+    checks.same(head(alloc, 16..18, true, true)?.as_str(), "0f041002");
+    checks.same(head(alloc, 16..18, true, false)?.as_str(), "0d0410");
+    checks.same(head(alloc, 0..64, false, true)?.as_str(), "0a044040");
+    checks.same(head(alloc, 0..64, true, true)?.as_str(), "0b044040");
+    checks.same(head(alloc, 0..64, true, false)?.as_str(), "0904");
+    checks.same(head(alloc, 64..64, false, true)?.as_str(), "0e04404000");
+    checks.verdict()
 }
 
 #[test]
 fn the_head_of_no_data(rt: HostRuntime) -> Result<(), Fail> {
+    let mut checks = Checks::new(rt.alloc());
     let meta = StreamMeta::default();
-    same(&rt, u64::from(meta.id), 0);
-    same(
-        &rt,
+    checks.same(u64::from(meta.id), 0);
+    checks.same(
         (meta.offsets.start, meta.offsets.end, meta.fin),
         (0, 0, false),
     );
     let mut out = Vec::new(rt.alloc());
     meta.encode(true, &mut out)?;
-    same(&rt, out.as_slice(), b"\x0a\x00\x00".as_slice());
+    checks.same(out.as_slice(), b"\x0a\x00\x00".as_slice());
     let mut out = Vec::new(rt.alloc());
     meta.encode(false, &mut out)?;
-    same(&rt, out.as_slice(), b"\x08\x00".as_slice());
-    Ok(())
+    checks.same(out.as_slice(), b"\x08\x00".as_slice());
+    checks.verdict()
 }
 
 // A head and the data behind it are a frame.
 #[test]
 fn a_head_and_its_data(rt: HostRuntime) -> Result<(), Fail> {
+    let mut checks = Checks::new(rt.alloc());
     let meta = StreamMeta {
         id: StreamId::from(VarInt::from_u32(4)),
         offsets: 16..18,
@@ -74,43 +72,44 @@ fn a_head_and_its_data(rt: HostRuntime) -> Result<(), Fail> {
     let Some(Ok(Frame::Stream(stream))) = iter.next() else {
         return Err("a STREAM".into());
     };
-    same(&rt, u64::from(stream.id), 4);
-    same(&rt, (stream.offset, stream.fin), (16, true));
-    same(&rt, stream.bytes, b"ab".as_slice());
-    holds(&rt, matches!(iter.next(), Some(Ok(Frame::Ping))));
-    holds(&rt, iter.next().is_none());
-    Ok(())
+    checks.same(u64::from(stream.id), 4);
+    checks.same((stream.offset, stream.fin), (16, true));
+    checks.same(stream.bytes, b"ab".as_slice());
+    checks.holds(matches!(iter.next(), Some(Ok(Frame::Ping))));
+    checks.holds(iter.next().is_none());
+    checks.verdict()
 }
 
 // One head is held without memory.
 #[test]
 fn one_head_is_held(rt: HostRuntime) -> Result<(), Fail> {
+    let mut checks = Checks::new(rt.alloc());
     let mut metas = StreamMetaVec::new(rt.alloc());
-    holds(&rt, metas.push(StreamMeta::default()).is_ok());
+    checks.holds(metas.push(StreamMeta::default()).is_ok());
     let [meta] = metas.as_slice() else {
         return Err("one head".into());
     };
-    same(&rt, u64::from(meta.id), 0);
-    same(
-        &rt,
+    checks.same(u64::from(meta.id), 0);
+    checks.same(
         (meta.offsets.start, meta.offsets.end, meta.fin),
         (0, 0, false),
     );
-    Ok(())
+    checks.verdict()
 }
 
 #[test]
 fn datagrams(rt: HostRuntime) -> Result<(), Fail> {
+    let mut checks = Checks::new(rt.alloc());
     let datagram = Datagram { bytes: b"hi" };
     let mut out = Vec::new(rt.alloc());
     datagram.encode(true, &mut out)?;
-    same(&rt, out.as_slice(), b"\x31\x02hi".as_slice());
-    same(&rt, datagram.size(true), 4);
+    checks.same(out.as_slice(), b"\x31\x02hi".as_slice());
+    checks.same(datagram.size(true), 4);
     // Behind what stands there.
     datagram.encode(false, &mut out)?;
-    same(&rt, out.as_slice(), b"\x31\x02hi\x30hi".as_slice());
-    same(&rt, datagram.size(false), 3);
+    checks.same(out.as_slice(), b"\x31\x02hi\x30hi".as_slice());
+    checks.same(datagram.size(false), 3);
     let long = Datagram { bytes: &[0x61; 64] };
-    same(&rt, (long.size(true), long.size(false)), (67, 65));
-    Ok(())
+    checks.same((long.size(true), long.size(false)), (67, 65));
+    checks.verdict()
 }

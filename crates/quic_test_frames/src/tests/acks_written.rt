@@ -5,9 +5,9 @@ ghost use Rattle.quic_frames.specs.InRange.{AreCounts};
 
 use super::acks::ranges_of;
 use super::acks_answers::ACKS;
-use super::{holds, holds_at, same};
 use quic_frames::frame::{Ack, EcnCounts, Frame, Iter};
 use quic_ranges::range_set::ArrayRangeSet;
+use quic_testing::Checks;
 use std::alloc::Global;
 use std::test::Fail;
 
@@ -77,26 +77,29 @@ fn is_written(alloc: Global, line: &str) -> Result<bool, Fail> {
 
 #[test]
 fn acks_are_written_as_by_the_rust_crate(rt: HostRuntime) -> Result<(), Fail> {
+    let mut checks = Checks::new(rt.alloc());
     for line in ACKS.lines() {
-        holds_at(&rt, line, is_written(rt.alloc(), line)?);
+        checks.holds_at(line, is_written(rt.alloc(), line)?);
     }
-    Ok(())
+    checks.verdict()
 }
 
 #[test]
 fn acks_of_few_numbers(rt: HostRuntime) -> Result<(), Fail> {
+    let mut checks = Checks::new(rt.alloc());
     for line in [
         "0 0..1|0200000000",
         "0 0..1,2..3|02020001000000",
         "42 1..4,5..6,10..12,14..15 42 24 12|030e2a03000101030000022a180c",
     ] {
-        holds_at(&rt, line, is_written(rt.alloc(), line)?);
+        checks.holds_at(line, is_written(rt.alloc(), line)?);
     }
-    Ok(())
+    checks.verdict()
 }
 
 #[test]
 fn an_ack_of_a_set_is_read_back(rt: HostRuntime) -> Result<(), Fail> {
+    let mut checks = Checks::new(rt.alloc());
     let mut set = ArrayRangeSet::new(rt.alloc());
     for number in [14, 1, 2, 10, 3, 5, 11] {
         set.insert_one(number)?;
@@ -112,13 +115,9 @@ fn an_ack_of_a_set_is_read_back(rt: HostRuntime) -> Result<(), Fail> {
         return Err("an ACK".into());
     };
     let wanted = [(14, 14), (10, 11), (5, 5), (1, 3)];
-    same(
-        &rt,
-        ranges_of(rt.alloc(), &ack)?.as_slice(),
-        wanted.as_slice(),
-    );
-    same(&rt, ack.delay(), 42);
-    holds(&rt, ack.ecn() == Some(counts));
-    holds(&rt, iter.next().is_none());
-    Ok(())
+    checks.same(ranges_of(rt.alloc(), &ack)?.as_slice(), wanted.as_slice());
+    checks.same(ack.delay(), 42);
+    checks.holds(ack.ecn() == Some(counts));
+    checks.holds(iter.next().is_none());
+    checks.verdict()
 }

@@ -1,31 +1,13 @@
 //! Codes, errors and closes, and their texts.
 use super::texts_answers::{CLOSES, CODES, ERRORS, TYPES};
-use super::{displays, holds, holds_at, same};
 use quic_base::coding::{BufMutExt, Codec};
 use quic_base::varint::VarInt;
 use quic_frames::frame::{ApplicationClose, Close, ConnectionClose, Frame, FrameType, Iter};
 use quic_frames::transport_error::{Code, Error, Reason};
+use quic_testing::Checks;
+use quic_testing::codes::{code_of, type_of};
 use std::alloc::Global;
 use std::test::Fail;
-
-// The shortest bytes of a number.
-fn spelled(alloc: Global, number: u64) -> Result<Vec<u8>, Fail> {
-    let mut bytes = Vec::new(alloc);
-    bytes.write(VarInt::from_u64(number)?)?;
-    Ok(bytes)
-}
-
-pub fn code_of(alloc: Global, number: u64) -> Result<Code, Fail> {
-    let bytes = spelled(alloc, number)?;
-    let mut left = bytes.as_slice();
-    Ok(Code::decode(&mut left)?)
-}
-
-pub fn type_of(alloc: Global, number: u64) -> Result<FrameType, Fail> {
-    let bytes = spelled(alloc, number)?;
-    let mut left = bytes.as_slice();
-    Ok(FrameType::decode(&mut left)?)
-}
 
 // The parts of a line of answers.
 fn parts(line: &str) -> Result<(&str, &str, &str), Fail> {
@@ -84,68 +66,71 @@ fn close_shows(alloc: Global, line: &str) -> Result<bool, Fail> {
 
 #[test]
 fn codes_as_of_the_rust_crate(rt: HostRuntime) -> Result<(), Fail> {
+    let mut checks = Checks::new(rt.alloc());
     for line in CODES.lines() {
-        holds_at(&rt, line, code_shows(rt.alloc(), line)?);
+        checks.holds_at(line, code_shows(rt.alloc(), line)?);
     }
-    Ok(())
+    checks.verdict()
 }
 
 #[test]
 fn types_as_of_the_rust_crate(rt: HostRuntime) -> Result<(), Fail> {
+    let mut checks = Checks::new(rt.alloc());
     for line in TYPES.lines() {
-        holds_at(&rt, line, type_shows(rt.alloc(), line)?);
+        checks.holds_at(line, type_shows(rt.alloc(), line)?);
     }
-    Ok(())
+    checks.verdict()
 }
 
 #[test]
 fn errors_as_of_the_rust_crate(rt: HostRuntime) -> Result<(), Fail> {
+    let mut checks = Checks::new(rt.alloc());
     for line in ERRORS.lines() {
-        holds_at(&rt, line, error_shows(rt.alloc(), line)?);
+        checks.holds_at(line, error_shows(rt.alloc(), line)?);
     }
-    Ok(())
+    checks.verdict()
 }
 
 #[test]
 fn closes_as_of_the_rust_crate(rt: HostRuntime) -> Result<(), Fail> {
+    let mut checks = Checks::new(rt.alloc());
     for line in CLOSES.lines() {
-        holds_at(&rt, line, close_shows(rt.alloc(), line)?);
+        checks.holds_at(line, close_shows(rt.alloc(), line)?);
     }
-    Ok(())
+    checks.verdict()
 }
 
 #[test]
 fn a_code_and_its_bytes(rt: HostRuntime) -> Result<(), Fail> {
+    let mut checks = Checks::new(rt.alloc());
     let alloc = rt.alloc();
     let mut out = Vec::new(alloc);
     out.write(Code::crypto(42))?;
-    same(&rt, out.as_slice(), b"\x41\x2a".as_slice());
+    checks.same(out.as_slice(), b"\x41\x2a".as_slice());
     let code = Code::crypto(42);
-    displays(
-        &rt,
-        alloc,
-        &code,
-        "the cryptographic handshake failed: error 42",
-    )?;
+    checks.displays(alloc, &code, "the cryptographic handshake failed: error 42")?;
     let mut left = b"\x80\x00\x00\x11".as_slice();
     let code = Code::decode(&mut left)?;
-    displays(&rt, alloc, &code, "unknown error")?;
-    Ok(())
+    checks.displays(alloc, &code, "unknown error")?;
+    checks.verdict()
 }
 
 // Each constructor with its code and its number.
 #[test]
-fn types_and_codes_by_their_numbers(rt: HostRuntime) {
-    same(&rt, FrameType::of_stream(false, false).into_inner(), 0x08);
-    same(&rt, FrameType::of_stream(true, true).into_inner(), 0x0d);
-    same(&rt, FrameType::or_none(0), None);
-    same(&rt, FrameType::or_none(6), Some(FrameType::CRYPTO));
-    same(&rt, FrameType::DATAGRAM.into_inner(), 0x30);
-    same(&rt, u64::from(Code::of(0x10a)), 0x10a);
+fn types_and_codes_by_their_numbers(rt: HostRuntime) -> Result<(), Fail> {
+    let mut checks = Checks::new(rt.alloc());
+    checks.same(FrameType::of_stream(false, false).into_inner(), 0x08);
+    checks.same(FrameType::of_stream(true, true).into_inner(), 0x0d);
+    checks.same(FrameType::or_none(0), None);
+    checks.same(FrameType::or_none(6), Some(FrameType::CRYPTO));
+    checks.same(FrameType::DATAGRAM.into_inner(), 0x30);
+    checks.same(u64::from(Code::of(0x10a)), 0x10a);
+    checks.verdict()
 }
 
 #[test]
 fn each_constructor_has_its_code(rt: HostRuntime) -> Result<(), Fail> {
+    let mut checks = Checks::new(rt.alloc());
     let errors = [
         (Error::NO_ERROR("x"), Code::NO_ERROR),
         (Error::INTERNAL_ERROR("x"), Code::INTERNAL_ERROR),
@@ -175,75 +160,78 @@ fn each_constructor_has_its_code(rt: HostRuntime) -> Result<(), Fail> {
         (Error::NO_VIABLE_PATH("x"), Code::NO_VIABLE_PATH),
     ];
     for (number, (error, code)) in errors.iter().enumerate() {
-        same(&rt, error.code, *code);
-        same(&rt, u64::from(*code), number as u64);
-        same(&rt, error.frame, None);
-        same(&rt, error.reason.as_str(), "x");
+        checks.same(error.code, *code);
+        checks.same(u64::from(*code), number as u64);
+        checks.same(error.frame, None);
+        checks.same(error.reason.as_str(), "x");
     }
-    Ok(())
+    checks.verdict()
 }
 
 #[test]
 fn an_error_and_its_copies(rt: HostRuntime) -> Result<(), Fail> {
+    let mut checks = Checks::new(rt.alloc());
     let alloc = rt.alloc();
     let mut error = Error::FLOW_CONTROL_ERROR("x");
     error.frame = Some(type_of(alloc, 0x0a)?);
     let text = "received more data than permitted in advertised data limits in STREAM: x";
-    displays(&rt, alloc, &error, text)?;
+    checks.displays(alloc, &error, text)?;
     let error = Error::with_text(alloc, Code::NO_VIABLE_PATH, "x")?;
     let text = "no viable network path exists: x";
-    displays(&rt, alloc, &error, text)?;
+    checks.displays(alloc, &error, text)?;
     let copy = error.try_clone()?;
-    holds(&rt, copy == error);
-    holds(&rt, copy.reason == Reason::Static("x"));
+    checks.holds(copy == error);
+    checks.holds(copy.reason == Reason::Static("x"));
     let bare = Error::from(Code::NO_VIABLE_PATH);
-    same(&rt, bare.reason.as_str(), "");
-    holds(&rt, bare != error);
+    checks.same(bare.reason.as_str(), "");
+    checks.holds(bare != error);
     let text = "no viable network path exists";
-    displays(&rt, alloc, &bare, text)?;
-    Ok(())
+    checks.displays(alloc, &bare, text)?;
+    checks.verdict()
 }
 
 #[test]
 fn closes(rt: HostRuntime) -> Result<(), Fail> {
+    let mut checks = Checks::new(rt.alloc());
     let alloc = rt.alloc();
     let Some(Ok(Frame::Close(Close::Connection(close)))) = Iter::new(b"\x1c\x0a\x00\x03bad")?.next()
     else {
         return Err("a close".into());
     };
-    same(&rt, close.error_code, Code::PROTOCOL_VIOLATION);
-    same(&rt, close.frame_type, None);
-    same(&rt, close.reason, b"bad".as_slice());
+    checks.same(close.error_code, Code::PROTOCOL_VIOLATION);
+    checks.same(close.frame_type, None);
+    checks.same(close.reason, b"bad".as_slice());
     let text =
         "detected an error with protocol compliance that was not covered by more specific error codes: bad";
-    displays(&rt, alloc, &close, text)?;
-    holds(&rt, Close::from(close).is_transport_layer());
+    checks.displays(alloc, &close, text)?;
+    checks.holds(Close::from(close).is_transport_layer());
     let Some(Ok(Frame::Close(Close::Application(close)))) = Iter::new(b"\x1d\x05\x01\xff")?.next()
     else {
         return Err("a close".into());
     };
-    same(&rt, close.error_code.into_inner(), 5);
-    displays(&rt, alloc, &close, "\u{fffd} (code 5)")?;
-    holds(&rt, !Close::from(close).is_transport_layer());
+    checks.same(close.error_code.into_inner(), 5);
+    checks.displays(alloc, &close, "\u{fffd} (code 5)")?;
+    checks.holds(!Close::from(close).is_transport_layer());
     let bare = ApplicationClose {
         error_code: VarInt::from_u32(5),
         reason: b"",
     };
-    displays(&rt, alloc, &bare, "5")?;
-    Ok(())
+    checks.displays(alloc, &bare, "5")?;
+    checks.verdict()
 }
 
 #[test]
 fn the_close_of_an_error_borrows_its_reason(rt: HostRuntime) -> Result<(), Fail> {
+    let mut checks = Checks::new(rt.alloc());
     let mut error = Error::with_text(rt.alloc(), Code::FLOW_CONTROL_ERROR, "too much")?;
     error.frame = Some(FrameType::CRYPTO);
     let close = ConnectionClose::from(&error);
-    same(&rt, close.error_code, Code::FLOW_CONTROL_ERROR);
-    same(&rt, close.frame_type, Some(FrameType::CRYPTO));
-    same(&rt, close.reason, b"too much".as_slice());
+    checks.same(close.error_code, Code::FLOW_CONTROL_ERROR);
+    checks.same(close.frame_type, Some(FrameType::CRYPTO));
+    checks.same(close.reason, b"too much".as_slice());
     let Close::Connection(by_close) = Close::from(&error) else {
         return Err("a close of the transport".into());
     };
-    same(&rt, by_close, close);
-    Ok(())
+    checks.same(by_close, close);
+    checks.verdict()
 }

@@ -1,9 +1,9 @@
 ghost use Rattle.std.specs.Prelude.{OnOk};
 ghost use Rattle.quic_ranges.specs.Runs.{IsRunsOf, in_union};
 
-use super::{debugs, holds, holds_at, same, same_at};
 use quic_base::coding::NoRoom;
 use quic_ranges::range_set::{ArrayRangeSet, RangeSet, Replace};
+use quic_testing::Checks;
 use std::alloc::Global;
 use std::ops::Range;
 use std::test::Fail;
@@ -113,203 +113,200 @@ const REPLACE_ROWS: &[(Runs, (u64, u64), Runs, Runs)] = &[
 
 #[test]
 fn replaces(rt: HostRuntime) -> Result<(), Fail> {
+    let mut checks = Checks::new(rt.alloc());
     for &(before, (start, end), pieces, after) in REPLACE_ROWS {
         let mut set = map_of(rt.alloc(), before)?;
-        holds_at(
-            &rt,
+        checks.holds_at(
             format_args!("{start}..{end}"),
             gives(set.replace(start..end)?, pieces),
         );
-        holds_at(&rt, format_args!("{start}..{end}"), map_is(&set, after));
+        checks.holds_at(format_args!("{start}..{end}"), map_is(&set, after));
     }
-    Ok(())
+    checks.verdict()
 }
 
-// Dropped before its first `next`, a `Replace` leaves the same set.
+// Dropped before its first `next`, at a look or counted, a `Replace` leaves the same set.
 #[test]
 fn replaces_without_a_look(rt: HostRuntime) -> Result<(), Fail> {
-    for &(before, (start, end), _, after) in REPLACE_ROWS {
+    let mut checks = Checks::new(rt.alloc());
+    for &(before, (start, end), pieces, after) in REPLACE_ROWS {
         let mut set = map_of(rt.alloc(), before)?;
         replace_unseen(&mut set, start..end)?;
-        holds_at(&rt, start, map_is(&set, after));
-    }
-    Ok(())
-}
-
-#[test]
-fn replaces_at_a_look(rt: HostRuntime) -> Result<(), Fail> {
-    for &(before, (start, end), _, after) in REPLACE_ROWS {
+        checks.holds_at(start, map_is(&set, after));
         let mut set = map_of(rt.alloc(), before)?;
         replace_at_a_look(&mut set, start..end)?;
-        holds_at(&rt, start, map_is(&set, after));
-    }
-    Ok(())
-}
-
-#[test]
-fn counts_what_is_replaced(rt: HostRuntime) -> Result<(), Fail> {
-    for &(before, (start, end), pieces, _) in REPLACE_ROWS {
+        checks.holds_at(start, map_is(&set, after));
         let mut set = map_of(rt.alloc(), before)?;
-        same(
-            &rt,
-            count_replaced(&mut set, start..end)?,
-            pieces.len() as u64,
-        );
+        checks.same(count_replaced(&mut set, start..end)?, pieces.len() as u64);
     }
-    Ok(())
+    checks.verdict()
 }
 
 #[test]
 fn replaces_one_after_the_other(rt: HostRuntime) -> Result<(), Fail> {
+    let mut checks = Checks::new(rt.alloc());
     let mut looked = RangeSet::new(rt.alloc());
-    holds(&rt, gives(looked.replace(3..3)?, &[]));
-    holds(&rt, gives(looked.replace(6..10)?, &[]));
-    holds(&rt, gives(looked.replace(5..5)?, &[]));
-    holds(&rt, gives(looked.replace(2..7)?, &[(6, 7)]));
-    holds(&rt, map_is(&looked, &[(2, 10)]));
-    Ok(())
+    checks.holds(gives(looked.replace(3..3)?, &[]));
+    checks.holds(gives(looked.replace(6..10)?, &[]));
+    checks.holds(gives(looked.replace(5..5)?, &[]));
+    checks.holds(gives(looked.replace(2..7)?, &[(6, 7)]));
+    checks.holds(map_is(&looked, &[(2, 10)]));
+    checks.verdict()
 }
 
 #[test]
 fn replaces_one_after_the_other_without_a_look(rt: HostRuntime) -> Result<(), Fail> {
+    let mut checks = Checks::new(rt.alloc());
     let mut dropped = RangeSet::new(rt.alloc());
     let _ = dropped.replace(3..3)?;
     let _ = dropped.replace(6..10)?;
     let _ = dropped.replace(5..5)?;
     let _ = dropped.replace(2..7)?;
-    holds(&rt, map_is(&dropped, &[(2, 10)]));
-    Ok(())
+    checks.holds(map_is(&dropped, &[(2, 10)]));
+    checks.verdict()
 }
 
 #[test]
 fn removes_from_the_middle(rt: HostRuntime) -> Result<(), Fail> {
+    let mut checks = Checks::new(rt.alloc());
     let mut map = map_of(rt.alloc(), &[(0, 10)])?;
-    same(&rt, map.remove(3..5), Ok(true));
-    holds(&rt, map_is(&map, &[(0, 3), (5, 10)]));
+    checks.same(map.remove(3..5), Ok(true));
+    checks.holds(map_is(&map, &[(0, 3), (5, 10)]));
     let mut array = array_of(rt.alloc(), &[(0, 10)])?;
-    same(&rt, array.remove(3..5), Ok(true));
-    holds(&rt, array_is(&array, &[(0, 3), (5, 10)]));
-    Ok(())
+    checks.same(array.remove(3..5), Ok(true));
+    checks.holds(array_is(&array, &[(0, 3), (5, 10)]));
+    checks.verdict()
 }
 
 #[test]
-fn inserts_the_greatest_member(rt: HostRuntime) {
+fn inserts_the_greatest_member(rt: HostRuntime) -> Result<(), Fail> {
+    let mut checks = Checks::new(rt.alloc());
     let mut map = RangeSet::new(rt.alloc());
-    same(&rt, map.insert_one(u64::MAX - 1), Ok(true));
-    holds(&rt, map_is(&map, &[(u64::MAX - 1, u64::MAX)]));
+    checks.same(map.insert_one(u64::MAX - 1), Ok(true));
+    checks.holds(map_is(&map, &[(u64::MAX - 1, u64::MAX)]));
     let mut array = ArrayRangeSet::new(rt.alloc());
-    same(&rt, array.insert_one(u64::MAX - 1), Ok(true));
-    holds(&rt, array_is(&array, &[(u64::MAX - 1, u64::MAX)]));
+    checks.same(array.insert_one(u64::MAX - 1), Ok(true));
+    checks.holds(array_is(&array, &[(u64::MAX - 1, u64::MAX)]));
+    checks.verdict()
 }
 
 #[test]
 fn adds(rt: HostRuntime) -> Result<(), Fail> {
+    let mut checks = Checks::new(rt.alloc());
     let mut set = map_of(rt.alloc(), &[(1, 3), (5, 7)])?;
     let other = map_of(rt.alloc(), &[(3, 5), (9, 10)])?;
-    same(&rt, set.add(&other), Ok(()));
-    holds(&rt, map_is(&set, &[(1, 7), (9, 10)]));
-    holds(&rt, map_is(&other, &[(3, 5), (9, 10)]));
-    Ok(())
+    checks.same(set.add(&other), Ok(()));
+    checks.holds(map_is(&set, &[(1, 7), (9, 10)]));
+    checks.holds(map_is(&other, &[(3, 5), (9, 10)]));
+    checks.verdict()
 }
 
 #[test]
 fn clones(rt: HostRuntime) -> Result<(), Fail> {
+    let mut checks = Checks::new(rt.alloc());
     let runs = [(1, 3), (5, 7), (9, 11)];
     let map = map_of(rt.alloc(), &runs)?;
-    holds(&rt, map_is(&map.try_clone()?, &runs));
-    holds(&rt, map_is(&map, &runs));
-    Ok(())
+    checks.holds(map_is(&map.try_clone()?, &runs));
+    checks.holds(map_is(&map, &runs));
+    checks.verdict()
 }
 
 #[test]
 fn clones_array_sets(rt: HostRuntime) -> Result<(), Fail> {
+    let mut checks = Checks::new(rt.alloc());
     for runs in [
         [(1, 3), (5, 7), (9, 11)].as_slice(),
         [(1, 3), (5, 7)].as_slice(),
     ] {
         let array = array_of(rt.alloc(), runs)?;
-        holds(&rt, array_is(&array.try_clone()?, runs));
-        holds(&rt, array_is(&array, runs));
+        checks.holds(array_is(&array.try_clone()?, runs));
+        checks.holds(array_is(&array, runs));
     }
-    Ok(())
+    checks.verdict()
 }
 
 #[test]
 fn subtracts(rt: HostRuntime) -> Result<(), Fail> {
+    let mut checks = Checks::new(rt.alloc());
     let (before, other) = ([(0, 100), (200, 210)], [(50, 60), (150, 300)]);
     let mut map = map_of(rt.alloc(), &before)?;
-    same(&rt, map.subtract(&map_of(rt.alloc(), &other)?), Ok(()));
-    holds(&rt, map_is(&map, &[(0, 50), (60, 100)]));
+    checks.same(map.subtract(&map_of(rt.alloc(), &other)?), Ok(()));
+    checks.holds(map_is(&map, &[(0, 50), (60, 100)]));
     let mut array = array_of(rt.alloc(), &before)?;
-    same(&rt, array.subtract(&array_of(rt.alloc(), &other)?), Ok(()));
-    holds(&rt, array_is(&array, &[(0, 50), (60, 100)]));
-    Ok(())
+    checks.same(array.subtract(&array_of(rt.alloc(), &other)?), Ok(()));
+    checks.holds(array_is(&array, &[(0, 50), (60, 100)]));
+    checks.verdict()
 }
 
 #[test]
 fn gives_elements_from_both_ends(rt: HostRuntime) -> Result<(), Fail> {
+    let mut checks = Checks::new(rt.alloc());
     let map = map_of(rt.alloc(), &[(0, 3), (5, 7)])?;
     let mut elements = map.elts();
-    same(&rt, elements.next(), Some(0));
-    same(&rt, elements.next_back(), Some(6));
-    same(&rt, elements.next(), Some(1));
-    same(&rt, elements.next_back(), Some(5));
-    same(&rt, elements.next_back(), Some(2));
-    same(&rt, elements.next(), None);
-    same(&rt, elements.next_back(), None);
+    checks.same(elements.next(), Some(0));
+    checks.same(elements.next_back(), Some(6));
+    checks.same(elements.next(), Some(1));
+    checks.same(elements.next_back(), Some(5));
+    checks.same(elements.next_back(), Some(2));
+    checks.same(elements.next(), None);
+    checks.same(elements.next_back(), None);
     let array = array_of(rt.alloc(), &[(0, 3), (5, 7)])?;
     let mut elements = array.elts();
     for x in [0, 1, 2, 5, 6] {
-        same(&rt, elements.next(), Some(x));
+        checks.same(elements.next(), Some(x));
     }
-    same(&rt, elements.next(), None);
-    Ok(())
+    checks.same(elements.next(), None);
+    checks.verdict()
 }
 
 // A script whose answers are the same on both sets, up to its `replace`, which the array set lacks.
 #[test]
 fn runs_the_script_on_the_map_set(rt: HostRuntime) -> Result<(), Fail> {
+    let mut checks = Checks::new(rt.alloc());
     let mut set = RangeSet::new(rt.alloc());
-    same(&rt, set.insert(5..7), Ok(true));
-    same(&rt, set.insert(1..3), Ok(true));
-    holds(&rt, map_is(&set, &[(1, 3), (5, 7)]));
-    same(&rt, set.insert_one(3), Ok(true));
-    same(&rt, set.insert_one(4), Ok(true));
-    holds(&rt, map_is(&set, &[(1, 7)]));
-    same(&rt, set.insert(2..6), Ok(false));
-    holds(&rt, map_is(&set, &[(1, 7)]));
-    same(&rt, set.remove(3..4), Ok(true));
-    holds(&rt, map_is(&set, &[(1, 3), (4, 7)]));
-    same(&rt, set.remove(7..9), Ok(false));
-    holds(&rt, map_is(&set, &[(1, 3), (4, 7)]));
-    holds(&rt, gives(set.replace(0..10)?, &[(1, 3), (4, 7)]));
-    holds(&rt, map_is(&set, &[(0, 10)]));
+    checks.same(set.insert(5..7), Ok(true));
+    checks.same(set.insert(1..3), Ok(true));
+    checks.holds(map_is(&set, &[(1, 3), (5, 7)]));
+    checks.same(set.insert_one(3), Ok(true));
+    checks.same(set.insert_one(4), Ok(true));
+    checks.holds(map_is(&set, &[(1, 7)]));
+    checks.same(set.insert(2..6), Ok(false));
+    checks.holds(map_is(&set, &[(1, 7)]));
+    checks.same(set.remove(3..4), Ok(true));
+    checks.holds(map_is(&set, &[(1, 3), (4, 7)]));
+    checks.same(set.remove(7..9), Ok(false));
+    checks.holds(map_is(&set, &[(1, 3), (4, 7)]));
+    checks.holds(gives(set.replace(0..10)?, &[(1, 3), (4, 7)]));
+    checks.holds(map_is(&set, &[(0, 10)]));
     let run = set.pop_min().expect(&rt, "a run");
-    same(&rt, (run.start, run.end), (0, 10));
-    same(&rt, set.min(), None);
-    holds(&rt, map_is(&set, &[]));
-    Ok(())
+    checks.same((run.start, run.end), (0, 10));
+    checks.same(set.min(), None);
+    checks.holds(map_is(&set, &[]));
+    checks.verdict()
 }
 
 #[test]
-fn runs_the_script_on_the_array_set(rt: HostRuntime) {
+fn runs_the_script_on_the_array_set(rt: HostRuntime) -> Result<(), Fail> {
+    let mut checks = Checks::new(rt.alloc());
     let mut set = ArrayRangeSet::new(rt.alloc());
-    same(&rt, set.insert(5..7), Ok(true));
-    same(&rt, set.insert(1..3), Ok(true));
-    holds(&rt, array_is(&set, &[(1, 3), (5, 7)]));
-    same(&rt, set.insert_one(3), Ok(true));
-    same(&rt, set.insert_one(4), Ok(true));
-    holds(&rt, array_is(&set, &[(1, 7)]));
-    same(&rt, set.insert(2..6), Ok(false));
-    holds(&rt, array_is(&set, &[(1, 7)]));
-    same(&rt, set.remove(3..4), Ok(true));
-    holds(&rt, array_is(&set, &[(1, 3), (4, 7)]));
-    same(&rt, set.remove(7..9), Ok(false));
-    holds(&rt, array_is(&set, &[(1, 3), (4, 7)]));
+    checks.same(set.insert(5..7), Ok(true));
+    checks.same(set.insert(1..3), Ok(true));
+    checks.holds(array_is(&set, &[(1, 3), (5, 7)]));
+    checks.same(set.insert_one(3), Ok(true));
+    checks.same(set.insert_one(4), Ok(true));
+    checks.holds(array_is(&set, &[(1, 7)]));
+    checks.same(set.insert(2..6), Ok(false));
+    checks.holds(array_is(&set, &[(1, 7)]));
+    checks.same(set.remove(3..4), Ok(true));
+    checks.holds(array_is(&set, &[(1, 3), (4, 7)]));
+    checks.same(set.remove(7..9), Ok(false));
+    checks.holds(array_is(&set, &[(1, 3), (4, 7)]));
+    checks.verdict()
 }
 
 #[test]
 fn answers_queries(rt: HostRuntime) -> Result<(), Fail> {
+    let mut checks = Checks::new(rt.alloc());
     let map = map_of(rt.alloc(), &[(2, 4), (6, 9)])?;
     let array = array_of(rt.alloc(), &[(2, 4), (6, 9)])?;
     for (x, present) in [
@@ -320,55 +317,52 @@ fn answers_queries(rt: HostRuntime) -> Result<(), Fail> {
         (8, true),
         (9, false),
     ] {
-        same_at(&rt, x, map.contains(x), present);
-        same_at(&rt, x, array.contains(x), present);
+        checks.same_at(x, map.contains(x), present);
+        checks.same_at(x, array.contains(x), present);
     }
-    holds(&rt, !map.is_empty() && !array.is_empty());
-    Ok(())
+    checks.holds(!map.is_empty() && !array.is_empty());
+    checks.verdict()
 }
 
 #[test]
 fn answers_for_the_ends(rt: HostRuntime) -> Result<(), Fail> {
+    let mut checks = Checks::new(rt.alloc());
     let map = map_of(rt.alloc(), &[(2, 4), (6, 9)])?;
     let mut array = array_of(rt.alloc(), &[(2, 4), (6, 9)])?;
-    same(&rt, (map.min(), map.max()), (Some(2), Some(8)));
-    same(&rt, (array.min(), array.max()), (Some(2), Some(8)));
+    checks.same((map.min(), map.max()), (Some(2), Some(8)));
+    checks.same((array.min(), array.max()), (Some(2), Some(8)));
     let peeked = map.peek_min().expect(&rt, "a run");
-    same(&rt, (peeked.start, peeked.end), (2, 4));
+    checks.same((peeked.start, peeked.end), (2, 4));
     let popped = array.pop_min().expect(&rt, "a run");
-    same(&rt, (popped.start, popped.end), (2, 4));
-    holds(&rt, array_is(&array, &[(6, 9)]));
+    checks.same((popped.start, popped.end), (2, 4));
+    checks.holds(array_is(&array, &[(6, 9)]));
     let last = map.iter().next_back().expect(&rt, "a run");
-    same(&rt, (last.start, last.end), (6, 9));
-    Ok(())
+    checks.same((last.start, last.end), (6, 9));
+    checks.verdict()
 }
 
 #[test]
 fn answers_when_empty(rt: HostRuntime) -> Result<(), Fail> {
+    let mut checks = Checks::new(rt.alloc());
     let mut map = map_of(rt.alloc(), &[(2, 4), (6, 9)])?;
     let mut starts = 0;
     for run in &map {
         starts = starts ^ run.start;
     }
-    same(&rt, starts, 4);
+    checks.same(starts, 4);
     let _ = map.pop_min();
     let _ = map.pop_min();
-    holds(
-        &rt,
-        map.is_empty() && map.peek_min().is_none() && map.max().is_none(),
-    );
-    holds(
-        &rt,
-        RangeSet::new(rt.alloc()).is_empty() && ArrayRangeSet::new(rt.alloc()).is_empty(),
-    );
-    Ok(())
+    checks.holds(map.is_empty() && map.peek_min().is_none() && map.max().is_none());
+    checks.holds(RangeSet::new(rt.alloc()).is_empty() && ArrayRangeSet::new(rt.alloc()).is_empty());
+    checks.verdict()
 }
 
 #[test]
 fn shows_sets(rt: HostRuntime) -> Result<(), Fail> {
+    let mut checks = Checks::new(rt.alloc());
     let map = map_of(rt.alloc(), &[(1, 3), (5, 7)])?;
     let array = array_of(rt.alloc(), &[(1, 3), (5, 7)])?;
-    debugs(&rt, rt.alloc(), &map, "RangeSet({1: 3, 5: 7})")?;
-    debugs(&rt, rt.alloc(), &array, "ArrayRangeSet([1..3, 5..7])")?;
-    Ok(())
+    checks.debugs(rt.alloc(), &map, "RangeSet({1: 3, 5: 7})")?;
+    checks.debugs(rt.alloc(), &array, "ArrayRangeSet([1..3, 5..7])")?;
+    checks.verdict()
 }

@@ -1,0 +1,3 @@
+//! Worked rows, answers of the Rust crate, and what no clause says.
+
+mod base;

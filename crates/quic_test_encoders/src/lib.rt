@@ -1,0 +1,5 @@
+//! Tests of frames that are written.
+#![tactic(auto)]
+
+#[cfg(test)]
+mod tests;

@@ -1,0 +1,7 @@
+//! Worked rows, answers of the Rust crate, and what no clause says.
+
+mod frames_written;
+mod frames_written_refused;
+mod streams_written;
+mod written;
+mod written_answers;

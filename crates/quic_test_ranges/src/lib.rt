@@ -1,0 +1,5 @@
+//! Tests of both sets of packet numbers.
+#![tactic(auto)]
+
+#[cfg(test)]
+mod tests;

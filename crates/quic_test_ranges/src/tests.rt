@@ -1,0 +1,6 @@
+//! Worked rows, answers of the Rust crate, and what no clause says.
+
+mod ranges;
+mod ranges_refused;
+mod ranges_replay;
+mod ranges_scripts;

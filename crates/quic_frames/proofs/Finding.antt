@@ -3,12 +3,12 @@ use Rattle.std.proofs.Common.{◌≡◌, ℕ, false, List, Option, Ok, Err, Some
 use Rattle.quic_base.specs.Number.{AreBytes}
 use Rattle.quic_base.specs.Codec.{Takes}
 use Rattle.quic_base.specs.Varint.{Spells}
-use Rattle.quic_frames.specs.declared.frame.fault.Fault.{Fault}
-use Rattle.quic_frames.specs.declared.frame.fault.Fault.TheVariants.{UnexpectedEnd}
-use Rattle.quic_frames.specs.Field.{LacksNumber}
-use Rattle.quic_frames.specs.Payload.{Meaning}
-use Rattle.quic_frames.specs.Reading.{frame_at, invalid, found_at}
-use Rattle.quic_frames.proofs.Varints.{varint_read, varint_cut}
+use Rattle.quic_frame_parts.specs.declared.frame.fault.Fault.{Fault}
+use Rattle.quic_frame_parts.specs.declared.frame.fault.Fault.TheVariants.{UnexpectedEnd}
+use Rattle.quic_frame_parts.specs.Field.{LacksNumber}
+use Rattle.quic_frame_parts.specs.Payload.{Meaning}
+use Rattle.quic_frame_parts.specs.Reading.{frame_at, invalid, found_at}
+use Rattle.quic_frame_parts.proofs.Varints.{varint_read, varint_cut}
 
 -- a type that was taken, and a frame that follows it
 pub found_whole : (before : Option ℕ) (t : ℕ) (bytes rest : List ℕ) (frame : Meaning) (left : List ℕ) → Takes (Spells t) bytes rest → frame_at t rest ≡ Ok (frame, left)

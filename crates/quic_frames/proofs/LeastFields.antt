@@ -6,8 +6,8 @@ use Rattle.std.proofs.lemmas.List.{length-append, append-nil}
 use Rattle.quic_base.specs.Number.{IsNumber, num, bytes_of}
 use Rattle.quic_base.specs.Varint.{Spells, short}
 use Rattle.quic_base.proofs.PublicLaws.{short_spells, short_least, spelled_bound, is_number_8, num_injective, num_below}
-use Rattle.quic_frames.specs.Field.{Value, Number, Bytes, Ranges, Field, Varint, Counted, Id, Eight, Sixteen, Blocks, Rest, Unwritten, Ordered, is_ordered, greatest_of, AreBelow, AreBlocks, AreApart, IsField, AreFields}
-use Rattle.quic_frames.specs.Shortest.{shortest_below, shortest_of, values_after, shortest_fields}
+use Rattle.quic_frame_parts.specs.Field.{Value, Number, Bytes, Ranges, Field, Varint, Counted, Id, Eight, Sixteen, Blocks, Rest, Unwritten, Ordered, is_ordered, greatest_of, AreBelow, AreBlocks, AreApart, IsField, AreFields}
+use Rattle.quic_frame_parts.specs.Shortest.{shortest_below, shortest_of, values_after, shortest_fields}
 use Rattle.quic_frames.specs.Least.{AreOrExceed}
 
 -- ---- bytes one after the other

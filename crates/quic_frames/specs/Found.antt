@@ -3,9 +3,9 @@ use Rattle.std.specs.Prelude.{◌≡◌, ℕ, List, Result, Ok, Err, IfOk}
 use Rattle.quic_frames.specs.declared.frame.Frame.{Frame}
 use Rattle.quic_frames.specs.declared.frame.found.FirstFrame.{FirstFrame}
 use Rattle.quic_errors.specs.declared.invalid_frame.InvalidFrame.{InvalidFrame}
-use Rattle.quic_frames.specs.declared.frame.fault.Fault.{Fault}
-use Rattle.quic_frames.specs.Payload.{Meaning, Found}
-use Rattle.quic_frames.specs.Reading.{Invalid, Gives}
+use Rattle.quic_frame_parts.specs.declared.frame.fault.Fault.{Fault}
+use Rattle.quic_frame_parts.specs.Payload.{Meaning, Found}
+use Rattle.quic_frame_parts.specs.Reading.{Invalid, Gives}
 use Rattle.quic_frames.specs.Meaning.{meaning_of}
 use Rattle.quic_frames.specs.InRange.{IsToldApart}
 use Rattle.quic_frames.specs.Walk.{invalid_of}

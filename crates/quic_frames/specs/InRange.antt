@@ -1,16 +1,12 @@
 -- Which frames can be written.
-use Rattle.std.specs.Prelude.{◌≡◌, ◌≢◌, ⊤, ℕ, ◌<◌, ◌≤◌, ◌^◌, List, [], ◌∷◌, length, Option, Some, None, Bool, false}
+use Rattle.std.specs.Prelude.{◌≡◌, ◌≢◌, ⊤, ℕ, ◌<◌, ◌≤◌, ◌^◌, List, [], ◌∷◌, length, Some, Bool, false}
 use Rattle.quic_frames.specs.declared.frame.Frame.{Frame}
 use Rattle.quic_frames.specs.declared.frame.Frame.TheVariants as frames
-use Rattle.quic_frames.specs.declared.frame.close.Close.TheVariants as closes
-use Rattle.quic_frames.specs.declared.frame.ack.EcnCounts.{EcnCounts}
+use Rattle.quic_frame_parts.specs.declared.frame.close.Close.TheVariants as closes
 use Rattle.quic_errors.specs.Types.{type_or_zero}
-use Rattle.quic_frames.specs.Numbers.{AreNumeric}
+use Rattle.quic_frame_parts.specs.Numbers.{AreNumeric}
+use Rattle.quic_frame_parts.specs.Sets.{IsAckInRange}
 use Rattle.quic_frames.specs.Least.{is_end}
-
-abbrev pub AreCounts : Option EcnCounts → Type 0
-AreCounts None = ⊤
-AreCounts (Some e) = AreNumeric (e.ect0 ∷ e.ect1 ∷ e.ce ∷ [])
 
 -- a close whose type isn't given as 0, which is read as no type
 abbrev pub IsToldApart : Frame → Type 0
@@ -21,7 +17,7 @@ IsToldApart frame = ⊤
 -- what is retired comes before it; type 0 isn't told from no type (RFC 9000, sections 16, 19.15 and 19.19). Numbers whose
 -- type holds the bound are not named.
 abbrev pub InRange : Frame → Type 0
-InRange (frames.Ack a) = AreNumeric (a.largest ∷ a.delay ∷ []) × AreCounts a.ecn
+InRange (frames.Ack a) = IsAckInRange a
 InRange (frames.Crypto c) = AreNumeric (c.offset ∷ length c.bytes.now ∷ [])
 InRange (frames.NewToken t) = length t.token.now < 2 ^ 62
 InRange (frames.Stream s) = s.offset < 2 ^ 62

@@ -2,10 +2,10 @@
 use Rattle.std.specs.Prelude.{◌≡◌, ◌↔◌, ℕ, ◌-◌, ◌<◌, ◌≤◌, List, [], ◌∷◌, length, drop, slice_range, Option, Some, None, Result, Ok, Err, true, false, if◌then◌else◌}
 use Rattle.quic_frames.specs.declared.frame.Frame.{Frame}
 use Rattle.quic_errors.specs.declared.invalid_frame.InvalidFrame.{InvalidFrame}
-use Rattle.quic_frames.specs.Field.{Value, Number, Bytes, Ranges}
-use Rattle.quic_frames.specs.Table.{is_open}
-use Rattle.quic_frames.specs.Payload.{Found, IsFrame}
-use Rattle.quic_frames.specs.Reading.{Item, Whole, Broken, Invalid, items_of}
+use Rattle.quic_frame_parts.specs.Field.{Value, Number, Bytes, Ranges}
+use Rattle.quic_frame_parts.specs.Table.{is_open}
+use Rattle.quic_frame_parts.specs.Payload.{Found, IsFrame}
+use Rattle.quic_frame_parts.specs.Reading.{Item, Whole, Broken, Invalid, items_of}
 use Rattle.quic_frames.specs.Meaning.{meaning_of}
 use Rattle.quic_frames.specs.InRange.{IsToldApart}
 use Rattle.quic_frames.specs.Way.{Way}

@@ -1,33 +1,27 @@
 //! Frames, and how a payload is read frame by frame (RFC 9000, section 19).
 ghost use Rattle.std.specs.Prelude.{◌≡◌};
 
-use quic_base::ids::{ConnectionId, Dir, ResetToken, StreamId};
+use quic_base::ids::{Dir, StreamId};
 use quic_base::varint::VarInt;
 
-mod ack;
-mod ack_encode;
 mod bounds;
-mod close;
-mod datagrams;
-mod encode;
-mod fault;
 mod field;
 mod found;
 mod in_range;
 mod iter;
 mod reading;
 mod size_bound;
-mod stream_meta;
 mod whole;
-mod write;
 
-pub use ack::{Ack, AckError, AckIter, EcnCounts};
-pub use close::{ApplicationClose, Close, ConnectionClose};
 pub use iter::Iter;
 pub use quic_errors::frame_type::FrameType;
 pub use quic_errors::invalid_frame::InvalidFrame;
+pub use quic_frame_parts::frame::{
+    Ack, AckError, AckFrequency, AckIter, ApplicationClose, Close, ConnectionClose, Crypto,
+    Datagram, EcnCounts, NewConnectionId, NewToken, ResetStream, StopSending, Stream, StreamMeta,
+    StreamMetaVec,
+};
 pub use size_bound::{FrameStruct, RETIRE_CONNECTION_ID_SIZE_BOUND};
-pub use stream_meta::{StreamMeta, StreamMetaVec};
 
 /// A frame of a payload, whose bytes it borrows. Numbers that were read are below 2^62, but for the
 /// eight bytes of a path's challenge and response.
@@ -152,86 +146,4 @@ impl Frame<'_> {
     {
         !matches!(self, Frame::Ack(_) | Frame::Padding | Frame::Close(_))
     }
-}
-
-/// The sender ends a stream early.
-#[derive(Clone, Copy, Debug)]
-pub struct ResetStream {
-    /// The stream.
-    pub id: StreamId,
-    /// A code of the application.
-    pub error_code: VarInt,
-    /// How long the stream is.
-    pub final_offset: VarInt,
-}
-
-/// The receiver wants no more of a stream.
-#[derive(Clone, Copy, Debug)]
-pub struct StopSending {
-    /// The stream.
-    pub id: StreamId,
-    /// A code of the application.
-    pub error_code: VarInt,
-}
-
-/// Bytes of the handshake.
-#[derive(Clone, Copy, Debug)]
-pub struct Crypto<'a> {
-    /// Where in the handshake the bytes stand.
-    pub offset: u64,
-    /// A slice of the payload.
-    pub bytes: &'a [u8],
-}
-
-/// A token for a later connection.
-#[derive(Clone, Copy, Debug)]
-pub struct NewToken<'a> {
-    /// A slice of the payload.
-    pub token: &'a [u8],
-}
-
-/// Bytes of a stream.
-#[derive(Clone, Copy, Debug)]
-pub struct Stream<'a> {
-    /// The stream.
-    pub id: StreamId,
-    /// Where in the stream the bytes stand.
-    pub offset: u64,
-    /// Whether the stream ends with these bytes.
-    pub fin: bool,
-    /// A slice of the payload.
-    pub bytes: &'a [u8],
-}
-
-/// Another id for the connection.
-#[derive(Clone, Copy, Debug)]
-pub struct NewConnectionId {
-    /// The number of the id.
-    pub sequence: u64,
-    /// Ids with numbers below this one are to be retired.
-    pub retire_prior_to: u64,
-    /// The id.
-    pub id: ConnectionId,
-    /// The token of a stateless reset for the id.
-    pub reset_token: ResetToken,
-}
-
-/// Data that are sent once.
-#[derive(Clone, Copy, Debug)]
-pub struct Datagram<'a> {
-    /// A slice of the payload.
-    pub bytes: &'a [u8],
-}
-
-/// How often acknowledgements are wanted.
-#[derive(Clone, Copy, Debug, PartialEq, Eq)]
-pub struct AckFrequency {
-    /// The number of the frame, by which an older one is known.
-    pub sequence: VarInt,
-    /// How many packets that ask for an acknowledgement may come before one is sent.
-    pub ack_eliciting_threshold: VarInt,
-    /// How long an acknowledgement may wait, in microseconds.
-    pub request_max_ack_delay: VarInt,
-    /// How far packets may be out of order before one is sent.
-    pub reordering_threshold: VarInt,
 }

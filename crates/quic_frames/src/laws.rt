@@ -3,21 +3,22 @@ ghost use Rattle.std.specs.Prelude.{◌≡◌, ◌≢◌, ◌<◌, ◌^◌, ◌+
 ghost use Rattle.std.specs.declared.ops.Range.{Range};
 ghost use Rattle.quic_base.specs.Number.{AreBytes};
 ghost use Rattle.quic_ranges.specs.Runs.{IsMaximalRuns, IsGreatest, member};
-ghost use Rattle.quic_frames.specs.Acks.{parts_of, ranges_acked};
-ghost use Rattle.quic_frames.specs.Field.{AreApart, AreBlocks};
+ghost use Rattle.quic_frame_parts.specs.Acks.{parts_of, ranges_acked};
+ghost use Rattle.quic_frame_parts.specs.Field.{AreApart, AreBlocks};
 ghost use Rattle.quic_frames.specs.Found.{found_as};
-ghost use Rattle.quic_frames.specs.InRange.{AreCounts, IsTyped, AreTyped, IsToldApart, CanStand, CanFollow};
+ghost use Rattle.quic_frame_parts.specs.Sets.{AreCounts};
+ghost use Rattle.quic_frames.specs.InRange.{IsTyped, AreTyped, IsToldApart, CanStand, CanFollow};
 ghost use Rattle.quic_frames.specs.Least.{AreOrExceed, shortest_frames, frame_in, as_written, all_written};
 ghost use Rattle.quic_frames.specs.Meaning.{meaning_of};
-ghost use Rattle.quic_frames.specs.Payload.{Meaning, Found, IsFrame, AreFrames, IsBroken, IsEither};
-ghost use Rattle.quic_frames.specs.Sets.{ranges_in, greatest_in, is_in, ack_of};
-ghost use Rattle.quic_frames.specs.Shortest.{shortest_frame};
-ghost use Rattle.quic_frames.specs.Table.{is_open};
+ghost use Rattle.quic_frame_parts.specs.Payload.{Meaning, Found, IsFrame, AreFrames, IsBroken, IsEither};
+ghost use Rattle.quic_frame_parts.specs.Sets.{ranges_in, greatest_in, is_in, ack_of};
+ghost use Rattle.quic_frame_parts.specs.Shortest.{shortest_frame};
+ghost use Rattle.quic_frame_parts.specs.Table.{is_open};
 ghost use Rattle.quic_frames.specs.declared.frame.Frame.{Frame};
 ghost use Rattle.quic_frames.specs.declared.frame.Frame.TheVariants as frames;
-ghost use Rattle.quic_frames.specs.declared.frame.ack.Ack.{Ack};
-ghost use Rattle.quic_frames.specs.declared.frame.ack.EcnCounts.{EcnCounts};
-ghost use Rattle.quic_frames.specs.declared.frame.fault.Fault.{Fault};
+ghost use Rattle.quic_frame_parts.specs.declared.frame.ack.Ack.{Ack};
+ghost use Rattle.quic_frame_parts.specs.declared.frame.ack.EcnCounts.{EcnCounts};
+ghost use Rattle.quic_frame_parts.specs.declared.frame.fault.Fault.{Fault};
 
 /// A payload has one reading: it is frames, or frames and then something that is none, and never both.
 pub fn one_reading()

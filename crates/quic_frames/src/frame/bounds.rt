@@ -1,7 +1,8 @@
 //! What a frame holds by the types of its parts.
 ghost use Rattle.quic_frames.specs.InRange.{IsTyped};
 
-use super::{Close, Frame, encode};
+use super::{Close, Frame};
+use quic_frame_parts::frame::encode::type_or_zero;
 
 impl Frame<'_> {
     /// The bounds that the types of the frame's parts hold, as a fact of the frame. It does nothing.
@@ -35,7 +36,7 @@ impl Frame<'_> {
                 let _copy = *n;
             }
             Frame::Close(Close::Connection(c)) => {
-                let _ = (u64::from(c.error_code), encode::type_or_zero(c.frame_type));
+                let _ = (u64::from(c.error_code), type_or_zero(c.frame_type));
             }
             Frame::Close(Close::Application(c)) => {
                 let _ = c.error_code.into_inner();

@@ -1,13 +1,13 @@
 //! The frame at the front of some bytes.
 ghost use Rattle.std.specs.Prelude.{◌≡◌, false};
 ghost use Rattle.quic_base.specs.Number.{AreBytes};
-ghost use Rattle.quic_frames.specs.Reading.{found_at};
+ghost use Rattle.quic_frame_parts.specs.Reading.{found_at};
 ghost use Rattle.quic_frames.specs.Found.{GivesFound};
 
-use super::fault::Fault;
 use super::reading::read_frame;
 use super::{Frame, FrameType, InvalidFrame};
 use quic_base::coding::Codec;
+use quic_frame_parts::frame::fault::Fault;
 
 /// The frame at the front of some bytes.
 #[derive(Drop)]

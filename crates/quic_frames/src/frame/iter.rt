@@ -1,9 +1,9 @@
 //! The frames of a payload, one after the other.
 ghost use Rattle.std.specs.Prelude.{◌≡◌, ◌≤◌, ◌↔◌, ℕ, List, [], ◌∷◌, ◌++◌, Err, None, Option, IfErr, IfOk, IsErr, codes, false, length, map};
 ghost use Rattle.quic_errors.specs.Codes.{IsError, protocol_violation};
-ghost use Rattle.quic_frames.specs.Payload.{Found, AreFrames, IsBroken, IsEither};
-ghost use Rattle.quic_frames.specs.Reading.{invalid, items_of};
-ghost use Rattle.quic_frames.specs.declared.frame.fault.Fault.{Fault};
+ghost use Rattle.quic_frame_parts.specs.Payload.{Found, AreFrames, IsBroken, IsEither};
+ghost use Rattle.quic_frame_parts.specs.Reading.{invalid, items_of};
+ghost use Rattle.quic_frame_parts.specs.declared.frame.fault.Fault.{Fault};
 ghost use Rattle.quic_frames.specs.Walk.{left, first_of, unplaced, given};
 
 use super::found::read_found;

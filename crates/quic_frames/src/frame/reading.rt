@@ -1,10 +1,9 @@
 //! The fields of each type of frame.
 ghost use Rattle.std.specs.Prelude.{Bool};
-ghost use Rattle.quic_frames.specs.Table as table;
+ghost use Rattle.quic_frame_parts.specs.Table as table;
 ghost use Rattle.quic_frames.specs.Found.{GivesFrame};
-ghost use Rattle.quic_frames.specs.Reading.{row_at, frame_at};
+ghost use Rattle.quic_frame_parts.specs.Reading.{row_at, frame_at};
 
-use super::fault::Fault;
 use super::{
     Ack, AckFrequency, ApplicationClose, Close, ConnectionClose, Crypto, Datagram, EcnCounts,
     Frame, FrameType, NewConnectionId, NewToken, ResetStream, StopSending, Stream, field,
@@ -12,40 +11,42 @@ use super::{
 use crate::transport_error::Code;
 use quic_base::ids::{ConnectionId, Dir, ResetToken, StreamId};
 use quic_base::varint::VarInt;
+use quic_frame_parts::frame::fault::Fault;
+use quic_frame_parts::frame::field::{blocks, varint};
 
-#[tactic(auto, unfolding(crate::specs::Reading::row_at))]
+#[tactic(auto, unfolding(quic_frame_parts::specs::Reading::row_at))]
 fn read_ack(bytes: &[u8]) -> Result<(Frame<'_>, &[u8]), Fault>
     ensures { GivesFrame (λ rest. rest.now) result (row_at table.ack_row bytes.now) }
 {
-    let (largest, rest) = field::varint(bytes)?;
-    let (delay, rest) = field::varint(rest)?;
-    let (blocks, rest) = field::blocks(largest, rest)?;
+    let (largest, rest) = varint(bytes)?;
+    let (delay, rest) = varint(rest)?;
+    let (blocks, rest) = blocks(largest, rest)?;
     let ack = Ack::of_blocks(largest, delay, blocks, None);
     Ok((Frame::Ack(ack), rest))
 }
 
-#[tactic(auto, unfolding(crate::specs::Reading::row_at))]
+#[tactic(auto, unfolding(quic_frame_parts::specs::Reading::row_at))]
 fn read_ack_ecn(bytes: &[u8]) -> Result<(Frame<'_>, &[u8]), Fault>
     ensures { GivesFrame (λ rest. rest.now) result (row_at table.ack_ecn_row bytes.now) }
 {
-    let (largest, rest) = field::varint(bytes)?;
-    let (delay, rest) = field::varint(rest)?;
-    let (blocks, rest) = field::blocks(largest, rest)?;
-    let (ect0, rest) = field::varint(rest)?;
-    let (ect1, rest) = field::varint(rest)?;
-    let (ce, rest) = field::varint(rest)?;
+    let (largest, rest) = varint(bytes)?;
+    let (delay, rest) = varint(rest)?;
+    let (blocks, rest) = blocks(largest, rest)?;
+    let (ect0, rest) = varint(rest)?;
+    let (ect1, rest) = varint(rest)?;
+    let (ce, rest) = varint(rest)?;
     let ecn = EcnCounts { ect0, ect1, ce };
     let ack = Ack::of_blocks(largest, delay, blocks, Some(ecn));
     Ok((Frame::Ack(ack), rest))
 }
 
-#[tactic(auto, unfolding(crate::specs::Reading::row_at))]
+#[tactic(auto, unfolding(quic_frame_parts::specs::Reading::row_at))]
 fn read_reset_stream(bytes: &[u8]) -> Result<(Frame<'_>, &[u8]), Fault>
     ensures { GivesFrame (λ rest. rest.now) result (row_at table.reset_stream_row bytes.now) }
 {
-    let (id, rest) = field::varint(bytes)?;
-    let (error_code, rest) = field::varint(rest)?;
-    let (final_offset, rest) = field::varint(rest)?;
+    let (id, rest) = varint(bytes)?;
+    let (error_code, rest) = varint(rest)?;
+    let (final_offset, rest) = varint(rest)?;
     let reset = ResetStream {
         id: StreamId::from(VarInt::from_u64_unchecked(id)),
         error_code: VarInt::from_u64_unchecked(error_code),
@@ -54,12 +55,12 @@ fn read_reset_stream(bytes: &[u8]) -> Result<(Frame<'_>, &[u8]), Fault>
     Ok((Frame::ResetStream(reset), rest))
 }
 
-#[tactic(auto, unfolding(crate::specs::Reading::row_at))]
+#[tactic(auto, unfolding(quic_frame_parts::specs::Reading::row_at))]
 fn read_stop_sending(bytes: &[u8]) -> Result<(Frame<'_>, &[u8]), Fault>
     ensures { GivesFrame (λ rest. rest.now) result (row_at table.stop_sending_row bytes.now) }
 {
-    let (id, rest) = field::varint(bytes)?;
-    let (error_code, rest) = field::varint(rest)?;
+    let (id, rest) = varint(bytes)?;
+    let (error_code, rest) = varint(rest)?;
     let stop = StopSending {
         id: StreamId::from(VarInt::from_u64_unchecked(id)),
         error_code: VarInt::from_u64_unchecked(error_code),
@@ -67,16 +68,16 @@ fn read_stop_sending(bytes: &[u8]) -> Result<(Frame<'_>, &[u8]), Fault>
     Ok((Frame::StopSending(stop), rest))
 }
 
-#[tactic(auto, unfolding(crate::specs::Reading::row_at))]
+#[tactic(auto, unfolding(quic_frame_parts::specs::Reading::row_at))]
 fn read_crypto(bytes: &[u8]) -> Result<(Frame<'_>, &[u8]), Fault>
     ensures { GivesFrame (λ rest. rest.now) result (row_at table.crypto_row bytes.now) }
 {
-    let (offset, rest) = field::varint(bytes)?;
+    let (offset, rest) = varint(bytes)?;
     let (bytes, rest) = field::counted(rest)?;
     Ok((Frame::Crypto(Crypto { offset, bytes }), rest))
 }
 
-#[tactic(auto, unfolding(crate::specs::Reading::row_at))]
+#[tactic(auto, unfolding(quic_frame_parts::specs::Reading::row_at))]
 fn read_new_token(bytes: &[u8]) -> Result<(Frame<'_>, &[u8]), Fault>
     ensures { GivesFrame (λ rest. rest.now) result (row_at table.new_token_row bytes.now) }
 {
@@ -84,7 +85,7 @@ fn read_new_token(bytes: &[u8]) -> Result<(Frame<'_>, &[u8]), Fault>
     Ok((Frame::NewToken(NewToken { token }), rest))
 }
 
-#[tactic(auto, unfolding(crate::specs::Reading::row_at))]
+#[tactic(auto, unfolding(quic_frame_parts::specs::Reading::row_at))]
 fn read_stream(
     has_offset: bool,
     has_length: bool,
@@ -93,7 +94,7 @@ fn read_stream(
 ) -> Result<(Frame<'_>, &[u8]), Fault>
     ensures { GivesFrame (λ rest. rest.now) result (row_at (table.stream_row has_offset has_length fin) bytes.now) }
 {
-    let (id, rest) = field::varint(bytes)?;
+    let (id, rest) = varint(bytes)?;
     let (offset, rest) = field::offset(has_offset, rest)?;
     let (bytes, rest) = field::stream_bytes(has_length, rest)?;
     let stream = Stream {
@@ -105,64 +106,64 @@ fn read_stream(
     Ok((Frame::Stream(stream), rest))
 }
 
-#[tactic(auto, unfolding(crate::specs::Reading::row_at))]
+#[tactic(auto, unfolding(quic_frame_parts::specs::Reading::row_at))]
 fn read_max_data(bytes: &[u8]) -> Result<(Frame<'_>, &[u8]), Fault>
     ensures { GivesFrame (λ rest. rest.now) result (row_at (table.number_row table.MaxData) bytes.now) }
 {
-    let (limit, rest) = field::varint(bytes)?;
+    let (limit, rest) = varint(bytes)?;
     Ok((Frame::MaxData(VarInt::from_u64_unchecked(limit)), rest))
 }
 
-#[tactic(auto, unfolding(crate::specs::Reading::row_at))]
+#[tactic(auto, unfolding(quic_frame_parts::specs::Reading::row_at))]
 fn read_max_stream_data(bytes: &[u8]) -> Result<(Frame<'_>, &[u8]), Fault>
     ensures { GivesFrame (λ rest. rest.now) result (row_at table.max_stream_data_row bytes.now) }
 {
-    let (id, rest) = field::varint(bytes)?;
-    let (offset, rest) = field::varint(rest)?;
+    let (id, rest) = varint(bytes)?;
+    let (offset, rest) = varint(rest)?;
     let id = StreamId::from(VarInt::from_u64_unchecked(id));
     Ok((Frame::MaxStreamData { id, offset }, rest))
 }
 
-#[tactic(auto, unfolding(crate::specs::Reading::row_at))]
+#[tactic(auto, unfolding(quic_frame_parts::specs::Reading::row_at))]
 fn read_max_streams(dir: Dir, bytes: &[u8]) -> Result<(Frame<'_>, &[u8]), Fault>
     ensures { GivesFrame (λ rest. rest.now) result (row_at (table.max_streams_row dir) bytes.now) }
 {
-    let (count, rest) = field::varint(bytes)?;
+    let (count, rest) = varint(bytes)?;
     Ok((Frame::MaxStreams { dir, count }, rest))
 }
 
-#[tactic(auto, unfolding(crate::specs::Reading::row_at))]
+#[tactic(auto, unfolding(quic_frame_parts::specs::Reading::row_at))]
 fn read_data_blocked(bytes: &[u8]) -> Result<(Frame<'_>, &[u8]), Fault>
     ensures { GivesFrame (λ rest. rest.now) result (row_at (table.number_row table.DataBlocked) bytes.now) }
 {
-    let (offset, rest) = field::varint(bytes)?;
+    let (offset, rest) = varint(bytes)?;
     Ok((Frame::DataBlocked { offset }, rest))
 }
 
-#[tactic(auto, unfolding(crate::specs::Reading::row_at))]
+#[tactic(auto, unfolding(quic_frame_parts::specs::Reading::row_at))]
 fn read_stream_data_blocked(bytes: &[u8]) -> Result<(Frame<'_>, &[u8]), Fault>
     ensures { GivesFrame (λ rest. rest.now) result (row_at table.stream_data_blocked_row bytes.now) }
 {
-    let (id, rest) = field::varint(bytes)?;
-    let (offset, rest) = field::varint(rest)?;
+    let (id, rest) = varint(bytes)?;
+    let (offset, rest) = varint(rest)?;
     let id = StreamId::from(VarInt::from_u64_unchecked(id));
     Ok((Frame::StreamDataBlocked { id, offset }, rest))
 }
 
-#[tactic(auto, unfolding(crate::specs::Reading::row_at))]
+#[tactic(auto, unfolding(quic_frame_parts::specs::Reading::row_at))]
 fn read_streams_blocked(dir: Dir, bytes: &[u8]) -> Result<(Frame<'_>, &[u8]), Fault>
     ensures { GivesFrame (λ rest. rest.now) result (row_at (table.streams_blocked_row dir) bytes.now) }
 {
-    let (limit, rest) = field::varint(bytes)?;
+    let (limit, rest) = varint(bytes)?;
     Ok((Frame::StreamsBlocked { dir, limit }, rest))
 }
 
-#[tactic(auto, unfolding(crate::specs::Reading::row_at))]
+#[tactic(auto, unfolding(quic_frame_parts::specs::Reading::row_at))]
 fn read_new_connection_id(bytes: &[u8]) -> Result<(Frame<'_>, &[u8]), Fault>
     ensures { GivesFrame (λ rest. rest.now) result (row_at table.new_connection_id_row bytes.now) }
 {
-    let (sequence, rest) = field::varint(bytes)?;
-    let (retire_prior_to, rest) = field::varint(rest)?;
+    let (sequence, rest) = varint(bytes)?;
+    let (retire_prior_to, rest) = varint(rest)?;
     if retire_prior_to > sequence {
         return Err(Fault::Malformed);
     }
@@ -177,15 +178,15 @@ fn read_new_connection_id(bytes: &[u8]) -> Result<(Frame<'_>, &[u8]), Fault>
     Ok((Frame::NewConnectionId(frame), rest))
 }
 
-#[tactic(auto, unfolding(crate::specs::Reading::row_at))]
+#[tactic(auto, unfolding(quic_frame_parts::specs::Reading::row_at))]
 fn read_retire_connection_id(bytes: &[u8]) -> Result<(Frame<'_>, &[u8]), Fault>
     ensures { GivesFrame (λ rest. rest.now) result (row_at (table.number_row table.RetireConnectionId) bytes.now) }
 {
-    let (sequence, rest) = field::varint(bytes)?;
+    let (sequence, rest) = varint(bytes)?;
     Ok((Frame::RetireConnectionId { sequence }, rest))
 }
 
-#[tactic(auto, unfolding(crate::specs::Reading::row_at))]
+#[tactic(auto, unfolding(quic_frame_parts::specs::Reading::row_at))]
 fn read_path_challenge(bytes: &[u8]) -> Result<(Frame<'_>, &[u8]), Fault>
     ensures { GivesFrame (λ rest. rest.now) result (row_at (table.path_row table.PathChallenge) bytes.now) }
 {
@@ -193,7 +194,7 @@ fn read_path_challenge(bytes: &[u8]) -> Result<(Frame<'_>, &[u8]), Fault>
     Ok((Frame::PathChallenge(token), rest))
 }
 
-#[tactic(auto, unfolding(crate::specs::Reading::row_at))]
+#[tactic(auto, unfolding(quic_frame_parts::specs::Reading::row_at))]
 fn read_path_response(bytes: &[u8]) -> Result<(Frame<'_>, &[u8]), Fault>
     ensures { GivesFrame (λ rest. rest.now) result (row_at (table.path_row table.PathResponse) bytes.now) }
 {
@@ -201,12 +202,12 @@ fn read_path_response(bytes: &[u8]) -> Result<(Frame<'_>, &[u8]), Fault>
     Ok((Frame::PathResponse(token), rest))
 }
 
-#[tactic(auto, unfolding(crate::specs::Reading::row_at))]
+#[tactic(auto, unfolding(quic_frame_parts::specs::Reading::row_at))]
 fn read_connection_close(bytes: &[u8]) -> Result<(Frame<'_>, &[u8]), Fault>
     ensures { GivesFrame (λ rest. rest.now) result (row_at table.connection_close_row bytes.now) }
 {
-    let (error_code, rest) = field::varint(bytes)?;
-    let (ty, rest) = field::varint(rest)?;
+    let (error_code, rest) = varint(bytes)?;
+    let (ty, rest) = varint(rest)?;
     let (reason, rest) = field::counted(rest)?;
     let close = ConnectionClose {
         error_code: Code::of(error_code),
@@ -216,11 +217,11 @@ fn read_connection_close(bytes: &[u8]) -> Result<(Frame<'_>, &[u8]), Fault>
     Ok((Frame::Close(Close::Connection(close)), rest))
 }
 
-#[tactic(auto, unfolding(crate::specs::Reading::row_at))]
+#[tactic(auto, unfolding(quic_frame_parts::specs::Reading::row_at))]
 fn read_application_close(bytes: &[u8]) -> Result<(Frame<'_>, &[u8]), Fault>
     ensures { GivesFrame (λ rest. rest.now) result (row_at table.application_close_row bytes.now) }
 {
-    let (error_code, rest) = field::varint(bytes)?;
+    let (error_code, rest) = varint(bytes)?;
     let (reason, rest) = field::counted(rest)?;
     let close = ApplicationClose {
         error_code: VarInt::from_u64_unchecked(error_code),
@@ -229,7 +230,7 @@ fn read_application_close(bytes: &[u8]) -> Result<(Frame<'_>, &[u8]), Fault>
     Ok((Frame::Close(Close::Application(close)), rest))
 }
 
-#[tactic(auto, unfolding(crate::specs::Reading::row_at))]
+#[tactic(auto, unfolding(quic_frame_parts::specs::Reading::row_at))]
 fn read_datagram(has_length: bool, bytes: &[u8]) -> Result<(Frame<'_>, &[u8]), Fault>
     ensures { GivesFrame (λ rest. rest.now) result (row_at (table.datagram_row has_length) bytes.now) }
 {
@@ -237,14 +238,14 @@ fn read_datagram(has_length: bool, bytes: &[u8]) -> Result<(Frame<'_>, &[u8]), F
     Ok((Frame::Datagram(Datagram { bytes }), rest))
 }
 
-#[tactic(auto, unfolding(crate::specs::Reading::row_at))]
+#[tactic(auto, unfolding(quic_frame_parts::specs::Reading::row_at))]
 fn read_ack_frequency(bytes: &[u8]) -> Result<(Frame<'_>, &[u8]), Fault>
     ensures { GivesFrame (λ rest. rest.now) result (row_at table.ack_frequency_row bytes.now) }
 {
-    let (sequence, rest) = field::varint(bytes)?;
-    let (threshold, rest) = field::varint(rest)?;
-    let (delay, rest) = field::varint(rest)?;
-    let (reordering, rest) = field::varint(rest)?;
+    let (sequence, rest) = varint(bytes)?;
+    let (threshold, rest) = varint(rest)?;
+    let (delay, rest) = varint(rest)?;
+    let (reordering, rest) = varint(rest)?;
     let frequency = AckFrequency {
         sequence: VarInt::from_u64_unchecked(sequence),
         ack_eliciting_threshold: VarInt::from_u64_unchecked(threshold),
@@ -255,7 +256,7 @@ fn read_ack_frequency(bytes: &[u8]) -> Result<(Frame<'_>, &[u8]), Fault>
 }
 
 /// The frame of this type whose fields begin here, and what follows it.
-#[tactic(auto, unfolding(crate::specs::Reading::frame_at, crate::specs::Reading::row_at))]
+#[tactic(auto, unfolding(quic_frame_parts::specs::Reading::frame_at, quic_frame_parts::specs::Reading::row_at))]
 pub fn read_frame(ty: u64, bytes: &[u8]) -> Result<(Frame<'_>, &[u8]), Fault>
     ensures { GivesFrame (λ rest. rest.now) result (frame_at ty bytes.now) }
 {

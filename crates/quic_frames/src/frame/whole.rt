@@ -4,21 +4,22 @@ ghost use Rattle.quic_base.specs.Ids.{dir_number};
 ghost use Rattle.quic_base.specs.Number.{bytes_of};
 ghost use Rattle.quic_base.specs.Varint.{short, size};
 ghost use Rattle.quic_frames.specs.InRange.{CanStand, InRange};
-ghost use Rattle.quic_frames.specs.Meaning.{meaning_of, close_meaning};
-ghost use Rattle.quic_frames.specs.Shortest.{shortest_frame, close_reason};
+ghost use Rattle.quic_frame_parts.specs.Parts.{close_meaning};
+ghost use Rattle.quic_frames.specs.Meaning.{meaning_of};
+ghost use Rattle.quic_frame_parts.specs.Shortest.{shortest_frame, close_reason};
 ghost use Rattle.quic_base.specs.Writing.{Writes};
 ghost use Rattle.quic_frames.specs.declared.frame.Frame.TheVariants as frames;
 
-use super::ack_encode::{ack_len, encode_ack};
-use super::encode::type_or_zero;
-use super::stream_meta::encode_head;
 use super::{
     ApplicationClose, Close, ConnectionClose, Crypto, Datagram, Frame, NewConnectionId, Stream,
-    write,
 };
 use bytes::BufMut;
 use quic_base::coding::NoRoom;
 use quic_base::ids::Dir;
+use quic_frame_parts::frame::ack_encode::{ack_len, encode_ack};
+use quic_frame_parts::frame::encode::type_or_zero;
+use quic_frame_parts::frame::stream_meta::encode_head;
+use quic_frame_parts::frame::write;
 
 impl Frame<'_> {
     /// Appends the shortest spelling of the frame, which is the last of its payload or not: no offset 0
@@ -26,7 +27,7 @@ impl Frame<'_> {
     /// where the spare room is less than that; then what stood there stands, followed by a beginning of
     /// the spelling. It takes no memory of its own. The caller owes that the frame is in range, and that
     /// data whose length is written are below 2^62 bytes.
-    #[tactic(auto, unfolding(crate::specs::Shortest::shortest_frame), using(crate::proofs::Encoding::challenge_parts, crate::proofs::Encoding::response_parts))]
+    #[tactic(auto, unfolding(quic_frame_parts::specs::Shortest::shortest_frame), using(crate::proofs::Encoding::challenge_parts, crate::proofs::Encoding::response_parts))]
     pub fn encode<B: BufMut>(&self, last: bool, out: &mut B) -> Result<(), NoRoom>
         requires { CanStand last self.now }
         ensures { Writes result (shortest_frame last (meaning_of self.now))
@@ -68,7 +69,7 @@ impl Frame<'_> {
     }
 
     /// How many bytes `encode` appends, which asks for the same. It takes no memory.
-    #[tactic(auto, unfolding(crate::specs::Shortest::shortest_frame), using(crate::proofs::Encoding::crypto_parts, crate::proofs::Encoding::challenge_length, crate::proofs::Encoding::response_length))]
+    #[tactic(auto, unfolding(quic_frame_parts::specs::Shortest::shortest_frame), using(crate::proofs::Encoding::crypto_parts, crate::proofs::Encoding::challenge_length, crate::proofs::Encoding::response_length))]
     pub fn encoded_len(&self, last: bool) -> u128
         requires { CanStand last self.now }
         ensures { result ≡ length (shortest_frame last (meaning_of self.now)) }
@@ -171,7 +172,7 @@ fn encode_path<B: BufMut>(ty: u64, n: u64, out: &mut B) -> Result<(), NoRoom>
 }
 
 // How many bytes `encode_stream` appends.
-#[tactic(auto, using(crate::proofs::StreamParts::stream_length))]
+#[tactic(auto, using(crate::proofs::Encoding::stream_length))]
 fn stream_len(stream: &Stream<'_>, last: bool) -> u128
     requires { CanStand last (frames.Stream stream.now) }
     ensures { result ≡ length (shortest_frame last (meaning_of (frames.Stream stream.now))) }

@@ -1,0 +1,12 @@
+pub mod Varints
+pub mod Steps
+pub mod Blocks
+pub mod Gaps
+pub mod Apart
+pub mod Numbers
+pub mod Encoding
+pub mod StreamParts
+pub mod Spelled
+pub mod Sets
+pub mod AckParts
+pub mod Held

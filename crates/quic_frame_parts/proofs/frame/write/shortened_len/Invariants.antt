@@ -1,0 +1,15 @@
+use Rattle.std.proofs.Common.{ℕ, List, ◌≤◌, ◌+◌, ◌*◌, length}
+use Rattle.quic_base.specs.Number.{AreBytes}
+use Rattle.quic_frame_parts.specs.Numbers.{AreSpelled}
+use Rattle.quic_frame_parts.proofs.Spelled.{ReadSome, AreLong}
+use Rattle.quic_frame_parts.proofs.frame.write.shortened_len.Given as goal
+
+abbrev pub invariant-loop-number : goal.invariant-loop-number
+invariant-loop-number l = record {
+  read : (ns : List ℕ) → AreSpelled ns l.spelled → ReadSome (AreLong l.total) l.rest ns;
+  small : l.total + 8 * length l.rest ≤ 8 * length l.spelled;
+  fits : AreBytes l.rest;
+}
+
+abbrev pub decreases-loop-number : goal.decreases-loop-number
+decreases-loop-number l = length l.rest

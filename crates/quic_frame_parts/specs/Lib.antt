@@ -1,0 +1,17 @@
+pub use Rattle.quic_errors.specs.Types
+pub use Rattle.quic_errors.specs.Names
+pub use Rattle.quic_errors.specs.Codes
+pub use Rattle.quic_base.specs.Number
+pub use Rattle.quic_base.specs.Varint
+pub use Rattle.quic_base.specs.Codec
+pub mod Field
+pub mod Table
+pub mod Payload
+pub mod Reading
+pub mod Refusal
+pub mod Acks
+pub mod Parts
+pub mod Shortest
+pub mod Numbers
+pub mod Sets
+pub mod Closes

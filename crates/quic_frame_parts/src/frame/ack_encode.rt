@@ -1,0 +1,134 @@
+//! Acknowledgements, written in their shortest form (RFC 9000, section 19.3).
+ghost use Rattle.std.specs.Prelude.{◌≡◌, ◌≢◌, ◌<◌, ◌≤◌, ◌^◌, ◌∷◌, ◌++◌, [], ℕ, Bool, true, length};
+ghost use Rattle.std.specs.Option.{option_copied};
+ghost use Rattle.quic_base.specs.Number.{AreBytes};
+ghost use Rattle.quic_ranges.specs.Runs.{IsMaximalRuns, member};
+ghost use Rattle.quic_frame_parts.specs.Parts.{ack_meaning};
+ghost use Rattle.quic_frame_parts.specs.Sets.{AreCounts, IsAckInRange, ranges_in, ack_of, ack_type, count_numbers, head_numbers};
+ghost use Rattle.quic_frame_parts.specs.Shortest.{shortest_frame, shortest_below};
+ghost use Rattle.quic_base.specs.Writing.{Writes};
+ghost use Rattle.quic_frame_parts.specs.Numbers.{all_short};
+
+use super::ack::{Ack, EcnCounts};
+use super::write;
+use bytes::BufMut;
+use quic_base::coding::NoRoom;
+use quic_ranges::range_set::{ArrayIter, ArrayRangeSet};
+use std::ops::Range;
+
+impl Ack<'_> {
+    /// Appends an ACK of a set (RFC 9000, section 19.3). The caller owes that the set has a number, and
+    /// that its numbers, the delay and the counts are below 2^62. Answers `NoRoom` only where the spare
+    /// room is less than the frame; then what stood there stands, followed by a beginning of the frame.
+    /// It takes no memory.
+    pub fn encode<B: BufMut>(
+        delay: u64,
+        ranges: &ArrayRangeSet,
+        ecn: Option<&EcnCounts>,
+        out: &mut B,
+    ) -> Result<(), NoRoom>
+        requires some { ranges.now ≢ [] }
+        requires members { (n : ℕ) → member ranges.now n ≡ true → n < 2 ^ 62 }
+        requires delay { delay < 2 ^ 62 }
+        requires counts { AreCounts (option_copied ecn) }
+        ensures { (last : Bool) → Writes result (shortest_frame last (ack_of delay ranges.now (option_copied ecn.entry)))
+            (B.written out.old) (B.spare out.old) (B.written out.new) (B.spare out.new) }
+    {
+        let counts = ecn.copied();
+        let mut runs = ranges.iter();
+        let Some(first) = runs.next_back() else {
+            unreachable!()
+        };
+        let greatest = first.end - 1;
+        let block = greatest - first.start;
+        let below = ranges.len() as u64 - 1;
+        write::numbers(out, &[type_of(counts), greatest, delay, below, block])?;
+        encode_below(first, runs, out)?;
+        encode_counts(counts, out)
+    }
+}
+
+// The type of an ACK with these counts or with none.
+fn type_of(ecn: Option<EcnCounts>) -> u64
+    ensures { result ≡ ack_type ecn }
+{
+    if ecn.is_some() { 0x03 } else { 0x02 }
+}
+
+// Appends the runs below another one, the greatest first: for each the numbers between it and the one
+// above it, less one, and its numbers, less one.
+fn encode_below<B: BufMut>(
+    above: Range<u64>,
+    runs: ArrayIter<'_>,
+    out: &mut B,
+) -> Result<(), NoRoom>
+    requires runs { IsMaximalRuns (runs ++ above ∷ []) }
+    requires bound { above.start < 2 ^ 62 }
+    ensures { Writes result (shortest_below above.start (ranges_in runs.entry))
+        (B.written out.old) (B.spare out.old) (B.written out.new) (B.spare out.new) }
+{
+    let mut above = above;
+    let mut runs = runs;
+    while let Some(run) = runs.next_back() {
+        let gap = above.start - run.end - 1;
+        write::numbers(out, &[gap, run.end - 1 - run.start])?;
+        above = run;
+    }
+    Ok(())
+}
+
+// Appends the counts, where they are given.
+fn encode_counts<B: BufMut>(ecn: Option<EcnCounts>, out: &mut B) -> Result<(), NoRoom>
+    requires { AreCounts ecn }
+    ensures { Writes result (all_short (count_numbers ecn))
+        (B.written out.old) (B.spare out.old) (B.written out.new) (B.spare out.new) }
+{
+    match ecn {
+        None => Ok(()),
+        Some(counts) => counts.encode(out),
+    }
+}
+
+// How many bytes `encode_counts` appends.
+fn counts_len(ecn: Option<EcnCounts>) -> u128
+    requires { AreCounts ecn }
+    ensures value { result ≡ length (all_short (count_numbers ecn)) }
+    ensures small { result ≤ 24 }
+{
+    match ecn {
+        None => 0,
+        Some(counts) => write::numbers_len(&[counts.ect0, counts.ect1, counts.ce]),
+    }
+}
+
+// The numbers in front of the blocks: the type, the greatest number, the delay, and how many ranges are
+// below the first.
+fn head_of(ack: &Ack<'_>) -> [u64; 4]
+    requires { IsAckInRange ack.now }
+    ensures numbers { result ≡ head_numbers ack.now }
+    ensures bytes { AreBytes ack.now.additional.now }
+{
+    let count = write::count_of(ack.additional()) / 2;
+    [type_of(ack.ecn()), ack.largest(), ack.delay(), count]
+}
+
+/// Appends an acknowledgement that is held, whose numbers may have been spelled in any widths, as
+/// `Ack::encode` appends that of a set. It takes no memory.
+pub fn encode_ack<B: BufMut>(ack: &Ack<'_>, out: &mut B) -> Result<(), NoRoom>
+    requires { IsAckInRange ack.now }
+    ensures { (last : Bool) → Writes result (shortest_frame last (ack_meaning ack.now))
+        (B.written out.old) (B.spare out.old) (B.written out.new) (B.spare out.new) }
+{
+    write::numbers(out, &head_of(ack))?;
+    write::shortened(out, ack.additional())?;
+    encode_counts(ack.ecn(), out)
+}
+
+/// How many bytes `encode_ack` appends.
+pub fn ack_len(ack: &Ack<'_>) -> u128
+    requires { IsAckInRange ack.now }
+    ensures { (last : Bool) → result ≡ length (shortest_frame last (ack_meaning ack.now)) }
+{
+    let head = write::numbers_len(&head_of(ack));
+    head + write::shortened_len(ack.additional()) + counts_len(ack.ecn())
+}

@@ -1,0 +1,114 @@
+//! Numbers, and the blocks of an ACK, read from the front of a slice.
+ghost use Rattle.std.specs.Prelude.{◌≡◌, ◌<◌, ◌≤◌, ◌^◌, List, ℕ, [], ◌∷◌, length, IfErr, IfOk, Ok, OnOk, ◌⊎◌};
+ghost use Rattle.quic_base.specs.Number.{AreBytes};
+ghost use Rattle.quic_frame_parts.specs.Reading.{Gives, varint_at, block_at, gap_at, below_at, after_blocks, blocks_at, blocks_left, ranges_of, IsBlocks};
+ghost use Rattle.quic_frame_parts.specs.Refusal.{AreNoBlocks};
+
+use super::fault::Fault;
+use quic_base::coding::Codec;
+use quic_base::varint::VarInt;
+
+/// A number of any width, below 2^62, and what follows it.
+#[inline]
+#[tactic(auto, using(crate::proofs::Varints::slices))]
+pub fn varint(bytes: &[u8]) -> Result<(u64, &[u8]), Fault>
+    ensures gives { Gives (λ x. (x.0, x.1.now)) result (varint_at bytes.now) }
+    ensures bound { IfOk result (λ x. x.0 < 2 ^ 62) }
+{
+    let mut rest = bytes;
+    match VarInt::decode(&mut rest) {
+        Ok(n) => Ok((n.into_inner(), rest)),
+        Err(_) => Err(Fault::UnexpectedEnd),
+    }
+}
+
+/// The least number of a block of an ACK that ends at `greatest`, and what follows the block.
+#[inline]
+#[tactic(auto, unfolding(crate::specs::Reading::block_at))]
+fn block(greatest: u64, bytes: &[u8]) -> Result<(u64, &[u8]), Fault>
+    ensures gives { Gives (λ x. (x.0, x.1.now)) result (block_at greatest bytes.now) }
+    ensures bytes { AreBytes bytes.now }
+{
+    let (n, rest) = varint(bytes)?;
+    if n > greatest {
+        return Err(Fault::Malformed);
+    }
+    Ok((greatest - n, rest))
+}
+
+/// The greatest number of the range below a gap, which begins below `low`, and what follows the gap.
+#[inline]
+#[tactic(auto, unfolding(crate::specs::Reading::gap_at))]
+fn gap(low: u64, bytes: &[u8]) -> Result<(u64, &[u8]), Fault>
+    ensures gives { Gives (λ x. (x.0, x.1.now)) result (gap_at low bytes.now) }
+    ensures bytes { AreBytes bytes.now }
+{
+    let (n, rest) = varint(bytes)?;
+    if low < 2 || n > low - 2 {
+        return Err(Fault::Malformed);
+    }
+    Ok((low - 2 - n, rest))
+}
+
+// What follows so many ranges below `low`. Each of them takes bytes, so a count beyond those ends soon.
+fn below(count: u64, low: u64, bytes: &[u8]) -> Result<&[u8], Fault>
+    ensures { Gives (λ x. x.now) result (below_at count low bytes.now) }
+{
+    let mut low = low;
+    let mut rest = bytes;
+    for _ in 0..count {
+        let (greatest, after_gap) = gap(low, rest)?;
+        let (least, after) = block(greatest, after_gap)?;
+        low = least;
+        rest = after;
+    }
+    Ok(rest)
+}
+
+/// The ranges of an ACK: the bytes of their blocks and gaps, behind the count of those below the first;
+/// and what follows them.
+#[tactic(auto, unfolding(crate::specs::Reading::blocks_at, crate::specs::Reading::after_blocks))]
+pub fn blocks(greatest: u64, bytes: &[u8]) -> Result<(&[u8], &[u8]), Fault>
+    ensures gives { Gives (λ x. (x.0.now, x.1.now)) result (blocks_at greatest bytes.now) }
+    ensures valid { IfOk result (λ x. IsBlocks greatest x.0.now) }
+{
+    let (count, bytes) = varint(bytes)?;
+    let (low, rest) = block(greatest, bytes)?;
+    let rest = below(count, low, rest)?;
+    Ok(bytes.split_at(bytes.len() - rest.len()))
+}
+
+/// Whether the bytes are a first block and any number of pairs of gap and block, and nothing else.
+pub(super) fn all_blocks(greatest: u64, bytes: &[u8]) -> Result<(), Fault>
+    ensures ok { OnOk result (IsBlocks greatest bytes.now) }
+    ensures err { IfErr result (λ e. AreNoBlocks greatest bytes.now e × ((e ≡ Fault.UnexpectedEnd) ⊎ (e ≡ Fault.Malformed))) }
+{
+    let (mut low, mut rest) = block(greatest, bytes)?;
+    while !rest.is_empty() {
+        let (high, after_gap) = gap(low, rest)?;
+        let (least, after) = block(high, after_gap)?;
+        low = least;
+        rest = after;
+    }
+    Ok(())
+}
+
+/// The least number of the first range of blocks, the greatest of the next one, and the blocks of
+/// that one and those below it, where there are any.
+pub(super) fn first_range(greatest: u64, blocks: &[u8]) -> (u64, u64, &[u8])
+    requires some { 0 < length blocks.now }
+    requires valid { blocks_left greatest blocks.now ≡ Ok [] }
+    ensures first { ranges_of greatest blocks.now ≡ (result.0, greatest) ∷ ranges_of result.1 result.2.now }
+    ensures valid { blocks_left result.1 result.2.now ≡ Ok [] }
+{
+    let Ok((least, rest)) = block(greatest, blocks) else {
+        unreachable!()
+    };
+    if rest.is_empty() {
+        return (least, 0, rest);
+    }
+    let Ok((next, others)) = gap(least, rest) else {
+        unreachable!()
+    };
+    (least, next, others)
+}

@@ -1,0 +1,143 @@
+//! Numbers and bytes, appended to a buffer.
+ghost use Rattle.std.specs.Prelude.{◌≡◌, ◌<◌, ◌≤◌, ◌+◌, ◌*◌, ◌^◌, ◌++◌, ℕ, List, length, IsOk, OnOk, OnErr, vec_len, vec_capacity};
+ghost use Rattle.quic_base.specs.ConnectionId.{long_id};
+ghost use Rattle.quic_base.specs.Varint.{size};
+ghost use Rattle.quic_base.specs.Number.{AreBytes};
+ghost use Rattle.quic_base.specs.Writing.{Writes};
+ghost use Rattle.quic_frame_parts.specs.Numbers.{AreNumeric, AreSpelled, all_short};
+
+use super::field;
+use bytes::BufMut;
+use quic_base::coding::{BufMutExt, NoRoom};
+use quic_base::ids::ConnectionId;
+use quic_base::varint::VarInt;
+
+/// Appends numbers in their shortest spellings. Answers `NoRoom` only where the spare room is less than
+/// those; then what stood there stands, followed by a beginning of them.
+pub fn numbers<B: BufMut>(out: &mut B, numbers: &[u64]) -> Result<(), NoRoom>
+    requires { AreNumeric numbers.now }
+    ensures { Writes result (all_short numbers.now) (B.written out.old) (B.spare out.old) (B.written out.new) (B.spare out.new) }
+{
+    for number in numbers {
+        out.write_var(*number)?;
+    }
+    Ok(())
+}
+
+/// Appends bytes, in the same way.
+pub fn bytes<B: BufMut>(out: &mut B, bytes: &[u8]) -> Result<(), NoRoom>
+    ensures { Writes result bytes.now (B.written out.old) (B.spare out.old) (B.written out.new) (B.spare out.new) }
+{
+    match out.put_slice(bytes) {
+        Ok(()) => Ok(()),
+        Err(_) => Err(NoRoom),
+    }
+}
+
+/// Appends numbers and then bytes, in the same way.
+pub fn numbers_and_bytes<B: BufMut>(out: &mut B, head: &[u64], tail: &[u8]) -> Result<(), NoRoom>
+    requires { AreNumeric head.now }
+    ensures { Writes result (all_short head.now ++ tail.now) (B.written out.old) (B.spare out.old) (B.written out.new) (B.spare out.new) }
+{
+    numbers(out, head)?;
+    bytes(out, tail)
+}
+
+/// Appends an id behind its length, and bytes, in the same way.
+pub fn id_and_bytes<B: BufMut>(out: &mut B, id: &ConnectionId, tail: &[u8]) -> Result<(), NoRoom>
+    ensures { Writes result (long_id id.now ++ tail.now) (B.written out.old) (B.spare out.old) (B.written out.new) (B.spare out.new) }
+{
+    id.encode_long(out)?;
+    bytes(out, tail)
+}
+
+/// The length of the shortest spelling of a number.
+#[tactic(auto, using(crate::proofs::Encoding::size_small))]
+pub fn size_of(n: u64) -> usize
+    requires { n < 2 ^ 62 }
+    ensures value { result ≡ size n }
+    ensures small { result ≤ 8 }
+{
+    VarInt::from_u64_unchecked(n).size()
+}
+
+/// Appends the numbers that the bytes spell, in their shortest spellings, in the same way.
+pub fn shortened<B: BufMut>(out: &mut B, spelled: &[u8]) -> Result<(), NoRoom>
+    ensures { (ns : List ℕ) → AreSpelled ns spelled.now
+        → Writes result (all_short ns) (B.written out.old) (B.spare out.old) (B.written out.new) (B.spare out.new) }
+{
+    let mut rest = spelled;
+    while let Ok((number, after)) = field::varint(rest) {
+        out.write_var(number)?;
+        rest = after;
+    }
+    Ok(())
+}
+
+/// How many numbers the bytes spell.
+pub fn count_of(spelled: &[u8]) -> u64
+    ensures count { (ns : List ℕ) → AreSpelled ns spelled.now → result ≡ length ns }
+    ensures bytes { AreBytes spelled.now }
+{
+    let mut count: u64 = 0;
+    let mut rest = spelled;
+    while let Ok((_, after)) = field::varint(rest) {
+        count += 1;
+        rest = after;
+    }
+    count
+}
+
+/// How many bytes `shortened` appends.
+pub fn shortened_len(spelled: &[u8]) -> u128
+    ensures value { (ns : List ℕ) → AreSpelled ns spelled.now → result ≡ length (all_short ns) }
+    ensures small { result ≤ 8 * length spelled.now }
+{
+    let mut total: u128 = 0;
+    let mut rest = spelled;
+    while let Ok((number, after)) = field::varint(rest) {
+        total += size_of(number) as u128;
+        rest = after;
+    }
+    total
+}
+
+/// How many bytes `numbers` appends.
+pub fn numbers_len(numbers: &[u64]) -> u128
+    requires { AreNumeric numbers.now }
+    ensures value { result ≡ length (all_short numbers.now) }
+    ensures small { result ≤ 8 * length numbers.now }
+{
+    let mut total: u128 = 0;
+    for number in numbers {
+        total += size_of(*number) as u128;
+    }
+    total
+}
+
+/// How many bytes `numbers_and_bytes` appends.
+pub fn numbers_and_bytes_len(head: &[u64], tail: &[u8]) -> u128
+    requires few { length head.now ≤ 5 }
+    requires numeric { AreNumeric head.now }
+    ensures { result ≡ length (all_short head.now ++ tail.now) }
+{
+    numbers_len(head) + tail.len() as u128
+}
+
+/// Appends numbers and then bytes to a vector. One growth of at most these bytes is made, and where that
+/// is refused `out` is as it was; it can't be where there is spare room for them.
+pub fn append(out: &mut Vec<u8>, head: &[u64], tail: &[u8]) -> Result<(), NoRoom>
+    requires few { length head.now ≤ 5 }
+    requires numeric { AreNumeric head.now }
+    ensures ok { OnOk result (out.new.items ≡ out.old.items ++ (all_short head.now ++ tail.now)) }
+    ensures err { OnErr result (out.new.items ≡ out.old.items) }
+    ensures room { vec_len out.old + length (all_short head.now ++ tail.now) ≤ vec_capacity out.old → IsOk result }
+{
+    if out
+        .reserve(numbers_len(head) as usize + tail.len())
+        .is_err()
+    {
+        return Err(NoRoom);
+    }
+    numbers_and_bytes(out, head, tail)
+}

@@ -1,4 +1,4 @@
-//! Tests of frames that are read, of acknowledgements, and of what is in range.
+//! Tests of frames that are read, and of what is in range.
 #![tactic(auto)]
 
 #[cfg(test)]

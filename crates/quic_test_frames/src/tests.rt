@@ -1,7 +1,4 @@
-//! Worked rows, answers of the Rust crate, and what no clause says.
+//! Worked rows, and what no clause says.
 
-mod acks;
-mod acks_answers;
-mod acks_written;
 mod frames;
 mod frames_in_range;

@@ -1,0 +1,5 @@
+//! Tests of acknowledgements, read and written.
+#![tactic(auto)]
+
+#[cfg(test)]
+mod tests;

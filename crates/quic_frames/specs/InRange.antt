@@ -5,6 +5,7 @@ use Rattle.quic_frames.specs.declared.frame.Frame.TheVariants as frames
 use Rattle.quic_frame_parts.specs.declared.frame.close.Close.TheVariants as closes
 use Rattle.quic_errors.specs.Types.{type_or_zero}
 use Rattle.quic_frame_parts.specs.Numbers.{AreNumeric}
+pub use Rattle.quic_frame_parts.specs.Sets.{AreCounts}
 use Rattle.quic_frame_parts.specs.Sets.{IsAckInRange}
 use Rattle.quic_frames.specs.Least.{is_end}
 

@@ -6,7 +6,8 @@ use Rattle.quic_frames.specs.declared.frame.Frame.TheVariants as frames
 use Rattle.quic_frame_parts.specs.Field.{Number}
 use Rattle.quic_frame_parts.specs.Table.{Name, Padding, Ping, Ack, MaxData, MaxStreamData, MaxStreams, DataBlocked, StreamDataBlocked, StreamsBlocked, RetireConnectionId, PathChallenge, PathResponse, ConnectionClose, ApplicationClose, HandshakeDone, ImmediateAck}
 use Rattle.quic_frame_parts.specs.Payload.{Meaning}
-use Rattle.quic_frame_parts.specs.Parts.{frame_of, close_meaning, ack_meaning, reset_meaning, stop_meaning, crypto_meaning, token_meaning, stream_meaning, new_id_meaning, datagram_meaning, frequency_meaning, named_type}
+pub use Rattle.quic_frame_parts.specs.Parts.{frame_of, flag, counts_of, connection_close, application_close, close_meaning, first_number, named_type}
+use Rattle.quic_frame_parts.specs.Parts.{ack_meaning, reset_meaning, stop_meaning, crypto_meaning, token_meaning, stream_meaning, new_id_meaning, datagram_meaning, frequency_meaning}
 
 -- what a frame says
 abbrev pub meaning_of : Frame → Meaning

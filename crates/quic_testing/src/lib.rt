@@ -61,7 +61,9 @@ impl Checks {
     }
 
     /// Checks that two values are equal.
-    pub fn same<T: PartialEq + Debug + Drop>(&mut self, got: T, wanted: T) {
+    pub fn same<T: PartialEq + Debug + Drop>(&mut self, got: T, wanted: T)
+        ensures { self.new.has_failed ≡ (self.old.has_failed || not (T.eq got wanted)) }
+    {
         let is_same = got == wanted;
         self.check(is_same, format_args!("{got:?}, wanted {wanted:?}"));
     }
@@ -72,7 +74,9 @@ impl Checks {
         at: impl Display + Drop,
         got: T,
         wanted: T,
-    ) {
+    )
+        ensures { self.new.has_failed ≡ (self.old.has_failed || not (T.eq got wanted)) }
+    {
         let is_same = got == wanted;
         self.check(is_same, format_args!("at {at}: {got:?}, wanted {wanted:?}"));
     }

@@ -104,3 +104,6 @@ impl Crypto<'_> {
     /// As many bytes, besides those of its data, as the frame's shortest spelling has at most.
     pub const SIZE_BOUND: usize = 1 + 8 + 8;
 }
+
+// A byte of type, an offset and a length.
+const _: () = prove!(Crypto::SIZE_BOUND == 17);

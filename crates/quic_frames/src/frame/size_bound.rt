@@ -153,7 +153,7 @@ impl FrameStruct for Crypto<'_> {
 
     #[tactic(auto, using(crate::proofs::SizeBounds::crypto_bound))]
     fn bound(&self) -> usize {
-        Self::SIZE_BOUND
+        <Self as FrameStruct>::SIZE_BOUND
     }
 }
 

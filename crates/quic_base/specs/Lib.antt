@@ -7,3 +7,4 @@ pub mod Ids
 pub mod ConnectionId
 pub mod ConnectionIdOrder
 pub mod ConnectionIdLoan
+pub mod Cursor

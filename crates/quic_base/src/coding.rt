@@ -11,6 +11,10 @@ use std::alloc::AllocError;
 use std::net::{Ipv4Addr, Ipv6Addr};
 use thiserror::Error;
 
+mod buffer_cursor;
+
+pub use buffer_cursor::Cursor;
+
 /// A buffer ended before a value did.
 #[derive(Clone, Copy, Debug, PartialEq, Eq, Error)]
 #[error("unexpected end of buffer")]
@@ -71,15 +75,15 @@ pub(crate) fn first_byte<B: Buf>(buf: &B) -> Option<u8>
     buf.chunk().first().copied()
 }
 
-// Each element is a byte, which callers learn where their own bound on the elements is lost.
+/// Each element is a byte, which callers learn where their own bound on the elements is lost.
 #[inline]
-pub(crate) fn are_bytes(bytes: &[u8])
+pub fn are_bytes(bytes: &[u8])
     ensures { AreBytes bytes.now }
 {}
 
-// The next N bytes, by one load where they lie together.
+/// The next N bytes, by one load where they lie together. On `UnexpectedEnd` nothing is consumed.
 #[inline]
-pub(crate) fn get_array<B: Buf, const N: usize>(buf: &mut B) -> Result<[u8; N]>
+pub fn get_array<B: Buf, const N: usize>(buf: &mut B) -> Result<[u8; N]>
     requires { N ≤ 16 }
     ensures ok { IfOk result (λ a. B.unread buf.old ≡ a ++ B.unread buf.new) }
     ensures width { IfOk result (λ a. length a ≡ N) }

@@ -35,7 +35,7 @@ pub const INITIAL_MTU: u16 = 1200;
 pub const MAX_UDP_PAYLOAD: u16 = 65527;
 
 /// The versions that an endpoint speaks where it isn't told others: version 1 (RFC 9000, section
-/// 15), then the drafts 29 to 34.
+/// 15), the drafts 29 to 34, and version 2 (RFC 9369, section 3.1).
 pub const DEFAULT_SUPPORTED_VERSIONS: &[u32] = &[
     0x0000_0001,
     0xff00_001d,
@@ -44,6 +44,7 @@ pub const DEFAULT_SUPPORTED_VERSIONS: &[u32] = &[
     0xff00_0020,
     0xff00_0021,
     0xff00_0022,
+    0x6b33_43cf,
 ];
 
 /// Which end of a connection.

@@ -318,8 +318,8 @@ fn tokens_and_limits(rt: HostRuntime) -> Result<(), Fail> {
         (MIN_INITIAL_SIZE, INITIAL_MTU, MAX_UDP_PAYLOAD),
         (1200, 1200, 65527),
     );
-    let versions: [u32; 7] = [
-        1, 0xff00001d, 0xff00001e, 0xff00001f, 0xff000020, 0xff000021, 0xff000022,
+    let versions: [u32; 8] = [
+        1, 0xff00001d, 0xff00001e, 0xff00001f, 0xff000020, 0xff000021, 0xff000022, 0x6b3343cf,
     ];
     checks.same(DEFAULT_SUPPORTED_VERSIONS, versions.as_slice());
     checks.verdict()

@@ -1,0 +1,100 @@
+//! A buffer that is read from its front.
+ghost use Rattle.std.specs.Prelude.{◌≡◌, ◌<◌, ◌≤◌, ◌+◌, ◌^◌, ◌∷◌, [], drop, length};
+ghost use Rattle.quic_base.specs.Number.{AreBytes};
+
+use crate::coding::are_bytes;
+use bytes::{Buf, BytesMut};
+
+/// A buffer and the place up to which it is read. Reading leaves its bytes.
+#[derive(Drop)]
+pub struct Cursor {
+    bytes: BytesMut,
+    position: usize,
+    ghost in_range: { position ≤ length bytes.items },
+}
+
+impl Cursor {
+    ghost use Rattle.quic_base.specs.Cursor.{unread};
+
+    /// A cursor at the front of the buffer.
+    pub fn new(bytes: BytesMut) -> Cursor
+        ensures bytes { result.bytes ≡ bytes }
+        ensures start { result.position ≡ 0 }
+    {
+        Cursor { bytes, position: 0 }
+    }
+
+    /// How many bytes are read.
+    #[inline]
+    pub fn position(&self) -> usize
+        ensures value { result ≡ self.now.position }
+        ensures within { result ≤ length self.now.bytes.items }
+    {
+        self.position
+    }
+
+    /// How many bytes are left.
+    #[inline]
+    pub fn remaining(&self) -> usize
+        ensures value { result ≡ length (unread self.now) }
+        ensures within { self.now.position + result ≡ length self.now.bytes.items }
+        ensures bound { length self.now.bytes.items < 2 ^ 63 }
+    {
+        self.bytes.len() - self.position
+    }
+
+    /// The bytes that are left.
+    #[inline]
+    pub fn rest(&self) -> &[u8]
+        ensures value { result.now ≡ unread self.now }
+        ensures bytes { AreBytes (unread self.now) }
+    {
+        let rest = &self.bytes.as_slice()[self.position..];
+        are_bytes(rest);
+        rest
+    }
+
+    /// Passes over the next `count` bytes. The caller owes that they are there.
+    #[inline]
+    pub fn advance(&mut self, count: usize)
+        requires { count ≤ length (unread self.old) }
+        ensures bytes { self.new.bytes ≡ self.old.bytes }
+        ensures place { self.new.position ≡ self.old.position + count }
+        ensures rest { unread self.new ≡ drop count (unread self.old) }
+    {
+        let _len = self.bytes.len();
+        self.position += count;
+    }
+
+    /// The buffer.
+    pub fn into_inner(self) -> BytesMut
+        ensures value { result ≡ self.bytes }
+        ensures within { self.position ≤ length self.bytes.items }
+    {
+        self.bytes
+    }
+}
+
+/// What is left is read.
+impl Buf for Cursor {
+    ghost use Rattle.quic_base.specs.Cursor.{unread};
+
+    ghost unread = { unread };
+
+    ghost kept = { λ c. (c.bytes.items, c.bytes.spare) ∷ [] };
+
+    #[inline]
+    fn remaining(&self) -> usize {
+        Cursor::remaining(self)
+    }
+
+    #[inline]
+    fn chunk(&self) -> &[u8] {
+        self.rest()
+    }
+
+    #[inline]
+    fn advance(&mut self, cnt: usize) {
+        Cursor::advance(self, cnt);
+    }
+}

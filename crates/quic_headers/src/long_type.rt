@@ -1,0 +1,87 @@
+//! The first bytes of heads, and the types of long heads (RFC 9000, section 17.2; RFC 9369, section 3.2).
+ghost use Rattle.std.specs.Prelude.{◌≡◌};
+ghost use Rattle.quic_headers.specs.Types.{first_byte, long_type};
+
+/// The bit of a first byte that is set in long heads.
+pub const LONG_HEADER_FORM: u8 = 0x80;
+
+/// The bit of a first byte that is set in all heads, but for greased ones.
+pub const FIXED_BIT: u8 = 0x40;
+
+/// The bit of a short head's first byte that is for measuring round trips.
+pub const SPIN_BIT: u8 = 0x20;
+
+/// Version 2 of QUIC.
+pub const VERSION_2: u32 = 0x6b33_43cf;
+
+/// Long heads of one form.
+#[derive(Clone, Copy, Debug, PartialEq, Eq)]
+pub enum LongType {
+    /// Of the handshake.
+    Handshake,
+    /// Of early data.
+    ZeroRtt,
+}
+
+/// The types of long heads.
+#[derive(Clone, Copy, Debug, PartialEq, Eq)]
+pub enum LongHeaderType {
+    /// With a token.
+    Initial,
+    /// Without protection.
+    Retry,
+    /// Without a token.
+    Standard(LongType),
+}
+
+impl LongHeaderType {
+    /// The type that a long head's first byte says under a version.
+    pub fn from_byte(first: u8, version: u32) -> Self
+        ensures { result ≡ long_type version first }
+    {
+        let number = first / 16 % 4;
+        if version == VERSION_2 {
+            return match number {
+                0 => Self::Retry,
+                1 => Self::Initial,
+                2 => Self::Standard(LongType::ZeroRtt),
+                _ => Self::Standard(LongType::Handshake),
+            };
+        }
+        match number {
+            0 => Self::Initial,
+            1 => Self::Standard(LongType::ZeroRtt),
+            2 => Self::Standard(LongType::Handshake),
+            _ => Self::Retry,
+        }
+    }
+
+    /// The first byte of a long head under a version, but for its number's length.
+    pub fn byte(self, version: u32) -> u8
+        ensures { result ≡ first_byte version self }
+    {
+        if version == VERSION_2 {
+            return match self {
+                Self::Retry => 0xc0,
+                Self::Initial => 0xd0,
+                Self::Standard(LongType::ZeroRtt) => 0xe0,
+                Self::Standard(LongType::Handshake) => 0xf0,
+            };
+        }
+        match self {
+            Self::Initial => 0xc0,
+            Self::Standard(LongType::ZeroRtt) => 0xd0,
+            Self::Standard(LongType::Handshake) => 0xe0,
+            Self::Retry => 0xf0,
+        }
+    }
+}
+
+/// The first byte under version 1, but for the number's length.
+impl From<LongHeaderType> for u8 {
+    ghost from_gives = { λ ty first. first ≡ first_byte 1 ty };
+
+    fn from(ty: LongHeaderType) -> u8 {
+        ty.byte(1)
+    }
+}

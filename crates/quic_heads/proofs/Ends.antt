@@ -1,11 +1,12 @@
 -- What follows a packet does not change it.
-use Rattle.std.specs.Prelude.{◌≡◌, ℕ, ◌+◌, List, ◌++◌, length, take, drop, Some}
+use Rattle.std.specs.Prelude.{◌≡◌, ℕ, ◌+◌, List, ◌++◌, length, take, drop, Some, codes, slice_index, ◌∷◌, ◌≤◌, ◌<◌}
 use Rattle.std.proofs.Common.{sym, ap, ◌∙◌, arith, refl, length-append, append_assoc}
 use Rattle.std.proofs.lemmas.List.{length-take}
 use Rattle.std.proofs.Math.Seq.{take-add}
 use Rattle.quic_heads.specs.declared.protected.ProtectedHeader.{ProtectedHeader}
 use Rattle.quic_heads.specs.declared.protected.ProtectedHeader.TheVariants as head
-use Rattle.quic_heads.specs.Grammar.{Cut, LongStart}
+use Rattle.quic_heads.specs.Refusal.{Refusal, Invalid, Unsupported, NoMemory}
+use Rattle.quic_heads.specs.Grammar.{Cut, LongStart, Refused, no_byte, not_fixed, no_short_id, no_version, no_dst, no_src, unknown, no_token_len, no_token, no_initial_len, no_len}
 use Rattle.quic_headers.specs.Starts.{long_front}
 use Rattle.quic_heads.specs.Reading.{Context, len_in}
 use Rattle.quic_heads.proofs.Steps.{take_front, drop_front}
@@ -90,3 +91,51 @@ cut_alone context bytes other (head.Initial h) p q len cut is =
       ends,
       omega arith,
     )
+
+-- ---- refusals that stay, whatever follows
+
+first_of : (bytes : List ℕ) (first : ℕ) (rest : List ℕ) → bytes ≡ first ∷ rest → slice_index bytes 0 ≡ first
+first_of bytes first rest e = ap (λ (xs : List ℕ). slice_index xs 0) e
+
+not_long : {A : Type 0} (bytes : List ℕ) (first : ℕ) (rest : List ℕ) → 128 ≤ slice_index bytes 0 → bytes ≡ first ∷ rest → first < 128 → A
+not_long bytes first rest long e lt = absurd (omega (arith, long, lt, first_of bytes first rest e))
+
+-- how long its text is
+abbrev text_size : Refusal → ℕ
+text_size (Unsupported src dst version) = 0
+text_size (Invalid text) = length text
+text_size NoMemory = 1
+
+fixed_of : (context : Context) (bytes other : List ℕ) (e : Refusal) → 128 ≤ slice_index bytes 0 → Refused context bytes e → text_size e ≡ 15 → Refused context (bytes ++ other) e
+fixed_of context bytes other _ long (no_byte is) k = absurd (let n : 24 ≡ 15 = k in omega (arith, n))
+fixed_of context bytes other _ long (not_fixed first rest is clear) k = not_fixed first (rest ++ other) (ap (λ (xs : List ℕ). xs ++ other) is) clear
+fixed_of context bytes other e long (no_short_id first rest _ is fixed lt refused) k = not_long bytes first rest long is lt
+fixed_of context bytes other _ long (no_version first rest is fixed ge cut) k = absurd (let n : 24 ≡ 15 = k in omega (arith, n))
+fixed_of context bytes other _ long (no_dst first version rest range is fixed ge none) k = absurd (let n : 13 ≡ 15 = k in omega (arith, n))
+fixed_of context bytes other _ long (no_src first version dst rest range dst_len is fixed ge none) k = absurd (let n : 13 ≡ 15 = k in omega (arith, n))
+fixed_of context bytes other _ long (unknown first version dst src rest start some out) k = absurd (let n : 0 ≡ 15 = k in omega (arith, n))
+fixed_of context bytes other _ long (no_token_len first version dst src rest start known ty none) k = absurd (let n : 24 ≡ 15 = k in omega (arith, n))
+fixed_of context bytes other _ long (no_token first version count dst src text rest start known ty spelled lt) k = absurd (let n : 19 ≡ 15 = k in omega (arith, n))
+fixed_of context bytes other _ long (no_initial_len first version dst src text token rest start known ty spelled none) k = absurd (let n : 24 ≡ 15 = k in omega (arith, n))
+fixed_of context bytes other _ long (no_len first version dst src rest start known a b none) k = absurd (let n : 24 ≡ 15 = k in omega (arith, n))
+
+pub fixed_alone : (context : Context) (bytes other : List ℕ) → 128 ≤ slice_index bytes 0 → Refused context bytes (Invalid (codes "fixed bit unset")) → Refused context (bytes ++ other) (Invalid (codes "fixed bit unset"))
+fixed_alone context bytes other long refused = fixed_of context bytes other (Invalid (codes "fixed bit unset")) long refused refl
+
+version_of : (context : Context) (bytes other : List ℕ) (e : Refusal) → 128 ≤ slice_index bytes 0 → Refused context bytes e → text_size e ≡ 0 → Refused context (bytes ++ other) e
+version_of context bytes other _ long (no_byte is) k = absurd (let n : 24 ≡ 0 = k in omega (arith, n))
+version_of context bytes other _ long (not_fixed first rest is clear) k = absurd (let n : 15 ≡ 0 = k in omega (arith, n))
+version_of context bytes other e long (no_short_id first rest _ is fixed lt refused) k = not_long bytes first rest long is lt
+version_of context bytes other _ long (no_version first rest is fixed ge cut) k = absurd (let n : 24 ≡ 0 = k in omega (arith, n))
+version_of context bytes other _ long (no_dst first version rest range is fixed ge none) k = absurd (let n : 13 ≡ 0 = k in omega (arith, n))
+version_of context bytes other _ long (no_src first version dst rest range dst_len is fixed ge none) k = absurd (let n : 13 ≡ 0 = k in omega (arith, n))
+version_of context bytes other _ long (unknown first version dst src rest start some out) k =
+    unknown first version dst src (rest ++ other) (restarted context bytes (bytes ++ other) first version dst src rest (rest ++ other) start
+    (ap (λ (xs : List ℕ). xs ++ other) start.text ∙ append_assoc (long_front first version dst src) rest other)) some out
+version_of context bytes other _ long (no_token_len first version dst src rest start known ty none) k = absurd (let n : 24 ≡ 0 = k in omega (arith, n))
+version_of context bytes other _ long (no_token first version count dst src text rest start known ty spelled lt) k = absurd (let n : 19 ≡ 0 = k in omega (arith, n))
+version_of context bytes other _ long (no_initial_len first version dst src text token rest start known ty spelled none) k = absurd (let n : 24 ≡ 0 = k in omega (arith, n))
+version_of context bytes other _ long (no_len first version dst src rest start known a b none) k = absurd (let n : 24 ≡ 0 = k in omega (arith, n))
+
+pub version_alone : (context : Context) (bytes other src dst : List ℕ) (version : ℕ) → 128 ≤ slice_index bytes 0 → Refused context bytes (Unsupported src dst version) → Refused context (bytes ++ other) (Unsupported src dst version)
+version_alone context bytes other src dst version long refused = version_of context bytes other (Unsupported src dst version) long refused refl

@@ -1,5 +1,6 @@
 pub mod Cuts
 pub mod CutAnswers
+pub mod Datagrams
 pub mod Ends
 pub mod FieldLaws
 pub mod HeadAgain

@@ -1,6 +1,9 @@
 pub mod Lines
 pub mod Printed
 pub mod FrameText
+pub mod DatagramText
+pub mod IdLens
+pub mod Modes
 pub mod Text
 pub mod Transfer
 pub mod Whole

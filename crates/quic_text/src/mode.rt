@@ -1,19 +1,38 @@
 //! The modes of the program.
-ghost use Rattle.std.specs.Prelude.{◌≡◌, ◌↔◌, [], ◌∷◌, Some, codes, map};
+ghost use Rattle.std.specs.Prelude.{◌≡◌, ◌≢◌, ◌↔◌, ℕ, List, [], ◌∷◌, Some, codes, map};
+ghost use Rattle.quic_text.specs.IdLens.{IsIdLen};
+ghost use Rattle.quic_text.specs.Modes.{asked_len};
+
+use crate::id_len::IdLen;
 
 /// What is printed of each line.
 #[derive(Clone, Copy, Debug, PartialEq, Eq)]
 pub enum Mode {
     /// The frames of a payload.
     Frames,
+    /// The packets of a datagram, whose short heads have ids of this length.
+    Datagram(IdLen),
 }
 
 /// The mode that the words after the program's name ask for. `None` is wrong arguments.
 pub fn mode_of(words: &[&str]) -> Option<Mode>
-    ensures { (result ≡ Some Mode.Frames) ↔ (map (λ word. word.now) words.now ≡ codes "frames" ∷ []) }
+    ensures frames { (result ≡ Some Mode.Frames) ↔ (map (λ word. word.now) words.now ≡ codes "frames" ∷ []) }
+    ensures datagram { (len : ℕ) → (asked_len result ≡ Some len) ↔ ((word : List ℕ) × (map (λ word. word.now) words.now ≡ codes "datagram" ∷ word ∷ []) × IsIdLen len word) }
 {
     match words {
         ["frames"] => Some(Mode::Frames),
+        ["datagram", word] => datagram_mode(word),
         _ => None,
+    }
+}
+
+/// The mode `datagram` with the length that the word says.
+fn datagram_mode(word: &str) -> Option<Mode>
+    ensures other { result ≢ Some Mode.Frames }
+    ensures len { (len : ℕ) → (asked_len result ≡ Some len) ↔ IsIdLen len word.now }
+{
+    match IdLen::of_word(word) {
+        Some(len) => Some(Mode::Datagram(len)),
+        None => None,
     }
 }

@@ -1,0 +1,113 @@
+-- The line of a packet, and the lines of those that follow it.
+use Rattle.std.proofs.Common.{◌≡◌, ◌≢◌, ℕ, ◌+◌, ◌-◌, ◌^◌, ◌<◌, ◌≤◌, true, false, List, [], ◌∷◌, ◌++◌, Option, Some, None, Result, Ok, Err, OnOk, length, drop, refl, sym, ap, subst, ◌∙◌, arith, replicate, append_assoc, length-drop}
+use Rattle.std.proofs.lemmas.List.{append-nil}
+use Rattle.std.specs.List.{flat_map, list_all}
+use Rattle.std.specs.Prelude.{option_map}
+use Rattle.std.specs.Fmt.{AppendsText, ◌++?◌, padded_integral, format_spec, digits, char_count}
+use Rattle.quic_base.specs.Number.{AreBytes}
+use Rattle.quic_heads.specs.declared.decode_error.PacketDecodeError.{PacketDecodeError}
+use Rattle.quic_heads.specs.declared.decode_error.PacketDecodeError.TheVariants as error
+use Rattle.quic_heads.specs.declared.protected.ProtectedHeader.{ProtectedHeader}
+use Rattle.quic_heads.specs.Datagram.{Placed, ArePackets, last, more, refused, packets_in}
+use Rattle.quic_heads.specs.Grammar.{Cut, Uncut, CutAnswer}
+use Rattle.quic_heads.specs.Reading.{Context}
+use Rattle.quic_heads.specs.Refusal.{Refusal, NoMemory, Refuses, refusal_of}
+use Rattle.quic_heads.proofs.Datagrams.{packets_again}
+use Rattle.quic_text.specs.Printed.{Printed, Error, shown, is_plain}
+use Rattle.quic_text.specs.DatagramText.{with_ids_of, eight_digits, packet_line, refusal_text, row_lines, datagram_lines}
+
+-- what `{:08x}` writes
+eight_written : (n : ℕ) → padded_integral (format_spec 32 0 4 8 (2 ^ 64 - 1)) false [] (digits 16 false n) ≡ eight_digits n
+unfolding padded_integral char_count
+eight_written n =
+    let ds : List ℕ = digits 16 false n in
+    let zeros : 8 - length ds - 0 - 0 ≡ 8 - length ds = omega arith in
+    ap (λ (k : ℕ). replicate k 48 ++ (ds ++ [])) zeros ∙ ap (λ (xs : List ℕ). replicate (8 - length ds) 48 ++ xs) (append-nil ds)
+
+when_ok : {T E P Q : Type 0} (r : Result T E) → (P → Q) → OnOk r P → OnOk r Q
+when_ok (Ok x) f h = f h
+when_ok (Err e) f h = tt
+
+pub version_written : {T E : Type 0} (r : Result T E) (old new text : List ℕ) (digits_shown : Option (List ℕ)) (n : ℕ)
+    → digits_shown ≡ option_map (padded_integral (format_spec 32 0 4 8 (2 ^ 64 - 1)) false []) (Some (digits 16 false n))
+    → OnOk r (AppendsText old new (Some text ++? digits_shown)) → OnOk r (new ≡ old ++ (text ++ eight_digits n))
+version_written r old new text digits_shown n laid written =
+    let eight : digits_shown ≡ Some (eight_digits n) = laid ∙ ap (λ (ds : List ℕ). Some ds) (eight_written n) in
+    when_ok r (λ h. subst (λ (o : Option (List ℕ)). AppendsText old new (Some text ++? o)) eight h) written
+
+-- what a call answers that cuts a packet
+pub cut_given : (context : Context) (bytes : List ℕ) (h : ProtectedHeader) (p q : ℕ)
+    → ((answer : Result (ProtectedHeader × ℕ × ℕ) Refusal) × CutAnswer context bytes answer × (answer ≡ Ok (h, p, q))) → Cut context bytes h p q
+cut_given context bytes h p q a = subst (CutAnswer context bytes) a.2 a.1
+
+pub refusal_given : (context : Context) (bytes : List ℕ) (e : PacketDecodeError) → refusal_of e ≢ NoMemory
+    → ((answer : Result (ProtectedHeader × ℕ × ℕ) Refusal) × CutAnswer context bytes answer × Refuses e answer) → Uncut context bytes (refusal_of e)
+refusal_given context bytes (error.UnsupportedVersion src dst version) some a = subst (CutAnswer context bytes) a.2 a.1
+refusal_given context bytes (error.InvalidHeader text) some a = subst (CutAnswer context bytes) a.2 a.1
+refusal_given context bytes error.OutOfMemory some a = absurd (some refl)
+
+-- the lines of packets, and those of a datagram's reading
+abbrev pub lines : List Placed → Option Refusal → List ℕ
+lines ps refusal = flat_map shown (row_lines ps refusal)
+
+-- what is printed so far, with the lines of the packets that are left, is all
+abbrev pub Leads : Context → ℕ → List ℕ → List ℕ → List ℕ → Type 0
+Leads context start bytes text all = (ps : List Placed) (refusal : Option Refusal) → ArePackets context start bytes ps refusal → text ++ lines ps refusal ≡ all
+
+pub text_first : (len : ℕ) (bytes left text : List ℕ) → AreBytes bytes → left ≡ bytes → Leads (with_ids_of len) 0 left text (text ++ flat_map shown (datagram_lines len bytes))
+text_first len bytes left text fits e ps refusal are =
+    let same = packets_again (with_ids_of len) bytes ps refusal fits (subst (λ (xs : List ℕ). ArePackets (with_ids_of len) 0 xs ps refusal) e are) in
+    ap (λ (r : List Placed × Option Refusal). text ++ flat_map shown (row_lines r.0 r.1)) (sym same)
+
+pub text_more : (context : Context) (start stop q p : ℕ) (bytes rest text text' all : List ℕ) (h : ProtectedHeader) → Cut context bytes h p q → q < length bytes → rest ≡ drop q bytes → stop ≡ start + q
+    → text' ≡ text ++ shown (packet_line (record { start = start; stop = stop; header = h })) → Leads context start bytes text all → Leads context stop rest text' all
+text_more context start stop q p bytes rest text text' all h cut lt r s e so_far ps refusal are =
+    let line : List ℕ = shown (packet_line (record { start = start; stop = start + q; header = h })) in
+    let e' : text' ≡ text ++ line = e ∙ ap (λ (n : ℕ). text ++ shown (packet_line (record { start = start; stop = n; header = h }))) s in
+    let are' : ArePackets context (start + q) (drop q bytes) ps refusal =
+    subst (λ (n : ℕ). ArePackets context n (drop q bytes) ps refusal) s (subst (λ (xs : List ℕ). ArePackets context stop xs ps refusal) r are) in
+    ap (λ (l : List ℕ). l ++ lines ps refusal) e' ∙ append_assoc text line (lines ps refusal)
+    ∙ so_far (record { start = start; stop = start + q; header = h } ∷ ps) refusal (more start bytes h p q ps refusal cut lt are')
+
+ended : (q : ℕ) (bytes : List ℕ) → q ≤ length bytes → drop q bytes ≡ [] → q ≡ length bytes
+ended q bytes within none = omega (arith, within, ap length none, length-drop q bytes)
+
+pub text_last : (context : Context) (start stop q p : ℕ) (bytes text text' all : List ℕ) (h : ProtectedHeader) → Cut context bytes h p q → drop q bytes ≡ [] → stop ≡ start + q
+    → text' ≡ text ++ shown (packet_line (record { start = start; stop = stop; header = h })) → Leads context start bytes text all → text' ≡ all
+text_last context start stop q p bytes text text' all h cut none s e so_far =
+    let end : q ≡ length bytes = ended q bytes cut.4 none in
+    let at : stop ≡ start + length bytes = s ∙ ap (λ (n : ℕ). start + n) end in
+    let line : List ℕ = shown (packet_line (record { start = start; stop = start + length bytes; header = h })) in
+    let e' : text' ≡ text ++ line = e ∙ ap (λ (n : ℕ). text ++ shown (packet_line (record { start = start; stop = n; header = h }))) at in
+    e' ∙ ap (λ (l : List ℕ). text ++ l) (sym (append-nil line)) ∙ so_far (record { start = start; stop = start + length bytes; header = h } ∷ []) None (last start bytes h p (subst (λ (n : ℕ). Cut context bytes h p n) end cut))
+
+pub text_refused : (context : Context) (start : ℕ) (bytes text text' all : List ℕ) (e : Refusal) → Uncut context bytes e → text' ≡ text ++ shown (Error (refusal_text e))
+    → Leads context start bytes text all → text' ≡ all
+text_refused context start bytes text text' all e uncut written so_far =
+    let line : List ℕ = shown (Error (refusal_text e)) in
+    written ∙ ap (λ (l : List ℕ). text ++ l) (sym (append-nil line)) ∙ so_far [] (Some e) (refused start bytes e uncut)
+
+-- and whether an `error` line stands among the lines that are left says it of all
+abbrev pub LeadsClean : Context → ℕ → List ℕ → List Printed → Type 0
+LeadsClean context start bytes all = (ps : List Placed) (refusal : Option Refusal) → ArePackets context start bytes ps refusal → list_all is_plain (row_lines ps refusal) ≡ list_all is_plain all
+
+pub clean_first : (len : ℕ) (bytes left : List ℕ) → AreBytes bytes → left ≡ bytes → LeadsClean (with_ids_of len) 0 left (datagram_lines len bytes)
+clean_first len bytes left fits e ps refusal are =
+    let same = packets_again (with_ids_of len) bytes ps refusal fits (subst (λ (xs : List ℕ). ArePackets (with_ids_of len) 0 xs ps refusal) e are) in
+    ap (λ (r : List Placed × Option Refusal). list_all is_plain (row_lines r.0 r.1)) (sym same)
+
+pub clean_more : (context : Context) (start stop q p : ℕ) (bytes rest : List ℕ) (all : List Printed) (h : ProtectedHeader) → Cut context bytes h p q → q < length bytes → rest ≡ drop q bytes → stop ≡ start + q
+    → LeadsClean context start bytes all → LeadsClean context stop rest all
+clean_more context start stop q p bytes rest all h cut lt r s so_far ps refusal are =
+    let are' : ArePackets context (start + q) (drop q bytes) ps refusal =
+    subst (λ (n : ℕ). ArePackets context n (drop q bytes) ps refusal) s (subst (λ (xs : List ℕ). ArePackets context stop xs ps refusal) r are) in
+    so_far (record { start = start; stop = start + q; header = h } ∷ ps) refusal (more start bytes h p q ps refusal cut lt are')
+
+pub clean_last : (context : Context) (start q p : ℕ) (bytes : List ℕ) (all : List Printed) (h : ProtectedHeader) → Cut context bytes h p q → drop q bytes ≡ []
+    → LeadsClean context start bytes all → true ≡ list_all is_plain all
+clean_last context start q p bytes all h cut none so_far =
+    let end : q ≡ length bytes = ended q bytes cut.4 none in
+    so_far (record { start = start; stop = start + length bytes; header = h } ∷ []) None (last start bytes h p (subst (λ (n : ℕ). Cut context bytes h p n) end cut))
+
+pub clean_refused : (context : Context) (start : ℕ) (bytes : List ℕ) (all : List Printed) (e : Refusal) → Uncut context bytes e → LeadsClean context start bytes all → false ≡ list_all is_plain all
+clean_refused context start bytes all e uncut so_far = so_far [] (Some e) (refused start bytes e uncut)

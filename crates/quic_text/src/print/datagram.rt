@@ -1,0 +1,165 @@
+//! What is printed of a datagram's packets.
+ghost use Rattle.std.specs.Prelude.{◌≡◌, ◌≢◌, ◌++◌, IfOk, OnOk, codes, false};
+ghost use Rattle.std.specs.Fmt.{decimal, digits};
+ghost use Rattle.std.specs.String.{string_bytes};
+ghost use Rattle.std.specs.List.{flat_map, list_all};
+ghost use Rattle.quic_text.specs.Printed.{Error, shown, is_plain};
+ghost use Rattle.quic_text.specs.DatagramText.{datagram_lines, head_text, id_or_dash, long_text, packet_line, eight_digits, refusal_text};
+ghost use Rattle.quic_heads.specs.Refusal.{NoMemory, refusal_of};
+ghost use Rattle.quic_text.specs.IdLens.{count};
+
+use crate::id_len::IdLen;
+use bytes::BytesMut;
+use quic_base::ids::{ConnectionId, DEFAULT_SUPPORTED_VERSIONS};
+use quic_packets::packet::{
+    FixedLengthConnectionIdParser, LongType, PacketDecodeError, PartialDecode, ProtectedHeader,
+};
+use std::alloc::{AllocError, Global};
+
+/// A line for each packet, and one for what is refused. Ids of short heads have the length given.
+pub(super) fn print_datagram(
+    alloc: Global,
+    id_len: IdLen,
+    datagram: &[u8],
+    text: &mut String,
+) -> Result<bool, AllocError>
+    ensures bytes { OnOk result (string_bytes text.new ≡ string_bytes text.old ++ flat_map shown (datagram_lines (count id_len) datagram.now)) }
+    ensures clean { IfOk result (λ clean. clean ≡ list_all is_plain (datagram_lines (count id_len) datagram.now)) }
+{
+    let parser = FixedLengthConnectionIdParser::new(id_len.get());
+    let mut left = BytesMut::copy_from_slice(alloc, datagram)?;
+    let mut start = 0;
+    loop {
+        match PartialDecode::new(left, &parser, DEFAULT_SUPPORTED_VERSIONS, false) {
+            Ok((packet, rest)) => {
+                let end = start + packet.len();
+                print_packet(start, end, packet.header(), text)?;
+                match rest {
+                    Some(rest) => {
+                        left = rest;
+                        start = end;
+                    }
+                    None => return Ok(true),
+                }
+            }
+            Err(error) => {
+                print_refusal(&error, text)?;
+                return Ok(false);
+            }
+        }
+    }
+}
+
+/// The line of a packet.
+fn print_packet(
+    start: usize,
+    end: usize,
+    head: &ProtectedHeader,
+    text: &mut String,
+) -> Result<(), AllocError>
+    ensures { OnOk result (string_bytes text.new ≡ string_bytes text.old ++ shown (packet_line (record { start = start; stop = end; header = head.now }))) }
+{
+    write!(text, "{start}..{end} ")?;
+    print_head(head, text)?;
+    text.push('\n')
+}
+
+/// What a head says.
+fn print_head(head: &ProtectedHeader, text: &mut String) -> Result<(), AllocError>
+    ensures { OnOk result (string_bytes text.new ≡ string_bytes text.old ++ head_text head.now) }
+{
+    match head {
+        ProtectedHeader::Initial(initial) => {
+            print_long("initial", &initial.dst_cid, &initial.src_cid, initial.version, text)?;
+            print_token(initial.token_pos.start, initial.token_pos.end, text)?;
+        }
+        ProtectedHeader::Long {
+            ty,
+            dst_cid,
+            src_cid,
+            version,
+            ..
+        } => {
+            let kind = match ty {
+                LongType::Handshake => "handshake",
+                LongType::ZeroRtt => "0rtt",
+            };
+            print_long(kind, dst_cid, src_cid, *version, text)?;
+        }
+        ProtectedHeader::Retry {
+            dst_cid,
+            src_cid,
+            version,
+        } => print_long("retry", dst_cid, src_cid, *version, text)?,
+        ProtectedHeader::Short { dst_cid, .. } => {
+            text.push_str("short dst ")?;
+            print_id(dst_cid, text)?;
+        }
+        ProtectedHeader::VersionNegotiate {
+            dst_cid, src_cid, ..
+        } => print_long("version-negotiation", dst_cid, src_cid, 0, text)?,
+    }
+    Ok(())
+}
+
+/// Where an Initial packet's token stands in the packet.
+fn print_token(start: usize, end: usize, text: &mut String) -> Result<(), AllocError>
+    ensures { OnOk result (string_bytes text.new ≡ string_bytes text.old ++ (codes " token " ++ decimal start ++ codes ".." ++ decimal end)) }
+{
+    write!(text, " token {start}..{end}")
+}
+
+/// What every long head says.
+fn print_long(
+    kind: &str,
+    dst_cid: &ConnectionId,
+    src_cid: &ConnectionId,
+    version: u32,
+    text: &mut String,
+) -> Result<(), AllocError>
+    ensures { OnOk result (string_bytes text.new ≡ string_bytes text.old ++ long_text kind.now dst_cid.now src_cid.now version) }
+{
+    write!(text, "{kind} dst ")?;
+    print_id(dst_cid, text)?;
+    text.push_str(" src ")?;
+    print_id(src_cid, text)?;
+    print_version(version, text)
+}
+
+/// A version in eight hexadecimal digits.
+fn print_version(version: u32, text: &mut String) -> Result<(), AllocError>
+    ensures { OnOk result (string_bytes text.new ≡ string_bytes text.old ++ (codes " version " ++ eight_digits version)) }
+{
+    write!(text, " version {version:08x}")
+}
+
+/// An id in hexadecimal, and an empty one as a dash.
+fn print_id(id: &ConnectionId, text: &mut String) -> Result<(), AllocError>
+    ensures { OnOk result (string_bytes text.new ≡ string_bytes text.old ++ id_or_dash id.now) }
+{
+    if id.as_slice().is_empty() {
+        text.push_str("-")?;
+    } else {
+        write!(text, "{id}")?;
+    }
+    Ok(())
+}
+
+/// The `error` line of a refusal.
+fn print_refusal(error: &PacketDecodeError, text: &mut String) -> Result<(), AllocError>
+    ensures bytes { OnOk result (string_bytes text.new ≡ string_bytes text.old ++ shown (Error (refusal_text (refusal_of error.now)))) }
+    ensures memory { OnOk result (refusal_of error.now ≢ NoMemory) }
+{
+    match error {
+        PacketDecodeError::InvalidHeader(reason) => writeln!(text, "error {reason}"),
+        PacketDecodeError::UnsupportedVersion { version, .. } => print_unsupported(*version, text),
+        PacketDecodeError::OutOfMemory => Err(AllocError),
+    }
+}
+
+/// The `error` line of a version that is not supported.
+fn print_unsupported(version: u32, text: &mut String) -> Result<(), AllocError>
+    ensures { OnOk result (string_bytes text.new ≡ string_bytes text.old ++ shown (Error (codes "unsupported version " ++ digits 16 false version))) }
+{
+    writeln!(text, "error unsupported version {version:x}")
+}

@@ -1,0 +1,21 @@
+//! Laws of what is printed, which no single call carries. The functions do nothing.
+ghost use Rattle.std.specs.Prelude.{◌≡◌, ◌++◌, List, ℕ, Option, map};
+ghost use Rattle.quic_base.specs.Number.{AreBytes};
+ghost use Rattle.quic_heads.specs.Datagram.{Placed, ArePackets};
+ghost use Rattle.quic_heads.specs.Refusal.{Refusal};
+ghost use Rattle.quic_text.specs.DatagramText.{with_ids_of, packet_line, refusal_lines};
+ghost use Rattle.quic_text.specs.IdLens.{count};
+ghost use Rattle.quic_text.specs.Text.{payload_lines};
+
+use crate::id_len::IdLen;
+use crate::mode::Mode;
+
+/// Where a datagram is these packets, or these and then a refusal, `datagram` prints just their lines, with
+/// these places. Each datagram is so, in one way.
+pub fn packets_printed()
+    ensures lines { (len : IdLen) (bytes : List ℕ) (packets : List Placed) (refusal : Option Refusal) → AreBytes bytes
+        → ArePackets (with_ids_of (count len)) 0 bytes packets refusal
+        → payload_lines (Mode.Datagram len) bytes ≡ map packet_line packets ++ refusal_lines refusal }
+    ensures some { (len : IdLen) (bytes : List ℕ) → AreBytes bytes
+        → (packets : List Placed) × (refusal : Option Refusal) × ArePackets (with_ids_of (count len)) 0 bytes packets refusal }
+{}

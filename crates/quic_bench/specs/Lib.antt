@@ -1,1 +1,2 @@
 pub mod Reset
+pub mod Parsers

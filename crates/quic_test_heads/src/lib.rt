@@ -1,0 +1,5 @@
+//! Tests of heads, of the cutting of datagrams, and of what `quic-show datagram` prints.
+#![tactic(auto)]
+
+#[cfg(test)]
+mod tests;

@@ -1,0 +1,93 @@
+//! Each public call once, with ample memory.
+use super::{holds, same, same_at};
+use bytes::{Buf, BytesMut};
+use quic_base::coding::Cursor;
+use quic_base::ids::{ConnectionId, SpaceId};
+use quic_bench::parsers::NoIds;
+use quic_packets::packet::{
+    FIXED_BIT, LONG_HEADER_FORM, LongHeaderType, LongType, PartialDecode, ProtectedHeader,
+    SPIN_BIT, VERSION_2,
+};
+use std::test::Fail;
+
+const INITIAL: &[u8] =
+    b"\xc0\x00\x00\x00\x01\x08\x06\xb8\x58\xec\x6f\x80\x45\x2b\x00\x02\xaa\xbb\x40\x03\x01\x02\x03\x61";
+
+#[test]
+fn a_cursor(rt: HostRuntime) -> Result<(), Fail> {
+    let mut cursor = Cursor::new(BytesMut::copy_from_slice(rt.alloc(), b"\x01\x02\x03\x04")?);
+    same(&rt, (cursor.position(), cursor.remaining()), (0, 4));
+    cursor.advance(1);
+    same(&rt, cursor.rest(), b"\x02\x03\x04".as_slice());
+    same(&rt, cursor.get_u16(), 0x0203);
+    same(&rt, (cursor.position(), cursor.remaining()), (3, 1));
+    same(&rt, cursor.chunk(), b"\x04".as_slice());
+    let bytes = cursor.into_inner();
+    same(&rt, bytes.as_slice(), b"\x01\x02\x03\x04".as_slice());
+    Ok(())
+}
+
+#[test]
+fn a_head(rt: HostRuntime) -> Result<(), Fail> {
+    let mut cursor = Cursor::new(BytesMut::copy_from_slice(rt.alloc(), INITIAL)?);
+    let Ok(head) = ProtectedHeader::decode(&mut cursor, &NoIds, &[1], false) else {
+        return Err(Fail);
+    };
+    same(&rt, cursor.position(), 20);
+    same(&rt, *head.dst_cid(), ConnectionId::new(&INITIAL[6..14]));
+    let ProtectedHeader::Initial(initial) = head else {
+        return Err(Fail);
+    };
+    same(&rt, (initial.token_pos.start, initial.token_pos.end), (16, 18));
+    same(&rt, (initial.len, initial.version), (3, 1));
+    same(&rt, initial.src_cid, ConnectionId::new(&[]));
+    Ok(())
+}
+
+#[test]
+fn a_cut(rt: HostRuntime) -> Result<(), Fail> {
+    let bytes = BytesMut::copy_from_slice(rt.alloc(), INITIAL)?;
+    let Ok((packet, Some(rest))) = PartialDecode::new(bytes, &NoIds, &[1], false) else {
+        return Err(Fail);
+    };
+    same(&rt, packet.len(), 23);
+    same(&rt, packet.data(), &INITIAL[..23]);
+    same(&rt, rest.as_slice(), b"\x61".as_slice());
+    same(&rt, packet.space(), Some(SpaceId::Initial));
+    holds(&rt, packet.has_long_header());
+    holds(&rt, packet.is_initial());
+    holds(&rt, !packet.is_0rtt());
+    holds(&rt, packet.initial_header().is_some());
+    holds(&rt, matches!(packet.header(), ProtectedHeader::Initial(_)));
+    let Ok((packet, None)) = PartialDecode::new(rest, &NoIds, &[1], false) else {
+        return Err(Fail);
+    };
+    same(&rt, packet.space(), Some(SpaceId::Data));
+    holds(&rt, !packet.has_long_header());
+    holds(&rt, !packet.is_initial());
+    holds(&rt, packet.initial_header().is_none());
+    holds(&rt, matches!(packet.header(), ProtectedHeader::Short { spin: true, .. }));
+    Ok(())
+}
+
+// A type, and the first byte of its heads under versions 1 and 2.
+const TYPES: &[(LongHeaderType, u8, u8)] = &[
+    (LongHeaderType::Initial, 0xc0, 0xd0),
+    (LongHeaderType::Standard(LongType::ZeroRtt), 0xd0, 0xe0),
+    (LongHeaderType::Standard(LongType::Handshake), 0xe0, 0xf0),
+    (LongHeaderType::Retry, 0xf0, 0xc0),
+];
+
+#[test]
+fn types_of_long_heads(rt: HostRuntime) {
+    for (ty, first, second) in TYPES {
+        same_at(&rt, *first, ty.byte(1), *first);
+        same_at(&rt, *first, ty.byte(0xff00_001d), *first);
+        same_at(&rt, *first, ty.byte(VERSION_2), *second);
+        same_at(&rt, *first, u8::from(*ty), *first);
+        same_at(&rt, *first, LongHeaderType::from_byte(*first + 3, 1), *ty);
+        same_at(&rt, *first, LongHeaderType::from_byte(*second, VERSION_2), *ty);
+    }
+    same(&rt, (LONG_HEADER_FORM, FIXED_BIT, SPIN_BIT), (0x80, 0x40, 0x20));
+    same(&rt, VERSION_2, 0x6b33_43cf);
+}

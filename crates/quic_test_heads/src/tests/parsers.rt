@@ -56,7 +56,8 @@ fn ids_that_say_their_length(rt: HostRuntime) {
 
 #[test]
 fn ids_of_no_and_of_twenty_bytes(rt: HostRuntime) {
-    let long = b"\x40\x01\x02\x03\x04\x05\x06\x07\x08\x09\x0a\x0b\x0c\x0d\x0e\x0f\x10\x11\x12\x13\x14\xff";
+    let long =
+        b"\x40\x01\x02\x03\x04\x05\x06\x07\x08\x09\x0a\x0b\x0c\x0d\x0e\x0f\x10\x11\x12\x13\x14\xff";
     let id = ConnectionId::new(&long[1..21]);
     let twenty = FixedLengthConnectionIdParser::new(20);
     same(&rt, first_id(rt.alloc(), long, &LongIds, false), Ok(id));
@@ -66,8 +67,16 @@ fn ids_of_no_and_of_twenty_bytes(rt: HostRuntime) {
     same(&rt, first_id(rt.alloc(), long, &NoIds, false), Ok(empty));
     same(&rt, first_id(rt.alloc(), long, &none, false), Ok(empty));
     let small = Err(PacketDecodeError::InvalidHeader("packet too small"));
-    same(&rt, first_id(rt.alloc(), &long[..20], &LongIds, false), small);
-    same(&rt, first_id(rt.alloc(), &long[..20], &twenty, false), small);
+    same(
+        &rt,
+        first_id(rt.alloc(), &long[..20], &LongIds, false),
+        small,
+    );
+    same(
+        &rt,
+        first_id(rt.alloc(), &long[..20], &twenty, false),
+        small,
+    );
 }
 
 #[test]
@@ -76,7 +85,11 @@ fn the_fixed_bit(rt: HostRuntime) {
     let unset = Err(PacketDecodeError::InvalidHeader("fixed bit unset"));
     let empty = ConnectionId::new(&[]);
     same(&rt, first_id(rt.alloc(), negotiation, &NoIds, false), unset);
-    same(&rt, first_id(rt.alloc(), negotiation, &NoIds, true), Ok(empty));
+    same(
+        &rt,
+        first_id(rt.alloc(), negotiation, &NoIds, true),
+        Ok(empty),
+    );
     same(&rt, first_id(rt.alloc(), b"\x00", &NoIds, false), unset);
     same(&rt, first_id(rt.alloc(), b"\x00", &NoIds, true), Ok(empty));
 }

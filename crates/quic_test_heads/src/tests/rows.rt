@@ -38,34 +38,16 @@ const ROWS: &[(&str, &str)] = &[
         "e0000000010000ffffffffffffffff",
         "error packet too short to contain payload length\n",
     ),
-    (
-        "c00000000100000501",
-        "error token out of bounds\n",
-    ),
+    ("c00000000100000501", "error token out of bounds\n"),
     (
         "c0000000010000ffffffffffffffff",
         "error token out of bounds\n",
     ),
-    (
-        "c0000000010000",
-        "error unexpected end of packet\n",
-    ),
-    (
-        "c00000",
-        "error unexpected end of packet\n",
-    ),
-    (
-        "",
-        "error unexpected end of packet\n",
-    ),
-    (
-        "c00000000115",
-        "error malformed cid\n",
-    ),
-    (
-        "c00000000a0000",
-        "error unsupported version a\n",
-    ),
+    ("c0000000010000", "error unexpected end of packet\n"),
+    ("c00000", "error unexpected end of packet\n"),
+    ("", "error unexpected end of packet\n"),
+    ("c00000000115", "error malformed cid\n"),
+    ("c00000000a0000", "error unsupported version a\n"),
     (
         "e00000000100000000",
         "0..8 handshake dst - src - version 00000001\nerror fixed bit unset\n",
@@ -147,6 +129,10 @@ fn words(rt: HostRuntime) {
     for (words, is_mode) in WORDS {
         same_at(&rt, words.len(), mode_of(words).is_some(), *is_mode);
     }
-    same(&rt, mode_of(&["datagram", "5"]), mode_of(&["datagram", "05"]));
+    same(
+        &rt,
+        mode_of(&["datagram", "5"]),
+        mode_of(&["datagram", "05"]),
+    );
     same(&rt, mode_of(&["frames"]), Some(Mode::Frames));
 }

@@ -17,8 +17,17 @@ fn errors(rt: HostRuntime) -> Result<(), Fail> {
     let text = "UnsupportedVersion { src_cid: [1], dst_cid: [], version: 4278190098 }";
     debugs(&rt, alloc, &unsupported, text)?;
     let ended = PacketDecodeError::from(UnexpectedEnd);
-    same(&rt, ended, PacketDecodeError::InvalidHeader("unexpected end of packet"));
-    displays(&rt, alloc, &ended, "invalid header: unexpected end of packet")?;
+    same(
+        &rt,
+        ended,
+        PacketDecodeError::InvalidHeader("unexpected end of packet"),
+    );
+    displays(
+        &rt,
+        alloc,
+        &ended,
+        "invalid header: unexpected end of packet",
+    )?;
     displays(&rt, alloc, &PacketDecodeError::OutOfMemory, "out of memory")?;
     debugs(&rt, alloc, &PacketDecodeError::OutOfMemory, "OutOfMemory")?;
     same(&rt, unsupported < ended, true);
@@ -37,7 +46,7 @@ fn heads(rt: HostRuntime) -> Result<(), Fail> {
     };
     let text = "Long { ty: ZeroRtt, dst_cid: [7], src_cid: [], len: 5, version: 1 }";
     debugs(&rt, alloc, &head, text)?;
-    debugs(&rt, alloc, &head.clone(), text)?;
+    debugs(&rt, alloc, &head.clone()?, text)?;
     let kind = LongHeaderType::Standard(LongType::Handshake);
     debugs(&rt, alloc, &kind, "Standard(Handshake)")?;
     Ok(())

@@ -51,8 +51,12 @@ fn a_head(rt: HostRuntime) -> Result<(), Fail> {
 #[test]
 fn a_cut(rt: HostRuntime) -> Result<(), Fail> {
     let bytes = BytesMut::copy_from_slice(rt.alloc(), INITIAL)?;
-    let Ok((packet, Some(rest))) = PartialDecode::new(bytes, &NoIds, &[1], false) else {
+    let Ok(cut) = PartialDecode::new(bytes, &NoIds, &[1], false) else {
         return Err(Fail::new("another answer"));
+    };
+    let (packet, rest) = cut;
+    let Some(rest) = rest else {
+        return Err(Fail::new("no rest"));
     };
     same(&rt, packet.len(), 23);
     same(&rt, packet.data(), &INITIAL[..23]);
@@ -63,9 +67,11 @@ fn a_cut(rt: HostRuntime) -> Result<(), Fail> {
     holds(&rt, !packet.is_0rtt());
     holds(&rt, packet.initial_header().is_some());
     holds(&rt, matches!(packet.header(), ProtectedHeader::Initial(_)));
-    let Ok((packet, None)) = PartialDecode::new(rest, &NoIds, &[1], false) else {
+    let Ok(cut) = PartialDecode::new(rest, &NoIds, &[1], false) else {
         return Err(Fail::new("another answer"));
     };
+    let (packet, rest) = cut;
+    holds(&rt, rest.is_none());
     same(&rt, packet.space(), Some(SpaceId::Data));
     holds(&rt, !packet.has_long_header());
     holds(&rt, !packet.is_initial());

@@ -1,95 +1,102 @@
 //! Parsers of ids of several kinds, and the flag that lets the fixed bit be clear.
-use super::{same, same_at};
+use super::{displays, holds, same};
 use bytes::BytesMut;
-use quic_base::ids::ConnectionId;
 use quic_bench::parsers::{LongIds, NoIds, SelfSized};
-use quic_packets::packet::{
-    ConnectionIdParser, FixedLengthConnectionIdParser, PacketDecodeError, PartialDecode,
-};
+use quic_packets::packet::{ConnectionIdParser, FixedLengthConnectionIdParser, PartialDecode};
 use std::alloc::Global;
+use std::process::Abort;
 use std::test::Fail;
 
-// The id of the first packet of a datagram.
-fn first_id<P: ConnectionIdParser>(
+// The datagram begins with a packet for this id.
+fn is_for<P: ConnectionIdParser>(
+    rt: &impl Abort,
     alloc: Global,
     datagram: &[u8],
     parser: &P,
     grease: bool,
-) -> Result<ConnectionId, PacketDecodeError> {
-    let Ok(bytes) = BytesMut::copy_from_slice(alloc, datagram) else {
-        return Err(PacketDecodeError::OutOfMemory);
-    };
+    id: &[u8],
+) -> Result<(), Fail> {
+    let bytes = BytesMut::copy_from_slice(alloc, datagram)?;
     match PartialDecode::new(bytes, parser, &[1], grease) {
-        Ok((packet, _)) => Ok(*packet.dst_cid()),
-        Err(e) => Err(e),
+        Ok((packet, _rest)) => same(rt, packet.dst_cid().as_slice(), id),
+        Err(_error) => holds(rt, false),
     }
+    Ok(())
 }
 
-// A datagram, and the id that it begins with where its first byte is its length.
-const SELF_SIZED: &[(&[u8], Option<&[u8]>)] = &[
-    (b"\x40\x03\xaa\xbb\xff", Some(b"\x03\xaa\xbb")),
-    (b"\x40\x01", Some(b"\x01")),
-    (b"\x40\x00", None),
-    (b"\x40", None),
-    (b"\x40\x03\xaa", None),
-    (
-        b"\x40\x14\x01\x02\x03\x04\x05\x06\x07\x08\x09\x0a\x0b\x0c\x0d\x0e\x0f\x10\x11\x12\x13",
-        Some(b"\x14\x01\x02\x03\x04\x05\x06\x07\x08\x09\x0a\x0b\x0c\x0d\x0e\x0f\x10\x11\x12\x13"),
-    ),
-    (
+// The datagram is refused for this reason.
+fn is_refused<P: ConnectionIdParser>(
+    rt: &impl Abort,
+    alloc: Global,
+    datagram: &[u8],
+    parser: &P,
+    grease: bool,
+    text: &str,
+) -> Result<(), Fail> {
+    let bytes = BytesMut::copy_from_slice(alloc, datagram)?;
+    match PartialDecode::new(bytes, parser, &[1], grease) {
+        Ok((_packet, _rest)) => holds(rt, false),
+        Err(error) => displays(rt, alloc, &error, text)?,
+    }
+    Ok(())
+}
+
+const TWENTY: &[u8] =
+    b"\x40\x14\x01\x02\x03\x04\x05\x06\x07\x08\x09\x0a\x0b\x0c\x0d\x0e\x0f\x10\x11\x12\x13\xff";
+
+#[test]
+fn ids_that_say_their_length(rt: HostRuntime) -> Result<(), Fail> {
+    let alloc = rt.alloc();
+    let cases: [(&[u8], &[u8]); 3] = [
+        (b"\x40\x03\xaa\xbb\xff", b"\x03\xaa\xbb"),
+        (b"\x40\x01", b"\x01"),
+        (TWENTY, &TWENTY[1..21]),
+    ];
+    for (datagram, id) in cases {
+        is_for(&rt, alloc, datagram, &SelfSized, false, id)?;
+    }
+    let bad: [&[u8]; 4] = [
+        b"\x40\x00",
+        b"\x40",
+        b"\x40\x03\xaa",
         b"\x40\x15\x01\x02\x03\x04\x05\x06\x07\x08\x09\x0a\x0b\x0c\x0d\x0e\x0f\x10\x11\x12\x13\x14",
-        None,
-    ),
-];
-
-#[test]
-fn ids_that_say_their_length(rt: HostRuntime) {
-    for (datagram, id) in SELF_SIZED {
-        let got = first_id(rt.alloc(), datagram, &SelfSized, false);
-        let wanted = match id {
-            Some(id) if id.len() <= 20 => Ok(ConnectionId::new(id)),
-            _ => Err(PacketDecodeError::InvalidHeader("bad id")),
-        };
-        same_at(&rt, datagram.len(), got, wanted);
+    ];
+    for datagram in bad {
+        is_refused(
+            &rt,
+            alloc,
+            datagram,
+            &SelfSized,
+            false,
+            "invalid header: bad id",
+        )?;
     }
+    Ok(())
 }
 
 #[test]
-fn ids_of_no_and_of_twenty_bytes(rt: HostRuntime) {
-    let long =
-        b"\x40\x01\x02\x03\x04\x05\x06\x07\x08\x09\x0a\x0b\x0c\x0d\x0e\x0f\x10\x11\x12\x13\x14\xff";
-    let id = ConnectionId::new(&long[1..21]);
+fn ids_of_no_and_of_twenty_bytes(rt: HostRuntime) -> Result<(), Fail> {
+    let alloc = rt.alloc();
     let twenty = FixedLengthConnectionIdParser::new(20);
-    same(&rt, first_id(rt.alloc(), long, &LongIds, false), Ok(id));
-    same(&rt, first_id(rt.alloc(), long, &twenty, false), Ok(id));
     let none = FixedLengthConnectionIdParser::new(0);
-    let empty = ConnectionId::new(&[]);
-    same(&rt, first_id(rt.alloc(), long, &NoIds, false), Ok(empty));
-    same(&rt, first_id(rt.alloc(), long, &none, false), Ok(empty));
-    let small = Err(PacketDecodeError::InvalidHeader("packet too small"));
-    same(
-        &rt,
-        first_id(rt.alloc(), &long[..20], &LongIds, false),
-        small,
-    );
-    same(
-        &rt,
-        first_id(rt.alloc(), &long[..20], &twenty, false),
-        small,
-    );
+    is_for(&rt, alloc, TWENTY, &LongIds, false, &TWENTY[1..21])?;
+    is_for(&rt, alloc, TWENTY, &twenty, false, &TWENTY[1..21])?;
+    is_for(&rt, alloc, TWENTY, &NoIds, false, &[])?;
+    is_for(&rt, alloc, TWENTY, &none, false, &[])?;
+    let text = "invalid header: packet too small";
+    is_refused(&rt, alloc, &TWENTY[..20], &LongIds, false, text)?;
+    is_refused(&rt, alloc, &TWENTY[..20], &twenty, false, text)?;
+    Ok(())
 }
 
 #[test]
-fn the_fixed_bit(rt: HostRuntime) {
+fn the_fixed_bit(rt: HostRuntime) -> Result<(), Fail> {
+    let alloc = rt.alloc();
     let negotiation = b"\x80\x00\x00\x00\x00\x00\x00";
-    let unset = Err(PacketDecodeError::InvalidHeader("fixed bit unset"));
-    let empty = ConnectionId::new(&[]);
-    same(&rt, first_id(rt.alloc(), negotiation, &NoIds, false), unset);
-    same(
-        &rt,
-        first_id(rt.alloc(), negotiation, &NoIds, true),
-        Ok(empty),
-    );
-    same(&rt, first_id(rt.alloc(), b"\x00", &NoIds, false), unset);
-    same(&rt, first_id(rt.alloc(), b"\x00", &NoIds, true), Ok(empty));
+    let text = "invalid header: fixed bit unset";
+    is_refused(&rt, alloc, negotiation, &NoIds, false, text)?;
+    is_for(&rt, alloc, negotiation, &NoIds, true, &[])?;
+    is_refused(&rt, alloc, b"\x00", &NoIds, false, text)?;
+    is_for(&rt, alloc, b"\x00", &NoIds, true, &[])?;
+    Ok(())
 }

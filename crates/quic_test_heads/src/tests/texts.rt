@@ -1,5 +1,5 @@
 //! Texts of errors, and what is printed of heads for debugging.
-use super::{debugs, displays, same};
+use super::{debugs, displays, holds};
 use quic_base::coding::UnexpectedEnd;
 use quic_base::ids::ConnectionId;
 use quic_packets::packet::{LongHeaderType, LongType, PacketDecodeError, ProtectedHeader};
@@ -17,10 +17,9 @@ fn errors(rt: HostRuntime) -> Result<(), Fail> {
     let text = "UnsupportedVersion { src_cid: [1], dst_cid: [], version: 4278190098 }";
     debugs(&rt, alloc, &unsupported, text)?;
     let ended = PacketDecodeError::from(UnexpectedEnd);
-    same(
+    holds(
         &rt,
-        ended,
-        PacketDecodeError::InvalidHeader("unexpected end of packet"),
+        ended == PacketDecodeError::InvalidHeader("unexpected end of packet"),
     );
     displays(
         &rt,
@@ -30,7 +29,7 @@ fn errors(rt: HostRuntime) -> Result<(), Fail> {
     )?;
     displays(&rt, alloc, &PacketDecodeError::OutOfMemory, "out of memory")?;
     debugs(&rt, alloc, &PacketDecodeError::OutOfMemory, "OutOfMemory")?;
-    same(&rt, unsupported < ended, true);
+    holds(&rt, unsupported < ended);
     Ok(())
 }
 

@@ -20,7 +20,7 @@ frame_some strict found bytes frame =
     let some = varint_some found.type frame.type_bytes frame.type_spelled.spelled in
     omega (arith, ap length frame.parts, length-append frame.type_bytes frame.field_bytes)
 
-is_some_bytes : (bytes : List ℕ) → 0 < length bytes → bytes ≢ []
+pub is_some_bytes : (bytes : List ℕ) → 0 < length bytes → bytes ≢ []
 is_some_bytes [] lt e = absurd (omega (arith, lt))
 is_some_bytes (b ∷ bytes) lt e = cc
 
@@ -29,10 +29,10 @@ some_length [] some = absurd (some refl)
 some_length (b ∷ bytes) some = omega arith
 
 -- where a frame ends that begins at a place
-abbrev end_of : ℕ → List ℕ → List ℕ → ℕ
+abbrev pub end_of : ℕ → List ℕ → List ℕ → ℕ
 end_of start bytes rest = start + (length bytes - length rest)
 
-items_ok : (strict : Bool) (n start : ℕ) (before : Option ℕ) (bytes : List ℕ) (x : Found × List ℕ) → bytes ≢ [] → found_at strict before bytes ≡ Ok x
+pub items_ok : (strict : Bool) (n start : ℕ) (before : Option ℕ) (bytes : List ℕ) (x : Found × List ℕ) → bytes ≢ [] → found_at strict before bytes ≡ Ok x
     → items_from strict (suc n) start before bytes ≡ Whole start (end_of start bytes x.1) x.0 ∷ items_from strict n (end_of start bytes x.1) (Some x.0.type) x.1
 unfolding items_from
 items_ok strict n start before [] x some e = absurd (some refl)
@@ -43,7 +43,7 @@ unfolding items_from
 items_err strict n start before [] i some e = absurd (some refl)
 items_err strict n start before (b ∷ bytes) i some e = ap (items_after (items_from strict n) start (length (b ∷ bytes))) e
 
-items_none : (strict : Bool) (n start : ℕ) (before : Option ℕ) → items_from strict n start before [] ≡ []
+pub items_none : (strict : Bool) (n start : ℕ) (before : Option ℕ) → items_from strict n start before [] ≡ []
 unfolding items_from
 items_none strict zero start before = refl
 items_none strict (suc n) start before = refl
@@ -124,14 +124,14 @@ begins_some : (strict : Bool) (bytes : List ℕ) (t : ℕ) (P : List ℕ → Typ
 begins_some strict bytes t P u =
     let some = varint_some t u.front u.spelled.spelled in is_some_bytes bytes (omega (arith, some, ap length u.parts, length-append u.front u.back))
 
-no_frame_some : (strict : Bool) (before : Option ℕ) (bytes : List ℕ) (type : Option ℕ) (reason : Fault) → IsNoFrame strict before bytes type reason → bytes ≢ []
+pub no_frame_some : (strict : Bool) (before : Option ℕ) (bytes : List ℕ) (type : Option ℕ) (reason : Fault) → IsNoFrame strict before bytes type reason → bytes ≢ []
 no_frame_some strict before bytes type reason (inl a) = a.0.some
 no_frame_some strict before bytes type reason (inr (inl a)) =
     let some = varint_some a.0 a.1.front a.1.spelled in is_some_bytes bytes (omega (arith, some, ap length a.1.parts, length-append a.1.front a.1.back))
 no_frame_some strict before bytes type reason (inr (inr (inl a))) = begins_some strict bytes a.0 _ a.1
 no_frame_some strict before bytes type reason (inr (inr (inr a))) = begins_some strict bytes a.0 _ a.1
 
-stops_at : (strict : Bool) (n start : ℕ) (before : Option ℕ) (bytes : List ℕ) (i : Invalid) → length bytes ≤ n → bytes ≢ [] → found_at strict before bytes ≡ Err i → items_from strict n start before bytes ≡ Broken i ∷ []
+pub stops_at : (strict : Bool) (n start : ℕ) (before : Option ℕ) (bytes : List ℕ) (i : Invalid) → length bytes ≤ n → bytes ≢ [] → found_at strict before bytes ≡ Err i → items_from strict n start before bytes ≡ Broken i ∷ []
 stops_at strict zero start before bytes i le some e = absurd (some (nothing bytes le))
 stops_at strict (suc m) start before bytes i le some e = items_err strict m start before bytes i some e
 

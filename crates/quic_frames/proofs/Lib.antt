@@ -4,6 +4,7 @@ mod Rows
 mod Frames
 mod Items
 mod Finding
+pub mod Placing
 mod Places
 mod SizeBounds
 mod LeastFields

@@ -21,3 +21,4 @@ pub mod Least
 pub mod Way
 pub mod Walk
 pub mod Found
+pub mod Placed

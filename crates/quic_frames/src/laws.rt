@@ -1,5 +1,5 @@
 //! Laws of payloads, which no single call carries. The functions do nothing.
-ghost use Rattle.std.specs.Prelude.{◌≡◌, ◌≢◌, ◌<◌, ◌^◌, ◌++◌, ℕ, List, [], None, Option, Bool, true, false, map};
+ghost use Rattle.std.specs.Prelude.{◌≡◌, ◌≢◌, ◌<◌, ◌^◌, ◌++◌, ℕ, List, [], ◌∷◌, None, Option, Bool, true, false, map};
 ghost use Rattle.std.specs.declared.ops.Range.{Range};
 ghost use Rattle.quic_base.specs.Number.{AreBytes};
 ghost use Rattle.quic_ranges.specs.Runs.{IsMaximalRuns, IsGreatest, member};
@@ -11,6 +11,8 @@ ghost use Rattle.quic_frames.specs.InRange.{IsTyped, AreTyped, IsToldApart, CanS
 ghost use Rattle.quic_frames.specs.Least.{AreOrExceed, shortest_frames, frame_in, as_written, all_written};
 ghost use Rattle.quic_frames.specs.Meaning.{meaning_of};
 ghost use Rattle.quic_frame_parts.specs.Payload.{Meaning, Found, IsFrame, AreFrames, IsBroken, IsEither};
+ghost use Rattle.quic_frame_parts.specs.Reading.{Broken, invalid, items_of};
+ghost use Rattle.quic_frames.specs.Placed.{Placed, ArePlaced, IsPlacedBroken, whole};
 ghost use Rattle.quic_frame_parts.specs.Sets.{ranges_in, greatest_in, is_in, ack_of};
 ghost use Rattle.quic_frame_parts.specs.Shortest.{shortest_frame};
 ghost use Rattle.quic_frame_parts.specs.Table.{is_open};
@@ -30,6 +32,16 @@ pub fn one_reading()
     // No frame that isn't open begins another one.
     ensures begins_none { (one other : Found) (bytes longer rest : List ℕ) → is_open one.type ≡ false
         → IsFrame false one bytes → IsFrame false other longer → longer ≡ bytes ++ rest → bytes ≡ longer }
+{}
+
+/// Where the bytes are these frames, or these and then something that is none, just these are the items that
+/// the iterator gives, with these places.
+pub fn items_in_place()
+    ensures frames { (frames : List Placed) (bytes : List ℕ) → ArePlaced 0 frames bytes
+        → items_of false 0 None bytes ≡ map whole frames }
+    ensures broken { (frames : List Placed) (bytes : List ℕ) (type : Option ℕ) (reason : Fault)
+        → AreBytes bytes → IsPlacedBroken frames bytes type reason
+        → items_of false 0 None bytes ≡ map whole frames ++ Broken (invalid type reason) ∷ [] }
 {}
 
 /// The blocks of an ACK stand for one list of ranges, and no two of these touch.

@@ -1,11 +1,16 @@
 //! Laws of what is printed, which no single call carries. The functions do nothing.
-ghost use Rattle.std.specs.Prelude.{◌≡◌, ◌++◌, List, ℕ, Option, map};
+ghost use Rattle.std.specs.Prelude.{◌≡◌, ◌≢◌, ◌++◌, [], ◌∷◌, List, ℕ, Option, map};
 ghost use Rattle.quic_base.specs.Number.{AreBytes};
 ghost use Rattle.quic_heads.specs.Datagram.{Placed, ArePackets};
 ghost use Rattle.quic_heads.specs.Refusal.{Refusal};
 ghost use Rattle.quic_text.specs.DatagramText.{with_ids_of, packet_line, refusal_lines};
 ghost use Rattle.quic_text.specs.IdLens.{count};
 ghost use Rattle.quic_text.specs.Text.{payload_lines};
+
+ghost use Rattle.quic_frame_parts.specs.declared.frame.fault.Fault.{Fault};
+ghost use Rattle.quic_frame_parts.specs.Reading.{Broken, invalid};
+ghost use Rattle.quic_frames.specs.Placed as frames;
+ghost use Rattle.quic_text.specs.FrameText.{item_line};
 
 use crate::id_len::IdLen;
 use crate::mode::Mode;
@@ -18,4 +23,14 @@ pub fn packets_printed()
         → payload_lines (Mode.Datagram len) bytes ≡ map packet_line packets ++ refusal_lines refusal }
     ensures some { (len : IdLen) (bytes : List ℕ) → AreBytes bytes
         → (packets : List Placed) × (refusal : Option Refusal) × ArePackets (with_ids_of (count len)) 0 bytes packets refusal }
+{}
+
+/// Where a payload is these frames, or these and then something that is none, `frames` prints just their lines,
+/// with these places.
+pub fn frames_printed()
+    ensures frames { (some : List frames.Placed) (bytes : List ℕ) → bytes ≢ [] → frames.ArePlaced 0 some bytes
+        → payload_lines Mode.Frames bytes ≡ map (λ p. item_line (frames.whole p)) some }
+    ensures broken { (some : List frames.Placed) (bytes : List ℕ) (type : Option ℕ) (reason : Fault) → bytes ≢ []
+        → AreBytes bytes → frames.IsPlacedBroken some bytes type reason
+        → payload_lines Mode.Frames bytes ≡ map (λ p. item_line (frames.whole p)) some ++ item_line (Broken (invalid type reason)) ∷ [] }
 {}

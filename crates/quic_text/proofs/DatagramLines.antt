@@ -8,7 +8,7 @@ use Rattle.quic_base.specs.Number.{AreBytes}
 use Rattle.quic_heads.specs.declared.decode_error.PacketDecodeError.{PacketDecodeError}
 use Rattle.quic_heads.specs.declared.decode_error.PacketDecodeError.TheVariants as error
 use Rattle.quic_heads.specs.declared.protected.ProtectedHeader.{ProtectedHeader}
-use Rattle.quic_heads.specs.Datagram.{Placed, ArePackets, last, more, refused, packets_in}
+use Rattle.quic_heads.specs.Datagram.{Placed, ArePackets, last, more, refused}
 use Rattle.quic_heads.specs.Grammar.{Cut, Uncut, CutAnswer}
 use Rattle.quic_heads.specs.Reading.{Context}
 use Rattle.quic_heads.specs.Refusal.{Refusal, NoMemory, Refuses, refusal_of}

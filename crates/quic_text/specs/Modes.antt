@@ -1,7 +1,7 @@
 -- What modes hold.
 use Rattle.std.specs.Prelude.{ℕ, Option, Some, None}
 use Rattle.quic_text.specs.declared.mode.Mode.{Mode}
-use Rattle.quic_text.specs.declared.mode.Mode.TheVariants.{Frames, Datagram}
+use Rattle.quic_text.specs.declared.mode.Mode.TheVariants.{Datagram}
 use Rattle.quic_text.specs.IdLens.{count}
 
 -- how long the ids of short heads are, where the mode is `datagram`

@@ -6,7 +6,6 @@ ghost use Rattle.quic_heads.specs.Refusal.{Refusal};
 ghost use Rattle.quic_text.specs.DatagramText.{with_ids_of, packet_line, refusal_lines};
 ghost use Rattle.quic_text.specs.IdLens.{count};
 ghost use Rattle.quic_text.specs.Text.{payload_lines};
-
 ghost use Rattle.quic_frame_parts.specs.declared.frame.fault.Fault.{Fault};
 ghost use Rattle.quic_frame_parts.specs.Reading.{Broken, invalid};
 ghost use Rattle.quic_frames.specs.Placed as frames;

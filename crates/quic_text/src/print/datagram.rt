@@ -70,7 +70,13 @@ fn print_head(head: &ProtectedHeader, text: &mut String) -> Result<(), AllocErro
 {
     match head {
         ProtectedHeader::Initial(initial) => {
-            print_long("initial", &initial.dst_cid, &initial.src_cid, initial.version, text)?;
+            print_long(
+                "initial",
+                &initial.dst_cid,
+                &initial.src_cid,
+                initial.version,
+                text,
+            )?;
             print_token(initial.token_pos.start, initial.token_pos.end, text)?;
         }
         ProtectedHeader::Long {
@@ -96,7 +102,9 @@ fn print_head(head: &ProtectedHeader, text: &mut String) -> Result<(), AllocErro
             print_id(dst_cid, text)?;
         }
         ProtectedHeader::VersionNegotiate {
-            dst_cid, src_cid, ..
+            dst_cid,
+            src_cid,
+            ..
         } => print_long("version-negotiation", dst_cid, src_cid, 0, text)?,
     }
     Ok(())

@@ -1,9 +1,7 @@
 -- By the items that frames at their places are.
-use Rattle.std.proofs.Common.{◌≡◌, ◌≢◌, ℕ, false, List, [], ◌∷◌, ◌++◌, Option, None, map, refl, ap, ◌∙◌}
-use Rattle.quic_base.specs.Number.{AreBytes}
-use Rattle.quic_frame_parts.specs.declared.frame.fault.Fault.{Fault}
+use Rattle.std.proofs.Common.{◌≡◌, ◌≢◌, ℕ, false, List, [], ◌∷◌, ◌++◌, None, map, refl, ap, ◌∙◌}
 use Rattle.quic_frame_parts.specs.Reading.{Item, Broken, invalid, items_of}
-use Rattle.quic_frames.specs.Placed.{Placed, ArePlaced, IsPlacedBroken, whole}
+use Rattle.quic_frames.specs.Placed.{Placed, whole}
 use Rattle.quic_frames.proofs.Placing.{placed_items, broken_items}
 use Rattle.quic_text.specs.Printed.{Printed}
 use Rattle.quic_text.specs.FrameText.{item_line, frame_lines}

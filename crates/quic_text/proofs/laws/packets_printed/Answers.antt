@@ -1,5 +1,5 @@
 -- By the one row of packets that reading finds.
-use Rattle.std.proofs.Common.{◌≡◌, ◌≤◌, ℕ, List, Option, Ok, Result, length, ap}
+use Rattle.std.proofs.Common.{◌≡◌, ◌≤◌, ℕ, List, Option, Ok, length, ap}
 use Rattle.quic_heads.specs.Datagram.{Placed, packets_in}
 use Rattle.quic_heads.specs.Refusal.{Refusal, NoMemory}
 use Rattle.quic_heads.specs.Parsers.{fixed_parsed, fixed_lawful}

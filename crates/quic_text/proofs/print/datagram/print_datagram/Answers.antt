@@ -1,13 +1,11 @@
 -- A packet is cut and its line printed, until nothing is left or what is left is refused.
-use Rattle.std.proofs.Common.{◌≡◌, ◌≤◌, ◌+◌, ◌<◌, ◌++◌, ℕ, List, [], length, drop, take, sym, ap, ◌∙◌, arith, subst, length-drop}
+use Rattle.std.proofs.Common.{◌≡◌, ◌≤◌, ◌+◌, ◌<◌, ◌++◌, ℕ, List, [], length, drop, sym, ap, ◌∙◌, arith, subst, length-drop}
 use Rattle.std.proofs.lemmas.List.{length-take}
 use Rattle.std.specs.String.{string_bytes}
 use Rattle.std.specs.List.{flat_map}
 use Rattle.quic_text.specs.Printed.{shown}
 use Rattle.quic_base.specs.Number.{AreBytes}
-use Rattle.bytes.specs.Filled.{Filled}
 use Rattle.quic_heads.specs.Grammar.{Cut, Uncut}
-use Rattle.quic_heads.specs.Reading.{IsRest}
 use Rattle.quic_heads.specs.Refusal.{refusal_of}
 use Rattle.quic_text.specs.IdLens.{count}
 use Rattle.quic_text.specs.DatagramText.{with_ids_of, datagram_lines}
@@ -60,10 +58,10 @@ loop-packet-preserved c =
     let lt : q < length left = omega (arith, rest.1, length-drop q left) in
     let at : stop ≡ c.loop-packet.start + q = ap (λ (n : ℕ). c.loop-packet.start + n) c.len.ensures in
     record {
-        text = text_more (with_ids_of c.new-parser.result.expected_len) c.loop-packet.start stop q c.in-Ok.packet.position left c.in-Some.rest.items (string_bytes c.loop-packet.text) (string_bytes c.print_packet.new.text) _
-            c.in-Ok.packet.plain_header cut lt rest.0 at (rw c.header.ensures at c.in_ok-print_packet-in-Ok.ensures) c.loop-packet.invariant.text;
-        clean = clean_more (with_ids_of c.new-parser.result.expected_len) c.loop-packet.start stop q c.in-Ok.packet.position left c.in-Some.rest.items (datagram_lines (count c.args.id_len) c.args.datagram.now) c.in-Ok.packet.plain_header cut lt rest.0 at c.loop-packet.invariant.clean;
-        within = omega (arith, ap length rest.0, length-drop q left, c.loop-packet.invariant.within, at, lt);
+      text = text_more (with_ids_of c.new-parser.result.expected_len) c.loop-packet.start stop q c.in-Ok.packet.position left c.in-Some.rest.items (string_bytes c.loop-packet.text) (string_bytes c.print_packet.new.text) _
+          c.in-Ok.packet.plain_header cut lt rest.0 at (rw c.header.ensures at c.in_ok-print_packet-in-Ok.ensures) c.loop-packet.invariant.text;
+      clean = clean_more (with_ids_of c.new-parser.result.expected_len) c.loop-packet.start stop q c.in-Ok.packet.position left c.in-Some.rest.items (datagram_lines (count c.args.id_len) c.args.datagram.now) c.in-Ok.packet.plain_header cut lt rest.0 at c.loop-packet.invariant.clean;
+      within = omega (arith, ap length rest.0, length-drop q left, c.loop-packet.invariant.within, at, lt);
     }
 
 pub returns-in-Err-clause-bytes : goal.returns-in-Err-clause-bytes

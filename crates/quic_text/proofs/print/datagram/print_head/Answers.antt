@@ -1,5 +1,5 @@
 -- A version negotiation has version 0.
-use Rattle.std.proofs.Common.{◌≡◌, ◌++◌, ap, sym, ◌∙◌}
+use Rattle.std.proofs.Common.{◌++◌, ap, sym, ◌∙◌}
 use Rattle.std.specs.String.{string_bytes}
 use Rattle.quic_heads.specs.declared.protected.ProtectedHeader.{ProtectedHeader}
 use Rattle.quic_text.specs.DatagramText.{head_text}

@@ -1,10 +1,10 @@
 -- Frames at their places are the items that an iterator gives.
-use Rattle.std.proofs.Common.{◌≡◌, ◌≢◌, ℕ, zero, suc, ◌+◌, ◌-◌, ◌<◌, ◌≤◌, Bool, true, false, List, [], ◌∷◌, ◌++◌, length, map, Option, Some, None, Result, Ok, Err, refl, sym, ap, subst, ◌∙◌, append_assoc, arith}
+use Rattle.std.proofs.Common.{◌≡◌, ℕ, zero, suc, ◌+◌, ◌<◌, ◌≤◌, false, List, [], ◌∷◌, ◌++◌, length, map, Option, Some, None, Ok, refl, sym, ap, subst, ◌∙◌, append_assoc, arith}
 use Rattle.std.proofs.lemmas.List.{length-append}
 use Rattle.quic_base.specs.Number.{AreBytes}
 use Rattle.quic_base.proofs.PublicLaws.{back_bytes}
 use Rattle.quic_frame_parts.specs.declared.frame.fault.Fault.{Fault}
-use Rattle.quic_frame_parts.specs.Payload.{Found, AreClosed, IsNoFrame, last_type}
+use Rattle.quic_frame_parts.specs.Payload.{AreClosed, IsNoFrame, last_type}
 use Rattle.quic_frame_parts.specs.Reading.{Item, Whole, Broken, invalid, found_at, items_from, items_of}
 use Rattle.quic_frames.specs.Placed.{Placed, ArePlaced, IsPlacedBroken, found_in, whole}
 use Rattle.quic_frame_parts.proofs.Steps.{true_is_not_false}

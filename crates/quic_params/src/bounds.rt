@@ -6,7 +6,7 @@ ghost use Rattle.quic_params.specs.Order.{IsOrder};
 ghost use Rattle.quic_params.specs.Range.{IsTyped, IsTypedAddress, IsFree};
 
 use crate::order::WriteOrder;
-use crate::parameter::IDS;
+use crate::parameter::TransportParameterId;
 use crate::record::TransportParameters;
 use crate::reserved::ReservedTransportParameter;
 use crate::value::PreferredAddress;
@@ -18,7 +18,7 @@ impl TransportParameters {
     pub fn type_bounds(&self)
         ensures { IsTyped self.now }
     {
-        for id in IDS {
+        for id in TransportParameterId::SUPPORTED {
             let _value = self.get(id);
         }
         grease_bounds(self.grease_transport_parameter);

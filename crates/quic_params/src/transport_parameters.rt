@@ -5,4 +5,4 @@ pub use crate::order::WriteOrder;
 pub use crate::parameter::TransportParameterId;
 pub use crate::record::TransportParameters;
 pub use crate::reserved::{MAX_PAYLOAD_SIZE, ReservedTransportParameter};
-pub use crate::value::PreferredAddress;
+pub use crate::value::{PreferredAddress, Value};

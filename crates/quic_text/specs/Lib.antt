@@ -1,6 +1,7 @@
 pub mod Lines
 pub mod Printed
 pub mod FrameText
+pub mod ParameterText
 pub mod Text
 pub mod Transfer
 pub mod Whole

@@ -6,10 +6,12 @@ ghost use Rattle.quic_text.specs.Printed.{shown, is_plain};
 ghost use Rattle.quic_text.specs.Text.{line_lines, payload_lines};
 
 mod frames;
+mod params;
 
 use super::lines::trim_return;
 use super::mode::Mode;
 use frames::print_frames;
+use params::print_params;
 use hex::FromHexError;
 use std::alloc::{AllocError, Global};
 
@@ -24,7 +26,7 @@ pub(crate) fn print_line(
     ensures clean { IfOk result (λ clean. clean ≡ list_all is_plain (line_lines mode line.now)) }
 {
     match hex::decode(alloc, trim_return(line)) {
-        Ok(payload) => print_payload(mode, payload.as_slice(), text),
+        Ok(payload) => print_payload(alloc, mode, payload.as_slice(), text),
         Err(FromHexError::OutOfMemory) => Err(AllocError),
         Err(_) => {
             text.push_str("error not hexadecimal\n")?;
@@ -33,11 +35,17 @@ pub(crate) fn print_line(
     }
 }
 
-fn print_payload(mode: Mode, payload: &[u8], text: &mut String) -> Result<bool, AllocError>
+fn print_payload(
+    alloc: Global,
+    mode: Mode,
+    payload: &[u8],
+    text: &mut String,
+) -> Result<bool, AllocError>
     ensures bytes { OnOk result (string_bytes text.new ≡ string_bytes text.old ++ flat_map shown (payload_lines mode payload.now)) }
     ensures clean { IfOk result (λ clean. clean ≡ list_all is_plain (payload_lines mode payload.now)) }
 {
     match mode {
         Mode::Frames => print_frames(payload, text),
+        Mode::Params(side) => print_params(alloc, side, payload, text),
     }
 }

@@ -2,3 +2,4 @@ mod LineLemmas
 mod TextLemmas
 mod HistorySteps
 mod FrameLines
+mod ParameterLines

@@ -1,13 +1,16 @@
 //! What is printed of a list of transport parameters.
-ghost use Rattle.std.specs.Prelude.{◌≡◌, ◌++◌, IfOk, OnOk};
+ghost use Rattle.std.specs.Prelude.{◌≡◌, ◌++◌, IfOk, OnOk, codes};
 ghost use Rattle.std.specs.String.{string_bytes};
 ghost use Rattle.std.specs.List.{flat_map, list_all};
+ghost use Rattle.quic_base.specs.Number.{AreBytes};
+ghost use Rattle.quic_params.specs.Answer.{answer_at};
 ghost use Rattle.quic_params.specs.Writing.{spelling, value_written};
 ghost use Rattle.quic_params.specs.declared.value.Value.TheVariants as values;
 ghost use Rattle.quic_text.specs.Printed.{shown, is_plain};
-ghost use Rattle.quic_text.specs.ParameterText.{digits_of, name_of, value_lines, record_lines, parameter_lines};
+ghost use Rattle.quic_text.specs.ParameterText.{digits_of, name_of, value_text, value_lines, record_lines, parameter_lines};
 
 use quic_base::ids::Side;
+use quic_params::laws;
 use quic_params::transport_parameters::{
     Error, PreferredAddress, TransportParameterId, TransportParameters, Value,
 };
@@ -23,8 +26,7 @@ pub(super) fn print_params(
     ensures bytes { OnOk result (string_bytes text.new ≡ string_bytes text.old ++ flat_map shown (parameter_lines side list.now)) }
     ensures clean { IfOk result (λ clean. clean ≡ list_all is_plain (parameter_lines side list.now)) }
 {
-    let mut rest = list;
-    match TransportParameters::read(side, &mut rest) {
+    match answer(side, list) {
         Ok(params) => {
             print_record(alloc, &params, text)?;
             text.push_str("ok\n")?;
@@ -41,6 +43,22 @@ pub(super) fn print_params(
     }
 }
 
+/// The answer to a list.
+fn answer(side: Side, list: &[u8]) -> Result<TransportParameters, Error>
+    ensures { result ≡ answer_at side list.now }
+{
+    laws::answer_as_a_function();
+    are_bytes(list);
+    let mut rest = list;
+    TransportParameters::read(side, &mut rest)
+}
+
+// Each element is a byte.
+fn are_bytes(bytes: &[u8])
+    ensures { AreBytes bytes.now }
+{}
+
+/// A line for each parameter that differs from its default.
 fn print_record(
     alloc: Global,
     params: &TransportParameters,
@@ -63,46 +81,63 @@ fn print_parameter(
 ) -> Result<(), AllocError>
     ensures { OnOk result (string_bytes text.new ≡ string_bytes text.old ++ flat_map shown (value_lines id (value_written params.now id))) }
 {
+    let Some(value) = params.written_value(id) else {
+        return Ok(());
+    };
+    print_name(id, text)?;
+    print_value(alloc, &value, text)
+}
+
+/// The name of a parameter and a space.
+fn print_name(id: TransportParameterId, text: &mut String) -> Result<(), AllocError>
+    ensures { OnOk result (string_bytes text.new ≡ string_bytes text.old ++ (name_of id ++ codes " ")) }
+{
     let name = name_of(id);
-    match params.written_value(id) {
-        None => {}
-        Some(Value::Number(n)) => writeln!(text, "{name} {n}")?,
-        Some(Value::Flag) => writeln!(text, "{name} true")?,
-        Some(Value::Token(token)) => {
-            let digits = digits_of(alloc, token.as_slice())?;
-            writeln!(text, "{name} {digits}")?;
-        }
-        Some(Value::Id(cid)) => {
-            let digits = digits_of(alloc, cid.as_slice())?;
-            writeln!(text, "{name} {digits}")?;
-        }
-        Some(Value::Address(address)) => {
-            let digits = address_digits(alloc, &address)?;
-            writeln!(text, "{name} {digits}")?;
-        }
+    write!(text, "{name} ")?;
+    Ok(())
+}
+
+/// A value, and the end of its line.
+fn print_value(alloc: Global, value: &Value, text: &mut String) -> Result<(), AllocError>
+    ensures { OnOk result (string_bytes text.new ≡ string_bytes text.old ++ (value_text value.now ++ codes "\n")) }
+{
+    match value {
+        Value::Number(n) => writeln!(text, "{n}")?,
+        Value::Flag => text.push_str("true\n")?,
+        Value::Token(token) => print_digits(alloc, token.as_slice(), text)?,
+        Value::Id(cid) => print_digits(alloc, cid.as_slice(), text)?,
+        Value::Address(address) => print_address(alloc, address, text)?,
     }
     Ok(())
 }
 
-/// Bytes in hexadecimal digits, `-` for none.
-fn digits_of(alloc: Global, bytes: &[u8]) -> Result<String, AllocError>
-    ensures { IfOk result (λ text. string_bytes text ≡ digits_of bytes.now) }
+/// Bytes in hexadecimal digits, `-` for none, and the end of the line.
+fn print_digits(alloc: Global, bytes: &[u8], text: &mut String) -> Result<(), AllocError>
+    ensures { OnOk result (string_bytes text.new ≡ string_bytes text.old ++ (digits_of bytes.now ++ codes "\n")) }
 {
-    match bytes {
-        [] => String::from_str(alloc, "-"),
-        _ => hex::encode(alloc, bytes),
+    if bytes.is_empty() {
+        text.push_str("-\n")?;
+        return Ok(());
     }
+    let digits = hex::encode(alloc, bytes)?;
+    writeln!(text, "{digits}")?;
+    Ok(())
 }
 
-/// The digits of a preferred address as it stands in a list.
-fn address_digits(alloc: Global, address: &PreferredAddress) -> Result<String, AllocError>
-    ensures { IfOk result (λ text. string_bytes text ≡ digits_of (spelling (values.Address address.now))) }
+/// The digits of a preferred address as it stands in a list, and the end of the line.
+fn print_address(
+    alloc: Global,
+    address: &PreferredAddress,
+    text: &mut String,
+) -> Result<(), AllocError>
+    ensures { OnOk result (string_bytes text.new ≡ string_bytes text.old
+        ++ (digits_of (spelling (values.Address address.now)) ++ codes "\n")) }
 {
     let mut bytes = Vec::new(alloc);
     if address.encode(&mut bytes).is_err() {
         return Err(AllocError);
     }
-    digits_of(alloc, bytes.as_slice())
+    print_digits(alloc, bytes.as_slice(), text)
 }
 
 /// The name that a parameter is printed by.

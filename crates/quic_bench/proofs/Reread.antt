@@ -53,3 +53,9 @@ content_is (Err f) x old new content bytes is wrote e empty = absurd (err_is_not
 pub one_left : (found : Found) (bytes payload : List ℕ) (it : Way) → IsFrame false found bytes → payload ≡ bytes → ((fs : List Found) → AreFrames false fs payload → map unplaced (left it) ≡ map given fs)
     → map unplaced (left it) ≡ map given (found ∷ [])
 one_left found bytes payload it f is gives = gives (found ∷ []) (subst (AreFrames false (found ∷ [])) (sym is) (one_frame found bytes f))
+
+pub value_not_error : {T E : Type 0} {x : T} {e : E} → Ok x ≡ Err e → ⊥
+value_not_error is = cc
+
+pub same_value : {T E : Type 0} {x y : T} → Ok {T = T} {E = E} x ≡ Ok y → x ≡ y
+same_value is = cc

@@ -54,8 +54,9 @@ pub one_left : (found : Found) (bytes payload : List ℕ) (it : Way) → IsFrame
     → map unplaced (left it) ≡ map given (found ∷ [])
 one_left found bytes payload it f is gives = gives (found ∷ []) (subst (AreFrames false (found ∷ [])) (sym is) (one_frame found bytes f))
 
-pub value_not_error : {T E : Type 0} {x : T} {e : E} → Ok x ≡ Err e → ⊥
-value_not_error is = cc
+-- A result has one value, and is no error beside it.
+pub value_not_error : {T E : Type 0} (x : T) (e : E) (r : Result T E) → Ok x ≡ r → r ≡ Err e → ⊥
+value_not_error x e r is but = cc (is, but)
 
-pub same_value : {T E : Type 0} {x y : T} → Ok {T = T} {E = E} x ≡ Ok y → x ≡ y
-same_value is = cc
+pub same_value : {T E : Type 0} (x y : T) (r : Result T E) → Ok x ≡ r → r ≡ Ok y → x ≡ y
+same_value x y r is also = cc (is, also)

@@ -13,7 +13,8 @@ use quic_params::transport_parameters::{PreferredAddress, TransportParameters};
 use std::net::{Ipv4Addr, Ipv6Addr, SocketAddrV4, SocketAddrV6};
 
 // A record with most kinds of values, and its bytes.
-const WHOLE: &str = "030244b00801100901100a01020d2a7f000001002a0000000000000000000000000000000100180142abababababababababababababababab00000f006ab200c0000000ff04de1b0247d0";
+const WHOLE: &str =
+    "030244b00801100901100a01020d2a7f000001002a0000000000000000000000000000000100180142abababababababababababababababab00000f006ab200c0000000ff04de1b0247d0";
 
 fn preferred() -> PreferredAddress {
     PreferredAddress {

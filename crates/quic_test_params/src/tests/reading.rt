@@ -3,9 +3,7 @@ use super::lines::{CLIENT, SERVER};
 use super::{WHOLE, preferred, two_limits, whole};
 use quic_base::ids::{ConnectionId, Side};
 use quic_base::varint::VarInt;
-use quic_params::transport_parameters::{
-    Error, TransportParameterId, TransportParameters, Value,
-};
+use quic_params::transport_parameters::{Error, TransportParameterId, TransportParameters, Value};
 use quic_testing::Checks;
 use std::test::Fail;
 
@@ -14,7 +12,10 @@ fn a_record_of_most_kinds(rt: HostRuntime) -> Result<(), Fail> {
     let mut checks = Checks::new(rt.alloc());
     let bytes = hex::decode(rt.alloc(), WHOLE)?;
     let mut rest = bytes.as_slice();
-    checks.same(TransportParameters::read(Side::Client, &mut rest), Ok(whole()));
+    checks.same(
+        TransportParameters::read(Side::Client, &mut rest),
+        Ok(whole()),
+    );
     checks.holds(rest.is_empty());
     let mut rest = bytes.as_slice();
     checks.same(

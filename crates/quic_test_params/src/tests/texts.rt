@@ -46,9 +46,13 @@ fn debug(rt: HostRuntime) -> Result<(), Fail> {
         "Some(WriteOrder([20, 19, 18, 17, 16, 15, 14, 13, 12, 11, 10, 9, 8, 7, 6, 5, 4, 3, 2, 1, 0]))",
     )?;
     let shown = format!(in alloc; "{:?}", preferred())?;
-    checks.holds(shown.starts_with("PreferredAddress { address_v4: Some(127.0.0.1:42), address_v6: Some([::1]:24), connection_id: [66], stateless_reset_token: "));
+    checks.holds(shown.starts_with(
+        "PreferredAddress { address_v4: Some(127.0.0.1:42), address_v6: Some([::1]:24), connection_id: [66], stateless_reset_token: ",
+    ));
     let shown = format!(in alloc; "{:?}", two_limits())?;
-    checks.holds(shown.starts_with("TransportParameters { max_idle_timeout: 0, max_udp_payload_size: 1200, initial_max_data: 0, "));
+    checks.holds(shown.starts_with(
+        "TransportParameters { max_idle_timeout: 0, max_udp_payload_size: 1200, initial_max_data: 0, ",
+    ));
     checks.holds(shown.ends_with("min_ack_delay: None, write_order: None }"));
     let grease = ReservedTransportParameter::new(0, b"a");
     let shown = format!(in alloc; "{grease:?}")?;

@@ -75,8 +75,10 @@ fn read_and_written(rt: HostRuntime) -> Result<(), Fail> {
     for (line, wanted) in rows {
         let bytes = hex::decode(rt.alloc(), line)?;
         let mut rest = bytes.as_slice();
-        let params = TransportParameters::read(Side::Server, &mut rest)?;
-        checks.same_at(line, digits(rt.alloc(), &params)?.as_str(), wanted);
+        match TransportParameters::read(Side::Server, &mut rest) {
+            Ok(params) => checks.same_at(line, digits(rt.alloc(), &params)?.as_str(), wanted),
+            Err(_) => checks.holds_at(line, false),
+        }
     }
     checks.verdict()
 }

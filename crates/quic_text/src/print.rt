@@ -11,8 +11,8 @@ mod params;
 use super::lines::trim_return;
 use super::mode::Mode;
 use frames::print_frames;
-use params::print_params;
 use hex::FromHexError;
+use params::print_params;
 use std::alloc::{AllocError, Global};
 
 /// Adds what is printed of a line of the input. The answer is whether none of it is an `error` line.

@@ -53,3 +53,10 @@ content_is (Err f) x old new content bytes is wrote e empty = absurd (err_is_not
 pub one_left : (found : Found) (bytes payload : List ℕ) (it : Way) → IsFrame false found bytes → payload ≡ bytes → ((fs : List Found) → AreFrames false fs payload → map unplaced (left it) ≡ map given fs)
     → map unplaced (left it) ≡ map given (found ∷ [])
 one_left found bytes payload it f is gives = gives (found ∷ []) (subst (AreFrames false (found ∷ [])) (sym is) (one_frame found bytes f))
+
+-- A result has one value, and is no error beside it.
+pub value_not_error : {T E : Type 0} (x : T) (e : E) (r : Result T E) → Ok x ≡ r → r ≡ Err e → ⊥
+value_not_error x e r is but = cc (is, but)
+
+pub same_value : {T E : Type 0} (x y : T) (r : Result T E) → Ok x ≡ r → r ≡ Ok y → x ≡ y
+same_value x y r is also = cc (is, also)

@@ -4,7 +4,8 @@
 //! The lists are seeded random, damaged, cut-off and hostile lines, and their answers come from elsewhere: those
 //! on `datagrams.in`, with ids of 0, 8 and 20 bytes in short heads, from a plain model in which versions 1 and 2
 //! are both supported. Where version 2 isn't, it agrees on every line with the Rust crate quinn-proto 0.11.19,
-//! which has no version 2.
+//! which has no version 2. Those on `params.in`, as a client and as a
+//! server gets them, come from the Rust crate.
 #![tactic(auto)]
 
 use quic_text::{FromRead, Mode, ToWrite, mode_of, run};
@@ -12,10 +13,12 @@ use std::fs::File;
 use std::process::ExitCode;
 
 /// The words of a mode, and the file that holds its lines.
-const LISTS: [(&[&str], &str); 3] = [
+const LISTS: [(&[&str], &str); 5] = [
     (&["datagram", "0"], "datagrams.in"),
     (&["datagram", "8"], "datagrams.in"),
     (&["datagram", "20"], "datagrams.in"),
+    (&["params", "client"], "params.in"),
+    (&["params", "server"], "params.in"),
 ];
 
 fn main(rt: HostRuntime) -> ExitCode {

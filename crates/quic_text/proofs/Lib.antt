@@ -3,3 +3,4 @@ mod TextLemmas
 mod HistorySteps
 mod FrameLines
 mod DatagramLines
+mod ParameterLines

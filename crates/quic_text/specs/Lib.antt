@@ -4,6 +4,7 @@ pub mod FrameText
 pub mod DatagramText
 pub mod IdLens
 pub mod Modes
+pub mod ParameterText
 pub mod Text
 pub mod Transfer
 pub mod Whole

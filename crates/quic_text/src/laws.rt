@@ -1,5 +1,5 @@
 //! Laws of what is printed, which no single call carries. The functions do nothing.
-ghost use Rattle.std.specs.Prelude.{◌≡◌, ◌≢◌, ◌++◌, [], ◌∷◌, List, ℕ, Option, map};
+ghost use Rattle.std.specs.Prelude.{◌≡◌, ◌≢◌, ◌++◌, [], ◌∷◌, List, ℕ, Option, Result, map};
 ghost use Rattle.quic_base.specs.Number.{AreBytes};
 ghost use Rattle.quic_heads.specs.Datagram.{Placed, ArePackets};
 ghost use Rattle.quic_heads.specs.Refusal.{Refusal};
@@ -10,9 +10,15 @@ ghost use Rattle.quic_frame_parts.specs.declared.frame.fault.Fault.{Fault};
 ghost use Rattle.quic_frame_parts.specs.Reading.{Broken, invalid};
 ghost use Rattle.quic_frames.specs.Placed as frames;
 ghost use Rattle.quic_text.specs.FrameText.{item_line};
+ghost use Rattle.quic_base.specs.declared.ids.Side.{Side};
+ghost use Rattle.quic_params.specs.Meaning.{IsAnswer};
+ghost use Rattle.quic_params.specs.declared.error.Error.{Error};
+ghost use Rattle.quic_params.specs.declared.record.TransportParameters.{TransportParameters};
+ghost use Rattle.quic_text.specs.ParameterText.{answer_lines, parameter_lines};
 
 use crate::id_len::IdLen;
 use crate::mode::Mode;
+use quic_params::laws;
 
 /// Where a datagram is these packets, or these and then a refusal, `datagram` prints just their lines, with
 /// these places. Each datagram is so, in one way.
@@ -33,3 +39,12 @@ pub fn frames_printed()
         → AreBytes bytes → frames.IsPlacedBroken some bytes type reason
         → payload_lines Mode.Frames bytes ≡ map (λ p. item_line (frames.whole p)) some ++ item_line (Broken (invalid type reason)) ∷ [] }
 {}
+
+/// What `params` prints of a list is what is printed for the answer that the grammar gives to it.
+pub fn parameter_lines()
+    ensures { (side : Side) (list : List ℕ) (answer : Result TransportParameters Error) → AreBytes list → IsAnswer side list answer
+        → parameter_lines side list ≡ answer_lines answer }
+{
+    laws::one_answer();
+    laws::answer_as_a_function();
+}

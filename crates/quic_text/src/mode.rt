@@ -5,6 +5,8 @@ ghost use Rattle.quic_text.specs.Modes.{asked_len};
 
 use crate::id_len::IdLen;
 
+use quic_base::ids::Side;
+
 /// What is printed of each line.
 #[derive(Clone, Copy, Debug, PartialEq, Eq)]
 pub enum Mode {
@@ -12,16 +14,22 @@ pub enum Mode {
     Frames,
     /// The packets of a datagram, whose short heads have ids of this length.
     Datagram(IdLen),
+    /// The transport parameters that an endpoint of this side gets.
+    Params(Side),
 }
 
 /// The mode that the words after the program's name ask for. `None` is wrong arguments.
 pub fn mode_of(words: &[&str]) -> Option<Mode>
     ensures frames { (result ≡ Some Mode.Frames) ↔ (map (λ word. word.now) words.now ≡ codes "frames" ∷ []) }
     ensures datagram { (len : ℕ) → (asked_len result ≡ Some len) ↔ ((word : List ℕ) × (map (λ word. word.now) words.now ≡ codes "datagram" ∷ word ∷ []) × IsIdLen len word) }
+    ensures client { (result ≡ Some (Mode.Params Side.Client)) ↔ (map (λ word. word.now) words.now ≡ codes "params" ∷ codes "client" ∷ []) }
+    ensures server { (result ≡ Some (Mode.Params Side.Server)) ↔ (map (λ word. word.now) words.now ≡ codes "params" ∷ codes "server" ∷ []) }
 {
     match words {
         ["frames"] => Some(Mode::Frames),
         ["datagram", word] => datagram_mode(word),
+        ["params", "client"] => Some(Mode::Params(Side::Client)),
+        ["params", "server"] => Some(Mode::Params(Side::Server)),
         _ => None,
     }
 }
@@ -29,6 +37,7 @@ pub fn mode_of(words: &[&str]) -> Option<Mode>
 /// The mode `datagram` with the length that the word says.
 fn datagram_mode(word: &str) -> Option<Mode>
     ensures other { result ≢ Some Mode.Frames }
+    ensures others { (side : Side) → result ≢ Some (Mode.Params side) }
     ensures len { (len : ℕ) → (asked_len result ≡ Some len) ↔ IsIdLen len word.now }
 {
     match IdLen::of_word(word) {

@@ -7,12 +7,14 @@ ghost use Rattle.quic_text.specs.Text.{line_lines, payload_lines};
 
 mod datagram;
 mod frames;
+mod params;
 
 use super::lines::trim_return;
 use super::mode::Mode;
 use datagram::print_datagram;
 use frames::print_frames;
 use hex::FromHexError;
+use params::print_params;
 use std::alloc::{AllocError, Global};
 
 /// Adds what is printed of a line of the input. The answer is whether none of it is an `error` line.
@@ -47,5 +49,6 @@ fn print_payload(
     match mode {
         Mode::Frames => print_frames(payload, text),
         Mode::Datagram(id_len) => print_datagram(alloc, id_len, payload, text),
+        Mode::Params(side) => print_params(alloc, side, payload, text),
     }
 }

@@ -1,0 +1,5 @@
+use Rattle.quic_params.proofs.Answers.{answer_is}
+use Rattle.quic_params.proofs.laws.answer_as_a_function.Goals as goal
+
+pub returns : goal.returns
+returns c = answer_is

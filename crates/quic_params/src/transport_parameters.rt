@@ -1,0 +1,8 @@
+//! The limits and options that two endpoints tell each other while they shake hands (RFC 9000, section 7.4).
+
+pub use crate::error::Error;
+pub use crate::order::WriteOrder;
+pub use crate::parameter::TransportParameterId;
+pub use crate::record::TransportParameters;
+pub use crate::reserved::{MAX_PAYLOAD_SIZE, ReservedTransportParameter};
+pub use crate::value::{PreferredAddress, Value};

@@ -1,0 +1,119 @@
+//! What is written of records.
+use super::{DOWNWARD, WHOLE, preferred, two_limits, whole};
+use quic_base::ids::Side;
+use quic_bench::params::written_and_read;
+use quic_params::transport_parameters::{
+    ReservedTransportParameter, TransportParameters, WriteOrder,
+};
+use quic_testing::Checks;
+use std::alloc::Global;
+use std::test::Fail;
+
+fn digits(alloc: Global, params: &TransportParameters) -> Result<String, Fail> {
+    let mut out = Vec::new(alloc);
+    params.write(&mut out)?;
+    Ok(hex::encode(alloc, out.as_slice())?)
+}
+
+#[test]
+fn orders(rt: HostRuntime) -> Result<(), Fail> {
+    let mut checks = Checks::new(rt.alloc());
+    let mut params = two_limits();
+    checks.same(digits(rt.alloc(), &params)?.as_str(), "030244b0080110");
+    params.write_order = WriteOrder::new(DOWNWARD);
+    checks.holds(params.write_order.is_some());
+    checks.same(digits(rt.alloc(), &params)?.as_str(), "080110030244b0");
+    checks.same(digits(rt.alloc(), &whole())?.as_str(), WHOLE);
+    let mut twice = DOWNWARD;
+    twice[0] = 0;
+    checks.holds(WriteOrder::new(twice).is_none());
+    twice[0] = 21;
+    checks.holds(WriteOrder::new(twice).is_none());
+    checks.verdict()
+}
+
+#[test]
+fn grease(rt: HostRuntime) -> Result<(), Fail> {
+    let mut checks = Checks::new(rt.alloc());
+    let reserved = [
+        (ReservedTransportParameter::new(0, b"\xaa\xbb"), "1b02aabb"),
+        (ReservedTransportParameter::new(1, b""), "3a00"),
+        (ReservedTransportParameter::new(2, b""), "405900"),
+        (
+            ReservedTransportParameter::new(148764065110560899, b""),
+            "fffffffffffffff800",
+        ),
+        (
+            ReservedTransportParameter::new(0, b"0123456789abcdef"),
+            "1b1030313233343536373839616263646566",
+        ),
+    ];
+    for (grease, wanted) in reserved {
+        let mut params = TransportParameters::default();
+        params.grease_transport_parameter = Some(grease);
+        let text = digits(rt.alloc(), &params)?;
+        checks.same_at(wanted, text.as_str(), wanted);
+        let bytes = hex::decode(rt.alloc(), wanted)?;
+        let mut rest = bytes.as_slice();
+        checks.same(
+            TransportParameters::read(Side::Server, &mut rest),
+            Ok(TransportParameters::default()),
+        );
+    }
+    checks.verdict()
+}
+
+#[test]
+fn read_and_written(rt: HostRuntime) -> Result<(), Fail> {
+    let mut checks = Checks::new(rt.alloc());
+    let rows = [
+        ("20024005", "200105"),
+        ("40040105", "040105"),
+        ("040100", ""),
+        ("6ab2006ab200", "6ab200"),
+    ];
+    for (line, wanted) in rows {
+        let bytes = hex::decode(rt.alloc(), line)?;
+        let mut rest = bytes.as_slice();
+        match TransportParameters::read(Side::Server, &mut rest) {
+            Ok(params) => checks.same_at(line, digits(rt.alloc(), &params)?.as_str(), wanted),
+            Err(_) => checks.holds_at(line, false),
+        }
+    }
+    checks.verdict()
+}
+
+#[test]
+fn a_preferred_address(rt: HostRuntime) -> Result<(), Fail> {
+    let mut checks = Checks::new(rt.alloc());
+    let mut out = Vec::new(rt.alloc());
+    let mut address = preferred();
+    address.encode(&mut out)?;
+    address.address_v4 = None;
+    address.encode(&mut out)?;
+    address.address_v6 = None;
+    address.encode(&mut out)?;
+    let text = hex::encode(rt.alloc(), out.as_slice())?;
+    checks.same(
+        text.as_str(),
+        "7f000001002a0000000000000000000000000000000100180142abababababababababababababababab0000000000000000000000000000000000000000000100180142abababababababababababababababab0000000000000000000000000000000000000000000000000142abababababababababababababababab",
+    );
+    checks.verdict()
+}
+
+// By the client that knows both calls by their contracts alone.
+#[test]
+fn written_and_read_back(rt: HostRuntime) -> Result<(), Fail> {
+    let mut checks = Checks::new(rt.alloc());
+    let params = whole();
+    let mut greased = params;
+    greased.grease_transport_parameter = Some(ReservedTransportParameter::new(7, b"grease"));
+    greased.write_order = WriteOrder::new(DOWNWARD);
+    if greased.in_range(Side::Client) {
+        let mut out = Vec::new(rt.alloc());
+        let read = written_and_read(Side::Client, &greased, &mut out);
+        checks.same(read, Ok(params));
+        checks.same(out.len(), 75 + 9);
+    }
+    checks.verdict()
+}

@@ -1,15 +1,14 @@
 //! Parsers of ids of several kinds, and the flag that lets the fixed bit be clear.
-use super::{displays, holds, same};
 use bytes::BytesMut;
 use quic_bench::parsers::{LongIds, NoIds, SelfSized};
 use quic_packets::packet::{ConnectionIdParser, FixedLengthConnectionIdParser, PartialDecode};
+use quic_testing::Checks;
 use std::alloc::Global;
-use std::process::Abort;
 use std::test::Fail;
 
 // The datagram begins with a packet for this id.
 fn is_for<P: ConnectionIdParser>(
-    rt: &impl Abort,
+    checks: &mut Checks,
     alloc: Global,
     datagram: &[u8],
     parser: &P,
@@ -18,15 +17,15 @@ fn is_for<P: ConnectionIdParser>(
 ) -> Result<(), Fail> {
     let bytes = BytesMut::copy_from_slice(alloc, datagram)?;
     match PartialDecode::new(bytes, parser, &[1], grease) {
-        Ok((packet, _rest)) => same(rt, packet.dst_cid().as_slice(), id),
-        Err(_error) => holds(rt, false),
+        Ok((packet, _rest)) => checks.same(packet.dst_cid().as_slice(), id),
+        Err(_error) => checks.holds(false),
     }
     Ok(())
 }
 
 // The datagram is refused for this reason.
 fn is_refused<P: ConnectionIdParser>(
-    rt: &impl Abort,
+    checks: &mut Checks,
     alloc: Global,
     datagram: &[u8],
     parser: &P,
@@ -35,8 +34,8 @@ fn is_refused<P: ConnectionIdParser>(
 ) -> Result<(), Fail> {
     let bytes = BytesMut::copy_from_slice(alloc, datagram)?;
     match PartialDecode::new(bytes, parser, &[1], grease) {
-        Ok((_packet, _rest)) => holds(rt, false),
-        Err(error) => displays(rt, alloc, &error, text)?,
+        Ok((_packet, _rest)) => checks.holds(false),
+        Err(error) => checks.displays(alloc, &error, text)?,
     }
     Ok(())
 }
@@ -46,6 +45,7 @@ const TWENTY: &[u8] =
 
 #[test]
 fn ids_that_say_their_length(rt: HostRuntime) -> Result<(), Fail> {
+    let mut checks = Checks::new(rt.alloc());
     let alloc = rt.alloc();
     let cases: [(&[u8], &[u8]); 3] = [
         (b"\x40\x03\xaa\xbb\xff", b"\x03\xaa\xbb"),
@@ -53,7 +53,7 @@ fn ids_that_say_their_length(rt: HostRuntime) -> Result<(), Fail> {
         (TWENTY, &TWENTY[1..21]),
     ];
     for (datagram, id) in cases {
-        is_for(&rt, alloc, datagram, &SelfSized, false, id)?;
+        is_for(&mut checks, alloc, datagram, &SelfSized, false, id)?;
     }
     let bad: [&[u8]; 4] = [
         b"\x40\x00",
@@ -63,7 +63,7 @@ fn ids_that_say_their_length(rt: HostRuntime) -> Result<(), Fail> {
     ];
     for datagram in bad {
         is_refused(
-            &rt,
+            &mut checks,
             alloc,
             datagram,
             &SelfSized,
@@ -71,32 +71,34 @@ fn ids_that_say_their_length(rt: HostRuntime) -> Result<(), Fail> {
             "invalid header: bad id",
         )?;
     }
-    Ok(())
+    checks.verdict()
 }
 
 #[test]
 fn ids_of_no_and_of_twenty_bytes(rt: HostRuntime) -> Result<(), Fail> {
+    let mut checks = Checks::new(rt.alloc());
     let alloc = rt.alloc();
     let twenty = FixedLengthConnectionIdParser::new(20);
     let none = FixedLengthConnectionIdParser::new(0);
-    is_for(&rt, alloc, TWENTY, &LongIds, false, &TWENTY[1..21])?;
-    is_for(&rt, alloc, TWENTY, &twenty, false, &TWENTY[1..21])?;
-    is_for(&rt, alloc, TWENTY, &NoIds, false, &[])?;
-    is_for(&rt, alloc, TWENTY, &none, false, &[])?;
+    is_for(&mut checks, alloc, TWENTY, &LongIds, false, &TWENTY[1..21])?;
+    is_for(&mut checks, alloc, TWENTY, &twenty, false, &TWENTY[1..21])?;
+    is_for(&mut checks, alloc, TWENTY, &NoIds, false, &[])?;
+    is_for(&mut checks, alloc, TWENTY, &none, false, &[])?;
     let text = "invalid header: packet too small";
-    is_refused(&rt, alloc, &TWENTY[..20], &LongIds, false, text)?;
-    is_refused(&rt, alloc, &TWENTY[..20], &twenty, false, text)?;
-    Ok(())
+    is_refused(&mut checks, alloc, &TWENTY[..20], &LongIds, false, text)?;
+    is_refused(&mut checks, alloc, &TWENTY[..20], &twenty, false, text)?;
+    checks.verdict()
 }
 
 #[test]
 fn the_fixed_bit(rt: HostRuntime) -> Result<(), Fail> {
+    let mut checks = Checks::new(rt.alloc());
     let alloc = rt.alloc();
     let negotiation = b"\x80\x00\x00\x00\x00\x00\x00";
     let text = "invalid header: fixed bit unset";
-    is_refused(&rt, alloc, negotiation, &NoIds, false, text)?;
-    is_for(&rt, alloc, negotiation, &NoIds, true, &[])?;
-    is_refused(&rt, alloc, b"\x00", &NoIds, false, text)?;
-    is_for(&rt, alloc, b"\x00", &NoIds, true, &[])?;
-    Ok(())
+    is_refused(&mut checks, alloc, negotiation, &NoIds, false, text)?;
+    is_for(&mut checks, alloc, negotiation, &NoIds, true, &[])?;
+    is_refused(&mut checks, alloc, b"\x00", &NoIds, false, text)?;
+    is_for(&mut checks, alloc, b"\x00", &NoIds, true, &[])?;
+    checks.verdict()
 }

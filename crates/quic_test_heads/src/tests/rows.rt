@@ -1,6 +1,6 @@
 //! Worked lines of the mode `datagram`, through `run`.
-use super::{same, same_at};
 use quic_bench::FailAt;
+use quic_testing::Checks;
 use quic_text::{Mode, mode_of, run, status};
 use std::test::Fail;
 
@@ -77,7 +77,8 @@ const ROWS: &[(&str, &str)] = &[
 
 #[test]
 fn rows(rt: HostRuntime) -> Result<(), Fail> {
-    let mode = mode_of(&["datagram", "0"]).expect(&rt, "a mode");
+    let mut checks = Checks::new(rt.alloc());
+    let mode = mode_of(&["datagram", "0"]).ok_or("a mode")?;
     for (line, wanted) in ROWS {
         let mut sink = FailAt::new(rt.alloc(), b"", usize::MAX, u64::MAX);
         let mut input = String::new(rt.alloc());
@@ -85,24 +86,25 @@ fn rows(rt: HostRuntime) -> Result<(), Fail> {
         input.push('\n')?;
         let mut source = FailAt::new(rt.alloc(), input.as_bytes(), usize::MAX, u64::MAX);
         let outcome = run(rt.alloc(), mode, &mut source, &mut sink);
-        same_at(&rt, line, outcome, Ok(!wanted.contains("error")));
-        same_at(&rt, line, sink.output(), wanted.as_bytes());
+        checks.same_at(line, outcome, Ok(!wanted.contains("error")));
+        checks.same_at(line, sink.output(), wanted.as_bytes());
     }
-    Ok(())
+    checks.verdict()
 }
 
 #[test]
-fn ids_of_one_byte(rt: HostRuntime) {
-    let mode = mode_of(&["datagram", "1"]).expect(&rt, "a mode");
+fn ids_of_one_byte(rt: HostRuntime) -> Result<(), Fail> {
+    let mut checks = Checks::new(rt.alloc());
+    let mode = mode_of(&["datagram", "1"]).ok_or("a mode")?;
     let mut source = FailAt::new(rt.alloc(), b"40\n4005\n", usize::MAX, u64::MAX);
     let mut sink = FailAt::new(rt.alloc(), b"", usize::MAX, u64::MAX);
     let outcome = run(rt.alloc(), mode, &mut source, &mut sink);
-    same(&rt, status(&outcome), 1);
-    same(
-        &rt,
+    checks.same(status(&outcome), 1);
+    checks.same(
         sink.output(),
         b"error packet too small\n0..2 short dst 05\n".as_slice(),
     );
+    checks.verdict()
 }
 
 // The words that ask for a mode, and whether they do.
@@ -125,14 +127,12 @@ const WORDS: &[(&[&str], bool)] = &[
 ];
 
 #[test]
-fn words(rt: HostRuntime) {
+fn words(rt: HostRuntime) -> Result<(), Fail> {
+    let mut checks = Checks::new(rt.alloc());
     for (words, is_mode) in WORDS {
-        same_at(&rt, words.len(), mode_of(words).is_some(), *is_mode);
+        checks.same_at(words.len(), mode_of(words).is_some(), *is_mode);
     }
-    same(
-        &rt,
-        mode_of(&["datagram", "5"]),
-        mode_of(&["datagram", "05"]),
-    );
-    same(&rt, mode_of(&["frames"]), Some(Mode::Frames));
+    checks.same(mode_of(&["datagram", "5"]), mode_of(&["datagram", "05"]));
+    checks.same(mode_of(&["frames"]), Some(Mode::Frames));
+    checks.verdict()
 }

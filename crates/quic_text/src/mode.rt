@@ -4,7 +4,6 @@ ghost use Rattle.quic_text.specs.IdLens.{IsIdLen};
 ghost use Rattle.quic_text.specs.Modes.{asked_len};
 
 use crate::id_len::IdLen;
-
 use quic_base::ids::Side;
 
 /// What is printed of each line.

@@ -1,7 +1,9 @@
 //! Scripts of calls on both sets, with the answers of the Rust crate.
 ghost use Rattle.std.specs.Prelude.{◌<◌, ◌-◌, ◌^◌};
 
-use super::ranges_scripts::SCRIPTS;
+use super::ranges_scripts::{
+    fifth_scripts, first_scripts, fourth_scripts, second_scripts, third_scripts,
+};
 use quic_base::coding::NoRoom;
 use quic_ranges::range_set::{ArrayRangeSet, RangeSet};
 use quic_testing::Checks;
@@ -428,17 +430,31 @@ fn replay_step(
     Ok(())
 }
 
+// Plays scripts, one a line, and counts their calls.
+fn play_scripts(checks: &mut Checks, alloc: Global, scripts: &str) -> Result<u64, Fail> {
+    let mut calls = 0u64;
+    for script in scripts.lines() {
+        let (mut map, mut array) = (RangeSet::new(alloc), ArrayRangeSet::new(alloc));
+        for step in script.split("; ") {
+            replay_step(checks, alloc, &mut map, &mut array, step)?;
+            calls = calls.wrapping_add(1);
+        }
+    }
+    Ok(calls)
+}
+
 #[test]
 fn replays_the_scripts(rt: HostRuntime) -> Result<(), Fail> {
     let mut checks = Checks::new(rt.alloc());
-    let alloc = rt.alloc();
     let mut calls = 0u64;
-    for script in SCRIPTS.lines() {
-        let (mut map, mut array) = (RangeSet::new(alloc), ArrayRangeSet::new(alloc));
-        for step in script.split("; ") {
-            replay_step(&mut checks, alloc, &mut map, &mut array, step)?;
-            calls = calls.wrapping_add(1);
-        }
+    for scripts in [
+        first_scripts(),
+        second_scripts(),
+        third_scripts(),
+        fourth_scripts(),
+        fifth_scripts(),
+    ] {
+        calls = calls.wrapping_add(play_scripts(&mut checks, rt.alloc(), scripts)?);
     }
     checks.same(calls, 1440);
     checks.verdict()

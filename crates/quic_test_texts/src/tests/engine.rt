@@ -150,8 +150,10 @@ fn modes(rt: HostRuntime) -> Result<(), Fail> {
     checks.same(mode_of(&["frames", "frames"]), None);
     checks.same(mode_of(&["Frames"]), None);
     checks.same(mode_of(&["canon"]), None);
-    checks.same(mode_of(&["datagram", "8"]), None);
-    checks.same(mode_of(&["params", "client"]), None);
+    checks.same(mode_of(&["datagram"]), None);
+    checks.same(mode_of(&["params", "peer"]), None);
+    checks.holds(mode_of(&["datagram", "8"]).is_some());
+    checks.holds(mode_of(&["params", "client"]).is_some());
     checks.same(status(&Err(RunError::OutOfMemory)), 3);
     checks.verdict()
 }

@@ -1,5 +1,4 @@
 //! Worked rows, answers of the Rust crate, and what no clause says.
 
 mod acks;
-mod acks_answers;
 mod acks_written;

@@ -4,4 +4,3 @@ mod frames_written;
 mod frames_written_refused;
 mod streams_written;
 mod written;
-mod written_answers;

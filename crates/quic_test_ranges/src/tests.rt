@@ -2,5 +2,3 @@
 
 mod ranges;
 mod ranges_refused;
-mod ranges_replay;
-mod ranges_scripts;

@@ -4,7 +4,6 @@ ghost use Rattle.std.specs.Option.{option_copied};
 ghost use Rattle.quic_frames.specs.InRange.{AreCounts};
 
 use super::acks::ranges_of;
-use super::acks_answers::{first_acks, fourth_acks, second_acks, third_acks};
 use quic_frames::frame::{Ack, EcnCounts, Frame, Iter};
 use quic_ranges::range_set::ArrayRangeSet;
 use quic_testing::Checks;
@@ -73,17 +72,6 @@ fn is_written(alloc: Global, line: &str) -> Result<bool, Fail> {
     let words: Vec<&str> = call.split(" ").collect(alloc)?;
     let wanted = hex::decode(alloc, wanted.as_bytes())?;
     Ok(written(alloc, words.as_slice())?.as_slice() == wanted.as_slice())
-}
-
-#[test]
-fn acks_are_written_as_by_the_rust_crate(rt: HostRuntime) -> Result<(), Fail> {
-    let mut checks = Checks::new(rt.alloc());
-    for lines in [first_acks(), second_acks(), third_acks(), fourth_acks()] {
-        for line in lines.lines() {
-            checks.holds_at(line, is_written(rt.alloc(), line)?);
-        }
-    }
-    checks.verdict()
 }
 
 #[test]

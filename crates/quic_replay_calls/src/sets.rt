@@ -1,15 +1,45 @@
-//! Scripts of calls on both sets, with the answers of the Rust crate.
+//! Scripts of calls on both sets. A script begins at `new`; a call is what is called and its numbers. A last
+//! number of `replace` says how many pieces are taken; the letters of `iter` and `elts` say whether the next run
+//! or member is taken from the front (`F`) or the back (`B`).
 ghost use Rattle.std.specs.Prelude.{◌<◌, ◌-◌, ◌^◌};
 
-use super::ranges_scripts::{
-    fifth_scripts, first_scripts, fourth_scripts, second_scripts, third_scripts,
-};
 use quic_base::coding::NoRoom;
 use quic_ranges::range_set::{ArrayRangeSet, RangeSet};
-use quic_testing::Checks;
 use std::alloc::{AllocError, Global};
 use std::ops::Range;
 use std::test::Fail;
+
+/// Writes what each call answers on either set, and the runs that the set then has.
+pub(crate) fn replay(rt: &HostRuntime, lines: &str) -> Result<(), Fail> {
+    let mut set = RangeSet::new(rt.alloc());
+    let mut array = ArrayRangeSet::new(rt.alloc());
+    for line in lines.lines() {
+        if line == "new" {
+            set = RangeSet::new(rt.alloc());
+            array = ArrayRangeSet::new(rt.alloc());
+            println!(rt; "btree new | none")?;
+            println!(rt; "array new | none")?;
+        } else {
+            replay_call(rt, &mut set, &mut array, line)?;
+        }
+    }
+    Ok(())
+}
+
+fn replay_call(
+    rt: &HostRuntime,
+    set: &mut RangeSet,
+    array: &mut ArrayRangeSet,
+    call: &str,
+) -> Result<(), Fail> {
+    let (of_set, of_array) = play(rt.alloc(), set, array, call)?;
+    println!(rt; "btree {of_set} | {}", set.all_runs(rt.alloc())?)?;
+    match of_array {
+        Some(text) => println!(rt; "array {text} | {}", array.all_runs(rt.alloc())?)?,
+        None => println!(rt; "array - | {}", array.all_runs(rt.alloc())?)?,
+    }
+    Ok(())
+}
 
 // What scripts call on either set.
 trait Played: Sized + Drop {
@@ -339,8 +369,8 @@ fn members_from(alloc: Global, set: &RangeSet, ends: &str) -> Result<String, All
     Ok(text)
 }
 
-// The answer of a call that the map set alone has.
-fn of_map_alone(
+// The answer of a call that `RangeSet` alone has.
+fn of_range_set_alone(
     alloc: Global,
     set: &mut RangeSet,
     name: &str,
@@ -385,10 +415,10 @@ fn follow(set: &mut ArrayRangeSet, name: &str, numbers: &[u64]) -> Result<(), Fa
     }
 }
 
-// One call on both sets; its answer, where the array set has it, is the same.
+// What one call answers on the ordered set, and on the array set where it has the call.
 fn play(
     alloc: Global,
-    map: &mut RangeSet,
+    set: &mut RangeSet,
     array: &mut ArrayRangeSet,
     call: &str,
 ) -> Result<(String, Option<String>), Fail> {
@@ -401,61 +431,9 @@ fn play(
     if of_array.is_none() {
         follow(array, name, numbers.as_slice())?;
     }
-    let of_map = match answer(alloc, map, name, words, numbers.as_slice())? {
+    let of_set = match answer(alloc, set, name, words, numbers.as_slice())? {
         Some(text) => text,
-        None => of_map_alone(alloc, map, name, words, numbers.as_slice())?,
+        None => of_range_set_alone(alloc, set, name, words, numbers.as_slice())?,
     };
-    Ok((of_map, of_array))
-}
-
-// A step is a call, its answer and the runs after it.
-fn replay_step(
-    checks: &mut Checks,
-    alloc: Global,
-    map: &mut RangeSet,
-    array: &mut ArrayRangeSet,
-    step: &str,
-) -> Result<(), Fail> {
-    let parts: Vec<&str> = step.split(" | ").collect(alloc)?;
-    let [call, wanted, runs] = parts.as_slice() else {
-        return Err(Fail::new("a part of a step is missing"));
-    };
-    let (of_map, of_array) = play(alloc, map, array, call)?;
-    checks.same_at(call, of_map.as_str(), wanted);
-    if let Some(text) = of_array {
-        checks.same_at(call, text.as_str(), wanted);
-    }
-    checks.same_at(call, map.all_runs(alloc)?.as_str(), runs);
-    checks.same_at(call, array.all_runs(alloc)?.as_str(), runs);
-    Ok(())
-}
-
-// Plays scripts, one a line, and counts their calls.
-fn play_scripts(checks: &mut Checks, alloc: Global, scripts: &str) -> Result<u64, Fail> {
-    let mut calls = 0u64;
-    for script in scripts.lines() {
-        let (mut map, mut array) = (RangeSet::new(alloc), ArrayRangeSet::new(alloc));
-        for step in script.split("; ") {
-            replay_step(checks, alloc, &mut map, &mut array, step)?;
-            calls = calls.wrapping_add(1);
-        }
-    }
-    Ok(calls)
-}
-
-#[test]
-fn replays_the_scripts(rt: HostRuntime) -> Result<(), Fail> {
-    let mut checks = Checks::new(rt.alloc());
-    let mut calls = 0u64;
-    for scripts in [
-        first_scripts(),
-        second_scripts(),
-        third_scripts(),
-        fourth_scripts(),
-        fifth_scripts(),
-    ] {
-        calls = calls.wrapping_add(play_scripts(&mut checks, rt.alloc(), scripts)?);
-    }
-    checks.same(calls, 1440);
-    checks.verdict()
+    Ok((of_set, of_array))
 }

@@ -1,5 +1,5 @@
 //! The ids by which endpoints know a connection (RFC 9000, section 5.1).
-ghost use Rattle.std.specs.Prelude.{◌≡◌, ◌+◌, ◌<◌, ◌≤◌, ◌++◌, List, ℕ, ⊤, Some, drop, length, nat_eq, refl, take, MatchOption, OnErr, OnOk};
+ghost use Rattle.std.specs.Prelude.{◌≡◌, ◌+◌, ◌<◌, ◌≤◌, ◌++◌, List, ℕ, ⊤, Some, drop, length, nat_eq, refl, MatchOption, OnErr, OnOk};
 ghost use Rattle.std.specs.Borrow.{sem};
 ghost use Rattle.std.specs.Cmp.{partial_equiv_from_equiv, po};
 ghost use Rattle.std.specs.Cmp.Lexicographic.{nat_list_eq_equiv, pointwise};
@@ -7,7 +7,7 @@ ghost use Rattle.std.specs.Cmp.Rules.{hashing};
 ghost use Rattle.std.specs.Hash as fed;
 ghost use Rattle.std.proofs.Common.{rules};
 ghost use Rattle.quic_base.specs.Codec.{Takes, NoFront, IsBegun, KeepsRoom};
-ghost use Rattle.quic_base.specs.ConnectionId.{IsLongId, IsPadded, long_id, id_text};
+ghost use Rattle.quic_base.specs.ConnectionId.{IsLongId, long_id, id_text};
 ghost use Rattle.quic_base.specs.ConnectionIdOrder.{id_cmp, id_total, id_ties};
 ghost use Rattle.quic_base.specs.Number.{AreBytes};
 
@@ -48,13 +48,16 @@ impl ConnectionId {
 
     /// The id of these bytes. The caller owes that they are at most 20.
     #[inline]
+    #[tactic(auto, using(crate::proofs::Ends::padding))]
     pub fn new(bytes: &[u8]) -> ConnectionId
         requires { length bytes.now ≤ MAX_CID_SIZE }
         ensures { result ≡ bytes.now }
     {
+        let mut padded = [0; MAX_CID_SIZE];
+        copy_front(&mut padded, bytes);
         ConnectionId {
             len: bytes.len() as u8,
-            bytes: padded(bytes),
+            bytes: padded,
         }
     }
 
@@ -140,28 +143,22 @@ impl ConnectionId {
     }
 }
 
-// The bytes, at most 20, and zeros behind them.
+// Copies the bytes to the front.
 #[inline]
-#[tactic(auto, using(crate::proofs::Ends::padding))]
-fn padded(bytes: &[u8]) -> [u8; MAX_CID_SIZE]
+fn copy_front(to: &mut [u8; MAX_CID_SIZE], bytes: &[u8])
     requires { length bytes.now ≤ MAX_CID_SIZE }
-    ensures value { take (length bytes.now) result ≡ bytes.now }
-    ensures zeros { IsPadded (length bytes.now) result }
+    ensures { to.new ≡ bytes.now ++ drop (length bytes.now) to.old }
 {
     let len = bytes.len();
-    let mut padded = [0; MAX_CID_SIZE];
     if len >= 16 {
-        copy_ends::<16>(&mut padded, bytes);
+        copy_ends::<16>(to, bytes);
     } else if len >= 8 {
-        copy_ends::<8>(&mut padded, bytes);
+        copy_ends::<8>(to, bytes);
     } else if len >= 4 {
-        copy_ends::<4>(&mut padded, bytes);
-    } else if len >= 2 {
-        copy_ends::<2>(&mut padded, bytes);
-    } else if len == 1 {
-        copy_ends::<1>(&mut padded, bytes);
+        copy_ends::<4>(to, bytes);
+    } else {
+        to[..len].copy_from_slice(bytes);
     }
-    padded
 }
 
 // Copies N to 2 N bytes to the front: the first N and the last N, each by one whole load.

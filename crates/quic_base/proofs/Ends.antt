@@ -39,7 +39,7 @@ padded_zeros xs zeros bytes short are is =
     record {
       short = short;
       width = omega (arith, ap length is, length-append xs (drop (length xs) zeros), length-drop (length xs) zeros, ap length are, length-replicate {A = ℕ} 20 0, short);
-      zeros = ap (drop (length xs)) is ∙ drop_at xs (drop (length xs) zeros) (length xs) refl ∙ behind
+      zeros = ap (drop (length xs)) is ∙ drop_at xs (drop (length xs) zeros) (length xs) refl ∙ behind;
     }
 
 pub ruleset padding = (padded_front, padded_zeros)

@@ -4,5 +4,6 @@ mod Codecs
 mod Readings
 mod LongIds
 mod IdMemory
+mod Ends
 pub mod PublicLaws
 pub mod Encoders

@@ -1,6 +1,12 @@
--- What a cursor has left.
+-- What contracts see of a cursor.
 use Rattle.std.specs.Prelude.{ℕ, List, drop}
-use Rattle.quic_base.specs.declared.coding.buffer_cursor.Cursor.{Cursor}
+use Rattle.bytes.specs.Filled.{Filled}
 
-abbrev pub unread : Cursor → List ℕ
+-- a buffer, and how many of its bytes are read
+pub record ReadBuffer : Type 0 where
+  pub bytes : Filled
+  pub position : ℕ
+
+-- what is left
+abbrev pub unread : ReadBuffer → List ℕ
 unread c = drop c.position c.bytes.items

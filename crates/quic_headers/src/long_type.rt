@@ -36,6 +36,7 @@ pub enum LongHeaderType {
 
 impl LongHeaderType {
     /// The type that a long head's first byte says under a version.
+    #[inline]
     pub fn from_byte(first: u8, version: u32) -> Self
         ensures { result ≡ long_type version first }
     {

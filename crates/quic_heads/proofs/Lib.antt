@@ -1,9 +1,9 @@
-pub mod Cuts
-pub mod CutAnswers
+mod Cuts
+mod CutAnswers
 pub mod Datagrams
-pub mod Ends
-pub mod FieldLaws
-pub mod HeadAgain
-pub mod HeadFound
-pub mod RefusedFound
+mod Ends
+mod FieldLaws
+mod HeadAgain
+mod HeadFound
+mod RefusedFound
 pub mod Steps

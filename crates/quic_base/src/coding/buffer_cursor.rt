@@ -4,24 +4,36 @@ ghost use Rattle.quic_base.specs.Number.{AreBytes};
 
 use crate::coding::are_bytes;
 use bytes::{Buf, BytesMut};
+use std::marker::Model;
 
-/// A buffer and the place up to which it is read. Reading leaves its bytes.
+/// A buffer and the place up to which it is read, as contracts see it too. Reading leaves its bytes.
 #[derive(Drop)]
 pub struct Cursor {
-    bytes: BytesMut,
-    position: usize,
-    ghost in_range: { position ≤ length bytes.items },
+    buffer: BytesMut,
+    place: usize,
+}
+
+impl Model for Cursor {
+    ghost use Rattle.std.specs.Prelude.{◌≤◌, length};
+    ghost use Rattle.quic_base.specs.Cursor.{ReadBuffer};
+
+    ghost Value = { ReadBuffer };
+
+    ghost view = { λ c. record { bytes = c.buffer; position = c.place } };
+
+    ghost invariant = { λ c. c.place ≤ length c.buffer.items };
 }
 
 impl Cursor {
     ghost use Rattle.quic_base.specs.Cursor.{unread};
 
     /// A cursor at the front of the buffer.
-    pub fn new(bytes: BytesMut) -> Cursor
-        ensures bytes { result.bytes ≡ bytes }
+    #[inline]
+    pub fn new(buffer: BytesMut) -> Cursor
+        ensures bytes { result.bytes ≡ buffer }
         ensures start { result.position ≡ 0 }
     {
-        Cursor { bytes, position: 0 }
+        Cursor { buffer, place: 0 }
     }
 
     /// How many bytes are read.
@@ -30,7 +42,7 @@ impl Cursor {
         ensures value { result ≡ self.now.position }
         ensures within { result ≤ length self.now.bytes.items }
     {
-        self.position
+        self.place
     }
 
     /// How many bytes are left.
@@ -40,7 +52,7 @@ impl Cursor {
         ensures within { self.now.position + result ≡ length self.now.bytes.items }
         ensures bound { length self.now.bytes.items < 2 ^ 63 }
     {
-        self.bytes.len() - self.position
+        self.buffer.len() - self.place
     }
 
     /// The bytes that are left.
@@ -49,7 +61,7 @@ impl Cursor {
         ensures value { result.now ≡ unread self.now }
         ensures bytes { AreBytes (unread self.now) }
     {
-        let rest = &self.bytes.as_slice()[self.position..];
+        let rest = &self.buffer.as_slice()[self.place..];
         are_bytes(rest);
         rest
     }
@@ -62,16 +74,26 @@ impl Cursor {
         ensures place { self.new.position ≡ self.old.position + count }
         ensures rest { unread self.new ≡ drop count (unread self.old) }
     {
-        let _len = self.bytes.len();
-        self.position += count;
+        let _len = self.buffer.len();
+        self.place += count;
+    }
+
+    /// The buffer, of which `position` bytes are read.
+    #[inline]
+    pub fn get_ref(&self) -> &BytesMut
+        ensures value { result.now ≡ self.now.bytes }
+        ensures within { self.now.position ≤ length self.now.bytes.items }
+    {
+        &self.buffer
     }
 
     /// The buffer.
+    #[inline]
     pub fn into_inner(self) -> BytesMut
         ensures value { result ≡ self.bytes }
         ensures within { self.position ≤ length self.bytes.items }
     {
-        self.bytes
+        self.buffer
     }
 }
 

@@ -1,5 +1,5 @@
 //! The ids by which endpoints know a connection (RFC 9000, section 5.1).
-ghost use Rattle.std.specs.Prelude.{◌≡◌, ◌<◌, ◌≤◌, ◌++◌, List, ℕ, ⊤, Some, drop, length, nat_eq, refl, MatchOption, OnErr, OnOk};
+ghost use Rattle.std.specs.Prelude.{◌≡◌, ◌+◌, ◌<◌, ◌≤◌, ◌++◌, List, ℕ, ⊤, Some, drop, length, nat_eq, refl, MatchOption, OnErr, OnOk};
 ghost use Rattle.std.specs.Borrow.{sem};
 ghost use Rattle.std.specs.Cmp.{partial_equiv_from_equiv, po};
 ghost use Rattle.std.specs.Cmp.Lexicographic.{nat_list_eq_equiv, pointwise};
@@ -47,12 +47,14 @@ impl ConnectionId {
     ghost use Rattle.quic_base.specs.ConnectionIdLoan.{LendsBytes};
 
     /// The id of these bytes. The caller owes that they are at most 20.
+    #[inline]
+    #[tactic(auto, using(crate::proofs::Ends::padding))]
     pub fn new(bytes: &[u8]) -> ConnectionId
         requires { length bytes.now ≤ MAX_CID_SIZE }
         ensures { result ≡ bytes.now }
     {
         let mut padded = [0; MAX_CID_SIZE];
-        padded[..bytes.len()].copy_from_slice(bytes);
+        copy_front(&mut padded, bytes);
         ConnectionId {
             len: bytes.len() as u8,
             bytes: padded,
@@ -139,6 +141,37 @@ impl ConnectionId {
         let _ = &self.len;
         *self = ConnectionId::new(bytes);
     }
+}
+
+// Copies the bytes to the front.
+#[inline]
+fn copy_front(to: &mut [u8; MAX_CID_SIZE], bytes: &[u8])
+    requires { length bytes.now ≤ MAX_CID_SIZE }
+    ensures { to.new ≡ bytes.now ++ drop (length bytes.now) to.old }
+{
+    let len = bytes.len();
+    if len >= 16 {
+        copy_ends::<16>(to, bytes);
+    } else if len >= 8 {
+        copy_ends::<8>(to, bytes);
+    } else if len >= 4 {
+        copy_ends::<4>(to, bytes);
+    } else {
+        to[..len].copy_from_slice(bytes);
+    }
+}
+
+// Copies N to 2 N bytes to the front: the first N and the last N, each by one whole load.
+#[inline]
+fn copy_ends<const N: usize>(to: &mut [u8; MAX_CID_SIZE], bytes: &[u8])
+    requires room { length bytes.now ≤ MAX_CID_SIZE }
+    requires enough { N ≤ length bytes.now }
+    requires covered { length bytes.now ≤ N + N }
+    ensures { to.new ≡ bytes.now ++ drop (length bytes.now) to.old }
+{
+    let len = bytes.len();
+    to[..N].copy_from_slice(&bytes[..N]);
+    to[len - N..len].copy_from_slice(&bytes[len - N..]);
 }
 
 /// Equal exactly where the bytes are.

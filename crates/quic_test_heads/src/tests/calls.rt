@@ -22,6 +22,7 @@ fn a_cursor(rt: HostRuntime) -> Result<(), Fail> {
     checks.same(cursor.rest(), b"\x02\x03\x04".as_slice());
     checks.same(cursor.get_u16(), 0x0203);
     checks.same((cursor.position(), cursor.remaining()), (3, 1));
+    checks.same(cursor.get_ref().len(), 4);
     checks.same(cursor.chunk(), b"\x04".as_slice());
     let bytes = cursor.into_inner();
     checks.same(bytes.as_slice(), b"\x01\x02\x03\x04".as_slice());

@@ -27,40 +27,40 @@ loop-packet-init c =
 
 pub overflow_add-end : goal.overflow_add-end
 overflow_add-end c =
-    let q : ℕ = length c.in-Ok.packet.packet.items in
+    let q : ℕ = length c.in-Ok.packet.bytes in
     let part : q ≤ length c.loop-packet.left.items = omega (arith, ap length c.in-Ok.ensures.packet, length-take q c.loop-packet.left.items) in
     omega (arith, part, c.len.ensures, c.loop-packet.invariant.within)
 
 pub returns-in-None-clause-bytes : goal.returns-in-None-clause-bytes
 returns-in-None-clause-bytes c =
-    let q : ℕ = length c.in-Ok.packet.packet.items in
+    let q : ℕ = length c.in-Ok.packet.bytes in
     let left : List ℕ = c.loop-packet.left.items in
-    let cut : Cut (with_ids_of c.new-parser.result.expected_len) left c.in-Ok.packet.plain_header c.in-Ok.packet.position q = cut_given _ left _ _ q c.in-Ok.ensures.answer.some in
+    let cut : Cut (with_ids_of c.new-parser.result.expected_len) left c.in-Ok.packet.head c.in-Ok.packet.head_end q = cut_given _ left _ _ q c.in-Ok.ensures.answer.some in
     let none : drop q left ≡ [] = rw c.in-None.is at c.in-Ok.ensures.rest in
-    text_last (with_ids_of c.new-parser.result.expected_len) c.loop-packet.start (c.loop-packet.start + c.len.result) q c.in-Ok.packet.position left (string_bytes c.loop-packet.text) (string_bytes c.print_packet.new.text) _
-    c.in-Ok.packet.plain_header cut none (ap (λ (n : ℕ). c.loop-packet.start + n) c.len.ensures) (rw c.header.ensures at c.in_ok-print_packet-in-Ok.ensures) c.loop-packet.invariant.text
+    text_last (with_ids_of c.new-parser.result.expected_len) c.loop-packet.start (c.loop-packet.start + c.len.result) q c.in-Ok.packet.head_end left (string_bytes c.loop-packet.text) (string_bytes c.print_packet.new.text) _
+    c.in-Ok.packet.head cut none (ap (λ (n : ℕ). c.loop-packet.start + n) c.len.ensures) (rw c.header.ensures at c.in_ok-print_packet-in-Ok.ensures) c.loop-packet.invariant.text
 
 pub returns-in-None-clause-clean : goal.returns-in-None-clause-clean
 returns-in-None-clause-clean c =
-    let q : ℕ = length c.in-Ok.packet.packet.items in
+    let q : ℕ = length c.in-Ok.packet.bytes in
     let left : List ℕ = c.loop-packet.left.items in
-    let cut : Cut (with_ids_of c.new-parser.result.expected_len) left c.in-Ok.packet.plain_header c.in-Ok.packet.position q = cut_given _ left _ _ q c.in-Ok.ensures.answer.some in
+    let cut : Cut (with_ids_of c.new-parser.result.expected_len) left c.in-Ok.packet.head c.in-Ok.packet.head_end q = cut_given _ left _ _ q c.in-Ok.ensures.answer.some in
     let none : drop q left ≡ [] = rw c.in-None.is at c.in-Ok.ensures.rest in
-    clean_last (with_ids_of c.new-parser.result.expected_len) c.loop-packet.start q c.in-Ok.packet.position left (datagram_lines (count c.args.id_len) c.args.datagram.now) c.in-Ok.packet.plain_header cut none c.loop-packet.invariant.clean
+    clean_last (with_ids_of c.new-parser.result.expected_len) c.loop-packet.start q c.in-Ok.packet.head_end left (datagram_lines (count c.args.id_len) c.args.datagram.now) c.in-Ok.packet.head cut none c.loop-packet.invariant.clean
 
 pub loop-packet-preserved : goal.loop-packet-preserved
 loop-packet-preserved c =
-    let q : ℕ = length c.in-Ok.packet.packet.items in
+    let q : ℕ = length c.in-Ok.packet.bytes in
     let left : List ℕ = c.loop-packet.left.items in
     let stop : ℕ = c.loop-packet.start + c.len.result in
-    let cut : Cut (with_ids_of c.new-parser.result.expected_len) left c.in-Ok.packet.plain_header c.in-Ok.packet.position q = cut_given _ left _ _ q c.in-Ok.ensures.answer.some in
+    let cut : Cut (with_ids_of c.new-parser.result.expected_len) left c.in-Ok.packet.head c.in-Ok.packet.head_end q = cut_given _ left _ _ q c.in-Ok.ensures.answer.some in
     let rest : (c.in-Some.rest.items ≡ drop q left) × (0 < length (drop q left)) = rw c.in-Some.is at c.in-Ok.ensures.rest in
     let lt : q < length left = omega (arith, rest.1, length-drop q left) in
     let at : stop ≡ c.loop-packet.start + q = ap (λ (n : ℕ). c.loop-packet.start + n) c.len.ensures in
     record {
-      text = text_more (with_ids_of c.new-parser.result.expected_len) c.loop-packet.start stop q c.in-Ok.packet.position left c.in-Some.rest.items (string_bytes c.loop-packet.text) (string_bytes c.print_packet.new.text) _
-          c.in-Ok.packet.plain_header cut lt rest.0 at (rw c.header.ensures at c.in_ok-print_packet-in-Ok.ensures) c.loop-packet.invariant.text;
-      clean = clean_more (with_ids_of c.new-parser.result.expected_len) c.loop-packet.start stop q c.in-Ok.packet.position left c.in-Some.rest.items (datagram_lines (count c.args.id_len) c.args.datagram.now) c.in-Ok.packet.plain_header cut lt rest.0 at c.loop-packet.invariant.clean;
+      text = text_more (with_ids_of c.new-parser.result.expected_len) c.loop-packet.start stop q c.in-Ok.packet.head_end left c.in-Some.rest.items (string_bytes c.loop-packet.text) (string_bytes c.print_packet.new.text) _
+          c.in-Ok.packet.head cut lt rest.0 at (rw c.header.ensures at c.in_ok-print_packet-in-Ok.ensures) c.loop-packet.invariant.text;
+      clean = clean_more (with_ids_of c.new-parser.result.expected_len) c.loop-packet.start stop q c.in-Ok.packet.head_end left c.in-Some.rest.items (datagram_lines (count c.args.id_len) c.args.datagram.now) c.in-Ok.packet.head cut lt rest.0 at c.loop-packet.invariant.clean;
       within = omega (arith, ap length rest.0, length-drop q left, c.loop-packet.invariant.within, at, lt);
     }
 

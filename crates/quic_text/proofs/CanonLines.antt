@@ -1,6 +1,7 @@
 -- The line of a payload in its shortest form.
 use Rattle.std.proofs.Common.{◌≡◌, ◌≢◌, ℕ, Bool, true, false, List, [], ◌∷◌, ◌++◌, map, None, Option, Result, Ok, Err, refl, sym, ap, ◌∙◌}
-use Rattle.std.specs.List.{list_all}
+use Rattle.std.specs.List.{flat_map, list_all}
+use Rattle.std.proofs.lemmas.List.{append-nil}
 use Rattle.hex.specs.Hex.{encode_lower}
 use Rattle.quic_base.specs.Number.{AreBytes}
 use Rattle.quic_frame_parts.specs.declared.frame.fault.Fault.{Fault}
@@ -14,7 +15,7 @@ use Rattle.quic_canon.specs.Bytes.{GivesLeast, canon_bytes}
 use Rattle.quic_canon.specs.declared.canonical.CanonBytes.{CanonBytes}
 use Rattle.quic_canon.specs.declared.canonical.CanonBytes.TheVariants.{Same, Rewritten}
 use Rattle.quic_canon.proofs.LeastPayloads.{one_least, other_some}
-use Rattle.quic_text.specs.Printed.{Printed, Plain, is_plain}
+use Rattle.quic_text.specs.Printed.{Printed, Plain, shown, is_plain}
 use Rattle.quic_text.specs.FrameText.{item_line, frame_lines}
 use Rattle.quic_text.proofs.PlacedLines.{lines_some}
 use Rattle.quic_text.specs.CanonText.{after_frame, frames_in, canon_line, canon_lines}
@@ -81,3 +82,10 @@ plain_items (f ∷ found) (Broken i ∷ items) e = absurd cc
 pub plain_frames : (strict : Bool) (found : List Found) (bytes : List ℕ) → bytes ≢ [] → AreFrames strict found bytes → list_all is_plain (frame_lines strict bytes) ≡ true
 plain_frames strict found bytes some s =
     ap (list_all is_plain) (lines_some strict bytes some) ∙ plain_items found (items_of strict 0 None bytes) (frames_are_items strict found 0 None bytes s)
+
+-- the bytes of a line alone, and whether it is no `error` line
+pub line_shown : (payload : List ℕ) (line : Printed) → canon_lines payload ≡ line ∷ [] → shown line ≡ flat_map shown (canon_lines payload)
+line_shown payload line e = sym (append-nil (shown line)) ∙ ap (flat_map shown) (sym e)
+
+pub line_told : (payload : List ℕ) (line : Printed) (b : Bool) → canon_lines payload ≡ line ∷ [] → list_all is_plain (line ∷ []) ≡ b → b ≡ list_all is_plain (canon_lines payload)
+line_told payload line b e told = sym told ∙ ap (list_all is_plain) (sym e)

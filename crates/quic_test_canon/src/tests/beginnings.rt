@@ -45,7 +45,8 @@ fn is_whole(strict: bool, payload: &[u8]) -> bool {
 
 // Whether `new` and `strict` tell of a cut, with this type.
 fn is_cut(payload: &[u8], ty: &Option<FrameType>) -> bool {
-    is_broken(false, payload, ty, "unexpected end") && is_broken(true, payload, ty, "unexpected end")
+    is_broken(false, payload, ty, "unexpected end")
+        && is_broken(true, payload, ty, "unexpected end")
 }
 
 #[test]

@@ -84,10 +84,22 @@ fn is_empty(answer: &Result<bool, CanonError>) -> bool {
 fn payloads_that_mean_the_same(rt: HostRuntime) -> Result<(), Fail> {
     let mut checks = Checks::new(rt.alloc());
     for (payload, other, same) in [
-        (b"\x40\x00\x0a\x00\x01a".as_slice(), b"\x00\x08\x00a".as_slice(), true),
+        (
+            b"\x40\x00\x0a\x00\x01a".as_slice(),
+            b"\x00\x08\x00a".as_slice(),
+            true,
+        ),
         (b"\x00\x01".as_slice(), b"\x01\x00".as_slice(), false),
-        (b"\x02\x40\x05\x00\x00\x40\x05".as_slice(), b"\x02\x05\x00\x00\x05".as_slice(), true),
-        (b"\x02\x05\x00\x00\x05".as_slice(), b"\x02\x05\x01\x00\x05".as_slice(), false),
+        (
+            b"\x02\x40\x05\x00\x00\x40\x05".as_slice(),
+            b"\x02\x05\x00\x00\x05".as_slice(),
+            true,
+        ),
+        (
+            b"\x02\x05\x00\x00\x05".as_slice(),
+            b"\x02\x05\x01\x00\x05".as_slice(),
+            false,
+        ),
     ] {
         checks.holds(is_told(&mean_the_same(rt.alloc(), payload, other), same));
     }

@@ -13,10 +13,7 @@ pub const ROWS: &[(&[u8], &[u8])] = &[
     (b"\x08\x00\x08", b"\x08\x00\x08"),
     (b"\x0a\x00\x01a", b"\x08\x00a"),
     (b"\x40\x00\x0a\x00\x01a", b"\x00\x08\x00a"),
-    (
-        b"\x01\x0c\x04\x00hi",
-        b"\x01\x08\x04hi",
-    ),
+    (b"\x01\x0c\x04\x00hi", b"\x01\x08\x04hi"),
 ];
 
 // Whether it is the payload itself.

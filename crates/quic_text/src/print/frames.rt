@@ -65,10 +65,7 @@ fn print_frame(start: usize, end: usize, ty: FrameType, text: &mut String) -> Re
 }
 
 /// The `error` line of something that is no frame.
-pub(super) fn print_invalid(
-    invalid: &InvalidFrame,
-    text: &mut String,
-) -> Result<bool, AllocError>
+pub(super) fn print_invalid(invalid: &InvalidFrame, text: &mut String) -> Result<bool, AllocError>
     ensures bytes { OnOk result (string_bytes text.new ≡ string_bytes text.old ++ shown (item_line (Broken (invalid_of invalid.now)))) }
     ensures clean { IfOk result (λ clean. clean ≡ false) }
 {

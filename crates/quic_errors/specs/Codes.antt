@@ -1,5 +1,5 @@
 -- Transport errors and their texts (RFC 9000, section 20.1).
-use Rattle.std.specs.Prelude.{◌≡◌, ℕ, ◌%◌, List, [], ◌∷◌, ◌++◌, Option, None, Some, ◌==◌, ◌&&◌, length, nat_le, codes, if◌then◌else◌, Bool, true, false}
+use Rattle.std.specs.Prelude.{◌≡◌, ◌≢◌, ℕ, ◌%◌, List, [], ◌∷◌, ◌++◌, Option, None, Some, ◌==◌, ◌&&◌, length, nat_le, codes, if◌then◌else◌, Bool, true, false}
 use Rattle.std.specs.Fmt.{decimal}
 use Rattle.std.specs.Map.{lookup}
 use Rattle.std.specs.String.{string_bytes}
@@ -125,8 +125,13 @@ pub record IsSame (one other : Error) : Type 0 where
   pub frame_is : other.frame ≡ one.frame
   pub reason_is : reason_bytes other.reason ≡ reason_bytes one.reason
 
--- The error is what is told of something that is no frame.
+-- the reason that is told of a type that is not in its shortest spelling, where only that counts
+abbrev pub long_type_reason : List ℕ
+long_type_reason = codes "frame type not in shortest form"
+
+-- The error is what is told of something that is no frame: by another code where only the spelling of its type is wrong.
 pub record IsErrorOf (ty : Option ℕ) (reason : List ℕ) (error : Error) : Type 0 where
-  pub code_is : error.code ≡ frame_encoding_error
+  pub long_is : reason ≡ long_type_reason → error.code ≡ protocol_violation
+  pub other_is : reason ≢ long_type_reason → error.code ≡ frame_encoding_error
   pub frame_is : error.frame ≡ ty
   pub reason_is : reason_bytes error.reason ≡ reason

@@ -9,11 +9,13 @@ use crate::transport_error::{Code, Error, Reason};
 pub struct InvalidFrame {
     /// The last type that was read, the broken frame's own included; `None` if none was.
     pub ty: Option<FrameType>,
-    /// `unexpected end`, `invalid frame ID` or `malformed`.
+    /// `unexpected end`, `invalid frame ID` or `malformed`; where types count in their shortest spelling
+    /// alone, also `frame type not in shortest form`.
     pub reason: &'static str,
 }
 
-/// The error that a peer is told of: FRAME_ENCODING_ERROR, with the type and the reason.
+/// The error that a peer is told of, with the type and the reason: PROTOCOL_VIOLATION where a type is not in
+/// its shortest form, and FRAME_ENCODING_ERROR for the other reasons (RFC 9000, section 12.4).
 impl From<InvalidFrame> for Error {
     ghost from_gives = { λ e error. IsErrorOf e.ty e.reason.now error };
 
@@ -26,8 +28,13 @@ impl From<InvalidFrame> for Error {
 fn error_of(ty: Option<FrameType>, reason: &'static str) -> Error
     ensures { IsErrorOf ty reason.now result }
 {
+    let code = if reason == "frame type not in shortest form" {
+        Code::PROTOCOL_VIOLATION
+    } else {
+        Code::FRAME_ENCODING_ERROR
+    };
     Error {
-        code: Code::FRAME_ENCODING_ERROR,
+        code,
         frame: ty,
         reason: Reason::Static(reason),
     }

@@ -159,7 +159,7 @@ eight_fails : (bytes : List ℕ) (e : Fault) → eight_at bytes ≡ Err e → e 
 unfolding eight_at
 eight_fails bytes e h = bytes_fail 8 bytes e (mapped_err (bytes_at 8 bytes) (λ n. (num n.0, n.1)) e h)
 
-field_fails : (field : Field) (before : List Value) (bytes : List ℕ) (e : Fault) → field_at field before bytes ≡ Err e → AreBytes bytes → IsReason field before bytes e × (is_rest field ≡ false)
+pub field_fails : (field : Field) (before : List Value) (bytes : List ℕ) (e : Fault) → field_at field before bytes ≡ Err e → AreBytes bytes → IsReason field before bytes e × (is_rest field ≡ false)
 unfolding id_at
 field_fails Varint before bytes e h fits = (varint_fails bytes e (mapped_err (varint_at bytes) (λ x. (Number x.0 ∷ [], x.1)) e h), refl)
 field_fails Counted before bytes e h fits = (counted_fails bytes e (mapped_err (counted_at bytes) (λ x. (Bytes x.0 ∷ [], x.1)) e h), refl)
@@ -172,7 +172,7 @@ field_fails Rest before bytes e h fits = absurd cc
 field_fails (Unwritten n) before bytes e h fits = absurd cc
 field_fails Ordered before bytes e h fits = (only_fault_else (is_ordered before) Malformed e _ h, refl)
 
-field_stops : (field : Field) (before : List Value) (bytes : List ℕ) (e : Fault) → AreBytes bytes → field_at field before bytes ≡ Err e → Stops field before bytes e
+pub field_stops : (field : Field) (before : List Value) (bytes : List ℕ) (e : Fault) → AreBytes bytes → field_at field before bytes ≡ Err e → Stops field before bytes e
 field_stops field before bytes e fits h =
     let f = field_fails field before bytes e h fits in
     record {
@@ -194,7 +194,7 @@ same_reason Rest before bytes d e fits p q = p ∙ sym q
 same_reason (Unwritten n) before bytes d e fits p q = p ∙ sym q
 same_reason Ordered before bytes d e fits p q = p ∙ sym q
 
-stops_again : (field : Field) (before : List Value) (bytes : List ℕ) (e : Fault) → AreBytes bytes → Stops field before bytes e → field_at field before bytes ≡ Err e
+pub stops_again : (field : Field) (before : List Value) (bytes : List ℕ) (e : Fault) → AreBytes bytes → Stops field before bytes e → field_at field before bytes ≡ Err e
 stops_again field before bytes e fits s =
     let failed = err_of (field_at field before bytes) (λ x h. let t = field_takes field before bytes x fits h in s.no_front x.0 t.front x.1 t.split t.is) in
     let why = (field_fails field before bytes failed.0 failed.1 fits).0 in

@@ -1,28 +1,34 @@
 -- What a decoder takes of a type, and what reading finds.
-use Rattle.std.proofs.Common.{◌≡◌, ℕ, false, List, Option, Ok, Err, Some, refl}
+use Rattle.std.proofs.Common.{◌≡◌, ℕ, ◌-◌, Bool, true, false, List, length, Option, Ok, Err, Some, refl}
 use Rattle.quic_base.specs.Number.{AreBytes}
 use Rattle.quic_base.specs.Codec.{Takes}
 use Rattle.quic_base.specs.Varint.{Spells}
 use Rattle.quic_frame_parts.specs.declared.frame.fault.Fault.{Fault}
-use Rattle.quic_frame_parts.specs.declared.frame.fault.Fault.TheVariants.{UnexpectedEnd}
+use Rattle.quic_frame_parts.specs.declared.frame.fault.Fault.TheVariants.{UnexpectedEnd, LongType}
 use Rattle.quic_frame_parts.specs.Field.{LacksNumber}
 use Rattle.quic_frame_parts.specs.Payload.{Meaning}
-use Rattle.quic_frame_parts.specs.Reading.{frame_at, invalid, found_at}
+use Rattle.quic_frame_parts.specs.Reading.{frame_at, invalid, is_long_type, found_at}
 use Rattle.quic_frame_parts.proofs.Varints.{varint_read, varint_cut}
 
 -- a type that was taken, and a frame that follows it
-pub found_whole : (before : Option ℕ) (t : ℕ) (bytes rest : List ℕ) (frame : Meaning) (left : List ℕ) → Takes (Spells t) bytes rest → frame_at t rest ≡ Ok (frame, left)
-    → found_at false before bytes ≡ Ok (record { type = t; frame = frame }, left)
+pub found_whole : (strict : Bool) (before : Option ℕ) (t : ℕ) (bytes rest : List ℕ) (frame : Meaning) (left : List ℕ) → Takes (Spells t) bytes rest → is_long_type strict t (length bytes - length rest) ≡ false → frame_at t rest ≡ Ok (frame, left)
+    → found_at strict before bytes ≡ Ok (record { type = t; frame = frame }, left)
 unfolding found_at
-found_whole before t bytes rest frame left taken e = rw (varint_read t bytes rest taken, e) refl
+found_whole strict before t bytes rest frame left taken wide e = rw (varint_read t bytes rest taken, wide, e) refl
 
 -- a type that was taken, and no frame
-pub found_none : (before : Option ℕ) (t : ℕ) (bytes rest : List ℕ) (reason : Fault) → Takes (Spells t) bytes rest → frame_at t rest ≡ Err reason
-    → found_at false before bytes ≡ Err (invalid (Some t) reason)
+pub found_none : (strict : Bool) (before : Option ℕ) (t : ℕ) (bytes rest : List ℕ) (reason : Fault) → Takes (Spells t) bytes rest → is_long_type strict t (length bytes - length rest) ≡ false → frame_at t rest ≡ Err reason
+    → found_at strict before bytes ≡ Err (invalid (Some t) reason)
 unfolding found_at
-found_none before t bytes rest reason taken e = rw (varint_read t bytes rest taken, e) refl
+found_none strict before t bytes rest reason taken wide e = rw (varint_read t bytes rest taken, wide, e) refl
+
+-- a type that was taken, and is too long
+pub found_long : (strict : Bool) (before : Option ℕ) (t : ℕ) (bytes rest : List ℕ) → Takes (Spells t) bytes rest → is_long_type strict t (length bytes - length rest) ≡ true
+    → found_at strict before bytes ≡ Err (invalid (Some t) LongType)
+unfolding found_at
+found_long strict before t bytes rest taken wide = rw (varint_read t bytes rest taken, wide) refl
 
 -- no type
-pub found_cut : (before : Option ℕ) (bytes : List ℕ) → AreBytes bytes → LacksNumber bytes → found_at false before bytes ≡ Err (invalid before UnexpectedEnd)
+pub found_cut : (strict : Bool) (before : Option ℕ) (bytes : List ℕ) → AreBytes bytes → LacksNumber bytes → found_at strict before bytes ≡ Err (invalid before UnexpectedEnd)
 unfolding found_at
-found_cut before bytes fits none = rw (varint_cut bytes fits none) refl
+found_cut strict before bytes fits none = rw (varint_cut bytes fits none) refl

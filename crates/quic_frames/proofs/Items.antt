@@ -166,6 +166,10 @@ back_is_nil : (front back : List ℕ) → front ++ back ≡ [] → back ≡ []
 back_is_nil [] back e = e
 back_is_nil (b ∷ front) back e = absurd cc
 
+-- what is broken is something
+pub broken_some : (strict : Bool) (before : Option ℕ) (ps : List Found) (bytes : List ℕ) (type : Option ℕ) (reason : Fault) → IsBroken strict before ps bytes type reason → bytes ≢ []
+broken_some strict before ps bytes type reason s none = no_frame_some strict (last_type before ps) s.back type reason s.no_frame (back_is_nil s.front s.back (sym s.parts ∙ none))
+
 closed_or : (b : Bool) (left : List ℕ) → (b ≡ true → left ≡ []) → left ≢ [] → b ≡ false
 closed_or true left opens some = absurd (some (opens refl))
 closed_or false left opens some = refl
@@ -287,3 +291,21 @@ begins_none strict f g a b x closed first second e =
     let same : found_of (f, x) ≡ found_of (g, []) = sym one ∙ ap (found_at strict None) (sym e ∙ sym (append-nil b)) ∙ two in
     let rest : x ≡ [] = left_is f g x [] same in
     sym (e ∙ ap (λ (l : List ℕ). a ++ l) rest ∙ append-nil a)
+
+-- ---- what is read where only the shortest types count
+
+frame_relaxed : (strict : Bool) (found : Found) (bytes : List ℕ) → IsFrame strict found bytes → IsFrame false found bytes
+frame_relaxed strict found bytes f = record {
+  type_bytes = f.type_bytes;
+  field_bytes = f.field_bytes;
+  parts = f.parts;
+  type_spelled = record { spelled = f.type_spelled.spelled; shortest = λ e. absurd (true_is_not_false (sym e)) };
+  row = f.row;
+  in_table = f.in_table;
+  name = f.name;
+  fields = f.fields;
+}
+
+pub frames_relaxed : (strict : Bool) (found : List Found) (bytes : List ℕ) → AreFrames strict found bytes → AreFrames false found bytes
+frames_relaxed strict [] bytes s = s
+frames_relaxed strict (f ∷ found) bytes s = (s.0, s.1, s.2, frame_relaxed strict f s.0 s.3, s.4, frames_relaxed strict found s.1 s.5)

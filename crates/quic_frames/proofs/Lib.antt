@@ -2,7 +2,9 @@ mod Eights
 mod Fields
 mod Rows
 mod Frames
-mod Items
+pub mod Items
+mod Later
+mod Reasons
 mod Finding
 pub mod Placing
 mod Places

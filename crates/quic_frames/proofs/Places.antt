@@ -77,7 +77,7 @@ middle_is a b c start stop begins stops =
     rw (drop_at a (b ++ c) start begins, take_at b c (stop - start) long) refl
 
 -- a payload cut at an offset and at the end of the frame there
-record Cut (payload : List ℕ) (offset stop : ℕ) (found : Found) (rest : List ℕ) : Type 0 where
+record Cut (strict : Bool) (payload : List ℕ) (offset stop : ℕ) (found : Found) (rest : List ℕ) : Type 0 where
   first : List ℕ
   front : List ℕ
   whole : payload ≡ first ++ (front ++ rest)
@@ -86,16 +86,16 @@ record Cut (payload : List ℕ) (offset stop : ℕ) (found : Found) (rest : List
   stop_is : stop ≡ length payload - length rest
   within : stop ≤ length payload
   some : offset < stop
-  frame : IsFrame false found front
+  frame : IsFrame strict found front
   opens : is_open found.type ≡ true → rest ≡ []
 
-cut_at : (payload : List ℕ) (offset : ℕ) (found : Found) (rest : List ℕ) → offset ≤ length payload → TakesFound false found (drop offset payload) rest → Cut payload offset (length payload - length rest) found rest
-cut_at payload offset found rest le t =
+cut_at : (strict : Bool) (payload : List ℕ) (offset : ℕ) (found : Found) (rest : List ℕ) → offset ≤ length payload → TakesFound strict found (drop offset payload) rest → Cut strict payload offset (length payload - length rest) found rest
+cut_at strict payload offset found rest le t =
     let first : List ℕ = take offset payload in
     let whole : payload ≡ first ++ (t.front ++ rest) = sym (take-append-drop offset payload) ∙ ap (λ (l : List ℕ). take offset payload ++ l) t.parts in
     let begins : length first ≡ offset = omega (arith, length-take offset payload) in
     let sizes : length payload ≡ length first + (length t.front + length rest) = ap length whole ∙ length-append first (t.front ++ rest) ∙ ap (λ (n : ℕ). length first + n) (length-append t.front rest) in
-    let some = frame_some false found t.front t.frame in
+    let some = frame_some strict found t.front t.frame in
     record {
       first = first;
       front = t.front;
@@ -109,13 +109,13 @@ cut_at payload offset found rest le t =
       opens = t.opens;
     }
 
-cut_stands : (payload : List ℕ) (offset stop : ℕ) (found : Found) (rest : List ℕ) → Cut payload offset stop found rest → Stands payload offset stop found
-cut_stands payload offset stop found rest c =
+cut_stands : (strict : Bool) (payload : List ℕ) (offset stop : ℕ) (found : Found) (rest : List ℕ) → Cut strict payload offset stop found rest → Stands strict payload offset stop found
+cut_stands strict payload offset stop found rest c =
     let here : slice_range payload offset stop ≡ c.front = ap (λ (l : List ℕ). slice_range l offset stop) c.whole ∙ middle_is c.first c.front rest offset stop c.begins c.ends in
     record {
       some = c.some;
       within = c.within;
-      spelled = subst (λ (l : List ℕ). IsFrame false found l) (sym here) c.frame;
+      spelled = subst (λ (l : List ℕ). IsFrame strict found l) (sym here) c.frame;
       borrowed = λ bytes e.
           elim (all_end_in c.frame.row.fields [] found.frame.values c.frame.field_bytes bytes c.frame.fields e) [
             | inl none ↦ absurd (let h = none.0 in cc)
@@ -131,8 +131,8 @@ cut_stands payload offset stop found rest c =
           ];
     }
 
-cut_rest : (payload : List ℕ) (offset stop : ℕ) (found : Found) (rest : List ℕ) → Cut payload offset stop found rest → drop stop payload ≡ rest
-cut_rest payload offset stop found rest c =
+cut_rest : (strict : Bool) (payload : List ℕ) (offset stop : ℕ) (found : Found) (rest : List ℕ) → Cut strict payload offset stop found rest → drop stop payload ≡ rest
+cut_rest strict payload offset stop found rest c =
     let whole : payload ≡ (c.first ++ c.front) ++ rest = c.whole ∙ sym (append_assoc c.first c.front rest) in
     let len : length (c.first ++ c.front) ≡ stop = length-append c.first c.front ∙ c.ends in
     ap (drop stop) whole ∙ drop_at (c.first ++ c.front) rest stop len
@@ -149,54 +149,54 @@ rest_is payload offset = take_rest payload offset
 
 -- ---- steps of an iterator
 
-abbrev pub at_place : List ℕ → ℕ → Option ℕ → Way
-at_place payload offset last = record { payload = payload; offset = offset; last = last; is_broken = false }
+abbrev pub at_place : Bool → List ℕ → ℕ → Option ℕ → Way
+at_place strict payload offset last = record { strict = strict; payload = payload; offset = offset; last = last; is_broken = false }
 
 -- a frame at the offset
-pub finds : (payload : List ℕ) (offset : ℕ) (last : Option ℕ) (ty : ℕ) (frame : Frame) (rest : List ℕ) → IsToldApart frame → AreBytes (drop offset payload) → offset ≤ length payload → offset < length payload
-    → found_at false last (drop offset payload) ≡ Ok (found_as ty frame, rest) → Finds (at_place payload offset last) frame (at_place payload (length payload - length rest) (Some ty))
-finds payload offset last ty frame rest apart fits le some e =
+pub finds : (strict : Bool) (payload : List ℕ) (offset : ℕ) (last : Option ℕ) (ty : ℕ) (frame : Frame) (rest : List ℕ) → IsToldApart frame → AreBytes (drop offset payload) → offset ≤ length payload → offset < length payload
+    → found_at strict last (drop offset payload) ≡ Ok (found_as ty frame, rest) → Finds (at_place strict payload offset last) frame (at_place strict payload (length payload - length rest) (Some ty))
+finds strict payload offset last ty frame rest apart fits le some e =
     let found = found_as ty frame in
     let bytes = drop offset payload in
     let stop = length payload - length rest in
-    let t = found_takes false last bytes (found, rest) fits e in
-    let c = cut_at payload offset found rest le t in
-    let after : drop stop payload ≡ rest = cut_rest payload offset stop found rest c in
+    let t = found_takes strict last bytes (found, rest) fits e in
+    let c = cut_at strict payload offset found rest le t in
+    let after : drop stop payload ≡ rest = cut_rest strict payload offset stop found rest c in
     let size : length bytes ≡ length payload - offset = length-drop offset payload in
     let some_left : bytes ≢ [] = λ h. absurd (omega (arith, ap length h, size, some)) in
     let fewer : length rest ≤ length bytes = omega (arith, ap length t.parts, length-append t.front rest) in
     let same : offset + (length bytes - length rest) ≡ stop = omega (arith, size, fewer, le) in
-    let items = items_found false offset last bytes (found, rest) fits some_left e in
+    let items = items_found strict offset last bytes (found, rest) fits some_left e in
     let rest_fits : AreBytes rest = back_bytes t.front rest (subst AreBytes t.parts fits) in
     record {
       found = found;
       says = refl;
       told_apart = apart;
       comes = refl;
-      first = items ∙ ap (λ (n : ℕ). Whole offset n found ∷ items_of false n (Some ty) rest) same ∙ ap (λ (l : List ℕ). Whole offset stop found ∷ items_of false stop (Some ty) l) (sym after);
-      stands = cut_stands payload offset stop found rest c;
+      first = items ∙ ap (λ (n : ℕ). Whole offset n found ∷ items_of strict n (Some ty) rest) same ∙ ap (λ (l : List ℕ). Whole offset stop found ∷ items_of strict stop (Some ty) l) (sym after);
+      stands = cut_stands strict payload offset stop found rest c;
       ends = λ opens. omega (arith, ap length (t.opens opens));
       is_done = (
-        (λ none. drop_nothing payload stop c.within (after ∙ all_read false stop (Some ty) rest rest_fits (ap (items_of false stop (Some ty)) (sym after) ∙ none))),
-        (λ end. ap (items_of false stop (Some ty)) (drop_all payload stop end) ∙ no_items false stop (Some ty)),
+        (λ none. drop_nothing payload stop c.within (after ∙ all_read strict stop (Some ty) rest rest_fits (ap (items_of strict stop (Some ty)) (sym after) ∙ none))),
+        (λ end. ap (items_of strict stop (Some ty)) (drop_all payload stop end) ∙ no_items strict stop (Some ty)),
       );
     }
 
 -- something that is no frame
-pub breaks : (payload : List ℕ) (offset : ℕ) (last : Option ℕ) (i : Invalid) → offset < length payload → found_at false last (drop offset payload) ≡ Err i → left (at_place payload offset last) ≡ Broken i ∷ []
-breaks payload offset last i some e =
-    items_broken false offset last (drop offset payload) i (λ h. absurd (omega (arith, ap length h, length-drop offset payload, some))) e
+pub breaks : (strict : Bool) (payload : List ℕ) (offset : ℕ) (last : Option ℕ) (i : Invalid) → offset < length payload → found_at strict last (drop offset payload) ≡ Err i → left (at_place strict payload offset last) ≡ Broken i ∷ []
+breaks strict payload offset last i some e =
+    items_broken strict offset last (drop offset payload) i (λ h. absurd (omega (arith, ap length h, length-drop offset payload, some))) e
 
 -- nothing
-pub is_over : (payload : List ℕ) (offset : ℕ) (last : Option ℕ) → length (drop offset payload) ≡ 0 → left (at_place payload offset last) ≡ []
-is_over payload offset last none = ap (items_of false offset last) (nothing (drop offset payload) (omega arith)) ∙ no_items false offset last
+pub is_over : (strict : Bool) (payload : List ℕ) (offset : ℕ) (last : Option ℕ) → length (drop offset payload) ≡ 0 → left (at_place strict payload offset last) ≡ []
+is_over strict payload offset last none = ap (items_of strict offset last) (nothing (drop offset payload) (omega arith)) ∙ no_items strict offset last
 
 -- the same of a walk whose parts are told apart
-abbrev pub walk : List ℕ → ℕ → Option ℕ → Bool → Way
-walk payload offset last is_broken = record { payload = payload; offset = offset; last = last; is_broken = is_broken }
+abbrev pub walk : Bool → List ℕ → ℕ → Option ℕ → Bool → Way
+walk strict payload offset last is_broken = record { strict = strict; payload = payload; offset = offset; last = last; is_broken = is_broken }
 
-is_not_broken : (payload : List ℕ) (offset : ℕ) (last : Option ℕ) (b : Bool) (old : Way) → walk payload offset last b ≡ old → b ≡ false → at_place payload offset last ≡ old
-is_not_broken payload offset last b old e f = ap (walk payload offset last) (sym f) ∙ e
+is_not_broken : (strict : Bool) (payload : List ℕ) (offset : ℕ) (last : Option ℕ) (b : Bool) (old : Way) → walk strict payload offset last b ≡ old → b ≡ false → at_place strict payload offset last ≡ old
+is_not_broken strict payload offset last b old e f = ap (walk strict payload offset last) (sym f) ∙ e
 
 some_bytes : (payload : List ℕ) (offset : ℕ) → eqb (length (take (length payload - offset) (drop offset payload))) 0 ≡ false → offset < length payload
 some_bytes payload offset e =
@@ -204,39 +204,39 @@ some_bytes payload offset e =
     let some : eqb (length payload - offset) 0 ≡ false = rw size at e in
     grind (arith, nat_tests)
 
-pub fewer_left : (payload : List ℕ) (offset : ℕ) (last : Option ℕ) (found : Found) (rest : List ℕ) → AreBytes (take (length payload - offset) (drop offset payload))
-    → found_at false last (take (length payload - offset) (drop offset payload)) ≡ Ok (found, rest) → length rest ≤ length payload
-fewer_left payload offset last found rest fits e =
-    let t = found_takes false last _ (found, rest) fits e in
+pub fewer_left : (strict : Bool) (payload : List ℕ) (offset : ℕ) (last : Option ℕ) (found : Found) (rest : List ℕ) → AreBytes (take (length payload - offset) (drop offset payload))
+    → found_at strict last (take (length payload - offset) (drop offset payload)) ≡ Ok (found, rest) → length rest ≤ length payload
+fewer_left strict payload offset last found rest fits e =
+    let t = found_takes strict last _ (found, rest) fits e in
     let sizes = ap length t.parts ∙ length-append t.front rest in
     let size : length (take (length payload - offset) (drop offset payload)) ≡ length payload - offset = ap length (rest_is payload offset) ∙ length-drop offset payload in
     omega (arith, sizes, size)
 
-pub finds_here : (payload : List ℕ) (offset : ℕ) (last : Option ℕ) (b : Bool) (old : Way) (ty : ℕ) (frame : Frame) (rest : List ℕ) → IsToldApart frame → walk payload offset last b ≡ old → b ≡ false → offset ≤ length payload
+pub finds_here : (strict : Bool) (payload : List ℕ) (offset : ℕ) (last : Option ℕ) (b : Bool) (old : Way) (ty : ℕ) (frame : Frame) (rest : List ℕ) → IsToldApart frame → walk strict payload offset last b ≡ old → b ≡ false → offset ≤ length payload
     → eqb (length (take (length payload - offset) (drop offset payload))) 0 ≡ false → AreBytes (take (length payload - offset) (drop offset payload))
-    → found_at false last (take (length payload - offset) (drop offset payload)) ≡ Ok (found_as ty frame, rest) → Finds old frame (walk payload (length payload - length rest) (Some ty) b)
-finds_here payload offset last b old ty frame rest apart v f le some fits e =
+    → found_at strict last (take (length payload - offset) (drop offset payload)) ≡ Ok (found_as ty frame, rest) → Finds old frame (walk strict payload (length payload - length rest) (Some ty) b)
+finds_here strict payload offset last b old ty frame rest apart v f le some fits e =
     let cut = rest_is payload offset in
-    let here = finds payload offset last ty frame rest apart (subst AreBytes cut fits) le (some_bytes payload offset some) (ap (found_at false last) (sym cut) ∙ e) in
-    subst (λ (o : Way). Finds o frame (walk payload (length payload - length rest) (Some ty) b)) (is_not_broken payload offset last b old v f)
-    (subst (λ (c : Bool). Finds (at_place payload offset last) frame (walk payload (length payload - length rest) (Some ty) c)) (sym f) here)
+    let here = finds strict payload offset last ty frame rest apart (subst AreBytes cut fits) le (some_bytes payload offset some) (ap (found_at strict last) (sym cut) ∙ e) in
+    subst (λ (o : Way). Finds o frame (walk strict payload (length payload - length rest) (Some ty) b)) (is_not_broken strict payload offset last b old v f)
+    (subst (λ (c : Bool). Finds (at_place strict payload offset last) frame (walk strict payload (length payload - length rest) (Some ty) c)) (sym f) here)
 
-pub breaks_here : (payload : List ℕ) (offset : ℕ) (last : Option ℕ) (b : Bool) (old : Way) (i : Invalid) → walk payload offset last b ≡ old → b ≡ false
-    → eqb (length (take (length payload - offset) (drop offset payload))) 0 ≡ false → found_at false last (take (length payload - offset) (drop offset payload)) ≡ Err i
-    → (left old ≡ Broken i ∷ []) × (walk payload offset last true ≡ record old { is_broken = true })
-breaks_here payload offset last b old i v f some e =
+pub breaks_here : (strict : Bool) (payload : List ℕ) (offset : ℕ) (last : Option ℕ) (b : Bool) (old : Way) (i : Invalid) → walk strict payload offset last b ≡ old → b ≡ false
+    → eqb (length (take (length payload - offset) (drop offset payload))) 0 ≡ false → found_at strict last (take (length payload - offset) (drop offset payload)) ≡ Err i
+    → (left old ≡ Broken i ∷ []) × (walk strict payload offset last true ≡ record old { is_broken = true })
+breaks_here strict payload offset last b old i v f some e =
     let cut = rest_is payload offset in
-    let is = is_not_broken payload offset last b old v f in (
-      ap left (sym is) ∙ breaks payload offset last i (some_bytes payload offset some) (ap (found_at false last) (sym cut) ∙ e),
+    let is = is_not_broken strict payload offset last b old v f in (
+      ap left (sym is) ∙ breaks strict payload offset last i (some_bytes payload offset some) (ap (found_at strict last) (sym cut) ∙ e),
       ap (λ (o : Way). record o { is_broken = true }) is,
     )
 
-pub is_broken_here : (payload : List ℕ) (offset : ℕ) (last : Option ℕ) (b : Bool) (old : Way) → walk payload offset last b ≡ old → b ≡ true → left old ≡ []
-is_broken_here payload offset last b old v t = ap left (sym v) ∙ ap (λ (c : Bool). left (walk payload offset last c)) t
+pub is_broken_here : (strict : Bool) (payload : List ℕ) (offset : ℕ) (last : Option ℕ) (b : Bool) (old : Way) → walk strict payload offset last b ≡ old → b ≡ true → left old ≡ []
+is_broken_here strict payload offset last b old v t = ap left (sym v) ∙ ap (λ (c : Bool). left (walk strict payload offset last c)) t
 
-pub is_over_here : (payload : List ℕ) (offset : ℕ) (last : Option ℕ) (b : Bool) (old : Way) → walk payload offset last b ≡ old → b ≡ false
+pub is_over_here : (strict : Bool) (payload : List ℕ) (offset : ℕ) (last : Option ℕ) (b : Bool) (old : Way) → walk strict payload offset last b ≡ old → b ≡ false
     → eqb (length (take (length payload - offset) (drop offset payload))) 0 ≡ true → left old ≡ []
-is_over_here payload offset last b old v f none =
+is_over_here strict payload offset last b old v f none =
     let size : length (take (length payload - offset) (drop offset payload)) ≡ length (drop offset payload) = ap length (rest_is payload offset) in
     let zero_left : length (drop offset payload) ≡ 0 = let n : eqb (length (drop offset payload)) 0 ≡ true = rw size at none in grind (arith, nat_tests) in
-    ap left (sym (is_not_broken payload offset last b old v f)) ∙ is_over payload offset last zero_left
+    ap left (sym (is_not_broken strict payload offset last b old v f)) ∙ is_over strict payload offset last zero_left

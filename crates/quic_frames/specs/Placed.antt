@@ -1,5 +1,5 @@
 -- Frames at their places in a payload.
-use Rattle.std.specs.Prelude.{◌≡◌, ℕ, ◌+◌, List, [], ◌∷◌, ◌++◌, Option, None, true, false, length, map}
+use Rattle.std.specs.Prelude.{◌≡◌, ℕ, ◌+◌, List, [], ◌∷◌, ◌++◌, Option, None, Bool, true, length, map}
 use Rattle.quic_frame_parts.specs.declared.frame.fault.Fault.{Fault}
 use Rattle.quic_frame_parts.specs.Payload.{Found, IsFrame, AreClosed, IsNoFrame, last_type}
 use Rattle.quic_frame_parts.specs.Reading.{Item, Whole}
@@ -18,18 +18,19 @@ found_in p = p.found
 abbrev pub whole : Placed → Item
 whole p = Whole p.start p.stop p.found
 
--- The bytes that begin at start are these frames, one after another, an open one last only.
-abbrev pub ArePlaced : ℕ → List Placed → List ℕ → Type 0
-ArePlaced start [] bytes = bytes ≡ []
-ArePlaced start (p ∷ ps) bytes =
-    (front back : List ℕ) × (bytes ≡ front ++ back) × IsFrame false p.found front × (is_open p.found.type ≡ true → back ≡ [])
-    × (p.start ≡ start) × (p.stop ≡ start + length front) × ArePlaced p.stop ps back
+-- The bytes that begin at start are these frames, one after another, an open one last only; it is said whether a type
+-- counts in its shortest spelling alone.
+abbrev pub ArePlaced : Bool → ℕ → List Placed → List ℕ → Type 0
+ArePlaced strict start [] bytes = bytes ≡ []
+ArePlaced strict start (p ∷ ps) bytes =
+    (front back : List ℕ) × (bytes ≡ front ++ back) × IsFrame strict p.found front × (is_open p.found.type ≡ true → back ≡ [])
+    × (p.start ≡ start) × (p.stop ≡ start + length front) × ArePlaced strict p.stop ps back
 
 -- The bytes are these frames, and then something that isn't a frame.
-pub record IsPlacedBroken (ps : List Placed) (bytes : List ℕ) (type : Option ℕ) (reason : Fault) : Type 0 where
+pub record IsPlacedBroken (strict : Bool) (ps : List Placed) (bytes : List ℕ) (type : Option ℕ) (reason : Fault) : Type 0 where
   pub front : List ℕ
   pub back : List ℕ
   pub parts : bytes ≡ front ++ back
-  pub frames : ArePlaced 0 ps front
+  pub frames : ArePlaced strict 0 ps front
   pub closed : AreClosed (map found_in ps)
-  pub no_frame : IsNoFrame false (last_type None (map found_in ps)) back type reason
+  pub no_frame : IsNoFrame strict (last_type None (map found_in ps)) back type reason

@@ -1,11 +1,12 @@
 -- How far an iterator has come over its payload, and what it still gives.
-use Rattle.std.specs.Prelude.{◌≡◌, ◌↔◌, ℕ, ◌-◌, ◌<◌, ◌≤◌, List, [], ◌∷◌, length, drop, slice_range, Option, Some, None, Result, Ok, Err, true, false, if◌then◌else◌}
+use Rattle.std.specs.Prelude.{◌≡◌, ◌↔◌, ℕ, ◌-◌, ◌<◌, ◌≤◌, List, [], ◌∷◌, ◌++◌, length, map, drop, slice_range, Option, Some, None, Result, Ok, Err, Bool, true, false, if◌then◌else◌}
 use Rattle.quic_frames.specs.declared.frame.Frame.{Frame}
 use Rattle.quic_errors.specs.declared.invalid_frame.InvalidFrame.{InvalidFrame}
 use Rattle.quic_frame_parts.specs.Field.{Value, Number, Bytes, Ranges}
 use Rattle.quic_frame_parts.specs.Table.{is_open}
-use Rattle.quic_frame_parts.specs.Payload.{Found, IsFrame}
-use Rattle.quic_frame_parts.specs.Reading.{Item, Whole, Broken, Invalid, items_of}
+use Rattle.quic_frame_parts.specs.declared.frame.fault.Fault.{Fault}
+use Rattle.quic_frame_parts.specs.Payload.{Found, IsFrame, AreFrames, IsBroken}
+use Rattle.quic_frame_parts.specs.Reading.{Item, Whole, Broken, Invalid, invalid, items_of}
 use Rattle.quic_frames.specs.Meaning.{meaning_of}
 use Rattle.quic_frames.specs.InRange.{IsToldApart}
 use Rattle.quic_frames.specs.Way.{Way}
@@ -15,11 +16,11 @@ invalid_of i = record { type = i.ty; reason = i.reason.now }
 
 -- the items that are left
 abbrev pub left : Way → List Item
-left way = if way.is_broken then [] else items_of false way.offset way.last (drop way.offset way.payload)
+left way = if way.is_broken then [] else items_of way.strict way.offset way.last (drop way.offset way.payload)
 
 -- at the front of a payload
-abbrev pub first_of : List ℕ → Way
-first_of payload = record { payload = payload; offset = 0; last = None; is_broken = false }
+abbrev pub first_of : Bool → List ℕ → Way
+first_of strict payload = record { strict = strict; payload = payload; offset = 0; last = None; is_broken = false }
 
 -- an item without its place
 abbrev pub unplaced : Item → Result Found Invalid
@@ -28,6 +29,16 @@ unplaced (Broken i) = Err i
 
 abbrev pub given : Found → Result Found Invalid
 given found = Ok found
+
+-- It still gives just the frames that the payload is,
+abbrev pub GivesFrames : Bool → List ℕ → Way → Type 0
+GivesFrames strict payload way = (found : List Found) → AreFrames strict found payload → map unplaced (left way) ≡ map given found
+
+-- or those before what is none, and then what is told of that.
+abbrev pub GivesBroken : Bool → List ℕ → Way → Type 0
+GivesBroken strict payload way =
+    (found : List Found) (type : Option ℕ) (reason : Fault) → IsBroken strict None found payload type reason
+    → map unplaced (left way) ≡ map given found ++ Err (invalid type reason) ∷ []
 
 abbrev pub bytes_of_value : Value → Option (List ℕ)
 bytes_of_value (Number n) = None
@@ -39,10 +50,10 @@ last_bytes before [] = before
 last_bytes before (value ∷ values) = last_bytes (bytes_of_value value) values
 
 -- The frame stands in the payload from start to stop, and where its last value is bytes, they end there too.
-pub record Stands (payload : List ℕ) (start stop : ℕ) (found : Found) : Type 0 where
+pub record Stands (strict : Bool) (payload : List ℕ) (start stop : ℕ) (found : Found) : Type 0 where
   pub some : start < stop
   pub within : stop ≤ length payload
-  pub spelled : IsFrame false found (slice_range payload start stop)
+  pub spelled : IsFrame strict found (slice_range payload start stop)
   pub borrowed : (bytes : List ℕ) → last_bytes None found.frame.values ≡ Some bytes → slice_range payload (stop - length bytes) stop ≡ bytes
 
 -- A frame was found, from the place before to the place after.
@@ -52,7 +63,7 @@ pub record Finds (old : Way) (frame : Frame) (new : Way) : Type 0 where
   pub told_apart : IsToldApart frame
   pub comes : new ≡ record old { offset = new.offset; last = Some found.type }
   pub first : left old ≡ Whole old.offset new.offset found ∷ left new
-  pub stands : Stands old.payload old.offset new.offset found
+  pub stands : Stands old.strict old.payload old.offset new.offset found
   pub ends : is_open found.type ≡ true → new.offset ≡ length old.payload
   pub is_done : (left new ≡ []) ↔ (new.offset ≡ length old.payload)
 

@@ -1,5 +1,5 @@
 //! Laws of payloads, which no single call carries. The functions do nothing.
-ghost use Rattle.std.specs.Prelude.{◌≡◌, ◌≢◌, ◌<◌, ◌^◌, ◌++◌, ℕ, List, [], ◌∷◌, None, Option, Bool, true, false, map};
+ghost use Rattle.std.specs.Prelude.{◌≡◌, ◌≢◌, ◌<◌, ◌^◌, ◌++◌, ℕ, List, [], ◌∷◌, None, Option, Bool, true, false, map, length};
 ghost use Rattle.std.specs.declared.ops.Range.{Range};
 ghost use Rattle.quic_base.specs.Number.{AreBytes};
 ghost use Rattle.quic_ranges.specs.Runs.{IsMaximalRuns, IsGreatest, member};
@@ -10,8 +10,9 @@ ghost use Rattle.quic_frame_parts.specs.Sets.{AreCounts};
 ghost use Rattle.quic_frames.specs.InRange.{IsTyped, AreTyped, IsToldApart, CanStand, CanFollow};
 ghost use Rattle.quic_frames.specs.Least.{AreOrExceed, shortest_frames, frame_in, as_written, all_written};
 ghost use Rattle.quic_frames.specs.Meaning.{meaning_of};
-ghost use Rattle.quic_frame_parts.specs.Payload.{Meaning, Found, IsFrame, AreFrames, IsBroken, IsEither};
-ghost use Rattle.quic_frame_parts.specs.Reading.{Broken, invalid, items_of};
+ghost use Rattle.quic_frame_parts.specs.Payload.{Meaning, Found, IsFrame, AreFrames, AreClosed, IsBroken, IsEither, last_type};
+ghost use Rattle.quic_frame_parts.specs.Reading.{Broken, invalid, items_of, reason_text};
+ghost use Rattle.quic_errors.specs.Codes.{long_type_reason};
 ghost use Rattle.quic_frames.specs.Placed.{Placed, ArePlaced, IsPlacedBroken, whole};
 ghost use Rattle.quic_frame_parts.specs.Sets.{ranges_in, greatest_in, is_in, ack_of};
 ghost use Rattle.quic_frame_parts.specs.Shortest.{shortest_frame};
@@ -21,27 +22,53 @@ ghost use Rattle.quic_frames.specs.declared.frame.Frame.TheVariants as frames;
 ghost use Rattle.quic_frame_parts.specs.declared.frame.ack.Ack.{Ack};
 ghost use Rattle.quic_frame_parts.specs.declared.frame.ack.EcnCounts.{EcnCounts};
 ghost use Rattle.quic_frame_parts.specs.declared.frame.fault.Fault.{Fault};
+ghost use Rattle.quic_frame_parts.specs.declared.frame.fault.Fault.TheVariants.{UnexpectedEnd, LongType};
 
 /// A payload has one reading: it is frames, or frames and then something that is none, and never both.
+/// That holds where types count in any spelling, and where they count in their shortest alone.
 pub fn one_reading()
-    ensures either { (bytes : List ℕ) → AreBytes bytes → IsEither false None bytes }
-    ensures one { (some others : List Found) (bytes : List ℕ)
-        → AreFrames false some bytes → AreFrames false others bytes → some ≡ others }
-    ensures never_both { (some others : List Found) (bytes : List ℕ) (type : Option ℕ) (reason : Fault)
-        → AreBytes bytes → AreFrames false some bytes → IsBroken false None others bytes type reason → ⊥ }
+    ensures either { (strict : Bool) (bytes : List ℕ) → AreBytes bytes → IsEither strict None bytes }
+    ensures one { (strict : Bool) (some others : List Found) (bytes : List ℕ)
+        → AreFrames strict some bytes → AreFrames strict others bytes → some ≡ others }
+    ensures never_both { (strict : Bool) (some others : List Found) (bytes : List ℕ) (type : Option ℕ) (reason : Fault)
+        → AreBytes bytes → AreFrames strict some bytes → IsBroken strict None others bytes type reason → ⊥ }
     // No frame that isn't open begins another one.
-    ensures begins_none { (one other : Found) (bytes longer rest : List ℕ) → is_open one.type ≡ false
-        → IsFrame false one bytes → IsFrame false other longer → longer ≡ bytes ++ rest → bytes ≡ longer }
+    ensures begins_none { (strict : Bool) (one other : Found) (bytes longer rest : List ℕ) → is_open one.type ≡ false
+        → IsFrame strict one bytes → IsFrame strict other longer → longer ≡ bytes ++ rest → bytes ≡ longer }
+    // What is read where only the shortest counts is read so where any does.
+    ensures relaxed { (strict : Bool) (found : List Found) (bytes : List ℕ)
+        → AreFrames strict found bytes → AreFrames false found bytes }
+{}
+
+/// Verdicts last. Whatever follows some bytes, each frame of theirs that isn't open stands at its place, and
+/// an error other than `unexpected end` stands with the same frames, type and reason.
+pub fn lasting()
+    ensures frames { (strict : Bool) (found : List Found) (bytes more : List ℕ) → AreBytes (bytes ++ more)
+        → AreFrames strict found bytes → AreClosed found → items_of strict 0 None (bytes ++ more)
+        ≡ items_of strict 0 None bytes ++ items_of strict (length bytes) (last_type None found) more }
+    ensures error { (strict : Bool) (found : List Found) (bytes more : List ℕ) (type : Option ℕ) (reason : Fault)
+        → AreBytes (bytes ++ more) → reason ≢ UnexpectedEnd
+        → IsBroken strict None found bytes type reason → IsBroken strict None found (bytes ++ more) type reason }
+    // So no front of a payload without an error is `malformed`, has an `invalid frame ID`, or a long type.
+    ensures front { (strict : Bool) (found others : List Found) (bytes more : List ℕ) (type : Option ℕ) (reason : Fault)
+        → AreBytes (bytes ++ more) → AreFrames strict found (bytes ++ more)
+        → IsBroken strict None others bytes type reason → reason ≡ UnexpectedEnd }
+{}
+
+/// What is told of a type in another spelling than its shortest is told of nothing else.
+pub fn reasons()
+    ensures long { reason_text LongType ≡ long_type_reason }
+    ensures others { (reason : Fault) → reason ≢ LongType → reason_text reason ≢ long_type_reason }
 {}
 
 /// Where the bytes are these frames, or these and then something that is none, just these are the items that
 /// the iterator gives, with these places.
 pub fn items_in_place()
-    ensures frames { (frames : List Placed) (bytes : List ℕ) → ArePlaced 0 frames bytes
-        → items_of false 0 None bytes ≡ map whole frames }
-    ensures broken { (frames : List Placed) (bytes : List ℕ) (type : Option ℕ) (reason : Fault)
-        → AreBytes bytes → IsPlacedBroken frames bytes type reason
-        → items_of false 0 None bytes ≡ map whole frames ++ Broken (invalid type reason) ∷ [] }
+    ensures frames { (strict : Bool) (frames : List Placed) (bytes : List ℕ) → ArePlaced strict 0 frames bytes
+        → items_of strict 0 None bytes ≡ map whole frames }
+    ensures broken { (strict : Bool) (frames : List Placed) (bytes : List ℕ) (type : Option ℕ) (reason : Fault)
+        → AreBytes bytes → IsPlacedBroken strict frames bytes type reason
+        → items_of strict 0 None bytes ≡ map whole frames ++ Broken (invalid type reason) ∷ [] }
 {}
 
 /// The blocks of an ACK stand for one list of ranges, and no two of these touch.

@@ -10,7 +10,7 @@ use std::env;
 use std::io::ErrorKind;
 use std::process::ExitCode;
 
-const USAGE: &str = "usage: quic-show frames|canon|datagram LEN|params client|server";
+const USAGE: &str = "usage: quic-show frames|strict|canon|datagram LEN|params client|server";
 
 /// The status of wrong arguments.
 const WRONG_ARGUMENTS: u8 = 2;

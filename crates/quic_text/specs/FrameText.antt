@@ -1,5 +1,5 @@
 -- What the program prints of a payload's frames.
-use Rattle.std.specs.Prelude.{ℕ, false, List, [], ◌∷◌, ◌++◌, None, codes, map}
+use Rattle.std.specs.Prelude.{ℕ, Bool, List, [], ◌∷◌, ◌++◌, None, codes, map}
 use Rattle.std.specs.Fmt.{decimal}
 use Rattle.quic_frames.specs.Names.{name_of, in_type}
 use Rattle.quic_frames.specs.Meaning.{type_of}
@@ -15,7 +15,11 @@ abbrev pub item_line : Item → Printed
 item_line (Whole start stop found) = frame_line start stop (type_of found.frame)
 item_line (Broken i) = Error (i.reason ++ in_type i.type)
 
--- what is printed for a payload by `frames`
-abbrev pub frame_lines : List ℕ → List Printed
-frame_lines [] = Error (codes "packet payload is empty") ∷ []
-frame_lines (byte ∷ bytes) = map item_line (items_of false 0 None (byte ∷ bytes))
+-- what is printed for no payload at all
+abbrev pub empty_line : Printed
+empty_line = Error (codes "packet payload is empty")
+
+-- what is printed for a payload by `frames`, and by `strict`, where a type counts in its shortest spelling alone
+abbrev pub frame_lines : Bool → List ℕ → List Printed
+frame_lines strict [] = empty_line ∷ []
+frame_lines strict (byte ∷ bytes) = map item_line (items_of strict 0 None (byte ∷ bytes))

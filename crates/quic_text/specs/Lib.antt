@@ -1,6 +1,7 @@
 pub mod Lines
 pub mod Printed
 pub mod FrameText
+pub mod CanonText
 pub mod DatagramText
 pub mod IdLens
 pub mod Modes

@@ -1,20 +1,23 @@
 -- What the program prints, as a function of its mode and its input.
-use Rattle.std.specs.Prelude.{Bool, ℕ, List, [], ◌∷◌, Result, Ok, Err, codes}
+use Rattle.std.specs.Prelude.{Bool, true, false, ℕ, List, [], ◌∷◌, Result, Ok, Err, codes}
 use Rattle.std.specs.List.{flat_map, list_all}
 use Rattle.hex.specs.Hex.{decode_of}
 use Rattle.hex.specs.declared.error.FromHexError.{FromHexError}
 use Rattle.quic_text.specs.declared.mode.Mode.{Mode}
-use Rattle.quic_text.specs.declared.mode.Mode.TheVariants.{Frames, Datagram, Params}
+use Rattle.quic_text.specs.declared.mode.Mode.TheVariants.{Frames, Strict, Canon, Datagram, Params}
 use Rattle.quic_text.specs.Lines.{lines_of, without_return}
 use Rattle.quic_text.specs.Printed.{Printed, Error, shown, is_plain}
 use Rattle.quic_text.specs.FrameText.{frame_lines}
+use Rattle.quic_text.specs.CanonText.{canon_lines}
 use Rattle.quic_text.specs.DatagramText.{datagram_lines}
 use Rattle.quic_text.specs.IdLens.{count}
 use Rattle.quic_text.specs.ParameterText.{parameter_lines}
 
 -- what is printed for the bytes that a line spells
 abbrev pub payload_lines : Mode → List ℕ → List Printed
-payload_lines Frames payload = frame_lines payload
+payload_lines Frames payload = frame_lines false payload
+payload_lines Strict payload = frame_lines true payload
+payload_lines Canon payload = canon_lines payload
 payload_lines (Datagram len) payload = datagram_lines (count len) payload
 payload_lines (Params side) payload = parameter_lines side payload
 

@@ -1,5 +1,7 @@
 //! Laws of what is printed, which no single call carries. The functions do nothing.
-ghost use Rattle.std.specs.Prelude.{◌≡◌, ◌≢◌, ◌++◌, [], ◌∷◌, List, ℕ, Option, Result, map};
+ghost use Rattle.std.specs.Prelude.{◌≡◌, ◌≢◌, ◌++◌, [], ◌∷◌, List, ℕ, Bool, true, false, None, Option, Result, map};
+ghost use Rattle.std.specs.List.{list_all};
+ghost use Rattle.hex.specs.Hex.{encode_lower};
 ghost use Rattle.quic_base.specs.Number.{AreBytes};
 ghost use Rattle.quic_heads.specs.Datagram.{Placed, ArePackets};
 ghost use Rattle.quic_heads.specs.Refusal.{Refusal};
@@ -9,7 +11,10 @@ ghost use Rattle.quic_text.specs.Text.{payload_lines};
 ghost use Rattle.quic_frame_parts.specs.declared.frame.fault.Fault.{Fault};
 ghost use Rattle.quic_frame_parts.specs.Reading.{Broken, invalid};
 ghost use Rattle.quic_frames.specs.Placed as frames;
-ghost use Rattle.quic_text.specs.FrameText.{item_line};
+ghost use Rattle.quic_frame_parts.specs.Payload.{Found, IsBroken};
+ghost use Rattle.quic_canon.specs.Least.{IsLeast};
+ghost use Rattle.quic_text.specs.FrameText.{item_line, empty_line};
+ghost use Rattle.quic_text.specs.Printed.{Plain, is_plain};
 ghost use Rattle.quic_base.specs.declared.ids.Side.{Side};
 ghost use Rattle.quic_params.specs.Meaning.{IsAnswer};
 ghost use Rattle.quic_params.specs.declared.error.Error.{Error};
@@ -18,6 +23,7 @@ ghost use Rattle.quic_text.specs.ParameterText.{answer_lines, parameter_lines};
 
 use crate::id_len::IdLen;
 use crate::mode::Mode;
+use quic_canon::laws as canonical;
 use quic_params::laws;
 
 /// Where a datagram is these packets, or these and then a refusal, `datagram` prints just their lines, with
@@ -33,12 +39,37 @@ pub fn packets_printed()
 /// Where a payload is these frames, or these and then something that is none, `frames` prints just their lines,
 /// with these places.
 pub fn frames_printed()
-    ensures frames { (some : List frames.Placed) (bytes : List ℕ) → bytes ≢ [] → frames.ArePlaced 0 some bytes
+    ensures frames { (some : List frames.Placed) (bytes : List ℕ) → bytes ≢ [] → frames.ArePlaced false 0 some bytes
         → payload_lines Mode.Frames bytes ≡ map (λ p. item_line (frames.whole p)) some }
     ensures broken { (some : List frames.Placed) (bytes : List ℕ) (type : Option ℕ) (reason : Fault) → bytes ≢ []
-        → AreBytes bytes → frames.IsPlacedBroken some bytes type reason
+        → AreBytes bytes → frames.IsPlacedBroken false some bytes type reason
         → payload_lines Mode.Frames bytes ≡ map (λ p. item_line (frames.whole p)) some ++ item_line (Broken (invalid type reason)) ∷ [] }
 {}
+
+/// `strict` prints the same where a type counts in its shortest spelling alone.
+pub fn strict_printed()
+    ensures frames { (some : List frames.Placed) (bytes : List ℕ) → bytes ≢ [] → frames.ArePlaced true 0 some bytes
+        → payload_lines Mode.Strict bytes ≡ map (λ p. item_line (frames.whole p)) some }
+    ensures broken { (some : List frames.Placed) (bytes : List ℕ) (type : Option ℕ) (reason : Fault) → bytes ≢ []
+        → AreBytes bytes → frames.IsPlacedBroken true some bytes type reason
+        → payload_lines Mode.Strict bytes ≡ map (λ p. item_line (frames.whole p)) some ++ item_line (Broken (invalid type reason)) ∷ [] }
+{}
+
+/// `canon` prints the digits of the least payload that means what a payload does, and the line of what is none
+/// where there is such a thing.
+pub fn canonical_printed()
+    ensures least { (payload least : List ℕ) → IsLeast least payload
+        → payload_lines Mode.Canon payload ≡ Plain (encode_lower least) ∷ [] }
+    ensures broken { (found : List Found) (payload : List ℕ) (type : Option ℕ) (reason : Fault)
+        → AreBytes payload → IsBroken false None found payload type reason
+        → payload_lines Mode.Canon payload ≡ item_line (Broken (invalid type reason)) ∷ [] }
+    ensures empty { payload_lines Mode.Canon [] ≡ empty_line ∷ [] }
+    // What it prints is read by `strict` without an error.
+    ensures strict { (payload least : List ℕ) → IsLeast least payload
+        → list_all is_plain (payload_lines Mode.Strict least) ≡ true }
+{
+    canonical::one_least();
+}
 
 /// What `params` prints of a list is what is printed for the answer that the grammar gives to it.
 pub fn parameter_lines()

@@ -11,6 +11,10 @@ use quic_base::ids::Side;
 pub enum Mode {
     /// The frames of a payload.
     Frames,
+    /// The same, where a type counts in its shortest spelling alone.
+    Strict,
+    /// The shortest payload of the same frames.
+    Canon,
     /// The packets of a datagram, whose short heads have ids of this length.
     Datagram(IdLen),
     /// The transport parameters that an endpoint of this side gets.
@@ -20,12 +24,16 @@ pub enum Mode {
 /// The mode that the words after the program's name ask for. `None` is wrong arguments.
 pub fn mode_of(words: &[&str]) -> Option<Mode>
     ensures frames { (result ≡ Some Mode.Frames) ↔ (map (λ word. word.now) words.now ≡ codes "frames" ∷ []) }
+    ensures strict { (result ≡ Some Mode.Strict) ↔ (map (λ word. word.now) words.now ≡ codes "strict" ∷ []) }
+    ensures canon { (result ≡ Some Mode.Canon) ↔ (map (λ word. word.now) words.now ≡ codes "canon" ∷ []) }
     ensures datagram { (len : ℕ) → (asked_len result ≡ Some len) ↔ ((word : List ℕ) × (map (λ word. word.now) words.now ≡ codes "datagram" ∷ word ∷ []) × IsIdLen len word) }
     ensures client { (result ≡ Some (Mode.Params Side.Client)) ↔ (map (λ word. word.now) words.now ≡ codes "params" ∷ codes "client" ∷ []) }
     ensures server { (result ≡ Some (Mode.Params Side.Server)) ↔ (map (λ word. word.now) words.now ≡ codes "params" ∷ codes "server" ∷ []) }
 {
     match words {
         ["frames"] => Some(Mode::Frames),
+        ["strict"] => Some(Mode::Strict),
+        ["canon"] => Some(Mode::Canon),
         ["datagram", word] => datagram_mode(word),
         ["params", "client"] => Some(Mode::Params(Side::Client)),
         ["params", "server"] => Some(Mode::Params(Side::Server)),
@@ -35,7 +43,9 @@ pub fn mode_of(words: &[&str]) -> Option<Mode>
 
 /// The mode `datagram` with the length that the word says.
 fn datagram_mode(word: &str) -> Option<Mode>
-    ensures other { result ≢ Some Mode.Frames }
+    ensures frames { result ≢ Some Mode.Frames }
+    ensures strict { result ≢ Some Mode.Strict }
+    ensures canon { result ≢ Some Mode.Canon }
     ensures others { (side : Side) → result ≢ Some (Mode.Params side) }
     ensures len { (len : ℕ) → (asked_len result ≡ Some len) ↔ IsIdLen len word.now }
 {

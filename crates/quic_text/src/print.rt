@@ -5,12 +5,14 @@ ghost use Rattle.std.specs.List.{flat_map, list_all};
 ghost use Rattle.quic_text.specs.Printed.{shown, is_plain};
 ghost use Rattle.quic_text.specs.Text.{line_lines, payload_lines};
 
+mod canon;
 mod datagram;
 mod frames;
 mod params;
 
 use super::lines::trim_return;
 use super::mode::Mode;
+use canon::print_canon;
 use datagram::print_datagram;
 use frames::print_frames;
 use hex::FromHexError;
@@ -47,7 +49,9 @@ fn print_payload(
     ensures clean { IfOk result (λ clean. clean ≡ list_all is_plain (payload_lines mode payload.now)) }
 {
     match mode {
-        Mode::Frames => print_frames(payload, text),
+        Mode::Frames => print_frames(false, payload, text),
+        Mode::Strict => print_frames(true, payload, text),
+        Mode::Canon => print_canon(alloc, payload, text),
         Mode::Datagram(id_len) => print_datagram(alloc, id_len, payload, text),
         Mode::Params(side) => print_params(alloc, side, payload, text),
     }

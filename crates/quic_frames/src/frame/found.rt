@@ -1,13 +1,14 @@
 //! The frame at the front of some bytes.
-ghost use Rattle.std.specs.Prelude.{◌≡◌, false};
+ghost use Rattle.std.specs.Prelude.{◌≡◌};
 ghost use Rattle.quic_base.specs.Number.{AreBytes};
-ghost use Rattle.quic_frame_parts.specs.Reading.{found_at};
+ghost use Rattle.quic_frame_parts.specs.Reading.{found_at, is_long_type};
 ghost use Rattle.quic_frames.specs.Found.{GivesFound};
 
 use super::reading::read_frame;
 use super::{Frame, FrameType, InvalidFrame};
 use quic_base::coding::Codec;
 use quic_frame_parts::frame::fault::Fault;
+use quic_frame_parts::frame::write;
 
 /// The frame at the front of some bytes.
 #[derive(Drop)]
@@ -20,9 +21,14 @@ pub struct FirstFrame<'a> {
     pub rest: &'a [u8],
 }
 
-/// The frame at the front of bytes, where the last type before them is given.
-pub fn read_found(before: Option<FrameType>, bytes: &[u8]) -> Result<FirstFrame<'_>, InvalidFrame>
-    ensures gives { GivesFound result (found_at false before bytes.now) }
+/// The frame at the front of bytes, where it is told whether a type counts in its shortest spelling alone,
+/// and the last type before them.
+pub fn read_found(
+    strict: bool,
+    before: Option<FrameType>,
+    bytes: &[u8],
+) -> Result<FirstFrame<'_>, InvalidFrame>
+    ensures gives { GivesFound result (found_at strict before bytes.now) }
     ensures bytes { AreBytes bytes.now }
 {
     let mut rest = bytes;
@@ -32,6 +38,13 @@ pub fn read_found(before: Option<FrameType>, bytes: &[u8]) -> Result<FirstFrame<
             reason: Fault::UnexpectedEnd.reason(),
         });
     };
+    if is_long(strict, ty, bytes.len() - rest.len()) {
+        let long = Some(ty);
+        return Err(InvalidFrame {
+            ty: long,
+            reason: Fault::LongType.reason(),
+        });
+    }
     match read_frame(ty.into_inner(), rest) {
         Ok((frame, rest)) => Ok(FirstFrame { ty, frame, rest }),
         Err(fault) => Err(InvalidFrame {
@@ -39,4 +52,11 @@ pub fn read_found(before: Option<FrameType>, bytes: &[u8]) -> Result<FirstFrame<
             reason: fault.reason(),
         }),
     }
+}
+
+// A type of so many bytes is in another spelling than the shortest, where only that counts.
+fn is_long(strict: bool, ty: FrameType, width: usize) -> bool
+    ensures { result ≡ is_long_type strict ty width }
+{
+    strict && width != write::size_of(ty.into_inner())
 }

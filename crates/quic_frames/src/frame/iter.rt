@@ -1,20 +1,19 @@
 //! The frames of a payload, one after the other.
-ghost use Rattle.std.specs.Prelude.{◌≡◌, ◌≤◌, ◌↔◌, ℕ, List, [], ◌∷◌, ◌++◌, Err, None, Option, IfErr, IfOk, IsErr, codes, false, length, map};
+ghost use Rattle.std.specs.Prelude.{◌≡◌, ◌≤◌, ◌↔◌, [], None, IfErr, IfOk, IsErr, codes, true, false, length};
 ghost use Rattle.quic_errors.specs.Codes.{IsError, protocol_violation};
-ghost use Rattle.quic_frame_parts.specs.Payload.{Found, AreFrames, IsBroken, IsEither};
-ghost use Rattle.quic_frame_parts.specs.Reading.{invalid, items_of};
-ghost use Rattle.quic_frame_parts.specs.declared.frame.fault.Fault.{Fault};
-ghost use Rattle.quic_frames.specs.Walk.{left, first_of, unplaced, given};
+ghost use Rattle.quic_frame_parts.specs.Payload.{IsEither};
+ghost use Rattle.quic_frames.specs.Walk.{left, first_of, GivesFrames, GivesBroken};
 
 use super::found::read_found;
 use super::{Frame, FrameType, InvalidFrame};
 use crate::transport_error::Error;
 use std::marker::Model;
 
-/// Reads a payload frame by frame. Contracts see the payload, the end of the last whole frame, the
-/// last type that was read, and whether something was no frame.
+/// Reads a payload frame by frame. Contracts see whether a type counts in its shortest spelling alone, the
+/// payload, the end of the last whole frame, the last type that was read, and whether something was no frame.
 #[derive(Drop)]
 pub struct Iter<'a> {
+    strict: bool,
     payload: &'a [u8],
     offset: usize,
     last: Option<FrameType>,
@@ -27,7 +26,7 @@ impl<'a> Model for Iter<'a> {
 
     ghost Value = { Way };
 
-    ghost view = { λ it. record { payload = it.payload.now; offset = it.offset; last = it.last; is_broken = it.is_broken } };
+    ghost view = { λ it. record { strict = it.strict; payload = it.payload.now; offset = it.offset; last = it.last; is_broken = it.is_broken } };
 
     ghost invariant = { λ it. it.offset ≤ length it.payload.now };
 }
@@ -37,27 +36,52 @@ impl<'a> Iter<'a> {
     pub fn new(payload: &'a [u8]) -> Result<Self, Error>
         ensures empty { IsErr result ↔ (payload.now ≡ []) }
         ensures refusal { IfErr result (λ e. IsError e protocol_violation (codes "packet payload is empty")) }
-        ensures first { IfOk result (λ it. it ≡ first_of payload.now) }
+        ensures first { IfOk result (λ it. it ≡ first_of false payload.now) }
 
         // Each payload is frames, or frames and then something that is none.
         ensures either { IsEither false None payload.now }
 
         // It gives just the frames that the payload is,
-        ensures frames { IfOk result (λ it. (found : List Found) → AreFrames false found payload.now
-            → map unplaced (left it) ≡ map given found) }
+        ensures frames { IfOk result (λ it. GivesFrames false payload.now it) }
 
         // or those before what is none, and then what is told of that.
-        ensures broken { IfOk result (λ it. (found : List Found) (type : Option ℕ) (reason : Fault)
-            → IsBroken false None found payload.now type reason
-            → map unplaced (left it) ≡ map given found ++ Err (invalid type reason) ∷ []) }
+        ensures broken { IfOk result (λ it. GivesBroken false payload.now it) }
 
         // At most as many items as bytes.
+        ensures few { IfOk result (λ it. length (left it) ≤ length payload.now) }
+    {
+        Iter::begin(payload, false)
+    }
+
+    /// The same, where a type in another spelling than its shortest is no frame (RFC 9000, section 12.4):
+    /// that is told as soon as the type is read. Other fields may have any width.
+    pub fn strict(payload: &'a [u8]) -> Result<Self, Error>
+        ensures empty { IsErr result ↔ (payload.now ≡ []) }
+        ensures refusal { IfErr result (λ e. IsError e protocol_violation (codes "packet payload is empty")) }
+        ensures first { IfOk result (λ it. it ≡ first_of true payload.now) }
+        ensures either { IsEither true None payload.now }
+        ensures frames { IfOk result (λ it. GivesFrames true payload.now it) }
+        ensures broken { IfOk result (λ it. GivesBroken true payload.now it) }
+        ensures few { IfOk result (λ it. length (left it) ≤ length payload.now) }
+    {
+        Iter::begin(payload, true)
+    }
+
+    // Both of them, by the flag.
+    fn begin(payload: &'a [u8], strict: bool) -> Result<Self, Error>
+        ensures empty { IsErr result ↔ (payload.now ≡ []) }
+        ensures refusal { IfErr result (λ e. IsError e protocol_violation (codes "packet payload is empty")) }
+        ensures first { IfOk result (λ it. it ≡ first_of strict payload.now) }
+        ensures either { IsEither strict None payload.now }
+        ensures frames { IfOk result (λ it. GivesFrames strict payload.now it) }
+        ensures broken { IfOk result (λ it. GivesBroken strict payload.now it) }
         ensures few { IfOk result (λ it. length (left it) ≤ length payload.now) }
     {
         if payload.is_empty() {
             return Err(Error::PROTOCOL_VIOLATION("packet payload is empty"));
         }
         Ok(Iter {
+            strict,
             payload,
             offset: 0,
             last: None,
@@ -91,7 +115,7 @@ impl<'a> Iterator for Iter<'a> {
         if self.is_broken || rest.is_empty() {
             return None;
         }
-        match read_found(self.last, rest) {
+        match read_found(self.strict, self.last, rest) {
             Ok(first) => {
                 self.last = Some(first.ty);
                 self.offset = self.payload.len() - first.rest.len();

@@ -149,7 +149,7 @@ fn modes(rt: HostRuntime) -> Result<(), Fail> {
     checks.same(mode_of(&[]), None);
     checks.same(mode_of(&["frames", "frames"]), None);
     checks.same(mode_of(&["Frames"]), None);
-    checks.same(mode_of(&["canon"]), None);
+    checks.same(mode_of(&["canonical"]), None);
     checks.same(mode_of(&["datagram"]), None);
     checks.same(mode_of(&["params", "peer"]), None);
     checks.holds(mode_of(&["datagram", "8"]).is_some());

@@ -1,21 +1,28 @@
 //! What is printed of a payload's frames.
-ghost use Rattle.std.specs.Prelude.{◌≡◌, ◌++◌, IfOk, OnOk, false};
+ghost use Rattle.std.specs.Prelude.{◌≡◌, ◌++◌, ◌↔◌, [], IfErr, IfOk, IsErr, OnOk, codes, false};
 ghost use Rattle.std.specs.String.{string_bytes};
 ghost use Rattle.std.specs.List.{flat_map, list_all};
 ghost use Rattle.quic_frames.specs.Reading.{Broken};
-ghost use Rattle.quic_frames.specs.Walk.{invalid_of};
+ghost use Rattle.quic_errors.specs.Codes.{IsError, protocol_violation};
+ghost use Rattle.quic_frames.specs.Walk.{first_of, invalid_of};
 ghost use Rattle.quic_text.specs.Printed.{shown, is_plain};
 ghost use Rattle.quic_text.specs.FrameText.{frame_line, item_line, frame_lines};
 
 use quic_frames::frame::{FrameType, InvalidFrame, Iter};
+use quic_frames::transport_error::Error;
 use std::alloc::AllocError;
 
-/// A line for each frame, and one for what is none.
-pub(super) fn print_frames(payload: &[u8], text: &mut String) -> Result<bool, AllocError>
-    ensures bytes { OnOk result (string_bytes text.new ≡ string_bytes text.old ++ flat_map shown (frame_lines payload.now)) }
-    ensures clean { IfOk result (λ clean. clean ≡ list_all is_plain (frame_lines payload.now)) }
+/// A line for each frame, and one for what is none, where it is told whether a type counts in its shortest
+/// spelling alone.
+pub(super) fn print_frames(
+    strict: bool,
+    payload: &[u8],
+    text: &mut String,
+) -> Result<bool, AllocError>
+    ensures bytes { OnOk result (string_bytes text.new ≡ string_bytes text.old ++ flat_map shown (frame_lines strict payload.now)) }
+    ensures clean { IfOk result (λ clean. clean ≡ list_all is_plain (frame_lines strict payload.now)) }
 {
-    let mut frames = match Iter::new(payload) {
+    let mut frames = match frames_of(strict, payload) {
         Ok(frames) => frames,
         Err(error) => {
             let reason = error.reason.as_str();
@@ -36,6 +43,19 @@ pub(super) fn print_frames(payload: &[u8], text: &mut String) -> Result<bool, Al
     Ok(true)
 }
 
+/// The frames of a payload.
+fn frames_of(strict: bool, payload: &[u8]) -> Result<Iter<'_>, Error>
+    ensures empty { IsErr result ↔ (payload.now ≡ []) }
+    ensures refusal { IfErr result (λ e. IsError e protocol_violation (codes "packet payload is empty")) }
+    ensures first { IfOk result (λ it. it ≡ first_of strict payload.now) }
+{
+    if strict {
+        Iter::strict(payload)
+    } else {
+        Iter::new(payload)
+    }
+}
+
 /// The line of a frame.
 fn print_frame(start: usize, end: usize, ty: FrameType, text: &mut String) -> Result<(), AllocError>
     ensures { OnOk result (string_bytes text.new ≡ string_bytes text.old ++ shown (frame_line start end ty)) }
@@ -45,7 +65,7 @@ fn print_frame(start: usize, end: usize, ty: FrameType, text: &mut String) -> Re
 }
 
 /// The `error` line of something that is no frame.
-fn print_invalid(invalid: &InvalidFrame, text: &mut String) -> Result<bool, AllocError>
+pub(super) fn print_invalid(invalid: &InvalidFrame, text: &mut String) -> Result<bool, AllocError>
     ensures bytes { OnOk result (string_bytes text.new ≡ string_bytes text.old ++ shown (item_line (Broken (invalid_of invalid.now)))) }
     ensures clean { IfOk result (λ clean. clean ≡ false) }
 {

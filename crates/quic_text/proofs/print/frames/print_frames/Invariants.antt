@@ -9,8 +9,8 @@ use Rattle.quic_text.proofs.print.frames.print_frames.Given as goal
 -- what was printed so far, with what is left, is all
 abbrev pub invariant-loop-item : goal.invariant-loop-item
 invariant-loop-item l = record {
-  text : string_bytes l.text ++ flat_map shown (map item_line (left l.frames)) ≡ string_bytes l.fn.text ++ flat_map shown (frame_lines l.payload);
-  clean : list_all is_plain (map item_line (left l.frames)) ≡ list_all is_plain (frame_lines l.payload);
+  text : string_bytes l.text ++ flat_map shown (map item_line (left l.frames)) ≡ string_bytes l.fn.text ++ flat_map shown (frame_lines l.strict l.payload);
+  clean : list_all is_plain (map item_line (left l.frames)) ≡ list_all is_plain (frame_lines l.strict l.payload);
   start : l.start ≡ l.frames.offset;
 }
 

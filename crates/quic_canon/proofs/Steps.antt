@@ -1,0 +1,279 @@
+-- A step of a walk over a payload.
+use Rattle.std.proofs.Common.{◌≡◌, ◌≢◌, ℕ, ◌+◌, ◌-◌, ◌<◌, ◌≤◌, eqb, leb, Bool, true, false, List, [], ◌∷◌, ◌++◌, length, map, drop, Option, Some, None, Result, Ok, Err, refl, sym, ap, subst, ◌∙◌, inl, inr, arith}
+use Rattle.std.specs.Prelude.{◌↔◌, slice_range}
+use Rattle.std.proofs.lemmas.Bool.Decides.{nat_tests}
+use Rattle.std.proofs.lemmas.List.{append-nil, length-drop}
+use Rattle.quic_base.proofs.PublicLaws.{same_back}
+use Rattle.quic_frames.specs.declared.frame.Frame.{Frame}
+use Rattle.quic_frame_parts.specs.declared.frame.fault.Fault.{Fault}
+use Rattle.quic_frame_parts.specs.Table.{is_open}
+use Rattle.quic_frame_parts.specs.Payload.{Meaning, Found, IsFrame, AreFrames, IsBroken, IsEither}
+use Rattle.quic_frame_parts.specs.Reading.{Invalid, invalid, Item, Broken}
+use Rattle.quic_frames.specs.Meaning.{meaning_of}
+use Rattle.quic_frames.specs.InRange.{IsToldApart, CanStand}
+use Rattle.quic_frames.specs.Found.{found_as}
+use Rattle.quic_frame_parts.specs.Shortest.{shortest_frame}
+use Rattle.quic_frames.specs.Least.{AreOrExceed, is_end, frame_in, shortest_frames}
+use Rattle.quic_frames.specs.Way.{Way}
+use Rattle.quic_frames.specs.Walk.{GivesFrames, GivesBroken, invalid_of, left, first_of, unplaced, given, Stands, Finds, Advances}
+use Rattle.quic_errors.specs.declared.invalid_frame.InvalidFrame.{InvalidFrame}
+use Rattle.quic_canon.proofs.Cuts.{cut_there, length-slice_range, split_front, cases_bool}
+
+-- what is used of the laws of payloads, beside those
+abbrev pub BeginsNone : Type 0
+BeginsNone = (one other : Found) (bytes longer rest : List ℕ) → is_open one.type ≡ false → IsFrame false one bytes → IsFrame false other longer → longer ≡ bytes ++ rest → bytes ≡ longer
+
+abbrev pub OneShortest : Type 0
+OneShortest = (last : Bool) (found : Found) (bytes : List ℕ) → IsFrame false found bytes → (is_open found.type ≡ true → last ≡ true) → AreOrExceed bytes (shortest_frame last found.frame)
+
+abbrev pub Exact : Type 0
+Exact = (last : Bool) (t : ℕ) (frame : Frame) (bytes : List ℕ) → IsToldApart frame → IsFrame false (found_as t frame) bytes → (is_open t ≡ true → last ≡ true) → CanStand last frame
+
+-- ---- a frame that was found can be written
+
+meaning_is : (frame : Frame) (found : Found) → found.frame ≡ meaning_of frame → found ≡ found_as found.type frame
+meaning_is frame found e = ap (λ (m : Meaning). let f : Found = record { type = found.type; frame = m } in f) e
+
+at_end : (m n : ℕ) → m ≡ n → eqb m n ≡ true
+at_end m n e = grind (arith, nat_tests)
+
+pub can_stand : (old new : Way) (frame : Frame) (size : ℕ) → Exact → old.strict ≡ false → size ≡ length old.payload → Finds old frame new → CanStand (eqb new.offset size) frame
+can_stand old new frame size exact any len f =
+    let s = subst (λ (x : Found). IsFrame false x (slice_range old.payload old.offset new.offset)) (meaning_is frame f.found f.says) (subst (λ (b : Bool). IsFrame b f.found (slice_range old.payload old.offset new.offset)) any f.stands.spelled) in
+    exact (eqb new.offset size) f.found.type frame (slice_range old.payload old.offset new.offset) f.told_apart s (λ opens. at_end new.offset size (f.ends opens ∙ sym len))
+
+-- ---- what is left of a payload
+
+abbrev pub Told : Type 0
+Told = Result Found Invalid
+
+pub record Walks (payload : List ℕ) (start : ℕ) (way : Way) : Type 0 where
+  pub strict_is : way.strict ≡ false
+  pub payload_is : way.payload ≡ payload
+  pub start_is : way.offset ≡ start
+  pub within : start ≤ length payload
+  pub broken : (found : List Found) (type : Option ℕ) (reason : Fault) → IsBroken false None found payload type reason
+      → (rest : List Found) × (map unplaced (left way) ≡ map given rest ++ Err (invalid type reason) ∷ [])
+  pub done : left way ≡ [] → start ≡ length payload
+
+-- One frame has one spelling at the front of bytes.
+front_is : (f : Found) (a b c d : List ℕ) → BeginsNone → a ++ b ≡ c ++ d → IsFrame false f a → IsFrame false f c → (is_open f.type ≡ true → b ≡ []) → (is_open f.type ≡ true → d ≡ []) → a ≡ c
+front_is f a b c d begins e one other opens opens' =
+    elim (cases_bool (is_open f.type)) [
+      | inl open_type ↦
+          sym (append-nil a) ∙ ap (λ (l : List ℕ). a ++ l) (sym (opens open_type)) ∙ e ∙ ap (λ (l : List ℕ). c ++ l) (opens' open_type) ∙ append-nil c
+      | inr closed ↦
+          elim (cases_bool (leb (length a) (length c))) [
+            | inl le ↦
+                let less : length a ≤ length c = grind (arith, nat_tests) in
+                let r = split_front a b c d e less in begins f f a c r.0 closed one other r.1
+            | inr gt ↦
+                let less : length c ≤ length a = grind (arith, nat_tests) in
+                let r = split_front c d a b (sym e) less in sym (begins f f c a r.0 closed other one r.1)
+          ]
+    ]
+
+-- ---- one step
+
+pub record Here (payload : List ℕ) (start stop : ℕ) (found : Found) (old new : Way) : Type 0 where
+  pub stands : Stands false payload start stop found
+  pub opens : is_open found.type ≡ true → stop ≡ length payload
+  pub first : map unplaced (left old) ≡ Ok found ∷ map unplaced (left new)
+  pub done : (left new ≡ []) ↔ (stop ≡ length payload)
+
+pub here : (payload : List ℕ) (start : ℕ) (old new : Way) (frame : Frame) → Walks payload start old → (f : Finds old frame new) → Here payload start new.offset f.found old new
+here payload start old new frame w f = record {
+  stands = subst (λ (l : List ℕ). Stands false l start new.offset f.found) w.payload_is (subst (λ (n : ℕ). Stands false old.payload n new.offset f.found) w.start_is (subst (λ (b : Bool). Stands b old.payload old.offset new.offset f.found) w.strict_is f.stands));
+  opens = λ e. f.ends e ∙ ap length w.payload_is;
+  first = ap (map unplaced) f.first;
+  done = ((λ e. f.is_done.0 e ∙ ap length w.payload_is), (λ e. f.is_done.1 (e ∙ sym (ap length w.payload_is))));
+}
+
+pub given_on : (found : Found) (items : List Told) (rest : List Found) → Ok found ∷ items ≡ map given rest → (more : List Found) × (rest ≡ found ∷ more) × (items ≡ map given more)
+given_on found items [] e = absurd cc
+given_on found items (r ∷ rest) e =
+    let head : found ≡ r = cc in
+    let tails : items ≡ map given rest = cc in
+    (rest, ap (λ (f : Found). f ∷ rest) (sym head), tails)
+
+broken_on : (found : Found) (i : Invalid) (items : List Told) (rest : List Found) → Ok found ∷ items ≡ map given rest ++ Err i ∷ [] → (more : List Found) × (items ≡ map given more ++ Err i ∷ [])
+broken_on found i items [] e = absurd cc
+broken_on found i items (r ∷ rest) e = let tails : items ≡ map given rest ++ Err i ∷ [] = cc in (rest, tails)
+
+pub walk_on : (payload : List ℕ) (start : ℕ) (old new : Way) (frame : Frame) → Walks payload start old → Finds old frame new → Walks payload new.offset new
+walk_on payload start old new frame w f =
+    let h = here payload start old new frame w f in
+    record {
+      strict_is = ap (λ (way : Way). way.strict) f.comes ∙ w.strict_is;
+      payload_is = ap (λ (way : Way). way.payload) f.comes ∙ w.payload_is;
+      start_is = refl;
+      within = h.stands.within;
+      broken = λ found type reason b.
+          let r = w.broken found type reason b in
+          broken_on f.found (invalid type reason) (map unplaced (left new)) r.0 (sym h.first ∙ r.1);
+      done = h.done.0;
+    }
+
+nothing_left : (items : List Item) → map unplaced items ≡ [] → items ≡ []
+nothing_left [] e = refl
+nothing_left (i ∷ items) e = absurd cc
+
+end_if : (more : List Found) (new : Way) (b : Bool) → map unplaced (left new) ≡ map given more → (left new ≡ [] → b ≡ true) → (b ≡ true → left new ≡ []) → is_end (map frame_in more) ≡ b
+end_if [] new b e to from = sym (to (nothing_left (left new) e))
+end_if (m ∷ more) new true e to from = absurd (let none : map unplaced (left new) ≡ [] = ap (map unplaced) (from refl) in cc (none, e))
+end_if (m ∷ more) new false e to from = refl
+
+-- the frame that was found, in front of the others
+pub record Next (payload : List ℕ) (start stop size : ℕ) (new : Way) (found : Found) (rest : List Found) : Type 0 where
+  pub more : List Found
+  pub rest_is : rest ≡ found ∷ more
+  pub left_are : map unplaced (left new) ≡ map given more
+  pub spelled : AreFrames false more (drop stop payload)
+  pub last_is : is_end (map frame_in more) ≡ eqb stop size
+
+pub from_test : (m n : ℕ) → eqb m n ≡ true → m ≡ n
+from_test m n e = grind (arith, nat_tests)
+
+pub next_frame : (payload : List ℕ) (start size : ℕ) (old new : Way) (frame : Frame) (rest : List Found) → BeginsNone → size ≡ length payload → Walks payload start old → (f : Finds old frame new)
+    → map unplaced (left old) ≡ map given rest → AreFrames false rest (drop start payload) → Next payload start new.offset size new f.found rest
+next_frame payload start size old new frame rest begins len w f are s =
+    let h = here payload start old new frame w f in
+    let g = given_on f.found (map unplaced (left new)) rest (sym h.first ∙ are) in
+    let t : AreFrames false (f.found ∷ g.0) (drop start payload) = subst (λ (l : List Found). AreFrames false l (drop start payload)) g.1 s in
+    let stop = new.offset in
+    let some = h.stands.some in
+    let cut = cut_there payload start stop (omega (arith, some)) in
+    let front : t.0 ≡ slice_range payload start stop =
+    front_is f.found t.0 t.1 (slice_range payload start stop) (drop stop payload) begins (sym t.2 ∙ cut) t.3 h.stands.spelled t.4 (λ e. drop_end payload stop (h.opens e)) in
+    let back : t.1 ≡ drop stop payload = same_back t.0 (slice_range payload start stop) t.1 (drop stop payload) (ap length front) (sym t.2 ∙ cut) in
+    record {
+      more = g.0;
+      rest_is = g.1;
+      left_are = g.2;
+      spelled = subst (AreFrames false g.0) back t.5;
+      last_is = end_if g.0 new (eqb stop size) g.2 (λ e. at_end stop size (h.done.0 e ∙ sym len)) (λ e. h.done.1 (from_test stop size e ∙ len));
+    }
+  where
+    drop_end : (payload : List ℕ) (stop : ℕ) → stop ≡ length payload → drop stop payload ≡ []
+    drop_end payload stop e = nothing (drop stop payload) (omega (arith, length-drop stop payload, e))
+      where
+        nothing : (l : List ℕ) → length l ≤ 0 → l ≡ []
+        nothing [] le = refl
+        nothing (x ∷ l) le = absurd (omega (arith, le))
+
+-- ---- the frames at the front that are in their shortest spellings
+
+-- a span of the length of the shortest spelling is that
+span_is : (last : Bool) (found : Found) (bytes : List ℕ) → OneShortest → IsFrame false found bytes → (is_open found.type ≡ true → last ≡ true) → length (shortest_frame last found.frame) ≡ length bytes → bytes ≡ shortest_frame last found.frame
+span_is last found bytes one f opens len = is (one last found bytes f opens)
+  where
+    is : AreOrExceed bytes (shortest_frame last found.frame) → bytes ≡ shortest_frame last found.frame
+    is (inl e) = e
+    is (inr lt) = absurd (omega (arith, lt, len))
+
+span_exceeds : (last : Bool) (found : Found) (bytes : List ℕ) → OneShortest → IsFrame false found bytes → (is_open found.type ≡ true → last ≡ true) → length (shortest_frame last found.frame) ≢ length bytes → length (shortest_frame last found.frame) < length bytes
+span_exceeds last found bytes one f opens len = is (one last found bytes f opens)
+  where
+    is : AreOrExceed bytes (shortest_frame last found.frame) → length (shortest_frame last found.frame) < length bytes
+    is (inl e) = absurd (len (sym (ap length e)))
+    is (inr lt) = lt
+
+pub at_most : (bytes least : List ℕ) → AreOrExceed bytes least → length least ≤ length bytes
+at_most bytes least (inl e) = omega (arith, ap length e)
+at_most bytes least (inr lt) = omega (arith, lt)
+
+-- the span of a frame that was found
+pub record Span (payload : List ℕ) (start stop size : ℕ) (found : Found) : Type 0 where
+  pub some : start < stop
+  pub within : stop ≤ length payload
+  pub len : length (slice_range payload start stop) ≡ stop - start
+  pub spelled : IsFrame false found (slice_range payload start stop)
+  pub last : is_open found.type ≡ true → eqb stop size ≡ true
+
+pub span_of : (payload : List ℕ) (start size : ℕ) (old new : Way) (frame : Frame) → size ≡ length payload → Walks payload start old → (f : Finds old frame new) → Span payload start new.offset size f.found
+span_of payload start size old new frame len w f =
+    let h = here payload start old new frame w f in
+    let some = h.stands.some in
+    record {
+      some = some;
+      within = h.stands.within;
+      len = length-slice_range payload start new.offset (omega (arith, some)) h.stands.within;
+      spelled = h.stands.spelled;
+      last = λ e. at_end new.offset size (h.opens e ∙ sym len);
+    }
+
+-- what a test of lengths says of the frame that was found
+abbrev pub Tested : Bool → Frame → ℕ → ℕ → ℕ → Type 0
+Tested b frame start stop size = b ≡ eqb (length (shortest_frame (eqb stop size) (meaning_of frame))) (stop - start)
+
+pub frame_length : (frame : Frame) (found : Found) (last : Bool) → found.frame ≡ meaning_of frame → length (shortest_frame last (meaning_of frame)) ≡ length (shortest_frame last found.frame)
+frame_length frame found last e = ap (λ (m : Meaning). length (shortest_frame last m)) (sym e)
+
+pub shortest_there : (payload : List ℕ) (start size : ℕ) (old new : Way) (frame : Frame) (b : Bool) → OneShortest → size ≡ length payload → Walks payload start old → (f : Finds old frame new) → Tested b frame start new.offset size → b ≡ true
+    → slice_range payload start new.offset ≡ shortest_frame (eqb new.offset size) f.found.frame
+shortest_there payload start size old new frame b one len w f tested e =
+    let s = span_of payload start size old new frame len w f in
+    let last = eqb new.offset size in
+    let same = from_test (length (shortest_frame last (meaning_of frame))) (new.offset - start) (sym tested ∙ e) in
+    span_is last f.found (slice_range payload start new.offset) one s.spelled s.last (sym (frame_length frame f.found last f.says) ∙ same ∙ sym s.len)
+
+pub longer_there : (payload : List ℕ) (start size : ℕ) (old new : Way) (frame : Frame) (b : Bool) → OneShortest → size ≡ length payload → Walks payload start old → (f : Finds old frame new) → Tested b frame start new.offset size → b ≡ false
+    → length (shortest_frame (eqb new.offset size) f.found.frame) < new.offset - start
+longer_there payload start size old new frame b one len w f tested e =
+    let s = span_of payload start size old new frame len w f in
+    let last = eqb new.offset size in
+    let lt = span_exceeds last f.found (slice_range payload start new.offset) one s.spelled s.last
+    (λ h. true_is_not_false (sym (at_end (length (shortest_frame last (meaning_of frame))) (new.offset - start) (frame_length frame f.found last f.says ∙ h ∙ s.len)) ∙ sym tested ∙ e)) in
+    omega (arith, lt, s.len)
+  where
+    true_is_not_false : true ≡ false → ⊥
+    true_is_not_false h = cc
+
+pub shortest_next : (found : Found) (rest more : List Found) (last : Bool) → rest ≡ found ∷ more → is_end (map frame_in more) ≡ last
+    → shortest_frames (map frame_in rest) ≡ shortest_frame last found.frame ++ shortest_frames (map frame_in more)
+shortest_next found rest more last is end =
+    ap (λ (l : List Found). shortest_frames (map frame_in l)) is ∙ ap (λ (b : Bool). shortest_frame b found.frame ++ shortest_frames (map frame_in more)) end
+
+not_done : (payload : List ℕ) (way : Way) → IsEither false None payload → GivesFrames false payload way → GivesBroken false payload way
+    → left way ≡ [] → 0 ≡ length payload
+not_done payload way (inl a) whole broken none = sym (ap length (empty a.0 payload a.1 (sym (ap (map unplaced) none) ∙ whole a.0 a.1)))
+  where
+    empty : (found : List Found) (bytes : List ℕ) → AreFrames false found bytes → [] ≡ map given found → bytes ≡ []
+    empty [] bytes s e = s
+    empty (f ∷ found) bytes s e = absurd cc
+not_done payload way (inr a) whole broken none = absurd (some a.0 (invalid a.1 a.2) (sym (ap (map unplaced) none) ∙ broken a.0 a.1 a.2 a.3))
+  where
+    some : (found : List Found) (i : Invalid) → [] ≡ map given found ++ Err i ∷ [] → ⊥
+    some [] i e = cc
+    some (f ∷ found) i e = cc
+
+pub walk_begins : (payload : List ℕ) (way : Way) → way ≡ first_of false payload → IsEither false None payload → GivesFrames false payload way → GivesBroken false payload way
+    → Walks payload 0 way
+walk_begins payload way first e whole broken = record {
+  strict_is = ap (λ (w : Way). w.strict) first;
+  payload_is = ap (λ (w : Way). w.payload) first;
+  start_is = ap (λ (w : Way). w.offset) first;
+  within = omega arith;
+  broken = λ found type reason b. (found, broken found type reason b);
+  done = not_done payload way e whole broken;
+}
+
+-- ---- what a step gave
+
+pub finds_ok : (old new : Way) (item : Result Frame InvalidFrame) (frame : Frame) → item ≡ Ok frame → Advances old (Some item) new → Finds old frame new
+finds_ok old new item frame e a = subst (λ (r : Result Frame InvalidFrame). Advances old (Some r) new) e a
+
+pub fails_err : (old new : Way) (item : Result Frame InvalidFrame) (i : InvalidFrame) → item ≡ Err i → Advances old (Some item) new → left old ≡ Broken (invalid_of i) ∷ []
+fails_err old new item i e a = (subst (λ (r : Result Frame InvalidFrame). Advances old (Some r) new) e a).0
+
+-- the same by the number that the code holds
+pub stands_at : (payload : List ℕ) (start stop : ℕ) (old new : Way) (frame : Frame) → Exact → Walks payload start old → Finds old frame new → stop ≡ new.offset → CanStand (eqb stop (length payload)) frame
+stands_at payload start stop old new frame exact w f at =
+    subst (λ (n : ℕ). CanStand (eqb n (length payload)) frame) (sym at) (can_stand old new frame (length payload) exact w.strict_is (sym (ap length w.payload_is)) f)
+
+pub small_at : (payload : List ℕ) (start stop : ℕ) (old new : Way) (frame : Frame) → OneShortest → Walks payload start old → Finds old frame new → stop ≡ new.offset → length (shortest_frame (eqb stop (length payload)) (meaning_of frame)) ≤ stop - start
+small_at payload start stop old new frame one w f at =
+    let s = span_of payload start (length payload) old new frame refl w f in
+    let last = eqb new.offset (length payload) in
+    let le = at_most (slice_range payload start new.offset) (shortest_frame last f.found.frame) (one last f.found (slice_range payload start new.offset) s.spelled s.last) in
+    subst (λ (n : ℕ). length (shortest_frame (eqb n (length payload)) (meaning_of frame)) ≤ n - start) (sym at) (omega (arith, le, frame_length frame f.found last f.says, s.len))

@@ -1,0 +1,56 @@
+use Rattle.std.proofs.Common.{false}
+use Rattle.quic_canon.proofs.Steps.{stands_at, small_at, finds_ok}
+use Rattle.quic_canon.proofs.RewriteWalk.{rewrite_walk_begins, never_fails, room_to_copy, room_to_write, rewrite_keeps, rewrite_writes, rewrite_done, room_to_end}
+use Rattle.quic_canon.proofs.canonical.rewrite.Goals as goal
+
+pub loop-item-init : goal.loop-item-init
+loop-item-init c = rewrite_walk_begins c.args.out.now c.args.payload.now c.in-Ok.iter c.in-Ok.ensures.first c.in-Ok.ensures.either c.in-Ok.ensures.frames c.in-Ok.ensures.broken
+
+pub unreachable-requires-in_default-item : goal.unreachable-requires-in_default-item
+unreachable-requires-in_default-item c =
+    never_fails c.args.out.now c.loop-item.out c.args.payload.now c.loop-item.from c.loop-item.start c.loop-item.iter c.next.new.self c.in-Some.item c.in_default-item.field-0 c.requires.whole c.loop-item.invariant c.in_default-item.is c.in-Some.ensures.steps
+
+pub is_shortest-requires-clause-stands : goal.is_shortest-requires-clause-stands
+is_shortest-requires-clause-stands c =
+    let f = finds_ok c.loop-item.iter c.next.new.self c.in-Some.item c.in-Ok-item.frame c.in-Ok-item.is c.in-Some.ensures.steps in
+    stands_at c.args.payload.now c.loop-item.start c.offset-stop.result c.loop-item.iter c.next.new.self c.in-Ok-item.frame c.read_back.ensures.exact c.loop-item.invariant.walks f c.offset-stop.ensures.value
+
+pub is_shortest-requires-clause-small : goal.is_shortest-requires-clause-small
+is_shortest-requires-clause-small c =
+    let f = finds_ok c.loop-item.iter c.next.new.self c.in-Some.item c.in-Ok-item.frame c.in-Ok-item.is c.in-Some.ensures.steps in
+    small_at c.args.payload.now c.loop-item.start c.offset-stop.result c.loop-item.iter c.next.new.self c.in-Ok-item.frame c.least_spelling.ensures.least c.loop-item.invariant.walks f c.offset-stop.ensures.value
+
+pub write-requires-clause-stands : goal.write-requires-clause-stands
+write-requires-clause-stands c =
+    let f = finds_ok c.loop-item.iter c.next.new.self c.in-Some.item c.in-Ok-item.frame c.in-Ok-item.is c.in-Some.ensures.steps in
+    stands_at c.args.payload.now c.loop-item.start c.offset-stop.result c.loop-item.iter c.next.new.self c.in-Ok-item.frame c.read_back.ensures.exact c.loop-item.invariant.walks f c.offset-stop.ensures.value
+
+pub copy-requires : goal.copy-requires
+copy-requires c =
+    room_to_copy c.args.out.now c.loop-item.out c.args.payload.now c.loop-item.from c.loop-item.start c.loop-item.iter c.least_spelling.ensures.all_least c.requires.whole c.loop-item.invariant c.requires.room
+
+pub write-requires-clause-room : goal.write-requires-clause-room
+write-requires-clause-room c =
+    let f = finds_ok c.loop-item.iter c.next.new.self c.in-Some.item c.in-Ok-item.frame c.in-Ok-item.is c.in-Some.ensures.steps in
+    room_to_write c.args.out.now c.loop-item.out c.copy.new.out c.args.payload.now c.loop-item.from c.loop-item.start c.offset-stop.result c.loop-item.iter c.next.new.self c.in-Ok-item.frame
+    (c.one_reading.ensures.begins_none false) c.least_spelling.ensures.all_least c.requires.whole c.loop-item.invariant c.requires.room f c.offset-stop.ensures.value c.copy.ensures.items c.copy.ensures.capacity
+
+pub loop-item-preserved-then-not-is_shortest : goal.loop-item-preserved-then-not-is_shortest
+loop-item-preserved-then-not-is_shortest c =
+    let f = finds_ok c.loop-item.iter c.next.new.self c.in-Some.item c.in-Ok-item.frame c.in-Ok-item.is c.in-Some.ensures.steps in
+    rewrite_writes c.args.out.now c.loop-item.out c.copy.new.out c.write.new.out c.args.payload.now c.loop-item.from c.loop-item.start c.offset-stop.result c.loop-item.iter c.next.new.self c.in-Ok-item.frame
+    (c.one_reading.ensures.begins_none false) c.loop-item.invariant f c.offset-stop.ensures.value c.copy.ensures.items c.copy.ensures.capacity c.write.ensures.items c.write.ensures.capacity
+
+pub loop-item-preserved : goal.loop-item-preserved
+loop-item-preserved c =
+    let f = finds_ok c.loop-item.iter c.next.new.self c.in-Some.item c.in-Ok-item.frame c.in-Ok-item.is c.in-Some.ensures.steps in
+    rewrite_keeps c.args.out.now c.loop-item.out c.args.payload.now c.loop-item.from c.loop-item.start c.offset-stop.result c.loop-item.iter c.next.new.self c.in-Ok-item.frame c.is_shortest.result
+    (c.one_reading.ensures.begins_none false) c.least_spelling.ensures.least c.loop-item.invariant f c.offset-stop.ensures.value c.is_shortest.ensures c.if-not-is_shortest.false
+
+pub copy-requires-2 : goal.copy-requires-2
+copy-requires-2 c =
+    room_to_end c.args.out.now c.loop-item.out c.args.payload.now c.loop-item.from c.loop-item.start c.loop-item.iter c.least_spelling.ensures.all_least c.requires.whole c.loop-item.invariant c.in_default-next.ensures.steps.0 c.requires.room
+
+pub returns : goal.returns
+returns c =
+    rewrite_done c.args.out.now c.loop-item.out c.copy-2.new.out c.args.payload.now c.loop-item.from c.loop-item.start c.loop-item.iter c.loop-item.invariant c.in_default-next.ensures.steps.0 c.copy-2.ensures.items

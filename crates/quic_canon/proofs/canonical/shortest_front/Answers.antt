@@ -1,0 +1,45 @@
+use Rattle.std.proofs.Common.{◌≡◌, true, false}
+use Rattle.quic_frames.specs.Walk.{invalid_of}
+use Rattle.quic_canon.proofs.Steps.{finds_ok, fails_err, stands_at, small_at}
+use Rattle.quic_canon.proofs.FrontWalk.{front_walk_begins, front_done, front_fails, grows_to, ends_at, stays_at}
+use Rattle.quic_canon.proofs.canonical.shortest_front.Goals as goal
+use Rattle.quic_canon.proofs.canonical.shortest_front.Goals.{else-front-start-via-then-front-start+else-is_shortest, else-front-start-via-else-front-start}
+
+pub loop-item-init : goal.loop-item-init
+loop-item-init c = front_walk_begins c.args.payload.now c.in-Ok.iter c.in-Ok.ensures.first c.in-Ok.ensures.either c.in-Ok.ensures.frames c.in-Ok.ensures.broken
+
+pub returns-in-Err-clause-err : goal.returns-in-Err-clause-err
+returns-in-Err-clause-err c =
+    let a = fails_err c.loop-item.iter c.next.new.self c.in-Some.item c.in-Err.invalid c.in-Err.is c.in-Some.ensures.steps in
+    (front_fails c.args.payload.now c.loop-item.front c.loop-item.start c.loop-item.iter (invalid_of c.in-Err.invalid) c.in-Ok.ensures.either c.loop-item.invariant a, λ e. cc)
+
+pub is_shortest-requires-clause-stands : goal.is_shortest-requires-clause-stands
+is_shortest-requires-clause-stands c =
+    let f = finds_ok c.loop-item.iter c.next.new.self c.in-Some.item c.in-Ok-item.frame c.in-Ok-item.is c.in-Some.ensures.steps in
+    stands_at c.args.payload.now c.loop-item.start c.offset-stop.result c.loop-item.iter c.next.new.self c.in-Ok-item.frame c.read_back.ensures.exact c.loop-item.invariant.walks f c.offset-stop.ensures.value
+
+pub is_shortest-requires-clause-small : goal.is_shortest-requires-clause-small
+is_shortest-requires-clause-small c =
+    let f = finds_ok c.loop-item.iter c.next.new.self c.in-Some.item c.in-Ok-item.frame c.in-Ok-item.is c.in-Some.ensures.steps in
+    small_at c.args.payload.now c.loop-item.start c.offset-stop.result c.loop-item.iter c.next.new.self c.in-Ok-item.frame c.least_spelling.ensures.least c.loop-item.invariant.walks f c.offset-stop.ensures.value
+
+pub loop-item-preserved-then-is_shortest : goal.loop-item-preserved-then-is_shortest
+loop-item-preserved-then-is_shortest c =
+    let f = finds_ok c.loop-item.iter c.next.new.self c.in-Some.item c.in-Ok-item.frame c.in-Ok-item.is c.in-Some.ensures.steps in
+    grows_to c.args.payload.now c.loop-item.front c.loop-item.start c.offset-stop.result c.loop-item.iter c.next.new.self c.in-Ok-item.frame c.is_shortest.result
+    (c.one_reading.ensures.begins_none false) c.least_spelling.ensures.least c.if-front-start.true c.loop-item.invariant f c.offset-stop.ensures.value c.is_shortest.ensures c.if-is_shortest.true
+
+pub loop-item-preserved : goal.loop-item-preserved
+loop-item-preserved c =
+    let f = finds_ok c.loop-item.iter c.next.new.self c.in-Some.item c.in-Ok-item.frame c.in-Ok-item.is c.in-Some.ensures.steps in
+    elim c.else-front-start.branch [
+      | else-front-start-via-then-front-start+else-is_shortest w ↦
+          ends_at c.args.payload.now c.loop-item.front c.loop-item.start c.offset-stop.result c.loop-item.iter c.next.new.self c.in-Ok-item.frame w.is_shortest.result
+          (c.one_reading.ensures.begins_none false) c.least_spelling.ensures.least c.least_spelling.ensures.all_least w.if-front-start.true c.loop-item.invariant f c.offset-stop.ensures.value w.is_shortest.ensures w.if-is_shortest.false
+      | else-front-start-via-else-front-start w ↦
+          stays_at c.args.payload.now c.loop-item.front c.loop-item.start c.offset-stop.result c.loop-item.iter c.next.new.self c.in-Ok-item.frame w.if-front-start.false c.loop-item.invariant f c.offset-stop.ensures.value
+    ]
+
+pub returns-clause-ok : goal.returns-clause-ok
+returns-clause-ok c =
+    front_done c.args.payload.now c.loop-item.front c.loop-item.start c.loop-item.iter (λ h. let e : false ≡ true = c.in-Ok.ensures.empty.1 h in cc) c.in-Ok.ensures.either c.loop-item.invariant c.in_default-next.ensures.steps.0

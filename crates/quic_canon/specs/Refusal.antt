@@ -1,0 +1,26 @@
+-- What is told where there is no canonical payload.
+use Rattle.std.specs.Prelude.{◌≡◌, ◌≢◌, ℕ, List, [], ◌++◌, Option, None, false}
+use Rattle.quic_frame_parts.specs.declared.frame.fault.Fault.{Fault}
+use Rattle.quic_frame_parts.specs.Payload.{Found, AreFrames, IsBroken}
+use Rattle.quic_frame_parts.specs.Reading.{invalid}
+use Rattle.quic_frames.specs.Walk.{invalid_of}
+use Rattle.quic_canon.specs.declared.canonical.CanonError.{CanonError}
+use Rattle.quic_canon.specs.declared.canonical.CanonError.TheVariants.{Empty, Invalid, OutOfMemory}
+use Rattle.quic_canon.specs.Least.{IsLeast}
+
+-- The payload is refused: it is empty, or broken as the reading tells, or one that only lacks memory.
+abbrev pub IsRefused : List ℕ → CanonError → Type 0
+IsRefused payload Empty = payload ≡ []
+IsRefused payload (Invalid i) =
+    (found : List Found) × (type : Option ℕ) × (reason : Fault) × IsBroken false None found payload type reason × (invalid_of i ≡ invalid type reason)
+IsRefused payload OutOfMemory = (payload ≢ []) × (found : List Found) × AreFrames false found payload
+
+-- It is refused for what it is, and not for want of memory.
+abbrev pub IsWrong : List ℕ → CanonError → Type 0
+IsWrong payload e = IsRefused payload e × (e ≢ OutOfMemory)
+
+-- The least payload of its meaning was appended.
+pub record AppendsLeast (old new payload : List ℕ) : Type 0 where
+  pub least : List ℕ
+  pub is_least : IsLeast least payload
+  pub appended : new ≡ old ++ least

@@ -1,0 +1,43 @@
+-- Payloads that mean the same: equal frames in equal order, ACKs by their delays, their counts and the numbers in them.
+use Rattle.std.specs.Prelude.{◌≡◌, ◌≢◌, ⊤, ℕ, List, [], ◌∷◌, drop, map, Bool, true, false, if◌then◌else◌}
+use Rattle.quic_frame_parts.specs.Field.{Value, Ranges}
+use Rattle.quic_frame_parts.specs.Table.{Name, Ack}
+use Rattle.quic_frame_parts.specs.Payload.{Meaning, Found, AreFrames}
+use Rattle.quic_frame_parts.specs.Sets.{is_in}
+use Rattle.quic_frames.specs.Least.{frame_in}
+
+-- ranges are told by the numbers in them, other values by themselves
+abbrev pub IsSameValue : Value → Value → Type 0
+IsSameValue (Ranges some) (Ranges others) = (n : ℕ) → is_in some n ≡ is_in others n
+IsSameValue value other = value ≡ other
+
+abbrev pub AreSameValues : List Value → List Value → Type 0
+AreSameValues [] [] = ⊤
+AreSameValues (value ∷ values) (other ∷ others) = IsSameValue value other × AreSameValues values others
+AreSameValues values others = ⊥
+
+abbrev pub is_ack : Name → Bool
+is_ack Ack = true
+is_ack name = false
+
+-- the values by which a frame is told: the greatest number of an ACK, its first value, is one of its numbers
+abbrev pub told_values : Meaning → List Value
+told_values frame = if is_ack frame.name then drop 1 frame.values else frame.values
+
+pub record IsSameFrame (frame other : Meaning) : Type 0 where
+  pub name : frame.name ≡ other.name
+  pub values : AreSameValues (told_values frame) (told_values other)
+
+abbrev pub AreSameFrames : List Meaning → List Meaning → Type 0
+AreSameFrames [] [] = ⊤
+AreSameFrames (frame ∷ frames) (other ∷ others) = IsSameFrame frame other × AreSameFrames frames others
+AreSameFrames frames others = ⊥
+
+-- Both are payloads, and mean the same.
+pub record IsSame (payload other : List ℕ) : Type 0 where
+  pub some : payload ≢ []
+  pub frames : List Found
+  pub spelled : AreFrames false frames payload
+  pub others : List Found
+  pub other_spelled : AreFrames false others other
+  pub same : AreSameFrames (map frame_in frames) (map frame_in others)

@@ -1,0 +1,201 @@
+//! The least payload of those that mean the same.
+ghost use Rattle.std.specs.Prelude.{◌≡◌, ◌≢◌, ◌+◌, ◌-◌, ◌<◌, ◌≤◌, ◌==◌, ◌++◌, ℕ, List, [], length, map, OnOk, OnErr, IfOk, IfErr, IsOk, vec_len, vec_capacity, false};
+ghost use Rattle.quic_frames.specs.InRange.{CanStand};
+ghost use Rattle.quic_frames.specs.Least.{frame_in, shortest_frames};
+ghost use Rattle.quic_frames.specs.Meaning.{meaning_of};
+ghost use Rattle.quic_frame_parts.specs.Payload.{Found, AreFrames};
+ghost use Rattle.quic_frame_parts.specs.Shortest.{shortest_frame};
+ghost use Rattle.quic_canon.specs.Bytes.{GivesLeast};
+ghost use Rattle.quic_canon.specs.Front.{IsFront};
+ghost use Rattle.quic_canon.specs.Least.{IsLeast};
+ghost use Rattle.quic_canon.specs.Refusal.{IsRefused, IsWrong, AppendsLeast};
+
+use crate::laws::one_least;
+use quic_frames::frame::{Frame, InvalidFrame, Iter};
+use quic_frames::laws::{least_spelling, one_reading, read_back};
+use std::alloc::Global;
+
+/// Why there is no canonical payload.
+#[derive(Clone, Copy, Debug, PartialEq, Eq)]
+pub enum CanonError {
+    /// The payload has no frame.
+    Empty,
+    /// Something in the payload is no frame.
+    Invalid(InvalidFrame),
+    /// The vector could not grow.
+    OutOfMemory,
+}
+
+// Reads all of a payload, and tells how many bytes at its front are frames in their shortest spellings.
+fn shortest_front(payload: &[u8]) -> Result<usize, CanonError>
+    ensures ok { IfOk result (λ n. IsFront payload.now n) }
+    ensures err { IfErr result (λ e. IsWrong payload.now e) }
+{
+    one_reading();
+    least_spelling();
+    read_back();
+    let Ok(mut iter) = Iter::new(payload) else {
+        return Err(CanonError::Empty);
+    };
+    let mut front = 0;
+    let mut start = 0;
+    while let Some(item) = iter.next() {
+        let frame = match item {
+            Ok(frame) => frame,
+            Err(invalid) => return Err(CanonError::Invalid(invalid)),
+        };
+        let stop = iter.offset();
+        let is_last = stop == payload.len();
+        if front == start && is_shortest(&frame, is_last, stop - start) {
+            front = stop;
+        }
+        start = stop;
+    }
+    Ok(front)
+}
+
+// The frame takes this many bytes in its shortest spelling, which has no more. One byte always is that, as
+// for each byte of padding.
+#[tactic(auto, using(crate::proofs::Spans::one_byte))]
+fn is_shortest(frame: &Frame<'_>, last: bool, len: usize) -> bool
+    requires stands { CanStand last frame.now }
+    requires small { length (shortest_frame last (meaning_of frame.now)) ≤ len }
+    ensures { result ≡ (length (shortest_frame last (meaning_of frame.now)) == len) }
+{
+    len == 1 || frame.encoded_len(last) == len as u128
+}
+
+// Appends bytes for which there is room.
+fn copy(bytes: &[u8], out: &mut Vec<u8>)
+    requires { vec_len out.old + length bytes.now ≤ vec_capacity out.old }
+    ensures items { out.new.items ≡ out.old.items ++ bytes.now }
+    ensures capacity { vec_capacity out.old ≤ vec_capacity out.new }
+{
+    let Ok(()) = out.extend_from_slice(bytes) else {
+        unreachable!()
+    };
+}
+
+// Appends the shortest spelling of a frame, for which there is room.
+fn write(frame: &Frame<'_>, last: bool, out: &mut Vec<u8>)
+    requires stands { CanStand last frame.now }
+    requires room { vec_len out.old + length (shortest_frame last (meaning_of frame.now)) ≤ vec_capacity out.old }
+    ensures items { out.new.items ≡ out.old.items ++ shortest_frame last (meaning_of frame.now) }
+    ensures capacity { vec_capacity out.old ≤ vec_capacity out.new }
+{
+    let Ok(()) = frame.encode(last, out) else {
+        unreachable!()
+    };
+}
+
+// Appends the frames of a payload in their shortest spellings, for which there is room. Spans that are
+// shortest already are copied as they stand, as many at once as there are.
+fn rewrite(payload: &[u8], out: &mut Vec<u8>)
+    requires some { payload.now ≢ [] }
+    requires whole { (found : List Found) × AreFrames false found payload.now }
+    requires room { vec_len out.old + length payload.now ≤ vec_capacity out.old }
+    ensures { (found : List Found) → AreFrames false found payload.now
+        → out.new.items ≡ out.old.items ++ shortest_frames (map frame_in found) }
+{
+    one_reading();
+    least_spelling();
+    read_back();
+    let Ok(mut iter) = Iter::new(payload) else {
+        unreachable!()
+    };
+    let mut from = 0;
+    let mut start = 0;
+    while let Some(item) = iter.next() {
+        let Ok(frame) = item else { unreachable!() };
+        let stop = iter.offset();
+        let is_last = stop == payload.len();
+        if !is_shortest(&frame, is_last, stop - start) {
+            copy(&payload[from..start], out);
+            write(&frame, is_last, out);
+            from = stop;
+        }
+        start = stop;
+    }
+    copy(&payload[from..], out);
+}
+
+// Appends the least payload, for which there is room, where it is known how many of the first bytes stand
+// as they are.
+fn write_least(payload: &[u8], front: usize, out: &mut Vec<u8>)
+    requires front { IsFront payload.now front }
+    requires room { vec_len out.old + length payload.now ≤ vec_capacity out.old }
+    ensures { AppendsLeast out.old.items out.new.items payload.now }
+{
+    one_least();
+    let (same, rest) = payload.split_at(front);
+    copy(same, out);
+    if !rest.is_empty() {
+        rewrite(rest, out);
+    }
+}
+
+/// Appends the least payload that means what the payload does. The payload is read first; then one
+/// growth of at most its length is made, and where that is refused, or the payload is, `out` is as it was.
+pub fn canonical(payload: &[u8], out: &mut Vec<u8>) -> Result<(), CanonError>
+    ensures ok { OnOk result (AppendsLeast out.old.items out.new.items payload.now) }
+    ensures err { IfErr result (λ e. IsRefused payload.now e) }
+    ensures kept { OnErr result (out.new.items ≡ out.old.items) }
+    ensures room { vec_len out.old + length payload.now ≤ vec_capacity out.old
+        → IfErr result (λ e. IsWrong payload.now e) }
+{
+    let stays = match shortest_front(payload) {
+        Ok(stays) => stays,
+        Err(e) => return Err(e),
+    };
+    if out.reserve(payload.len()).is_err() {
+        return Err(CanonError::OutOfMemory);
+    }
+    write_least(payload, stays, out);
+    Ok(())
+}
+
+/// The least payload that means what a payload does.
+#[derive(Debug, Drop)]
+pub enum CanonBytes<'a> {
+    /// The payload itself.
+    Same(&'a [u8]),
+    /// Another one, which is shorter.
+    Rewritten(Vec<u8>),
+}
+
+impl CanonBytes<'_> {
+    ghost use Rattle.quic_canon.specs.Bytes.{canon_bytes};
+
+    /// The bytes.
+    pub fn bytes(&self) -> &[u8]
+        ensures { result.now ≡ canon_bytes self.now }
+    {
+        match self {
+            CanonBytes::Same(payload) => payload,
+            CanonBytes::Rewritten(bytes) => bytes,
+        }
+    }
+}
+
+/// The same as `canonical` appends, without a copy where that is the payload itself: then it takes no
+/// memory. Else one growth of the payload's length is made.
+pub fn canonical_of<'a>(alloc: Global, payload: &'a [u8]) -> Result<CanonBytes<'a>, CanonError>
+    ensures ok { IfOk result (λ bytes. GivesLeast payload.now bytes) }
+    ensures err { IfErr result (λ e. IsRefused payload.now e) }
+    ensures same { IsLeast payload.now payload.now → IsOk result }
+{
+    one_least();
+    let front = match shortest_front(payload) {
+        Ok(front) => front,
+        Err(e) => return Err(e),
+    };
+    if front == payload.len() {
+        return Ok(CanonBytes::Same(payload));
+    }
+    let mut out = Vec::new(alloc);
+    if out.reserve(payload.len()).is_err() {
+        return Err(CanonError::OutOfMemory);
+    }
+    write_least(payload, front, &mut out);
+    Ok(CanonBytes::Rewritten(out))
+}

@@ -1,0 +1,45 @@
+//! Laws of canonical payloads, which no single call carries. The functions do nothing.
+ghost use Rattle.std.specs.Prelude.{◌≡◌, ◌≢◌, ◌<◌, ◌↔◌, ℕ, List, [], length, map, Option, None, true, false};
+ghost use Rattle.quic_base.specs.Number.{AreBytes};
+ghost use Rattle.quic_frame_parts.specs.Field.{AreApart};
+ghost use Rattle.quic_frames.specs.Least.{frame_in, shortest_frames};
+ghost use Rattle.quic_frame_parts.specs.Payload.{Found, AreFrames, IsBroken};
+ghost use Rattle.quic_frame_parts.specs.Sets.{is_in};
+ghost use Rattle.quic_frame_parts.specs.declared.frame.fault.Fault.{Fault};
+ghost use Rattle.quic_canon.specs.Same.{AreSameFrames, IsSame};
+ghost use Rattle.quic_canon.specs.Least.{IsLeast};
+
+use quic_frames::laws::{least_spelling, one_reading};
+
+/// An ACK has one list of ranges: lists of ranges that never touch, with the same numbers in them, are one.
+pub fn one_list_of_a_set()
+    ensures one { (some others : List (ℕ × ℕ)) → AreApart some → AreApart others
+        → ((n : ℕ) → is_in some n ≡ is_in others n) → some ≡ others }
+    // So payloads mean the same exactly where the frames that they are say the same.
+    ensures frames { (found others : List Found) (payload other : List ℕ) → AreFrames false found payload
+        → AreFrames false others other → AreSameFrames (map frame_in found) (map frame_in others)
+        → map frame_in found ≡ map frame_in others }
+{}
+
+/// Each payload without an error has one least payload of its meaning, and no other payload has one.
+pub fn one_least()
+    ensures exists { (found : List Found) (payload : List ℕ) → payload ≢ [] → AreFrames false found payload
+        → IsLeast (shortest_frames (map frame_in found)) payload }
+    ensures none { (found : List Found) (least payload : List ℕ) (type : Option ℕ) (reason : Fault)
+        → AreBytes payload → IsBroken false None found payload type reason → IsLeast least payload → ⊥ }
+    ensures unique { (one other payload : List ℕ) → IsLeast one payload → IsLeast other payload → one ≡ other }
+    // Two payloads mean the same exactly if their least payloads are equal,
+    ensures same { (payload other least least' : List ℕ) → IsLeast least payload → IsLeast least' other
+        → (IsSame payload other ↔ (least ≡ least')) }
+    // the least payload of a least payload is itself,
+    ensures again { (payload least : List ℕ) → IsLeast least payload → IsLeast least least }
+    // and each other payload of that meaning is longer.
+    ensures longer { (payload other least : List ℕ) → IsLeast least payload → IsSame other payload → other ≢ least
+        → length least < length other }
+    // Its types are in their least widths, so the strict reading is the same.
+    ensures strict { (payload least : List ℕ) → IsLeast least payload
+        → (found : List Found) × AreFrames true found least × AreFrames false found least }
+{
+    one_reading();
+    least_spelling();
+}

@@ -1,0 +1,7 @@
+//! Worked rows, and what no clause says.
+
+mod beginnings;
+mod canonical;
+mod growth_refused;
+mod lines;
+mod strict;

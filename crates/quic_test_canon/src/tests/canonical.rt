@@ -1,0 +1,108 @@
+//! Payloads in their shortest form, by the calls.
+use super::growth_refused::{ROWS, is_not_appended, is_refused, is_same};
+use quic_canon::canonical::{CanonError, canonical, canonical_of};
+use quic_canon::client::mean_the_same;
+use quic_errors::frame_type::FrameType;
+use quic_frames::frame::InvalidFrame;
+use quic_testing::Checks;
+use quic_testing::codes::type_of;
+use std::alloc::Global;
+use std::test::Fail;
+
+#[test]
+fn the_same_or_another(rt: HostRuntime) -> Result<(), Fail> {
+    let mut checks = Checks::new(rt.alloc());
+    for &(payload, least) in ROWS {
+        let Ok(bytes) = canonical_of(rt.alloc(), payload) else {
+            return Err("a payload".into());
+        };
+        checks.same(is_same(&bytes), payload == least);
+        checks.same(bytes.bytes(), least);
+    }
+    checks.verdict()
+}
+
+#[test]
+fn what_is_appended(rt: HostRuntime) -> Result<(), Fail> {
+    let mut checks = Checks::new(rt.alloc());
+    for &(payload, least) in ROWS {
+        let mut out = Vec::new(rt.alloc());
+        out.push(7)?;
+        checks.holds(canonical(payload, &mut out).is_ok());
+        let mut wanted = Vec::new(rt.alloc());
+        wanted.push(7)?;
+        wanted.extend_from_slice(least)?;
+        checks.same(out.as_slice(), wanted.as_slice());
+    }
+    checks.verdict()
+}
+
+// Whether both calls refuse the payload with this error, and leave the vector as it was.
+fn refuse(alloc: Global, payload: &[u8], error: &CanonError) -> Result<bool, Fail> {
+    let mut out = Vec::new(alloc);
+    out.push(7)?;
+    let is_kept = is_not_appended(&canonical(payload, &mut out), error)
+        && out.as_slice() == b"\x07".as_slice();
+    Ok(is_kept && is_refused(&canonical_of(alloc, payload), error))
+}
+
+#[test]
+fn what_is_refused(rt: HostRuntime) -> Result<(), Fail> {
+    let mut checks = Checks::new(rt.alloc());
+    let unknown = CanonError::Invalid(InvalidFrame {
+        ty: Some(type_of(rt.alloc(), 0x21)?),
+        reason: "invalid frame ID",
+    });
+    checks.holds(refuse(rt.alloc(), b"\x21", &unknown)?);
+    checks.holds(refuse(rt.alloc(), b"\x01\x40\x21", &unknown)?);
+    let cut = CanonError::Invalid(InvalidFrame {
+        ty: Some(FrameType::CRYPTO),
+        reason: "unexpected end",
+    });
+    checks.holds(refuse(rt.alloc(), b"\x01\x06\x00\x03hi", &cut)?);
+    checks.holds(refuse(rt.alloc(), b"", &CanonError::Empty)?);
+    checks.verdict()
+}
+
+// Whether this was answered.
+fn is_told(answer: &Result<bool, CanonError>, same: bool) -> bool {
+    match answer {
+        Ok(told) => *told == same,
+        Err(_) => false,
+    }
+}
+
+// Whether one of them was no payload.
+fn is_empty(answer: &Result<bool, CanonError>) -> bool {
+    match answer {
+        Ok(_) => false,
+        Err(e) => *e == CanonError::Empty,
+    }
+}
+
+#[test]
+fn payloads_that_mean_the_same(rt: HostRuntime) -> Result<(), Fail> {
+    let mut checks = Checks::new(rt.alloc());
+    for (payload, other, same) in [
+        (
+            b"\x40\x00\x0a\x00\x01a".as_slice(),
+            b"\x00\x08\x00a".as_slice(),
+            true,
+        ),
+        (b"\x00\x01".as_slice(), b"\x01\x00".as_slice(), false),
+        (
+            b"\x02\x40\x05\x00\x00\x40\x05".as_slice(),
+            b"\x02\x05\x00\x00\x05".as_slice(),
+            true,
+        ),
+        (
+            b"\x02\x05\x00\x00\x05".as_slice(),
+            b"\x02\x05\x01\x00\x05".as_slice(),
+            false,
+        ),
+    ] {
+        checks.holds(is_told(&mean_the_same(rt.alloc(), payload, other), same));
+    }
+    checks.holds(is_empty(&mean_the_same(rt.alloc(), b"\x00", b"")));
+    checks.verdict()
+}

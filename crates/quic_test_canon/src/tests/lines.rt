@@ -1,0 +1,93 @@
+//! Lines of the modes `canon` and `strict`, through `run`.
+use quic_bench::FailAt;
+use quic_testing::Checks;
+use quic_text::{Mode, mode_of, run, status};
+use std::test::Fail;
+
+// A line, and what `canon` prints of it.
+pub const CANON: &[(&str, &str)] = &[
+    ("40000a000161", "00080061\n"),
+    ("0a0000", "0800\n"),
+    ("0c000061", "080061\n"),
+    ("3100", "30\n"),
+    ("0a000108", "080008\n"),
+    // Not the last frame, so the length stays.
+    ("0a00016101", "0a00016101\n"),
+    ("02400500004005", "0205000005\n"),
+    ("401c400a40004003626164", "1c0a0003626164\n"),
+    ("0b00016131026869", "0b000161306869\n"),
+    ("0e0000016101", "0a00016101\n"),
+    ("0f40004000400161", "090061\n"),
+    ("40030000000040010000", "0300000000010000\n"),
+    ("4021", "error invalid frame ID in <unknown 21>\n"),
+    ("", "error packet payload is empty\n"),
+    ("0", "error not hexadecimal\n"),
+];
+
+// The same of `strict`.
+pub const STRICT: &[(&str, &str)] = &[
+    (
+        "40000a000161",
+        "error frame type not in shortest form in PADDING\n",
+    ),
+    (
+        "014000",
+        "0..1 PING\nerror frame type not in shortest form in PADDING\n",
+    ),
+    (
+        "4021",
+        "error frame type not in shortest form in <unknown 21>\n",
+    ),
+    ("40", "error unexpected end\n"),
+    ("0a4000400161", "0..6 STREAM\n"),
+    ("40af2a148000c35001", "0..9 ACK_FREQUENCY\n"),
+    ("", "error packet payload is empty\n"),
+    ("0", "error not hexadecimal\n"),
+];
+
+#[test]
+fn each_row_by_itself(rt: HostRuntime) -> Result<(), Fail> {
+    let mut checks = Checks::new(rt.alloc());
+    for (mode, rows) in [(Mode::Canon, CANON), (Mode::Strict, STRICT)] {
+        for &(line, text) in rows {
+            let input = format!(in rt.alloc(); "{line}\n")?;
+            let mut source = FailAt::new(rt.alloc(), input.as_bytes(), usize::MAX, u64::MAX);
+            let mut sink = FailAt::new(rt.alloc(), b"", usize::MAX, u64::MAX);
+            let outcome = run(rt.alloc(), mode, &mut source, &mut sink);
+            let clean = !text.contains("error");
+            checks.same_at(line, outcome, Ok(clean));
+            checks.same(status(&outcome), if clean { 0 } else { 1 });
+            checks.same_at(line, sink.output(), text.as_bytes());
+        }
+    }
+    checks.verdict()
+}
+
+#[test]
+fn all_rows_together(rt: HostRuntime) -> Result<(), Fail> {
+    let mut checks = Checks::new(rt.alloc());
+    for (mode, rows) in [(Mode::Canon, CANON), (Mode::Strict, STRICT)] {
+        let mut input = String::new(rt.alloc());
+        let mut wanted = String::new(rt.alloc());
+        for &(line, text) in rows {
+            writeln!(input, "{line}")?;
+            wanted.push_str(text)?;
+        }
+        let mut source = FailAt::new(rt.alloc(), input.as_bytes(), 1, u64::MAX);
+        let mut sink = FailAt::new(rt.alloc(), b"", 1, u64::MAX);
+        let outcome = run(rt.alloc(), mode, &mut source, &mut sink);
+        checks.same(outcome, Ok(false));
+        checks.same(sink.output(), wanted.as_bytes());
+    }
+    checks.verdict()
+}
+
+#[test]
+fn words_of_the_modes(rt: HostRuntime) -> Result<(), Fail> {
+    let mut checks = Checks::new(rt.alloc());
+    checks.same(mode_of(&["canon"]), Some(Mode::Canon));
+    checks.same(mode_of(&["strict"]), Some(Mode::Strict));
+    checks.same(mode_of(&["canonical"]), None);
+    checks.same(mode_of(&["strict", "frames"]), None);
+    checks.verdict()
+}

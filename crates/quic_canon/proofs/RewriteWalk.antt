@@ -1,12 +1,11 @@
 -- A walk that writes a payload anew.
-use Rattle.std.proofs.Common.{◌≡◌, ℕ, ◌+◌, ◌-◌, ◌≤◌, eqb, Bool, true, false, List, [], ◌∷◌, ◌++◌, length, map, drop, Option, Some, None, Result, Err, refl, sym, ap, subst, ◌∙◌, append_assoc, arith}
+use Rattle.std.proofs.Common.{◌≡◌, ℕ, ◌+◌, ◌≤◌, eqb, Bool, true, false, List, [], ◌∷◌, ◌++◌, length, map, drop, Some, None, Result, Err, refl, sym, ap, subst, ◌∙◌, append_assoc, arith}
 use Rattle.std.specs.Prelude.{slice_range, Vec, vec_len, vec_capacity}
 use Rattle.std.specs.declared.alloc.Global.{Global}
 use Rattle.std.proofs.lemmas.List.{append-nil, length-append}
 use Rattle.quic_frames.specs.declared.frame.Frame.{Frame}
-use Rattle.quic_frame_parts.specs.declared.frame.fault.Fault.{Fault}
-use Rattle.quic_frame_parts.specs.Payload.{Found, AreFrames, IsBroken, IsEither}
-use Rattle.quic_frame_parts.specs.Reading.{Invalid, invalid}
+use Rattle.quic_frame_parts.specs.Payload.{Found, AreFrames, IsEither}
+use Rattle.quic_frame_parts.specs.Reading.{Invalid}
 use Rattle.quic_frames.specs.Meaning.{meaning_of}
 use Rattle.quic_frame_parts.specs.Shortest.{shortest_frame}
 use Rattle.quic_frames.specs.Least.{frame_in, shortest_frames}
@@ -15,7 +14,7 @@ use Rattle.quic_frames.specs.Walk.{GivesFrames, GivesBroken, invalid_of, left, f
 use Rattle.quic_errors.specs.declared.invalid_frame.InvalidFrame.{InvalidFrame}
 use Rattle.quic_canon.proofs.LeastPayloads.{Shortest}
 use Rattle.quic_canon.proofs.Cuts.{slice_on, slice_none}
-use Rattle.quic_canon.proofs.Steps.{BeginsNone, OneShortest, Walks, here, walk_on, next_frame, at_most, span_of, Tested, frame_length, shortest_there, shortest_next, walk_begins, fails_err}
+use Rattle.quic_canon.proofs.Steps.{BeginsNone, OneShortest, Walks, walk_on, next_frame, at_most, span_of, Tested, frame_length, shortest_there, shortest_next, walk_begins, fails_err}
 
 -- What was written, and the bytes from a place on that stand as they are, are what the frames so far become.
 pub record Rewrites (old new : Vec ℕ Global) (payload : List ℕ) (from start : ℕ) (way : Way) (found : List Found) : Type 0 where

@@ -1,15 +1,15 @@
 -- What bytes that come later can't change.
-use Rattle.std.proofs.Common.{◌≡◌, ◌≢◌, ℕ, zero, suc, ◌+◌, ◌-◌, ◌<◌, ◌≤◌, Bool, true, false, cond, ltb, eqb, List, [], ◌∷◌, ◌++◌, length, map, Option, None, Some, Result, Ok, Err, refl, sym, ap, subst, ◌∙◌, append_assoc, inl, inr, arith}
-use Rattle.std.specs.Prelude.{◌⊎◌, ◌||◌}
-use Rattle.std.proofs.lemmas.List.{append-nil, length-append}
+use Rattle.std.proofs.Common.{◌≡◌, ◌≢◌, ℕ, zero, suc, ◌+◌, ◌-◌, ◌<◌, Bool, true, false, cond, ltb, eqb, List, [], ◌∷◌, ◌++◌, length, Option, None, Some, Result, Ok, Err, refl, sym, ap, subst, ◌∙◌, append_assoc, inl, inr, arith}
+use Rattle.std.specs.Prelude.{◌||◌}
+use Rattle.std.proofs.lemmas.List.{length-append}
 use Rattle.quic_base.specs.Number.{AreBytes}
 use Rattle.quic_base.proofs.PublicLaws.{front_bytes, back_bytes}
 use Rattle.quic_frame_parts.specs.declared.frame.fault.Fault.{Fault}
 use Rattle.quic_frame_parts.specs.declared.frame.fault.Fault.TheVariants.{UnexpectedEnd, InvalidFrameId, Malformed, LongType}
-use Rattle.quic_frame_parts.specs.Field.{Value, Field, Varint, Counted, Id, Eight, Sixteen, Blocks, Rest, Unwritten, Ordered, is_ordered, greatest_of, NumberStops, BelowStops, BlocksStop, Stops, StopsWithin}
-use Rattle.quic_frame_parts.specs.Table.{is_open, row_of}
-use Rattle.quic_frame_parts.specs.Payload.{Found, IsFrame, AreFrames, AreClosed, last_type, BeginsWithType, HasLongType, IsNoFrame, IsBroken}
-use Rattle.quic_frame_parts.specs.Reading.{Invalid, id_at, field_at, found_at, of_ranges, ◌>>=◌, Item, Whole, items_of}
+use Rattle.quic_frame_parts.specs.Field.{Value, Field, Varint, Counted, Id, Eight, Sixteen, Blocks, Rest, Unwritten, Ordered, is_ordered, greatest_of, NumberStops, BelowStops, BlocksStop, StopsWithin}
+use Rattle.quic_frame_parts.specs.Table.{is_open}
+use Rattle.quic_frame_parts.specs.Payload.{Found, AreFrames, AreClosed, last_type, BeginsWithType, IsNoFrame, IsBroken}
+use Rattle.quic_frame_parts.specs.Reading.{id_at, field_at, found_at, of_ranges, ◌>>=◌, Item, Whole, items_of}
 use Rattle.quic_frame_parts.proofs.Steps.{true_is_not_false}
 use Rattle.quic_frame_parts.proofs.Blocks.{blocks_stop}
 use Rattle.quic_frames.proofs.Fields.{field_fails, field_stops, stops_again}

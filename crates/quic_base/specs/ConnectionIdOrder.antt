@@ -1,4 +1,4 @@
--- How connection ids compare: by length, then by bytes. Below it the laws that an order owes.
+-- How connection ids compare: by length, then by bytes. Below it the laws that an order must keep.
 use Rattle.std.specs.Prelude.{◌≡◌, ◌<◌, ℕ, List, length, nat_eq}
 use Rattle.std.specs.declared.cmp.Ordering.{Ordering}
 use Rattle.std.specs.declared.cmp.Ordering.TheVariants.{Less, Equal, Greater}

@@ -255,7 +255,7 @@ pub trait BufMutExt: BufMut {
         x.encode(self)
     }
 
-    /// Appends the shortest spelling of `x` as a varint (RFC 9000, section 16). The caller owes that
+    /// Appends the shortest spelling of `x` as a varint (RFC 9000, section 16). The caller must ensure that
     /// `x` is below 2^62.
     final fn write_var(&mut self, x: u64) -> std::result::Result<(), NoRoom>
     where

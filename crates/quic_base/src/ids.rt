@@ -132,7 +132,7 @@ impl Model for StreamId {
 
 impl StreamId {
     /// The id of the stream that comes after `index` others of the same initiator and direction.
-    /// The caller owes that `index` is below 2^60.
+    /// The caller must ensure that `index` is below 2^60.
     pub fn new(initiator: Side, dir: Dir, index: u64) -> StreamId
         requires { index < 2 ^ 60 }
         ensures number { result ≡ stream_number initiator dir index }

@@ -54,7 +54,7 @@ impl VarInt {
         }
     }
 
-    /// The number `x`, of which the caller owes that it is below 2^62.
+    /// The number `x`, of which the caller must ensure that it is below 2^62.
     pub const fn from_u64_unchecked(x: u64) -> VarInt
         requires { x < 2 ^ 62 }
         ensures { result ≡ x }

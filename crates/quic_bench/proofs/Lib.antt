@@ -1,1 +1,3 @@
+mod Ends
+mod Masks
 mod Reread

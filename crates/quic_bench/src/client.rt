@@ -80,7 +80,7 @@ pub fn read_two<T: Codec + Drop, B: Buf>(buf: &mut B) -> Result<(T, T)>
     Ok((first, second))
 }
 
-/// A number that was written as a varint is read back, whatever follows it. The caller owes that it
+/// A number that was written as a varint is read back, whatever follows it. The caller must ensure that it
 /// is below 2^62, and that its shortest spelling stands in front.
 pub fn read_back(bytes: &[u8], n: u64, rest: &[u8]) -> Result<u64>
     requires small { n < 2 ^ 62 }

@@ -1,14 +1,16 @@
 //! Frames that are written and read again: what callers learn from the contracts of both.
-ghost use Rattle.std.specs.Prelude.{◌≡◌, true, IfOk, []};
+ghost use Rattle.std.specs.Prelude.{◌≡◌, ◌<◌, ◌^◌, true, ℕ, List, IfOk, []};
+ghost use Rattle.quic_frame_parts.specs.Acks.{ranges_left};
+ghost use Rattle.quic_frame_parts.specs.Field.{AreApart, AreBlocks};
 ghost use Rattle.quic_frames.specs.InRange.{CanStand};
 ghost use Rattle.quic_frames.specs.Meaning.{meaning_of};
 
 use quic_base::coding::NoRoom;
-use quic_frames::frame::{Frame, Iter};
+use quic_frames::frame::{Ack, AckError, AckIter, Frame, Iter};
 use quic_frames::laws;
 
 /// Writes a frame as a payload of its own and gives the frame that is read of it, which says the same.
-/// The caller owes that the frame can be written, and that the buffer is empty.
+/// The caller must ensure that the frame can be written, and that the buffer is empty.
 pub fn written_and_read<'a>(frame: &Frame<'_>, out: &'a mut Vec<u8>) -> Result<Frame<'a>, NoRoom>
     requires stands { CanStand true frame.now }
     requires empty { out.old.items ≡ [] }
@@ -25,4 +27,16 @@ pub fn written_and_read<'a>(frame: &Frame<'_>, out: &'a mut Vec<u8>) -> Result<F
         Some(Err(_)) => unreachable!(),
         None => unreachable!(),
     }
+}
+
+/// The ranges of an ACK's blocks below its largest number, as they come: they are those that the blocks spell, and
+/// no two of them touch. The largest number must be below 2^62.
+pub fn ranges_of_blocks(largest: u64, blocks: &[u8]) -> Result<AckIter<'_>, AckError>
+    requires { largest < 2 ^ 62 }
+    ensures spelled { IfOk result (λ iter. (ranges : List (ℕ × ℕ)) → AreBlocks largest ranges blocks.now → ranges_left iter ≡ ranges) }
+    ensures apart { IfOk result (λ iter. AreApart (ranges_left iter)) }
+{
+    laws::one_list_of_ranges();
+    let ack = Ack::from_parts(largest, 0, blocks, None)?;
+    Ok(ack.iter())
 }

@@ -8,7 +8,7 @@ use quic_params::laws;
 use quic_params::transport_parameters::TransportParameters;
 
 /// Writes a record and gives what a peer of the side reads of it: the record without grease and in the order of
-/// the table. The caller owes that the record is in range for the side, and that the buffer is empty.
+/// the table. The caller must ensure that the record is in range for the side, and that the buffer is empty.
 pub fn written_and_read(
     side: Side,
     params: &TransportParameters,

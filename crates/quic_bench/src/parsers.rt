@@ -5,7 +5,8 @@ ghost use Rattle.quic_bench.specs.Parsers.{none_parsed, none_lawful, self_sized_
 
 use quic_base::coding::Cursor;
 use quic_base::ids::ConnectionId;
-use quic_packets::packet::{ConnectionIdParser, PacketDecodeError};
+use quic_heads::decode_error::PacketDecodeError;
+use quic_heads::parser::ConnectionIdParser;
 
 /// Ids of no bytes, as an endpoint has that knows its peers by their addresses.
 #[derive(Clone, Copy, Debug)]

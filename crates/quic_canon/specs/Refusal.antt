@@ -1,12 +1,12 @@
 -- What is told where there is no canonical payload.
-use Rattle.std.specs.Prelude.{◌≡◌, ◌≢◌, ℕ, List, [], ◌++◌, Option, None, false}
+use Rattle.std.specs.Prelude.{◌≡◌, ◌≢◌, ℕ, List, [], ◌++◌, ◌⊎◌, Option, None, false}
 use Rattle.quic_frame_parts.specs.declared.frame.fault.Fault.{Fault}
 use Rattle.quic_frame_parts.specs.Payload.{Found, AreFrames, IsBroken}
 use Rattle.quic_frame_parts.specs.Reading.{invalid}
 use Rattle.quic_frames.specs.Walk.{invalid_of}
 use Rattle.quic_canon.specs.declared.canonical.CanonError.{CanonError}
 use Rattle.quic_canon.specs.declared.canonical.CanonError.TheVariants.{Empty, Invalid, OutOfMemory}
-use Rattle.quic_canon.specs.Least.{IsLeast}
+use Rattle.quic_canon.specs.Least.{IsLeast, HasMeaning}
 
 -- The payload is refused: it is empty, or broken as the reading tells, or one that only lacks memory.
 abbrev pub IsRefused : List ℕ → CanonError → Type 0
@@ -18,6 +18,10 @@ IsRefused payload OutOfMemory = (payload ≢ []) × (found : List Found) × AreF
 -- It is refused for what it is, and not for want of memory.
 abbrev pub IsWrong : List ℕ → CanonError → Type 0
 IsWrong payload e = IsRefused payload e × (e ≢ OutOfMemory)
+
+-- The first of two payloads is refused, or the second where the first isn't.
+abbrev pub IsEitherRefused : List ℕ → List ℕ → CanonError → Type 0
+IsEitherRefused payload other e = IsRefused payload e ⊎ (HasMeaning payload × IsRefused other e)
 
 -- The least payload of its meaning was appended.
 pub record AppendsLeast (old new payload : List ℕ) : Type 0 where

@@ -13,7 +13,7 @@ ghost use Rattle.quic_canon.specs.Refusal.{IsRefused, IsWrong, AppendsLeast};
 use crate::laws::one_least;
 use quic_frames::frame::{Frame, InvalidFrame, Iter};
 use quic_frames::laws::{least_spelling, one_reading, read_back};
-use std::alloc::Global;
+use std::alloc::{AllocError, Global};
 
 /// Why there is no canonical payload.
 #[derive(Clone, Copy, Debug, PartialEq, Eq)]
@@ -56,6 +56,7 @@ fn shortest_front(payload: &[u8]) -> Result<usize, CanonError>
 
 // The frame takes this many bytes in its shortest spelling, which has no more. One byte always is that, as
 // for each byte of padding.
+#[inline(always)]
 #[tactic(auto, using(crate::proofs::Spans::one_byte))]
 fn is_shortest(frame: &Frame<'_>, last: bool, len: usize) -> bool
     requires stands { CanStand last frame.now }
@@ -177,6 +178,19 @@ impl CanonBytes<'_> {
     }
 }
 
+// The least payload in a vector of its own, for which one growth of the payload's length is made, where it is
+// known how many of the first bytes stand as they are. It isn't inlined: a payload that is canonical goes past it.
+#[inline(never)]
+fn rewritten(alloc: Global, payload: &[u8], front: usize) -> Result<Vec<u8>, AllocError>
+    requires { IsFront payload.now front }
+    ensures { IfOk result (λ out. IsLeast out.items payload.now) }
+{
+    let mut out = Vec::new(alloc);
+    out.reserve(payload.len())?;
+    write_least(payload, front, &mut out);
+    Ok(out)
+}
+
 /// The same as `canonical` appends, without a copy where that is the payload itself: then it takes no
 /// memory. Else one growth of the payload's length is made.
 pub fn canonical_of<'a>(alloc: Global, payload: &'a [u8]) -> Result<CanonBytes<'a>, CanonError>
@@ -192,10 +206,8 @@ pub fn canonical_of<'a>(alloc: Global, payload: &'a [u8]) -> Result<CanonBytes<'
     if front == payload.len() {
         return Ok(CanonBytes::Same(payload));
     }
-    let mut out = Vec::new(alloc);
-    if out.reserve(payload.len()).is_err() {
+    let Ok(out) = rewritten(alloc, payload, front) else {
         return Err(CanonError::OutOfMemory);
-    }
-    write_least(payload, front, &mut out);
+    };
     Ok(CanonBytes::Rewritten(out))
 }

@@ -225,6 +225,10 @@ blocks_of greatest bytes fits valid =
     let blocks : AreBlocks greatest (t.range ∷ t.ranges) bytes = subst (AreBlocks greatest (t.range ∷ t.ranges)) (sym whole) t.blocks in
     record { range = t.range; ranges = t.ranges; are = ranges_are greatest t.range t.ranges bytes blocks; blocks = blocks }
 
+-- the ranges that are read of valid blocks are theirs
+pub acked : (greatest : ℕ) (bytes : List ℕ) → AreBytes bytes → IsBlocks greatest bytes → AreBlocks greatest (ranges_of greatest bytes) bytes
+acked greatest bytes fits valid = let b = blocks_of greatest bytes fits valid in subst (λ (rs : List (ℕ × ℕ)). AreBlocks greatest rs bytes) (sym b.are) b.blocks
+
 -- ---- what can't be read
 
 number_fails : {A : Type 0} (bytes : List ℕ) (e : Fault) (is_large : ℕ → Bool) (k : ℕ × List ℕ → Result A Fault) (After : ℕ → List ℕ → Type 0) → AreBytes bytes

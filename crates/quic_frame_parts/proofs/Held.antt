@@ -1,5 +1,5 @@
 -- An ACK that is held, whose numbers are spelled in any widths.
-use Rattle.std.proofs.Common.{◌≡◌, ℕ, ◌+◌, ◌-◌, ◌*◌, ◌/◌, ◌≤◌, Bool, List, [], ◌∷◌, ◌++◌, length, refl, sym, ap, ◌∙◌, append_assoc, arith}
+use Rattle.std.proofs.Common.{◌≡◌, ℕ, ◌+◌, ◌-◌, ◌*◌, ◌/◌, ◌≤◌, Bool, List, [], ◌∷◌, ◌++◌, length, refl, sym, ap, subst, ◌∙◌, append_assoc, arith}
 use Rattle.std.specs.Prelude.{Option}
 use Rattle.std.proofs.lemmas.List.{length-append, append-nil}
 use Rattle.quic_base.specs.Number.{AreBytes}
@@ -71,6 +71,10 @@ held_parts a fits q =
           rw (b.are, others, below_short b.range.0 b.ranges) (ack_parts last a.largest a.delay b.range b.ranges a.ecn
           ∙ moved (ack_type a.ecn ∷ a.largest ∷ a.delay ∷ length b.ranges ∷ []) (b.range.1 - b.range.0) (shortest_below b.range.0 b.ranges) (all_short (count_numbers a.ecn)));
     }
+
+-- how many ranges are below the first, by how many numbers were counted
+pub held_many : (a : Ack) (h : HeldParts a) (spelled : List ℕ) (count : ℕ) → spelled ≡ a.additional.now → ((ns : List ℕ) → AreSpelled ns spelled → count ≡ length ns) → count / 2 ≡ length (ranges_acked a) - 1
+held_many a h spelled count is counted = ap (λ (n : ℕ). n / 2) (counted h.numbers (subst (AreSpelled h.numbers) (sym is) h.spelled)) ∙ h.many
 
 -- the same of a head and counts that were computed
 pub held_whole : (a : Ack) (h : HeldParts a) (last : Bool) (head : List ℕ) (counts : Option EcnCounts) → head ≡ head_numbers a → counts ≡ a.ecn

@@ -1,9 +1,11 @@
 -- Numbers that bytes spell, read one after the other.
-use Rattle.std.proofs.Common.{◌≡◌, ℕ, suc, ◌+◌, ◌<◌, List, [], ◌∷◌, ◌++◌, length, take, get_or, Result, Ok, Err, refl, sym, ap, subst, ◌∙◌, append_assoc, arith}
-use Rattle.std.proofs.lemmas.List.{length-append, append-nil}
+use Rattle.std.proofs.Common.{◌≡◌, ℕ, zero, suc, ◌+◌, ◌-◌, ◌<◌, ◌≤◌, List, [], ◌∷◌, ◌++◌, length, take, drop, get_or, Result, Ok, Err, refl, sym, ap, subst, ◌∙◌, append_assoc, arith}
+use Rattle.std.specs.Prelude.{slice_range}
+use Rattle.std.proofs.lemmas.Bool.Decides.{nat_tests}
+use Rattle.std.proofs.lemmas.List.{length-append, length-drop, append-nil, take-append-drop}
 use Rattle.quic_base.specs.Number.{AreBytes}
-use Rattle.quic_base.specs.Varint.{short, size}
-use Rattle.quic_base.proofs.PublicLaws.{back_bytes, length-short}
+use Rattle.quic_base.specs.Varint.{Spells, short, size}
+use Rattle.quic_base.proofs.PublicLaws.{back_bytes, length-short, short_least, short_spells}
 use Rattle.quic_frame_parts.specs.declared.frame.fault.Fault.{Fault}
 use Rattle.quic_frame_parts.specs.Reading.{varint_at}
 use Rattle.quic_base.specs.Writing.{Writes}
@@ -11,7 +13,7 @@ use Rattle.quic_frame_parts.specs.Numbers.{AreSpelled, all_short}
 use Rattle.quic_frame_parts.proofs.Steps.{ok_is, ok_is_not_err}
 use Rattle.quic_frame_parts.proofs.Varints.{varint_takes, varint_again, varint_some}
 use Rattle.quic_base.proofs.Encoders.{Wrote, wrote_more, writes_within}
-use Rattle.quic_frame_parts.proofs.Numbers.{all_short-at}
+use Rattle.quic_frame_parts.proofs.Numbers.{all_short-at, take_whole}
 
 pub after_shorter : (rest : List ℕ) (n : ℕ) (after : List ℕ) → AreBytes rest → varint_at rest ≡ Ok (n, after) → length after < length rest
 after_shorter rest n after fits e =
@@ -20,6 +22,13 @@ after_shorter rest n after fits e =
 
 pub after_fits : (rest : List ℕ) (n : ℕ) (after : List ℕ) → AreBytes rest → varint_at rest ≡ Ok (n, after) → AreBytes after
 after_fits rest n after fits e = let t = varint_takes rest n after fits e in back_bytes t.front after (subst AreBytes t.split fits)
+
+pub drop_fits : (k : ℕ) (rest : List ℕ) → AreBytes rest → AreBytes (drop k rest)
+drop_fits k rest fits = back_bytes (take k rest) (drop k rest) (subst AreBytes (sym (take-append-drop k rest)) fits)
+
+-- what is read behind the first bytes
+pub read_behind : (k : ℕ) (rest : List ℕ) (r : Result (ℕ × List ℕ) Fault) → varint_at (slice_range rest k (length rest)) ≡ r → varint_at (drop k rest) ≡ r
+read_behind k rest r e = ap varint_at (sym (take_whole (drop k rest) (length rest - k) (omega (arith, length-drop k rest)))) ∙ e
 
 record NextNumber (ns : List ℕ) (n : ℕ) (after : List ℕ) : Type 0 where
   others : List ℕ
@@ -77,19 +86,61 @@ all_short-append (n ∷ some) others = ap (λ (l : List ℕ). short n ++ l) (all
 all_short-last : (ns : List ℕ) (n : ℕ) → all_short (ns ++ n ∷ []) ≡ all_short ns ++ short n
 all_short-last ns n = all_short-append ns (n ∷ []) ∙ ap (λ (l : List ℕ). all_short ns ++ l) (append-nil (short n))
 
--- their count
-abbrev pub AreMany : ℕ → List ℕ → Type 0
-AreMany count ns = count ≡ length ns
+-- how many they are, and how long their shortest spellings
+pub record AreCounted (count total : ℕ) (ns : List ℕ) : Type 0 where
+  pub many : count ≡ length ns
+  pub long : total ≡ length (all_short ns)
 
-pub one_more : (count n : ℕ) (ns : List ℕ) → AreMany count ns → AreMany (count + 1) (ns ++ n ∷ [])
-one_more count n ns e = omega (arith, e, length-append ns (n ∷ []))
+pub count_none : AreCounted 0 0 []
+count_none = record { many = refl; long = refl }
 
--- the length of their shortest spellings
-abbrev pub AreLong : ℕ → List ℕ → Type 0
-AreLong total ns = total ≡ length (all_short ns)
+one_counted : (count total n more count' total' : ℕ) → more ≡ size n → count' ≡ count + 1 → total' ≡ total + more → (ns : List ℕ) → AreCounted count total ns → AreCounted count' total' (ns ++ n ∷ [])
+one_counted count total n more count' total' more_is c t ns a = record {
+  many = let many = a.many in omega (arith, c, many, length-append ns (n ∷ []));
+  long = let long = a.long in omega (arith, t, long, more_is, ap length (all_short-last ns n), length-append (all_short ns) (short n), length-short n);
+}
 
-pub longer : (total n more : ℕ) → more ≡ size n → (ns : List ℕ) → AreLong total ns → AreLong (total + more) (ns ++ n ∷ [])
-longer total n more more_is ns e = omega (arith, e, more_is, ap length (all_short-last ns n), length-append (all_short ns) (short n), length-short n)
+same_counted : (count total count' total' : ℕ) → count' ≡ count + 0 → total' ≡ total + 0 → (ns : List ℕ) → AreCounted count total ns → AreCounted count' total' ns
+same_counted count total count' total' c t ns a = record {
+  many = let many = a.many in omega (arith, c, many);
+  long = let long = a.long in omega (arith, t, long);
+}
+
+read_as : (P Q : List ℕ → Type 0) (rest ns : List ℕ) → ((before : List ℕ) → P before → Q before) → ReadSome P rest ns → ReadSome Q rest ns
+read_as P Q rest ns f r = record { before = r.before; left = r.left; are = r.are; numbers = r.numbers; holds = f r.before r.holds }
+
+-- numbers of one byte each
+one_size : (n : ℕ) → n < 64 → size n ≡ 1
+unfolding size
+one_size n lt = grind (arith, nat_tests)
+
+one_short : (n : ℕ) → n < 64 → short n ≡ n ∷ []
+unfolding short
+one_short n lt = grind (arith, nat_tests)
+
+one_at : (n : ℕ) (rest : List ℕ) → n < 64 → varint_at (n ∷ rest) ≡ Ok (n, rest)
+one_at n rest lt = varint_again n (n ∷ []) rest (subst (Spells n) (one_short n lt) (short_spells n (omega (arith, lt))))
+
+pub ones_counted : (k : ℕ) (rest : List ℕ) (count total count' total' : ℕ) (ns : List ℕ) → AreBytes rest → k ≤ length rest → ((i : ℕ) → i < k → get_or rest i 0 < 64) → count' ≡ count + k → total' ≡ total + k
+    → ReadSome (AreCounted count total) rest ns → ReadSome (AreCounted count' total') (drop k rest) ns
+ones_counted zero rest count total count' total' ns fits le ones c t r = read_as (AreCounted count total) (AreCounted count' total') rest ns (same_counted count total count' total' c t) r
+ones_counted (suc k) [] count total count' total' ns fits le ones c t r = absurd (omega (arith, le))
+ones_counted (suc k) (n ∷ rest) count total count' total' ns fits le ones c t r =
+    let lt : n < 64 = ones 0 (omega arith) in
+    let next = read_more (AreCounted count total) (AreCounted (count + 1) (total + 1)) (n ∷ rest) ns n rest fits r (one_at n rest lt) (one_counted count total n 1 (count + 1) (total + 1) (sym (one_size n lt)) refl refl) in
+    ones_counted k rest (count + 1) (total + 1) count' total' ns (after_fits (n ∷ rest) n rest fits (one_at n rest lt)) (omega (arith, le)) (λ i i_lt. ones (suc i) (omega (arith, i_lt))) (omega (arith, c)) (omega (arith, t)) next
+
+-- one more, of any width
+pub more_counted : (rest : List ℕ) (count total n more count' total' : ℕ) (after ns : List ℕ) → AreBytes rest → varint_at rest ≡ Ok (n, after) → more ≡ size n → count' ≡ count + 1 → total' ≡ total + more
+    → ReadSome (AreCounted count total) rest ns → ReadSome (AreCounted count' total') after ns
+more_counted rest count total n more count' total' after ns fits e more_is c t r =
+    read_more (AreCounted count total) (AreCounted count' total') rest ns n after fits r e (one_counted count total n more count' total' more_is c t)
+
+-- the shortest spelling is no longer than the one that was read
+pub after_least : (rest : List ℕ) (n : ℕ) (after : List ℕ) → AreBytes rest → varint_at rest ≡ Ok (n, after) → size n + length after ≤ length rest
+after_least rest n after fits e =
+    let t = varint_takes rest n after fits e in
+    omega (arith, (short_least n t.front t.is).0, length-short n, ap length t.split, length-append t.front after)
 
 pub longer_at : (ns : List ℕ) (i total more : ℕ) → i < length ns → more ≡ size (get_or ns i 0) → total ≡ length (all_short (take i ns)) → total + more ≡ length (all_short (take (i + 1) ns))
 longer_at ns i total more lt more_is e =

@@ -1,5 +1,5 @@
 //! Laws of payloads, which no single call carries. The functions do nothing.
-ghost use Rattle.std.specs.Prelude.{◌≡◌, ◌≢◌, ◌<◌, ◌^◌, ◌++◌, ℕ, List, [], ◌∷◌, None, Option, Bool, true, false, map, length};
+ghost use Rattle.std.specs.Prelude.{◌≡◌, ◌≢◌, ◌<◌, ◌≤◌, ◌^◌, ◌++◌, ℕ, List, [], ◌∷◌, None, Option, Bool, true, false, map, length};
 ghost use Rattle.std.specs.declared.ops.Range.{Range};
 ghost use Rattle.quic_base.specs.Number.{AreBytes};
 ghost use Rattle.quic_ranges.specs.Runs.{IsMaximalRuns, IsGreatest, member};
@@ -23,6 +23,8 @@ ghost use Rattle.quic_frame_parts.specs.declared.frame.ack.Ack.{Ack};
 ghost use Rattle.quic_frame_parts.specs.declared.frame.ack.EcnCounts.{EcnCounts};
 ghost use Rattle.quic_frame_parts.specs.declared.frame.fault.Fault.{Fault};
 ghost use Rattle.quic_frame_parts.specs.declared.frame.fault.Fault.TheVariants.{UnexpectedEnd, LongType};
+
+use crate::frame::RETIRE_CONNECTION_ID_SIZE_BOUND;
 
 /// A payload has one reading: it is frames, or frames and then something that is none, and never both.
 /// That holds where types count in any spelling, and where they count in their shortest alone.
@@ -125,4 +127,11 @@ pub fn read_back()
     // What is asked of a frame that is written holds of each frame that is spelled.
     ensures exact { (last : Bool) (t : ℕ) (frame : Frame) (bytes : List ℕ) → IsToldApart frame
         → IsFrame false (found_as t frame) bytes → (is_open t ≡ true → last ≡ true) → CanStand last frame }
+{}
+
+/// A RETIRE_CONNECTION_ID takes at most the bytes of its bound.
+#[tactic(auto, using(crate::proofs::SizeBounds::retire_bound))]
+pub fn retire_connection_id_is_bounded()
+    ensures value { RETIRE_CONNECTION_ID_SIZE_BOUND ≡ 9 }
+    ensures bounds { (last : Bool) (sequence : ℕ) → length (shortest_frame last (meaning_of (frames.RetireConnectionId sequence))) ≤ RETIRE_CONNECTION_ID_SIZE_BOUND }
 {}

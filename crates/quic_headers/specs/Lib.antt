@@ -1,2 +1,4 @@
+pub mod Queries
 pub mod Starts
 pub mod Types
+pub mod Writing

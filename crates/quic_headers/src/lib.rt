@@ -1,4 +1,6 @@
-//! The first bytes of heads, and the types of long heads (RFC 9000, section 17; RFC 9369, section 3).
+//! Heads of packets as values, and how they are written (RFC 9000, section 17; RFC 9369, section 3).
 #![tactic(auto)]
 
+pub mod encode;
+pub mod header;
 pub mod long_type;

@@ -1,8 +1,9 @@
 mod Cuts
-mod CutAnswers
+pub mod CutAnswers
 pub mod Datagrams
 mod Ends
 mod FieldLaws
+mod Finishes
 mod HeadAgain
 mod HeadFound
 mod RefusedFound

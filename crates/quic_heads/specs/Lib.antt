@@ -1,8 +1,10 @@
 pub mod Datagram
 pub mod Fields
+pub mod Finish
 pub mod Grammar
+pub mod Headers
 pub mod Packet
 pub mod Parsers
+pub mod Queries
 pub mod Reading
 pub mod Refusal
-pub mod Queries

@@ -1,5 +1,12 @@
-//! Packets of QUIC (RFC 9000, sections 12 and 17; RFC 9369, section 3): the crate that users import.
+//! Packets of QUIC, sealed and opened (RFC 9000, sections 12 and 17; RFC 9001, section 5; RFC 9369, section 3):
+//! the crate that users import.
 #![tactic(auto)]
 
+pub mod crypto;
+pub mod keys;
 pub mod laws;
+pub mod opening;
 pub mod packet;
+pub mod pairs;
+mod payload;
+pub mod seal;

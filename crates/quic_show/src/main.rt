@@ -4,23 +4,20 @@
 ghost use Rattle.std.specs.Prelude.{◌≡◌};
 ghost use Rattle.quic_text.specs.Status.{status_of};
 
-use quic_text::{FromRead, Mode, RunError, ToWrite, mode_of, run, status};
+use quic_text::{
+    FromRead, Mode, RunError, ToWrite, message, mode_of, run, status, usage, wrong_arguments,
+};
 use std::alloc::AllocError;
 use std::env;
 use std::io::ErrorKind;
 use std::process::ExitCode;
 
-const USAGE: &str = "usage: quic-show frames|strict|canon|datagram LEN|params client|server";
-
-/// The status of wrong arguments.
-const WRONG_ARGUMENTS: u8 = 2;
-
 fn main(rt: HostRuntime) -> ExitCode {
     ExitCode::from(match asked_mode(&rt) {
         Ok(Some(mode)) => show(&rt, mode),
         Ok(None) => {
-            let _ = rt.eprintln(USAGE);
-            WRONG_ARGUMENTS
+            let _ = rt.eprintln(usage());
+            wrong_arguments()
         }
         Err(AllocError) => report(&rt, Err(RunError::OutOfMemory)),
     })
@@ -53,11 +50,7 @@ fn report(rt: &HostRuntime, outcome: Result<bool, RunError>) -> u8
     ensures { result ≡ status_of outcome }
 {
     if let Err(e) = outcome {
-        let _ = rt.eprintln(match e {
-            RunError::Read => "quic-show: read failed",
-            RunError::Write => "quic-show: write failed",
-            RunError::OutOfMemory => "quic-show: out of memory",
-        });
+        let _ = rt.eprintln(message(e));
     }
     status(&outcome)
 }

@@ -3,7 +3,6 @@ ghost use Rattle.std.specs.Prelude.{◌≡◌, ◌++◌, ◌↔◌, ℕ, List, �
 ghost use Rattle.quic_text.specs.Text.{text_of, is_clean};
 ghost use Rattle.quic_text.specs.Whole.{AppendsBeginning, WritesText, WritesBeginning};
 ghost use Rattle.quic_text.specs.declared.engine.RunError.TheVariants.{OutOfMemory};
-ghost use Rattle.quic_text.specs.Status.{status_of};
 
 use super::lines::first_line;
 use super::mode::Mode;
@@ -114,15 +113,4 @@ fn write_all<W: Sink>(sink: &mut W, bytes: &[u8]) -> Result<(), Failed>
         done += sink.write(&bytes[done..])?;
     }
     Ok(())
-}
-
-/// The exit status of a run.
-pub fn status(outcome: &Result<bool, RunError>) -> u8
-    ensures { result ≡ status_of outcome.now }
-{
-    match outcome {
-        Ok(true) => 0,
-        Ok(false) => 1,
-        Err(_) => 3,
-    }
 }

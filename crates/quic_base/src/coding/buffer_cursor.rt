@@ -66,7 +66,7 @@ impl Cursor {
         rest
     }
 
-    /// Passes over the next `count` bytes. The caller owes that they are there.
+    /// Passes over the next `count` bytes. The caller must ensure that they are there.
     #[inline]
     pub fn advance(&mut self, count: usize)
         requires { count ≤ length (unread self.old) }

@@ -46,7 +46,7 @@ impl Model for ConnectionId {
 impl ConnectionId {
     ghost use Rattle.quic_base.specs.ConnectionIdLoan.{LendsBytes};
 
-    /// The id of these bytes. The caller owes that they are at most 20.
+    /// The id of these bytes. The caller must ensure that they are at most 20.
     #[inline]
     #[tactic(auto, using(crate::proofs::Ends::padding))]
     pub fn new(bytes: &[u8]) -> ConnectionId
@@ -61,7 +61,7 @@ impl ConnectionId {
         }
     }
 
-    /// Takes the next `len` bytes. The caller owes that they are there, and at most 20.
+    /// Takes the next `len` bytes. The caller must ensure that they are there, and at most 20.
     pub fn from_buf<B: Buf>(buf: &mut B, len: usize) -> ConnectionId
         requires short { len ≤ MAX_CID_SIZE }
         requires enough { len ≤ length (B.unread buf.old) }
@@ -132,7 +132,7 @@ impl ConnectionId {
         &mut self.bytes[..self.len as usize]
     }
 
-    /// Replaces the bytes by as many others. The caller owes that the lengths are equal.
+    /// Replaces the bytes by as many others. The caller must ensure that the lengths are equal.
     pub fn copy_from_slice(&mut self, bytes: &[u8])
         requires { length bytes.now ≡ length self.old }
         ensures { self.new ≡ bytes.now }

@@ -1,10 +1,12 @@
 //! Acknowledgements: which packet numbers arrived (RFC 9000, section 19.3).
 ghost use Rattle.std.specs.Prelude.{◌≡◌, ◌+◌, ◌<◌, ◌^◌, [], Ok, Some, IfErr, IfOk};
+ghost use Rattle.quic_frame_parts.specs.Field.{AreBlocks};
 ghost use Rattle.quic_frame_parts.specs.Reading.{IsBlocks, blocks_left};
 ghost use Rattle.quic_frame_parts.specs.Refusal.{AreNoBlocks};
 
 use super::fault::Fault;
 use super::field;
+use quic_base::coding::are_bytes;
 use quic_base::ids::EcnCodepoint;
 use std::ops::{AddAssign, RangeInclusive};
 use thiserror::Error;
@@ -35,6 +37,7 @@ impl<'a> Ack<'a> {
 
     /// An acknowledgement of its parts, of which numbers below 2^62 are asked. `blocks` is a first
     /// block and any number of pairs of gap and block, and nothing else. It takes no memory.
+    #[tactic(auto, using(crate::proofs::Blocks::acked))]
     pub fn from_parts(
         largest: u64,
         delay: u64,
@@ -44,9 +47,10 @@ impl<'a> Ack<'a> {
         requires largest { largest < 2 ^ 62 }
         requires delay { delay < 2 ^ 62 }
         ensures parts { IfOk result (λ a. parts_of a ≡ record { largest = largest; delay = delay; additional = blocks.now; ecn = ecn }) }
-        ensures valid { IfOk result (λ _. IsBlocks largest blocks.now) }
+        ensures ranges { IfOk result (λ a. AreBlocks largest (ranges_acked a) blocks.now) }
         ensures refused { IfErr result (λ e. AreNoBlocks largest blocks.now (fault_of e)) }
     {
+        are_bytes(blocks);
         match field::all_blocks(largest, blocks) {
             Ok(()) => Ok(Ack {
                 largest,
@@ -131,7 +135,7 @@ impl EcnCounts {
     };
 }
 
-/// One more packet of a codepoint. The caller owes that its count is below 2^64 - 1.
+/// One more packet of a codepoint. The caller must ensure that its count is below 2^64 - 1.
 impl AddAssign<EcnCodepoint> for EcnCounts {
     ghost use Rattle.quic_frame_parts.specs.Acks.{count_of, CountsOne};
     ghost use Rattle.std.specs.Prelude.{◌<◌, ◌^◌, ◌+◌};

@@ -1,8 +1,8 @@
 //! Acknowledgements, written in their shortest form (RFC 9000, section 19.3).
-ghost use Rattle.std.specs.Prelude.{◌≡◌, ◌≢◌, ◌<◌, ◌≤◌, ◌^◌, ◌∷◌, ◌++◌, [], ℕ, Bool, true, length};
+ghost use Rattle.std.specs.Prelude.{◌≡◌, ◌≢◌, ◌<◌, ◌≤◌, ◌-◌, ◌/◌, ◌^◌, ◌∷◌, ◌++◌, [], ℕ, Bool, true, length};
 ghost use Rattle.std.specs.Option.{option_copied};
-ghost use Rattle.quic_base.specs.Number.{AreBytes};
 ghost use Rattle.quic_ranges.specs.Runs.{IsMaximalRuns, member};
+ghost use Rattle.quic_frame_parts.specs.Acks.{ranges_acked};
 ghost use Rattle.quic_frame_parts.specs.Parts.{ack_meaning};
 ghost use Rattle.quic_frame_parts.specs.Sets.{AreCounts, IsAckInRange, ranges_in, ack_of, ack_type, count_numbers, head_numbers};
 ghost use Rattle.quic_frame_parts.specs.Shortest.{shortest_frame, shortest_below};
@@ -17,7 +17,7 @@ use quic_ranges::range_set::{ArrayIter, ArrayRangeSet};
 use std::ops::Range;
 
 impl Ack<'_> {
-    /// Appends an ACK of a set (RFC 9000, section 19.3). The caller owes that the set has a number, and
+    /// Appends an ACK of a set (RFC 9000, section 19.3). The caller must ensure that the set has a number, and
     /// that its numbers, the delay and the counts are below 2^62. Answers `NoRoom` only where the spare
     /// room is less than the frame; then what stood there stands, followed by a beginning of the frame.
     /// It takes no memory.
@@ -102,14 +102,13 @@ fn counts_len(ecn: Option<EcnCounts>) -> u128
 }
 
 // The numbers in front of the blocks: the type, the greatest number, the delay, and how many ranges are
-// below the first.
-fn head_of(ack: &Ack<'_>) -> [u64; 4]
-    requires { IsAckInRange ack.now }
-    ensures numbers { result ≡ head_numbers ack.now }
-    ensures bytes { AreBytes ack.now.additional.now }
+// below the first, where it is known how many numbers the blocks are.
+#[inline(always)]
+fn head_of(ack: &Ack<'_>, numbers: u64) -> [u64; 4]
+    requires { numbers / 2 ≡ length (ranges_acked ack.now) - 1 }
+    ensures { result ≡ head_numbers ack.now }
 {
-    let count = write::count_of(ack.additional()) / 2;
-    [type_of(ack.ecn()), ack.largest(), ack.delay(), count]
+    [type_of(ack.ecn()), ack.largest(), ack.delay(), numbers / 2]
 }
 
 /// Appends an acknowledgement that is held, whose numbers may have been spelled in any widths, as
@@ -119,16 +118,19 @@ pub fn encode_ack<B: BufMut>(ack: &Ack<'_>, out: &mut B) -> Result<(), NoRoom>
     ensures { (last : Bool) → Writes result (shortest_frame last (ack_meaning ack.now))
         (B.written out.old) (B.spare out.old) (B.written out.new) (B.spare out.new) }
 {
-    write::numbers(out, &head_of(ack))?;
+    let (numbers, _) = write::count_and_len(ack.additional());
+    write::numbers(out, &head_of(ack, numbers))?;
     write::shortened(out, ack.additional())?;
     encode_counts(ack.ecn(), out)
 }
 
 /// How many bytes `encode_ack` appends.
+#[inline(always)]
 pub fn ack_len(ack: &Ack<'_>) -> u128
     requires { IsAckInRange ack.now }
     ensures { (last : Bool) → result ≡ length (shortest_frame last (ack_meaning ack.now)) }
 {
-    let head = write::numbers_len(&head_of(ack));
-    head + write::shortened_len(ack.additional()) + counts_len(ack.ecn())
+    let (numbers, blocks) = write::count_and_len(ack.additional());
+    let head = write::numbers_len(&head_of(ack, numbers));
+    head + u128::from(blocks) + counts_len(ack.ecn())
 }

@@ -9,7 +9,7 @@ use quic_base::coding::NoRoom;
 impl Datagram<'_> {
     /// Appends the frame, with the length of its data where `with_length` is set; without it the frame has to
     /// be the last of its payload. One growth of at most `size` bytes is made, and where that is
-    /// refused `out` is as it was. It can't be where there is spare room for the frame. The caller owes
+    /// refused `out` is as it was. It can't be where there is spare room for the frame. The caller must ensure
     /// that the data is below 2^62 bytes where its length is written.
     #[tactic(auto, using(crate::proofs::Encoding::datagram_counted, crate::proofs::Encoding::datagram_open))]
     pub fn encode(&self, with_length: bool, out: &mut Vec<u8>) -> Result<(), NoRoom>
@@ -26,7 +26,7 @@ impl Datagram<'_> {
         }
     }
 
-    /// How many bytes `encode` appends. The caller owes that the data is below 2^62 bytes where its
+    /// How many bytes `encode` appends. The caller must ensure that the data is below 2^62 bytes where its
     /// length is written.
     #[tactic(auto, using(crate::proofs::Encoding::datagram_counted_length, crate::proofs::Encoding::datagram_open_length))]
     pub fn size(&self, with_length: bool) -> usize

@@ -82,7 +82,7 @@ impl AckFrequency {
 }
 
 impl Crypto<'_> {
-    /// Appends the frame, as `ResetStream::encode` does. The caller owes that the offset and the length
+    /// Appends the frame, as `ResetStream::encode` does. The caller must ensure that the offset and the length
     /// are below 2^62.
     #[tactic(auto, using(crate::proofs::Encoding::crypto_parts))]
     pub fn encode<B: BufMut>(&self, out: &mut B) -> Result<(), NoRoom>
@@ -97,7 +97,7 @@ impl Crypto<'_> {
 }
 
 impl NewToken<'_> {
-    /// Appends the frame, as `ResetStream::encode` does. The caller owes that the length is below 2^62.
+    /// Appends the frame, as `ResetStream::encode` does. The caller must ensure that the length is below 2^62.
     #[tactic(auto, using(crate::proofs::Encoding::token_parts))]
     pub fn encode<B: BufMut>(&self, out: &mut B) -> Result<(), NoRoom>
         requires { length self.now.token.now < 2 ^ 62 }
@@ -108,7 +108,7 @@ impl NewToken<'_> {
         write::numbers_and_bytes(out, &[0x07, length], self.token)
     }
 
-    /// How many bytes `encode` appends. The caller owes that the length is below 2^62.
+    /// How many bytes `encode` appends. The caller must ensure that the length is below 2^62.
     #[tactic(auto, using(crate::proofs::Encoding::token_length))]
     pub fn size(&self) -> usize
         requires { length self.now.token.now < 2 ^ 62 }
@@ -119,7 +119,7 @@ impl NewToken<'_> {
 }
 
 impl EcnCounts {
-    /// Appends the three counts, as `ResetStream::encode` does. The caller owes that they are below
+    /// Appends the three counts, as `ResetStream::encode` does. The caller must ensure that they are below
     /// 2^62.
     pub fn encode<B: BufMut>(&self, out: &mut B) -> Result<(), NoRoom>
         requires ect0 { self.now.ect0 < 2 ^ 62 }
@@ -133,7 +133,7 @@ impl EcnCounts {
 }
 
 impl NewConnectionId {
-    /// Appends the frame, as `ResetStream::encode` does. The caller owes that both sequence numbers are
+    /// Appends the frame, as `ResetStream::encode` does. The caller must ensure that both sequence numbers are
     /// below 2^62.
     pub fn encode<B: BufMut>(&self, out: &mut B) -> Result<(), NoRoom>
         requires sequence { self.now.sequence < 2 ^ 62 }
@@ -176,7 +176,7 @@ fn cut(reason: &[u8], room: usize) -> &[u8]
 }
 
 impl ConnectionClose<'_> {
-    /// The least room that `encode` asks for. The caller owes that the reason's length is below 2^62.
+    /// The least room that `encode` asks for. The caller must ensure that the reason's length is below 2^62.
     pub fn min_len(&self) -> usize
         requires { length self.now.reason.now < 2 ^ 62 }
         ensures { result ≡ least_room (closes.Connection self.now) }
@@ -187,7 +187,7 @@ impl ConnectionClose<'_> {
     }
 
     /// Appends the frame, as `ResetStream::encode` does, with as much of the reason as leaves the frame
-    /// at most `max_len` bytes. The caller owes that this is at least `min_len`, and that the reason's
+    /// at most `max_len` bytes. The caller must ensure that this is at least `min_len`, and that the reason's
     /// length is below 2^62.
     #[tactic(auto, using(crate::proofs::Encoding::connection_close_fits))]
     pub fn encode<B: BufMut>(&self, out: &mut B, max_len: usize) -> Result<(), NoRoom>
@@ -214,7 +214,7 @@ impl ConnectionClose<'_> {
 }
 
 impl ApplicationClose<'_> {
-    /// The least room that `encode` asks for. The caller owes that the reason's length is below 2^62.
+    /// The least room that `encode` asks for. The caller must ensure that the reason's length is below 2^62.
     pub fn min_len(&self) -> usize
         requires { length self.now.reason.now < 2 ^ 62 }
         ensures { result ≡ least_room (closes.Application self.now) }
@@ -247,7 +247,7 @@ impl ApplicationClose<'_> {
 }
 
 impl Close<'_> {
-    /// The least room that `encode` asks for. The caller owes that the reason's length is below 2^62.
+    /// The least room that `encode` asks for. The caller must ensure that the reason's length is below 2^62.
     pub fn min_len(&self) -> usize
         requires { length (close_reason self.now) < 2 ^ 62 }
         ensures { result ≡ least_room self.now }

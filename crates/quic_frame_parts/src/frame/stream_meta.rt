@@ -40,7 +40,7 @@ impl Default for StreamMeta {
 impl StreamMeta {
     /// Appends the frame up to its data, with the length of these where `with_length` is set. Answers `NoRoom`
     /// only where the spare room is less than that; then what stood there stands, followed by a beginning
-    /// of it. The caller owes that the range isn't reversed, that it starts below 2^62, and that its
+    /// of it. The caller must ensure that the range isn't reversed, that it starts below 2^62, and that its
     /// length is below 2^62 where it is written.
     pub fn encode<B: BufMut>(&self, with_length: bool, out: &mut B) -> Result<(), NoRoom>
         requires ordered { self.now.offsets.start ≤ self.now.offsets.end }
@@ -56,8 +56,8 @@ impl StreamMeta {
     }
 }
 
-/// A STREAM up to its data, whose length is written where it is given. The caller owes that the numbers are below
-/// 2^62. Answers `NoRoom` as `StreamMeta::encode` does.
+/// A STREAM up to its data, whose length is written where it is given. The caller must ensure that the numbers
+/// are below 2^62. Answers `NoRoom` as `StreamMeta::encode` does.
 pub fn encode_head<B: BufMut>(
     out: &mut B,
     id: StreamId,

@@ -1,5 +1,5 @@
 //! Numbers and bytes, appended to a buffer.
-ghost use Rattle.std.specs.Prelude.{◌≡◌, ◌<◌, ◌≤◌, ◌+◌, ◌*◌, ◌^◌, ◌++◌, ℕ, List, length, IsOk, OnOk, OnErr, vec_len, vec_capacity};
+ghost use Rattle.std.specs.Prelude.{◌≡◌, ◌<◌, ◌≤◌, ◌+◌, ◌*◌, ◌^◌, ◌++◌, ℕ, List, length, get_or, IsOk, OnOk, OnErr, vec_len, vec_capacity};
 ghost use Rattle.quic_base.specs.ConnectionId.{long_id};
 ghost use Rattle.quic_base.specs.Varint.{size};
 ghost use Rattle.quic_base.specs.Number.{AreBytes};
@@ -52,6 +52,7 @@ pub fn id_and_bytes<B: BufMut>(out: &mut B, id: &ConnectionId, tail: &[u8]) -> R
 }
 
 /// The length of the shortest spelling of a number.
+#[inline(always)]
 #[tactic(auto, using(crate::proofs::Encoding::size_small))]
 pub fn size_of(n: u64) -> usize
     requires { n < 2 ^ 62 }
@@ -74,35 +75,42 @@ pub fn shortened<B: BufMut>(out: &mut B, spelled: &[u8]) -> Result<(), NoRoom>
     Ok(())
 }
 
-/// How many numbers the bytes spell.
-pub fn count_of(spelled: &[u8]) -> u64
-    ensures count { (ns : List ℕ) → AreSpelled ns spelled.now → result ≡ length ns }
-    ensures bytes { AreBytes spelled.now }
+// How many bytes at the front are below 64, and so a number of one byte each.
+fn ones(bytes: &[u8]) -> usize
+    ensures within { result ≤ length bytes.now }
+    ensures ones { (i : ℕ) → i < result → get_or bytes.now i 0 < 64 }
+    ensures most { result < length bytes.now → 64 ≤ get_or bytes.now result 0 }
 {
-    let mut count: u64 = 0;
-    let mut rest = spelled;
-    while let Ok((_, after)) = field::varint(rest) {
-        count += 1;
-        rest = after;
+    let mut n = 0;
+    while n < bytes.len() && bytes[n] < 64 {
+        n += 1;
     }
-    count
+    n
 }
 
-/// How many bytes `shortened` appends.
-pub fn shortened_len(spelled: &[u8]) -> u128
-    ensures value { (ns : List ℕ) → AreSpelled ns spelled.now → result ≡ length (all_short ns) }
-    ensures small { result ≤ 8 * length spelled.now }
+/// How many numbers the bytes spell, and how many bytes `shortened` appends of them.
+pub fn count_and_len(spelled: &[u8]) -> (u64, u64)
+    ensures count { (ns : List ℕ) → AreSpelled ns spelled.now → result.0 ≡ length ns }
+    ensures len { (ns : List ℕ) → AreSpelled ns spelled.now → result.1 ≡ length (all_short ns) }
+    ensures small { result.1 ≤ length spelled.now }
+    ensures bytes { AreBytes spelled.now }
 {
-    let mut total: u128 = 0;
+    let mut count = 0;
+    let mut len = 0;
     let mut rest = spelled;
-    while let Ok((number, after)) = field::varint(rest) {
-        total += size_of(number) as u128;
+    loop {
+        let n = ones(rest);
+        let Ok((number, after)) = field::varint(&rest[n..]) else {
+            return ((count + n) as u64, (len + n) as u64);
+        };
+        count += n + 1;
+        len += n + size_of(number);
         rest = after;
     }
-    total
 }
 
 /// How many bytes `numbers` appends.
+#[inline(always)]
 pub fn numbers_len(numbers: &[u64]) -> u128
     requires { AreNumeric numbers.now }
     ensures value { result ≡ length (all_short numbers.now) }
@@ -116,6 +124,7 @@ pub fn numbers_len(numbers: &[u64]) -> u128
 }
 
 /// How many bytes `numbers_and_bytes` appends.
+#[inline(always)]
 pub fn numbers_and_bytes_len(head: &[u64], tail: &[u8]) -> u128
     requires few { length head.now ≤ 5 }
     requires numeric { AreNumeric head.now }

@@ -51,7 +51,19 @@ impl Frame<'_> {
                     f.reordering_threshold.into_inner(),
                 );
             }
-            _ => {}
+            // The parts of these have no bounds that a law asks for. A further kind is named here or above.
+            Frame::Padding
+            | Frame::Ping
+            | Frame::Ack(_)
+            | Frame::Crypto(_)
+            | Frame::NewToken(_)
+            | Frame::DataBlocked { .. }
+            | Frame::MaxStreams { .. }
+            | Frame::StreamsBlocked { .. }
+            | Frame::RetireConnectionId { .. }
+            | Frame::HandshakeDone
+            | Frame::ImmediateAck
+            | Frame::Datagram(_) => {}
         }
     }
 }

@@ -1,5 +1,5 @@
 //! How long frames are at most beside their data.
-ghost use Rattle.std.specs.Prelude.{◌≡◌, ◌≤◌, ◌+◌, ℕ, Bool, [], List, length, false};
+ghost use Rattle.std.specs.Prelude.{◌≡◌, ◌≤◌, ◌+◌, ℕ, [], List, length, false};
 ghost use Rattle.quic_frames.specs.Meaning.{meaning_of};
 ghost use Rattle.quic_frame_parts.specs.Payload.{Meaning};
 ghost use Rattle.quic_frame_parts.specs.Shortest.{shortest_frame};
@@ -159,10 +159,3 @@ impl FrameStruct for Crypto<'_> {
 
 /// As many bytes as a RETIRE_CONNECTION_ID has at most.
 pub const RETIRE_CONNECTION_ID_SIZE_BOUND: usize = 1 + 8;
-
-/// It keeps that bound. The function does nothing.
-#[tactic(auto, using(crate::proofs::SizeBounds::retire_bound))]
-pub fn retire_connection_id_is_bounded()
-    ensures value { RETIRE_CONNECTION_ID_SIZE_BOUND ≡ 9 }
-    ensures bounds { (last : Bool) (sequence : ℕ) → length (shortest_frame last (meaning_of (frames.RetireConnectionId sequence))) ≤ RETIRE_CONNECTION_ID_SIZE_BOUND }
-{}

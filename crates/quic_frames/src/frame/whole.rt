@@ -25,7 +25,7 @@ impl Frame<'_> {
     /// Appends the shortest spelling of the frame, which is the last of its payload or not: no offset 0
     /// of a STREAM, and no length of a STREAM or DATAGRAM where it is the last. Answers `NoRoom` only
     /// where the spare room is less than that; then what stood there stands, followed by a beginning of
-    /// the spelling. It takes no memory of its own. The caller owes that the frame is in range, and that
+    /// the spelling. It takes no memory of its own. The caller must ensure that the frame is in range, and that
     /// data whose length is written are below 2^62 bytes.
     #[tactic(auto, unfolding(quic_frame_parts::specs::Shortest::shortest_frame), using(crate::proofs::Encoding::challenge_parts, crate::proofs::Encoding::response_parts))]
     pub fn encode<B: BufMut>(&self, last: bool, out: &mut B) -> Result<(), NoRoom>
@@ -69,6 +69,7 @@ impl Frame<'_> {
     }
 
     /// How many bytes `encode` appends, which asks for the same. It takes no memory.
+    #[inline(always)]
     #[tactic(auto, unfolding(quic_frame_parts::specs::Shortest::shortest_frame), using(crate::proofs::Encoding::crypto_parts, crate::proofs::Encoding::challenge_length, crate::proofs::Encoding::response_length))]
     pub fn encoded_len(&self, last: bool) -> u128
         requires { CanStand last self.now }

@@ -33,6 +33,27 @@ fn parts_of_an_acknowledgement(rt: HostRuntime) -> Result<(), Fail> {
     checks.verdict()
 }
 
+// The blocks of an ACK that was read are the payload's bytes, in the widths that they have there.
+#[test]
+fn blocks_as_they_were_read(rt: HostRuntime) -> Result<(), Fail> {
+    let mut checks = Checks::new(rt.alloc());
+    for (payload, blocks) in [
+        (b"\x02\x05\x00\x00\x00".as_slice(), b"\x00".as_slice()),
+        (b"\x02\x05\x00\x00\x40\x00".as_slice(), b"\x40\x00".as_slice()),
+        (
+            b"\x02\x05\x00\x01\x40\x00\x00\x40\x03".as_slice(),
+            b"\x40\x00\x00\x40\x03".as_slice(),
+        ),
+    ] {
+        let mut frames = Iter::new(payload)?;
+        match frames.next() {
+            Some(Ok(Frame::Ack(ack))) => checks.same(ack.additional(), blocks),
+            _ => checks.holds(false),
+        }
+    }
+    checks.verdict()
+}
+
 #[test]
 fn parts_that_are_refused(rt: HostRuntime) -> Result<(), Fail> {
     let mut checks = Checks::new(rt.alloc());

@@ -261,6 +261,10 @@ fn connection_ids(rt: HostRuntime) -> Result<(), Fail> {
     checks.same(other, ConnectionId::new(b"\x0b\xff"));
     checks.displays(alloc, &id, "0aff")?;
     checks.debugs(alloc, &id, "[10, 255]")?;
+    let longest = ConnectionId::new(
+        b"\x00\x01\x02\x03\x04\x05\x06\x07\x08\x09\x0a\x0b\x0c\x0d\x0e\x0f\x10\x11\x12\x13",
+    );
+    checks.displays(alloc, &longest, "000102030405060708090a0b0c0d0e0f10111213")?;
     let mut out = Vec::new(alloc);
     id.encode_long(&mut out)?;
     checks.same(out.as_slice(), b"\x02\x0a\xff".as_slice());

@@ -187,6 +187,11 @@ fn an_error_and_its_copies(rt: HostRuntime) -> Result<(), Fail> {
     checks.holds(bare != error);
     let text = "no viable network path exists";
     checks.displays(alloc, &bare, text)?;
+    let phrase = "a reason phrase of 30 bytes, x".repeat(alloc, 10)?;
+    checks.same(phrase.len(), 300);
+    let error = Error::with_text(alloc, Code::NO_VIABLE_PATH, phrase.as_str())?;
+    let text = format!(in alloc; "no viable network path exists: {phrase}")?;
+    checks.displays(alloc, &error, text.as_str())?;
     checks.verdict()
 }
 

@@ -7,6 +7,19 @@ pub const CODES: &str =
 4|STREAM_LIMIT_ERROR|received a frame for a stream identifier that exceeded advertised the stream limit for the corresponding stream type\n\
 9|CONNECTION_ID_LIMIT_ERROR|the number of connection IDs provided by the peer exceeds the advertised active_connection_id_limit\n\
 14|KEY_UPDATE_ERROR|key update error\n\
+1|INTERNAL_ERROR|the endpoint encountered an internal error and cannot continue with the connection\n\
+2|CONNECTION_REFUSED|the server refused to accept a new connection\n\
+3|FLOW_CONTROL_ERROR|received more data than permitted in advertised data limits\n\
+5|STREAM_STATE_ERROR|received a frame for a stream that was not in a state that permitted that frame\n\
+6|FINAL_SIZE_ERROR|received a STREAM frame or a RESET_STREAM frame containing a different final size to the one already established\n\
+7|FRAME_ENCODING_ERROR|received a frame that was badly formatted\n\
+8|TRANSPORT_PARAMETER_ERROR|received transport parameters that were badly formatted, included an invalid value, was absent even though it is mandatory, was present though it is forbidden, or is otherwise in error\n\
+10|PROTOCOL_VIOLATION|detected an error with protocol compliance that was not covered by more specific error codes\n\
+11|INVALID_TOKEN|received an invalid Retry Token in a client Initial\n\
+12|APPLICATION_ERROR|the application or application protocol caused the connection to be closed during the handshake\n\
+13|CRYPTO_BUFFER_EXCEEDED|received more data in CRYPTO frames than can be buffered\n\
+15|AEAD_LIMIT_REACHED|the endpoint has reached the confidentiality or integrity limit for the AEAD algorithm\n\
+16|NO_VIABLE_PATH|no viable network path exists\n\
 19|Code(13)|unknown error\n\
 24|Code(18)|unknown error\n\
 28|Code(1c)|unknown error\n\

@@ -11,9 +11,11 @@ ghost use Rattle.quic_text.specs.IdLens.{count};
 use crate::id_len::IdLen;
 use bytes::BytesMut;
 use quic_base::ids::{ConnectionId, DEFAULT_SUPPORTED_VERSIONS};
-use quic_packets::packet::{
-    FixedLengthConnectionIdParser, LongType, PacketDecodeError, PartialDecode, ProtectedHeader,
-};
+use quic_headers::long_type::LongType;
+use quic_heads::cut::PartialDecode;
+use quic_heads::decode_error::PacketDecodeError;
+use quic_heads::parser::FixedLengthConnectionIdParser;
+use quic_heads::protected::ProtectedHeader;
 use std::alloc::{AllocError, Global};
 
 /// A line for each packet, and one for what is refused. Ids of short heads have the length given.

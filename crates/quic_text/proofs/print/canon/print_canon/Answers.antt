@@ -4,7 +4,7 @@ use Rattle.hex.specs.Hex.{encode_lower}
 use Rattle.quic_frame_parts.specs.Reading.{Invalid, Broken}
 use Rattle.quic_frames.specs.Walk.{invalid_of}
 use Rattle.quic_canon.specs.Bytes.{canon_bytes}
-use Rattle.quic_text.specs.Printed.{Printed, Plain, shown}
+use Rattle.quic_text.specs.Printed.{Plain, shown}
 use Rattle.quic_text.specs.FrameText.{item_line, empty_line}
 use Rattle.quic_text.specs.CanonText.{canon_lines}
 use Rattle.quic_text.proofs.CanonLines.{given_printed, broken_printed, line_shown, line_told}

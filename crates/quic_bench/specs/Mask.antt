@@ -1,0 +1,24 @@
+-- A header key that joins one byte of the packet to its first byte and its number.
+use Rattle.std.specs.Prelude.{ℕ, ◌+◌, ◌%◌, List, slice_index, slice_set, bit_xor}
+use Rattle.std.proofs.Common.{zero, suc}
+use Rattle.quic_crypto.specs.Keys.{first_unit, is_short, number_len}
+
+-- the bytes with s joined to the count from a place on
+abbrev pub mask_at : ℕ → ℕ → ℕ → List ℕ → List ℕ
+mask_at at zero s bytes = bytes
+mask_at at (suc count) s bytes = mask_at (at + 1) count s (slice_set bytes at (bit_xor (slice_index bytes at) s))
+
+-- the low bits of s joined to the first byte
+abbrev pub first_masked : ℕ → List ℕ → List ℕ
+first_masked s bytes = slice_set bytes 0 (bit_xor (slice_index bytes 0) (s % first_unit (is_short bytes)))
+
+-- the packet with the sample, four bytes behind the number's place, joined to its number and its first byte
+abbrev pub mask_protect : ℕ → List ℕ → List ℕ
+mask_protect at packet =
+    let s = slice_index packet (at + 4) in first_masked s (mask_at at (number_len (slice_index packet 0)) s packet)
+
+-- the same, the first byte first, which tells how long the number is
+abbrev pub mask_unprotect : ℕ → List ℕ → List ℕ
+mask_unprotect at packet =
+    let s = slice_index packet (at + 4) in
+    let open_first = first_masked s packet in mask_at at (number_len (slice_index open_first 0)) s open_first

@@ -1,0 +1,6 @@
+-- The law of a key that adds no tag.
+use Rattle.std.specs.Prelude.{◌≡◌, ℕ, ◌+◌, List, length}
+use Rattle.std.proofs.Common.{arith}
+
+pub plain_sealed_len : (payload : List ℕ) → length payload ≡ length payload + 0
+plain_sealed_len payload = omega arith

@@ -1,0 +1,4 @@
+pub mod Keys
+pub mod PacketNumbers
+pub mod Toy
+pub mod ToyLaws

@@ -1,0 +1,93 @@
+//! Keys of packets, as interfaces with laws (RFC 9001, sections 5.3 and 5.4). Which ciphers are behind them is
+//! the caller's affair: what is said of packets holds for every pair of keys that keeps these laws.
+ghost use Rattle.std.specs.Prelude.{◌≡◌, ℕ, ◌+◌, ◌-◌, ◌^◌, ◌<◌, ◌≤◌, List, ◌++◌, length, take, Option, Some, None, MatchResult};
+ghost use Rattle.quic_base.specs.Number.{AreBytes};
+ghost use Rattle.quic_crypto.specs.Keys.{HasSample, Protects, Unprotects, payload_in};
+
+use bytes::BytesMut;
+
+/// A payload does not belong to the number, the head and the key that are to open it.
+#[derive(Clone, Copy, Debug, PartialEq, Eq)]
+pub struct CryptoError;
+
+/// A key that hides the low bits of a head's first byte, and the packet number (RFC 9001, section 5.4). What
+/// its calls do is a function of the key, the number's place and the packet.
+pub trait HeaderKey {
+    // How many bytes are sampled.
+    ghost sample_len: { Self → ℕ };
+
+    // The packet with its head protected, whose number begins at a place.
+    ghost protected: { Self → ℕ → List ℕ → List ℕ };
+
+    // The packet with its head's protection taken off.
+    ghost unprotected: { Self → ℕ → List ℕ → List ℕ };
+
+    /// How many bytes are sampled. They begin four bytes behind the place where the packet number begins,
+    /// however many bytes the number takes.
+    fn sample_size(&self) -> usize
+        ensures { result ≡ sample_len self.now };
+
+    /// Protects the head of a packet whose number begins at `pn_offset`. The caller must ensure that this is behind
+    /// the first byte, and that the packet has four bytes and the sample from there on.
+    fn encrypt(&self, pn_offset: usize, packet: &mut [u8])
+        requires { HasSample (sample_len self.now) pn_offset packet.old }
+        ensures { packet.new ≡ protected self.now pn_offset packet.old };
+
+    /// Takes off the protection of the head of a packet whose number begins at `pn_offset`. The caller must meet
+    /// what `encrypt` asks for.
+    fn decrypt(&self, pn_offset: usize, packet: &mut [u8])
+        requires { HasSample (sample_len self.now) pn_offset packet.old }
+        ensures { packet.new ≡ unprotected self.now pn_offset packet.old };
+
+    // Protecting changes the low bits of the first byte and the number's bytes alone.
+    ghost protects: { (k : Self) (at : ℕ) (packet : List ℕ) → AreBytes packet → HasSample (sample_len k) at packet
+        → Protects at packet (protected k at packet) };
+
+    // Taking protection off changes the low bits of the first byte and four bytes alone.
+    ghost unprotects: { (k : Self) (at : ℕ) (packet : List ℕ) → AreBytes packet → HasSample (sample_len k) at packet
+        → Unprotects at packet (unprotected k at packet) };
+
+    // Taking protection off what was protected gives the packet back.
+    ghost restores: { (k : Self) (at : ℕ) (packet : List ℕ) → AreBytes packet → HasSample (sample_len k) at packet
+        → unprotected k at (protected k at packet) ≡ packet };
+}
+
+/// A key that seals the payloads of packets (RFC 9001, section 5.3). What its calls do is a function of the key,
+/// the packet's number, its head and the payload.
+pub trait PacketKey {
+    // How many bytes longer a sealed payload is.
+    ghost tag_size: { Self → ℕ };
+
+    // The sealed payload of a packet number, a head and a payload.
+    ghost sealed: { Self → ℕ → List ℕ → List ℕ → List ℕ };
+
+    // The payload of a packet number, a head and a sealed payload, where they belong together.
+    ghost opened: { Self → ℕ → List ℕ → List ℕ → Option (List ℕ) };
+
+    /// How many bytes longer a sealed payload is.
+    fn tag_len(&self) -> usize
+        ensures { result ≡ tag_size self.now };
+
+    /// Seals the payload of a packet, which is what stands behind the head's `header_len` bytes but for the
+    /// last bytes, as many as the tag has: these are room. The caller must ensure that the packet has the head and
+    /// that room. The head stays.
+    fn encrypt(&self, number: u64, packet: &mut [u8], header_len: usize)
+        requires { header_len + tag_size self.now ≤ length packet.old }
+        ensures { packet.new ≡ take header_len packet.old
+            ++ sealed self.now number (take header_len packet.old) (payload_in header_len (tag_size self.now) packet.old) };
+
+    /// Opens a sealed payload, which becomes the payload. Answers `CryptoError` exactly where it is none of
+    /// this number, head and key; then the payload's bytes are open.
+    fn decrypt(&self, number: u64, header: &[u8], payload: &mut BytesMut) -> Result<(), CryptoError>
+        ensures { MatchResult result
+            (λ _. opened self.now number header.now payload.old.items ≡ Some payload.new.items)
+            (λ _. opened self.now number header.now payload.old.items ≡ None) };
+
+    // A sealed payload is longer by the tag.
+    ghost sealed_len: { (k : Self) (number : ℕ) (header payload : List ℕ) → number < 2 ^ 64 → AreBytes header → AreBytes payload
+        → length (sealed k number header payload) ≡ length payload + tag_size k };
+
+    // What was sealed with a number and a head opens with them.
+    ghost opens: { (k : Self) (number : ℕ) (header payload : List ℕ) → number < 2 ^ 64 → AreBytes header → AreBytes payload
+        → opened k number header (sealed k number header payload) ≡ Some payload };
+}

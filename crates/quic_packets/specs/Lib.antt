@@ -1,0 +1,5 @@
+pub mod Opening
+pub mod Pairs
+pub mod Rows
+pub mod Sealing
+pub mod Spaces

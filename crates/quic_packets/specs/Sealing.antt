@@ -1,0 +1,78 @@
+-- Packets that are sealed (RFC 9000, section 12; RFC 9001, sections 5.3 and 5.4).
+use Rattle.std.specs.Prelude.{map, ◌≡◌, ℕ, ◌+◌, ◌-◌, ◌%◌, ◌<◌, ◌≤◌, ◌^◌, false, IsTrue, List, ◌++◌, length}
+use Rattle.quic_base.specs.Number.{AreBytes, bytes_of}
+use Rattle.quic_crypto.specs.PacketNumbers.{low_part, window_of}
+use Rattle.quic_frames.specs.declared.frame.Frame.{Frame}
+use Rattle.quic_frames.specs.Payload.{Found, AreFrames}
+use Rattle.quic_frames.specs.Meaning.{meaning_of}
+use Rattle.quic_frames.specs.Least.{AreOrExceed, shortest_frames, frame_in}
+use Rattle.quic_headers.specs.declared.header.Header.{Header}
+use Rattle.quic_headers.specs.declared.header.Header.TheVariants as header
+use Rattle.quic_packets.specs.declared.seal.SealError.{SealError}
+use Rattle.quic_packets.specs.declared.seal.SealError.TheVariants as refusal
+use Rattle.quic_packets.specs.Pairs.{KeyPair}
+use Rattle.quic_headers.specs.Writing.{head_with, header_size, IsWritable, size_in, has_length}
+
+-- the number in the head is the low part of this one
+abbrev pub IsLowPart : Header → ℕ → Type 0
+IsLowPart (header.Initial h) n = low_part h.number ≡ n % window_of h.number
+IsLowPart (header.Long ty dst src number version) n = low_part number ≡ n % window_of number
+IsLowPart (header.Retry dst src version) n = ⊥
+IsLowPart (header.Short spin key_phase dst number) n = low_part number ≡ n % window_of number
+IsLowPart (header.VersionNegotiate random src dst) n = ⊥
+
+-- how many bytes stand from the number on, which is what a head's length counts
+abbrev pub protected_len : ℕ → Header → List ℕ → ℕ
+protected_len tag_size h payload = size_in h + length payload + tag_size
+
+-- the head of a sealed packet, with its length
+abbrev pub sealed_head : ℕ → Header → List ℕ → List ℕ
+sealed_head tag_size h payload = head_with (bytes_of 2 (2 ^ 14 + protected_len tag_size h payload)) h
+
+-- a packet before its head is protected
+abbrev pub plain_packet : KeyPair → Header → ℕ → List ℕ → List ℕ
+plain_packet keys h n payload = sealed_head keys.tag_size h payload ++ keys.sealed n (sealed_head keys.tag_size h payload) payload
+
+-- Bytes are a packet of this head, number and payload, sealed by these keys: the head can be written, and its number is the low
+-- part of this one, which is below 2^62; from the number on there are four bytes and the sample, and fewer than 2^14 where the
+-- head has a length; the bytes are the head with its length, and the sealed payload, the head being protected.
+pub record Sealed (keys : KeyPair) (h : Header) (n : ℕ) (payload bytes : List ℕ) : Type 0 where
+  pub writable : IsWritable h
+  pub low : IsLowPart h n
+  pub fits : n < 2 ^ 62
+  pub sample : 4 + keys.sample_len ≤ protected_len keys.tag_size h payload
+  pub short : IsTrue (has_length h) → protected_len keys.tag_size h payload < 2 ^ 14
+  pub are_bytes : AreBytes (plain_packet keys h n payload)
+  pub payload_bytes : AreBytes payload
+  pub text : bytes ≡ keys.protected (header_size h - size_in h) (plain_packet keys h n payload)
+
+-- Why a packet is not sealed: the first of these, in this order. From the number on there are fewer than four bytes and the
+-- sample; there are 2^14 or more, and the head has a length; the spare room is less than the packet.
+abbrev pub SealRefused : SealError → ℕ → Header → ℕ → List ℕ → ℕ → Type 0
+SealRefused refusal.TooShort tag_size h sample_len payload spare = protected_len tag_size h payload < 4 + sample_len
+SealRefused refusal.TooLong tag_size h sample_len payload spare =
+    (4 + sample_len ≤ protected_len tag_size h payload) × IsTrue (has_length h) × (2 ^ 14 ≤ protected_len tag_size h payload)
+SealRefused refusal.NoRoom tag_size h sample_len payload spare =
+    (4 + sample_len ≤ protected_len tag_size h payload) × (IsTrue (has_length h) → protected_len tag_size h payload < 2 ^ 14)
+    × (spare < header_size h + length payload + tag_size)
+
+-- such values were appended
+abbrev pub IsAppended : {X : Type 0} → (List X → Type 0) → List X → List X → Type 0
+IsAppended {X} IsSuch old new = (added : List X) × IsSuch added × (new ≡ old ++ added)
+
+-- A payload that means these frames, and is the least one that does.
+pub record IsPayload (frames : List Frame) (payload : List ℕ) : Type 0 where
+  pub found : List Found
+  pub spelled : AreFrames false found payload
+  pub means : map frame_in found ≡ map meaning_of frames
+  pub least : (others : List Found) (bytes : List ℕ) → AreFrames false others bytes → map frame_in others ≡ map meaning_of frames → AreOrExceed bytes payload
+
+-- the payload that is written of frames
+abbrev pub payload_of : List Frame → List ℕ
+payload_of frames = shortest_frames (map meaning_of frames)
+
+-- bytes are a packet of this head, number and frames, sealed by these keys
+pub record SealedFrames (keys : KeyPair) (h : Header) (n : ℕ) (frames : List Frame) (bytes : List ℕ) : Type 0 where
+  pub payload : List ℕ
+  pub is_payload : IsPayload frames payload
+  pub sealed : Sealed keys h n payload bytes

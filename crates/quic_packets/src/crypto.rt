@@ -1,0 +1,4 @@
+//! Keys of packets, as interfaces with laws, and a pair that protects nothing.
+
+pub use quic_crypto::crypto::{CryptoError, HeaderKey, PacketKey};
+pub use quic_crypto::toy;

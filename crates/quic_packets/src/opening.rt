@@ -1,0 +1,264 @@
+//! Packets are opened (RFC 9001, sections 5.3 and 5.4).
+ghost use Rattle.std.specs.Prelude.{◌≡◌, ℕ, ◌<◌, ◌^◌, List, ◌++◌, length, IfOk, IfErr, IfSome, MatchResult, IsTrue, false, None};
+ghost use Rattle.quic_heads.specs.Headers.{is_protected};
+ghost use Rattle.quic_heads.specs.Queries.{space_of};
+ghost use Rattle.quic_headers.specs.Queries.{space_in};
+ghost use Rattle.quic_packets.specs.Opening.{read_by, AreExpected, IsReadBack, HasNumber, ExpandsIn, KeyGives, KeyRefuses, PacketRefuses, PartGives, PartRefuses, IsDecode};
+ghost use Rattle.quic_packets.specs.Rows.{Row, AreBack, Ends, Gives, GivesBack, IsFront, Steps};
+ghost use Rattle.quic_packets.specs.Sealing.{IsAppended, Sealed};
+ghost use Rattle.quic_packets.specs.Spaces.{expected_in};
+
+use crate::keys::{Expected, Keys, SpaceKeys};
+use crate::pairs::{PairOfKeys, PairsOfKeys};
+use bytes::{Bytes, BytesMut};
+use quic_base::coding::are_bytes;
+use quic_crypto::crypto::{HeaderKey, PacketKey};
+use quic_headers::header::Header;
+use quic_heads::cut::PartialDecode;
+use quic_heads::decode_error::PacketDecodeError;
+use quic_heads::packet::Packet;
+use quic_heads::parser::ConnectionIdParser;
+
+/// Why a packet is not opened. The datagram is given up: nothing behind the packet is known then.
+#[derive(Clone, Copy, Debug, PartialEq, Eq, Drop)]
+pub enum OpenError {
+    /// No packet can be cut from the datagram, or the packet is too short for a sample. It never holds
+    /// `PacketDecodeError::OutOfMemory`.
+    Decode(PacketDecodeError),
+    /// The packet was not sealed by the keys of its space, or not with the number that was expected.
+    Unsealed,
+    /// Memory ran out.
+    OutOfMemory,
+}
+
+/// A packet that was opened, or one that has no protection.
+#[derive(Debug, Drop)]
+pub struct Opened {
+    /// The head.
+    pub header: Header,
+    /// The head's bytes, without protection and with the length filled in, the packet number among them.
+    pub header_data: Bytes,
+    /// The whole packet number; none for Retry and version negotiation.
+    pub number: Option<u64>,
+    /// The payload. What follows the head of a Retry or version negotiation.
+    pub payload: BytesMut,
+}
+
+// The refusal of a head.
+fn decode_error(e: &PacketDecodeError) -> OpenError
+    ensures { IsDecode e.now result }
+{
+    match *e {
+        PacketDecodeError::OutOfMemory => OpenError::OutOfMemory,
+        PacketDecodeError::InvalidHeader(text) => OpenError::Decode(
+            PacketDecodeError::InvalidHeader(text),
+        ),
+        PacketDecodeError::UnsupportedVersion {
+            src_cid,
+            dst_cid,
+            version,
+        } => OpenError::Decode(PacketDecodeError::UnsupportedVersion {
+            src_cid,
+            dst_cid,
+            version,
+        }),
+    }
+}
+
+// The number for which the one in a head stands.
+fn expand(header: &Header, expected: u64) -> u64
+    requires valid { HasNumber header.now }
+    requires small { expected < 2 ^ 62 }
+    ensures { ExpandsIn header.now expected result }
+{
+    match header {
+        Header::Initial(head) => head.number.expand(expected),
+        Header::Long { number, .. } => number.expand(expected),
+        Header::Short { number, .. } => number.expand(expected),
+        Header::Retry { .. } => unreachable!(),
+        Header::VersionNegotiate { .. } => unreachable!(),
+    }
+}
+
+// Opens a packet that has protection.
+fn open_protected<H: HeaderKey, P: PacketKey>(
+    partial: PartialDecode,
+    keys: &Keys<H, P>,
+    expected: u64,
+) -> Result<Opened, OpenError>
+    requires protected { IsTrue (is_protected partial.head) }
+    requires small { expected < 2 ^ 62 }
+    ensures opened { IfOk result (λ x. KeyGives (⟦<Keys<H, P> as PairOfKeys>⟧.pair keys.now)
+        expected partial.head partial.head_end partial.bytes x.header x.header_data x.number x.payload.items) }
+    ensures refused { IfErr result (λ e. KeyRefuses (⟦<Keys<H, P> as PairOfKeys>⟧.pair keys.now)
+        expected partial.head partial.head_end partial.bytes e) }
+{
+    let packet = match partial.finish(Some(&keys.header)) {
+        Ok(packet) => packet,
+        Err(e) => return Err(decode_error(&e)),
+    };
+    let Packet {
+        header,
+        header_data,
+        mut payload,
+    } = packet;
+    let number = expand(&header, expected);
+    match keys
+        .packet
+        .decrypt(number, header_data.as_slice(), &mut payload)
+    {
+        Ok(()) => Ok(Opened {
+            header,
+            header_data,
+            number: Some(number),
+            payload,
+        }),
+        Err(_) => Err(OpenError::Unsealed),
+    }
+}
+
+// Gives a packet that has no protection as it stands.
+fn open_plain<H: HeaderKey, P: PacketKey>(
+    partial: PartialDecode,
+    keys: &SpaceKeys<H, P>,
+    expected: &Expected,
+) -> Result<Opened, OpenError>
+    requires plain { is_protected partial.head ≡ false }
+    requires none { space_of partial.head ≡ None }
+    ensures opened { IfOk result (λ x. PartGives (⟦<SpaceKeys<H, P> as PairsOfKeys>⟧.pairs keys.now)
+        (expected_in expected.now) partial.head partial.head_end partial.bytes x.header x.header_data x.number x.payload.items) }
+    ensures refused { IfErr result (λ e. PartRefuses (⟦<SpaceKeys<H, P> as PairsOfKeys>⟧.pairs keys.now)
+        (expected_in expected.now) partial.head partial.head_end partial.bytes e) }
+{
+    // It is read without a key, so any would do.
+    let packet = match partial.finish(Some(&keys.initial.header)) {
+        Ok(packet) => packet,
+        Err(e) => return Err(decode_error(&e)),
+    };
+    Ok(Opened {
+        header: packet.header,
+        header_data: packet.header_data,
+        number: None,
+        payload: packet.payload,
+    })
+}
+
+// Opens a packet by the keys of its space, or gives it as it stands.
+fn open_part<H: HeaderKey, P: PacketKey>(
+    partial: PartialDecode,
+    keys: &SpaceKeys<H, P>,
+    expected: &Expected,
+) -> Result<Opened, OpenError>
+    requires { AreExpected expected.now }
+    ensures opened { IfOk result (λ x. PartGives (⟦<SpaceKeys<H, P> as PairsOfKeys>⟧.pairs keys.now)
+        (expected_in expected.now) partial.head partial.head_end partial.bytes x.header x.header_data x.number x.payload.items) }
+    ensures refused { IfErr result (λ e. PartRefuses (⟦<SpaceKeys<H, P> as PairsOfKeys>⟧.pairs keys.now)
+        (expected_in expected.now) partial.head partial.head_end partial.bytes e) }
+{
+    match partial.space() {
+        Some(space) => open_protected(partial, keys.of(space), expected.of(space)),
+        None => open_plain(partial, keys, expected),
+    }
+}
+
+// Opens a datagram's first packet, and gives what follows it.
+fn open_first<C: ConnectionIdParser, H: HeaderKey, P: PacketKey>(
+    bytes: BytesMut,
+    parser: &C,
+    versions: &[u32],
+    grease: bool,
+    keys: &SpaceKeys<H, P>,
+    expected: &Expected,
+) -> Result<(Opened, Option<BytesMut>), OpenError>
+    requires { AreExpected expected.now }
+    ensures opened { IfOk result (λ x. Gives (⟦<SpaceKeys<H, P> as PairsOfKeys>⟧.pairs keys.now)
+        (read_by (C.parsed parser.now) versions.now grease) (expected_in expected.now) bytes.items x.0 x.1) }
+    ensures refused { IfErr result (λ e. PacketRefuses (C.takes_memory parser.now) (⟦<SpaceKeys<H, P> as PairsOfKeys>⟧.pairs keys.now)
+        (read_by (C.parsed parser.now) versions.now grease) (expected_in expected.now) bytes.items e) }
+{
+    let (partial, rest) = match PartialDecode::new(bytes, parser, versions, grease) {
+        Ok(parts) => parts,
+        Err(e) => return Err(decode_error(&e)),
+    };
+    match open_part(partial, keys, expected) {
+        Ok(opened) => Ok((opened, rest)),
+        Err(e) => Err(e),
+    }
+}
+
+/// Opens a datagram's first packet by the keys and the expected number of its space, and gives what follows it.
+/// Ids of short heads are taken by `parser`; heads of other versions than `versions` are refused; with `grease`
+/// the fixed bit may be clear. A Retry or version negotiation is given as it stands, with no number.
+///
+/// Refused with `Decode` where `PartialDecode::new` or `PartialDecode::finish` refuses the packet, and with
+/// `Unsealed` exactly where the packet key answers `CryptoError`; `OutOfMemory` may stand in place of every
+/// answer but a refusal of `PartialDecode::new`. What was sealed by the keys handed in, with a number that is
+/// found from the expected one, is opened to the same head, number and payload, or memory ran out. The caller
+/// must give expected numbers below 2^62.
+pub fn open_packet<C: ConnectionIdParser, H: HeaderKey, P: PacketKey>(
+    bytes: BytesMut,
+    parser: &C,
+    versions: &[u32],
+    grease: bool,
+    keys: &SpaceKeys<H, P>,
+    expected: &Expected,
+) -> Result<(Opened, Option<BytesMut>), OpenError>
+    requires { AreExpected expected.now }
+    ensures opened { IfOk result (λ x. Gives (⟦<SpaceKeys<H, P> as PairsOfKeys>⟧.pairs keys.now)
+        (read_by (C.parsed parser.now) versions.now grease) (expected_in expected.now) bytes.items x.0 x.1) }
+    ensures refused { IfErr result (λ e. PacketRefuses (C.takes_memory parser.now) (⟦<SpaceKeys<H, P> as PairsOfKeys>⟧.pairs keys.now)
+        (read_by (C.parsed parser.now) versions.now grease) (expected_in expected.now) bytes.items e) }
+    ensures shorter { IfOk result (λ x. IfSome x.1 (λ rest. length rest.items < length bytes.items)) }
+    ensures sealed { (h : Header) (n : ℕ) (payload packet rest : List ℕ)
+        → Sealed (⟦<SpaceKeys<H, P> as PairsOfKeys>⟧.pairs keys.now (space_in h)) h n payload packet
+        → IsReadBack (read_by (C.parsed parser.now) versions.now grease) h rest → ExpandsIn h (expected_in expected.now (space_in h)) n → bytes.items ≡ packet ++ rest
+        → MatchResult result (λ x. GivesBack (⟦<SpaceKeys<H, P> as PairsOfKeys>⟧.pairs keys.now) h n payload rest x.0 x.1) (λ e. e ≡ OpenError.OutOfMemory) }
+{
+    are_bytes(bytes.as_slice());
+    match open_first(bytes, parser, versions, grease, keys, expected) {
+        Ok(opened) => Ok(opened),
+        Err(e) => Err(e),
+    }
+}
+
+/// Opens a datagram's packets one after another, as `open_packet` does, always with the expected numbers that
+/// are handed in, and appends them to `out`. After a refusal those before it stand there. Of packets in a row that
+/// were sealed by the keys handed in all are opened, in order; where memory ran out, the first ones were. The
+/// caller must give expected numbers below 2^62.
+pub fn open_datagram<C: ConnectionIdParser, H: HeaderKey, P: PacketKey>(
+    bytes: BytesMut,
+    parser: &C,
+    versions: &[u32],
+    grease: bool,
+    keys: &SpaceKeys<H, P>,
+    expected: &Expected,
+    out: &mut Vec<Opened>,
+) -> Result<(), OpenError>
+    requires { AreExpected expected.now }
+    ensures opened { IfOk result (λ _. IsAppended (λ added. Ends (⟦<SpaceKeys<H, P> as PairsOfKeys>⟧.pairs keys.now)
+        (read_by (C.parsed parser.now) versions.now grease) (expected_in expected.now) bytes.items added) out.old.items out.new.items) }
+    ensures refused { IfErr result (λ e. (left : List ℕ) × IsAppended (λ added. Steps (⟦<SpaceKeys<H, P> as PairsOfKeys>⟧.pairs keys.now)
+        (read_by (C.parsed parser.now) versions.now grease) (expected_in expected.now) bytes.items added left) out.old.items out.new.items
+        × PacketRefuses (C.takes_memory parser.now) (⟦<SpaceKeys<H, P> as PairsOfKeys>⟧.pairs keys.now)
+        (read_by (C.parsed parser.now) versions.now grease) (expected_in expected.now) left e) }
+    ensures sealed { (packets : List (Header × ℕ × List ℕ)) → Row (⟦<SpaceKeys<H, P> as PairsOfKeys>⟧.pairs keys.now)
+        (read_by (C.parsed parser.now) versions.now grease) (expected_in expected.now) packets bytes.items
+        → MatchResult result (λ _. IsAppended (λ added. AreBack (⟦<SpaceKeys<H, P> as PairsOfKeys>⟧.pairs keys.now) added packets) out.old.items out.new.items)
+        (λ e. (e ≡ OpenError.OutOfMemory) × IsFront (⟦<SpaceKeys<H, P> as PairsOfKeys>⟧.pairs keys.now) packets out.old.items out.new.items) }
+{
+    let mut left = bytes;
+    loop {
+        match open_packet(left, parser, versions, grease, keys, expected) {
+            Ok((opened, rest)) => {
+                if out.push(opened).is_err() {
+                    return Err(OpenError::OutOfMemory);
+                }
+                match rest {
+                    None => return Ok(()),
+                    Some(next) => left = next,
+                }
+            }
+            Err(e) => return Err(e),
+        }
+    }
+}

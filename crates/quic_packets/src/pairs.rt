@@ -1,0 +1,43 @@
+//! What is said of packets names a pair of keys by these words.
+ghost use Rattle.std.specs.Prelude.{ℕ};
+ghost use Rattle.quic_base.specs.declared.ids.SpaceId.{SpaceId};
+ghost use Rattle.quic_packets.specs.Pairs.{KeyPair};
+ghost use Rattle.quic_packets.specs.Spaces.{keys_in};
+
+use crate::keys::{Keys, SpaceKeys};
+use quic_base::ids::SpaceId;
+use quic_crypto::crypto::{HeaderKey, PacketKey};
+
+/// What has a pair of keys.
+pub trait PairOfKeys {
+    // What the keys do.
+    ghost pair: { Self → KeyPair };
+}
+
+/// What has a pair of keys in each space.
+pub trait PairsOfKeys {
+    // What the keys of a space do.
+    ghost pairs: { Self → SpaceId → KeyPair };
+}
+
+impl<H: HeaderKey, P: PacketKey> PairOfKeys for Keys<H, P> {
+    ghost pair = { λ keys. record {
+      sample_len = H.sample_len keys.header;
+      tag_size = P.tag_size keys.packet;
+      protected = H.protected keys.header;
+      unprotected = H.unprotected keys.header;
+      sealed = P.sealed keys.packet;
+      opened = P.opened keys.packet;
+    } };
+}
+
+impl<H: HeaderKey, P: PacketKey> PairsOfKeys for SpaceKeys<H, P> {
+    ghost pairs = { λ keys space. record {
+      sample_len = H.sample_len (keys_in keys space).header;
+      tag_size = P.tag_size (keys_in keys space).packet;
+      protected = H.protected (keys_in keys space).header;
+      unprotected = H.unprotected (keys_in keys space).header;
+      sealed = P.sealed (keys_in keys space).packet;
+      opened = P.opened (keys_in keys space).packet;
+    } };
+}

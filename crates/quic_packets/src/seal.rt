@@ -1,0 +1,161 @@
+//! Packets are sealed (RFC 9001, sections 5.3 and 5.4).
+ghost use Rattle.std.specs.Prelude.{◌⊎◌, IfNone, MatchOption, ◌≡◌, ℕ, ◌+◌, ◌-◌, ◌≤◌, ◌<◌, ◌^◌, ◌++◌, length, min, vec_len, vec_capacity, IfOk, IfErr, OnErr, IsTrue, IfSome, Some, take, drop, replicate};
+ghost use Rattle.quic_base.specs.Number.{AreBytes};
+ghost use Rattle.quic_frames.specs.InRange.{CanFollow};
+ghost use Rattle.quic_headers.specs.Writing.{header_size, header_bytes, place_in, IsWritable, has_number, finished, HasRoom};
+ghost use Rattle.quic_packets.specs.Sealing.{SealedFrames, IsAppended, SealRefused, IsLowPart, payload_of};
+
+use crate::keys::Keys;
+use crate::pairs::PairOfKeys;
+use crate::payload::{is_payload, payload_len, put_frames};
+use quic_crypto::crypto::{HeaderKey, PacketKey};
+use quic_frames::frame::Frame;
+use quic_headers::encode::PartialEncode;
+use quic_headers::header::Header;
+
+/// Why a packet is not sealed. Where several of these hold, the first of them is told.
+#[derive(Clone, Copy, Debug, PartialEq, Eq)]
+pub enum SealError {
+    /// The number, the payload and the tag have fewer bytes than four and the sample: PADDING helps.
+    TooShort,
+    /// The head has a length, and the number, the payload and the tag have 2^14 bytes or more.
+    TooLong,
+    /// The buffer's spare room is less than the packet, and there is no memory for more.
+    NoRoom,
+}
+
+// Why a packet of these lengths is not sealed, whose payload takes so many bytes as far as 128 bits hold it.
+fn refused(
+    number: usize,
+    has_len: bool,
+    payload: u128,
+    tag: usize,
+    sample: usize,
+) -> Option<SealError>
+    requires { number ≤ 4 }
+    ensures too_short { IfSome result (λ e. e ≡ SealError.TooShort → (len : ℕ) → payload ≡ min len (2 ^ 128 - 1)
+        → number + len + tag < 4 + sample) }
+    ensures too_long { IfSome result (λ e. e ≡ SealError.TooLong → (len : ℕ) → payload ≡ min len (2 ^ 128 - 1)
+        → (4 + sample ≤ number + len + tag) × IsTrue has_len × (2 ^ 14 ≤ number + len + tag)) }
+    ensures one { IfSome result (λ e. (e ≡ SealError.TooShort) ⊎ (e ≡ SealError.TooLong)) }
+    ensures none { IfNone result ((len : ℕ) → payload ≡ min len (2 ^ 128 - 1)
+        → (4 + sample ≤ number + len + tag) × (IsTrue has_len → number + len + tag < 2 ^ 14)) }
+{
+    let protected = payload.saturating_add(number as u128 + tag as u128);
+    if protected < 4 + sample as u128 {
+        return Some(SealError::TooShort);
+    }
+    if has_len && protected >= 1 << 14 {
+        return Some(SealError::TooLong);
+    }
+    None
+}
+
+// Appends a head, frames and room for a tag.
+fn write_packet(
+    header: &Header,
+    frames: &[Frame<'_>],
+    tag: usize,
+    out: &mut Vec<u8>,
+) -> PartialEncode
+    requires writable { IsWritable header.now }
+    requires follow { CanFollow frames.now }
+    requires room { vec_len out.old + (header_size header.now + length (payload_of frames.now) + tag) ≤ vec_capacity out.old }
+    ensures items { out.new.items ≡ out.old.items ++ (header_bytes header.now ++ (payload_of frames.now ++ replicate tag 0)) }
+    ensures len { vec_len out.new ≡ vec_len out.old + (header_size header.now + length (payload_of frames.now) + tag) }
+    ensures start { result.start ≡ vec_len out.old }
+    ensures header_len { result.header_len ≡ header_size header.now }
+    ensures place { result.pn ≡ place_in header.now }
+    ensures bytes { AreBytes (payload_of frames.now) }
+{
+    let Ok(partial) = header.encode(out) else {
+        unreachable!()
+    };
+    put_frames(frames, out);
+    let end = out.len() + tag;
+    match out.resize(end, 0) {
+        Ok(()) => partial,
+        Err(_) => unreachable!(),
+    }
+}
+
+// Finishes the packet at the end of a buffer.
+fn finish_last<H: HeaderKey, P: PacketKey>(
+    partial: PartialEncode,
+    number: u64,
+    keys: &Keys<H, P>,
+    out: &mut Vec<u8>,
+)
+    requires within { partial.start ≤ vec_len out.old }
+    requires room { IfSome partial.pn (λ pn. HasRoom pn.0 pn.1 partial.header_len (H.sample_len keys.now.header) (vec_len out.old - partial.start)) }
+    requires tag { partial.header_len + P.tag_size keys.now.packet ≤ vec_len out.old - partial.start }
+    ensures sealed { IfSome partial.pn (λ pn. out.new.items ≡ take partial.start out.old.items ++ H.protected keys.now.header (partial.header_len - pn.0)
+        (finished pn partial.header_len (Some (P.tag_size keys.now.packet, P.sealed keys.now.packet number)) (drop partial.start out.old.items))) }
+    ensures plain_bytes { IfSome partial.pn (λ pn. AreBytes
+        (finished pn partial.header_len (Some (P.tag_size keys.now.packet, P.sealed keys.now.packet number)) (drop partial.start out.old.items))) }
+{
+    partial.finish(
+        &mut out.as_mut_slice()[partial.start..],
+        &keys.header,
+        Some((number, &keys.packet)),
+    );
+}
+
+// The sum, where it is a length.
+fn sum(a: usize, payload: u128, c: usize) -> Option<usize>
+    ensures { MatchOption result (usize.MAX < a + payload + c) (λ s. s ≡ a + payload + c) }
+{
+    let payload = usize::try_from(payload).ok()?;
+    a.checked_add(payload)?.checked_add(c)
+}
+
+/// Appends a packet of this head, number and frames, sealed by the keys, and answers how many bytes that is. The
+/// frames are written by `Frame::encode`, the last one as the last, so in their shortest forms. There is one
+/// growth, after the lengths are known.
+///
+/// Of the refusals the first that holds is answered, and each leaves `out` as it was; `NoRoom` comes only where
+/// the spare room is less than what is written. The caller must give a protected head that `Header::encode` may write
+/// and whose number is the low part of `number`, a `number` below 2^62, and one or more frames that
+/// `Frame::encode` may write at their places.
+pub fn seal_packet<H: HeaderKey, P: PacketKey>(
+    header: &Header,
+    number: u64,
+    frames: &[Frame<'_>],
+    keys: &Keys<H, P>,
+    out: &mut Vec<u8>,
+) -> Result<usize, SealError>
+    requires writable { IsWritable header.now }
+    requires protected { IsTrue (has_number header.now) }
+    requires low { IsLowPart header.now number }
+    requires small { number < 2 ^ 62 }
+    requires some { 0 < length frames.now }
+    requires follow { CanFollow frames.now }
+    ensures sealed { IfOk result (λ len. IsAppended (λ packet. SealedFrames (⟦<Keys<H, P> as PairOfKeys>⟧.pair keys.now)
+        header.now number frames.now packet) out.old.items out.new.items) }
+    ensures len { IfOk result (λ len. len ≡ header_size header.now + length (payload_of frames.now) + P.tag_size keys.now.packet) }
+    ensures unchanged { OnErr result (out.new.items ≡ out.old.items) }
+    ensures refused { IfErr result (λ e. SealRefused e (P.tag_size keys.now.packet) header.now (H.sample_len keys.now.header) (payload_of frames.now) (vec_capacity out.old - vec_len out.old)) }
+{
+    let tag = keys.packet.tag_len();
+    let payload = payload_len(frames);
+    if let Some(e) = refused(
+        header.number_size(),
+        header.has_len(),
+        payload,
+        tag,
+        keys.header.sample_size(),
+    ) {
+        return Err(e);
+    }
+    let Some(len) = sum(header.encoded_len(), payload, tag) else {
+        return Err(SealError::NoRoom);
+    };
+    if out.reserve(len).is_err() {
+        return Err(SealError::NoRoom);
+    }
+    is_payload(frames);
+    let _before = out.as_slice().len();
+    let partial = write_packet(header, frames, tag, out);
+    finish_last(partial, number, keys, out);
+    Ok(len)
+}

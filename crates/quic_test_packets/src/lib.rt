@@ -1,0 +1,6 @@
+//! Tests of packet numbers, and of packets that are sealed and opened.
+#![tactic(auto)]
+
+#[cfg(test)]
+mod tests;
+pub mod worked;

@@ -1,0 +1,6 @@
+//! Worked rows, odd keys, and each growth refused in turn.
+
+mod numbers;
+mod odd_keys;
+mod packets_refused;
+mod sealed;

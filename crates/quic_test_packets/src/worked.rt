@@ -1,0 +1,62 @@
+//! Keys and heads of the worked rows.
+ghost use Rattle.std.specs.Prelude.{◌≤◌, IsTrue, length};
+ghost use Rattle.quic_headers.specs.Writing.{IsWritable, has_number};
+ghost use Rattle.quic_packets.specs.Sealing.{IsLowPart};
+
+use quic_base::ids::ConnectionId;
+use quic_packets::crypto::toy::{ToyHeaderKey, ToyPacketKey};
+use quic_packets::packet::{Expected, Header, Keys, LongType, PacketNumber, SpaceKeys};
+
+/// The number 0 is expected in each space.
+pub const ALL_ZERO: Expected = Expected {
+    initial: 0,
+    handshake: 0,
+    app: 0,
+};
+
+/// Keys that protect nothing, in one space.
+pub fn toy() -> Keys<ToyHeaderKey, ToyPacketKey> {
+    Keys {
+        header: ToyHeaderKey,
+        packet: ToyPacketKey,
+    }
+}
+
+/// The same keys in each space.
+pub fn all_toy() -> SpaceKeys<ToyHeaderKey, ToyPacketKey> {
+    SpaceKeys {
+        initial: toy(),
+        handshake: toy(),
+        app: toy(),
+    }
+}
+
+/// The head of a Handshake packet for the id `aa`, with the number 0 in one byte.
+pub fn handshake(version: u32) -> Header
+    ensures writable { IsWritable result }
+    ensures numbered { IsTrue (has_number result) }
+    ensures low { IsLowPart result 0 }
+{
+    Header::Long {
+        ty: LongType::Handshake,
+        dst_cid: ConnectionId::new(b"\xaa"),
+        src_cid: ConnectionId::new(b""),
+        number: PacketNumber::U8(0),
+        version,
+    }
+}
+
+/// The head of a 1-RTT packet for an id, with a number's lowest byte.
+pub fn short(id: &[u8], number: u64) -> Header
+    requires { length id.now ≤ 20 }
+    ensures writable { IsWritable result }
+    ensures numbered { IsTrue (has_number result) }
+    ensures low { IsLowPart result number }
+{
+    Header::Short {
+        spin: false,
+        key_phase: false,
+        dst_cid: ConnectionId::new(id),
+        number: PacketNumber::U8((number % 256) as u8),
+    }
+}

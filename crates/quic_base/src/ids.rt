@@ -47,6 +47,31 @@ pub const DEFAULT_SUPPORTED_VERSIONS: &[u32] = &[
     0x6b33_43cf,
 ];
 
+// Each by its value.
+const _: () = prove!(LOC_CID_COUNT == 8 && MAX_STREAM_COUNT == 1_152_921_504_606_846_976);
+
+const _: () = prove!(RESET_TOKEN_SIZE == 16 && MAX_CID_SIZE == 20);
+
+const _: () = prove!(MIN_INITIAL_SIZE == 1200 && INITIAL_MTU == 1200 && MAX_UDP_PAYLOAD == 65527);
+
+const _: () = prove!(DEFAULT_SUPPORTED_VERSIONS.len() == 8);
+
+const _: () = prove!(
+    DEFAULT_SUPPORTED_VERSIONS[0] == 0x0000_0001 && DEFAULT_SUPPORTED_VERSIONS[1] == 0xff00_001d
+);
+
+const _: () = prove!(
+    DEFAULT_SUPPORTED_VERSIONS[2] == 0xff00_001e && DEFAULT_SUPPORTED_VERSIONS[3] == 0xff00_001f
+);
+
+const _: () = prove!(
+    DEFAULT_SUPPORTED_VERSIONS[4] == 0xff00_0020 && DEFAULT_SUPPORTED_VERSIONS[5] == 0xff00_0021
+);
+
+const _: () = prove!(
+    DEFAULT_SUPPORTED_VERSIONS[6] == 0xff00_0022 && DEFAULT_SUPPORTED_VERSIONS[7] == 0x6b33_43cf
+);
+
 /// Which end of a connection.
 #[derive(Clone, Copy, Debug, PartialEq, Eq, PartialOrd, Ord, Hash)]
 pub enum Side {
@@ -243,6 +268,10 @@ pub enum EcnCodepoint {
     /// Congestion was met.
     Ce = 0b11,
 }
+
+const _: () = prove!(
+    EcnCodepoint::Ect0 as u8 == 2 && EcnCodepoint::Ect1 as u8 == 1 && EcnCodepoint::Ce as u8 == 3
+);
 
 impl EcnCodepoint {
     /// The codepoint of the two lowest bits of `x`; none where both are 0.

@@ -14,6 +14,11 @@ pub const SPIN_BIT: u8 = 0x20;
 /// Version 2 of QUIC.
 pub const VERSION_2: u32 = 0x6b33_43cf;
 
+// Each by its value.
+const _: () = prove!(LONG_HEADER_FORM == 128 && FIXED_BIT == 64 && SPIN_BIT == 32);
+
+const _: () = prove!(VERSION_2 == 1_798_521_807);
+
 /// Long heads of one form.
 #[derive(Clone, Copy, Debug, PartialEq, Eq)]
 pub enum LongType {

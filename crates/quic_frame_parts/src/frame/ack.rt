@@ -135,6 +135,10 @@ impl EcnCounts {
     };
 }
 
+const _: () = prove!(
+    EcnCounts::ZERO.ect0 == 0 && EcnCounts::ZERO.ect1 == 0 && EcnCounts::ZERO.ce == 0
+);
+
 /// One more packet of a codepoint. The caller must ensure that its count is below 2^64 - 1.
 impl AddAssign<EcnCodepoint> for EcnCounts {
     ghost use Rattle.quic_frame_parts.specs.Acks.{count_of, CountsOne};

@@ -1,5 +1,5 @@
 //! Laws of payloads, which no single call carries. The functions do nothing.
-ghost use Rattle.std.specs.Prelude.{◌≡◌, ◌≢◌, ◌<◌, ◌≤◌, ◌^◌, ◌++◌, ℕ, List, [], ◌∷◌, None, Option, Bool, true, false, map, length};
+ghost use Rattle.std.specs.Prelude.{◌≡◌, ◌≢◌, ◌<◌, ◌≤◌, ◌^◌, ◌++◌, ℕ, List, [], ◌∷◌, None, Some, Option, Bool, true, false, if◌then◌else◌, map, length};
 ghost use Rattle.std.specs.declared.ops.Range.{Range};
 ghost use Rattle.quic_base.specs.Number.{AreBytes};
 ghost use Rattle.quic_ranges.specs.Runs.{IsMaximalRuns, IsGreatest, member};
@@ -15,7 +15,8 @@ ghost use Rattle.quic_frame_parts.specs.Reading.{Broken, invalid, items_of, reas
 ghost use Rattle.quic_errors.specs.Codes.{long_type_reason};
 ghost use Rattle.quic_frames.specs.Placed.{Placed, ArePlaced, IsPlacedBroken, whole};
 ghost use Rattle.quic_frame_parts.specs.Sets.{ranges_in, greatest_in, is_in, ack_of};
-ghost use Rattle.quic_frame_parts.specs.Shortest.{shortest_frame};
+ghost use Rattle.quic_frame_parts.specs.Shortest.{shortest_frame, stream_head};
+ghost use Rattle.quic_frame_parts.specs.declared.frame.Stream.{Stream};
 ghost use Rattle.quic_frame_parts.specs.Table.{is_open};
 ghost use Rattle.quic_frames.specs.declared.frame.Frame.{Frame};
 ghost use Rattle.quic_frames.specs.declared.frame.Frame.TheVariants as frames;
@@ -127,6 +128,14 @@ pub fn read_back()
     // What is asked of a frame that is written holds of each frame that is spelled.
     ensures exact { (last : Bool) (t : ℕ) (frame : Frame) (bytes : List ℕ) → IsToldApart frame
         → IsFrame false (found_as t frame) bytes → (is_open t ≡ true → last ≡ true) → CanStand last frame }
+{}
+
+/// The head that `StreamMeta::encode` appends, and then the data, are the shortest spelling of the STREAM: of the
+/// last frame of its payload where the length of the data isn't written, else of a frame that others follow.
+pub fn stream_head_and_data()
+    ensures { (last : Bool) (s : Stream)
+        → stream_head s.id s.offset s.fin (if last then None else Some (length s.bytes.now)) ++ s.bytes.now
+        ≡ shortest_frame last (meaning_of (frames.Stream s)) }
 {}
 
 /// A RETIRE_CONNECTION_ID takes at most the bytes of its bound.

@@ -27,54 +27,79 @@ impl Model for FrameType {
 impl FrameType {
     ghost use Rattle.quic_errors.specs.Types.{type_or_zero};
 
+    /// One byte that says nothing (RFC 9000, section 19.1).
     pub const PADDING: FrameType = FrameType(0x00);
 
+    /// It asks for an acknowledgement (RFC 9000, section 19.2).
     pub const PING: FrameType = FrameType(0x01);
 
+    /// Ranges of packet numbers that came (RFC 9000, section 19.3).
     pub const ACK: FrameType = FrameType(0x02);
 
+    /// The same, with counts of marked packets (RFC 9000, section 19.3.2).
     pub const ACK_ECN: FrameType = FrameType(0x03);
 
+    /// The sender ends its part of a stream early (RFC 9000, section 19.4).
     pub const RESET_STREAM: FrameType = FrameType(0x04);
 
+    /// The receiver wants no more of a stream (RFC 9000, section 19.5).
     pub const STOP_SENDING: FrameType = FrameType(0x05);
 
+    /// Data of the handshake (RFC 9000, section 19.6).
     pub const CRYPTO: FrameType = FrameType(0x06);
 
+    /// A token for a later connection (RFC 9000, section 19.7).
     pub const NEW_TOKEN: FrameType = FrameType(0x07);
 
+    /// How many bytes all streams may carry (RFC 9000, section 19.9).
     pub const MAX_DATA: FrameType = FrameType(0x10);
 
+    /// How many bytes a stream may carry (RFC 9000, section 19.10).
     pub const MAX_STREAM_DATA: FrameType = FrameType(0x11);
 
+    /// How many streams of both directions the peer may open (RFC 9000, section 19.11).
     pub const MAX_STREAMS_BIDI: FrameType = FrameType(0x12);
 
+    /// How many streams of one direction the peer may open (RFC 9000, section 19.11).
     pub const MAX_STREAMS_UNI: FrameType = FrameType(0x13);
 
+    /// The limit on all streams holds the sender back (RFC 9000, section 19.12).
     pub const DATA_BLOCKED: FrameType = FrameType(0x14);
 
+    /// The limit on a stream holds the sender back (RFC 9000, section 19.13).
     pub const STREAM_DATA_BLOCKED: FrameType = FrameType(0x15);
 
+    /// The limit on streams of both directions holds the sender back (RFC 9000, section 19.14).
     pub const STREAMS_BLOCKED_BIDI: FrameType = FrameType(0x16);
 
+    /// The limit on streams of one direction holds the sender back (RFC 9000, section 19.14).
     pub const STREAMS_BLOCKED_UNI: FrameType = FrameType(0x17);
 
+    /// A further connection id (RFC 9000, section 19.15).
     pub const NEW_CONNECTION_ID: FrameType = FrameType(0x18);
 
+    /// A connection id is used no more (RFC 9000, section 19.16).
     pub const RETIRE_CONNECTION_ID: FrameType = FrameType(0x19);
 
+    /// Eight bytes that the peer must send back (RFC 9000, section 19.17).
     pub const PATH_CHALLENGE: FrameType = FrameType(0x1a);
 
+    /// The eight bytes of a challenge (RFC 9000, section 19.18).
     pub const PATH_RESPONSE: FrameType = FrameType(0x1b);
 
+    /// The transport closes the connection (RFC 9000, section 19.19).
     pub const CONNECTION_CLOSE: FrameType = FrameType(0x1c);
 
+    /// The application closes the connection (RFC 9000, section 19.19).
     pub const APPLICATION_CLOSE: FrameType = FrameType(0x1d);
 
+    /// The server has confirmed the handshake (RFC 9000, section 19.20).
     pub const HANDSHAKE_DONE: FrameType = FrameType(0x1e);
 
+    /// It asks for an acknowledgement at once (draft-ietf-quic-ack-frequency, section 5).
     pub const IMMEDIATE_ACK: FrameType = FrameType(0x1f);
 
+    /// How often acknowledgements are wanted (draft-ietf-quic-ack-frequency, section 4).
     pub const ACK_FREQUENCY: FrameType = FrameType(0xaf);
 
     /// The type of a DATAGRAM without its bit for the length (RFC 9221, section 4).

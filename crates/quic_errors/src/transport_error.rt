@@ -335,102 +335,119 @@ impl Error {
     ghost use Rattle.quic_errors.specs.Codes.{IsError};
     ghost use Rattle.quic_errors.specs.Codes as codes;
 
+    /// An error of the code `NO_ERROR` with this reason phrase.
     pub fn NO_ERROR(reason: &'static str) -> Error
         ensures { IsError result codes.no_error reason.now }
     {
         Error::of(Code::NO_ERROR, Reason::Static(reason))
     }
 
+    /// An error of the code `INTERNAL_ERROR` with this reason phrase.
     pub fn INTERNAL_ERROR(reason: &'static str) -> Error
         ensures { IsError result codes.internal_error reason.now }
     {
         Error::of(Code::INTERNAL_ERROR, Reason::Static(reason))
     }
 
+    /// An error of the code `CONNECTION_REFUSED` with this reason phrase.
     pub fn CONNECTION_REFUSED(reason: &'static str) -> Error
         ensures { IsError result codes.connection_refused reason.now }
     {
         Error::of(Code::CONNECTION_REFUSED, Reason::Static(reason))
     }
 
+    /// An error of the code `FLOW_CONTROL_ERROR` with this reason phrase.
     pub fn FLOW_CONTROL_ERROR(reason: &'static str) -> Error
         ensures { IsError result codes.flow_control_error reason.now }
     {
         Error::of(Code::FLOW_CONTROL_ERROR, Reason::Static(reason))
     }
 
+    /// An error of the code `STREAM_LIMIT_ERROR` with this reason phrase.
     pub fn STREAM_LIMIT_ERROR(reason: &'static str) -> Error
         ensures { IsError result codes.stream_limit_error reason.now }
     {
         Error::of(Code::STREAM_LIMIT_ERROR, Reason::Static(reason))
     }
 
+    /// An error of the code `STREAM_STATE_ERROR` with this reason phrase.
     pub fn STREAM_STATE_ERROR(reason: &'static str) -> Error
         ensures { IsError result codes.stream_state_error reason.now }
     {
         Error::of(Code::STREAM_STATE_ERROR, Reason::Static(reason))
     }
 
+    /// An error of the code `FINAL_SIZE_ERROR` with this reason phrase.
     pub fn FINAL_SIZE_ERROR(reason: &'static str) -> Error
         ensures { IsError result codes.final_size_error reason.now }
     {
         Error::of(Code::FINAL_SIZE_ERROR, Reason::Static(reason))
     }
 
+    /// An error of the code `FRAME_ENCODING_ERROR` with this reason phrase.
     pub fn FRAME_ENCODING_ERROR(reason: &'static str) -> Error
         ensures { IsError result codes.frame_encoding_error reason.now }
     {
         Error::of(Code::FRAME_ENCODING_ERROR, Reason::Static(reason))
     }
 
+    /// An error of the code `TRANSPORT_PARAMETER_ERROR` with this reason phrase.
     pub fn TRANSPORT_PARAMETER_ERROR(reason: &'static str) -> Error
         ensures { IsError result codes.transport_parameter_error reason.now }
     {
         Error::of(Code::TRANSPORT_PARAMETER_ERROR, Reason::Static(reason))
     }
 
+    /// An error of the code `CONNECTION_ID_LIMIT_ERROR` with this reason phrase.
     pub fn CONNECTION_ID_LIMIT_ERROR(reason: &'static str) -> Error
         ensures { IsError result codes.connection_id_limit_error reason.now }
     {
         Error::of(Code::CONNECTION_ID_LIMIT_ERROR, Reason::Static(reason))
     }
 
+    /// An error of the code `PROTOCOL_VIOLATION` with this reason phrase.
     pub fn PROTOCOL_VIOLATION(reason: &'static str) -> Error
         ensures { IsError result codes.protocol_violation reason.now }
     {
         Error::of(Code::PROTOCOL_VIOLATION, Reason::Static(reason))
     }
 
+    /// An error of the code `INVALID_TOKEN` with this reason phrase.
     pub fn INVALID_TOKEN(reason: &'static str) -> Error
         ensures { IsError result codes.invalid_token reason.now }
     {
         Error::of(Code::INVALID_TOKEN, Reason::Static(reason))
     }
 
+    /// An error of the code `APPLICATION_ERROR` with this reason phrase.
     pub fn APPLICATION_ERROR(reason: &'static str) -> Error
         ensures { IsError result codes.application_error reason.now }
     {
         Error::of(Code::APPLICATION_ERROR, Reason::Static(reason))
     }
 
+    /// An error of the code `CRYPTO_BUFFER_EXCEEDED` with this reason phrase.
     pub fn CRYPTO_BUFFER_EXCEEDED(reason: &'static str) -> Error
         ensures { IsError result codes.crypto_buffer_exceeded reason.now }
     {
         Error::of(Code::CRYPTO_BUFFER_EXCEEDED, Reason::Static(reason))
     }
 
+    /// An error of the code `KEY_UPDATE_ERROR` with this reason phrase.
     pub fn KEY_UPDATE_ERROR(reason: &'static str) -> Error
         ensures { IsError result codes.key_update_error reason.now }
     {
         Error::of(Code::KEY_UPDATE_ERROR, Reason::Static(reason))
     }
 
+    /// An error of the code `AEAD_LIMIT_REACHED` with this reason phrase.
     pub fn AEAD_LIMIT_REACHED(reason: &'static str) -> Error
         ensures { IsError result codes.aead_limit_reached reason.now }
     {
         Error::of(Code::AEAD_LIMIT_REACHED, Reason::Static(reason))
     }
 
+    /// An error of the code `NO_VIABLE_PATH` with this reason phrase.
     pub fn NO_VIABLE_PATH(reason: &'static str) -> Error
         ensures { IsError result codes.no_viable_path reason.now }
     {

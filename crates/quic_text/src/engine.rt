@@ -13,8 +13,11 @@ use std::alloc::{AllocError, Global};
 /// Why a run ended early.
 #[derive(Clone, Copy, Debug, PartialEq, Eq)]
 pub enum RunError {
+    /// A read failed. Nothing was written.
     Read,
+    /// A write failed, or the last flush. A beginning of the text was written.
     Write,
+    /// A growth was refused. A beginning of the text was written.
     OutOfMemory,
 }
 

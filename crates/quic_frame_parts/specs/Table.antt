@@ -70,7 +70,7 @@ data_field is_counted = if is_counted then Counted else Rest
 
 -- a STREAM by the low three bits of its type; first whether it ends the stream, then its id, offset and data
 abbrev pub stream_row : Bool → Bool → Bool → Row
-stream_row has_offset has_length is_last = row Stream (Unwritten (if is_last then 1 else 0) ∷ Varint ∷ offset_field has_offset ∷ data_field has_length ∷ [])
+stream_row has_offset has_length fin = row Stream (Unwritten (if fin then 1 else 0) ∷ Varint ∷ offset_field has_offset ∷ data_field has_length ∷ [])
 
 -- the stream, the offset
 abbrev pub max_stream_data_row : Row

@@ -45,9 +45,9 @@ pub fn offset(is_written: bool, bytes: &[u8]) -> Result<(u64, &[u8]), Fault>
     }
 }
 
-/// The bytes of a STREAM, all that is left where their length is left out, and what follows them.
+/// The data of a STREAM or a DATAGRAM, all that is left where their length is left out, and what follows them.
 #[inline]
-pub fn stream_bytes(is_counted: bool, bytes: &[u8]) -> Result<(&[u8], &[u8]), Fault>
+pub fn data(is_counted: bool, bytes: &[u8]) -> Result<(&[u8], &[u8]), Fault>
     ensures { (before : List Value)
         → Gives (λ x. (Bytes x.0.now ∷ [], x.1.now)) result (field_at (data_field is_counted) before bytes.now) }
 {

@@ -96,7 +96,7 @@ fn read_stream(
 {
     let (id, rest) = varint(bytes)?;
     let (offset, rest) = field::offset(has_offset, rest)?;
-    let (bytes, rest) = field::stream_bytes(has_length, rest)?;
+    let (bytes, rest) = field::data(has_length, rest)?;
     let stream = Stream {
         id: StreamId::from(VarInt::from_u64_unchecked(id)),
         offset,
@@ -234,7 +234,7 @@ fn read_application_close(bytes: &[u8]) -> Result<(Frame<'_>, &[u8]), Fault>
 fn read_datagram(has_length: bool, bytes: &[u8]) -> Result<(Frame<'_>, &[u8]), Fault>
     ensures { GivesFrame (λ rest. rest.now) result (row_at (table.datagram_row has_length) bytes.now) }
 {
-    let (bytes, rest) = field::stream_bytes(has_length, bytes)?;
+    let (bytes, rest) = field::data(has_length, bytes)?;
     Ok((Frame::Datagram(Datagram { bytes }), rest))
 }
 

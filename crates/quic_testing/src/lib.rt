@@ -1,7 +1,7 @@
 //! What the tests of all layers share: checks that are counted, the first failed one of which ends the test as failed.
 #![tactic(auto)]
 
-ghost use Rattle.std.specs.Prelude.{◌≡◌, ◌||◌, false, not, is_err, OnOk};
+ghost use Rattle.std.specs.Prelude.{◌≡◌, ◌||◌, false, not, is_err, OnOk, IsTrue};
 
 pub mod codes;
 
@@ -82,19 +82,18 @@ impl Checks {
     }
 
     /// Checks the text that a value is displayed as.
-    pub fn displays<T: Display>(
-        &mut self,
-        alloc: Global,
-        value: &T,
-        text: &str,
-    ) -> Result<(), Fail> {
+    pub fn displays<T: Display>(&mut self, alloc: Global, value: &T, text: &str) -> Result<(), Fail>
+        ensures { IsTrue self.old.has_failed → IsTrue self.new.has_failed }
+    {
         let shown = format!(in alloc; "{value}")?;
         self.same(shown.as_str(), text);
         Ok(())
     }
 
     /// Checks the text that a value is shown as for those who look for mistakes.
-    pub fn debugs<T: Debug>(&mut self, alloc: Global, value: &T, text: &str) -> Result<(), Fail> {
+    pub fn debugs<T: Debug>(&mut self, alloc: Global, value: &T, text: &str) -> Result<(), Fail>
+        ensures { IsTrue self.old.has_failed → IsTrue self.new.has_failed }
+    {
         let shown = format!(in alloc; "{value:?}")?;
         self.same(shown.as_str(), text);
         Ok(())

@@ -1,3 +1,4 @@
+mod Carried
 mod Ends
 mod Masks
 mod Reread

@@ -2,6 +2,7 @@ pub mod Add
 pub mod AddLaws
 pub mod Mask
 pub mod MaskLaws
+pub mod Outgoing
 pub mod Parsers
 pub mod Plain
 pub mod Reset

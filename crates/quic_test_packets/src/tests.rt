@@ -1,5 +1,6 @@
 //! Worked rows, odd keys, and each growth refused in turn.
 
+mod client;
 mod numbers;
 mod odd_keys;
 mod packets_refused;

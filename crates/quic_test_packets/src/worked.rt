@@ -1,6 +1,9 @@
 //! Keys and heads of the worked rows.
-ghost use Rattle.std.specs.Prelude.{◌≤◌, IsTrue, length};
+ghost use Rattle.std.specs.Prelude.{◌≡◌, ◌≤◌, ◌<◌, ◌^◌, ◌++◌, IsTrue, List, [], Ok, ℕ, length};
 ghost use Rattle.quic_headers.specs.Writing.{IsWritable, has_number};
+ghost use Rattle.quic_heads.specs.Grammar.{IsKnown};
+ghost use Rattle.quic_heads.specs.Reading.{Context};
+ghost use Rattle.quic_packets.specs.Opening.{ExpandsIn, IsReadBack};
 ghost use Rattle.quic_packets.specs.Sealing.{IsLowPart};
 
 use quic_base::ids::ConnectionId;
@@ -36,6 +39,8 @@ pub fn handshake(version: u32) -> Header
     ensures writable { IsWritable result }
     ensures numbered { IsTrue (has_number result) }
     ensures low { IsLowPart result 0 }
+    ensures found { ExpandsIn result 0 0 }
+    ensures read { (context : Context) (rest : List ℕ) → IsKnown context version → IsReadBack context result rest }
 {
     Header::Long {
         ty: LongType::Handshake,
@@ -52,6 +57,9 @@ pub fn short(id: &[u8], number: u64) -> Header
     ensures writable { IsWritable result }
     ensures numbered { IsTrue (has_number result) }
     ensures low { IsLowPart result number }
+    ensures found { number ≤ 128 → ExpandsIn result 0 number }
+    ensures read { (context : Context) → ((tail : List ℕ) → context.parsed (id.now ++ tail) ≡ Ok (id.now, length id.now))
+        → IsReadBack context result [] }
 {
     Header::Short {
         spin: false,

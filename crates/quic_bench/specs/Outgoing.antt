@@ -1,0 +1,57 @@
+-- Packets that are sealed and opened again.
+use Rattle.std.specs.Prelude.{◌≡◌, ℕ, ◌<◌, ◌^◌, ◌⊎◌, IsTrue, List, ◌++◌, length, Some}
+use Rattle.quic_base.specs.declared.ids.SpaceId.{SpaceId}
+use Rattle.quic_frames.specs.InRange.{CanFollow}
+use Rattle.quic_headers.specs.Queries.{space_in}
+use Rattle.quic_headers.specs.Writing.{IsWritable, has_number}
+use Rattle.quic_heads.specs.Reading.{Context}
+use Rattle.quic_packets.specs.declared.opening.OpenError.TheVariants as error
+use Rattle.quic_packets.specs.declared.opening.Opened.{Opened}
+use Rattle.quic_packets.specs.declared.seal.SealError.{SealError}
+use Rattle.quic_packets.specs.Opening.{ExpandsIn, IsReadBack}
+use Rattle.quic_packets.specs.Pairs.{KeyPair}
+use Rattle.quic_packets.specs.Sealing.{IsLowPart, IsPayload, SealedFrames, SealRefused, payload_of}
+use Rattle.quic_bench.specs.declared.two_packets.Failure.{Failure}
+use Rattle.quic_bench.specs.declared.two_packets.Failure.TheVariants as failure
+use Rattle.quic_bench.specs.declared.two_packets.Outgoing.{Outgoing}
+
+-- A packet that may be sealed: its head can be written and has the low part of its number, which is below 2^62; it has frames, and
+-- they can be written one after another.
+pub record CanBeSealed (packet : Outgoing) : Type 0 where
+  pub writable : IsWritable packet.header.now
+  pub protected : IsTrue (has_number packet.header.now)
+  pub low : IsLowPart packet.header.now packet.number
+  pub small : packet.number < 2 ^ 62
+  pub some : 0 < length packet.frames.now
+  pub follow : CanFollow packet.frames.now
+
+-- A packet that is found again where these bytes follow it: its head is read back, and its number is found by the one that is
+-- expected in its space.
+pub record IsFoundAgain (context : Context) (expected : SpaceId → ℕ) (packet : Outgoing) (rest : List ℕ) : Type 0 where
+  pub head : IsReadBack context packet.header.now rest
+  pub number : ExpandsIn packet.header.now (expected (space_in packet.header.now)) packet.number
+
+-- bytes are two sealed packets, one behind the other
+pub record AreSealed (keys : SpaceId → KeyPair) (first second : Outgoing) (bytes : List ℕ) : Type 0 where
+  pub front : List ℕ
+  pub back : List ℕ
+  pub first_sealed : SealedFrames (keys (space_in first.header.now)) first.header.now first.number first.frames.now front
+  pub second_sealed : SealedFrames (keys (space_in second.header.now)) second.header.now second.number second.frames.now back
+  pub text : bytes ≡ front ++ back
+
+-- what was opened has the packet's head and number, and its payload is the least one that means the packet's frames
+pub record Carries (opened : Opened) (packet : Outgoing) : Type 0 where
+  pub header : opened.header ≡ packet.header.now
+  pub number : opened.number ≡ Some packet.number
+  pub payload : IsPayload packet.frames.now opened.payload.items
+
+-- why a packet isn't sealed, where there is so much room
+abbrev pub IsRefused : (SpaceId → KeyPair) → Outgoing → SealError → Type 0
+IsRefused keys packet e =
+    let pair = keys (space_in packet.header.now) in
+    (spare : ℕ) × SealRefused e pair.tag_size packet.header.now pair.sample_len (payload_of packet.frames.now) spare
+
+-- why two packets are not sealed and opened: one of them can't be sealed, or memory ran out
+abbrev pub IsFailure : (SpaceId → KeyPair) → Outgoing → Outgoing → Failure → Type 0
+IsFailure keys first second (failure.Seal e) = IsRefused keys first e ⊎ IsRefused keys second e
+IsFailure keys first second (failure.Open e) = e ≡ error.OutOfMemory

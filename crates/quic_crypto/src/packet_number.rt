@@ -138,21 +138,14 @@ impl PacketNumber {
     }
 }
 
-// The number of this residue in the window round the expected one.
+// The number of this residue among as many as the window has, from the least one that is near the expected number.
 fn nearest(low: u64, window: u64, expected: u64) -> u64
     requires residue { low < window }
     requires even { window % 2 ≡ 0 }
-    requires narrow { window ≤ 2 ^ 32 }
+    requires divides { 2 ^ 62 % window ≡ 0 }
     requires small { expected < 2 ^ 62 }
     ensures { Expands low window expected result }
 {
-    let half = window / 2;
-    let candidate = expected - expected % window + low;
-    if candidate + half <= expected {
-        candidate + window
-    } else if candidate > expected + half && candidate > window {
-        candidate - window
-    } else {
-        candidate
-    }
+    let least = expected.saturating_sub(window / 2 - 1);
+    least + (low + (1 << 62) - least) % window
 }

@@ -39,7 +39,10 @@ fn blocks_as_they_were_read(rt: HostRuntime) -> Result<(), Fail> {
     let mut checks = Checks::new(rt.alloc());
     for (payload, blocks) in [
         (b"\x02\x05\x00\x00\x00".as_slice(), b"\x00".as_slice()),
-        (b"\x02\x05\x00\x00\x40\x00".as_slice(), b"\x40\x00".as_slice()),
+        (
+            b"\x02\x05\x00\x00\x40\x00".as_slice(),
+            b"\x40\x00".as_slice(),
+        ),
         (
             b"\x02\x05\x00\x01\x40\x00\x00\x40\x03".as_slice(),
             b"\x40\x00\x00\x40\x03".as_slice(),

@@ -3,8 +3,5 @@ mod PlacesLemmas
 mod NumbersLemmas
 mod SubtractLemmas
 mod SpliceLemmas
-mod UptoLemmas
-mod EntriesLemmas
 mod StepLemmas
-mod CutLemmas
 mod LawsLemmas

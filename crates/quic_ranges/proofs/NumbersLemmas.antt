@@ -63,21 +63,6 @@ elts-none f b rs le le' none = ap (λ l. l ++ (numbers_of rs ++ numbers b)) (num
 pub elts-all : (rs : List (Range ℕ)) → numbers (range 0 0) ++ (numbers_of rs ++ numbers (range 0 0)) ≡ numbers_of rs
 elts-all rs = ap (λ l. l ++ (numbers_of rs ++ numbers (range 0 0))) (numbers-none 0 0 (omega arith)) ∙ ap (λ l. numbers_of rs ++ l) (numbers-none 0 0 (omega arith)) ∙ append-nil (numbers_of rs)
 
--- the same where nothing is behind the runs
-pub array-front : (f : Range ℕ) (rs : List (Range ℕ)) (v : List ℕ) → f.start < f.end → numbers f ++ numbers_of rs ≡ v → v ≡ f.start ∷ (numbers (range (f.start + 1) f.end) ++ numbers_of rs)
-array-front f rs v lt view = sym view ∙ ap (λ l. l ++ numbers_of rs) (numbers-first f.start f.end lt)
-
-pub array-run : (f r : Range ℕ) (rs ss : List (Range ℕ)) (v : List ℕ) → f.end ≤ f.start → ss ≡ r ∷ rs → AreNonempty ss → numbers f ++ numbers_of ss ≡ v → v ≡ r.start ∷ (numbers (range (r.start + 1) r.end) ++ numbers_of rs)
-array-run f r rs ss v le step nonempty view =
-    let all : AreNonempty (r ∷ rs) = subst AreNonempty step nonempty in
-    sym view ∙ ap (λ l. l ++ numbers_of ss) (numbers-none f.start f.end le) ∙ ap numbers_of step ∙ ap (λ l. l ++ numbers_of rs) (numbers-first r.start r.end all.0)
-
-pub array-none : (f : Range ℕ) (rs : List (Range ℕ)) → f.end ≤ f.start → rs ≡ [] → numbers f ++ numbers_of rs ≡ []
-array-none f rs le none = ap (λ l. l ++ numbers_of rs) (numbers-none f.start f.end le) ∙ ap numbers_of none
-
-pub array-all : (rs : List (Range ℕ)) → numbers (range 0 0) ++ numbers_of rs ≡ numbers_of rs
-array-all rs = ap (λ l. l ++ numbers_of rs) (numbers-none 0 0 (omega arith))
-
 -- the same from the back
 push-last : (xs ys zs : List ℕ) (z : ℕ) → xs ++ (ys ++ (zs ++ z ∷ [])) ≡ (xs ++ (ys ++ zs)) ++ z ∷ []
 push-last xs ys zs z = ap (λ l. xs ++ l) (sym (append_assoc ys zs (z ∷ []))) ∙ sym (append_assoc xs (ys ++ zs) (z ∷ []))

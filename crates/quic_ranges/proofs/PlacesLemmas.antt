@@ -82,6 +82,27 @@ ends_below-length x (r ∷ rs) =
 range_at : (a a' b b' : ℕ) → a ≡ a' → b ≡ b' → range a b ≡ range a' b'
 range_at a a' b b' p q = ap (λ m. range m b) p ∙ ap (range a') q
 
+-- where the last run ends below x, all do
+pub ends_below-all : (n x k : ℕ) (d : Range ℕ) (rs : List (Range ℕ)) → RunsFrom n rs → length rs ≡ suc k → (get_or rs k d).end < x → ends_below rs x ≡ suc k
+ends_below-all n x k d [] h e lt = absurd (omega arith)
+ends_below-all n x zero d (r ∷ rs) h e lt = rw (lt-ltb r.end x lt) (ap suc (none rs (omega arith))) where
+  none : (ss : List (Range ℕ)) → length ss ≡ 0 → ends_below ss x ≡ 0
+  none [] e = refl
+  none (s ∷ ss) e = absurd (omega arith)
+ends_below-all n x (suc k) d (r ∷ rs) h e lt =
+    let at = run-at (r.end + 1) k d rs h.2 (omega arith) in
+    let q : r.end < x = omega arith in
+    rw (lt-ltb r.end x q) (ap suc (ends_below-all (r.end + 1) x k d rs h.2 (omega arith) lt))
+
+-- where x lies in the last run or at its end, the others do
+pub ends_below-others : (n x k : ℕ) (d : Range ℕ) (rs : List (Range ℕ)) → RunsFrom n rs → length rs ≡ suc k → (get_or rs k d).start ≤ x → x ≤ (get_or rs k d).end → ends_below rs x ≡ k
+ends_below-others n x k d [] h e le le' = absurd (omega arith)
+ends_below-others n x zero d (r ∷ rs) h e le le' = rw (le-ltb r.end x le') refl
+ends_below-others n x (suc k) d (r ∷ rs) h e le le' =
+    let at = run-at (r.end + 1) k d rs h.2 (omega arith) in
+    let q : r.end < x = omega arith in
+    rw (lt-ltb r.end x q) (ap suc (ends_below-others (r.end + 1) x k d rs h.2 (omega arith) le le'))
+
 -- what `hull-at` says
 abbrev HullAt : List (Range ℕ) → ℕ → ℕ → ℕ → Range ℕ → Type 0
 HullAt rs a b k d = starts_upto rs b ≡ suc k → ends_below rs a ≤ k → hull rs a b ≡ range (min a (get_or rs (ends_below rs a) d).start) (max b (get_or rs k d).end)
@@ -203,7 +224,7 @@ ends_below-starts_upto n a b (r ∷ rs) h lt =
     ]
 
 -- a run that starts at x or before is counted
-starts_upto-above : (n k x : ℕ) (d : Range ℕ) (rs : List (Range ℕ)) → RunsFrom n rs → k < length rs → (get_or rs k d).start ≤ x → k < starts_upto rs x
+pub starts_upto-above : (n k x : ℕ) (d : Range ℕ) (rs : List (Range ℕ)) → RunsFrom n rs → k < length rs → (get_or rs k d).start ≤ x → k < starts_upto rs x
 starts_upto-above n k x d [] h lt le = absurd (omega arith)
 starts_upto-above n zero x d (r ∷ rs) h lt le = rw (le-leb r.start x le) (omega arith)
 starts_upto-above n (suc k) x d (r ∷ rs) h lt le =

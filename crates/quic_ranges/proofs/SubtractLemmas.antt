@@ -1,10 +1,10 @@
--- The runs of a difference of two sets.
+-- The runs of a difference of two sets, and the parts of a range that a set holds.
 use Rattle.std.proofs.Common.{inl, inr, ◌≡◌, ℕ, ◌+◌, ◌-◌, ◌<◌, ◌≤◌, min, max, Bool, false, ◌&&◌, ◌||◌, not, List, [], ◌∷◌, ◌++◌, refl, ap, sym, ◌∙◌, arith, append_assoc, take, suc, slice_range}
 use Rattle.std.proofs.lemmas.List.{append-nil}
 use Rattle.std.proofs.lemmas.Bool.{lt-ltb, le-ltb, lt-leb, le-leb, cases_lt}
 use Rattle.std.proofs.lemmas.Bool.Decides.{nat_tests}
 use Rattle.std.specs.declared.ops.Range.{Range}
-use Rattle.quic_ranges.specs.Pieces.{outside, piece, subtracted}
+use Rattle.quic_ranges.specs.Pieces.{outside, piece, pieces, subtracted}
 use Rattle.quic_ranges.specs.Runs.{in_range, member, RunsFrom, IsMaximalRuns, IsRunsOf, in_subtraction}
 use Rattle.quic_ranges.specs.Places.{ends_below, starts_upto}
 use Rattle.quic_ranges.proofs.RunsLemmas.{range, RunsFrom-lower, RunsFrom-piece, member-piece, member-below}
@@ -83,3 +83,34 @@ outside-touched n s e (g ∷ gs) h lt =
           rw (lt-ltb g.end s q, le-leb g.start e q1, piece-empty s (min e g.start) q2, q3, fewer) (outside-touched (g.end + 1) s e gs h.2 lt)
       | inr q ↦ let all : starts_upto (g ∷ gs) e - 0 ≡ starts_upto (g ∷ gs) e = omega arith in rw (le-ltb g.end s q, all) (outside-front n s e (g ∷ gs) h)
     ]
+
+-- a range has no pieces in runs behind it
+pieces-beyond : (n : ℕ) (x : Range ℕ) (gs : List (Range ℕ)) → RunsFrom n gs → x.end ≤ n → pieces gs x ≡ []
+pieces-beyond n x [] h le = refl
+pieces-beyond n x (g ∷ gs) h le =
+    ap (λ l. l ++ pieces gs x) (piece-empty (max g.start x.start) (min x.end g.end) (omega arith)) ∙ pieces-beyond (g.end + 1) x gs h.2 (omega arith)
+
+pieces-front : (n : ℕ) (x : Range ℕ) (gs : List (Range ℕ)) → RunsFrom n gs → pieces (take (starts_upto gs x.end) gs) x ≡ pieces gs x
+pieces-front n x [] h = refl
+pieces-front n x (g ∷ gs) h =
+    elim (cases_lt x.end g.start) as (λ _. pieces (take (starts_upto (g ∷ gs) x.end) (g ∷ gs)) x ≡ pieces (g ∷ gs) x) [
+      | inl lt ↦ rw (lt-leb g.start x.end lt) (sym (pieces-beyond g.start x (g ∷ gs) (omega arith, h.1, h.2) (omega arith)))
+      | inr le ↦ rw (le-leb g.start x.end le) (ap (λ l. piece (max g.start x.start) (min x.end g.end) ++ l) (pieces-front (g.end + 1) x gs h.2))
+    ]
+
+-- the pieces of a range lie in the runs that it touches
+pub pieces-touched : (n : ℕ) (x : Range ℕ) (gs : List (Range ℕ)) → RunsFrom n gs → x.start < x.end → pieces (slice_range gs (ends_below gs x.start) (starts_upto gs x.end)) x ≡ pieces gs x
+pieces-touched n x [] h lt = refl
+pieces-touched n x (g ∷ gs) h lt =
+    elim (cases_lt g.end x.start) as (λ _. pieces (slice_range (g ∷ gs) (ends_below (g ∷ gs) x.start) (starts_upto (g ∷ gs) x.end)) x ≡ pieces (g ∷ gs) x) [
+      | inl q ↦ let q1 : g.start ≤ x.end = omega arith in
+          let q2 : min x.end g.end ≤ max g.start x.start = omega arith in
+          let fewer : suc (starts_upto gs x.end) - suc (ends_below gs x.start) ≡ starts_upto gs x.end - ends_below gs x.start = omega arith in
+          rw (lt-ltb g.end x.start q, le-leb g.start x.end q1, piece-empty (max g.start x.start) (min x.end g.end) q2, fewer) (pieces-touched (g.end + 1) x gs h.2 lt)
+      | inr q ↦ let all : starts_upto (g ∷ gs) x.end - 0 ≡ starts_upto (g ∷ gs) x.end = omega arith in rw (le-ltb g.end x.start q, all) (pieces-front n x (g ∷ gs) h)
+    ]
+
+-- nor has an empty range any
+pub pieces-void : (x : Range ℕ) (rs : List (Range ℕ)) → x.end ≤ x.start → pieces rs x ≡ []
+pieces-void x [] le = refl
+pieces-void x (r ∷ rs) le = ap (λ l. l ++ pieces rs x) (piece-empty (max r.start x.start) (min x.end r.end) (omega arith)) ∙ pieces-void x rs le

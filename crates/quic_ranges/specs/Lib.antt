@@ -3,5 +3,4 @@ pub mod Numbers
 pub mod Pieces
 pub mod Places
 pub mod Splices
-pub mod Entries
 pub mod Replaced

@@ -4,9 +4,9 @@ use Rattle.std.specs.Borrow.{follows_so, MutBor, Fml}
 use Rattle.std.specs.Slice.Iter.{iter_rest}
 use Rattle.std.specs.declared.ops.Range.{Range}
 use mathlib.Core.Option.{none}
-use Rattle.quic_ranges.specs.declared.range_set.btree_range_set.RangeSet.{RangeSet}
-use Rattle.quic_ranges.specs.declared.range_set.btree_range_set.Replace.{Replace}
-use Rattle.quic_ranges.specs.contracts.range_set.btree_range_set.RangeSet.{the_row}
+use Rattle.quic_ranges.specs.declared.range_set.vec_range_set.RangeSet.{RangeSet}
+use Rattle.quic_ranges.specs.declared.range_set.vec_range_set.Replace.{Replace}
+use Rattle.quic_ranges.specs.contracts.range_set.vec_range_set.RangeSet.{the_row}
 
 -- P holds of the set in the `&mut` s once the result's borrow of it ends
 abbrev pub Ends : MutBor RangeSet → (RangeSet → Type 0) → Fml

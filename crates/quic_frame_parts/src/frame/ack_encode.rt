@@ -13,7 +13,7 @@ use super::ack::{Ack, EcnCounts};
 use super::write;
 use bytes::BufMut;
 use quic_base::coding::NoRoom;
-use quic_ranges::range_set::{ArrayIter, ArrayRangeSet};
+use quic_ranges::range_set::{ArrayRangeSet, Iter, RangeSet};
 use std::ops::Range;
 
 impl Ack<'_> {
@@ -34,18 +34,55 @@ impl Ack<'_> {
         ensures { (last : Bool) → Writes result (shortest_frame last (ack_of delay ranges.now (option_copied ecn.entry)))
             (B.written out.old) (B.spare out.old) (B.written out.new) (B.spare out.new) }
     {
-        let counts = ecn.copied();
-        let mut runs = ranges.iter();
-        let Some(first) = runs.next_back() else {
-            unreachable!()
-        };
-        let greatest = first.end - 1;
-        let block = greatest - first.start;
-        let below = ranges.len() as u64 - 1;
-        write::numbers(out, &[type_of(counts), greatest, delay, below, block])?;
-        encode_below(first, runs, out)?;
-        encode_counts(counts, out)
+        encode_runs(delay, ranges.iter(), ranges.len(), ecn.copied(), out)
     }
+
+    /// Appends an ACK of a set that keeps its runs in a vector, with the conditions, the bytes and the refusal of
+    /// `Ack::encode`.
+    pub fn encode_from<B: BufMut>(
+        delay: u64,
+        set: &RangeSet,
+        ecn: Option<&EcnCounts>,
+        out: &mut B,
+    ) -> Result<(), NoRoom>
+        requires some { set.now ≢ [] }
+        requires members { (n : ℕ) → member set.now n ≡ true → n < 2 ^ 62 }
+        requires delay { delay < 2 ^ 62 }
+        requires counts { AreCounts (option_copied ecn) }
+        ensures { (last : Bool) → Writes result (shortest_frame last (ack_of delay set.now (option_copied ecn.entry)))
+            (B.written out.old) (B.spare out.old) (B.written out.new) (B.spare out.new) }
+    {
+        encode_runs(delay, set.iter(), set.len(), ecn.copied(), out)
+    }
+}
+
+// Appends an ACK of the runs of a set, of which there are `count`.
+fn encode_runs<B: BufMut>(
+    delay: u64,
+    runs: Iter<'_>,
+    count: usize,
+    ecn: Option<EcnCounts>,
+    out: &mut B,
+) -> Result<(), NoRoom>
+    requires maximal { IsMaximalRuns runs }
+    requires some { runs ≢ [] }
+    requires count { count ≡ length runs }
+    requires members { (n : ℕ) → member runs n ≡ true → n < 2 ^ 62 }
+    requires delay { delay < 2 ^ 62 }
+    requires counts { AreCounts ecn }
+    ensures { (last : Bool) → Writes result (shortest_frame last (ack_of delay runs.entry ecn))
+        (B.written out.old) (B.spare out.old) (B.written out.new) (B.spare out.new) }
+{
+    let mut runs = runs;
+    let Some(first) = runs.next_back() else {
+        unreachable!()
+    };
+    let greatest = first.end - 1;
+    let block = greatest - first.start;
+    let below = count as u64 - 1;
+    write::numbers(out, &[type_of(ecn), greatest, delay, below, block])?;
+    encode_below(first, runs, out)?;
+    encode_counts(ecn, out)
 }
 
 // The type of an ACK with these counts or with none.
@@ -59,7 +96,7 @@ fn type_of(ecn: Option<EcnCounts>) -> u64
 // above it, less one, and its numbers, less one.
 fn encode_below<B: BufMut>(
     above: Range<u64>,
-    runs: ArrayIter<'_>,
+    runs: Iter<'_>,
     out: &mut B,
 ) -> Result<(), NoRoom>
     requires runs { IsMaximalRuns (runs ++ above ∷ []) }

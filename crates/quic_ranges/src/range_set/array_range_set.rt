@@ -1,20 +1,20 @@
 //! A set of numbers for few runs, which keeps two of them inline.
 ghost use Rattle.std.specs.Prelude.{◌≡◌, ◌≢◌, [], ◌≤◌, ◌<◌, ◌+◌, ◌-◌, ◌^◌, ◌∷◌, ◌++◌, ◌↔◌, ℕ, List, length, take, drop, IfSome, IfNone, IfOk, OnOk, OnErr, IsTrue, IsOk};
 ghost use Rattle.std.specs.declared.ops.Range.{Range};
-ghost use Rattle.std.specs.Iterator.{YieldsFirst, YieldsLast, item_count};
 ghost use Rattle.smallvec.specs.SmallVec.{small_vec_len, HasRoomFor};
 ghost use Rattle.quic_ranges.specs.Runs.{IsMaximalRuns, IsRunsOf, IsLeast, IsGreatest, member, in_union, in_difference, in_subtraction};
 ghost use Rattle.quic_ranges.specs.Numbers.{numbers_of};
 ghost use Rattle.quic_ranges.specs.Pieces.{outside, subtracted};
 ghost use Rattle.quic_ranges.specs.Splices.{Fits, after_splice};
 
-use crate::range_set::sorted_runs::{self, Splice, Substitute};
+use crate::range_set::runs_iter::{EltIter, Iter};
+use crate::range_set::sorted_runs::{self, Splice};
 use quic_base::coding::NoRoom;
 use smallvec::SmallVec;
 use std::alloc::Global;
+use std::fmt;
 use std::marker::Model;
 use std::ops::Range;
-use std::{fmt, slice};
 
 /// A finite set of numbers below 2^64 - 1. Up to two runs take no memory.
 #[derive(Drop)]
@@ -88,19 +88,14 @@ impl ArrayRangeSet {
         ensures runs { result ≡ self.now }
         ensures maximal { IsMaximalRuns self.now }
     {
-        ArrayIter {
-            runs: self.runs.as_slice().iter(),
-        }
+        Iter::of(self.runs.as_slice())
     }
 
     /// The numbers of the set, ascending.
     pub fn elts(&self) -> ArrayElts<'_>
         ensures { result ≡ numbers_of self.now }
     {
-        ArrayElts {
-            front: 0..0,
-            runs: self.iter(),
-        }
+        EltIter::of(self.runs.as_slice())
     }
 
     /// An equal set. Answers `NoRoom` only for more than two runs.
@@ -199,21 +194,16 @@ impl ArrayRangeSet {
     }
 }
 
+/// The runs of an `ArrayRangeSet`, ascending, from both ends.
+pub type ArrayIter<'a> = Iter<'a>;
+
+/// The numbers of an `ArrayRangeSet`, ascending, from both ends.
+pub type ArrayElts<'a> = EltIter<'a>;
+
 impl fmt::Debug for ArrayRangeSet {
     fn fmt<W: fmt::Write>(&self, f: &mut fmt::Formatter<W>) -> fmt::Result {
         f.debug_tuple("ArrayRangeSet").field(&self.runs).finish()
     }
-}
-
-// Puts one run in the place of those from `from` to below `to`.
-fn put_run(runs: &mut SmallVec<Range<u64>, 2>, from: usize, to: usize, run: Range<u64>)
-    requires ordered { from < to }
-    requires within { to ≤ small_vec_len runs.old }
-    ensures items { runs.new.items ≡ take from runs.old.items ++ run ∷ drop to runs.old.items }
-    ensures capacity { runs.new.capacity ≡ runs.old.capacity }
-{
-    runs.drain(from + 1..to);
-    runs.as_mut_slice()[from] = run;
 }
 
 // Makes a change of the runs. Only a change to one run more takes memory, before anything changes.
@@ -227,26 +217,13 @@ fn apply(runs: &mut SmallVec<Range<u64>, 2>, change: Splice) -> Result<(), NoRoo
     ensures capacity { runs.old.capacity ≤ runs.new.capacity }
 {
     let Splice { from, to, by } = change;
-    match by {
-        Substitute::Nothing => {
-            runs.drain(from..to);
-        }
-        Substitute::One(run) => {
-            if from == to {
-                runs.insert(from, run).map_err(|_| NoRoom)?;
-            } else {
-                put_run(runs, from, to, run);
-            }
-        }
-        Substitute::Two(front, back) => {
-            if from + 1 == to {
-                runs.insert(to, back).map_err(|_| NoRoom)?;
-            } else {
-                put_run(runs, from + 1, to, back);
-            }
-            put_run(runs, from, from + 1, front);
-        }
+    let (less, more) = (to - from, by.len());
+    if less < more {
+        runs.insert(to, 0..0).map_err(|_| NoRoom)?;
+    } else if more < less {
+        runs.drain(from + more..to);
     }
+    by.write(runs.as_mut_slice(), from);
     Ok(())
 }
 
@@ -295,79 +272,4 @@ fn runs_outside(
         push_outside(&mut left, run, sorted_runs::touched(others, run))?;
     }
     Ok(left)
-}
-
-/// The runs of an `ArrayRangeSet`, ascending, from both ends.
-#[derive(Drop)]
-pub struct ArrayIter<'a> {
-    runs: slice::Iter<'a, Range<u64>>,
-}
-
-impl<'a> Model for ArrayIter<'a> {
-    ghost use Rattle.std.specs.Prelude.{ℕ, List};
-    ghost use Rattle.std.specs.declared.ops.Range.{Range};
-    ghost use Rattle.std.specs.Slice.Iter.{iter_rest};
-
-    ghost Value = { List (Range ℕ) };
-
-    ghost view = { λ i. iter_rest i.runs };
-}
-
-impl<'a> Iterator for ArrayIter<'a> {
-    type Item = Range<u64>;
-
-    ghost next_gives = { YieldsFirst (λ i. i) };
-
-    ghost remaining = { item_count (λ i. i) };
-
-    fn next(&mut self) -> Option<Range<u64>> {
-        let first = self.runs.next()?;
-        Some(first.start..first.end)
-    }
-}
-
-impl<'a> DoubleEndedIterator for ArrayIter<'a> {
-    ghost next_back_gives = { YieldsLast (λ i. i) };
-
-    fn next_back(&mut self) -> Option<Range<u64>> {
-        let last = self.runs.next_back()?;
-        Some(last.start..last.end)
-    }
-}
-
-/// The numbers of an `ArrayRangeSet`, ascending.
-#[derive(Drop)]
-pub struct ArrayElts<'a> {
-    front: Range<u64>,
-    runs: ArrayIter<'a>,
-}
-
-impl<'a> Model for ArrayElts<'a> {
-    ghost use Rattle.std.specs.Prelude.{ℕ, List, ◌++◌};
-    ghost use Rattle.quic_ranges.specs.Numbers.{numbers, numbers_of, AreNonempty};
-
-    ghost Value = { List ℕ };
-
-    ghost view = { λ i. numbers i.front ++ numbers_of i.runs };
-
-    ghost invariant = { λ i. AreNonempty i.runs };
-}
-
-impl<'a> Iterator for ArrayElts<'a> {
-    type Item = u64;
-
-    ghost next_gives = { YieldsFirst (λ i. i) };
-
-    ghost remaining = { item_count (λ i. i) };
-
-    fn next(&mut self) -> Option<u64> {
-        if self.front.start < self.front.end {
-            let x = self.front.start;
-            self.front.start = x + 1;
-            return Some(x);
-        }
-        let run = self.runs.next()?;
-        self.front = run.start + 1..run.end;
-        Some(run.start)
-    }
 }

@@ -1,10 +1,10 @@
 //! What a change does to runs that lie in a slice: which of them go, and what takes their place. Each
-//! place is found by halving.
-ghost use Rattle.std.specs.Prelude.{◌≡◌, ◌<◌, ◌≤◌, ◌++◌, length, IfSome, IfNone};
+//! place is found by halving, after a look at the last run, where most changes are.
+ghost use Rattle.std.specs.Prelude.{◌≡◌, ◌<◌, ◌≤◌, ◌+◌, ◌++◌, length, take, drop, IfSome, IfNone};
 ghost use Rattle.std.specs.declared.ops.Range.{Range};
 ghost use Rattle.quic_ranges.specs.Runs.{IsMaximalRuns, IsRunsOf, member, in_union, in_difference};
 ghost use Rattle.quic_ranges.specs.Places.{ends_below, starts_upto};
-ghost use Rattle.quic_ranges.specs.Pieces.{piece, outside};
+ghost use Rattle.quic_ranges.specs.Pieces.{piece, pieces, outside};
 ghost use Rattle.quic_ranges.specs.Splices.{Splices, substitutes};
 
 use std::ops::Range;
@@ -15,6 +15,10 @@ fn count_ends_below(runs: &[Range<u64>], x: u64) -> usize
     ensures count { result ≡ ends_below runs.now x }
     ensures within { result ≤ length runs.now }
 {
+    let len = runs.len();
+    if len > 0 && runs[len - 1].start <= x {
+        return if runs[len - 1].end < x { len } else { len - 1 };
+    }
     runs.partition_point(|run| run.end < x)
 }
 
@@ -24,6 +28,10 @@ fn count_starts_upto(runs: &[Range<u64>], x: u64) -> usize
     ensures count { result ≡ starts_upto runs.now x }
     ensures within { result ≤ length runs.now }
 {
+    let len = runs.len();
+    if len > 0 && runs[len - 1].start <= x {
+        return len;
+    }
     runs.partition_point(|run| run.start <= x)
 }
 
@@ -54,6 +62,36 @@ impl Substitute {
             (true, false) => Substitute::One(front),
             (false, true) => Substitute::One(back),
             (false, false) => Substitute::Nothing,
+        }
+    }
+}
+
+impl Substitute {
+    // How many runs there are.
+    pub(crate) fn len(&self) -> usize
+        ensures count { result ≡ length (substitutes self.now) }
+        ensures most { result ≤ 2 }
+    {
+        match self {
+            Substitute::Nothing => 0,
+            Substitute::One(_) => 1,
+            Substitute::Two(_, _) => 2,
+        }
+    }
+
+    // Writes them over the runs from `at` on.
+    pub(crate) fn write(self, runs: &mut [Range<u64>], at: usize)
+        requires { at + length (substitutes self) ≤ length runs.old }
+        ensures { runs.new ≡ take at runs.old
+            ++ (substitutes self ++ drop (at + length (substitutes self)) runs.old) }
+    {
+        match self {
+            Substitute::Nothing => {}
+            Substitute::One(run) => runs[at] = run,
+            Substitute::Two(front, back) => {
+                runs[at] = front;
+                runs[at + 1] = back;
+            }
         }
     }
 }
@@ -121,7 +159,8 @@ pub(crate) fn removal(runs: &[Range<u64>], x: &Range<u64>) -> Option<Splice>
 pub(crate) fn touched<'a>(runs: &'a [Range<u64>], x: &Range<u64>) -> &'a [Range<u64>]
     requires maximal { IsMaximalRuns runs.now }
     requires nonempty { x.now.start < x.now.end }
-    ensures { outside x.now.start x.now.end result.now ≡ outside x.now.start x.now.end runs.now }
+    ensures outside { outside x.now.start x.now.end result.now ≡ outside x.now.start x.now.end runs.now }
+    ensures pieces { pieces result.now x.now ≡ pieces runs.now x.now }
 {
     &runs[count_ends_below(runs, x.start)..count_starts_upto(runs, x.end)]
 }

@@ -5,7 +5,7 @@ ghost use Rattle.quic_frames.specs.InRange.{AreCounts};
 
 use super::acks::ranges_of;
 use quic_frames::frame::{Ack, EcnCounts, Frame, Iter};
-use quic_ranges::range_set::ArrayRangeSet;
+use quic_ranges::range_set::{ArrayRangeSet, RangeSet};
 use quic_testing::Checks;
 use std::alloc::Global;
 use std::test::Fail;
@@ -48,17 +48,53 @@ fn ack_bytes(
     Ok(out)
 }
 
+// The same of a set whose runs lie in a vector.
+fn ack_bytes_from(
+    alloc: Global,
+    delay: u64,
+    set: &RangeSet,
+    counts: Option<&EcnCounts>,
+) -> Result<Vec<u8>, Fail> {
+    let Some(greatest) = set.max() else {
+        return Err("a number".into());
+    };
+    if greatest >= 1 << 62 || delay >= 1 << 62 || !are_small(counts) {
+        return Err("a smaller number".into());
+    }
+    let mut out = Vec::new(alloc);
+    Ack::encode_from(delay, set, counts, &mut out)?;
+    Ok(out)
+}
+
+// The bytes of an ACK of the set, if both encoders write the same.
+fn ack_bytes_of_both(
+    alloc: Global,
+    delay: u64,
+    set: &ArrayRangeSet,
+    counts: Option<&EcnCounts>,
+) -> Result<Vec<u8>, Fail> {
+    let mut equal = RangeSet::new(alloc);
+    for run in set.iter() {
+        equal.insert(run)?;
+    }
+    let bytes = ack_bytes(alloc, delay, set, counts)?;
+    if ack_bytes_from(alloc, delay, &equal, counts)?.as_slice() != bytes.as_slice() {
+        return Err("the same bytes".into());
+    }
+    Ok(bytes)
+}
+
 // The bytes of the ACK that the words say.
 fn written(alloc: Global, words: &[&str]) -> Result<Vec<u8>, Fail> {
     match words {
-        [delay, runs] => ack_bytes(alloc, delay.parse()?, &set_of(alloc, runs)?, None),
+        [delay, runs] => ack_bytes_of_both(alloc, delay.parse()?, &set_of(alloc, runs)?, None),
         [delay, runs, ect0, ect1, ce] => {
             let counts = EcnCounts {
                 ect0: ect0.parse()?,
                 ect1: ect1.parse()?,
                 ce: ce.parse()?,
             };
-            ack_bytes(alloc, delay.parse()?, &set_of(alloc, runs)?, Some(&counts))
+            ack_bytes_of_both(alloc, delay.parse()?, &set_of(alloc, runs)?, Some(&counts))
         }
         _ => Err("an unknown line".into()),
     }
@@ -80,6 +116,7 @@ fn acks_of_few_numbers(rt: HostRuntime) -> Result<(), Fail> {
     for line in [
         "0 0..1|0200000000",
         "0 0..1,2..3|02020001000000",
+        "0 0..2,3..4|02030001000001",
         "42 1..4,5..6,10..12,14..15 42 24 12|030e2a03000101030000022a180c",
     ] {
         checks.holds_at(line, is_written(rt.alloc(), line)?);
@@ -99,7 +136,7 @@ fn an_ack_of_a_set_is_read_back(rt: HostRuntime) -> Result<(), Fail> {
         ect1: 24,
         ce: 12,
     };
-    let out = ack_bytes(rt.alloc(), 42, &set, Some(&counts))?;
+    let out = ack_bytes_of_both(rt.alloc(), 42, &set, Some(&counts))?;
     let mut iter = Iter::new(out.as_slice())?;
     let Some(Ok(Frame::Ack(ack))) = iter.next() else {
         return Err("an ACK".into());

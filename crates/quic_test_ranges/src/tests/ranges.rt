@@ -8,8 +8,8 @@ use std::alloc::Global;
 use std::ops::Range;
 use std::test::Fail;
 
-// The map set and the array set of some ranges.
-fn map_of(alloc: Global, ranges: &[(u64, u64)]) -> Result<RangeSet, NoRoom> {
+// The sets of some ranges.
+fn set_of(alloc: Global, ranges: &[(u64, u64)]) -> Result<RangeSet, NoRoom> {
     let mut set = RangeSet::new(alloc);
     for &(start, end) in ranges {
         let _ = set.insert(start..end)?;
@@ -26,7 +26,7 @@ fn array_of(alloc: Global, ranges: &[(u64, u64)]) -> Result<ArrayRangeSet, NoRoo
 }
 
 // Whether the set has exactly these runs.
-fn map_is(set: &RangeSet, runs: &[(u64, u64)]) -> bool {
+fn set_is(set: &RangeSet, runs: &[(u64, u64)]) -> bool {
     let mut rest = set.iter();
     for &(start, end) in runs {
         let Some(run) = rest.next() else {
@@ -108,6 +108,7 @@ const REPLACE_ROWS: &[(Runs, (u64, u64), Runs, Runs)] = &[
         &[(2, 4), (6, 8), (15, 20)],
         &[(1, 30)],
     ),
+    (&[(1, 3), (4, 7)], (0, 10), &[(1, 3), (4, 7)], &[(0, 10)]),
     (&[(0, 10)], (5, 2), &[], &[(0, 10)]),
 ];
 
@@ -115,12 +116,12 @@ const REPLACE_ROWS: &[(Runs, (u64, u64), Runs, Runs)] = &[
 fn replaces(rt: HostRuntime) -> Result<(), Fail> {
     let mut checks = Checks::new(rt.alloc());
     for &(before, (start, end), pieces, after) in REPLACE_ROWS {
-        let mut set = map_of(rt.alloc(), before)?;
+        let mut set = set_of(rt.alloc(), before)?;
         checks.holds_at(
             format_args!("{start}..{end}"),
             gives(set.replace(start..end)?, pieces),
         );
-        checks.holds_at(format_args!("{start}..{end}"), map_is(&set, after));
+        checks.holds_at(format_args!("{start}..{end}"), set_is(&set, after));
     }
     checks.verdict()
 }
@@ -130,13 +131,13 @@ fn replaces(rt: HostRuntime) -> Result<(), Fail> {
 fn replaces_without_a_look(rt: HostRuntime) -> Result<(), Fail> {
     let mut checks = Checks::new(rt.alloc());
     for &(before, (start, end), pieces, after) in REPLACE_ROWS {
-        let mut set = map_of(rt.alloc(), before)?;
+        let mut set = set_of(rt.alloc(), before)?;
         replace_unseen(&mut set, start..end)?;
-        checks.holds_at(start, map_is(&set, after));
-        let mut set = map_of(rt.alloc(), before)?;
+        checks.holds_at(start, set_is(&set, after));
+        let mut set = set_of(rt.alloc(), before)?;
         replace_at_a_look(&mut set, start..end)?;
-        checks.holds_at(start, map_is(&set, after));
-        let mut set = map_of(rt.alloc(), before)?;
+        checks.holds_at(start, set_is(&set, after));
+        let mut set = set_of(rt.alloc(), before)?;
         checks.same(count_replaced(&mut set, start..end)?, pieces.len() as u64);
     }
     checks.verdict()
@@ -150,7 +151,7 @@ fn replaces_one_after_the_other(rt: HostRuntime) -> Result<(), Fail> {
     checks.holds(gives(looked.replace(6..10)?, &[]));
     checks.holds(gives(looked.replace(5..5)?, &[]));
     checks.holds(gives(looked.replace(2..7)?, &[(6, 7)]));
-    checks.holds(map_is(&looked, &[(2, 10)]));
+    checks.holds(set_is(&looked, &[(2, 10)]));
     checks.verdict()
 }
 
@@ -162,16 +163,16 @@ fn replaces_one_after_the_other_without_a_look(rt: HostRuntime) -> Result<(), Fa
     let _ = dropped.replace(6..10)?;
     let _ = dropped.replace(5..5)?;
     let _ = dropped.replace(2..7)?;
-    checks.holds(map_is(&dropped, &[(2, 10)]));
+    checks.holds(set_is(&dropped, &[(2, 10)]));
     checks.verdict()
 }
 
 #[test]
 fn removes_from_the_middle(rt: HostRuntime) -> Result<(), Fail> {
     let mut checks = Checks::new(rt.alloc());
-    let mut map = map_of(rt.alloc(), &[(0, 10)])?;
-    checks.same(map.remove(3..5), Ok(true));
-    checks.holds(map_is(&map, &[(0, 3), (5, 10)]));
+    let mut set = set_of(rt.alloc(), &[(0, 10)])?;
+    checks.same(set.remove(3..5), Ok(true));
+    checks.holds(set_is(&set, &[(0, 3), (5, 10)]));
     let mut array = array_of(rt.alloc(), &[(0, 10)])?;
     checks.same(array.remove(3..5), Ok(true));
     checks.holds(array_is(&array, &[(0, 3), (5, 10)]));
@@ -181,9 +182,9 @@ fn removes_from_the_middle(rt: HostRuntime) -> Result<(), Fail> {
 #[test]
 fn inserts_the_greatest_member(rt: HostRuntime) -> Result<(), Fail> {
     let mut checks = Checks::new(rt.alloc());
-    let mut map = RangeSet::new(rt.alloc());
-    checks.same(map.insert_one(u64::MAX - 1), Ok(true));
-    checks.holds(map_is(&map, &[(u64::MAX - 1, u64::MAX)]));
+    let mut set = RangeSet::new(rt.alloc());
+    checks.same(set.insert_one(u64::MAX - 1), Ok(true));
+    checks.holds(set_is(&set, &[(u64::MAX - 1, u64::MAX)]));
     let mut array = ArrayRangeSet::new(rt.alloc());
     checks.same(array.insert_one(u64::MAX - 1), Ok(true));
     checks.holds(array_is(&array, &[(u64::MAX - 1, u64::MAX)]));
@@ -193,11 +194,11 @@ fn inserts_the_greatest_member(rt: HostRuntime) -> Result<(), Fail> {
 #[test]
 fn adds(rt: HostRuntime) -> Result<(), Fail> {
     let mut checks = Checks::new(rt.alloc());
-    let mut set = map_of(rt.alloc(), &[(1, 3), (5, 7)])?;
-    let other = map_of(rt.alloc(), &[(3, 5), (9, 10)])?;
+    let mut set = set_of(rt.alloc(), &[(1, 3), (5, 7)])?;
+    let other = set_of(rt.alloc(), &[(3, 5), (9, 10)])?;
     checks.same(set.add(&other), Ok(()));
-    checks.holds(map_is(&set, &[(1, 7), (9, 10)]));
-    checks.holds(map_is(&other, &[(3, 5), (9, 10)]));
+    checks.holds(set_is(&set, &[(1, 7), (9, 10)]));
+    checks.holds(set_is(&other, &[(3, 5), (9, 10)]));
     checks.verdict()
 }
 
@@ -205,9 +206,9 @@ fn adds(rt: HostRuntime) -> Result<(), Fail> {
 fn clones(rt: HostRuntime) -> Result<(), Fail> {
     let mut checks = Checks::new(rt.alloc());
     let runs = [(1, 3), (5, 7), (9, 11)];
-    let map = map_of(rt.alloc(), &runs)?;
-    checks.holds(map_is(&map.try_clone()?, &runs));
-    checks.holds(map_is(&map, &runs));
+    let set = set_of(rt.alloc(), &runs)?;
+    checks.holds(set_is(&set.try_clone()?, &runs));
+    checks.holds(set_is(&set, &runs));
     checks.verdict()
 }
 
@@ -229,9 +230,9 @@ fn clones_array_sets(rt: HostRuntime) -> Result<(), Fail> {
 fn subtracts(rt: HostRuntime) -> Result<(), Fail> {
     let mut checks = Checks::new(rt.alloc());
     let (before, other) = ([(0, 100), (200, 210)], [(50, 60), (150, 300)]);
-    let mut map = map_of(rt.alloc(), &before)?;
-    checks.same(map.subtract(&map_of(rt.alloc(), &other)?), Ok(()));
-    checks.holds(map_is(&map, &[(0, 50), (60, 100)]));
+    let mut set = set_of(rt.alloc(), &before)?;
+    checks.same(set.subtract(&set_of(rt.alloc(), &other)?), Ok(()));
+    checks.holds(set_is(&set, &[(0, 50), (60, 100)]));
     let mut array = array_of(rt.alloc(), &before)?;
     checks.same(array.subtract(&array_of(rt.alloc(), &other)?), Ok(()));
     checks.holds(array_is(&array, &[(0, 50), (60, 100)]));
@@ -241,8 +242,8 @@ fn subtracts(rt: HostRuntime) -> Result<(), Fail> {
 #[test]
 fn gives_elements_from_both_ends(rt: HostRuntime) -> Result<(), Fail> {
     let mut checks = Checks::new(rt.alloc());
-    let map = map_of(rt.alloc(), &[(0, 3), (5, 7)])?;
-    let mut elements = map.elts();
+    let set = set_of(rt.alloc(), &[(0, 3), (5, 7)])?;
+    let mut elements = set.elts();
     checks.same(elements.next(), Some(0));
     checks.same(elements.next_back(), Some(6));
     checks.same(elements.next(), Some(1));
@@ -261,27 +262,27 @@ fn gives_elements_from_both_ends(rt: HostRuntime) -> Result<(), Fail> {
 
 // A script whose answers are the same on both sets, up to its `replace`, which the array set lacks.
 #[test]
-fn runs_the_script_on_the_map_set(rt: HostRuntime) -> Result<(), Fail> {
+fn runs_the_script_on_the_range_set(rt: HostRuntime) -> Result<(), Fail> {
     let mut checks = Checks::new(rt.alloc());
     let mut set = RangeSet::new(rt.alloc());
     checks.same(set.insert(5..7), Ok(true));
     checks.same(set.insert(1..3), Ok(true));
-    checks.holds(map_is(&set, &[(1, 3), (5, 7)]));
+    checks.holds(set_is(&set, &[(1, 3), (5, 7)]));
     checks.same(set.insert_one(3), Ok(true));
     checks.same(set.insert_one(4), Ok(true));
-    checks.holds(map_is(&set, &[(1, 7)]));
+    checks.holds(set_is(&set, &[(1, 7)]));
     checks.same(set.insert(2..6), Ok(false));
-    checks.holds(map_is(&set, &[(1, 7)]));
+    checks.holds(set_is(&set, &[(1, 7)]));
     checks.same(set.remove(3..4), Ok(true));
-    checks.holds(map_is(&set, &[(1, 3), (4, 7)]));
+    checks.holds(set_is(&set, &[(1, 3), (4, 7)]));
     checks.same(set.remove(7..9), Ok(false));
-    checks.holds(map_is(&set, &[(1, 3), (4, 7)]));
+    checks.holds(set_is(&set, &[(1, 3), (4, 7)]));
     checks.holds(gives(set.replace(0..10)?, &[(1, 3), (4, 7)]));
-    checks.holds(map_is(&set, &[(0, 10)]));
+    checks.holds(set_is(&set, &[(0, 10)]));
     let run = set.pop_min().expect(&rt, "a run");
     checks.same((run.start, run.end), (0, 10));
     checks.same(set.min(), None);
-    checks.holds(map_is(&set, &[]));
+    checks.holds(set_is(&set, &[]));
     checks.verdict()
 }
 
@@ -307,7 +308,7 @@ fn runs_the_script_on_the_array_set(rt: HostRuntime) -> Result<(), Fail> {
 #[test]
 fn answers_queries(rt: HostRuntime) -> Result<(), Fail> {
     let mut checks = Checks::new(rt.alloc());
-    let map = map_of(rt.alloc(), &[(2, 4), (6, 9)])?;
+    let set = set_of(rt.alloc(), &[(2, 4), (6, 9)])?;
     let array = array_of(rt.alloc(), &[(2, 4), (6, 9)])?;
     for (x, present) in [
         (1, false),
@@ -317,26 +318,26 @@ fn answers_queries(rt: HostRuntime) -> Result<(), Fail> {
         (8, true),
         (9, false),
     ] {
-        checks.same_at(x, map.contains(x), present);
+        checks.same_at(x, set.contains(x), present);
         checks.same_at(x, array.contains(x), present);
     }
-    checks.holds(!map.is_empty() && !array.is_empty());
+    checks.holds(!set.is_empty() && !array.is_empty());
     checks.verdict()
 }
 
 #[test]
 fn answers_for_the_ends(rt: HostRuntime) -> Result<(), Fail> {
     let mut checks = Checks::new(rt.alloc());
-    let map = map_of(rt.alloc(), &[(2, 4), (6, 9)])?;
+    let set = set_of(rt.alloc(), &[(2, 4), (6, 9)])?;
     let mut array = array_of(rt.alloc(), &[(2, 4), (6, 9)])?;
-    checks.same((map.min(), map.max()), (Some(2), Some(8)));
+    checks.same((set.min(), set.max()), (Some(2), Some(8)));
     checks.same((array.min(), array.max()), (Some(2), Some(8)));
-    let peeked = map.peek_min().expect(&rt, "a run");
+    let peeked = set.peek_min().expect(&rt, "a run");
     checks.same((peeked.start, peeked.end), (2, 4));
     let popped = array.pop_min().expect(&rt, "a run");
     checks.same((popped.start, popped.end), (2, 4));
     checks.holds(array_is(&array, &[(6, 9)]));
-    let last = map.iter().next_back().expect(&rt, "a run");
+    let last = set.iter().next_back().expect(&rt, "a run");
     checks.same((last.start, last.end), (6, 9));
     checks.verdict()
 }
@@ -344,15 +345,15 @@ fn answers_for_the_ends(rt: HostRuntime) -> Result<(), Fail> {
 #[test]
 fn answers_when_empty(rt: HostRuntime) -> Result<(), Fail> {
     let mut checks = Checks::new(rt.alloc());
-    let mut map = map_of(rt.alloc(), &[(2, 4), (6, 9)])?;
+    let mut set = set_of(rt.alloc(), &[(2, 4), (6, 9)])?;
     let mut starts = 0;
-    for run in &map {
+    for run in &set {
         starts = starts ^ run.start;
     }
     checks.same(starts, 4);
-    let _ = map.pop_min();
-    let _ = map.pop_min();
-    checks.holds(map.is_empty() && map.peek_min().is_none() && map.max().is_none());
+    let _ = set.pop_min();
+    let _ = set.pop_min();
+    checks.holds(set.is_empty() && set.peek_min().is_none() && set.max().is_none());
     checks.holds(RangeSet::new(rt.alloc()).is_empty() && ArrayRangeSet::new(rt.alloc()).is_empty());
     checks.verdict()
 }
@@ -360,9 +361,9 @@ fn answers_when_empty(rt: HostRuntime) -> Result<(), Fail> {
 #[test]
 fn shows_sets(rt: HostRuntime) -> Result<(), Fail> {
     let mut checks = Checks::new(rt.alloc());
-    let map = map_of(rt.alloc(), &[(1, 3), (5, 7)])?;
+    let set = set_of(rt.alloc(), &[(1, 3), (5, 7)])?;
     let array = array_of(rt.alloc(), &[(1, 3), (5, 7)])?;
-    checks.debugs(rt.alloc(), &map, "RangeSet({1: 3, 5: 7})")?;
+    checks.debugs(rt.alloc(), &set, "RangeSet({1: 3, 5: 7})")?;
     checks.debugs(rt.alloc(), &array, "ArrayRangeSet([1..3, 5..7])")?;
     checks.verdict()
 }

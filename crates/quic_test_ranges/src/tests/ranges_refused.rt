@@ -7,7 +7,7 @@ use quic_testing::Checks;
 use std::ops::Range;
 use std::test::Fail;
 
-// Enough runs for the map and the array to grow some times.
+// Enough runs for both sets to grow some times.
 const COUNT: u64 = 40;
 
 // Where the solid range ends that removals cut into runs.
@@ -38,7 +38,7 @@ macro_rules! twice {
 }
 
 // Whether the set has the first runs alone.
-fn map_has(set: &RangeSet, count: u64) -> bool {
+fn set_has(set: &RangeSet, count: u64) -> bool {
     let mut rest = set.iter();
     for index in 0..count {
         if rest.next() != Some(run(index)) {
@@ -59,7 +59,7 @@ fn array_has(set: &ArrayRangeSet, count: u64) -> bool {
 }
 
 // Whether the set has the first runs, and behind them the rest of the solid range.
-fn map_is_cut(set: &RangeSet, count: u64) -> bool {
+fn set_is_cut(set: &RangeSet, count: u64) -> bool {
     let mut rest = set.iter();
     for index in 0..count {
         if rest.next() != Some(run(index)) {
@@ -80,7 +80,7 @@ fn array_is_cut(set: &ArrayRangeSet, count: u64) -> bool {
 }
 
 // Whether the set has the first even numbers alone.
-fn map_has_even(set: &RangeSet, count: u64) -> bool {
+fn set_has_even(set: &RangeSet, count: u64) -> bool {
     let mut rest = set.elts();
     for index in 0..count {
         if rest.next() != Some(index % 1000 * 2) {
@@ -102,20 +102,20 @@ fn array_has_even(set: &ArrayRangeSet, count: u64) -> bool {
 
 // Whether the set is what some beginning of the other's runs leaves.
 fn is_begun_sum(set: &RangeSet) -> bool {
-    (0..COUNT + 1).any(|count| map_has(set, count))
+    (0..COUNT + 1).any(|count| set_has(set, count))
 }
 
 fn is_begun_difference(set: &RangeSet) -> bool {
-    (0..COUNT + 1).any(|count| map_is_cut(set, count))
+    (0..COUNT + 1).any(|count| set_is_cut(set, count))
 }
 
 #[test]
-fn refused_map_insertions(rt: HostRuntime) -> Result<(), Fail> {
+fn refused_vec_insertions(rt: HostRuntime) -> Result<(), Fail> {
     let mut checks = Checks::new(rt.alloc());
     let mut set = RangeSet::new(rt.alloc());
     for index in 0..COUNT {
-        let changed = twice!(checks, rt, set.insert(run(index)), map_has(&set, index));
-        checks.holds(changed && map_has(&set, index + 1));
+        let changed = twice!(checks, rt, set.insert(run(index)), set_has(&set, index));
+        checks.holds(changed && set_has(&set, index + 1));
     }
     checks.verdict()
 }
@@ -134,16 +134,16 @@ fn refused_array_insertions(rt: HostRuntime) -> Result<(), Fail> {
 #[test]
 fn refused_single_insertions(rt: HostRuntime) -> Result<(), Fail> {
     let mut checks = Checks::new(rt.alloc());
-    let mut map = RangeSet::new(rt.alloc());
+    let mut set = RangeSet::new(rt.alloc());
     let mut array = ArrayRangeSet::new(rt.alloc());
     for index in 0..COUNT {
         let changed = twice!(
             checks,
             rt,
-            map.insert_one(2 * index),
-            map_has_even(&map, index)
+            set.insert_one(2 * index),
+            set_has_even(&set, index)
         );
-        checks.holds(changed && map_has_even(&map, index + 1));
+        checks.holds(changed && set_has_even(&set, index + 1));
         let changed = twice!(
             checks,
             rt,
@@ -158,13 +158,13 @@ fn refused_single_insertions(rt: HostRuntime) -> Result<(), Fail> {
 #[test]
 fn refused_removals(rt: HostRuntime) -> Result<(), Fail> {
     let mut checks = Checks::new(rt.alloc());
-    let mut map = RangeSet::new(rt.alloc());
+    let mut set = RangeSet::new(rt.alloc());
     let mut array = ArrayRangeSet::new(rt.alloc());
-    let _ = twice!(checks, rt, map.insert(0..END), map.is_empty());
+    let _ = twice!(checks, rt, set.insert(0..END), set.is_empty());
     let _ = twice!(checks, rt, array.insert(0..END), array.is_empty());
     for index in 0..COUNT {
-        let changed = twice!(checks, rt, map.remove(gap(index)), map_is_cut(&map, index));
-        checks.holds(changed && map_is_cut(&map, index + 1));
+        let changed = twice!(checks, rt, set.remove(gap(index)), set_is_cut(&set, index));
+        checks.holds(changed && set_is_cut(&set, index + 1));
         let changed = twice!(
             checks,
             rt,
@@ -186,15 +186,15 @@ fn refused_replacements(rt: HostRuntime) -> Result<(), Fail> {
             checks,
             rt,
             set.replace(run(index)).map(|_| ()),
-            map_has(&set, index)
+            set_has(&set, index)
         );
-        checks.holds(map_has(&set, index + 1));
+        checks.holds(set_has(&set, index + 1));
     }
     // With many pieces, their list grows.
     match set.replace(0..END) {
         Ok(_) => {}
         Err(NoRoom) => {
-            checks.holds(map_has(&set, COUNT));
+            checks.holds(set_has(&set, COUNT));
             let mut pieces = set.replace(0..END).ok().expect(&rt, "room");
             for index in 0..COUNT {
                 checks.holds(pieces.next() == Some(run(index)));
@@ -211,16 +211,16 @@ fn refused_additions(rt: HostRuntime) -> Result<(), Fail> {
     let mut checks = Checks::new(rt.alloc());
     let mut other = RangeSet::new(rt.alloc());
     for index in 0..COUNT {
-        let _ = twice!(checks, rt, other.insert(run(index)), map_has(&other, index));
+        let _ = twice!(checks, rt, other.insert(run(index)), set_has(&other, index));
     }
     let mut set = RangeSet::new(rt.alloc());
     twice!(checks, rt, set.add(&other), is_begun_sum(&set));
-    checks.holds(map_has(&set, COUNT) && map_has(&other, COUNT));
+    checks.holds(set_has(&set, COUNT) && set_has(&other, COUNT));
     checks.verdict()
 }
 
 #[test]
-fn refused_map_subtractions(rt: HostRuntime) -> Result<(), Fail> {
+fn refused_vec_subtractions(rt: HostRuntime) -> Result<(), Fail> {
     let mut checks = Checks::new(rt.alloc());
     let mut other = RangeSet::new(rt.alloc());
     for index in 0..COUNT {
@@ -234,7 +234,7 @@ fn refused_map_subtractions(rt: HostRuntime) -> Result<(), Fail> {
     let mut set = RangeSet::new(rt.alloc());
     let _ = twice!(checks, rt, set.insert(0..END), set.is_empty());
     twice!(checks, rt, set.subtract(&other), is_begun_difference(&set));
-    checks.holds(map_is_cut(&set, COUNT));
+    checks.holds(set_is_cut(&set, COUNT));
     checks.verdict()
 }
 
@@ -258,14 +258,14 @@ fn refused_array_subtractions(rt: HostRuntime) -> Result<(), Fail> {
 }
 
 #[test]
-fn refused_map_clones(rt: HostRuntime) -> Result<(), Fail> {
+fn refused_vec_clones(rt: HostRuntime) -> Result<(), Fail> {
     let mut checks = Checks::new(rt.alloc());
-    let mut map = RangeSet::new(rt.alloc());
+    let mut set = RangeSet::new(rt.alloc());
     for index in 0..COUNT {
-        let _ = twice!(checks, rt, map.insert(run(index)), map_has(&map, index));
+        let _ = twice!(checks, rt, set.insert(run(index)), set_has(&set, index));
     }
-    let copy = twice!(checks, rt, map.try_clone(), map_has(&map, COUNT));
-    checks.holds(map_has(&copy, COUNT) && map_has(&map, COUNT));
+    let copy = twice!(checks, rt, set.try_clone(), set_has(&set, COUNT));
+    checks.holds(set_has(&copy, COUNT) && set_has(&set, COUNT));
     checks.verdict()
 }
 
@@ -297,5 +297,23 @@ fn refused_nothing_at_two_runs(rt: HostRuntime) -> Result<(), Fail> {
     checks.holds(set.subtract(&other) == Ok(()));
     checks.holds(set.len() == 2 && set.try_clone().is_ok());
     checks.holds(set.remove(0..5) == Ok(true) && set.insert_one(60) == Ok(false));
+    checks.verdict()
+}
+
+// Nor does one here, after which the set has no more runs than before.
+#[test]
+fn refused_nothing_where_runs_grow_no_more(rt: HostRuntime) -> Result<(), Fail> {
+    let mut checks = Checks::new(rt.alloc());
+    let mut set = RangeSet::new(rt.alloc());
+    for index in 0..COUNT {
+        let _ = twice!(checks, rt, set.insert(run(index)), set_has(&set, index));
+    }
+    checks.holds(set.insert_one(5) == Ok(true) && set.insert(6..10) == Ok(true));
+    checks.holds(set.insert(12..13) == Ok(false) && set.insert_one(12) == Ok(false));
+    checks.holds(set.insert(395..END) == Ok(true) && set.insert(3..21) == Ok(true));
+    checks.holds(set.remove(0..2) == Ok(true) && set.remove(24..34) == Ok(true));
+    checks.holds(set.remove(26..28) == Ok(false) && set.remove(40..45) == Ok(true));
+    checks.holds(set.peek_min() == Some(2..24) && set.max() == Some(END - 1));
+    checks.holds(set.len() as u64 == COUNT - 3);
     checks.verdict()
 }

@@ -1,4 +1,0 @@
-use Rattle.quic_ranges.proofs.range_set.btree_range_set.RangeSet.remove.Goals as goal
-
-pub returns-clause-changed : goal.returns-clause-changed
-returns-clause-changed c = rw (← c.self.view_is) c.cut.ensures.changed

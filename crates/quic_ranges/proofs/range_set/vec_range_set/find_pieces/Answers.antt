@@ -1,0 +1,6 @@
+use Rattle.std.proofs.Common.{sym, ◌∙◌}
+use Rattle.quic_ranges.proofs.SubtractLemmas.{pieces-void}
+use Rattle.quic_ranges.proofs.range_set.vec_range_set.find_pieces.Goals as goal
+
+pub returns-then-x-clause-pieces : goal.returns-then-x-clause-pieces
+returns-then-x-clause-pieces c = c.clear.ensures.items ∙ sym (pieces-void c.args.x.now c.args.runs.now c.if-x.true)

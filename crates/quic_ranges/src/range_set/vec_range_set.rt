@@ -1,0 +1,325 @@
+//! A set of numbers, kept as a sorted vector of its runs.
+ghost use Rattle.std.specs.Prelude.{◌≡◌, ◌≢◌, [], ◌∷◌, ◌+◌, ◌-◌, ◌^◌, ◌≤◌, ◌<◌, ◌↔◌, ℕ, List, length, slice_get, IfOk, OnOk, OnErr, IfSome, IfNone, IsTrue, IsOk, Option};
+ghost use Rattle.std.specs.Borrow.{sem};
+ghost use Rattle.std.specs.Iterator.{YieldsFirst, item_count};
+ghost use Rattle.std.specs.declared.ops.Range.{Range};
+ghost use Rattle.quic_ranges.specs.Runs.{IsMaximalRuns, IsRunsOf, IsLeast, IsGreatest, TreatsBeginning, member, in_union, in_difference, in_intersection, in_sum, in_subtraction};
+ghost use Rattle.quic_ranges.specs.Pieces.{pieces};
+ghost use Rattle.quic_ranges.specs.Numbers.{numbers_of};
+ghost use Rattle.quic_ranges.specs.Replaced.{Ends, pieces_left};
+
+use crate::range_set::run_vec::RunVec;
+use crate::range_set::runs_iter::{EltIter, Iter};
+use crate::range_set::sorted_runs;
+use quic_base::coding::NoRoom;
+use std::alloc::Global;
+use std::marker::Model;
+use std::ops::Range;
+use std::{fmt, slice};
+
+/// A finite set of numbers below 2^64 - 1.
+#[derive(Drop)]
+pub struct RangeSet {
+    runs: RunVec,
+    // What the last `replace` found in its range. A `Replace` reads it, and the next call takes its
+    // memory again.
+    replaced: Vec<Range<u64>>,
+}
+
+impl Model for RangeSet {
+    ghost use Rattle.std.specs.Prelude.{ℕ, List};
+    ghost use Rattle.std.specs.declared.ops.Range.{Range};
+    ghost use Rattle.quic_ranges.specs.Runs.{IsMaximalRuns};
+
+    ghost Value = { List (Range ℕ) };
+
+    ghost view = { λ s. s.runs };
+
+    ghost invariant = { λ s. IsMaximalRuns s.runs };
+}
+
+impl RangeSet {
+    /// The empty set.
+    pub fn new(alloc: Global) -> Self
+        ensures { result ≡ [] }
+    {
+        RangeSet {
+            runs: RunVec::new(alloc),
+            replaced: Vec::new(alloc),
+        }
+    }
+
+    /// Whether a number is in the set.
+    pub fn contains(&self, x: u64) -> bool
+        ensures { result ≡ member self.now x }
+    {
+        sorted_runs::contains(self.runs.as_slice(), x)
+    }
+
+    /// Whether the set has no number.
+    pub fn is_empty(&self) -> bool
+        ensures { IsTrue result ↔ (self.now ≡ []) }
+    {
+        self.runs.as_slice().is_empty()
+    }
+
+    /// The least number of the set.
+    pub fn min(&self) -> Option<u64>
+        ensures some { IfSome result (IsLeast self.now) }
+        ensures none { IfNone result (self.now ≡ []) }
+    {
+        let first = self.iter().next()?;
+        Some(first.start)
+    }
+
+    /// The greatest number of the set.
+    pub fn max(&self) -> Option<u64>
+        ensures some { IfSome result (IsGreatest self.now) }
+        ensures none { IfNone result (self.now ≡ []) }
+    {
+        let last = self.iter().next_back()?;
+        Some(last.end - 1)
+    }
+
+    /// The number of runs.
+    pub fn len(&self) -> usize
+        ensures { result ≡ length self.now }
+    {
+        self.runs.as_slice().len()
+    }
+
+    /// The first run.
+    pub fn peek_min(&self) -> Option<Range<u64>>
+        ensures { result ≡ slice_get self.now 0 }
+    {
+        let mut runs = self.iter();
+        runs.next()
+    }
+
+    /// The runs, ascending.
+    pub fn iter(&self) -> Iter<'_>
+        ensures runs { result ≡ self.now }
+        ensures maximal { IsMaximalRuns self.now }
+    {
+        Iter::of(self.runs.as_slice())
+    }
+
+    /// The numbers of the set, ascending.
+    pub fn elts(&self) -> EltIter<'_>
+        ensures { result ≡ numbers_of self.now }
+    {
+        EltIter::of(self.runs.as_slice())
+    }
+
+    /// An equal set.
+    pub fn try_clone(&self) -> Result<Self, NoRoom>
+        ensures { IfOk result (λ copy. copy ≡ self.now) }
+    {
+        Ok(RangeSet {
+            runs: self.runs.try_clone()?,
+            replaced: Vec::new(*self.replaced.allocator()),
+        })
+    }
+
+    /// Puts a range into the set. True exactly if that changed the set, which an empty or reversed
+    /// range never does. Answers `NoRoom` only where the union has more runs than the set; the set is
+    /// then unchanged.
+    pub fn insert(&mut self, x: Range<u64>) -> Result<bool, NoRoom>
+        ensures union { OnOk result (IsRunsOf (in_union self.old x) self.new) }
+        ensures changed { IfOk result (λ changed. IsTrue changed ↔ (self.new ≢ self.old)) }
+        ensures err { OnErr result (self.new ≡ self.old) }
+        ensures no_change { IsRunsOf (in_union self.old x) self.old → IsOk result }
+        ensures no_more_runs { (rs : List (Range ℕ)) → IsRunsOf (in_union self.old x) rs
+            → length rs ≤ length self.old → IsOk result }
+    {
+        join(&mut self.runs, &x)
+    }
+
+    /// Puts a number below 2^64 - 1 into the set, as `insert` does.
+    pub fn insert_one(&mut self, x: u64) -> Result<bool, NoRoom>
+        requires { x < 2 ^ 64 - 1 }
+        ensures union { OnOk result
+            (IsRunsOf (in_union self.old (record { start = x; end = x + 1 })) self.new) }
+        ensures changed { IfOk result (λ changed. IsTrue changed ↔ (self.new ≢ self.old)) }
+        ensures err { OnErr result (self.new ≡ self.old) }
+        ensures no_change { IsRunsOf (in_union self.old (record { start = x; end = x + 1 })) self.old
+            → IsOk result }
+        ensures no_more_runs { (rs : List (Range ℕ))
+            → IsRunsOf (in_union self.old (record { start = x; end = x + 1 })) rs
+            → length rs ≤ length self.old → IsOk result }
+    {
+        self.insert(x..x + 1)
+    }
+
+    /// Takes a range out of the set. True exactly if that changed the set. Answers `NoRoom` only
+    /// where the difference has more runs than the set; the set is then unchanged.
+    pub fn remove(&mut self, x: Range<u64>) -> Result<bool, NoRoom>
+        ensures difference { OnOk result (IsRunsOf (in_difference self.old x) self.new) }
+        ensures changed { IfOk result (λ changed. IsTrue changed ↔ (self.new ≢ self.old)) }
+        ensures err { OnErr result (self.new ≡ self.old) }
+        ensures no_change { IsRunsOf (in_difference self.old x) self.old → IsOk result }
+        ensures no_more_runs { (rs : List (Range ℕ)) → IsRunsOf (in_difference self.old x) rs
+            → length rs ≤ length self.old → IsOk result }
+    {
+        cut(&mut self.runs, &x)
+    }
+
+    /// Puts a range into the set, and gives the nonempty parts of it that were there before. The set
+    /// is the union from this call on, however much of the answer is taken. After `NoRoom`, which an
+    /// empty or reversed range never meets, the set is unchanged.
+    pub fn replace(&mut self, x: Range<u64>) -> Result<Replace<'_>, NoRoom>
+        ensures* union { sem 𝓛 (Ends self.entry
+            (λ after. OnOk result (IsRunsOf (in_union self.old x) after)
+            × OnErr result (after ≡ self.old))) }
+        ensures pieces { IfOk result
+            (λ found. IsRunsOf (in_intersection self.old x) (pieces_left found)) }
+        ensures void { x.end ≤ x.start → IsOk result }
+    {
+        find_pieces(&mut self.replaced, self.runs.as_slice(), &x)?;
+        join(&mut self.runs, &x)?;
+        Ok(Replace {
+            pieces: self.replaced.iter(),
+        })
+    }
+
+    /// Puts the numbers of another set into this one. After `NoRoom` the first of the other's runs
+    /// were put in.
+    pub fn add(&mut self, other: &Self) -> Result<(), NoRoom>
+        ensures union { OnOk result (IsRunsOf (in_sum self.old other.now) self.new) }
+        ensures err { OnErr result (TreatsBeginning in_sum self.old other.now self.new) }
+    {
+        for run in other {
+            join(&mut self.runs, &run)?;
+        }
+        Ok(())
+    }
+
+    /// Takes the numbers of another set out of this one. After `NoRoom` the first of the other's runs
+    /// were taken out.
+    pub fn subtract(&mut self, other: &Self) -> Result<(), NoRoom>
+        ensures difference { OnOk result (IsRunsOf (in_subtraction self.old other.now) self.new) }
+        ensures err { OnErr result (TreatsBeginning in_subtraction self.old other.now self.new) }
+    {
+        for run in other {
+            cut(&mut self.runs, &run)?;
+        }
+        Ok(())
+    }
+
+    /// The first run, which leaves the set.
+    pub fn pop_min(&mut self) -> Option<Range<u64>>
+        ensures some { IfSome result (λ run. self.old ≡ run ∷ self.new) }
+        ensures none { IfNone result (self.old ≡ []) }
+        ensures unchanged { IfNone result (self.new ≡ self.old) }
+    {
+        self.runs.pop_first()
+    }
+}
+
+impl fmt::Debug for RangeSet {
+    fn fmt<W: fmt::Write>(&self, f: &mut fmt::Formatter<W>) -> fmt::Result {
+        f.debug_tuple("RangeSet")
+            .field(&EndsByStart(self.runs.as_slice()))
+            .finish()
+    }
+}
+
+// Runs, shown as a map from the start of each to its end.
+#[derive(Drop)]
+struct EndsByStart<'a>(&'a [Range<u64>]);
+
+impl fmt::Debug for EndsByStart<'_> {
+    fn fmt<W: fmt::Write>(&self, f: &mut fmt::Formatter<W>) -> fmt::Result {
+        f.debug_map()
+            .entries(self.0.iter().map(|run| (run.start, run.end)))
+            .finish()
+    }
+}
+
+impl<'a> IntoIterator for &'a RangeSet {
+    type Item = Range<u64>;
+
+    type IntoIter = Iter<'a>;
+
+    ghost into_iter_gives = { λ set runs. (runs ≡ set.now) × IsMaximalRuns set.now };
+
+    fn into_iter(self) -> Iter<'a> {
+        self.iter()
+    }
+}
+
+/// The parts of a range that were in a set before `replace`, ascending. The set is borrowed as long
+/// as they are read.
+#[derive(Drop)]
+pub struct Replace<'a> {
+    pieces: slice::Iter<'a, Range<u64>>,
+}
+
+impl<'a> Iterator for Replace<'a> {
+    type Item = Range<u64>;
+
+    ghost next_gives = { YieldsFirst pieces_left };
+
+    ghost remaining = { item_count pieces_left };
+
+    fn next(&mut self) -> Option<Range<u64>> {
+        let piece = self.pieces.next()?;
+        Some(piece.start..piece.end)
+    }
+}
+
+// Puts a range into the runs. The one growth comes before the first change.
+fn join(runs: &mut RunVec, x: &Range<u64>) -> Result<bool, NoRoom>
+    requires { IsMaximalRuns runs.old }
+    ensures union { OnOk result (IsRunsOf (in_union runs.old x.now) runs.new) }
+    ensures changed { IfOk result (λ changed. IsTrue changed ↔ (runs.new ≢ runs.old)) }
+    ensures err { OnErr result (runs.new ≡ runs.old) }
+    ensures no_more_runs { (rs : List (Range ℕ)) → IsRunsOf (in_union runs.old x.now) rs
+        → length rs ≤ length runs.old → IsOk result }
+{
+    let Some(change) = sorted_runs::insertion(runs.as_slice(), x) else {
+        return Ok(false);
+    };
+    runs.apply(change)?;
+    Ok(true)
+}
+
+// Takes a range out of the runs. The one growth comes before the first change.
+fn cut(runs: &mut RunVec, x: &Range<u64>) -> Result<bool, NoRoom>
+    requires { IsMaximalRuns runs.old }
+    ensures difference { OnOk result (IsRunsOf (in_difference runs.old x.now) runs.new) }
+    ensures changed { IfOk result (λ changed. IsTrue changed ↔ (runs.new ≢ runs.old)) }
+    ensures err { OnErr result (runs.new ≡ runs.old) }
+    ensures no_more_runs { (rs : List (Range ℕ)) → IsRunsOf (in_difference runs.old x.now) rs
+        → length rs ≤ length runs.old → IsOk result }
+{
+    let Some(change) = sorted_runs::removal(runs.as_slice(), x) else {
+        return Ok(false);
+    };
+    runs.apply(change)?;
+    Ok(true)
+}
+
+// Finds the parts of `x` that the runs hold.
+fn find_pieces(
+    found: &mut Vec<Range<u64>>,
+    runs: &[Range<u64>],
+    x: &Range<u64>,
+) -> Result<(), NoRoom>
+    requires { IsMaximalRuns runs.now }
+    ensures pieces { OnOk result (found.new.items ≡ pieces runs.now x.now) }
+    ensures void { x.now.end ≤ x.now.start → IsOk result }
+{
+    found.clear();
+    if x.end <= x.start {
+        return Ok(());
+    }
+    for run in sorted_runs::touched(runs, x) {
+        let start = run.start.max(x.start);
+        let end = x.end.min(run.end);
+        if start < end {
+            found.push(start..end).map_err(|_| NoRoom)?;
+        }
+    }
+    Ok(())
+}

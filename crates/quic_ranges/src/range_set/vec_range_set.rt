@@ -182,11 +182,12 @@ impl RangeSet {
         })
     }
 
-    /// Puts the numbers of another set into this one. After `NoRoom` the first of the other's runs
-    /// were put in.
+    /// Puts the numbers of another set into this one. After `NoRoom`, which never comes where that would
+    /// change nothing, the first of the other's runs were put in.
     pub fn add(&mut self, other: &Self) -> Result<(), NoRoom>
         ensures union { OnOk result (IsRunsOf (in_sum self.old other.now) self.new) }
         ensures err { OnErr result (TreatsBeginning in_sum self.old other.now self.new) }
+        ensures no_change { IsRunsOf (in_sum self.old other.now) self.old → IsOk result }
     {
         for run in other {
             join(&mut self.runs, &run)?;
@@ -194,11 +195,12 @@ impl RangeSet {
         Ok(())
     }
 
-    /// Takes the numbers of another set out of this one. After `NoRoom` the first of the other's runs
-    /// were taken out.
+    /// Takes the numbers of another set out of this one. After `NoRoom`, which never comes where that would
+    /// change nothing, the first of the other's runs were taken out.
     pub fn subtract(&mut self, other: &Self) -> Result<(), NoRoom>
         ensures difference { OnOk result (IsRunsOf (in_subtraction self.old other.now) self.new) }
         ensures err { OnErr result (TreatsBeginning in_subtraction self.old other.now self.new) }
+        ensures no_change { IsRunsOf (in_subtraction self.old other.now) self.old → IsOk result }
     {
         for run in other {
             cut(&mut self.runs, &run)?;

@@ -1,5 +1,5 @@
-use Rattle.std.proofs.Common.{◌++◌, ◌∷◌, [], ap, sym, ◌∙◌, append_assoc}
-use Rattle.quic_ranges.proofs.StepLemmas.{on_err, IsRunsOf-sum_step}
+use Rattle.std.proofs.Common.{◌≡◌, false, true, ◌++◌, ◌∷◌, [], ap, sym, ◌∙◌, append_assoc, arith}
+use Rattle.quic_ranges.proofs.StepLemmas.{on_err, IsRunsOf-sum_step, IsRunsOf-sum_kept}
 use Rattle.quic_ranges.proofs.range_set.vec_range_set.RangeSet.add.Goals as goal
 
 pub loop-run-preserved : goal.loop-run-preserved
@@ -16,3 +16,10 @@ returns-in_err-join-clause-err c =
       parts = c.loop-run.invariant.parts ∙ ap (λ l. c.loop-run.yielded ++ l) c.in-Some.ensures.steps;
       runs = rw c.in_err-join.ensures.err c.loop-run.invariant.runs;
     })
+
+pub returns-in_err-join-clause-no_change : goal.returns-in_err-join-clause-no_change
+returns-in_err-join-clause-no_change c h =
+    let parts = c.loop-run.invariant.parts ∙ ap (λ l. c.loop-run.yielded ++ l) c.in-Some.ensures.steps in
+    let kept = IsRunsOf-sum_kept c.args.self.now c.args.other.now c.loop-run.yielded c.next.new.self c.loop-run.self-inside.runs c.in-Some.run' h parts c.loop-run.invariant.runs in
+    let never : false ≡ true = c.in_err-join.ensures.no_more_runs c.loop-run.self-inside.runs kept (omega arith) in
+    absurd cc

@@ -94,11 +94,7 @@ fn type_of(ecn: Option<EcnCounts>) -> u64
 
 // Appends the runs below another one, the greatest first: for each the numbers between it and the one
 // above it, less one, and its numbers, less one.
-fn encode_below<B: BufMut>(
-    above: Range<u64>,
-    runs: Iter<'_>,
-    out: &mut B,
-) -> Result<(), NoRoom>
+fn encode_below<B: BufMut>(above: Range<u64>, runs: Iter<'_>, out: &mut B) -> Result<(), NoRoom>
     requires runs { IsMaximalRuns (runs ++ above ∷ []) }
     requires bound { above.start < 2 ^ 62 }
     ensures { Writes result (shortest_below above.start (ranges_in runs.entry))

@@ -78,3 +78,9 @@ found context (suc n) start bytes fits takes le =
 pub packets_found : (context : Context) (bytes : List ℕ) → AreBytes bytes → Takes context → ArePackets context 0 bytes (packets_in context bytes).0 (packets_in context bytes).1
 unfolding packets_in
 packets_found context bytes fits takes = found context (suc (length bytes)) 0 bytes fits takes (omega arith)
+
+-- wherever its first packet is said to start
+pub some_packets : (context : Context) (start : ℕ) (bytes : List ℕ) → AreBytes bytes → Takes context → (ps : List Placed) × (end : Option Refusal) × ArePackets context start bytes ps end
+some_packets context start bytes fits takes =
+    let answer : Answer = packets_from context (suc (length bytes)) start bytes in
+    (answer.0, answer.1, found context (suc (length bytes)) start bytes fits takes (omega arith))

@@ -1,8 +1,8 @@
 -- The line of a payload in its shortest form.
-use Rattle.std.proofs.Common.{◌≡◌, ◌≢◌, ℕ, Bool, true, false, List, [], ◌∷◌, ◌++◌, map, None, Option, Result, Ok, Err, refl, sym, ap, ◌∙◌}
+use Rattle.std.proofs.Common.{◌≡◌, ◌≢◌, ℕ, Bool, true, false, List, [], ◌∷◌, ◌++◌, map, None, Option, Result, Ok, Err, ◌/◌, ◌%◌, codes, take, drop, slice_index, append_assoc, take-append-drop, refl, sym, ap, ◌∙◌}
 use Rattle.std.specs.List.{flat_map, list_all}
 use Rattle.std.proofs.lemmas.List.{append-nil}
-use Rattle.hex.specs.Hex.{encode_lower}
+use Rattle.hex.specs.Hex.{encode_lower, encode_with, lower_digits}
 use Rattle.quic_base.specs.Number.{AreBytes}
 use Rattle.quic_frame_parts.specs.declared.frame.fault.Fault.{Fault}
 use Rattle.quic_frame_parts.specs.Payload.{Meaning, Found, AreFrames, IsBroken}
@@ -89,3 +89,18 @@ line_shown payload line e = sym (append-nil (shown line)) ∙ ap (flat_map shown
 
 pub line_told : (payload : List ℕ) (line : Printed) (b : Bool) → canon_lines payload ≡ line ∷ [] → list_all is_plain (line ∷ []) ≡ b → b ≡ list_all is_plain (canon_lines payload)
 line_told payload line b e told = sym told ∙ ap (list_all is_plain) (sym e)
+
+-- the digits of bytes are those of their front and of their back
+digits_of_both : (a b : List ℕ) → encode_lower (a ++ b) ≡ encode_lower a ++ encode_lower b
+unfolding encode_with
+digits_of_both [] b = refl
+digits_of_both (x ∷ a) b = ap (λ (ds : List ℕ). slice_index lower_digits (x / 16) ∷ slice_index lower_digits (x % 16) ∷ ds) (digits_of_both a b)
+
+-- the line of bytes, printed by their front and then by their back
+pub digits_shown : (text text' bytes front back : List ℕ) (n : ℕ) → front ≡ take n bytes → back ≡ drop n bytes → text' ≡ text ++ encode_lower front
+    → text' ++ shown (Plain (encode_lower back)) ≡ text ++ shown (Plain (encode_lower bytes))
+digits_shown text text' bytes front back n f b e =
+    let both : bytes ≡ front ++ back = sym (rw (f, b) (take-append-drop n bytes)) in
+    ap (λ (l : List ℕ). l ++ shown (Plain (encode_lower back))) e ∙ append_assoc text (encode_lower front) (encode_lower back ++ codes "\n")
+    ∙ ap (λ (l : List ℕ). text ++ l) (sym (append_assoc (encode_lower front) (encode_lower back) (codes "\n")))
+    ∙ ap (λ (l : List ℕ). text ++ (l ++ codes "\n")) (sym (digits_of_both front back) ∙ ap encode_lower (sym both))

@@ -1,10 +1,11 @@
 -- The line of a packet, and the lines of those that follow it.
-use Rattle.std.proofs.Common.{◌≡◌, ◌≢◌, ℕ, ◌+◌, ◌-◌, ◌^◌, ◌<◌, ◌≤◌, true, false, List, [], ◌∷◌, ◌++◌, Option, Some, None, Result, Ok, Err, OnOk, length, drop, refl, sym, ap, subst, ◌∙◌, arith, replicate, append_assoc, length-drop}
+use Rattle.std.proofs.Common.{◌≡◌, ◌≢◌, ℕ, ◌+◌, ◌-◌, ◌^◌, ◌<◌, ◌≤◌, true, false, List, [], ◌∷◌, ◌++◌, Option, Some, None, Result, Ok, Err, OnOk, length, take, drop, take-append-drop, refl, sym, ap, subst, ◌∙◌, arith, replicate, append_assoc, length-drop}
 use Rattle.std.proofs.lemmas.List.{append-nil}
 use Rattle.std.specs.List.{flat_map, list_all}
 use Rattle.std.specs.Prelude.{option_map}
 use Rattle.std.specs.Fmt.{AppendsText, ◌++?◌, padded_integral, format_spec, digits, char_count}
 use Rattle.quic_base.specs.Number.{AreBytes}
+use Rattle.quic_base.proofs.PublicLaws.{back_bytes}
 use Rattle.quic_heads.specs.declared.decode_error.PacketDecodeError.{PacketDecodeError}
 use Rattle.quic_heads.specs.declared.decode_error.PacketDecodeError.TheVariants as error
 use Rattle.quic_heads.specs.declared.protected.ProtectedHeader.{ProtectedHeader}
@@ -12,9 +13,13 @@ use Rattle.quic_heads.specs.Datagram.{Placed, ArePackets, last, more, refused}
 use Rattle.quic_heads.specs.Grammar.{Cut, Uncut, CutAnswer}
 use Rattle.quic_heads.specs.Reading.{Context}
 use Rattle.quic_heads.specs.Refusal.{Refusal, NoMemory, Refuses, refusal_of}
-use Rattle.quic_heads.proofs.Datagrams.{packets_again}
+use Rattle.quic_heads.proofs.Datagrams.{packets_again, some_packets}
+use Rattle.quic_heads.proofs.Steps.{match_ok}
+use Rattle.quic_heads.specs.Parsers.{fixed_parsed, fixed_lawful}
 use Rattle.quic_text.specs.Printed.{Printed, Error, shown, is_plain}
 use Rattle.quic_text.specs.DatagramText.{with_ids_of, eight_digits, packet_line, refusal_text, row_lines, datagram_lines}
+use Rattle.quic_text.specs.Whole.{AppendsAllBut, AppendsBeginning}
+use Rattle.quic_text.proofs.PassingLemmas.{passed_on, a_beginning, beginning_passed}
 
 -- what `{:08x}` writes
 eight_written : (n : ℕ) → padded_integral (format_spec 32 0 4 8 (2 ^ 64 - 1)) false [] (digits 16 false n) ≡ eight_digits n
@@ -50,42 +55,67 @@ refusal_given context bytes error.OutOfMemory some a = absurd (some refl)
 abbrev pub lines : List Placed → Option Refusal → List ℕ
 lines ps refusal = flat_map shown (row_lines ps refusal)
 
--- what is printed so far, with the lines of the packets that are left, is all
-abbrev pub Leads : Context → ℕ → List ℕ → List ℕ → List ℕ → Type 0
-Leads context start bytes text all = (ps : List Placed) (refusal : Option Refusal) → ArePackets context start bytes ps refusal → text ++ lines ps refusal ≡ all
+-- so it is with what is printed so far and the lines of the packets that are left
+abbrev pub Leads : Context → ℕ → List ℕ → List ℕ → (List ℕ → Type 0) → Type 0
+Leads context start bytes text P = (ps : List Placed) (refusal : Option Refusal) → ArePackets context start bytes ps refusal → P (text ++ lines ps refusal)
 
-pub text_first : (len : ℕ) (bytes left text : List ℕ) → AreBytes bytes → left ≡ bytes → Leads (with_ids_of len) 0 left text (text ++ flat_map shown (datagram_lines len bytes))
-text_first len bytes left text fits e ps refusal are =
+pub text_first : (len : ℕ) (bytes left text : List ℕ) (P : List ℕ → Type 0) → AreBytes bytes → left ≡ bytes → P (text ++ flat_map shown (datagram_lines len bytes)) → Leads (with_ids_of len) 0 left text P
+text_first len bytes left text P fits e all ps refusal are =
     let same = packets_again (with_ids_of len) bytes ps refusal fits (subst (λ (xs : List ℕ). ArePackets (with_ids_of len) 0 xs ps refusal) e are) in
-    ap (λ (r : List Placed × Option Refusal). text ++ flat_map shown (row_lines r.0 r.1)) (sym same)
+    subst P (ap (λ (r : List Placed × Option Refusal). text ++ flat_map shown (row_lines r.0 r.1)) same) all
 
-pub text_more : (context : Context) (start stop q p : ℕ) (bytes rest text text' all : List ℕ) (h : ProtectedHeader) → Cut context bytes h p q → q < length bytes → rest ≡ drop q bytes → stop ≡ start + q
-    → text' ≡ text ++ shown (packet_line (record { start = start; stop = stop; header = h })) → Leads context start bytes text all → Leads context stop rest text' all
-text_more context start stop q p bytes rest text text' all h cut lt r s e so_far ps refusal are =
+pub text_more : (context : Context) (start stop q p : ℕ) (bytes rest text text' : List ℕ) (P : List ℕ → Type 0) (h : ProtectedHeader) → Cut context bytes h p q → q < length bytes → rest ≡ drop q bytes → stop ≡ start + q
+    → text' ≡ text ++ shown (packet_line (record { start = start; stop = stop; header = h })) → Leads context start bytes text P → Leads context stop rest text' P
+text_more context start stop q p bytes rest text text' P h cut lt r s e so_far ps refusal are =
     let line : List ℕ = shown (packet_line (record { start = start; stop = start + q; header = h })) in
     let e' : text' ≡ text ++ line = e ∙ ap (λ (n : ℕ). text ++ shown (packet_line (record { start = start; stop = n; header = h }))) s in
     let are' : ArePackets context (start + q) (drop q bytes) ps refusal =
     subst (λ (n : ℕ). ArePackets context n (drop q bytes) ps refusal) s (subst (λ (xs : List ℕ). ArePackets context stop xs ps refusal) r are) in
-    ap (λ (l : List ℕ). l ++ lines ps refusal) e' ∙ append_assoc text line (lines ps refusal)
-    ∙ so_far (record { start = start; stop = start + q; header = h } ∷ ps) refusal (more start bytes h p q ps refusal cut lt are')
+    subst P (sym (ap (λ (l : List ℕ). l ++ lines ps refusal) e' ∙ append_assoc text line (lines ps refusal)))
+    (so_far (record { start = start; stop = start + q; header = h } ∷ ps) refusal (more start bytes h p q ps refusal cut lt are'))
 
 ended : (q : ℕ) (bytes : List ℕ) → q ≤ length bytes → drop q bytes ≡ [] → q ≡ length bytes
 ended q bytes within none = omega (arith, within, ap length none, length-drop q bytes)
 
-pub text_last : (context : Context) (start stop q p : ℕ) (bytes text text' all : List ℕ) (h : ProtectedHeader) → Cut context bytes h p q → drop q bytes ≡ [] → stop ≡ start + q
-    → text' ≡ text ++ shown (packet_line (record { start = start; stop = stop; header = h })) → Leads context start bytes text all → text' ≡ all
-text_last context start stop q p bytes text text' all h cut none s e so_far =
+pub text_last : (context : Context) (start stop q p : ℕ) (bytes text text' : List ℕ) (P : List ℕ → Type 0) (h : ProtectedHeader) → Cut context bytes h p q → drop q bytes ≡ [] → stop ≡ start + q
+    → text' ≡ text ++ shown (packet_line (record { start = start; stop = stop; header = h })) → Leads context start bytes text P → P text'
+text_last context start stop q p bytes text text' P h cut none s e so_far =
     let end : q ≡ length bytes = ended q bytes cut.4 none in
     let at : stop ≡ start + length bytes = s ∙ ap (λ (n : ℕ). start + n) end in
     let line : List ℕ = shown (packet_line (record { start = start; stop = start + length bytes; header = h })) in
     let e' : text' ≡ text ++ line = e ∙ ap (λ (n : ℕ). text ++ shown (packet_line (record { start = start; stop = n; header = h }))) at in
-    e' ∙ ap (λ (l : List ℕ). text ++ l) (sym (append-nil line)) ∙ so_far (record { start = start; stop = start + length bytes; header = h } ∷ []) None (last start bytes h p (subst (λ (n : ℕ). Cut context bytes h p n) end cut))
+    subst P (sym (e' ∙ ap (λ (l : List ℕ). text ++ l) (sym (append-nil line))))
+    (so_far (record { start = start; stop = start + length bytes; header = h } ∷ []) None (last start bytes h p (subst (λ (n : ℕ). Cut context bytes h p n) end cut)))
 
-pub text_refused : (context : Context) (start : ℕ) (bytes text text' all : List ℕ) (e : Refusal) → Uncut context bytes e → text' ≡ text ++ shown (Error (refusal_text e))
-    → Leads context start bytes text all → text' ≡ all
-text_refused context start bytes text text' all e uncut written so_far =
+pub text_refused : (context : Context) (start : ℕ) (bytes text text' : List ℕ) (P : List ℕ → Type 0) (e : Refusal) → Uncut context bytes e → text' ≡ text ++ shown (Error (refusal_text e))
+    → Leads context start bytes text P → P text'
+text_refused context start bytes text text' P e uncut written so_far =
     let line : List ℕ = shown (Error (refusal_text e)) in
-    written ∙ ap (λ (l : List ℕ). text ++ l) (sym (append-nil line)) ∙ so_far [] (Some e) (refused start bytes e uncut)
+    subst P (sym (written ∙ ap (λ (l : List ℕ). text ++ l) (sym (append-nil line)))) (so_far [] (Some e) (refused start bytes e uncut))
+
+pub rest_fits : (q : ℕ) (bytes rest : List ℕ) → rest ≡ drop q bytes → AreBytes bytes → AreBytes rest
+rest_fits q bytes rest e fits = subst AreBytes (sym e) (back_bytes (take q bytes) (drop q bytes) (subst AreBytes (sym (take-append-drop q bytes)) fits))
+
+-- some packets are left, whatever the bytes
+pub fixed_takes : (len : ℕ) (text id : List ℕ) (n : ℕ) → fixed_parsed len text ≡ Ok (id, n) → n ≤ length text
+fixed_takes len text id n e = match_ok (λ x. x.1 ≤ length text) (λ r. r ≡ NoMemory → ⊥) (fixed_parsed len text) (id, n) (fixed_lawful len text) e
+
+-- the text is passed on up to what waits, and up to the lines of what is left
+abbrev pub Waits : ℕ → ℕ → List ℕ → List ℕ → List ℕ → List ℕ → List ℕ → Type 0
+Waits len start left old new text all = Leads (with_ids_of len) start left text (λ waits. AppendsAllBut old new waits all)
+
+pub waits_less : (len start : ℕ) (left old mid new text text' all : List ℕ) → Waits len start left old mid text all → AppendsAllBut mid new text' text → Waits len start left old new text' all
+waits_less len start left old mid new text text' all h passed ps refusal are = passed_on old mid new text text' (lines ps refusal) _ all refl (h ps refusal are) passed
+
+pub waits_begun : (len start : ℕ) (left old new text all : List ℕ) → AreBytes left → Waits len start left old new text all → AppendsBeginning old new all
+waits_begun len start left old new text all fits h =
+    let some = some_packets (with_ids_of len) start left fits (fixed_takes len) in
+    a_beginning old new (text ++ lines some.0 some.1) all (h some.0 some.1 some.2)
+
+pub waits_broken : (len start : ℕ) (left old mid new text all : List ℕ) → AreBytes left → Waits len start left old mid text all → AppendsBeginning mid new text → AppendsBeginning old new all
+waits_broken len start left old mid new text all fits h begun =
+    let some = some_packets (with_ids_of len) start left fits (fixed_takes len) in
+    beginning_passed old mid new text (lines some.0 some.1) _ all refl (h some.0 some.1 some.2) begun
 
 -- and whether an `error` line stands among the lines that are left says it of all
 abbrev pub LeadsClean : Context → ℕ → List ℕ → List Printed → Type 0

@@ -1,3 +1,4 @@
+mod PassingLemmas
 mod LineLemmas
 mod TextLemmas
 mod HistorySteps

@@ -2,10 +2,11 @@
 ghost use Rattle.std.specs.Prelude.{◌≡◌, ◌++◌, ◌↔◌, ℕ, List, ◌||◌, true, false, IsTrue, IfOk, OnOk, OnErr, IsErrOf, is_err, MatchResult};
 ghost use Rattle.quic_text.specs.Text.{text_of, is_clean};
 ghost use Rattle.quic_text.specs.Whole.{AppendsBeginning, WritesText, WritesBeginning};
-ghost use Rattle.quic_text.specs.declared.engine.RunError.TheVariants.{OutOfMemory};
+ghost use Rattle.quic_text.specs.declared.engine.RunError.TheVariants.{OutOfMemory, Write};
 
 use super::lines::first_line;
 use super::mode::Mode;
+use super::output::{PIECE, pass_on_pieces, write_all};
 use super::print::print_line;
 use super::transfer::{Failed, Sink, Source};
 use std::alloc::{AllocError, Global};
@@ -29,8 +30,13 @@ impl From<AllocError> for RunError {
     }
 }
 
-/// How much is read at once, and about how much is written.
-const PIECE: usize = 16384;
+impl From<Failed> for RunError {
+    ghost from_gives = { λ _ e. e ≡ Write };
+
+    fn from(_e: Failed) -> RunError {
+        RunError::Write
+    }
+}
 
 /// Writes the text of all that the source gives, and answers whether no `error` line stands in it.
 pub fn run<R: Source, W: Sink>(
@@ -86,34 +92,12 @@ fn print_all<W: Sink>(
     let mut rest = input;
     while !rest.is_empty() {
         let (line, after) = first_line(rest);
-        let line_clean = print_line(alloc, mode, line, &mut text)?;
+        let line_clean = print_line(alloc, mode, line, &mut text, sink)?;
+        pass_on_pieces(&mut text, sink)?;
         clean = clean && line_clean;
         rest = after;
-        if text.len() >= PIECE {
-            if write_all(sink, text.as_bytes()).is_err() {
-                return Err(RunError::Write);
-            }
-            text.clear();
-        }
     }
-    if write_all(sink, text.as_bytes()).is_err() {
-        return Err(RunError::Write);
-    }
-    match sink.flush() {
-        Ok(()) => Ok(clean),
-        Err(Failed) => Err(RunError::Write),
-    }
-}
-
-/// Writes all the bytes, in as many calls as the sink needs.
-fn write_all<W: Sink>(sink: &mut W, bytes: &[u8]) -> Result<(), Failed>
-    ensures ok { OnOk result (W.taken sink.new ≡ W.taken sink.old ++ bytes.now) }
-    ensures err { OnErr result (AppendsBeginning (W.taken sink.old) (W.taken sink.new) bytes.now) }
-    ensures failed { W.has_failed sink.new ≡ (W.has_failed sink.old || is_err result) }
-{
-    let mut done = 0;
-    while done < bytes.len() {
-        done += sink.write(&bytes[done..])?;
-    }
-    Ok(())
+    write_all(sink, text.as_bytes())?;
+    sink.flush()?;
+    Ok(clean)
 }

@@ -1,17 +1,22 @@
 //! What is printed of one line.
-ghost use Rattle.std.specs.Prelude.{◌≡◌, ◌++◌, IfOk, OnOk};
+ghost use Rattle.std.specs.Prelude.{◌≡◌, ◌++◌, ◌||◌, IfOk, IfSome, IsErr, IsErrOf, None, Ok, OnErr, OnOk};
 ghost use Rattle.std.specs.String.{string_bytes};
 ghost use Rattle.std.specs.List.{flat_map, list_all};
+ghost use Rattle.hex.specs.Hex.{decode_of};
 ghost use Rattle.quic_text.specs.Printed.{shown, is_plain};
 ghost use Rattle.quic_text.specs.Text.{line_lines, payload_lines};
+ghost use Rattle.quic_text.specs.Status.{is_write};
+ghost use Rattle.quic_text.specs.Whole.{AppendsAllBut, AppendsBeginning};
 
 mod canon;
 mod datagram;
 mod frames;
 mod params;
 
+use super::engine::RunError;
 use super::lines::trim_return;
 use super::mode::Mode;
+use super::transfer::Sink;
 use canon::print_canon;
 use datagram::print_datagram;
 use frames::print_frames;
@@ -19,40 +24,60 @@ use hex::FromHexError;
 use params::print_params;
 use std::alloc::{AllocError, Global};
 
-/// Adds what is printed of a line of the input. The answer is whether none of it is an `error` line.
-pub(crate) fn print_line(
+/// Adds what is printed of a line of the input behind the text that is held back, of which pieces may be passed on.
+/// The answer is whether none of it is an `error` line.
+pub(crate) fn print_line<W: Sink>(
     alloc: Global,
     mode: Mode,
     line: &[u8],
     text: &mut String,
-) -> Result<bool, AllocError>
-    ensures bytes { OnOk result (string_bytes text.new ≡ string_bytes text.old ++ flat_map shown (line_lines mode line.now)) }
+    sink: &mut W,
+) -> Result<bool, RunError>
+    ensures ok { OnOk result (AppendsAllBut (W.taken sink.old) (W.taken sink.new) (string_bytes text.new) (string_bytes text.old ++ flat_map shown (line_lines mode line.now))) }
     ensures clean { IfOk result (λ clean. clean ≡ list_all is_plain (line_lines mode line.now)) }
+    ensures err { OnErr result (AppendsBeginning (W.taken sink.old) (W.taken sink.new) (string_bytes text.old ++ flat_map shown (line_lines mode line.now))) }
+    ensures failed { W.has_failed sink.new ≡ (W.has_failed sink.old || is_write result) }
+    ensures read { IsErrOf result RunError.Read → ⊥ }
 {
-    match hex::decode(alloc, trim_return(line)) {
-        Ok(payload) => print_payload(alloc, mode, payload.as_slice(), text),
-        Err(FromHexError::OutOfMemory) => Err(AllocError),
-        Err(_) => {
+    match decoded(alloc, trim_return(line))? {
+        Some(payload) => print_payload(alloc, mode, payload.as_slice(), text, sink),
+        None => {
             text.push_str("error not hexadecimal\n")?;
             Ok(false)
         }
     }
 }
 
-fn print_payload(
+/// The bytes that a line spells, if it spells any.
+fn decoded(alloc: Global, line: &[u8]) -> Result<Option<Vec<u8>>, AllocError>
+    ensures some { IfOk result (λ payload. IfSome payload (λ bytes. decode_of line.now ≡ Ok bytes.items)) }
+    ensures none { IfOk result (λ payload. payload ≡ None → IsErr (decode_of line.now)) }
+{
+    match hex::decode(alloc, line) {
+        Ok(payload) => Ok(Some(payload)),
+        Err(FromHexError::OutOfMemory) => Err(AllocError),
+        Err(_) => Ok(None),
+    }
+}
+
+fn print_payload<W: Sink>(
     alloc: Global,
     mode: Mode,
     payload: &[u8],
     text: &mut String,
-) -> Result<bool, AllocError>
-    ensures bytes { OnOk result (string_bytes text.new ≡ string_bytes text.old ++ flat_map shown (payload_lines mode payload.now)) }
+    sink: &mut W,
+) -> Result<bool, RunError>
+    ensures ok { OnOk result (AppendsAllBut (W.taken sink.old) (W.taken sink.new) (string_bytes text.new) (string_bytes text.old ++ flat_map shown (payload_lines mode payload.now))) }
     ensures clean { IfOk result (λ clean. clean ≡ list_all is_plain (payload_lines mode payload.now)) }
+    ensures err { OnErr result (AppendsBeginning (W.taken sink.old) (W.taken sink.new) (string_bytes text.old ++ flat_map shown (payload_lines mode payload.now))) }
+    ensures failed { W.has_failed sink.new ≡ (W.has_failed sink.old || is_write result) }
+    ensures read { IsErrOf result RunError.Read → ⊥ }
 {
     match mode {
-        Mode::Frames => print_frames(false, payload, text),
-        Mode::Strict => print_frames(true, payload, text),
-        Mode::Canon => print_canon(alloc, payload, text),
-        Mode::Datagram(id_len) => print_datagram(alloc, id_len, payload, text),
-        Mode::Params(side) => print_params(alloc, side, payload, text),
+        Mode::Frames => print_frames(false, payload, text, sink),
+        Mode::Strict => print_frames(true, payload, text, sink),
+        Mode::Canon => print_canon(alloc, payload, text, sink),
+        Mode::Datagram(id_len) => print_datagram(alloc, id_len, payload, text, sink),
+        Mode::Params(side) => Ok(print_params(alloc, side, payload, text)?),
     }
 }

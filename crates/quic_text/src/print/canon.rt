@@ -1,45 +1,72 @@
 //! What is printed of a payload in its shortest form.
-ghost use Rattle.std.specs.Prelude.{◌≡◌, ◌++◌, IfOk, OnOk};
+ghost use Rattle.std.specs.Prelude.{◌≡◌, ◌++◌, ◌||◌, IfOk, IsErrOf, OnErr, OnOk};
 ghost use Rattle.std.specs.String.{string_bytes};
 ghost use Rattle.std.specs.List.{flat_map, list_all};
 ghost use Rattle.hex.specs.Hex.{encode_lower};
 ghost use Rattle.quic_text.specs.Printed.{Plain, shown, is_plain};
 ghost use Rattle.quic_text.specs.CanonText.{canon_lines};
+ghost use Rattle.quic_text.specs.Status.{is_write};
+ghost use Rattle.quic_text.specs.Whole.{AppendsAllBut, AppendsBeginning};
 
 use super::frames::print_invalid;
+use crate::engine::RunError;
+use crate::output::{PIECE, pass_on_pieces};
+use crate::transfer::Sink;
 use quic_canon::canonical::{CanonError, canonical_of};
 use quic_canon::laws;
-use std::alloc::{AllocError, Global};
+use std::alloc::Global;
 
 /// The digits of the shortest payload of the same frames, or why there is none.
-pub(super) fn print_canon(
+pub(super) fn print_canon<W: Sink>(
     alloc: Global,
     payload: &[u8],
     text: &mut String,
-) -> Result<bool, AllocError>
-    ensures bytes { OnOk result (string_bytes text.new ≡ string_bytes text.old ++ flat_map shown (canon_lines payload.now)) }
+    sink: &mut W,
+) -> Result<bool, RunError>
+    ensures ok { OnOk result (AppendsAllBut (W.taken sink.old) (W.taken sink.new) (string_bytes text.new) (string_bytes text.old ++ flat_map shown (canon_lines payload.now))) }
     ensures clean { IfOk result (λ clean. clean ≡ list_all is_plain (canon_lines payload.now)) }
+    ensures err { OnErr result (AppendsBeginning (W.taken sink.old) (W.taken sink.new) (string_bytes text.old ++ flat_map shown (canon_lines payload.now))) }
+    ensures failed { W.has_failed sink.new ≡ (W.has_failed sink.old || is_write result) }
+    ensures read { IsErrOf result RunError.Read → ⊥ }
 {
     laws::one_least();
     match canonical_of(alloc, payload) {
         Ok(canonical) => {
-            print_digits(alloc, canonical.bytes(), text)?;
+            print_digits(alloc, canonical.bytes(), text, sink)?;
             Ok(true)
         }
         Err(CanonError::Empty) => {
             text.push_str("error packet payload is empty\n")?;
             Ok(false)
         }
-        Err(CanonError::Invalid(invalid)) => print_invalid(&invalid, text),
-        Err(CanonError::OutOfMemory) => Err(AllocError),
+        Err(CanonError::Invalid(invalid)) => {
+            print_invalid(&invalid, text)?;
+            Ok(false)
+        }
+        Err(CanonError::OutOfMemory) => Err(RunError::OutOfMemory),
     }
 }
 
 /// The line of bytes in hexadecimal digits.
-fn print_digits(alloc: Global, bytes: &[u8], text: &mut String) -> Result<(), AllocError>
-    ensures { OnOk result (string_bytes text.new ≡ string_bytes text.old ++ shown (Plain (encode_lower bytes.now))) }
+fn print_digits<W: Sink>(
+    alloc: Global,
+    bytes: &[u8],
+    text: &mut String,
+    sink: &mut W,
+) -> Result<(), RunError>
+    ensures ok { OnOk result (AppendsAllBut (W.taken sink.old) (W.taken sink.new) (string_bytes text.new) (string_bytes text.old ++ shown (Plain (encode_lower bytes.now)))) }
+    ensures err { OnErr result (AppendsBeginning (W.taken sink.old) (W.taken sink.new) (string_bytes text.old ++ shown (Plain (encode_lower bytes.now)))) }
+    ensures failed { W.has_failed sink.new ≡ (W.has_failed sink.old || is_write result) }
+    ensures read { IsErrOf result RunError.Read → ⊥ }
 {
-    let digits = hex::encode(alloc, bytes)?;
+    let mut rest = bytes;
+    while PIECE < rest.len() {
+        let (piece, after) = rest.split_at(PIECE);
+        text.push_str(hex::encode(alloc, piece)?.as_str())?;
+        pass_on_pieces(text, sink)?;
+        rest = after;
+    }
+    let digits = hex::encode(alloc, rest)?;
     writeln!(text, "{digits}")?;
     Ok(())
 }

@@ -1,5 +1,5 @@
 //! What is printed of a datagram's packets.
-ghost use Rattle.std.specs.Prelude.{◌≡◌, ◌≢◌, ◌++◌, IfOk, OnOk, codes, false};
+ghost use Rattle.std.specs.Prelude.{◌≡◌, ◌≢◌, ◌++◌, ◌||◌, IfOk, IsErrOf, OnErr, OnOk, codes, false};
 ghost use Rattle.std.specs.Fmt.{decimal, digits};
 ghost use Rattle.std.specs.String.{string_bytes};
 ghost use Rattle.std.specs.List.{flat_map, list_all};
@@ -7,8 +7,13 @@ ghost use Rattle.quic_text.specs.Printed.{Error, shown, is_plain};
 ghost use Rattle.quic_text.specs.DatagramText.{datagram_lines, head_text, id_or_dash, long_text, packet_line, eight_digits, refusal_text};
 ghost use Rattle.quic_heads.specs.Refusal.{NoMemory, refusal_of};
 ghost use Rattle.quic_text.specs.IdLens.{count};
+ghost use Rattle.quic_text.specs.Status.{is_write};
+ghost use Rattle.quic_text.specs.Whole.{AppendsAllBut, AppendsBeginning};
 
+use crate::engine::RunError;
 use crate::id_len::IdLen;
+use crate::output::pass_on_pieces;
+use crate::transfer::Sink;
 use bytes::BytesMut;
 use quic_base::ids::{ConnectionId, DEFAULT_SUPPORTED_VERSIONS};
 use quic_headers::long_type::LongType;
@@ -19,19 +24,24 @@ use quic_heads::protected::ProtectedHeader;
 use std::alloc::{AllocError, Global};
 
 /// A line for each packet, and one for what is refused. Ids of short heads have the length given.
-pub(super) fn print_datagram(
+pub(super) fn print_datagram<W: Sink>(
     alloc: Global,
     id_len: IdLen,
     datagram: &[u8],
     text: &mut String,
-) -> Result<bool, AllocError>
-    ensures bytes { OnOk result (string_bytes text.new ≡ string_bytes text.old ++ flat_map shown (datagram_lines (count id_len) datagram.now)) }
+    sink: &mut W,
+) -> Result<bool, RunError>
+    ensures ok { OnOk result (AppendsAllBut (W.taken sink.old) (W.taken sink.new) (string_bytes text.new) (string_bytes text.old ++ flat_map shown (datagram_lines (count id_len) datagram.now))) }
     ensures clean { IfOk result (λ clean. clean ≡ list_all is_plain (datagram_lines (count id_len) datagram.now)) }
+    ensures err { OnErr result (AppendsBeginning (W.taken sink.old) (W.taken sink.new) (string_bytes text.old ++ flat_map shown (datagram_lines (count id_len) datagram.now))) }
+    ensures failed { W.has_failed sink.new ≡ (W.has_failed sink.old || is_write result) }
+    ensures read { IsErrOf result RunError.Read → ⊥ }
 {
     let parser = FixedLengthConnectionIdParser::new(id_len.get());
     let mut left = BytesMut::copy_from_slice(alloc, datagram)?;
     let mut start = 0;
     loop {
+        pass_on_pieces(text, sink)?;
         match PartialDecode::new(left, &parser, DEFAULT_SUPPORTED_VERSIONS, false) {
             Ok((packet, rest)) => {
                 let end = start + packet.len();

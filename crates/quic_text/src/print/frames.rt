@@ -1,5 +1,5 @@
 //! What is printed of a payload's frames.
-ghost use Rattle.std.specs.Prelude.{◌≡◌, ◌++◌, ◌↔◌, [], IfErr, IfOk, IsErr, OnOk, codes, false};
+ghost use Rattle.std.specs.Prelude.{◌≡◌, ◌++◌, ◌↔◌, ◌||◌, [], IfErr, IfOk, IsErr, IsErrOf, OnErr, OnOk, codes, false};
 ghost use Rattle.std.specs.String.{string_bytes};
 ghost use Rattle.std.specs.List.{flat_map, list_all};
 ghost use Rattle.quic_frames.specs.Reading.{Broken};
@@ -7,20 +7,29 @@ ghost use Rattle.quic_errors.specs.Codes.{IsError, protocol_violation};
 ghost use Rattle.quic_frames.specs.Walk.{first_of, invalid_of};
 ghost use Rattle.quic_text.specs.Printed.{shown, is_plain};
 ghost use Rattle.quic_text.specs.FrameText.{frame_line, item_line, frame_lines};
+ghost use Rattle.quic_text.specs.Status.{is_write};
+ghost use Rattle.quic_text.specs.Whole.{AppendsAllBut, AppendsBeginning};
 
+use crate::engine::RunError;
+use crate::output::pass_on_pieces;
+use crate::transfer::Sink;
 use quic_frames::frame::{FrameType, InvalidFrame, Iter};
 use quic_frames::transport_error::Error;
 use std::alloc::AllocError;
 
 /// A line for each frame, and one for what is none, where it is told whether a type counts in its shortest
 /// spelling alone.
-pub(super) fn print_frames(
+pub(super) fn print_frames<W: Sink>(
     strict: bool,
     payload: &[u8],
     text: &mut String,
-) -> Result<bool, AllocError>
-    ensures bytes { OnOk result (string_bytes text.new ≡ string_bytes text.old ++ flat_map shown (frame_lines strict payload.now)) }
+    sink: &mut W,
+) -> Result<bool, RunError>
+    ensures ok { OnOk result (AppendsAllBut (W.taken sink.old) (W.taken sink.new) (string_bytes text.new) (string_bytes text.old ++ flat_map shown (frame_lines strict payload.now))) }
     ensures clean { IfOk result (λ clean. clean ≡ list_all is_plain (frame_lines strict payload.now)) }
+    ensures err { OnErr result (AppendsBeginning (W.taken sink.old) (W.taken sink.new) (string_bytes text.old ++ flat_map shown (frame_lines strict payload.now))) }
+    ensures failed { W.has_failed sink.new ≡ (W.has_failed sink.old || is_write result) }
+    ensures read { IsErrOf result RunError.Read → ⊥ }
 {
     let mut frames = match frames_of(strict, payload) {
         Ok(frames) => frames,
@@ -34,10 +43,14 @@ pub(super) fn print_frames(
     while let Some(item) = frames.next() {
         let frame = match item {
             Ok(frame) => frame,
-            Err(invalid) => return print_invalid(&invalid, text),
+            Err(invalid) => {
+                print_invalid(&invalid, text)?;
+                return Ok(false);
+            }
         };
         let end = frames.offset();
         print_frame(start, end, frame.ty(), text)?;
+        pass_on_pieces(text, sink)?;
         start = end;
     }
     Ok(true)
@@ -65,14 +78,12 @@ fn print_frame(start: usize, end: usize, ty: FrameType, text: &mut String) -> Re
 }
 
 /// The `error` line of something that is no frame.
-pub(super) fn print_invalid(invalid: &InvalidFrame, text: &mut String) -> Result<bool, AllocError>
-    ensures bytes { OnOk result (string_bytes text.new ≡ string_bytes text.old ++ shown (item_line (Broken (invalid_of invalid.now)))) }
-    ensures clean { IfOk result (λ clean. clean ≡ false) }
+pub(super) fn print_invalid(invalid: &InvalidFrame, text: &mut String) -> Result<(), AllocError>
+    ensures { OnOk result (string_bytes text.new ≡ string_bytes text.old ++ shown (item_line (Broken (invalid_of invalid.now)))) }
 {
     let reason = invalid.reason;
     match invalid.ty {
-        Some(ty) => writeln!(text, "error {reason} in {ty}")?,
-        None => writeln!(text, "error {reason}")?,
+        Some(ty) => writeln!(text, "error {reason} in {ty}"),
+        None => writeln!(text, "error {reason}"),
     }
-    Ok(false)
 }

@@ -1,16 +1,12 @@
 -- By the one row of packets that reading finds.
-use Rattle.std.proofs.Common.{◌≡◌, ◌≤◌, ℕ, List, Option, Ok, length, ap}
+use Rattle.std.proofs.Common.{List, Option, ap}
 use Rattle.quic_heads.specs.Datagram.{Placed, packets_in}
-use Rattle.quic_heads.specs.Refusal.{Refusal, NoMemory}
-use Rattle.quic_heads.specs.Parsers.{fixed_parsed, fixed_lawful}
+use Rattle.quic_heads.specs.Refusal.{Refusal}
 use Rattle.quic_heads.proofs.Datagrams.{packets_again, packets_found}
-use Rattle.quic_heads.proofs.Steps.{match_ok}
 use Rattle.quic_text.specs.DatagramText.{with_ids_of, row_lines}
 use Rattle.quic_text.specs.IdLens.{count}
+use Rattle.quic_text.proofs.DatagramLines.{fixed_takes}
 use Rattle.quic_text.proofs.laws.packets_printed.Goals as goal
-
-takes : (len : ℕ) (text id : List ℕ) (n : ℕ) → fixed_parsed len text ≡ Ok (id, n) → n ≤ length text
-takes len text id n e = match_ok (λ x. x.1 ≤ length text) (λ r. r ≡ NoMemory → ⊥) (fixed_parsed len text) (id, n) (fixed_lawful len text) e
 
 pub returns-clause-lines : goal.returns-clause-lines
 returns-clause-lines c = λ len bytes packets refusal fits are.
@@ -18,4 +14,4 @@ returns-clause-lines c = λ len bytes packets refusal fits are.
 
 pub returns-clause-some : goal.returns-clause-some
 returns-clause-some c = λ len bytes fits.
-    ((packets_in (with_ids_of (count len)) bytes).0, (packets_in (with_ids_of (count len)) bytes).1, packets_found (with_ids_of (count len)) bytes fits (takes (count len)))
+    ((packets_in (with_ids_of (count len)) bytes).0, (packets_in (with_ids_of (count len)) bytes).1, packets_found (with_ids_of (count len)) bytes fits (fixed_takes (count len)))

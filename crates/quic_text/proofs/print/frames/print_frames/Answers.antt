@@ -1,15 +1,35 @@
-use Rattle.std.proofs.Common.{sym, ◌∙◌}
-use Rattle.quic_frames.specs.Walk.{Finds}
+use Rattle.std.proofs.Common.{map, refl, sym, ◌∙◌}
+use Rattle.std.proofs.Math.Bool.{or-false}
+use Rattle.std.specs.List.{flat_map}
+use Rattle.std.specs.String.{string_bytes}
+use Rattle.quic_frames.specs.Walk.{left, Finds}
+use Rattle.quic_text.specs.Printed.{shown}
+use Rattle.quic_text.specs.FrameText.{item_line}
 use Rattle.quic_text.proofs.FrameLines.{text_more, clean_more}
+use Rattle.quic_text.proofs.PassingLemmas.{passed_on, beginning_passed, nothing_begun, on_err}
 use Rattle.quic_text.proofs.print.frames.print_frames.Goals as goal
 
-pub loop-item-preserved : goal.loop-item-preserved
-loop-item-preserved c =
+pub returns-in_err-writeln-in-Err-clause-err : goal.returns-in_err-writeln-in-Err-clause-err
+returns-in_err-writeln-in-Err-clause-err g c = on_err c.from_residual.result (nothing_begun _ _)
+
+pub returns-in_err-pass_on_pieces-clause-err : goal.returns-in_err-pass_on_pieces-clause-err
+returns-in_err-pass_on_pieces-clause-err g c =
     let old = c.loop-item.frames in
     let new = c.next.new.self in
     let finds : Finds old c.in-Ok-item.frame new = rw c.in-Ok-item.is at c.in-Some.ensures.steps in
+    let same = text_more old new c.in-Ok-item.frame (string_bytes c.loop-item.text) (string_bytes c.print_frame.new.text) _ finds (rw (← c.offset-end.ensures.value, ← c.loop-item.invariant.start, ← c.ty.ensures) c.in_ok-print_frame.ensures) refl in
+    on_err c.from_residual-in_err-pass_on_pieces.result
+    (beginning_passed _ _ _ (string_bytes c.print_frame.new.text) (flat_map shown (map item_line (left new))) _ _ same c.loop-item.invariant.passed c.in_err-pass_on_pieces.ensures.err)
+
+pub loop-item-preserved : goal.loop-item-preserved
+loop-item-preserved g c =
+    let old = c.loop-item.frames in
+    let new = c.next.new.self in
+    let finds : Finds old c.in-Ok-item.frame new = rw c.in-Ok-item.is at c.in-Some.ensures.steps in
+    let same = text_more old new c.in-Ok-item.frame (string_bytes c.loop-item.text) (string_bytes c.print_frame.new.text) _ finds (rw (← c.offset-end.ensures.value, ← c.loop-item.invariant.start, ← c.ty.ensures) c.in_ok-print_frame.ensures) refl in
     record {
-      text = text_more old new c.in-Ok-item.frame _ _ _ finds (rw (← c.offset-end.ensures.value, ← c.loop-item.invariant.start, ← c.ty.ensures) c.in_ok-print_frame.ensures) c.loop-item.invariant.text;
+      passed = passed_on _ _ _ (string_bytes c.print_frame.new.text) _ (flat_map shown (map item_line (left new))) _ _ same c.loop-item.invariant.passed c.in_ok-pass_on_pieces.ensures.ok;
       clean = sym (clean_more old new c.in-Ok-item.frame finds) ∙ c.loop-item.invariant.clean;
       start = c.offset-end.ensures.value;
+      failed = c.in_ok-pass_on_pieces.ensures.failed ∙ or-false _ ∙ c.loop-item.invariant.failed;
     }

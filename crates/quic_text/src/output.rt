@@ -1,0 +1,36 @@
+//! Text on its way to a sink: what is printed is held back, and passed on in pieces.
+ghost use Rattle.std.specs.Prelude.{◌≡◌, ◌++◌, ◌||◌, [], OnOk, OnErr, is_err};
+ghost use Rattle.std.specs.String.{string_bytes};
+ghost use Rattle.quic_text.specs.Whole.{AppendsAllBut, AppendsBeginning};
+
+use crate::transfer::{Failed, Sink};
+
+/// How much is read at once, and from how much on text is passed on.
+pub(crate) const PIECE: usize = 16384;
+
+/// Passes on the text that is held back, where it is as long as a piece.
+pub(crate) fn pass_on_pieces<W: Sink>(text: &mut String, sink: &mut W) -> Result<(), Failed>
+    ensures ok { OnOk result (AppendsAllBut (W.taken sink.old) (W.taken sink.new) (string_bytes text.new) (string_bytes text.old)) }
+    ensures err { OnErr result (AppendsBeginning (W.taken sink.old) (W.taken sink.new) (string_bytes text.old)) }
+    ensures failed { W.has_failed sink.new ≡ (W.has_failed sink.old || is_err result) }
+{
+    if text.len() < PIECE {
+        return Ok(());
+    }
+    write_all(sink, text.as_bytes())?;
+    text.clear();
+    Ok(())
+}
+
+/// Writes all the bytes, in as many calls as the sink needs.
+pub(crate) fn write_all<W: Sink>(sink: &mut W, bytes: &[u8]) -> Result<(), Failed>
+    ensures ok { OnOk result (W.taken sink.new ≡ W.taken sink.old ++ bytes.now) }
+    ensures err { OnErr result (AppendsBeginning (W.taken sink.old) (W.taken sink.new) bytes.now) }
+    ensures failed { W.has_failed sink.new ≡ (W.has_failed sink.old || is_err result) }
+{
+    let mut done = 0;
+    while done < bytes.len() {
+        done += sink.write(&bytes[done..])?;
+    }
+    Ok(())
+}

@@ -3,5 +3,6 @@ mod PlacesLemmas
 mod NumbersLemmas
 mod SubtractLemmas
 mod SpliceLemmas
+mod ExtensionLemmas
 mod StepLemmas
 mod LawsLemmas

@@ -10,7 +10,7 @@ ghost use Rattle.quic_ranges.specs.Replaced.{Ends, pieces_left};
 
 use crate::range_set::run_vec::RunVec;
 use crate::range_set::runs_iter::{EltIter, Iter};
-use crate::range_set::sorted_runs;
+use crate::range_set::sorted_runs::{self, Extension};
 use quic_base::coding::NoRoom;
 use std::alloc::Global;
 use std::marker::Model;
@@ -272,6 +272,26 @@ impl<'a> Iterator for Replace<'a> {
 
 // Puts a range into the runs. The one growth comes before the first change.
 fn join(runs: &mut RunVec, x: &Range<u64>) -> Result<bool, NoRoom>
+    requires { IsMaximalRuns runs.old }
+    ensures union { OnOk result (IsRunsOf (in_union runs.old x.now) runs.new) }
+    ensures changed { IfOk result (λ changed. IsTrue changed ↔ (runs.new ≢ runs.old)) }
+    ensures err { OnErr result (runs.new ≡ runs.old) }
+    ensures no_more_runs { (rs : List (Range ℕ)) → IsRunsOf (in_union runs.old x.now) rs
+        → length rs ≤ length runs.old → IsOk result }
+{
+    match runs.extend_last(x) {
+        Extension::Kept => Ok(false),
+        Extension::Grown => Ok(true),
+        Extension::Behind => {
+            runs.push(x.start..x.end)?;
+            Ok(true)
+        }
+        Extension::Before => join_among(runs, x),
+    }
+}
+
+// Does the same wherever the range lies, by halving.
+fn join_among(runs: &mut RunVec, x: &Range<u64>) -> Result<bool, NoRoom>
     requires { IsMaximalRuns runs.old }
     ensures union { OnOk result (IsRunsOf (in_union runs.old x.now) runs.new) }
     ensures changed { IfOk result (λ changed. IsTrue changed ↔ (runs.new ≢ runs.old)) }

@@ -5,4 +5,5 @@ mod SubtractLemmas
 mod SpliceLemmas
 mod ExtensionLemmas
 mod StepLemmas
+mod MergeLemmas
 mod LawsLemmas

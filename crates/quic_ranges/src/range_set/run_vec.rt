@@ -40,6 +40,16 @@ impl RunVec {
         }
     }
 
+    // No runs, with room for so many.
+    pub(crate) fn with_capacity(alloc: Global, count: usize) -> Result<Self, NoRoom>
+        ensures { IfOk result (λ empty. empty ≡ []) }
+    {
+        Ok(RunVec {
+            items: Vec::with_capacity(alloc, count)?,
+            taken: 0,
+        })
+    }
+
     pub(crate) fn as_slice(&self) -> &[Range<u64>]
         ensures { result.now ≡ self.now }
     {

@@ -189,6 +189,13 @@ impl RangeSet {
         ensures err { OnErr result (TreatsBeginning in_sum self.old other.now self.new) }
         ensures no_change { IsRunsOf (in_sum self.old other.now) self.old → IsOk result }
     {
+        let (runs, others) = (self.runs.as_slice(), other.runs.as_slice());
+        if pays_to_merge(runs, others) {
+            if let Ok(merged) = sum_of(*self.replaced.allocator(), runs, others) {
+                self.runs = merged;
+                return Ok(());
+            }
+        }
         for run in other {
             join(&mut self.runs, &run)?;
         }
@@ -202,6 +209,13 @@ impl RangeSet {
         ensures err { OnErr result (TreatsBeginning in_subtraction self.old other.now self.new) }
         ensures no_change { IsRunsOf (in_subtraction self.old other.now) self.old → IsOk result }
     {
+        let (runs, others) = (self.runs.as_slice(), other.runs.as_slice());
+        if pays_to_merge(runs, others) {
+            if let Ok(merged) = difference_of(*self.replaced.allocator(), runs, others) {
+                self.runs = merged;
+                return Ok(());
+            }
+        }
         for run in other {
             cut(&mut self.runs, &run)?;
         }
@@ -320,6 +334,62 @@ fn cut(runs: &mut RunVec, x: &Range<u64>) -> Result<bool, NoRoom>
     };
     runs.apply(change)?;
     Ok(true)
+}
+
+// Whether one walk over all runs costs less than a search and a move for each of the others may.
+fn pays_to_merge(runs: &[Range<u64>], others: &[Range<u64>]) -> bool {
+    others.len() >= 8 && others.len() >= runs.len() / 32
+}
+
+// The runs of both lists together, from the front on, so that each is joined at the end.
+fn sum_of(alloc: Global, runs: &[Range<u64>], others: &[Range<u64>]) -> Result<RunVec, NoRoom>
+    ensures { IfOk result (λ sum. IsRunsOf (in_sum runs.now others.now) sum) }
+{
+    let mut sum = RunVec::with_capacity(alloc, runs.len())?;
+    let mut next = 0;
+    for run in runs {
+        while next < others.len() && others[next].start < run.start {
+            join(&mut sum, &others[next])?;
+            next += 1;
+        }
+        join(&mut sum, run)?;
+    }
+    for other in &others[next..] {
+        join(&mut sum, other)?;
+    }
+    Ok(sum)
+}
+
+// What of the runs lies outside the others. `next` is the first of these that ends behind the run.
+fn difference_of(
+    alloc: Global,
+    runs: &[Range<u64>],
+    others: &[Range<u64>],
+) -> Result<RunVec, NoRoom>
+    requires runs { IsMaximalRuns runs.now }
+    requires others { IsMaximalRuns others.now }
+    ensures { IfOk result (λ left. IsRunsOf (in_subtraction runs.now others.now) left) }
+{
+    let mut left = RunVec::with_capacity(alloc, runs.len())?;
+    let mut next = 0;
+    for run in runs {
+        let mut start = run.start;
+        while next < others.len() && others[next].end <= run.end {
+            if start < others[next].start {
+                left.push(start..others[next].start)?;
+            }
+            start = start.max(others[next].end);
+            next += 1;
+        }
+        let mut end = run.end;
+        if next < others.len() {
+            end = end.min(others[next].start);
+        }
+        if start < end {
+            left.push(start..end)?;
+        }
+    }
+    Ok(left)
 }
 
 // Finds the parts of `x` that the runs hold.

@@ -257,7 +257,8 @@ fn apply(runs: &mut SmallVec<Range<u64>, 2>, change: Splice) -> Result<(), NoRoo
     let Splice { from, to, by } = change;
     let (less, more) = (to - from, by.len());
     if less < more {
-        runs.insert(to, 0..0).map_err(|_| NoRoom)?;
+        let at = sorted_runs::place(runs.as_slice(), to);
+        runs.insert(at, 0..0).map_err(|_| NoRoom)?;
     } else if more < less {
         runs.drain(from + more..to);
     }

@@ -95,7 +95,8 @@ impl RunVec {
         let (from, to) = (self.taken + from, self.taken + to);
         let (less, more) = (to - from, by.len());
         if less < more {
-            self.items.insert(to, 0..0).map_err(|_| NoRoom)?;
+            let at = sorted_runs::place(self.items.as_slice(), to);
+            self.items.insert(at, 0..0).map_err(|_| NoRoom)?;
         } else if more < less {
             self.items.drain(from + more..to);
         }

@@ -1,6 +1,6 @@
 //! What a change does to runs that lie in a slice: which of them go, and what takes their place. Each
 //! place is found by halving, after a look at the last run, where most changes are.
-ghost use Rattle.std.specs.Prelude.{◌≡◌, ◌<◌, ◌≤◌, ◌+◌, ◌++◌, length, take, drop, IfSome, IfNone};
+ghost use Rattle.std.specs.Prelude.{◌≡◌, ◌<◌, ◌≤◌, ◌+◌, ◌^◌, ◌++◌, length, take, drop, IfSome, IfNone};
 ghost use Rattle.std.specs.declared.ops.Range.{Range};
 ghost use Rattle.quic_ranges.specs.Runs.{IsMaximalRuns, IsRunsOf, member, in_union, in_difference};
 ghost use Rattle.quic_ranges.specs.Places.{ends_below, starts_upto};
@@ -94,6 +94,15 @@ impl Substitute {
             }
         }
     }
+}
+
+// The same place, so that the compiler sees that the one behind it does not wrap: it then moves the
+// runs from there on by one call, and not one by one.
+pub(crate) fn place(runs: &[Range<u64>], at: usize) -> usize
+    requires { at ≤ length runs.now }
+    ensures { result ≡ at }
+{
+    at % (1 << 63)
 }
 
 // A change of a list of runs: those from `from` to below `to` go, and `by` takes their place.

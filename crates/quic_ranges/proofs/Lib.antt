@@ -3,5 +3,7 @@ mod PlacesLemmas
 mod NumbersLemmas
 mod SubtractLemmas
 mod SpliceLemmas
+mod ExtensionLemmas
 mod StepLemmas
+mod MergeLemmas
 mod LawsLemmas

@@ -56,7 +56,7 @@ pub IsRunsOf-subtracted : (rs ss : List (Range ℕ)) → IsMaximalRuns rs → Is
 IsRunsOf-subtracted rs ss h k = (RunsFrom-subtracted 0 0 rs ss h k, λ y. member-subtracted 0 y rs ss k)
 
 -- nothing of an empty range lies outside
-outside-none : (s e : ℕ) (gs : List (Range ℕ)) → e ≤ s → outside s e gs ≡ []
+pub outside-none : (s e : ℕ) (gs : List (Range ℕ)) → e ≤ s → outside s e gs ≡ []
 outside-none s e [] le = piece-empty s e le
 outside-none s e (g ∷ gs) le =
     ap (λ l. l ++ outside (max s g.end) e gs) (piece-empty s (min e g.start) (omega arith)) ∙ outside-none (max s g.end) e gs (omega arith)

@@ -1,10 +1,12 @@
 -- What a planned change of a list of runs does. No public clause cites this module.
-use Rattle.std.specs.Prelude.{ℕ, ◌+◌, ◌-◌, ◌≤◌, Bool, List, [], ◌∷◌, ◌++◌, length, take, drop}
+use Rattle.std.specs.Prelude.{◌≡◌, ℕ, ◌+◌, ◌-◌, ◌≤◌, Bool, List, [], ◌∷◌, ◌++◌, length, take, drop}
 use Rattle.std.specs.declared.ops.Range.{Range}
 use Rattle.quic_ranges.specs.declared.range_set.sorted_runs.Splice.{Splice}
 use Rattle.quic_ranges.specs.declared.range_set.sorted_runs.Substitute.{Substitute}
 use Rattle.quic_ranges.specs.declared.range_set.sorted_runs.Substitute.TheVariants.{Nothing, One, Two}
-use Rattle.quic_ranges.specs.Runs.{IsRunsOf}
+use Rattle.quic_ranges.specs.declared.range_set.sorted_runs.Extension.{Extension}
+use Rattle.quic_ranges.specs.declared.range_set.sorted_runs.Extension.TheVariants.{Kept, Grown, Behind, Before}
+use Rattle.quic_ranges.specs.Runs.{IsRunsOf, in_union}
 
 -- the runs that take the place of others
 abbrev pub substitutes : Substitute → List (Range ℕ)
@@ -27,3 +29,15 @@ pub record Splices (p : ℕ → Bool) (rs : List (Range ℕ)) (s : Splice) : Typ
   pub fits : Fits rs s
   pub runs : IsRunsOf p (after_splice rs s)
   pub differs : IsRunsOf p rs → ⊥
+
+-- after are the runs of the numbers that pass p, which those of rs are not
+pub record BecomesRunsOf (p : ℕ → Bool) (rs after : List (Range ℕ)) : Type 0 where
+  pub runs : IsRunsOf p after
+  pub differs : IsRunsOf p rs → ⊥
+
+-- what became of x, which was to go into the last of the runs rs, and what they are then
+abbrev pub Extends : Extension → List (Range ℕ) → Range ℕ → List (Range ℕ) → Type 0
+Extends Kept rs x after = (after ≡ rs) × IsRunsOf (in_union rs x) rs
+Extends Grown rs x after = BecomesRunsOf (in_union rs x) rs after
+Extends Behind rs x after = (after ≡ rs) × BecomesRunsOf (in_union rs x) rs (rs ++ x ∷ [])
+Extends Before rs x after = after ≡ rs

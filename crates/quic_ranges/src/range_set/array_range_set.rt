@@ -8,7 +8,7 @@ ghost use Rattle.quic_ranges.specs.Pieces.{outside, subtracted};
 ghost use Rattle.quic_ranges.specs.Splices.{Fits, after_splice};
 
 use crate::range_set::runs_iter::{EltIter, Iter};
-use crate::range_set::sorted_runs::{self, Splice};
+use crate::range_set::sorted_runs::{self, Extension, Splice};
 use quic_base::coding::NoRoom;
 use smallvec::SmallVec;
 use std::alloc::Global;
@@ -122,11 +122,7 @@ impl ArrayRangeSet {
         ensures inline { (rs : List (Range ℕ)) → IsRunsOf (in_union self.old x) rs
             → length rs ≤ 2 → IsOk result }
     {
-        let Some(change) = sorted_runs::insertion(self.runs.as_slice(), &x) else {
-            return Ok(false);
-        };
-        apply(&mut self.runs, change)?;
-        Ok(true)
+        join(&mut self.runs, &x)
     }
 
     /// Puts a number below 2^64 - 1 into the set, as `insert` does.
@@ -206,6 +202,48 @@ impl fmt::Debug for ArrayRangeSet {
     }
 }
 
+// Puts a range into the runs. The one growth comes before the first change.
+fn join(runs: &mut SmallVec<Range<u64>, 2>, x: &Range<u64>) -> Result<bool, NoRoom>
+    requires { IsMaximalRuns runs.old.items }
+    ensures union { OnOk result (IsRunsOf (in_union runs.old.items x.now) runs.new.items) }
+    ensures changed { IfOk result
+        (λ changed. IsTrue changed ↔ (runs.new.items ≢ runs.old.items)) }
+    ensures err { OnErr result (runs.new ≡ runs.old) }
+    ensures no_more_runs { (rs : List (Range ℕ)) → IsRunsOf (in_union runs.old.items x.now) rs
+        → length rs ≤ small_vec_len runs.old → IsOk result }
+    ensures no_room { OnErr result (HasRoomFor runs.old 1 → ⊥) }
+    ensures capacity { runs.old.capacity ≤ runs.new.capacity }
+{
+    match sorted_runs::extend_last(runs.as_mut_slice(), x) {
+        Extension::Kept => Ok(false),
+        Extension::Grown => Ok(true),
+        Extension::Behind => {
+            runs.push(x.start..x.end).map_err(|_| NoRoom)?;
+            Ok(true)
+        }
+        Extension::Before => join_among(runs, x),
+    }
+}
+
+// Does the same wherever the range lies, by halving.
+fn join_among(runs: &mut SmallVec<Range<u64>, 2>, x: &Range<u64>) -> Result<bool, NoRoom>
+    requires { IsMaximalRuns runs.old.items }
+    ensures union { OnOk result (IsRunsOf (in_union runs.old.items x.now) runs.new.items) }
+    ensures changed { IfOk result
+        (λ changed. IsTrue changed ↔ (runs.new.items ≢ runs.old.items)) }
+    ensures err { OnErr result (runs.new ≡ runs.old) }
+    ensures no_more_runs { (rs : List (Range ℕ)) → IsRunsOf (in_union runs.old.items x.now) rs
+        → length rs ≤ small_vec_len runs.old → IsOk result }
+    ensures no_room { OnErr result (HasRoomFor runs.old 1 → ⊥) }
+    ensures capacity { runs.old.capacity ≤ runs.new.capacity }
+{
+    let Some(change) = sorted_runs::insertion(runs.as_slice(), x) else {
+        return Ok(false);
+    };
+    apply(runs, change)?;
+    Ok(true)
+}
+
 // Makes a change of the runs. Only a change to one run more takes memory, before anything changes.
 fn apply(runs: &mut SmallVec<Range<u64>, 2>, change: Splice) -> Result<(), NoRoom>
     requires { Fits runs.old.items change }
@@ -219,7 +257,8 @@ fn apply(runs: &mut SmallVec<Range<u64>, 2>, change: Splice) -> Result<(), NoRoo
     let Splice { from, to, by } = change;
     let (less, more) = (to - from, by.len());
     if less < more {
-        runs.insert(to, 0..0).map_err(|_| NoRoom)?;
+        let at = sorted_runs::place(runs.as_slice(), to);
+        runs.insert(at, 0..0).map_err(|_| NoRoom)?;
     } else if more < less {
         runs.drain(from + more..to);
     }

@@ -1,9 +1,10 @@
 //! Runs in a vector, whose first can be taken without a move of the others.
-ghost use Rattle.std.specs.Prelude.{◌≡◌, [], ◌∷◌, ◌+◌, ◌≤◌, ◌<◌, length, IfSome, IfNone, IfOk, OnOk, OnErr};
+ghost use Rattle.std.specs.Prelude.{◌≡◌, [], ◌∷◌, ◌++◌, ◌+◌, ◌≤◌, ◌<◌, length, IfSome, IfNone, IfOk, OnOk, OnErr};
 ghost use Rattle.std.specs.declared.ops.Range.{Range};
-ghost use Rattle.quic_ranges.specs.Splices.{Fits, after_splice};
+ghost use Rattle.quic_ranges.specs.Runs.{IsMaximalRuns};
+ghost use Rattle.quic_ranges.specs.Splices.{Extends, Fits, after_splice};
 
-use crate::range_set::sorted_runs::Splice;
+use crate::range_set::sorted_runs::{self, Extension, Splice};
 use quic_base::coding::NoRoom;
 use std::alloc::Global;
 use std::marker::Model;
@@ -39,6 +40,16 @@ impl RunVec {
         }
     }
 
+    // No runs, with room for so many.
+    pub(crate) fn with_capacity(alloc: Global, count: usize) -> Result<Self, NoRoom>
+        ensures { IfOk result (λ empty. empty ≡ []) }
+    {
+        Ok(RunVec {
+            items: Vec::with_capacity(alloc, count)?,
+            taken: 0,
+        })
+    }
+
     pub(crate) fn as_slice(&self) -> &[Range<u64>]
         ensures { result.now ≡ self.now }
     {
@@ -57,6 +68,22 @@ impl RunVec {
         Ok(RunVec { items, taken: 0 })
     }
 
+    // Puts `x` into the last run where it begins there or at the end of it.
+    pub(crate) fn extend_last(&mut self, x: &Range<u64>) -> Extension
+        requires { IsMaximalRuns self.old }
+        ensures { Extends result self.old x.now self.new }
+    {
+        sorted_runs::extend_last(&mut self.items[self.taken..], x)
+    }
+
+    // Puts a run behind the others.
+    pub(crate) fn push(&mut self, run: Range<u64>) -> Result<(), NoRoom>
+        ensures ok { OnOk result (self.new ≡ self.old ++ run ∷ []) }
+        ensures err { OnErr result (self.new ≡ self.old) }
+    {
+        self.items.push(run).map_err(|_| NoRoom)
+    }
+
     // Makes a change of the runs. Only a change to one run more takes memory, before anything changes.
     pub(crate) fn apply(&mut self, change: Splice) -> Result<(), NoRoom>
         requires { Fits self.old change }
@@ -68,7 +95,8 @@ impl RunVec {
         let (from, to) = (self.taken + from, self.taken + to);
         let (less, more) = (to - from, by.len());
         if less < more {
-            self.items.insert(to, 0..0).map_err(|_| NoRoom)?;
+            let at = sorted_runs::place(self.items.as_slice(), to);
+            self.items.insert(at, 0..0).map_err(|_| NoRoom)?;
         } else if more < less {
             self.items.drain(from + more..to);
         }

@@ -1,11 +1,11 @@
 //! What a change does to runs that lie in a slice: which of them go, and what takes their place. Each
 //! place is found by halving, after a look at the last run, where most changes are.
-ghost use Rattle.std.specs.Prelude.{◌≡◌, ◌<◌, ◌≤◌, ◌+◌, ◌++◌, length, take, drop, IfSome, IfNone};
+ghost use Rattle.std.specs.Prelude.{◌≡◌, ◌<◌, ◌≤◌, ◌+◌, ◌^◌, ◌++◌, length, take, drop, IfSome, IfNone};
 ghost use Rattle.std.specs.declared.ops.Range.{Range};
 ghost use Rattle.quic_ranges.specs.Runs.{IsMaximalRuns, IsRunsOf, member, in_union, in_difference};
 ghost use Rattle.quic_ranges.specs.Places.{ends_below, starts_upto};
 ghost use Rattle.quic_ranges.specs.Pieces.{piece, pieces, outside};
-ghost use Rattle.quic_ranges.specs.Splices.{Splices, substitutes};
+ghost use Rattle.quic_ranges.specs.Splices.{Extends, Splices, substitutes};
 
 use std::ops::Range;
 
@@ -96,12 +96,56 @@ impl Substitute {
     }
 }
 
+// The same place, so that the compiler sees that the one behind it does not wrap: it then moves the
+// runs from there on by one call, and not one by one.
+pub(crate) fn place(runs: &[Range<u64>], at: usize) -> usize
+    requires { at ≤ length runs.now }
+    ensures { result ≡ at }
+{
+    at % (1 << 63)
+}
+
 // A change of a list of runs: those from `from` to below `to` go, and `by` takes their place.
 #[derive(Drop)]
 pub(crate) struct Splice {
     pub from: usize,
     pub to: usize,
     pub by: Substitute,
+}
+
+// What became of a range that was to go into the last run.
+#[derive(Clone, Copy)]
+pub(crate) enum Extension {
+    // Every number of it is in the runs already.
+    Kept,
+    // The last run took it in, and ends with it now.
+    Grown,
+    // It lies behind every run and touches none, so it is to be a run of its own.
+    Behind,
+    // It begins before the last run, so its place is still to be found.
+    Before,
+}
+
+// Puts `x` into the last run where it begins there or at the end of it.
+pub(crate) fn extend_last(runs: &mut [Range<u64>], x: &Range<u64>) -> Extension
+    requires { IsMaximalRuns runs.old }
+    ensures { Extends result runs.old x.now runs.new }
+{
+    if x.end <= x.start {
+        return Extension::Kept;
+    }
+    let len = runs.len();
+    if len == 0 || runs[len - 1].end < x.start {
+        return Extension::Behind;
+    }
+    if x.start < runs[len - 1].start {
+        return Extension::Before;
+    }
+    if x.end <= runs[len - 1].end {
+        return Extension::Kept;
+    }
+    runs[len - 1].end = x.end;
+    Extension::Grown
 }
 
 // What an insertion of `x` does to the runs; `None` where every number of `x` is in them.

@@ -10,7 +10,7 @@ ghost use Rattle.quic_ranges.specs.Replaced.{Ends, pieces_left};
 
 use crate::range_set::run_vec::RunVec;
 use crate::range_set::runs_iter::{EltIter, Iter};
-use crate::range_set::sorted_runs;
+use crate::range_set::sorted_runs::{self, Extension};
 use quic_base::coding::NoRoom;
 use std::alloc::Global;
 use std::marker::Model;
@@ -189,6 +189,13 @@ impl RangeSet {
         ensures err { OnErr result (TreatsBeginning in_sum self.old other.now self.new) }
         ensures no_change { IsRunsOf (in_sum self.old other.now) self.old → IsOk result }
     {
+        let (runs, others) = (self.runs.as_slice(), other.runs.as_slice());
+        if pays_to_merge(runs, others) {
+            if let Ok(merged) = sum_of(*self.replaced.allocator(), runs, others) {
+                self.runs = merged;
+                return Ok(());
+            }
+        }
         for run in other {
             join(&mut self.runs, &run)?;
         }
@@ -202,6 +209,13 @@ impl RangeSet {
         ensures err { OnErr result (TreatsBeginning in_subtraction self.old other.now self.new) }
         ensures no_change { IsRunsOf (in_subtraction self.old other.now) self.old → IsOk result }
     {
+        let (runs, others) = (self.runs.as_slice(), other.runs.as_slice());
+        if pays_to_merge(runs, others) {
+            if let Ok(merged) = difference_of(*self.replaced.allocator(), runs, others) {
+                self.runs = merged;
+                return Ok(());
+            }
+        }
         for run in other {
             cut(&mut self.runs, &run)?;
         }
@@ -279,6 +293,26 @@ fn join(runs: &mut RunVec, x: &Range<u64>) -> Result<bool, NoRoom>
     ensures no_more_runs { (rs : List (Range ℕ)) → IsRunsOf (in_union runs.old x.now) rs
         → length rs ≤ length runs.old → IsOk result }
 {
+    match runs.extend_last(x) {
+        Extension::Kept => Ok(false),
+        Extension::Grown => Ok(true),
+        Extension::Behind => {
+            runs.push(x.start..x.end)?;
+            Ok(true)
+        }
+        Extension::Before => join_among(runs, x),
+    }
+}
+
+// Does the same wherever the range lies, by halving.
+fn join_among(runs: &mut RunVec, x: &Range<u64>) -> Result<bool, NoRoom>
+    requires { IsMaximalRuns runs.old }
+    ensures union { OnOk result (IsRunsOf (in_union runs.old x.now) runs.new) }
+    ensures changed { IfOk result (λ changed. IsTrue changed ↔ (runs.new ≢ runs.old)) }
+    ensures err { OnErr result (runs.new ≡ runs.old) }
+    ensures no_more_runs { (rs : List (Range ℕ)) → IsRunsOf (in_union runs.old x.now) rs
+        → length rs ≤ length runs.old → IsOk result }
+{
     let Some(change) = sorted_runs::insertion(runs.as_slice(), x) else {
         return Ok(false);
     };
@@ -300,6 +334,62 @@ fn cut(runs: &mut RunVec, x: &Range<u64>) -> Result<bool, NoRoom>
     };
     runs.apply(change)?;
     Ok(true)
+}
+
+// Whether one walk over all runs costs less than a search and a move for each of the others may.
+fn pays_to_merge(runs: &[Range<u64>], others: &[Range<u64>]) -> bool {
+    others.len() >= 8 && others.len() >= runs.len() / 32
+}
+
+// The runs of both lists together, from the front on, so that each is joined at the end.
+fn sum_of(alloc: Global, runs: &[Range<u64>], others: &[Range<u64>]) -> Result<RunVec, NoRoom>
+    ensures { IfOk result (λ sum. IsRunsOf (in_sum runs.now others.now) sum) }
+{
+    let mut sum = RunVec::with_capacity(alloc, runs.len())?;
+    let mut next = 0;
+    for run in runs {
+        while next < others.len() && others[next].start < run.start {
+            join(&mut sum, &others[next])?;
+            next += 1;
+        }
+        join(&mut sum, run)?;
+    }
+    for other in &others[next..] {
+        join(&mut sum, other)?;
+    }
+    Ok(sum)
+}
+
+// What of the runs lies outside the others. `next` is the first of these that ends behind the run.
+fn difference_of(
+    alloc: Global,
+    runs: &[Range<u64>],
+    others: &[Range<u64>],
+) -> Result<RunVec, NoRoom>
+    requires runs { IsMaximalRuns runs.now }
+    requires others { IsMaximalRuns others.now }
+    ensures { IfOk result (λ left. IsRunsOf (in_subtraction runs.now others.now) left) }
+{
+    let mut left = RunVec::with_capacity(alloc, runs.len())?;
+    let mut next = 0;
+    for run in runs {
+        let mut start = run.start;
+        while next < others.len() && others[next].end <= run.end {
+            if start < others[next].start {
+                left.push(start..others[next].start)?;
+            }
+            start = start.max(others[next].end);
+            next += 1;
+        }
+        let mut end = run.end;
+        if next < others.len() {
+            end = end.min(others[next].start);
+        }
+        if start < end {
+            left.push(start..end)?;
+        }
+    }
+    Ok(left)
 }
 
 // Finds the parts of `x` that the runs hold.

@@ -1,11 +1,12 @@
 use Rattle.std.proofs.Common.{◌≡◌, ◌+◌, length, arith}
 use Rattle.quic_ranges.specs.Runs.{in_union}
-use Rattle.quic_ranges.specs.Splices.{Splices}
-use Rattle.quic_ranges.proofs.SpliceLemmas.{length-spliced}
+use Rattle.quic_ranges.proofs.ExtensionLemmas.{length-pushed}
 use Rattle.quic_ranges.proofs.range_set.vec_range_set.join.Goals as goal
 
-pub returns-in_err-apply-clause-no_more_runs : goal.returns-in_err-apply-clause-no_more_runs
-returns-in_err-apply-clause-no_more_runs c rs h le =
-    let splices : Splices (in_union c.args.runs.now c.args.x.now) c.args.runs.now c.in-Some.change = rw (← c.as_slice.ensures) c.in-Some.ensures.some in
-    let more : length rs ≡ length c.args.runs.now + 1 = length-spliced (in_union c.args.runs.now c.args.x.now) c.args.runs.now rs c.in-Some.change splices c.in_err-apply.ensures.more_runs h in
+pub returns-in_err-push-in-Behind-clause-no_more_runs : goal.returns-in_err-push-in-Behind-clause-no_more_runs
+returns-in_err-push-in-Behind-clause-no_more_runs c rs h le =
+    let more : length rs ≡ length c.args.runs.now + 1 = length-pushed (in_union c.args.runs.now c.args.x.now) c.args.runs.now rs c.args.x.now c.in-Behind.ensures.1 h in
     absurd (omega arith)
+
+pub returns-in-Before-clause-changed : goal.returns-in-Before-clause-changed
+returns-in-Before-clause-changed c = rw c.in-Before.ensures at c.join_among.ensures.changed

@@ -1,25 +1,4 @@
-use Rattle.std.proofs.Common.{◌≡◌, ℕ, ◌+◌, List, length, ap, arith}
-use Rattle.std.specs.declared.ops.Range.{Range}
-use Rattle.quic_ranges.specs.Runs.{IsRunsOf, in_union}
-use Rattle.quic_ranges.specs.Splices.{Splices}
-use Rattle.quic_ranges.proofs.SpliceLemmas.{length-spliced}
 use Rattle.quic_ranges.proofs.range_set.array_range_set.ArrayRangeSet.insert.Goals as goal
-use Rattle.quic_ranges.proofs.range_set.array_range_set.ArrayRangeSet.insert.Goals.{After-from_residual}
 
--- a refused change makes one run more
-more_runs : (c : After-from_residual) (rs : List (Range ℕ)) → IsRunsOf (in_union c.args.self.now c.args.x) rs → length rs ≡ length c.self.inside.runs.items + 1
-more_runs c rs h =
-    let splices : Splices (in_union c.self.inside.runs.items c.args.x) c.self.inside.runs.items c.in-Some.change = rw (← c.as_slice.ensures) c.in-Some.ensures.some in
-    length-spliced (in_union c.self.inside.runs.items c.args.x) c.self.inside.runs.items rs c.in-Some.change splices c.in_err-apply.ensures.more_runs (rw c.self.view_is h)
-
-pub returns-in_err-apply-clause-no_more_runs : goal.returns-in_err-apply-clause-no_more_runs
-returns-in_err-apply-clause-no_more_runs c rs h le =
-    let more = more_runs c rs h in
-    let same : length c.self.inside.runs.items ≡ length c.args.self.now = ap length c.self.view_is in
-    absurd (omega arith)
-
-pub returns-in_err-apply-clause-inline : goal.returns-in_err-apply-clause-inline
-returns-in_err-apply-clause-inline c rs h le =
-    let more = more_runs c rs h in
-    let room = c.self.invariant.1 in
-    absurd (c.in_err-apply.ensures.no_room (omega arith))
+pub returns-clause-changed : goal.returns-clause-changed
+returns-clause-changed c = rw (← c.self.view_is) c.join.ensures.changed

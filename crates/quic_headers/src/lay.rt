@@ -1,6 +1,7 @@
 //! Heads are laid into an array from the front on, field behind field, by stores of whole arrays whose ends the next
 //! field covers. So a head is appended at once, and no field's length takes a branch.
 ghost use Rattle.std.specs.Prelude.{◌≡◌, ◌+◌, ◌*◌, ◌≤◌, ◌++◌, length, take, vec_len, vec_capacity, IfSome};
+ghost use Rattle.std.specs.Int.{to_be_bytes, w32};
 ghost use Rattle.quic_base.specs.ConnectionId.{long_id};
 ghost use Rattle.quic_base.specs.Varint.{short, size};
 ghost use Rattle.quic_crypto.specs.PacketNumbers.{number_bytes, number_size, IsInRange};
@@ -79,9 +80,23 @@ fn lay_long_start(
     lay_long_id(head, at, src)
 }
 
-// Lays the part of a number that is written.
+// The part of a number that is written, shifted to the front of four bytes.
 #[inline(always)]
-#[tactic(auto, unfolding(quic_base::specs::Number::bytes_of))]
+#[tactic(auto, using(crate::proofs::Lays::leads))]
+fn leading(number: PacketNumber) -> u32
+    requires { IsInRange number }
+    ensures { take (number_size number) (to_be_bytes w32 result) ≡ number_bytes number }
+{
+    match number {
+        PacketNumber::U8(x) => u32::from(x) * (1 << 24),
+        PacketNumber::U16(x) => u32::from(x) * (1 << 16),
+        PacketNumber::U24(x) => x * (1 << 8),
+        PacketNumber::U32(x) => x,
+    }
+}
+
+// Lays the part of a number that is written, with what makes it four bytes, and answers where the part ends.
+#[inline(always)]
 fn lay_number(head: &mut [u8], at: usize, number: PacketNumber) -> usize
     requires valid { IsInRange number }
     requires room { at + 4 ≤ length head.old }
@@ -90,15 +105,8 @@ fn lay_number(head: &mut [u8], at: usize, number: PacketNumber) -> usize
     ensures front { take result head.new ≡ take at head.old ++ number_bytes number }
     ensures len { length head.new ≡ length head.old }
 {
-    match number {
-        PacketNumber::U8(x) => lay_array(head, at, [x]),
-        PacketNumber::U16(x) => lay_array(head, at, x.to_be_bytes()),
-        PacketNumber::U24(x) => {
-            let [_, high, middle, low] = x.to_be_bytes();
-            lay_array(head, at, [high, middle, low])
-        }
-        PacketNumber::U32(x) => lay_array(head, at, x.to_be_bytes()),
-    }
+    lay_array(head, at, leading(number).to_be_bytes());
+    at + number.len()
 }
 
 // Lays a token behind its length: an empty one, or one of 16 to 32 bytes. The others are not laid.

@@ -214,8 +214,8 @@ impl Header {
         }
     }
 
-    // Appends the head as it stands in an array, or field by field where the buffer has no room for the array or the
-    // token isn't laid.
+    // Appends the head as it is laid into an array; or field by field, where it isn't laid or the buffer has no room for
+    // the array.
     #[inline(never)]
     fn put(&self, out: &mut Vec<u8>) -> Result<(), NoRoom>
         requires { IsWritable self.now }

@@ -8,7 +8,7 @@ ghost use Rattle.quic_headers.specs.Starts.{long_front};
 ghost use Rattle.quic_headers.specs.Writing.{header_size, place_in, header_bytes, IsWritable, size_in, has_length, finished, HasRoom};
 
 use crate::header::Header;
-use crate::lay::{WHOLE, append_laid};
+use crate::lay::{LONG_ROOM, SHORT_ROOM, append_front, append_long};
 use crate::long_type::{LongHeaderType, LongType};
 use quic_base::coding::{BufMutExt, NoRoom, are_bytes};
 use quic_base::ids::ConnectionId;
@@ -214,10 +214,10 @@ impl Header {
         }
     }
 
-    // Appends the head as it is laid into an array; or field by field, where it isn't laid or the buffer has no room for
-    // the array.
+    // Appends the head as a long one is laid into an array; or field by field, where it isn't laid or the buffer has no
+    // room for the array.
     #[inline(never)]
-    fn put(&self, out: &mut Vec<u8>) -> Result<(), NoRoom>
+    fn put_long(&self, out: &mut Vec<u8>) -> Result<(), NoRoom>
         requires { IsWritable self.now }
         ensures ok { OnOk result (out.new.items ≡ out.old.items ++ header_bytes self.now) }
         ensures len { OnOk result (vec_len out.new ≡ vec_len out.old + header_size self.now) }
@@ -225,14 +225,35 @@ impl Header {
         ensures err { OnErr result (out.new.items ≡ out.old.items) }
         ensures spare { vec_len out.old + header_size self.now ≤ vec_capacity out.old → IsOk result }
     {
-        if out.capacity() - out.len() < WHOLE {
+        if out.capacity() - out.len() < LONG_ROOM {
             return self.put_with_room(out);
         }
-        let mut head = [0; WHOLE];
-        let Some(len) = self.lay(&mut head) else {
+        let mut head = [0; LONG_ROOM];
+        let Some(len) = self.lay_long(&mut head) else {
             return self.put_with_room(out);
         };
-        append_laid(out, &head, len);
+        append_long(out, &head, len);
+        Ok(())
+    }
+
+    // The same by the array of a short head.
+    #[inline(never)]
+    fn put_short(&self, out: &mut Vec<u8>) -> Result<(), NoRoom>
+        requires { IsWritable self.now }
+        ensures ok { OnOk result (out.new.items ≡ out.old.items ++ header_bytes self.now) }
+        ensures len { OnOk result (vec_len out.new ≡ vec_len out.old + header_size self.now) }
+        ensures capacity { vec_capacity out.old ≤ vec_capacity out.new }
+        ensures err { OnErr result (out.new.items ≡ out.old.items) }
+        ensures spare { vec_len out.old + header_size self.now ≤ vec_capacity out.old → IsOk result }
+    {
+        if out.capacity() - out.len() < SHORT_ROOM {
+            return self.put_with_room(out);
+        }
+        let mut head = [0; SHORT_ROOM];
+        let Some(len) = self.lay_short(&mut head) else {
+            return self.put_with_room(out);
+        };
+        append_front(out, &head, len);
         Ok(())
     }
 
@@ -310,7 +331,12 @@ impl Header {
         ensures spare { vec_len out.old + header_size self.now ≤ vec_capacity out.old → IsOk result }
     {
         let start = out.len();
-        if self.put(out).is_err() {
+        let put = if self.is_short() {
+            self.put_short(out)
+        } else {
+            self.put_long(out)
+        };
+        if put.is_err() {
             return Err(NoRoom);
         }
         Ok(PartialEncode {

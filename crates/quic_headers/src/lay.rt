@@ -14,8 +14,11 @@ use crate::long_type::LongHeaderType;
 use quic_base::ids::{ConnectionId, MAX_CID_SIZE};
 use quic_crypto::packet_number::PacketNumber;
 
-/// How many bytes the array has: enough for a head with the longest ids and a token that is laid.
-pub(crate) const WHOLE: usize = 96;
+/// How many bytes the array of a long head has: enough for the longest ids and a token that is laid.
+pub(crate) const LONG_ROOM: usize = 96;
+
+/// How many bytes the array of a short head has.
+pub(crate) const SHORT_ROOM: usize = 32;
 
 // Half of the longest token that is laid, by its first and its last bytes.
 const TOKEN_END: usize = 16;
@@ -68,7 +71,7 @@ fn lay_long_start(
     dst: &ConnectionId,
     src: &ConnectionId,
 ) -> usize
-    requires { WHOLE ≤ length head.old }
+    requires { LONG_ROOM ≤ length head.old }
     ensures end { result ≡ 7 + length dst.now + length src.now }
     ensures near { result ≤ 7 + 2 * MAX_CID_SIZE }
     ensures front { take result head.new ≡ long_front first version dst.now src.now }
@@ -148,7 +151,7 @@ fn lay_ends(head: &mut [u8], at: usize, bytes: &[u8]) -> Option<usize>
 
 // Appends the first bytes of an array where there is room for all of it.
 #[inline(always)]
-fn append_front(out: &mut Vec<u8>, bytes: &[u8], len: usize)
+pub(crate) fn append_front(out: &mut Vec<u8>, bytes: &[u8], len: usize)
     requires within { len ≤ length bytes.now }
     requires room { vec_len out.old + length bytes.now ≤ vec_capacity out.old }
     ensures items { out.new.items ≡ out.old.items ++ take len bytes.now }
@@ -159,31 +162,31 @@ fn append_front(out: &mut Vec<u8>, bytes: &[u8], len: usize)
     out.truncate(out.len() - (bytes.len() - len));
 }
 
-// Appends what was laid where there is room for the whole array, of which a third takes fewer stores.
+// Appends a long head that was laid where there is room for the whole array, of which a third takes fewer stores.
 #[inline(always)]
-pub(crate) fn append_laid(out: &mut Vec<u8>, head: &[u8; WHOLE], len: usize)
-    requires within { len ≤ WHOLE }
-    requires room { vec_len out.old + WHOLE ≤ vec_capacity out.old }
+pub(crate) fn append_long(out: &mut Vec<u8>, head: &[u8; LONG_ROOM], len: usize)
+    requires within { len ≤ LONG_ROOM }
+    requires room { vec_len out.old + LONG_ROOM ≤ vec_capacity out.old }
     ensures items { out.new.items ≡ out.old.items ++ take len head.now }
     ensures len { vec_len out.new ≡ vec_len out.old + len }
     ensures capacity { vec_capacity out.old ≤ vec_capacity out.new }
 {
-    if len <= WHOLE / 3 {
-        append_front(out, &head[..WHOLE / 3], len);
+    if len <= SHORT_ROOM {
+        append_front(out, &head[..SHORT_ROOM], len);
     } else {
         append_front(out, head, len);
     }
 }
 
 impl Header {
-    // Lays the head, and answers how many bytes it has; none where its token is not laid or it has no number. With more
-    // kinds the compiler would look no longer whether anything else points to the array, and append it with a test.
+    // Lays a long head, and answers how many bytes it has; none where its token is not laid or it has no number. With
+    // more kinds the compiler would look no longer whether anything else points to the array, and append it with a test.
     #[inline(always)]
-    pub(crate) fn lay(&self, head: &mut [u8; WHOLE]) -> Option<usize>
+    pub(crate) fn lay_long(&self, head: &mut [u8; LONG_ROOM]) -> Option<usize>
         requires { IsWritable self.now }
         ensures size { IfSome result (λ len. len ≡ header_size self.now) }
         ensures front { IfSome result (λ len. take len head.new ≡ header_bytes self.now) }
-        ensures within { IfSome result (λ len. len ≤ WHOLE) }
+        ensures within { IfSome result (λ len. len ≤ LONG_ROOM) }
     {
         match self {
             Self::Initial(initial) => {
@@ -212,19 +215,32 @@ impl Header {
                 Some(lay_number(head, at, *number))
             }
             Self::Retry { .. } => None,
-            Self::Short {
-                spin,
-                key_phase,
-                dst_cid,
-                number,
-            } => {
-                let spin = if *spin { 0x20 } else { 0 };
-                let key_phase = if *key_phase { 0x04 } else { 0 };
-                let at = lay_array(head, 0, [0x40 + spin + key_phase + number.tag()]);
-                let at = lay_id(head, at, dst_cid);
-                Some(lay_number(head, at, *number))
-            }
+            Self::Short { .. } => None,
             Self::VersionNegotiate { .. } => None,
         }
+    }
+
+    // Lays a short head, and answers how many bytes it has; none where the head is long.
+    #[inline(always)]
+    pub(crate) fn lay_short(&self, head: &mut [u8; SHORT_ROOM]) -> Option<usize>
+        requires { IsWritable self.now }
+        ensures size { IfSome result (λ len. len ≡ header_size self.now) }
+        ensures front { IfSome result (λ len. take len head.new ≡ header_bytes self.now) }
+        ensures within { IfSome result (λ len. len ≤ SHORT_ROOM) }
+    {
+        let Self::Short {
+            spin,
+            key_phase,
+            dst_cid,
+            number,
+        } = self
+        else {
+            return None;
+        };
+        let spin = if *spin { 0x20 } else { 0 };
+        let key_phase = if *key_phase { 0x04 } else { 0 };
+        let at = lay_array(head, 0, [0x40 + spin + key_phase + number.tag()]);
+        let at = lay_id(head, at, dst_cid);
+        Some(lay_number(head, at, *number))
     }
 }

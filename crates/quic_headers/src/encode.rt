@@ -8,7 +8,7 @@ ghost use Rattle.quic_headers.specs.Starts.{long_front};
 ghost use Rattle.quic_headers.specs.Writing.{header_size, place_in, header_bytes, IsWritable, size_in, has_length, finished, HasRoom};
 
 use crate::header::Header;
-use crate::lay::{LONG_ROOM, SHORT_ROOM, append_front, append_long};
+use crate::lay::{INITIAL_ROOM, LONG_ROOM, SHORT_ROOM, append_front, append_long};
 use crate::long_type::{LongHeaderType, LongType};
 use quic_base::coding::{BufMutExt, NoRoom, are_bytes};
 use quic_base::ids::ConnectionId;
@@ -214,8 +214,29 @@ impl Header {
         }
     }
 
-    // Appends the head as a long one is laid into an array; or field by field, where it isn't laid or the buffer has no
-    // room for the array.
+    // Appends the head as an Initial one is laid into an array; or field by field, where it isn't laid or the buffer has
+    // no room for the array.
+    #[inline(never)]
+    fn put_initial(&self, out: &mut Vec<u8>) -> Result<(), NoRoom>
+        requires { IsWritable self.now }
+        ensures ok { OnOk result (out.new.items ≡ out.old.items ++ header_bytes self.now) }
+        ensures len { OnOk result (vec_len out.new ≡ vec_len out.old + header_size self.now) }
+        ensures capacity { vec_capacity out.old ≤ vec_capacity out.new }
+        ensures err { OnErr result (out.new.items ≡ out.old.items) }
+        ensures spare { vec_len out.old + header_size self.now ≤ vec_capacity out.old → IsOk result }
+    {
+        if out.capacity() - out.len() < INITIAL_ROOM {
+            return self.put_with_room(out);
+        }
+        let mut head = [0; INITIAL_ROOM];
+        let Some(len) = self.lay_initial(&mut head) else {
+            return self.put_with_room(out);
+        };
+        append_long(out, &head, len);
+        Ok(())
+    }
+
+    // The same by the array of a Handshake or 0-RTT head.
     #[inline(never)]
     fn put_long(&self, out: &mut Vec<u8>) -> Result<(), NoRoom>
         requires { IsWritable self.now }
@@ -331,10 +352,11 @@ impl Header {
         ensures spare { vec_len out.old + header_size self.now ≤ vec_capacity out.old → IsOk result }
     {
         let start = out.len();
-        let put = if self.is_short() {
-            self.put_short(out)
-        } else {
-            self.put_long(out)
+        let put = match self {
+            Self::Initial(_) => self.put_initial(out),
+            Self::Long { .. } => self.put_long(out),
+            Self::Short { .. } => self.put_short(out),
+            _ => self.put_with_room(out),
         };
         if put.is_err() {
             return Err(NoRoom);

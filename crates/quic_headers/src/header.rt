@@ -147,7 +147,6 @@ impl Header {
     }
 
     /// Whether the head is short.
-    #[inline]
     pub fn is_short(&self) -> bool
         ensures { IsTrue result ↔ IsShortHeader self.now }
     {

@@ -14,8 +14,11 @@ use crate::long_type::LongHeaderType;
 use quic_base::ids::{ConnectionId, MAX_CID_SIZE};
 use quic_crypto::packet_number::PacketNumber;
 
-/// How many bytes the array of a long head has: enough for the longest ids and a token that is laid.
-pub(crate) const LONG_ROOM: usize = 96;
+/// How many bytes the array of an Initial head has: enough for the longest ids and a token that is laid.
+pub(crate) const INITIAL_ROOM: usize = 96;
+
+/// How many bytes the array of another long head has.
+pub(crate) const LONG_ROOM: usize = 64;
 
 /// How many bytes the array of a short head has.
 pub(crate) const SHORT_ROOM: usize = 32;
@@ -162,25 +165,49 @@ pub(crate) fn append_front(out: &mut Vec<u8>, bytes: &[u8], len: usize)
     out.truncate(out.len() - (bytes.len() - len));
 }
 
-// Appends a long head that was laid where there is room for the whole array, of which a third takes fewer stores.
+// The same, by fewer stores where a short array would do.
 #[inline(always)]
-pub(crate) fn append_long(out: &mut Vec<u8>, head: &[u8; LONG_ROOM], len: usize)
-    requires within { len ≤ LONG_ROOM }
-    requires room { vec_len out.old + LONG_ROOM ≤ vec_capacity out.old }
-    ensures items { out.new.items ≡ out.old.items ++ take len head.now }
+pub(crate) fn append_long(out: &mut Vec<u8>, bytes: &[u8], len: usize)
+    requires within { len ≤ length bytes.now }
+    requires long { SHORT_ROOM ≤ length bytes.now }
+    requires room { vec_len out.old + length bytes.now ≤ vec_capacity out.old }
+    ensures items { out.new.items ≡ out.old.items ++ take len bytes.now }
     ensures len { vec_len out.new ≡ vec_len out.old + len }
     ensures capacity { vec_capacity out.old ≤ vec_capacity out.new }
 {
     if len <= SHORT_ROOM {
-        append_front(out, &head[..SHORT_ROOM], len);
+        append_front(out, &bytes[..SHORT_ROOM], len);
     } else {
-        append_front(out, head, len);
+        append_front(out, bytes, len);
     }
 }
 
 impl Header {
-    // Lays a long head, and answers how many bytes it has; none where its token is not laid or it has no number. With
-    // more kinds the compiler would look no longer whether anything else points to the array, and append it with a test.
+    // Lays an Initial head, and answers how many bytes it has; none where its token is not laid, or it is another head.
+    #[inline(always)]
+    pub(crate) fn lay_initial(&self, head: &mut [u8; INITIAL_ROOM]) -> Option<usize>
+        requires { IsWritable self.now }
+        ensures size { IfSome result (λ len. len ≡ header_size self.now) }
+        ensures front { IfSome result (λ len. take len head.new ≡ header_bytes self.now) }
+        ensures within { IfSome result (λ len. len ≤ INITIAL_ROOM) }
+    {
+        let Self::Initial(initial) = self else {
+            return None;
+        };
+        let first = LongHeaderType::Initial.byte(initial.version) + initial.number.tag();
+        let at = lay_long_start(
+            head,
+            first,
+            initial.version,
+            &initial.dst_cid,
+            &initial.src_cid,
+        );
+        let at = lay_token(head, at, initial.token.as_slice())?;
+        let at = lay_array(head, at, [0, 0]);
+        Some(lay_number(head, at, initial.number))
+    }
+
+    // Lays a Handshake or 0-RTT head, and answers how many bytes it has; none where it is another head.
     #[inline(always)]
     pub(crate) fn lay_long(&self, head: &mut [u8; LONG_ROOM]) -> Option<usize>
         requires { IsWritable self.now }
@@ -188,39 +215,23 @@ impl Header {
         ensures front { IfSome result (λ len. take len head.new ≡ header_bytes self.now) }
         ensures within { IfSome result (λ len. len ≤ LONG_ROOM) }
     {
-        match self {
-            Self::Initial(initial) => {
-                let first = LongHeaderType::Initial.byte(initial.version) + initial.number.tag();
-                let at = lay_long_start(
-                    head,
-                    first,
-                    initial.version,
-                    &initial.dst_cid,
-                    &initial.src_cid,
-                );
-                let at = lay_token(head, at, initial.token.as_slice())?;
-                let at = lay_array(head, at, [0, 0]);
-                Some(lay_number(head, at, initial.number))
-            }
-            Self::Long {
-                ty,
-                dst_cid,
-                src_cid,
-                number,
-                version,
-            } => {
-                let first = LongHeaderType::Standard(*ty).byte(*version) + number.tag();
-                let at = lay_long_start(head, first, *version, dst_cid, src_cid);
-                let at = lay_array(head, at, [0, 0]);
-                Some(lay_number(head, at, *number))
-            }
-            Self::Retry { .. } => None,
-            Self::Short { .. } => None,
-            Self::VersionNegotiate { .. } => None,
-        }
+        let Self::Long {
+            ty,
+            dst_cid,
+            src_cid,
+            number,
+            version,
+        } = self
+        else {
+            return None;
+        };
+        let first = LongHeaderType::Standard(*ty).byte(*version) + number.tag();
+        let at = lay_long_start(head, first, *version, dst_cid, src_cid);
+        let at = lay_array(head, at, [0, 0]);
+        Some(lay_number(head, at, *number))
     }
 
-    // Lays a short head, and answers how many bytes it has; none where the head is long.
+    // Lays a short head, and answers how many bytes it has; none where it is another head.
     #[inline(always)]
     pub(crate) fn lay_short(&self, head: &mut [u8; SHORT_ROOM]) -> Option<usize>
         requires { IsWritable self.now }

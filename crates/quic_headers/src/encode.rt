@@ -354,9 +354,8 @@ impl Header {
         let start = out.len();
         let put = match self {
             Self::Initial(_) => self.put_initial(out),
-            Self::Long { .. } => self.put_long(out),
             Self::Short { .. } => self.put_short(out),
-            _ => self.put_with_room(out),
+            _ => self.put_long(out),
         };
         if put.is_err() {
             return Err(NoRoom);

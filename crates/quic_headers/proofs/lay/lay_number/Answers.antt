@@ -1,5 +1,5 @@
 -- Of four bytes the part that is written stays.
-use Rattle.std.proofs.Common.{◌≡◌, ℕ, ◌+◌, ◌≤◌, List, ◌++◌, take, sym, ap, ◌∙◌, arith}
+use Rattle.std.proofs.Common.{ℕ, ◌≤◌, List, ◌++◌, take, sym, ap, ◌∙◌, arith}
 use Rattle.quic_crypto.specs.PacketNumbers.{number_size}
 use Rattle.quic_headers.proofs.Lays.{shorter_laid, number_small}
 use Rattle.quic_headers.proofs.lay.lay_number.Goals as goal

@@ -8,6 +8,7 @@ ghost use Rattle.quic_headers.specs.Starts.{long_front};
 ghost use Rattle.quic_headers.specs.Writing.{header_size, place_in, header_bytes, IsWritable, size_in, has_length, finished, HasRoom};
 
 use crate::header::Header;
+use crate::lay::{INITIAL_ROOM, LONG_ROOM, SHORT_ROOM, append_front, append_long};
 use crate::long_type::{LongHeaderType, LongType};
 use quic_base::coding::{BufMutExt, NoRoom, are_bytes};
 use quic_base::ids::ConnectionId;
@@ -153,8 +154,8 @@ impl Header {
         }
     }
 
-    // Appends the head where there is room for it. Its length, where it has one, is filled in later.
-    fn put(&self, out: &mut Vec<u8>)
+    // Appends the head field by field where there is room for it. Its length, where it has one, is filled in later.
+    fn put_fields(&self, out: &mut Vec<u8>)
         requires writable { IsWritable self.now }
         requires room { vec_len out.old + header_size self.now ≤ vec_capacity out.old }
         ensures items { out.new.items ≡ out.old.items ++ header_bytes self.now }
@@ -213,8 +214,90 @@ impl Header {
         }
     }
 
+    // Appends the head as an Initial one is laid into an array; or field by field, where it isn't laid or the buffer has
+    // no room for the array.
+    #[inline(never)]
+    fn put_initial(&self, out: &mut Vec<u8>) -> Result<(), NoRoom>
+        requires { IsWritable self.now }
+        ensures ok { OnOk result (out.new.items ≡ out.old.items ++ header_bytes self.now) }
+        ensures len { OnOk result (vec_len out.new ≡ vec_len out.old + header_size self.now) }
+        ensures capacity { vec_capacity out.old ≤ vec_capacity out.new }
+        ensures err { OnErr result (out.new.items ≡ out.old.items) }
+        ensures spare { vec_len out.old + header_size self.now ≤ vec_capacity out.old → IsOk result }
+    {
+        if out.capacity() - out.len() < INITIAL_ROOM {
+            return self.put_with_room(out);
+        }
+        let mut head = [0; INITIAL_ROOM];
+        let Some(len) = self.lay_initial(&mut head) else {
+            return self.put_with_room(out);
+        };
+        append_long(out, &head, len);
+        Ok(())
+    }
+
+    // The same by the array of a Handshake or 0-RTT head.
+    #[inline(never)]
+    fn put_long(&self, out: &mut Vec<u8>) -> Result<(), NoRoom>
+        requires { IsWritable self.now }
+        ensures ok { OnOk result (out.new.items ≡ out.old.items ++ header_bytes self.now) }
+        ensures len { OnOk result (vec_len out.new ≡ vec_len out.old + header_size self.now) }
+        ensures capacity { vec_capacity out.old ≤ vec_capacity out.new }
+        ensures err { OnErr result (out.new.items ≡ out.old.items) }
+        ensures spare { vec_len out.old + header_size self.now ≤ vec_capacity out.old → IsOk result }
+    {
+        if out.capacity() - out.len() < LONG_ROOM {
+            return self.put_with_room(out);
+        }
+        let mut head = [0; LONG_ROOM];
+        let Some(len) = self.lay_long(&mut head) else {
+            return self.put_with_room(out);
+        };
+        append_long(out, &head, len);
+        Ok(())
+    }
+
+    // The same by the array of a short head.
+    #[inline(never)]
+    fn put_short(&self, out: &mut Vec<u8>) -> Result<(), NoRoom>
+        requires { IsWritable self.now }
+        ensures ok { OnOk result (out.new.items ≡ out.old.items ++ header_bytes self.now) }
+        ensures len { OnOk result (vec_len out.new ≡ vec_len out.old + header_size self.now) }
+        ensures capacity { vec_capacity out.old ≤ vec_capacity out.new }
+        ensures err { OnErr result (out.new.items ≡ out.old.items) }
+        ensures spare { vec_len out.old + header_size self.now ≤ vec_capacity out.old → IsOk result }
+    {
+        if out.capacity() - out.len() < SHORT_ROOM {
+            return self.put_with_room(out);
+        }
+        let mut head = [0; SHORT_ROOM];
+        let Some(len) = self.lay_short(&mut head) else {
+            return self.put_with_room(out);
+        };
+        append_front(out, &head, len);
+        Ok(())
+    }
+
+    // Makes room for the head, and appends it field by field.
+    #[inline(never)]
+    fn put_with_room(&self, out: &mut Vec<u8>) -> Result<(), NoRoom>
+        requires { IsWritable self.now }
+        ensures ok { OnOk result (out.new.items ≡ out.old.items ++ header_bytes self.now) }
+        ensures len { OnOk result (vec_len out.new ≡ vec_len out.old + header_size self.now) }
+        ensures capacity { vec_capacity out.old ≤ vec_capacity out.new }
+        ensures err { OnErr result (out.new.items ≡ out.old.items) }
+        ensures spare { vec_len out.old + header_size self.now ≤ vec_capacity out.old → IsOk result }
+    {
+        if out.reserve(self.encoded_len()).is_err() {
+            return Err(NoRoom);
+        }
+        self.put_fields(out);
+        Ok(())
+    }
+
     /// How many bytes the number takes, and whether the head has a length; none for Retry and version
     /// negotiation, which have neither.
+    #[inline]
     pub fn number_place(&self) -> Option<(usize, bool)>
         ensures { result ≡ place_in self.now }
     {
@@ -258,6 +341,7 @@ impl Header {
     /// zeros, which `PartialEncode::finish` fills in. Answers `NoRoom` only where the spare room of `out` is less
     /// than the head and there is no memory for more; then `out` is as it was. The caller must give a token below
     /// 2^62 bytes, and that a `U24` is below 2^24.
+    #[inline]
     pub fn encode(&self, out: &mut Vec<u8>) -> Result<PartialEncode, NoRoom>
         requires { IsWritable self.now }
         ensures ok { OnOk result (out.new.items ≡ out.old.items ++ header_bytes self.now) }
@@ -267,15 +351,18 @@ impl Header {
         ensures err { OnErr result (out.new.items ≡ out.old.items) }
         ensures spare { vec_len out.old + header_size self.now ≤ vec_capacity out.old → IsOk result }
     {
-        let header_len = self.encoded_len();
-        if out.reserve(header_len).is_err() {
+        let start = out.len();
+        let put = match self {
+            Self::Initial(_) => self.put_initial(out),
+            Self::Short { .. } => self.put_short(out),
+            _ => self.put_long(out),
+        };
+        if put.is_err() {
             return Err(NoRoom);
         }
-        let start = out.len();
-        self.put(out);
         Ok(PartialEncode {
             start,
-            header_len,
+            header_len: out.len() - start,
             pn: self.number_place(),
         })
     }

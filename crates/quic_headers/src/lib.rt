@@ -3,4 +3,5 @@
 
 pub mod encode;
 pub mod header;
+mod lay;
 pub mod long_type;

@@ -1,5 +1,5 @@
 //! The ids by which endpoints know a connection (RFC 9000, section 5.1).
-ghost use Rattle.std.specs.Prelude.{◌≡◌, ◌+◌, ◌<◌, ◌≤◌, ◌++◌, List, ℕ, ⊤, Some, drop, length, nat_eq, refl, MatchOption, OnErr, OnOk};
+ghost use Rattle.std.specs.Prelude.{◌≡◌, ◌+◌, ◌-◌, ◌<◌, ◌≤◌, ◌++◌, List, ℕ, ⊤, Some, drop, length, replicate, nat_eq, refl, MatchOption, OnErr, OnOk};
 ghost use Rattle.std.specs.Borrow.{sem};
 ghost use Rattle.std.specs.Cmp.{partial_equiv_from_equiv, po};
 ghost use Rattle.std.specs.Cmp.Lexicographic.{nat_list_eq_equiv, pointwise};
@@ -122,6 +122,14 @@ impl ConnectionId {
         ensures short { length result.now ≤ MAX_CID_SIZE }
     {
         &self.bytes[..usize::from(self.len)]
+    }
+
+    /// The bytes, and behind them as many zeros as make 20 bytes: an id of any length in one array.
+    pub fn padded(&self) -> &[u8; MAX_CID_SIZE]
+        ensures value { result.now ≡ self.now ++ replicate (MAX_CID_SIZE - length self.now) 0 }
+        ensures short { length self.now ≤ MAX_CID_SIZE }
+    {
+        &self.bytes
     }
 
     /// The bytes, for writing. Once the borrow ends, the id is what was written through it.

@@ -1,0 +1,85 @@
+-- What is laid into an array, by its front.
+use Rattle.std.proofs.Common.{◌≡◌, ℕ, ◌+◌, ◌-◌, ◌*◌, ◌<◌, ◌≤◌, ◌^◌, List, [], ◌∷◌, ◌++◌, length, take, drop, refl, sym, ap, ◌∙◌, arith}
+use Rattle.std.proofs.Math.Seq.{take-append-add}
+use Rattle.std.proofs.lemmas.Bool.Decides.{nat_tests}
+use Rattle.std.proofs.lemmas.List.{append-nil, append_assoc, length-take-le, take-append-drop, take-take}
+use Rattle.std.specs.Int.{byte_at, to_be_bytes, w32}
+use Rattle.quic_base.specs.Number.{bytes_of}
+use Rattle.quic_base.specs.Varint.{short, size}
+use Rattle.quic_crypto.specs.declared.packet_number.PacketNumber.{PacketNumber}
+use Rattle.quic_crypto.specs.declared.packet_number.PacketNumber.TheVariants.{U8, U16, U24, U32}
+use Rattle.quic_crypto.specs.PacketNumbers.{number_size}
+
+-- a number below 64 is spelled by itself
+pub short_small : (n : ℕ) → n < 64 → short n ≡ n ∷ []
+unfolding short
+short_small n h = grind (arith, nat_tests)
+
+pub size_small : (n : ℕ) → n < 64 → size n ≡ 1
+unfolding size
+size_small n h = grind (arith, nat_tests)
+
+-- what was laid at a place has its first k elements there
+pub shorter_laid : (k n at : ℕ) (head laid bytes : List ℕ) → k ≤ n → at ≤ length head → take (at + n) laid ≡ take at head ++ bytes → take (at + k) laid ≡ take at head ++ take k bytes
+shorter_laid k n at head laid bytes short within is =
+    sym (take-take (at + k) (at + n) laid (omega arith)) ∙ ap (take (at + k)) is
+    ∙ ap (λ (i : ℕ). take (i + k) (take at head ++ bytes)) (sym (length-take-le at head within)) ∙ take-append-add (take at head) bytes k
+
+-- the first k of n elements were laid at a place, and then the last k over them
+pub both_ends : (k n at : ℕ) (xs head once twice : List ℕ) → n ≡ length xs → k ≤ n → n ≤ k + k → at ≤ length head
+    → take (at + k) once ≡ take at head ++ take k xs → take (at + (n - k) + k) twice ≡ take (at + (n - k)) once ++ drop (n - k) xs
+    → take (at + n) twice ≡ take at head ++ xs
+both_ends k n at xs head once twice is enough covers within first last =
+    let m : ℕ = n - k in
+    let front : take (at + m) once ≡ take at head ++ take m xs =
+    shorter_laid m k at head once (take k xs) (omega arith) within first ∙ ap (λ (ys : List ℕ). take at head ++ ys) (take-take m k xs (omega arith)) in
+    let place : at + n ≡ at + m + k = omega arith in
+    ap (λ (i : ℕ). take i twice) place ∙ last ∙ ap (λ (ys : List ℕ). ys ++ drop m xs) front
+    ∙ append_assoc (take at head) (take m xs) (drop m xs) ∙ ap (λ (ys : List ℕ). take at head ++ ys) (take-append-drop m xs)
+
+-- a token that is laid stands behind its length in one byte
+pub token_laid : (n : ℕ) (token front laid : List ℕ) → n ≡ length token → n < 64 → laid ≡ front ++ n ∷ [] → laid ++ token ≡ front ++ (short (length token) ++ token)
+token_laid n token front laid is small e =
+    ap (λ (ys : List ℕ). ys ++ token) e ∙ append_assoc front (n ∷ []) token
+    ∙ ap (λ (ys : List ℕ). front ++ (ys ++ token)) (sym (short_small n small) ∙ ap short is)
+
+pub no_token_laid : (n : ℕ) (token front laid : List ℕ) → n ≡ length token → n ≡ 0 → laid ≡ front ++ n ∷ [] → laid ≡ front ++ (short (length token) ++ token)
+no_token_laid n [] front laid is none e = sym (append-nil laid) ∙ token_laid n [] front laid is (omega (arith, none)) e
+no_token_laid n (x ∷ xs) front laid is none e = absurd (omega arith)
+
+-- the front of a front
+pub shorter_front : (m n : ℕ) (xs : List ℕ) → m ≤ n → take m (take n xs) ≡ take m xs
+shorter_front m n xs h = take-take m n xs h
+
+-- a number of one to four bytes, shifted to the front of four
+pub lead_1 : (x : ℕ) → x < 2 ^ 8 → take 1 (to_be_bytes w32 (x * 2 ^ 24)) ≡ bytes_of 1 x
+unfolding bytes_of
+lead_1 x h = let a : byte_at 3 (x * 2 ^ 24) ≡ byte_at 0 x = omega arith in cc
+
+pub lead_2 : (x : ℕ) → x < 2 ^ 16 → take 2 (to_be_bytes w32 (x * 2 ^ 16)) ≡ bytes_of 2 x
+unfolding bytes_of
+lead_2 x h =
+    let a : byte_at 3 (x * 2 ^ 16) ≡ byte_at 1 x = omega arith in
+    let b : byte_at 2 (x * 2 ^ 16) ≡ byte_at 0 x = omega arith in
+    cc
+
+pub lead_3 : (x : ℕ) → x < 2 ^ 24 → take 3 (to_be_bytes w32 (x * 2 ^ 8)) ≡ bytes_of 3 x
+unfolding bytes_of
+lead_3 x h =
+    let a : byte_at 3 (x * 2 ^ 8) ≡ byte_at 2 x = omega arith in
+    let b : byte_at 2 (x * 2 ^ 8) ≡ byte_at 1 x = omega arith in
+    let c : byte_at 1 (x * 2 ^ 8) ≡ byte_at 0 x = omega arith in
+    cc
+
+pub lead_4 : (x : ℕ) → take 4 (to_be_bytes w32 x) ≡ bytes_of 4 x
+unfolding bytes_of
+lead_4 x = refl
+
+pub ruleset leads = (lead_1, lead_2, lead_3, lead_4)
+
+-- the part that is written has at most four bytes
+pub number_small : (number : PacketNumber) → number_size number ≤ 4
+number_small (U8 x) = omega arith
+number_small (U16 x) = omega arith
+number_small (U24 x) = omega arith
+number_small (U32 x) = omega arith

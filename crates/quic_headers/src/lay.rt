@@ -14,13 +14,13 @@ use crate::long_type::LongHeaderType;
 use quic_base::ids::{ConnectionId, MAX_CID_SIZE};
 use quic_crypto::packet_number::PacketNumber;
 
-/// How many bytes the array of an Initial head has: enough for the longest ids and a token that is laid.
+// How many bytes the array of an Initial head has: enough for the longest ids and a token that is laid.
 pub(crate) const INITIAL_ROOM: usize = 96;
 
-/// How many bytes the array of another long head has.
+// How many bytes the array of another long head has.
 pub(crate) const LONG_ROOM: usize = 64;
 
-/// How many bytes the array of a short head has.
+// How many bytes the array of a short head has.
 pub(crate) const SHORT_ROOM: usize = 32;
 
 // Half of the longest token that is laid, by its first and its last bytes.

@@ -11,7 +11,7 @@ use quic_base::ids::Side;
 use std::net::{SocketAddrV4, SocketAddrV6};
 
 impl TransportParameters {
-    /// Whether a side takes the record: `IllegalValue` where it does not.
+    // Whether a side takes the record: `IllegalValue` where it does not.
     pub(crate) fn check(&self, side: Side) -> Result<(), Error>
         ensures { MatchResult result (λ _. IsValid side self.now)
             (λ e. Never (IsValid side self.now) × (e ≡ Error.IllegalValue)) }
@@ -80,7 +80,7 @@ impl TransportParameters {
     }
 }
 
-/// Whether a preferred address is read back as it is.
+// Whether a preferred address is read back as it is.
 fn is_told(a: &PreferredAddress) -> bool
     ensures { IsTrue result ↔ IsTold a.now }
 {

@@ -16,7 +16,7 @@ use std::fs::File;
 use std::io;
 use std::process::ExitCode;
 
-/// The words of a mode, and the file that holds its lines.
+// The words of a mode, and the file that holds its lines.
 const LISTS: [(&[&str], &str); 8] = [
     (&["datagram", "0"], "datagrams.in"),
     (&["datagram", "8"], "datagrams.in"),
@@ -43,7 +43,7 @@ fn main(rt: HostRuntime) -> ExitCode {
     ExitCode::from(0)
 }
 
-/// Writes what a mode prints of a file's lines. The answer is whether all was read and written.
+// Writes what a mode prints of a file's lines. The answer is whether all was read and written.
 fn replayed(rt: &HostRuntime, mode: Mode, file: &str) -> bool {
     let Ok(lines) = File::open(rt, file) else {
         return false;
@@ -53,7 +53,7 @@ fn replayed(rt: &HostRuntime, mode: Mode, file: &str) -> bool {
     run(rt.alloc(), mode, &mut source, &mut sink).is_ok()
 }
 
-/// Whether `strict` prints no `error` line of a file's lines.
+// Whether `strict` prints no `error` line of a file's lines.
 fn is_read_strictly(rt: &HostRuntime, file: &str) -> bool {
     let Ok(lines) = File::open(rt, file) else {
         return false;

@@ -8,7 +8,7 @@ use quic_ranges::range_set::ArrayRangeSet;
 use std::alloc::Global;
 use std::test::Fail;
 
-/// Writes the bytes of each line's ACK.
+// Writes the bytes of each line's ACK.
 pub(crate) fn replay(rt: &HostRuntime, lines: &str) -> Result<(), Fail> {
     for line in lines.lines() {
         let bytes = written(rt.alloc(), line)?;

@@ -6,7 +6,7 @@ use quic_frames::transport_error::Code;
 use std::alloc::Global;
 use std::test::Fail;
 
-/// Writes the bytes of each line's close.
+// Writes the bytes of each line's close.
 pub(crate) fn replay(rt: &HostRuntime, lines: &str) -> Result<(), Fail> {
     for line in lines.lines() {
         let bytes = written(rt.alloc(), line)?;

@@ -10,7 +10,7 @@ use std::alloc::Global;
 use std::ops::Range;
 use std::test::Fail;
 
-/// Writes the bytes of each line's frame, and its size where it can be asked for that.
+// Writes the bytes of each line's frame, and its size where it can be asked for that.
 pub(crate) fn replay(rt: &HostRuntime, lines: &str) -> Result<(), Fail> {
     for line in lines.lines() {
         let (bytes, size) = written(rt.alloc(), line)?;

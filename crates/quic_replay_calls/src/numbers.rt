@@ -5,7 +5,7 @@ use quic_base::varint::VarInt;
 use std::fmt::Display;
 use std::test::Fail;
 
-/// Reads each line's bytes as a varint, and as numbers of one, two, four and eight bytes.
+// Reads each line's bytes as a varint, and as numbers of one, two, four and eight bytes.
 pub(crate) fn replay_reading(rt: &HostRuntime, lines: &str) -> Result<(), Fail> {
     for line in lines.lines() {
         let bytes = bytes_of(rt.alloc(), line)?;
@@ -41,7 +41,7 @@ fn read_fixed<T: Codec + Display + Drop>(
     Ok(())
 }
 
-/// Writes each line's number as a varint, and its size; or that it is too large.
+// Writes each line's number as a varint, and its size; or that it is too large.
 pub(crate) fn replay_writing(rt: &HostRuntime, lines: &str) -> Result<(), Fail> {
     for line in lines.lines() {
         match VarInt::from_u64(line.parse()?) {

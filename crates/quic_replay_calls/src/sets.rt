@@ -9,7 +9,7 @@ use std::alloc::{AllocError, Global};
 use std::ops::Range;
 use std::test::Fail;
 
-/// Writes what each call answers on either set, and the runs that the set then has.
+// Writes what each call answers on either set, and the runs that the set then has.
 pub(crate) fn replay(rt: &HostRuntime, lines: &str) -> Result<(), Fail> {
     let mut set = RangeSet::new(rt.alloc());
     let mut array = ArrayRangeSet::new(rt.alloc());

@@ -7,7 +7,7 @@ use quic_frames::transport_error::{Code, Error};
 use std::alloc::Global;
 use std::test::Fail;
 
-/// Writes the text of each line's value, and for some the bytes that are written of it.
+// Writes the text of each line's value, and for some the bytes that are written of it.
 pub(crate) fn replay(rt: &HostRuntime, lines: &str) -> Result<(), Fail> {
     for line in lines.lines() {
         println!(rt; "{}", shown(rt.alloc(), line)?)?;

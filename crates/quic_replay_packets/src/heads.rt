@@ -9,7 +9,7 @@ use quic_packets::packet::{Header, InitialHeader, LongType, PartialEncode};
 use std::alloc::Global;
 use std::test::Fail;
 
-/// Writes each line's packet: its head alone where it has no number, else with its payload, sealed.
+// Writes each line's packet: its head alone where it has no number, else with its payload, sealed.
 pub(crate) fn replay(rt: &HostRuntime, lines: &str) -> Result<(), Fail> {
     for line in lines.lines() {
         replay_line(rt, line)?;

@@ -7,7 +7,7 @@ use quic_packets::packet::{PacketDecodeError, PacketNumber};
 use std::alloc::Global;
 use std::test::Fail;
 
-/// The packet number of each line's number, by the one that is acknowledged, and its bytes.
+// The packet number of each line's number, by the one that is acknowledged, and its bytes.
 pub(crate) fn replay_new(rt: &HostRuntime, lines: &str) -> Result<(), Fail> {
     for line in lines.lines() {
         let number = made(rt.alloc(), line)?;
@@ -35,7 +35,7 @@ fn made(alloc: Global, line: &str) -> Result<PacketNumber, Fail>
     Ok(PacketNumber::new(n, acked))
 }
 
-/// The number for which each line's packet number stands, by the one that is expected.
+// The number for which each line's packet number stands, by the one that is expected.
 pub(crate) fn replay_expand(rt: &HostRuntime, lines: &str) -> Result<(), Fail> {
     for line in lines.lines() {
         println!(rt; "{}", expanded(rt.alloc(), line)?)?;
@@ -55,7 +55,7 @@ fn expanded(alloc: Global, line: &str) -> Result<u64, Fail> {
     Ok(number(kind, low)?.expand(expected))
 }
 
-/// The packet number of so many bytes that each line's bytes begin with, or the refusal.
+// The packet number of so many bytes that each line's bytes begin with, or the refusal.
 pub(crate) fn replay_decode(rt: &HostRuntime, lines: &str) -> Result<(), Fail> {
     for line in lines.lines() {
         replay_line(rt, line)?;

@@ -7,13 +7,13 @@ use quic_packets::packet::PacketNumber;
 use std::alloc::Global;
 use std::test::Fail;
 
-/// Bytes in hexadecimal; `-` is none.
+// Bytes in hexadecimal; `-` is none.
 pub(crate) fn bytes_of(alloc: Global, word: &str) -> Result<Vec<u8>, Fail> {
     let digits = if word == "-" { "" } else { word };
     Ok(hex::decode(alloc, digits.as_bytes())?)
 }
 
-/// A connection id in hexadecimal.
+// A connection id in hexadecimal.
 pub(crate) fn id(alloc: Global, word: &str) -> Result<ConnectionId, Fail> {
     let bytes = bytes_of(alloc, word)?;
     if bytes.len() > MAX_CID_SIZE {
@@ -22,7 +22,7 @@ pub(crate) fn id(alloc: Global, word: &str) -> Result<ConnectionId, Fail> {
     Ok(ConnectionId::new(bytes.as_slice()))
 }
 
-/// A packet number as it is written: its kind and its value.
+// A packet number as it is written: its kind and its value.
 pub(crate) fn number(kind: &str, low: &str) -> Result<PacketNumber, Fail>
     ensures { IfOk result IsInRange }
 {

@@ -33,7 +33,7 @@ impl Checks {
         }
     }
 
-    /// Counts a check, and keeps what it says where it is the first that failed.
+    // Counts a check, and keeps what it says where it is the first that failed.
     fn check(&mut self, is_so: bool, says: impl Display + Drop)
         ensures { self.new.has_failed ≡ (self.old.has_failed || not is_so) }
     {

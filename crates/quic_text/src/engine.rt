@@ -56,7 +56,7 @@ pub fn run<R: Source, W: Sink>(
     print_all(alloc, mode, input.as_slice(), sink)
 }
 
-/// All that the source gives, until it ends.
+// All that the source gives, until it ends.
 fn read_all<R: Source>(alloc: Global, source: &mut R) -> Result<Vec<u8>, RunError>
     ensures ok { IfOk result (λ input. IsTrue (R.has_ended source.new) × (R.given source.new ≡ R.given source.old ++ input.items)) }
     ensures err { OnErr result ((input : List ℕ) × (R.given source.new ≡ R.given source.old ++ input)) }
@@ -74,7 +74,7 @@ fn read_all<R: Source>(alloc: Global, source: &mut R) -> Result<Vec<u8>, RunErro
     }
 }
 
-/// Writes the text of an input, a piece at a time.
+// Writes the text of an input, a piece at a time.
 fn print_all<W: Sink>(
     alloc: Global,
     mode: Mode,

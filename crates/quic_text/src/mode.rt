@@ -41,7 +41,7 @@ pub fn mode_of(words: &[&str]) -> Option<Mode>
     }
 }
 
-/// The mode `datagram` with the length that the word says.
+// The mode `datagram` with the length that the word says.
 fn datagram_mode(word: &str) -> Option<Mode>
     ensures frames { result ≢ Some Mode.Frames }
     ensures strict { result ≢ Some Mode.Strict }

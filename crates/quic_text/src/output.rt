@@ -5,10 +5,10 @@ ghost use Rattle.quic_text.specs.Whole.{AppendsAllBut, AppendsBeginning};
 
 use crate::transfer::{Failed, Sink};
 
-/// How much is read at once, and from how much on text is passed on.
+// How much is read at once, and from how much on text is passed on.
 pub(crate) const PIECE: usize = 16384;
 
-/// Passes on the text that is held back, where it is as long as a piece.
+// Passes on the text that is held back, where it is as long as a piece.
 pub(crate) fn pass_on_pieces<W: Sink>(text: &mut String, sink: &mut W) -> Result<(), Failed>
     ensures ok { OnOk result (AppendsAllBut (W.taken sink.old) (W.taken sink.new) (string_bytes text.new) (string_bytes text.old)) }
     ensures err { OnErr result (AppendsBeginning (W.taken sink.old) (W.taken sink.new) (string_bytes text.old)) }
@@ -22,7 +22,7 @@ pub(crate) fn pass_on_pieces<W: Sink>(text: &mut String, sink: &mut W) -> Result
     Ok(())
 }
 
-/// Writes all the bytes, in as many calls as the sink needs.
+// Writes all the bytes, in as many calls as the sink needs.
 pub(crate) fn write_all<W: Sink>(sink: &mut W, bytes: &[u8]) -> Result<(), Failed>
     ensures ok { OnOk result (W.taken sink.new ≡ W.taken sink.old ++ bytes.now) }
     ensures err { OnErr result (AppendsBeginning (W.taken sink.old) (W.taken sink.new) bytes.now) }

@@ -24,8 +24,8 @@ use hex::FromHexError;
 use params::print_params;
 use std::alloc::{AllocError, Global};
 
-/// Adds what is printed of a line of the input behind the text that is held back, of which pieces may be passed on.
-/// The answer is whether none of it is an `error` line.
+// Adds what is printed of a line of the input behind the text that is held back, of which pieces may be passed on.
+// The answer is whether none of it is an `error` line.
 pub(crate) fn print_line<W: Sink>(
     alloc: Global,
     mode: Mode,
@@ -48,7 +48,7 @@ pub(crate) fn print_line<W: Sink>(
     }
 }
 
-/// The bytes that a line spells, if it spells any.
+// The bytes that a line spells, if it spells any.
 fn decoded(alloc: Global, line: &[u8]) -> Result<Option<Vec<u8>>, AllocError>
     ensures some { IfOk result (λ payload. IfSome payload (λ bytes. decode_of line.now ≡ Ok bytes.items)) }
     ensures none { IfOk result (λ payload. payload ≡ None → IsErr (decode_of line.now)) }

@@ -22,7 +22,7 @@ pub fn varint(bytes: &[u8]) -> Result<(u64, &[u8]), Fault>
     }
 }
 
-/// The least number of a block of an ACK that ends at `greatest`, and what follows the block.
+// The least number of a block of an ACK that ends at `greatest`, and what follows the block.
 #[inline]
 #[tactic(auto, unfolding(crate::specs::Reading::block_at))]
 fn block(greatest: u64, bytes: &[u8]) -> Result<(u64, &[u8]), Fault>
@@ -36,7 +36,7 @@ fn block(greatest: u64, bytes: &[u8]) -> Result<(u64, &[u8]), Fault>
     Ok((greatest - n, rest))
 }
 
-/// The greatest number of the range below a gap, which begins below `low`, and what follows the gap.
+// The greatest number of the range below a gap, which begins below `low`, and what follows the gap.
 #[inline]
 #[tactic(auto, unfolding(crate::specs::Reading::gap_at))]
 fn gap(low: u64, bytes: &[u8]) -> Result<(u64, &[u8]), Fault>
@@ -78,7 +78,7 @@ pub fn blocks(greatest: u64, bytes: &[u8]) -> Result<(&[u8], &[u8]), Fault>
     Ok(bytes.split_at(bytes.len() - rest.len()))
 }
 
-/// Whether the bytes are a first block and any number of pairs of gap and block, and nothing else.
+// Whether the bytes are a first block and any number of pairs of gap and block, and nothing else.
 pub(super) fn all_blocks(greatest: u64, bytes: &[u8]) -> Result<(), Fault>
     ensures ok { OnOk result (IsBlocks greatest bytes.now) }
     ensures err { IfErr result (λ e. AreNoBlocks greatest bytes.now e × ((e ≡ Fault.UnexpectedEnd) ⊎ (e ≡ Fault.Malformed))) }
@@ -93,8 +93,8 @@ pub(super) fn all_blocks(greatest: u64, bytes: &[u8]) -> Result<(), Fault>
     Ok(())
 }
 
-/// The least number of the first range of blocks, the greatest of the next one, and the blocks of
-/// that one and those below it, where there are any.
+// The least number of the first range of blocks, the greatest of the next one, and the blocks of
+// that one and those below it, where there are any.
 pub(super) fn first_range(greatest: u64, blocks: &[u8]) -> (u64, u64, &[u8])
     requires some { 0 < length blocks.now }
     requires valid { blocks_left greatest blocks.now ≡ Ok [] }

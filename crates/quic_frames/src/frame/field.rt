@@ -9,7 +9,7 @@ use quic_base::ids::{MAX_CID_SIZE, RESET_TOKEN_SIZE};
 use quic_frame_parts::frame::fault::Fault;
 use quic_frame_parts::frame::field::varint;
 
-/// The first `n` bytes, and what follows them.
+// The first `n` bytes, and what follows them.
 #[inline]
 #[tactic(auto, unfolding(quic_frame_parts::specs::Reading::bytes_at))]
 fn bytes_of(n: u64, bytes: &[u8]) -> Result<(&[u8], &[u8]), Fault>

@@ -12,7 +12,7 @@ const LINES: &[u8] = b"0001\r\n\nzz\n40\n0100";
 const TEXT: &[u8] =
     b"0..1 PADDING\n1..2 PING\nerror packet payload is empty\nerror not hexadecimal\nerror unexpected end\n0..1 PING\n1..2 PADDING\n";
 
-/// Each mode by its words, lines that it reads, and what it prints of them.
+// Each mode by its words, lines that it reads, and what it prints of them.
 const EACH_MODE: [(&[&str], &[u8], &[u8]); 5] = [
     (&["frames"], LINES, TEXT),
     (

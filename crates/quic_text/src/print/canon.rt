@@ -16,7 +16,7 @@ use quic_canon::canonical::{CanonError, canonical_of};
 use quic_canon::laws;
 use std::alloc::Global;
 
-/// The digits of the shortest payload of the same frames, or why there is none.
+// The digits of the shortest payload of the same frames, or why there is none.
 pub(super) fn print_canon<W: Sink>(
     alloc: Global,
     payload: &[u8],
@@ -47,7 +47,7 @@ pub(super) fn print_canon<W: Sink>(
     }
 }
 
-/// The line of bytes in hexadecimal digits.
+// The line of bytes in hexadecimal digits.
 fn print_digits<W: Sink>(
     alloc: Global,
     bytes: &[u8],

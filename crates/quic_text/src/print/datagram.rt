@@ -23,7 +23,7 @@ use quic_heads::parser::FixedLengthConnectionIdParser;
 use quic_heads::protected::ProtectedHeader;
 use std::alloc::{AllocError, Global};
 
-/// A line for each packet, and one for what is refused. Ids of short heads have the length given.
+// A line for each packet, and one for what is refused. Ids of short heads have the length given.
 pub(super) fn print_datagram<W: Sink>(
     alloc: Global,
     id_len: IdLen,
@@ -62,7 +62,7 @@ pub(super) fn print_datagram<W: Sink>(
     }
 }
 
-/// The line of a packet.
+// The line of a packet.
 fn print_packet(
     start: usize,
     end: usize,
@@ -76,7 +76,7 @@ fn print_packet(
     text.push('\n')
 }
 
-/// What a head says.
+// What a head says.
 fn print_head(head: &ProtectedHeader, text: &mut String) -> Result<(), AllocError>
     ensures { OnOk result (string_bytes text.new ≡ string_bytes text.old ++ head_text head.now) }
 {
@@ -122,14 +122,14 @@ fn print_head(head: &ProtectedHeader, text: &mut String) -> Result<(), AllocErro
     Ok(())
 }
 
-/// Where an Initial packet's token stands in the packet.
+// Where an Initial packet's token stands in the packet.
 fn print_token(start: usize, end: usize, text: &mut String) -> Result<(), AllocError>
     ensures { OnOk result (string_bytes text.new ≡ string_bytes text.old ++ (codes " token " ++ decimal start ++ codes ".." ++ decimal end)) }
 {
     write!(text, " token {start}..{end}")
 }
 
-/// What every long head says.
+// What every long head says.
 fn print_long(
     kind: &str,
     dst_cid: &ConnectionId,
@@ -146,14 +146,14 @@ fn print_long(
     print_version(version, text)
 }
 
-/// A version in eight hexadecimal digits.
+// A version in eight hexadecimal digits.
 fn print_version(version: u32, text: &mut String) -> Result<(), AllocError>
     ensures { OnOk result (string_bytes text.new ≡ string_bytes text.old ++ (codes " version " ++ eight_digits version)) }
 {
     write!(text, " version {version:08x}")
 }
 
-/// An id in hexadecimal, and an empty one as a dash.
+// An id in hexadecimal, and an empty one as a dash.
 fn print_id(id: &ConnectionId, text: &mut String) -> Result<(), AllocError>
     ensures { OnOk result (string_bytes text.new ≡ string_bytes text.old ++ id_or_dash id.now) }
 {
@@ -165,7 +165,7 @@ fn print_id(id: &ConnectionId, text: &mut String) -> Result<(), AllocError>
     Ok(())
 }
 
-/// The `error` line of a refusal.
+// The `error` line of a refusal.
 fn print_refusal(error: &PacketDecodeError, text: &mut String) -> Result<(), AllocError>
     ensures bytes { OnOk result (string_bytes text.new ≡ string_bytes text.old ++ shown (Error (refusal_text (refusal_of error.now)))) }
     ensures memory { OnOk result (refusal_of error.now ≢ NoMemory) }
@@ -177,7 +177,7 @@ fn print_refusal(error: &PacketDecodeError, text: &mut String) -> Result<(), All
     }
 }
 
-/// The `error` line of a version that is not supported.
+// The `error` line of a version that is not supported.
 fn print_unsupported(version: u32, text: &mut String) -> Result<(), AllocError>
     ensures { OnOk result (string_bytes text.new ≡ string_bytes text.old ++ shown (Error (codes "unsupported version " ++ digits 16 false version))) }
 {

@@ -17,8 +17,8 @@ use quic_frames::frame::{FrameType, InvalidFrame, Iter};
 use quic_frames::transport_error::Error;
 use std::alloc::AllocError;
 
-/// A line for each frame, and one for what is none, where it is told whether a type counts in its shortest
-/// spelling alone.
+// A line for each frame, and one for what is none, where it is told whether a type counts in its shortest
+// spelling alone.
 pub(super) fn print_frames<W: Sink>(
     strict: bool,
     payload: &[u8],
@@ -56,7 +56,7 @@ pub(super) fn print_frames<W: Sink>(
     Ok(true)
 }
 
-/// The frames of a payload.
+// The frames of a payload.
 fn frames_of(strict: bool, payload: &[u8]) -> Result<Iter<'_>, Error>
     ensures empty { IsErr result ↔ (payload.now ≡ []) }
     ensures refusal { IfErr result (λ e. IsError e protocol_violation (codes "packet payload is empty")) }
@@ -69,7 +69,7 @@ fn frames_of(strict: bool, payload: &[u8]) -> Result<Iter<'_>, Error>
     }
 }
 
-/// The line of a frame.
+// The line of a frame.
 fn print_frame(start: usize, end: usize, ty: FrameType, text: &mut String) -> Result<(), AllocError>
     ensures { OnOk result (string_bytes text.new ≡ string_bytes text.old ++ shown (frame_line start end ty)) }
 {
@@ -77,7 +77,7 @@ fn print_frame(start: usize, end: usize, ty: FrameType, text: &mut String) -> Re
     Ok(())
 }
 
-/// The `error` line of something that is no frame.
+// The `error` line of something that is no frame.
 pub(super) fn print_invalid(invalid: &InvalidFrame, text: &mut String) -> Result<(), AllocError>
     ensures { OnOk result (string_bytes text.new ≡ string_bytes text.old ++ shown (item_line (Broken (invalid_of invalid.now)))) }
 {

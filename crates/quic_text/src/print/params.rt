@@ -16,7 +16,7 @@ use quic_params::transport_parameters::{
 };
 use std::alloc::{AllocError, Global};
 
-/// A line for each parameter that differs from its default, and then `ok`; or why the list is refused.
+// A line for each parameter that differs from its default, and then `ok`; or why the list is refused.
 pub(super) fn print_params(
     alloc: Global,
     side: Side,
@@ -43,7 +43,7 @@ pub(super) fn print_params(
     }
 }
 
-/// The answer to a list.
+// The answer to a list.
 fn answer(side: Side, list: &[u8]) -> Result<TransportParameters, Error>
     ensures { result ≡ answer_at side list.now }
 {
@@ -58,7 +58,7 @@ fn are_bytes(bytes: &[u8])
     ensures { AreBytes bytes.now }
 {}
 
-/// A line for each parameter that differs from its default.
+// A line for each parameter that differs from its default.
 fn print_record(
     alloc: Global,
     params: &TransportParameters,
@@ -72,7 +72,7 @@ fn print_record(
     Ok(())
 }
 
-/// The line of a parameter, if it has one.
+// The line of a parameter, if it has one.
 fn print_parameter(
     alloc: Global,
     id: TransportParameterId,
@@ -88,7 +88,7 @@ fn print_parameter(
     print_value(alloc, &value, text)
 }
 
-/// The name of a parameter and a space.
+// The name of a parameter and a space.
 fn print_name(id: TransportParameterId, text: &mut String) -> Result<(), AllocError>
     ensures { OnOk result (string_bytes text.new ≡ string_bytes text.old ++ (name_of id ++ codes " ")) }
 {
@@ -97,7 +97,7 @@ fn print_name(id: TransportParameterId, text: &mut String) -> Result<(), AllocEr
     Ok(())
 }
 
-/// A value, and the end of its line.
+// A value, and the end of its line.
 fn print_value(alloc: Global, value: &Value, text: &mut String) -> Result<(), AllocError>
     ensures { OnOk result (string_bytes text.new ≡ string_bytes text.old ++ (value_text value.now ++ codes "\n")) }
 {
@@ -111,7 +111,7 @@ fn print_value(alloc: Global, value: &Value, text: &mut String) -> Result<(), Al
     Ok(())
 }
 
-/// Bytes in hexadecimal digits, `-` for none, and the end of the line.
+// Bytes in hexadecimal digits, `-` for none, and the end of the line.
 fn print_digits(alloc: Global, bytes: &[u8], text: &mut String) -> Result<(), AllocError>
     ensures { OnOk result (string_bytes text.new ≡ string_bytes text.old ++ (digits_of bytes.now ++ codes "\n")) }
 {
@@ -124,7 +124,7 @@ fn print_digits(alloc: Global, bytes: &[u8], text: &mut String) -> Result<(), Al
     Ok(())
 }
 
-/// The digits of a preferred address as it stands in a list, and the end of the line.
+// The digits of a preferred address as it stands in a list, and the end of the line.
 fn print_address(
     alloc: Global,
     address: &PreferredAddress,
@@ -140,7 +140,7 @@ fn print_address(
     print_digits(alloc, bytes.as_slice(), text)
 }
 
-/// The name that a parameter is printed by.
+// The name that a parameter is printed by.
 fn name_of(id: TransportParameterId) -> &'static str
     ensures { result.now ≡ name_of id }
 {

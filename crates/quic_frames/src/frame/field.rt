@@ -25,7 +25,7 @@ fn bytes_of(n: u64, bytes: &[u8]) -> Result<(&[u8], &[u8]), Fault>
 /// A number and that many bytes, and what follows them.
 #[inline]
 #[tactic(auto, unfolding(quic_frame_parts::specs::Reading::counted_at))]
-pub fn counted(bytes: &[u8]) -> Result<(&[u8], &[u8]), Fault>
+pub(super) fn counted(bytes: &[u8]) -> Result<(&[u8], &[u8]), Fault>
     ensures { Gives (λ x. (x.0.now, x.1.now)) result (counted_at bytes.now) }
 {
     let (n, rest) = varint(bytes)?;
@@ -34,7 +34,7 @@ pub fn counted(bytes: &[u8]) -> Result<(&[u8], &[u8]), Fault>
 
 /// The offset of a STREAM, 0 where it is left out, and what follows it.
 #[inline]
-pub fn offset(is_written: bool, bytes: &[u8]) -> Result<(u64, &[u8]), Fault>
+pub(super) fn offset(is_written: bool, bytes: &[u8]) -> Result<(u64, &[u8]), Fault>
     ensures { (before : List Value)
         → Gives (λ x. (Number x.0 ∷ [], x.1.now)) result (field_at (offset_field is_written) before bytes.now) }
 {
@@ -47,7 +47,7 @@ pub fn offset(is_written: bool, bytes: &[u8]) -> Result<(u64, &[u8]), Fault>
 
 /// The data of a STREAM or a DATAGRAM, all that is left where their length is left out, and what follows them.
 #[inline]
-pub fn data(is_counted: bool, bytes: &[u8]) -> Result<(&[u8], &[u8]), Fault>
+pub(super) fn data(is_counted: bool, bytes: &[u8]) -> Result<(&[u8], &[u8]), Fault>
     ensures { (before : List Value)
         → Gives (λ x. (Bytes x.0.now ∷ [], x.1.now)) result (field_at (data_field is_counted) before bytes.now) }
 {
@@ -60,7 +60,7 @@ pub fn data(is_counted: bool, bytes: &[u8]) -> Result<(&[u8], &[u8]), Fault>
 
 /// The bytes of a connection id behind its length, which is from 1 to 20, and what follows them.
 #[tactic(auto, unfolding(quic_frame_parts::specs::Reading::id_at))]
-pub fn connection_id(bytes: &[u8]) -> Result<(&[u8], &[u8]), Fault>
+pub(super) fn connection_id(bytes: &[u8]) -> Result<(&[u8], &[u8]), Fault>
     ensures gives { Gives (λ x. (x.0.now, x.1.now)) result (id_at bytes.now) }
     ensures short { IfOk result (λ x. length x.0.now ≤ 20) }
 {
@@ -74,7 +74,7 @@ pub fn connection_id(bytes: &[u8]) -> Result<(&[u8], &[u8]), Fault>
 }
 
 /// The sixteen bytes of a reset token, and what follows them.
-pub fn reset_token(bytes: &[u8]) -> Result<([u8; RESET_TOKEN_SIZE], &[u8]), Fault>
+pub(super) fn reset_token(bytes: &[u8]) -> Result<([u8; RESET_TOKEN_SIZE], &[u8]), Fault>
     ensures { Gives (λ x. (x.0, x.1.now)) result (bytes_at 16 bytes.now) }
 {
     let (token, rest) = bytes_of(RESET_TOKEN_SIZE as u64, bytes)?;
@@ -85,7 +85,7 @@ pub fn reset_token(bytes: &[u8]) -> Result<([u8; RESET_TOKEN_SIZE], &[u8]), Faul
 
 /// A number of eight bytes, the highest one first, and what follows it.
 #[tactic(auto, using(crate::proofs::Eights::eights))]
-pub fn eight(bytes: &[u8]) -> Result<(u64, &[u8]), Fault>
+pub(super) fn eight(bytes: &[u8]) -> Result<(u64, &[u8]), Fault>
     ensures { Gives (λ x. (x.0, x.1.now)) result (eight_at bytes.now) }
 {
     let mut rest = bytes;

@@ -12,7 +12,7 @@ use quic_frame_parts::frame::write;
 
 /// The frame at the front of some bytes.
 #[derive(Drop)]
-pub struct FirstFrame<'a> {
+pub(super) struct FirstFrame<'a> {
     /// The type that it has there.
     pub ty: FrameType,
     /// What it says.
@@ -23,7 +23,7 @@ pub struct FirstFrame<'a> {
 
 /// The frame at the front of bytes, where it is told whether a type counts in its shortest spelling alone,
 /// and the last type before them.
-pub fn read_found(
+pub(super) fn read_found(
     strict: bool,
     before: Option<FrameType>,
     bytes: &[u8],

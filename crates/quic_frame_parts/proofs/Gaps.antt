@@ -1,29 +1,39 @@
 -- Ranges of an ACK one after the other, as a loop reads them.
-use Rattle.std.proofs.Common.{◌≡◌, ℕ, suc, ◌-◌, ◌+◌, ◌≤◌, ◌<◌, List, Result, Ok, Err, refl, sym, ◌∙◌, arith}
+use Rattle.std.proofs.Common.{◌≡◌, ℕ, suc, ◌-◌, ◌+◌, ◌/◌, ◌%◌, ◌≤◌, ◌<◌, List, ◌∷◌, Result, Ok, Err, refl, sym, ◌∙◌, arith, rules, nat_lt, false}
+use Rattle.std.proofs.lemmas.Bool.Decides.{nat_tests}
+use Rattle.quic_base.specs.Reading.{number_at}
 use Rattle.quic_frame_parts.specs.declared.frame.fault.Fault.{Fault}
-use Rattle.quic_frame_parts.specs.Reading.{block_at, gap_at, below_at}
+use Rattle.quic_frame_parts.specs.Reading.{◌>>=◌, varint_at, block_at, gap_at, range_at, below_at}
 
-pub goes_on : (count i low high least : ℕ) (bytes after_gap after : List ℕ) (total : Result (List ℕ) Fault) → i < count → gap_at low bytes ≡ Ok (high, after_gap) → block_at high after_gap ≡ Ok (least, after)
+abbrev as_range : ℕ → ℕ × List ℕ → (ℕ × ℕ) × List ℕ
+as_range high block = ((block.0, high), block.1)
+
+after_gap : (count high : ℕ) (block : Result (ℕ × List ℕ) Fault)
+    → (block >>= λ b. below_at count b.0 b.1) ≡ ((block >>= λ b. Ok (as_range high b)) >>= λ r. below_at count r.0.0 r.1)
+after_gap count high (Ok b) = refl
+after_gap count high (Err e) = refl
+
+from_gap : (count : ℕ) (gap : Result (ℕ × List ℕ) Fault)
+    → (gap >>= λ g. block_at g.0 g.1 >>= λ b. below_at count b.0 b.1) ≡ ((gap >>= λ g. block_at g.0 g.1 >>= λ b. Ok (as_range g.0 b)) >>= λ r. below_at count r.0.0 r.1)
+from_gap count (Ok g) = after_gap count g.0 (block_at g.0 g.1)
+from_gap count (Err e) = refl
+
+-- ranges are read one by one
+by_range : (count low : ℕ) (bytes : List ℕ) → below_at (suc count) low bytes ≡ (range_at low bytes >>= λ r. below_at count r.0.0 r.1)
+unfolding below_at range_at
+by_range count low bytes = from_gap count (gap_at low bytes)
+
+pub goes_on : (count i low high least : ℕ) (bytes after : List ℕ) (total : Result (List ℕ) Fault) → i < count → range_at low bytes ≡ Ok ((least, high), after)
     → below_at (count - i) low bytes ≡ total → below_at (count - (i + 1)) least after ≡ total
-unfolding below_at
-goes_on count i low high least bytes after_gap after total lt g b so_far =
+goes_on count i low high least bytes after total lt r so_far =
     let k : count - i ≡ suc (count - (i + 1)) = omega arith in
-    let one : below_at (count - i) low bytes ≡ below_at (count - (i + 1)) least after = rw (k, g, b) refl in
+    let one : below_at (count - i) low bytes ≡ below_at (count - (i + 1)) least after = rw (k, by_range (count - (i + 1)) low bytes, r) refl in
     sym one ∙ so_far
 
-pub gap_ends : (count i low : ℕ) (bytes : List ℕ) (e : Fault) (total : Result (List ℕ) Fault) → i < count → gap_at low bytes ≡ Err e → below_at (count - i) low bytes ≡ total → total ≡ Err e
-unfolding below_at
-gap_ends count i low bytes e total lt g so_far =
+pub range_ends : (count i low : ℕ) (bytes : List ℕ) (e : Fault) (total : Result (List ℕ) Fault) → i < count → range_at low bytes ≡ Err e → below_at (count - i) low bytes ≡ total → total ≡ Err e
+range_ends count i low bytes e total lt r so_far =
     let k : count - i ≡ suc (count - (i + 1)) = omega arith in
-    let one : below_at (count - i) low bytes ≡ Err e = rw (k, g) refl in
-    sym so_far ∙ one
-
-pub block_ends : (count i low high : ℕ) (bytes after_gap : List ℕ) (e : Fault) (total : Result (List ℕ) Fault) → i < count → gap_at low bytes ≡ Ok (high, after_gap) → block_at high after_gap ≡ Err e
-    → below_at (count - i) low bytes ≡ total → total ≡ Err e
-unfolding below_at
-block_ends count i low high bytes after_gap e total lt g b so_far =
-    let k : count - i ≡ suc (count - (i + 1)) = omega arith in
-    let one : below_at (count - i) low bytes ≡ Err e = rw (k, g, b) refl in
+    let one : below_at (count - i) low bytes ≡ Err e = rw (k, by_range (count - (i + 1)) low bytes, r) refl in
     sym so_far ∙ one
 
 pub is_done : (count i low : ℕ) (bytes : List ℕ) (total : Result (List ℕ) Fault) → count ≤ i → below_at (count - i) low bytes ≡ total → total ≡ Ok bytes
@@ -32,3 +42,29 @@ is_done count i low bytes total le so_far =
     let k : count - i ≡ 0 = omega arith in
     let one : below_at (count - i) low bytes ≡ Ok bytes = rw k refl in
     sym so_far ∙ one
+
+one_at : (n : ℕ) (rest : List ℕ) → n < 64 → varint_at (n ∷ rest) ≡ Ok (n, rest)
+unfolding varint_at number_at
+one_at n rest lt =
+    let q : n / 64 ≡ 0 = omega arith in
+    let r : n % 64 ≡ n = omega arith in
+    rw (q, r) search rules
+
+-- a block and a gap of one byte each
+pub short_block : (greatest n : ℕ) (rest : List ℕ) → n < 64 → n ≤ greatest → block_at greatest (n ∷ rest) ≡ Ok (greatest - n, rest)
+unfolding block_at
+short_block greatest n rest lt le =
+    let no : nat_lt greatest n ≡ false = grind (arith, nat_tests) in
+    rw (one_at n rest lt, no) refl
+
+pub short_gap : (low n : ℕ) (rest : List ℕ) → n < 64 → n + 2 ≤ low → gap_at low (n ∷ rest) ≡ Ok (low - (n + 2), rest)
+unfolding gap_at
+short_gap low n rest lt le =
+    let no : nat_lt low (n + 2) ≡ false = grind (arith, nat_tests) in
+    rw (one_at n rest lt, no) refl
+
+pub short_range : (low n m : ℕ) (rest : List ℕ) → n < 64 → m < 64 → n + 2 + m ≤ low → range_at low (n ∷ m ∷ rest) ≡ Ok ((low - (n + 2 + m), low - (n + 2)), rest)
+unfolding range_at
+short_range low n m rest one two le =
+    let k : low - (n + 2) - m ≡ low - (n + 2 + m) = omega arith in
+    rw (short_gap low n (m ∷ rest) one (omega arith), short_block (low - (n + 2)) m rest two (omega arith), k) refl

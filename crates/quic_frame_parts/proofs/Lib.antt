@@ -10,3 +10,4 @@ pub mod Spelled
 pub mod Sets
 pub mod AckParts
 pub mod Held
+mod ShortBlocks

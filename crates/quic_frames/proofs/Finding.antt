@@ -1,14 +1,18 @@
 -- What a decoder takes of a type, and what reading finds.
-use Rattle.std.proofs.Common.{◌≡◌, ℕ, ◌-◌, Bool, true, false, List, length, Option, Ok, Err, Some, refl}
+use Rattle.std.proofs.Common.{rules, ◌≡◌, ℕ, suc, ◌∷◌, ◌-◌, Bool, true, false, List, length, Option, Ok, Err, Some, refl}
 use Rattle.quic_base.specs.Number.{AreBytes}
 use Rattle.quic_base.specs.Codec.{Takes}
-use Rattle.quic_base.specs.Varint.{Spells}
+use Rattle.quic_base.specs.Varint.{Spells, size}
 use Rattle.quic_frame_parts.specs.declared.frame.fault.Fault.{Fault}
 use Rattle.quic_frame_parts.specs.declared.frame.fault.Fault.TheVariants.{UnexpectedEnd, LongType}
 use Rattle.quic_frame_parts.specs.Field.{LacksNumber}
 use Rattle.quic_frame_parts.specs.Payload.{Meaning}
 use Rattle.quic_frame_parts.specs.Reading.{frame_at, invalid, is_long_type, found_at}
+use Rattle.quic_base.specs.Reading.{number_at}
+use Rattle.quic_frame_parts.specs.Reading.{row_at, varint_at}
 use Rattle.quic_frame_parts.proofs.Varints.{varint_read, varint_cut}
+use Rattle.quic_frames.specs.Meaning.{meaning_of}
+use Rattle.quic_frames.specs.declared.frame.Frame.TheVariants as frames
 
 -- a type that was taken, and a frame that follows it
 pub found_whole : (strict : Bool) (before : Option ℕ) (t : ℕ) (bytes rest : List ℕ) (frame : Meaning) (left : List ℕ) → Takes (Spells t) bytes rest → is_long_type strict t (length bytes - length rest) ≡ false → frame_at t rest ≡ Ok (frame, left)
@@ -32,3 +36,21 @@ found_long strict before t bytes rest taken wide = rw (varint_read t bytes rest 
 pub found_cut : (strict : Bool) (before : Option ℕ) (bytes : List ℕ) → AreBytes bytes → LacksNumber bytes → found_at strict before bytes ≡ Err (invalid before UnexpectedEnd)
 unfolding found_at
 found_cut strict before bytes fits none = rw (varint_cut bytes fits none) refl
+
+zero_at : (rest : List ℕ) → number_at (0 ∷ rest) ≡ Some (0, rest)
+unfolding number_at
+zero_at rest = search rules
+
+one_more : (n : ℕ) → suc n - n ≡ 1
+one_more n = search rules
+
+one_is_short : (strict : Bool) → is_long_type strict 0 1 ≡ false
+unfolding size
+one_is_short true = refl
+one_is_short false = refl
+
+-- a byte of PADDING
+pub found_padding : (strict : Bool) (before : Option ℕ) (bytes rest : List ℕ) → bytes ≡ 0 ∷ rest
+    → found_at strict before bytes ≡ Ok (record { type = 0; frame = meaning_of frames.Padding }, rest)
+unfolding found_at frame_at row_at varint_at
+found_padding strict before bytes rest front = rw (front, zero_at rest, one_more (length rest), one_is_short strict) refl

@@ -1,7 +1,7 @@
 //! Numbers, and the blocks of an ACK, read from the front of a slice.
-ghost use Rattle.std.specs.Prelude.{◌≡◌, ◌<◌, ◌≤◌, ◌^◌, List, ℕ, [], ◌∷◌, length, IfErr, IfOk, Ok, OnOk, ◌⊎◌};
+ghost use Rattle.std.specs.Prelude.{◌≡◌, ◌<◌, ◌≤◌, ◌^◌, List, ℕ, [], ◌∷◌, length, IfErr, IfOk, IfSome, Ok, OnOk, ◌⊎◌};
 ghost use Rattle.quic_base.specs.Number.{AreBytes};
-ghost use Rattle.quic_frame_parts.specs.Reading.{Gives, varint_at, block_at, gap_at, below_at, after_blocks, blocks_at, blocks_left, ranges_of, IsBlocks};
+ghost use Rattle.quic_frame_parts.specs.Reading.{Gives, varint_at, block_at, gap_at, below_at, range_at, after_blocks, blocks_at, blocks_left, ranges_of, IsBlocks};
 ghost use Rattle.quic_frame_parts.specs.Refusal.{AreNoBlocks};
 
 use super::fault::Fault;
@@ -50,15 +50,58 @@ fn gap(low: u64, bytes: &[u8]) -> Result<(u64, &[u8]), Fault>
     Ok((low - 2 - n, rest))
 }
 
-// What follows so many ranges below `low`. Each of them takes bytes, so a count beyond those ends soon.
+// The two numbers at the front, where each has one byte, and what follows them: most blocks and gaps of an ACK.
+#[inline(always)]
+fn two_short(bytes: &[u8]) -> Option<(u64, u64, &[u8])>
+    ensures { IfSome result (λ x. (bytes.now ≡ x.0 ∷ x.1 ∷ x.2.now) × (x.0 < 64) × (x.1 < 64)) }
+{
+    let (first, rest) = bytes.split_first()?;
+    let (second, rest) = rest.split_first()?;
+    if *first < 64 && *second < 64 {
+        Some((u64::from(*first), u64::from(*second), rest))
+    } else {
+        None
+    }
+}
+
+// The range at the front, its least and its greatest number, below a range that begins at `low`, and what follows it.
+#[inline(always)]
+#[tactic(auto, unfolding(crate::specs::Reading::range_at))]
+fn range(low: u64, bytes: &[u8]) -> Result<(u64, u64, &[u8]), Fault>
+    ensures { Gives (λ x. ((x.0, x.1), x.2.now)) result (range_at low bytes.now) }
+{
+    if let Some((between, length, rest)) = two_short(bytes) {
+        let all = between + 2 + length;
+        if all <= low {
+            return Ok((low - all, low - (between + 2), rest));
+        }
+    }
+    let (greatest, rest) = gap(low, bytes)?;
+    let (least, rest) = block(greatest, rest)?;
+    Ok((least, greatest, rest))
+}
+
+// What follows so many ranges below `low`: most ACKs have none.
+#[inline(always)]
+#[tactic(auto, unfolding(crate::specs::Reading::below_at))]
 fn below(count: u64, low: u64, bytes: &[u8]) -> Result<&[u8], Fault>
+    ensures { Gives (λ x. x.now) result (below_at count low bytes.now) }
+{
+    if count == 0 {
+        Ok(bytes)
+    } else {
+        each_below(count, low, bytes)
+    }
+}
+
+// The same, range by range. Each of them takes bytes, so a count beyond those ends soon.
+fn each_below(count: u64, low: u64, bytes: &[u8]) -> Result<&[u8], Fault>
     ensures { Gives (λ x. x.now) result (below_at count low bytes.now) }
 {
     let mut low = low;
     let mut rest = bytes;
     for _ in 0..count {
-        let (greatest, after_gap) = gap(low, rest)?;
-        let (least, after) = block(greatest, after_gap)?;
+        let (least, _, after) = range(low, rest)?;
         low = least;
         rest = after;
     }
@@ -67,6 +110,7 @@ fn below(count: u64, low: u64, bytes: &[u8]) -> Result<&[u8], Fault>
 
 /// The ranges of an ACK: the bytes of their blocks and gaps, behind the count of those below the first;
 /// and what follows them.
+#[inline(always)]
 #[tactic(auto, unfolding(crate::specs::Reading::blocks_at, crate::specs::Reading::after_blocks))]
 pub fn blocks(greatest: u64, bytes: &[u8]) -> Result<(&[u8], &[u8]), Fault>
     ensures gives { Gives (λ x. (x.0.now, x.1.now)) result (blocks_at greatest bytes.now) }
@@ -95,7 +139,24 @@ pub(super) fn all_blocks(greatest: u64, bytes: &[u8]) -> Result<(), Fault>
 
 // The least number of the first range of blocks, the greatest of the next one, and the blocks of
 // that one and those below it, where there are any.
+#[inline(always)]
 pub(super) fn first_range(greatest: u64, blocks: &[u8]) -> (u64, u64, &[u8])
+    requires some { 0 < length blocks.now }
+    requires valid { blocks_left greatest blocks.now ≡ Ok [] }
+    ensures first { ranges_of greatest blocks.now ≡ (result.0, greatest) ∷ ranges_of result.1 result.2.now }
+    ensures valid { blocks_left result.1 result.2.now ≡ Ok [] }
+{
+    if let Some((length, between, rest)) = two_short(blocks) {
+        let all = length + (between + 2);
+        if all <= greatest {
+            return (greatest - length, greatest - all, rest);
+        }
+    }
+    wide_range(greatest, blocks)
+}
+
+// The same, whatever widths the numbers have.
+fn wide_range(greatest: u64, blocks: &[u8]) -> (u64, u64, &[u8])
     requires some { 0 < length blocks.now }
     requires valid { blocks_left greatest blocks.now ≡ Ok [] }
     ensures first { ranges_of greatest blocks.now ≡ (result.0, greatest) ∷ ranges_of result.1 result.2.now }

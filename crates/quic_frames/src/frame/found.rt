@@ -23,6 +23,7 @@ pub(super) struct FirstFrame<'a> {
 
 /// The frame at the front of bytes, where it is told whether a type counts in its shortest spelling alone,
 /// and the last type before them.
+#[inline(always)]
 pub(super) fn read_found(
     strict: bool,
     before: Option<FrameType>,
@@ -31,6 +32,15 @@ pub(super) fn read_found(
     ensures gives { GivesFound result (found_at strict before bytes.now) }
     ensures bytes { AreBytes bytes.now }
 {
+    if let Some((first, rest)) = bytes.split_first() {
+        if *first == 0 {
+            return Ok(FirstFrame {
+                ty: FrameType::PADDING,
+                frame: Frame::Padding,
+                rest,
+            });
+        }
+    }
     let mut rest = bytes;
     let Ok(ty) = FrameType::decode(&mut rest) else {
         return Err(InvalidFrame {

@@ -110,6 +110,7 @@ impl<'a> Iterator for Iter<'a> {
 
     ghost remaining = { item_count left };
 
+    #[inline(always)]
     fn next(&mut self) -> Option<Result<Frame<'a>, InvalidFrame>> {
         let rest = &self.payload[self.offset..];
         if self.is_broken || rest.is_empty() {

@@ -15,6 +15,7 @@ use quic_frame_parts::frame::fault::Fault;
 use quic_frame_parts::frame::field::{blocks, varint};
 
 #[tactic(auto, unfolding(quic_frame_parts::specs::Reading::row_at))]
+#[inline(always)]
 fn read_ack(bytes: &[u8]) -> Result<(Frame<'_>, &[u8]), Fault>
     ensures { GivesFrame (λ rest. rest.now) result (row_at table.ack_row bytes.now) }
 {
@@ -26,6 +27,7 @@ fn read_ack(bytes: &[u8]) -> Result<(Frame<'_>, &[u8]), Fault>
 }
 
 #[tactic(auto, unfolding(quic_frame_parts::specs::Reading::row_at))]
+#[inline(always)]
 fn read_ack_ecn(bytes: &[u8]) -> Result<(Frame<'_>, &[u8]), Fault>
     ensures { GivesFrame (λ rest. rest.now) result (row_at table.ack_ecn_row bytes.now) }
 {
@@ -41,6 +43,7 @@ fn read_ack_ecn(bytes: &[u8]) -> Result<(Frame<'_>, &[u8]), Fault>
 }
 
 #[tactic(auto, unfolding(quic_frame_parts::specs::Reading::row_at))]
+#[inline(always)]
 fn read_reset_stream(bytes: &[u8]) -> Result<(Frame<'_>, &[u8]), Fault>
     ensures { GivesFrame (λ rest. rest.now) result (row_at table.reset_stream_row bytes.now) }
 {
@@ -56,6 +59,7 @@ fn read_reset_stream(bytes: &[u8]) -> Result<(Frame<'_>, &[u8]), Fault>
 }
 
 #[tactic(auto, unfolding(quic_frame_parts::specs::Reading::row_at))]
+#[inline(always)]
 fn read_stop_sending(bytes: &[u8]) -> Result<(Frame<'_>, &[u8]), Fault>
     ensures { GivesFrame (λ rest. rest.now) result (row_at table.stop_sending_row bytes.now) }
 {
@@ -69,6 +73,7 @@ fn read_stop_sending(bytes: &[u8]) -> Result<(Frame<'_>, &[u8]), Fault>
 }
 
 #[tactic(auto, unfolding(quic_frame_parts::specs::Reading::row_at))]
+#[inline(always)]
 fn read_crypto(bytes: &[u8]) -> Result<(Frame<'_>, &[u8]), Fault>
     ensures { GivesFrame (λ rest. rest.now) result (row_at table.crypto_row bytes.now) }
 {
@@ -78,6 +83,7 @@ fn read_crypto(bytes: &[u8]) -> Result<(Frame<'_>, &[u8]), Fault>
 }
 
 #[tactic(auto, unfolding(quic_frame_parts::specs::Reading::row_at))]
+#[inline(always)]
 fn read_new_token(bytes: &[u8]) -> Result<(Frame<'_>, &[u8]), Fault>
     ensures { GivesFrame (λ rest. rest.now) result (row_at table.new_token_row bytes.now) }
 {
@@ -86,6 +92,7 @@ fn read_new_token(bytes: &[u8]) -> Result<(Frame<'_>, &[u8]), Fault>
 }
 
 #[tactic(auto, unfolding(quic_frame_parts::specs::Reading::row_at))]
+#[inline(always)]
 fn read_stream(
     has_offset: bool,
     has_length: bool,
@@ -107,6 +114,7 @@ fn read_stream(
 }
 
 #[tactic(auto, unfolding(quic_frame_parts::specs::Reading::row_at))]
+#[inline(always)]
 fn read_max_data(bytes: &[u8]) -> Result<(Frame<'_>, &[u8]), Fault>
     ensures { GivesFrame (λ rest. rest.now) result (row_at (table.number_row table.MaxData) bytes.now) }
 {
@@ -115,6 +123,7 @@ fn read_max_data(bytes: &[u8]) -> Result<(Frame<'_>, &[u8]), Fault>
 }
 
 #[tactic(auto, unfolding(quic_frame_parts::specs::Reading::row_at))]
+#[inline(always)]
 fn read_max_stream_data(bytes: &[u8]) -> Result<(Frame<'_>, &[u8]), Fault>
     ensures { GivesFrame (λ rest. rest.now) result (row_at table.max_stream_data_row bytes.now) }
 {
@@ -125,6 +134,7 @@ fn read_max_stream_data(bytes: &[u8]) -> Result<(Frame<'_>, &[u8]), Fault>
 }
 
 #[tactic(auto, unfolding(quic_frame_parts::specs::Reading::row_at))]
+#[inline(always)]
 fn read_max_streams(dir: Dir, bytes: &[u8]) -> Result<(Frame<'_>, &[u8]), Fault>
     ensures { GivesFrame (λ rest. rest.now) result (row_at (table.max_streams_row dir) bytes.now) }
 {
@@ -133,6 +143,7 @@ fn read_max_streams(dir: Dir, bytes: &[u8]) -> Result<(Frame<'_>, &[u8]), Fault>
 }
 
 #[tactic(auto, unfolding(quic_frame_parts::specs::Reading::row_at))]
+#[inline(always)]
 fn read_data_blocked(bytes: &[u8]) -> Result<(Frame<'_>, &[u8]), Fault>
     ensures { GivesFrame (λ rest. rest.now) result (row_at (table.number_row table.DataBlocked) bytes.now) }
 {
@@ -141,6 +152,7 @@ fn read_data_blocked(bytes: &[u8]) -> Result<(Frame<'_>, &[u8]), Fault>
 }
 
 #[tactic(auto, unfolding(quic_frame_parts::specs::Reading::row_at))]
+#[inline(always)]
 fn read_stream_data_blocked(bytes: &[u8]) -> Result<(Frame<'_>, &[u8]), Fault>
     ensures { GivesFrame (λ rest. rest.now) result (row_at table.stream_data_blocked_row bytes.now) }
 {
@@ -151,6 +163,7 @@ fn read_stream_data_blocked(bytes: &[u8]) -> Result<(Frame<'_>, &[u8]), Fault>
 }
 
 #[tactic(auto, unfolding(quic_frame_parts::specs::Reading::row_at))]
+#[inline(always)]
 fn read_streams_blocked(dir: Dir, bytes: &[u8]) -> Result<(Frame<'_>, &[u8]), Fault>
     ensures { GivesFrame (λ rest. rest.now) result (row_at (table.streams_blocked_row dir) bytes.now) }
 {
@@ -159,6 +172,7 @@ fn read_streams_blocked(dir: Dir, bytes: &[u8]) -> Result<(Frame<'_>, &[u8]), Fa
 }
 
 #[tactic(auto, unfolding(quic_frame_parts::specs::Reading::row_at))]
+#[inline(always)]
 fn read_new_connection_id(bytes: &[u8]) -> Result<(Frame<'_>, &[u8]), Fault>
     ensures { GivesFrame (λ rest. rest.now) result (row_at table.new_connection_id_row bytes.now) }
 {
@@ -179,6 +193,7 @@ fn read_new_connection_id(bytes: &[u8]) -> Result<(Frame<'_>, &[u8]), Fault>
 }
 
 #[tactic(auto, unfolding(quic_frame_parts::specs::Reading::row_at))]
+#[inline(always)]
 fn read_retire_connection_id(bytes: &[u8]) -> Result<(Frame<'_>, &[u8]), Fault>
     ensures { GivesFrame (λ rest. rest.now) result (row_at (table.number_row table.RetireConnectionId) bytes.now) }
 {
@@ -187,6 +202,7 @@ fn read_retire_connection_id(bytes: &[u8]) -> Result<(Frame<'_>, &[u8]), Fault>
 }
 
 #[tactic(auto, unfolding(quic_frame_parts::specs::Reading::row_at))]
+#[inline(always)]
 fn read_path_challenge(bytes: &[u8]) -> Result<(Frame<'_>, &[u8]), Fault>
     ensures { GivesFrame (λ rest. rest.now) result (row_at (table.path_row table.PathChallenge) bytes.now) }
 {
@@ -195,6 +211,7 @@ fn read_path_challenge(bytes: &[u8]) -> Result<(Frame<'_>, &[u8]), Fault>
 }
 
 #[tactic(auto, unfolding(quic_frame_parts::specs::Reading::row_at))]
+#[inline(always)]
 fn read_path_response(bytes: &[u8]) -> Result<(Frame<'_>, &[u8]), Fault>
     ensures { GivesFrame (λ rest. rest.now) result (row_at (table.path_row table.PathResponse) bytes.now) }
 {
@@ -203,6 +220,7 @@ fn read_path_response(bytes: &[u8]) -> Result<(Frame<'_>, &[u8]), Fault>
 }
 
 #[tactic(auto, unfolding(quic_frame_parts::specs::Reading::row_at))]
+#[inline(always)]
 fn read_connection_close(bytes: &[u8]) -> Result<(Frame<'_>, &[u8]), Fault>
     ensures { GivesFrame (λ rest. rest.now) result (row_at table.connection_close_row bytes.now) }
 {
@@ -218,6 +236,7 @@ fn read_connection_close(bytes: &[u8]) -> Result<(Frame<'_>, &[u8]), Fault>
 }
 
 #[tactic(auto, unfolding(quic_frame_parts::specs::Reading::row_at))]
+#[inline(always)]
 fn read_application_close(bytes: &[u8]) -> Result<(Frame<'_>, &[u8]), Fault>
     ensures { GivesFrame (λ rest. rest.now) result (row_at table.application_close_row bytes.now) }
 {
@@ -231,6 +250,7 @@ fn read_application_close(bytes: &[u8]) -> Result<(Frame<'_>, &[u8]), Fault>
 }
 
 #[tactic(auto, unfolding(quic_frame_parts::specs::Reading::row_at))]
+#[inline(always)]
 fn read_datagram(has_length: bool, bytes: &[u8]) -> Result<(Frame<'_>, &[u8]), Fault>
     ensures { GivesFrame (λ rest. rest.now) result (row_at (table.datagram_row has_length) bytes.now) }
 {
@@ -239,6 +259,7 @@ fn read_datagram(has_length: bool, bytes: &[u8]) -> Result<(Frame<'_>, &[u8]), F
 }
 
 #[tactic(auto, unfolding(quic_frame_parts::specs::Reading::row_at))]
+#[inline(always)]
 fn read_ack_frequency(bytes: &[u8]) -> Result<(Frame<'_>, &[u8]), Fault>
     ensures { GivesFrame (λ rest. rest.now) result (row_at table.ack_frequency_row bytes.now) }
 {
@@ -257,6 +278,7 @@ fn read_ack_frequency(bytes: &[u8]) -> Result<(Frame<'_>, &[u8]), Fault>
 
 /// The frame of this type whose fields begin here, and what follows it.
 #[tactic(auto, unfolding(quic_frame_parts::specs::Reading::frame_at, quic_frame_parts::specs::Reading::row_at))]
+#[inline(always)]
 pub(super) fn read_frame(ty: u64, bytes: &[u8]) -> Result<(Frame<'_>, &[u8]), Fault>
     ensures { GivesFrame (λ rest. rest.now) result (frame_at ty bytes.now) }
 {

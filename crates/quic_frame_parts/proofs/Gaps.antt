@@ -43,7 +43,7 @@ is_done count i low bytes total le so_far =
     let one : below_at (count - i) low bytes ≡ Ok bytes = rw k refl in
     sym so_far ∙ one
 
-one_at : (n : ℕ) (rest : List ℕ) → n < 64 → varint_at (n ∷ rest) ≡ Ok (n, rest)
+pub one_at : (n : ℕ) (rest : List ℕ) → n < 64 → varint_at (n ∷ rest) ≡ Ok (n, rest)
 unfolding varint_at number_at
 one_at n rest lt =
     let q : n / 64 ≡ 0 = omega arith in

@@ -22,14 +22,29 @@ pub fn varint(bytes: &[u8]) -> Result<(u64, &[u8]), Fault>
     }
 }
 
+/// The same, made for numbers of which most have one byte.
+#[inline(always)]
+#[tactic(auto, using(crate::proofs::Gaps::one_at))]
+pub fn small_varint(bytes: &[u8]) -> Result<(u64, &[u8]), Fault>
+    ensures gives { Gives (λ x. (x.0, x.1.now)) result (varint_at bytes.now) }
+    ensures bound { IfOk result (λ x. x.0 < 2 ^ 62) }
+{
+    if let Some((first, rest)) = bytes.split_first() {
+        if *first < 64 {
+            return Ok((u64::from(*first), rest));
+        }
+    }
+    varint(bytes)
+}
+
 // The least number of a block of an ACK that ends at `greatest`, and what follows the block.
-#[inline]
+#[inline(always)]
 #[tactic(auto, unfolding(crate::specs::Reading::block_at))]
 fn block(greatest: u64, bytes: &[u8]) -> Result<(u64, &[u8]), Fault>
     ensures gives { Gives (λ x. (x.0, x.1.now)) result (block_at greatest bytes.now) }
     ensures bytes { AreBytes bytes.now }
 {
-    let (n, rest) = varint(bytes)?;
+    let (n, rest) = small_varint(bytes)?;
     if n > greatest {
         return Err(Fault::Malformed);
     }
@@ -116,7 +131,7 @@ pub fn blocks(greatest: u64, bytes: &[u8]) -> Result<(&[u8], &[u8]), Fault>
     ensures gives { Gives (λ x. (x.0.now, x.1.now)) result (blocks_at greatest bytes.now) }
     ensures valid { IfOk result (λ x. IsBlocks greatest x.0.now) }
 {
-    let (count, bytes) = varint(bytes)?;
+    let (count, bytes) = small_varint(bytes)?;
     let (low, rest) = block(greatest, bytes)?;
     let rest = below(count, low, rest)?;
     Ok(bytes.split_at(bytes.len() - rest.len()))

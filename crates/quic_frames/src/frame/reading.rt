@@ -12,7 +12,7 @@ use crate::transport_error::Code;
 use quic_base::ids::{ConnectionId, Dir, ResetToken, StreamId};
 use quic_base::varint::VarInt;
 use quic_frame_parts::frame::fault::Fault;
-use quic_frame_parts::frame::field::{blocks, varint};
+use quic_frame_parts::frame::field::{blocks, small_varint, varint};
 
 #[tactic(auto, unfolding(quic_frame_parts::specs::Reading::row_at))]
 #[inline(always)]
@@ -34,9 +34,9 @@ fn read_ack_ecn(bytes: &[u8]) -> Result<(Frame<'_>, &[u8]), Fault>
     let (largest, rest) = varint(bytes)?;
     let (delay, rest) = varint(rest)?;
     let (blocks, rest) = blocks(largest, rest)?;
-    let (ect0, rest) = varint(rest)?;
-    let (ect1, rest) = varint(rest)?;
-    let (ce, rest) = varint(rest)?;
+    let (ect0, rest) = small_varint(rest)?;
+    let (ect1, rest) = small_varint(rest)?;
+    let (ce, rest) = small_varint(rest)?;
     let ecn = EcnCounts { ect0, ect1, ce };
     let ack = Ack::of_blocks(largest, delay, blocks, Some(ecn));
     Ok((Frame::Ack(ack), rest))

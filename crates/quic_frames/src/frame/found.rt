@@ -32,6 +32,7 @@ pub(super) fn read_found(
     ensures gives { GivesFound result (found_at strict before bytes.now) }
     ensures bytes { AreBytes bytes.now }
 {
+    // A run of PADDING is a frame for each byte, so that is looked for first.
     if let Some((first, rest)) = bytes.split_first() {
         if *first == 0 {
             return Ok(FirstFrame {

@@ -1,4 +1,3 @@
-use Rattle.std.proofs.Common.{refl}
 use Rattle.quic_frame_parts.proofs.Gaps.{short_range}
 use Rattle.quic_frame_parts.proofs.frame.field.range.Goals as goal
 

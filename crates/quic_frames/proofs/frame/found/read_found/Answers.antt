@@ -1,4 +1,4 @@
-use Rattle.std.proofs.Common.{rules, refl, sym, ◌≡◌, ◌∙◌, ◌∷◌}
+use Rattle.std.proofs.Common.{rules, sym, ◌≡◌, ◌∙◌, ◌∷◌}
 use Rattle.quic_frames.specs.Meaning.{meaning_of}
 use Rattle.quic_frames.proofs.Finding.{found_whole, found_none, found_cut, found_long, found_padding}
 use Rattle.quic_frames.proofs.frame.found.read_found.Goals as goal

@@ -1,5 +1,5 @@
 //! How values are read from the front of a buffer and written to its end.
-ghost use Rattle.std.specs.Prelude.{◌≡◌, ◌<◌, ◌≤◌, ◌^◌, ◌++◌, List, ℕ, drop, length, slice_index, IfOk, IfSome, IsNone, OnErr, OnOk};
+ghost use Rattle.std.specs.Prelude.{◌≡◌, ◌<◌, ◌≤◌, ◌+◌, ◌^◌, ◌++◌, List, ℕ, take, drop, length, slice_index, IfOk, IfSome, IsNone, OnErr, OnOk};
 ghost use Rattle.std.specs.Net.Addr.{ipv4_octets, ipv6_octets};
 ghost use Rattle.quic_base.specs.Codec.{Takes, NoFront, IsBegun, KeepsRoom};
 ghost use Rattle.quic_base.specs.Number.{AreBytes, IsNumber, IsOctets, bytes_of};
@@ -105,6 +105,19 @@ pub fn get_array<B: Buf, const N: usize>(buf: &mut B) -> Result<[u8; N]>
     buf.copy_to_slice(&mut bytes);
     are_bytes(&bytes);
     Ok(bytes)
+}
+
+/// Lays an array over the bytes at a place, and answers where it ends. The caller must ensure that there are as
+/// many bytes. What stands behind the array may have changed.
+#[inline(always)]
+pub fn lay_array<const N: usize>(bytes: &mut [u8], at: usize, array: [u8; N]) -> usize
+    requires { at + N ≤ length bytes.old }
+    ensures end { result ≡ at + N }
+    ensures front { take result bytes.new ≡ take at bytes.old ++ array.entry }
+    ensures len { length bytes.new ≡ length bytes.old }
+{
+    bytes[at..at + N].copy_from_slice(&array);
+    at + N
 }
 
 /// One byte.

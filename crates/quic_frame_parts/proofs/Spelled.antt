@@ -148,6 +148,20 @@ longer_at ns i total more lt more_is e =
     let parts : all_short (take (i + 1) ns) ≡ all_short (take i ns) ++ short (get_or ns i 0) = ap (λ (k : ℕ). all_short (take k ns)) next ∙ all_short-at ns i lt in
     omega (arith, e, more_is, ap length parts, length-append (all_short (take i ns)) (short (get_or ns i 0)), length-short (get_or ns i 0))
 
+-- bytes that are as long as the shortest spellings are these
+pub short_already : (ns bytes : List ℕ) → AreSpelled ns bytes → (length (all_short ns) ≤ length bytes) × (length bytes ≡ length (all_short ns) → bytes ≡ all_short ns)
+short_already [] bytes s = (omega (arith, ap length s), λ _. s)
+short_already (n ∷ ns) bytes s =
+    let first = short_least n s.0 s.3 in
+    let others = short_already ns s.1 s.4 in
+    let parts : length bytes ≡ length s.0 + length s.1 = ap length s.2 ∙ length-append s.0 s.1 in
+    let wanted : length (all_short (n ∷ ns)) ≡ length (short n) + length (all_short ns) = length-append (short n) (all_short ns) in (
+      omega (arith, first.0, others.0, parts, wanted),
+      λ same.
+          s.2 ∙ ap (λ (l : List ℕ). l ++ s.1) (first.1 (omega (arith, same, parts, wanted, first.0, others.0)))
+          ∙ ap (λ (l : List ℕ). short n ++ l) (others.1 (omega (arith, same, parts, wanted, first.0, others.0))),
+    )
+
 -- They were written.
 abbrev pub WroteThem : List ℕ → ℕ → List ℕ → ℕ → List ℕ → Type 0
 WroteThem w s w' s' ns = Wrote (all_short ns) w s w' s'

@@ -11,6 +11,7 @@ ghost use Rattle.quic_headers.specs.Writing.{header_size, header_bytes, IsWritab
 use crate::encode::append;
 use crate::header::Header;
 use crate::long_type::LongHeaderType;
+use quic_base::coding::lay_array;
 use quic_base::ids::{ConnectionId, MAX_CID_SIZE};
 use quic_crypto::packet_number::PacketNumber;
 
@@ -25,18 +26,6 @@ pub(crate) const SHORT_ROOM: usize = 32;
 
 // Half of the longest token that is laid, by its first and its last bytes.
 const TOKEN_END: usize = 16;
-
-// Lays an array at a place, and answers where it ends.
-#[inline(always)]
-fn lay_array<const N: usize>(head: &mut [u8], at: usize, bytes: [u8; N]) -> usize
-    requires { at + N ≤ length head.old }
-    ensures end { result ≡ at + N }
-    ensures front { take result head.new ≡ take at head.old ++ bytes.entry }
-    ensures len { length head.new ≡ length head.old }
-{
-    head[at..at + N].copy_from_slice(&bytes);
-    at + N
-}
 
 // Lays an id at a place, with what makes it 20 bytes, and answers where the id ends.
 #[inline(always)]

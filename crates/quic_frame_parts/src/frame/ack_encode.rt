@@ -111,6 +111,7 @@ fn encode_below<B: BufMut>(above: Range<u64>, runs: Iter<'_>, out: &mut B) -> Re
 }
 
 // Appends the counts, where they are given.
+#[inline(always)]
 fn encode_counts<B: BufMut>(ecn: Option<EcnCounts>, out: &mut B) -> Result<(), NoRoom>
     requires { AreCounts ecn }
     ensures { Writes result (all_short (count_numbers ecn))
@@ -151,9 +152,9 @@ pub fn encode_ack<B: BufMut>(ack: &Ack<'_>, out: &mut B) -> Result<(), NoRoom>
     ensures { (last : Bool) → Writes result (shortest_frame last (ack_meaning ack.now))
         (B.written out.old) (B.spare out.old) (B.written out.new) (B.spare out.new) }
 {
-    let (numbers, _) = write::count_and_len(ack.additional());
+    let (numbers, blocks) = write::count_and_len(ack.additional());
     write::numbers(out, &head_of(ack, numbers))?;
-    write::shortened(out, ack.additional())?;
+    write::shortened(out, ack.additional(), blocks)?;
     encode_counts(ack.ecn(), out)
 }
 

@@ -1,27 +1,69 @@
 //! Numbers and bytes, appended to a buffer.
-ghost use Rattle.std.specs.Prelude.{◌≡◌, ◌<◌, ◌≤◌, ◌+◌, ◌*◌, ◌^◌, ◌++◌, ℕ, List, length, get_or, IsOk, OnOk, OnErr, vec_len, vec_capacity};
+ghost use Rattle.std.specs.Prelude.{◌≡◌, ◌<◌, ◌≤◌, ◌+◌, ◌*◌, ◌^◌, ◌++◌, ℕ, List, take, length, get_or, IsOk, OnOk, OnErr, vec_len, vec_capacity};
 ghost use Rattle.quic_base.specs.ConnectionId.{long_id};
-ghost use Rattle.quic_base.specs.Varint.{size};
+ghost use Rattle.quic_base.specs.Varint.{short, size};
 ghost use Rattle.quic_base.specs.Number.{AreBytes};
 ghost use Rattle.quic_base.specs.Writing.{Writes};
 ghost use Rattle.quic_frame_parts.specs.Numbers.{AreNumeric, AreSpelled, all_short};
 
 use super::field;
 use bytes::BufMut;
-use quic_base::coding::{BufMutExt, NoRoom};
+use quic_base::coding::{BufMutExt, NoRoom, lay_array};
 use quic_base::ids::ConnectionId;
 use quic_base::varint::VarInt;
 
-/// Appends numbers in their shortest spellings. Answers `NoRoom` only where the spare room is less than
-/// those; then what stood there stands, followed by a beginning of them.
+// How many bytes the array has that numbers are laid into: five of them, each by a store of eight bytes at most.
+const HEAD_ROOM: usize = 40;
+
+// Lays a number in its shortest spelling at a place, and answers where it ends.
+#[inline(always)]
+#[tactic(auto, unfolding(quic_base::specs::Varint::short, quic_base::specs::Varint::size, quic_base::specs::Number::bytes_of))]
+fn lay_number(head: &mut [u8], at: usize, n: u64) -> usize
+    requires numeric { n < 2 ^ 62 }
+    requires room { at + 8 ≤ length head.old }
+    ensures end { result ≡ at + length (short n) }
+    ensures near { result ≤ at + 8 }
+    ensures front { take result head.new ≡ take at head.old ++ short n }
+    ensures len { length head.new ≡ length head.old }
+{
+    if n < 1 << 6 {
+        lay_array(head, at, [n as u8])
+    } else if n < 1 << 14 {
+        lay_array(head, at, ((1 << 14) + n as u16).to_be_bytes())
+    } else if n < 1 << 30 {
+        lay_array(head, at, ((2 << 30) + n as u32).to_be_bytes())
+    } else {
+        lay_array(head, at, ((3 << 62) + n).to_be_bytes())
+    }
+}
+
+// Lays numbers, one behind the other, and answers where they end.
+#[inline(always)]
+fn lay_numbers(head: &mut [u8; HEAD_ROOM], numbers: &[u64]) -> usize
+    requires few { length numbers.now ≤ 5 }
+    requires numeric { AreNumeric numbers.now }
+    ensures within { result ≤ HEAD_ROOM }
+    ensures front { take result head.new ≡ all_short numbers.now }
+{
+    let mut at = 0;
+    for number in numbers {
+        at = lay_number(head, at, *number);
+    }
+    at
+}
+
+/// Appends at most five numbers in their shortest spellings, which are put together first, so that the room is
+/// looked at once. Answers `NoRoom` only where the spare room is less than those; then what stood there stands,
+/// followed by a beginning of them.
+#[inline(always)]
 pub fn numbers<B: BufMut>(out: &mut B, numbers: &[u64]) -> Result<(), NoRoom>
-    requires { AreNumeric numbers.now }
+    requires few { length numbers.now ≤ 5 }
+    requires numeric { AreNumeric numbers.now }
     ensures { Writes result (all_short numbers.now) (B.written out.old) (B.spare out.old) (B.written out.new) (B.spare out.new) }
 {
-    for number in numbers {
-        out.write_var(*number)?;
-    }
-    Ok(())
+    let mut head = [0; HEAD_ROOM];
+    let len = lay_numbers(&mut head, numbers);
+    bytes(out, &head[..len])
 }
 
 /// Appends bytes, in the same way.
@@ -36,7 +78,8 @@ pub fn bytes<B: BufMut>(out: &mut B, bytes: &[u8]) -> Result<(), NoRoom>
 
 /// Appends numbers and then bytes, in the same way.
 pub fn numbers_and_bytes<B: BufMut>(out: &mut B, head: &[u64], tail: &[u8]) -> Result<(), NoRoom>
-    requires { AreNumeric head.now }
+    requires few { length head.now ≤ 5 }
+    requires numeric { AreNumeric head.now }
     ensures { Writes result (all_short head.now ++ tail.now) (B.written out.old) (B.spare out.old) (B.written out.new) (B.spare out.new) }
 {
     numbers(out, head)?;
@@ -62,8 +105,22 @@ pub fn size_of(n: u64) -> usize
     VarInt::from_u64_unchecked(n).size()
 }
 
-/// Appends the numbers that the bytes spell, in their shortest spellings, in the same way.
-pub fn shortened<B: BufMut>(out: &mut B, spelled: &[u8]) -> Result<(), NoRoom>
+/// Appends the numbers that the bytes spell, in their shortest spellings, in the same way. The caller must know how
+/// many bytes these have: where the bytes are as many, they are the shortest, and go as they are.
+pub fn shortened<B: BufMut>(out: &mut B, spelled: &[u8], len: u64) -> Result<(), NoRoom>
+    requires { (ns : List ℕ) → AreSpelled ns spelled.now → len ≡ length (all_short ns) }
+    ensures { (ns : List ℕ) → AreSpelled ns spelled.now
+        → Writes result (all_short ns) (B.written out.old) (B.spare out.old) (B.written out.new) (B.spare out.new) }
+{
+    if len == spelled.len() as u64 {
+        bytes(out, spelled)
+    } else {
+        each_shortened(out, spelled)
+    }
+}
+
+// Appends the numbers one by one.
+fn each_shortened<B: BufMut>(out: &mut B, spelled: &[u8]) -> Result<(), NoRoom>
     ensures { (ns : List ℕ) → AreSpelled ns spelled.now
         → Writes result (all_short ns) (B.written out.old) (B.spare out.old) (B.written out.new) (B.spare out.new) }
 {

@@ -5,8 +5,8 @@ use Rattle.quic_headers.proofs.lay.lay_ends.Goals as goal
 
 pub returns-clause-front : goal.returns-clause-front
 returns-clause-front c =
-    let once : List ℕ = c.lay_array.new.head in
-    let twice : List ℕ = c.lay_array-2.new.head in
+    let once : List ℕ = c.lay_array.new.bytes in
+    let twice : List ℕ = c.lay_array-2.new.bytes in
     let front : List ℕ = take c.args.at c.args.head.now in
     let first = ap (λ (i : ℕ). take i once) (sym c.lay_array.ensures.end) ∙ c.lay_array.ensures.front
     ∙ ap (λ (ys : List ℕ). front ++ ys) c.in_ok-first.ensures.cases.same in

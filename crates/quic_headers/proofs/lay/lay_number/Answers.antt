@@ -7,7 +7,7 @@ use Rattle.quic_headers.proofs.lay.lay_number.Goals as goal
 pub returns-clause-front : goal.returns-clause-front
 returns-clause-front c =
     let front : List ℕ = take c.args.at c.args.head.now in
-    let new : List ℕ = c.lay_array.new.head in
+    let new : List ℕ = c.lay_array.new.bytes in
     let small : c.len.result ≤ 4 = omega (arith, c.len.ensures, number_small c.args.number) in
     shorter_laid c.len.result 4 c.args.at c.args.head.now new _ small (omega (arith, c.requires.room))
     (ap (λ (i : ℕ). take i new) (sym c.lay_array.ensures.end) ∙ c.lay_array.ensures.front)

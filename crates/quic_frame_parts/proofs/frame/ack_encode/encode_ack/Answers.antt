@@ -1,4 +1,4 @@
-use Rattle.std.proofs.Common.{sym, subst, refl}
+use Rattle.std.proofs.Common.{◌∙◌, sym, subst, refl}
 use Rattle.std.proofs.lemmas.Result.{err_from_is_err_and}
 use Rattle.quic_base.specs.Number.{AreBytes}
 use Rattle.quic_frame_parts.specs.Numbers.{AreNumeric, AreSpelled}
@@ -12,8 +12,8 @@ head_of-requires g c =
     let h = held_parts a (subst AreBytes c.additional.ensures c.count_and_len-numbers.ensures.bytes) c.requires in
     held_many a h c.additional.result.now c.count_and_len-numbers.result.0 c.additional.ensures c.count_and_len-numbers.ensures.count
 
-pub numbers-requires : goal.numbers-requires
-numbers-requires g c = let h = held_parts c.args.ack.now (subst AreBytes c.additional.ensures c.count_and_len-numbers.ensures.bytes) c.requires in subst AreNumeric (sym c.head_of.ensures) h.numeric
+pub numbers-requires-clause-numeric : goal.numbers-requires-clause-numeric
+numbers-requires-clause-numeric g c = let h = held_parts c.args.ack.now (subst AreBytes c.additional.ensures c.count_and_len-numbers.ensures.bytes) c.requires in subst AreNumeric (sym c.head_of.ensures) h.numeric
 
 pub returns-in_err-numbers : goal.returns-in_err-numbers
 returns-in_err-numbers g c last =
@@ -22,6 +22,9 @@ returns-in_err-numbers g c last =
     let p = err_from_is_err_and c.from_residual.result c.from_residual.ensures.1 in
     rw (held_whole a h last c.head_of.result a.ecn c.head_of.ensures refl)
     (writes_begun c.numbers.result c.from_residual.result p.0 _ _ _ _ _ _ _ c.numbers.ensures c.in_err-numbers.was p.1)
+
+pub shortened-requires : goal.shortened-requires
+shortened-requires g c ns s = c.count_and_len-numbers.ensures.len ns (subst (AreSpelled ns) (c.additional-2.ensures ∙ sym c.additional.ensures) s)
 
 pub returns-in_err-shortened : goal.returns-in_err-shortened
 returns-in_err-shortened g c last =

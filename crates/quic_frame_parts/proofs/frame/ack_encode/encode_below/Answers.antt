@@ -16,8 +16,8 @@ overflow_sub-run g c = let b = has_below c.next_back.new.self c.loop-run.runs c.
 pub overflow_sub-run-in-Some : goal.overflow_sub-run-in-Some
 overflow_sub-run-in-Some g c = let b = has_below c.next_back.new.self c.loop-run.runs c.in-Some.run' c.loop-run.above c.in-Some.ensures.steps c.loop-run.invariant.maximal in omega (arith, b.some)
 
-pub numbers-requires : goal.numbers-requires
-numbers-requires g c = (next_run _ c.loop-run.above c.in-Some.run' c.next_back.new.self c.loop-run.runs _ _ _ _ c.loop-run.invariant c.in-Some.ensures.steps).numeric
+pub numbers-requires-clause-numeric : goal.numbers-requires-clause-numeric
+numbers-requires-clause-numeric g c = (next_run _ c.loop-run.above c.in-Some.run' c.next_back.new.self c.loop-run.runs _ _ _ _ c.loop-run.invariant c.in-Some.ensures.steps).numeric
 
 pub returns-in_err-numbers : goal.returns-in_err-numbers
 returns-in_err-numbers g c =

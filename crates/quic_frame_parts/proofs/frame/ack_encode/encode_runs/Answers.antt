@@ -20,8 +20,8 @@ encode_below-requires-clause-bound g c =
     let b = bounded c.next_back.new.self c.args.runs c.in-Some.first c.in-Some.ensures.steps c.requires.maximal c.requires.members in
     omega (arith, b.some, b.greatest)
 
-pub numbers-requires : goal.numbers-requires
-numbers-requires g c =
+pub numbers-requires-clause-numeric : goal.numbers-requires-clause-numeric
+numbers-requires-clause-numeric g c =
     (set_parts c.args.delay c.args.runs c.next_back.new.self c.in-Some.first c.args.ecn c.type_of.result c.args.count c.in-Some.ensures.steps c.type_of.ensures c.requires.count c.requires.delay
     c.requires.maximal c.requires.members).numeric
 

@@ -2,7 +2,7 @@ use Rattle.std.proofs.Common.{ℕ, List, length}
 use Rattle.quic_base.specs.Number.{AreBytes}
 use Rattle.quic_frame_parts.specs.Numbers.{AreSpelled}
 use Rattle.quic_frame_parts.proofs.Spelled.{ReadSome, WroteThem}
-use Rattle.quic_frame_parts.proofs.frame.write.shortened.Given as goal
+use Rattle.quic_frame_parts.proofs.frame.write.each_shortened.Given as goal
 
 abbrev pub invariant-loop-number : goal.invariant-loop-number
 invariant-loop-number g l = record {

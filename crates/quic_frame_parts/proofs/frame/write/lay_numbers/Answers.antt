@@ -1,0 +1,13 @@
+use Rattle.std.proofs.Common.{ℕ, List, add-one, ap, ◌∙◌, ◌++◌, get_or, arith}
+use Rattle.quic_base.specs.Varint.{short}
+use Rattle.quic_frame_parts.proofs.Numbers.{all_short-at}
+use Rattle.quic_frame_parts.proofs.frame.write.lay_numbers.Goals as goal
+
+pub loop-number-preserved : goal.loop-number-preserved
+loop-number-preserved c =
+    let ns : List ℕ = c.args.numbers.now in
+    let i : ℕ = c.loop-number.number-index in
+    record {
+      near = omega (arith, c.loop-number.invariant.near, c.lay_number-at.ensures.near);
+      front = rw (add-one, all_short-at ns i c.loop-number-test.true) (c.lay_number-at.ensures.front ∙ ap (λ (ys : List ℕ). ys ++ short (get_or ns i 0)) c.loop-number.invariant.front);
+    }

@@ -22,7 +22,7 @@ pub record TakesOne (bytes left : List ℕ) (n : ℕ) : Type 0 where
   pub spelled : Spells n front
   pub left_fits : AreBytes left
 
-block_takes : (greatest : ℕ) (bytes : List ℕ) (x : ℕ × List ℕ) → AreBytes bytes → block_at greatest bytes ≡ Ok x → (x.0 ≤ greatest) × TakesOne bytes x.1 (greatest - x.0)
+pub block_takes : (greatest : ℕ) (bytes : List ℕ) (x : ℕ × List ℕ) → AreBytes bytes → block_at greatest bytes ≡ Ok x → (x.0 ≤ greatest) × TakesOne bytes x.1 (greatest - x.0)
 unfolding block_at
 block_takes greatest bytes x fits e =
     let a = bind_ok (varint_at bytes) (λ n. cond (ltb greatest n.0) (Err Malformed) (Ok (greatest - n.0, n.1))) x e in
@@ -40,7 +40,7 @@ block_again greatest low front left le v =
     let back : greatest - (greatest - low) ≡ low = omega arith in
     rw (varint_again (greatest - low) front left v, small, back) refl
 
-gap_takes : (low : ℕ) (bytes : List ℕ) (x : ℕ × List ℕ) → AreBytes bytes → gap_at low bytes ≡ Ok x → (x.0 + 2 ≤ low) × TakesOne bytes x.1 (low - (x.0 + 2))
+pub gap_takes : (low : ℕ) (bytes : List ℕ) (x : ℕ × List ℕ) → AreBytes bytes → gap_at low bytes ≡ Ok x → (x.0 + 2 ≤ low) × TakesOne bytes x.1 (low - (x.0 + 2))
 unfolding gap_at
 gap_takes low bytes x fits e =
     let a = bind_ok (varint_at bytes) (λ n. cond (ltb low (n.0 + 2)) (Err Malformed) (Ok (low - (n.0 + 2), n.1))) x e in

@@ -10,4 +10,5 @@ pub mod Spelled
 pub mod Sets
 pub mod AckParts
 pub mod Held
+pub mod FirstRanges
 mod ShortBlocks

@@ -81,6 +81,18 @@ range_at low bytes = do
   block ← block_at gap.0 gap.1
   Ok ((block.0, gap.0), block.1)
 
+-- what follows a first range with this least number: the greatest number of the next one, and the blocks of that one and those
+-- below it; 0 where nothing follows
+abbrev pub next_range_at : ℕ → List ℕ → Result (ℕ × ℕ × List ℕ) Fault
+next_range_at least [] = Ok (least, 0, [])
+next_range_at least (b ∷ bytes) = gap_at least (b ∷ bytes) >>= λ gap. Ok (least, gap.0, gap.1)
+
+-- the first range of blocks by its least number, and what follows it
+unfoldable pub first_range_at : ℕ → List ℕ → Result (ℕ × ℕ × List ℕ) Fault
+first_range_at greatest bytes = do
+  block ← block_at greatest bytes
+  next_range_at block.0 block.1
+
 abbrev pub range_and : (ℕ → List ℕ → List (ℕ × ℕ)) → Result ((ℕ × ℕ) × List ℕ) Fault → List (ℕ × ℕ)
 range_and others (Ok x) = x.0 ∷ others x.0.0 x.1
 range_and others (Err e) = []

@@ -10,11 +10,13 @@ mod datagrams;
 pub mod encode;
 pub mod fault;
 pub mod field;
+mod first_range;
 pub mod stream_meta;
 pub mod write;
 
 pub use ack::{Ack, AckError, AckIter, EcnCounts};
 pub use close::{ApplicationClose, Close, ConnectionClose};
+pub use first_range::split_first_range;
 pub use quic_errors::frame_type::FrameType;
 pub use stream_meta::{StreamMeta, StreamMetaVec};
 

@@ -1,7 +1,7 @@
 //! Numbers, and the blocks of an ACK, read from the front of a slice.
 ghost use Rattle.std.specs.Prelude.{◌≡◌, ◌<◌, ◌≤◌, ◌^◌, List, ℕ, [], ◌∷◌, length, IfErr, IfOk, IfSome, Ok, OnOk, ◌⊎◌};
 ghost use Rattle.quic_base.specs.Number.{AreBytes};
-ghost use Rattle.quic_frame_parts.specs.Reading.{Gives, varint_at, block_at, gap_at, below_at, range_at, after_blocks, blocks_at, blocks_left, ranges_of, IsBlocks};
+ghost use Rattle.quic_frame_parts.specs.Reading.{Gives, varint_at, block_at, gap_at, below_at, range_at, first_range_at, after_blocks, blocks_at, blocks_left, ranges_of, IsBlocks};
 ghost use Rattle.quic_frame_parts.specs.Refusal.{AreNoBlocks};
 
 use super::fault::Fault;
@@ -187,4 +187,23 @@ fn wide_range(greatest: u64, blocks: &[u8]) -> (u64, u64, &[u8])
         unreachable!()
     };
     (least, next, others)
+}
+
+// The same of bytes of which nothing is known, or why no range stands first.
+pub(super) fn checked_range(greatest: u64, blocks: &[u8]) -> Result<(u64, u64, &[u8]), Fault>
+    ensures gives { Gives (λ x. (x.0, x.1, x.2.now)) result (first_range_at greatest blocks.now) }
+    ensures bytes { AreBytes blocks.now }
+{
+    if let Some((length, between, rest)) = two_short(blocks) {
+        let all = length + (between + 2);
+        if all <= greatest {
+            return Ok((greatest - length, greatest - all, rest));
+        }
+    }
+    let (least, rest) = block(greatest, blocks)?;
+    if rest.is_empty() {
+        return Ok((least, 0, rest));
+    }
+    let (next, others) = gap(least, rest)?;
+    Ok((least, next, others))
 }

@@ -1,8 +1,8 @@
 //! The frames of a payload, one after the other.
-ghost use Rattle.std.specs.Prelude.{◌≡◌, ◌≤◌, ◌↔◌, [], None, IfErr, IfOk, IsErr, codes, true, false, length};
+ghost use Rattle.std.specs.Prelude.{◌≡◌, ◌<◌, ◌≤◌, ◌↔◌, [], None, IfErr, IfOk, IfSome, IsErr, IsNone, codes, true, false, length};
 ghost use Rattle.quic_errors.specs.Codes.{IsError, protocol_violation};
 ghost use Rattle.quic_frame_parts.specs.Payload.{IsEither};
-ghost use Rattle.quic_frames.specs.Walk.{left, first_of, GivesFrames, GivesBroken};
+ghost use Rattle.quic_frames.specs.Walk.{left, first_of, resumed, GivesFrames, GivesBroken};
 
 use super::found::read_found;
 use super::{Frame, FrameType, InvalidFrame};
@@ -87,6 +87,32 @@ impl<'a> Iter<'a> {
             last: None,
             is_broken: false,
         })
+    }
+
+    /// An iterator as `new` gives it, at a later place: the end of a whole frame, in bytes, with the type of
+    /// that frame, which is told if the next type is cut off. `None` just where the place lies past the
+    /// payload. What stands before it isn't read. It takes no memory.
+    pub fn resume(payload: &'a [u8], offset: usize, last: Option<FrameType>) -> Option<Self>
+        ensures past { IsNone result ↔ (length payload.now < offset) }
+        ensures way { IfSome result (λ it. it ≡ resumed payload.now offset last) }
+    {
+        if offset > payload.len() {
+            return None;
+        }
+        Some(Iter {
+            strict: false,
+            payload,
+            offset,
+            last,
+            is_broken: false,
+        })
+    }
+
+    /// The type of the last frame that was given, as it stands in the payload.
+    pub fn last_type(&self) -> Option<FrameType>
+        ensures { result ≡ self.now.last }
+    {
+        self.last
     }
 
     /// The end of the last whole frame in the payload, in bytes.

@@ -1,6 +1,8 @@
 //! Acknowledgements, and frames of every kind by their fields.
 use quic_base::ids::EcnCodepoint;
-use quic_frames::frame::{Ack, AckError, EcnCounts, Frame, FrameType, InvalidFrame, Iter};
+use quic_frames::frame::{
+    Ack, AckError, EcnCounts, Frame, FrameType, InvalidFrame, Iter, split_first_range,
+};
 use quic_frames::transport_error::Error;
 use quic_testing::Checks;
 use std::alloc::Global;
@@ -79,6 +81,31 @@ fn parts_that_are_refused(rt: HostRuntime) -> Result<(), Fail> {
         format!(in alloc; "{end}, {malformed}, {end:?}")?.as_str(),
         "unexpected end, malformed, UnexpectedEnd",
     );
+    checks.verdict()
+}
+
+// One range at a time, of bytes that may be no blocks: below 5 a gap of 0 leaves 4 out, and 3 is next.
+#[test]
+fn a_first_range(rt: HostRuntime) -> Result<(), Fail> {
+    let mut checks = Checks::new(rt.alloc());
+    for (blocks, least, next, left) in [
+        (b"\x00\x00\x03".as_slice(), 5, 3, b"\x03".as_slice()),
+        (b"\x40\x00\x00\x03".as_slice(), 5, 3, b"\x03".as_slice()),
+        (b"\x01\x40\x02".as_slice(), 4, 0, b"".as_slice()),
+        (b"\x05".as_slice(), 0, 0, b"".as_slice()),
+    ] {
+        checks.same(split_first_range(5, blocks), Ok((least, next, left)));
+    }
+    for (blocks, refused) in [
+        (b"".as_slice(), AckError::UnexpectedEnd),
+        (b"\x40".as_slice(), AckError::UnexpectedEnd),
+        (b"\x06".as_slice(), AckError::Malformed),
+        (b"\x00\x40".as_slice(), AckError::UnexpectedEnd),
+        (b"\x00\x04".as_slice(), AckError::Malformed),
+        (b"\x04\x00".as_slice(), AckError::Malformed),
+    ] {
+        checks.same(split_first_range(5, blocks), Err(refused));
+    }
     checks.verdict()
 }
 

@@ -109,6 +109,36 @@ fn one_error_and_then_nothing(rt: HostRuntime) -> Result<(), Fail> {
     checks.verdict()
 }
 
+// PING, CRYPTO with one byte, and a type that is cut off.
+#[test]
+fn an_iterator_that_goes_on(rt: HostRuntime) -> Result<(), Fail> {
+    let mut checks = Checks::new(rt.alloc());
+    let payload = b"\x01\x06\x00\x01a\x40".as_slice();
+    let Some(mut iter) = Iter::resume(payload, 1, Some(FrameType::PING)) else {
+        return Err("an iterator".into());
+    };
+    checks.same(iter.last_type(), Some(FrameType::PING));
+    let Some(Ok(Frame::Crypto(crypto))) = iter.next() else {
+        return Err("a CRYPTO".into());
+    };
+    checks.same(crypto.bytes, b"a".as_slice());
+    checks.same(iter.offset(), 5);
+    checks.same(iter.last_type(), Some(FrameType::CRYPTO));
+    let Some(mut iter) = Iter::resume(payload, 5, Some(FrameType::CRYPTO)) else {
+        return Err("an iterator".into());
+    };
+    checks.holds(matches!(
+        iter.next(),
+        Some(Err(invalid)) if invalid.ty == Some(FrameType::CRYPTO) && invalid.reason == "unexpected end"
+    ));
+    let Some(mut iter) = Iter::resume(payload, 6, None) else {
+        return Err("an iterator".into());
+    };
+    checks.holds(iter.next().is_none());
+    checks.holds(Iter::resume(payload, 7, None).is_none());
+    checks.verdict()
+}
+
 #[test]
 fn an_empty_payload_is_a_protocol_violation(rt: HostRuntime) -> Result<(), Fail> {
     let mut checks = Checks::new(rt.alloc());

@@ -1,0 +1,15 @@
+use Rattle.std.proofs.Common.{rules, refl, subst, ◌≡◌, [], ◌∷◌, Some}
+use Rattle.quic_frame_parts.specs.Reading.{Broken}
+use Rattle.quic_frames.specs.Walk.{invalid_of, left, Advances}
+use Rattle.quic_c.specs.Shown.{way_of}
+use Rattle.quic_c.proofs.frames.quic_wire_frames_next_.Goals as goal
+
+pub returns-in-Some-Err-clause-invalid : goal.returns-in-Some-Err-clause-invalid
+returns-in-Some-Err-clause-invalid c =
+    let s = subst (λ f. Advances c.in-Some.iter (Some f) c.next.new.self) c.in-Some-Err.field-0-is c.in-Some-Err.ensures.steps in
+    let here = s.0 in
+    let resumed = c.in-Some.ensures.way in
+    let ty = c.type_in.ensures in
+    let ended = c.if-frames-ne0.false in
+    let it : left (way_of c.args.frames.now c.args.payload.now) ≡ Broken (invalid_of c.in-Some-Err.invalid) ∷ [] = search rules in
+    λ _. record { told = invalid_of c.in-Some-Err.invalid; first = it; over = refl; words = c.show_invalid.ensures }

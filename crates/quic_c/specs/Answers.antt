@@ -1,0 +1,63 @@
+-- What the calls answer.
+use Rattle.std.specs.Prelude.{◌≡◌, ℕ, ◌+◌, ◌<◌, ◌≤◌, ◌^◌, ◌⊎◌, slice_range, Ok, Err, length, List, [], ◌∷◌, codes, if◌then◌else◌}
+use Rattle.std.specs.Cmp.Lexicographic.{pointwise}
+use Rattle.std.specs.Prelude.{nat_eq}
+use Rattle.quic_frames.specs.declared.frame.Frame.{Frame}
+use Rattle.quic_frame_parts.specs.declared.frame.fault.Fault.{Fault}
+use Rattle.quic_frame_parts.specs.Reading.{Invalid, Broken, IsBlocks, blocks_left, ranges_of, first_range_at}
+use Rattle.quic_frames.specs.Walk.{left, Finds}
+use Rattle.quic_c.specs.declared.words.FramesWords.{FramesWords}
+use Rattle.quic_c.specs.declared.words.FrameWords.{FrameWords}
+use Rattle.quic_c.specs.declared.words.RangeWords.{RangeWords}
+use Rattle.quic_c.specs.declared.words.RangesWords.{RangesWords}
+use Rattle.quic_c.specs.Shown.{way_of, type_word, shown, shown_invalid}
+
+-- the number of a reason: 1 unexpected end, 2 invalid frame ID, 3 malformed
+abbrev pub reason_in : List ℕ → ℕ
+reason_in reason = if pointwise nat_eq reason (codes "unexpected end") then 1 else if pointwise nat_eq reason (codes "invalid frame ID") then 2 else 3
+
+-- A frame was found where the words stand, and its words were given.
+pub record GivesFrame (old : FramesWords) (payload : List ℕ) (new : FramesWords) (out : FrameWords) : Type 0 where
+  pub frame : Frame
+  pub finds : Finds (way_of old payload) frame (way_of new payload)
+  pub words : out ≡ shown old.offset new.offset frame
+
+-- No frame stands there, and that is told; nothing is left.
+pub record GivesInvalid (old : FramesWords) (payload : List ℕ) (new : FramesWords) (out : FrameWords) : Type 0 where
+  pub told : Invalid
+  pub first : left (way_of old payload) ≡ Broken told ∷ []
+  pub over : new ≡ record old { ended = 1 }
+  pub words : out ≡ shown_invalid old.offset (type_word told.type) (reason_in told.reason)
+
+-- the bytes between two places
+abbrev pub blocks_in : RangesWords → List ℕ → List ℕ
+blocks_in ranges payload = slice_range payload ranges.begin ranges.end
+
+-- The place of some blocks lies in the payload.
+pub record IsWithin (ranges : RangesWords) (payload : List ℕ) : Type 0 where
+  pub ordered : ranges.begin ≤ ranges.end
+  pub ends : ranges.end ≤ length payload
+
+-- The first range of the blocks was given, and what is left of the bytes are the blocks of the others.
+pub record GivesRange (old : RangesWords) (payload : List ℕ) (new : RangesWords) (out : RangeWords) : Type 0 where
+  pub some : old.begin < old.end
+  pub small : old.largest < 2 ^ 62
+  pub step : first_range_at old.largest (blocks_in old payload) ≡ Ok (out.start, new.largest, blocks_in new payload)
+  pub above : out.end ≡ old.largest + 1
+  pub last : new.end ≡ old.end
+  pub further : old.begin < new.begin
+  pub within : IsWithin new payload
+  pub ranges : IsBlocks old.largest (blocks_in old payload) → ranges_of old.largest (blocks_in old payload) ≡ (out.start, old.largest) ∷ ranges_of new.largest (blocks_in new payload)
+  pub valid : IsBlocks old.largest (blocks_in old payload) → blocks_left new.largest (blocks_in new payload) ≡ Ok []
+
+-- No range stands first, and why.
+pub record LacksRange (ranges : RangesWords) (payload : List ℕ) : Type 0 where
+  pub some : ranges.begin < ranges.end
+  pub reason : Fault
+  pub step : first_range_at ranges.largest (blocks_in ranges payload) ≡ Err reason
+  pub refused : IsBlocks ranges.largest (blocks_in ranges payload) → ⊥
+
+-- The words name no blocks: the place lies outside the payload, or it has bytes, and the number is too large or no range stands first.
+abbrev pub NamesNone : RangesWords → List ℕ → Type 0
+NamesNone ranges payload =
+    (ranges.end < ranges.begin) ⊎ (length payload < ranges.end) ⊎ ((ranges.begin < ranges.end) × (2 ^ 62 ≤ ranges.largest)) ⊎ LacksRange ranges payload

@@ -1,0 +1,114 @@
+-- What C sees of frames and of the way over a payload.
+use Rattle.std.specs.Prelude.{ℕ, ◌+◌, ◌-◌, ◌^◌, List, [], ◌∷◌, length, nat_lt, Option, Some, None, false, not, ◌==◌, if◌then◌else◌}
+use Rattle.quic_base.specs.Ids.{dir_number}
+use Rattle.quic_errors.specs.Types.{type_or_zero}
+use Rattle.quic_frames.specs.declared.frame.Frame.{Frame}
+use Rattle.quic_frames.specs.declared.frame.Frame.TheVariants as frames
+use Rattle.quic_frame_parts.specs.declared.frame.close.Close.TheVariants as closes
+use Rattle.quic_frame_parts.specs.declared.frame.ack.EcnCounts.{EcnCounts}
+use Rattle.quic_frames.specs.Way.{Way}
+use Rattle.quic_c.specs.declared.words.FramesWords.{FramesWords}
+use Rattle.quic_c.specs.declared.words.FrameWords.{FrameWords}
+
+-- the word of a type
+abbrev pub type_word : Option ℕ → ℕ
+type_word None = 2 ^ 64 - 1
+type_word (Some n) = n
+
+-- the words at the front of a payload
+abbrev pub at_front : FramesWords
+at_front = record { offset = 0; last_type = 2 ^ 64 - 1; ended = 0 }
+
+-- a type in a word: every word from 2^62 on stands for none
+abbrev pub type_in : ℕ → Option ℕ
+type_in n = if nat_lt n (2 ^ 62) then Some n else None
+
+-- how far an iterator has come over a payload, by the words that are kept of it
+abbrev pub way_of : FramesWords → List ℕ → Way
+way_of f payload = record { strict = false; payload = payload; offset = f.offset; last = type_in f.last_type; is_broken = not (f.ended == 0) }
+
+-- the kind of a frame: its type, 8 for every STREAM, 2 for every ACK and 0x30 for every DATAGRAM
+abbrev pub kind_of : Frame → ℕ
+kind_of frames.Padding = 0x00
+kind_of frames.Ping = 0x01
+kind_of (frames.Ack a) = 0x02
+kind_of (frames.ResetStream r) = 0x04
+kind_of (frames.StopSending s) = 0x05
+kind_of (frames.Crypto c) = 0x06
+kind_of (frames.NewToken t) = 0x07
+kind_of (frames.Stream s) = 0x08
+kind_of (frames.MaxData n) = 0x10
+kind_of (frames.MaxStreamData id offset) = 0x11
+kind_of (frames.MaxStreams dir count) = 0x12 + dir_number dir
+kind_of (frames.DataBlocked offset) = 0x14
+kind_of (frames.StreamDataBlocked id offset) = 0x15
+kind_of (frames.StreamsBlocked dir limit) = 0x16 + dir_number dir
+kind_of (frames.NewConnectionId n) = 0x18
+kind_of (frames.RetireConnectionId sequence) = 0x19
+kind_of (frames.PathChallenge n) = 0x1a
+kind_of (frames.PathResponse n) = 0x1b
+kind_of (frames.Close (closes.Connection c)) = 0x1c
+kind_of (frames.Close (closes.Application c)) = 0x1d
+kind_of (frames.Datagram d) = 0x30
+kind_of (frames.AckFrequency f) = 0xaf
+kind_of frames.ImmediateAck = 0x1f
+kind_of frames.HandshakeDone = 0x1e
+
+abbrev pub counts_numbers : Option EcnCounts → List ℕ
+counts_numbers None = 0 ∷ 0 ∷ 0 ∷ []
+counts_numbers (Some e) = e.ect0 ∷ e.ect1 ∷ e.ce ∷ []
+
+-- its five numbers, 0 where there are fewer
+abbrev pub numbers_of : Frame → List ℕ
+numbers_of (frames.Ack a) = a.largest ∷ a.delay ∷ counts_numbers a.ecn
+numbers_of (frames.ResetStream r) = r.id ∷ r.error_code ∷ r.final_offset ∷ 0 ∷ 0 ∷ []
+numbers_of (frames.StopSending s) = s.id ∷ s.error_code ∷ 0 ∷ 0 ∷ 0 ∷ []
+numbers_of (frames.Crypto c) = 0 ∷ c.offset ∷ 0 ∷ 0 ∷ 0 ∷ []
+numbers_of (frames.Stream s) = s.id ∷ s.offset ∷ 0 ∷ 0 ∷ 0 ∷ []
+numbers_of (frames.MaxData n) = 0 ∷ n ∷ 0 ∷ 0 ∷ 0 ∷ []
+numbers_of (frames.MaxStreamData id offset) = id ∷ offset ∷ 0 ∷ 0 ∷ 0 ∷ []
+numbers_of (frames.MaxStreams dir count) = 0 ∷ count ∷ 0 ∷ 0 ∷ 0 ∷ []
+numbers_of (frames.DataBlocked offset) = 0 ∷ offset ∷ 0 ∷ 0 ∷ 0 ∷ []
+numbers_of (frames.StreamDataBlocked id offset) = id ∷ offset ∷ 0 ∷ 0 ∷ 0 ∷ []
+numbers_of (frames.StreamsBlocked dir limit) = 0 ∷ limit ∷ 0 ∷ 0 ∷ 0 ∷ []
+numbers_of (frames.NewConnectionId n) = n.sequence ∷ n.retire_prior_to ∷ 0 ∷ 0 ∷ 0 ∷ []
+numbers_of (frames.RetireConnectionId sequence) = sequence ∷ 0 ∷ 0 ∷ 0 ∷ 0 ∷ []
+numbers_of (frames.PathChallenge n) = n ∷ 0 ∷ 0 ∷ 0 ∷ 0 ∷ []
+numbers_of (frames.PathResponse n) = n ∷ 0 ∷ 0 ∷ 0 ∷ 0 ∷ []
+numbers_of (frames.Close (closes.Connection c)) = c.error_code ∷ type_or_zero c.frame_type ∷ 0 ∷ 0 ∷ 0 ∷ []
+numbers_of (frames.Close (closes.Application c)) = c.error_code ∷ 0 ∷ 0 ∷ 0 ∷ 0 ∷ []
+numbers_of (frames.AckFrequency f) = f.sequence ∷ f.ack_eliciting_threshold ∷ f.request_max_ack_delay ∷ f.reordering_threshold ∷ 0 ∷ []
+numbers_of frame = 0 ∷ 0 ∷ 0 ∷ 0 ∷ 0 ∷ []
+
+abbrev pub counts_flag : Option EcnCounts → ℕ
+counts_flag None = 0
+counts_flag (Some e) = 2
+
+-- 1: a STREAM is the end of its stream; 2: an ACK has counts
+abbrev pub flags_of : Frame → ℕ
+flags_of (frames.Stream s) = if s.fin then 1 else 0
+flags_of (frames.Ack a) = counts_flag a.ecn
+flags_of frame = 0
+
+-- the data that end where the frame ends: of a NEW_CONNECTION_ID those of the id end sixteen bytes before
+abbrev pub tail_of : Frame → ℕ
+tail_of (frames.NewConnectionId n) = 16
+tail_of frame = 0
+
+abbrev pub data_of : Frame → List ℕ
+data_of (frames.Crypto c) = c.bytes.now
+data_of (frames.NewToken t) = t.token.now
+data_of (frames.Stream s) = s.bytes.now
+data_of (frames.Datagram d) = d.bytes.now
+data_of (frames.NewConnectionId n) = n.id
+data_of (frames.Close (closes.Connection c)) = c.reason.now
+data_of (frames.Close (closes.Application c)) = c.reason.now
+data_of frame = []
+
+-- the words of a frame that stands in a payload from start to stop
+abbrev pub shown : ℕ → ℕ → Frame → FrameWords
+shown start stop frame = record { kind = kind_of frame; flags = flags_of frame; begin = start; end = stop; data_offset = stop - tail_of frame - length (data_of frame); data_len = length (data_of frame); numbers = numbers_of frame }
+
+-- what is no frame, by the word of the last type and the number of its reason, at the end of the last frame
+abbrev pub shown_invalid : ℕ → ℕ → ℕ → FrameWords
+shown_invalid start ty reason = record { kind = 2 ^ 32 - 1; flags = reason; begin = start; end = start; data_offset = start; data_len = 0; numbers = ty ∷ 0 ∷ 0 ∷ 0 ∷ 0 ∷ [] }

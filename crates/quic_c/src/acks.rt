@@ -1,0 +1,44 @@
+//! The ranges of an ACK, one with each call.
+ghost use Rattle.std.specs.Prelude.{◌≡◌, ◌⊎◌, ◌↔◌, ◌<◌, ◌≤◌, pos, negsuc, length};
+ghost use Rattle.quic_c.specs.Answers.{GivesRange, IsWithin, NamesNone};
+
+use crate::words::{RangeWords, RangesWords};
+use quic_frames::frame::split_first_range;
+
+/// The next range of an ACK, the greatest first (RFC 9000, section 19.3.1). It answers 1 with the range; 0 just where
+/// the place lies in the payload and no byte is left; -1 where the words name no blocks: the place lies outside
+/// the payload, or the greatest number is 2^62 or more, or no block and gap stand first. Nothing changes but with 1.
+#[unsafe(no_mangle)]
+pub extern "C" fn quic_wire_ack_ranges_next_(
+    ranges: &mut RangesWords,
+    payload: &[u8],
+    out: &mut RangeWords,
+) -> i32
+    ensures answers { (result ≡ pos 1) ⊎ (result ≡ pos 0) ⊎ (result ≡ negsuc 0) }
+    ensures range { result ≡ pos 1 → GivesRange ranges.old payload.now ranges.new out.new }
+    ensures end { result ≡ pos 0 → IsWithin ranges.old payload.now × (ranges.old.begin ≡ ranges.old.end) }
+    ensures invalid { result ≡ negsuc 0 → NamesNone ranges.old payload.now }
+    ensures same { (result ≡ pos 1) ⊎ ((ranges.new ≡ ranges.old) × (out.new ≡ out.old)) }
+{
+    let (begin, end) = (ranges.begin, ranges.end);
+    if begin > end || end > payload.len() {
+        return -1;
+    }
+    if begin == end {
+        return 0;
+    }
+    let largest = ranges.largest;
+    if largest >= 1 << 62 {
+        return -1;
+    }
+    let Ok((least, next, rest)) = split_first_range(largest, &payload[begin..end]) else {
+        return -1;
+    };
+    *out = RangeWords {
+        start: least,
+        end: largest + 1,
+    };
+    ranges.begin = end - rest.len();
+    ranges.largest = next;
+    1
+}

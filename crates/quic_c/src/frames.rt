@@ -1,0 +1,119 @@
+//! The frames of a payload, one with each call.
+ghost use Rattle.std.specs.Prelude.{◌≡◌, ◌<◌, ◌^◌, ◌-◌, ◌↔◌, ◌⊎◌, ℕ, [], ◌∷◌, pos, negsuc, length, codes, false, None};
+ghost use Rattle.quic_frames.specs.declared.frame.Frame.{Frame};
+ghost use Rattle.quic_frame_parts.specs.Reading.{Invalid, Broken, invalid};
+ghost use Rattle.quic_frames.specs.Walk.{left, first_of, Finds};
+ghost use Rattle.quic_c.specs.Shown.{way_of, at_front, type_in, type_word, shown, shown_invalid};
+ghost use Rattle.quic_c.specs.Answers.{GivesFrame, GivesInvalid, reason_in};
+
+use crate::show::show;
+use crate::words::{FrameWords, FramesWords};
+use quic_frames::frame::{FrameType, InvalidFrame, Iter};
+
+// The type in a word.
+fn type_in(word: u64) -> Option<FrameType>
+    ensures { result ≡ type_in word }
+{
+    if word >= 1 << 62 {
+        return None;
+    }
+    Some(FrameType::or_none(word).unwrap_or(FrameType::PADDING))
+}
+
+// The word of a type.
+fn type_word(ty: Option<FrameType>) -> u64
+    ensures value { result ≡ type_word ty }
+    ensures back { type_in result ≡ ty }
+{
+    match ty {
+        Some(ty) => ty.into_inner(),
+        None => u64::MAX,
+    }
+}
+
+// The number of a reason.
+fn reason_in(reason: &str) -> u32
+    ensures { result ≡ reason_in reason.now }
+{
+    match reason {
+        "unexpected end" => 1,
+        "invalid frame ID" => 2,
+        _ => 3,
+    }
+}
+
+/// Begins at the front of a payload. It answers 0, or -2 just where the payload is empty, which is refused with
+/// PROTOCOL_VIOLATION (RFC 9000, section 12.4); then nothing changes.
+#[unsafe(no_mangle)]
+pub extern "C" fn quic_wire_frames_init_(frames: &mut FramesWords, payload: &[u8]) -> i32
+    ensures answers { (result ≡ pos 0) ⊎ (result ≡ negsuc 1) }
+    ensures empty { (result ≡ negsuc 1) ↔ (payload.now ≡ []) }
+    ensures front { result ≡ pos 0 → frames.new ≡ at_front }
+    ensures first { result ≡ pos 0 → way_of frames.new payload.now ≡ first_of false payload.now }
+    ensures refused { result ≡ negsuc 1 → frames.new ≡ frames.old }
+{
+    if payload.is_empty() {
+        return -2;
+    }
+    *frames = FramesWords {
+        offset: 0,
+        last_type: u64::MAX,
+        ended: 0,
+    };
+    0
+}
+
+// What is no frame, told as words.
+fn show_invalid(begin: usize, invalid: &InvalidFrame) -> FrameWords
+    ensures { result ≡ shown_invalid begin (type_word invalid.now.ty) (reason_in invalid.now.reason.now) }
+{
+    FrameWords {
+        kind: u32::MAX,
+        flags: reason_in(invalid.reason),
+        begin,
+        end: begin,
+        data_offset: begin,
+        data_len: 0,
+        numbers: [type_word(invalid.ty), 0, 0, 0, 0],
+    }
+}
+
+/// The next frame (RFC 9000, section 19). It answers 1 with the frame; 0 where none is left, and nothing
+/// changes; -3, once, with the type and the reason that are told of something that is no frame; -1 just where the place lies
+/// outside the payload, and nothing changes.
+#[unsafe(no_mangle)]
+pub extern "C" fn quic_wire_frames_next_(
+    frames: &mut FramesWords,
+    payload: &[u8],
+    out: &mut FrameWords,
+) -> i32
+    ensures answers { (result ≡ pos 1) ⊎ (result ≡ pos 0) ⊎ (result ≡ negsuc 2) ⊎ (result ≡ negsuc 0) }
+    ensures frame { result ≡ pos 1 → GivesFrame frames.old payload.now frames.new out.new }
+    ensures end { result ≡ pos 0 → (left (way_of frames.old payload.now) ≡ []) × (frames.new ≡ frames.old) × (out.new ≡ out.old) }
+    ensures invalid { result ≡ negsuc 2 → GivesInvalid frames.old payload.now frames.new out.new }
+    ensures outside { (result ≡ negsuc 0) ↔ (length payload.now < frames.old.offset) }
+    ensures refused { result ≡ negsuc 0 → (frames.new ≡ frames.old) × (out.new ≡ out.old) }
+{
+    let begin = frames.offset;
+    let Some(mut iter) = Iter::resume(payload, begin, type_in(frames.last_type)) else {
+        return -1;
+    };
+    if frames.ended != 0 {
+        return 0;
+    }
+    match iter.next() {
+        None => 0,
+        Some(Ok(frame)) => {
+            let end = iter.offset();
+            *out = show(begin, end, &frame);
+            frames.offset = end;
+            frames.last_type = type_word(iter.last_type());
+            1
+        }
+        Some(Err(invalid)) => {
+            frames.ended = 1;
+            *out = show_invalid(begin, &invalid);
+            -3
+        }
+    }
+}

@@ -1,0 +1,64 @@
+//! The structs that C sees. Each of their words may hold any value, so nothing can be broken by them.
+
+/// How far an iterator over a payload has come. The caller keeps it and gives the payload with each call.
+#[repr(C)]
+#[derive(Clone, Copy)]
+pub struct FramesWords {
+    /// The end of the last whole frame.
+    pub offset: usize,
+    /// The type of the last frame as it stands there; from 2^62 on: none.
+    pub last_type: u64,
+    /// 0 until something was no frame.
+    pub ended: u64,
+}
+
+/// A frame.
+#[repr(C)]
+#[derive(Clone, Copy)]
+pub struct FrameWords {
+    /// Its type, the same one for every STREAM, ACK and DATAGRAM.
+    pub kind: u32,
+    /// 1: the end of a stream. 2: an ACK with counts.
+    pub flags: u32,
+    /// Where it begins in the payload.
+    pub begin: usize,
+    /// Where it ends.
+    pub end: usize,
+    /// Where its data begin.
+    pub data_offset: usize,
+    /// How many bytes these are.
+    pub data_len: usize,
+    /// Its numbers.
+    pub numbers: [u64; 5],
+}
+
+/// Numbers from `start` to below `end`.
+#[repr(C)]
+#[derive(Clone, Copy)]
+pub struct RangeWords {
+    /// The least number.
+    pub start: u64,
+    /// The number above the greatest.
+    pub end: u64,
+}
+
+/// How far the ranges of an ACK have been read.
+#[repr(C)]
+#[derive(Clone, Copy)]
+pub struct RangesWords {
+    /// Where the blocks that are left begin in the payload.
+    pub begin: usize,
+    /// Where they end.
+    pub end: usize,
+    /// The greatest number of the next range.
+    pub largest: u64,
+}
+
+// The sizes that every declaration of these structs in C must have.
+const _: () = prove!(std::mem::size_of::<FramesWords>() == 24);
+
+const _: () = prove!(std::mem::size_of::<FrameWords>() == 80);
+
+const _: () = prove!(std::mem::size_of::<RangeWords>() == 16);
+
+const _: () = prove!(std::mem::size_of::<RangesWords>() == 24);

@@ -11,4 +11,5 @@ pub mod Sets
 pub mod AckParts
 pub mod Held
 pub mod FirstRanges
+pub mod AckPlaces
 mod ShortBlocks

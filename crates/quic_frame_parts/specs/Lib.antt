@@ -15,3 +15,4 @@ pub mod Shortest
 pub mod Numbers
 pub mod Sets
 pub mod Closes
+pub mod AckPlace

@@ -5,6 +5,7 @@ use quic_base::varint::VarInt;
 
 mod ack;
 pub mod ack_encode;
+mod ack_place;
 mod close;
 mod datagrams;
 pub mod encode;
@@ -15,6 +16,7 @@ pub mod stream_meta;
 pub mod write;
 
 pub use ack::{Ack, AckError, AckIter, EcnCounts};
+pub use ack_place::split_ack;
 pub use close::{ApplicationClose, Close, ConnectionClose};
 pub use first_range::split_first_range;
 pub use quic_errors::frame_type::FrameType;

@@ -9,6 +9,7 @@ pub use Rattle.quic_frame_parts.specs.Table
 pub use Rattle.quic_frame_parts.specs.Payload
 pub use Rattle.quic_frame_parts.specs.Reading
 pub use Rattle.quic_frame_parts.specs.Refusal
+pub use Rattle.quic_frame_parts.specs.AckPlace
 pub use Rattle.quic_frame_parts.specs.Acks
 pub use Rattle.quic_frame_parts.specs.Parts
 pub use Rattle.quic_frame_parts.specs.Shortest

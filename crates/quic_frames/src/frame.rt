@@ -19,7 +19,7 @@ pub use quic_errors::invalid_frame::InvalidFrame;
 pub use quic_frame_parts::frame::{
     Ack, AckError, AckFrequency, AckIter, ApplicationClose, Close, ConnectionClose, Crypto,
     Datagram, EcnCounts, NewConnectionId, NewToken, ResetStream, StopSending, Stream, StreamMeta,
-    StreamMetaVec, split_first_range,
+    StreamMetaVec, split_ack, split_first_range,
 };
 pub use size_bound::{FrameStruct, RETIRE_CONNECTION_ID_SIZE_BOUND};
 

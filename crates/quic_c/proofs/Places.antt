@@ -1,11 +1,13 @@
 -- Places in a payload.
-use Rattle.std.proofs.Common.{◌≡◌, ℕ, ◌+◌, ◌-◌, ◌≤◌, ◌<◌, ◌^◌, List, [], ◌∷◌, length, take, drop, Ok, refl, sym, ap, ◌∙◌, arith}
-use Rattle.std.proofs.lemmas.List.{length-take-le, length-drop, drop-take, drop-drop}
+use Rattle.std.proofs.Common.{◌≡◌, ℕ, ◌+◌, ◌-◌, ◌≤◌, ◌<◌, ◌^◌, List, [], ◌∷◌, ◌++◌, length, take, drop, Ok, refl, sym, ap, ◌∙◌, arith}
+use Rattle.std.proofs.lemmas.List.{length-take-le, length-drop, length-append, drop-take, drop-drop, drop_at, take-take, take_at}
 use Rattle.std.specs.Prelude.{slice_range}
 use Rattle.quic_frame_parts.specs.Reading.{first_range_at, ranges_of, blocks_left, IsBlocks}
 use Rattle.quic_c.specs.declared.words.RangeWords.{RangeWords}
 use Rattle.quic_c.specs.declared.words.RangesWords.{RangesWords}
-use Rattle.quic_c.specs.Answers.{GivesRange}
+use Rattle.quic_c.specs.declared.words.FrameWords.{FrameWords}
+use Rattle.quic_c.specs.Answers.{GivesRange, GivesPlace, frame_in}
+use Rattle.quic_frame_parts.specs.AckPlace.{ack_at}
 
 pub length-part : (bytes : List ℕ) (start stop : ℕ) → stop ≤ length bytes → length (slice_range bytes start stop) ≡ stop - start
 length-part bytes start stop le =
@@ -45,4 +47,37 @@ range_given payload begin end largest least next rest some within small step sho
       within = record { ordered = omega arith; ends = within };
       ranges = rw left first;
       valid = rw left valid;
+    }
+
+-- bytes that stand in a part, before what ends it
+pub stands_in : (payload : List ℕ) (begin end : ℕ) (front blocks rest : List ℕ) → begin ≤ end → end ≤ length payload → slice_range payload begin end ≡ front ++ (blocks ++ rest)
+    → (begin + (length front + (length blocks + length rest)) ≡ end) × (slice_range payload (end - length rest - length blocks) (end - length rest) ≡ blocks)
+stands_in payload begin end front blocks rest ordered within parts =
+    let len = length-part payload begin end within in
+    let sizes : length (slice_range payload begin end) ≡ length front + (length blocks + length rest) = ap length parts ∙ length-append front (blocks ++ rest) ∙ ap (λ (n : ℕ). length front + n) (length-append blocks rest) in
+    let all : begin + (length front + (length blocks + length rest)) ≡ end = omega arith in
+    let start : end - length rest - length blocks ≡ begin + length front = omega arith in
+    let width : end - length rest - (begin + length front) ≡ length blocks = omega arith in
+    let behind : slice_range payload (begin + length front) end ≡ blocks ++ rest = sym (part_of_part payload begin end (length front) (omega arith)) ∙ ap (drop (length front)) parts ∙ drop_at front (blocks ++ rest) (length front) refl in
+    let room : length blocks ≤ end - (begin + length front) = omega arith in
+    let cut : take (length blocks) (drop (begin + length front) payload) ≡ blocks =
+    sym (take-take (length blocks) (end - (begin + length front)) (drop (begin + length front) payload) room) ∙ ap (take (length blocks)) behind ∙ take_at blocks rest (length blocks) refl in
+    (all, ap (λ (n : ℕ). slice_range payload n (end - length rest)) start ∙ ap (λ (n : ℕ). take n (drop (begin + length front) payload)) width ∙ cut)
+
+-- what is said of the words of an ACK, where its blocks stand in it
+pub place_given : (payload : List ℕ) (frame : FrameWords) (largest : ℕ) (blocks rest : List ℕ) → frame.begin ≤ frame.end → frame.end ≤ length payload → ack_at (frame_in frame payload) ≡ Ok (largest, blocks, rest)
+    → largest < 2 ^ 62 → IsBlocks largest blocks → (front : List ℕ) × (frame_in frame payload ≡ front ++ (blocks ++ rest)) → GivesPlace frame payload (at_place (frame.end - length rest - length blocks) (frame.end - length rest) largest)
+place_given payload frame largest blocks rest ordered within reads small valid parts =
+    let s = stands_in payload frame.begin frame.end parts.0 blocks rest ordered within parts.1 in
+    let all = s.0 in
+    record {
+      ordered = ordered;
+      ends = within;
+      rest = rest;
+      reads = rw s.1 reads;
+      stop = omega arith;
+      begins = omega arith;
+      within = record { ordered = omega arith; ends = omega arith };
+      small = small;
+      valid = rw s.1 valid;
     }

@@ -1,9 +1,10 @@
 -- What the calls answer.
-use Rattle.std.specs.Prelude.{◌≡◌, ℕ, ◌+◌, ◌<◌, ◌≤◌, ◌^◌, ◌⊎◌, slice_range, Ok, Err, length, List, [], ◌∷◌, codes, if◌then◌else◌}
+use Rattle.std.specs.Prelude.{◌≡◌, ℕ, ◌+◌, ◌<◌, ◌≤◌, ◌^◌, ◌⊎◌, slice_range, Ok, Err, IsErr, length, List, [], ◌∷◌, codes, if◌then◌else◌}
 use Rattle.std.specs.Cmp.Lexicographic.{pointwise}
 use Rattle.std.specs.Prelude.{nat_eq}
 use Rattle.quic_frames.specs.declared.frame.Frame.{Frame}
 use Rattle.quic_frame_parts.specs.declared.frame.fault.Fault.{Fault}
+use Rattle.quic_frame_parts.specs.AckPlace.{ack_at}
 use Rattle.quic_frame_parts.specs.Reading.{Invalid, Broken, IsBlocks, blocks_left, ranges_of, first_range_at}
 use Rattle.quic_frames.specs.Walk.{left, Finds}
 use Rattle.quic_c.specs.declared.words.FramesWords.{FramesWords}
@@ -37,6 +38,26 @@ blocks_in ranges payload = slice_range payload ranges.begin ranges.end
 pub record IsWithin (ranges : RangesWords) (payload : List ℕ) : Type 0 where
   pub ordered : ranges.begin ≤ ranges.end
   pub ends : ranges.end ≤ length payload
+
+-- the bytes of a frame
+abbrev pub frame_in : FrameWords → List ℕ → List ℕ
+frame_in frame payload = slice_range payload frame.begin frame.end
+
+-- The frame is an ACK, and its greatest number and the place of its blocks were given.
+pub record GivesPlace (frame : FrameWords) (payload : List ℕ) (new : RangesWords) : Type 0 where
+  pub ordered : frame.begin ≤ frame.end
+  pub ends : frame.end ≤ length payload
+  pub rest : List ℕ
+  pub reads : ack_at (frame_in frame payload) ≡ Ok (new.largest, blocks_in new payload, rest)
+  pub stop : new.end + length rest ≡ frame.end
+  pub begins : frame.begin ≤ new.begin
+  pub within : IsWithin new payload
+  pub small : new.largest < 2 ^ 62
+  pub valid : IsBlocks new.largest (blocks_in new payload)
+
+-- The place of the frame lies outside the payload, or no ACK is read there.
+abbrev pub LacksAck : FrameWords → List ℕ → Type 0
+LacksAck frame payload = (frame.end < frame.begin) ⊎ (length payload < frame.end) ⊎ IsErr (ack_at (frame_in frame payload))
 
 -- The first range of the blocks was given, and what is left of the bytes are the blocks of the others.
 pub record GivesRange (old : RangesWords) (payload : List ℕ) (new : RangesWords) (out : RangeWords) : Type 0 where

@@ -1,9 +1,37 @@
 //! The ranges of an ACK, one with each call.
 ghost use Rattle.std.specs.Prelude.{◌≡◌, ◌⊎◌, ◌↔◌, ◌<◌, ◌≤◌, pos, negsuc, length};
-ghost use Rattle.quic_c.specs.Answers.{GivesRange, IsWithin, NamesNone};
+ghost use Rattle.quic_c.specs.Answers.{GivesPlace, GivesRange, IsWithin, LacksAck, NamesNone};
 
-use crate::words::{RangeWords, RangesWords};
-use quic_frames::frame::split_first_range;
+use crate::words::{FrameWords, RangeWords, RangesWords};
+use quic_frames::frame::{split_ack, split_first_range};
+
+/// Begins at the greatest range of the ACK that stands where the frame's words say (RFC 9000, section 19.3). It
+/// answers 0, or -1 where the place lies outside the payload or no ACK is read there; then nothing changes.
+#[unsafe(no_mangle)]
+pub extern "C" fn quic_wire_ack_ranges_init_(
+    ranges: &mut RangesWords,
+    payload: &[u8],
+    frame: &FrameWords,
+) -> i32
+    ensures answers { (result ≡ pos 0) ⊎ (result ≡ negsuc 0) }
+    ensures place { result ≡ pos 0 → GivesPlace frame.now payload.now ranges.new }
+    ensures refused { result ≡ negsuc 0 → LacksAck frame.now payload.now × (ranges.new ≡ ranges.old) }
+{
+    let (begin, end) = (frame.begin, frame.end);
+    if begin > end || end > payload.len() {
+        return -1;
+    }
+    let Some((largest, blocks, rest)) = split_ack(&payload[begin..end]) else {
+        return -1;
+    };
+    let stop = end - rest.len();
+    *ranges = RangesWords {
+        begin: stop - blocks.len(),
+        end: stop,
+        largest,
+    };
+    0
+}
 
 /// The next range of an ACK, the greatest first (RFC 9000, section 19.3.1). It answers 1 with the range; 0 just where
 /// the place lies in the payload and no byte is left; -1 where the words name no blocks: the place lies outside

@@ -1,15 +1,20 @@
 // count WORK ROUNDS [FILE [KIND]]: one kind of work, so many rounds over a file of lines in hexadecimal. Prints how
 // many items there were in a round, and a sum. WORK: frames, canonical (of payloads; with KIND c of their canonical
-// forms); copy, decode, cut (of datagrams; KIND s, i or h: those that begin with a short, Initial or Handshake head);
+// forms); ngtcp2 (with KIND w of those payloads alone that are frames to their end without PADDING, for ngtcp2 too
+// where there is one, and the items are frames); copy, decode, cut (of datagrams; KIND s, i or h: those that begin with a short, Initial or Handshake head);
 // read, write (of lists of parameters); number, number0, expand, expand0 (0: without the work); initial, handshake, short.
 #include <stdint.h>
 #include <stdio.h>
 #include <stdlib.h>
 #include <string.h>
+#ifdef NGTCP2
+#include <ngtcp2_pkt.h>
+#endif
 
 typedef uint64_t u64;
 typedef uint32_t u32;
 u64 count_frames(const uint8_t *, size_t);
+u64 count_whole(const uint8_t *, size_t);
 u64 count_canonical(const uint8_t *, size_t);
 u64 canonical_into(const uint8_t *, size_t, uint8_t *, size_t);
 u64 count_copy(const uint8_t *, size_t);
@@ -23,7 +28,26 @@ u64 count_head(u32, u32);
 
 #define MOST 100000
 static uint8_t *items[MOST];
-static size_t sizes[MOST], items_len;
+static size_t sizes[MOST], items_len, frames_len;
+
+// The frames of a payload by ngtcp2, up to one that it refuses; a sum of their types and bytes, or 0 after a refusal.
+static u64 ngtcp2_sum(const uint8_t *payload, size_t len) {
+#ifdef NGTCP2
+    static union { ngtcp2_frame frame; uint8_t room[1 << 16]; } place;
+    u64 sum = 0;
+    for (size_t at = 0; at < len;) {
+        place.frame.type = 0;
+        ngtcp2_ssize bytes = ngtcp2_pkt_decode_frame(&place.frame, payload + at, len - at);
+        if (bytes <= 0) return 0;
+        sum += place.frame.type + (u64)bytes;
+        at += (size_t)bytes;
+    }
+    return sum;
+#else
+    (void)payload;
+    return len;
+#endif
+}
 
 static int digit(int c) { return c <= '9' ? c - '0' : (c | 32) - 'a' + 10; }
 
@@ -44,6 +68,11 @@ static void load(const char *path, char kind) {
         uint8_t *bytes = malloc(len + 1);
         for (size_t i = 0; i < len; i++) bytes[i] = digit(line[2 * i]) * 16 + digit(line[2 * i + 1]);
         if (!is_of_kind(kind, bytes, len)) continue;
+        if (kind == 'w') {
+            size_t frames = count_whole(bytes, len);
+            if (frames == 0 || ngtcp2_sum(bytes, len) == 0) continue;
+            frames_len += frames;
+        }
         if (kind == 'c') {
             uint8_t *other = malloc(len + 1);
             len = canonical_into(bytes, len, other, len);
@@ -92,6 +121,7 @@ int main(int argc, char **argv) {
     items_len = 0;
     if (argc > 3) load(argv[3], argc > 4 ? argv[4][0] : 'a');
     if (!strcmp(work, "frames")) sum = over(count_frames, rounds);
+    else if (!strcmp(work, "ngtcp2")) sum = over(ngtcp2_sum, rounds);
     else if (!strcmp(work, "canonical")) sum = over(count_canonical, rounds);
     else if (!strcmp(work, "copy")) sum = over(count_copy, rounds);
     else if (!strcmp(work, "decode")) sum = over(count_decode, rounds);
@@ -104,6 +134,6 @@ int main(int argc, char **argv) {
         else if (!strncmp(work, "expand", 6)) sum = expansions(rounds, work[6] != '0');
         else sum = count_head(*work == 'i' ? 0 : *work == 'h' ? 1 : 2, 1000 * rounds);
     }
-    printf("%zu %llu\n", items_len, (unsigned long long)sum);
+    printf("%zu %llu\n", frames_len ? frames_len : items_len, (unsigned long long)sum);
     return 0;
 }

@@ -87,12 +87,13 @@ fn print_all<W: Sink>(
     ensures read { IsErrOf result RunError.Read → ⊥ }
     ensures write { W.has_failed sink.old ≡ false → IsErrOf result RunError.Write ↔ IsTrue (W.has_failed sink.new) }
 {
+    let mut bytes = Vec::new(alloc);
     let mut text = String::new(alloc);
     let mut clean = true;
     let mut rest = input;
     while !rest.is_empty() {
         let (line, after) = first_line(rest);
-        let line_clean = print_line(alloc, mode, line, &mut text, sink)?;
+        let line_clean = print_line(alloc, mode, line, &mut bytes, &mut text, sink)?;
         pass_on_pieces(&mut text, sink)?;
         clean = clean && line_clean;
         rest = after;

@@ -20,16 +20,16 @@ use super::transfer::Sink;
 use canon::print_canon;
 use datagram::print_datagram;
 use frames::print_frames;
-use hex::FromHexError;
 use params::print_params;
 use std::alloc::{AllocError, Global};
 
 // Adds what is printed of a line of the input behind the text that is held back, of which pieces may be passed on.
-// The answer is whether none of it is an `error` line.
+// The answer is whether none of it is an `error` line. The line's bytes are decoded into `bytes`, whatever that holds.
 pub(crate) fn print_line<W: Sink>(
     alloc: Global,
     mode: Mode,
     line: &[u8],
+    bytes: &mut Vec<u8>,
     text: &mut String,
     sink: &mut W,
 ) -> Result<bool, RunError>
@@ -39,8 +39,8 @@ pub(crate) fn print_line<W: Sink>(
     ensures failed { W.has_failed sink.new ≡ (W.has_failed sink.old || is_write result) }
     ensures read { IsErrOf result RunError.Read → ⊥ }
 {
-    match decoded(alloc, trim_return(line))? {
-        Some(payload) => print_payload(alloc, mode, payload.as_slice(), text, sink),
+    match decoded(trim_return(line), bytes)? {
+        Some(payload) => print_payload(alloc, mode, payload, text, sink),
         None => {
             text.push_str("error not hexadecimal\n")?;
             Ok(false)
@@ -48,14 +48,14 @@ pub(crate) fn print_line<W: Sink>(
     }
 }
 
-// The bytes that a line spells, if it spells any.
-fn decoded(alloc: Global, line: &[u8]) -> Result<Option<Vec<u8>>, AllocError>
-    ensures some { IfOk result (λ payload. IfSome payload (λ bytes. decode_of line.now ≡ Ok bytes.items)) }
+// The bytes that a line spells, if it spells any. They are put in place of what the vector holds.
+fn decoded<'a>(line: &[u8], bytes: &'a mut Vec<u8>) -> Result<Option<&'a [u8]>, AllocError>
+    ensures some { IfOk result (λ payload. IfSome payload (λ bytes. decode_of line.now ≡ Ok bytes.now)) }
     ensures none { IfOk result (λ payload. payload ≡ None → IsErr (decode_of line.now)) }
 {
-    match hex::decode(alloc, line) {
-        Ok(payload) => Ok(Some(payload)),
-        Err(FromHexError::OutOfMemory) => Err(AllocError),
+    bytes.resize(line.len() / 2, 0)?;
+    match hex::decode_to_slice(line, bytes.as_mut_slice()) {
+        Ok(()) => Ok(Some(bytes.as_slice())),
         Err(_) => Ok(None),
     }
 }

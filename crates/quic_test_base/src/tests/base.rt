@@ -1,6 +1,8 @@
 //! Rows, single calls and texts of `quic_base`.
 use bytes::{Buf, BufMut, BytesMut};
-use quic_base::coding::{self, BufExt, BufMutExt, Codec, NoRoom, UnexpectedEnd};
+use quic_base::coding::{
+    self, BufExt, BufMutExt, Codec, NoRoom, UnexpectedEnd, get_array, lay_array,
+};
 use quic_base::ids::{
     ConnectionId, DEFAULT_SUPPORTED_VERSIONS, Dir, EcnCodepoint, INITIAL_MTU, IssuedCid,
     LOC_CID_COUNT, MAX_CID_SIZE, MAX_STREAM_COUNT, MAX_UDP_PAYLOAD, MIN_INITIAL_SIZE,
@@ -134,6 +136,12 @@ fn fixed_numbers(rt: HostRuntime) -> Result<(), Fail> {
     checks.same(read::<u16>(bytes), (Ok(0x0102), 6));
     checks.same(read::<u32>(bytes), (Ok(0x01020304), 4));
     checks.same(read::<u64>(bytes), (Ok(0x0102030405060708), 0));
+    let mut left = bytes;
+    checks.same(get_array::<&[u8], 3>(&mut left)?, [1, 2, 3]);
+    checks.same(left.len(), 5);
+    let mut laid = [0x0f; 4];
+    checks.same(lay_array(&mut laid, 1, [7, 8]), 3);
+    checks.same(&laid[..3], b"\x0f\x07\x08".as_slice());
     let v4 = b"\x7f\x00\x00\x01".as_slice();
     checks.same(written(alloc, Ipv4Addr::LOCALHOST)?.as_slice(), v4);
     checks.same(read::<Ipv4Addr>(v4), (Ok(Ipv4Addr::LOCALHOST), 0));

@@ -30,14 +30,14 @@ fn without_data(kind: u32, numbers: [u64; 5]) -> Parts
 }
 
 #[inline(always)]
-fn with_data(kind: u32, flags: u32, numbers: [u64; 5], data: &[u8]) -> Parts
-    ensures { result ≡ record { kind = kind; flags = flags; tail = 0; data_len = length data.now; numbers = numbers } }
+fn with_data(kind: u32, flags: u32, numbers: [u64; 5], bytes: &[u8]) -> Parts
+    ensures { result ≡ record { kind = kind; flags = flags; tail = 0; data_len = length bytes.now; numbers = numbers } }
 {
     Parts {
         kind,
         flags,
         tail: 0,
-        data_len: data.len(),
+        data_len: bytes.len(),
         numbers,
     }
 }

@@ -1,14 +1,11 @@
 -- What is laid into an array, by its front.
-use Rattle.std.proofs.Common.{◌≡◌, ℕ, ◌+◌, ◌-◌, ◌*◌, ◌<◌, ◌≤◌, ◌^◌, List, [], ◌∷◌, ◌++◌, length, take, drop, refl, sym, ap, ◌∙◌, arith}
-use Rattle.std.proofs.Math.Seq.{take-append-add}
+use Rattle.std.proofs.Common.{◌≡◌, ℕ, ◌+◌, ◌-◌, ◌*◌, ◌<◌, ◌≤◌, ◌^◌, List, [], ◌∷◌, ◌++◌, length, take, drop, sym, ap, ◌∙◌, arith}
+use Rattle.std.proofs.Math.Seq.{take-append-add, take-append_seam}
 use Rattle.std.proofs.lemmas.Bool.Decides.{nat_tests}
-use Rattle.std.proofs.lemmas.List.{append-nil, append_assoc, length-take-le, take-append-drop, take-take}
+use Rattle.std.proofs.lemmas.List.{append-nil, append_assoc, length-append, length-take-le, take-append-drop, take-append-le, take-take}
 use Rattle.std.specs.Int.{byte_at, to_be_bytes, w32}
 use Rattle.quic_base.specs.Number.{bytes_of}
 use Rattle.quic_base.specs.Varint.{short, size}
-use Rattle.quic_crypto.specs.declared.packet_number.PacketNumber.{PacketNumber}
-use Rattle.quic_crypto.specs.declared.packet_number.PacketNumber.TheVariants.{U8, U16, U24, U32}
-use Rattle.quic_crypto.specs.PacketNumbers.{number_size}
 
 -- a number below 64 is spelled by itself
 pub short_small : (n : ℕ) → n < 64 → short n ≡ n ∷ []
@@ -47,21 +44,23 @@ pub no_token_laid : (n : ℕ) (token front laid : List ℕ) → n ≡ length tok
 no_token_laid n [] front laid is none e = sym (append-nil laid) ∙ token_laid n [] front laid is (omega (arith, none)) e
 no_token_laid n (x ∷ xs) front laid is none e = absurd (omega arith)
 
--- the front of a front
-pub shorter_front : (m n : ℕ) (xs : List ℕ) → m ≤ n → take m (take n xs) ≡ take m xs
-shorter_front m n xs h = take-take m n xs h
+-- a head was laid behind what stood, where zeros had been put, and what is behind the head goes
+pub laid_behind : (n k all : ℕ) (old zeros both head post rest bytes : List ℕ) → n ≡ length old → both ≡ old ++ zeros → k ≤ length head → n + k ≤ all
+    → take k head ≡ bytes → take (n + k) (take all ((take n both ++ (head ++ post)) ++ rest)) ≡ old ++ bytes
+laid_behind n k all old zeros both head post rest bytes is stood within fits front =
+    let start : take n both ≡ old = ap (take n) stood ∙ ap (λ (i : ℕ). take i (old ++ zeros)) is ∙ take-append_seam old zeros in
+    let kept : k ≤ length (head ++ post) = omega (arith, within, length-append head post) in
+    take-take (n + k) all _ fits
+    ∙ ap (λ (xs : List ℕ). take (n + k) ((xs ++ (head ++ post)) ++ rest)) start
+    ∙ ap (λ (i : ℕ). take (i + k) ((old ++ (head ++ post)) ++ rest)) is
+    ∙ ap (take (length old + k)) (append_assoc old (head ++ post) rest)
+    ∙ take-append-add old ((head ++ post) ++ rest) k
+    ∙ ap (λ (ys : List ℕ). old ++ ys) (take-append-le k (head ++ post) rest kept ∙ take-append-le k head post within ∙ front)
 
--- a number of one to four bytes, shifted to the front of four
-pub lead_1 : (x : ℕ) → x < 2 ^ 8 → take 1 (to_be_bytes w32 (x * 2 ^ 24)) ≡ bytes_of 1 x
+-- numbers of one, three and four bytes, the second shifted to the front of four
+pub number_1 : (x : ℕ) → x < 2 ^ 8 → x ∷ [] ≡ bytes_of 1 x
 unfolding bytes_of
-lead_1 x h = let a : byte_at 3 (x * 2 ^ 24) ≡ byte_at 0 x = omega arith in cc
-
-pub lead_2 : (x : ℕ) → x < 2 ^ 16 → take 2 (to_be_bytes w32 (x * 2 ^ 16)) ≡ bytes_of 2 x
-unfolding bytes_of
-lead_2 x h =
-    let a : byte_at 3 (x * 2 ^ 16) ≡ byte_at 1 x = omega arith in
-    let b : byte_at 2 (x * 2 ^ 16) ≡ byte_at 0 x = omega arith in
-    cc
+number_1 x h = let a : byte_at 0 x ≡ x = omega arith in cc
 
 pub lead_3 : (x : ℕ) → x < 2 ^ 24 → take 3 (to_be_bytes w32 (x * 2 ^ 8)) ≡ bytes_of 3 x
 unfolding bytes_of
@@ -71,15 +70,4 @@ lead_3 x h =
     let c : byte_at 1 (x * 2 ^ 8) ≡ byte_at 0 x = omega arith in
     cc
 
-pub lead_4 : (x : ℕ) → take 4 (to_be_bytes w32 x) ≡ bytes_of 4 x
-unfolding bytes_of
-lead_4 x = refl
-
-pub ruleset leads = (lead_1, lead_2, lead_3, lead_4)
-
--- the part that is written has at most four bytes
-pub number_small : (number : PacketNumber) → number_size number ≤ 4
-number_small (U8 x) = omega arith
-number_small (U16 x) = omega arith
-number_small (U24 x) = omega arith
-number_small (U32 x) = omega arith
+pub ruleset numbers = (number_1)

@@ -8,7 +8,7 @@ ghost use Rattle.quic_headers.specs.Starts.{long_front};
 ghost use Rattle.quic_headers.specs.Writing.{header_size, place_in, header_bytes, IsWritable, size_in, has_length, finished, HasRoom};
 
 use crate::header::Header;
-use crate::lay::{INITIAL_ROOM, LONG_ROOM, SHORT_ROOM, append_front, append_long};
+use crate::lay::{INITIAL_ROOM, LONG_ROOM, SHORT_ROOM};
 use crate::long_type::{LongHeaderType, LongType};
 use quic_base::coding::{BufMutExt, NoRoom, are_bytes};
 use quic_base::ids::ConnectionId;
@@ -214,8 +214,8 @@ impl Header {
         }
     }
 
-    // Appends the head as an Initial one is laid into an array; or field by field, where it isn't laid or the buffer has
-    // no room for the array.
+    // Appends the head as an Initial one: zeros are appended, the head is laid over them, and what is left of them goes. It
+    // goes field by field where it isn't laid or the buffer has no room for the zeros.
     #[inline(never)]
     fn put_initial(&self, out: &mut Vec<u8>) -> Result<(), NoRoom>
         requires { IsWritable self.now }
@@ -228,15 +228,17 @@ impl Header {
         if out.capacity() - out.len() < INITIAL_ROOM {
             return self.put_with_room(out);
         }
-        let mut head = [0; INITIAL_ROOM];
-        let Some(len) = self.lay_initial(&mut head) else {
+        let begin = out.len();
+        append(out, &[0; INITIAL_ROOM]);
+        let Some(initial_len) = self.lay_initial(&mut out.as_mut_slice()[begin..]) else {
+            out.truncate(begin);
             return self.put_with_room(out);
         };
-        append_long(out, &head, len);
+        out.truncate(begin + initial_len);
         Ok(())
     }
 
-    // The same by the array of a Handshake or 0-RTT head.
+    // The same of a Handshake or 0-RTT head.
     #[inline(never)]
     fn put_long(&self, out: &mut Vec<u8>) -> Result<(), NoRoom>
         requires { IsWritable self.now }
@@ -249,15 +251,17 @@ impl Header {
         if out.capacity() - out.len() < LONG_ROOM {
             return self.put_with_room(out);
         }
-        let mut head = [0; LONG_ROOM];
-        let Some(len) = self.lay_long(&mut head) else {
+        let begin = out.len();
+        append(out, &[0; LONG_ROOM]);
+        let Some(long_len) = self.lay_long(&mut out.as_mut_slice()[begin..]) else {
+            out.truncate(begin);
             return self.put_with_room(out);
         };
-        append_long(out, &head, len);
+        out.truncate(begin + long_len);
         Ok(())
     }
 
-    // The same by the array of a short head.
+    // The same of a short head.
     #[inline(never)]
     fn put_short(&self, out: &mut Vec<u8>) -> Result<(), NoRoom>
         requires { IsWritable self.now }
@@ -270,12 +274,30 @@ impl Header {
         if out.capacity() - out.len() < SHORT_ROOM {
             return self.put_with_room(out);
         }
-        let mut head = [0; SHORT_ROOM];
-        let Some(len) = self.lay_short(&mut head) else {
+        let begin = out.len();
+        append(out, &[0; SHORT_ROOM]);
+        let Some(short_len) = self.lay_short(&mut out.as_mut_slice()[begin..]) else {
+            out.truncate(begin);
             return self.put_with_room(out);
         };
-        append_front(out, &head, len);
+        out.truncate(begin + short_len);
         Ok(())
+    }
+
+    // Appends a head that isn't short. It is not inlined, so that for a short one its caller makes one comparison.
+    #[inline(never)]
+    fn put_other(&self, out: &mut Vec<u8>) -> Result<(), NoRoom>
+        requires { IsWritable self.now }
+        ensures ok { OnOk result (out.new.items ≡ out.old.items ++ header_bytes self.now) }
+        ensures len { OnOk result (vec_len out.new ≡ vec_len out.old + header_size self.now) }
+        ensures capacity { vec_capacity out.old ≤ vec_capacity out.new }
+        ensures err { OnErr result (out.new.items ≡ out.old.items) }
+        ensures spare { vec_len out.old + header_size self.now ≤ vec_capacity out.old → IsOk result }
+    {
+        match self {
+            Self::Initial(_) => self.put_initial(out),
+            _ => self.put_long(out),
+        }
     }
 
     // Makes room for the head, and appends it field by field.
@@ -352,10 +374,10 @@ impl Header {
         ensures spare { vec_len out.old + header_size self.now ≤ vec_capacity out.old → IsOk result }
     {
         let start = out.len();
-        let put = match self {
-            Self::Initial(_) => self.put_initial(out),
-            Self::Short { .. } => self.put_short(out),
-            _ => self.put_long(out),
+        let put = if let Self::Short { .. } = self {
+            self.put_short(out)
+        } else {
+            self.put_other(out)
         };
         if put.is_err() {
             return Err(NoRoom);

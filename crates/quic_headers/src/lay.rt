@@ -1,27 +1,26 @@
-//! Heads are laid into an array from the front on, field behind field, by stores of whole arrays whose ends the next
-//! field covers. So a head is appended at once, and no field's length takes a branch.
-ghost use Rattle.std.specs.Prelude.{◌≡◌, ◌+◌, ◌*◌, ◌≤◌, ◌++◌, length, take, vec_len, vec_capacity, IfSome};
-ghost use Rattle.std.specs.Int.{to_be_bytes, w32};
+//! Heads are laid over bytes that stand at a buffer's end, field behind field, by stores of whole arrays whose ends the
+//! next field covers. So a head takes one look at the room, and no field's length takes a branch.
+ghost use Rattle.std.specs.Prelude.{◌≡◌, ◌+◌, ◌*◌, ◌^◌, ◌<◌, ◌≤◌, ◌++◌, length, take, vec_len, vec_capacity, IfSome};
 ghost use Rattle.quic_base.specs.ConnectionId.{long_id};
+ghost use Rattle.quic_base.specs.Number.{bytes_of};
 ghost use Rattle.quic_base.specs.Varint.{short, size};
 ghost use Rattle.quic_crypto.specs.PacketNumbers.{number_bytes, number_size, IsInRange};
 ghost use Rattle.quic_headers.specs.Starts.{long_front};
 ghost use Rattle.quic_headers.specs.Writing.{header_size, header_bytes, IsWritable};
 
-use crate::encode::append;
 use crate::header::Header;
 use crate::long_type::LongHeaderType;
 use quic_base::coding::lay_array;
 use quic_base::ids::{ConnectionId, MAX_CID_SIZE};
 use quic_crypto::packet_number::PacketNumber;
 
-// How many bytes the array of an Initial head has: enough for the longest ids and a token that is laid.
+// Over how many bytes an Initial head is laid: enough for the longest ids and a token that is laid.
 pub(crate) const INITIAL_ROOM: usize = 96;
 
-// How many bytes the array of another long head has.
+// Over how many bytes another long head is laid.
 pub(crate) const LONG_ROOM: usize = 64;
 
-// How many bytes the array of a short head has.
+// Over how many bytes a short head is laid.
 pub(crate) const SHORT_ROOM: usize = 32;
 
 // Half of the longest token that is laid, by its first and its last bytes.
@@ -75,23 +74,22 @@ fn lay_long_start(
     lay_long_id(head, at, src)
 }
 
-// The part of a number that is written, shifted to the front of four bytes.
+// Lays a number of three bytes at a place, with one byte behind it, and answers where the three end.
 #[inline(always)]
-#[tactic(auto, using(crate::proofs::Lays::leads))]
-fn leading(number: PacketNumber) -> u32
-    requires { IsInRange number }
-    ensures { take (number_size number) (to_be_bytes w32 result) ≡ number_bytes number }
+fn lay_three(head: &mut [u8], at: usize, x: u32) -> usize
+    requires small { x < 2 ^ 24 }
+    requires room { at + 4 ≤ length head.old }
+    ensures end { result ≡ at + 3 }
+    ensures front { take result head.new ≡ take at head.old ++ bytes_of 3 x }
+    ensures len { length head.new ≡ length head.old }
 {
-    match number {
-        PacketNumber::U8(x) => u32::from(x) * (1 << 24),
-        PacketNumber::U16(x) => u32::from(x) * (1 << 16),
-        PacketNumber::U24(x) => x * (1 << 8),
-        PacketNumber::U32(x) => x,
-    }
+    lay_array(head, at, (x * (1 << 8)).to_be_bytes());
+    at + 3
 }
 
-// Lays the part of a number that is written, with what makes it four bytes, and answers where the part ends.
+// Lays the part of a number that is written, and answers where it ends.
 #[inline(always)]
+#[tactic(auto, using(crate::proofs::Lays::numbers), unfolding(quic_base::specs::Number::bytes_of))]
 fn lay_number(head: &mut [u8], at: usize, number: PacketNumber) -> usize
     requires valid { IsInRange number }
     requires room { at + 4 ≤ length head.old }
@@ -100,8 +98,12 @@ fn lay_number(head: &mut [u8], at: usize, number: PacketNumber) -> usize
     ensures front { take result head.new ≡ take at head.old ++ number_bytes number }
     ensures len { length head.new ≡ length head.old }
 {
-    lay_array(head, at, leading(number).to_be_bytes());
-    at + number.len()
+    match number {
+        PacketNumber::U8(x) => lay_array(head, at, [x]),
+        PacketNumber::U16(x) => lay_array(head, at, x.to_be_bytes()),
+        PacketNumber::U24(x) => lay_three(head, at, x),
+        PacketNumber::U32(x) => lay_array(head, at, x.to_be_bytes()),
+    }
 }
 
 // Lays a token behind its length: an empty one, or one of 16 to 32 bytes. The others are not laid.
@@ -141,44 +143,16 @@ fn lay_ends(head: &mut [u8], at: usize, bytes: &[u8]) -> Option<usize>
     Some(lay_array(head, at + (bytes.len() - TOKEN_END), last))
 }
 
-// Appends the first bytes of an array where there is room for all of it.
-#[inline(always)]
-pub(crate) fn append_front(out: &mut Vec<u8>, bytes: &[u8], len: usize)
-    requires within { len ≤ length bytes.now }
-    requires room { vec_len out.old + length bytes.now ≤ vec_capacity out.old }
-    ensures items { out.new.items ≡ out.old.items ++ take len bytes.now }
-    ensures len { vec_len out.new ≡ vec_len out.old + len }
-    ensures capacity { vec_capacity out.old ≤ vec_capacity out.new }
-{
-    append(out, bytes);
-    out.truncate(out.len() - (bytes.len() - len));
-}
-
-// The same, by fewer stores where a short array would do.
-#[inline(always)]
-pub(crate) fn append_long(out: &mut Vec<u8>, bytes: &[u8], len: usize)
-    requires within { len ≤ length bytes.now }
-    requires long { SHORT_ROOM ≤ length bytes.now }
-    requires room { vec_len out.old + length bytes.now ≤ vec_capacity out.old }
-    ensures items { out.new.items ≡ out.old.items ++ take len bytes.now }
-    ensures len { vec_len out.new ≡ vec_len out.old + len }
-    ensures capacity { vec_capacity out.old ≤ vec_capacity out.new }
-{
-    if len <= SHORT_ROOM {
-        append_front(out, &bytes[..SHORT_ROOM], len);
-    } else {
-        append_front(out, bytes, len);
-    }
-}
-
 impl Header {
     // Lays an Initial head, and answers how many bytes it has; none where its token is not laid, or it is another head.
     #[inline(always)]
-    pub(crate) fn lay_initial(&self, head: &mut [u8; INITIAL_ROOM]) -> Option<usize>
-        requires { IsWritable self.now }
+    pub(crate) fn lay_initial(&self, head: &mut [u8]) -> Option<usize>
+        requires writable { IsWritable self.now }
+        requires room { INITIAL_ROOM ≤ length head.old }
         ensures size { IfSome result (λ len. len ≡ header_size self.now) }
         ensures front { IfSome result (λ len. take len head.new ≡ header_bytes self.now) }
         ensures within { IfSome result (λ len. len ≤ INITIAL_ROOM) }
+        ensures len { length head.new ≡ length head.old }
     {
         let Self::Initial(initial) = self else {
             return None;
@@ -198,11 +172,13 @@ impl Header {
 
     // Lays a Handshake or 0-RTT head, and answers how many bytes it has; none where it is another head.
     #[inline(always)]
-    pub(crate) fn lay_long(&self, head: &mut [u8; LONG_ROOM]) -> Option<usize>
-        requires { IsWritable self.now }
+    pub(crate) fn lay_long(&self, head: &mut [u8]) -> Option<usize>
+        requires writable { IsWritable self.now }
+        requires room { LONG_ROOM ≤ length head.old }
         ensures size { IfSome result (λ len. len ≡ header_size self.now) }
         ensures front { IfSome result (λ len. take len head.new ≡ header_bytes self.now) }
         ensures within { IfSome result (λ len. len ≤ LONG_ROOM) }
+        ensures len { length head.new ≡ length head.old }
     {
         let Self::Long {
             ty,
@@ -222,11 +198,13 @@ impl Header {
 
     // Lays a short head, and answers how many bytes it has; none where it is another head.
     #[inline(always)]
-    pub(crate) fn lay_short(&self, head: &mut [u8; SHORT_ROOM]) -> Option<usize>
-        requires { IsWritable self.now }
+    pub(crate) fn lay_short(&self, head: &mut [u8]) -> Option<usize>
+        requires writable { IsWritable self.now }
+        requires room { SHORT_ROOM ≤ length head.old }
         ensures size { IfSome result (λ len. len ≡ header_size self.now) }
         ensures front { IfSome result (λ len. take len head.new ≡ header_bytes self.now) }
         ensures within { IfSome result (λ len. len ≤ SHORT_ROOM) }
+        ensures len { length head.new ≡ length head.old }
     {
         let Self::Short {
             spin,

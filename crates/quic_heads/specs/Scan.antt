@@ -73,9 +73,20 @@ AreFields kind.Retry x = AreIds x.dst_cid x.src_cid x.head_end × IsNone x.token
 AreFields (kind.Short spin) x = (x.dst_cid.start ≡ 1) × (1 ≤ x.dst_cid.end) × (x.dst_cid.end ≡ x.head_end) × IsNone x.src_cid × IsNone x.token × (x.len ≡ 0) × (x.version ≡ 0)
 AreFields (kind.VersionNegotiate random) x = AreIds x.dst_cid x.src_cid x.head_end × IsNone x.token × (x.len ≡ 0) × (x.version ≡ 0)
 
+-- The places are in order, and in the head.
+pub record AreInside (x : HeadPlaces) : Type 0 where
+  pub dst_order : x.dst_cid.start ≤ x.dst_cid.end
+  pub dst_within : x.dst_cid.end ≤ x.head_end
+  pub src_order : x.src_cid.start ≤ x.src_cid.end
+  pub src_within : x.src_cid.end ≤ x.head_end
+  pub token_order : x.token.start ≤ x.token.end
+  pub token_within : x.token.end ≤ x.head_end
+
 -- The fields stand in the head, the head in the packet, and the packet in as many bytes.
 pub record IsLaid (x : HeadPlaces) (whole : ℕ) : Type 0 where
   pub fields : AreFields x.kind x
+  pub inside : AreInside x
+  pub first : 0 < x.head_end
   pub head : x.head_end ≤ x.packet_end
   pub packet : x.packet_end ≤ whole
 

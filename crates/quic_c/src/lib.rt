@@ -1,11 +1,12 @@
-//! The wire layer of QUIC for callers that write C: frames and the ranges of acknowledgements, one with each call.
+//! The wire layer of QUIC for callers that write C: packets, frames and the ranges of acknowledgements, one with each call.
 //! What a caller keeps between calls are plain words, and the payload is given anew with each call. Every word may
 //! have every value: no export asks for anything.
 #![tactic(auto)]
 
 mod acks;
 mod frames;
+mod packets;
 mod show;
 mod words;
 
-pub use words::{FrameWords, FramesWords, RangeWords, RangesWords};
+pub use words::{FrameWords, FramesWords, PacketWords, RangeWords, RangesWords};

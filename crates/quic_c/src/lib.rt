@@ -7,6 +7,7 @@ mod acks;
 mod frames;
 mod packets;
 mod show;
+mod unprotect;
 mod words;
 
-pub use words::{FrameWords, FramesWords, PacketWords, RangeWords, RangesWords};
+pub use words::{FrameWords, FramesWords, OpenedWords, PacketWords, RangeWords, RangesWords};

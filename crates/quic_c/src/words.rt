@@ -90,6 +90,18 @@ pub struct PacketWords {
     pub len: u64,
 }
 
+/// A packet number, once its head's protection is taken off.
+#[repr(C)]
+#[derive(Clone, Copy)]
+pub struct OpenedWords {
+    /// The whole number.
+    pub number: u64,
+    /// How many bytes it has in the packet, 1 to 4.
+    pub number_len: usize,
+    /// Where they end and the payload begins.
+    pub payload_offset: usize,
+}
+
 // The sizes that every declaration of these structs in C must have.
 const _: () = prove!(std::mem::size_of::<FramesWords>() == 24);
 
@@ -100,3 +112,5 @@ const _: () = prove!(std::mem::size_of::<RangeWords>() == 16);
 const _: () = prove!(std::mem::size_of::<RangesWords>() == 24);
 
 const _: () = prove!(std::mem::size_of::<PacketWords>() == 96);
+
+const _: () = prove!(std::mem::size_of::<OpenedWords>() == 24);

@@ -1,5 +1,5 @@
 -- What places in a datagram say: the head whose fields stand there, or a refusal.
-use Rattle.std.specs.Prelude.{◌≡◌, ℕ, ◌+◌, ◌<◌, ◌≤◌, List, length, drop, Result, Ok, Err, slice_range, codes}
+use Rattle.std.specs.Prelude.{◌≡◌, ℕ, ◌+◌, ◌<◌, ◌≤◌, List, drop, Result, Ok, Err, slice_range, codes}
 use Rattle.quic_heads.specs.declared.protected.ProtectedHeader.{ProtectedHeader}
 use Rattle.quic_heads.specs.declared.protected.ProtectedHeader.TheVariants as head
 use Rattle.quic_heads.specs.declared.fields.Place.{Place}

@@ -6,12 +6,11 @@ ghost use Rattle.quic_heads.specs.Parsers.{fixed_parsed};
 ghost use Rattle.quic_heads.specs.Reading.{cut_at, head_at, long_at, typed_at, len_in};
 ghost use Rattle.quic_heads.specs.Scan.{part, head_in, cut_in, read_in, AreIds, AreFields, AreInside, IsLaid, IsTold};
 
+pub use crate::fields::Place;
 use crate::fields::{pass, read_place, read_var, read_word, remaining};
 use crate::parser::FixedLengthConnectionIdParser;
 use quic_base::coding::are_bytes;
 use quic_headers::long_type::{LongHeaderType, LongType};
-
-pub use crate::fields::Place;
 
 /// The kinds of heads, with what their first bytes say before protection is taken off.
 #[derive(Clone, Copy, Debug, PartialEq, Eq)]

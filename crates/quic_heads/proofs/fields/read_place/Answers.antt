@@ -1,5 +1,5 @@
 -- An id stands behind its length.
-use Rattle.std.proofs.Common.{◌≡◌, ◌+◌, ◌∷◌, List, ℕ, Some, drop, slice_range, arith, sym, ◌∙◌, refl}
+use Rattle.std.proofs.Common.{arith, sym, ◌∙◌, refl}
 use Rattle.quic_heads.proofs.Scans.{id_stands}
 use Rattle.quic_heads.proofs.Steps.{some_pair}
 use Rattle.quic_heads.proofs.fields.read_place.Goals as goal

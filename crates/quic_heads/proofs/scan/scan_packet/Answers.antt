@@ -1,8 +1,6 @@
 -- The packet ends where its head says.
-use Rattle.std.proofs.Common.{◌≡◌, ℕ, Option, ap, ◌∙◌}
+use Rattle.std.proofs.Common.{ℕ, Option, ap, ◌∙◌}
 use Rattle.std.specs.Prelude.{unwrap_or}
-use Rattle.quic_heads.specs.Parsers.{fixed_parsed}
-use Rattle.quic_heads.specs.Reading.{Context}
 use Rattle.quic_heads.specs.Scan.{head_in, refusal_in}
 use Rattle.quic_heads.proofs.Cuts.{cut_read}
 use Rattle.quic_heads.proofs.Scans.{cut_refused, cut_past}

@@ -30,13 +30,7 @@ fn flags_word(kind: HeadKind) -> u32
         HeadKind::Initial => 0,
         HeadKind::Long(_) => 0,
         HeadKind::Retry => 0,
-        HeadKind::Short { spin } => {
-            if spin {
-                1
-            } else {
-                0
-            }
-        }
+        HeadKind::Short { spin } => { if spin { 1 } else { 0 } }
         HeadKind::VersionNegotiate { random } => u32::from(random),
     }
 }

@@ -1,5 +1,5 @@
 -- A number that was read is in range.
-use Rattle.std.proofs.Common.{◌≡◌, ℕ, ◌*◌, ◌<◌, ◌^◌, List, length, subst, ap, ◌∙◌, arith, refl}
+use Rattle.std.proofs.Common.{◌≡◌, ℕ, ◌^◌, List, length, ap, ◌∙◌, arith, refl}
 use Rattle.quic_base.proofs.PublicLaws.{num_below}
 use Rattle.quic_crypto.specs.declared.packet_number.PacketNumber.{PacketNumber}
 use Rattle.quic_crypto.specs.declared.packet_number.PacketNumber.TheVariants.{U8, U16, U24, U32}

@@ -76,11 +76,11 @@ fn unmask_number(datagram: &mut [u8], at: usize, mask: &[u8], count: usize)
 }
 
 /// Takes the protection off the head of a packet, by the mask that the caller made of the sample (RFC 9001, section
-/// 5.4.1); its first five bytes are used. It answers 0, and then says the number by the one that is `expected` next
-/// (RFC 9000, appendix A.3), and where the payload begins; -3 just where the packet ends within four bytes from where the number
-/// begins; -1 just where the words name no packet of the datagram with a number, or the mask has fewer than five
-/// bytes, or `expected` is 2^62 or more. Nothing changes but with 0: then the low bits of the packet's first
-/// byte, five in a short head and four in a long one, and the number's bytes.
+/// 5.4.1), of which the first five bytes are used. It answers 0, and then gives the number, by the one that is
+/// `expected` next (RFC 9000, appendix A.3), and the place where the payload begins; -3 just where the packet ends
+/// within four bytes from where the number begins; -1 just where the words name no packet of the datagram with a
+/// number, or the mask has fewer than five bytes, or `expected` is 2^62 or more. Nothing changes but with 0: then
+/// the low bits of the packet's first byte, five in a short head and four in a long one, and the number's bytes.
 #[unsafe(no_mangle)]
 pub extern "C" fn quic_wire_unprotect_(
     datagram: &mut [u8],

@@ -1,7 +1,7 @@
 //! Places that `scan` finds in the bytes of worked lines.
+use quic_headers::long_type::LongType;
 use quic_heads::parser::FixedLengthConnectionIdParser;
 use quic_heads::scan::{HeadKind, Place, ScanError, scan};
-use quic_headers::long_type::LongType;
 use quic_testing::Checks;
 use std::test::Fail;
 

@@ -1,11 +1,13 @@
-//! The wire layer of QUIC for callers that write C: frames and the ranges of acknowledgements, one with each call.
-//! What a caller keeps between calls are plain words, and the payload is given anew with each call. Every word may
-//! have every value: no export asks for anything.
+//! The wire layer of QUIC for callers that write C: packets, frames and the ranges of acknowledgements, one with
+//! each call. What a caller keeps between calls are plain words, and the bytes are given anew with each call. Every
+//! word may have every value: no export asks for anything.
 #![tactic(auto)]
 
 mod acks;
 mod frames;
+mod packets;
 mod show;
+mod unprotect;
 mod words;
 
-pub use words::{FrameWords, FramesWords, RangeWords, RangesWords};
+pub use words::{FrameWords, FramesWords, OpenedWords, PacketWords, RangeWords, RangesWords};

@@ -7,4 +7,5 @@ mod Finishes
 mod HeadAgain
 mod HeadFound
 mod RefusedFound
+mod Scans
 pub mod Steps

@@ -8,3 +8,4 @@ pub mod Parsers
 pub mod Queries
 pub mod Reading
 pub mod Refusal
+pub mod Scan

@@ -6,4 +6,5 @@ mod calls;
 mod heads_refused;
 mod parsers;
 mod rows;
+mod scans;
 mod texts;

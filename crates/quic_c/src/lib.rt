@@ -7,5 +7,6 @@ mod acks;
 mod frames;
 mod show;
 mod words;
+mod write;
 
 pub use words::{FrameWords, FramesWords, RangeWords, RangesWords};

@@ -1,13 +1,13 @@
 -- What words say, and why they say no frame.
-use Rattle.std.proofs.Common.{◌≡◌, ℕ, ◌+◌, ◌<◌, ◌≤◌, ◌^◌, List, [], ◌∷◌, length, take, drop, Option, None, Some, Bool, true, false, refl, sym, ap, ◌∙◌, arith}
+use Rattle.std.proofs.Common.{◌≡◌, ℕ, ◌+◌, ◌<◌, ◌≤◌, ◌^◌, List, [], ◌∷◌, length, Option, None, Some, Bool, true, false, refl, sym, ap, ◌∙◌, arith}
 use Rattle.std.specs.Prelude.{◌==◌, ◌&&◌, if◌then◌else◌}
 use Rattle.quic_frames.specs.declared.frame.Frame.{Frame}
-use Rattle.quic_frames.specs.InRange.{IsNoAck, IsTyped, InRange, CanStand, open_data}
+use Rattle.quic_frames.specs.InRange.{IsNoAck, IsTyped}
 use Rattle.quic_c.specs.declared.words.FrameWords.{FrameWords}
-use Rattle.quic_c.specs.Shown.{kind_of, flags_of, numbers_of, data_of, tail_of}
-use Rattle.quic_c.specs.Shapes.{Shape, IsSound, Fills, HasPieces, IsShown, shape_of, kept_numbers, kept_data, kept_token, token_room}
-use Rattle.quic_c.specs.Written.{Says, CanWrite, SaysNone, token_of}
-use Rattle.quic_c.proofs.Shapes.{sound, Keeps, keeps, open_short, counted_short}
+use Rattle.quic_c.specs.Shown.{data_of, tail_of}
+use Rattle.quic_c.specs.Shapes.{Shape, IsSound, Fills, HasPieces, IsShown, shape_of, kept_numbers, kept_data, token_room}
+use Rattle.quic_c.specs.Written.{Says, CanWrite, SaysNone}
+use Rattle.quic_c.proofs.Shapes.{sound, keeps, open_short, counted_short}
 
 pub not_sound : (words : FrameWords) (bytes : List ℕ) (last : Bool) → (IsSound words.kind words.numbers words.data_len → ⊥) → SaysNone words bytes last
 not_sound words bytes last never frame can =

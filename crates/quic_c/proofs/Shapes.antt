@@ -1,5 +1,5 @@
 -- What the words of a frame of any kind but ACK are.
-use Rattle.std.proofs.Common.{◌≡◌, ℕ, ◌<◌, ◌≤◌, ◌^◌, List, [], ◌∷◌, length, None, Bool, true, false, refl, arith}
+use Rattle.std.proofs.Common.{◌≡◌, ℕ, ◌<◌, ◌^◌, List, [], ◌∷◌, length, None, Bool, true, false, refl, arith}
 use Rattle.std.specs.Prelude.{◌==◌, ◌&&◌, if◌then◌else◌}
 use Rattle.quic_base.specs.declared.ids.Dir.TheVariants as dirs
 use Rattle.quic_frame_parts.specs.Numbers.{AreNumeric}

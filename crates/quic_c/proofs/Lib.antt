@@ -1,1 +1,3 @@
 pub mod Places
+mod Shapes
+mod Said

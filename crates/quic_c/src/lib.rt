@@ -9,5 +9,6 @@ mod packets;
 mod show;
 mod unprotect;
 mod words;
+mod write;
 
 pub use words::{FrameWords, FramesWords, OpenedWords, PacketWords, RangeWords, RangesWords};

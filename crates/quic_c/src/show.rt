@@ -8,12 +8,12 @@ use quic_frames::frame::{Close, Frame};
 
 // What the words of a frame take from the frame alone, by one look at its kind.
 #[derive(Clone, Copy)]
-struct Parts {
-    kind: u32,
-    flags: u32,
-    tail: usize,
-    data_len: usize,
-    numbers: [u64; 5],
+pub(crate) struct Parts {
+    pub(crate) kind: u32,
+    pub(crate) flags: u32,
+    pub(crate) tail: usize,
+    pub(crate) data_len: usize,
+    pub(crate) numbers: [u64; 5],
 }
 
 #[inline(always)]
@@ -43,7 +43,7 @@ fn with_data(kind: u32, flags: u32, numbers: [u64; 5], bytes: &[u8]) -> Parts
 }
 
 #[inline(always)]
-fn parts_of(frame: &Frame<'_>) -> Parts
+pub(crate) fn parts_of(frame: &Frame<'_>) -> Parts
     ensures { result ≡ record { kind = kind_of frame.now; flags = flags_of frame.now; tail = tail_of frame.now; data_len = length (data_of frame.now); numbers = numbers_of frame.now } }
 {
     match frame {

@@ -16,3 +16,4 @@ pub mod Numbers
 pub mod Sets
 pub mod Closes
 pub mod AckPlace
+pub mod Putting

@@ -12,6 +12,7 @@ pub mod encode;
 pub mod fault;
 pub mod field;
 mod first_range;
+pub mod put;
 pub mod stream_meta;
 pub mod write;
 

@@ -1,11 +1,12 @@
 -- The shortest spellings of whole frames. Those of the parts that frames hold are passed on.
-use Rattle.std.proofs.Common.{◌≡◌, ℕ, Bool, true, false, List, [], ◌∷◌, ◌++◌, length, ap, ◌+◌, arith, eqb}
+use Rattle.std.proofs.Common.{◌≡◌, ℕ, Bool, true, false, List, [], ◌∷◌, ◌++◌, length, ap, ◌∙◌, append_assoc, ◌+◌, ◌<◌, ◌≤◌, arith, eqb}
+use Rattle.std.proofs.lemmas.Bool.Decides.{nat_tests}
 use Rattle.std.specs.Prelude.{if◌then◌else◌}
 use Rattle.std.proofs.lemmas.List.{append-nil, length-append}
 use Rattle.quic_base.specs.Number.{bytes_of}
 use Rattle.quic_base.specs.Varint.{short, size}
 use Rattle.quic_frame_parts.specs.Field.{Number, Bytes}
-use Rattle.quic_frame_parts.specs.Table.{Crypto, NewConnectionId, ConnectionClose, ApplicationClose, Datagram, PathChallenge, PathResponse, Stream}
+use Rattle.quic_frame_parts.specs.Table.{Crypto, NewToken, NewConnectionId, ConnectionClose, ApplicationClose, Datagram, PathChallenge, PathResponse, Stream}
 use Rattle.quic_frame_parts.specs.Parts.{frame_of, flag}
 use Rattle.quic_frame_parts.specs.Shortest.{shortest_frame}
 use Rattle.quic_frame_parts.specs.Numbers.{all_short}
@@ -14,6 +15,20 @@ use Rattle.quic_frame_parts.proofs.StreamParts as streams
 
 pub crypto_parts : (last : Bool) (offset : ℕ) (bytes : List ℕ) → shortest_frame last (frame_of Crypto (Number offset ∷ Bytes bytes ∷ [])) ≡ all_short (0x06 ∷ offset ∷ length bytes ∷ []) ++ bytes
 crypto_parts = parts.crypto_parts
+
+pub token_parts : (last : Bool) (bytes : List ℕ) → shortest_frame last (frame_of NewToken (Bytes bytes ∷ [])) ≡ all_short (0x07 ∷ length bytes ∷ []) ++ bytes
+token_parts = parts.token_parts
+
+-- the length byte of an id is a number below 64
+short_small : (n : ℕ) → n < 64 → short n ≡ n ∷ []
+unfolding short size bytes_of
+short_small n lt = grind (arith, nat_tests)
+
+pub new_id_parts : (last : Bool) (sequence retire : ℕ) (id token : List ℕ) → length id ≤ 20
+    → shortest_frame last (frame_of NewConnectionId (Number sequence ∷ Number retire ∷ Bytes id ∷ Bytes token ∷ [])) ≡ all_short (0x18 ∷ sequence ∷ retire ∷ length id ∷ []) ++ (id ++ token)
+new_id_parts last sequence retire id token le =
+    let small : short (length id) ≡ length id ∷ [] = short_small (length id) (omega (arith, le)) in
+    parts.id_parts last sequence retire id token ∙ simp (small, append_assoc)
 
 pub connection_close_parts : (last : Bool) (code ty : ℕ) (bytes : List ℕ)
     → shortest_frame last (frame_of ConnectionClose (Number code ∷ Number ty ∷ Bytes bytes ∷ [])) ≡ all_short (0x1c ∷ code ∷ ty ∷ length bytes ∷ []) ++ bytes

@@ -53,6 +53,11 @@ abbrev pub AreTyped : List Frame → Type 0
 AreTyped [] = ⊤
 AreTyped (frame ∷ others) = IsTyped frame × AreTyped others
 
+-- a frame of any kind but ACK
+abbrev pub IsNoAck : Frame → Type 0
+IsNoAck (frames.Ack a) = ⊥
+IsNoAck frame = ⊤
+
 -- the data whose length is written only where the frame isn't the last
 abbrev pub open_data : Frame → List ℕ
 open_data (frames.Stream s) = s.bytes.now

@@ -16,6 +16,7 @@ pub use Rattle.quic_frame_parts.specs.Shortest
 pub use Rattle.quic_frame_parts.specs.Numbers
 pub use Rattle.quic_frame_parts.specs.Sets
 pub use Rattle.quic_frame_parts.specs.Closes
+pub use Rattle.quic_frame_parts.specs.Putting
 pub mod Meaning
 pub mod InRange
 pub mod Least

@@ -9,6 +9,7 @@ mod field;
 mod found;
 mod in_range;
 mod iter;
+mod put;
 mod reading;
 mod size_bound;
 mod whole;

@@ -13,7 +13,7 @@ use quic_base::ids::ConnectionId;
 use quic_base::varint::VarInt;
 
 // How many bytes the array has that numbers are laid into: five of them, each by a store of eight bytes at most.
-const HEAD_ROOM: usize = 40;
+pub(super) const HEAD_ROOM: usize = 40;
 
 // Lays a number in its shortest spelling at a place, and answers where it ends.
 #[inline(always)]
@@ -39,7 +39,7 @@ fn lay_number(head: &mut [u8], at: usize, n: u64) -> usize
 
 // Lays numbers, one behind the other, and answers where they end.
 #[inline(always)]
-fn lay_numbers(head: &mut [u8; HEAD_ROOM], numbers: &[u64]) -> usize
+pub(super) fn lay_numbers(head: &mut [u8; HEAD_ROOM], numbers: &[u64]) -> usize
     requires few { length numbers.now ≤ 5 }
     requires numeric { AreNumeric numbers.now }
     ensures within { result ≤ HEAD_ROOM }

@@ -112,7 +112,7 @@ impl Frame<'_> {
 }
 
 // The bit of a direction in the types of MAX_STREAMS and STREAMS_BLOCKED.
-fn bit_of(dir: Dir) -> u64
+pub(super) fn bit_of(dir: Dir) -> u64
     ensures { result ≡ dir_number dir }
 {
     match dir {

@@ -1,0 +1,149 @@
+-- What the words of a frame of any kind but ACK are.
+use Rattle.std.proofs.Common.{◌≡◌, ℕ, ◌<◌, ◌^◌, List, [], ◌∷◌, length, None, Bool, true, false, refl, arith}
+use Rattle.std.specs.Prelude.{◌==◌, ◌&&◌, if◌then◌else◌}
+use Rattle.quic_base.specs.declared.ids.Dir.TheVariants as dirs
+use Rattle.quic_frame_parts.specs.Numbers.{AreNumeric}
+use Rattle.quic_frame_parts.specs.declared.frame.close.Close.TheVariants as closes
+use Rattle.quic_frames.specs.declared.frame.Frame.{Frame}
+use Rattle.quic_frames.specs.declared.frame.Frame.TheVariants as frames
+use Rattle.quic_frames.specs.InRange.{IsNoAck, IsTyped, InRange, open_data}
+use Rattle.quic_c.specs.Shown.{kind_of, flags_of, numbers_of, data_of, tail_of}
+use Rattle.quic_c.specs.Shapes.{IsSound, shape_of, kept_numbers, kept_data, token_room}
+
+zero_fits : 0 < 2 ^ 62
+zero_fits = omega arith
+
+four : (a b c d : ℕ) → a < 2 ^ 62 → b < 2 ^ 62 → c < 2 ^ 62 → d < 2 ^ 62 → AreNumeric (a ∷ b ∷ c ∷ d ∷ 0 ∷ [])
+four a b c d p q r s = (p, (q, (r, (s, (zero_fits, tt)))))
+
+two : (a b : ℕ) → a < 2 ^ 62 → b < 2 ^ 62 → AreNumeric (a ∷ b ∷ 0 ∷ 0 ∷ 0 ∷ [])
+two a b p q = four a b 0 0 p q zero_fits zero_fits
+
+plain : (kind : ℕ) (numbers : List ℕ) (len : ℕ) → AreNumeric numbers → len < 2 ^ 62 → (kind ≡ 0x18 → ⊥) → IsSound kind numbers len
+plain kind numbers len n l other = record { numeric = λ _. n; counted = λ _. l; ordered = λ e. absurd (other e); some = λ e. absurd (other e); few = λ e. absurd (other e) }
+
+pub sound : (frame : Frame) → IsNoAck frame → IsTyped frame → InRange frame → IsSound (kind_of frame) (numbers_of frame) (length (data_of frame))
+sound frames.Padding here typed ok = plain _ _ _ (two 0 0 zero_fits zero_fits) (zero_fits) (λ e. absurd (omega arith))
+sound (frames.Ack _) here typed ok = elim here [ ]
+sound frames.Ping here typed ok = plain _ _ _ (two 0 0 zero_fits zero_fits) (zero_fits) (λ e. absurd (omega arith))
+sound (frames.ResetStream r) here typed ok = plain _ _ _ (four _ _ _ 0 typed.0 typed.1.0 typed.1.1.0 zero_fits) (zero_fits) (λ e. absurd (omega arith))
+sound (frames.StopSending s) here typed ok = plain _ _ _ (two _ _ typed.0 typed.1.0) (zero_fits) (λ e. absurd (omega arith))
+sound (frames.Crypto x) here typed ok = plain _ _ _ (two 0 _ zero_fits ok.0) (ok.1.0) (λ e. absurd (omega arith))
+sound (frames.NewToken t) here typed ok = plain _ _ _ (two 0 0 zero_fits zero_fits) (ok) (λ e. absurd (omega arith))
+sound (frames.Stream s) here typed ok = record { numeric = λ _. two _ _ typed ok; counted = λ e. cc; ordered = λ e. absurd (omega arith); some = λ e. absurd (omega arith); few = λ e. absurd (omega arith) }
+sound (frames.MaxData n) here typed ok = plain _ _ _ (two 0 _ zero_fits typed) (zero_fits) (λ e. absurd (omega arith))
+sound (frames.MaxStreamData id offset) here typed ok = plain _ _ _ (two _ _ typed ok) (zero_fits) (λ e. absurd (omega arith))
+sound (frames.MaxStreams dirs.Bi count) here typed ok = plain _ _ _ (two 0 _ zero_fits ok) (zero_fits) (λ e. absurd (omega arith))
+sound (frames.MaxStreams dirs.Uni count) here typed ok = plain _ _ _ (two 0 _ zero_fits ok) (zero_fits) (λ e. absurd (omega arith))
+sound (frames.DataBlocked offset) here typed ok = plain _ _ _ (two 0 _ zero_fits ok) (zero_fits) (λ e. absurd (omega arith))
+sound (frames.StreamDataBlocked id offset) here typed ok = plain _ _ _ (two _ _ typed ok) (zero_fits) (λ e. absurd (omega arith))
+sound (frames.StreamsBlocked dirs.Bi limit) here typed ok = plain _ _ _ (two 0 _ zero_fits ok) (zero_fits) (λ e. absurd (omega arith))
+sound (frames.StreamsBlocked dirs.Uni limit) here typed ok = plain _ _ _ (two 0 _ zero_fits ok) (zero_fits) (λ e. absurd (omega arith))
+sound (frames.NewConnectionId n) here typed ok =
+    record { numeric = λ _. two _ _ ok.0.0 ok.0.1.0; counted = λ _. omega (arith, ok.3); ordered = λ _. ok.1; some = λ _. ok.2; few = λ _. ok.3 }
+sound (frames.RetireConnectionId sequence) here typed ok = plain _ _ _ (two _ 0 ok zero_fits) (zero_fits) (λ e. absurd (omega arith))
+sound (frames.PathChallenge n) here typed ok = record { numeric = λ e. cc; counted = λ _. zero_fits; ordered = λ e. absurd (omega arith); some = λ e. absurd (omega arith); few = λ e. absurd (omega arith) }
+sound (frames.PathResponse n) here typed ok = record { numeric = λ e. cc; counted = λ _. zero_fits; ordered = λ e. absurd (omega arith); some = λ e. absurd (omega arith); few = λ e. absurd (omega arith) }
+sound (frames.Close (closes.Connection x)) here typed ok = plain _ _ _ (two _ _ typed.0 typed.1.0) (ok.1) (λ e. absurd (omega arith))
+sound (frames.Close (closes.Application x)) here typed ok = plain _ _ _ (two _ 0 typed zero_fits) (ok) (λ e. absurd (omega arith))
+sound (frames.Datagram d) here typed ok = record { numeric = λ _. two 0 0 zero_fits zero_fits; counted = λ e. cc; ordered = λ e. absurd (omega arith); some = λ e. absurd (omega arith); few = λ e. absurd (omega arith) }
+sound (frames.AckFrequency f) here typed ok = plain _ _ _ (four _ _ _ _ typed.0 typed.1.0 typed.1.1.0 typed.1.1.1.0) (zero_fits) (λ e. absurd (omega arith))
+sound frames.ImmediateAck here typed ok = plain _ _ _ (two 0 0 zero_fits zero_fits) (zero_fits) (λ e. absurd (omega arith))
+sound frames.HandshakeDone here typed ok = plain _ _ _ (two 0 0 zero_fits zero_fits) (zero_fits) (λ e. absurd (omega arith))
+
+-- which of its words a frame takes
+pub record Keeps (frame : Frame) : Type 0 where
+  pub known : shape_of (kind_of frame) ≡ None → ⊥
+  pub numbers : kept_numbers (shape_of (kind_of frame)) (numbers_of frame) ≡ numbers_of frame
+  pub content : kept_data (shape_of (kind_of frame)) (data_of frame) ≡ data_of frame
+  pub flags : ◌≡◌ {A = ℕ} (if kind_of frame == 0x08 && flags_of frame == 1 then 1 else 0) (flags_of frame)
+  pub tail : tail_of frame ≡ token_room (kind_of frame)
+
+fin_kept : (fin : Bool) → ◌≡◌ {A = ℕ} (if (if fin then 1 else 0) == 1 then 1 else 0) (if fin then 1 else 0)
+fin_kept true = refl
+fin_kept false = refl
+
+pub keeps : (frame : Frame) → IsNoAck frame → Keeps frame
+keeps frames.Padding here = record { known = λ e. cc; numbers = refl; content = refl; flags = refl; tail = refl }
+keeps (frames.Ack _) here = elim here [ ]
+keeps frames.Ping here = record { known = λ e. cc; numbers = refl; content = refl; flags = refl; tail = refl }
+keeps (frames.ResetStream r) here = record { known = λ e. cc; numbers = refl; content = refl; flags = refl; tail = refl }
+keeps (frames.StopSending s) here = record { known = λ e. cc; numbers = refl; content = refl; flags = refl; tail = refl }
+keeps (frames.Crypto x) here = record { known = λ e. cc; numbers = refl; content = refl; flags = refl; tail = refl }
+keeps (frames.NewToken t) here = record { known = λ e. cc; numbers = refl; content = refl; flags = refl; tail = refl }
+keeps (frames.Stream s) here = record { known = λ e. cc; numbers = refl; content = refl; flags = fin_kept s.fin; tail = refl }
+keeps (frames.MaxData n) here = record { known = λ e. cc; numbers = refl; content = refl; flags = refl; tail = refl }
+keeps (frames.MaxStreamData id offset) here = record { known = λ e. cc; numbers = refl; content = refl; flags = refl; tail = refl }
+keeps (frames.MaxStreams dirs.Bi count) here = record { known = λ e. cc; numbers = refl; content = refl; flags = refl; tail = refl }
+keeps (frames.MaxStreams dirs.Uni count) here = record { known = λ e. cc; numbers = refl; content = refl; flags = refl; tail = refl }
+keeps (frames.DataBlocked offset) here = record { known = λ e. cc; numbers = refl; content = refl; flags = refl; tail = refl }
+keeps (frames.StreamDataBlocked id offset) here = record { known = λ e. cc; numbers = refl; content = refl; flags = refl; tail = refl }
+keeps (frames.StreamsBlocked dirs.Bi limit) here = record { known = λ e. cc; numbers = refl; content = refl; flags = refl; tail = refl }
+keeps (frames.StreamsBlocked dirs.Uni limit) here = record { known = λ e. cc; numbers = refl; content = refl; flags = refl; tail = refl }
+keeps (frames.NewConnectionId n) here = record { known = λ e. cc; numbers = refl; content = refl; flags = refl; tail = refl }
+keeps (frames.RetireConnectionId sequence) here = record { known = λ e. cc; numbers = refl; content = refl; flags = refl; tail = refl }
+keeps (frames.PathChallenge n) here = record { known = λ e. cc; numbers = refl; content = refl; flags = refl; tail = refl }
+keeps (frames.PathResponse n) here = record { known = λ e. cc; numbers = refl; content = refl; flags = refl; tail = refl }
+keeps (frames.Close (closes.Connection x)) here = record { known = λ e. cc; numbers = refl; content = refl; flags = refl; tail = refl }
+keeps (frames.Close (closes.Application x)) here = record { known = λ e. cc; numbers = refl; content = refl; flags = refl; tail = refl }
+keeps (frames.Datagram d) here = record { known = λ e. cc; numbers = refl; content = refl; flags = refl; tail = refl }
+keeps (frames.AckFrequency f) here = record { known = λ e. cc; numbers = refl; content = refl; flags = refl; tail = refl }
+keeps frames.ImmediateAck here = record { known = λ e. cc; numbers = refl; content = refl; flags = refl; tail = refl }
+keeps frames.HandshakeDone here = record { known = λ e. cc; numbers = refl; content = refl; flags = refl; tail = refl }
+
+-- data that have a written length are counted by the frame's
+pub open_short : (frame : Frame) → IsNoAck frame → length (data_of frame) < 2 ^ 62 → length (open_data frame) < 2 ^ 62
+open_short frames.Padding here lt = zero_fits
+open_short (frames.Ack _) here lt = elim here [ ]
+open_short frames.Ping here lt = zero_fits
+open_short (frames.ResetStream r) here lt = zero_fits
+open_short (frames.StopSending s) here lt = zero_fits
+open_short (frames.Crypto x) here lt = zero_fits
+open_short (frames.NewToken t) here lt = zero_fits
+open_short (frames.Stream s) here lt = lt
+open_short (frames.MaxData n) here lt = zero_fits
+open_short (frames.MaxStreamData id offset) here lt = zero_fits
+open_short (frames.MaxStreams dirs.Bi count) here lt = zero_fits
+open_short (frames.MaxStreams dirs.Uni count) here lt = zero_fits
+open_short (frames.DataBlocked offset) here lt = zero_fits
+open_short (frames.StreamDataBlocked id offset) here lt = zero_fits
+open_short (frames.StreamsBlocked dirs.Bi limit) here lt = zero_fits
+open_short (frames.StreamsBlocked dirs.Uni limit) here lt = zero_fits
+open_short (frames.NewConnectionId n) here lt = zero_fits
+open_short (frames.RetireConnectionId sequence) here lt = zero_fits
+open_short (frames.PathChallenge n) here lt = zero_fits
+open_short (frames.PathResponse n) here lt = zero_fits
+open_short (frames.Close (closes.Connection x)) here lt = zero_fits
+open_short (frames.Close (closes.Application x)) here lt = zero_fits
+open_short (frames.Datagram d) here lt = lt
+open_short (frames.AckFrequency f) here lt = zero_fits
+open_short frames.ImmediateAck here lt = zero_fits
+open_short frames.HandshakeDone here lt = zero_fits
+
+pub counted_short : (frame : Frame) → IsNoAck frame → InRange frame → length (open_data frame) < 2 ^ 62 → length (data_of frame) < 2 ^ 62
+counted_short frames.Padding here ok lt = zero_fits
+counted_short (frames.Ack _) here ok lt = elim here [ ]
+counted_short frames.Ping here ok lt = zero_fits
+counted_short (frames.ResetStream r) here ok lt = zero_fits
+counted_short (frames.StopSending s) here ok lt = zero_fits
+counted_short (frames.Crypto x) here ok lt = ok.1.0
+counted_short (frames.NewToken t) here ok lt = ok
+counted_short (frames.Stream s) here ok lt = lt
+counted_short (frames.MaxData n) here ok lt = zero_fits
+counted_short (frames.MaxStreamData id offset) here ok lt = zero_fits
+counted_short (frames.MaxStreams dirs.Bi count) here ok lt = zero_fits
+counted_short (frames.MaxStreams dirs.Uni count) here ok lt = zero_fits
+counted_short (frames.DataBlocked offset) here ok lt = zero_fits
+counted_short (frames.StreamDataBlocked id offset) here ok lt = zero_fits
+counted_short (frames.StreamsBlocked dirs.Bi limit) here ok lt = zero_fits
+counted_short (frames.StreamsBlocked dirs.Uni limit) here ok lt = zero_fits
+counted_short (frames.NewConnectionId n) here ok lt = omega (arith, ok.3)
+counted_short (frames.RetireConnectionId sequence) here ok lt = zero_fits
+counted_short (frames.PathChallenge n) here ok lt = zero_fits
+counted_short (frames.PathResponse n) here ok lt = zero_fits
+counted_short (frames.Close (closes.Connection x)) here ok lt = ok.1
+counted_short (frames.Close (closes.Application x)) here ok lt = ok
+counted_short (frames.Datagram d) here ok lt = lt
+counted_short (frames.AckFrequency f) here ok lt = zero_fits
+counted_short frames.ImmediateAck here ok lt = zero_fits
+counted_short frames.HandshakeDone here ok lt = zero_fits

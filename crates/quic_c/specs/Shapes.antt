@@ -1,0 +1,106 @@
+-- Which words a kind of frame has.
+use Rattle.std.specs.Prelude.{◌≡◌, ℕ, ◌+◌, ◌<◌, ◌≤◌, ◌^◌, ◌==◌, ◌&&◌, ◌||◌, List, [], ◌∷◌, length, take, drop, Bool, true, false, Option, None, Some, if◌then◌else◌}
+use Rattle.std.specs.Map.{lookup}
+use Rattle.quic_frame_parts.specs.Numbers.{AreNumeric}
+use Rattle.quic_frames.specs.declared.frame.Frame.{Frame}
+use Rattle.quic_frames.specs.InRange.{IsNoAck, InRange}
+use Rattle.quic_c.specs.declared.words.FrameWords.{FrameWords}
+use Rattle.quic_c.specs.Shown.{kind_of, flags_of, numbers_of, data_of, tail_of}
+use Rattle.quic_c.specs.Written.{token_of}
+
+-- which of the five numbers a kind has, and whether it has data
+pub record Shape : Type 0 where
+  pub numbers : List Bool
+  pub has_data : Bool
+
+abbrev pub shape : Bool → Bool → Bool → Bool → Bool → Shape
+shape a b c d has_data = record { numbers = a ∷ b ∷ c ∷ d ∷ false ∷ []; has_data = has_data }
+
+abbrev pub bare_shape : Shape
+bare_shape = shape false false false false false
+
+abbrev pub first_shape : Shape
+first_shape = shape true false false false false
+
+abbrev pub second_shape : Shape
+second_shape = shape false true false false false
+
+abbrev pub both_shape : Shape
+both_shape = shape true true false false false
+
+-- every kind but ACK
+abbrev pub shapes : List (ℕ × Shape)
+shapes =
+    (0x00, bare_shape) ∷ (0x01, bare_shape) ∷ (0x04, shape true true true false false) ∷ (0x05, both_shape)
+    ∷ (0x06, shape false true false false true) ∷ (0x07, shape false false false false true) ∷ (0x08, shape true true false false true)
+    ∷ (0x10, second_shape) ∷ (0x11, both_shape) ∷ (0x12, second_shape) ∷ (0x13, second_shape) ∷ (0x14, second_shape) ∷ (0x15, both_shape)
+    ∷ (0x16, second_shape) ∷ (0x17, second_shape) ∷ (0x18, shape true true false false true) ∷ (0x19, first_shape) ∷ (0x1a, first_shape)
+    ∷ (0x1b, first_shape) ∷ (0x1c, shape true true false false true) ∷ (0x1d, shape true false false false true) ∷ (0x1e, bare_shape)
+    ∷ (0x1f, bare_shape) ∷ (0x30, shape false false false false true) ∷ (0xaf, shape true true true true false) ∷ []
+
+abbrev pub shape_of : ℕ → Option Shape
+shape_of kind = lookup (λ u. kind == u) shapes
+
+abbrev pub masked : List Bool → List ℕ → List ℕ
+masked (is_kept ∷ mask) (n ∷ ns) = (if is_kept then n else 0) ∷ masked mask ns
+masked mask ns = []
+
+-- the numbers that a kind has, with 0 in place of the others
+abbrev pub kept_numbers : Option Shape → List ℕ → List ℕ
+kept_numbers None numbers = []
+kept_numbers (Some s) numbers = masked s.numbers numbers
+
+abbrev pub kept_data : Option Shape → List ℕ → List ℕ
+kept_data None bytes = []
+kept_data (Some s) bytes = if s.has_data then bytes else []
+
+abbrev pub is_path : ℕ → Bool
+is_path kind = kind == 0x1a || kind == 0x1b
+
+abbrev pub is_open : ℕ → Bool
+is_open kind = kind == 0x08 || kind == 0x30
+
+abbrev pub IsOrdered : List ℕ → Type 0
+IsOrdered (sequence ∷ retire ∷ ns) = retire ≤ sequence
+IsOrdered ns = ⊥
+
+-- The numbers and the length can be those of a frame of the kind: what is written as a varint is below 2^62, and an id has 1 to 20
+-- bytes and comes after what is retired.
+pub record IsSound (kind : ℕ) (numbers : List ℕ) (len : ℕ) : Type 0 where
+  pub numeric : is_path kind ≡ false → AreNumeric numbers
+  pub counted : is_open kind ≡ false → len < 2 ^ 62
+  pub ordered : kind ≡ 0x18 → IsOrdered numbers
+  pub some : kind ≡ 0x18 → 0 < len
+  pub few : kind ≡ 0x18 → len ≤ 20
+
+-- how many bytes of a token stand behind the data
+abbrev pub token_room : ℕ → ℕ
+token_room kind = if kind == 0x18 then 16 else 0
+
+abbrev pub kept_token : ℕ → List ℕ → List ℕ
+kept_token kind token = if kind == 0x18 then token else []
+
+-- The frame is of the kind and in range, and takes of the words what its kind has.
+pub record Fills (type : ℕ) (is_fin : Bool) (given bytes behind : List ℕ) (frame : Frame) : Type 0 where
+  pub kind : kind_of frame ≡ type
+  pub flags : flags_of frame ≡ (if type == 0x08 && is_fin then 1 else 0)
+  pub numbers : numbers_of frame ≡ kept_numbers (shape_of type) given
+  pub content : data_of frame ≡ kept_data (shape_of type) bytes
+  pub tail : tail_of frame ≡ token_room type
+  pub token : token_of frame ≡ kept_token type behind
+  pub no_ack : IsNoAck frame
+  pub in_range : InRange frame
+
+-- The bytes and the token stand where the words say.
+pub record HasPieces (words : FrameWords) (payload bytes behind : List ℕ) : Type 0 where
+  pub within : words.data_offset + words.data_len + token_room words.kind ≤ length payload
+  pub content : bytes ≡ take words.data_len (drop words.data_offset payload)
+  pub width : length bytes ≡ words.data_len
+  pub room : length behind ≡ token_room words.kind
+  pub token : kept_token words.kind behind ≡ take (token_room words.kind) (drop words.data_len (drop words.data_offset payload))
+
+-- The frame has the flags, the numbers and the length of the words.
+pub record IsShown (words : FrameWords) (frame : Frame) : Type 0 where
+  pub flags : flags_of frame ≡ words.flags
+  pub count : length (data_of frame) ≡ words.data_len
+  pub numbers : numbers_of frame ≡ words.numbers

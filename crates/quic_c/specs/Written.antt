@@ -1,0 +1,54 @@
+-- The frames that words say, and what the call answers that writes them.
+use Rattle.std.specs.Prelude.{◌≡◌, ℕ, ◌+◌, ◌<◌, ◌≤◌, ◌==◌, List, [], ◌++◌, length, take, drop, Bool, not}
+use Rattle.quic_frame_parts.specs.Shortest.{shortest_frame}
+use Rattle.quic_frames.specs.declared.frame.Frame.{Frame}
+use Rattle.quic_frames.specs.declared.frame.Frame.TheVariants as frames
+use Rattle.quic_frames.specs.InRange.{IsNoAck, IsTyped, CanStand}
+use Rattle.quic_frames.specs.Meaning.{meaning_of}
+use Rattle.quic_c.specs.declared.words.FrameWords.{FrameWords}
+use Rattle.quic_c.specs.Shown.{kind_of, flags_of, numbers_of, data_of, tail_of}
+
+-- what stands behind the data of a NEW_CONNECTION_ID, its id: the token of a reset
+abbrev pub token_of : Frame → List ℕ
+token_of (frames.NewConnectionId n) = n.reset_token
+token_of frame = []
+
+-- The words say the frame, whose data stand in the bytes where the words say, with the token of a reset behind them. Where the
+-- frame begins and ends in a payload says nothing here.
+pub record Says (words : FrameWords) (bytes : List ℕ) (frame : Frame) : Type 0 where
+  pub kind : words.kind ≡ kind_of frame
+  pub flags : words.flags ≡ flags_of frame
+  pub numbers : words.numbers ≡ numbers_of frame
+  pub count : words.data_len ≡ length (data_of frame)
+  pub within : words.data_offset + words.data_len + tail_of frame ≤ length bytes
+  pub content : take words.data_len (drop words.data_offset bytes) ≡ data_of frame
+  pub token : take (tail_of frame) (drop words.data_len (drop words.data_offset bytes)) ≡ token_of frame
+
+-- The words say a frame that can be written there, the last of its payload or not, and is no ACK.
+pub record CanWrite (words : FrameWords) (bytes : List ℕ) (last : Bool) (frame : Frame) : Type 0 where
+  pub said : Says words bytes frame
+  pub kind : IsNoAck frame
+  pub typed : IsTyped frame
+  pub stands : CanStand last frame
+
+-- a flag of C
+abbrev pub flag_of : ℕ → Bool
+flag_of n = not (n == 0)
+
+-- The bytes of such a frame stand at the front, with what stood behind them, and are counted.
+pub record Wrote (words : FrameWords) (bytes : List ℕ) (last : Bool) (old new : List ℕ) (written : ℕ) : Type 0 where
+  pub frame : Frame
+  pub can : CanWrite words bytes last frame
+  pub count : written ≡ length (shortest_frame last (meaning_of frame))
+  pub front : new ≡ shortest_frame last (meaning_of frame) ++ drop written old
+
+-- There is less room than such a frame needs, and how much that is was told.
+pub record NeedsMore (words : FrameWords) (bytes : List ℕ) (last : Bool) (old : List ℕ) (needed : ℕ) : Type 0 where
+  pub frame : Frame
+  pub can : CanWrite words bytes last frame
+  pub count : needed ≡ length (shortest_frame last (meaning_of frame))
+  pub full : length old < needed
+
+-- The words say no such frame.
+abbrev pub SaysNone : FrameWords → List ℕ → Bool → Type 0
+SaysNone words bytes last = (frame : Frame) → CanWrite words bytes last frame → ⊥

@@ -1,0 +1,318 @@
+//! Frames, written from words into the caller's bytes.
+ghost use Rattle.std.specs.Prelude.{◌≡◌, ◌<◌, ◌≤◌, ◌+◌, ◌^◌, ◌⊎◌, ◌↔◌, [], ◌∷◌, pos, negsuc, length, false, IsTrue, IfSome, IsNone, None};
+ghost use Rattle.quic_frame_parts.specs.Numbers.{AreNumeric};
+ghost use Rattle.quic_frames.specs.declared.frame.Frame.TheVariants as frames;
+ghost use Rattle.quic_frame_parts.specs.declared.frame.close.Close.TheVariants as closes;
+ghost use Rattle.quic_c.specs.Shapes.{IsSound, Fills, HasPieces, IsShown, shape_of, token_room};
+ghost use Rattle.quic_c.specs.Written.{CanWrite, SaysNone, Wrote, NeedsMore, flag_of};
+
+use crate::show::parts_of;
+use crate::words::FrameWords;
+use quic_base::ids::{ConnectionId, Dir, ResetToken, StreamId};
+use quic_base::varint::VarInt;
+use quic_errors::frame_type::FrameType;
+use quic_errors::transport_error::Code;
+use quic_frames::frame::{
+    AckFrequency, ApplicationClose, Close, ConnectionClose, Crypto, Datagram, Frame,
+    NewConnectionId, NewToken, ResetStream, StopSending, Stream,
+};
+
+fn are_varints(numbers: [u64; 5]) -> bool
+    ensures { IsTrue result ↔ AreNumeric numbers }
+{
+    let [a, b, c, d, e] = numbers;
+    let max = (1 << 62) - 1;
+    a <= max && b <= max && c <= max && d <= max && e <= max
+}
+
+// Whether the numbers and the length can be those of a frame of the kind.
+fn is_sound(kind: u32, numbers: [u64; 5], len: usize) -> bool
+    ensures { IsTrue result ↔ IsSound kind numbers len }
+{
+    let is_path = kind == 0x1a || kind == 0x1b;
+    let is_open = kind == 0x08 || kind == 0x30;
+    if !is_path && !are_varints(numbers) || !is_open && len >= 1 << 62 {
+        return false;
+    }
+    let [sequence, retire, ..] = numbers;
+    kind != 0x18 || retire <= sequence && 0 < len && len <= 20
+}
+
+// A number that is known to be a varint.
+#[inline(always)]
+fn varint(n: u64) -> VarInt
+    requires { n < 2 ^ 62 }
+    ensures { result ≡ n }
+{
+    VarInt::from_u64_unchecked(n)
+}
+
+#[inline(always)]
+fn stream_id(n: u64) -> StreamId
+    requires { n < 2 ^ 62 }
+    ensures { result ≡ n }
+{
+    StreamId::from(VarInt::from_u64_unchecked(n))
+}
+
+#[inline(always)]
+fn reset_stream<'a>(id: u64, code: u64, size: u64) -> Frame<'a>
+    requires id { id < 2 ^ 62 }
+    requires code { code < 2 ^ 62 }
+    requires size { size < 2 ^ 62 }
+    ensures { result ≡ frames.ResetStream (record { id = id; error_code = code; final_offset = size }) }
+{
+    Frame::ResetStream(ResetStream {
+        id: stream_id(id),
+        error_code: varint(code),
+        final_offset: varint(size),
+    })
+}
+
+#[inline(always)]
+fn stop_sending<'a>(id: u64, code: u64) -> Frame<'a>
+    requires id { id < 2 ^ 62 }
+    requires code { code < 2 ^ 62 }
+    ensures { result ≡ frames.StopSending (record { id = id; error_code = code }) }
+{
+    Frame::StopSending(StopSending {
+        id: stream_id(id),
+        error_code: varint(code),
+    })
+}
+
+#[inline(always)]
+fn ack_frequency<'a>(sequence: u64, threshold: u64, delay: u64, reordering: u64) -> Frame<'a>
+    requires { AreNumeric (sequence ∷ threshold ∷ delay ∷ reordering ∷ []) }
+    ensures { result ≡ frames.AckFrequency (record { sequence = sequence; ack_eliciting_threshold = threshold; request_max_ack_delay = delay; reordering_threshold = reordering }) }
+{
+    Frame::AckFrequency(AckFrequency {
+        sequence: varint(sequence),
+        ack_eliciting_threshold: varint(threshold),
+        request_max_ack_delay: varint(delay),
+        reordering_threshold: varint(reordering),
+    })
+}
+
+#[inline(always)]
+fn connection_close<'a>(code: u64, ty: u64, reason: &'a [u8]) -> Frame<'a>
+    requires code { code < 2 ^ 62 }
+    requires ty { ty < 2 ^ 62 }
+    requires reason { length reason.now < 2 ^ 62 }
+    ensures { Fills 0x1c false (code ∷ ty ∷ 0 ∷ 0 ∷ 0 ∷ []) reason.now [] result }
+{
+    Frame::Close(Close::Connection(ConnectionClose {
+        error_code: Code::of(code),
+        frame_type: FrameType::or_none(ty),
+        reason,
+    }))
+}
+
+#[inline(always)]
+fn application_close<'a>(code: u64, reason: &'a [u8]) -> Frame<'a>
+    requires code { code < 2 ^ 62 }
+    ensures { result ≡ frames.Close (closes.Application (record { error_code = code; reason = reason.entry })) }
+{
+    Frame::Close(Close::Application(ApplicationClose {
+        error_code: varint(code),
+        reason,
+    }))
+}
+
+#[inline(always)]
+fn stream<'a>(id: u64, offset: u64, fin: bool, bytes: &'a [u8]) -> Frame<'a>
+    requires { id < 2 ^ 62 }
+    ensures { result ≡ frames.Stream (record { id = id; offset = offset; fin = fin; bytes = bytes.entry }) }
+{
+    Frame::Stream(Stream {
+        id: stream_id(id),
+        offset,
+        fin,
+        bytes,
+    })
+}
+
+#[inline(always)]
+fn crypto<'a>(offset: u64, bytes: &'a [u8]) -> Frame<'a>
+    ensures { result ≡ frames.Crypto (record { offset = offset; bytes = bytes.entry }) }
+{
+    Frame::Crypto(Crypto { offset, bytes })
+}
+
+#[inline(always)]
+fn max_stream_data<'a>(id: u64, offset: u64) -> Frame<'a>
+    requires { id < 2 ^ 62 }
+    ensures { result ≡ frames.MaxStreamData id offset }
+{
+    let id = stream_id(id);
+    Frame::MaxStreamData { id, offset }
+}
+
+#[inline(always)]
+fn stream_data_blocked<'a>(id: u64, offset: u64) -> Frame<'a>
+    requires { id < 2 ^ 62 }
+    ensures { result ≡ frames.StreamDataBlocked id offset }
+{
+    let id = stream_id(id);
+    Frame::StreamDataBlocked { id, offset }
+}
+
+#[inline(always)]
+fn max_streams<'a>(dir: Dir, count: u64) -> Frame<'a>
+    ensures { result ≡ frames.MaxStreams dir count }
+{
+    Frame::MaxStreams { dir, count }
+}
+
+#[inline(always)]
+fn streams_blocked<'a>(dir: Dir, limit: u64) -> Frame<'a>
+    ensures { result ≡ frames.StreamsBlocked dir limit }
+{
+    Frame::StreamsBlocked { dir, limit }
+}
+
+#[inline(always)]
+fn new_connection_id<'a>(sequence: u64, retire: u64, id: &[u8], token: &[u8]) -> Frame<'a>
+    requires few { length id.now ≤ 20 }
+    requires token { length token.now ≡ 16 }
+    ensures { result ≡ frames.NewConnectionId (record { sequence = sequence; retire_prior_to = retire; id = id.now; reset_token = token.now }) }
+{
+    let mut reset_token = [0; 16];
+    reset_token.copy_from_slice(token);
+    Frame::NewConnectionId(NewConnectionId {
+        sequence,
+        retire_prior_to: retire,
+        id: ConnectionId::new(id),
+        reset_token: ResetToken::from(reset_token),
+    })
+}
+
+// The frame of a kind with these words, of which it takes what the kind has; none of an unknown kind or of an ACK.
+fn frame_of<'a>(
+    kind: u32,
+    is_fin: bool,
+    numbers: [u64; 5],
+    data: &'a [u8],
+    token: &[u8],
+) -> Option<Frame<'a>>
+    requires sound { IsSound kind numbers (length data.now) }
+    requires token { length token.now ≡ token_room kind }
+    ensures some { IfSome result (λ frame. Fills kind is_fin numbers data.now token.now frame) }
+    ensures none { IsNone result → shape_of kind ≡ None }
+{
+    let [a, b, c, d, _] = numbers;
+    match kind {
+        0x00 => Some(Frame::Padding),
+        0x01 => Some(Frame::Ping),
+        0x04 => Some(reset_stream(a, b, c)),
+        0x05 => Some(stop_sending(a, b)),
+        0x06 => Some(crypto(b, data)),
+        0x07 => Some(Frame::NewToken(NewToken { token: data })),
+        0x08 => Some(stream(a, b, is_fin, data)),
+        0x10 => Some(Frame::MaxData(varint(b))),
+        0x11 => Some(max_stream_data(a, b)),
+        0x12 => Some(max_streams(Dir::Bi, b)),
+        0x13 => Some(max_streams(Dir::Uni, b)),
+        0x14 => Some(Frame::DataBlocked { offset: b }),
+        0x15 => Some(stream_data_blocked(a, b)),
+        0x16 => Some(streams_blocked(Dir::Bi, b)),
+        0x17 => Some(streams_blocked(Dir::Uni, b)),
+        0x18 => Some(new_connection_id(a, b, data, token)),
+        0x19 => Some(Frame::RetireConnectionId { sequence: a }),
+        0x1a => Some(Frame::PathChallenge(a)),
+        0x1b => Some(Frame::PathResponse(a)),
+        0x1c => Some(connection_close(a, b, data)),
+        0x1d => Some(application_close(a, data)),
+        0x1e => Some(Frame::HandshakeDone),
+        0x1f => Some(Frame::ImmediateAck),
+        0x30 => Some(Frame::Datagram(Datagram { bytes: data })),
+        0xaf => Some(ack_frequency(a, b, c, d)),
+        _ => None,
+    }
+}
+
+// The data that the words say, and the token of a reset behind them, which a NEW_CONNECTION_ID alone has.
+fn pieces<'a>(words: &FrameWords, data: &'a [u8]) -> Option<(&'a [u8], &'a [u8])>
+    ensures some { IfSome result (λ p. HasPieces words.now data.now p.0.now p.1.now) }
+    ensures none { IsNone result → length data.now < words.now.data_offset + words.now.data_len + token_room words.now.kind }
+{
+    let (offset, len) = (words.data_offset, words.data_len);
+    if offset > data.len() || len > data.len() - offset {
+        return None;
+    }
+    let (front, back) = data[offset..].split_at(len);
+    let room = if words.kind == 0x18 { 16 } else { 0 };
+    if back.len() < room {
+        return None;
+    }
+    Some((front, &back[..room]))
+}
+
+// Whether the frame has the flags, the numbers and the length of the words.
+fn is_shown(frame: &Frame<'_>, words: &FrameWords) -> bool
+    ensures { IsTrue result ↔ IsShown words.now frame.now }
+{
+    let parts = parts_of(frame);
+    let numbers = parts.numbers;
+    let wanted = words.numbers;
+    parts.flags == words.flags && parts.data_len == words.data_len && numbers == wanted
+}
+
+// The frame that the words say, where it can be written.
+fn said<'a>(words: &FrameWords, data: &'a [u8], last: bool) -> Option<Frame<'a>>
+    ensures some { IfSome result (CanWrite words.now data.now last) }
+    ensures none { IsNone result → SaysNone words.now data.now last }
+{
+    let (kind, len) = (words.kind, words.data_len);
+    let numbers = words.numbers;
+    if !is_sound(kind, numbers, len) || !last && len >= 1 << 62 {
+        return None;
+    }
+    let Some((bytes, token)) = pieces(words, data) else {
+        return None;
+    };
+    let Some(frame) = frame_of(kind, words.flags == 1, numbers, bytes, token) else {
+        return None;
+    };
+    if !is_shown(&frame, words) {
+        return None;
+    }
+    frame.type_bounds();
+    Some(frame)
+}
+
+/// Writes the shortest spelling of the frame that the words say, the last of its payload where `last` isn't 0, at
+/// the front of `out` (RFC 9000, section 19). Its data, of a NEW_CONNECTION_ID the id with the sixteen bytes of its
+/// token behind it, stand in `data` where the words say; where the frame begins and ends isn't looked at. It answers
+/// 0 with how many bytes were written, and what stood behind them stays; -4 with how many are needed where `out` has
+/// fewer; -1 where the words say no frame that can be written, or an ACK: these are written from sets. `out`
+/// changes with 0 alone, and `written` not with -1.
+#[unsafe(no_mangle)]
+pub extern "C" fn quic_wire_frame_write_(
+    frame: &FrameWords,
+    data: &[u8],
+    last: u32,
+    out: &mut [u8],
+    written: &mut usize,
+) -> i32
+    ensures answers { (result ≡ pos 0) ⊎ (result ≡ negsuc 3) ⊎ (result ≡ negsuc 0) }
+    ensures wrote { result ≡ pos 0 → Wrote frame.now data.now (flag_of last) out.old out.new written.new }
+    ensures room { result ≡ negsuc 3 → NeedsMore frame.now data.now (flag_of last) out.old written.new }
+    ensures refused { result ≡ negsuc 0 → SaysNone frame.now data.now (flag_of last) × (written.new ≡ written.old) }
+    ensures same { (result ≡ pos 0) ⊎ (out.new ≡ out.old) }
+{
+    let last = last != 0;
+    let Some(frame) = said(frame, data, last) else {
+        return -1;
+    };
+    match frame.encode_into(last, out) {
+        Ok(n) => {
+            *written = n;
+            0
+        }
+        Err(n) => {
+            *written = n;
+            -4
+        }
+    }
+}

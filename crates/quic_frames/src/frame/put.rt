@@ -1,0 +1,125 @@
+//! Frames, laid at the front of a slice in their shortest form (RFC 9000, section 19).
+ghost use Rattle.std.specs.Prelude.{◌≡◌, ◌≢◌, ◌<◌, ◌^◌, ◌++◌, Bool, length, drop, IfSome, IsNone};
+ghost use Rattle.quic_base.specs.Number.{bytes_of};
+ghost use Rattle.quic_base.specs.Varint.{short};
+ghost use Rattle.quic_frame_parts.specs.Parts.{close_meaning, new_id_meaning};
+ghost use Rattle.quic_frame_parts.specs.Putting.{Puts};
+ghost use Rattle.quic_frame_parts.specs.Shortest.{shortest_frame, close_reason};
+ghost use Rattle.quic_frames.specs.InRange.{CanStand, InRange, IsNoAck};
+ghost use Rattle.quic_frames.specs.Meaning.{meaning_of};
+ghost use Rattle.quic_frames.specs.declared.frame.Frame.TheVariants as frames;
+
+use super::whole::bit_of;
+use super::{Close, Datagram, Frame, NewConnectionId, Stream};
+use quic_frame_parts::frame::encode::type_or_zero;
+use quic_frame_parts::frame::put;
+
+impl Frame<'_> {
+    /// Lays the shortest spelling of the frame, which is the last of its payload or not, at the front of the slice, and
+    /// answers how many bytes it has; these are the bytes that `encode` appends, and what stands behind them stays.
+    /// Where the slice has fewer, and only there, it is as it was, and the error is how many bytes are needed. The caller
+    /// must ensure that the frame is in range, that data whose length is written are below 2^62 bytes, and that the frame is no ACK, which is
+    /// written from a set by `Ack::encode`. It takes no memory.
+    #[tactic(auto, unfolding(quic_frame_parts::specs::Shortest::shortest_frame), using(crate::proofs::Encoding::challenge_parts, crate::proofs::Encoding::response_parts, crate::proofs::Encoding::crypto_parts, crate::proofs::Encoding::token_parts))]
+    pub fn encode_into(&self, last: bool, dest: &mut [u8]) -> Result<usize, usize>
+        requires stands { CanStand last self.now }
+        requires kind { IsNoAck self.now }
+        ensures { Puts result (shortest_frame last (meaning_of self.now)) dest.old dest.new }
+    {
+        match self {
+            Frame::Padding => put::numbers(dest, &[0x00]),
+            Frame::Ping => put::numbers(dest, &[0x01]),
+            Frame::Ack(_) => unreachable!(),
+            Frame::ResetStream(reset) => put::numbers(dest, &reset.numbers()),
+            Frame::StopSending(stop) => put::numbers(dest, &stop.numbers()),
+            Frame::Crypto(c) => {
+                put::numbers_and_bytes(dest, &[0x06, c.offset, c.bytes.len() as u64], c.bytes)
+            }
+            Frame::NewToken(t) => {
+                put::numbers_and_bytes(dest, &[0x07, t.token.len() as u64], t.token)
+            }
+            Frame::Stream(stream) => put_stream(stream, last, dest),
+            Frame::MaxData(limit) => put::numbers(dest, &[0x10, limit.into_inner()]),
+            Frame::MaxStreamData { id, offset } => {
+                put::numbers(dest, &[0x11, u64::from(*id), *offset])
+            }
+            Frame::MaxStreams { dir, count } => put::numbers(dest, &[0x12 + bit_of(*dir), *count]),
+            Frame::DataBlocked { offset } => put::numbers(dest, &[0x14, *offset]),
+            Frame::StreamDataBlocked { id, offset } => {
+                put::numbers(dest, &[0x15, u64::from(*id), *offset])
+            }
+            Frame::StreamsBlocked { dir, limit } => {
+                put::numbers(dest, &[0x16 + bit_of(*dir), *limit])
+            }
+            Frame::NewConnectionId(new) => put_new_id(new, dest),
+            Frame::RetireConnectionId { sequence } => put::numbers(dest, &[0x19, *sequence]),
+            Frame::PathChallenge(n) => put_path(0x1a, *n, dest),
+            Frame::PathResponse(n) => put_path(0x1b, *n, dest),
+            Frame::Close(close) => put_close(close, dest),
+            Frame::Datagram(datagram) => put_datagram(datagram, last, dest),
+            Frame::AckFrequency(frequency) => put::numbers(dest, &frequency.numbers()),
+            Frame::ImmediateAck => put::numbers(dest, &[0x1f]),
+            Frame::HandshakeDone => put::numbers(dest, &[0x1e]),
+        }
+    }
+}
+
+// A STREAM, the last frame of its payload or not.
+fn put_stream(stream: &Stream<'_>, last: bool, dest: &mut [u8]) -> Result<usize, usize>
+    requires { CanStand last (frames.Stream stream.now) }
+    ensures { Puts result (shortest_frame last (meaning_of (frames.Stream stream.now))) dest.old dest.new }
+{
+    let counted = (!last).then_some(stream.bytes.len() as u64);
+    put::stream(dest, stream, counted)
+}
+
+// A DATAGRAM, the last frame of its payload or not.
+#[tactic(auto, using(crate::proofs::Encoding::datagram_counted, crate::proofs::Encoding::datagram_open))]
+fn put_datagram(datagram: &Datagram<'_>, last: bool, dest: &mut [u8]) -> Result<usize, usize>
+    requires { CanStand last (frames.Datagram datagram.now) }
+    ensures { Puts result (shortest_frame last (meaning_of (frames.Datagram datagram.now))) dest.old dest.new }
+{
+    if last {
+        put::numbers_and_bytes(dest, &[0x30], datagram.bytes)
+    } else {
+        let head = [0x31, datagram.bytes.len() as u64];
+        put::numbers_and_bytes(dest, &head, datagram.bytes)
+    }
+}
+
+// A close with its whole reason.
+#[tactic(auto, using(crate::proofs::Encoding::connection_close_parts, crate::proofs::Encoding::application_close_parts))]
+fn put_close(close: &Close<'_>, dest: &mut [u8]) -> Result<usize, usize>
+    requires { length (close_reason close.now) < 2 ^ 62 }
+    ensures { (last : Bool) → Puts result (shortest_frame last (close_meaning close.now)) dest.old dest.new }
+{
+    match close {
+        Close::Connection(c) => {
+            let (code, ty) = (c.error_code.into(), type_or_zero(c.frame_type));
+            let head = [0x1c, code, ty, c.reason.len() as u64];
+            put::numbers_and_bytes(dest, &head, c.reason)
+        }
+        Close::Application(c) => {
+            let head = [0x1d, c.error_code.into_inner(), c.reason.len() as u64];
+            put::numbers_and_bytes(dest, &head, c.reason)
+        }
+    }
+}
+
+// A NEW_CONNECTION_ID. The length of its id is below 64, so its byte is that number's shortest spelling.
+fn put_new_id(new: &NewConnectionId, dest: &mut [u8]) -> Result<usize, usize>
+    requires { InRange (frames.NewConnectionId new.now) }
+    ensures { (last : Bool) → Puts result (shortest_frame last (new_id_meaning new.now)) dest.old dest.new }
+{
+    let (id, token) = (new.id.as_slice(), new.reset_token.as_slice());
+    let head = [0x18, new.sequence, new.retire_prior_to, id.len() as u64];
+    put::numbers_and_two(dest, &head, id, token)
+}
+
+// A frame of a type and eight bytes.
+fn put_path(ty: u64, n: u64, dest: &mut [u8]) -> Result<usize, usize>
+    requires { ty < 2 ^ 62 }
+    ensures { Puts result (short ty ++ bytes_of 8 n) dest.old dest.new }
+{
+    put::numbers_and_bytes(dest, &[ty], &n.to_be_bytes())
+}

@@ -1,4 +1,4 @@
-use Rattle.std.proofs.Common.{arith, ◌≤◌, length, sym}
+use Rattle.std.proofs.Common.{◌≤◌, length}
 use Rattle.quic_frames.proofs.Encoding.{new_id_parts}
 use Rattle.quic_frames.proofs.frame.put.put_new_id.Goals as goal
 

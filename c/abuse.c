@@ -1,0 +1,257 @@
+/* abuse: what a caller may get wrong, and structs of any words over blocks of
+ * just their length; what is written is read back; protection that is put on
+ * by hand is taken off.  It ends with 0 where all is as it should be. */
+#include <inttypes.h>
+#include <stdio.h>
+#include <stdlib.h>
+#include <string.h>
+
+#include "quic_wire.h"
+
+#define WANT(x)                                                                \
+  do {                                                                         \
+    if (!(x)) {                                                                \
+      fprintf(stderr, "%s:%d: not so: %s\n", __FILE__, __LINE__, #x);          \
+      exit(1);                                                                 \
+    }                                                                          \
+  } while (0)
+#define INVALID QUIC_WIRE_ERR_INVALID_ARGUMENT
+
+static uint64_t seed = 88172645463325252ull;
+
+static uint64_t any(void) {
+  seed ^= seed << 13;
+  seed ^= seed >> 7;
+  seed ^= seed << 17;
+  return seed;
+}
+
+/* Numbers near every bound. */
+static uint64_t edge(void) {
+  static const uint64_t edges[] = {0,           1,           63,
+                                   64,          16383,       1u << 30,
+                                   1ull << 62,  (1ull << 62) - 1,
+                                   1ull << 63,  UINT64_MAX - 1,
+                                   UINT64_MAX};
+  return any() % 3 ? edges[any() % 11] : any() >> (any() % 64);
+}
+
+/* A small place, or one that is none. */
+static size_t place(void) { return any() % 3 ? any() % 45 : (size_t)edge(); }
+
+static void nulls(void) {
+  static const uint32_t one[] = {1};
+  quic_wire_frames frames = {0, QUIC_WIRE_NO_TYPE, 0};
+  quic_wire_frame frame;
+  quic_wire_ack_ranges ranges;
+  quic_wire_range range;
+  quic_wire_packet packet;
+  quic_wire_opened opened;
+  uint8_t byte = 1, out[8];
+  size_t n = 0;
+  memset(&frame, 0, sizeof frame);
+  memset(&ranges, 0, sizeof ranges);
+  memset(&packet, 0, sizeof packet);
+  WANT(quic_wire_frames_init(NULL, &byte, 1) == INVALID);
+  WANT(quic_wire_frames_init(&frames, NULL, 1) == INVALID);
+  WANT(quic_wire_frames_init(&frames, NULL, 0) == QUIC_WIRE_ERR_EMPTY);
+  WANT(quic_wire_frames_next(NULL, &byte, 1, &frame) == INVALID);
+  WANT(quic_wire_frames_next(&frames, &byte, 1, NULL) == INVALID);
+  WANT(quic_wire_frames_next(&frames, NULL, 1, &frame) == INVALID);
+  WANT(quic_wire_frames_next(&frames, NULL, 0, &frame) == 0);
+  WANT(quic_wire_ack_ranges_init(NULL, &byte, 1, &frame) == INVALID);
+  WANT(quic_wire_ack_ranges_init(&ranges, NULL, 1, &frame) == INVALID);
+  WANT(quic_wire_ack_ranges_init(&ranges, &byte, 1, NULL) == INVALID);
+  WANT(quic_wire_ack_ranges_next(NULL, &byte, 1, &range) == INVALID);
+  WANT(quic_wire_ack_ranges_next(&ranges, NULL, 1, &range) == INVALID);
+  WANT(quic_wire_ack_ranges_next(&ranges, &byte, 1, NULL) == INVALID);
+  WANT(quic_wire_frame_write(NULL, NULL, 0, 0, out, 8, &n) == INVALID);
+  WANT(quic_wire_frame_write(&frame, NULL, 1, 0, out, 8, &n) == INVALID);
+  WANT(quic_wire_frame_write(&frame, NULL, 0, 0, NULL, 8, &n) == INVALID);
+  WANT(quic_wire_frame_write(&frame, NULL, 0, 0, NULL, 0, &n) ==
+           QUIC_WIRE_ERR_NOBUF && n == 1);
+  WANT(quic_wire_frame_write(&frame, NULL, 0, 0, out, 8, NULL) == 0);
+  n = 0;
+  WANT(quic_wire_packet_next(NULL, 1, &n, 0, one, 1, 0, &packet) == INVALID);
+  WANT(quic_wire_packet_next(&byte, 1, NULL, 0, one, 1, 0, &packet) == INVALID);
+  WANT(quic_wire_packet_next(&byte, 1, &n, 0, NULL, 1, 0, &packet) == INVALID);
+  WANT(quic_wire_packet_next(&byte, 1, &n, 0, one, 1, 0, NULL) == INVALID);
+  WANT(quic_wire_packet_next(&byte, 1, &n, 21, one, 1, 0, &packet) == INVALID);
+  WANT(quic_wire_packet_next(NULL, 0, &n, 0, NULL, 0, 0, &packet) ==
+           QUIC_WIRE_ERR_MALFORMED &&
+       packet.reason == QUIC_WIRE_PACKET_UNEXPECTED_END && n == 0);
+  WANT(quic_wire_sample_place(NULL, 1, &packet, 16, &n) == INVALID);
+  WANT(quic_wire_sample_place(&byte, 1, NULL, 16, &n) == INVALID);
+  WANT(quic_wire_sample_place(&byte, 1, &packet, 16, NULL) == INVALID);
+  WANT(quic_wire_unprotect(NULL, 1, &packet, out, 8, 0, &opened) == INVALID);
+  WANT(quic_wire_unprotect(&byte, 1, NULL, out, 8, 0, &opened) == INVALID);
+  WANT(quic_wire_unprotect(&byte, 1, &packet, NULL, 8, 0, &opened) == INVALID);
+  WANT(quic_wire_unprotect(&byte, 1, &packet, out, 8, 0, NULL) == INVALID);
+}
+
+static uint8_t *block(size_t len) { return malloc(len ? len : 1); }
+
+/* Reads on from any place, with any last type; and the ranges of any words. */
+static void read_rubbish(const uint8_t *payload, size_t len) {
+  quic_wire_frames frames;
+  quic_wire_frame frame;
+  quic_wire_ack_ranges ranges;
+  quic_wire_range range;
+  size_t k;
+  int answer = 0;
+  frames.offset = place();
+  frames.last_type = edge();
+  frames.ended = any() % 4 ? 0 : edge();
+  memset(&frame, (int)(any() % 256), sizeof frame);
+  for (k = 0; k < 50 && (answer = quic_wire_frames_next(&frames, payload, len,
+                                                        &frame)) == 1; k++) {
+    WANT(frame.begin < frame.end && frame.end <= len);
+    WANT(frame.data <= frame.end && frame.datalen <= frame.end - frame.data);
+  }
+  WANT(k < 50 && (answer == 0 || answer == INVALID ||
+                  answer == QUIC_WIRE_ERR_MALFORMED));
+  ranges.begin = place();
+  ranges.end = place();
+  ranges.largest = edge();
+  for (k = 0; k < 50 && quic_wire_ack_ranges_next(&ranges, payload, len,
+                                                  &range) == 1; k++)
+    WANT(range.start < range.end);
+  WANT(k < 50);
+  frame.begin = place();
+  frame.end = place();
+  quic_wire_ack_ranges_init(&ranges, payload, len, &frame);
+}
+
+/* Writes a frame of any words, and reads it back where it was written. */
+static void write_rubbish(const uint8_t *data, size_t len) {
+  size_t room = any() % 32, written = 0, k;
+  uint8_t *out = block(room), *before = block(room);
+  quic_wire_frame frame, again;
+  quic_wire_frames frames;
+  int answer;
+  memset(out, 0xa5, room);
+  memcpy(before, out, room);
+  memset(&frame, 0, sizeof frame);
+  frame.kind = (uint32_t)(any() % 5 ? any() % 0x32 : edge());
+  frame.flags = (uint32_t)(any() % 3);
+  frame.data = place();
+  frame.datalen = place();
+  for (k = 0; k < 5; k++)
+    frame.numbers[k] = any() % 3 ? 0 : edge();
+  answer = quic_wire_frame_write(&frame, data, len, (int)(any() % 2), out, room,
+                                 &written);
+  if (answer == 0) {
+    WANT(written <= room);
+    WANT(!memcmp(out + written, before + written, room - written));
+    WANT(quic_wire_frames_init(&frames, out, written) == 0);
+    WANT(quic_wire_frames_next(&frames, out, written, &again) == 1);
+    WANT(again.kind == frame.kind && again.flags == frame.flags);
+    WANT(again.end == written && again.datalen == frame.datalen);
+    WANT(!memcmp(again.numbers, frame.numbers, sizeof frame.numbers));
+    WANT(!memcmp(out + again.data, data + frame.data, again.datalen));
+  } else {
+    WANT(answer == QUIC_WIRE_ERR_NOBUF ? written > room : answer == INVALID);
+    WANT(!memcmp(out, before, room));
+  }
+  free(out);
+  free(before);
+}
+
+/* Cuts any bytes into packets, and takes protection off any of them. */
+static void packet_rubbish(uint8_t *datagram, size_t len) {
+  static const uint32_t versions[] = {1, 0x6b3343cf};
+  uint8_t mask[8];
+  quic_wire_packet packet;
+  quic_wire_opened opened;
+  size_t offset = any() % 4 ? 0 : place(), sample, k;
+  uint32_t cidlen = (uint32_t)(any() % 22);
+  int answer = 0;
+  if (len > 4 && any() % 2) { /* a version that is known */
+    memcpy(datagram + 1, any() % 2 ? "\0\0\0\1" : "\x6b\x33\x43\xcf", 4);
+    datagram[0] |= 0xc0;
+  }
+  for (k = 0; k < 8; k++)
+    mask[k] = (uint8_t)any();
+  for (k = 0; k < 50; k++) {
+    size_t begin = offset;
+    answer = quic_wire_packet_next(datagram, len, &offset, cidlen, versions, 2,
+                                   (int)(any() % 2), &packet);
+    if (answer != QUIC_WIRE_ITEM)
+      break;
+    WANT(packet.begin == begin && packet.end == offset && offset <= len);
+    WANT(packet.head_end > begin && packet.head_end <= packet.end);
+    WANT(packet.dcid + packet.dcidlen <= packet.head_end);
+    WANT(packet.scid + packet.scidlen <= packet.head_end);
+    WANT(packet.token + packet.tokenlen <= packet.head_end);
+    if (quic_wire_sample_place(datagram, len, &packet, 16, &sample) == 0)
+      WANT(sample + 16 <= packet.end);
+    if (any() % 2 && quic_wire_unprotect(datagram, len, &packet, mask,
+                                         any() % 9, edge(), &opened) == 0)
+      WANT(opened.payload == packet.head_end + opened.numberlen &&
+           opened.numberlen <= 4);
+  }
+  WANT(k < 50);
+  memset(&packet, 0, sizeof packet);
+  packet.kind = (uint32_t)(any() % 7);
+  packet.begin = place();
+  packet.head_end = place();
+  packet.end = place();
+  quic_wire_sample_place(datagram, len, &packet, place(), &sample);
+  quic_wire_unprotect(datagram, len, &packet, mask, any() % 9, edge(), &opened);
+}
+
+static void rubbish(int rounds) {
+  int i;
+  for (i = 0; i < rounds; i++) {
+    size_t len = any() % 40, k;
+    uint8_t *bytes = block(len);
+    for (k = 0; k < len; k++)
+      bytes[k] = any() % 4 ? (uint8_t)(any() % 64) : (uint8_t)any();
+    read_rubbish(bytes, len);
+    write_rubbish(bytes, len);
+    packet_rubbish(bytes, len);
+    free(bytes);
+  }
+}
+
+/* A short head with a number of each size, protected by a mask of one's own. */
+static void numbers(void) {
+  static const uint8_t mask[] = {0xff, 0x12, 0x34, 0x56, 0x78};
+  size_t size, k;
+  for (size = 1; size <= 4; size++) {
+    uint64_t number = 0x123456789a, expected = number + 1;
+    uint64_t low = number & ((1ull << (8 * size)) - 1);
+    uint8_t datagram[1 + 8 + 4 + 16];
+    quic_wire_packet packet;
+    quic_wire_opened opened;
+    size_t offset = 0, sample;
+    memset(datagram, 0xee, sizeof datagram);
+    datagram[0] = (uint8_t)((0x40 + size - 1) ^ (mask[0] & 0x1f));
+    for (k = 0; k < size; k++)
+      datagram[9 + k] = (uint8_t)(low >> (8 * (size - 1 - k))) ^ mask[1 + k];
+    WANT(quic_wire_packet_next(datagram, sizeof datagram, &offset, 8, NULL, 0,
+                               0, &packet) == QUIC_WIRE_ITEM);
+    WANT(packet.kind == QUIC_WIRE_1RTT && packet.head_end == 9);
+    WANT(packet.dcid == 1 && packet.dcidlen == 8 && packet.end == 29);
+    WANT(quic_wire_sample_place(datagram, sizeof datagram, &packet, 16,
+                                &sample) == 0 && sample == 13);
+    WANT(quic_wire_sample_place(datagram, sizeof datagram, &packet, 17,
+                                &sample) == QUIC_WIRE_ERR_MALFORMED);
+    WANT(quic_wire_unprotect(datagram, sizeof datagram, &packet, mask, 4,
+                             expected, &opened) == INVALID);
+    WANT(quic_wire_unprotect(datagram, sizeof datagram, &packet, mask, 5,
+                             expected, &opened) == 0);
+    WANT(datagram[0] == 0x40 + size - 1 && opened.numberlen == size);
+    WANT(opened.payload == 9 + size && opened.number == number);
+    for (k = 9 + size; k < sizeof datagram; k++)
+      WANT(datagram[k] == 0xee);
+  }
+}
+
+int main(int argc, char **argv) {
+  nulls();
+  numbers();
+  rubbish(argc == 2 ? atoi(argv[1]) : 300000);
+  puts("abuse: all as it should be");
+  return 0;
+}

@@ -1,0 +1,485 @@
+/*
+ * quic_wire: the wire layer of QUIC version 1 and 2 for callers that write C:
+ * the packets of a datagram (RFC 9000, sections 12.2 and 17), the protection
+ * of their heads (RFC 9001, section 5.4), and the frames of a payload
+ * (RFC 9000, section 19), with DATAGRAM of RFC 9221 and the ACK frequency
+ * extension.
+ *
+ * No call takes memory or keeps anything: what is kept between calls is a
+ * struct of the caller's, and the bytes are given anew with each call.  What
+ * a packet or a frame holds is told by its offset and length in these bytes.
+ * No call is made back, and no error is global, so each function may be
+ * called from several threads at once on different structs.
+ *
+ * The caller must ensure what is so anywhere in C: each pointer that isn't
+ * NULL leads to as many items as the length beside it says (or to one
+ * struct), and what a call may write overlaps nothing else that it is given.
+ * All else is checked: NULL, lengths, places outside the bytes, numbers that
+ * have no spelling, kinds that there are none of, structs of any words.
+ */
+#ifndef QUIC_WIRE_H
+#define QUIC_WIRE_H
+
+#include <stddef.h>
+#include <stdint.h>
+
+#ifdef __cplusplus
+extern "C" {
+#endif
+
+/* ---- Results.  Those below 0 are errors. */
+
+/* Nothing is left to be read; or something was written or changed. */
+#define QUIC_WIRE_OK 0
+/* An item was read. */
+#define QUIC_WIRE_ITEM 1
+/* A pointer is NULL, a place lies outside the bytes, a number is too great,
+ * or a struct says what nothing says. */
+#define QUIC_WIRE_ERR_INVALID_ARGUMENT (-1)
+/* The payload is empty: a PROTOCOL_VIOLATION of the peer. */
+#define QUIC_WIRE_ERR_EMPTY (-2)
+/* Something in the bytes is no frame (a FRAME_ENCODING_ERROR of the peer), no
+ * packet, or too short for a sample; a struct tells more. */
+#define QUIC_WIRE_ERR_MALFORMED (-3)
+/* The buffer has less room than is needed. */
+#define QUIC_WIRE_ERR_NOBUF (-4)
+
+/* ---- Frames (RFC 9000, section 19) */
+
+/* The kinds of frames: the type, and one kind for all types of STREAM, of ACK
+ * and of DATAGRAM. */
+#define QUIC_WIRE_PADDING 0x00
+#define QUIC_WIRE_PING 0x01
+#define QUIC_WIRE_ACK 0x02
+#define QUIC_WIRE_RESET_STREAM 0x04
+#define QUIC_WIRE_STOP_SENDING 0x05
+#define QUIC_WIRE_CRYPTO 0x06
+#define QUIC_WIRE_NEW_TOKEN 0x07
+#define QUIC_WIRE_STREAM 0x08
+#define QUIC_WIRE_MAX_DATA 0x10
+#define QUIC_WIRE_MAX_STREAM_DATA 0x11
+#define QUIC_WIRE_MAX_STREAMS_BIDI 0x12
+#define QUIC_WIRE_MAX_STREAMS_UNI 0x13
+#define QUIC_WIRE_DATA_BLOCKED 0x14
+#define QUIC_WIRE_STREAM_DATA_BLOCKED 0x15
+#define QUIC_WIRE_STREAMS_BLOCKED_BIDI 0x16
+#define QUIC_WIRE_STREAMS_BLOCKED_UNI 0x17
+#define QUIC_WIRE_NEW_CONNECTION_ID 0x18
+#define QUIC_WIRE_RETIRE_CONNECTION_ID 0x19
+#define QUIC_WIRE_PATH_CHALLENGE 0x1a
+#define QUIC_WIRE_PATH_RESPONSE 0x1b
+#define QUIC_WIRE_CONNECTION_CLOSE 0x1c
+#define QUIC_WIRE_APPLICATION_CLOSE 0x1d
+#define QUIC_WIRE_HANDSHAKE_DONE 0x1e
+#define QUIC_WIRE_IMMEDIATE_ACK 0x1f
+#define QUIC_WIRE_DATAGRAM 0x30
+#define QUIC_WIRE_ACK_FREQUENCY 0xaf
+
+/* Flags of a frame. */
+#define QUIC_WIRE_FLAG_FIN 1 /* STREAM: the data end the stream */
+#define QUIC_WIRE_FLAG_ECN 2 /* ACK: counts of marked packets are there */
+
+/* No type: the word in place of one. */
+#define QUIC_WIRE_NO_TYPE UINT64_MAX
+
+/* Why something is no frame. */
+#define QUIC_WIRE_REASON_UNEXPECTED_END 1
+#define QUIC_WIRE_REASON_INVALID_FRAME_ID 2
+#define QUIC_WIRE_REASON_MALFORMED 3
+
+/* How far an iterator over a payload has come.  A struct of any other words is
+ * harmless, and reads from |offset| on. */
+typedef struct quic_wire_frames {
+  size_t offset;      /* the end of the last whole frame, in bytes */
+  uint64_t last_type; /* its type as it stands there, or QUIC_WIRE_NO_TYPE */
+  uint64_t ended;     /* not 0 once something was no frame */
+} quic_wire_frames;
+
+/* A frame.  Each number of the union that |kind| doesn't name is 0, as
+ * quic_wire_frame_write asks.  Numbers that were read are below 2^62, but
+ * for those of paths. */
+typedef struct quic_wire_frame {
+  uint32_t kind;  /* QUIC_WIRE_PADDING and so on */
+  uint32_t flags; /* QUIC_WIRE_FLAG_FIN, QUIC_WIRE_FLAG_ECN */
+  size_t begin;   /* where the frame begins in the payload, in bytes */
+  size_t end;     /* where it ends */
+  size_t data;    /* where its data begin in the payload: of CRYPTO, NEW_TOKEN,
+                     STREAM and DATAGRAM; the reason phrase of a close; the id
+                     of a NEW_CONNECTION_ID, whose token for stateless resets
+                     is the 16 bytes behind it */
+  size_t datalen; /* how many bytes these are */
+  union {
+    uint64_t numbers[5];
+    struct {
+      uint64_t largest; /* the greatest packet number */
+      uint64_t delay;   /* in microseconds, shifted right by the sender's
+                           ack_delay_exponent */
+      uint64_t ect0, ect1, ce; /* packets; with QUIC_WIRE_FLAG_ECN */
+    } ack; /* its ranges: quic_wire_ack_ranges_init */
+    struct {
+      uint64_t stream_id, error_code, final_size; /* bytes */
+    } reset_stream;
+    struct {
+      uint64_t stream_id, error_code;
+    } stop_sending;
+    struct {
+      uint64_t stream_id, offset; /* bytes */
+    } stream;
+    struct {
+      uint64_t zero, offset; /* bytes */
+    } crypto;
+    struct {
+      uint64_t stream_id; /* MAX_STREAM_DATA and STREAM_DATA_BLOCKED alone */
+      uint64_t limit;     /* bytes; of MAX_STREAMS, STREAMS_BLOCKED: streams */
+    } limit;              /* MAX_DATA to STREAMS_BLOCKED_UNI */
+    struct {
+      uint64_t sequence, retire_prior_to;
+    } new_connection_id;
+    struct {
+      uint64_t sequence;
+    } retire_connection_id;
+    struct {
+      uint64_t data; /* the eight bytes, the highest first */
+    } path;          /* PATH_CHALLENGE and PATH_RESPONSE */
+    struct {
+      uint64_t error_code;
+      uint64_t frame_type; /* 0: none; CONNECTION_CLOSE alone */
+    } close;
+    struct {
+      uint64_t sequence;
+      uint64_t ack_eliciting_threshold; /* packets */
+      uint64_t max_ack_delay;           /* microseconds */
+      uint64_t reordering_threshold;    /* packets */
+    } ack_frequency;
+  };
+} quic_wire_frame;
+
+/* Packet numbers from |start| to below |end|. */
+typedef struct quic_wire_range {
+  uint64_t start, end;
+} quic_wire_range;
+
+/* How far the ranges of an ACK have been read. */
+typedef struct quic_wire_ack_ranges {
+  size_t begin, end; /* the bytes that are left, in the payload */
+  uint64_t largest;  /* the greatest number of the next range */
+} quic_wire_ack_ranges;
+
+/* ---- Packets (RFC 9000, section 17) */
+
+/* The kinds of packets. */
+#define QUIC_WIRE_INITIAL 0
+#define QUIC_WIRE_0RTT 1
+#define QUIC_WIRE_HANDSHAKE 2
+#define QUIC_WIRE_RETRY 3
+#define QUIC_WIRE_1RTT 4
+#define QUIC_WIRE_VERSION_NEGOTIATION 5
+
+/* Why no packet was cut. */
+#define QUIC_WIRE_PACKET_UNSUPPORTED_VERSION 1
+#define QUIC_WIRE_PACKET_UNEXPECTED_END 2
+#define QUIC_WIRE_PACKET_FIXED_BIT_UNSET 3
+#define QUIC_WIRE_PACKET_TOO_SMALL 4
+#define QUIC_WIRE_PACKET_MALFORMED_CID 5
+#define QUIC_WIRE_PACKET_TOKEN_OUT_OF_BOUNDS 6
+#define QUIC_WIRE_PACKET_LENGTH_BEYOND_END 7
+
+/* A packet, with the protection of its head still on; or why none was cut.
+ * Every place is one in the datagram, in bytes from its front. */
+typedef struct quic_wire_packet {
+  uint32_t kind;    /* QUIC_WIRE_INITIAL and so on; UINT32_MAX: no packet */
+  uint32_t flags;   /* of 1-RTT the spin bit; of a version negotiation the
+                       first byte without its highest bit */
+  uint32_t version; /* the version of QUIC, also one that isn't supported */
+  uint32_t reason;  /* of a packet 0, else QUIC_WIRE_PACKET_UNEXPECTED_END
+                       and so on */
+  size_t begin;     /* where the packet begins in the datagram */
+  size_t end;       /* where it ends */
+  size_t head_end;  /* where its head ends; where the number begins, if the
+                       packet has one */
+  size_t dcid, dcidlen;   /* the receiver's id, at most 20 bytes */
+  size_t scid, scidlen;   /* the sender's id, at most 20 bytes */
+  size_t token, tokenlen; /* the token of an Initial packet */
+  uint64_t len; /* how many bytes an Initial, Handshake or 0-RTT packet has
+                   from |head_end| on */
+} quic_wire_packet;
+
+/* A packet number, once the protection is taken off its head. */
+typedef struct quic_wire_opened {
+  uint64_t number;  /* the whole number */
+  size_t numberlen; /* how many bytes it has in the packet, 1 to 4 */
+  size_t payload;   /* where the payload begins in the datagram */
+} quic_wire_opened;
+
+/* What the library asserts of its own structs. */
+#if defined(__STDC_VERSION__) && __STDC_VERSION__ >= 201112L
+_Static_assert(sizeof(quic_wire_frames) == 24, "64-bit words");
+_Static_assert(sizeof(quic_wire_frame) == 80, "64-bit words");
+_Static_assert(offsetof(quic_wire_frame, numbers) == 40, "64-bit words");
+_Static_assert(sizeof(quic_wire_range) == 16, "64-bit words");
+_Static_assert(sizeof(quic_wire_ack_ranges) == 24, "64-bit words");
+_Static_assert(sizeof(quic_wire_packet) == 96, "64-bit words");
+_Static_assert(sizeof(quic_wire_opened) == 24, "64-bit words");
+#endif
+
+/* The functions of the library.  Their pointers must not be NULL, which those
+ * below see to. */
+int32_t quic_wire_frames_init_(quic_wire_frames *, const uint8_t *, size_t);
+int32_t quic_wire_frames_next_(quic_wire_frames *, const uint8_t *, size_t,
+                               quic_wire_frame *);
+int32_t quic_wire_ack_ranges_init_(quic_wire_ack_ranges *, const uint8_t *,
+                                   size_t, const quic_wire_frame *);
+int32_t quic_wire_ack_ranges_next_(quic_wire_ack_ranges *, const uint8_t *,
+                                   size_t, quic_wire_range *);
+int32_t quic_wire_frame_write_(const quic_wire_frame *, const uint8_t *,
+                               size_t, uint32_t, uint8_t *, size_t, size_t *);
+int32_t quic_wire_packet_next_(const uint8_t *, size_t, size_t *, uint32_t,
+                               const uint32_t *, size_t, uint32_t,
+                               quic_wire_packet *);
+int32_t quic_wire_sample_place_(const uint8_t *, size_t,
+                                const quic_wire_packet *, size_t, size_t *);
+int32_t quic_wire_unprotect_(uint8_t *, size_t, const quic_wire_packet *,
+                             const uint8_t *, size_t, uint64_t,
+                             quic_wire_opened *);
+
+/* A place for what has no items, since the library takes no NULL.  It has room
+ * for one item of each kind, whose words are never looked at. */
+static inline void *quic_wire_nothing(void) {
+  static uint64_t nothing;
+  return &nothing;
+}
+
+/*
+ * Begins at the front of a |payload| of |payloadlen| bytes.  Returns 0, or
+ * QUIC_WIRE_ERR_EMPTY, QUIC_WIRE_ERR_INVALID_ARGUMENT.
+ */
+static inline int quic_wire_frames_init(quic_wire_frames *frames,
+                                        const uint8_t *payload,
+                                        size_t payloadlen) {
+  if (!frames || (!payload && payloadlen))
+    return QUIC_WIRE_ERR_INVALID_ARGUMENT;
+  if (!payload)
+    payload = (const uint8_t *)quic_wire_nothing();
+  return quic_wire_frames_init_(frames, payload, payloadlen);
+}
+
+/*
+ * Reads the next frame.  |payload| is the one that |frames| began with.
+ *
+ * Returns QUIC_WIRE_ITEM and the frame; 0 where none is left;
+ * QUIC_WIRE_ERR_MALFORMED, once, where something is no frame, and then 0: what
+ * is told of it is in |frame| (quic_wire_error_type, quic_wire_error_reason).
+ * QUIC_WIRE_ERR_INVALID_ARGUMENT for NULL, or where |frames->offset| is above
+ * |payloadlen|.  |frame| changes only with QUIC_WIRE_ITEM and
+ * QUIC_WIRE_ERR_MALFORMED.
+ */
+static inline int quic_wire_frames_next(quic_wire_frames *frames,
+                                        const uint8_t *payload,
+                                        size_t payloadlen,
+                                        quic_wire_frame *frame) {
+  if (!frames || !frame || (!payload && payloadlen))
+    return QUIC_WIRE_ERR_INVALID_ARGUMENT;
+  if (!payload)
+    payload = (const uint8_t *)quic_wire_nothing();
+  return quic_wire_frames_next_(frames, payload, payloadlen, frame);
+}
+
+/* After QUIC_WIRE_ERR_MALFORMED: the last type that was read, the broken
+ * frame's own included; QUIC_WIRE_NO_TYPE if none was. */
+static inline uint64_t quic_wire_error_type(const quic_wire_frame *frame) {
+  return frame->numbers[0];
+}
+
+/* After QUIC_WIRE_ERR_MALFORMED: QUIC_WIRE_REASON_UNEXPECTED_END and so on. */
+static inline uint32_t quic_wire_error_reason(const quic_wire_frame *frame) {
+  return frame->flags;
+}
+
+/*
+ * Begins at the greatest range of |frame|, an ACK that was read of this
+ * payload.  Returns 0, or QUIC_WIRE_ERR_INVALID_ARGUMENT where its bytes
+ * are no ACK.
+ */
+static inline int quic_wire_ack_ranges_init(quic_wire_ack_ranges *ranges,
+                                            const uint8_t *payload,
+                                            size_t payloadlen,
+                                            const quic_wire_frame *frame) {
+  if (!ranges || !payload || !frame)
+    return QUIC_WIRE_ERR_INVALID_ARGUMENT;
+  return quic_wire_ack_ranges_init_(ranges, payload, payloadlen, frame);
+}
+
+/*
+ * Reads the next range, the greatest first.  Returns QUIC_WIRE_ITEM and the
+ * range, 0 where none is left, QUIC_WIRE_ERR_INVALID_ARGUMENT for words that
+ * name no blocks of an ACK.
+ */
+static inline int quic_wire_ack_ranges_next(quic_wire_ack_ranges *ranges,
+                                            const uint8_t *payload,
+                                            size_t payloadlen,
+                                            quic_wire_range *range) {
+  if (!ranges || !payload || !range)
+    return QUIC_WIRE_ERR_INVALID_ARGUMENT;
+  return quic_wire_ack_ranges_next_(ranges, payload, payloadlen, range);
+}
+
+/*
+ * Writes |frame|, any but an ACK, in its shortest form at the front of |dest|:
+ * as the last frame of its payload (|last| is not 0), where STREAM and
+ * DATAGRAM need no length, or as another one.  Its data are |frame->datalen|
+ * bytes at |frame->data| of |data|; begin and end are not looked at.
+ *
+ * Returns 0, and in |*written| how many bytes were written;
+ * QUIC_WIRE_ERR_NOBUF where |destlen| is less, and in |*written| how many are
+ * needed; QUIC_WIRE_ERR_INVALID_ARGUMENT where the words say no frame that can
+ * be written.  What stands in |dest| behind what was written stays, and all of
+ * it where nothing was.
+ */
+static inline int quic_wire_frame_write(const quic_wire_frame *frame,
+                                        const uint8_t *data, size_t datalen,
+                                        int last, uint8_t *dest,
+                                        size_t destlen, size_t *written) {
+  size_t unused;
+  if (!frame || (!data && datalen) || (!dest && destlen))
+    return QUIC_WIRE_ERR_INVALID_ARGUMENT;
+  if (!data)
+    data = (const uint8_t *)quic_wire_nothing();
+  if (!dest)
+    dest = (uint8_t *)quic_wire_nothing();
+  return quic_wire_frame_write_(frame, data, datalen, last != 0, dest, destlen,
+                                written ? written : &unused);
+}
+
+/*
+ * Cuts the packet that begins at |*offset| of a datagram: one call for each
+ * packet, with |*offset| 0 before the first.  Ids of short heads have |cidlen|
+ * bytes, at most 20.  Long heads of other versions than the |nversions|
+ * |versions| are read up to their ids.  Where |grease| is not 0 the fixed bit
+ * may be clear (RFC 9287).
+ *
+ * Returns QUIC_WIRE_ITEM and the packet, and |*offset| is then its end; 0
+ * where nothing is left behind a packet; QUIC_WIRE_ERR_MALFORMED with the
+ * reason where no packet begins there, as in an empty datagram;
+ * QUIC_WIRE_ERR_INVALID_ARGUMENT where |*offset| lies outside the datagram or
+ * |cidlen| is above 20.
+ */
+static inline int quic_wire_packet_next(const uint8_t *datagram,
+                                        size_t datagramlen, size_t *offset,
+                                        uint32_t cidlen,
+                                        const uint32_t *versions,
+                                        size_t nversions, int grease,
+                                        quic_wire_packet *packet) {
+  if (!offset || !packet || (!datagram && datagramlen) ||
+      (!versions && nversions))
+    return QUIC_WIRE_ERR_INVALID_ARGUMENT;
+  if (!datagram)
+    datagram = (const uint8_t *)quic_wire_nothing();
+  if (!versions)
+    versions = (const uint32_t *)quic_wire_nothing();
+  return quic_wire_packet_next_(datagram, datagramlen, offset, cidlen, versions,
+                                nversions, grease != 0, packet);
+}
+
+/*
+ * Where the sample of |samplelen| bytes begins in the datagram from which the
+ * caller makes the mask of a packet's head (RFC 9001, section 5.4.2).  Returns
+ * 0 and the place; QUIC_WIRE_ERR_MALFORMED where the packet is too short;
+ * QUIC_WIRE_ERR_INVALID_ARGUMENT where the words name no packet of the datagram
+ * that has a number.
+ */
+static inline int quic_wire_sample_place(const uint8_t *datagram,
+                                         size_t datagramlen,
+                                         const quic_wire_packet *packet,
+                                         size_t samplelen, size_t *place) {
+  if (!datagram || !packet || !place)
+    return QUIC_WIRE_ERR_INVALID_ARGUMENT;
+  return quic_wire_sample_place_(datagram, datagramlen, packet, samplelen,
+                                 place);
+}
+
+/*
+ * Takes the protection off the head of a packet by a mask of five bytes or
+ * more (RFC 9001, section 5.4.1), and says its number by the one that is
+ * |expected| next (RFC 9000, appendix A.3).  Returns 0;
+ * QUIC_WIRE_ERR_MALFORMED where the packet ends within four bytes from where
+ * the number begins; QUIC_WIRE_ERR_INVALID_ARGUMENT where the words name no
+ * packet of the datagram that has a number, the mask is shorter, or |expected|
+ * is 2^62 or more.  The datagram changes only with 0: the low bits of the
+ * packet's first byte, and the number's bytes.
+ */
+static inline int quic_wire_unprotect(uint8_t *datagram, size_t datagramlen,
+                                      const quic_wire_packet *packet,
+                                      const uint8_t *mask, size_t masklen,
+                                      uint64_t expected,
+                                      quic_wire_opened *opened) {
+  if (!datagram || !packet || !mask || !opened)
+    return QUIC_WIRE_ERR_INVALID_ARGUMENT;
+  return quic_wire_unprotect_(datagram, datagramlen, packet, mask, masklen,
+                              expected, opened);
+}
+
+/* The name of a type as it stands on the wire, or NULL. */
+static inline const char *quic_wire_type_name(uint64_t type) {
+  switch (type) {
+  case 0x00: return "PADDING";
+  case 0x01: return "PING";
+  case 0x02: return "ACK";
+  case 0x03: return "ACK_ECN";
+  case 0x04: return "RESET_STREAM";
+  case 0x05: return "STOP_SENDING";
+  case 0x06: return "CRYPTO";
+  case 0x07: return "NEW_TOKEN";
+  case 0x08: case 0x09: case 0x0a: case 0x0b:
+  case 0x0c: case 0x0d: case 0x0e: case 0x0f: return "STREAM";
+  case 0x10: return "MAX_DATA";
+  case 0x11: return "MAX_STREAM_DATA";
+  case 0x12: return "MAX_STREAMS_BIDI";
+  case 0x13: return "MAX_STREAMS_UNI";
+  case 0x14: return "DATA_BLOCKED";
+  case 0x15: return "STREAM_DATA_BLOCKED";
+  case 0x16: return "STREAMS_BLOCKED_BIDI";
+  case 0x17: return "STREAMS_BLOCKED_UNI";
+  case 0x18: return "NEW_CONNECTION_ID";
+  case 0x19: return "RETIRE_CONNECTION_ID";
+  case 0x1a: return "PATH_CHALLENGE";
+  case 0x1b: return "PATH_RESPONSE";
+  case 0x1c: return "CONNECTION_CLOSE";
+  case 0x1d: return "APPLICATION_CLOSE";
+  case 0x1e: return "HANDSHAKE_DONE";
+  case 0x1f: return "IMMEDIATE_ACK";
+  case 0x30: case 0x31: return "DATAGRAM";
+  case 0xaf: return "ACK_FREQUENCY";
+  default: return NULL;
+  }
+}
+
+/* Why something is no frame. */
+static inline const char *quic_wire_reason_text(uint32_t reason) {
+  switch (reason) {
+  case QUIC_WIRE_REASON_UNEXPECTED_END: return "unexpected end";
+  case QUIC_WIRE_REASON_INVALID_FRAME_ID: return "invalid frame ID";
+  case QUIC_WIRE_REASON_MALFORMED: return "malformed";
+  default: return "unknown";
+  }
+}
+
+/* Why no packet was cut; that of an unsupported version wants its number too. */
+static inline const char *quic_wire_packet_reason_text(uint32_t reason) {
+  switch (reason) {
+  case QUIC_WIRE_PACKET_UNSUPPORTED_VERSION: return "unsupported version";
+  case QUIC_WIRE_PACKET_UNEXPECTED_END: return "unexpected end of packet";
+  case QUIC_WIRE_PACKET_FIXED_BIT_UNSET: return "fixed bit unset";
+  case QUIC_WIRE_PACKET_TOO_SMALL: return "packet too small";
+  case QUIC_WIRE_PACKET_MALFORMED_CID: return "malformed cid";
+  case QUIC_WIRE_PACKET_TOKEN_OUT_OF_BOUNDS: return "token out of bounds";
+  case QUIC_WIRE_PACKET_LENGTH_BEYOND_END:
+    return "packet too short to contain payload length";
+  default: return "unknown";
+  }
+}
+
+#ifdef __cplusplus
+}
+#endif
+
+#endif /* QUIC_WIRE_H */

@@ -1,0 +1,172 @@
+//! The library's functions and structs, as `quic_wire.h` declares them. Nothing compares the two but the sizes that
+//! both assert, and the tests.
+//!
+//! No function asks anything of its caller but that its references are such, which Rust sees to: so the calls are
+//! safe where a slice gives the pointer and the length.
+
+/// How far an iterator over a payload has come.
+#[repr(C)]
+#[derive(Clone, Copy, Debug)]
+pub struct Frames {
+    pub offset: usize,
+    pub last_type: u64,
+    pub ended: u64,
+}
+
+/// A frame.
+#[repr(C)]
+#[derive(Clone, Copy, Debug)]
+pub struct Frame {
+    pub kind: u32,
+    pub flags: u32,
+    pub begin: usize,
+    pub end: usize,
+    pub data: usize,
+    pub datalen: usize,
+    pub numbers: [u64; 5],
+}
+
+/// Numbers from `start` to below `end`.
+#[repr(C)]
+#[derive(Clone, Copy, Debug)]
+pub struct Range {
+    pub start: u64,
+    pub end: u64,
+}
+
+/// How far the ranges of an ACK have been read.
+#[repr(C)]
+#[derive(Clone, Copy, Debug)]
+pub struct Ranges {
+    pub begin: usize,
+    pub end: usize,
+    pub largest: u64,
+}
+
+/// A packet, or why none was cut.
+#[repr(C)]
+#[derive(Clone, Copy, Debug, PartialEq, Eq)]
+pub struct Packet {
+    pub kind: u32,
+    pub flags: u32,
+    pub version: u32,
+    pub reason: u32,
+    pub begin: usize,
+    pub end: usize,
+    pub head_end: usize,
+    pub dcid: usize,
+    pub dcidlen: usize,
+    pub scid: usize,
+    pub scidlen: usize,
+    pub token: usize,
+    pub tokenlen: usize,
+    pub len: u64,
+}
+
+/// A packet number.
+#[repr(C)]
+#[derive(Clone, Copy, Debug)]
+pub struct Opened {
+    pub number: u64,
+    pub numberlen: usize,
+    pub payload: usize,
+}
+
+// What the library asserts too.
+const _: () = assert!(size_of::<Frames>() == 24 && size_of::<Frame>() == 80);
+const _: () = assert!(size_of::<Range>() == 16 && size_of::<Ranges>() == 24);
+const _: () = assert!(size_of::<Packet>() == 96 && size_of::<Opened>() == 24);
+const _: () = assert!(std::mem::offset_of!(Frame, numbers) == 40);
+
+pub const OK: i32 = 0;
+pub const ITEM: i32 = 1;
+pub const MALFORMED: i32 = -3;
+pub const NO_ROOM: i32 = -4;
+
+unsafe extern "C" {
+    fn quic_wire_frames_next_(frames: &mut Frames, payload: *const u8, len: usize, out: &mut Frame) -> i32;
+    fn quic_wire_ack_ranges_init_(ranges: &mut Ranges, payload: *const u8, len: usize, frame: &Frame) -> i32;
+    fn quic_wire_ack_ranges_next_(ranges: &mut Ranges, payload: *const u8, len: usize, out: &mut Range) -> i32;
+    fn quic_wire_frame_write_(
+        frame: &Frame,
+        data: *const u8,
+        len: usize,
+        last: u32,
+        out: *mut u8,
+        out_len: usize,
+        written: &mut usize,
+    ) -> i32;
+    fn quic_wire_packet_next_(
+        datagram: *const u8,
+        len: usize,
+        offset: &mut usize,
+        cid_len: u32,
+        versions: *const u32,
+        versions_len: usize,
+        grease: u32,
+        out: &mut Packet,
+    ) -> i32;
+    fn quic_wire_sample_place_(datagram: *const u8, len: usize, packet: &Packet, sample_len: usize, place: &mut usize) -> i32;
+    fn quic_wire_unprotect_(
+        datagram: *mut u8,
+        len: usize,
+        packet: &Packet,
+        mask: *const u8,
+        mask_len: usize,
+        expected: u64,
+        out: &mut Opened,
+    ) -> i32;
+}
+
+#[inline]
+pub fn frames_next(frames: &mut Frames, payload: &[u8], out: &mut Frame) -> i32 {
+    // SAFETY: the declaration fits; pointer and length are those of one slice, and any words serve.
+    unsafe { quic_wire_frames_next_(frames, payload.as_ptr(), payload.len(), out) }
+}
+
+#[inline]
+pub fn ack_ranges_init(ranges: &mut Ranges, payload: &[u8], frame: &Frame) -> i32 {
+    // SAFETY: as above.
+    unsafe { quic_wire_ack_ranges_init_(ranges, payload.as_ptr(), payload.len(), frame) }
+}
+
+#[inline]
+pub fn ack_ranges_next(ranges: &mut Ranges, payload: &[u8], out: &mut Range) -> i32 {
+    // SAFETY: as above.
+    unsafe { quic_wire_ack_ranges_next_(ranges, payload.as_ptr(), payload.len(), out) }
+}
+
+#[inline]
+pub fn frame_write(frame: &Frame, data: &[u8], last: bool, out: &mut [u8], written: &mut usize) -> i32 {
+    let last = u32::from(last);
+    // SAFETY: as above; `out` is borrowed alone, so nothing overlaps it.
+    unsafe { quic_wire_frame_write_(frame, data.as_ptr(), data.len(), last, out.as_mut_ptr(), out.len(), written) }
+}
+
+#[inline]
+pub fn packet_next(
+    datagram: &[u8],
+    offset: &mut usize,
+    cid_len: u32,
+    versions: &[u32],
+    grease: bool,
+    out: &mut Packet,
+) -> i32 {
+    let (bytes, len) = (datagram.as_ptr(), datagram.len());
+    let (known, count) = (versions.as_ptr(), versions.len());
+    // SAFETY: as above.
+    unsafe { quic_wire_packet_next_(bytes, len, offset, cid_len, known, count, u32::from(grease), out) }
+}
+
+#[inline]
+pub fn sample_place(datagram: &[u8], packet: &Packet, sample_len: usize, place: &mut usize) -> i32 {
+    // SAFETY: as above.
+    unsafe { quic_wire_sample_place_(datagram.as_ptr(), datagram.len(), packet, sample_len, place) }
+}
+
+#[inline]
+pub fn unprotect(datagram: &mut [u8], packet: &Packet, mask: &[u8], expected: u64, out: &mut Opened) -> i32 {
+    let (bytes, len) = (datagram.as_mut_ptr(), datagram.len());
+    // SAFETY: as above; the datagram is borrowed alone, so nothing overlaps it.
+    unsafe { quic_wire_unprotect_(bytes, len, packet, mask.as_ptr(), mask.len(), expected, out) }
+}

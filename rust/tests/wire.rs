@@ -1,0 +1,101 @@
+//! What is read, written and read again.
+use quic_wire::frame::{EmptyPayload, Frame, Iter, Reason, WriteError};
+use quic_wire::packet::{DEFAULT_SUPPORTED_VERSIONS, PacketDecodeError, Packets, ProtectedHeader, UnprotectError};
+
+#[test]
+fn frames_borrow_the_payload() {
+    let payload = [0x0d, 0x04, 0x40, 0x07, b'h', b'i'].to_vec();
+    let Some(Ok(Frame::Stream(s))) = Iter::new(&payload).unwrap().next() else { panic!() };
+    assert!(s.fin && s.offset == 7 && u64::from(s.id) == 4);
+    assert_eq!(s.data.as_ptr(), payload[4..].as_ptr());
+    assert_eq!(s.data, b"hi");
+}
+
+#[test]
+fn an_ack_gives_its_ranges() {
+    // 100 is the greatest number: ten numbers, none, one number; then counts.
+    let payload = [3, 0x40, 100, 5, 1, 9, 0, 0, 1, 2, 3];
+    let Some(Ok(Frame::Ack(ack))) = Iter::new(&payload).unwrap().next() else { panic!() };
+    assert_eq!((ack.largest, ack.delay), (100, 5));
+    assert_eq!(ack.ecn.map(|e| (e.ect0, e.ect1, e.ce)), Some((1, 2, 3)));
+    assert_eq!(ack.iter().collect::<Vec<_>>(), [91..=100, 89..=89]);
+    assert_eq!(Frame::Ack(ack).encode(true, &mut [0; 16]), Err(WriteError::OutOfRange));
+}
+
+#[test]
+fn refusals() {
+    assert_eq!(Iter::new(&[]).err(), Some(EmptyPayload));
+    let mut iter = Iter::new(&[0x01, 0x06]).unwrap();
+    assert_eq!(iter.next(), Some(Ok(Frame::Ping)));
+    let e = iter.next().unwrap().unwrap_err();
+    assert_eq!((e.ty.map(u64::from), e.reason), (Some(6), Reason::UnexpectedEnd));
+    assert_eq!(e.to_string(), "unexpected end in CRYPTO");
+    assert_eq!(iter.next(), None);
+    assert_eq!(iter.next(), None);
+    assert_eq!(Frame::MaxData(1 << 62).encode(false, &mut [0; 16]), Err(WriteError::OutOfRange));
+    assert_eq!(Frame::MaxData(64).encode(false, &mut [7; 2]), Err(WriteError::NoRoom(3)));
+}
+
+#[test]
+fn a_packet_is_opened() {
+    // A short head with an id of two bytes and a number of one byte, under a mask of ones and fives.
+    let mut datagram = [0x5f, 0xaa, 0xbb, 0x2c ^ 0x05, 1, 2, 3, 4, 5, 6, 7];
+    let packet = Packets::new(&datagram, 2, DEFAULT_SUPPORTED_VERSIONS, false).next().unwrap().unwrap();
+    assert_eq!(packet.header(), ProtectedHeader::Short { spin: false, dst_cid: &[0xaa, 0xbb] });
+    let place = packet.place();
+    assert_eq!(place.sample(&datagram, 4), Ok(&[4, 5, 6, 7][..]));
+    assert_eq!(place.sample(&datagram, 5), Err(UnprotectError::TooShort));
+    assert_eq!(place.unprotect(&mut datagram, &[0x1f, 5, 5, 5], 300), Err(UnprotectError::InvalidArgument));
+    let opened = place.unprotect(&mut datagram, &[0x1f, 5, 5, 5, 5], 300).unwrap();
+    assert_eq!((opened.number, opened.number_len, opened.payload), (300, 1, 4));
+    assert_eq!(datagram, [0x40, 0xaa, 0xbb, 0x2c, 1, 2, 3, 4, 5, 6, 7]);
+}
+
+#[test]
+fn an_unknown_version_gives_its_ids() {
+    let datagram = [0xc0, 0, 0, 0, 9, 1, 0xaa, 2, 0xbb, 0xcc, 0];
+    let mut packets = Packets::new(&datagram, 0, DEFAULT_SUPPORTED_VERSIONS, false);
+    let error = packets.next().unwrap().unwrap_err();
+    assert_eq!(error.to_string(), "unsupported version 9");
+    let PacketDecodeError::UnsupportedVersion { src_cid, dst_cid, .. } = error else { panic!() };
+    assert_eq!((dst_cid, src_cid), (&[0xaa][..], &[0xbb, 0xcc][..]));
+    assert!(packets.next().is_none());
+    let empty = Packets::new(&[], 0, &[], false).next().unwrap().unwrap_err();
+    assert_eq!(empty.to_string(), "unexpected end of packet");
+}
+
+/// Every frame of the payloads that `QUIC_WIRE_LIST` names but ACKs is written, read back and the same.
+#[test]
+fn what_is_written_is_read_back() {
+    let Ok(list) = std::env::var("QUIC_WIRE_LIST") else { return };
+    let mut count = 0;
+    for line in std::fs::read_to_string(list).unwrap().lines() {
+        let bytes = (0..line.len() / 2).map(|i| u8::from_str_radix(&line[2 * i..2 * i + 2], 16));
+        let Ok(payload) = bytes.collect::<Result<Vec<u8>, _>>() else { continue };
+        let Ok(iter) = Iter::new(&payload) else { continue };
+        for frame in iter.flatten() {
+            count += usize::from(is_read_back(frame, payload.len()));
+        }
+    }
+    assert!(count > 500, "{count}");
+}
+
+fn is_read_back(frame: Frame<'_>, len: usize) -> bool {
+    for last in [false, true] {
+        let mut out = vec![0xa5; len + 32];
+        match frame.encode(last, &mut out) {
+            Ok(n) => {
+                assert!(out[n..].iter().all(|byte| *byte == 0xa5));
+                let mut again = Iter::new(&out[..n]).unwrap();
+                assert_eq!(again.next(), Some(Ok(frame)));
+                assert_eq!(again.next(), None);
+                assert_eq!(frame.encode(last, &mut out[..n - 1]), Err(WriteError::NoRoom(n)));
+            }
+            Err(e) => {
+                assert!(matches!(frame, Frame::Ack(_)), "{frame:?} {e:?}");
+                return false;
+            }
+        }
+    }
+    true
+}

@@ -1,0 +1,85 @@
+// crossing WORK ROUNDS FILE: reads the payloads of a file of lines in hexadecimal so many rounds by the calls for C.
+// Prints how many items one round has, and a number that depends on all of them. WORK is frames (every field of each),
+// ranges (of each ACK, read too), or packets (of each line as a datagram, ids of 8 bytes).
+#include <stdint.h>
+#include <stdio.h>
+#include <stdlib.h>
+#include <string.h>
+
+#include "quic_wire.h"
+
+typedef uint64_t u64;
+
+static u64 items;
+
+static u64 frames_of(const uint8_t *payload, size_t len, int ranges) {
+    quic_wire_frames frames;
+    quic_wire_frame frame;
+    u64 sum = 0;
+    if (quic_wire_frames_init(&frames, payload, len))
+        return 0;
+    while (quic_wire_frames_next(&frames, payload, len, &frame) == QUIC_WIRE_ITEM) {
+        if (!ranges) {
+            for (int i = 0; i < 5; i++)
+                sum += frame.numbers[i];
+            sum += frame.kind + frame.flags + frame.end + frame.data + frame.datalen;
+            items++;
+        } else if (frame.kind == QUIC_WIRE_ACK) {
+            quic_wire_ack_ranges at;
+            quic_wire_range range;
+            if (quic_wire_ack_ranges_init(&at, payload, len, &frame))
+                continue;
+            while (quic_wire_ack_ranges_next(&at, payload, len, &range) == QUIC_WIRE_ITEM) {
+                sum += range.start ^ range.end;
+                items++;
+            }
+        }
+    }
+    return sum;
+}
+
+static u64 packets_of(const uint8_t *datagram, size_t len) {
+    static const uint32_t versions[] = {1, 0x6b3343cf};
+    quic_wire_packet packet;
+    size_t offset = 0;
+    u64 sum = 0;
+    while (quic_wire_packet_next(datagram, len, &offset, 8, versions, 2, 0, &packet) == QUIC_WIRE_ITEM) {
+        sum += packet.kind + packet.version + packet.head_end + packet.dcid + packet.dcidlen + packet.scid +
+               packet.scidlen + packet.token + packet.tokenlen + packet.len + packet.end;
+        items++;
+    }
+    return sum;
+}
+
+int main(int argc, char **argv) {
+    static char line[1 << 20];
+    static uint8_t *bytes[1 << 16];
+    static size_t lens[1 << 16];
+    size_t count = 0;
+    u64 sum = 0;
+    if (argc != 4)
+        return 2;
+    FILE *file = fopen(argv[3], "r");
+    if (!file)
+        return 1;
+    while (fgets(line, sizeof line, file) && count < 1 << 16) {
+        size_t len = strcspn(line, "\r\n") / 2;
+        uint8_t *at = malloc(len + 1);
+        for (size_t i = 0; i < len; i++) {
+            unsigned byte = 0;
+            sscanf(line + 2 * i, "%2x", &byte);
+            at[i] = (uint8_t)byte;
+        }
+        bytes[count] = at;
+        lens[count++] = len;
+    }
+    fclose(file);
+    int rounds = atoi(argv[2]);
+    for (int r = 0; r < rounds; r++) {
+        items = 0;
+        for (size_t i = 0; i < count; i++)
+            sum += argv[1][0] == 'p' ? packets_of(bytes[i], lens[i]) : frames_of(bytes[i], lens[i], argv[1][0] == 'r');
+    }
+    printf("%lu items, %lu\n", (unsigned long)items, (unsigned long)sum);
+    return 0;
+}

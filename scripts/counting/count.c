@@ -2,7 +2,8 @@
 // many items there were in a round, and a sum. WORK: frames, canonical (of payloads; with KIND c of their canonical
 // forms); ngtcp2 (with KIND w of those payloads alone that are frames to their end without PADDING, for ngtcp2 too
 // where there is one, and the items are frames); copy, decode, cut (of datagrams; KIND s, i or h: those that begin with a short, Initial or Handshake head);
-// read, write (of lists of parameters); number, number0, expand, expand0 (0: without the work); initial, handshake, short.
+// read, write (of lists of parameters); number, number0, expand, expand0 (0: without the work); initial, handshake, short;
+// ranges (of the ACKs of payloads), encode, in_range (of their frames); set KIND NAME N, two WORK NAME NAME N, ack NAME N (of sets, below).
 #include <stdint.h>
 #include <stdio.h>
 #include <stdlib.h>
@@ -25,6 +26,11 @@ u64 count_params_write(const uint8_t *, size_t, u32);
 u64 count_number(u64, u64, u32);
 u64 count_expand(u32, u32, u64, u32);
 u64 count_head(u32, u32);
+u64 count_ranges(const uint8_t *, size_t, u32);
+u64 count_encode(const uint8_t *, size_t, u32, u32);
+u64 count_set(u32, const u64 *, size_t);
+u64 count_two(const u64 *, size_t, const u64 *, size_t, u32, u32);
+u64 count_ack(const u64 *, size_t, u32);
 
 #define MOST 100000
 static uint8_t *items[MOST];
@@ -113,14 +119,120 @@ static u64 over(u64 (*call)(const uint8_t *, size_t), u32 rounds) {
     return sum;
 }
 
+// Operations on a set: how they begin, how many numbers they have, and 0 to insert, 1 to remove, 2 to look for one.
+static u64 *operations;
+static size_t operations_len;
+
+static void operation(u64 kind, u64 start, u64 len) { operations[operations_len++] = start << 22 | len << 2 | kind; }
+
+static void shuffle(u64 *numbers, size_t n) {
+    for (size_t i = n - 1; i > 0; i--) {
+        size_t j = next() % (i + 1);
+        u64 other = numbers[i];
+        numbers[i] = numbers[j];
+        numbers[j] = other;
+    }
+}
+
+// Packet numbers in order, one in 50 lost, and one in 20 late by up to 8 places; with `leave` the 400 that end 200 below
+// an insertion leave after each 32nd.
+static void packets(u64 *numbers, size_t n, int leave) {
+    size_t len = 0;
+    for (u64 number = 0; len < n; number++)
+        if (next() % 50) numbers[len++] = number;
+    for (size_t i = 0; i + 8 < len; i++)
+        if (next() % 20 == 0) {
+            size_t j = 1 + next() % 8;
+            u64 late = numbers[i];
+            memmove(numbers + i, numbers + i + 1, j * 8);
+            numbers[i + j] = late;
+        }
+    for (size_t i = 0; i < n; i++) {
+        operation(0, numbers[i], 1);
+        if (leave && i % 32 == 31 && numbers[i] > 300) {
+            u64 top = numbers[i] - 200;
+            operation(1, top > 400 ? top - 400 : 0, 400);
+        }
+    }
+}
+
+// Single numbers that touch none: up, down or any (in any order); then each is removed (-r) or looked for (-c) in any order.
+static void singles(const char *name, u64 *numbers, size_t n) {
+    for (size_t i = 0; i < n; i++) numbers[i] = 4 + (!strncmp(name, "down", 4) ? n - 1 - i : i) * 4;
+    if (!strncmp(name, "any", 3)) shuffle(numbers, n);
+    for (size_t i = 0; i < n; i++) operation(0, numbers[i], 1);
+    const char *then = strchr(name, '-');
+    if (!then) return;
+    shuffle(numbers, n);
+    for (size_t i = 0; i < n; i++) operation(then[1] == 'c' ? 2 : 1, numbers[i], 1);
+}
+
+// NAME: order; packets, packets-r; up, up-r, down, any, any-r, any-c; hole (single numbers leave one range in any order);
+// runs4, runs5, runs7 (single numbers, every fourth, from 4, 5, 7 on); inner, wide (runs of 4 and of 6, every eighth).
+static void generate(const char *name, size_t n) {
+    u64 *numbers = malloc(2 * n * sizeof *numbers);
+    operations = malloc((4 * n + 16) * sizeof *operations);
+    operations_len = 0;
+    state = 88172645463325252ull;
+    if (!strcmp(name, "order")) for (size_t i = 0; i < n; i++) operation(0, i, 1);
+    else if (!strncmp(name, "packets", 7)) packets(numbers, n, name[7] == '-');
+    else if (!strcmp(name, "hole")) {
+        operation(0, 0, 4 * n);
+        for (size_t i = 0; i < n; i++) numbers[i] = 1 + i * 4;
+        shuffle(numbers, n);
+        for (size_t i = 0; i < n; i++) operation(1, numbers[i], 1);
+    }
+    else if (!strncmp(name, "runs", 4)) for (size_t i = 0; i < n; i++) operation(0, name[4] - '0' + i * 4, 1);
+    else if (!strcmp(name, "inner")) for (size_t i = 0; i < n; i++) operation(0, 8 + i * 8, 4);
+    else if (!strcmp(name, "wide")) for (size_t i = 0; i < n; i++) operation(0, 8 + i * 8, 6);
+    else singles(name, numbers, n);
+    free(numbers);
+}
+
+// Work on sets: WORK ROUNDS and what else it takes. Answers a sum, and counts the items.
+static u64 sets(int argc, char **argv, u32 rounds) {
+    u64 sum = 0;
+    items_len = strtoull(argv[argc - 1], NULL, 10);
+    if (!strcmp(argv[1], "two") && argc == 7) {
+        generate(argv[4], items_len);
+        u64 *ours = operations;
+        size_t ours_len = operations_len;
+        generate(argv[5], items_len);
+        return count_two(ours, ours_len, operations, operations_len, rounds, atoi(argv[3]));
+    }
+    generate(argv[argc - 2], items_len);
+    if (!strcmp(argv[1], "ack")) {
+        items_len = 1;
+        return count_ack(operations, operations_len, rounds);
+    }
+    for (u32 r = 0; r < rounds; r++) sum += count_set(!strcmp(argv[3], "vec"), operations, operations_len);
+    return sum;
+}
+
+// The ranges of the ACKs, or the frames that are written where `written` isn't 0 or only looked at.
+static u64 of_frames(const char *work, u32 rounds) {
+    u64 sum = 0;
+    size_t all = 0;
+    for (size_t i = 0; i < items_len; i++) {
+        all += *work == 'r' ? count_ranges(items[i], sizes[i], 1) : count_encode(items[i], sizes[i], 1, 0);
+        if (*work != 'r') sum += count_encode(items[i], sizes[i], rounds, *work == 'e');
+        else for (u32 r = 0; r < rounds; r++) sum += count_ranges(items[i], sizes[i], 0);
+    }
+    frames_len = all;
+    return sum;
+}
+
 int main(int argc, char **argv) {
     if (argc < 3) return 2;
     const char *work = argv[1];
     u32 rounds = atoi(argv[2]);
     u64 sum = 0;
     items_len = 0;
-    if (argc > 3) load(argv[3], argc > 4 ? argv[4][0] : 'a');
-    if (!strcmp(work, "frames")) sum = over(count_frames, rounds);
+    int is_of_sets = !strcmp(work, "set") || !strcmp(work, "two") || !strcmp(work, "ack");
+    if (argc > 3 && !is_of_sets) load(argv[3], argc > 4 ? argv[4][0] : 'a');
+    if (is_of_sets) sum = sets(argc, argv, rounds);
+    else if (!strcmp(work, "frames")) sum = over(count_frames, rounds);
+    else if (!strcmp(work, "ranges") || !strcmp(work, "encode") || !strcmp(work, "in_range")) sum = of_frames(work, rounds);
     else if (!strcmp(work, "ngtcp2")) sum = over(ngtcp2_sum, rounds);
     else if (!strcmp(work, "canonical")) sum = over(count_canonical, rounds);
     else if (!strcmp(work, "copy")) sum = over(count_copy, rounds);

@@ -5,5 +5,6 @@
 mod read;
 mod show;
 mod words;
+mod write;
 
 pub use words::ParamsWords;

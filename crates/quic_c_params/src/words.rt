@@ -3,7 +3,7 @@
 /// Transport parameters (RFC 9000, section 18.2). What is absent is 0 in all of its words and bytes, but for the
 /// numbers that have a default: these hold it then.
 #[repr(C)]
-#[derive(Clone, Copy)]
+#[derive(Clone, Copy, PartialEq, Eq)]
 pub struct ParamsWords {
     /// What is there, by the bits from the lowest: 0 `stateless_reset_token`, 1 `disable_active_migration`,
     /// 2 `max_datagram_frame_size`, 3 a preferred address, 4 its address of IPv4, 5 that of IPv6,

@@ -227,6 +227,8 @@ _Static_assert(sizeof(quic_wire_opened) == 24, "64-bit words");
 int32_t quic_wire_frames_init_(quic_wire_frames *, const uint8_t *, size_t);
 int32_t quic_wire_frames_next_(quic_wire_frames *, const uint8_t *, size_t,
                                quic_wire_frame *);
+int32_t quic_wire_frames_fill_(quic_wire_frames *, const uint8_t *, size_t,
+                               quic_wire_frame *, size_t, size_t *);
 int32_t quic_wire_ack_ranges_init_(quic_wire_ack_ranges *, const uint8_t *,
                                    size_t, const quic_wire_frame *);
 int32_t quic_wire_ack_ranges_next_(quic_wire_ack_ranges *, const uint8_t *,
@@ -282,6 +284,33 @@ static inline int quic_wire_frames_next(quic_wire_frames *frames,
   if (!payload)
     payload = (const uint8_t *)quic_wire_nothing();
   return quic_wire_frames_next_(frames, payload, payloadlen, frame);
+}
+
+/*
+ * Reads the next frames, as many as the |room| entries of |out| hold, with one
+ * call.  |payload| is the one that |frames| began with.  A run of PADDING is
+ * one entry: from |begin| to |end| stands a frame with each byte.
+ *
+ * Returns QUIC_WIRE_ITEM, and in |*count| how many entries were filled, one at
+ * least; 0 where no frame is left; QUIC_WIRE_ERR_MALFORMED, once, where what
+ * stands next is no frame, and then 0: what is told of it is in |out[0]|
+ * (quic_wire_error_type, quic_wire_error_reason); QUIC_WIRE_ERR_NOBUF where
+ * |room| is 0.  QUIC_WIRE_ERR_INVALID_ARGUMENT for NULL, or where
+ * |frames->offset| is above |payloadlen|.  Frames that stand before something
+ * that is none are given first, and the next call tells of it.  Entries behind
+ * those that were filled stay, and |*count| changes only with QUIC_WIRE_ITEM.
+ */
+static inline int quic_wire_frames_fill(quic_wire_frames *frames,
+                                        const uint8_t *payload,
+                                        size_t payloadlen, quic_wire_frame *out,
+                                        size_t room, size_t *count) {
+  if (!frames || !count || (!payload && payloadlen) || (!out && room))
+    return QUIC_WIRE_ERR_INVALID_ARGUMENT;
+  if (!payload)
+    payload = (const uint8_t *)quic_wire_nothing();
+  if (!out)
+    out = (quic_wire_frame *)quic_wire_nothing();
+  return quic_wire_frames_fill_(frames, payload, payloadlen, out, room, count);
 }
 
 /* After QUIC_WIRE_ERR_MALFORMED: the last type that was read, the broken

@@ -1,3 +1,4 @@
 pub mod Places
 mod Shapes
 mod Said
+mod Filling

@@ -4,6 +4,7 @@
 #![tactic(auto)]
 
 mod acks;
+mod fill;
 mod frames;
 mod packets;
 mod show;

@@ -299,6 +299,8 @@ static inline int quic_wire_frames_next(quic_wire_frames *frames,
  * |frames->offset| is above |payloadlen|.  Frames that stand before something
  * that is none are given first, and the next call tells of it.  Entries behind
  * those that were filled stay, and |*count| changes only with QUIC_WIRE_ITEM.
+ * Once |frames->offset| is |payloadlen| nothing is left, and no call is needed
+ * to learn that.
  */
 static inline int quic_wire_frames_fill(quic_wire_frames *frames,
                                         const uint8_t *payload,

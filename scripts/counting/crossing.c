@@ -48,7 +48,8 @@ static u64 many_frames_of(const uint8_t *payload, size_t len) {
     u64 sum = 0;
     if (quic_wire_frames_init(&frames, payload, len))
         return 0;
-    while (quic_wire_frames_fill(&frames, payload, len, filled, MANY, &count) == QUIC_WIRE_ITEM) {
+    while (frames.offset < len &&
+           quic_wire_frames_fill(&frames, payload, len, filled, MANY, &count) == QUIC_WIRE_ITEM) {
         for (size_t k = 0; k < count; k++) {
             const quic_wire_frame *frame = &filled[k];
             for (int i = 0; i < 5; i++)

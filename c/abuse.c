@@ -73,6 +73,13 @@ static void nulls(void) {
   WANT(quic_wire_ack_ranges_next(NULL, &byte, 1, &range) == INVALID);
   WANT(quic_wire_ack_ranges_next(&ranges, NULL, 1, &range) == INVALID);
   WANT(quic_wire_ack_ranges_next(&ranges, &byte, 1, NULL) == INVALID);
+  WANT(quic_wire_ack_ranges_fill(NULL, &byte, 1, &range, 1, &n) == INVALID);
+  WANT(quic_wire_ack_ranges_fill(&ranges, NULL, 1, &range, 1, &n) == INVALID);
+  WANT(quic_wire_ack_ranges_fill(&ranges, &byte, 1, NULL, 1, &n) == INVALID);
+  WANT(quic_wire_ack_ranges_fill(&ranges, &byte, 1, &range, 1, NULL) ==
+       INVALID);
+  WANT(quic_wire_ack_ranges_fill(&ranges, &byte, 1, NULL, 0, &n) ==
+       QUIC_WIRE_ERR_NOBUF);
   WANT(quic_wire_frame_write(NULL, NULL, 0, 0, out, 8, &n) == INVALID);
   WANT(quic_wire_frame_write(&frame, NULL, 1, 0, out, 8, &n) == INVALID);
   WANT(quic_wire_frame_write(&frame, NULL, 0, 0, NULL, 8, &n) == INVALID);
@@ -175,6 +182,37 @@ static void fill_rubbish(const uint8_t *payload, size_t len) {
   WANT(!memcmp(&one, &many, sizeof one));
 }
 
+/* The ranges of any words, many with one call, are those of single calls. */
+static void fill_ranges_rubbish(const uint8_t *payload, size_t len) {
+  quic_wire_ack_ranges one, many;
+  quic_wire_range range, filled[6], before[6];
+  size_t room = 1 + any() % 5, count, k, calls;
+  int answer = 0;
+  one.begin = place();
+  one.end = place();
+  one.largest = edge();
+  many = one;
+  memset(before, 0xa5, sizeof before);
+  for (calls = 0; calls < 50; calls++) {
+    memcpy(filled, before, sizeof filled);
+    count = 77;
+    answer =
+        quic_wire_ack_ranges_fill(&many, payload, len, filled, room, &count);
+    if (answer != QUIC_WIRE_ITEM)
+      break;
+    WANT(0 < count && count <= room);
+    for (k = 0; k < count; k++) {
+      WANT(quic_wire_ack_ranges_next(&one, payload, len, &range) == 1);
+      WANT(!memcmp(&range, &filled[k], sizeof range));
+    }
+    WANT(!memcmp(&one, &many, sizeof one));
+    WANT(!memcmp(filled + count, before, (6 - count) * sizeof range));
+  }
+  WANT(calls < 50 && count == 77 && !memcmp(filled, before, sizeof filled));
+  WANT(quic_wire_ack_ranges_next(&one, payload, len, &range) == answer);
+  WANT(!memcmp(&one, &many, sizeof one));
+}
+
 /* Writes a frame of any words, and reads it back where it was written. */
 static void write_rubbish(const uint8_t *data, size_t len) {
   size_t room = any() % 32, written = 0, k;
@@ -262,6 +300,7 @@ static void rubbish(int rounds) {
       bytes[k] = any() % 4 ? (uint8_t)(any() % 64) : (uint8_t)any();
     read_rubbish(bytes, len);
     fill_rubbish(bytes, len);
+    fill_ranges_rubbish(bytes, len);
     write_rubbish(bytes, len);
     packet_rubbish(bytes, len);
     free(bytes);

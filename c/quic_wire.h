@@ -233,6 +233,8 @@ int32_t quic_wire_ack_ranges_init_(quic_wire_ack_ranges *, const uint8_t *,
                                    size_t, const quic_wire_frame *);
 int32_t quic_wire_ack_ranges_next_(quic_wire_ack_ranges *, const uint8_t *,
                                    size_t, quic_wire_range *);
+int32_t quic_wire_ack_ranges_fill_(quic_wire_ack_ranges *, const uint8_t *,
+                                   size_t, quic_wire_range *, size_t, size_t *);
 int32_t quic_wire_frame_write_(const quic_wire_frame *, const uint8_t *,
                                size_t, uint32_t, uint8_t *, size_t, size_t *);
 int32_t quic_wire_packet_next_(const uint8_t *, size_t, size_t *, uint32_t,
@@ -352,6 +354,28 @@ static inline int quic_wire_ack_ranges_next(quic_wire_ack_ranges *ranges,
   if (!ranges || !payload || !range)
     return QUIC_WIRE_ERR_INVALID_ARGUMENT;
   return quic_wire_ack_ranges_next_(ranges, payload, payloadlen, range);
+}
+
+/*
+ * Reads the next ranges, the greatest first, as many as the |room| entries of
+ * |out| hold, with one call.  Returns QUIC_WIRE_ITEM, and in |*count| how many
+ * entries were filled, one at least; 0 where no range is left;
+ * QUIC_WIRE_ERR_NOBUF where |room| is 0; QUIC_WIRE_ERR_INVALID_ARGUMENT for
+ * words that name no blocks of an ACK.  Entries behind those that were filled
+ * stay, and nothing changes but with QUIC_WIRE_ITEM.  Once |ranges->begin| is
+ * |ranges->end| none is left, and no call is needed to learn that.
+ */
+static inline int quic_wire_ack_ranges_fill(quic_wire_ack_ranges *ranges,
+                                            const uint8_t *payload,
+                                            size_t payloadlen,
+                                            quic_wire_range *out, size_t room,
+                                            size_t *count) {
+  if (!ranges || !payload || !count || (!out && room))
+    return QUIC_WIRE_ERR_INVALID_ARGUMENT;
+  if (!out)
+    out = (quic_wire_range *)quic_wire_nothing();
+  return quic_wire_ack_ranges_fill_(ranges, payload, payloadlen, out, room,
+                                    count);
 }
 
 /*

@@ -1,22 +1,21 @@
 -- Entries that are filled one after the other.
-use Rattle.std.proofs.Common.{◌≡◌, ℕ, ◌+◌, ◌<◌, ◌≤◌, List, [], ◌∷◌, ◌++◌, length, take, drop, set, Option, Some, refl, sym, ap, subst, ◌∙◌, inl, inr, arith}
+use Rattle.std.proofs.Common.{◌≡◌, ℕ, ◌+◌, ◌<◌, ◌≤◌, List, [], ◌∷◌, ◌++◌, length, take, drop, set, Option, refl, sym, ap, subst, ◌∙◌, inl, inr, arith}
 use Rattle.std.specs.Prelude.{◌⊎◌, zero, suc}
 use Rattle.std.proofs.lemmas.List.{take_more_set, drop-set-lt}
 use Rattle.std.proofs.Math.ListN.{length-set}
 use Rattle.std.proofs.lemmas.Grind.{drop_more_same}
 use Rattle.quic_frames.specs.declared.frame.Frame.{Frame}
-use Rattle.quic_frame_parts.specs.Reading.{Invalid, Broken}
 use Rattle.quic_frames.specs.Way.{Way}
-use Rattle.quic_frames.specs.Walk.{left, Finds}
+use Rattle.quic_frames.specs.Walk.{Finds}
 use Rattle.quic_frames.specs.Padding.{PassesPadding, behind}
 use Rattle.quic_c.specs.declared.words.FrameWords.{FrameWords}
 use Rattle.quic_c.specs.Shown.{kind_of, shown}
 use Rattle.quic_c.specs.Filling.{GivesEntry, Shows, HasNoFrame, Fills, further}
 
 -- one entry more
-pub shows-append : (old : Way) (entries : List FrameWords) (here : Way) (entry : FrameWords) (new : Way) → Shows old entries here → GivesEntry here entry new → Shows old (entries ++ entry ∷ []) new
-shows-append old [] here entry new s gives = (new, subst (λ (w : Way). GivesEntry w entry new) (sym s) gives, refl)
-shows-append old (first ∷ entries) here entry new s gives = (s.0, s.1, shows-append s.0 entries here entry new s.2 gives)
+pub shows-append : {P E : Type 0} (step : P → E → P → Type 0) (old : P) (entries : List E) (here : P) (entry : E) (new : P) → Shows step old entries here → step here entry new → Shows step old (entries ++ entry ∷ []) new
+shows-append step old [] here entry new s gives = (new, subst (λ w. step w entry new) (sym s) gives, refl)
+shows-append step old (first ∷ entries) here entry new s gives = (s.0, s.1, shows-append step s.0 entries here entry new s.2 gives)
 
 -- ---- places over one payload
 
@@ -44,7 +43,7 @@ pub record Filling (old : Way) (before : List FrameWords) (here : Way) (after : 
   pub all : length after ≡ length before
   pub place : here.offset ≡ end
   pub comes : here ≡ further old here.offset here.last
-  pub shows : Shows old (take count after) here
+  pub shows : Shows GivesEntry old (take count after) here
   pub kept : drop count after ≡ drop count before
 
 pub filling_begins : (old : Way) (before : List FrameWords) (end : ℕ) → end ≡ old.offset → Filling old before old before 0 end
@@ -73,7 +72,7 @@ filling_goes_on old before here after count end next new frame entry stop s room
       all = simp length-set s.all;
       place = sym e;
       comes = further_on old here new s.comes (next_further here next new frame f run one);
-      shows = rw front (shows-append old (take count after) here entry new s.shows gives);
+      shows = rw front (shows-append GivesEntry old (take count after) here entry new s.shows gives);
       kept = drop-set-lt (count + 1) after count entry (omega arith) ∙ drop_more_same after before count s.kept;
     }
 
@@ -88,6 +87,6 @@ filling_ends old before here after count end last s e full =
 -- where nothing was filled
 pub filling_none : (old : Way) (before : List FrameWords) (here : Way) (after : List FrameWords) (count end : ℕ) → Filling old before here after count end → count ≡ 0 → (old ≡ here) × (after ≡ before)
 filling_none old before here after count end s none =
-    let shows : Shows old (take 0 after) here = rw none at s.shows in
+    let shows : Shows GivesEntry old (take 0 after) here = rw none at s.shows in
     let kept : drop 0 after ≡ drop 0 before = rw none at s.kept in
     (shows, kept)

@@ -2,3 +2,4 @@ pub mod Places
 mod Shapes
 mod Said
 mod Filling
+mod RangeFilling

@@ -5,6 +5,7 @@
 
 mod acks;
 mod fill;
+mod fill_ranges;
 mod frames;
 mod packets;
 mod show;

@@ -1,7 +1,7 @@
-use Rattle.std.proofs.Common.{◌≡◌, ◌<◌, Some, subst, sym, ap, ◌∙◌, arith, eqb}
+use Rattle.std.proofs.Common.{◌≡◌, Some, subst, ap, arith}
 use Rattle.quic_frames.specs.Walk.{Finds, Advances}
 use Rattle.quic_c.specs.Shown.{kind_of, shown}
-use Rattle.quic_c.proofs.Filling.{Filling, filling_goes_on}
+use Rattle.quic_c.proofs.Filling.{filling_goes_on}
 use Rattle.quic_c.proofs.fill.fill.Goals as goal
 use Rattle.quic_c.proofs.fill.fill.Goals.{then-parts-eq0, else-parts-eq0}
 

@@ -1,4 +1,4 @@
-use Rattle.std.proofs.Common.{rules, refl, ap, sym, ◌≡◌, ◌<◌, [], ◌∷◌, ◌∙◌, length, set, drop, arith, List}
+use Rattle.std.proofs.Common.{rules, refl, ap, ◌≡◌, ◌<◌, [], ◌∷◌, ◌∙◌, length, set, List}
 use Rattle.std.proofs.lemmas.List.{drop-set}
 use Rattle.quic_frame_parts.specs.Reading.{Broken}
 use Rattle.quic_frames.specs.Walk.{invalid_of, left}

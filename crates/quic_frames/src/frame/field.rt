@@ -23,7 +23,7 @@ fn bytes_of(n: u64, bytes: &[u8]) -> Result<(&[u8], &[u8]), Fault>
 }
 
 /// A number and that many bytes, and what follows them.
-#[inline(always)]
+#[inline]
 #[tactic(auto, unfolding(quic_frame_parts::specs::Reading::counted_at))]
 pub(super) fn counted(bytes: &[u8]) -> Result<(&[u8], &[u8]), Fault>
     ensures { Gives (λ x. (x.0.now, x.1.now)) result (counted_at bytes.now) }

@@ -59,12 +59,27 @@ static void nulls(void) {
   WANT(quic_wire_frames_next(&frames, &byte, 1, NULL) == INVALID);
   WANT(quic_wire_frames_next(&frames, NULL, 1, &frame) == INVALID);
   WANT(quic_wire_frames_next(&frames, NULL, 0, &frame) == 0);
+  WANT(quic_wire_frames_fill(NULL, &byte, 1, &frame, 1, &n) == INVALID);
+  WANT(quic_wire_frames_fill(&frames, NULL, 1, &frame, 1, &n) == INVALID);
+  WANT(quic_wire_frames_fill(&frames, &byte, 1, NULL, 1, &n) == INVALID);
+  WANT(quic_wire_frames_fill(&frames, &byte, 1, &frame, 1, NULL) == INVALID);
+  WANT(quic_wire_frames_fill(&frames, &byte, 1, NULL, 0, &n) ==
+       QUIC_WIRE_ERR_NOBUF);
+  WANT(quic_wire_frames_fill(&frames, NULL, 0, &frame, 1, &n) == 0);
+  WANT(n == 0 && frames.offset == 0);
   WANT(quic_wire_ack_ranges_init(NULL, &byte, 1, &frame) == INVALID);
   WANT(quic_wire_ack_ranges_init(&ranges, NULL, 1, &frame) == INVALID);
   WANT(quic_wire_ack_ranges_init(&ranges, &byte, 1, NULL) == INVALID);
   WANT(quic_wire_ack_ranges_next(NULL, &byte, 1, &range) == INVALID);
   WANT(quic_wire_ack_ranges_next(&ranges, NULL, 1, &range) == INVALID);
   WANT(quic_wire_ack_ranges_next(&ranges, &byte, 1, NULL) == INVALID);
+  WANT(quic_wire_ack_ranges_fill(NULL, &byte, 1, &range, 1, &n) == INVALID);
+  WANT(quic_wire_ack_ranges_fill(&ranges, NULL, 1, &range, 1, &n) == INVALID);
+  WANT(quic_wire_ack_ranges_fill(&ranges, &byte, 1, NULL, 1, &n) == INVALID);
+  WANT(quic_wire_ack_ranges_fill(&ranges, &byte, 1, &range, 1, NULL) ==
+       INVALID);
+  WANT(quic_wire_ack_ranges_fill(&ranges, &byte, 1, NULL, 0, &n) ==
+       QUIC_WIRE_ERR_NOBUF);
   WANT(quic_wire_frame_write(NULL, NULL, 0, 0, out, 8, &n) == INVALID);
   WANT(quic_wire_frame_write(&frame, NULL, 1, 0, out, 8, &n) == INVALID);
   WANT(quic_wire_frame_write(&frame, NULL, 0, 0, NULL, 8, &n) == INVALID);
@@ -120,6 +135,82 @@ static void read_rubbish(const uint8_t *payload, size_t len) {
   frame.begin = place();
   frame.end = place();
   quic_wire_ack_ranges_init(&ranges, payload, len, &frame);
+}
+
+/* The frames from any place on, many with one call, are those of single calls,
+ * with runs of PADDING as one. */
+static void fill_rubbish(const uint8_t *payload, size_t len) {
+  quic_wire_frames one, many;
+  quic_wire_frame frame, more, filled[6], before[6];
+  size_t room = 1 + any() % 5, count, k, calls;
+  int answer = 0;
+  one.offset = place();
+  one.last_type = edge();
+  one.ended = any() % 8 ? 0 : edge();
+  many = one;
+  memset(before, 0xa5, sizeof before);
+  for (calls = 0; calls < 50; calls++) {
+    memcpy(filled, before, sizeof filled);
+    count = 77;
+    answer = quic_wire_frames_fill(&many, payload, len, filled, room, &count);
+    if (answer != QUIC_WIRE_ITEM)
+      break;
+    WANT(0 < count && count <= room);
+    for (k = 0; k < count; k++) {
+      WANT(quic_wire_frames_next(&one, payload, len, &frame) == 1);
+      while (frame.kind == QUIC_WIRE_PADDING && frame.end < filled[k].end) {
+        WANT(payload[frame.end] == 0);
+        WANT(quic_wire_frames_next(&one, payload, len, &more) == 1);
+        WANT(more.kind == QUIC_WIRE_PADDING && more.begin == frame.end);
+        frame.end = frame.data = more.end;
+      }
+      WANT(frame.kind != QUIC_WIRE_PADDING || frame.end == len ||
+           payload[frame.end]);
+      WANT(!memcmp(&frame, &filled[k], sizeof frame));
+    }
+    WANT(!memcmp(&one, &many, sizeof one));
+    WANT(!memcmp(filled + count, before, (6 - count) * sizeof frame));
+  }
+  WANT(calls < 50 && count == 77);
+  WANT(quic_wire_frames_next(&one, payload, len, &frame) == answer);
+  if (answer == QUIC_WIRE_ERR_MALFORMED) {
+    WANT(!memcmp(&frame, &filled[0], sizeof frame));
+    WANT(!memcmp(filled + 1, before, 5 * sizeof frame));
+  } else {
+    WANT(!memcmp(filled, before, sizeof filled));
+  }
+  WANT(!memcmp(&one, &many, sizeof one));
+}
+
+/* The ranges of any words, many with one call, are those of single calls. */
+static void fill_ranges_rubbish(const uint8_t *payload, size_t len) {
+  quic_wire_ack_ranges one, many;
+  quic_wire_range range, filled[6], before[6];
+  size_t room = 1 + any() % 5, count, k, calls;
+  int answer = 0;
+  one.begin = place();
+  one.end = place();
+  one.largest = edge();
+  many = one;
+  memset(before, 0xa5, sizeof before);
+  for (calls = 0; calls < 50; calls++) {
+    memcpy(filled, before, sizeof filled);
+    count = 77;
+    answer =
+        quic_wire_ack_ranges_fill(&many, payload, len, filled, room, &count);
+    if (answer != QUIC_WIRE_ITEM)
+      break;
+    WANT(0 < count && count <= room);
+    for (k = 0; k < count; k++) {
+      WANT(quic_wire_ack_ranges_next(&one, payload, len, &range) == 1);
+      WANT(!memcmp(&range, &filled[k], sizeof range));
+    }
+    WANT(!memcmp(&one, &many, sizeof one));
+    WANT(!memcmp(filled + count, before, (6 - count) * sizeof range));
+  }
+  WANT(calls < 50 && count == 77 && !memcmp(filled, before, sizeof filled));
+  WANT(quic_wire_ack_ranges_next(&one, payload, len, &range) == answer);
+  WANT(!memcmp(&one, &many, sizeof one));
 }
 
 /* Writes a frame of any words, and reads it back where it was written. */
@@ -321,6 +412,8 @@ static void rubbish(int rounds) {
     for (k = 0; k < len; k++)
       bytes[k] = any() % 4 ? (uint8_t)(any() % 64) : (uint8_t)any();
     read_rubbish(bytes, len);
+    fill_rubbish(bytes, len);
+    fill_ranges_rubbish(bytes, len);
     write_rubbish(bytes, len);
     packet_rubbish(bytes, len);
     params_any(bytes, len);

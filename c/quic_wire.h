@@ -292,10 +292,14 @@ _Static_assert(offsetof(quic_wire_params, preferred_v4) == 260, "no room");
 int32_t quic_wire_frames_init_(quic_wire_frames *, const uint8_t *, size_t);
 int32_t quic_wire_frames_next_(quic_wire_frames *, const uint8_t *, size_t,
                                quic_wire_frame *);
+int32_t quic_wire_frames_fill_(quic_wire_frames *, const uint8_t *, size_t,
+                               quic_wire_frame *, size_t, size_t *);
 int32_t quic_wire_ack_ranges_init_(quic_wire_ack_ranges *, const uint8_t *,
                                    size_t, const quic_wire_frame *);
 int32_t quic_wire_ack_ranges_next_(quic_wire_ack_ranges *, const uint8_t *,
                                    size_t, quic_wire_range *);
+int32_t quic_wire_ack_ranges_fill_(quic_wire_ack_ranges *, const uint8_t *,
+                                   size_t, quic_wire_range *, size_t, size_t *);
 int32_t quic_wire_frame_write_(const quic_wire_frame *, const uint8_t *,
                                size_t, uint32_t, uint8_t *, size_t, size_t *);
 int32_t quic_wire_packet_next_(const uint8_t *, size_t, size_t *, uint32_t,
@@ -353,6 +357,35 @@ static inline int quic_wire_frames_next(quic_wire_frames *frames,
   return quic_wire_frames_next_(frames, payload, payloadlen, frame);
 }
 
+/*
+ * Reads the next frames, as many as the |room| entries of |out| hold, with one
+ * call.  |payload| is the one that |frames| began with.  A run of PADDING is
+ * one entry: from |begin| to |end| stands a frame with each byte.
+ *
+ * Returns QUIC_WIRE_ITEM, and in |*count| how many entries were filled, one at
+ * least; 0 where no frame is left; QUIC_WIRE_ERR_MALFORMED, once, where what
+ * stands next is no frame, and then 0: what is told of it is in |out[0]|
+ * (quic_wire_error_type, quic_wire_error_reason); QUIC_WIRE_ERR_NOBUF where
+ * |room| is 0.  QUIC_WIRE_ERR_INVALID_ARGUMENT for NULL, or where
+ * |frames->offset| is above |payloadlen|.  Frames that stand before something
+ * that is none are given first, and the next call tells of it.  Entries behind
+ * those that were filled stay, and |*count| changes only with QUIC_WIRE_ITEM.
+ * Once |frames->offset| is |payloadlen| nothing is left, and no call is needed
+ * to learn that.
+ */
+static inline int quic_wire_frames_fill(quic_wire_frames *frames,
+                                        const uint8_t *payload,
+                                        size_t payloadlen, quic_wire_frame *out,
+                                        size_t room, size_t *count) {
+  if (!frames || !count || (!payload && payloadlen) || (!out && room))
+    return QUIC_WIRE_ERR_INVALID_ARGUMENT;
+  if (!payload)
+    payload = (const uint8_t *)quic_wire_nothing();
+  if (!out)
+    out = (quic_wire_frame *)quic_wire_nothing();
+  return quic_wire_frames_fill_(frames, payload, payloadlen, out, room, count);
+}
+
 /* After QUIC_WIRE_ERR_MALFORMED: the last type that was read, the broken
  * frame's own included; QUIC_WIRE_NO_TYPE if none was. */
 static inline uint64_t quic_wire_error_type(const quic_wire_frame *frame) {
@@ -390,6 +423,28 @@ static inline int quic_wire_ack_ranges_next(quic_wire_ack_ranges *ranges,
   if (!ranges || !payload || !range)
     return QUIC_WIRE_ERR_INVALID_ARGUMENT;
   return quic_wire_ack_ranges_next_(ranges, payload, payloadlen, range);
+}
+
+/*
+ * Reads the next ranges, the greatest first, as many as the |room| entries of
+ * |out| hold, with one call.  Returns QUIC_WIRE_ITEM, and in |*count| how many
+ * entries were filled, one at least; 0 where no range is left;
+ * QUIC_WIRE_ERR_NOBUF where |room| is 0; QUIC_WIRE_ERR_INVALID_ARGUMENT for
+ * words that name no blocks of an ACK.  Entries behind those that were filled
+ * stay, and nothing changes but with QUIC_WIRE_ITEM.  Once |ranges->begin| is
+ * |ranges->end| none is left, and no call is needed to learn that.
+ */
+static inline int quic_wire_ack_ranges_fill(quic_wire_ack_ranges *ranges,
+                                            const uint8_t *payload,
+                                            size_t payloadlen,
+                                            quic_wire_range *out, size_t room,
+                                            size_t *count) {
+  if (!ranges || !payload || !count || (!out && room))
+    return QUIC_WIRE_ERR_INVALID_ARGUMENT;
+  if (!out)
+    out = (quic_wire_range *)quic_wire_nothing();
+  return quic_wire_ack_ranges_fill_(ranges, payload, payloadlen, out, room,
+                                    count);
 }
 
 /*

@@ -120,7 +120,14 @@ pub const MALFORMED: i32 = -3;
 pub const NO_ROOM: i32 = -4;
 
 unsafe extern "C" {
-    fn quic_wire_frames_next_(frames: &mut Frames, payload: *const u8, len: usize, out: &mut Frame) -> i32;
+    fn quic_wire_frames_fill_(
+        frames: &mut Frames,
+        payload: *const u8,
+        len: usize,
+        out: *mut Frame,
+        room: usize,
+        count: &mut usize,
+    ) -> i32;
     fn quic_wire_ack_ranges_init_(ranges: &mut Ranges, payload: *const u8, len: usize, frame: &Frame) -> i32;
     fn quic_wire_ack_ranges_next_(ranges: &mut Ranges, payload: *const u8, len: usize, out: &mut Range) -> i32;
     fn quic_wire_frame_write_(
@@ -169,9 +176,10 @@ pub fn params_write(side: u32, params: &Params, out: &mut [u8], written: &mut us
 }
 
 #[inline]
-pub fn frames_next(frames: &mut Frames, payload: &[u8], out: &mut Frame) -> i32 {
-    // SAFETY: the declaration fits; pointer and length are those of one slice, and any words serve.
-    unsafe { quic_wire_frames_next_(frames, payload.as_ptr(), payload.len(), out) }
+pub fn frames_fill(frames: &mut Frames, payload: &[u8], out: &mut [Frame], count: &mut usize) -> i32 {
+    // SAFETY: the declaration fits; pointers and lengths are those of one slice each, `out` is borrowed alone, so nothing
+    // overlaps it, and any words serve.
+    unsafe { quic_wire_frames_fill_(frames, payload.as_ptr(), payload.len(), out.as_mut_ptr(), out.len(), count) }
 }
 
 #[inline]

@@ -1,5 +1,3 @@
 pub mod Places
 mod Shapes
 mod Said
-mod Filling
-mod RangeFilling

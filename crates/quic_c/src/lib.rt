@@ -4,8 +4,6 @@
 #![tactic(auto)]
 
 mod acks;
-mod fill;
-mod fill_ranges;
 mod frames;
 mod packets;
 mod show;

@@ -8,7 +8,6 @@ mod Reasons
 mod Finding
 pub mod Placing
 mod Places
-mod Padding
 mod SizeBounds
 mod LeastFields
 mod LeastFrames

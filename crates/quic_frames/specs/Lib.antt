@@ -22,6 +22,5 @@ pub mod InRange
 pub mod Least
 pub mod Way
 pub mod Walk
-pub mod Padding
 pub mod Found
 pub mod Placed

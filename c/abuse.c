@@ -59,12 +59,27 @@ static void nulls(void) {
   WANT(quic_wire_frames_next(&frames, &byte, 1, NULL) == INVALID);
   WANT(quic_wire_frames_next(&frames, NULL, 1, &frame) == INVALID);
   WANT(quic_wire_frames_next(&frames, NULL, 0, &frame) == 0);
+  WANT(quic_wire_frames_fill(NULL, &byte, 1, &frame, 1, &n) == INVALID);
+  WANT(quic_wire_frames_fill(&frames, NULL, 1, &frame, 1, &n) == INVALID);
+  WANT(quic_wire_frames_fill(&frames, &byte, 1, NULL, 1, &n) == INVALID);
+  WANT(quic_wire_frames_fill(&frames, &byte, 1, &frame, 1, NULL) == INVALID);
+  WANT(quic_wire_frames_fill(&frames, &byte, 1, NULL, 0, &n) ==
+       QUIC_WIRE_ERR_NOBUF);
+  WANT(quic_wire_frames_fill(&frames, NULL, 0, &frame, 1, &n) == 0);
+  WANT(n == 0 && frames.offset == 0);
   WANT(quic_wire_ack_ranges_init(NULL, &byte, 1, &frame) == INVALID);
   WANT(quic_wire_ack_ranges_init(&ranges, NULL, 1, &frame) == INVALID);
   WANT(quic_wire_ack_ranges_init(&ranges, &byte, 1, NULL) == INVALID);
   WANT(quic_wire_ack_ranges_next(NULL, &byte, 1, &range) == INVALID);
   WANT(quic_wire_ack_ranges_next(&ranges, NULL, 1, &range) == INVALID);
   WANT(quic_wire_ack_ranges_next(&ranges, &byte, 1, NULL) == INVALID);
+  WANT(quic_wire_ack_ranges_fill(NULL, &byte, 1, &range, 1, &n) == INVALID);
+  WANT(quic_wire_ack_ranges_fill(&ranges, NULL, 1, &range, 1, &n) == INVALID);
+  WANT(quic_wire_ack_ranges_fill(&ranges, &byte, 1, NULL, 1, &n) == INVALID);
+  WANT(quic_wire_ack_ranges_fill(&ranges, &byte, 1, &range, 1, NULL) ==
+       INVALID);
+  WANT(quic_wire_ack_ranges_fill(&ranges, &byte, 1, NULL, 0, &n) ==
+       QUIC_WIRE_ERR_NOBUF);
   WANT(quic_wire_frame_write(NULL, NULL, 0, 0, out, 8, &n) == INVALID);
   WANT(quic_wire_frame_write(&frame, NULL, 1, 0, out, 8, &n) == INVALID);
   WANT(quic_wire_frame_write(&frame, NULL, 0, 0, NULL, 8, &n) == INVALID);
@@ -120,6 +135,82 @@ static void read_rubbish(const uint8_t *payload, size_t len) {
   frame.begin = place();
   frame.end = place();
   quic_wire_ack_ranges_init(&ranges, payload, len, &frame);
+}
+
+/* The frames from any place on, many with one call, are those of single calls,
+ * with runs of PADDING as one. */
+static void fill_rubbish(const uint8_t *payload, size_t len) {
+  quic_wire_frames one, many;
+  quic_wire_frame frame, more, filled[6], before[6];
+  size_t room = 1 + any() % 5, count, k, calls;
+  int answer = 0;
+  one.offset = place();
+  one.last_type = edge();
+  one.ended = any() % 8 ? 0 : edge();
+  many = one;
+  memset(before, 0xa5, sizeof before);
+  for (calls = 0; calls < 50; calls++) {
+    memcpy(filled, before, sizeof filled);
+    count = 77;
+    answer = quic_wire_frames_fill(&many, payload, len, filled, room, &count);
+    if (answer != QUIC_WIRE_ITEM)
+      break;
+    WANT(0 < count && count <= room);
+    for (k = 0; k < count; k++) {
+      WANT(quic_wire_frames_next(&one, payload, len, &frame) == 1);
+      while (frame.kind == QUIC_WIRE_PADDING && frame.end < filled[k].end) {
+        WANT(payload[frame.end] == 0);
+        WANT(quic_wire_frames_next(&one, payload, len, &more) == 1);
+        WANT(more.kind == QUIC_WIRE_PADDING && more.begin == frame.end);
+        frame.end = frame.data = more.end;
+      }
+      WANT(frame.kind != QUIC_WIRE_PADDING || frame.end == len ||
+           payload[frame.end]);
+      WANT(!memcmp(&frame, &filled[k], sizeof frame));
+    }
+    WANT(!memcmp(&one, &many, sizeof one));
+    WANT(!memcmp(filled + count, before, (6 - count) * sizeof frame));
+  }
+  WANT(calls < 50 && count == 77);
+  WANT(quic_wire_frames_next(&one, payload, len, &frame) == answer);
+  if (answer == QUIC_WIRE_ERR_MALFORMED) {
+    WANT(!memcmp(&frame, &filled[0], sizeof frame));
+    WANT(!memcmp(filled + 1, before, 5 * sizeof frame));
+  } else {
+    WANT(!memcmp(filled, before, sizeof filled));
+  }
+  WANT(!memcmp(&one, &many, sizeof one));
+}
+
+/* The ranges of any words, many with one call, are those of single calls. */
+static void fill_ranges_rubbish(const uint8_t *payload, size_t len) {
+  quic_wire_ack_ranges one, many;
+  quic_wire_range range, filled[6], before[6];
+  size_t room = 1 + any() % 5, count, k, calls;
+  int answer = 0;
+  one.begin = place();
+  one.end = place();
+  one.largest = edge();
+  many = one;
+  memset(before, 0xa5, sizeof before);
+  for (calls = 0; calls < 50; calls++) {
+    memcpy(filled, before, sizeof filled);
+    count = 77;
+    answer =
+        quic_wire_ack_ranges_fill(&many, payload, len, filled, room, &count);
+    if (answer != QUIC_WIRE_ITEM)
+      break;
+    WANT(0 < count && count <= room);
+    for (k = 0; k < count; k++) {
+      WANT(quic_wire_ack_ranges_next(&one, payload, len, &range) == 1);
+      WANT(!memcmp(&range, &filled[k], sizeof range));
+    }
+    WANT(!memcmp(&one, &many, sizeof one));
+    WANT(!memcmp(filled + count, before, (6 - count) * sizeof range));
+  }
+  WANT(calls < 50 && count == 77 && !memcmp(filled, before, sizeof filled));
+  WANT(quic_wire_ack_ranges_next(&one, payload, len, &range) == answer);
+  WANT(!memcmp(&one, &many, sizeof one));
 }
 
 /* Writes a frame of any words, and reads it back where it was written. */
@@ -200,18 +291,137 @@ static void packet_rubbish(uint8_t *datagram, size_t len) {
   quic_wire_unprotect(datagram, len, &packet, mask, any() % 9, edge(), &opened);
 }
 
+/* Bytes of a field, as an id that may be longer than it is said to be. */
+static uint32_t field(uint8_t *bytes, size_t room, uint32_t most) {
+  uint32_t len = (uint32_t)(any() % 50 ? any() % (most + 1) : any());
+  size_t k;
+  memset(bytes, 0, room);
+  for (k = 0; k < room && (k < len || !(any() % 400)); k++)
+    bytes[k] = (uint8_t)any();
+  return len;
+}
+
+/* Parameters that are mostly in range, and sometimes any words. */
+static void params_rubbish(quic_wire_params *p) {
+  const uint32_t side_bits = QUIC_WIRE_HAS_STATELESS_RESET_TOKEN |
+                             QUIC_WIRE_HAS_PREFERRED_ADDRESS |
+                             QUIC_WIRE_HAS_ORIGINAL_DST_CID |
+                             QUIC_WIRE_HAS_RETRY_SRC_CID;
+  memset(p, 0, sizeof *p);
+  p->present = (uint32_t)(any() & (any() % 30 ? 0x7ff : UINT32_MAX));
+  if (any() % 2)
+    p->present &= ~side_bits;
+  if (!(p->present & QUIC_WIRE_HAS_PREFERRED_ADDRESS) && any() % 50)
+    p->present &= ~(uint32_t)0x30;
+  p->max_idle_timeout = edge() >> 2;
+  p->max_udp_payload_size = any() % 9 ? 1200 + any() % 70000 : edge();
+  p->initial_max_data = any() % 9 ? edge() >> 2 : edge();
+  p->initial_max_streams_bidi = any() % 9 ? edge() >> 4 : edge();
+  p->ack_delay_exponent = any() % 22;
+  p->max_ack_delay = any() % 9 ? any() % (1 << 14) : edge();
+  p->active_connection_id_limit = any() % 20 + 1;
+  if (p->present & QUIC_WIRE_HAS_MAX_DATAGRAM_FRAME_SIZE || !(any() % 99))
+    p->max_datagram_frame_size = edge() >> 2;
+  if (p->present & QUIC_WIRE_HAS_MIN_ACK_DELAY || !(any() % 99))
+    p->min_ack_delay = any() % (p->max_ack_delay % 20000 * 1000 + 2);
+  if (p->present & QUIC_WIRE_HAS_STATELESS_RESET_TOKEN)
+    field(p->stateless_reset_token, 16, 16);
+  if (p->present & QUIC_WIRE_HAS_ORIGINAL_DST_CID)
+    p->original_dst_cidlen = field(p->original_dst_cid, 20, 20);
+  if (p->present & QUIC_WIRE_HAS_INITIAL_SRC_CID)
+    p->initial_src_cidlen = field(p->initial_src_cid, 20, 20);
+  if (p->present & QUIC_WIRE_HAS_RETRY_SRC_CID)
+    p->retry_src_cidlen = field(p->retry_src_cid, 20, 20);
+  if (p->present & QUIC_WIRE_HAS_PREFERRED_ADDRESS) {
+    p->preferred_cidlen = field(p->preferred_cid, 20, 20);
+    field(p->preferred_token, 16, 16);
+    if (p->present & QUIC_WIRE_HAS_PREFERRED_V4) {
+      field(p->preferred_v4, 4, 4);
+      p->preferred_v4_port = (uint16_t)any();
+    }
+    if (p->present & QUIC_WIRE_HAS_PREFERRED_V6) {
+      field(p->preferred_v6, 16, 16);
+      p->preferred_v6_port = (uint16_t)any();
+    }
+  }
+  if (!(any() % 50))
+    ((uint8_t *)p)[any() % sizeof *p] ^= (uint8_t)any();
+}
+
+/* What is written is read back as the same words, for the side that it was
+ * written for; one byte less has no room for it.  Returns whether it was. */
+static int params_written(uint32_t side) {
+  quic_wire_params given, got;
+  uint8_t room[512], *dest;
+  size_t n = 0, less = 0;
+  int answer;
+  params_rubbish(&given);
+  memset(room, 0xaa, sizeof room);
+  answer = quic_wire_params_write(side, &given, room, sizeof room, &n);
+  if (answer != QUIC_WIRE_OK) {
+    WANT(answer == INVALID && n == 0 && room[0] == 0xaa);
+    return 0;
+  }
+  WANT(n <= sizeof room && (n == sizeof room || room[n] == 0xaa));
+  dest = block(n);
+  if (n) {
+    answer = quic_wire_params_write(side, &given, dest, n - 1, &less);
+    WANT(answer == QUIC_WIRE_ERR_NOBUF && less == n);
+  }
+  WANT(quic_wire_params_write(side, &given, dest, n, &less) == QUIC_WIRE_OK);
+  WANT(less == n && (!n || !memcmp(dest, room, n)));
+  memset(&got, 0xbb, sizeof got);
+  WANT(quic_wire_params_read(side, dest, n, &got) == QUIC_WIRE_OK);
+  WANT(!memcmp(&got, &given, sizeof got));
+  free(dest);
+  return 1;
+}
+
+/* Any bytes as a list, and any words as parameters. */
+static void params_any(const uint8_t *list, size_t len) {
+  quic_wire_params got, same;
+  uint32_t side = (uint32_t)(any() % 3);
+  uint8_t dest[512];
+  size_t n = 0, k;
+  int answer;
+  memset(&got, 0xbb, sizeof got);
+  memset(&same, 0xbb, sizeof same);
+  answer = quic_wire_params_read(side, list, len, &got);
+  WANT(side < 2 || answer == INVALID);
+  if (answer == QUIC_WIRE_OK) {
+    WANT(quic_wire_params_write(side, &got, dest, sizeof dest, &n) ==
+         QUIC_WIRE_OK);
+    WANT(n <= len && got.reason == 0);
+  } else {
+    if (answer == QUIC_WIRE_ERR_MALFORMED) {
+      WANT(got.reason == 1 || got.reason == 2);
+      got.reason = same.reason;
+    }
+    WANT(!memcmp(&got, &same, sizeof got));
+  }
+  for (k = 0; k < sizeof got; k++)
+    ((uint8_t *)&got)[k] = (uint8_t)(any() % 3 ? 0 : any());
+  quic_wire_params_write(side, &got, dest, any() % sizeof dest, &n);
+}
+
 static void rubbish(int rounds) {
-  int i;
+  int i, said = 0;
   for (i = 0; i < rounds; i++) {
     size_t len = any() % 40, k;
     uint8_t *bytes = block(len);
     for (k = 0; k < len; k++)
       bytes[k] = any() % 4 ? (uint8_t)(any() % 64) : (uint8_t)any();
     read_rubbish(bytes, len);
+    fill_rubbish(bytes, len);
+    fill_ranges_rubbish(bytes, len);
     write_rubbish(bytes, len);
     packet_rubbish(bytes, len);
+    params_any(bytes, len);
+    for (k = 0; k < 2; k++)
+      said += params_written((uint32_t)k);
     free(bytes);
   }
+  WANT(said > rounds / 20);
 }
 
 /* A short head with a number of each size, protected by a mask of one's own. */

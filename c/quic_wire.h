@@ -3,7 +3,8 @@
  * the packets of a datagram (RFC 9000, sections 12.2 and 17), the protection
  * of their heads (RFC 9001, section 5.4), and the frames of a payload
  * (RFC 9000, section 19), with DATAGRAM of RFC 9221 and the ACK frequency
- * extension.
+ * extension; and the transport parameters (RFC 9000, section 18), whose two
+ * functions stand in a library of their own, libquic_c_params.a.
  *
  * No call takes memory or keeps anything: what is kept between calls is a
  * struct of the caller's, and the bytes are given anew with each call.  What
@@ -211,6 +212,64 @@ typedef struct quic_wire_opened {
   size_t payload;   /* where the payload begins in the datagram */
 } quic_wire_opened;
 
+/* ---- Transport parameters (RFC 9000, section 18) */
+
+/* The side that reads a list. */
+#define QUIC_WIRE_CLIENT 0
+#define QUIC_WIRE_SERVER 1
+
+/* What is there of what can be absent. */
+#define QUIC_WIRE_HAS_STATELESS_RESET_TOKEN 0x001
+#define QUIC_WIRE_HAS_DISABLE_ACTIVE_MIGRATION 0x002
+#define QUIC_WIRE_HAS_MAX_DATAGRAM_FRAME_SIZE 0x004
+#define QUIC_WIRE_HAS_PREFERRED_ADDRESS 0x008
+#define QUIC_WIRE_HAS_PREFERRED_V4 0x010
+#define QUIC_WIRE_HAS_PREFERRED_V6 0x020
+#define QUIC_WIRE_HAS_ORIGINAL_DST_CID 0x040
+#define QUIC_WIRE_HAS_INITIAL_SRC_CID 0x080
+#define QUIC_WIRE_HAS_RETRY_SRC_CID 0x100
+#define QUIC_WIRE_HAS_GREASE_QUIC_BIT 0x200
+#define QUIC_WIRE_HAS_MIN_ACK_DELAY 0x400
+
+/* Why a list is refused. */
+#define QUIC_WIRE_PARAMS_MALFORMED 1
+#define QUIC_WIRE_PARAMS_ILLEGAL_VALUE 2
+
+/* Transport parameters.  What is absent is 0 in all of its words and bytes, but
+ * for the numbers that have a default: these hold it then.  Ids stand at the
+ * front of their bytes, with zeros behind them. */
+typedef struct quic_wire_params {
+  uint32_t present; /* QUIC_WIRE_HAS_STATELESS_RESET_TOKEN and so on */
+  uint32_t reason;  /* of parameters 0; else why the list was refused */
+  uint64_t max_idle_timeout;     /* milliseconds; 0, the default: for ever */
+  uint64_t max_udp_payload_size; /* bytes, at least 1200; default 65527 */
+  uint64_t initial_max_data;     /* bytes; default 0, as of the next five */
+  uint64_t initial_max_stream_data_bidi_local;  /* bytes */
+  uint64_t initial_max_stream_data_bidi_remote; /* bytes */
+  uint64_t initial_max_stream_data_uni;         /* bytes */
+  uint64_t initial_max_streams_bidi;            /* at most 2^60 */
+  uint64_t initial_max_streams_uni;             /* at most 2^60 */
+  uint64_t ack_delay_exponent;         /* at most 20; default 3 */
+  uint64_t max_ack_delay;              /* milliseconds, below 2^14; default 25 */
+  uint64_t active_connection_id_limit; /* at least 2, the default */
+  uint64_t max_datagram_frame_size;    /* bytes (RFC 9221, section 3) */
+  uint64_t min_ack_delay; /* microseconds, no longer than max_ack_delay */
+  uint32_t original_dst_cidlen; /* the lengths of ids: at most 20 bytes */
+  uint32_t initial_src_cidlen;
+  uint32_t retry_src_cidlen;
+  uint32_t preferred_cidlen; /* 1 to 20, where there is a preferred address */
+  uint16_t preferred_v4_port; /* in the order of the machine */
+  uint16_t preferred_v6_port;
+  uint8_t original_dst_cid[20]; /* what the client's first packet was sent to */
+  uint8_t initial_src_cid[20];  /* what the sender's first packet came from */
+  uint8_t retry_src_cid[20];    /* what the server's Retry came from */
+  uint8_t preferred_cid[20];    /* the id at the preferred address */
+  uint8_t stateless_reset_token[16];
+  uint8_t preferred_token[16]; /* the token of the id at that address */
+  uint8_t preferred_v6[16];    /* the highest byte first */
+  uint8_t preferred_v4[4];
+} quic_wire_params;
+
 /* What the library asserts of its own structs. */
 #if defined(__STDC_VERSION__) && __STDC_VERSION__ >= 201112L
 _Static_assert(sizeof(quic_wire_frames) == 24, "64-bit words");
@@ -220,6 +279,12 @@ _Static_assert(sizeof(quic_wire_range) == 16, "64-bit words");
 _Static_assert(sizeof(quic_wire_ack_ranges) == 24, "64-bit words");
 _Static_assert(sizeof(quic_wire_packet) == 96, "64-bit words");
 _Static_assert(sizeof(quic_wire_opened) == 24, "64-bit words");
+_Static_assert(sizeof(quic_wire_params) == 264, "no room between the fields");
+_Static_assert(offsetof(quic_wire_params, max_idle_timeout) == 8, "no room");
+_Static_assert(offsetof(quic_wire_params, original_dst_cidlen) == 112, "no room");
+_Static_assert(offsetof(quic_wire_params, preferred_v4_port) == 128, "no room");
+_Static_assert(offsetof(quic_wire_params, original_dst_cid) == 132, "no room");
+_Static_assert(offsetof(quic_wire_params, preferred_v4) == 260, "no room");
 #endif
 
 /* The functions of the library.  Their pointers must not be NULL, which those
@@ -227,10 +292,14 @@ _Static_assert(sizeof(quic_wire_opened) == 24, "64-bit words");
 int32_t quic_wire_frames_init_(quic_wire_frames *, const uint8_t *, size_t);
 int32_t quic_wire_frames_next_(quic_wire_frames *, const uint8_t *, size_t,
                                quic_wire_frame *);
+int32_t quic_wire_frames_fill_(quic_wire_frames *, const uint8_t *, size_t,
+                               quic_wire_frame *, size_t, size_t *);
 int32_t quic_wire_ack_ranges_init_(quic_wire_ack_ranges *, const uint8_t *,
                                    size_t, const quic_wire_frame *);
 int32_t quic_wire_ack_ranges_next_(quic_wire_ack_ranges *, const uint8_t *,
                                    size_t, quic_wire_range *);
+int32_t quic_wire_ack_ranges_fill_(quic_wire_ack_ranges *, const uint8_t *,
+                                   size_t, quic_wire_range *, size_t, size_t *);
 int32_t quic_wire_frame_write_(const quic_wire_frame *, const uint8_t *,
                                size_t, uint32_t, uint8_t *, size_t, size_t *);
 int32_t quic_wire_packet_next_(const uint8_t *, size_t, size_t *, uint32_t,
@@ -241,6 +310,10 @@ int32_t quic_wire_sample_place_(const uint8_t *, size_t,
 int32_t quic_wire_unprotect_(uint8_t *, size_t, const quic_wire_packet *,
                              const uint8_t *, size_t, uint64_t,
                              quic_wire_opened *);
+int32_t quic_wire_params_read_(uint32_t, const uint8_t *, size_t,
+                               quic_wire_params *);
+int32_t quic_wire_params_write_(uint32_t, const quic_wire_params *, uint8_t *,
+                                size_t, size_t *);
 
 /* A place for what has no items, since the library takes no NULL.  It has room
  * for one item of each kind, whose words are never looked at. */
@@ -284,6 +357,35 @@ static inline int quic_wire_frames_next(quic_wire_frames *frames,
   return quic_wire_frames_next_(frames, payload, payloadlen, frame);
 }
 
+/*
+ * Reads the next frames, as many as the |room| entries of |out| hold, with one
+ * call.  |payload| is the one that |frames| began with.  A run of PADDING is
+ * one entry: from |begin| to |end| stands a frame with each byte.
+ *
+ * Returns QUIC_WIRE_ITEM, and in |*count| how many entries were filled, one at
+ * least; 0 where no frame is left; QUIC_WIRE_ERR_MALFORMED, once, where what
+ * stands next is no frame, and then 0: what is told of it is in |out[0]|
+ * (quic_wire_error_type, quic_wire_error_reason); QUIC_WIRE_ERR_NOBUF where
+ * |room| is 0.  QUIC_WIRE_ERR_INVALID_ARGUMENT for NULL, or where
+ * |frames->offset| is above |payloadlen|.  Frames that stand before something
+ * that is none are given first, and the next call tells of it.  Entries behind
+ * those that were filled stay, and |*count| changes only with QUIC_WIRE_ITEM.
+ * Once |frames->offset| is |payloadlen| nothing is left, and no call is needed
+ * to learn that.
+ */
+static inline int quic_wire_frames_fill(quic_wire_frames *frames,
+                                        const uint8_t *payload,
+                                        size_t payloadlen, quic_wire_frame *out,
+                                        size_t room, size_t *count) {
+  if (!frames || !count || (!payload && payloadlen) || (!out && room))
+    return QUIC_WIRE_ERR_INVALID_ARGUMENT;
+  if (!payload)
+    payload = (const uint8_t *)quic_wire_nothing();
+  if (!out)
+    out = (quic_wire_frame *)quic_wire_nothing();
+  return quic_wire_frames_fill_(frames, payload, payloadlen, out, room, count);
+}
+
 /* After QUIC_WIRE_ERR_MALFORMED: the last type that was read, the broken
  * frame's own included; QUIC_WIRE_NO_TYPE if none was. */
 static inline uint64_t quic_wire_error_type(const quic_wire_frame *frame) {
@@ -321,6 +423,28 @@ static inline int quic_wire_ack_ranges_next(quic_wire_ack_ranges *ranges,
   if (!ranges || !payload || !range)
     return QUIC_WIRE_ERR_INVALID_ARGUMENT;
   return quic_wire_ack_ranges_next_(ranges, payload, payloadlen, range);
+}
+
+/*
+ * Reads the next ranges, the greatest first, as many as the |room| entries of
+ * |out| hold, with one call.  Returns QUIC_WIRE_ITEM, and in |*count| how many
+ * entries were filled, one at least; 0 where no range is left;
+ * QUIC_WIRE_ERR_NOBUF where |room| is 0; QUIC_WIRE_ERR_INVALID_ARGUMENT for
+ * words that name no blocks of an ACK.  Entries behind those that were filled
+ * stay, and nothing changes but with QUIC_WIRE_ITEM.  Once |ranges->begin| is
+ * |ranges->end| none is left, and no call is needed to learn that.
+ */
+static inline int quic_wire_ack_ranges_fill(quic_wire_ack_ranges *ranges,
+                                            const uint8_t *payload,
+                                            size_t payloadlen,
+                                            quic_wire_range *out, size_t room,
+                                            size_t *count) {
+  if (!ranges || !payload || !count || (!out && room))
+    return QUIC_WIRE_ERR_INVALID_ARGUMENT;
+  if (!out)
+    out = (quic_wire_range *)quic_wire_nothing();
+  return quic_wire_ack_ranges_fill_(ranges, payload, payloadlen, out, room,
+                                    count);
 }
 
 /*
@@ -418,6 +542,46 @@ static inline int quic_wire_unprotect(uint8_t *datagram, size_t datagramlen,
                               expected, opened);
 }
 
+/*
+ * Reads a list of transport parameters to its end (RFC 9000, sections 7.4 and
+ * 18).  |side| is the side that reads: QUIC_WIRE_CLIENT for what a server sent,
+ * QUIC_WIRE_SERVER for what a client sent, which must lack what a server alone
+ * sends.  Returns 0 and the parameters; QUIC_WIRE_ERR_MALFORMED where the list
+ * is refused with a TRANSPORT_PARAMETER_ERROR, and then |params->reason| says
+ * why, and nothing else of |params| changes; QUIC_WIRE_ERR_INVALID_ARGUMENT
+ * where |side| is neither.
+ */
+static inline int quic_wire_params_read(uint32_t side, const uint8_t *list,
+                                        size_t listlen,
+                                        quic_wire_params *params) {
+  if ((!list && listlen) || !params)
+    return QUIC_WIRE_ERR_INVALID_ARGUMENT;
+  return quic_wire_params_read_(
+      side, list ? list : (const uint8_t *)quic_wire_nothing(), listlen,
+      params);
+}
+
+/*
+ * Writes the shortest list of these parameters for the |side| that is to read
+ * it: those numbers that differ from their defaults, and what else is there.
+ * Returns 0 and how many bytes were written; QUIC_WIRE_ERR_NOBUF and how many
+ * are needed where |dest| has fewer; QUIC_WIRE_ERR_INVALID_ARGUMENT where the
+ * side would refuse the parameters, or would not read the same words: a number
+ * is out of range, something that is absent is not 0, |reason| is not 0, or the
+ * preferred address has no address, or one of zeros with port 0.  |dest|
+ * changes only with 0, and then only in the bytes that were written.
+ */
+static inline int quic_wire_params_write(uint32_t side,
+                                         const quic_wire_params *params,
+                                         uint8_t *dest, size_t destlen,
+                                         size_t *written) {
+  if (!params || (!dest && destlen) || !written)
+    return QUIC_WIRE_ERR_INVALID_ARGUMENT;
+  return quic_wire_params_write_(
+      side, params, dest ? dest : (uint8_t *)quic_wire_nothing(), destlen,
+      written);
+}
+
 /* The name of a type as it stands on the wire, or NULL. */
 static inline const char *quic_wire_type_name(uint64_t type) {
   switch (type) {
@@ -459,6 +623,15 @@ static inline const char *quic_wire_reason_text(uint32_t reason) {
   case QUIC_WIRE_REASON_UNEXPECTED_END: return "unexpected end";
   case QUIC_WIRE_REASON_INVALID_FRAME_ID: return "invalid frame ID";
   case QUIC_WIRE_REASON_MALFORMED: return "malformed";
+  default: return "unknown";
+  }
+}
+
+/* Why a list of transport parameters is refused. */
+static inline const char *quic_wire_params_reason_text(uint32_t reason) {
+  switch (reason) {
+  case QUIC_WIRE_PARAMS_MALFORMED: return "malformed";
+  case QUIC_WIRE_PARAMS_ILLEGAL_VALUE: return "illegal value";
   default: return "unknown";
   }
 }

@@ -1,6 +1,6 @@
 /* show MODE: the modes of `quic-show` that the calls for C have, with the same
- * text and status: `frames`, `datagram LEN`.  Its input is lines of
- * hexadecimal.  Each line's bytes stand in a block of just their length, so
+ * text and status: `frames`, `datagram LEN`, `params SIDE`.  Its input is lines
+ * of hexadecimal.  Each line's bytes stand in a block of just their length, so
  * that a sanitizer or valgrind sees each byte that is read past it. */
 #define _POSIX_C_SOURCE 200809L
 #include <inttypes.h>
@@ -112,13 +112,84 @@ static int print_packets(const uint8_t *datagram, size_t len, uint32_t cidlen) {
   return 0;
 }
 
+static void print_number(const char *name, uint64_t n, uint64_t normal) {
+  if (n != normal)
+    printf("%s %" PRIu64 "\n", name, n);
+}
+
+static void print_bytes(const char *name, const uint8_t *bytes, size_t len) {
+  printf("%s ", name);
+  print_id(bytes, 0, len);
+  putchar('\n');
+}
+
+/* A preferred address as it stands in a list. */
+static void print_address(const quic_wire_params *p) {
+  printf("preferred_address ");
+  print_id(p->preferred_v4, 0, 4);
+  printf("%04x", p->preferred_v4_port);
+  print_id(p->preferred_v6, 0, 16);
+  printf("%04x%02" PRIx32, p->preferred_v6_port, p->preferred_cidlen);
+  print_id(p->preferred_cid, 0, p->preferred_cidlen);
+  print_id(p->preferred_token, 0, 16);
+  putchar('\n');
+}
+
+static void print_numbers(const quic_wire_params *p) {
+  print_number("max_idle_timeout", p->max_idle_timeout, 0);
+  print_number("max_udp_payload_size", p->max_udp_payload_size, 65527);
+  print_number("initial_max_data", p->initial_max_data, 0);
+  print_number("initial_max_stream_data_bidi_local",
+               p->initial_max_stream_data_bidi_local, 0);
+  print_number("initial_max_stream_data_bidi_remote",
+               p->initial_max_stream_data_bidi_remote, 0);
+  print_number("initial_max_stream_data_uni", p->initial_max_stream_data_uni, 0);
+  print_number("initial_max_streams_bidi", p->initial_max_streams_bidi, 0);
+  print_number("initial_max_streams_uni", p->initial_max_streams_uni, 0);
+  print_number("ack_delay_exponent", p->ack_delay_exponent, 3);
+  print_number("max_ack_delay", p->max_ack_delay, 25);
+  print_number("active_connection_id_limit", p->active_connection_id_limit, 2);
+}
+
+static int print_params(const uint8_t *list, size_t len, uint32_t side) {
+  quic_wire_params p;
+  if (quic_wire_params_read(side, list, len, &p) != QUIC_WIRE_OK) {
+    printf("error %s\n", quic_wire_params_reason_text(p.reason));
+    return 0;
+  }
+  print_numbers(&p);
+  if (p.present & QUIC_WIRE_HAS_STATELESS_RESET_TOKEN)
+    print_bytes("stateless_reset_token", p.stateless_reset_token, 16);
+  if (p.present & QUIC_WIRE_HAS_DISABLE_ACTIVE_MIGRATION)
+    puts("disable_active_migration true");
+  if (p.present & QUIC_WIRE_HAS_MAX_DATAGRAM_FRAME_SIZE)
+    printf("max_datagram_frame_size %" PRIu64 "\n", p.max_datagram_frame_size);
+  if (p.present & QUIC_WIRE_HAS_PREFERRED_ADDRESS)
+    print_address(&p);
+  if (p.present & QUIC_WIRE_HAS_ORIGINAL_DST_CID)
+    print_bytes("original_dst_cid", p.original_dst_cid, p.original_dst_cidlen);
+  if (p.present & QUIC_WIRE_HAS_INITIAL_SRC_CID)
+    print_bytes("initial_src_cid", p.initial_src_cid, p.initial_src_cidlen);
+  if (p.present & QUIC_WIRE_HAS_RETRY_SRC_CID)
+    print_bytes("retry_src_cid", p.retry_src_cid, p.retry_src_cidlen);
+  if (p.present & QUIC_WIRE_HAS_GREASE_QUIC_BIT)
+    puts("grease_quic_bit true");
+  if (p.present & QUIC_WIRE_HAS_MIN_ACK_DELAY)
+    printf("min_ack_delay %" PRIu64 "\n", p.min_ack_delay);
+  puts("ok");
+  return 1;
+}
+
 int main(int argc, char **argv) {
   char *line = NULL;
   size_t cap = 0;
   ssize_t got;
-  int clean = 1, cidlen = -1;
+  int clean = 1, cidlen = -1, side = -1;
   if (argc == 3 && !strcmp(argv[1], "datagram"))
     cidlen = atoi(argv[2]);
+  else if (argc == 3 && !strcmp(argv[1], "params") &&
+           (!strcmp(argv[2], "client") || !strcmp(argv[2], "server")))
+    side = strcmp(argv[2], "server") ? QUIC_WIRE_CLIENT : QUIC_WIRE_SERVER;
   else if (argc != 2 || strcmp(argv[1], "frames"))
     return 2;
   while ((got = getline(&line, &cap, stdin)) >= 0) {
@@ -141,8 +212,12 @@ int main(int argc, char **argv) {
         return 3;
       memcpy(block, line, (size_t)bytes);
     }
-    clean &= cidlen < 0 ? print_frames(block, (size_t)bytes)
-                        : print_packets(block, (size_t)bytes, (uint32_t)cidlen);
+    if (side >= 0)
+      clean &= print_params(block, (size_t)bytes, (uint32_t)side);
+    else if (cidlen >= 0)
+      clean &= print_packets(block, (size_t)bytes, (uint32_t)cidlen);
+    else
+      clean &= print_frames(block, (size_t)bytes);
     free(block);
   }
   free(line);

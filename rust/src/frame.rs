@@ -370,11 +370,21 @@ impl Iterator for AckIter<'_> {
 
 impl FusedIterator for AckIter<'_> {}
 
+// How many entries one call fills.
+const ENTRIES: usize = 8;
+
 /// The frames of a payload, and then one `InvalidFrame` where something is none.
 #[derive(Clone, Debug)]
 pub struct Iter<'a> {
     payload: &'a [u8],
+    // How far the entries go.
     state: sys::Frames,
+    // The end of the last frame that was given.
+    offset: usize,
+    // Those from `next` to below `filled` are to be given yet, of a run of PADDING what begins at its `begin`.
+    entries: [sys::Frame; ENTRIES],
+    next: usize,
+    filled: usize,
 }
 
 impl<'a> Iter<'a> {
@@ -383,12 +393,27 @@ impl<'a> Iter<'a> {
         if payload.is_empty() {
             return Err(EmptyPayload);
         }
-        Ok(Iter { payload, state: sys::Frames { offset: 0, last_type: u64::MAX, ended: 0 } })
+        let state = sys::Frames { offset: 0, last_type: u64::MAX, ended: 0 };
+        Ok(Iter { payload, state, offset: 0, entries: [NO_FRAME; ENTRIES], next: 0, filled: 0 })
     }
 
     /// The end of the last whole frame in the payload, in bytes.
     pub fn offset(&self) -> usize {
-        self.state.offset
+        self.offset
+    }
+
+    // The next entries, or what there is in place of them.
+    fn fill(&mut self) -> Option<Result<(), InvalidFrame>> {
+        if self.offset == self.payload.len() {
+            return None;
+        }
+        self.next = 0;
+        self.filled = 0;
+        match sys::frames_fill(&mut self.state, self.payload, &mut self.entries, &mut self.filled) {
+            sys::ITEM => Some(Ok(())),
+            sys::MALFORMED => Some(Err(invalid_of(&self.entries[0]))),
+            _ => None,
+        }
     }
 }
 
@@ -397,23 +422,37 @@ impl<'a> Iterator for Iter<'a> {
 
     #[inline]
     fn next(&mut self) -> Option<Self::Item> {
-        let mut out = NO_FRAME;
-        match sys::frames_next(&mut self.state, self.payload, &mut out) {
-            sys::ITEM => Some(Ok(frame_of(self.payload, &out))),
-            sys::MALFORMED => Some(Err(InvalidFrame {
-                ty: (out.numbers[0] < 1 << 62).then_some(FrameType(out.numbers[0])),
-                reason: match out.flags {
-                    1 => Reason::UnexpectedEnd,
-                    2 => Reason::InvalidFrameId,
-                    _ => Reason::Malformed,
-                },
-            })),
-            _ => None,
+        if self.next == self.filled {
+            if let Err(invalid) = self.fill()? {
+                return Some(Err(invalid));
+            }
         }
+        let entry = &mut self.entries[self.next];
+        if entry.kind == 0x00 {
+            // A frame of a run: its type, whose first two bits say how long it is, mostly a byte.
+            entry.begin += 1 << (self.payload[entry.begin] >> 6);
+            self.offset = entry.begin;
+            self.next += usize::from(entry.begin == entry.end);
+            return Some(Ok(Frame::Padding));
+        }
+        self.offset = entry.end;
+        self.next += 1;
+        Some(Ok(frame_of(self.payload, entry)))
     }
 }
 
 impl FusedIterator for Iter<'_> {}
+
+fn invalid_of(told: &sys::Frame) -> InvalidFrame {
+    InvalidFrame {
+        ty: (told.numbers[0] < 1 << 62).then_some(FrameType(told.numbers[0])),
+        reason: match told.flags {
+            1 => Reason::UnexpectedEnd,
+            2 => Reason::InvalidFrameId,
+            _ => Reason::Malformed,
+        },
+    }
+}
 
 const NO_FRAME: sys::Frame = sys::Frame { kind: 0, flags: 0, begin: 0, end: 0, data: 0, datalen: 0, numbers: [0; 5] };
 

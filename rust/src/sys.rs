@@ -72,11 +72,47 @@ pub struct Opened {
     pub payload: usize,
 }
 
+/// Transport parameters.
+#[repr(C)]
+#[derive(Clone, Copy, Debug, Default, PartialEq, Eq)]
+pub struct Params {
+    pub present: u32,
+    pub reason: u32,
+    pub max_idle_timeout: u64,
+    pub max_udp_payload_size: u64,
+    pub initial_max_data: u64,
+    pub initial_max_stream_data_bidi_local: u64,
+    pub initial_max_stream_data_bidi_remote: u64,
+    pub initial_max_stream_data_uni: u64,
+    pub initial_max_streams_bidi: u64,
+    pub initial_max_streams_uni: u64,
+    pub ack_delay_exponent: u64,
+    pub max_ack_delay: u64,
+    pub active_connection_id_limit: u64,
+    pub max_datagram_frame_size: u64,
+    pub min_ack_delay: u64,
+    pub original_dst_cidlen: u32,
+    pub initial_src_cidlen: u32,
+    pub retry_src_cidlen: u32,
+    pub preferred_cidlen: u32,
+    pub preferred_v4_port: u16,
+    pub preferred_v6_port: u16,
+    pub original_dst_cid: [u8; 20],
+    pub initial_src_cid: [u8; 20],
+    pub retry_src_cid: [u8; 20],
+    pub preferred_cid: [u8; 20],
+    pub stateless_reset_token: [u8; 16],
+    pub preferred_token: [u8; 16],
+    pub preferred_v6: [u8; 16],
+    pub preferred_v4: [u8; 4],
+}
+
 // What the library asserts too.
 const _: () = assert!(size_of::<Frames>() == 24 && size_of::<Frame>() == 80);
 const _: () = assert!(size_of::<Range>() == 16 && size_of::<Ranges>() == 24);
 const _: () = assert!(size_of::<Packet>() == 96 && size_of::<Opened>() == 24);
 const _: () = assert!(std::mem::offset_of!(Frame, numbers) == 40);
+const _: () = assert!(size_of::<Params>() == 264 && std::mem::offset_of!(Params, original_dst_cid) == 132);
 
 pub const OK: i32 = 0;
 pub const ITEM: i32 = 1;
@@ -84,7 +120,14 @@ pub const MALFORMED: i32 = -3;
 pub const NO_ROOM: i32 = -4;
 
 unsafe extern "C" {
-    fn quic_wire_frames_next_(frames: &mut Frames, payload: *const u8, len: usize, out: &mut Frame) -> i32;
+    fn quic_wire_frames_fill_(
+        frames: &mut Frames,
+        payload: *const u8,
+        len: usize,
+        out: *mut Frame,
+        room: usize,
+        count: &mut usize,
+    ) -> i32;
     fn quic_wire_ack_ranges_init_(ranges: &mut Ranges, payload: *const u8, len: usize, frame: &Frame) -> i32;
     fn quic_wire_ack_ranges_next_(ranges: &mut Ranges, payload: *const u8, len: usize, out: &mut Range) -> i32;
     fn quic_wire_frame_write_(
@@ -116,12 +159,27 @@ unsafe extern "C" {
         expected: u64,
         out: &mut Opened,
     ) -> i32;
+    fn quic_wire_params_read_(side: u32, list: *const u8, len: usize, out: &mut Params) -> i32;
+    fn quic_wire_params_write_(side: u32, params: &Params, out: *mut u8, out_len: usize, written: &mut usize) -> i32;
 }
 
 #[inline]
-pub fn frames_next(frames: &mut Frames, payload: &[u8], out: &mut Frame) -> i32 {
+pub fn params_read(side: u32, list: &[u8], out: &mut Params) -> i32 {
     // SAFETY: the declaration fits; pointer and length are those of one slice, and any words serve.
-    unsafe { quic_wire_frames_next_(frames, payload.as_ptr(), payload.len(), out) }
+    unsafe { quic_wire_params_read_(side, list.as_ptr(), list.len(), out) }
+}
+
+#[inline]
+pub fn params_write(side: u32, params: &Params, out: &mut [u8], written: &mut usize) -> i32 {
+    // SAFETY: as above; `out` is borrowed alone, so nothing overlaps it.
+    unsafe { quic_wire_params_write_(side, params, out.as_mut_ptr(), out.len(), written) }
+}
+
+#[inline]
+pub fn frames_fill(frames: &mut Frames, payload: &[u8], out: &mut [Frame], count: &mut usize) -> i32 {
+    // SAFETY: the declaration fits; pointers and lengths are those of one slice each, `out` is borrowed alone, so nothing
+    // overlaps it, and any words serve.
+    unsafe { quic_wire_frames_fill_(frames, payload.as_ptr(), payload.len(), out.as_mut_ptr(), out.len(), count) }
 }
 
 #[inline]

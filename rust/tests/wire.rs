@@ -1,6 +1,33 @@
 //! What is read, written and read again.
 use quic_wire::frame::{EmptyPayload, Frame, Iter, Reason, WriteError};
 use quic_wire::packet::{DEFAULT_SUPPORTED_VERSIONS, PacketDecodeError, Packets, ProtectedHeader, UnprotectError};
+use quic_wire::transport_parameters::{ConnectionId, Error, PreferredAddress, Side, TransportParameters};
+
+#[test]
+fn parameters_are_read_back() {
+    let preferred_address = PreferredAddress {
+        address_v4: Some("127.0.0.1:443".parse().unwrap()),
+        address_v6: Some("[::1]:443".parse().unwrap()),
+        connection_id: ConnectionId::new(&[7; 8]).unwrap(),
+        stateless_reset_token: [9; 16],
+    };
+    let given = TransportParameters {
+        max_idle_timeout: 30_000,
+        initial_src_cid: ConnectionId::new(&[]),
+        preferred_address: Some(preferred_address),
+        min_ack_delay: Some(0),
+        grease_quic_bit: true,
+        ..TransportParameters::default()
+    };
+    let mut list = [0; 128];
+    let len = given.write(Side::Client, &mut list).unwrap();
+    assert_eq!(TransportParameters::read(Side::Client, &list[..len]), Ok(given));
+    assert_eq!(TransportParameters::read(Side::Server, &list[..len]), Err(Error::IllegalValue));
+    assert_eq!(given.write(Side::Server, &mut list), Err(WriteError::OutOfRange));
+    assert_eq!(given.write(Side::Client, &mut list[..len - 1]), Err(WriteError::NoRoom(len)));
+    assert_eq!(TransportParameters::read(Side::Client, &list[..len - 1]), Err(Error::Malformed));
+    assert_eq!(TransportParameters::read(Side::Client, &[]), Ok(TransportParameters::default()));
+}
 
 #[test]
 fn frames_borrow_the_payload() {

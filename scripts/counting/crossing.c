@@ -1,6 +1,7 @@
 // crossing WORK ROUNDS FILE: reads the payloads of a file of lines in hexadecimal so many rounds by the calls for C.
 // Prints how many items one round has, and a number that depends on all of them. WORK is frames (every field of each),
-// ranges (of each ACK, read too), or packets (of each line as a datagram, ids of 8 bytes).
+// many-frames (the same by calls that fill 16 entries, where a run of PADDING is one), ranges (of each ACK, read too),
+// acks (the same, frames and ranges by calls that fill 16), or packets (of each line as a datagram, ids of 8 bytes).
 #include <stdint.h>
 #include <stdio.h>
 #include <stdlib.h>
@@ -34,6 +35,48 @@ static u64 frames_of(const uint8_t *payload, size_t len, int ranges) {
                 items++;
             }
         }
+    }
+    return sum;
+}
+
+#define MANY 16
+
+static u64 many_ranges_of(const uint8_t *payload, size_t len, const quic_wire_frame *ack) {
+    quic_wire_ack_ranges ranges;
+    quic_wire_range filled[MANY];
+    size_t count;
+    u64 sum = 0;
+    if (quic_wire_ack_ranges_init(&ranges, payload, len, ack))
+        return 0;
+    while (ranges.begin < ranges.end &&
+           quic_wire_ack_ranges_fill(&ranges, payload, len, filled, MANY, &count) == QUIC_WIRE_ITEM) {
+        for (size_t k = 0; k < count; k++)
+            sum += filled[k].start ^ filled[k].end;
+        items += count;
+    }
+    return sum;
+}
+
+static u64 many_frames_of(const uint8_t *payload, size_t len, int ranges) {
+    quic_wire_frames frames;
+    quic_wire_frame filled[MANY];
+    size_t count;
+    u64 sum = 0;
+    if (quic_wire_frames_init(&frames, payload, len))
+        return 0;
+    while (frames.offset < len &&
+           quic_wire_frames_fill(&frames, payload, len, filled, MANY, &count) == QUIC_WIRE_ITEM) {
+        for (size_t k = 0; k < count; k++) {
+            const quic_wire_frame *frame = &filled[k];
+            if (ranges) {
+                sum += frame->kind == QUIC_WIRE_ACK ? many_ranges_of(payload, len, frame) : 0;
+                continue;
+            }
+            for (int i = 0; i < 5; i++)
+                sum += frame->numbers[i];
+            sum += frame->kind + frame->flags + frame->end + frame->data + frame->datalen;
+        }
+        items += ranges ? 0 : count;
     }
     return sum;
 }
@@ -78,7 +121,10 @@ int main(int argc, char **argv) {
     for (int r = 0; r < rounds; r++) {
         items = 0;
         for (size_t i = 0; i < count; i++)
-            sum += argv[1][0] == 'p' ? packets_of(bytes[i], lens[i]) : frames_of(bytes[i], lens[i], argv[1][0] == 'r');
+            sum += argv[1][0] == 'p'   ? packets_of(bytes[i], lens[i])
+                   : argv[1][0] == 'm' ? many_frames_of(bytes[i], lens[i], 0)
+                   : argv[1][0] == 'a' ? many_frames_of(bytes[i], lens[i], 1)
+                                       : frames_of(bytes[i], lens[i], argv[1][0] == 'r');
     }
     printf("%lu items, %lu\n", (unsigned long)items, (unsigned long)sum);
     return 0;

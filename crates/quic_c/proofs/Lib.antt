@@ -1,3 +1,5 @@
 pub mod Places
 mod Shapes
 mod Said
+mod Filling
+mod RangeFilling

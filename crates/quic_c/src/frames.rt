@@ -11,7 +11,7 @@ use crate::words::{FrameWords, FramesWords};
 use quic_frames::frame::{FrameType, InvalidFrame, Iter};
 
 // The type in a word.
-fn type_in(word: u64) -> Option<FrameType>
+pub(crate) fn type_in(word: u64) -> Option<FrameType>
     ensures { result ≡ type_in word }
 {
     if word >= 1 << 62 {
@@ -21,7 +21,7 @@ fn type_in(word: u64) -> Option<FrameType>
 }
 
 // The word of a type.
-fn type_word(ty: Option<FrameType>) -> u64
+pub(crate) fn type_word(ty: Option<FrameType>) -> u64
     ensures value { result ≡ type_word ty }
     ensures back { type_in result ≡ ty }
 {
@@ -64,7 +64,7 @@ pub extern "C" fn quic_wire_frames_init_(frames: &mut FramesWords, payload: &[u8
 }
 
 // What is no frame, told as words.
-fn show_invalid(begin: usize, invalid: &InvalidFrame) -> FrameWords
+pub(crate) fn show_invalid(begin: usize, invalid: &InvalidFrame) -> FrameWords
     ensures { result ≡ shown_invalid begin (type_word invalid.now.ty) (reason_in invalid.now.reason.now) }
 {
     FrameWords {

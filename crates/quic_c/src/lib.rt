@@ -4,6 +4,8 @@
 #![tactic(auto)]
 
 mod acks;
+mod fill;
+mod fill_ranges;
 mod frames;
 mod packets;
 mod show;

@@ -1,5 +1,5 @@
 //! A frame as words.
-ghost use Rattle.std.specs.Prelude.{◌≡◌, length};
+ghost use Rattle.std.specs.Prelude.{◌≡◌, ◌-◌, length};
 ghost use Rattle.quic_c.specs.Shown.{kind_of, flags_of, numbers_of, data_of, tail_of, shown};
 
 use crate::words::FrameWords;
@@ -137,12 +137,11 @@ pub(crate) fn parts_of(frame: &Frame<'_>) -> Parts
     }
 }
 
-/// The words of a frame that stands in a payload from `begin` to `end`.
+// The words that begin and end there, with what is taken from a frame.
 #[inline(always)]
-pub(crate) fn show(begin: usize, end: usize, frame: &Frame<'_>) -> FrameWords
-    ensures { result ≡ shown begin end frame.now }
+pub(crate) fn show_parts(begin: usize, end: usize, of_frame: Parts) -> FrameWords
+    ensures { result ≡ record { kind = of_frame.kind; flags = of_frame.flags; begin = begin; end = end; data_offset = end - of_frame.tail - of_frame.data_len; data_len = of_frame.data_len; numbers = of_frame.numbers } }
 {
-    let of_frame = parts_of(frame);
     let numbers = of_frame.numbers;
     FrameWords {
         kind: of_frame.kind,
@@ -155,4 +154,12 @@ pub(crate) fn show(begin: usize, end: usize, frame: &Frame<'_>) -> FrameWords
         data_len: of_frame.data_len,
         numbers,
     }
+}
+
+/// The words of a frame that stands in a payload from `begin` to `end`.
+#[inline(always)]
+pub(crate) fn show(begin: usize, end: usize, frame: &Frame<'_>) -> FrameWords
+    ensures { result ≡ shown begin end frame.now }
+{
+    show_parts(begin, end, parts_of(frame))
 }

@@ -8,6 +8,7 @@ mod Reasons
 mod Finding
 pub mod Placing
 mod Places
+mod Padding
 mod SizeBounds
 mod LeastFields
 mod LeastFrames

@@ -195,7 +195,7 @@ is_over strict payload offset last none = ap (items_of strict offset last) (noth
 abbrev pub walk : Bool → List ℕ → ℕ → Option ℕ → Bool → Way
 walk strict payload offset last is_broken = record { strict = strict; payload = payload; offset = offset; last = last; is_broken = is_broken }
 
-is_not_broken : (strict : Bool) (payload : List ℕ) (offset : ℕ) (last : Option ℕ) (b : Bool) (old : Way) → walk strict payload offset last b ≡ old → b ≡ false → at_place strict payload offset last ≡ old
+pub is_not_broken : (strict : Bool) (payload : List ℕ) (offset : ℕ) (last : Option ℕ) (b : Bool) (old : Way) → walk strict payload offset last b ≡ old → b ≡ false → at_place strict payload offset last ≡ old
 is_not_broken strict payload offset last b old e f = ap (walk strict payload offset last) (sym f) ∙ e
 
 some_bytes : (payload : List ℕ) (offset : ℕ) → eqb (length (take (length payload - offset) (drop offset payload))) 0 ≡ false → offset < length payload

@@ -22,5 +22,6 @@ pub mod InRange
 pub mod Least
 pub mod Way
 pub mod Walk
+pub mod Padding
 pub mod Found
 pub mod Placed

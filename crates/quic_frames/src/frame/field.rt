@@ -33,7 +33,7 @@ pub(super) fn counted(bytes: &[u8]) -> Result<(&[u8], &[u8]), Fault>
 }
 
 /// The offset of a STREAM, 0 where it is left out, and what follows it.
-#[inline]
+#[inline(always)]
 pub(super) fn offset(is_written: bool, bytes: &[u8]) -> Result<(u64, &[u8]), Fault>
     ensures { (before : List Value)
         → Gives (λ x. (Number x.0 ∷ [], x.1.now)) result (field_at (offset_field is_written) before bytes.now) }
@@ -46,7 +46,7 @@ pub(super) fn offset(is_written: bool, bytes: &[u8]) -> Result<(u64, &[u8]), Fau
 }
 
 /// The data of a STREAM or a DATAGRAM, all that is left where their length is left out, and what follows them.
-#[inline]
+#[inline(always)]
 pub(super) fn data(is_counted: bool, bytes: &[u8]) -> Result<(&[u8], &[u8]), Fault>
     ensures { (before : List Value)
         → Gives (λ x. (Bytes x.0.now ∷ [], x.1.now)) result (field_at (data_field is_counted) before bytes.now) }

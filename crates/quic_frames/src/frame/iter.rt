@@ -1,7 +1,9 @@
 //! The frames of a payload, one after the other.
-ghost use Rattle.std.specs.Prelude.{◌≡◌, ◌<◌, ◌≤◌, ◌↔◌, [], None, IfErr, IfOk, IfSome, IsErr, IsNone, codes, true, false, length};
+ghost use Rattle.std.specs.Prelude.{◌≡◌, ◌<◌, ◌≤◌, ◌↔◌, ℕ, [], None, IfErr, IfOk, IfSome, IsErr, IsNone, codes, true, false, length, slice_index};
+ghost use Rattle.quic_base.specs.Number.{AreBytes};
 ghost use Rattle.quic_errors.specs.Codes.{IsError, protocol_violation};
 ghost use Rattle.quic_frame_parts.specs.Payload.{IsEither};
+ghost use Rattle.quic_frames.specs.Padding.{PassesPadding};
 ghost use Rattle.quic_frames.specs.Walk.{left, first_of, resumed, GivesFrames, GivesBroken};
 
 use super::found::read_found;
@@ -115,6 +117,23 @@ impl<'a> Iter<'a> {
         self.last
     }
 
+    /// Passes the PADDING that stands next, a frame with each byte of 0, and tells how many these are
+    /// (RFC 9000, section 19.1). Behind what was no frame there are none. It takes no memory.
+    #[inline(always)]
+    pub fn pass_padding(&mut self) -> usize
+        ensures { PassesPadding self.old result self.new }
+    {
+        if self.is_broken {
+            return 0;
+        }
+        let count = zeros(&self.payload[self.offset..]);
+        if count > 0 {
+            self.offset += count;
+            self.last = Some(FrameType::PADDING);
+        }
+        count
+    }
+
     /// The end of the last whole frame in the payload, in bytes.
     pub fn offset(&self) -> usize
         ensures value { result ≡ self.now.offset }
@@ -122,6 +141,21 @@ impl<'a> Iter<'a> {
     {
         self.offset
     }
+}
+
+// How many bytes of 0 stand at the front.
+#[inline(always)]
+fn zeros(bytes: &[u8]) -> usize
+    ensures within { result ≤ length bytes.now }
+    ensures each { (k : ℕ) → k < result → slice_index bytes.now k ≡ 0 }
+    ensures over { result < length bytes.now → 0 < slice_index bytes.now result }
+    ensures bytes { AreBytes bytes.now }
+{
+    let mut count = 0;
+    while count < bytes.len() && bytes[count] == 0 {
+        count += 1;
+    }
+    count
 }
 
 /// Gives each frame, and then one `InvalidFrame` where something is none; after that nothing. It takes

@@ -1,0 +1,92 @@
+-- Entries that are filled one after the other.
+use Rattle.std.proofs.Common.{◌≡◌, ℕ, ◌+◌, ◌<◌, ◌≤◌, List, [], ◌∷◌, ◌++◌, length, take, drop, set, Option, refl, sym, ap, subst, ◌∙◌, inl, inr, arith}
+use Rattle.std.specs.Prelude.{◌⊎◌, zero, suc}
+use Rattle.std.proofs.lemmas.List.{take_more_set, drop-set-lt}
+use Rattle.std.proofs.Math.ListN.{length-set}
+use Rattle.std.proofs.lemmas.Grind.{drop_more_same}
+use Rattle.quic_frames.specs.declared.frame.Frame.{Frame}
+use Rattle.quic_frames.specs.Way.{Way}
+use Rattle.quic_frames.specs.Walk.{Finds}
+use Rattle.quic_frames.specs.Padding.{PassesPadding, behind}
+use Rattle.quic_c.specs.declared.words.FrameWords.{FrameWords}
+use Rattle.quic_c.specs.Shown.{kind_of, shown}
+use Rattle.quic_c.specs.Filling.{GivesEntry, Shows, HasNoFrame, Fills, further}
+
+-- one entry more
+pub shows-append : {P E : Type 0} (step : P → E → P → Type 0) (old : P) (entries : List E) (here : P) (entry : E) (new : P) → Shows step old entries here → step here entry new → Shows step old (entries ++ entry ∷ []) new
+shows-append step old [] here entry new s gives = (new, subst (λ w. step w entry new) (sym s) gives, refl)
+shows-append step old (first ∷ entries) here entry new s gives = (s.0, s.1, shows-append step s.0 entries here entry new s.2 gives)
+
+-- ---- places over one payload
+
+abbrev IsFurther : Way → Way → Type 0
+IsFurther old new = new ≡ further old new.offset new.last
+
+further_on : (a b c : Way) → IsFurther a b → IsFurther b c → IsFurther a c
+further_on a b c ab bc = bc ∙ ap (λ (w : Way). further w c.offset c.last) ab
+
+found_further : (old new : Way) (frame : Frame) → Finds old frame new → IsFurther old new
+found_further old new frame f = f.comes ∙ ap (λ (l : Option ℕ). further old new.offset l) (sym (ap (λ (w : Way). w.last) f.comes))
+
+behind_further : (n : ℕ) (way : Way) → IsFurther way (behind n way)
+behind_further zero way = refl
+behind_further (suc n) way = refl
+
+passed_further : (old new : Way) (count : ℕ) → PassesPadding old count new → IsFurther old new
+passed_further old new count p = subst (λ (w : Way). IsFurther old w) (sym p.comes) (behind_further count old)
+
+-- ---- the loop
+
+-- So many entries are filled, from a place up to one that ends there.
+pub record Filling (old : Way) (before : List FrameWords) (here : Way) (after : List FrameWords) (count end : ℕ) : Type 0 where
+  pub few : count ≤ length after
+  pub all : length after ≡ length before
+  pub place : here.offset ≡ end
+  pub comes : here ≡ further old here.offset here.last
+  pub shows : Shows GivesEntry old (take count after) here
+  pub kept : drop count after ≡ drop count before
+
+pub filling_begins : (old : Way) (before : List FrameWords) (end : ℕ) → end ≡ old.offset → Filling old before old before 0 end
+filling_begins old before end e = record { few = omega arith; all = refl; place = sym e; comes = refl; shows = refl; kept = refl }
+
+kinds : (n : ℕ) → (n ≡ 0) ⊎ (0 < n)
+kinds zero = inl refl
+kinds (suc n) = inr (omega arith)
+
+next_further : (here next new : Way) (frame : Frame) → Finds here frame next → (kind_of frame ≡ 0 → (more : ℕ) × PassesPadding next more new) → (0 < kind_of frame → new ≡ next) → IsFurther here new
+next_further here next new frame f run one =
+    elim (kinds (kind_of frame)) [
+      | inl is ↦ let p = run is in further_on here next new (found_further here next frame f) (passed_further next new p.0 p.1)
+      | inr is ↦ subst (λ (w : Way). IsFurther here w) (sym (one is)) (found_further here next frame f)
+    ]
+
+pub filling_goes_on : (old : Way) (before : List FrameWords) (here : Way) (after : List FrameWords) (count end : ℕ) (next new : Way) (frame : Frame) (entry : FrameWords) (stop : ℕ)
+    → Filling old before here after count end → count < length after → Finds here frame next → (kind_of frame ≡ 0 → (more : ℕ) × PassesPadding next more new) → (0 < kind_of frame → new ≡ next)
+    → stop ≡ new.offset → entry ≡ shown end stop frame → Filling old before new (set after count entry) (count + 1) stop
+filling_goes_on old before here after count end next new frame entry stop s room f run one e words =
+    let same_words : entry ≡ shown here.offset new.offset frame = words ∙ ap (λ (n : ℕ). shown n stop frame) (sym s.place) ∙ ap (λ (n : ℕ). shown here.offset n frame) e in
+    let gives : GivesEntry here entry new = record { frame = frame; next = next; finds = f; run = run; one = one; words = same_words } in
+    let front : take (count + 1) (set after count entry) ≡ take count after ++ entry ∷ [] = take_more_set after count entry room in
+    record {
+      few = simp length-set (omega arith);
+      all = simp length-set s.all;
+      place = sym e;
+      comes = further_on old here new s.comes (next_further here next new frame f run one);
+      shows = rw front (shows-append GivesEntry old (take count after) here entry new s.shows gives);
+      kept = drop-set-lt (count + 1) after count entry (omega arith) ∙ drop_more_same after before count s.kept;
+    }
+
+-- where it ends
+pub filling_ends : (old : Way) (before : List FrameWords) (here : Way) (after : List FrameWords) (count end : ℕ) (last : Option ℕ) → Filling old before here after count end → last ≡ here.last
+    → (count ≡ length before) ⊎ HasNoFrame here → Fills old before (further old end last) after count
+filling_ends old before here after count end last s e full =
+    let is : here ≡ further old end last = s.comes ∙ ap (λ (n : ℕ). further old n here.last) s.place ∙ ap (further old end) (sym e) in
+    let fills : Fills old before here after count = record { few = rw (← s.all) s.few; shows = s.shows; kept = s.kept; full = full } in
+    subst (λ (w : Way). Fills old before w after count) is fills
+
+-- where nothing was filled
+pub filling_none : (old : Way) (before : List FrameWords) (here : Way) (after : List FrameWords) (count end : ℕ) → Filling old before here after count end → count ≡ 0 → (old ≡ here) × (after ≡ before)
+filling_none old before here after count end s none =
+    let shows : Shows GivesEntry old (take 0 after) here = rw none at s.shows in
+    let kept : drop 0 after ≡ drop 0 before = rw none at s.kept in
+    (shows, kept)

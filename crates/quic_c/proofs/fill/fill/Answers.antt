@@ -1,0 +1,23 @@
+use Rattle.std.proofs.Common.{◌≡◌, Some, subst, ap, arith}
+use Rattle.quic_frames.specs.Walk.{Finds, Advances}
+use Rattle.quic_c.specs.Shown.{kind_of, shown}
+use Rattle.quic_c.proofs.Filling.{filling_goes_on}
+use Rattle.quic_c.proofs.fill.fill.Goals as goal
+use Rattle.quic_c.proofs.fill.fill.Goals.{then-parts-eq0, else-parts-eq0}
+
+pub loop-count-preserved : goal.loop-count-preserved
+loop-count-preserved c =
+    let here = c.loop-count in
+    let frame = c.in-Some-Ok.frame in
+    let finds : Finds here.iter frame c.next.new.self = subst (λ f. Advances here.iter (Some f) c.next.new.self) c.in-Some-Ok.field-0-is c.in-Some-Ok.ensures.steps in
+    let stop = c.offset-end-in-Some-Ok.result in
+    let words : c.show_parts.result ≡ shown here.end stop frame = rw c.parts_of-parts.ensures at c.show_parts.ensures in
+    let kind : c.parts_of-parts.result.kind ≡ kind_of frame = ap (λ p. p.kind) c.parts_of-parts.ensures in
+    elim c.if-parts-eq0.branch [
+      | then-parts-eq0 w ↦
+          filling_goes_on c.args.iter.now c.args.out.now here.iter here.out here.count here.end c.next.new.self c.if-parts-eq0.iter frame c.show_parts.result stop here.invariant c.loop-count-test.true finds
+          (λ _. (w.pass_padding.result, rw w.iter-is w.pass_padding.ensures)) (λ some. absurd (omega (arith, kind, some, w.if-parts-eq0.true))) c.offset-end-in-Some-Ok.ensures.value words
+      | else-parts-eq0 w ↦
+          filling_goes_on c.args.iter.now c.args.out.now here.iter here.out here.count here.end c.next.new.self c.if-parts-eq0.iter frame c.show_parts.result stop here.invariant c.loop-count-test.true finds
+          (λ none. absurd (omega (arith, kind, none, w.if-parts-eq0.false))) (λ _. w.iter-is) c.offset-end-in-Some-Ok.ensures.value words
+    ]

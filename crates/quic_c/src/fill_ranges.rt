@@ -1,0 +1,80 @@
+//! The ranges of an ACK, as many with one call as the caller has room for.
+ghost use Rattle.std.specs.Prelude.{◌≡◌, ◌⊎◌, ◌↔◌, ◌<◌, [], pos, negsuc, length};
+ghost use Rattle.quic_c.specs.Answers.{IsWithin, NamesNone};
+ghost use Rattle.quic_c.specs.Filling.{FillsRanges};
+
+use crate::words::{RangeWords, RangesWords};
+use quic_frames::frame::split_first_range;
+
+// Fills entries with the ranges that stand first in blocks: how many, and the blocks that are left.
+#[inline(always)]
+fn fill_ranges(from: RangesWords, payload: &[u8], out: &mut [RangeWords]) -> (usize, RangesWords)
+    requires { IsWithin from payload.now }
+    ensures { FillsRanges from payload.now out.old result.1 out.new result.0 }
+{
+    let end = from.end;
+    let (mut begin, mut largest) = (from.begin, from.largest);
+    let mut count = 0;
+    while count < out.len() && begin < end && largest < 1 << 62 {
+        let Ok((least, next, rest)) = split_first_range(largest, &payload[begin..end]) else {
+            let at = RangesWords {
+                begin,
+                end,
+                largest,
+            };
+            return (count, at);
+        };
+        out[count] = RangeWords {
+            start: least,
+            end: largest + 1,
+        };
+        begin = end - rest.len();
+        largest = next;
+        count += 1;
+    }
+    (
+        count,
+        RangesWords {
+            begin,
+            end,
+            largest,
+        },
+    )
+}
+
+/// The next ranges of an ACK, the greatest first (RFC 9000, section 19.3.1), as many as there is room for in `out`. It
+/// answers 1 with how many entries were filled, one at least; 0 where no byte is left; -4 just where `out` has no entry and
+/// the place lies in the payload; -1 where the words name no blocks, as `quic_wire_ack_ranges_next_` has it. Ranges that
+/// stand before what is none are given first. Nothing changes but with 1.
+#[unsafe(no_mangle)]
+pub extern "C" fn quic_wire_ack_ranges_fill_(
+    ranges: &mut RangesWords,
+    payload: &[u8],
+    out: &mut [RangeWords],
+    count: &mut usize,
+) -> i32
+    ensures answers { (result ≡ pos 1) ⊎ (result ≡ pos 0) ⊎ (result ≡ negsuc 3) ⊎ (result ≡ negsuc 0) }
+    ensures ranges { result ≡ pos 1 → (0 < count.new) × FillsRanges ranges.old payload.now out.old ranges.new out.new count.new }
+    ensures end { result ≡ pos 0 → IsWithin ranges.old payload.now × (ranges.old.begin ≡ ranges.old.end) }
+    ensures room { (result ≡ negsuc 3) ↔ (IsWithin ranges.old payload.now × (out.old ≡ [])) }
+    ensures invalid { result ≡ negsuc 0 → NamesNone ranges.old payload.now }
+    ensures same { (result ≡ pos 1) ⊎ ((ranges.new ≡ ranges.old) × (out.new ≡ out.old) × (count.new ≡ count.old)) }
+{
+    let from = *ranges;
+    if from.begin > from.end || from.end > payload.len() {
+        return -1;
+    }
+    if out.is_empty() {
+        return -4;
+    }
+    if from.begin == from.end {
+        return 0;
+    }
+    let (filled, at) = fill_ranges(from, payload, out);
+    if filled == 0 {
+        return -1;
+    }
+    *ranges = at;
+    *count = filled;
+    1
+}

@@ -1,0 +1,36 @@
+-- What the calls answer.
+use Rattle.std.specs.Prelude.{◌≡◌, ℕ, List, Ok, Err}
+use Rattle.quic_base.specs.declared.ids.Side.{Side}
+use Rattle.quic_base.specs.declared.ids.Side.TheVariants.{Client, Server}
+use Rattle.quic_params.specs.Meaning.{IsAnswer}
+use Rattle.quic_params.specs.declared.error.Error.{Error}
+use Rattle.quic_params.specs.declared.error.Error.TheVariants.{IllegalValue, Malformed}
+use Rattle.quic_params.specs.declared.record.TransportParameters.{TransportParameters}
+use Rattle.quic_c_params.specs.declared.words.ParamsWords.{ParamsWords}
+use Rattle.quic_c_params.specs.Shown.{params_words}
+
+-- the word of a side
+abbrev pub IsSide : ℕ → Side → Type 0
+IsSide word Client = word ≡ 0
+IsSide word Server = word ≡ 1
+
+-- the number of a reason
+abbrev pub reason_of : Error → ℕ
+reason_of Malformed = 1
+reason_of IllegalValue = 2
+
+-- The side takes the list, and the words of its record were given.
+pub record GivesParams (side : ℕ) (bytes : List ℕ) (new : ParamsWords) : Type 0 where
+  pub reader : Side
+  pub is_side : IsSide side reader
+  pub params : TransportParameters
+  pub answer : IsAnswer reader bytes (Ok params)
+  pub words : new ≡ params_words params
+
+-- The side refuses the list, and why was told; no other word changes.
+pub record GivesRefusal (side : ℕ) (bytes : List ℕ) (old new : ParamsWords) : Type 0 where
+  pub reader : Side
+  pub is_side : IsSide side reader
+  pub reason : Error
+  pub answer : IsAnswer reader bytes (Err reason)
+  pub words : new ≡ record old { reason = reason_of reason }

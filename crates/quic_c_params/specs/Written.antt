@@ -1,0 +1,58 @@
+-- The parameters that words say, and what the call answers that writes them.
+use Rattle.std.specs.Prelude.{◌≡◌, ℕ, ◌<◌, List, ◌++◌, length, drop, Ok, None, is_some}
+use Rattle.quic_base.specs.declared.ids.Side.{Side}
+use Rattle.quic_params.specs.Meaning.{IsAnswer}
+use Rattle.quic_params.specs.Range.{IsTyped, IsInRange}
+use Rattle.quic_params.specs.Writing.{written}
+use Rattle.quic_params.specs.declared.record.TransportParameters.{TransportParameters}
+use Rattle.quic_c_params.specs.declared.words.ParamsWords.{ParamsWords}
+use Rattle.quic_c_params.specs.declared.write.Flags.{Flags}
+use Rattle.quic_c_params.specs.Answers.{IsSide}
+use Rattle.quic_c_params.specs.Shown.{params_words, v4_in, v6_in}
+
+-- The words are those of the record, whose fields hold what their types do; it has neither grease nor an order of writing.
+pub record Says (words : ParamsWords) (p : TransportParameters) : Type 0 where
+  pub words_are : words ≡ params_words p
+  pub typed : IsTyped p
+  pub no_grease : p.grease_transport_parameter ≡ None
+  pub no_order : p.write_order ≡ None
+
+-- The words say a record that the side reads back.
+pub record CanWrite (side : ℕ) (words : ParamsWords) (p : TransportParameters) : Type 0 where
+  pub reader : Side
+  pub is_side : IsSide side reader
+  pub said : Says words p
+  pub in_range : IsInRange reader p
+  pub read_back : IsAnswer reader (written p) (Ok p)
+
+-- The list of such a record stands at the front, with what stood behind it, and is counted.
+pub record Wrote (side : ℕ) (words : ParamsWords) (old new : List ℕ) (count : ℕ) : Type 0 where
+  pub params : TransportParameters
+  pub can : CanWrite side words params
+  pub count_is : count ≡ length (written params)
+  pub front : new ≡ written params ++ drop count old
+
+-- There is less room than such a list needs, and how much that is was told.
+pub record NeedsMore (side : ℕ) (words : ParamsWords) (old : List ℕ) (needed : ℕ) : Type 0 where
+  pub params : TransportParameters
+  pub can : CanWrite side words params
+  pub count_is : needed ≡ length (written params)
+  pub full : length old < needed
+
+-- The words say no such record.
+abbrev pub SaysNone : ℕ → ParamsWords → Type 0
+SaysNone side words = (p : TransportParameters) → CanWrite side words p → ⊥
+
+-- the bits are those of what the record has
+pub record HasFlags (flags : Flags) (p : TransportParameters) : Type 0 where
+  pub token : flags.token ≡ is_some p.stateless_reset_token
+  pub stays : flags.stays ≡ p.disable_active_migration
+  pub datagram : flags.datagram ≡ is_some p.max_datagram_frame_size
+  pub address : flags.address ≡ is_some p.preferred_address
+  pub v4 : flags.v4 ≡ is_some (v4_in p.preferred_address)
+  pub v6 : flags.v6 ≡ is_some (v6_in p.preferred_address)
+  pub original : flags.original ≡ is_some p.original_dst_cid
+  pub initial : flags.initial ≡ is_some p.initial_src_cid
+  pub retry : flags.retry ≡ is_some p.retry_src_cid
+  pub grease : flags.grease ≡ p.grease_quic_bit
+  pub delay : flags.delay ≡ is_some p.min_ack_delay

@@ -1,0 +1,71 @@
+//! The struct that C sees. Each of its words may hold any value, so nothing can be broken by it.
+
+/// Transport parameters (RFC 9000, section 18.2). What is absent is 0 in all of its words and bytes, but for the
+/// numbers that have a default: these hold it then.
+#[repr(C)]
+#[derive(Clone, Copy, PartialEq, Eq)]
+pub struct ParamsWords {
+    /// What is there, by the bits from the lowest: 0 `stateless_reset_token`, 1 `disable_active_migration`,
+    /// 2 `max_datagram_frame_size`, 3 a preferred address, 4 its address of IPv4, 5 that of IPv6,
+    /// 6 `original_dst_cid`, 7 `initial_src_cid`, 8 `retry_src_cid`, 9 `grease_quic_bit`, 10 `min_ack_delay`.
+    pub present: u32,
+    /// Of a refused list: 1 malformed, 2 an illegal value. Of parameters: 0.
+    pub reason: u32,
+    /// In milliseconds; 0 is for ever.
+    pub max_idle_timeout: u64,
+    /// In bytes, at least 1200.
+    pub max_udp_payload_size: u64,
+    /// In bytes.
+    pub initial_max_data: u64,
+    /// In bytes.
+    pub initial_max_stream_data_bidi_local: u64,
+    /// In bytes.
+    pub initial_max_stream_data_bidi_remote: u64,
+    /// In bytes.
+    pub initial_max_stream_data_uni: u64,
+    /// At most 2^60.
+    pub initial_max_streams_bidi: u64,
+    /// At most 2^60.
+    pub initial_max_streams_uni: u64,
+    /// At most 20.
+    pub ack_delay_exponent: u64,
+    /// In milliseconds, below 2^14.
+    pub max_ack_delay: u64,
+    /// At least 2.
+    pub active_connection_id_limit: u64,
+    /// In bytes (RFC 9221, section 3).
+    pub max_datagram_frame_size: u64,
+    /// In microseconds, at most `max_ack_delay`.
+    pub min_ack_delay: u64,
+    /// How many bytes the id has, at most 20.
+    pub original_dst_cid_len: u32,
+    /// How many bytes the id has, at most 20.
+    pub initial_src_cid_len: u32,
+    /// How many bytes the id has, at most 20.
+    pub retry_src_cid_len: u32,
+    /// How many bytes the id of the preferred address has, 1 to 20.
+    pub preferred_id_len: u32,
+    /// The port of IPv4.
+    pub preferred_v4_port: u16,
+    /// The port of IPv6.
+    pub preferred_v6_port: u16,
+    /// The destination id of the client's first packet, and zeros behind it.
+    pub original_dst_cid: [u8; 20],
+    /// The source id of the sender's first packet, and zeros behind it.
+    pub initial_src_cid: [u8; 20],
+    /// The source id of the server's Retry, and zeros behind it.
+    pub retry_src_cid: [u8; 20],
+    /// The id of connections to the preferred address, and zeros behind it.
+    pub preferred_id: [u8; 20],
+    /// The token by which the server resets the connection.
+    pub stateless_reset_token: [u8; 16],
+    /// The token by which a connection to the preferred address is reset.
+    pub preferred_token: [u8; 16],
+    /// The preferred address of IPv6, the highest byte first.
+    pub preferred_v6: [u8; 16],
+    /// The preferred address of IPv4, the highest byte first.
+    pub preferred_v4: [u8; 4],
+}
+
+// The size that every declaration of this struct in C must have.
+const _: () = prove!(std::mem::size_of::<ParamsWords>() == 264);

@@ -24,7 +24,8 @@ pub const MAX_CID_SIZE: usize = 20;
 /// A connection id of at most 20 bytes, which contracts see as the list of its bytes.
 #[derive(Clone, Copy)]
 pub struct ConnectionId {
-    len: u8,
+    // In four bytes, so that an id is copied by whole words.
+    len: u32,
     bytes: [u8; MAX_CID_SIZE],
 }
 
@@ -47,7 +48,7 @@ impl ConnectionId {
     ghost use Rattle.quic_base.specs.ConnectionIdLoan.{LendsBytes};
 
     /// The id of these bytes. The caller must ensure that they are at most 20.
-    #[inline]
+    #[inline(always)]
     #[tactic(auto, using(crate::proofs::Ends::padding))]
     pub fn new(bytes: &[u8]) -> ConnectionId
         requires { length bytes.now ≤ MAX_CID_SIZE }
@@ -56,7 +57,7 @@ impl ConnectionId {
         let mut padded = [0; MAX_CID_SIZE];
         copy_front(&mut padded, bytes);
         ConnectionId {
-            len: bytes.len() as u8,
+            len: bytes.len() as u32,
             bytes: padded,
         }
     }
@@ -74,7 +75,7 @@ impl ConnectionId {
         buf.copy_to_slice(&mut padded[..len]);
         are_bytes(&padded);
         ConnectionId {
-            len: len as u8,
+            len: len as u32,
             bytes: padded,
         }
     }
@@ -112,7 +113,7 @@ impl ConnectionId {
     {
         let bytes = self.as_slice();
         are_bytes(bytes);
-        buf.put_u8(self.len).map_err(|_| NoRoom)?;
+        buf.put_u8(self.len as u8).map_err(|_| NoRoom)?;
         buf.put_slice(bytes).map_err(|_| NoRoom)
     }
 
@@ -121,7 +122,7 @@ impl ConnectionId {
         ensures value { result.now ≡ self.now }
         ensures short { length result.now ≤ MAX_CID_SIZE }
     {
-        &self.bytes[..usize::from(self.len)]
+        &self.bytes[..self.len as usize]
     }
 
     /// The bytes, and behind them as many zeros as make 20 bytes: an id of any length in one array.
@@ -152,7 +153,7 @@ impl ConnectionId {
 }
 
 // Copies the bytes to the front.
-#[inline]
+#[inline(always)]
 fn copy_front(to: &mut [u8; MAX_CID_SIZE], bytes: &[u8])
     requires { length bytes.now ≤ MAX_CID_SIZE }
     ensures { to.new ≡ bytes.now ++ drop (length bytes.now) to.old }
@@ -170,7 +171,7 @@ fn copy_front(to: &mut [u8; MAX_CID_SIZE], bytes: &[u8])
 }
 
 // Copies N to 2 N bytes to the front: the first N and the last N, each by one whole load.
-#[inline]
+#[inline(always)]
 fn copy_ends<const N: usize>(to: &mut [u8; MAX_CID_SIZE], bytes: &[u8])
     requires room { length bytes.now ≤ MAX_CID_SIZE }
     requires enough { N ≤ length bytes.now }

@@ -5,7 +5,7 @@ use Prim.Native.Nat.{ℕ, ◌≤◌}
 use native.Mathlib.Omega.{arith}
 use mathlib.Core.List.{List, [], ◌∷◌, ◌++◌}
 use seplogic.Ra.Ura.{Ura}
-use mir.Syntax.{named, w8, ty_int}
+use mir.Syntax.{named, w32, ty_int}
 use mir.Val.{Val, vptr, vint}
 use base.Logic.{SProp, ent, sep, emp, via, fst∗, ex_i}
 use base.Fml.{Fml, Lft, GName, Share, ftrue, flft, fat}
@@ -89,7 +89,7 @@ module _ {M : Type 1} {𝓤 : Ura M} (𝓛 : Logic 𝓤) (κ : Lft) (q : Share) 
     past = at p (mem u8).size
 
     abbrev Length : Fml
-    Length = fat full_share (ty_int w8) b (len_at o) (vint w8 a.len)
+    Length = fat full_share (ty_int w32) b (len_at o) (vint w32 a.len)
 
     abbrev Rest : SProp 𝓤
     Rest = sep 𝓤 (sem 𝓛 (elements back (past (length front)))) (sep 𝓤 (sem 𝓛 Length) (Left 𝓛 b o))
@@ -155,7 +155,7 @@ module _ {M : Type 1} {𝓤 : Ura M} (𝓛 : Logic 𝓤) (κ : Lft) (q : Share) 
           let short : a.len ≤ 20 = f.1.1.short in
           let xs : List ℕ = take a.len a.bytes in
           let front_at : Fml = cells (mem u8) xs b p in
-          use1 𝓛 (given (length a.bytes ≡ 20) (‵ (cells (mem u8) a.bytes b p) ⊛ (‵ (fat full_share (ty_int w8) b (len_at o) (vint w8 a.len)) ⊛ raw (Left 𝓛 b o)))) (fields_out 𝓛 b o a) $
+          use1 𝓛 (given (length a.bytes ≡ 20) (‵ (cells (mem u8) a.bytes b p) ⊛ (‵ (fat full_share (ty_int w32) b (len_at o) (vint w32 a.len)) ⊛ raw (Left 𝓛 b o)))) (fields_out 𝓛 b o a) $
           learn ! (λ long. split3 ! $
           let count : length xs ≡ a.len = length-take-le a.len a.bytes (omega arith) in
           let room : Room u8 (length xs) = (omega arith, omega arith) in

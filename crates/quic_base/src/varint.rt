@@ -1,5 +1,5 @@
 //! Integers of variable length (RFC 9000, section 16).
-ghost use Rattle.std.specs.Prelude.{◌≡◌, ◌+◌, ◌<◌, ◌^◌, ◌++◌, List, ℕ, Ok, Some, drop, length, IfOk, OnErr, OnOk};
+ghost use Rattle.std.specs.Prelude.{◌≡◌, ◌+◌, ◌<◌, ◌^◌, ◌++◌, List, ℕ, Ok, Some, drop, length, IfOk, IfSome, MatchOption, OnErr, OnOk};
 ghost use Rattle.std.specs.Fmt.{decimal};
 ghost use Rattle.quic_base.specs.Codec.{Takes, NoFront, IsBegun, KeepsRoom};
 ghost use Rattle.quic_base.specs.Varint.{Spells, IsBounded, short, size};
@@ -179,7 +179,7 @@ impl fmt::Debug for VarInt {
 
 // The number that a varint at the front spells, in any width: one look at the first byte, and one
 // load of the whole width.
-#[inline]
+#[inline(always)]
 fn read_number<B: Buf>(buf: &mut B) -> coding::Result<u64>
     ensures ok { IfOk result (λ v. Takes (Spells v) (B.unread buf.old) (B.unread buf.new)) }
     ensures bound { IfOk result (λ v. v < 2 ^ 62) }
@@ -213,6 +213,21 @@ fn read_number<B: Buf>(buf: &mut B) -> coding::Result<u64>
     }
     buf.advance(1);
     Err(UnexpectedEnd)
+}
+
+/// The number that a varint at the front of the bytes spells, in any width, and what follows it (RFC 9000, section
+/// 16). Answers `None` exactly where the bytes end before it does. It goes into its caller, so that no slice is kept
+/// in memory for it.
+#[inline(always)]
+pub fn split_var(bytes: &[u8]) -> Option<(u64, &[u8])>
+    ensures read { MatchOption result ((v : ℕ) → NoFront (Spells v) bytes.now) (λ x. Takes (Spells x.0) bytes.now x.1.now) }
+    ensures bound { IfSome result (λ x. x.0 < 2 ^ 62) }
+{
+    let mut rest = bytes;
+    match read_number(&mut rest) {
+        Ok(number) => Some((number, rest)),
+        Err(_) => None,
+    }
 }
 
 /// All four widths are read, the shortest is written. Where the first byte is there and others are

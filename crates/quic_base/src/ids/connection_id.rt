@@ -54,12 +54,12 @@ impl ConnectionId {
         requires { length bytes.now ≤ MAX_CID_SIZE }
         ensures { result ≡ bytes.now }
     {
-        let mut padded = [0; MAX_CID_SIZE];
-        copy_front(&mut padded, bytes);
-        ConnectionId {
+        let mut id = ConnectionId {
             len: bytes.len() as u32,
-            bytes: padded,
-        }
+            bytes: [0; MAX_CID_SIZE],
+        };
+        copy_front(&mut id.bytes, bytes);
+        id
     }
 
     /// Takes the next `len` bytes. The caller must ensure that they are there, and at most 20.

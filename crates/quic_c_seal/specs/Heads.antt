@@ -1,5 +1,5 @@
 -- The heads that words say (RFC 9000, section 17).
-use Rattle.std.specs.Prelude.{◌≡◌, ℕ, ◌+◌, ◌%◌, ◌<◌, ◌≤◌, ◌^◌, IsTrue, List, [], length, take, drop, Option, None, Some}
+use Rattle.std.specs.Prelude.{◌≡◌, ℕ, ◌+◌, ◌%◌, ◌<◌, ◌≤◌, ◌^◌, IsTrue, List, [], length, Option, None, Some}
 use Rattle.quic_crypto.specs.declared.packet_number.PacketNumber.{PacketNumber}
 use Rattle.quic_crypto.specs.PacketNumbers.{low_part, number_size, window_of}
 use Rattle.quic_headers.specs.declared.long_type.LongType.TheVariants.{Handshake, ZeroRtt}
@@ -50,32 +50,27 @@ token_in (header.Retry dst src version) = []
 token_in (header.Short spin key_phase dst number) = []
 token_in (header.VersionNegotiate random src dst) = []
 
--- These bytes stand at a place of others.
-pub record Stands (bytes : List ℕ) (offset len : ℕ) (piece : List ℕ) : Type 0 where
-  pub within : offset + len ≤ length bytes
-  pub piece_is : piece ≡ take len (drop offset bytes)
-
 -- A number below 2^62, of which so many bytes are written (RFC 9000, section 17.1); 0 and 0 where a head has none.
 abbrev pub SaysNumber : ℕ → ℕ → Option PacketNumber → Type 0
 SaysNumber number len None = (number ≡ 0) × (len ≡ 0)
 SaysNumber number len (Some written) = (number < 2 ^ 62) × (len ≡ number_size written) × (low_part written ≡ number % window_of written)
 
--- The words say the head, whose ids and token stand in the bytes where the words say.
-pub record Says (words : HeadWords) (bytes : List ℕ) (head : Header) : Type 0 where
+-- The words, two ids and a token say the head.
+pub record Says (words : HeadWords) (dst src token : List ℕ) (head : Header) : Type 0 where
   pub kind : words.kind ≡ kind_word head
   pub flags : words.flags ≡ flags_word head
   pub version : words.version ≡ version_in head
   pub number : SaysNumber words.number words.number_len (number_in head)
-  pub dst : Stands bytes words.dst_offset words.dst_len (dst_in head)
-  pub src : Stands bytes words.src_offset words.src_len (src_in head)
-  pub token : Stands bytes words.token_offset words.token_len (token_in head)
+  pub dst_is : dst ≡ dst_in head
+  pub src_is : src ≡ src_in head
+  pub token_is : token ≡ token_in head
 
--- The words say a head that can be written: ids have at most 20 bytes, the first byte of a version negotiation seven bits beside
--- its highest, and the two bytes of a length count what the packet has from its number on.
-pub record CanWrite (words : HeadWords) (bytes : List ℕ) (head : Header) : Type 0 where
-  pub says : Says words bytes head
-  pub dst : words.dst_len ≤ 20
-  pub src : words.src_len ≤ 20
+-- They say a head that can be written: ids have at most 20 bytes, the first byte of a version negotiation seven bits beside its
+-- highest, and the two bytes of a length count what the packet has from its number on.
+pub record CanWrite (words : HeadWords) (dst src token : List ℕ) (head : Header) : Type 0 where
+  pub says : Says words dst src token head
+  pub dst_few : length dst ≤ 20
+  pub src_few : length src ≤ 20
   pub low : words.flags < 128
   pub writable : IsWritable head
   pub fits : IsTrue (has_length head) → words.number_len + words.body_len < 2 ^ 14

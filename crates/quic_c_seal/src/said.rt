@@ -1,8 +1,8 @@
 //! The heads that words say.
-ghost use Rattle.std.specs.Prelude.{◌≡◌, ◌+◌, ◌%◌, ◌^◌, ◌<◌, ◌≤◌, ◌↔◌, IsTrue, IfSome, IsNone, length, take, drop};
+ghost use Rattle.std.specs.Prelude.{◌≡◌, ◌+◌, ◌%◌, ◌^◌, ◌<◌, ◌≤◌, ◌↔◌, IsTrue, IfSome, IsNone, length};
 ghost use Rattle.quic_crypto.specs.PacketNumbers.{low_part, number_size, window_of, IsInRange};
 ghost use Rattle.quic_c_seal.specs.Heads.{CanWrite};
-ghost use Rattle.quic_c_seal.specs.Shapes.{IsNumbered, IsShaped, ArePlaced};
+ghost use Rattle.quic_c_seal.specs.Shapes.{IsNumbered, IsPlain, AreParts, IsShaped};
 ghost use Rattle.quic_c_seal.specs.Values.{header_of, IsLayable};
 ghost use Rattle.quic_c_seal.specs.Written.{SaysNone};
 
@@ -58,52 +58,36 @@ fn is_numbered(words: &HeadWords) -> bool
     0 < len && len <= 4 && words.number < 1 << 62 && fits
 }
 
-// Whether the words are those of a head of their kind.
-fn is_shaped(words: &HeadWords) -> bool
-    ensures { IsTrue result ↔ IsShaped words.now }
+// Whether the flags and the version are those of a head of the kind.
+fn is_plain(words: &HeadWords) -> bool
+    requires { words.now.kind ≤ 5 }
+    ensures { IsTrue result ↔ IsPlain words.now }
 {
-    let kind = words.kind;
-    if kind > 5 || !is_numbered(words) {
-        return false;
-    }
-    let most_flags = match kind {
+    let most_flags = match words.kind {
         4 => 3,
         5 => 127,
         _ => 0,
     };
-    let is_short = kind == 4;
-    words.flags <= most_flags
-        && (kind < 4 || words.version == 0)
-        && (!is_short || words.src_len == 0)
-        && (kind == 0 || words.token_len == 0)
+    words.flags <= most_flags && (words.kind < 4 || words.version == 0)
 }
 
-// Whether so many bytes stand at a place of a whole.
-fn is_within(offset: usize, len: usize, whole: usize) -> bool
-    ensures { IsTrue result ↔ (offset + len ≤ whole) }
+// Whether the ids and the token are those of a head of the kind.
+fn are_parts(kind: u32, dst: &[u8], src: &[u8], token: &[u8]) -> bool
+    ensures { IsTrue result ↔ AreParts kind dst.now src.now token.now }
 {
-    offset <= whole && len <= whole - offset
+    let most_src = if kind == 4 { 0 } else { 20 };
+    let most_token = if kind == 0 { (1 << 62) - 1 } else { 0 };
+    dst.len() <= 20 && src.len() <= most_src && token.len() <= most_token
 }
 
-// Whether the ids and the token can stand where the words say.
-fn are_placed(words: &HeadWords, whole: usize) -> bool
-    ensures { IsTrue result ↔ ArePlaced words.now whole }
+// Whether the words, the ids and the token are those of a head of the kind.
+fn is_shaped(words: &HeadWords, dst: &[u8], src: &[u8], token: &[u8]) -> bool
+    ensures { IsTrue result ↔ IsShaped words.now dst.now src.now token.now }
 {
-    is_within(words.dst_offset, words.dst_len, whole)
-        && is_within(words.src_offset, words.src_len, whole)
-        && is_within(words.token_offset, words.token_len, whole)
-        && words.dst_len <= 20
-        && words.src_len <= 20
-        && words.token_len < 1 << 62
-}
-
-// The bytes that stand at a place.
-fn piece<'a>(bytes: &'a [u8], offset: usize, len: usize) -> &'a [u8]
-    requires { offset + len ≤ length bytes.now }
-    ensures piece_is { result.now ≡ take len (drop offset bytes.now) }
-    ensures width { length result.now ≡ len }
-{
-    &bytes[offset..offset + len]
+    words.kind <= 5
+        && is_numbered(words)
+        && is_plain(words)
+        && are_parts(words.kind, dst, src, token)
 }
 
 // The part of a number that is written in so many bytes.
@@ -122,18 +106,20 @@ fn written_part(number: u64, len: u32) -> PacketNumber
     }
 }
 
-// The head that the words say, where it can be written.
-pub(crate) fn said<'a>(words: &HeadWords, bytes: &'a [u8]) -> Option<Head<'a>>
-    ensures some { IfSome result (λ head. CanWrite words.now bytes.now (header_of head)) }
+// The head that is said, where it can be written.
+pub(crate) fn said<'a>(
+    words: &HeadWords,
+    dst: &'a [u8],
+    src: &'a [u8],
+    token: &'a [u8],
+) -> Option<Head<'a>>
+    ensures some { IfSome result (λ head. CanWrite words.now dst.now src.now token.now (header_of head)) }
     ensures layable { IfSome result (λ head. IsLayable (header_of head)) }
-    ensures none { IsNone result → SaysNone words.now bytes.now }
+    ensures none { IsNone result → SaysNone words.now dst.now src.now token.now }
 {
-    if !is_shaped(words) || !are_placed(words, bytes.len()) {
+    if !is_shaped(words, dst, src, token) {
         return None;
     }
-    let dst = piece(bytes, words.dst_offset, words.dst_len);
-    let src = piece(bytes, words.src_offset, words.src_len);
-    let token = piece(bytes, words.token_offset, words.token_len);
     let (flags, version) = (words.flags, words.version);
     if words.kind == 3 {
         return Some(Head::Retry { dst, src, version });

@@ -1,7 +1,6 @@
 //! The struct that C sees. Each of its words may hold any value, so nothing can be broken by it.
 
-/// What the head of a packet says (RFC 9000, section 17). What its kind lacks is 0; the ids and the token stand in
-/// bytes that are given beside the words.
+/// What the head of a packet says beside its ids and its token (RFC 9000, section 17). What its kind lacks is 0.
 #[repr(C)]
 #[derive(Clone, Copy)]
 pub struct HeadWords {
@@ -19,19 +18,7 @@ pub struct HeadWords {
     /// How many bytes follow the number in the packet: the payload and the tag. It is looked at where the head has
     /// a length, in Initial, 0-RTT and Handshake packets.
     pub body_len: u64,
-    /// Where the receiver's id begins.
-    pub dst_offset: usize,
-    /// How many bytes it has, at most 20.
-    pub dst_len: usize,
-    /// Where the sender's id begins.
-    pub src_offset: usize,
-    /// How many bytes it has, at most 20; none in 1-RTT.
-    pub src_len: usize,
-    /// Where the token of an Initial packet begins.
-    pub token_offset: usize,
-    /// How many bytes it has.
-    pub token_len: usize,
 }
 
 // The size that every declaration of this struct in C must have.
-const _: () = prove!(std::mem::size_of::<HeadWords>() == 80);
+const _: () = prove!(std::mem::size_of::<HeadWords>() == 32);

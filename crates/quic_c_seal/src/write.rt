@@ -19,29 +19,31 @@ fn counted(words: &HeadWords) -> u16
     words.number_len as u16 + words.body_len as u16
 }
 
-/// Writes the head that the words say, with no protection on it, at the front of `dest` (RFC 9000, section 17). Its ids
-/// and its token stand in `bytes` where the words say. The length of an Initial, 0-RTT or Handshake packet has two
+/// Writes the head that the words say with the ids of the receiver and of the sender and the token, with no protection
+/// on it, at the front of `dest` (RFC 9000, section 17). The length of an Initial, 0-RTT or Handshake packet has two
 /// bytes, and counts the number's bytes and the `body_len` bytes behind them. It answers 0 with how many bytes were
 /// written, and the place where the number begins, which is the head's end where it has none; what stood behind the
-/// head stays. It answers -4 with how many bytes are needed where `dest` has fewer; -1 just where the words say no
-/// head that can be written: a kind above 5, a place outside of `bytes`, an id of more than 20 bytes, a number
-/// of 2^62 or more or in no or more than four bytes, a length of 2^14 or more, or something that the kind lacks. `dest`
-/// and `number` change with 0 alone, and `written` not with -1.
+/// head stays. It answers -4 with how many bytes are needed where `dest` has fewer; -1 just where they say no head
+/// that can be written: a kind above 5, an id of more than 20 bytes, a number of 2^62 or more or one that is
+/// written in no or more than four bytes, a length of 2^14 or more, a token of 2^62 bytes, or something that the kind
+/// lacks. `dest` and `number` change with 0 alone, and `written` not with -1.
 #[unsafe(no_mangle)]
 pub extern "C" fn quic_wire_head_write_(
     head: &HeadWords,
-    bytes: &[u8],
+    dst: &[u8],
+    src: &[u8],
+    token: &[u8],
     dest: &mut [u8],
     written: &mut usize,
     number: &mut usize,
 ) -> i32
     ensures answers { (result ≡ pos 0) ⊎ (result ≡ negsuc 3) ⊎ (result ≡ negsuc 0) }
-    ensures wrote { result ≡ pos 0 → Wrote head.now bytes.now dest.old dest.new written.new number.new }
-    ensures room { result ≡ negsuc 3 → NeedsMore head.now bytes.now dest.old written.new }
-    ensures refused { result ≡ negsuc 0 → SaysNone head.now bytes.now × (written.new ≡ written.old) }
+    ensures wrote { result ≡ pos 0 → Wrote head.now dst.now src.now token.now dest.old dest.new written.new number.new }
+    ensures room { result ≡ negsuc 3 → NeedsMore head.now dst.now src.now token.now dest.old written.new }
+    ensures refused { result ≡ negsuc 0 → SaysNone head.now dst.now src.now token.now × (written.new ≡ written.old) }
     ensures same { (result ≡ pos 0) ⊎ ((dest.new ≡ dest.old) × (number.new ≡ number.old)) }
 {
-    let Some(said) = said(head, bytes) else {
+    let Some(said) = said(head, dst, src, token) else {
         return -1;
     };
     match said.put(counted(head), dest) {

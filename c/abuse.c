@@ -406,7 +406,8 @@ static void head_cut(const quic_wire_head *h, const size_t lens[3],
   if (h->kind <= 3 && h->version == 0)
     goto done; /* read as a version negotiation */
   WANT(quic_wire_packet_next(datagram, whole, &offset, (uint32_t)lens[0],
-                             &h->version, 1, 0, &packet) == QUIC_WIRE_ITEM);
+                             &h->version, 1, h->kind == 5, &packet) ==
+       QUIC_WIRE_ITEM);
   WANT(packet.kind == h->kind && packet.version == h->version);
   WANT(packet.dcidlen == lens[0] && packet.scidlen == lens[1] &&
        packet.tokenlen == lens[2]);

@@ -6,7 +6,7 @@
  * extension; and the transport parameters (RFC 9000, section 18), whose two
  * functions stand in a library of their own, libquic_c_params.a.  Those that
  * write heads, quic_wire_head_write and quic_wire_number_len, stand in
- * libquic_c_seal.a.
+ * libquic_c_seal.a, and quic_wire_canonical in libquic_c_canon.a.
  *
  * No call takes memory or keeps anything: what is kept between calls is a
  * struct of the caller's, and the bytes are given anew with each call.  What
@@ -168,6 +168,14 @@ typedef struct quic_wire_ack_ranges {
   uint64_t largest;  /* the greatest number of the next range */
 } quic_wire_ack_ranges;
 
+/* What is told of the shortest form of a payload, or of why it has none. */
+typedef struct quic_wire_canon {
+  size_t len;         /* how many bytes the shortest form has */
+  uint64_t last_type; /* of what is no frame: the last type that was read, its
+                         own included, or QUIC_WIRE_NO_TYPE */
+  uint64_t reason;    /* QUIC_WIRE_REASON_UNEXPECTED_END and so on */
+} quic_wire_canon;
+
 /* ---- Packets (RFC 9000, section 17) */
 
 /* The kinds of packets. */
@@ -299,6 +307,9 @@ _Static_assert(sizeof(quic_wire_frame) == 80, "64-bit words");
 _Static_assert(offsetof(quic_wire_frame, numbers) == 40, "64-bit words");
 _Static_assert(sizeof(quic_wire_range) == 16, "64-bit words");
 _Static_assert(sizeof(quic_wire_ack_ranges) == 24, "64-bit words");
+_Static_assert(sizeof(quic_wire_canon) == 24, "64-bit words");
+_Static_assert(offsetof(quic_wire_canon, last_type) == 8, "64-bit words");
+_Static_assert(offsetof(quic_wire_canon, reason) == 16, "64-bit words");
 _Static_assert(sizeof(quic_wire_packet) == 96, "64-bit words");
 _Static_assert(sizeof(quic_wire_opened) == 24, "64-bit words");
 _Static_assert(sizeof(quic_wire_head) == 32, "no room between the fields");
@@ -330,6 +341,8 @@ int32_t quic_wire_ack_ranges_fill_(quic_wire_ack_ranges *, const uint8_t *,
                                    size_t, quic_wire_range *, size_t, size_t *);
 int32_t quic_wire_frame_write_(const quic_wire_frame *, const uint8_t *,
                                size_t, uint32_t, uint8_t *, size_t, size_t *);
+int32_t quic_wire_canonical_(const uint8_t *, size_t, uint8_t *, size_t,
+                             quic_wire_canon *);
 int32_t quic_wire_packet_next_(const uint8_t *, size_t, size_t *, uint32_t,
                                const uint32_t *, size_t, uint32_t,
                                quic_wire_packet *);
@@ -506,6 +519,31 @@ static inline int quic_wire_frame_write(const quic_wire_frame *frame,
     dest = (uint8_t *)quic_wire_nothing();
   return quic_wire_frame_write_(frame, data, datalen, last != 0, dest, destlen,
                                 written ? written : &unused);
+}
+
+/*
+ * Writes the one shortest payload with the meaning of |payload| at the front of
+ * |dest|: the same frames in the same order, each in its shortest form (RFC
+ * 9000, sections 12.4 and 19).  No memory is taken.
+ *
+ * Returns 0, and in |out->len| how many bytes were written, at most
+ * |payloadlen|; QUIC_WIRE_ERR_NOBUF where |destlen| is less, and in |out->len|
+ * how many are needed; QUIC_WIRE_ERR_EMPTY where the payload is empty;
+ * QUIC_WIRE_ERR_MALFORMED where something in it is no frame, with its type and
+ * the reason in |out|.  What stands in |dest| behind what was written stays,
+ * and all of it where nothing was; |out| changes in the words alone that are
+ * told.
+ */
+static inline int quic_wire_canonical(const uint8_t *payload, size_t payloadlen,
+                                      uint8_t *dest, size_t destlen,
+                                      quic_wire_canon *out) {
+  if ((!payload && payloadlen) || (!dest && destlen) || !out)
+    return QUIC_WIRE_ERR_INVALID_ARGUMENT;
+  if (!payload)
+    payload = (const uint8_t *)quic_wire_nothing();
+  if (!dest)
+    dest = (uint8_t *)quic_wire_nothing();
+  return quic_wire_canonical_(payload, payloadlen, dest, destlen, out);
 }
 
 /*

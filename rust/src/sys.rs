@@ -72,6 +72,15 @@ pub struct Opened {
     pub payload: usize,
 }
 
+/// What is told of the shortest form of a payload.
+#[repr(C)]
+#[derive(Clone, Copy, Debug, Default)]
+pub struct Canon {
+    pub len: usize,
+    pub last_type: u64,
+    pub reason: u64,
+}
+
 /// What a head says beside its ids and its token.
 #[repr(C)]
 #[derive(Clone, Copy, Debug, Default)]
@@ -124,11 +133,13 @@ const _: () = assert!(size_of::<Frames>() == 24 && size_of::<Frame>() == 80);
 const _: () = assert!(size_of::<Range>() == 16 && size_of::<Ranges>() == 24);
 const _: () = assert!(size_of::<Packet>() == 96 && size_of::<Opened>() == 24);
 const _: () = assert!(std::mem::offset_of!(Frame, numbers) == 40);
+const _: () = assert!(size_of::<Canon>() == 24 && std::mem::offset_of!(Canon, reason) == 16);
 const _: () = assert!(size_of::<Head>() == 32 && std::mem::offset_of!(Head, number) == 16);
 const _: () = assert!(size_of::<Params>() == 264 && std::mem::offset_of!(Params, original_dst_cid) == 132);
 
 pub const OK: i32 = 0;
 pub const ITEM: i32 = 1;
+pub const EMPTY: i32 = -2;
 pub const MALFORMED: i32 = -3;
 pub const NO_ROOM: i32 = -4;
 
@@ -172,6 +183,7 @@ unsafe extern "C" {
         expected: u64,
         out: &mut Opened,
     ) -> i32;
+    fn quic_wire_canonical_(payload: *const u8, len: usize, dest: *mut u8, room: usize, out: &mut Canon) -> i32;
     fn quic_wire_protect_(datagram: *mut u8, len: usize, packet: &Packet, mask: *const u8, mask_len: usize) -> i32;
     fn quic_wire_head_write_(
         head: &Head,
@@ -282,4 +294,11 @@ pub fn head_write(
 pub fn number_len(number: u64, largest_acked: u64) -> i32 {
     // SAFETY: the declaration fits.
     unsafe { quic_wire_number_len_(number, largest_acked) }
+}
+
+#[inline]
+pub fn canonical(payload: &[u8], dest: &mut [u8], out: &mut Canon) -> i32 {
+    // SAFETY: the declaration fits; pointers and lengths are those of one slice each, and `dest` is borrowed alone, so
+    // nothing overlaps it.
+    unsafe { quic_wire_canonical_(payload.as_ptr(), payload.len(), dest.as_mut_ptr(), dest.len(), out) }
 }

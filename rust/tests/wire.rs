@@ -1,4 +1,5 @@
 //! What is read, written and read again.
+use quic_wire::canonical::{CanonError, canonical};
 use quic_wire::frame::{EmptyPayload, Frame, Iter, Reason, WriteError};
 use quic_wire::packet::{
     DEFAULT_SUPPORTED_VERSIONS, Header, LongType, PacketDecodeError, PacketNumber, Packets, ProtectedHeader, UnprotectError,
@@ -49,6 +50,19 @@ fn an_ack_gives_its_ranges() {
     assert_eq!(ack.ecn.map(|e| (e.ect0, e.ect1, e.ce)), Some((1, 2, 3)));
     assert_eq!(ack.iter().collect::<Vec<_>>(), [91..=100, 89..=89]);
     assert_eq!(Frame::Ack(ack).encode(true, &mut [0; 16]), Err(WriteError::OutOfRange));
+}
+
+#[test]
+fn a_payload_has_a_shortest_form() {
+    // A PING whose type takes two bytes, and a STREAM whose offset of 0 and length are written.
+    let payload = [0x40, 0x01, 0x0e, 0x04, 0x00, 0x02, b'h', b'i'];
+    let mut out = [7; 8];
+    assert_eq!(canonical(&payload, &mut out), Ok(5));
+    assert_eq!(out, [0x01, 0x08, 0x04, b'h', b'i', 7, 7, 7]);
+    assert_eq!(canonical(&payload, &mut out[..4]), Err(CanonError::NoRoom(5)));
+    assert_eq!(canonical(&[], &mut out), Err(CanonError::Empty));
+    let error = canonical(&[0x01, 0x06], &mut out).unwrap_err();
+    assert_eq!(error.to_string(), "unexpected end in CRYPTO");
 }
 
 #[test]

@@ -34,7 +34,7 @@ long_length first version dst src =
     omega (arith, length-append (first ∷ bytes_of 4 version) (long_id dst ++ long_id src), length-append (long_id dst) (long_id src), length-bytes_of 4 version, length-append (bytes_of 4 version) (long_id dst ++ long_id src))
 
 -- a head and its parts have as many bytes as the head takes
-parts_length : (h : Header) (len : List ℕ) → length len ≡ 2 → length (head_front h) + length (head_end len h) ≡ header_size h
+pub parts_length : (h : Header) (len : List ℕ) → length len ≡ 2 → length (head_front h) + length (head_end len h) ≡ header_size h
 parts_length (header.Initial h) len two =
     let first : ℕ = long_first h.version kind.Initial (number_size h.number) in
     let front : List ℕ = long_front first h.version h.dst_cid h.src_cid in

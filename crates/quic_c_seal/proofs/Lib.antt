@@ -1,2 +1,3 @@
+mod Finishing
 mod Laying
 mod Shaping

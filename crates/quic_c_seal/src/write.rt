@@ -1,7 +1,10 @@
 //! Heads, written from words into the caller's bytes.
-ghost use Rattle.std.specs.Prelude.{◌≡◌, ◌+◌, ◌-◌, ◌^◌, ◌<◌, ◌≤◌, ◌⊎◌, ◌↔◌, ◌%◌, ◌*◌, ℕ, pos, negsuc};
+ghost use Rattle.std.specs.Prelude.{◌≡◌, ◌+◌, ◌-◌, ◌^◌, ◌<◌, ◌≤◌, ◌⊎◌, ◌↔◌, ◌%◌, ◌*◌, ◌++◌, ℕ, List, length, pos, negsuc};
 ghost use Rattle.quic_crypto.specs.PacketNumbers.{SizeFor, Expands};
-ghost use Rattle.quic_c_seal.specs.Written.{Wrote, NeedsMore, SaysNone};
+ghost use Rattle.quic_headers.specs.declared.header.Header.{Header};
+ghost use Rattle.quic_headers.specs.Writing.{head_with, header_bytes, header_size, size_in, has_length, with_length};
+ghost use Rattle.quic_c_seal.specs.Heads.{CanWrite};
+ghost use Rattle.quic_c_seal.specs.Written.{Wrote, NeedsMore, SaysNone, length_bytes};
 
 use crate::said::said;
 use crate::words::HeadWords;
@@ -42,6 +45,9 @@ pub extern "C" fn quic_wire_head_write_(
     ensures room { result ≡ negsuc 3 → NeedsMore head.now dst.now src.now token.now dest.old written.new }
     ensures refused { result ≡ negsuc 0 → SaysNone head.now dst.now src.now token.now × (written.new ≡ written.old) }
     ensures same { (result ≡ pos 0) ⊎ ((dest.new ≡ dest.old) × (number.new ≡ number.old)) }
+    // These are the bytes of the head whose length is filled in once a payload and a tag stand behind it.
+    ensures finished { (h : Header) (body : List ℕ) → CanWrite head.now dst.now src.now token.now h → length body ≡ head.now.body_len
+        → with_length (size_in h) (has_length h) (header_size h) (header_bytes h ++ body) ≡ head_with (length_bytes head.now) h ++ body }
 {
     let Some(said) = said(head, dst, src, token) else {
         return -1;

@@ -47,6 +47,7 @@ static void nulls(void) {
   quic_wire_range range;
   quic_wire_packet packet;
   quic_wire_opened opened;
+  quic_wire_canon canon;
   uint8_t byte = 1, out[8];
   size_t n = 0;
   memset(&frame, 0, sizeof frame);
@@ -86,6 +87,12 @@ static void nulls(void) {
   WANT(quic_wire_frame_write(&frame, NULL, 0, 0, NULL, 0, &n) ==
            QUIC_WIRE_ERR_NOBUF && n == 1);
   WANT(quic_wire_frame_write(&frame, NULL, 0, 0, out, 8, NULL) == 0);
+  WANT(quic_wire_canonical(NULL, 1, out, 8, &canon) == INVALID);
+  WANT(quic_wire_canonical(&byte, 1, NULL, 8, &canon) == INVALID);
+  WANT(quic_wire_canonical(&byte, 1, out, 8, NULL) == INVALID);
+  WANT(quic_wire_canonical(NULL, 0, NULL, 0, &canon) == QUIC_WIRE_ERR_EMPTY);
+  WANT(quic_wire_canonical(&byte, 1, NULL, 0, &canon) == QUIC_WIRE_ERR_NOBUF &&
+       canon.len == 1);
   n = 0;
   WANT(quic_wire_packet_next(NULL, 1, &n, 0, one, 1, 0, &packet) == INVALID);
   WANT(quic_wire_packet_next(&byte, 1, NULL, 0, one, 1, 0, &packet) == INVALID);
@@ -102,6 +109,32 @@ static void nulls(void) {
   WANT(quic_wire_unprotect(&byte, 1, NULL, out, 8, 0, &opened) == INVALID);
   WANT(quic_wire_unprotect(&byte, 1, &packet, NULL, 8, 0, &opened) == INVALID);
   WANT(quic_wire_unprotect(&byte, 1, &packet, out, 8, 0, NULL) == INVALID);
+  WANT(quic_wire_protect(NULL, 1, &packet, out, 8) == INVALID);
+  WANT(quic_wire_protect(&byte, 1, NULL, out, 8) == INVALID);
+  WANT(quic_wire_protect(&byte, 1, &packet, NULL, 8) == INVALID);
+}
+
+static void head_nulls(void) {
+  quic_wire_head head = {QUIC_WIRE_RETRY, 0, 1, 0, 0, 0};
+  uint8_t id[4] = {1, 2, 3, 4}, out[16];
+  size_t n = 77, place = 77;
+  WANT(quic_wire_head_write(NULL, id, 4, id, 4, NULL, 0, out, 16, &n, &place) ==
+       INVALID);
+  WANT(quic_wire_head_write(&head, NULL, 4, id, 4, NULL, 0, out, 16, &n,
+                            &place) == INVALID);
+  WANT(quic_wire_head_write(&head, id, 4, NULL, 4, NULL, 0, out, 16, &n,
+                            &place) == INVALID);
+  WANT(quic_wire_head_write(&head, id, 4, id, 4, NULL, 1, out, 16, &n,
+                            &place) == INVALID);
+  WANT(quic_wire_head_write(&head, id, 4, id, 4, NULL, 0, NULL, 16, &n,
+                            &place) == INVALID);
+  WANT(n == 77 && place == 77);
+  WANT(quic_wire_head_write(&head, NULL, 0, NULL, 0, NULL, 0, NULL, 0, &n,
+                            &place) == QUIC_WIRE_ERR_NOBUF);
+  WANT(n == 7 && place == 77);
+  WANT(quic_wire_head_write(&head, id, 4, id, 4, NULL, 0, out, 16, NULL,
+                            NULL) == 0);
+  WANT(out[0] == 0xf0 && out[4] == 1 && out[5] == 4 && out[10] == 4);
 }
 
 static uint8_t *block(size_t len) { return malloc(len ? len : 1); }
@@ -248,6 +281,106 @@ static void write_rubbish(const uint8_t *data, size_t len) {
   free(before);
 }
 
+/* The next frame of both payloads is the same one, wherever its data stand, and
+ * the ranges of an ACK are the same. */
+static void same_frame(const uint8_t *a, size_t alen, const quic_wire_frame *x,
+                       const uint8_t *b, size_t blen,
+                       const quic_wire_frame *y) {
+  quic_wire_ack_ranges some, others;
+  quic_wire_range one, other;
+  WANT(x->kind == y->kind && x->flags == y->flags && x->datalen == y->datalen);
+  WANT(!memcmp(x->numbers, y->numbers, sizeof x->numbers));
+  WANT(!x->datalen || !memcmp(a + x->data, b + y->data, x->datalen));
+  if (x->kind == QUIC_WIRE_NEW_CONNECTION_ID)
+    WANT(!memcmp(a + x->data + x->datalen, b + y->data + y->datalen, 16));
+  if (x->kind != QUIC_WIRE_ACK)
+    return;
+  WANT(quic_wire_ack_ranges_init(&some, a, alen, x) == 0);
+  WANT(quic_wire_ack_ranges_init(&others, b, blen, y) == 0);
+  while (quic_wire_ack_ranges_next(&some, a, alen, &one) == 1) {
+    WANT(quic_wire_ack_ranges_next(&others, b, blen, &other) == 1);
+    WANT(one.start == other.start && one.end == other.end);
+  }
+  WANT(quic_wire_ack_ranges_next(&others, b, blen, &other) == 0);
+}
+
+/* The bytes of a frame in its shortest form: what quic_wire_frame_write writes
+ * of it; of an ACK by a plain model, from its ranges. */
+static size_t varint_len(uint64_t n) {
+  return n < 64 ? 1 : n < 16384 ? 2 : n < 1u << 30 ? 4 : 8;
+}
+
+static size_t shortest_len(const uint8_t *payload, size_t len,
+                           const quic_wire_frame *f, int last) {
+  uint8_t out[64];
+  size_t n = 0, k, count = 0;
+  uint64_t before = 0;
+  quic_wire_ack_ranges ranges;
+  quic_wire_range range;
+  if (f->kind != QUIC_WIRE_ACK) {
+    WANT(quic_wire_frame_write(f, payload, len, last, out, sizeof out, &n) == 0);
+    return n;
+  }
+  n = 1 + varint_len(f->ack.largest) + varint_len(f->ack.delay);
+  WANT(quic_wire_ack_ranges_init(&ranges, payload, len, f) == 0);
+  while (quic_wire_ack_ranges_next(&ranges, payload, len, &range) == 1) {
+    n += varint_len(range.end - range.start - 1);
+    if (count++)
+      n += varint_len(before - range.end - 1);
+    before = range.start;
+  }
+  n += varint_len(count - 1);
+  for (k = 2; f->flags && k < 5; k++)
+    n += varint_len(f->numbers[k]);
+  return n;
+}
+
+/* The shortest form of any bytes has the same frames, each in its shortest
+ * length, is its own shortest form, and is refused as the frames are.  Returns
+ * whether there is one. */
+static int canonical_any(const uint8_t *payload, size_t len) {
+  quic_wire_frames frames, others;
+  quic_wire_frame frame, other;
+  quic_wire_canon canon = {77, 78, 79}, again = {77, 78, 79};
+  size_t room = any() % 3 ? len : any() % (len + 1), k, sum = 0;
+  uint8_t *dest = block(room), *twice;
+  int answer, first;
+  memset(dest, 0xa5, room);
+  answer = quic_wire_canonical(payload, len, dest, room, &canon);
+  first = quic_wire_frames_init(&frames, payload, len);
+  while (first >= 0 && (first = quic_wire_frames_next(&frames, payload, len,
+                                                      &frame)) == 1)
+    sum += shortest_len(payload, len, &frame, frame.end == len);
+  if (answer == 0 || answer == QUIC_WIRE_ERR_NOBUF) {
+    WANT(first == 0 && canon.len == sum && sum <= len);
+    WANT(canon.last_type == 78 && canon.reason == 79);
+    WANT((answer == 0) == (sum <= room));
+  } else {
+    WANT(answer == first && canon.len == 77);
+    WANT(answer == QUIC_WIRE_ERR_MALFORMED || canon.last_type == 78);
+    WANT(answer != QUIC_WIRE_ERR_MALFORMED ||
+         (canon.last_type == quic_wire_error_type(&frame) &&
+          canon.reason == quic_wire_error_reason(&frame)));
+  }
+  for (k = answer ? 0 : canon.len; k < room; k++)
+    WANT(dest[k] == 0xa5);
+  if (answer == 0) {
+    WANT(quic_wire_frames_init(&frames, payload, len) == 0);
+    WANT(quic_wire_frames_init(&others, dest, canon.len) == 0);
+    while (quic_wire_frames_next(&frames, payload, len, &frame) == 1) {
+      WANT(quic_wire_frames_next(&others, dest, canon.len, &other) == 1);
+      same_frame(payload, len, &frame, dest, canon.len, &other);
+    }
+    WANT(quic_wire_frames_next(&others, dest, canon.len, &other) == 0);
+    twice = block(canon.len);
+    WANT(quic_wire_canonical(dest, canon.len, twice, canon.len, &again) == 0);
+    WANT(again.len == canon.len && !memcmp(dest, twice, again.len));
+    free(twice);
+  }
+  free(dest);
+  return answer == 0;
+}
+
 /* Cuts any bytes into packets, and takes protection off any of them. */
 static void packet_rubbish(uint8_t *datagram, size_t len) {
   static const uint32_t versions[] = {1, 0x6b3343cf};
@@ -289,6 +422,194 @@ static void packet_rubbish(uint8_t *datagram, size_t len) {
   packet.end = place();
   quic_wire_sample_place(datagram, len, &packet, place(), &sample);
   quic_wire_unprotect(datagram, len, &packet, mask, any() % 9, edge(), &opened);
+}
+
+/* A head as RFC 9000, section 17, and RFC 9369 draw it, by a plain model: its
+ * length and the place of its number, or 0 where there is no such head. */
+static size_t model_head(const quic_wire_head *h, const uint8_t *const parts[3],
+                         const size_t lens[3], uint8_t *out, size_t *place) {
+  const int numbered = h->kind <= QUIC_WIRE_HANDSHAKE || h->kind == QUIC_WIRE_1RTT;
+  const uint32_t most = h->kind == QUIC_WIRE_1RTT ? 3
+                        : h->kind == QUIC_WIRE_VERSION_NEGOTIATION ? 127 : 0;
+  size_t n = 0, i, k;
+  if (h->kind > 5 || lens[0] > 20 || lens[1] > 20 || h->flags > most ||
+      (h->kind >= 4 && h->version) || (h->kind == 4 && lens[1]) ||
+      (h->kind && lens[2]))
+    return 0;
+  if (numbered ? h->numberlen < 1 || h->numberlen > 4 || h->number >> 62
+               : h->numberlen || h->number)
+    return 0;
+  if (h->kind <= 2 && (h->bodylen >> 14 || (h->bodylen + h->numberlen) >> 14))
+    return 0;
+  if (h->kind == QUIC_WIRE_1RTT) {
+    out[n++] = (uint8_t)(0x40 + (h->flags % 2) * 0x20 + (h->flags / 2) * 4 +
+                         h->numberlen - 1);
+    for (k = 0; k < lens[0]; k++)
+      out[n++] = parts[0][k];
+  } else {
+    uint32_t type = (h->kind + (h->version == 0x6b3343cf)) % 4;
+    out[n++] = (uint8_t)(h->kind == 5 ? 0x80 + h->flags
+                                      : 0xc0 + 16 * type +
+                                            (numbered ? h->numberlen - 1 : 0));
+    for (k = 4; k--;)
+      out[n++] = (uint8_t)(h->version >> (8 * k));
+    for (i = 0; i < 2; i++) {
+      out[n++] = (uint8_t)lens[i];
+      for (k = 0; k < lens[i]; k++)
+        out[n++] = parts[i][k];
+    }
+    if (h->kind == QUIC_WIRE_INITIAL) {
+      if (lens[2] >= 64)
+        out[n++] = (uint8_t)(0x40 + lens[2] / 256);
+      out[n++] = (uint8_t)lens[2];
+      for (k = 0; k < lens[2]; k++)
+        out[n++] = parts[2][k];
+    }
+    if (h->kind <= QUIC_WIRE_HANDSHAKE) {
+      out[n++] = (uint8_t)(0x40 + (h->bodylen + h->numberlen) / 256);
+      out[n++] = (uint8_t)(h->bodylen + h->numberlen);
+    }
+  }
+  *place = n;
+  for (k = h->numberlen; k--;)
+    out[n++] = (uint8_t)(h->number >> (8 * k));
+  return n;
+}
+
+/* A packet of a head that was written, and a body behind it: it is cut as it
+ * was said, its protection is put on as by hand, and taken off again. */
+static void head_cut(const quic_wire_head *h, const size_t lens[3],
+                     const uint8_t *written, size_t len, size_t place) {
+  const size_t body = h->kind <= 2 ? (size_t)h->bodylen : 20;
+  const size_t whole = len + body;
+  uint8_t *datagram = block(whole), *plain = block(whole), mask[8];
+  quic_wire_packet packet, at = quic_wire_packet_at(h->kind, 0, place, whole);
+  quic_wire_opened opened;
+  size_t offset = 0, masklen = any() % 9, k;
+  int answer;
+  memcpy(datagram, written, len);
+  for (k = 0; k < body; k++)
+    datagram[len + k] = (uint8_t)any();
+  memcpy(plain, datagram, whole);
+  for (k = 0; k < 8; k++)
+    mask[k] = (uint8_t)any();
+  answer = quic_wire_protect(datagram, whole, &at, mask, masklen);
+  if (h->kind == QUIC_WIRE_RETRY || h->kind == QUIC_WIRE_VERSION_NEGOTIATION ||
+      masklen < 5) {
+    WANT(answer == INVALID && !memcmp(datagram, plain, whole));
+  } else if (h->numberlen + body < 4) {
+    WANT(answer == QUIC_WIRE_ERR_MALFORMED && !memcmp(datagram, plain, whole));
+  } else {
+    WANT(answer == 0);
+    for (k = 0; k < whole; k++) {
+      uint8_t m = 0;
+      if (k == 0)
+        m = mask[0] & (h->kind == QUIC_WIRE_1RTT ? 0x1f : 0x0f);
+      else if (k >= place && k < place + h->numberlen)
+        m = mask[1 + k - place];
+      WANT(datagram[k] == (plain[k] ^ m));
+    }
+  }
+  if (h->kind <= 3 && h->version == 0)
+    goto done; /* read as a version negotiation */
+  WANT(quic_wire_packet_next(datagram, whole, &offset, (uint32_t)lens[0],
+                             &h->version, 1, h->kind == 5, &packet) ==
+       QUIC_WIRE_ITEM);
+  WANT(packet.kind == h->kind && packet.version == h->version);
+  WANT(packet.dcidlen == lens[0] && packet.scidlen == lens[1] &&
+       packet.tokenlen == lens[2]);
+  WANT(packet.begin == 0 && packet.end == whole && packet.head_end == place);
+  WANT(packet.flags == (h->kind == QUIC_WIRE_1RTT ? h->flags % 2 : h->flags));
+  if (answer == 0) {
+    WANT(quic_wire_unprotect(datagram, whole, &packet, mask, 8, h->number,
+                             &opened) == 0);
+    WANT(opened.number == h->number && opened.numberlen == h->numberlen);
+    WANT(opened.payload == len && !memcmp(datagram, plain, whole));
+  }
+done:
+  free(datagram);
+  free(plain);
+}
+
+/* Words and parts that are mostly a head, and sometimes any words.  Returns
+ * whether a head was written. */
+static int head_written(void) {
+  static const uint32_t versions[] = {1, 0x6b3343cf, 0, 0xff00001d};
+  quic_wire_head h;
+  uint8_t model[512], *parts[3], *dest;
+  const uint8_t *given[3];
+  size_t lens[3], room, n = 77, place = 77, want, at = 0, k, i;
+  int answer;
+  memset(&h, 0, sizeof h);
+  h.kind = (uint32_t)(any() % 60 ? any() % 6 : edge());
+  if (h.kind < 4 || !(any() % 60))
+    h.version = any() % 9 ? versions[any() % 4] : (uint32_t)any();
+  if (h.kind == 4 || h.kind == 5)
+    h.flags = (uint32_t)(any() % 9 ? any() % (h.kind == 4 ? 4 : 128) : edge());
+  if ((h.kind != 3 && h.kind != 5) || !(any() % 60)) {
+    h.numberlen = (uint32_t)(any() % 20 ? 1 + any() % 4 : edge());
+    h.number = any() % 20 ? any() >> (2 + any() % 60) : edge();
+  }
+  h.bodylen = any() % 40 ? any() % 64 : 16370 + any() % 20;
+  lens[0] = any() % 40 ? any() % 21 : 21;
+  lens[1] = h.kind == 4 && any() % 60 ? 0 : any() % 40 ? any() % 21 : 21;
+  lens[2] = h.kind && any() % 60 ? 0 : any() % 4 ? any() % 40 : any() % 300;
+  if (!(any() % 40))
+    ((uint8_t *)&h)[any() % sizeof h] ^= (uint8_t)any();
+  for (i = 0; i < 3; i++) {
+    given[i] = parts[i] = block(lens[i]);
+    for (k = 0; k < lens[i]; k++)
+      parts[i][k] = (uint8_t)any();
+  }
+  want = model_head(&h, given, lens, model, &at);
+  room = any() % 3 ? want + any() % 8 : any() % (want + 1);
+  dest = block(room);
+  memset(dest, 0xa5, room);
+  answer = quic_wire_head_write(&h, parts[0], lens[0], parts[1], lens[1],
+                                parts[2], lens[2], dest, room, &n, &place);
+  if (!want) {
+    WANT(answer == INVALID && n == 77 && place == 77);
+  } else if (room < want) {
+    WANT(answer == QUIC_WIRE_ERR_NOBUF && n == want && place == 77);
+  } else {
+    WANT(answer == 0 && n == want && place == at && !memcmp(dest, model, n));
+    head_cut(&h, lens, dest, n, place);
+  }
+  for (k = answer == 0 ? n : 0; k < room; k++)
+    WANT(dest[k] == 0xa5);
+  for (i = 0; i < 3; i++)
+    free(parts[i]);
+  free(dest);
+  return answer == 0;
+}
+
+/* The length of a number by a plain model, and that it is found again. */
+static void number_len_any(void) {
+  uint64_t acked = any() % 2 ? edge() : any() >> 2;
+  uint64_t number = any() % 4 ? acked + any() % (1ull << (any() % 34)) : edge();
+  uint64_t twice = 2 * (number - acked);
+  int answer = quic_wire_number_len(number, acked);
+  if (number < acked || number - acked >= 1ull << 31)
+    WANT(answer == INVALID);
+  else
+    WANT(answer == (twice < 256 ? 1 : twice < 65536 ? 2 : twice < 16777216 ? 3 : 4));
+}
+
+/* Any words to put protection on. */
+static void protect_rubbish(uint8_t *datagram, size_t len) {
+  quic_wire_packet packet =
+      quic_wire_packet_at((uint32_t)(any() % 7), place(), place(), place());
+  uint8_t before[40], mask[8];
+  size_t k;
+  int answer;
+  for (k = 0; k < 8; k++)
+    mask[k] = (uint8_t)any();
+  memcpy(before, datagram, len);
+  answer = quic_wire_protect(datagram, len, &packet, mask, any() % 9);
+  for (k = 0; k < len; k++)
+    WANT(datagram[k] == before[k] ||
+         (answer == 0 && (k == packet.begin ||
+                          (k >= packet.head_end && k < packet.head_end + 4))));
 }
 
 /* Bytes of a field, as an id that may be longer than it is said to be. */
@@ -405,7 +726,7 @@ static void params_any(const uint8_t *list, size_t len) {
 }
 
 static void rubbish(int rounds) {
-  int i, said = 0;
+  int i, said = 0, heads = 0, forms = 0;
   for (i = 0; i < rounds; i++) {
     size_t len = any() % 40, k;
     uint8_t *bytes = block(len);
@@ -416,12 +737,16 @@ static void rubbish(int rounds) {
     fill_ranges_rubbish(bytes, len);
     write_rubbish(bytes, len);
     packet_rubbish(bytes, len);
+    protect_rubbish(bytes, len);
+    heads += head_written();
+    forms += canonical_any(bytes, len);
+    number_len_any();
     params_any(bytes, len);
     for (k = 0; k < 2; k++)
       said += params_written((uint32_t)k);
     free(bytes);
   }
-  WANT(said > rounds / 20);
+  WANT(said > rounds / 20 && heads > rounds / 3 && forms > rounds / 50);
 }
 
 /* A short head with a number of each size, protected by a mask of one's own. */
@@ -460,6 +785,7 @@ static void numbers(void) {
 
 int main(int argc, char **argv) {
   nulls();
+  head_nulls();
   numbers();
   rubbish(argc == 2 ? atoi(argv[1]) : 300000);
   puts("abuse: all as it should be");

@@ -4,7 +4,9 @@
  * of their heads (RFC 9001, section 5.4), and the frames of a payload
  * (RFC 9000, section 19), with DATAGRAM of RFC 9221 and the ACK frequency
  * extension; and the transport parameters (RFC 9000, section 18), whose two
- * functions stand in a library of their own, libquic_c_params.a.
+ * functions stand in a library of their own, libquic_c_params.a.  Those that
+ * write heads, quic_wire_head_write and quic_wire_number_len, stand in
+ * libquic_c_seal.a, and quic_wire_canonical in libquic_c_canon.a.
  *
  * No call takes memory or keeps anything: what is kept between calls is a
  * struct of the caller's, and the bytes are given anew with each call.  What
@@ -166,6 +168,14 @@ typedef struct quic_wire_ack_ranges {
   uint64_t largest;  /* the greatest number of the next range */
 } quic_wire_ack_ranges;
 
+/* What is told of the shortest form of a payload, or of why it has none. */
+typedef struct quic_wire_canon {
+  size_t len;         /* how many bytes the shortest form has */
+  uint64_t last_type; /* of what is no frame: the last type that was read, its
+                         own included, or QUIC_WIRE_NO_TYPE */
+  uint64_t reason;    /* QUIC_WIRE_REASON_UNEXPECTED_END and so on */
+} quic_wire_canon;
+
 /* ---- Packets (RFC 9000, section 17) */
 
 /* The kinds of packets. */
@@ -211,6 +221,26 @@ typedef struct quic_wire_opened {
   size_t numberlen; /* how many bytes it has in the packet, 1 to 4 */
   size_t payload;   /* where the payload begins in the datagram */
 } quic_wire_opened;
+
+/* Flags of a 1-RTT head that is written. */
+#define QUIC_WIRE_FLAG_SPIN 1      /* the bit for measuring round trips */
+#define QUIC_WIRE_FLAG_KEY_PHASE 2 /* the bit that changes with the keys */
+
+/* What a head says that is written, beside its ids and its token.  What its
+ * kind lacks is 0. */
+typedef struct quic_wire_head {
+  uint32_t kind;      /* QUIC_WIRE_INITIAL and so on */
+  uint32_t flags;     /* of 1-RTT QUIC_WIRE_FLAG_SPIN, QUIC_WIRE_FLAG_KEY_PHASE;
+                         of a version negotiation the first byte without its
+                         highest bit */
+  uint32_t version;   /* but of 1-RTT and version negotiation */
+  uint32_t numberlen; /* how many bytes of the number are written, 1 to 4; but
+                         of Retry and version negotiation */
+  uint64_t number;    /* the whole packet number, below 2^62 */
+  uint64_t bodylen;   /* how many bytes follow the number in the packet: the
+                         payload and the tag; looked at of Initial, 0-RTT and
+                         Handshake, whose heads say the packet's length */
+} quic_wire_head;
 
 /* ---- Transport parameters (RFC 9000, section 18) */
 
@@ -277,8 +307,17 @@ _Static_assert(sizeof(quic_wire_frame) == 80, "64-bit words");
 _Static_assert(offsetof(quic_wire_frame, numbers) == 40, "64-bit words");
 _Static_assert(sizeof(quic_wire_range) == 16, "64-bit words");
 _Static_assert(sizeof(quic_wire_ack_ranges) == 24, "64-bit words");
+_Static_assert(sizeof(quic_wire_canon) == 24, "64-bit words");
+_Static_assert(offsetof(quic_wire_canon, last_type) == 8, "64-bit words");
+_Static_assert(offsetof(quic_wire_canon, reason) == 16, "64-bit words");
 _Static_assert(sizeof(quic_wire_packet) == 96, "64-bit words");
 _Static_assert(sizeof(quic_wire_opened) == 24, "64-bit words");
+_Static_assert(sizeof(quic_wire_head) == 32, "no room between the fields");
+_Static_assert(offsetof(quic_wire_head, flags) == 4, "no room");
+_Static_assert(offsetof(quic_wire_head, version) == 8, "no room");
+_Static_assert(offsetof(quic_wire_head, numberlen) == 12, "no room");
+_Static_assert(offsetof(quic_wire_head, number) == 16, "no room");
+_Static_assert(offsetof(quic_wire_head, bodylen) == 24, "no room");
 _Static_assert(sizeof(quic_wire_params) == 264, "no room between the fields");
 _Static_assert(offsetof(quic_wire_params, max_idle_timeout) == 8, "no room");
 _Static_assert(offsetof(quic_wire_params, original_dst_cidlen) == 112, "no room");
@@ -302,6 +341,8 @@ int32_t quic_wire_ack_ranges_fill_(quic_wire_ack_ranges *, const uint8_t *,
                                    size_t, quic_wire_range *, size_t, size_t *);
 int32_t quic_wire_frame_write_(const quic_wire_frame *, const uint8_t *,
                                size_t, uint32_t, uint8_t *, size_t, size_t *);
+int32_t quic_wire_canonical_(const uint8_t *, size_t, uint8_t *, size_t,
+                             quic_wire_canon *);
 int32_t quic_wire_packet_next_(const uint8_t *, size_t, size_t *, uint32_t,
                                const uint32_t *, size_t, uint32_t,
                                quic_wire_packet *);
@@ -310,6 +351,12 @@ int32_t quic_wire_sample_place_(const uint8_t *, size_t,
 int32_t quic_wire_unprotect_(uint8_t *, size_t, const quic_wire_packet *,
                              const uint8_t *, size_t, uint64_t,
                              quic_wire_opened *);
+int32_t quic_wire_protect_(uint8_t *, size_t, const quic_wire_packet *,
+                           const uint8_t *, size_t);
+int32_t quic_wire_head_write_(const quic_wire_head *, const uint8_t *, size_t,
+                              const uint8_t *, size_t, const uint8_t *, size_t,
+                              uint8_t *, size_t, size_t *, size_t *);
+int32_t quic_wire_number_len_(uint64_t, uint64_t);
 int32_t quic_wire_params_read_(uint32_t, const uint8_t *, size_t,
                                quic_wire_params *);
 int32_t quic_wire_params_write_(uint32_t, const quic_wire_params *, uint8_t *,
@@ -475,6 +522,31 @@ static inline int quic_wire_frame_write(const quic_wire_frame *frame,
 }
 
 /*
+ * Writes the one shortest payload with the meaning of |payload| at the front of
+ * |dest|: the same frames in the same order, each in its shortest form (RFC
+ * 9000, sections 12.4 and 19).  No memory is taken.
+ *
+ * Returns 0, and in |out->len| how many bytes were written, at most
+ * |payloadlen|; QUIC_WIRE_ERR_NOBUF where |destlen| is less, and in |out->len|
+ * how many are needed; QUIC_WIRE_ERR_EMPTY where the payload is empty;
+ * QUIC_WIRE_ERR_MALFORMED where something in it is no frame, with its type and
+ * the reason in |out|.  What stands in |dest| behind what was written stays,
+ * and all of it where nothing was; |out| changes in the words alone that are
+ * told.
+ */
+static inline int quic_wire_canonical(const uint8_t *payload, size_t payloadlen,
+                                      uint8_t *dest, size_t destlen,
+                                      quic_wire_canon *out) {
+  if ((!payload && payloadlen) || (!dest && destlen) || !out)
+    return QUIC_WIRE_ERR_INVALID_ARGUMENT;
+  if (!payload)
+    payload = (const uint8_t *)quic_wire_nothing();
+  if (!dest)
+    dest = (uint8_t *)quic_wire_nothing();
+  return quic_wire_canonical_(payload, payloadlen, dest, destlen, out);
+}
+
+/*
  * Cuts the packet that begins at |*offset| of a datagram: one call for each
  * packet, with |*offset| 0 before the first.  Ids of short heads have |cidlen|
  * bytes, at most 20.  Long heads of other versions than the |nversions|
@@ -540,6 +612,100 @@ static inline int quic_wire_unprotect(uint8_t *datagram, size_t datagramlen,
     return QUIC_WIRE_ERR_INVALID_ARGUMENT;
   return quic_wire_unprotect_(datagram, datagramlen, packet, mask, masklen,
                               expected, opened);
+}
+
+/*
+ * How many bytes of a packet |number| are written whose receiver has
+ * acknowledged |largest_acked|: 1, 2, 3 or 4 as twice the distance is below
+ * 2^8, 2^16, 2^24 or 2^32, so that whoever expects a number from the
+ * acknowledged one to the one behind |number| finds it (RFC 9000, appendices
+ * A.2 and A.3).  QUIC_WIRE_ERR_INVALID_ARGUMENT where |largest_acked| is above
+ * |number|, or 2^31 or more below it.
+ */
+static inline int quic_wire_number_len(uint64_t number,
+                                       uint64_t largest_acked) {
+  return quic_wire_number_len_(number, largest_acked);
+}
+
+/*
+ * Writes the head of a packet at the front of |dest|, with no protection on it
+ * (RFC 9000, section 17): what |head| says, with the receiver's id |dcid|, the
+ * sender's id |scid| and the |token|.  1-RTT lacks the sender's id, and all but
+ * Initial lack the token.  The length of an Initial, 0-RTT or Handshake packet
+ * is written in two bytes, and counts the number's bytes and |head->bodylen|.
+ *
+ * Returns 0, in |*written| how many bytes were written, and in |*number| the
+ * place in |dest| where the packet number begins, the head's end where it has
+ * none; QUIC_WIRE_ERR_NOBUF where |destlen| is less, and in |*written| how many
+ * are needed; QUIC_WIRE_ERR_INVALID_ARGUMENT where no such head can be written:
+ * an id is longer than 20 bytes, |head->number| is 2^62 or more, its bytes are
+ * not 1 to 4, the length is 2^14 or more, there is no such kind, or there is
+ * something that the kind lacks.  What stands in |dest| behind what was written
+ * stays, and all of it where nothing was.
+ */
+static inline int quic_wire_head_write(
+    const quic_wire_head *head, const uint8_t *dcid, size_t dcidlen,
+    const uint8_t *scid, size_t scidlen, const uint8_t *token, size_t tokenlen,
+    uint8_t *dest, size_t destlen, size_t *written, size_t *number) {
+  size_t count = 0, place = 0;
+  int answer;
+  if (!head || (!dcid && dcidlen) || (!scid && scidlen) ||
+      (!token && tokenlen) || (!dest && destlen))
+    return QUIC_WIRE_ERR_INVALID_ARGUMENT;
+  if (!dcid)
+    dcid = (const uint8_t *)quic_wire_nothing();
+  if (!scid)
+    scid = (const uint8_t *)quic_wire_nothing();
+  if (!token)
+    token = (const uint8_t *)quic_wire_nothing();
+  if (!dest)
+    dest = (uint8_t *)quic_wire_nothing();
+  answer =
+      quic_wire_head_write_(head, dcid, dcidlen, scid, scidlen, token, tokenlen,
+                            dest, destlen, &count, &place);
+  if (written && answer != QUIC_WIRE_ERR_INVALID_ARGUMENT)
+    *written = count;
+  if (number && answer == QUIC_WIRE_OK)
+    *number = place;
+  return answer;
+}
+
+/*
+ * A packet of |kind| from |begin| to |end| of a datagram, whose number begins
+ * at |number|: what quic_wire_sample_place and quic_wire_protect look at of
+ * one that was written.
+ */
+static inline quic_wire_packet quic_wire_packet_at(uint32_t kind, size_t begin,
+                                                   size_t number, size_t end) {
+  quic_wire_packet packet;
+  packet.kind = kind;
+  packet.flags = packet.version = packet.reason = 0;
+  packet.begin = begin;
+  packet.end = end;
+  packet.head_end = number;
+  packet.dcid = packet.dcidlen = packet.scid = packet.scidlen = 0;
+  packet.token = packet.tokenlen = 0;
+  packet.len = 0;
+  return packet;
+}
+
+/*
+ * Puts the protection on the head of a packet, once its payload is sealed, by a
+ * mask of five bytes or more (RFC 9001, section 5.4.1), which is made of the
+ * sample at quic_wire_sample_place.  Returns 0; QUIC_WIRE_ERR_MALFORMED where
+ * the packet ends within four bytes from where the number begins;
+ * QUIC_WIRE_ERR_INVALID_ARGUMENT where the words name no packet of the datagram
+ * that has a number, or the mask is shorter.  The datagram changes only with 0:
+ * the low bits of the packet's first byte, and the number's bytes, as many as
+ * the first byte says before that.  quic_wire_unprotect gives the bytes back by
+ * the same mask.
+ */
+static inline int quic_wire_protect(uint8_t *datagram, size_t datagramlen,
+                                    const quic_wire_packet *packet,
+                                    const uint8_t *mask, size_t masklen) {
+  if (!datagram || !packet || !mask)
+    return QUIC_WIRE_ERR_INVALID_ARGUMENT;
+  return quic_wire_protect_(datagram, datagramlen, packet, mask, masklen);
 }
 
 /*

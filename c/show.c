@@ -1,6 +1,6 @@
 /* show MODE: the modes of `quic-show` that the calls for C have, with the same
- * text and status: `frames`, `datagram LEN`, `params SIDE`.  Its input is lines
- * of hexadecimal.  Each line's bytes stand in a block of just their length, so
+ * text and status: `frames`, `canon`, `datagram LEN`, `params SIDE`.  Its input is
+ * lines of hexadecimal.  Each line's bytes stand in a block of just their length, so
  * that a sanitizer or valgrind sees each byte that is read past it. */
 #define _POSIX_C_SOURCE 200809L
 #include <inttypes.h>
@@ -42,6 +42,15 @@ static void print_type(uint64_t type) {
     printf("<unknown %" PRIx64 ">", type);
 }
 
+static void print_invalid(uint64_t type, uint32_t reason) {
+  printf("error %s", quic_wire_reason_text(reason));
+  if (type != QUIC_WIRE_NO_TYPE) {
+    printf(" in ");
+    print_type(type);
+  }
+  putchar('\n');
+}
+
 /* Each of these returns whether no error was printed. */
 static int print_frames(const uint8_t *payload, size_t len) {
   quic_wire_frames frames;
@@ -59,13 +68,32 @@ static int print_frames(const uint8_t *payload, size_t len) {
   }
   if (answer == QUIC_WIRE_OK)
     return 1;
-  printf("error %s", quic_wire_reason_text(quic_wire_error_reason(&frame)));
-  if (quic_wire_error_type(&frame) != QUIC_WIRE_NO_TYPE) {
-    printf(" in ");
-    print_type(quic_wire_error_type(&frame));
-  }
-  putchar('\n');
+  print_invalid(quic_wire_error_type(&frame), quic_wire_error_reason(&frame));
   return 0;
+}
+
+/* The shortest form, in a block of just its length. */
+static int print_canonical(const uint8_t *payload, size_t len) {
+  quic_wire_canon canon;
+  int answer = quic_wire_canonical(payload, len, NULL, 0, &canon);
+  uint8_t *block;
+  size_t i;
+  if (answer == QUIC_WIRE_ERR_EMPTY) {
+    puts("error packet payload is empty");
+    return 0;
+  }
+  if (answer == QUIC_WIRE_ERR_MALFORMED) {
+    print_invalid(canon.last_type, (uint32_t)canon.reason);
+    return 0;
+  }
+  block = malloc(canon.len);
+  if (!block || quic_wire_canonical(payload, len, block, canon.len, &canon))
+    exit(3);
+  for (i = 0; i < canon.len; i++)
+    printf("%02x", block[i]);
+  putchar('\n');
+  free(block);
+  return 1;
 }
 
 static void print_id(const uint8_t *datagram, size_t place, size_t len) {
@@ -184,12 +212,14 @@ int main(int argc, char **argv) {
   char *line = NULL;
   size_t cap = 0;
   ssize_t got;
-  int clean = 1, cidlen = -1, side = -1;
+  int clean = 1, cidlen = -1, side = -1, canon = 0;
   if (argc == 3 && !strcmp(argv[1], "datagram"))
     cidlen = atoi(argv[2]);
   else if (argc == 3 && !strcmp(argv[1], "params") &&
            (!strcmp(argv[2], "client") || !strcmp(argv[2], "server")))
     side = strcmp(argv[2], "server") ? QUIC_WIRE_CLIENT : QUIC_WIRE_SERVER;
+  else if (argc == 2 && !strcmp(argv[1], "canon"))
+    canon = 1;
   else if (argc != 2 || strcmp(argv[1], "frames"))
     return 2;
   while ((got = getline(&line, &cap, stdin)) >= 0) {
@@ -216,6 +246,8 @@ int main(int argc, char **argv) {
       clean &= print_params(block, (size_t)bytes, (uint32_t)side);
     else if (cidlen >= 0)
       clean &= print_packets(block, (size_t)bytes, (uint32_t)cidlen);
+    else if (canon)
+      clean &= print_canonical(block, (size_t)bytes);
     else
       clean &= print_frames(block, (size_t)bytes);
     free(block);

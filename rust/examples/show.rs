@@ -1,5 +1,6 @@
-//! show MODE: the modes of `quic-show` that this crate has, with the same text and status: `frames`, `datagram LEN`,
-//! `params SIDE`.
+//! show MODE: the modes of `quic-show` that this crate has, with the same text and status: `frames`, `canon`,
+//! `datagram LEN`, `params SIDE`.
+use quic_wire::canonical::canonical;
 use quic_wire::frame::Iter;
 use quic_wire::packet::{DEFAULT_SUPPORTED_VERSIONS, LongType, Packets, PartialDecode, ProtectedHeader};
 use quic_wire::transport_parameters::{Error, PreferredAddress, Side, TransportParameters};
@@ -30,6 +31,18 @@ fn print_frames(payload: &[u8], out: &mut impl Write) -> io::Result<bool> {
             }
         }
         start = frames.offset();
+    }
+    Ok(true)
+}
+
+fn print_canonical(payload: &[u8], out: &mut impl Write) -> io::Result<bool> {
+    let mut bytes = vec![0; payload.len()];
+    match canonical(payload, &mut bytes) {
+        Ok(len) => writeln!(out, "{}", id(&bytes[..len]))?,
+        Err(error) => {
+            writeln!(out, "error {error}")?;
+            return Ok(false);
+        }
     }
     Ok(true)
 }
@@ -126,8 +139,9 @@ fn print_params(side: Side, list: &[u8], out: &mut impl Write) -> io::Result<boo
 fn main() -> io::Result<ExitCode> {
     let words: Vec<String> = std::env::args().skip(1).collect();
     let mut side = None;
+    let is_canon = words == ["canon"];
     let cid_len = match words.iter().map(String::as_str).collect::<Vec<_>>()[..] {
-        ["frames"] => None,
+        ["frames" | "canon"] => None,
         ["params", "client"] => {
             side = Some(Side::Client);
             None
@@ -149,6 +163,7 @@ fn main() -> io::Result<ExitCode> {
             }
             (Some(bytes), None) => match side {
                 Some(side) => print_params(side, &bytes, &mut out)?,
+                None if is_canon => print_canonical(&bytes, &mut out)?,
                 None => print_frames(&bytes, &mut out)?,
             },
             (Some(bytes), Some(len)) => print_packets(&bytes, len, &mut out)?,

@@ -444,9 +444,13 @@ impl<'a> Iterator for Iter<'a> {
 impl FusedIterator for Iter<'_> {}
 
 fn invalid_of(told: &sys::Frame) -> InvalidFrame {
+    invalid_by(told.numbers[0], u64::from(told.flags))
+}
+
+pub(crate) fn invalid_by(last_type: u64, reason: u64) -> InvalidFrame {
     InvalidFrame {
-        ty: (told.numbers[0] < 1 << 62).then_some(FrameType(told.numbers[0])),
-        reason: match told.flags {
+        ty: (last_type < 1 << 62).then_some(FrameType(last_type)),
+        reason: match reason {
             1 => Reason::UnexpectedEnd,
             2 => Reason::InvalidFrameId,
             _ => Reason::Malformed,

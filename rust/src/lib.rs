@@ -1,6 +1,6 @@
 //! The wire layer of QUIC, versions 1 and 2: the packets of datagrams (RFC 9000, sections 12.2 and 17) in [`packet`], and
 //! the frames of their payloads (RFC 9000, section 19, with DATAGRAM of RFC 9221 and the ACK frequency extension) in
-//! [`frame`]; and the transport parameters (RFC 9000, section 18) in [`transport_parameters`]. A proved library reads and writes them; this crate gives them types, in the names of `quinn-proto`, which
+//! [`frame`], with their shortest form in [`canonical`]; and the transport parameters (RFC 9000, section 18) in [`transport_parameters`]. A proved library reads and writes them; this crate gives them types, in the names of `quinn-proto`, which
 //! borrow from the caller's bytes.
 //!
 //! ```
@@ -16,6 +16,7 @@
 #![deny(unsafe_code)]
 #![warn(missing_docs)]
 
+pub mod canonical;
 pub mod frame;
 pub mod packet;
 pub mod transport_parameters;

@@ -1,4 +1,5 @@
 //! The packets of a datagram (RFC 9000, sections 12.2 and 17), and the protection of their heads (RFC 9001, section 5.4).
+use crate::frame::WriteError;
 use crate::sys;
 use std::fmt;
 use std::ops::Range;
@@ -287,6 +288,161 @@ impl PacketPlace {
         let mut out = sys::Opened { number: 0, numberlen: 0, payload: 0 };
         match sys::unprotect(datagram, &self.0, mask, expected, &mut out) {
             sys::OK => Ok(Opened { number: out.number, number_len: out.numberlen, payload: out.payload }),
+            sys::MALFORMED => Err(UnprotectError::TooShort),
+            _ => Err(UnprotectError::InvalidArgument),
+        }
+    }
+}
+
+/// A packet number, and how many of its low bytes are written.
+#[derive(Clone, Copy, Debug, PartialEq, Eq)]
+pub struct PacketNumber {
+    /// The whole number.
+    pub number: u64,
+    /// How many bytes are written, 1 to 4.
+    pub len: usize,
+}
+
+impl PacketNumber {
+    /// As few bytes as let a receiver find the number that has acknowledged `largest_acked` (RFC 9000, appendix A.2), as
+    /// `quinn-proto` chooses them. None where `largest_acked` is above the number, or 2^31 or more below it.
+    pub fn new(number: u64, largest_acked: u64) -> Option<Self> {
+        let len = usize::try_from(sys::number_len(number, largest_acked)).ok()?;
+        Some(PacketNumber { number, len })
+    }
+}
+
+/// What the head of a packet says that is written.
+#[derive(Clone, Copy, Debug, PartialEq, Eq)]
+pub enum Header<'a> {
+    /// The head of an Initial packet (RFC 9000, section 17.2.2).
+    Initial {
+        /// The receiver's id.
+        dst_cid: &'a [u8],
+        /// The sender's id.
+        src_cid: &'a [u8],
+        /// The token.
+        token: &'a [u8],
+        /// The packet's number.
+        number: PacketNumber,
+        /// The version of QUIC.
+        version: u32,
+    },
+    /// The head of a Handshake or 0-RTT packet (RFC 9000, sections 17.2.3 and 17.2.4).
+    Long {
+        /// Which of the two.
+        ty: LongType,
+        /// The receiver's id.
+        dst_cid: &'a [u8],
+        /// The sender's id.
+        src_cid: &'a [u8],
+        /// The packet's number.
+        number: PacketNumber,
+        /// The version of QUIC.
+        version: u32,
+    },
+    /// The head of a Retry packet (RFC 9000, section 17.2.5).
+    Retry {
+        /// The receiver's id.
+        dst_cid: &'a [u8],
+        /// The sender's id.
+        src_cid: &'a [u8],
+        /// The version of QUIC.
+        version: u32,
+    },
+    /// The head of a 1-RTT packet (RFC 9000, section 17.3.1).
+    Short {
+        /// The bit for measuring round trips.
+        spin: bool,
+        /// The bit that changes with the keys.
+        key_phase: bool,
+        /// The receiver's id.
+        dst_cid: &'a [u8],
+        /// The packet's number.
+        number: PacketNumber,
+    },
+    /// The head of a version negotiation (RFC 9000, section 17.2.1).
+    VersionNegotiate {
+        /// The first byte without its highest bit.
+        random: u8,
+        /// The sender's id.
+        src_cid: &'a [u8],
+        /// The receiver's id.
+        dst_cid: &'a [u8],
+    },
+}
+
+/// Where a head was written, at the front of its bytes.
+#[derive(Clone, Copy, Debug, PartialEq, Eq)]
+pub struct PartialEncode {
+    /// How many bytes the head has.
+    pub header_len: usize,
+    /// Where its number begins, which is its end where it has none.
+    pub number: usize,
+    kind: u32,
+}
+
+impl Header<'_> {
+    /// Writes the head at the front of `out`, with no protection on it. Where it has a length, that counts the number's bytes
+    /// and `body_len` bytes behind them, the payload and the tag. What stands behind it stays, and after an error all of it.
+    ///
+    /// # Errors
+    ///
+    /// Where it can't be written: ids of more than 20 bytes, a number of 2^62 or more or in no or more than four bytes,
+    /// a length of 2^14 or more, a first byte of a version negotiation from 128 on; or where `out` has too little room.
+    pub fn encode(&self, body_len: usize, out: &mut [u8]) -> Result<PartialEncode, WriteError> {
+        let (mut head, parts) = self.words();
+        head.bodylen = body_len as u64;
+        let (mut written, mut number) = (0, 0);
+        match sys::head_write(&head, parts, out, &mut written, &mut number) {
+            sys::OK => Ok(PartialEncode { header_len: written, number, kind: head.kind }),
+            sys::NO_ROOM => Err(WriteError::NoRoom(written)),
+            _ => Err(WriteError::OutOfRange),
+        }
+    }
+
+    fn words(&self) -> (sys::Head, [&[u8]; 3]) {
+        let none = sys::Head::default();
+        match *self {
+            Header::Initial { dst_cid, src_cid, token, number, version } => {
+                (sys::Head { version, ..numbered(0, number) }, [dst_cid, src_cid, token])
+            }
+            Header::Long { ty, dst_cid, src_cid, number, version } => {
+                let kind = if ty == LongType::Handshake { 2 } else { 1 };
+                (sys::Head { version, ..numbered(kind, number) }, [dst_cid, src_cid, &[]])
+            }
+            Header::Retry { dst_cid, src_cid, version } => {
+                (sys::Head { kind: 3, version, ..none }, [dst_cid, src_cid, &[]])
+            }
+            Header::Short { spin, key_phase, dst_cid, number } => {
+                let flags = u32::from(spin) + 2 * u32::from(key_phase);
+                (sys::Head { flags, ..numbered(4, number) }, [dst_cid, &[], &[]])
+            }
+            Header::VersionNegotiate { random, src_cid, dst_cid } => {
+                (sys::Head { kind: 5, flags: u32::from(random), ..none }, [dst_cid, src_cid, &[]])
+            }
+        }
+    }
+}
+
+fn numbered(kind: u32, number: PacketNumber) -> sys::Head {
+    let numberlen = u32::try_from(number.len).unwrap_or(u32::MAX);
+    sys::Head { kind, numberlen, number: number.number, ..sys::Head::default() }
+}
+
+impl PartialEncode {
+    /// The packet that was written at `begin` of a datagram and ends at `end`, by which its sample is found and it is protected.
+    pub fn place(&self, begin: usize, end: usize) -> PacketPlace {
+        PacketPlace(sys::Packet { kind: self.kind, begin, end, head_end: begin.saturating_add(self.number), ..NO_PACKET })
+    }
+}
+
+impl PacketPlace {
+    /// Puts the protection on the head of a packet whose payload is sealed, by a mask of at least five bytes, which the caller
+    /// makes of the sample (RFC 9001, section 5.4.1). After an error the datagram is as it was; `unprotect` undoes it.
+    pub fn protect(&self, datagram: &mut [u8], mask: &[u8]) -> Result<(), UnprotectError> {
+        match sys::protect(datagram, &self.0, mask) {
+            sys::OK => Ok(()),
             sys::MALFORMED => Err(UnprotectError::TooShort),
             _ => Err(UnprotectError::InvalidArgument),
         }

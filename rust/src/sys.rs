@@ -72,6 +72,27 @@ pub struct Opened {
     pub payload: usize,
 }
 
+/// What is told of the shortest form of a payload.
+#[repr(C)]
+#[derive(Clone, Copy, Debug, Default)]
+pub struct Canon {
+    pub len: usize,
+    pub last_type: u64,
+    pub reason: u64,
+}
+
+/// What a head says beside its ids and its token.
+#[repr(C)]
+#[derive(Clone, Copy, Debug, Default)]
+pub struct Head {
+    pub kind: u32,
+    pub flags: u32,
+    pub version: u32,
+    pub numberlen: u32,
+    pub number: u64,
+    pub bodylen: u64,
+}
+
 /// Transport parameters.
 #[repr(C)]
 #[derive(Clone, Copy, Debug, Default, PartialEq, Eq)]
@@ -112,10 +133,13 @@ const _: () = assert!(size_of::<Frames>() == 24 && size_of::<Frame>() == 80);
 const _: () = assert!(size_of::<Range>() == 16 && size_of::<Ranges>() == 24);
 const _: () = assert!(size_of::<Packet>() == 96 && size_of::<Opened>() == 24);
 const _: () = assert!(std::mem::offset_of!(Frame, numbers) == 40);
+const _: () = assert!(size_of::<Canon>() == 24 && std::mem::offset_of!(Canon, reason) == 16);
+const _: () = assert!(size_of::<Head>() == 32 && std::mem::offset_of!(Head, number) == 16);
 const _: () = assert!(size_of::<Params>() == 264 && std::mem::offset_of!(Params, original_dst_cid) == 132);
 
 pub const OK: i32 = 0;
 pub const ITEM: i32 = 1;
+pub const EMPTY: i32 = -2;
 pub const MALFORMED: i32 = -3;
 pub const NO_ROOM: i32 = -4;
 
@@ -159,6 +183,22 @@ unsafe extern "C" {
         expected: u64,
         out: &mut Opened,
     ) -> i32;
+    fn quic_wire_canonical_(payload: *const u8, len: usize, dest: *mut u8, room: usize, out: &mut Canon) -> i32;
+    fn quic_wire_protect_(datagram: *mut u8, len: usize, packet: &Packet, mask: *const u8, mask_len: usize) -> i32;
+    fn quic_wire_head_write_(
+        head: &Head,
+        dst: *const u8,
+        dst_len: usize,
+        src: *const u8,
+        src_len: usize,
+        token: *const u8,
+        token_len: usize,
+        out: *mut u8,
+        out_len: usize,
+        written: &mut usize,
+        number: &mut usize,
+    ) -> i32;
+    fn quic_wire_number_len_(number: u64, largest_acked: u64) -> i32;
     fn quic_wire_params_read_(side: u32, list: *const u8, len: usize, out: &mut Params) -> i32;
     fn quic_wire_params_write_(side: u32, params: &Params, out: *mut u8, out_len: usize, written: &mut usize) -> i32;
 }
@@ -227,4 +267,38 @@ pub fn unprotect(datagram: &mut [u8], packet: &Packet, mask: &[u8], expected: u6
     let (bytes, len) = (datagram.as_mut_ptr(), datagram.len());
     // SAFETY: as above; the datagram is borrowed alone, so nothing overlaps it.
     unsafe { quic_wire_unprotect_(bytes, len, packet, mask.as_ptr(), mask.len(), expected, out) }
+}
+
+#[inline]
+pub fn protect(datagram: &mut [u8], packet: &Packet, mask: &[u8]) -> i32 {
+    // SAFETY: as above.
+    unsafe { quic_wire_protect_(datagram.as_mut_ptr(), datagram.len(), packet, mask.as_ptr(), mask.len()) }
+}
+
+#[inline]
+pub fn head_write(
+    head: &Head,
+    parts: [&[u8]; 3],
+    out: &mut [u8],
+    written: &mut usize,
+    number: &mut usize,
+) -> i32 {
+    let [dst, src, token] = parts;
+    let (to, from, third) = (dst.as_ptr(), src.as_ptr(), token.as_ptr());
+    let (bytes, room) = (out.as_mut_ptr(), out.len());
+    // SAFETY: as above; `out` is borrowed alone, so nothing overlaps it.
+    unsafe { quic_wire_head_write_(head, to, dst.len(), from, src.len(), third, token.len(), bytes, room, written, number) }
+}
+
+#[inline]
+pub fn number_len(number: u64, largest_acked: u64) -> i32 {
+    // SAFETY: the declaration fits.
+    unsafe { quic_wire_number_len_(number, largest_acked) }
+}
+
+#[inline]
+pub fn canonical(payload: &[u8], dest: &mut [u8], out: &mut Canon) -> i32 {
+    // SAFETY: the declaration fits; pointers and lengths are those of one slice each, and `dest` is borrowed alone, so
+    // nothing overlaps it.
+    unsafe { quic_wire_canonical_(payload.as_ptr(), payload.len(), dest.as_mut_ptr(), dest.len(), out) }
 }

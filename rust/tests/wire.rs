@@ -1,6 +1,9 @@
 //! What is read, written and read again.
+use quic_wire::canonical::{CanonError, canonical};
 use quic_wire::frame::{EmptyPayload, Frame, Iter, Reason, WriteError};
-use quic_wire::packet::{DEFAULT_SUPPORTED_VERSIONS, PacketDecodeError, Packets, ProtectedHeader, UnprotectError};
+use quic_wire::packet::{
+    DEFAULT_SUPPORTED_VERSIONS, Header, LongType, PacketDecodeError, PacketNumber, Packets, ProtectedHeader, UnprotectError,
+};
 use quic_wire::transport_parameters::{ConnectionId, Error, PreferredAddress, Side, TransportParameters};
 
 #[test]
@@ -50,6 +53,19 @@ fn an_ack_gives_its_ranges() {
 }
 
 #[test]
+fn a_payload_has_a_shortest_form() {
+    // A PING whose type takes two bytes, and a STREAM whose offset of 0 and length are written.
+    let payload = [0x40, 0x01, 0x0e, 0x04, 0x00, 0x02, b'h', b'i'];
+    let mut out = [7; 8];
+    assert_eq!(canonical(&payload, &mut out), Ok(5));
+    assert_eq!(out, [0x01, 0x08, 0x04, b'h', b'i', 7, 7, 7]);
+    assert_eq!(canonical(&payload, &mut out[..4]), Err(CanonError::NoRoom(5)));
+    assert_eq!(canonical(&[], &mut out), Err(CanonError::Empty));
+    let error = canonical(&[0x01, 0x06], &mut out).unwrap_err();
+    assert_eq!(error.to_string(), "unexpected end in CRYPTO");
+}
+
+#[test]
 fn refusals() {
     assert_eq!(Iter::new(&[]).err(), Some(EmptyPayload));
     let mut iter = Iter::new(&[0x01, 0x06]).unwrap();
@@ -76,6 +92,33 @@ fn a_packet_is_opened() {
     let opened = place.unprotect(&mut datagram, &[0x1f, 5, 5, 5, 5], 300).unwrap();
     assert_eq!((opened.number, opened.number_len, opened.payload), (300, 1, 4));
     assert_eq!(datagram, [0x40, 0xaa, 0xbb, 0x2c, 1, 2, 3, 4, 5, 6, 7]);
+}
+
+#[test]
+fn a_packet_is_sealed_and_opened() {
+    let number = PacketNumber::new(0x1234, 0x1200).unwrap();
+    assert_eq!(number.len, 1);
+    assert_eq!(PacketNumber::new(1, 2), None);
+    let (dst_cid, src_cid) = (&[1, 2, 3][..], &[4][..]);
+    let head = Header::Long { ty: LongType::Handshake, dst_cid, src_cid, number, version: 1 };
+    let mut datagram = [0xa5; 64];
+    let written = head.encode(20, &mut datagram).unwrap();
+    assert_eq!(datagram[..15], [0xe0, 0, 0, 0, 1, 3, 1, 2, 3, 1, 4, 0x40, 21, 0x34, 0xa5]);
+    assert_eq!((written.header_len, written.number), (14, 13));
+    assert_eq!(head.encode(20, &mut [0; 13]), Err(WriteError::NoRoom(14)));
+    assert_eq!(head.encode(1 << 14, &mut datagram), Err(WriteError::OutOfRange));
+    let before = datagram;
+    let place = written.place(0, 34);
+    assert_eq!(place.sample(&datagram, 16), Ok(&[0xa5; 16][..]));
+    assert_eq!(place.protect(&mut datagram, &[0xff, 1, 2, 3]), Err(UnprotectError::InvalidArgument));
+    assert_eq!(place.protect(&mut datagram, &[0xff, 1, 2, 3, 4]), Ok(()));
+    assert_eq!((datagram[0], datagram[13], datagram[14]), (0xef, 0x35, 0xa5));
+    let packet = Packets::new(&datagram[..34], 0, &[1], false).next().unwrap().unwrap();
+    let len = 21;
+    assert_eq!(packet.header(), ProtectedHeader::Long { ty: LongType::Handshake, dst_cid, src_cid, len, version: 1 });
+    let opened = packet.place().unprotect(&mut datagram, &[0xff, 1, 2, 3, 4], 0x1234).unwrap();
+    assert_eq!((opened.number, opened.number_len, opened.payload), (0x1234, 1, 14));
+    assert_eq!(datagram, before);
 }
 
 #[test]

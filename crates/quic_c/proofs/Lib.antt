@@ -3,3 +3,4 @@ mod Shapes
 mod Said
 mod Filling
 mod RangeFilling
+mod Masks

@@ -8,6 +8,7 @@ mod fill;
 mod fill_ranges;
 mod frames;
 mod packets;
+mod protect;
 mod show;
 mod unprotect;
 mod words;

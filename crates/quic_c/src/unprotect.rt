@@ -8,7 +8,7 @@ use crate::words::{OpenedWords, PacketWords};
 use quic_crypto::packet_number::PacketNumber;
 
 // Whether the words name a packet with a number.
-fn names_number(packet: &PacketWords, whole: usize) -> bool
+pub(crate) fn names_number(packet: &PacketWords, whole: usize) -> bool
     ensures { IsTrue result ↔ NamesNumber packet.now whole }
 {
     if packet.kind > 2 && packet.kind != 4 {
@@ -65,7 +65,7 @@ fn unmask_first(datagram: &mut [u8], begin: usize, mask: &[u8]) -> usize
 }
 
 // Takes as many bytes of the mask off the number.
-fn unmask_number(datagram: &mut [u8], at: usize, mask: &[u8], count: usize)
+pub(crate) fn unmask_number(datagram: &mut [u8], at: usize, mask: &[u8], count: usize)
     requires inside { at + count ≤ length datagram.old }
     requires mask { count < length mask.now }
     ensures { datagram.new ≡ unmasked_at at mask.now count datagram.old }

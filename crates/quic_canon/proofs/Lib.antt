@@ -2,8 +2,8 @@ mod SameSets
 mod SameFrames
 pub mod LeastPayloads
 mod Spans
-mod Cuts
-mod Steps
+pub mod Cuts
+pub mod Steps
 mod FrontWalk
 mod RewriteWalk
 mod Fronts

@@ -30,12 +30,12 @@ drop_fits k rest fits = back_bytes (take k rest) (drop k rest) (subst AreBytes (
 pub read_behind : (k : ℕ) (rest : List ℕ) (r : Result (ℕ × List ℕ) Fault) → varint_at (slice_range rest k (length rest)) ≡ r → varint_at (drop k rest) ≡ r
 read_behind k rest r e = ap varint_at (sym (take_whole (drop k rest) (length rest - k) (omega (arith, length-drop k rest)))) ∙ e
 
-record NextNumber (ns : List ℕ) (n : ℕ) (after : List ℕ) : Type 0 where
-  others : List ℕ
-  are : ns ≡ n ∷ others
-  numbers : AreSpelled others after
+pub record NextNumber (ns : List ℕ) (n : ℕ) (after : List ℕ) : Type 0 where
+  pub others : List ℕ
+  pub are : ns ≡ n ∷ others
+  pub numbers : AreSpelled others after
 
-next_number : (ns bytes : List ℕ) (n : ℕ) (after : List ℕ) → AreBytes bytes → AreSpelled ns bytes → varint_at bytes ≡ Ok (n, after) → NextNumber ns n after
+pub next_number : (ns bytes : List ℕ) (n : ℕ) (after : List ℕ) → AreBytes bytes → AreSpelled ns bytes → varint_at bytes ≡ Ok (n, after) → NextNumber ns n after
 next_number [] bytes n after fits s e = absurd (omega (arith, after_shorter bytes n after fits e, ap length s))
 next_number (k ∷ ns) bytes n after fits s e =
     let pair : (k, s.1) ≡ (n, after) = ok_is (k, s.1) (n, after) (sym (varint_again k s.0 s.1 s.3) ∙ ap varint_at (sym s.2) ∙ e) in
@@ -83,7 +83,7 @@ pub all_short-append : (some others : List ℕ) → all_short (some ++ others) �
 all_short-append [] others = refl
 all_short-append (n ∷ some) others = ap (λ (l : List ℕ). short n ++ l) (all_short-append some others) ∙ sym (append_assoc (short n) (all_short some) (all_short others))
 
-all_short-last : (ns : List ℕ) (n : ℕ) → all_short (ns ++ n ∷ []) ≡ all_short ns ++ short n
+pub all_short-last : (ns : List ℕ) (n : ℕ) → all_short (ns ++ n ∷ []) ≡ all_short ns ++ short n
 all_short-last ns n = all_short-append ns (n ∷ []) ∙ ap (λ (l : List ℕ). all_short ns ++ l) (append-nil (short n))
 
 -- how many they are, and how long their shortest spellings

@@ -1,5 +1,6 @@
 -- What an encoder does to the front of a slice.
-use Rattle.std.specs.Prelude.{◌≡◌, ℕ, ◌<◌, List, ◌++◌, length, drop, Result, IfOk, OnErr, IfErr}
+use Rattle.std.specs.Prelude.{◌≡◌, ℕ, ◌+◌, ◌<◌, List, ◌++◌, length, take, drop, Result, IfOk, OnErr, IfErr}
+use Rattle.quic_frame_parts.specs.Numbers.{AreSpelled, all_short}
 
 -- The bytes stand at the front, with what stood behind them, and are counted; or there is less room than that, how much they
 -- need is told, and nothing changes.
@@ -9,3 +10,17 @@ pub record Puts (result : Result ℕ ℕ) (bytes old new : List ℕ) : Type 0 wh
   pub needed : IfErr result (λ n. n ≡ length bytes)
   pub full : OnErr result (length old < length bytes)
   pub same : OnErr result (new ≡ old)
+
+-- ---- what its steps do. No public clause cites what follows.
+
+-- The bytes stand from a place to where they end, with what stood before and behind them.
+pub record Lays (bytes : List ℕ) (at : ℕ) (old : List ℕ) (end : ℕ) (new : List ℕ) : Type 0 where
+  pub count : end ≡ at + length bytes
+  pub front : take end new ≡ take at old ++ bytes
+  pub back : drop end new ≡ drop end old
+
+-- The bytes spell numbers, and the shortest spellings of these have so many bytes.
+pub record Shortens (spelled : List ℕ) (len : ℕ) : Type 0 where
+  pub numbers : List ℕ
+  pub spells : AreSpelled numbers spelled
+  pub long : (ns : List ℕ) → AreSpelled ns spelled → len ≡ length (all_short ns)

@@ -138,7 +138,7 @@ fn counts_len(ecn: Option<EcnCounts>) -> u128
 // The numbers in front of the blocks: the type, the greatest number, the delay, and how many ranges are
 // below the first, where it is known how many numbers the blocks are.
 #[inline(always)]
-fn head_of(ack: &Ack<'_>, numbers: u64) -> [u64; 4]
+pub(super) fn head_of(ack: &Ack<'_>, numbers: u64) -> [u64; 4]
     requires { numbers / 2 ≡ length (ranges_acked ack.now) - 1 }
     ensures { result ≡ head_numbers ack.now }
 {

@@ -1,11 +1,14 @@
 //! Numbers and bytes, laid at the front of a slice.
-ghost use Rattle.std.specs.Prelude.{◌≡◌, ◌<◌, ◌≤◌, ◌+◌, ◌^◌, ◌++◌, length, take, drop, IfSome};
-ghost use Rattle.quic_frame_parts.specs.Numbers.{AreNumeric, all_short};
-ghost use Rattle.quic_frame_parts.specs.Putting.{Puts};
-ghost use Rattle.quic_frame_parts.specs.Shortest.{stream_head};
+ghost use Rattle.std.specs.Prelude.{◌≡◌, ◌<◌, ◌≤◌, ◌+◌, ◌^◌, ◌++◌, ℕ, List, Bool, length, take, drop, IfSome};
+ghost use Rattle.quic_frame_parts.specs.Numbers.{AreNumeric, AreSpelled, all_short};
+ghost use Rattle.quic_frame_parts.specs.Parts.{ack_meaning};
+ghost use Rattle.quic_frame_parts.specs.Putting.{Lays, Puts, Shortens};
+ghost use Rattle.quic_frame_parts.specs.Sets.{AreCounts, IsAckInRange, count_numbers};
+ghost use Rattle.quic_frame_parts.specs.Shortest.{shortest_frame, stream_head};
 
-use super::write::{HEAD_ROOM, lay_numbers};
-use super::{FrameType, Stream};
+use super::ack_encode::head_of;
+use super::write::{HEAD_ROOM, count_and_len, lay_number, lay_numbers};
+use super::{Ack, EcnCounts, FrameType, Stream, field};
 
 /// Lays at most five numbers in their shortest spellings at the front of the slice, and answers how many bytes they
 /// have. Where the slice has fewer, and only there, it is as it was, and the error is how many are needed. The room is
@@ -122,4 +125,69 @@ pub fn stream(dest: &mut [u8], stream: &Stream<'_>, counted: Option<u64>) -> Res
         (_, None) => numbers_and_bytes(dest, &[ty, id, offset], bytes),
         (_, Some(length)) => numbers_and_bytes(dest, &[ty + 2, id, offset, length], bytes),
     }
+}
+
+/// Lays an acknowledgement that is held, whose numbers may have been spelled in any widths, in its shortest spelling, in
+/// the same way. Blocks that are in their shortest spelling are copied.
+pub fn ack(dest: &mut [u8], ack: &Ack<'_>) -> Result<usize, usize>
+    requires { IsAckInRange ack.now }
+    ensures { (last : Bool) → Puts result (shortest_frame last (ack_meaning ack.now)) dest.old dest.new }
+{
+    let (numbers, blocks) = count_and_len(ack.additional());
+    let mut head = [0; HEAD_ROOM];
+    let head_len = lay_numbers(&mut head, &head_of(ack, numbers));
+    let mut counts = [0; HEAD_ROOM];
+    let counts_len = lay_counts(&mut counts, ack.ecn());
+    let needed = head_len + blocks as usize + counts_len;
+    if dest.len() < needed {
+        return Err(needed);
+    }
+    let at = lay_bytes(dest, 0, &head[..head_len]);
+    let at = lay_shortened(dest, at, ack.additional(), blocks as usize);
+    Ok(lay_bytes(dest, at, &counts[..counts_len]))
+}
+
+// Lays the counts of an acknowledgement, where they are given, and answers where they end.
+fn lay_counts(counts: &mut [u8; HEAD_ROOM], ecn: Option<EcnCounts>) -> usize
+    requires { AreCounts ecn }
+    ensures within { result ≤ HEAD_ROOM }
+    ensures front { take result counts.new ≡ all_short (count_numbers ecn) }
+{
+    match ecn {
+        None => 0,
+        Some(ecn) => lay_numbers(counts, &[ecn.ect0, ecn.ect1, ecn.ce]),
+    }
+}
+
+// Lays the numbers that the bytes spell, in their shortest spellings of so many bytes, over those at a place, and answers
+// where they end.
+fn lay_shortened(dest: &mut [u8], at: usize, spelled: &[u8], len: usize) -> usize
+    requires shortens { Shortens spelled.now len }
+    requires room { at + len ≤ length dest.old }
+    ensures lays { (ns : List ℕ) → AreSpelled ns spelled.now → Lays (all_short ns) at dest.old result dest.new }
+    ensures len { length dest.new ≡ length dest.old }
+{
+    if len == spelled.len() {
+        lay_bytes(dest, at, spelled)
+    } else {
+        lay_each(dest, at, spelled, len)
+    }
+}
+
+// The same, one number after the other.
+fn lay_each(dest: &mut [u8], at: usize, spelled: &[u8], len: usize) -> usize
+    requires shortens { Shortens spelled.now len }
+    requires room { at + len ≤ length dest.old }
+    ensures lays { (ns : List ℕ) → AreSpelled ns spelled.now → Lays (all_short ns) at dest.old result dest.new }
+    ensures len { length dest.new ≡ length dest.old }
+{
+    let mut at = at;
+    let mut rest = spelled;
+    while let Ok((number, after)) = field::varint(rest) {
+        let mut short = [0; 8];
+        let end = lay_number(&mut short, 0, number);
+        at = lay_bytes(dest, at, &short[..end]);
+        rest = after;
+    }
+    at
 }

@@ -18,7 +18,7 @@ pub(super) const HEAD_ROOM: usize = 40;
 // Lays a number in its shortest spelling at a place, and answers where it ends.
 #[inline(always)]
 #[tactic(auto, unfolding(quic_base::specs::Varint::short, quic_base::specs::Varint::size, quic_base::specs::Number::bytes_of))]
-fn lay_number(head: &mut [u8], at: usize, n: u64) -> usize
+pub(super) fn lay_number(head: &mut [u8], at: usize, n: u64) -> usize
     requires numeric { n < 2 ^ 62 }
     requires room { at + 8 ≤ length head.old }
     ensures end { result ≡ at + length (short n) }

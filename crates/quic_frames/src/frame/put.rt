@@ -5,7 +5,7 @@ ghost use Rattle.quic_base.specs.Varint.{short};
 ghost use Rattle.quic_frame_parts.specs.Parts.{close_meaning, new_id_meaning};
 ghost use Rattle.quic_frame_parts.specs.Putting.{Puts};
 ghost use Rattle.quic_frame_parts.specs.Shortest.{shortest_frame, close_reason};
-ghost use Rattle.quic_frames.specs.InRange.{CanStand, InRange, IsNoAck};
+ghost use Rattle.quic_frames.specs.InRange.{CanStand, InRange};
 ghost use Rattle.quic_frames.specs.Meaning.{meaning_of};
 ghost use Rattle.quic_frames.specs.declared.frame.Frame.TheVariants as frames;
 
@@ -18,18 +18,17 @@ impl Frame<'_> {
     /// Lays the shortest spelling of the frame, which is the last of its payload or not, at the front of the slice, and
     /// answers how many bytes it has; these are the bytes that `encode` appends, and what stands behind them stays.
     /// Where the slice has fewer, and only there, it is as it was, and the error is how many bytes are needed. The caller
-    /// must ensure that the frame is in range, that data whose length is written are below 2^62 bytes, and that the frame is no ACK, which is
-    /// written from a set by `Ack::encode`. It takes no memory.
+    /// must ensure that the frame is in range, and that data whose length is written are below 2^62 bytes. It takes no
+    /// memory.
     #[tactic(auto, unfolding(quic_frame_parts::specs::Shortest::shortest_frame), using(crate::proofs::Encoding::challenge_parts, crate::proofs::Encoding::response_parts, crate::proofs::Encoding::crypto_parts, crate::proofs::Encoding::token_parts))]
     pub fn encode_into(&self, last: bool, dest: &mut [u8]) -> Result<usize, usize>
-        requires stands { CanStand last self.now }
-        requires kind { IsNoAck self.now }
+        requires { CanStand last self.now }
         ensures { Puts result (shortest_frame last (meaning_of self.now)) dest.old dest.new }
     {
         match self {
             Frame::Padding => put::numbers(dest, &[0x00]),
             Frame::Ping => put::numbers(dest, &[0x01]),
-            Frame::Ack(_) => unreachable!(),
+            Frame::Ack(ack) => put::ack(dest, ack),
             Frame::ResetStream(reset) => put::numbers(dest, &reset.numbers()),
             Frame::StopSending(stop) => put::numbers(dest, &stop.numbers()),
             Frame::Crypto(c) => {

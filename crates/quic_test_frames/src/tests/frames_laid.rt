@@ -1,17 +1,15 @@
 //! Frames that are laid at the front of a slice.
 ghost use Rattle.std.specs.Prelude.{◌<◌, ◌^◌, length, IsTrue};
-ghost use Rattle.quic_frames.specs.InRange.{IsNoAck, open_data};
+ghost use Rattle.quic_frames.specs.InRange.{open_data};
 
 use quic_frames::frame::{Frame, Iter};
 use quic_testing::Checks;
 use std::test::Fail;
 
 fn can_be_laid(frame: &Frame<'_>) -> bool
-    ensures kind { IsTrue result → IsNoAck frame.now }
-    ensures counted { IsTrue result → length (open_data frame.now) < 2 ^ 62 }
+    ensures { IsTrue result → length (open_data frame.now) < 2 ^ 62 }
 {
     match frame {
-        Frame::Ack(_) => false,
         Frame::Stream(stream) => (stream.bytes.len() as u64) < 1 << 62,
         Frame::Datagram(datagram) => (datagram.bytes.len() as u64) < 1 << 62,
         _ => true,
@@ -43,7 +41,7 @@ fn is_laid(payload: &[u8], last: bool, wanted: &[u8]) -> Result<bool, Fail> {
 fn frames_are_laid_at_the_front(rt: HostRuntime) -> Result<(), Fail> {
     let mut checks = Checks::new(rt.alloc());
     // What is read, and what is laid of it before other frames and as the last.
-    let rows: [(&[u8], &[u8], &[u8]); 6] = [
+    let rows: [(&[u8], &[u8], &[u8]); 8] = [
         (b"\x01", b"\x01", b"\x01"),
         (b"\x40\x0a\x40\x00\x40\x01a", b"\x0a\x00\x01a", b"\x08\x00a"),
         (
@@ -61,6 +59,16 @@ fn frames_are_laid_at_the_front(rt: HostRuntime) -> Result<(), Fail> {
             b"\x18\x40\x05\x80\x00\x00\x02\x02\xaa\xbb\x11\x11\x11\x11\x11\x11\x11\x11\x11\x11\x11\x11\x11\x11\x11\x1f",
             b"\x18\x05\x02\x02\xaa\xbb\x11\x11\x11\x11\x11\x11\x11\x11\x11\x11\x11\x11\x11\x11\x11\x1f",
             b"\x18\x05\x02\x02\xaa\xbb\x11\x11\x11\x11\x11\x11\x11\x11\x11\x11\x11\x11\x11\x11\x11\x1f",
+        ),
+        (
+            b"\x03\x0e\x2a\x03\x00\x01\x01\x03\x00\x00\x02\x2a\x18\x0c",
+            b"\x03\x0e\x2a\x03\x00\x01\x01\x03\x00\x00\x02\x2a\x18\x0c",
+            b"\x03\x0e\x2a\x03\x00\x01\x01\x03\x00\x00\x02\x2a\x18\x0c",
+        ),
+        (
+            b"\x02\x40\x02\x00\x80\x00\x00\x01\x40\x00\x00\xc0\x00\x00\x00\x00\x00\x00\x00",
+            b"\x02\x02\x00\x01\x00\x00\x00",
+            b"\x02\x02\x00\x01\x00\x00\x00",
         ),
     ];
     for (payload, counted, open) in rows {

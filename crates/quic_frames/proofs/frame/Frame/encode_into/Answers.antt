@@ -5,3 +5,6 @@ returns-in-NewConnectionId c = rw c.in-NewConnectionId.is (c.put_new_id.ensures 
 
 pub returns-in-Close : goal.returns-in-Close
 returns-in-Close c = rw c.in-Close.is (c.put_close.ensures c.args.last)
+
+pub returns-in-Ack : goal.returns-in-Ack
+returns-in-Ack c = rw c.in-Ack.is (c.ack.ensures c.args.last)

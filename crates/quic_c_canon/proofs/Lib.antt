@@ -1,0 +1,2 @@
+mod LenWalk
+mod LayWalk

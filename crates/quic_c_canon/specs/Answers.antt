@@ -1,0 +1,53 @@
+-- What the call answers that writes the shortest payload of a meaning.
+use Rattle.std.specs.Prelude.{◌≡◌, ◌≢◌, ℕ, ◌-◌, ◌<◌, ◌^◌, List, [], ◌++◌, length, map, drop, Option, None, Some, false, codes, nat_eq, if◌then◌else◌}
+use Rattle.std.specs.Cmp.Lexicographic.{pointwise}
+use Rattle.quic_frame_parts.specs.declared.frame.fault.Fault.{Fault}
+use Rattle.quic_frame_parts.specs.Payload.{Found, AreFrames, IsBroken}
+use Rattle.quic_frame_parts.specs.Reading.{Invalid, invalid}
+use Rattle.quic_frames.specs.Least.{frame_in, shortest_frames}
+use Rattle.quic_canon.specs.Least.{IsLeast}
+use Rattle.quic_c_canon.specs.declared.words.CanonicalWords.{CanonicalWords}
+
+-- the word of a type
+abbrev pub type_word : Option ℕ → ℕ
+type_word None = 2 ^ 64 - 1
+type_word (Some n) = n
+
+-- the number of a reason: 1 unexpected end, 2 invalid frame ID, 3 malformed
+abbrev pub reason_word : List ℕ → ℕ
+reason_word reason = if pointwise nat_eq reason (codes "unexpected end") then 1 else if pointwise nat_eq reason (codes "invalid frame ID") then 2 else 3
+
+-- The least payload of the meaning stands at the front, with what stood behind it, and its length was told.
+pub record GivesLeast (payload before after : List ℕ) (old new : CanonicalWords) : Type 0 where
+  pub least : List ℕ
+  pub is_least : IsLeast least payload
+  pub front : after ≡ least ++ drop (length least) before
+  pub words : new ≡ record old { len = length least }
+
+-- There is less room than the least payload of the meaning needs, and how much that is was told.
+pub record NeedsMore (payload before : List ℕ) (old new : CanonicalWords) : Type 0 where
+  pub least : List ℕ
+  pub is_least : IsLeast least payload
+  pub full : length before < length least
+  pub words : new ≡ record old { len = length least }
+
+-- Frames and then something that is none: what reading tells of that.
+pub record IsToldOf (payload : List ℕ) (told : Invalid) : Type 0 where
+  pub found : List Found
+  pub type : Option ℕ
+  pub reason : Fault
+  pub broken : IsBroken false None found payload type reason
+  pub told_is : told ≡ invalid type reason
+
+-- Something in the payload is no frame, and that is told.
+pub record TellsInvalid (payload : List ℕ) (old new : CanonicalWords) : Type 0 where
+  pub told : Invalid
+  pub of_it : IsToldOf payload told
+  pub words : new ≡ record old { last_type = type_word told.type; reason = reason_word told.reason }
+
+-- The payload has frames and nothing else, which take so many bytes in their shortest spellings.
+pub record HasLength (payload : List ℕ) (n : ℕ) : Type 0 where
+  pub some : payload ≢ []
+  pub found : List Found
+  pub spelled : AreFrames false found payload
+  pub len : n ≡ length (shortest_frames (map frame_in found))

@@ -1,0 +1,165 @@
+//! The shortest payload of each meaning, written into the caller's bytes.
+ghost use Rattle.std.specs.Prelude.{◌≡◌, ◌≢◌, ◌+◌, ◌<◌, ◌≤◌, ◌⊎◌, ◌↔◌, ◌++◌, [], List, pos, negsuc, length, map, take, drop, IfOk, IfErr, false};
+ghost use Rattle.quic_frame_parts.specs.Payload.{Found, AreFrames};
+ghost use Rattle.quic_frame_parts.specs.Shortest.{shortest_frame};
+ghost use Rattle.quic_frames.specs.InRange.{CanStand};
+ghost use Rattle.quic_frames.specs.Least.{frame_in, shortest_frames};
+ghost use Rattle.quic_frames.specs.Meaning.{meaning_of};
+ghost use Rattle.quic_frames.specs.Walk.{invalid_of};
+ghost use Rattle.quic_c_canon.specs.Answers.{type_word, reason_word, GivesLeast, NeedsMore, IsToldOf, TellsInvalid, HasLength};
+
+use crate::words::CanonicalWords;
+use quic_canon::laws::one_least;
+use quic_frames::frame::{Frame, FrameType, InvalidFrame, Iter};
+use quic_frames::laws::{least_spelling, one_reading, read_back};
+
+// The word of a type.
+fn type_word(ty: Option<FrameType>) -> u64
+    ensures { result ≡ type_word ty }
+{
+    match ty {
+        Some(ty) => ty.into_inner(),
+        None => u64::MAX,
+    }
+}
+
+// The number of a reason.
+fn reason_word(reason: &str) -> u64
+    ensures { result ≡ reason_word reason.now }
+{
+    match reason {
+        "unexpected end" => 1,
+        "invalid frame ID" => 2,
+        _ => 3,
+    }
+}
+
+// How many bytes a frame takes in its shortest spelling, which are no more than it takes now.
+#[inline(always)]
+fn frame_len(frame: &Frame<'_>, last: bool, len: usize) -> usize
+    requires stands { CanStand last frame.now }
+    requires small { length (shortest_frame last (meaning_of frame.now)) ≤ len }
+    ensures { result ≡ length (shortest_frame last (meaning_of frame.now)) }
+{
+    frame.encoded_len(last) as usize
+}
+
+// Reads all of a payload, and tells how many bytes its frames take in their shortest spellings.
+fn shortest_len(payload: &[u8]) -> Result<usize, InvalidFrame>
+    requires { payload.now ≢ [] }
+    ensures ok { IfOk result (λ n. HasLength payload.now n) }
+    ensures err { IfErr result (λ i. IsToldOf payload.now (invalid_of i)) }
+{
+    one_reading();
+    least_spelling();
+    read_back();
+    let Ok(mut iter) = Iter::new(payload) else {
+        unreachable!()
+    };
+    let mut total = 0;
+    let mut start = 0;
+    while let Some(item) = iter.next() {
+        let frame = match item {
+            Ok(frame) => frame,
+            Err(invalid) => return Err(invalid),
+        };
+        let stop = iter.offset();
+        let is_last = stop == payload.len();
+        let len = frame_len(&frame, is_last, stop - start);
+        total += len;
+        start = stop;
+    }
+    Ok(total)
+}
+
+// Lays a frame in its shortest spelling at a place, and answers where it ends.
+#[inline(always)]
+fn put(frame: &Frame<'_>, last: bool, dest: &mut [u8], at: usize) -> usize
+    requires stands { CanStand last frame.now }
+    requires room { at + length (shortest_frame last (meaning_of frame.now)) ≤ length dest.old }
+    ensures end { result ≡ at + length (shortest_frame last (meaning_of frame.now)) }
+    ensures bytes { dest.new ≡ take at dest.old ++ (shortest_frame last (meaning_of frame.now) ++ drop result dest.old) }
+{
+    match frame.encode_into(last, &mut dest[at..]) {
+        Ok(n) => at + n,
+        Err(_) => unreachable!(),
+    }
+}
+
+// Lays the frames of a payload in their shortest spellings, for which there is room, at the front.
+fn lay(payload: &[u8], dest: &mut [u8])
+    requires some { payload.now ≢ [] }
+    requires whole { (found : List Found) × AreFrames false found payload.now }
+    requires room { (found : List Found) → AreFrames false found payload.now → length (shortest_frames (map frame_in found)) ≤ length dest.old }
+    ensures { (found : List Found) → AreFrames false found payload.now
+        → dest.new ≡ shortest_frames (map frame_in found) ++ drop (length (shortest_frames (map frame_in found))) dest.old }
+{
+    one_reading();
+    read_back();
+    let Ok(mut iter) = Iter::new(payload) else {
+        unreachable!()
+    };
+    let mut at = 0;
+    while let Some(item) = iter.next() {
+        let Ok(frame) = item else { unreachable!() };
+        let stop = iter.offset();
+        let is_last = stop == payload.len();
+        at = put(&frame, is_last, dest, at);
+    }
+}
+
+// Writes the shortest form of a payload, which has so many bytes, for which there is room, at the front. One that has as
+// many bytes is its own shortest form, and is copied at once.
+fn write(payload: &[u8], len: usize, dest: &mut [u8])
+    requires known { HasLength payload.now len }
+    requires room { len ≤ length dest.old }
+    ensures { (found : List Found) → AreFrames false found payload.now
+        → dest.new ≡ shortest_frames (map frame_in found) ++ drop (length (shortest_frames (map frame_in found))) dest.old }
+{
+    one_reading();
+    least_spelling();
+    if len == payload.len() {
+        dest[..len].copy_from_slice(payload);
+    } else {
+        lay(payload, dest);
+    }
+}
+
+/// Writes the one shortest payload with the meaning of the payload at the front of `dest`: equal frames in equal order,
+/// each in its shortest form, where the last frame of a payload needs no length (RFC 9000, sections 12.4 and 19). It
+/// answers 0 with its length, and what stood behind it stays; -4 with the length where `dest` has less room; -2 just
+/// where the payload is empty; -3 just where something in it is no frame, with the last type that was read and the
+/// reason. `dest` changes with 0 alone, and `out` in the words alone that are told. It takes no memory.
+#[unsafe(no_mangle)]
+pub extern "C" fn quic_wire_canonical_(
+    payload: &[u8],
+    dest: &mut [u8],
+    out: &mut CanonicalWords,
+) -> i32
+    ensures answers { (result ≡ pos 0) ⊎ (result ≡ negsuc 3) ⊎ (result ≡ negsuc 1) ⊎ (result ≡ negsuc 2) }
+    ensures least { result ≡ pos 0 → GivesLeast payload.now dest.old dest.new out.old out.new }
+    ensures room { result ≡ negsuc 3 → NeedsMore payload.now dest.old out.old out.new }
+    ensures empty { (result ≡ negsuc 1) ↔ (payload.now ≡ []) }
+    ensures invalid { result ≡ negsuc 2 → TellsInvalid payload.now out.old out.new }
+    ensures same { (result ≡ pos 0) ⊎ (dest.new ≡ dest.old) }
+    ensures kept { result ≡ negsuc 1 → out.new ≡ out.old }
+{
+    one_least();
+    if payload.is_empty() {
+        return -2;
+    }
+    let len = match shortest_len(payload) {
+        Ok(len) => len,
+        Err(invalid) => {
+            out.last_type = type_word(invalid.ty);
+            out.reason = reason_word(invalid.reason);
+            return -3;
+        }
+    };
+    out.len = len;
+    if dest.len() < len {
+        return -4;
+    }
+    write(payload, len, dest);
+    0
+}

@@ -1,0 +1,3 @@
+mod Finishing
+mod Laying
+mod Shaping

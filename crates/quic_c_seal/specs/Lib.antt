@@ -1,0 +1,4 @@
+pub mod Heads
+pub mod Shapes
+pub mod Values
+pub mod Written

@@ -1,5 +1,5 @@
 //! The fields of each type of frame.
-ghost use Rattle.std.specs.Prelude.{Bool};
+ghost use Rattle.std.specs.Prelude.{◌≡◌, ◌≤◌, Bool, length};
 ghost use Rattle.quic_frame_parts.specs.Table as table;
 ghost use Rattle.quic_frames.specs.Found.{GivesFrame};
 ghost use Rattle.quic_frame_parts.specs.Reading.{row_at, frame_at};
@@ -171,6 +171,15 @@ fn read_streams_blocked(dir: Dir, bytes: &[u8]) -> Result<(Frame<'_>, &[u8]), Fa
     Ok((Frame::StreamsBlocked { dir, limit }, rest))
 }
 
+// A connection id of these bytes. It is copied by a call, so that reading a frame stays small enough to go into its callers.
+#[inline(never)]
+fn id_of(bytes: &[u8]) -> ConnectionId
+    requires { length bytes.now ≤ 20 }
+    ensures { result ≡ bytes.now }
+{
+    ConnectionId::new(bytes)
+}
+
 #[tactic(auto, unfolding(quic_frame_parts::specs::Reading::row_at))]
 #[inline(always)]
 fn read_new_connection_id(bytes: &[u8]) -> Result<(Frame<'_>, &[u8]), Fault>
@@ -186,7 +195,7 @@ fn read_new_connection_id(bytes: &[u8]) -> Result<(Frame<'_>, &[u8]), Fault>
     let frame = NewConnectionId {
         sequence,
         retire_prior_to,
-        id: ConnectionId::new(id),
+        id: id_of(id),
         reset_token: ResetToken::from(reset_token),
     };
     Ok((Frame::NewConnectionId(frame), rest))

@@ -1,7 +1,7 @@
 -- The runs that words say, as an ACK has them.
 use Rattle.std.proofs.Common.{◌≡◌, ℕ, zero, suc, ◌+◌, ◌-◌, ◌<◌, ◌≤◌, ◌^◌, Bool, true, ◌⊎◌, inl, inr, List, [], ◌∷◌, ◌++◌, length, take, drop, get_or, refl, sym, ap, subst, ◌∙◌, append_assoc, arith}
 use Rattle.std.proofs.lemmas.Bool.Decides.{nat_tests}
-use Rattle.std.proofs.lemmas.List.{append-nil, length-append, length-take, map_more}
+use Rattle.std.proofs.lemmas.List.{append-nil, length-append, length-take, map_more, take_all}
 use Rattle.std.specs.declared.ops.Range.{Range}
 use Rattle.quic_base.specs.Varint.{short, size}
 use Rattle.quic_base.proofs.PublicLaws.{length-short}
@@ -25,6 +25,21 @@ pub numeric_more : (ns : List ℕ) (i : ℕ) → i < length ns → get_or ns i 0
 numeric_more [] i lt small h = absurd (omega (arith, lt))
 numeric_more (n ∷ ns) zero lt small h = (small, tt)
 numeric_more (n ∷ ns) (suc i) lt small h = (h.0, numeric_more ns i (omega (arith, lt)) small h.1)
+
+pub numeric_none : (ns : List ℕ) → length ns ≡ 0 → AreNumeric ns
+numeric_none [] e = tt
+numeric_none (n ∷ ns) e = absurd (omega (arith, e))
+
+pub type_none : (counts : List ℕ) → length counts ≡ 0 → 2 ≡ ack_type (counts_in counts)
+type_none [] e = refl
+type_none (a ∷ counts) e = absurd (omega (arith, e))
+
+pub type_three : (counts : List ℕ) → length counts ≡ 3 → 3 ≡ ack_type (counts_in counts)
+type_three [] e = absurd (omega (arith, e))
+type_three (a ∷ []) e = absurd (omega (arith, e))
+type_three (a ∷ b ∷ []) e = absurd (omega (arith, e))
+type_three (a ∷ b ∷ c ∷ []) e = refl
+type_three (a ∷ b ∷ c ∷ d ∷ counts) e = absurd (omega (arith, e))
 
 pub numbers_counted : (counts : List ℕ) → (length counts ≡ 0) ⊎ (length counts ≡ 3) → count_numbers (counts_in counts) ≡ counts
 numbers_counted [] three = refl
@@ -114,6 +129,9 @@ counted_more words first above len left next e h =
       small = omega (arith, small, some, apart, size_least (above.start - run.end - 1), size_least (run.end - 1 - run.start));
     }
 
+pub all_below : (words : List RunWords) (first : RunWords) → bytes_below words (length words) first ≡ shortest_below first.start (ranges_in (runs_of words))
+all_below words first = ap (λ (l : List RunWords). shortest_below first.start (ranges_in (runs_of l))) (take_all (length words) words (omega arith))
+
 -- ---- they are laid
 
 pub record LaidBelow (words : List RunWords) (first : RunWords) (at : ℕ) (old : List ℕ) (left : ℕ) (above : RunWords) (end : ℕ) (new : List ℕ) : Type 0 where
@@ -169,6 +187,21 @@ last_small words count set some all =
     let nonempty = last.0 in
     omega (arith, greatest, nonempty)
 
+pub last_some : (words : List RunWords) (count : ℕ) → IsSet words count → 0 < count → (get_or words (count - 1) nowhere).start < (get_or words (count - 1) nowhere).end
+last_some words count set some =
+    (IsGreatest-last (range_of (get_or words (count - 1) nowhere)) (runs_of (take (count - 1) words)) (first_runs count words) (whole_set words count set.within some) set.maximal).0
+
+pub says_ack_of : (delay : ℕ) (words : List RunWords) (count : ℕ) (counts : List ℕ) → IsSet words count → 0 < count → (get_or words (count - 1) nowhere).end ≤ 2 ^ 62 → delay < 2 ^ 62
+    → (length counts ≡ 0) ⊎ (length counts ≡ 3) → AreNumeric counts → SaysAck delay words count counts
+says_ack_of delay words count counts set some le delayed three counted = record {
+  set = set;
+  some = some;
+  short = all_small words count set some le;
+  delayed = delayed;
+  three = three;
+  counted = counted;
+}
+
 -- ---- the parts of an ACK
 
 pub ack_parts_of : (delay : ℕ) (words : List RunWords) (count : ℕ) (counts : List ℕ) (ty : ℕ) → SaysAck delay words count counts → ty ≡ ack_type (counts_in counts)
@@ -178,3 +211,14 @@ ack_parts_of delay words count counts ty says ty_is =
     let size_is : count ≡ length (first_runs count words) = omega (arith, within, many (take count words), length-take count words) in
     set_parts delay (first_runs count words) (runs_of (take (count - 1) words)) (range_of (get_or words (count - 1) nowhere)) (counts_in counts) ty count (whole_set words count within says.some) ty_is size_is
     says.delayed says.set.maximal says.short
+
+-- the bytes of an ACK: its numbers, those of the runs below the first, and its counts
+pub whole_ack : (delay : ℕ) (words : List RunWords) (count : ℕ) (counts : List ℕ) (ty : ℕ) → SaysAck delay words count counts → ty ≡ ack_type (counts_in counts) → (last : Bool)
+    → shortest_frame last (ack_of delay (first_runs count words) (counts_in counts))
+    ≡ all_short (ty ∷ ((get_or words (count - 1) nowhere).end - 1) ∷ delay ∷ (count - 1) ∷ ((get_or words (count - 1) nowhere).end - 1 - (get_or words (count - 1) nowhere).start) ∷ [])
+    ++ (shortest_below (get_or words (count - 1) nowhere).start (ranges_in (runs_of (take (count - 1) words))) ++ all_short counts)
+whole_ack delay words count counts ty says ty_is last =
+    let run = get_or words (count - 1) nowhere in
+    let head = all_short (ty ∷ (run.end - 1) ∷ delay ∷ (count - 1) ∷ (run.end - 1 - run.start) ∷ []) in
+    let below = shortest_below run.start (ranges_in (runs_of (take (count - 1) words))) in
+    (ack_parts_of delay words count counts ty says ty_is).parts last ∙ ap (λ (l : List ℕ). head ++ (below ++ all_short l)) (numbers_counted counts says.three)

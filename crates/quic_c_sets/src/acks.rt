@@ -3,7 +3,7 @@ ghost use Rattle.std.specs.Prelude.{◌≡◌, ◌<◌, ◌≤◌, ◌+◌, ◌^
 ghost use Rattle.quic_ranges.specs.Runs.{IsMaximalRuns};
 ghost use Rattle.quic_frame_parts.specs.Numbers.{AreNumeric};
 ghost use Rattle.quic_frame_parts.specs.Putting.{Lays, Puts};
-ghost use Rattle.quic_frame_parts.specs.Sets.{ack_of, ranges_in};
+ghost use Rattle.quic_frame_parts.specs.Sets.{ack_of, ack_type, ranges_in};
 ghost use Rattle.quic_frame_parts.specs.Shortest.{shortest_below, shortest_frame};
 ghost use Rattle.quic_c_sets.specs.Acks.{SaysAck, counts_in};
 ghost use Rattle.quic_c_sets.specs.Sets.{first_runs, range_of, runs_of};
@@ -35,7 +35,21 @@ fn says_ack(delay: u64, runs: &[RunWords], count: usize, counts: &[u64]) -> bool
     if runs[count - 1].end > 1 << 62 {
         return false;
     }
-    (counts.is_empty() || counts.len() == 3) && are_numeric(counts)
+    let few = counts.len();
+    if few == 0 {
+        return true;
+    }
+    if few == 3 { are_numeric(counts) } else { false }
+}
+
+// The type of an ACK with these counts or with none.
+#[inline(always)]
+fn type_of(counts: &[u64]) -> u64
+    requires { (length counts.now ≡ 0) ⊎ (length counts.now ≡ 3) }
+    ensures { result ≡ ack_type (counts_in counts.now) }
+{
+    let few = counts.len();
+    if few == 0 { 0x02 } else { 0x03 }
 }
 
 // How many bytes the runs below another one have, of which each is written as the numbers between it and the one above
@@ -96,7 +110,7 @@ fn lay_ack(
     let first = runs[count - 1];
     let below = &runs[..count - 1];
     let greatest = first.end - 1;
-    let ty = if counts.is_empty() { 0x02 } else { 0x03 };
+    let ty = type_of(counts);
     let head = [
         ty,
         greatest,

@@ -1,15 +1,13 @@
 -- A change of the runs in an array, made by one move and a write.
-use Rattle.std.proofs.Common.{◌≡◌, ℕ, suc, zero, ◌+◌, ◌-◌, ◌<◌, ◌≤◌, Bool, List, [], ◌∷◌, ◌++◌, length, take, drop, refl, sym, ap, subst, ◌∙◌, append_assoc, arith}
+use Rattle.std.proofs.Common.{◌≡◌, ℕ, ◌+◌, ◌-◌, ◌<◌, ◌≤◌, Bool, List, ◌++◌, length, take, drop, sym, ap, ◌∙◌, append_assoc, arith}
 use Rattle.std.specs.List.{copy_within}
-use Rattle.std.proofs.Math.Seq.{paste, take-append_seam, drop-append_seam}
+use Rattle.std.proofs.Math.Seq.{take-append_seam, drop-append_seam}
 use Rattle.std.proofs.lemmas.List.{length-append, length-take, length-drop, take-append-drop, take-append-le, take-take, drop-take, drop-drop}
 use Rattle.std.proofs.lemmas.List.Edits.{paste_none, take-paste, drop-paste}
-use Rattle.std.specs.declared.ops.Range.{Range}
-use Rattle.quic_ranges.specs.Runs.{IsRunsOf}
 use Rattle.quic_ranges.proofs.RunsLemmas.{IsRunsOf-unique}
 use Rattle.quic_c_sets.specs.declared.words.RunWords.{RunWords}
 use Rattle.quic_c_sets.specs.declared.change.Splice.{Splice}
-use Rattle.quic_c_sets.specs.Sets.{IsSet, Becomes, LacksRoom, first_runs, runs_of}
+use Rattle.quic_c_sets.specs.Sets.{IsSet, Becomes, LacksRoom, runs_of}
 use Rattle.quic_c_sets.specs.Changes.{Fits, Made, NeedsMore, Plans, after_change, words_of}
 use Rattle.quic_c_sets.proofs.Placing.{many}
 
@@ -25,8 +23,8 @@ moved_none old at from to le = let none : to - from ≡ 0 = omega (arith, le) in
 
 -- the runs from `to` on were moved behind those that take the place of others, and these were written
 module _ (old ys new vs : List RunWords) (before from to after : ℕ) (some : before ≤ length old) (ordered : from ≤ to) (within : to ≤ before)
-  (count : after ≡ from + length vs + (before - to)) (room : after ≤ length old) (moved : ys ≡ copy_within old to before (from + length vs))
-  (is : new ≡ take from ys ++ (vs ++ drop (from + length vs) ys)) where
+    (count : after ≡ from + length vs + (before - to)) (room : after ≤ length old) (moved : ys ≡ copy_within old to before (from + length vs))
+    (is : new ≡ take from ys ++ (vs ++ drop (from + length vs) ys)) where
   kept : take (from + length vs + (before - to)) ys ≡ take (from + length vs) old ++ take (before - to) (drop to old)
   kept = ap (take (from + length vs + (before - to))) moved
       ∙ take-paste old (from + length vs) (drop to old) (before - to) (omega (arith, count, room)) (omega (arith, some, within, length-drop to old))

@@ -118,7 +118,9 @@ fn lay_ack(
         count as u64 - 1,
         greatest - first.start,
     ];
-    let needed = numbers_len(&head) as usize + below_len(first, below) + numbers_len(counts) as usize;
+    let needed = numbers_len(&head) as usize
+        + below_len(first, below)
+        + numbers_len(counts) as usize;
     if dest.len() < needed {
         return Err(needed);
     }

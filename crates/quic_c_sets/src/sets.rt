@@ -74,5 +74,9 @@ pub extern "C" fn quic_wire_set_contains_(runs: &[RunWords], count: usize, numbe
     if !is_set(runs, count) {
         return -1;
     }
-    if contains(&runs[..count], number) { 1 } else { 0 }
+    if contains(&runs[..count], number) {
+        1
+    } else {
+        0
+    }
 }

@@ -1,4 +1,4 @@
-use Rattle.std.proofs.Common.{ℕ, List, ◌++◌, ◌-◌, ◌∷◌, [], get_or, take, length, ap, arith}
+use Rattle.std.proofs.Common.{ℕ, List, ◌++◌, ◌-◌, ◌∷◌, [], get_or, take, arith}
 use Rattle.std.proofs.lemmas.List.{length-append}
 use Rattle.quic_frame_parts.specs.Numbers.{all_short}
 use Rattle.quic_frame_parts.specs.Sets.{ranges_in}

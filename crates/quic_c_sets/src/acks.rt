@@ -144,6 +144,7 @@ pub extern "C" fn quic_wire_ack_write_(
     written: &mut usize,
 ) -> i32
     ensures answers { (result ≡ pos 0) ⊎ (result ≡ negsuc 3) ⊎ (result ≡ negsuc 0) }
+    ensures says { (result ≡ negsuc 0) ⊎ SaysAck delay runs.now count counts.now }
     ensures wrote { result ≡ pos 0 → (last : Bool) → Puts (Ok written.new) (shortest_frame last (ack_of delay (first_runs count runs.now) (counts_in counts.now))) dest.old dest.new }
     ensures room { result ≡ negsuc 3 → (last : Bool) → Puts (Err written.new) (shortest_frame last (ack_of delay (first_runs count runs.now) (counts_in counts.now))) dest.old dest.new }
     ensures refused { (result ≡ negsuc 0) ↔ (SaysAck delay runs.now count counts.now → ⊥) }

@@ -67,6 +67,7 @@ pub extern "C" fn quic_wire_set_remove_(
 #[unsafe(no_mangle)]
 pub extern "C" fn quic_wire_set_contains_(runs: &[RunWords], count: usize, number: u64) -> i32
     ensures answers { (result ≡ pos 1) ⊎ (result ≡ pos 0) ⊎ (result ≡ negsuc 0) }
+    ensures set { (result ≡ negsuc 0) ⊎ IsSet runs.now count }
     ensures present { result ≡ pos 1 → member (first_runs count runs.now) number ≡ true }
     ensures absent { result ≡ pos 0 → member (first_runs count runs.now) number ≡ false }
     ensures invalid { (result ≡ negsuc 0) ↔ (IsSet runs.now count → ⊥) }

@@ -6,7 +6,8 @@
  * extension; and the transport parameters (RFC 9000, section 18), whose two
  * functions stand in a library of their own, libquic_c_params.a.  Those that
  * write heads, quic_wire_head_write and quic_wire_number_len, stand in
- * libquic_c_seal.a, and quic_wire_canonical in libquic_c_canon.a.
+ * libquic_c_seal.a, quic_wire_canonical in libquic_c_canon.a, and sets of
+ * packet numbers, with ACKs that are written of them, in libquic_c_sets.a.
  *
  * No call takes memory or keeps anything: what is kept between calls is a
  * struct of the caller's, and the bytes are given anew with each call.  What
@@ -36,6 +37,8 @@ extern "C" {
 #define QUIC_WIRE_OK 0
 /* An item was read. */
 #define QUIC_WIRE_ITEM 1
+/* The set changed. */
+#define QUIC_WIRE_CHANGED 1
 /* A pointer is NULL, a place lies outside the bytes, a number is too great,
  * or a struct says what nothing says. */
 #define QUIC_WIRE_ERR_INVALID_ARGUMENT (-1)
@@ -306,6 +309,8 @@ _Static_assert(sizeof(quic_wire_frames) == 24, "64-bit words");
 _Static_assert(sizeof(quic_wire_frame) == 80, "64-bit words");
 _Static_assert(offsetof(quic_wire_frame, numbers) == 40, "64-bit words");
 _Static_assert(sizeof(quic_wire_range) == 16, "64-bit words");
+_Static_assert(offsetof(quic_wire_range, start) == 0, "64-bit words");
+_Static_assert(offsetof(quic_wire_range, end) == 8, "64-bit words");
 _Static_assert(sizeof(quic_wire_ack_ranges) == 24, "64-bit words");
 _Static_assert(sizeof(quic_wire_canon) == 24, "64-bit words");
 _Static_assert(offsetof(quic_wire_canon, last_type) == 8, "64-bit words");
@@ -361,6 +366,15 @@ int32_t quic_wire_params_read_(uint32_t, const uint8_t *, size_t,
                                quic_wire_params *);
 int32_t quic_wire_params_write_(uint32_t, const quic_wire_params *, uint8_t *,
                                 size_t, size_t *);
+int32_t quic_wire_set_insert_(quic_wire_range *, size_t, size_t *, uint64_t,
+                              uint64_t);
+int32_t quic_wire_set_remove_(quic_wire_range *, size_t, size_t *, uint64_t,
+                              uint64_t);
+int32_t quic_wire_set_contains_(const quic_wire_range *, size_t, size_t,
+                                uint64_t);
+int32_t quic_wire_ack_write_(uint64_t, const quic_wire_range *, size_t, size_t,
+                             const uint64_t *, size_t, uint8_t *, size_t,
+                             size_t *);
 
 /* A place for what has no items, since the library takes no NULL.  It has room
  * for one item of each kind, whose words are never looked at. */
@@ -746,6 +760,83 @@ static inline int quic_wire_params_write(uint32_t side,
   return quic_wire_params_write_(
       side, params, dest ? dest : (uint8_t *)quic_wire_nothing(), destlen,
       written);
+}
+
+/* ---- Sets of packet numbers: the first |count| entries of an array of |room|,
+ * each a run of numbers, sorted, none empty, none touching the next.  A set of
+ * no entries is empty.  Whether the entries are such runs is looked at with
+ * each call. */
+
+/*
+ * Puts the numbers from |start| to below |end| into the set; an empty or
+ * reversed range puts in nothing.  Returns QUIC_WIRE_CHANGED, and in |*count|
+ * how many entries the set then has; 0 where all of them were in it;
+ * QUIC_WIRE_ERR_NOBUF where the set needs one entry more than there are;
+ * QUIC_WIRE_ERR_INVALID_ARGUMENT where |*count| is above |room| or the entries
+ * are no such runs.  Entries behind the set keep what they hold, and nothing
+ * changes but with QUIC_WIRE_CHANGED.
+ */
+static inline int quic_wire_set_insert(quic_wire_range *runs, size_t room,
+                                       size_t *count, uint64_t start,
+                                       uint64_t end) {
+  if ((!runs && room) || !count)
+    return QUIC_WIRE_ERR_INVALID_ARGUMENT;
+  return quic_wire_set_insert_(
+      runs ? runs : (quic_wire_range *)quic_wire_nothing(), room, count, start,
+      end);
+}
+
+/*
+ * Takes the numbers from |start| to below |end| out of the set.  Returns what
+ * quic_wire_set_insert does: 0 where none of them was in it, and
+ * QUIC_WIRE_ERR_NOBUF where a run falls in two and no entry is left.
+ */
+static inline int quic_wire_set_remove(quic_wire_range *runs, size_t room,
+                                       size_t *count, uint64_t start,
+                                       uint64_t end) {
+  if ((!runs && room) || !count)
+    return QUIC_WIRE_ERR_INVALID_ARGUMENT;
+  return quic_wire_set_remove_(
+      runs ? runs : (quic_wire_range *)quic_wire_nothing(), room, count, start,
+      end);
+}
+
+/*
+ * Returns 1 where |number| is in the set of the |count| runs, 0 where it isn't,
+ * and QUIC_WIRE_ERR_INVALID_ARGUMENT where they are no such runs.
+ */
+static inline int quic_wire_set_contains(const quic_wire_range *runs,
+                                         size_t count, uint64_t number) {
+  if (!runs && count)
+    return QUIC_WIRE_ERR_INVALID_ARGUMENT;
+  return quic_wire_set_contains_(
+      runs ? runs : (const quic_wire_range *)quic_wire_nothing(), count, count,
+      number);
+}
+
+/*
+ * Writes an ACK (RFC 9000, section 19.3) of the set of the |count| runs in its
+ * shortest form at the front of |dest|.  |counts| has three numbers, of packets
+ * marked ECT(0), ECT(1) and ECN-CE, or is NULL, and then the ACK has none.
+ *
+ * Returns 0, and in |*written| how many bytes were written;
+ * QUIC_WIRE_ERR_NOBUF where |destlen| is less, and in |*written| how many are
+ * needed; QUIC_WIRE_ERR_INVALID_ARGUMENT where the runs are none or no such
+ * runs, or a number in them, the delay or a count is 2^62 or more.  What stands
+ * in |dest| behind what was written stays, and all of it where nothing was.
+ */
+static inline int quic_wire_ack_write(uint64_t delay,
+                                      const quic_wire_range *runs, size_t count,
+                                      const uint64_t *counts, uint8_t *dest,
+                                      size_t destlen, size_t *written) {
+  size_t unused;
+  if ((!runs && count) || (!dest && destlen))
+    return QUIC_WIRE_ERR_INVALID_ARGUMENT;
+  return quic_wire_ack_write_(
+      delay, runs ? runs : (const quic_wire_range *)quic_wire_nothing(), count,
+      count, counts ? counts : (const uint64_t *)quic_wire_nothing(),
+      counts ? 3 : 0, dest ? dest : (uint8_t *)quic_wire_nothing(), destlen,
+      written ? written : &unused);
 }
 
 /* The name of a type as it stands on the wire, or NULL. */

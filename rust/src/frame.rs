@@ -1,4 +1,5 @@
 //! The frames of a payload (RFC 9000, section 19).
+use crate::range_set::Run;
 use crate::sys;
 use std::fmt;
 use std::iter::FusedIterator;
@@ -329,6 +330,20 @@ pub struct Ack<'a> {
 }
 
 impl<'a> Ack<'a> {
+    /// Writes an ACK of the set of these runs in its shortest form at the front of `out`, and answers how many bytes it
+    /// has. `delay` is in microseconds, shifted right by the sender's `ack_delay_exponent`. It is out of range where there
+    /// is no run, where they are no sorted runs (see [`crate::range_set`]), or where a number in them, the delay or a count
+    /// is 2^62 or more. What stands behind the bytes stays, and all of `out` where nothing is written.
+    pub fn encode(delay: u64, runs: &[Run], ecn: Option<&EcnCounts>, out: &mut [u8]) -> Result<usize, WriteError> {
+        let three = ecn.map(|e| [e.ect0, e.ect1, e.ce]);
+        let mut written = 0;
+        match sys::ack_write(delay, runs, three.as_ref().map_or(&[], |three| &three[..]), out, &mut written) {
+            sys::OK => Ok(written),
+            sys::NO_ROOM => Err(WriteError::NoRoom(written)),
+            _ => Err(WriteError::OutOfRange),
+        }
+    }
+
     /// The ranges of acknowledged numbers, the greatest first.
     pub fn iter(&self) -> AckIter<'a> {
         let mut frame = NO_FRAME;
@@ -522,7 +537,7 @@ pub enum WriteError {
     /// There is less room than these bytes.
     NoRoom(usize),
     /// The frame is out of range: a number or a length has no spelling, or an id no length that it may have; or it is an
-    /// ACK, which is written from a set of numbers.
+    /// ACK, which `Ack::encode` writes.
     OutOfRange,
 }
 

@@ -1,6 +1,6 @@
 //! The wire layer of QUIC, versions 1 and 2: the packets of datagrams (RFC 9000, sections 12.2 and 17) in [`packet`], and
 //! the frames of their payloads (RFC 9000, section 19, with DATAGRAM of RFC 9221 and the ACK frequency extension) in
-//! [`frame`], with their shortest form in [`canonical`]; and the transport parameters (RFC 9000, section 18) in [`transport_parameters`]. A proved library reads and writes them; this crate gives them types, in the names of `quinn-proto`, which
+//! [`frame`], with their shortest form in [`canonical`]; the transport parameters (RFC 9000, section 18) in [`transport_parameters`]; and sets of packet numbers in [`range_set`]. A proved library reads and writes them; this crate gives them types, in the names of `quinn-proto`, which
 //! borrow from the caller's bytes.
 //!
 //! ```
@@ -19,6 +19,7 @@
 pub mod canonical;
 pub mod frame;
 pub mod packet;
+pub mod range_set;
 pub mod transport_parameters;
 #[allow(unsafe_code)]
 mod sys;

@@ -28,9 +28,11 @@ pub struct Frame {
 
 /// Numbers from `start` to below `end`.
 #[repr(C)]
-#[derive(Clone, Copy, Debug)]
+#[derive(Clone, Copy, Debug, Default, PartialEq, Eq)]
 pub struct Range {
+    /// The least number.
     pub start: u64,
+    /// The number above the greatest.
     pub end: u64,
 }
 
@@ -135,11 +137,13 @@ const _: () = assert!(size_of::<Packet>() == 96 && size_of::<Opened>() == 24);
 const _: () = assert!(std::mem::offset_of!(Frame, numbers) == 40);
 const _: () = assert!(size_of::<Canon>() == 24 && std::mem::offset_of!(Canon, reason) == 16);
 const _: () = assert!(size_of::<Head>() == 32 && std::mem::offset_of!(Head, number) == 16);
+const _: () = assert!(std::mem::offset_of!(Range, start) == 0 && std::mem::offset_of!(Range, end) == 8);
 const _: () = assert!(size_of::<Params>() == 264 && std::mem::offset_of!(Params, original_dst_cid) == 132);
 
 pub const OK: i32 = 0;
 pub const ITEM: i32 = 1;
 pub const EMPTY: i32 = -2;
+pub const CHANGED: i32 = 1;
 pub const MALFORMED: i32 = -3;
 pub const NO_ROOM: i32 = -4;
 
@@ -201,6 +205,46 @@ unsafe extern "C" {
     fn quic_wire_number_len_(number: u64, largest_acked: u64) -> i32;
     fn quic_wire_params_read_(side: u32, list: *const u8, len: usize, out: &mut Params) -> i32;
     fn quic_wire_params_write_(side: u32, params: &Params, out: *mut u8, out_len: usize, written: &mut usize) -> i32;
+    fn quic_wire_set_insert_(runs: *mut Range, room: usize, count: &mut usize, start: u64, end: u64) -> i32;
+    fn quic_wire_set_remove_(runs: *mut Range, room: usize, count: &mut usize, start: u64, end: u64) -> i32;
+    fn quic_wire_set_contains_(runs: *const Range, room: usize, count: usize, number: u64) -> i32;
+    fn quic_wire_ack_write_(
+        delay: u64,
+        runs: *const Range,
+        room: usize,
+        count: usize,
+        counts: *const u64,
+        counts_len: usize,
+        out: *mut u8,
+        out_len: usize,
+        written: &mut usize,
+    ) -> i32;
+}
+
+#[inline]
+pub fn set_insert(runs: &mut [Range], count: &mut usize, start: u64, end: u64) -> i32 {
+    // SAFETY: the declaration fits; pointer and length are those of one slice, and any words serve.
+    unsafe { quic_wire_set_insert_(runs.as_mut_ptr(), runs.len(), count, start, end) }
+}
+
+#[inline]
+pub fn set_remove(runs: &mut [Range], count: &mut usize, start: u64, end: u64) -> i32 {
+    // SAFETY: as above.
+    unsafe { quic_wire_set_remove_(runs.as_mut_ptr(), runs.len(), count, start, end) }
+}
+
+#[inline]
+pub fn set_contains(runs: &[Range], number: u64) -> i32 {
+    // SAFETY: as above.
+    unsafe { quic_wire_set_contains_(runs.as_ptr(), runs.len(), runs.len(), number) }
+}
+
+#[inline]
+pub fn ack_write(delay: u64, runs: &[Range], counts: &[u64], out: &mut [u8], written: &mut usize) -> i32 {
+    let (first, count) = (runs.as_ptr(), runs.len());
+    let (marked, few) = (counts.as_ptr(), counts.len());
+    // SAFETY: as above; `out` is borrowed alone, so nothing overlaps it.
+    unsafe { quic_wire_ack_write_(delay, first, count, count, marked, few, out.as_mut_ptr(), out.len(), written) }
 }
 
 #[inline]

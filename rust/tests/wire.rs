@@ -1,9 +1,10 @@
 //! What is read, written and read again.
 use quic_wire::canonical::{CanonError, canonical};
-use quic_wire::frame::{EmptyPayload, Frame, Iter, Reason, WriteError};
+use quic_wire::frame::{Ack, EcnCounts, EmptyPayload, Frame, Iter, Reason, WriteError};
 use quic_wire::packet::{
     DEFAULT_SUPPORTED_VERSIONS, Header, LongType, PacketDecodeError, PacketNumber, Packets, ProtectedHeader, UnprotectError,
 };
+use quic_wire::range_set::{self, Run};
 use quic_wire::transport_parameters::{ConnectionId, Error, PreferredAddress, Side, TransportParameters};
 
 #[test]
@@ -63,6 +64,27 @@ fn a_payload_has_a_shortest_form() {
     assert_eq!(canonical(&[], &mut out), Err(CanonError::Empty));
     let error = canonical(&[0x01, 0x06], &mut out).unwrap_err();
     assert_eq!(error.to_string(), "unexpected end in CRYPTO");
+fn a_set_is_acknowledged() {
+    let (mut runs, mut count) = ([Run::default(); 4], 0);
+    for number in [14, 1, 2, 10, 3, 5, 11] {
+        assert_eq!(range_set::insert(&mut runs, &mut count, number..number + 1), Ok(true));
+    }
+    assert_eq!(runs[..count].iter().map(|r| (r.start, r.end)).collect::<Vec<_>>(), [(1, 4), (5, 6), (10, 12), (14, 15)]);
+    assert_eq!(range_set::insert(&mut runs, &mut count, 7..8), Err(range_set::Error::NoRoom));
+    assert_eq!(range_set::insert(&mut runs, &mut count, 2..3), Ok(false));
+    assert_eq!(range_set::contains(&runs[..count], 4), Ok(false));
+    let counts = EcnCounts { ect0: 42, ect1: 24, ce: 12 };
+    let mut out = [0; 16];
+    let wanted = [3, 14, 42, 3, 0, 1, 1, 3, 0, 0, 2, 42, 24, 12];
+    assert_eq!(Ack::encode(42, &runs[..count], Some(&counts), &mut out), Ok(14));
+    assert_eq!(out[..14], wanted);
+    assert_eq!(Ack::encode(42, &runs[..count], Some(&counts), &mut out[..13]), Err(WriteError::NoRoom(14)));
+    let Some(Ok(Frame::Ack(ack))) = Iter::new(&out[..14]).unwrap().next() else { panic!() };
+    assert_eq!(ack.iter().collect::<Vec<_>>(), [14..=14, 10..=11, 5..=5, 1..=3]);
+    assert_eq!(range_set::remove(&mut runs, &mut count, 0..12), Ok(true));
+    assert_eq!((count, runs[0]), (1, Run { start: 14, end: 15 }));
+    assert_eq!(range_set::contains(&[Run { start: 2, end: 2 }], 2), Err(range_set::Error::NoRuns));
+    assert_eq!(Ack::encode(0, &[], None, &mut out), Err(WriteError::OutOfRange));
 }
 
 #[test]

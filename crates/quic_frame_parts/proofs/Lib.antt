@@ -13,4 +13,4 @@ pub mod Held
 pub mod FirstRanges
 pub mod AckPlaces
 mod ShortBlocks
-mod Putting
+pub mod Putting

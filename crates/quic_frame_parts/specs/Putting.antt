@@ -11,13 +11,13 @@ pub record Puts (result : Result ℕ ℕ) (bytes old new : List ℕ) : Type 0 wh
   pub full : OnErr result (length old < length bytes)
   pub same : OnErr result (new ≡ old)
 
--- ---- what its steps do. No public clause cites what follows.
-
 -- The bytes stand from a place to where they end, with what stood before and behind them.
 pub record Lays (bytes : List ℕ) (at : ℕ) (old : List ℕ) (end : ℕ) (new : List ℕ) : Type 0 where
   pub count : end ≡ at + length bytes
   pub front : take end new ≡ take at old ++ bytes
   pub back : drop end new ≡ drop end old
+
+-- ---- No public clause cites what follows.
 
 -- The bytes spell numbers, and the shortest spellings of these have so many bytes.
 pub record Shortens (spelled : List ℕ) (len : ℕ) : Type 0 where

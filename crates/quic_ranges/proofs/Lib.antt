@@ -1,8 +1,8 @@
-mod RunsLemmas
-mod PlacesLemmas
+pub mod RunsLemmas
+pub mod PlacesLemmas
 mod NumbersLemmas
 mod SubtractLemmas
-mod SpliceLemmas
+pub mod SpliceLemmas
 mod ExtensionLemmas
 mod StepLemmas
 mod MergeLemmas

@@ -406,13 +406,13 @@ removed-none n a m (r ∷ rs) h le =
     ]
 
 -- the run after those that end below x ends at x or later
-ends_below-at : (x : ℕ) (d : Range ℕ) (rs : List (Range ℕ)) → ends_below rs x < length rs → x ≤ (get_or rs (ends_below rs x) d).end
+pub ends_below-at : (x : ℕ) (d : Range ℕ) (rs : List (Range ℕ)) → ends_below rs x < length rs → x ≤ (get_or rs (ends_below rs x) d).end
 ends_below-at x d [] = λ lt. absurd (omega arith)
 ends_below-at x d (r ∷ rs) = elim (cases_lt r.end x) as (λ _. ends_below (r ∷ rs) x < length (r ∷ rs) → x ≤ (get_or (r ∷ rs) (ends_below (r ∷ rs) x) d).end)
     [ inl q ↦ rw (lt-ltb r.end x q) (λ lt. ends_below-at x d rs (omega arith)) | inr q ↦ rw (le-ltb r.end x q) (λ lt. q) ]
 
 -- a run that is counted starts at x or before
-starts_upto-at : (x k : ℕ) (d : Range ℕ) (rs : List (Range ℕ)) → k < starts_upto rs x → (get_or rs k d).start ≤ x
+pub starts_upto-at : (x k : ℕ) (d : Range ℕ) (rs : List (Range ℕ)) → k < starts_upto rs x → (get_or rs k d).start ≤ x
 starts_upto-at x k d [] = λ lt. absurd (omega arith)
 starts_upto-at x zero d (r ∷ rs) = elim (cases_lt x r.start) as (λ _. 0 < starts_upto (r ∷ rs) x → r.start ≤ x)
     [ inl q ↦ rw (lt-leb r.start x q) (λ lt. absurd (omega arith)) | inr q ↦ λ _. q ]

@@ -53,6 +53,20 @@ pub fn numbers_and_two(
     three(dest, &numbers[..len], middle, end)
 }
 
+/// Lays at most five numbers in their shortest spellings over the bytes at a place, and answers where they end.
+#[inline(always)]
+pub fn numbers_at(dest: &mut [u8], at: usize, numbers: &[u64]) -> usize
+    requires few { length numbers.now ≤ 5 }
+    requires numeric { AreNumeric numbers.now }
+    requires room { at + length (all_short numbers.now) ≤ length dest.old }
+    ensures lays { Lays (all_short numbers.now) at dest.old result dest.new }
+    ensures len { length dest.new ≡ length dest.old }
+{
+    let mut head = [0; HEAD_ROOM];
+    let len = lay_numbers(&mut head, numbers);
+    lay_bytes(dest, at, &head[..len])
+}
+
 // Lays bytes at the front.
 fn bytes(dest: &mut [u8], bytes: &[u8]) -> Result<usize, usize>
     ensures { Puts result bytes.now dest.old dest.new }

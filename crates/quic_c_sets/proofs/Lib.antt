@@ -1,0 +1,4 @@
+mod Placing
+mod Planning
+mod Making
+mod Writing

@@ -1,0 +1,6 @@
+use Rattle.std.proofs.Common.{take}
+use Rattle.quic_frame_parts.specs.Numbers.{AreNumeric}
+use Rattle.quic_c_sets.proofs.acks.are_numeric.Given as goal
+
+abbrev pub invariant-loop-number : goal.invariant-loop-number
+invariant-loop-number l = AreNumeric (take l.number-index l.numbers)

@@ -1,0 +1,17 @@
+use Rattle.std.proofs.Common.{◌≡◌, ◌-◌, arith, sym, ◌∙◌, suc}
+use Rattle.std.proofs.lemmas.Bool.{le-ltb}
+use Rattle.quic_ranges.proofs.PlacesLemmas.{member-before}
+use Rattle.quic_ranges.specs.Places.{starts_upto}
+use Rattle.quic_c_sets.specs.Sets.{runs_of}
+use Rattle.quic_c_sets.proofs.Placing.{member_at}
+use Rattle.quic_c_sets.proofs.places.contains.Goals as goal
+
+pub returns-then-after-gt0 : goal.returns-then-after-gt0
+returns-then-after-gt0 c =
+    let count : starts_upto (runs_of c.args.runs.now) c.args.x ≡ suc (c.count_starts_upto-after.result - 1) = sym c.count_starts_upto-after.ensures.count ∙ (omega arith) in
+    member_at c.args.runs.now c.args.x (c.count_starts_upto-after.result - 1) c.requires count
+
+pub returns-else-after-gt0 : goal.returns-else-after-gt0
+returns-else-after-gt0 c =
+    let none : starts_upto (runs_of c.args.runs.now) c.args.x ≡ 0 = sym c.count_starts_upto-after.ensures.count ∙ (omega arith) in
+    le-ltb 0 c.count_starts_upto-after.result (omega arith) ∙ sym (member-before 0 c.args.x (runs_of c.args.runs.now) c.requires none)

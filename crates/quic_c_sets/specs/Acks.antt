@@ -1,0 +1,22 @@
+-- ACKs of the sets that words say (RFC 9000, section 19.3).
+use Rattle.std.specs.Prelude.{◌≡◌, ℕ, ◌<◌, ◌^◌, ◌⊎◌, true, List, [], ◌∷◌, length, Option, Some, None}
+use Rattle.quic_ranges.specs.Runs.{member}
+use Rattle.quic_frame_parts.specs.declared.frame.ack.EcnCounts.{EcnCounts}
+use Rattle.quic_frame_parts.specs.Numbers.{AreNumeric}
+use Rattle.quic_c_sets.specs.declared.words.RunWords.{RunWords}
+use Rattle.quic_c_sets.specs.Sets.{IsSet, first_runs}
+
+-- the counts of ECT(0), ECT(1) and ECN-CE, or none
+abbrev pub counts_in : List ℕ → Option EcnCounts
+counts_in (ect0 ∷ ect1 ∷ ce ∷ []) = Some (record { ect0 = ect0; ect1 = ect1; ce = ce })
+counts_in counts = None
+
+-- The first words of an array are a set that has a number, and there is an ACK of it: its numbers, the delay and three counts or
+-- none have spellings.
+pub record SaysAck (delay : ℕ) (words : List RunWords) (count : ℕ) (counts : List ℕ) : Type 0 where
+  pub set : IsSet words count
+  pub some : 0 < count
+  pub short : (n : ℕ) → member (first_runs count words) n ≡ true → n < 2 ^ 62
+  pub delayed : delay < 2 ^ 62
+  pub three : (length counts ≡ 0) ⊎ (length counts ≡ 3)
+  pub counted : AreNumeric counts

@@ -1,0 +1,3 @@
+pub mod Sets
+pub mod Changes
+pub mod Acks

@@ -1,0 +1,166 @@
+//! ACKs of sets, written into the caller's bytes (RFC 9000, section 19.3).
+ghost use Rattle.std.specs.Prelude.{◌≡◌, ◌<◌, ◌≤◌, ◌+◌, ◌^◌, ◌∷◌, ◌++◌, ◌⊎◌, ◌↔◌, [], Bool, Ok, Err, pos, negsuc, length, IsTrue};
+ghost use Rattle.quic_ranges.specs.Runs.{IsMaximalRuns};
+ghost use Rattle.quic_frame_parts.specs.Numbers.{AreNumeric};
+ghost use Rattle.quic_frame_parts.specs.Putting.{Lays, Puts};
+ghost use Rattle.quic_frame_parts.specs.Sets.{ack_of, ack_type, ranges_in};
+ghost use Rattle.quic_frame_parts.specs.Shortest.{shortest_below, shortest_frame};
+ghost use Rattle.quic_c_sets.specs.Acks.{SaysAck, counts_in};
+ghost use Rattle.quic_c_sets.specs.Sets.{first_runs, range_of, runs_of};
+
+use crate::places::is_set;
+use crate::words::RunWords;
+use quic_frame_parts::frame::put::numbers_at;
+use quic_frame_parts::frame::write::{numbers_len, size_of};
+
+// Whether each number has a spelling.
+fn are_numeric(numbers: &[u64]) -> bool
+    ensures { IsTrue result ↔ AreNumeric numbers.now }
+{
+    for number in numbers {
+        if *number >= 1 << 62 {
+            return false;
+        }
+    }
+    true
+}
+
+// Whether the words say an ACK.
+fn says_ack(delay: u64, runs: &[RunWords], count: usize, counts: &[u64]) -> bool
+    ensures { IsTrue result ↔ SaysAck delay runs.now count counts.now }
+{
+    if !is_set(runs, count) || count == 0 || delay >= 1 << 62 {
+        return false;
+    }
+    if runs[count - 1].end > 1 << 62 {
+        return false;
+    }
+    let few = counts.len();
+    if few == 0 {
+        return true;
+    }
+    if few == 3 { are_numeric(counts) } else { false }
+}
+
+// The type of an ACK with these counts or with none.
+#[inline(always)]
+fn type_of(counts: &[u64]) -> u64
+    requires { (length counts.now ≡ 0) ⊎ (length counts.now ≡ 3) }
+    ensures { result ≡ ack_type (counts_in counts.now) }
+{
+    let few = counts.len();
+    if few == 0 { 0x02 } else { 0x03 }
+}
+
+// How many bytes the runs below another one have, of which each is written as the numbers between it and the one above
+// it, less one, and its own numbers, less one.
+fn below_len(above: RunWords, runs: &[RunWords]) -> usize
+    requires runs { IsMaximalRuns (runs_of runs.now ++ range_of above ∷ []) }
+    requires bound { above.start < 2 ^ 62 }
+    ensures value { result ≡ length (shortest_below above.start (ranges_in (runs_of runs.now))) }
+    ensures small { result < 2 ^ 62 }
+{
+    let mut above = above;
+    let mut len = 0;
+    let mut left = runs.len();
+    while left > 0 {
+        left -= 1;
+        let run = runs[left];
+        let gap = above.start - run.end - 1;
+        let block = run.end - 1 - run.start;
+        len += size_of(gap) + size_of(block);
+        above = run;
+    }
+    len
+}
+
+// Lays the runs below another one, the greatest first, over the bytes at a place, and answers where they end.
+fn lay_below(dest: &mut [u8], at: usize, above: RunWords, runs: &[RunWords]) -> usize
+    requires runs { IsMaximalRuns (runs_of runs.now ++ range_of above ∷ []) }
+    requires bound { above.start < 2 ^ 62 }
+    requires room { at + length (shortest_below above.start (ranges_in (runs_of runs.now))) ≤ length dest.old }
+    ensures lays { Lays (shortest_below above.start (ranges_in (runs_of runs.now))) at dest.old result dest.new }
+    ensures len { length dest.new ≡ length dest.old }
+{
+    let mut above = above;
+    let mut at = at;
+    let mut left = runs.len();
+    while left > 0 {
+        left -= 1;
+        let run = runs[left];
+        let gap = above.start - run.end - 1;
+        let block = run.end - 1 - run.start;
+        at = numbers_at(dest, at, &[gap, block]);
+        above = run;
+    }
+    at
+}
+
+// Lays the ACK that the words say at the front of the bytes.
+fn lay_ack(
+    delay: u64,
+    runs: &[RunWords],
+    count: usize,
+    counts: &[u64],
+    dest: &mut [u8],
+) -> Result<usize, usize>
+    requires { SaysAck delay runs.now count counts.now }
+    ensures { (last : Bool) → Puts result (shortest_frame last (ack_of delay (first_runs count runs.now) (counts_in counts.now))) dest.old dest.new }
+{
+    let first = runs[count - 1];
+    let below = &runs[..count - 1];
+    let greatest = first.end - 1;
+    let ty = type_of(counts);
+    let head = [
+        ty,
+        greatest,
+        delay,
+        count as u64 - 1,
+        greatest - first.start,
+    ];
+    let needed = numbers_len(&head) as usize
+        + below_len(first, below)
+        + numbers_len(counts) as usize;
+    if dest.len() < needed {
+        return Err(needed);
+    }
+    let at = numbers_at(dest, 0, &head);
+    let at = lay_below(dest, at, first, below);
+    Ok(numbers_at(dest, at, counts))
+}
+
+/// Writes an ACK of the set that the first `count` entries are, in its shortest form, at the front of `dest`. `counts` has
+/// the numbers of packets marked ECT(0), ECT(1) and ECN-CE, or nothing. It answers 0 with how many bytes were written, and
+/// what stood behind them stays; -4 with how many are needed where `dest` has fewer; -1 just where the entries are no runs,
+/// as for `quic_wire_set_insert_`, or none, or a number in them, the delay or a count is 2^62 or more, or `counts` has
+/// another length. `dest` changes with 0 alone, and `written` not with -1.
+#[unsafe(no_mangle)]
+pub extern "C" fn quic_wire_ack_write_(
+    delay: u64,
+    runs: &[RunWords],
+    count: usize,
+    counts: &[u64],
+    dest: &mut [u8],
+    written: &mut usize,
+) -> i32
+    ensures answers { (result ≡ pos 0) ⊎ (result ≡ negsuc 3) ⊎ (result ≡ negsuc 0) }
+    ensures says { (result ≡ negsuc 0) ⊎ SaysAck delay runs.now count counts.now }
+    ensures wrote { result ≡ pos 0 → (last : Bool) → Puts (Ok written.new) (shortest_frame last (ack_of delay (first_runs count runs.now) (counts_in counts.now))) dest.old dest.new }
+    ensures room { result ≡ negsuc 3 → (last : Bool) → Puts (Err written.new) (shortest_frame last (ack_of delay (first_runs count runs.now) (counts_in counts.now))) dest.old dest.new }
+    ensures refused { (result ≡ negsuc 0) ↔ (SaysAck delay runs.now count counts.now → ⊥) }
+    ensures same { (result ≡ negsuc 0) → (written.new ≡ written.old) × (dest.new ≡ dest.old) }
+{
+    if !says_ack(delay, runs, count, counts) {
+        return -1;
+    }
+    match lay_ack(delay, runs, count, counts, dest) {
+        Ok(len) => {
+            *written = len;
+            0
+        }
+        Err(needed) => {
+            *written = needed;
+            -4
+        }
+    }
+}

@@ -1,0 +1,155 @@
+//! What a change does to the runs of a set: which of them go, and what takes their place.
+ghost use Rattle.std.specs.Prelude.{◌≡◌, ◌≤◌, ◌<◌, ◌+◌, ◌++◌, length, take, drop, true, false, IfSome, IfNone};
+ghost use Rattle.quic_ranges.specs.Pieces.{piece};
+ghost use Rattle.quic_ranges.specs.Runs.{IsMaximalRuns, IsRunsOf, in_union, in_difference};
+ghost use Rattle.quic_c_sets.specs.Sets.{range_of, runs_of};
+ghost use Rattle.quic_c_sets.specs.Changes.{Fits, Made, NeedsMore, Plans, words_of};
+
+use crate::places::{count_ends_below, count_starts_upto};
+use crate::words::RunWords;
+
+// The runs that take the place of others.
+#[derive(Clone, Copy)]
+pub(crate) enum Substitute {
+    Nothing,
+    One(RunWords),
+    Two(RunWords, RunWords),
+}
+
+impl Substitute {
+    // Both runs, without an empty or reversed one.
+    #[inline(always)]
+    fn of(front: RunWords, back: RunWords) -> Self
+        ensures { runs_of (words_of result) ≡ piece front.start front.end ++ piece back.start back.end }
+    {
+        match (front.start < front.end, back.start < back.end) {
+            (true, true) => Substitute::Two(front, back),
+            (true, false) => Substitute::One(front),
+            (false, true) => Substitute::One(back),
+            (false, false) => Substitute::Nothing,
+        }
+    }
+
+    // How many runs there are.
+    #[inline(always)]
+    fn len(&self) -> usize
+        ensures count { result ≡ length (words_of self.now) }
+        ensures most { result ≤ 2 }
+    {
+        match self {
+            Substitute::Nothing => 0,
+            Substitute::One(_) => 1,
+            Substitute::Two(_, _) => 2,
+        }
+    }
+
+    // Writes them over the runs from `at` on.
+    #[inline(always)]
+    fn write(self, runs: &mut [RunWords], at: usize)
+        requires { at + length (words_of self) ≤ length runs.old }
+        ensures { runs.new ≡ take at runs.old ++ (words_of self ++ drop (at + length (words_of self)) runs.old) }
+    {
+        match self {
+            Substitute::Nothing => {}
+            Substitute::One(run) => runs[at] = run,
+            Substitute::Two(front, back) => {
+                runs[at] = front;
+                runs[at + 1] = back;
+            }
+        }
+    }
+}
+
+// A change of a list of runs: those from `from` to below `to` go, and `by` takes their place.
+#[derive(Clone, Copy)]
+pub(crate) struct Splice {
+    pub from: usize,
+    pub to: usize,
+    pub by: Substitute,
+}
+
+// What an insertion of `x` does to the runs; `None` where every number of `x` is in them.
+#[inline(always)]
+pub(crate) fn insertion(runs: &[RunWords], x: RunWords) -> Option<Splice>
+    requires { IsMaximalRuns (runs_of runs.now) }
+    ensures none { IfNone result (IsRunsOf (in_union (runs_of runs.now) (range_of x)) (runs_of runs.now)) }
+    ensures some { IfSome result (Plans (in_union (runs_of runs.now) (range_of x)) runs.now) }
+{
+    if x.end <= x.start {
+        return None;
+    }
+    let from = count_ends_below(runs, x.start);
+    let to = count_starts_upto(runs, x.end);
+    if from >= to {
+        return Some(Splice {
+            from,
+            to: from,
+            by: Substitute::One(x),
+        });
+    }
+    let first = runs[from];
+    if first.start <= x.start && x.end <= first.end {
+        return None;
+    }
+    let last = runs[to - 1];
+    let start = x.start.min(first.start);
+    let end = x.end.max(last.end);
+    Some(Splice {
+        from,
+        to,
+        by: Substitute::One(RunWords { start, end }),
+    })
+}
+
+// What a removal of `x` does to the runs; `None` where no number of `x` is in them.
+#[inline(always)]
+pub(crate) fn removal(runs: &[RunWords], x: RunWords) -> Option<Splice>
+    requires { IsMaximalRuns (runs_of runs.now) }
+    ensures none { IfNone result (IsRunsOf (in_difference (runs_of runs.now) (range_of x)) (runs_of runs.now)) }
+    ensures some { IfSome result (Plans (in_difference (runs_of runs.now) (range_of x)) runs.now) }
+{
+    if x.end <= x.start {
+        return None;
+    }
+    let from = count_ends_below(runs, x.start + 1);
+    let to = count_starts_upto(runs, x.end - 1);
+    if from >= to {
+        return None;
+    }
+    let (start, end) = (runs[from].start, runs[to - 1].end);
+    let front = RunWords {
+        start,
+        end: x.start,
+    };
+    let back = RunWords { start: x.end, end };
+    Some(Splice {
+        from,
+        to,
+        by: Substitute::of(front, back),
+    })
+}
+
+// Makes a change of the set that the first words are, and counts its runs anew, if there is room for them. The runs behind
+// the change move at once.
+#[inline(always)]
+pub(crate) fn make(runs: &mut [RunWords], count: &mut usize, change: Splice) -> bool
+    requires within { count.old ≤ length runs.old }
+    requires fits { Fits (take count.old runs.old) change }
+    ensures made { result ≡ true → Made runs.old count.old change runs.new count.new }
+    ensures more { result ≡ false → NeedsMore runs.old count.old change }
+    ensures same { result ≡ false → runs.new ≡ runs.old }
+    ensures counted { result ≡ false → count.new ≡ count.old }
+{
+    let len = *count;
+    let behind = change.from + change.by.len();
+    let after = behind + (len - change.to);
+    if after > runs.len() {
+        return false;
+    }
+    if change.to < len {
+        runs.copy_within(change.to..len, behind);
+    }
+    change.by.write(runs, change.from);
+    *count = after;
+    true
+}

@@ -1,0 +1,83 @@
+//! Sets of packet numbers, each the first runs of an array.
+ghost use Rattle.std.specs.Prelude.{◌≡◌, ◌⊎◌, ◌↔◌, pos, negsuc, true, false};
+ghost use Rattle.quic_ranges.specs.Runs.{in_union, in_difference, member};
+ghost use Rattle.quic_c_sets.specs.Sets.{Becomes, IsSet, LacksRoom, Stays, first_runs, span};
+
+use crate::change::{insertion, make, removal};
+use crate::places::{contains, is_set};
+use crate::words::RunWords;
+
+/// Puts the numbers from `start` to below `end` into the set that the first `count` entries are: sorted runs, none empty,
+/// none touching another. An empty or reversed range puts in nothing. It answers 1 where the set changed, with its number
+/// of runs in `count`, and what stood behind them stays; 0 where all the numbers were in it; -4 just where one run more is
+/// needed than there are entries; -1 just where `count` is above the number of entries or they are no such runs. Nothing
+/// changes but with 1.
+#[unsafe(no_mangle)]
+pub extern "C" fn quic_wire_set_insert_(
+    runs: &mut [RunWords],
+    count: &mut usize,
+    start: u64,
+    end: u64,
+) -> i32
+    ensures answers { (result ≡ pos 1) ⊎ (result ≡ pos 0) ⊎ (result ≡ negsuc 3) ⊎ (result ≡ negsuc 0) }
+    ensures changed { result ≡ pos 1 → Becomes (in_union (first_runs count.old runs.old) (span start end)) runs.old count.old runs.new count.new }
+    ensures kept { result ≡ pos 0 → Stays (in_union (first_runs count.old runs.old) (span start end)) runs.old count.old }
+    ensures room { result ≡ negsuc 3 → LacksRoom (in_union (first_runs count.old runs.old) (span start end)) runs.old count.old }
+    ensures invalid { (result ≡ negsuc 0) ↔ (IsSet runs.old count.old → ⊥) }
+    ensures same { (result ≡ pos 1) ⊎ ((runs.new ≡ runs.old) × (count.new ≡ count.old)) }
+{
+    let len = *count;
+    if !is_set(runs, len) {
+        return -1;
+    }
+    let Some(change) = insertion(&runs[..len], RunWords { start, end }) else {
+        return 0;
+    };
+    if make(runs, count, change) { 1 } else { -4 }
+}
+
+/// Takes the numbers from `start` to below `end` out of the set, with the answers of `quic_wire_set_insert_`: 0 where none
+/// of them was in it; -4 just where a run falls in two and there is no entry for one more.
+#[unsafe(no_mangle)]
+pub extern "C" fn quic_wire_set_remove_(
+    runs: &mut [RunWords],
+    count: &mut usize,
+    start: u64,
+    end: u64,
+) -> i32
+    ensures answers { (result ≡ pos 1) ⊎ (result ≡ pos 0) ⊎ (result ≡ negsuc 3) ⊎ (result ≡ negsuc 0) }
+    ensures changed { result ≡ pos 1 → Becomes (in_difference (first_runs count.old runs.old) (span start end)) runs.old count.old runs.new count.new }
+    ensures kept { result ≡ pos 0 → Stays (in_difference (first_runs count.old runs.old) (span start end)) runs.old count.old }
+    ensures room { result ≡ negsuc 3 → LacksRoom (in_difference (first_runs count.old runs.old) (span start end)) runs.old count.old }
+    ensures invalid { (result ≡ negsuc 0) ↔ (IsSet runs.old count.old → ⊥) }
+    ensures same { (result ≡ pos 1) ⊎ ((runs.new ≡ runs.old) × (count.new ≡ count.old)) }
+{
+    let len = *count;
+    if !is_set(runs, len) {
+        return -1;
+    }
+    let Some(change) = removal(&runs[..len], RunWords { start, end }) else {
+        return 0;
+    };
+    if make(runs, count, change) { 1 } else { -4 }
+}
+
+/// Whether a number is in the set that the first `count` entries are. It answers 1 where it is, 0 where it isn't, and -1
+/// just where they are no such runs, as for `quic_wire_set_insert_`.
+#[unsafe(no_mangle)]
+pub extern "C" fn quic_wire_set_contains_(runs: &[RunWords], count: usize, number: u64) -> i32
+    ensures answers { (result ≡ pos 1) ⊎ (result ≡ pos 0) ⊎ (result ≡ negsuc 0) }
+    ensures set { (result ≡ negsuc 0) ⊎ IsSet runs.now count }
+    ensures present { result ≡ pos 1 → member (first_runs count runs.now) number ≡ true }
+    ensures absent { result ≡ pos 0 → member (first_runs count runs.now) number ≡ false }
+    ensures invalid { (result ≡ negsuc 0) ↔ (IsSet runs.now count → ⊥) }
+{
+    if !is_set(runs, count) {
+        return -1;
+    }
+    if contains(&runs[..count], number) {
+        1
+    } else {
+        0
+    }
+}

@@ -71,21 +71,21 @@ bytes_back start at n mask bytes x behind room =
     let again_len : length again ≡ length there = length-set there start f in
     let kept : (i : ℕ) → (i < at) ⊎ (at + n ≤ i) → (i ≡ start → ⊥) → get_or (unmasked_at at mask n again) i 0 ≡ get_or bytes i 0 =
     λ i out other.
-        at_out at n mask again i out ∙ get_or-set_other there start i f 0 other ∙ at_out at n mask once i out ∙ get_or-set_other bytes start i x 0 other in
+    at_out at n mask again i out ∙ get_or-set_other there start i f 0 other ∙ at_out at n mask once i out ∙ get_or-set_other bytes start i x 0 other in
     same_number_lists (unmasked_at at mask n again) bytes (at_len at n mask again ∙ again_len ∙ there_len ∙ once_len) (λ i lt.
-        elim (cases_eq i start) [
-          | inl here ↦ rw here (at_out at n mask again start (inl behind) ∙ get_or-set_same there start f 0 (omega arith))
-          | inr other ↦ elim (cases_lt i at) [
-            | inl before ↦ kept i (inl before) other
-            | inr from ↦ elim (cases_lt i (at + n)) [
-              | inl within ↦ at_in at n mask again i from within (omega arith)
-                  ∙ ap (λ (y : ℕ). bit_xor y (get_or mask (i - at + 1) 0)) (get_or-set_other there start i f 0 other ∙ at_in at n mask once i from within (omega arith))
-                  ∙ xor_twice (get_or once i 0) (get_or mask (i - at + 1) 0)
-                  ∙ get_or-set_other bytes start i x 0 other
-              | inr past ↦ kept i (inr past) other
-            ]
-          ]
-        ])
+    elim (cases_eq i start) [
+      | inl here ↦ rw here (at_out at n mask again start (inl behind) ∙ get_or-set_same there start f 0 (omega arith))
+      | inr other ↦ elim (cases_lt i at) [
+        | inl before ↦ kept i (inl before) other
+        | inr from ↦ elim (cases_lt i (at + n)) [
+          | inl within ↦ at_in at n mask again i from within (omega arith)
+              ∙ ap (λ (y : ℕ). bit_xor y (get_or mask (i - at + 1) 0)) (get_or-set_other there start i f 0 other ∙ at_in at n mask once i from within (omega arith))
+              ∙ xor_twice (get_or once i 0) (get_or mask (i - at + 1) 0)
+              ∙ get_or-set_other bytes start i x 0 other
+          | inr past ↦ kept i (inr past) other
+        ]
+      ]
+    ])
 
 pub masked_back : (start at : ℕ) (mask bytes : List ℕ) → start < at → at + 4 ≤ length bytes → unmasked start at mask (masked start at mask bytes) ≡ bytes
 masked_back start at mask bytes behind room =

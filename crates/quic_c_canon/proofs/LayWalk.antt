@@ -1,5 +1,5 @@
 -- A walk over a payload that lays its frames in their shortest spellings, one behind the other.
-use Rattle.std.proofs.Common.{◌≡◌, ◌≢◌, ℕ, ◌+◌, ◌<◌, ◌≤◌, eqb, false, List, [], ◌∷◌, ◌++◌, length, map, take, drop, Some, None, Result, Err, refl, sym, ap, ◌∙◌, subst, append_assoc, inl, inr, arith}
+use Rattle.std.proofs.Common.{◌≡◌, ℕ, ◌+◌, ◌≤◌, eqb, false, List, [], ◌∷◌, ◌++◌, length, map, take, drop, Some, None, Result, Err, refl, sym, ap, ◌∙◌, subst, append_assoc, inl, inr, arith}
 use Rattle.std.proofs.lemmas.List.{append-nil, length-append, drop-drop, drop_at, take_at}
 use Rattle.quic_errors.specs.declared.invalid_frame.InvalidFrame.{InvalidFrame}
 use Rattle.quic_frames.specs.declared.frame.Frame.{Frame}
@@ -12,7 +12,6 @@ use Rattle.quic_frames.specs.Way.{Way}
 use Rattle.quic_frames.specs.Walk.{GivesFrames, GivesBroken, invalid_of, left, first_of, unplaced, given, Finds, Advances}
 use Rattle.quic_canon.proofs.LeastPayloads.{Shortest}
 use Rattle.quic_canon.proofs.Steps.{BeginsNone, Walks, walk_on, next_frame, frame_length, shortest_next, walk_begins, fails_err}
-use Rattle.quic_c_canon.specs.Answers.{HasLength}
 
 -- The bytes of the frames so far stand at the front, with what stood behind them.
 pub record Lays (payload old new : List ℕ) (at start : ℕ) (way : Way) (found : List Found) : Type 0 where

@@ -1,6 +1,5 @@
 -- The length that is written is the one that is filled in once the payload stands behind the head.
-use Rattle.std.proofs.Common.{◌≡◌, ℕ, ◌+◌, ◌-◌, ◌^◌, List, [], ◌∷◌, ◌++◌, length, take, drop, true, false, refl, sym, ap, ◌∙◌, append_assoc, arith}
-use Rattle.std.specs.Prelude.{IsTrue}
+use Rattle.std.proofs.Common.{◌≡◌, ℕ, ◌+◌, ◌-◌, ◌^◌, List, ◌++◌, length, take, drop, true, refl, sym, ap, ◌∙◌, append_assoc, arith}
 use Rattle.std.proofs.lemmas.List.{length-append, take_at, drop_at}
 use Rattle.quic_base.specs.Number.{bytes_of}
 use Rattle.quic_crypto.specs.PacketNumbers.{number_bytes, number_size}

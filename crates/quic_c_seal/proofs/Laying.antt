@@ -13,7 +13,7 @@ use Rattle.quic_headers.specs.declared.header.Header.TheVariants as header
 use Rattle.quic_headers.specs.declared.long_type.LongHeaderType.TheVariants as kind
 use Rattle.quic_headers.specs.Starts.{long_front}
 use Rattle.quic_headers.specs.Types.{first_byte}
-use Rattle.quic_headers.specs.Writing.{head_front, head_with, header_size, long_first}
+use Rattle.quic_headers.specs.Writing.{head_front, header_size, long_first}
 use Rattle.quic_c_seal.specs.Heads.{token_in}
 use Rattle.quic_c_seal.specs.Values.{head_end}
 

@@ -16,7 +16,10 @@ fn counted(words: &HeadWords) -> u16
     ensures value { words.now.kind ≤ 2 → words.now.number_len + words.now.body_len < 2 ^ 14 → result ≡ words.now.number_len + words.now.body_len }
 {
     let room = (1 << 14) - 1;
-    if words.kind > 2 || words.number_len > room || words.body_len > u64::from(room - words.number_len) {
+    if words.kind > 2
+        || words.number_len > room
+        || words.body_len > u64::from(room - words.number_len)
+    {
         return 0;
     }
     words.number_len as u16 + words.body_len as u16

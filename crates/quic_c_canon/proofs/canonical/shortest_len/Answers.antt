@@ -1,4 +1,4 @@
-use Rattle.std.proofs.Common.{◌≡◌, false, arith}
+use Rattle.std.proofs.Common.{false, arith}
 use Rattle.quic_frames.specs.Walk.{invalid_of}
 use Rattle.quic_canon.proofs.Steps.{finds_ok, fails_err, stands_at, small_at}
 use Rattle.quic_c_canon.proofs.LenWalk.{len_begins, len_on, len_done, len_fails}

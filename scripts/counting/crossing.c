@@ -2,6 +2,8 @@
 // Prints how many items one round has, and a number that depends on all of them. WORK is frames (every field of each),
 // many-frames (the same by calls that fill 16 entries, where a run of PADDING is one), ranges (of each ACK, read too),
 // acks (the same, frames and ranges by calls that fill 16), or packets (of each line as a datagram, ids of 8 bytes).
+// With a number in place of FILE: set-push (a run behind so many others), set-grow (the last of so many runs), set-contains
+// (each of so many) or set-ack (of so many), each a thousand times, less what set-0 takes.
 #include <stdint.h>
 #include <stdio.h>
 #include <stdlib.h>
@@ -94,6 +96,29 @@ static u64 packets_of(const uint8_t *datagram, size_t len) {
     return sum;
 }
 
+// A thousand calls on a set of so many runs of one number each.
+static u64 on_a_set(char work, size_t runs_len) {
+    static quic_wire_range runs[1025];
+    static uint8_t dest[1 << 15];
+    u64 sum = 0;
+    for (size_t k = 0; k < runs_len; k++)
+        runs[k] = (quic_wire_range){4 * k, 4 * k + 1};
+    for (u64 turn = 0; turn < 1000; turn++) {
+        size_t count = runs_len, written = 0;
+        if (work == 'p')
+            sum += quic_wire_set_insert(runs, 1025, &count, 4 * runs_len, 4 * runs_len + 1);
+        else if (work == 'g')
+            sum += quic_wire_set_insert(runs, 1025, &count, runs[count - 1].end, runs[count - 1].end + 1);
+        else if (work == 'c')
+            sum += quic_wire_set_contains(runs, count, 4 * (turn % runs_len));
+        else if (work == 'a')
+            sum += quic_wire_ack_write(turn, runs, count, NULL, dest, sizeof dest, &written);
+        sum += count + written;
+        items++;
+    }
+    return sum;
+}
+
 int main(int argc, char **argv) {
     static char line[1 << 20];
     static uint8_t *bytes[1 << 16];
@@ -102,6 +127,17 @@ int main(int argc, char **argv) {
     u64 sum = 0;
     if (argc != 4)
         return 2;
+    if (!strncmp(argv[1], "set-", 4)) {
+        size_t runs_len = strtoul(argv[3], NULL, 10);
+        if (runs_len > 1024)
+            return 2;
+        for (int r = 0; r < atoi(argv[2]); r++) {
+            items = 0;
+            sum += on_a_set(argv[1][4], runs_len);
+        }
+        printf("%lu items, %lu\n", (unsigned long)items, (unsigned long)sum);
+        return 0;
+    }
     FILE *file = fopen(argv[3], "r");
     if (!file)
         return 1;

@@ -64,6 +64,9 @@ fn a_payload_has_a_shortest_form() {
     assert_eq!(canonical(&[], &mut out), Err(CanonError::Empty));
     let error = canonical(&[0x01, 0x06], &mut out).unwrap_err();
     assert_eq!(error.to_string(), "unexpected end in CRYPTO");
+}
+
+#[test]
 fn a_set_is_acknowledged() {
     let (mut runs, mut count) = ([Run::default(); 4], 0);
     for number in [14, 1, 2, 10, 3, 5, 11] {

@@ -42,7 +42,7 @@ static size_t place(void) { return any() % 3 ? any() % 45 : (size_t)edge(); }
 
 static void nulls(void) {
   static const uint32_t one[] = {1};
-  quic_wire_frames frames = {0, QUIC_WIRE_NO_TYPE, 0};
+  quic_wire_frames frames = {0, QUIC_WIRE_NO_TYPE, 0, 0};
   quic_wire_frame frame;
   quic_wire_ack_ranges ranges;
   quic_wire_range range;
@@ -57,6 +57,9 @@ static void nulls(void) {
   WANT(quic_wire_frames_init(NULL, &byte, 1) == INVALID);
   WANT(quic_wire_frames_init(&frames, NULL, 1) == INVALID);
   WANT(quic_wire_frames_init(&frames, NULL, 0) == QUIC_WIRE_ERR_EMPTY);
+  WANT(quic_wire_frames_init_strict(NULL, &byte, 1) == INVALID);
+  WANT(quic_wire_frames_init_strict(&frames, NULL, 1) == INVALID);
+  WANT(quic_wire_frames_init_strict(&frames, NULL, 0) == QUIC_WIRE_ERR_EMPTY);
   WANT(quic_wire_frames_next(NULL, &byte, 1, &frame) == INVALID);
   WANT(quic_wire_frames_next(&frames, &byte, 1, NULL) == INVALID);
   WANT(quic_wire_frames_next(&frames, NULL, 1, &frame) == INVALID);
@@ -165,11 +168,13 @@ static void read_rubbish(const uint8_t *payload, size_t len) {
   quic_wire_frame frame;
   quic_wire_ack_ranges ranges;
   quic_wire_range range;
+  uint32_t strict = (uint32_t)(any() % 2 ? 0 : edge());
   size_t k;
   int answer = 0;
   frames.offset = place();
   frames.last_type = edge();
-  frames.ended = any() % 4 ? 0 : edge();
+  frames.ended = (uint32_t)(any() % 4 ? 0 : edge());
+  frames.strict = strict;
   memset(&frame, (int)(any() % 256), sizeof frame);
   for (k = 0; k < 50 && (answer = quic_wire_frames_next(&frames, payload, len,
                                                         &frame)) == 1; k++) {
@@ -178,6 +183,7 @@ static void read_rubbish(const uint8_t *payload, size_t len) {
   }
   WANT(k < 50 && (answer == 0 || answer == INVALID ||
                   answer == QUIC_WIRE_ERR_MALFORMED));
+  WANT(frames.strict == strict);
   ranges.begin = place();
   ranges.end = place();
   ranges.largest = edge();
@@ -199,7 +205,8 @@ static void fill_rubbish(const uint8_t *payload, size_t len) {
   int answer = 0;
   one.offset = place();
   one.last_type = edge();
-  one.ended = any() % 8 ? 0 : edge();
+  one.ended = (uint32_t)(any() % 8 ? 0 : edge());
+  one.strict = (uint32_t)(any() % 2 ? 0 : edge());
   many = one;
   memset(before, 0xa5, sizeof before);
   for (calls = 0; calls < 50; calls++) {
@@ -399,6 +406,47 @@ static int canonical_any(const uint8_t *payload, size_t len) {
   }
   free(dest);
   return answer == 0;
+}
+
+/* Whether a type stands first that has more bytes than it needs. */
+static int has_long_type(const uint8_t *bytes, size_t len) {
+  size_t width = len ? (size_t)1 << (bytes[0] >> 6) : 1, k;
+  uint64_t type = len ? bytes[0] & 0x3f : 0;
+  for (k = 1; k < width && k < len; k++)
+    type = type << 8 | bytes[k];
+  return width <= len && varint_len(type) < width;
+}
+
+/* Strict reading of any bytes, in which 0x40 is put somewhere, gives what other
+ * reading gives, up to the first type that is too long.  Returns whether there
+ * is such a one. */
+static int strict_any(const uint8_t *bytes, size_t len) {
+  size_t at = any() % 2 ? 0 : any() % (len + 1);
+  uint8_t *payload = block(len + 1);
+  quic_wire_frames strict, frames;
+  quic_wire_frame frame, other;
+  int answer = QUIC_WIRE_ITEM, is_long = 0;
+  memcpy(payload, bytes, at);
+  payload[at] = 0x40;
+  memcpy(payload + at + 1, bytes + at, len - at);
+  len++;
+  WANT(quic_wire_frames_init(&frames, payload, len) == 0);
+  WANT(quic_wire_frames_init_strict(&strict, payload, len) == 0);
+  while (answer == QUIC_WIRE_ITEM && !is_long) {
+    is_long = has_long_type(payload + strict.offset, len - strict.offset);
+    answer = quic_wire_frames_next(&strict, payload, len, &frame);
+    if (is_long) {
+      WANT(answer == QUIC_WIRE_ERR_MALFORMED);
+      WANT(quic_wire_error_reason(&frame) == QUIC_WIRE_REASON_LONG_TYPE);
+      WANT(frame.begin == frames.offset);
+    } else {
+      WANT(quic_wire_frames_next(&frames, payload, len, &other) == answer);
+      WANT(answer == 0 || !memcmp(&frame, &other, sizeof frame));
+    }
+  }
+  WANT(quic_wire_frames_next(&strict, payload, len, &frame) == 0);
+  free(payload);
+  return is_long;
 }
 
 /* Cuts any bytes into packets, and takes protection off any of them. */
@@ -917,7 +965,7 @@ static void set_rubbish(void) {
 }
 
 static void rubbish(int rounds) {
-  int i, said = 0, heads = 0, forms = 0;
+  int i, said = 0, heads = 0, forms = 0, longs = 0;
   for (i = 0; i < rounds; i++) {
     size_t len = any() % 40, k;
     uint8_t *bytes = block(len);
@@ -931,6 +979,7 @@ static void rubbish(int rounds) {
     protect_rubbish(bytes, len);
     heads += head_written();
     forms += canonical_any(bytes, len);
+    longs += strict_any(bytes, len);
     number_len_any();
     params_any(bytes, len);
     set_rubbish();
@@ -941,6 +990,7 @@ static void rubbish(int rounds) {
     free(bytes);
   }
   WANT(said > rounds / 20 && heads > rounds / 3 && forms > rounds / 50);
+  WANT(longs > rounds / 5);
 }
 
 /* A short head with a number of each size, protected by a mask of one's own. */

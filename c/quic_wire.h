@@ -92,13 +92,16 @@ extern "C" {
 #define QUIC_WIRE_REASON_UNEXPECTED_END 1
 #define QUIC_WIRE_REASON_INVALID_FRAME_ID 2
 #define QUIC_WIRE_REASON_MALFORMED 3
+#define QUIC_WIRE_REASON_LONG_TYPE 4 /* quic_wire_frames_init_strict alone */
 
 /* How far an iterator over a payload has come.  A struct of any other words is
  * harmless, and reads from |offset| on. */
 typedef struct quic_wire_frames {
   size_t offset;      /* the end of the last whole frame, in bytes */
   uint64_t last_type; /* its type as it stands there, or QUIC_WIRE_NO_TYPE */
-  uint64_t ended;     /* not 0 once something was no frame */
+  uint32_t ended;     /* not 0 once something was no frame */
+  uint32_t strict;    /* not 0: a type in another spelling than its shortest is
+                         no frame */
 } quic_wire_frames;
 
 /* A frame.  Each number of the union that |kind| doesn't name is 0, as
@@ -306,6 +309,10 @@ typedef struct quic_wire_params {
 /* What the library asserts of its own structs. */
 #if defined(__STDC_VERSION__) && __STDC_VERSION__ >= 201112L
 _Static_assert(sizeof(quic_wire_frames) == 24, "64-bit words");
+_Static_assert(offsetof(quic_wire_frames, offset) == 0, "64-bit words");
+_Static_assert(offsetof(quic_wire_frames, last_type) == 8, "64-bit words");
+_Static_assert(offsetof(quic_wire_frames, ended) == 16, "no room");
+_Static_assert(offsetof(quic_wire_frames, strict) == 20, "no room");
 _Static_assert(sizeof(quic_wire_frame) == 80, "64-bit words");
 _Static_assert(offsetof(quic_wire_frame, numbers) == 40, "64-bit words");
 _Static_assert(sizeof(quic_wire_range) == 16, "64-bit words");
@@ -334,6 +341,8 @@ _Static_assert(offsetof(quic_wire_params, preferred_v4) == 260, "no room");
 /* The functions of the library.  Their pointers must not be NULL, which those
  * below see to. */
 int32_t quic_wire_frames_init_(quic_wire_frames *, const uint8_t *, size_t);
+int32_t quic_wire_frames_init_strict_(quic_wire_frames *, const uint8_t *,
+                                      size_t);
 int32_t quic_wire_frames_next_(quic_wire_frames *, const uint8_t *, size_t,
                                quic_wire_frame *);
 int32_t quic_wire_frames_fill_(quic_wire_frames *, const uint8_t *, size_t,
@@ -395,6 +404,21 @@ static inline int quic_wire_frames_init(quic_wire_frames *frames,
   if (!payload)
     payload = (const uint8_t *)quic_wire_nothing();
   return quic_wire_frames_init_(frames, payload, payloadlen);
+}
+
+/*
+ * The same, where a type in another spelling than its shortest is no frame
+ * (RFC 9000, section 12.4): it is told with QUIC_WIRE_REASON_LONG_TYPE.  Other
+ * fields may have any width.
+ */
+static inline int quic_wire_frames_init_strict(quic_wire_frames *frames,
+                                               const uint8_t *payload,
+                                               size_t payloadlen) {
+  if (!frames || (!payload && payloadlen))
+    return QUIC_WIRE_ERR_INVALID_ARGUMENT;
+  if (!payload)
+    payload = (const uint8_t *)quic_wire_nothing();
+  return quic_wire_frames_init_strict_(frames, payload, payloadlen);
 }
 
 /*
@@ -880,6 +904,7 @@ static inline const char *quic_wire_reason_text(uint32_t reason) {
   case QUIC_WIRE_REASON_UNEXPECTED_END: return "unexpected end";
   case QUIC_WIRE_REASON_INVALID_FRAME_ID: return "invalid frame ID";
   case QUIC_WIRE_REASON_MALFORMED: return "malformed";
+  case QUIC_WIRE_REASON_LONG_TYPE: return "frame type not in shortest form";
   default: return "unknown";
   }
 }

@@ -1,7 +1,7 @@
 /* show MODE: the modes of `quic-show` that the calls for C have, with the same
- * text and status: `frames`, `canon`, `datagram LEN`, `params SIDE`.  Its input is
- * lines of hexadecimal.  Each line's bytes stand in a block of just their length, so
- * that a sanitizer or valgrind sees each byte that is read past it. */
+ * text and status: `frames`, `strict`, `canon`, `datagram LEN`, `params SIDE`.  Its
+ * input is lines of hexadecimal.  Each line's bytes stand in a block of just their
+ * length, so that a sanitizer or valgrind sees each byte that is read past it. */
 #define _POSIX_C_SOURCE 200809L
 #include <inttypes.h>
 #include <stdio.h>
@@ -52,10 +52,11 @@ static void print_invalid(uint64_t type, uint32_t reason) {
 }
 
 /* Each of these returns whether no error was printed. */
-static int print_frames(const uint8_t *payload, size_t len) {
+static int print_frames(const uint8_t *payload, size_t len, int strict) {
   quic_wire_frames frames;
   quic_wire_frame frame;
-  int answer = quic_wire_frames_init(&frames, payload, len);
+  int answer = (strict ? quic_wire_frames_init_strict : quic_wire_frames_init)(
+      &frames, payload, len);
   if (answer == QUIC_WIRE_ERR_EMPTY) {
     puts("error packet payload is empty");
     return 0;
@@ -212,7 +213,7 @@ int main(int argc, char **argv) {
   char *line = NULL;
   size_t cap = 0;
   ssize_t got;
-  int clean = 1, cidlen = -1, side = -1, canon = 0;
+  int clean = 1, cidlen = -1, side = -1, canon = 0, strict = 0;
   if (argc == 3 && !strcmp(argv[1], "datagram"))
     cidlen = atoi(argv[2]);
   else if (argc == 3 && !strcmp(argv[1], "params") &&
@@ -220,6 +221,8 @@ int main(int argc, char **argv) {
     side = strcmp(argv[2], "server") ? QUIC_WIRE_CLIENT : QUIC_WIRE_SERVER;
   else if (argc == 2 && !strcmp(argv[1], "canon"))
     canon = 1;
+  else if (argc == 2 && !strcmp(argv[1], "strict"))
+    strict = 1;
   else if (argc != 2 || strcmp(argv[1], "frames"))
     return 2;
   while ((got = getline(&line, &cap, stdin)) >= 0) {
@@ -249,7 +252,7 @@ int main(int argc, char **argv) {
     else if (canon)
       clean &= print_canonical(block, (size_t)bytes);
     else
-      clean &= print_frames(block, (size_t)bytes);
+      clean &= print_frames(block, (size_t)bytes, strict);
     free(block);
   }
   free(line);

@@ -1,7 +1,7 @@
-//! show MODE: the modes of `quic-show` that this crate has, with the same text and status: `frames`, `canon`,
-//! `datagram LEN`, `params SIDE`.
+//! show MODE: the modes of `quic-show` that this crate has, with the same text and status: `frames`, `strict`,
+//! `canon`, `datagram LEN`, `params SIDE`.
 use quic_wire::canonical::canonical;
-use quic_wire::frame::Iter;
+use quic_wire::frame::{EmptyPayload, Iter};
 use quic_wire::packet::{DEFAULT_SUPPORTED_VERSIONS, LongType, Packets, PartialDecode, ProtectedHeader};
 use quic_wire::transport_parameters::{Error, PreferredAddress, Side, TransportParameters};
 use std::io::{self, BufRead, Write};
@@ -13,8 +13,8 @@ fn unhex(line: &str) -> Option<Vec<u8>> {
     pairs.remainder().is_empty().then(|| pairs.map(|pair| (pair[0] * 16 + pair[1]) as u8).collect())
 }
 
-fn print_frames(payload: &[u8], out: &mut impl Write) -> io::Result<bool> {
-    let mut frames = match Iter::new(payload) {
+fn print_frames(found: Result<Iter<'_>, EmptyPayload>, out: &mut impl Write) -> io::Result<bool> {
+    let mut frames = match found {
         Ok(frames) => frames,
         Err(empty) => {
             writeln!(out, "error {empty}")?;
@@ -140,8 +140,9 @@ fn main() -> io::Result<ExitCode> {
     let words: Vec<String> = std::env::args().skip(1).collect();
     let mut side = None;
     let is_canon = words == ["canon"];
+    let is_strict = words == ["strict"];
     let cid_len = match words.iter().map(String::as_str).collect::<Vec<_>>()[..] {
-        ["frames" | "canon"] => None,
+        ["frames" | "strict" | "canon"] => None,
         ["params", "client"] => {
             side = Some(Side::Client);
             None
@@ -164,7 +165,8 @@ fn main() -> io::Result<ExitCode> {
             (Some(bytes), None) => match side {
                 Some(side) => print_params(side, &bytes, &mut out)?,
                 None if is_canon => print_canonical(&bytes, &mut out)?,
-                None => print_frames(&bytes, &mut out)?,
+                None if is_strict => print_frames(Iter::strict(&bytes), &mut out)?,
+                None => print_frames(Iter::new(&bytes), &mut out)?,
             },
             (Some(bytes), Some(len)) => print_packets(&bytes, len, &mut out)?,
         };

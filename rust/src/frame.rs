@@ -35,6 +35,8 @@ pub enum Reason {
     InvalidFrameId,
     /// A field has a value that it may not have.
     Malformed,
+    /// The type is not in its shortest spelling, which [`Iter::strict`] alone tells.
+    LongType,
 }
 
 impl fmt::Display for InvalidFrame {
@@ -43,6 +45,7 @@ impl fmt::Display for InvalidFrame {
             Reason::UnexpectedEnd => "unexpected end",
             Reason::InvalidFrameId => "invalid frame ID",
             Reason::Malformed => "malformed",
+            Reason::LongType => "frame type not in shortest form",
         })?;
         match self.ty {
             Some(ty) => write!(f, " in {ty}"),
@@ -405,10 +408,20 @@ pub struct Iter<'a> {
 impl<'a> Iter<'a> {
     /// Begins at the front of a payload. An empty one is refused.
     pub fn new(payload: &'a [u8]) -> Result<Self, EmptyPayload> {
+        Iter::begin(payload, 0)
+    }
+
+    /// The same, where a type in another spelling than its shortest is no frame (RFC 9000, section 12.4). Other fields may
+    /// have any width.
+    pub fn strict(payload: &'a [u8]) -> Result<Self, EmptyPayload> {
+        Iter::begin(payload, 1)
+    }
+
+    fn begin(payload: &'a [u8], strict: u32) -> Result<Self, EmptyPayload> {
         if payload.is_empty() {
             return Err(EmptyPayload);
         }
-        let state = sys::Frames { offset: 0, last_type: u64::MAX, ended: 0 };
+        let state = sys::Frames { offset: 0, last_type: u64::MAX, ended: 0, strict };
         Ok(Iter { payload, state, offset: 0, entries: [NO_FRAME; ENTRIES], next: 0, filled: 0 })
     }
 
@@ -468,6 +481,7 @@ pub(crate) fn invalid_by(last_type: u64, reason: u64) -> InvalidFrame {
         reason: match reason {
             1 => Reason::UnexpectedEnd,
             2 => Reason::InvalidFrameId,
+            4 => Reason::LongType,
             _ => Reason::Malformed,
         },
     }

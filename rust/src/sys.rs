@@ -10,7 +10,8 @@
 pub struct Frames {
     pub offset: usize,
     pub last_type: u64,
-    pub ended: u64,
+    pub ended: u32,
+    pub strict: u32,
 }
 
 /// A frame.
@@ -132,6 +133,7 @@ pub struct Params {
 
 // What the library asserts too.
 const _: () = assert!(size_of::<Frames>() == 24 && size_of::<Frame>() == 80);
+const _: () = assert!(std::mem::offset_of!(Frames, ended) == 16 && std::mem::offset_of!(Frames, strict) == 20);
 const _: () = assert!(size_of::<Range>() == 16 && size_of::<Ranges>() == 24);
 const _: () = assert!(size_of::<Packet>() == 96 && size_of::<Opened>() == 24);
 const _: () = assert!(std::mem::offset_of!(Frame, numbers) == 40);

@@ -105,6 +105,23 @@ fn refusals() {
 }
 
 #[test]
+fn a_long_type_is_refused_where_types_are_strict() {
+    // A MAX_DATA whose number takes two bytes, two PADDING, and a PING whose type does.
+    let payload = [0x10, 0x40, 0x01, 0x00, 0x00, 0x40, 0x01];
+    let front = [Frame::MaxData(1), Frame::Padding, Frame::Padding].map(Ok);
+    let mut strict = Iter::strict(&payload).unwrap();
+    assert_eq!(strict.by_ref().take(3).collect::<Vec<_>>(), front);
+    let e = strict.next().unwrap().unwrap_err();
+    assert_eq!((e.ty.map(u64::from), e.reason, strict.offset()), (Some(1), Reason::LongType, 5));
+    assert_eq!(e.to_string(), "frame type not in shortest form in PING");
+    assert_eq!(strict.next(), None);
+    assert_eq!(Iter::new(&payload).unwrap().collect::<Vec<_>>(), [&front[..], &[Ok(Frame::Ping)]].concat());
+    assert_eq!(Iter::new(&[0x40, 0x01]).unwrap().next(), Some(Ok(Frame::Ping)));
+    assert_eq!(Iter::strict(&[0x40, 0x01]).unwrap().next(), Some(Err(e)));
+    assert_eq!(Iter::strict(&[]).err(), Some(EmptyPayload));
+}
+
+#[test]
 fn a_packet_is_opened() {
     // A short head with an id of two bytes and a number of one byte, under a mask of ones and fives.
     let mut datagram = [0x5f, 0xaa, 0xbb, 0x2c ^ 0x05, 1, 2, 3, 4, 5, 6, 7];

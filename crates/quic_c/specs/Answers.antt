@@ -13,9 +13,9 @@ use Rattle.quic_c.specs.declared.words.RangeWords.{RangeWords}
 use Rattle.quic_c.specs.declared.words.RangesWords.{RangesWords}
 use Rattle.quic_c.specs.Shown.{way_of, type_word, shown, shown_invalid}
 
--- the number of a reason: 1 unexpected end, 2 invalid frame ID, 3 malformed
+-- the number of a reason: 1 unexpected end, 2 invalid frame ID, 3 malformed, 4 frame type not in shortest form
 abbrev pub reason_in : List ℕ → ℕ
-reason_in reason = if pointwise nat_eq reason (codes "unexpected end") then 1 else if pointwise nat_eq reason (codes "invalid frame ID") then 2 else 3
+reason_in reason = if pointwise nat_eq reason (codes "unexpected end") then 1 else if pointwise nat_eq reason (codes "invalid frame ID") then 2 else if pointwise nat_eq reason (codes "frame type not in shortest form") then 4 else 3
 
 -- A frame was found where the words stand, and its words were given.
 pub record GivesFrame (old : FramesWords) (payload : List ℕ) (new : FramesWords) (out : FrameWords) : Type 0 where

@@ -81,7 +81,12 @@ pub extern "C" fn quic_wire_frames_fill_(
     ensures counted { (result ≡ pos 1) ⊎ (count.new ≡ count.old) }
 {
     let begin = frames.offset;
-    let Some(mut iter) = Iter::resume(payload, begin, type_in(frames.last_type)) else {
+    let Some(mut iter) = Iter::resume(
+        payload,
+        begin,
+        type_in(frames.last_type),
+        frames.strict != 0,
+    ) else {
         return -1;
     };
     if out.is_empty() {

@@ -1,5 +1,5 @@
 //! The frames of a payload, one with each call.
-ghost use Rattle.std.specs.Prelude.{◌≡◌, ◌<◌, ◌^◌, ◌-◌, ◌↔◌, ◌⊎◌, ℕ, [], ◌∷◌, pos, negsuc, length, codes, false, None};
+ghost use Rattle.std.specs.Prelude.{◌≡◌, ◌<◌, ◌^◌, ◌-◌, ◌↔◌, ◌⊎◌, ℕ, [], ◌∷◌, pos, negsuc, length, codes, true, false, not, ◌==◌, None};
 ghost use Rattle.quic_frames.specs.declared.frame.Frame.{Frame};
 ghost use Rattle.quic_frame_parts.specs.Reading.{Invalid, Broken, invalid};
 ghost use Rattle.quic_frames.specs.Walk.{left, first_of, Finds};
@@ -38,18 +38,18 @@ fn reason_in(reason: &str) -> u32
     match reason {
         "unexpected end" => 1,
         "invalid frame ID" => 2,
+        "frame type not in shortest form" => 4,
         _ => 3,
     }
 }
 
-/// Begins at the front of a payload. It answers 0, or -2 just where the payload is empty, which is refused with
-/// PROTOCOL_VIOLATION (RFC 9000, section 12.4); then nothing changes.
-#[unsafe(no_mangle)]
-pub extern "C" fn quic_wire_frames_init_(frames: &mut FramesWords, payload: &[u8]) -> i32
+// Begins at the front of a payload, by the word for strict reading.
+#[inline(always)]
+fn begin(frames: &mut FramesWords, payload: &[u8], strict: u32) -> i32
     ensures answers { (result ≡ pos 0) ⊎ (result ≡ negsuc 1) }
     ensures empty { (result ≡ negsuc 1) ↔ (payload.now ≡ []) }
-    ensures front { result ≡ pos 0 → frames.new ≡ at_front }
-    ensures first { result ≡ pos 0 → way_of frames.new payload.now ≡ first_of false payload.now }
+    ensures front { result ≡ pos 0 → frames.new ≡ at_front strict }
+    ensures first { result ≡ pos 0 → way_of frames.new payload.now ≡ first_of (not (strict == 0)) payload.now }
     ensures refused { result ≡ negsuc 1 → frames.new ≡ frames.old }
 {
     if payload.is_empty() {
@@ -59,8 +59,35 @@ pub extern "C" fn quic_wire_frames_init_(frames: &mut FramesWords, payload: &[u8
         offset: 0,
         last_type: u64::MAX,
         ended: 0,
+        strict,
     };
     0
+}
+
+/// Begins at the front of a payload. It answers 0, or -2 just where the payload is empty, which is refused with
+/// PROTOCOL_VIOLATION (RFC 9000, section 12.4); then nothing changes.
+#[unsafe(no_mangle)]
+pub extern "C" fn quic_wire_frames_init_(frames: &mut FramesWords, payload: &[u8]) -> i32
+    ensures answers { (result ≡ pos 0) ⊎ (result ≡ negsuc 1) }
+    ensures empty { (result ≡ negsuc 1) ↔ (payload.now ≡ []) }
+    ensures front { result ≡ pos 0 → frames.new ≡ at_front 0 }
+    ensures first { result ≡ pos 0 → way_of frames.new payload.now ≡ first_of false payload.now }
+    ensures refused { result ≡ negsuc 1 → frames.new ≡ frames.old }
+{
+    begin(frames, payload, 0)
+}
+
+/// The same, where a type in another spelling than its shortest is no frame (RFC 9000, section 12.4). Other fields may
+/// have any width.
+#[unsafe(no_mangle)]
+pub extern "C" fn quic_wire_frames_init_strict_(frames: &mut FramesWords, payload: &[u8]) -> i32
+    ensures answers { (result ≡ pos 0) ⊎ (result ≡ negsuc 1) }
+    ensures empty { (result ≡ negsuc 1) ↔ (payload.now ≡ []) }
+    ensures front { result ≡ pos 0 → frames.new ≡ at_front 1 }
+    ensures first { result ≡ pos 0 → way_of frames.new payload.now ≡ first_of true payload.now }
+    ensures refused { result ≡ negsuc 1 → frames.new ≡ frames.old }
+{
+    begin(frames, payload, 1)
 }
 
 // What is no frame, told as words.
@@ -95,7 +122,12 @@ pub extern "C" fn quic_wire_frames_next_(
     ensures refused { result ≡ negsuc 0 → (frames.new ≡ frames.old) × (out.new ≡ out.old) }
 {
     let begin = frames.offset;
-    let Some(mut iter) = Iter::resume(payload, begin, type_in(frames.last_type)) else {
+    let Some(mut iter) = Iter::resume(
+        payload,
+        begin,
+        type_in(frames.last_type),
+        frames.strict != 0,
+    ) else {
         return -1;
     };
     if frames.ended != 0 {

@@ -9,7 +9,9 @@ pub struct FramesWords {
     /// The type of the last frame as it stands there; from 2^62 on: none.
     pub last_type: u64,
     /// 0 until something was no frame.
-    pub ended: u64,
+    pub ended: u32,
+    /// Not 0: a type in another spelling than its shortest is no frame.
+    pub strict: u32,
 }
 
 /// A frame.

@@ -23,8 +23,8 @@ abbrev pub first_of : Bool → List ℕ → Way
 first_of strict payload = record { strict = strict; payload = payload; offset = 0; last = None; is_broken = false }
 
 -- at a later place, behind a frame of this type
-abbrev pub resumed : List ℕ → ℕ → Option ℕ → Way
-resumed payload offset last = record { strict = false; payload = payload; offset = offset; last = last; is_broken = false }
+abbrev pub resumed : List ℕ → ℕ → Option ℕ → Bool → Way
+resumed payload offset last strict = record { strict = strict; payload = payload; offset = offset; last = last; is_broken = false }
 
 -- an item without its place
 abbrev pub unplaced : Item → Result Found Invalid

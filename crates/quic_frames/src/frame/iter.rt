@@ -91,18 +91,23 @@ impl<'a> Iter<'a> {
         })
     }
 
-    /// An iterator as `new` gives it, at a later place: the end of a whole frame, in bytes, with the type of
-    /// that frame, which is told if the next type is cut off. `None` just where the place lies past the
-    /// payload. What stands before it isn't read. It takes no memory.
-    pub fn resume(payload: &'a [u8], offset: usize, last: Option<FrameType>) -> Option<Self>
+    /// An iterator as `new` or, where `strict` is true, as `strict` gives it, at a later place: the end of a
+    /// whole frame, in bytes, with the type of that frame, which is told if the next type is cut off. `None`
+    /// just where the place lies past the payload. What stands before it isn't read. It takes no memory.
+    pub fn resume(
+        payload: &'a [u8],
+        offset: usize,
+        last: Option<FrameType>,
+        strict: bool,
+    ) -> Option<Self>
         ensures past { IsNone result ↔ (length payload.now < offset) }
-        ensures way { IfSome result (λ it. it ≡ resumed payload.now offset last) }
+        ensures way { IfSome result (λ it. it ≡ resumed payload.now offset last strict) }
     {
         if offset > payload.len() {
             return None;
         }
         Some(Iter {
-            strict: false,
+            strict,
             payload,
             offset,
             last,

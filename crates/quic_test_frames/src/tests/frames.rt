@@ -114,7 +114,7 @@ fn one_error_and_then_nothing(rt: HostRuntime) -> Result<(), Fail> {
 fn an_iterator_that_goes_on(rt: HostRuntime) -> Result<(), Fail> {
     let mut checks = Checks::new(rt.alloc());
     let payload = b"\x01\x06\x00\x01a\x40".as_slice();
-    let Some(mut iter) = Iter::resume(payload, 1, Some(FrameType::PING)) else {
+    let Some(mut iter) = Iter::resume(payload, 1, Some(FrameType::PING), false) else {
         return Err("an iterator".into());
     };
     checks.same(iter.last_type(), Some(FrameType::PING));
@@ -124,18 +124,25 @@ fn an_iterator_that_goes_on(rt: HostRuntime) -> Result<(), Fail> {
     checks.same(crypto.bytes, b"a".as_slice());
     checks.same(iter.offset(), 5);
     checks.same(iter.last_type(), Some(FrameType::CRYPTO));
-    let Some(mut iter) = Iter::resume(payload, 5, Some(FrameType::CRYPTO)) else {
+    let Some(mut iter) = Iter::resume(payload, 5, Some(FrameType::CRYPTO), false) else {
         return Err("an iterator".into());
     };
     checks.holds(matches!(
         iter.next(),
         Some(Err(invalid)) if invalid.ty == Some(FrameType::CRYPTO) && invalid.reason == "unexpected end"
     ));
-    let Some(mut iter) = Iter::resume(payload, 6, None) else {
+    let Some(mut iter) = Iter::resume(payload, 6, None, false) else {
         return Err("an iterator".into());
     };
     checks.holds(iter.next().is_none());
-    checks.holds(Iter::resume(payload, 7, None).is_none());
+    checks.holds(Iter::resume(payload, 7, None, false).is_none());
+    let Some(mut iter) = Iter::resume(b"\x01\x40\x01", 1, None, true) else {
+        return Err("an iterator".into());
+    };
+    checks.holds(matches!(
+        iter.next(),
+        Some(Err(invalid)) if invalid.ty == Some(FrameType::PING) && invalid.reason == "frame type not in shortest form"
+    ));
     checks.verdict()
 }
 

@@ -1,5 +1,5 @@
 -- What was masked is unmasked again.
-use Rattle.std.proofs.Common.{◌≡◌, ◌+◌, ◌<◌, ◌≤◌, length, ap, ◌∙◌, arith, rules}
+use Rattle.std.proofs.Common.{◌≡◌, length, ap, ◌∙◌, arith, rules}
 use Rattle.quic_c.specs.Protecting.{masked}
 use Rattle.quic_c.specs.Unprotecting.{unmasked, NamesNumber}
 use Rattle.quic_c.proofs.Masks.{masked_back}

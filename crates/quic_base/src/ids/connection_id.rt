@@ -159,7 +159,10 @@ fn copy_front(to: &mut [u8; MAX_CID_SIZE], bytes: &[u8])
     ensures { to.new ≡ bytes.now ++ drop (length bytes.now) to.old }
 {
     let len = bytes.len();
-    if len >= 16 {
+    if len == 8 {
+        // The usual length, by one load.
+        to[..8].copy_from_slice(bytes);
+    } else if len >= 16 {
         copy_ends::<16>(to, bytes);
     } else if len >= 8 {
         copy_ends::<8>(to, bytes);

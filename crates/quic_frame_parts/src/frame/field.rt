@@ -70,10 +70,10 @@ fn gap(low: u64, bytes: &[u8]) -> Result<(u64, &[u8]), Fault>
 fn two_short(bytes: &[u8]) -> Option<(u64, u64, &[u8])>
     ensures { IfSome result (λ x. (bytes.now ≡ x.0 ∷ x.1 ∷ x.2.now) × (x.0 < 64) × (x.1 < 64)) }
 {
-    let (first, rest) = bytes.split_first()?;
-    let (second, rest) = rest.split_first()?;
-    if *first < 64 && *second < 64 {
-        Some((u64::from(*first), u64::from(*second), rest))
+    let (front, rest) = bytes.split_first_chunk::<2>()?;
+    let [first, second] = *front;
+    if (first < 64) & (second < 64) {
+        Some((u64::from(first), u64::from(second), rest))
     } else {
         None
     }

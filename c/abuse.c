@@ -75,6 +75,10 @@ static void nulls(void) {
   WANT(quic_wire_ack_ranges_init(NULL, &byte, 1, &frame) == INVALID);
   WANT(quic_wire_ack_ranges_init(&ranges, NULL, 1, &frame) == INVALID);
   WANT(quic_wire_ack_ranges_init(&ranges, &byte, 1, NULL) == INVALID);
+  WANT(quic_wire_ack_ranges_init_unchecked(NULL, &byte, 1, &frame) == INVALID);
+  WANT(quic_wire_ack_ranges_init_unchecked(&ranges, NULL, 1, &frame) ==
+       INVALID);
+  WANT(quic_wire_ack_ranges_init_unchecked(&ranges, &byte, 1, NULL) == INVALID);
   WANT(quic_wire_ack_ranges_next(NULL, &byte, 1, &range) == INVALID);
   WANT(quic_wire_ack_ranges_next(&ranges, NULL, 1, &range) == INVALID);
   WANT(quic_wire_ack_ranges_next(&ranges, &byte, 1, NULL) == INVALID);
@@ -194,6 +198,9 @@ static void read_rubbish(const uint8_t *payload, size_t len) {
   frame.begin = place();
   frame.end = place();
   quic_wire_ack_ranges_init(&ranges, payload, len, &frame);
+  if (quic_wire_ack_ranges_init_unchecked(&ranges, payload, len, &frame) == 0)
+    WANT(frame.begin <= ranges.begin && ranges.begin <= ranges.end &&
+         ranges.end <= frame.end && frame.end <= len);
 }
 
 /* The frames from any place on, many with one call, are those of single calls,
@@ -313,7 +320,7 @@ static void write_rubbish(const uint8_t *data, size_t len) {
 static void same_frame(const uint8_t *a, size_t alen, const quic_wire_frame *x,
                        const uint8_t *b, size_t blen,
                        const quic_wire_frame *y) {
-  quic_wire_ack_ranges some, others;
+  quic_wire_ack_ranges some, others, unchecked;
   quic_wire_range one, other;
   WANT(x->kind == y->kind && x->flags == y->flags && x->datalen == y->datalen);
   WANT(!memcmp(x->numbers, y->numbers, sizeof x->numbers));
@@ -324,6 +331,8 @@ static void same_frame(const uint8_t *a, size_t alen, const quic_wire_frame *x,
     return;
   WANT(quic_wire_ack_ranges_init(&some, a, alen, x) == 0);
   WANT(quic_wire_ack_ranges_init(&others, b, blen, y) == 0);
+  WANT(quic_wire_ack_ranges_init_unchecked(&unchecked, b, blen, y) == 0);
+  WANT(!memcmp(&others, &unchecked, sizeof others));
   while (quic_wire_ack_ranges_next(&some, a, alen, &one) == 1) {
     WANT(quic_wire_ack_ranges_next(&others, b, blen, &other) == 1);
     WANT(one.start == other.start && one.end == other.end);

@@ -349,6 +349,9 @@ int32_t quic_wire_frames_fill_(quic_wire_frames *, const uint8_t *, size_t,
                                quic_wire_frame *, size_t, size_t *);
 int32_t quic_wire_ack_ranges_init_(quic_wire_ack_ranges *, const uint8_t *,
                                    size_t, const quic_wire_frame *);
+int32_t quic_wire_ack_ranges_init_unchecked_(quic_wire_ack_ranges *,
+                                             const uint8_t *, size_t,
+                                             const quic_wire_frame *);
 int32_t quic_wire_ack_ranges_next_(quic_wire_ack_ranges *, const uint8_t *,
                                    size_t, quic_wire_range *);
 int32_t quic_wire_ack_ranges_fill_(quic_wire_ack_ranges *, const uint8_t *,
@@ -494,6 +497,21 @@ static inline int quic_wire_ack_ranges_init(quic_wire_ack_ranges *ranges,
   if (!ranges || !payload || !frame)
     return QUIC_WIRE_ERR_INVALID_ARGUMENT;
   return quic_wire_ack_ranges_init_(ranges, payload, payloadlen, frame);
+}
+
+/*
+ * The same without a second look at the blocks of an ACK without counts, for
+ * a frame that was read of this payload.  Of other words it may return 0 too;
+ * the call that comes to blocks that are none refuses them then.
+ */
+static inline int
+quic_wire_ack_ranges_init_unchecked(quic_wire_ack_ranges *ranges,
+                                    const uint8_t *payload, size_t payloadlen,
+                                    const quic_wire_frame *frame) {
+  if (!ranges || !payload || !frame)
+    return QUIC_WIRE_ERR_INVALID_ARGUMENT;
+  return quic_wire_ack_ranges_init_unchecked_(ranges, payload, payloadlen,
+                                              frame);
 }
 
 /*

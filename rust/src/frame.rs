@@ -352,7 +352,7 @@ impl<'a> Ack<'a> {
         let mut frame = NO_FRAME;
         frame.end = self.bytes.len();
         let mut state = sys::Ranges { begin: 0, end: 0, largest: 0 };
-        // The bytes were read as an ACK, so they are one again; were they none, there would be no range.
+        // The bytes were read as an ACK, so they are one again, and need no second look.
         sys::ack_ranges_init(&mut state, self.bytes, &frame);
         AckIter { bytes: self.bytes, state }
     }

@@ -158,7 +158,7 @@ unsafe extern "C" {
         room: usize,
         count: &mut usize,
     ) -> i32;
-    fn quic_wire_ack_ranges_init_(ranges: &mut Ranges, payload: *const u8, len: usize, frame: &Frame) -> i32;
+    fn quic_wire_ack_ranges_init_unchecked_(ranges: &mut Ranges, payload: *const u8, len: usize, frame: &Frame) -> i32;
     fn quic_wire_ack_ranges_next_(ranges: &mut Ranges, payload: *const u8, len: usize, out: &mut Range) -> i32;
     fn quic_wire_frame_write_(
         frame: &Frame,
@@ -271,7 +271,7 @@ pub fn frames_fill(frames: &mut Frames, payload: &[u8], out: &mut [Frame], count
 #[inline]
 pub fn ack_ranges_init(ranges: &mut Ranges, payload: &[u8], frame: &Frame) -> i32 {
     // SAFETY: as above.
-    unsafe { quic_wire_ack_ranges_init_(ranges, payload.as_ptr(), payload.len(), frame) }
+    unsafe { quic_wire_ack_ranges_init_unchecked_(ranges, payload.as_ptr(), payload.len(), frame) }
 }
 
 #[inline]

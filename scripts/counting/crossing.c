@@ -30,7 +30,7 @@ static u64 frames_of(const uint8_t *payload, size_t len, int ranges) {
         } else if (frame.kind == QUIC_WIRE_ACK) {
             quic_wire_ack_ranges at;
             quic_wire_range range;
-            if (quic_wire_ack_ranges_init(&at, payload, len, &frame))
+            if (quic_wire_ack_ranges_init_unchecked(&at, payload, len, &frame))
                 continue;
             while (quic_wire_ack_ranges_next(&at, payload, len, &range) == QUIC_WIRE_ITEM) {
                 sum += range.start ^ range.end;
@@ -48,7 +48,7 @@ static u64 many_ranges_of(const uint8_t *payload, size_t len, const quic_wire_fr
     quic_wire_range filled[MANY];
     size_t count;
     u64 sum = 0;
-    if (quic_wire_ack_ranges_init(&ranges, payload, len, ack))
+    if (quic_wire_ack_ranges_init_unchecked(&ranges, payload, len, ack))
         return 0;
     while (ranges.begin < ranges.end &&
            quic_wire_ack_ranges_fill(&ranges, payload, len, filled, MANY, &count) == QUIC_WIRE_ITEM) {

@@ -2,5 +2,6 @@ pub mod Places
 mod Shapes
 mod Said
 mod Filling
+mod Fronts
 mod RangeFilling
 mod Masks

@@ -20,10 +20,10 @@ part_of_part bytes start stop k le =
     let n : stop - start ≡ k + (stop - (start + k)) = omega arith in
     ap (λ (i : ℕ). drop k (take i (drop start bytes))) n ∙ drop-take k (stop - (start + k)) (drop start bytes) ∙ ap (take (stop - (start + k))) (drop-drop k start bytes)
 
-abbrev at_place : ℕ → ℕ → ℕ → RangesWords
+abbrev pub at_place : ℕ → ℕ → ℕ → RangesWords
 at_place begin end largest = record { begin = begin; end = end; largest = largest }
 
-abbrev range_words : ℕ → ℕ → RangeWords
+abbrev pub range_words : ℕ → ℕ → RangeWords
 range_words start end = record { start = start; end = end }
 
 -- what a step over the blocks at a place says of the words

@@ -1,41 +1,83 @@
 -- Ranges that are filled one after the other.
-use Rattle.std.proofs.Common.{◌≡◌, ℕ, ◌+◌, ◌<◌, ◌≤◌, List, ◌∷◌, ◌++◌, length, take, drop, set, refl, ◌∙◌, arith}
-use Rattle.std.specs.Prelude.{◌⊎◌, []}
+use Rattle.std.proofs.Common.{◌≡◌, ℕ, ◌+◌, ◌-◌, ◌<◌, ◌≤◌, List, ◌∷◌, ◌++◌, length, take, drop, set, refl, sym, ap, ◌∙◌, inr, arith}
+use Rattle.std.specs.Prelude.{◌⊎◌, ◌^◌, [], Ok, Err, slice_range}
+use Rattle.quic_frame_parts.specs.declared.frame.fault.Fault.{Fault}
+use Rattle.quic_frame_parts.specs.Reading.{first_range_at, ranges_of, blocks_left, IsBlocks}
 use Rattle.std.proofs.lemmas.List.{take_more_set, drop-set-lt}
 use Rattle.std.proofs.Math.ListN.{length-set}
 use Rattle.std.proofs.lemmas.Grind.{drop_more_same}
 use Rattle.quic_c.specs.declared.words.RangeWords.{RangeWords}
 use Rattle.quic_c.specs.declared.words.RangesWords.{RangesWords}
-use Rattle.quic_c.specs.Answers.{GivesRange, IsWithin}
+use Rattle.quic_c.specs.Answers.{GivesRange, IsWithin, LacksRange}
 use Rattle.quic_c.specs.Filling.{Shows, FillsRanges, StepsOver, HasNoRange}
 use Rattle.quic_c.proofs.Filling.{shows-append}
+use Rattle.quic_c.proofs.Places.{length-part, part_of_part, range_given, range_words}
 
 abbrev pub blocks_at : ℕ → ℕ → ℕ → RangesWords
 blocks_at begin end largest = record { begin = begin; end = end; largest = largest }
 
--- So many entries are filled, up to a place.
-pub record RangeFilling (old : RangesWords) (payload : List ℕ) (before : List RangeWords) (here : RangesWords) (after : List RangeWords) (count : ℕ) : Type 0 where
+-- what is left of the bytes up to a place, by how many they are
+abbrev pub left_at : ℕ → List ℕ → ℕ → RangesWords
+left_at end left largest = blocks_at (end - length left) end largest
+
+-- So many entries are filled, up to the blocks that are left.
+pub record RangeFilling (old : RangesWords) (payload : List ℕ) (before : List RangeWords) (left : List ℕ) (largest : ℕ) (after : List RangeWords) (count : ℕ) : Type 0 where
   pub few : count ≤ length after
   pub all : length after ≡ length before
-  pub within : IsWithin here payload
-  pub shows : Shows (StepsOver payload) old (take count after) here
+  pub ends : old.end ≤ length payload
+  pub short : length left ≤ old.end
+  pub stands : slice_range payload (old.end - length left) old.end ≡ left
+  pub shows : Shows (StepsOver payload) old (take count after) (left_at old.end left largest)
   pub kept : drop count after ≡ drop count before
 
-pub ranges_begin : (old : RangesWords) (payload : List ℕ) (before : List RangeWords) → IsWithin old payload → RangeFilling old payload before old before 0
-ranges_begin old payload before within = record { few = omega arith; all = refl; within = within; shows = refl; kept = refl }
+-- what a step over the bytes that are left says of the words
+pub range_of_left : (payload : List ℕ) (end largest least next : ℕ) (left rest : List ℕ) → 0 < length left → length left ≤ end → end ≤ length payload → largest < 2 ^ 62
+    → slice_range payload (end - length left) end ≡ left → first_range_at largest left ≡ Ok (least, next, rest) → length rest < length left → drop (length left - length rest) left ≡ rest
+    → (IsBlocks largest left → ranges_of largest left ≡ (least, largest) ∷ ranges_of next rest) → (IsBlocks largest left → blocks_left next rest ≡ Ok [])
+    → GivesRange (left_at end left largest) payload (left_at end rest next) (range_words least (largest + 1))
+range_of_left payload end largest least next left rest some short within small stands step shorter tail first valid =
+    range_given payload (end - length left) end largest least next rest (omega arith) within small (rw stands step) (rw stands shorter) (rw stands tail) (rw stands first) (rw stands valid)
 
-pub ranges_go_on : (old : RangesWords) (payload : List ℕ) (before : List RangeWords) (here : RangesWords) (after : List RangeWords) (count : ℕ) (new : RangesWords) (entry : RangeWords)
-    → RangeFilling old payload before here after count → count < length after → GivesRange here payload new entry → RangeFilling old payload before new (set after count entry) (count + 1)
-ranges_go_on old payload before here after count new entry s room gives =
+-- no range stands at the front of the bytes that are left
+pub none_of_left : (payload : List ℕ) (end largest : ℕ) (left : List ℕ) (reason : Fault) → 0 < length left → length left ≤ end → slice_range payload (end - length left) end ≡ left
+    → first_range_at largest left ≡ Err reason → (IsBlocks largest left → ⊥) → HasNoRange (left_at end left largest) payload
+none_of_left payload end largest left reason some short stands step refused =
+    let lacks : LacksRange (left_at end left largest) payload = record { some = omega arith; reason = reason; step = rw stands step; refused = rw stands refused } in
+    inr (inr (inr (inr lacks)))
+
+pub ranges_begin : (old : RangesWords) (payload : List ℕ) (before : List RangeWords) → IsWithin old payload
+    → RangeFilling old payload before (slice_range payload old.begin old.end) old.largest before 0
+ranges_begin old payload before within =
+    let len = length-part payload old.begin old.end within.ends in
+    let ordered = within.ordered in
+    let place : old.end - length (slice_range payload old.begin old.end) ≡ old.begin = omega arith in
+    record {
+      few = omega arith;
+      all = refl;
+      ends = within.ends;
+      short = omega arith;
+      stands = ap (λ (n : ℕ). slice_range payload n old.end) place;
+      shows = ap (λ (n : ℕ). blocks_at n old.end old.largest) (sym place);
+      kept = refl;
+    }
+
+pub ranges_go_on : (old : RangesWords) (payload : List ℕ) (before : List RangeWords) (left : List ℕ) (largest : ℕ) (after : List RangeWords) (count : ℕ) (rest : List ℕ) (next : ℕ) (entry : RangeWords)
+    → RangeFilling old payload before left largest after count → count < length after → length rest < length left → drop (length left - length rest) left ≡ rest
+    → GivesRange (left_at old.end left largest) payload (left_at old.end rest next) entry → RangeFilling old payload before rest next (set after count entry) (count + 1)
+ranges_go_on old payload before left largest after count rest next entry s room shorter tail gives =
     let front : take (count + 1) (set after count entry) ≡ take count after ++ entry ∷ [] = take_more_set after count entry room in
+    let short = s.short in
+    let k : old.end - length left + (length left - length rest) ≡ old.end - length rest = omega arith in
     record {
       few = simp length-set (omega arith);
       all = simp length-set s.all;
-      within = gives.within;
-      shows = rw front (shows-append (StepsOver payload) old (take count after) here entry new s.shows gives);
+      ends = s.ends;
+      short = omega arith;
+      stands = sym (ap (λ (n : ℕ). slice_range payload n old.end) k) ∙ sym (part_of_part payload (old.end - length left) old.end (length left - length rest) (omega arith)) ∙ ap (drop (length left - length rest)) s.stands ∙ tail;
+      shows = rw front (shows-append (StepsOver payload) old (take count after) (left_at old.end left largest) entry (left_at old.end rest next) s.shows gives);
       kept = drop-set-lt (count + 1) after count entry (omega arith) ∙ drop_more_same after before count s.kept;
     }
 
-pub ranges_end : (old : RangesWords) (payload : List ℕ) (before : List RangeWords) (here : RangesWords) (after : List RangeWords) (count : ℕ) → RangeFilling old payload before here after count
-    → (count ≡ length before) ⊎ HasNoRange here payload → FillsRanges old payload before here after count
-ranges_end old payload before here after count s full = record { few = rw (← s.all) s.few; shows = s.shows; kept = s.kept; full = full }
+pub ranges_end : (old : RangesWords) (payload : List ℕ) (before : List RangeWords) (left : List ℕ) (largest : ℕ) (after : List RangeWords) (count : ℕ) → RangeFilling old payload before left largest after count
+    → (count ≡ length before) ⊎ HasNoRange (left_at old.end left largest) payload → FillsRanges old payload before (left_at old.end left largest) after count
+ranges_end old payload before left largest after count s full = record { few = rw (← s.all) s.few; shows = s.shows; kept = s.kept; full = full }

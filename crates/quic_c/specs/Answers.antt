@@ -1,11 +1,12 @@
 -- What the calls answer.
-use Rattle.std.specs.Prelude.{◌≡◌, ℕ, ◌+◌, ◌<◌, ◌≤◌, ◌^◌, ◌⊎◌, slice_range, Ok, Err, IsErr, length, List, [], ◌∷◌, codes, if◌then◌else◌}
+use Rattle.std.specs.Prelude.{◌≡◌, ◌==◌, ℕ, ◌+◌, ◌<◌, ◌≤◌, ◌^◌, ◌⊎◌, slice_range, Result, Ok, Err, IsErr, length, List, [], ◌∷◌, codes, if◌then◌else◌}
 use Rattle.std.specs.Cmp.Lexicographic.{pointwise}
 use Rattle.std.specs.Prelude.{nat_eq}
 use Rattle.quic_frames.specs.declared.frame.Frame.{Frame}
 use Rattle.quic_frame_parts.specs.declared.frame.fault.Fault.{Fault}
 use Rattle.quic_frame_parts.specs.AckPlace.{ack_at}
-use Rattle.quic_frame_parts.specs.Reading.{Invalid, Broken, IsBlocks, blocks_left, ranges_of, first_range_at}
+use Rattle.quic_frame_parts.specs.declared.frame.fault.Fault.TheVariants.{InvalidFrameId}
+use Rattle.quic_frame_parts.specs.Reading.{◌>>=◌, varint_at, Invalid, Broken, IsBlocks, blocks_left, ranges_of, first_range_at}
 use Rattle.quic_frames.specs.Walk.{left, Finds}
 use Rattle.quic_c.specs.declared.words.FramesWords.{FramesWords}
 use Rattle.quic_c.specs.declared.words.FrameWords.{FrameWords}
@@ -54,6 +55,35 @@ pub record GivesPlace (frame : FrameWords) (payload : List ℕ) (new : RangesWor
   pub within : IsWithin new payload
   pub small : new.largest < 2 ^ 62
   pub valid : IsBlocks new.largest (blocks_in new payload)
+
+abbrev pub behind_plain_type : List ℕ → Result (ℕ × List ℕ) Fault
+behind_plain_type bytes = do
+  largest ← varint_at bytes
+  delay ← varint_at largest.1
+  count ← varint_at delay.1
+  Ok (largest.0, count.1)
+
+-- of an ACK without counts its greatest number, and what follows the count of its ranges (RFC 9000, section 19.3)
+unfoldable pub ack_front_at : List ℕ → Result (ℕ × List ℕ) Fault
+ack_front_at bytes = do
+  type ← varint_at bytes
+  if type.0 == 2 then behind_plain_type type.1 else Err InvalidFrameId
+
+-- If the bytes are an ACK to their end, it has this greatest number and these blocks.
+abbrev pub IsWholeAck : List ℕ → ℕ → List ℕ → Type 0
+IsWholeAck bytes largest blocks = (greatest : ℕ) (others : List ℕ) → ack_at bytes ≡ Ok (greatest, others, []) → (ack_at bytes ≡ Ok (largest, blocks, [])) × IsBlocks largest blocks
+
+-- The frame begins as an ACK without counts, and its greatest number and the place of all that follows the count of its ranges were
+-- given. Where it is an ACK to its end, that is the place of its blocks.
+pub record GivesFront (frame : FrameWords) (payload : List ℕ) (new : RangesWords) : Type 0 where
+  pub ordered : frame.begin ≤ frame.end
+  pub ends : frame.end ≤ length payload
+  pub front : ack_front_at (frame_in frame payload) ≡ Ok (new.largest, blocks_in new payload)
+  pub stop : new.end ≡ frame.end
+  pub within : IsWithin new payload
+  pub begins : frame.begin ≤ new.begin
+  pub small : new.largest < 2 ^ 62
+  pub ack : (greatest : ℕ) (others : List ℕ) → ack_at (frame_in frame payload) ≡ Ok (greatest, others, []) → GivesPlace frame payload new
 
 -- The place of the frame lies outside the payload, or no ACK is read there.
 abbrev pub LacksAck : FrameWords → List ℕ → Type 0

@@ -1,8 +1,9 @@
 //! The ranges of an ACK, one with each call.
-ghost use Rattle.std.specs.Prelude.{◌≡◌, ◌⊎◌, ◌↔◌, ◌<◌, ◌≤◌, pos, negsuc, length};
-ghost use Rattle.quic_c.specs.Answers.{GivesPlace, GivesRange, IsWithin, LacksAck, NamesNone};
+ghost use Rattle.std.specs.Prelude.{◌≡◌, ◌⊎◌, ◌↔◌, ◌<◌, ◌≤◌, ◌^◌, ◌++◌, List, ℕ, Ok, IfSome, pos, negsuc, length};
+ghost use Rattle.quic_c.specs.Answers.{GivesFront, GivesPlace, GivesRange, IsWholeAck, IsWithin, LacksAck, NamesNone, ack_front_at};
 
 use crate::words::{FrameWords, RangeWords, RangesWords};
+use quic_base::varint::split_var;
 use quic_frames::frame::{split_ack, split_first_range};
 
 /// Begins at the greatest range of the ACK that stands where the frame's words say (RFC 9000, section 19.3). It
@@ -31,6 +32,54 @@ pub extern "C" fn quic_wire_ack_ranges_init_(
         largest,
     };
     0
+}
+
+/// The same for an ACK that was read of this payload, without a second look at its blocks: where the frame begins as
+/// one without counts, all that follows the count of its ranges is taken for blocks, and where they are none, the call that
+/// comes to it says so. It answers 0, or -1 where the place lies outside the payload or no ACK is read there; then nothing
+/// changes.
+#[unsafe(no_mangle)]
+pub extern "C" fn quic_wire_ack_ranges_init_unchecked_(
+    ranges: &mut RangesWords,
+    payload: &[u8],
+    frame: &FrameWords,
+) -> i32
+    ensures answers { (result ≡ pos 0) ⊎ (result ≡ negsuc 0) }
+    ensures place { result ≡ pos 0 → GivesPlace frame.now payload.now ranges.new ⊎ GivesFront frame.now payload.now ranges.new }
+    ensures refused { result ≡ negsuc 0 → LacksAck frame.now payload.now × (ranges.new ≡ ranges.old) }
+{
+    let (begin, end) = (frame.begin, frame.end);
+    if begin > end || end > payload.len() {
+        return -1;
+    }
+    let Some((largest, blocks)) = split_front(&payload[begin..end]) else {
+        return quic_wire_ack_ranges_init_(ranges, payload, frame);
+    };
+    *ranges = RangesWords {
+        begin: end - blocks.len(),
+        end,
+        largest,
+    };
+    0
+}
+
+// The greatest number of an ACK without counts, and what follows the count of its ranges.
+#[inline(always)]
+#[tactic(auto, unfolding(crate::specs::Answers::ack_front_at))]
+fn split_front(bytes: &[u8]) -> Option<(u64, &[u8])>
+    ensures gives { IfSome result (λ x. ack_front_at bytes.now ≡ Ok (x.0, x.1.now)) }
+    ensures bound { IfSome result (λ x. x.0 < 2 ^ 62) }
+    ensures stands { IfSome result (λ x. (front : List ℕ) × (bytes.now ≡ front ++ x.1.now)) }
+    ensures ack { IfSome result (λ x. IsWholeAck bytes.now x.0 x.1.now) }
+{
+    let (ty, behind_type) = split_var(bytes)?;
+    if ty != 2 {
+        return None;
+    }
+    let (largest, behind_largest) = split_var(behind_type)?;
+    let (_, behind_delay) = split_var(behind_largest)?;
+    let (_, blocks) = split_var(behind_delay)?;
+    Some((largest, blocks))
 }
 
 /// The next range of an ACK, the greatest first (RFC 9000, section 19.3.1). It answers 1 with the range; 0 just where

@@ -1,5 +1,5 @@
 //! The ranges of an ACK, as many with one call as the caller has room for.
-ghost use Rattle.std.specs.Prelude.{◌≡◌, ◌⊎◌, ◌↔◌, ◌<◌, [], pos, negsuc, length};
+ghost use Rattle.std.specs.Prelude.{◌≡◌, ◌⊎◌, ◌↔◌, ◌-◌, ◌<◌, ◌≤◌, [], pos, negsuc, length};
 ghost use Rattle.quic_c.specs.Answers.{IsWithin, NamesNone};
 ghost use Rattle.quic_c.specs.Filling.{FillsRanges};
 
@@ -13,33 +13,35 @@ fn fill_ranges(from: RangesWords, payload: &[u8], out: &mut [RangeWords]) -> (us
     ensures { FillsRanges from payload.now out.old result.1 out.new result.0 }
 {
     let end = from.end;
-    let (mut begin, mut largest) = (from.begin, from.largest);
+    let mut left = &payload[from.begin..end];
+    let mut largest = from.largest;
     let mut count = 0;
-    while count < out.len() && begin < end && largest < 1 << 62 {
-        let Ok((least, next, rest)) = split_first_range(largest, &payload[begin..end]) else {
-            let at = RangesWords {
-                begin,
-                end,
-                largest,
-            };
-            return (count, at);
+    while count < out.len() && !left.is_empty() && largest < 1 << 62 {
+        let Ok((least, next, rest)) = split_first_range(largest, left) else {
+            return (count, words_at(end, left, largest));
         };
         out[count] = RangeWords {
             start: least,
             end: largest + 1,
         };
-        begin = end - rest.len();
+        left = rest;
         largest = next;
         count += 1;
     }
-    (
-        count,
-        RangesWords {
-            begin,
-            end,
-            largest,
-        },
-    )
+    (count, words_at(end, left, largest))
+}
+
+// The words of blocks that end at a place.
+#[inline(always)]
+fn words_at(end: usize, left: &[u8], largest: u64) -> RangesWords
+    requires { length left.now ≤ end }
+    ensures { result ≡ record { begin = end - length left.now; end = end; largest = largest } }
+{
+    RangesWords {
+        begin: end - left.len(),
+        end,
+        largest,
+    }
 }
 
 /// The next ranges of an ACK, the greatest first (RFC 9000, section 19.3.1), as many as there is room for in `out`. It

@@ -1,11 +1,20 @@
-use Rattle.quic_c.proofs.Places.{range_given}
-use Rattle.quic_c.proofs.RangeFilling.{blocks_at, ranges_go_on}
+use Rattle.std.proofs.Common.{length, inr, arith}
+use Rattle.quic_frame_parts.proofs.Blocks.{some_of}
+use Rattle.quic_c.proofs.RangeFilling.{range_of_left, none_of_left, ranges_go_on, ranges_end}
 use Rattle.quic_c.proofs.fill_ranges.fill_ranges.Goals as goal
 
 pub loop-count-preserved : goal.loop-count-preserved
 loop-count-preserved c =
     let here = c.loop-count in
     let said = c.in-Ok.ensures in
-    let end = c.args.from.end in
-    let given = range_given c.args.payload.now here.begin end here.largest c.in-Ok.least c.in-Ok.next c.in-Ok.rest.now c.if-begin-end.true c.requires.ends c.if-largest.true said.gives said.shorter said.left said.first said.valid in
-    ranges_go_on c.args.from c.args.payload.now c.args.out.now (blocks_at here.begin end here.largest) here.out here.count _ _ here.invariant c.loop-count-test.true given
+    let s = here.invariant in
+    let given = range_of_left c.args.payload.now c.args.from.end here.largest c.in-Ok.least c.in-Ok.next here.left.now c.in-Ok.rest.now (omega arith) s.short s.ends c.if-largest.true s.stands said.gives said.shorter said.left said.first said.valid in
+    ranges_go_on c.args.from c.args.payload.now c.args.out.now here.left.now here.largest here.out here.count c.in-Ok.rest.now c.in-Ok.next _ s c.loop-count-test.true said.shorter said.left given
+
+pub returns-in_default : goal.returns-in_default
+returns-in_default c =
+    let here = c.loop-count in
+    let s = here.invariant in
+    let said = c.in_default.ensures in
+    let none = none_of_left c.args.payload.now c.args.from.end here.largest here.left.now _ (some_of (length here.left.now) c.if-not-is_empty.ensures) s.short s.stands said.gives said.taken in
+    rw c.words_at.ensures (ranges_end c.args.from c.args.payload.now c.args.out.now here.left.now here.largest here.out here.count s (inr none))

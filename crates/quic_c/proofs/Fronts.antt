@@ -1,14 +1,18 @@
 -- An ACK without counts up to its blocks.
-use Rattle.std.proofs.Common.{◌≡◌, ℕ, ◌-◌, ◌≤◌, ◌<◌, ◌^◌, List, [], ◌++◌, length, take, drop, Result, Ok, refl, sym, ap, subst, ◌∙◌, append_assoc, arith}
+use Rattle.std.proofs.Common.{◌≡◌, ℕ, ◌-◌, ◌≤◌, ◌<◌, ◌^◌, List, [], ◌++◌, length, take, drop, Result, Ok, Err, IsErr, refl, sym, ap, subst, ◌∙◌, append_assoc, arith}
 use Rattle.std.specs.Prelude.{slice_range}
 use Rattle.std.proofs.lemmas.List.{append-nil, take-append-drop}
 use Rattle.quic_base.specs.Number.{AreBytes}
+use Rattle.quic_base.specs.Codec.{Takes}
+use Rattle.quic_base.specs.Varint.{Spells}
 use Rattle.quic_base.proofs.PublicLaws.{back_bytes}
 use Rattle.quic_frame_parts.specs.AckPlace.{ack_at}
 use Rattle.quic_frame_parts.specs.declared.frame.fault.Fault.{Fault}
+use Rattle.quic_frame_parts.specs.declared.frame.fault.Fault.TheVariants.{UnexpectedEnd}
+use Rattle.quic_frame_parts.specs.Field.{LacksNumber}
 use Rattle.quic_frame_parts.specs.Reading.{◌>>=◌, varint_at, after_blocks, blocks_at}
 use Rattle.quic_frame_parts.proofs.Steps.{bind_ok, ok_is}
-use Rattle.quic_frame_parts.proofs.Varints.{varint_takes}
+use Rattle.quic_frame_parts.proofs.Varints.{varint_takes, varint_read, varint_cut}
 use Rattle.quic_frame_parts.proofs.Blocks.{blocks_valid}
 use Rattle.quic_c.specs.declared.words.FrameWords.{FrameWords}
 use Rattle.quic_c.specs.Answers.{GivesFront, GivesPlace, IsWholeAck, ack_front_at, frame_in}
@@ -19,6 +23,10 @@ behind : (bytes : List ℕ) (n : ℕ) (rest : List ℕ) (P : Type 0) → AreByte
 behind bytes n rest P fits e k =
     let t = varint_takes bytes n rest fits e in
     k t.front t.split (back_bytes t.front rest (subst AreBytes t.split fits))
+
+-- the type of an ACK without counts
+pub plain_type : (bytes rest : List ℕ) (ty : ℕ) → ty ≡ 2 → Takes (Spells ty) bytes rest → varint_at bytes ≡ Ok (2, rest)
+plain_type bytes rest ty is takes = subst (λ (n : ℕ). varint_at bytes ≡ Ok (n, rest)) is (varint_read ty bytes rest takes)
 
 pub front_stands : (bytes a b c d : List ℕ) (ty largest delay count : ℕ) → AreBytes bytes → varint_at bytes ≡ Ok (ty, a) → varint_at a ≡ Ok (largest, b) → varint_at b ≡ Ok (delay, c)
     → varint_at c ≡ Ok (count, d) → (front : List ℕ) × (bytes ≡ front ++ d)
@@ -65,6 +73,35 @@ whole_ack bytes a b c d largest delay count fits one two three four greatest oth
     let gives : blocks_at largest c ≡ Ok (d, []) = x.1 ∙ ap (λ (p : List ℕ). whole p x.0.1) (sym all) ∙ ap (λ (q : List ℕ). whole d q) none in
     let bytes_c : AreBytes c = behind bytes 2 a _ fits one (λ f g fits1. behind a largest b _ fits1 two (λ h i fits2. behind b delay c _ fits2 three (λ j k fits3. fits3))) in
     (reads ∙ ap (λ (r : Result (List ℕ × List ℕ) Fault). r >>= both largest) gives, blocks_valid largest c d [] bytes_c gives)
+
+-- where a number is cut off, there is no front
+no_largest : (bytes a : List ℕ) → varint_at bytes ≡ Ok (2, a) → varint_at a ≡ Err UnexpectedEnd → ack_front_at bytes ≡ Err UnexpectedEnd
+unfolding ack_front_at
+no_largest bytes a one cut = rw (one, cut) refl
+
+no_delay : (bytes a b : List ℕ) (largest : ℕ) → varint_at bytes ≡ Ok (2, a) → varint_at a ≡ Ok (largest, b) → varint_at b ≡ Err UnexpectedEnd → ack_front_at bytes ≡ Err UnexpectedEnd
+unfolding ack_front_at
+no_delay bytes a b largest one two cut = rw (one, two, cut) refl
+
+no_count : (bytes a b c : List ℕ) (largest delay : ℕ) → varint_at bytes ≡ Ok (2, a) → varint_at a ≡ Ok (largest, b) → varint_at b ≡ Ok (delay, c) → varint_at c ≡ Err UnexpectedEnd
+    → ack_front_at bytes ≡ Err UnexpectedEnd
+unfolding ack_front_at
+no_count bytes a b c largest delay one two three cut = rw (one, two, three, cut) refl
+
+is_err : (r : Result (ℕ × List ℕ) Fault) → r ≡ Err UnexpectedEnd → IsErr r
+is_err (Ok x) h = absurd cc
+is_err (Err d) h = refl
+
+pub lacks_largest : (bytes a : List ℕ) → AreBytes bytes → varint_at bytes ≡ Ok (2, a) → LacksNumber a → IsErr (ack_front_at bytes)
+lacks_largest bytes a fits one cut = behind bytes 2 a _ fits one (λ f e fits1. is_err (ack_front_at bytes) (no_largest bytes a one (varint_cut a fits1 cut)))
+
+pub lacks_delay : (bytes a b : List ℕ) (largest : ℕ) → AreBytes bytes → varint_at bytes ≡ Ok (2, a) → varint_at a ≡ Ok (largest, b) → LacksNumber b → IsErr (ack_front_at bytes)
+lacks_delay bytes a b largest fits one two cut =
+    behind bytes 2 a _ fits one (λ f e fits1. behind a largest b _ fits1 two (λ g h fits2. is_err (ack_front_at bytes) (no_delay bytes a b largest one two (varint_cut b fits2 cut))))
+
+pub lacks_count : (bytes a b c : List ℕ) (largest delay : ℕ) → AreBytes bytes → varint_at bytes ≡ Ok (2, a) → varint_at a ≡ Ok (largest, b) → varint_at b ≡ Ok (delay, c) → LacksNumber c → IsErr (ack_front_at bytes)
+lacks_count bytes a b c largest delay fits one two three cut =
+    behind bytes 2 a _ fits one (λ f e fits1. behind a largest b _ fits1 two (λ g h fits2. behind b delay c _ fits2 three (λ i j fits3. is_err (ack_front_at bytes) (no_count bytes a b c largest delay one two three (varint_cut c fits3 cut)))))
 
 -- what is said of the words of an ACK whose blocks end where it ends
 pub front_given : (payload : List ℕ) (frame : FrameWords) (largest : ℕ) (blocks : List ℕ) → frame.begin ≤ frame.end → frame.end ≤ length payload → ack_front_at (frame_in frame payload) ≡ Ok (largest, blocks)

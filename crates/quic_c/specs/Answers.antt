@@ -85,6 +85,10 @@ pub record GivesFront (frame : FrameWords) (payload : List ℕ) (new : RangesWor
   pub small : new.largest < 2 ^ 62
   pub ack : (greatest : ℕ) (others : List ℕ) → ack_at (frame_in frame payload) ≡ Ok (greatest, others, []) → GivesPlace frame payload new
 
+-- The place of the frame lies outside the payload, or no front of an ACK without counts is read there.
+abbrev pub LacksFront : FrameWords → List ℕ → Type 0
+LacksFront frame payload = (frame.end < frame.begin) ⊎ (length payload < frame.end) ⊎ IsErr (ack_front_at (frame_in frame payload))
+
 -- The place of the frame lies outside the payload, or no ACK is read there.
 abbrev pub LacksAck : FrameWords → List ℕ → Type 0
 LacksAck frame payload = (frame.end < frame.begin) ⊎ (length payload < frame.end) ⊎ IsErr (ack_at (frame_in frame payload))

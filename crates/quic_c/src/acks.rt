@@ -1,6 +1,6 @@
 //! The ranges of an ACK, one with each call.
-ghost use Rattle.std.specs.Prelude.{◌≡◌, ◌⊎◌, ◌↔◌, ◌<◌, ◌≤◌, ◌^◌, ◌++◌, List, ℕ, Ok, IfSome, pos, negsuc, length};
-ghost use Rattle.quic_c.specs.Answers.{GivesFront, GivesPlace, GivesRange, IsWholeAck, IsWithin, LacksAck, NamesNone, ack_front_at};
+ghost use Rattle.std.specs.Prelude.{◌≡◌, ◌⊎◌, ◌↔◌, ◌<◌, ◌≤◌, ◌^◌, ◌++◌, List, ℕ, Ok, IfSome, IsErr, IsNone, pos, negsuc, length};
+ghost use Rattle.quic_c.specs.Answers.{GivesFront, GivesPlace, GivesRange, IsWholeAck, IsWithin, LacksAck, LacksFront, NamesNone, ack_front_at};
 
 use crate::words::{FrameWords, RangeWords, RangesWords};
 use quic_base::varint::split_var;
@@ -45,8 +45,8 @@ pub extern "C" fn quic_wire_ack_ranges_init_unchecked_(
     frame: &FrameWords,
 ) -> i32
     ensures answers { (result ≡ pos 0) ⊎ (result ≡ negsuc 0) }
-    ensures place { result ≡ pos 0 → GivesPlace frame.now payload.now ranges.new ⊎ GivesFront frame.now payload.now ranges.new }
-    ensures refused { result ≡ negsuc 0 → LacksAck frame.now payload.now × (ranges.new ≡ ranges.old) }
+    ensures place { result ≡ pos 0 → GivesFront frame.now payload.now ranges.new ⊎ (LacksFront frame.now payload.now × GivesPlace frame.now payload.now ranges.new) }
+    ensures refused { result ≡ negsuc 0 → LacksFront frame.now payload.now × LacksAck frame.now payload.now × (ranges.new ≡ ranges.old) }
 {
     let (begin, end) = (frame.begin, frame.end);
     if begin > end || end > payload.len() {
@@ -65,8 +65,9 @@ pub extern "C" fn quic_wire_ack_ranges_init_unchecked_(
 
 // The greatest number of an ACK without counts, and what follows the count of its ranges.
 #[inline(always)]
-#[tactic(auto, unfolding(crate::specs::Answers::ack_front_at))]
+#[tactic(auto, unfolding(crate::specs::Answers::ack_front_at), using(quic_frame_parts::proofs::Varints::slices))]
 fn split_front(bytes: &[u8]) -> Option<(u64, &[u8])>
+    ensures none { IsNone result → IsErr (ack_front_at bytes.now) }
     ensures gives { IfSome result (λ x. ack_front_at bytes.now ≡ Ok (x.0, x.1.now)) }
     ensures bound { IfSome result (λ x. x.0 < 2 ^ 62) }
     ensures stands { IfSome result (λ x. (front : List ℕ) × (bytes.now ≡ front ++ x.1.now)) }

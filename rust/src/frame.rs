@@ -353,7 +353,7 @@ impl<'a> Ack<'a> {
         frame.end = self.bytes.len();
         let mut state = sys::Ranges { begin: 0, end: 0, largest: 0 };
         // The bytes were read as an ACK, so they are one again, and need no second look.
-        sys::ack_ranges_init(&mut state, self.bytes, &frame);
+        sys::ack_ranges_init_unchecked(&mut state, self.bytes, &frame);
         AckIter { bytes: self.bytes, state }
     }
 }

@@ -269,7 +269,7 @@ pub fn frames_fill(frames: &mut Frames, payload: &[u8], out: &mut [Frame], count
 }
 
 #[inline]
-pub fn ack_ranges_init(ranges: &mut Ranges, payload: &[u8], frame: &Frame) -> i32 {
+pub fn ack_ranges_init_unchecked(ranges: &mut Ranges, payload: &[u8], frame: &Frame) -> i32 {
     // SAFETY: as above.
     unsafe { quic_wire_ack_ranges_init_unchecked_(ranges, payload.as_ptr(), payload.len(), frame) }
 }

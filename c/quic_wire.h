@@ -347,6 +347,8 @@ int32_t quic_wire_frames_next_(quic_wire_frames *, const uint8_t *, size_t,
                                quic_wire_frame *);
 int32_t quic_wire_frames_fill_(quic_wire_frames *, const uint8_t *, size_t,
                                quic_wire_frame *, size_t, size_t *);
+int32_t quic_wire_frames_first_(quic_wire_frames *, const uint8_t *, size_t,
+                               quic_wire_frame *, size_t, size_t *);
 int32_t quic_wire_ack_ranges_init_(quic_wire_ack_ranges *, const uint8_t *,
                                    size_t, const quic_wire_frame *);
 int32_t quic_wire_ack_ranges_init_unchecked_(quic_wire_ack_ranges *,
@@ -472,6 +474,33 @@ static inline int quic_wire_frames_fill(quic_wire_frames *frames,
   if (!out)
     out = (quic_wire_frame *)quic_wire_nothing();
   return quic_wire_frames_fill_(frames, payload, payloadlen, out, room, count);
+}
+
+/*
+ * Begins at the front of a |payload| and reads its first frames, as many as the
+ * |room| entries of |out| hold: what quic_wire_frames_init and then
+ * quic_wire_frames_fill do, with one call.  quic_wire_frames_fill goes on where
+ * |frames->offset| is below |payloadlen|.
+ *
+ * Returns QUIC_WIRE_ITEM, and in |*count| how many entries were filled, one at
+ * least; QUIC_WIRE_ERR_EMPTY; QUIC_WIRE_ERR_MALFORMED, and what is told in
+ * |out[0]|, where what stands at the front is no frame; QUIC_WIRE_ERR_NOBUF
+ * where |room| is 0; QUIC_WIRE_ERR_INVALID_ARGUMENT for NULL.  |*count| changes
+ * only with QUIC_WIRE_ITEM, and nothing changes but with that and
+ * QUIC_WIRE_ERR_MALFORMED.
+ */
+static inline int quic_wire_frames_first(quic_wire_frames *frames,
+                                         const uint8_t *payload,
+                                         size_t payloadlen,
+                                         quic_wire_frame *out, size_t room,
+                                         size_t *count) {
+  if (!frames || !count || (!payload && payloadlen) || (!out && room))
+    return QUIC_WIRE_ERR_INVALID_ARGUMENT;
+  if (!payload)
+    payload = (const uint8_t *)quic_wire_nothing();
+  if (!out)
+    out = (quic_wire_frame *)quic_wire_nothing();
+  return quic_wire_frames_first_(frames, payload, payloadlen, out, room, count);
 }
 
 /* After QUIC_WIRE_ERR_MALFORMED: the last type that was read, the broken

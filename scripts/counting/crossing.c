@@ -15,27 +15,73 @@ typedef uint64_t u64;
 
 static u64 items;
 
-static u64 frames_of(const uint8_t *payload, size_t len, int ranges) {
+// What is looked at of a frame: its kind, and of what that has its numbers and the length of its data, as the program over
+// the Rust crate does.
+static u64 sum_of(const quic_wire_frame *frame) {
+    switch (frame->kind) {
+    case QUIC_WIRE_ACK:
+        return frame->ack.largest + frame->ack.delay + (frame->end - frame->begin);
+    case QUIC_WIRE_RESET_STREAM:
+        return frame->reset_stream.final_size;
+    case QUIC_WIRE_STOP_SENDING:
+        return frame->stop_sending.error_code;
+    case QUIC_WIRE_CRYPTO:
+        return frame->crypto.offset + frame->datalen;
+    case QUIC_WIRE_NEW_TOKEN:
+    case QUIC_WIRE_DATAGRAM:
+        return frame->datalen;
+    case QUIC_WIRE_STREAM:
+        return frame->stream.stream_id + frame->stream.offset + frame->datalen;
+    case QUIC_WIRE_MAX_DATA:
+    case QUIC_WIRE_MAX_STREAM_DATA:
+    case QUIC_WIRE_MAX_STREAMS_BIDI:
+    case QUIC_WIRE_MAX_STREAMS_UNI:
+    case QUIC_WIRE_DATA_BLOCKED:
+    case QUIC_WIRE_STREAM_DATA_BLOCKED:
+    case QUIC_WIRE_STREAMS_BLOCKED_BIDI:
+    case QUIC_WIRE_STREAMS_BLOCKED_UNI:
+        return frame->limit.limit;
+    case QUIC_WIRE_NEW_CONNECTION_ID:
+        return frame->new_connection_id.sequence + frame->datalen;
+    case QUIC_WIRE_RETIRE_CONNECTION_ID:
+        return frame->retire_connection_id.sequence;
+    case QUIC_WIRE_PATH_CHALLENGE:
+    case QUIC_WIRE_PATH_RESPONSE:
+        return frame->path.data;
+    case QUIC_WIRE_ACK_FREQUENCY:
+        return frame->ack_frequency.max_ack_delay;
+    default:
+        return 1;
+    }
+}
+
+static u64 frames_of(const uint8_t *payload, size_t len) {
     quic_wire_frames frames;
     quic_wire_frame frame;
     u64 sum = 0;
     if (quic_wire_frames_init(&frames, payload, len))
         return 0;
     while (quic_wire_frames_next(&frames, payload, len, &frame) == QUIC_WIRE_ITEM) {
-        if (!ranges) {
-            for (int i = 0; i < 5; i++)
-                sum += frame.numbers[i];
-            sum += frame.kind + frame.flags + frame.end + frame.data + frame.datalen;
+        sum += sum_of(&frame);
+        items++;
+    }
+    return sum;
+}
+
+static u64 ranges_of(const uint8_t *payload, size_t len) {
+    quic_wire_frames frames;
+    quic_wire_frame frame;
+    u64 sum = 0;
+    if (quic_wire_frames_init(&frames, payload, len))
+        return 0;
+    while (quic_wire_frames_next(&frames, payload, len, &frame) == QUIC_WIRE_ITEM) {
+        quic_wire_ack_ranges at;
+        quic_wire_range range;
+        if (frame.kind != QUIC_WIRE_ACK || quic_wire_ack_ranges_init_unchecked(&at, payload, len, &frame))
+            continue;
+        while (quic_wire_ack_ranges_next(&at, payload, len, &range) == QUIC_WIRE_ITEM) {
+            sum += range.start ^ range.end;
             items++;
-        } else if (frame.kind == QUIC_WIRE_ACK) {
-            quic_wire_ack_ranges at;
-            quic_wire_range range;
-            if (quic_wire_ack_ranges_init_unchecked(&at, payload, len, &frame))
-                continue;
-            while (quic_wire_ack_ranges_next(&at, payload, len, &range) == QUIC_WIRE_ITEM) {
-                sum += range.start ^ range.end;
-                items++;
-            }
         }
     }
     return sum;
@@ -59,7 +105,24 @@ static u64 many_ranges_of(const uint8_t *payload, size_t len, const quic_wire_fr
     return sum;
 }
 
-static u64 many_frames_of(const uint8_t *payload, size_t len, int ranges) {
+static u64 many_frames_of(const uint8_t *payload, size_t len) {
+    quic_wire_frames frames;
+    quic_wire_frame filled[MANY];
+    size_t count;
+    u64 sum = 0;
+    int answer = quic_wire_frames_first(&frames, payload, len, filled, MANY, &count);
+    while (answer == QUIC_WIRE_ITEM) {
+        for (size_t k = 0; k < count; k++)
+            sum += sum_of(&filled[k]);
+        items += count;
+        if (frames.offset == len)
+            break;
+        answer = quic_wire_frames_fill(&frames, payload, len, filled, MANY, &count);
+    }
+    return sum;
+}
+
+static u64 many_acks_of(const uint8_t *payload, size_t len) {
     quic_wire_frames frames;
     quic_wire_frame filled[MANY];
     size_t count;
@@ -67,19 +130,9 @@ static u64 many_frames_of(const uint8_t *payload, size_t len, int ranges) {
     if (quic_wire_frames_init(&frames, payload, len))
         return 0;
     while (frames.offset < len &&
-           quic_wire_frames_fill(&frames, payload, len, filled, MANY, &count) == QUIC_WIRE_ITEM) {
-        for (size_t k = 0; k < count; k++) {
-            const quic_wire_frame *frame = &filled[k];
-            if (ranges) {
-                sum += frame->kind == QUIC_WIRE_ACK ? many_ranges_of(payload, len, frame) : 0;
-                continue;
-            }
-            for (int i = 0; i < 5; i++)
-                sum += frame->numbers[i];
-            sum += frame->kind + frame->flags + frame->end + frame->data + frame->datalen;
-        }
-        items += ranges ? 0 : count;
-    }
+           quic_wire_frames_fill(&frames, payload, len, filled, MANY, &count) == QUIC_WIRE_ITEM)
+        for (size_t k = 0; k < count; k++)
+            sum += filled[k].kind == QUIC_WIRE_ACK ? many_ranges_of(payload, len, &filled[k]) : 0;
     return sum;
 }
 
@@ -153,14 +206,16 @@ int main(int argc, char **argv) {
         lens[count++] = len;
     }
     fclose(file);
+    u64 (*work)(const uint8_t *, size_t) = argv[1][0] == 'p'   ? packets_of
+                                           : argv[1][0] == 'm' ? many_frames_of
+                                           : argv[1][0] == 'a' ? many_acks_of
+                                           : argv[1][0] == 'r' ? ranges_of
+                                                               : frames_of;
     int rounds = atoi(argv[2]);
     for (int r = 0; r < rounds; r++) {
         items = 0;
         for (size_t i = 0; i < count; i++)
-            sum += argv[1][0] == 'p'   ? packets_of(bytes[i], lens[i])
-                   : argv[1][0] == 'm' ? many_frames_of(bytes[i], lens[i], 0)
-                   : argv[1][0] == 'a' ? many_frames_of(bytes[i], lens[i], 1)
-                                       : frames_of(bytes[i], lens[i], argv[1][0] == 'r');
+            sum += work(bytes[i], lens[i]);
     }
     printf("%lu items, %lu\n", (unsigned long)items, (unsigned long)sum);
     return 0;

@@ -49,7 +49,7 @@ pub record Filling (old : Way) (before : List FrameWords) (here : Way) (after : 
 pub filling_begins : (old : Way) (before : List FrameWords) (end : ℕ) → end ≡ old.offset → Filling old before old before 0 end
 filling_begins old before end e = record { few = omega arith; all = refl; place = sym e; comes = refl; shows = refl; kept = refl }
 
-kinds : (n : ℕ) → (n ≡ 0) ⊎ (0 < n)
+pub kinds : (n : ℕ) → (n ≡ 0) ⊎ (0 < n)
 kinds zero = inl refl
 kinds (suc n) = inr (omega arith)
 

@@ -1,8 +1,8 @@
 //! The frames of a payload, as many with one call as the caller has room for.
-ghost use Rattle.std.specs.Prelude.{◌≡◌, ◌<◌, ◌≤◌, ◌↔◌, ◌⊎◌, [], ◌∷◌, pos, negsuc, length, IfOk, IfErr};
+ghost use Rattle.std.specs.Prelude.{◌≡◌, ◌<◌, ◌≤◌, ◌↔◌, ◌⊎◌, [], false, ◌∷◌, pos, negsuc, length, IfOk, IfErr};
 ghost use Rattle.quic_frame_parts.specs.Reading.{Broken};
-ghost use Rattle.quic_frames.specs.Walk.{left, invalid_of};
-ghost use Rattle.quic_c.specs.Shown.{way_of};
+ghost use Rattle.quic_frames.specs.Walk.{left, first_of, invalid_of};
+ghost use Rattle.quic_c.specs.Shown.{way_of, at_front};
 ghost use Rattle.quic_c.specs.Filling.{Fills, TellsInvalid, further};
 
 use crate::frames::{show_invalid, type_in, type_word};
@@ -21,9 +21,13 @@ struct Filled {
     last: Option<FrameType>,
 }
 
-// Fills entries with what stands next. Where that is no frame, it is told if none was filled.
+// Fills entries with what stands next. Where that is no frame, it is told if none was filled. There is a copy for each caller,
+// so that each goes into its own.
 #[inline(always)]
-fn fill(iter: &mut Iter<'_>, out: &mut [FrameWords]) -> Result<Filled, InvalidFrame>
+fn fill<const COPY: usize>(
+    iter: &mut Iter<'_>,
+    out: &mut [FrameWords],
+) -> Result<Filled, InvalidFrame>
     ensures filled { IfOk result (λ f. Fills iter.old out.old (further iter.old f.end f.last) out.new f.count) }
     ensures none { IfOk result (λ f. f.count ≡ 0 → 0 < length out.old → left iter.old ≡ []) }
     ensures invalid { IfErr result (λ i. (left iter.old ≡ Broken (invalid_of i) ∷ []) × (out.new ≡ out.old)) }
@@ -95,7 +99,7 @@ pub extern "C" fn quic_wire_frames_fill_(
     if frames.ended != 0 {
         return 0;
     }
-    match fill(&mut iter, out) {
+    match fill::<1>(&mut iter, out) {
         Ok(filled) => {
             if filled.count == 0 {
                 return 0;
@@ -108,6 +112,59 @@ pub extern "C" fn quic_wire_frames_fill_(
         Err(invalid) => {
             frames.ended = 1;
             out[0] = show_invalid(begin, &invalid);
+            -3
+        }
+    }
+}
+
+/// Begins at the front of a payload and reads its first frames (RFC 9000, section 19), as `quic_wire_frames_init_` and then
+/// `quic_wire_frames_fill_` do. It answers 1 with how many entries were filled, one at least; -2 just where the payload is
+/// empty, which is refused with PROTOCOL_VIOLATION (section 12.4); -3, with the type and the reason in the first entry,
+/// where what stands at the front is no frame; -4 just where there is a payload and `out` has no entry. `count` changes
+/// with 1 alone, and nothing changes with -2 and -4.
+#[unsafe(no_mangle)]
+pub extern "C" fn quic_wire_frames_first_(
+    frames: &mut FramesWords,
+    payload: &[u8],
+    out: &mut [FrameWords],
+    count: &mut usize,
+) -> i32
+    ensures answers { (result ≡ pos 1) ⊎ (result ≡ negsuc 1) ⊎ (result ≡ negsuc 2) ⊎ (result ≡ negsuc 3) }
+    ensures frames { result ≡ pos 1 → (0 < count.new) × Fills (first_of false payload.now) out.old (way_of frames.new payload.now) out.new count.new }
+    ensures empty { (result ≡ negsuc 1) ↔ (payload.now ≡ []) }
+    ensures invalid { result ≡ negsuc 2 → TellsInvalid (at_front 0) payload.now out.old frames.new out.new }
+    ensures room { (result ≡ negsuc 3) ↔ ((0 < length payload.now) × (out.old ≡ [])) }
+    ensures same { (result ≡ pos 1) ⊎ (result ≡ negsuc 2) ⊎ ((frames.new ≡ frames.old) × (out.new ≡ out.old)) }
+    ensures counted { (result ≡ pos 1) ⊎ (count.new ≡ count.old) }
+{
+    if payload.is_empty() {
+        return -2;
+    }
+    let Some(mut iter) = Iter::resume(payload, 0, None, false) else {
+        return -2;
+    };
+    if out.is_empty() {
+        return -4;
+    }
+    match fill::<0>(&mut iter, out) {
+        Ok(filled) => {
+            *frames = FramesWords {
+                offset: filled.end,
+                last_type: type_word(filled.last),
+                ended: 0,
+                strict: 0,
+            };
+            *count = filled.count;
+            1
+        }
+        Err(invalid) => {
+            *frames = FramesWords {
+                offset: 0,
+                last_type: u64::MAX,
+                ended: 1,
+                strict: 0,
+            };
+            out[0] = show_invalid(0, &invalid);
             -3
         }
     }

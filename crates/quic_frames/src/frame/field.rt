@@ -1,11 +1,12 @@
 //! The other fields of frames, read from the front of a slice.
-ghost use Rattle.std.specs.Prelude.{◌≡◌, ◌≤◌, List, [], ◌∷◌, length, IfOk};
-ghost use Rattle.quic_frame_parts.specs.Reading.{Gives, bytes_at, counted_at, id_at, eight_at, field_at};
+ghost use Rattle.std.specs.Prelude.{◌≡◌, ◌<◌, ◌≤◌, ◌^◌, List, [], ◌∷◌, length, IfOk};
+ghost use Rattle.quic_frame_parts.specs.Reading.{Gives, varint_at, bytes_at, counted_at, id_at, eight_at, field_at};
 ghost use Rattle.quic_frame_parts.specs.Field.{Value, Number, Bytes};
 ghost use Rattle.quic_frame_parts.specs.Table.{offset_field, data_field};
 
 use quic_base::coding::Codec;
 use quic_base::ids::{MAX_CID_SIZE, RESET_TOKEN_SIZE};
+use quic_base::varint::split_var;
 use quic_frame_parts::frame::fault::Fault;
 use quic_frame_parts::frame::field::varint;
 
@@ -22,6 +23,36 @@ fn bytes_of(n: u64, bytes: &[u8]) -> Result<(&[u8], &[u8]), Fault>
     Ok(bytes.split_at(n as usize))
 }
 
+/// A number of any width, and what follows it, made for numbers of which nearly all have one byte: such a one is read where
+/// the call stands.
+#[inline(always)]
+#[tactic(auto, using(quic_frame_parts::proofs::Gaps::one_at))]
+pub(super) fn short_varint(bytes: &[u8]) -> Result<(u64, &[u8]), Fault>
+    ensures gives { Gives (λ x. (x.0, x.1.now)) result (varint_at bytes.now) }
+    ensures bound { IfOk result (λ x. x.0 < 2 ^ 62) }
+{
+    if let Some((first, rest)) = bytes.split_first() {
+        if *first < 64 {
+            return Ok((u64::from(*first), rest));
+        }
+    }
+    let (number, rest) = varint(bytes)?;
+    Ok((number, rest))
+}
+
+/// A number of any width, read where the call stands, as those of a STREAM are, since most frames are STREAMs.
+#[inline(always)]
+#[tactic(auto, using(quic_frame_parts::proofs::Varints::slices))]
+pub(super) fn near_varint(bytes: &[u8]) -> Result<(u64, &[u8]), Fault>
+    ensures gives { Gives (λ x. (x.0, x.1.now)) result (varint_at bytes.now) }
+    ensures bound { IfOk result (λ x. x.0 < 2 ^ 62) }
+{
+    match split_var(bytes) {
+        Some(read) => Ok(read),
+        None => Err(Fault::UnexpectedEnd),
+    }
+}
+
 /// A number and that many bytes, and what follows them.
 #[inline]
 #[tactic(auto, unfolding(quic_frame_parts::specs::Reading::counted_at))]
@@ -32,6 +63,16 @@ pub(super) fn counted(bytes: &[u8]) -> Result<(&[u8], &[u8]), Fault>
     bytes_of(n, rest)
 }
 
+// The same, read where the call stands.
+#[inline(always)]
+#[tactic(auto, unfolding(quic_frame_parts::specs::Reading::counted_at))]
+fn near_counted(bytes: &[u8]) -> Result<(&[u8], &[u8]), Fault>
+    ensures { Gives (λ x. (x.0.now, x.1.now)) result (counted_at bytes.now) }
+{
+    let (n, rest) = near_varint(bytes)?;
+    bytes_of(n, rest)
+}
+
 /// The offset of a STREAM, 0 where it is left out, and what follows it.
 #[inline(always)]
 pub(super) fn offset(is_written: bool, bytes: &[u8]) -> Result<(u64, &[u8]), Fault>
@@ -39,7 +80,7 @@ pub(super) fn offset(is_written: bool, bytes: &[u8]) -> Result<(u64, &[u8]), Fau
         → Gives (λ x. (Number x.0 ∷ [], x.1.now)) result (field_at (offset_field is_written) before bytes.now) }
 {
     if is_written {
-        varint(bytes)
+        near_varint(bytes)
     } else {
         Ok((0, bytes))
     }
@@ -53,6 +94,19 @@ pub(super) fn data(is_counted: bool, bytes: &[u8]) -> Result<(&[u8], &[u8]), Fau
 {
     if is_counted {
         counted(bytes)
+    } else {
+        Ok(bytes.split_at(bytes.len()))
+    }
+}
+
+/// The data of a STREAM, whose length is read where the call stands.
+#[inline(always)]
+pub(super) fn near_data(is_counted: bool, bytes: &[u8]) -> Result<(&[u8], &[u8]), Fault>
+    ensures { (before : List Value)
+        → Gives (λ x. (Bytes x.0.now ∷ [], x.1.now)) result (field_at (data_field is_counted) before bytes.now) }
+{
+    if is_counted {
+        near_counted(bytes)
     } else {
         Ok(bytes.split_at(bytes.len()))
     }

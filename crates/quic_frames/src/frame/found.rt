@@ -1,12 +1,11 @@
 //! The frame at the front of some bytes.
-ghost use Rattle.std.specs.Prelude.{◌≡◌};
+ghost use Rattle.std.specs.Prelude.{◌≡◌, ◌<◌, ◌^◌};
 ghost use Rattle.quic_base.specs.Number.{AreBytes};
 ghost use Rattle.quic_frame_parts.specs.Reading.{found_at, is_long_type};
 ghost use Rattle.quic_frames.specs.Found.{GivesFound};
 
 use super::reading::read_frame;
-use super::{Frame, FrameType, InvalidFrame};
-use quic_base::coding::Codec;
+use super::{Frame, FrameType, InvalidFrame, field};
 use quic_frame_parts::frame::fault::Fault;
 use quic_frame_parts::frame::write;
 
@@ -42,13 +41,13 @@ pub(super) fn read_found(
             });
         }
     }
-    let mut rest = bytes;
-    let Ok(ty) = FrameType::decode(&mut rest) else {
+    let Ok((number, rest)) = field::short_varint(bytes) else {
         return Err(InvalidFrame {
             ty: before,
             reason: Fault::UnexpectedEnd.reason(),
         });
     };
+    let ty = type_of(number);
     if is_long(strict, ty, bytes.len() - rest.len()) {
         let long = Some(ty);
         return Err(InvalidFrame {
@@ -63,6 +62,15 @@ pub(super) fn read_found(
             reason: fault.reason(),
         }),
     }
+}
+
+// The type of this number.
+#[inline(always)]
+fn type_of(number: u64) -> FrameType
+    requires { number < 2 ^ 62 }
+    ensures { result ≡ number }
+{
+    FrameType::or_none(number).unwrap_or(FrameType::PADDING)
 }
 
 // A type of so many bytes is in another spelling than the shortest, where only that counts.

@@ -1,8 +1,11 @@
 //! The fields of each type of frame.
-ghost use Rattle.std.specs.Prelude.{◌≡◌, ◌≤◌, Bool, length};
+ghost use Rattle.std.specs.Prelude.{◌≡◌, ◌≤◌, Bool, IfOk, length, if◌then◌else◌};
 ghost use Rattle.quic_frame_parts.specs.Table as table;
 ghost use Rattle.quic_frames.specs.Found.{GivesFrame};
-ghost use Rattle.quic_frame_parts.specs.Reading.{row_at, frame_at};
+ghost use Rattle.quic_frames.specs.InRange.{IsToldApart};
+ghost use Rattle.quic_frames.specs.Meaning.{meaning_of};
+ghost use Rattle.quic_frames.specs.declared.frame.Frame.TheVariants as frames;
+ghost use Rattle.quic_frame_parts.specs.Reading.{Gives, row_at, frame_at};
 
 use super::{
     Ack, AckFrequency, ApplicationClose, Close, ConnectionClose, Crypto, Datagram, EcnCounts,
@@ -12,64 +15,50 @@ use crate::transport_error::Code;
 use quic_base::ids::{ConnectionId, Dir, ResetToken, StreamId};
 use quic_base::varint::VarInt;
 use quic_frame_parts::frame::fault::Fault;
-use quic_frame_parts::frame::field::{blocks, small_varint, varint};
+use quic_frame_parts::frame::field::{blocks, varint};
 
+// An ACK, with counts or without. Both are read by one body, so that reading a frame stays small enough to go into its callers.
 #[tactic(auto, unfolding(quic_frame_parts::specs::Reading::row_at))]
 #[inline(always)]
-fn read_ack(bytes: &[u8]) -> Result<(Frame<'_>, &[u8]), Fault>
-    ensures { GivesFrame (λ rest. rest.now) result (row_at table.ack_row bytes.now) }
+fn read_ack(has_counts: bool, bytes: &[u8]) -> Result<(Frame<'_>, &[u8]), Fault>
+    ensures { GivesFrame (λ rest. rest.now) result (row_at (if has_counts then table.ack_ecn_row else table.ack_row) bytes.now) }
 {
-    let (largest, rest) = varint(bytes)?;
-    let (delay, rest) = varint(rest)?;
+    let (largest, rest) = field::near_varint(bytes)?;
+    let (delay, rest) = field::near_varint(rest)?;
     let (blocks, rest) = blocks(largest, rest)?;
-    let ack = Ack::of_blocks(largest, delay, blocks, None);
-    Ok((Frame::Ack(ack), rest))
-}
-
-#[tactic(auto, unfolding(quic_frame_parts::specs::Reading::row_at))]
-#[inline(always)]
-fn read_ack_ecn(bytes: &[u8]) -> Result<(Frame<'_>, &[u8]), Fault>
-    ensures { GivesFrame (λ rest. rest.now) result (row_at table.ack_ecn_row bytes.now) }
-{
-    let (largest, rest) = varint(bytes)?;
-    let (delay, rest) = varint(rest)?;
-    let (blocks, rest) = blocks(largest, rest)?;
-    let (ect0, rest) = small_varint(rest)?;
-    let (ect1, rest) = small_varint(rest)?;
-    let (ce, rest) = small_varint(rest)?;
+    if !has_counts {
+        let ack = Ack::of_blocks(largest, delay, blocks, None);
+        return Ok((Frame::Ack(ack), rest));
+    }
+    let (ect0, rest) = field::short_varint(rest)?;
+    let (ect1, rest) = field::short_varint(rest)?;
+    let (ce, rest) = field::short_varint(rest)?;
     let ecn = EcnCounts { ect0, ect1, ce };
     let ack = Ack::of_blocks(largest, delay, blocks, Some(ecn));
     Ok((Frame::Ack(ack), rest))
 }
 
-#[tactic(auto, unfolding(quic_frame_parts::specs::Reading::row_at))]
+// A stream that its sender or its receiver ends early: both frames begin with its id and an error code.
+#[tactic(auto, unfolding(quic_frame_parts::specs::Reading::frame_at, quic_frame_parts::specs::Reading::row_at))]
 #[inline(always)]
-fn read_reset_stream(bytes: &[u8]) -> Result<(Frame<'_>, &[u8]), Fault>
-    ensures { GivesFrame (λ rest. rest.now) result (row_at table.reset_stream_row bytes.now) }
+fn read_early_end(ty: u64, bytes: &[u8]) -> Result<(Frame<'_>, &[u8]), Fault>
+    requires either { (0x04 ≤ ty) × (ty ≤ 0x05) }
+    ensures { GivesFrame (λ rest. rest.now) result (frame_at ty bytes.now) }
 {
     let (id, rest) = varint(bytes)?;
     let (error_code, rest) = varint(rest)?;
+    let id = StreamId::from(VarInt::from_u64_unchecked(id));
+    let error_code = VarInt::from_u64_unchecked(error_code);
+    if ty == 0x05 {
+        return Ok((Frame::StopSending(StopSending { id, error_code }), rest));
+    }
     let (final_offset, rest) = varint(rest)?;
     let reset = ResetStream {
-        id: StreamId::from(VarInt::from_u64_unchecked(id)),
-        error_code: VarInt::from_u64_unchecked(error_code),
+        id,
+        error_code,
         final_offset: VarInt::from_u64_unchecked(final_offset),
     };
     Ok((Frame::ResetStream(reset), rest))
-}
-
-#[tactic(auto, unfolding(quic_frame_parts::specs::Reading::row_at))]
-#[inline(always)]
-fn read_stop_sending(bytes: &[u8]) -> Result<(Frame<'_>, &[u8]), Fault>
-    ensures { GivesFrame (λ rest. rest.now) result (row_at table.stop_sending_row bytes.now) }
-{
-    let (id, rest) = varint(bytes)?;
-    let (error_code, rest) = varint(rest)?;
-    let stop = StopSending {
-        id: StreamId::from(VarInt::from_u64_unchecked(id)),
-        error_code: VarInt::from_u64_unchecked(error_code),
-    };
-    Ok((Frame::StopSending(stop), rest))
 }
 
 #[tactic(auto, unfolding(quic_frame_parts::specs::Reading::row_at))]
@@ -101,9 +90,9 @@ fn read_stream(
 ) -> Result<(Frame<'_>, &[u8]), Fault>
     ensures { GivesFrame (λ rest. rest.now) result (row_at (table.stream_row has_offset has_length fin) bytes.now) }
 {
-    let (id, rest) = varint(bytes)?;
+    let (id, rest) = field::near_varint(bytes)?;
     let (offset, rest) = field::offset(has_offset, rest)?;
-    let (bytes, rest) = field::data(has_length, rest)?;
+    let (bytes, rest) = field::near_data(has_length, rest)?;
     let stream = Stream {
         id: StreamId::from(VarInt::from_u64_unchecked(id)),
         offset,
@@ -113,62 +102,58 @@ fn read_stream(
     Ok((Frame::Stream(stream), rest))
 }
 
-#[tactic(auto, unfolding(quic_frame_parts::specs::Reading::row_at))]
+// The limits of a peer, and what tells that one of them was reached. All begin with a number, which is read by one body, so that
+// reading a frame stays small enough to go into its callers.
+#[tactic(auto, unfolding(quic_frame_parts::specs::Reading::frame_at, quic_frame_parts::specs::Reading::row_at))]
 #[inline(always)]
-fn read_max_data(bytes: &[u8]) -> Result<(Frame<'_>, &[u8]), Fault>
-    ensures { GivesFrame (λ rest. rest.now) result (row_at (table.number_row table.MaxData) bytes.now) }
+fn read_limit(ty: u64, bytes: &[u8]) -> Result<(Frame<'_>, &[u8]), Fault>
+    requires limit { (0x10 ≤ ty) × (ty ≤ 0x17) }
+    ensures { GivesFrame (λ rest. rest.now) result (frame_at ty bytes.now) }
 {
-    let (limit, rest) = varint(bytes)?;
-    Ok((Frame::MaxData(VarInt::from_u64_unchecked(limit)), rest))
-}
-
-#[tactic(auto, unfolding(quic_frame_parts::specs::Reading::row_at))]
-#[inline(always)]
-fn read_max_stream_data(bytes: &[u8]) -> Result<(Frame<'_>, &[u8]), Fault>
-    ensures { GivesFrame (λ rest. rest.now) result (row_at table.max_stream_data_row bytes.now) }
-{
-    let (id, rest) = varint(bytes)?;
-    let (offset, rest) = varint(rest)?;
-    let id = StreamId::from(VarInt::from_u64_unchecked(id));
-    Ok((Frame::MaxStreamData { id, offset }, rest))
-}
-
-#[tactic(auto, unfolding(quic_frame_parts::specs::Reading::row_at))]
-#[inline(always)]
-fn read_max_streams(dir: Dir, bytes: &[u8]) -> Result<(Frame<'_>, &[u8]), Fault>
-    ensures { GivesFrame (λ rest. rest.now) result (row_at (table.max_streams_row dir) bytes.now) }
-{
-    let (count, rest) = varint(bytes)?;
-    Ok((Frame::MaxStreams { dir, count }, rest))
-}
-
-#[tactic(auto, unfolding(quic_frame_parts::specs::Reading::row_at))]
-#[inline(always)]
-fn read_data_blocked(bytes: &[u8]) -> Result<(Frame<'_>, &[u8]), Fault>
-    ensures { GivesFrame (λ rest. rest.now) result (row_at (table.number_row table.DataBlocked) bytes.now) }
-{
-    let (offset, rest) = varint(bytes)?;
-    Ok((Frame::DataBlocked { offset }, rest))
-}
-
-#[tactic(auto, unfolding(quic_frame_parts::specs::Reading::row_at))]
-#[inline(always)]
-fn read_stream_data_blocked(bytes: &[u8]) -> Result<(Frame<'_>, &[u8]), Fault>
-    ensures { GivesFrame (λ rest. rest.now) result (row_at table.stream_data_blocked_row bytes.now) }
-{
-    let (id, rest) = varint(bytes)?;
-    let (offset, rest) = varint(rest)?;
-    let id = StreamId::from(VarInt::from_u64_unchecked(id));
-    Ok((Frame::StreamDataBlocked { id, offset }, rest))
-}
-
-#[tactic(auto, unfolding(quic_frame_parts::specs::Reading::row_at))]
-#[inline(always)]
-fn read_streams_blocked(dir: Dir, bytes: &[u8]) -> Result<(Frame<'_>, &[u8]), Fault>
-    ensures { GivesFrame (λ rest. rest.now) result (row_at (table.streams_blocked_row dir) bytes.now) }
-{
-    let (limit, rest) = varint(bytes)?;
-    Ok((Frame::StreamsBlocked { dir, limit }, rest))
+    let (first, rest) = field::near_varint(bytes)?;
+    let number = VarInt::from_u64_unchecked(first);
+    match ty {
+        0x10 => Ok((Frame::MaxData(number), rest)),
+        0x11 => {
+            let (offset, rest) = varint(rest)?;
+            let id = StreamId::from(number);
+            Ok((Frame::MaxStreamData { id, offset }, rest))
+        }
+        0x12 => Ok((
+            Frame::MaxStreams {
+                dir: Dir::Bi,
+                count: first,
+            },
+            rest,
+        )),
+        0x13 => Ok((
+            Frame::MaxStreams {
+                dir: Dir::Uni,
+                count: first,
+            },
+            rest,
+        )),
+        0x14 => Ok((Frame::DataBlocked { offset: first }, rest)),
+        0x15 => {
+            let (offset, rest) = varint(rest)?;
+            let id = StreamId::from(number);
+            Ok((Frame::StreamDataBlocked { id, offset }, rest))
+        }
+        0x16 => Ok((
+            Frame::StreamsBlocked {
+                dir: Dir::Bi,
+                limit: first,
+            },
+            rest,
+        )),
+        _ => Ok((
+            Frame::StreamsBlocked {
+                dir: Dir::Uni,
+                limit: first,
+            },
+            rest,
+        )),
+    }
 }
 
 // A connection id of these bytes. It is copied by a call, so that reading a frame stays small enough to go into its callers.
@@ -185,8 +170,8 @@ fn id_of(bytes: &[u8]) -> ConnectionId
 fn read_new_connection_id(bytes: &[u8]) -> Result<(Frame<'_>, &[u8]), Fault>
     ensures { GivesFrame (λ rest. rest.now) result (row_at table.new_connection_id_row bytes.now) }
 {
-    let (sequence, rest) = varint(bytes)?;
-    let (retire_prior_to, rest) = varint(rest)?;
+    let (sequence, rest) = field::short_varint(bytes)?;
+    let (retire_prior_to, rest) = field::short_varint(rest)?;
     if retire_prior_to > sequence {
         return Err(Fault::Malformed);
     }
@@ -210,30 +195,38 @@ fn read_retire_connection_id(bytes: &[u8]) -> Result<(Frame<'_>, &[u8]), Fault>
     Ok((Frame::RetireConnectionId { sequence }, rest))
 }
 
-#[tactic(auto, unfolding(quic_frame_parts::specs::Reading::row_at))]
+// The eight bytes of a path, there or back.
+#[tactic(auto, unfolding(quic_frame_parts::specs::Reading::frame_at, quic_frame_parts::specs::Reading::row_at))]
 #[inline(always)]
-fn read_path_challenge(bytes: &[u8]) -> Result<(Frame<'_>, &[u8]), Fault>
-    ensures { GivesFrame (λ rest. rest.now) result (row_at (table.path_row table.PathChallenge) bytes.now) }
+fn read_path(ty: u64, bytes: &[u8]) -> Result<(Frame<'_>, &[u8]), Fault>
+    requires either { (0x1a ≤ ty) × (ty ≤ 0x1b) }
+    ensures { GivesFrame (λ rest. rest.now) result (frame_at ty bytes.now) }
 {
     let (token, rest) = field::eight(bytes)?;
-    Ok((Frame::PathChallenge(token), rest))
-}
-
-#[tactic(auto, unfolding(quic_frame_parts::specs::Reading::row_at))]
-#[inline(always)]
-fn read_path_response(bytes: &[u8]) -> Result<(Frame<'_>, &[u8]), Fault>
-    ensures { GivesFrame (λ rest. rest.now) result (row_at (table.path_row table.PathResponse) bytes.now) }
-{
-    let (token, rest) = field::eight(bytes)?;
+    if ty == 0x1a {
+        return Ok((Frame::PathChallenge(token), rest));
+    }
     Ok((Frame::PathResponse(token), rest))
 }
 
-#[tactic(auto, unfolding(quic_frame_parts::specs::Reading::row_at))]
-#[inline(always)]
-fn read_connection_close(bytes: &[u8]) -> Result<(Frame<'_>, &[u8]), Fault>
-    ensures { GivesFrame (λ rest. rest.now) result (row_at table.connection_close_row bytes.now) }
+// A close by the transport or by the application: both begin with an error code and end with a reason phrase. It is read by a
+// call, so that reading a frame stays small enough to go into its callers.
+#[tactic(auto, unfolding(quic_frame_parts::specs::Reading::frame_at, quic_frame_parts::specs::Reading::row_at))]
+#[inline(never)]
+fn close(ty: u64, bytes: &[u8]) -> Result<(Close<'_>, &[u8]), Fault>
+    requires either { (0x1c ≤ ty) × (ty ≤ 0x1d) }
+    ensures gives { Gives (λ x. (meaning_of (frames.Close x.0), x.1.now)) result (frame_at ty bytes.now) }
+    ensures apart { IfOk result (λ x. IsToldApart (frames.Close x.0)) }
 {
     let (error_code, rest) = varint(bytes)?;
+    if ty == 0x1d {
+        let (reason, rest) = field::counted(rest)?;
+        let close = ApplicationClose {
+            error_code: VarInt::from_u64_unchecked(error_code),
+            reason,
+        };
+        return Ok((Close::Application(close), rest));
+    }
     let (ty, rest) = varint(rest)?;
     let (reason, rest) = field::counted(rest)?;
     let close = ConnectionClose {
@@ -241,21 +234,18 @@ fn read_connection_close(bytes: &[u8]) -> Result<(Frame<'_>, &[u8]), Fault>
         frame_type: FrameType::or_none(ty),
         reason,
     };
-    Ok((Frame::Close(Close::Connection(close)), rest))
+    Ok((Close::Connection(close), rest))
 }
 
-#[tactic(auto, unfolding(quic_frame_parts::specs::Reading::row_at))]
 #[inline(always)]
-fn read_application_close(bytes: &[u8]) -> Result<(Frame<'_>, &[u8]), Fault>
-    ensures { GivesFrame (λ rest. rest.now) result (row_at table.application_close_row bytes.now) }
+fn read_close(ty: u64, bytes: &[u8]) -> Result<(Frame<'_>, &[u8]), Fault>
+    requires either { (0x1c ≤ ty) × (ty ≤ 0x1d) }
+    ensures { GivesFrame (λ rest. rest.now) result (frame_at ty bytes.now) }
 {
-    let (error_code, rest) = varint(bytes)?;
-    let (reason, rest) = field::counted(rest)?;
-    let close = ApplicationClose {
-        error_code: VarInt::from_u64_unchecked(error_code),
-        reason,
-    };
-    Ok((Frame::Close(Close::Application(close)), rest))
+    match close(ty, bytes) {
+        Ok((close, rest)) => Ok((Frame::Close(close), rest)),
+        Err(fault) => Err(fault),
+    }
 }
 
 #[tactic(auto, unfolding(quic_frame_parts::specs::Reading::row_at))]
@@ -267,10 +257,11 @@ fn read_datagram(has_length: bool, bytes: &[u8]) -> Result<(Frame<'_>, &[u8]), F
     Ok((Frame::Datagram(Datagram { bytes }), rest))
 }
 
+// How often acknowledgements are wanted, read by a call for the same reason.
 #[tactic(auto, unfolding(quic_frame_parts::specs::Reading::row_at))]
-#[inline(always)]
-fn read_ack_frequency(bytes: &[u8]) -> Result<(Frame<'_>, &[u8]), Fault>
-    ensures { GivesFrame (λ rest. rest.now) result (row_at table.ack_frequency_row bytes.now) }
+#[inline(never)]
+fn ack_frequency(bytes: &[u8]) -> Result<(AckFrequency, &[u8]), Fault>
+    ensures { Gives (λ x. (meaning_of (frames.AckFrequency x.0), x.1.now)) result (row_at table.ack_frequency_row bytes.now) }
 {
     let (sequence, rest) = varint(bytes)?;
     let (threshold, rest) = varint(rest)?;
@@ -282,7 +273,17 @@ fn read_ack_frequency(bytes: &[u8]) -> Result<(Frame<'_>, &[u8]), Fault>
         request_max_ack_delay: VarInt::from_u64_unchecked(delay),
         reordering_threshold: VarInt::from_u64_unchecked(reordering),
     };
-    Ok((Frame::AckFrequency(frequency), rest))
+    Ok((frequency, rest))
+}
+
+#[inline(always)]
+fn read_ack_frequency(bytes: &[u8]) -> Result<(Frame<'_>, &[u8]), Fault>
+    ensures { GivesFrame (λ rest. rest.now) result (row_at table.ack_frequency_row bytes.now) }
+{
+    match ack_frequency(bytes) {
+        Ok((frequency, rest)) => Ok((Frame::AckFrequency(frequency), rest)),
+        Err(fault) => Err(fault),
+    }
 }
 
 /// The frame of this type whose fields begin here, and what follows it.
@@ -294,31 +295,19 @@ pub(super) fn read_frame(ty: u64, bytes: &[u8]) -> Result<(Frame<'_>, &[u8]), Fa
     match ty {
         0x00 => Ok((Frame::Padding, bytes)),
         0x01 => Ok((Frame::Ping, bytes)),
-        0x02 => read_ack(bytes),
-        0x03 => read_ack_ecn(bytes),
-        0x04 => read_reset_stream(bytes),
-        0x05 => read_stop_sending(bytes),
+        0x02 | 0x03 => read_ack(ty & 1 != 0, bytes),
+        0x04 | 0x05 => read_early_end(ty, bytes),
         0x06 => read_crypto(bytes),
         0x07 => read_new_token(bytes),
         0x08..=0x0f => read_stream(ty & 4 != 0, ty & 2 != 0, ty & 1 != 0, bytes),
-        0x10 => read_max_data(bytes),
-        0x11 => read_max_stream_data(bytes),
-        0x12 => read_max_streams(Dir::Bi, bytes),
-        0x13 => read_max_streams(Dir::Uni, bytes),
-        0x14 => read_data_blocked(bytes),
-        0x15 => read_stream_data_blocked(bytes),
-        0x16 => read_streams_blocked(Dir::Bi, bytes),
-        0x17 => read_streams_blocked(Dir::Uni, bytes),
+        0x10..=0x17 => read_limit(ty, bytes),
         0x18 => read_new_connection_id(bytes),
         0x19 => read_retire_connection_id(bytes),
-        0x1a => read_path_challenge(bytes),
-        0x1b => read_path_response(bytes),
-        0x1c => read_connection_close(bytes),
-        0x1d => read_application_close(bytes),
+        0x1a | 0x1b => read_path(ty, bytes),
+        0x1c | 0x1d => read_close(ty, bytes),
         0x1e => Ok((Frame::HandshakeDone, bytes)),
         0x1f => Ok((Frame::ImmediateAck, bytes)),
-        0x30 => read_datagram(false, bytes),
-        0x31 => read_datagram(true, bytes),
+        0x30 | 0x31 => read_datagram(ty & 1 != 0, bytes),
         0xaf => read_ack_frequency(bytes),
         _ => Err(Fault::InvalidFrameId),
     }

@@ -13,13 +13,18 @@ use std::test::Fail;
 // The set with these runs, as `1..4,5..6`.
 fn set_of(alloc: Global, runs: &str) -> Result<ArrayRangeSet, Fail> {
     let mut set = ArrayRangeSet::new(alloc);
+    insert_all(&mut set, runs)?;
+    Ok(set)
+}
+
+fn insert_all(set: &mut ArrayRangeSet, runs: &str) -> Result<(), Fail> {
     for run in runs.split(",") {
         let Some((start, end)) = run.split_once("..") else {
             return Err("a run".into());
         };
         set.insert(start.parse()?..end.parse()?)?;
     }
-    Ok(set)
+    Ok(())
 }
 
 fn are_small(counts: Option<&EcnCounts>) -> bool
@@ -127,10 +132,7 @@ fn acks_of_few_numbers(rt: HostRuntime) -> Result<(), Fail> {
 #[test]
 fn an_ack_of_a_set_is_read_back(rt: HostRuntime) -> Result<(), Fail> {
     let mut checks = Checks::new(rt.alloc());
-    let mut set = ArrayRangeSet::new(rt.alloc());
-    for number in [14, 1, 2, 10, 3, 5, 11] {
-        set.insert_one(number)?;
-    }
+    let set = set_of(rt.alloc(), "14..15,1..3,10..11,3..4,5..6,11..12")?;
     let counts = EcnCounts {
         ect0: 42,
         ect1: 24,

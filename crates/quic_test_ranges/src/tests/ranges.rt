@@ -11,18 +11,28 @@ use std::test::Fail;
 // The sets of some ranges.
 fn set_of(alloc: Global, ranges: &[(u64, u64)]) -> Result<RangeSet, NoRoom> {
     let mut set = RangeSet::new(alloc);
+    insert_all(&mut set, ranges)?;
+    Ok(set)
+}
+
+fn insert_all(set: &mut RangeSet, ranges: &[(u64, u64)]) -> Result<(), NoRoom> {
     for &(start, end) in ranges {
         let _ = set.insert(start..end)?;
     }
-    Ok(set)
+    Ok(())
 }
 
 fn array_of(alloc: Global, ranges: &[(u64, u64)]) -> Result<ArrayRangeSet, NoRoom> {
     let mut set = ArrayRangeSet::new(alloc);
+    insert_all_in_array(&mut set, ranges)?;
+    Ok(set)
+}
+
+fn insert_all_in_array(set: &mut ArrayRangeSet, ranges: &[(u64, u64)]) -> Result<(), NoRoom> {
     for &(start, end) in ranges {
         let _ = set.insert(start..end)?;
     }
-    Ok(set)
+    Ok(())
 }
 
 // Whether the set has exactly these runs.
@@ -126,19 +136,39 @@ fn replaces(rt: HostRuntime) -> Result<(), Fail> {
     checks.verdict()
 }
 
-// Dropped before its first `next`, at a look or counted, a `Replace` leaves the same set.
+// Whether the set is the same where a `Replace` is dropped before its first `next`, and after it.
+fn is_same_unseen(alloc: Global, before: Runs, x: Range<u64>, after: Runs) -> Result<bool, NoRoom> {
+    let mut set = set_of(alloc, before)?;
+    replace_unseen(&mut set, x)?;
+    Ok(set_is(&set, after))
+}
+
+fn is_same_at_a_look(
+    alloc: Global,
+    before: Runs,
+    x: Range<u64>,
+    after: Runs,
+) -> Result<bool, NoRoom> {
+    let mut set = set_of(alloc, before)?;
+    replace_at_a_look(&mut set, x)?;
+    Ok(set_is(&set, after))
+}
+
+fn count_of(alloc: Global, before: Runs, x: Range<u64>) -> Result<u64, NoRoom> {
+    let mut set = set_of(alloc, before)?;
+    count_replaced(&mut set, x)
+}
+
 #[test]
 fn replaces_without_a_look(rt: HostRuntime) -> Result<(), Fail> {
     let mut checks = Checks::new(rt.alloc());
     for &(before, (start, end), pieces, after) in REPLACE_ROWS {
-        let mut set = set_of(rt.alloc(), before)?;
-        replace_unseen(&mut set, start..end)?;
-        checks.holds_at(start, set_is(&set, after));
-        let mut set = set_of(rt.alloc(), before)?;
-        replace_at_a_look(&mut set, start..end)?;
-        checks.holds_at(start, set_is(&set, after));
-        let mut set = set_of(rt.alloc(), before)?;
-        checks.same(count_replaced(&mut set, start..end)?, pieces.len() as u64);
+        let unseen = is_same_unseen(rt.alloc(), before, start..end, after)?;
+        checks.holds_at(start, unseen);
+        let looked_at = is_same_at_a_look(rt.alloc(), before, start..end, after)?;
+        checks.holds_at(start, looked_at);
+        let count = count_of(rt.alloc(), before, start..end)?;
+        checks.same(count, pieces.len() as u64);
     }
     checks.verdict()
 }
@@ -226,16 +256,28 @@ fn clones_array_sets(rt: HostRuntime) -> Result<(), Fail> {
     checks.verdict()
 }
 
+// Whether these ranges are left of some others.
+fn set_leaves(alloc: Global, before: Runs, other: Runs, after: Runs) -> Result<bool, NoRoom> {
+    let other = set_of(alloc, other)?;
+    let mut set = set_of(alloc, before)?;
+    set.subtract(&other)?;
+    Ok(set_is(&set, after))
+}
+
+fn array_leaves(alloc: Global, before: Runs, other: Runs, after: Runs) -> Result<bool, NoRoom> {
+    let other = array_of(alloc, other)?;
+    let mut array = array_of(alloc, before)?;
+    array.subtract(&other)?;
+    Ok(array_is(&array, after))
+}
+
 #[test]
 fn subtracts(rt: HostRuntime) -> Result<(), Fail> {
     let mut checks = Checks::new(rt.alloc());
-    let (before, other) = ([(0, 100), (200, 210)], [(50, 60), (150, 300)]);
-    let mut set = set_of(rt.alloc(), &before)?;
-    checks.same(set.subtract(&set_of(rt.alloc(), &other)?), Ok(()));
-    checks.holds(set_is(&set, &[(0, 50), (60, 100)]));
-    let mut array = array_of(rt.alloc(), &before)?;
-    checks.same(array.subtract(&array_of(rt.alloc(), &other)?), Ok(()));
-    checks.holds(array_is(&array, &[(0, 50), (60, 100)]));
+    let (before, other): (Runs, Runs) = (&[(0, 100), (200, 210)], &[(50, 60), (150, 300)]);
+    let after: Runs = &[(0, 50), (60, 100)];
+    checks.holds(set_leaves(rt.alloc(), before, other, after)?);
+    checks.holds(array_leaves(rt.alloc(), before, other, after)?);
     checks.verdict()
 }
 

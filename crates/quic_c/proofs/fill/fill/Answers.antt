@@ -6,7 +6,7 @@ use Rattle.quic_c.proofs.fill.fill.Goals as goal
 use Rattle.quic_c.proofs.fill.fill.Goals.{then-parts-eq0, else-parts-eq0}
 
 pub loop-count-preserved : goal.loop-count-preserved
-loop-count-preserved c =
+loop-count-preserved g c =
     let here = c.loop-count in
     let frame = c.in-Some-Ok.frame in
     let finds : Finds here.iter frame c.next.new.self = subst (λ f. Advances here.iter (Some f) c.next.new.self) c.in-Some-Ok.field-0-is c.in-Some-Ok.ensures.steps in

@@ -1,26 +1,36 @@
-use Rattle.std.proofs.Common.{rules, sym, ◌≡◌, ◌∙◌, ◌∷◌}
+use Rattle.std.proofs.Common.{arith, rules, sym, ap, ◌≡◌, ◌+◌, ◌∙◌, ◌∷◌, length}
+use Rattle.std.proofs.lemmas.List.{length-append}
+use Rattle.quic_base.specs.Number.{AreBytes}
+use Rattle.quic_frame_parts.proofs.Varints.{varint_takes}
 use Rattle.quic_frames.specs.Meaning.{meaning_of}
 use Rattle.quic_frames.proofs.Finding.{found_whole, found_none, found_cut, found_long, found_padding}
 use Rattle.quic_frames.proofs.frame.found.read_found.Goals as goal
 
-pub returns-in_default-decode-clause-gives : goal.returns-in_default-decode-clause-gives
-returns-in_default-decode-clause-gives c =
-    rw c.reason.ensures (found_cut c.args.strict c.args.before c.args.bytes.now (λ i. (c.type_inv.bytes i).fits) c.in_default-decode.ensures.cut)
+pub overflow_sub-bytes : goal.overflow_sub-bytes
+overflow_sub-bytes c =
+    let fits : AreBytes c.args.bytes.now = λ i. (c.type_inv.bytes i).fits in
+    let taken = varint_takes c.args.bytes.now c.in-Ok.number c.in-Ok.rest.now fits c.in-Ok.ensures.gives in
+    let total : length c.args.bytes.now ≡ length taken.front + length c.in-Ok.rest.now = ap length taken.split ∙ length-append taken.front c.in-Ok.rest.now in
+    omega (arith, total)
+
+pub returns-in_default-short_varint-clause-gives : goal.returns-in_default-short_varint-clause-gives
+returns-in_default-short_varint-clause-gives c =
+    rw c.reason.ensures (found_cut c.args.strict c.args.before c.args.bytes.now _ c.in_default-short_varint.ensures.gives)
 
 pub returns-in-Ok-read_frame-clause-gives : goal.returns-in-Ok-read_frame-clause-gives
 returns-in-Ok-read_frame-clause-gives c =
     let given = c.in-Ok-read_frame.ensures in (
-      found_whole c.args.strict c.args.before c.in-Ok.ty c.args.bytes.now _ (meaning_of c.in-Ok-read_frame.frame) c.in-Ok-read_frame.rest.now c.in-Ok.ensures.ok (sym c.is_long.ensures ∙ c.if-is_long.false) (rw (← c.into_inner.ensures) given.0),
+      found_whole c.args.strict c.args.before c.type_of-ty.result c.args.bytes.now c.in-Ok.rest.now (meaning_of c.in-Ok-read_frame.frame) c.in-Ok-read_frame.rest.now (search rules) (sym c.is_long.ensures ∙ c.if-is_long.false) (rw (← c.into_inner.ensures) given.0),
       given.1,
     )
 
 pub returns-in-Err-clause-gives : goal.returns-in-Err-clause-gives
 returns-in-Err-clause-gives c =
-    rw c.reason-in-Err.ensures (found_none c.args.strict c.args.before c.in-Ok.ty c.args.bytes.now _ c.in-Err.fault c.in-Ok.ensures.ok (sym c.is_long.ensures ∙ c.if-is_long.false) (rw (← c.into_inner.ensures) c.in-Err.ensures.0))
+    rw c.reason-in-Err.ensures (found_none c.args.strict c.args.before c.type_of-ty.result c.args.bytes.now c.in-Ok.rest.now c.in-Err.fault (search rules) (sym c.is_long.ensures ∙ c.if-is_long.false) (rw (← c.into_inner.ensures) c.in-Err.ensures.0))
 
 pub returns-then-is_long-clause-gives : goal.returns-then-is_long-clause-gives
 returns-then-is_long-clause-gives c =
-    rw c.reason-then-is_long.ensures (found_long c.args.strict c.args.before c.in-Ok.ty c.args.bytes.now _ c.in-Ok.ensures.ok (sym c.is_long.ensures ∙ c.if-is_long.true))
+    rw c.reason-then-is_long.ensures (found_long c.args.strict c.args.before c.type_of-ty.result c.args.bytes.now c.in-Ok.rest.now (search rules) (sym c.is_long.ensures ∙ c.if-is_long.true))
 
 pub returns-then-first-eq0-clause-gives : goal.returns-then-first-eq0-clause-gives
 returns-then-first-eq0-clause-gives c =

@@ -1,0 +1,35 @@
+use Rattle.std.proofs.Common.{rules, refl, ap, inl, inr, ◌≡◌, ◌<◌, ◌∙◌, [], ◌∷◌, false, None, length, set, List}
+use Rattle.std.proofs.lemmas.List.{drop-set}
+use Rattle.quic_frame_parts.specs.Reading.{Broken}
+use Rattle.quic_frames.proofs.Items.{all_read}
+use Rattle.quic_frames.specs.Walk.{left, first_of, invalid_of}
+use Rattle.quic_c.specs.declared.words.FrameWords.{FrameWords}
+use Rattle.quic_c.specs.Shown.{way_of, at_front}
+use Rattle.quic_c.proofs.Filling.{kinds}
+use Rattle.quic_c.proofs.fill.quic_wire_frames_first_.Goals as goal
+
+pub returns-in-Ok-clause-frames : goal.returns-in-Ok-clause-frames
+returns-in-Ok-clause-frames c =
+    let front = c.in-Some.ensures.way in
+    let said = c.in-Ok.ensures in
+    let room : 0 < length c.args.out.now = search rules in
+    let some : 0 < c.in-Ok.filled.count = elim (kinds c.in-Ok.filled.count) [
+      | inl none ↦
+          let over : left (first_of false c.args.payload.now) ≡ [] = rw front at (said.none none room) in
+          let nothing : c.args.payload.now ≡ [] = all_read false 0 None c.args.payload.now (λ i. (c.type_inv.payload i).fits) over in
+          absurd (search rules)
+      | inr some ↦ some
+    ] in
+    λ _. (some, rw c.type_word.ensures.back (rw front at said.filled))
+
+pub returns-in-Err-clause-invalid : goal.returns-in-Err-clause-invalid
+returns-in-Err-clause-invalid c =
+    let s = c.in-Err.ensures.invalid in
+    let it : left (way_of (at_front 0) c.args.payload.now) ≡ Broken (invalid_of c.in-Err.invalid) ∷ [] = rw c.in-Some.ensures.way at s.0 in
+    let room : 0 < length c.args.out.now = search rules in
+    let told = c.show_invalid.result in
+    λ _. record {
+      entry = told;
+      invalid = record { told = invalid_of c.in-Err.invalid; first = it; over = refl; words = c.show_invalid.ensures };
+      entries = ap (λ (l : List FrameWords). set l 0 told) s.1 ∙ drop-set c.args.out.now 0 told room;
+    }

@@ -72,6 +72,17 @@ static void nulls(void) {
        QUIC_WIRE_ERR_NOBUF);
   WANT(quic_wire_frames_fill(&frames, NULL, 0, &frame, 1, &n) == 0);
   WANT(n == 0 && frames.offset == 0);
+  WANT(quic_wire_frames_first(NULL, &byte, 1, &frame, 1, &n) == INVALID);
+  WANT(quic_wire_frames_first(&frames, NULL, 1, &frame, 1, &n) == INVALID);
+  WANT(quic_wire_frames_first(&frames, &byte, 1, NULL, 1, &n) == INVALID);
+  WANT(quic_wire_frames_first(&frames, &byte, 1, &frame, 1, NULL) == INVALID);
+  WANT(quic_wire_frames_first(&frames, &byte, 1, NULL, 0, &n) ==
+       QUIC_WIRE_ERR_NOBUF);
+  WANT(quic_wire_frames_first(&frames, NULL, 0, &frame, 1, &n) ==
+       QUIC_WIRE_ERR_EMPTY);
+  WANT(quic_wire_frames_first(&frames, NULL, 0, NULL, 0, &n) ==
+       QUIC_WIRE_ERR_EMPTY);
+  WANT(n == 0 && frames.offset == 0);
   WANT(quic_wire_ack_ranges_init(NULL, &byte, 1, &frame) == INVALID);
   WANT(quic_wire_ack_ranges_init(&ranges, NULL, 1, &frame) == INVALID);
   WANT(quic_wire_ack_ranges_init(&ranges, &byte, 1, NULL) == INVALID);
@@ -247,6 +258,30 @@ static void fill_rubbish(const uint8_t *payload, size_t len) {
     WANT(!memcmp(filled, before, sizeof filled));
   }
   WANT(!memcmp(&one, &many, sizeof one));
+}
+
+/* The first frames with one call are those of the two calls that begin and go
+ * on. */
+static void first_rubbish(const uint8_t *payload, size_t len) {
+  quic_wire_frames one, both;
+  quic_wire_frame first[5], filled[5];
+  size_t room = any() % 6, count = 77, others = 77;
+  int answer;
+  memset(first, 0xa5, sizeof first);
+  memset(filled, 0xa5, sizeof filled);
+  memset(&one, 0x5a, sizeof one);
+  memset(&both, 0x5a, sizeof both);
+  answer = quic_wire_frames_init(&both, payload, len);
+  if (answer == QUIC_WIRE_OK) {
+    answer = quic_wire_frames_fill(&both, payload, len, filled, room, &others);
+    if (answer == QUIC_WIRE_ERR_NOBUF)
+      memset(&both, 0x5a, sizeof both);
+  }
+  WANT(answer != 0);
+  WANT(quic_wire_frames_first(&one, payload, len, first, room, &count) ==
+       answer);
+  WANT(!memcmp(&one, &both, sizeof one) && count == others);
+  WANT(!memcmp(first, filled, sizeof first));
 }
 
 /* The ranges of any words, many with one call, are those of single calls. */
@@ -982,6 +1017,7 @@ static void rubbish(int rounds) {
       bytes[k] = any() % 4 ? (uint8_t)(any() % 64) : (uint8_t)any();
     read_rubbish(bytes, len);
     fill_rubbish(bytes, len);
+    first_rubbish(bytes, len);
     fill_ranges_rubbish(bytes, len);
     write_rubbish(bytes, len);
     packet_rubbish(bytes, len);

@@ -494,10 +494,13 @@ static inline int quic_wire_frames_first(quic_wire_frames *frames,
                                          size_t payloadlen,
                                          quic_wire_frame *out, size_t room,
                                          size_t *count) {
-  if (!frames || !count || (!payload && payloadlen) || (!out && room))
+  if (!frames || !count || (!out && room))
     return QUIC_WIRE_ERR_INVALID_ARGUMENT;
-  if (!payload)
+  if (!payload) {
+    if (payloadlen)
+      return QUIC_WIRE_ERR_INVALID_ARGUMENT;
     payload = (const uint8_t *)quic_wire_nothing();
+  }
   if (!out)
     out = (quic_wire_frame *)quic_wire_nothing();
   return quic_wire_frames_first_(frames, payload, payloadlen, out, room, count);

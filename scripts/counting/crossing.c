@@ -17,10 +17,10 @@ static u64 items;
 
 // What is looked at of a frame: its kind, and of what that has its numbers and the length of its data, as the program over
 // the Rust crate does.
-static u64 sum_of(const quic_wire_frame *frame) {
+static inline __attribute__((always_inline)) u64 sum_of(const quic_wire_frame *frame) {
     switch (frame->kind) {
     case QUIC_WIRE_ACK:
-        return frame->ack.largest + frame->ack.delay + (frame->end - frame->begin);
+        return frame->ack.largest + frame->ack.delay + frame->end;
     case QUIC_WIRE_RESET_STREAM:
         return frame->reset_stream.final_size;
     case QUIC_WIRE_STOP_SENDING:

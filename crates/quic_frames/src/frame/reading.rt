@@ -112,48 +112,22 @@ fn read_limit(ty: u64, bytes: &[u8]) -> Result<(Frame<'_>, &[u8]), Fault>
 {
     let (first, rest) = field::near_varint(bytes)?;
     let number = VarInt::from_u64_unchecked(first);
-    match ty {
-        0x10 => Ok((Frame::MaxData(number), rest)),
-        0x11 => {
-            let (offset, rest) = varint(rest)?;
-            let id = StreamId::from(number);
-            Ok((Frame::MaxStreamData { id, offset }, rest))
+    if ty == 0x11 || ty == 0x15 {
+        let (offset, rest) = varint(rest)?;
+        let id = StreamId::from(number);
+        if ty == 0x11 {
+            return Ok((Frame::MaxStreamData { id, offset }, rest));
         }
-        0x12 => Ok((
-            Frame::MaxStreams {
-                dir: Dir::Bi,
-                count: first,
-            },
-            rest,
-        )),
-        0x13 => Ok((
-            Frame::MaxStreams {
-                dir: Dir::Uni,
-                count: first,
-            },
-            rest,
-        )),
-        0x14 => Ok((Frame::DataBlocked { offset: first }, rest)),
-        0x15 => {
-            let (offset, rest) = varint(rest)?;
-            let id = StreamId::from(number);
-            Ok((Frame::StreamDataBlocked { id, offset }, rest))
-        }
-        0x16 => Ok((
-            Frame::StreamsBlocked {
-                dir: Dir::Bi,
-                limit: first,
-            },
-            rest,
-        )),
-        _ => Ok((
-            Frame::StreamsBlocked {
-                dir: Dir::Uni,
-                limit: first,
-            },
-            rest,
-        )),
+        return Ok((Frame::StreamDataBlocked { id, offset }, rest));
     }
+    let dir = if ty & 1 == 0 { Dir::Bi } else { Dir::Uni };
+    let frame = match ty {
+        0x10 => Frame::MaxData(number),
+        0x12 | 0x13 => Frame::MaxStreams { dir, count: first },
+        0x14 => Frame::DataBlocked { offset: first },
+        _ => Frame::StreamsBlocked { dir, limit: first },
+    };
+    Ok((frame, rest))
 }
 
 // A connection id of these bytes. It is copied by a call, so that reading a frame stays small enough to go into its callers.
@@ -263,10 +237,10 @@ fn read_datagram(has_length: bool, bytes: &[u8]) -> Result<(Frame<'_>, &[u8]), F
 fn ack_frequency(bytes: &[u8]) -> Result<(AckFrequency, &[u8]), Fault>
     ensures { Gives (λ x. (meaning_of (frames.AckFrequency x.0), x.1.now)) result (row_at table.ack_frequency_row bytes.now) }
 {
-    let (sequence, rest) = varint(bytes)?;
-    let (threshold, rest) = varint(rest)?;
-    let (delay, rest) = varint(rest)?;
-    let (reordering, rest) = varint(rest)?;
+    let (sequence, rest) = field::near_varint(bytes)?;
+    let (threshold, rest) = field::near_varint(rest)?;
+    let (delay, rest) = field::near_varint(rest)?;
+    let (reordering, rest) = field::near_varint(rest)?;
     let frequency = AckFrequency {
         sequence: VarInt::from_u64_unchecked(sequence),
         ack_eliciting_threshold: VarInt::from_u64_unchecked(threshold),
@@ -292,6 +266,12 @@ fn read_ack_frequency(bytes: &[u8]) -> Result<(Frame<'_>, &[u8]), Fault>
 pub(super) fn read_frame(ty: u64, bytes: &[u8]) -> Result<(Frame<'_>, &[u8]), Fault>
     ensures { GivesFrame (λ rest. rest.now) result (frame_at ty bytes.now) }
 {
+    // The two ranges are asked for first, since what a `match` compares stands behind what it looks up.
+    match ty {
+        0x08..=0x0f => return read_stream(ty & 4 != 0, ty & 2 != 0, ty & 1 != 0, bytes),
+        0x10..=0x17 => return read_limit(ty, bytes),
+        _ => {}
+    }
     match ty {
         0x00 => Ok((Frame::Padding, bytes)),
         0x01 => Ok((Frame::Ping, bytes)),
@@ -299,8 +279,6 @@ pub(super) fn read_frame(ty: u64, bytes: &[u8]) -> Result<(Frame<'_>, &[u8]), Fa
         0x04 | 0x05 => read_early_end(ty, bytes),
         0x06 => read_crypto(bytes),
         0x07 => read_new_token(bytes),
-        0x08..=0x0f => read_stream(ty & 4 != 0, ty & 2 != 0, ty & 1 != 0, bytes),
-        0x10..=0x17 => read_limit(ty, bytes),
         0x18 => read_new_connection_id(bytes),
         0x19 => read_retire_connection_id(bytes),
         0x1a | 0x1b => read_path(ty, bytes),

@@ -15,8 +15,8 @@ typedef uint64_t u64;
 
 static u64 items;
 
-// What is looked at of a frame: its kind, and of what that has its numbers and the length of its data, as the program over
-// the Rust crate does.
+// What is looked at of a frame: its kind, and by that some of its numbers and the length of its data, those that the program
+// over the Rust crate looks at; of an ACK, where it ends in place of how many bytes its blocks have.
 static inline __attribute__((always_inline)) u64 sum_of(const quic_wire_frame *frame) {
     switch (frame->kind) {
     case QUIC_WIRE_ACK:

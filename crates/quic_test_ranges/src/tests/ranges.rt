@@ -1,6 +1,7 @@
 ghost use Rattle.std.specs.Prelude.{OnOk};
 ghost use Rattle.quic_ranges.specs.Runs.{IsRunsOf, in_union};
 
+use super::ranges_refused::{Call, made};
 use quic_base::coding::NoRoom;
 use quic_ranges::range_set::{ArrayRangeSet, RangeSet, Replace};
 use quic_testing::Checks;
@@ -104,6 +105,15 @@ fn count_replaced(set: &mut RangeSet, x: Range<u64>) -> Result<u64, NoRoom>
 
 type Runs = &'static [(u64, u64)];
 
+// The same on an array set.
+fn made_in_array(set: &mut ArrayRangeSet, call: Call) -> Result<bool, NoRoom> {
+    match call {
+        Call::Insert(start, end) => set.insert(start..end),
+        Call::InsertOne(x) => set.insert_one(x.into()),
+        Call::Remove(start, end) => set.remove(start..end),
+    }
+}
+
 // The set before, a range, the pieces that `replace` gives, and the set after.
 const REPLACE_ROWS: &[(Runs, (u64, u64), Runs, Runs)] = &[
     (&[(1, 5)], (2, 4), &[(2, 4)], &[(1, 5)]),
@@ -173,27 +183,24 @@ fn replaces_without_a_look(rt: HostRuntime) -> Result<(), Fail> {
     checks.verdict()
 }
 
+// Ranges that are put in one after the other, and the pieces that each call gives.
+const REPLACE_SCRIPT: &[((u64, u64), Runs)] = &[
+    ((3, 3), &[]),
+    ((6, 10), &[]),
+    ((5, 5), &[]),
+    ((2, 7), &[(6, 7)]),
+];
+
 #[test]
 fn replaces_one_after_the_other(rt: HostRuntime) -> Result<(), Fail> {
     let mut checks = Checks::new(rt.alloc());
     let mut looked = RangeSet::new(rt.alloc());
-    checks.holds(gives(looked.replace(3..3)?, &[]));
-    checks.holds(gives(looked.replace(6..10)?, &[]));
-    checks.holds(gives(looked.replace(5..5)?, &[]));
-    checks.holds(gives(looked.replace(2..7)?, &[(6, 7)]));
-    checks.holds(set_is(&looked, &[(2, 10)]));
-    checks.verdict()
-}
-
-#[test]
-fn replaces_one_after_the_other_without_a_look(rt: HostRuntime) -> Result<(), Fail> {
-    let mut checks = Checks::new(rt.alloc());
     let mut dropped = RangeSet::new(rt.alloc());
-    let _ = dropped.replace(3..3)?;
-    let _ = dropped.replace(6..10)?;
-    let _ = dropped.replace(5..5)?;
-    let _ = dropped.replace(2..7)?;
-    checks.holds(set_is(&dropped, &[(2, 10)]));
+    for &((start, end), pieces) in REPLACE_SCRIPT {
+        checks.holds_at(start, gives(looked.replace(start..end)?, pieces));
+        let _ = dropped.replace(start..end)?;
+    }
+    checks.holds(set_is(&looked, &[(2, 10)]) && set_is(&dropped, &[(2, 10)]));
     checks.verdict()
 }
 
@@ -281,18 +288,30 @@ fn subtracts(rt: HostRuntime) -> Result<(), Fail> {
     checks.verdict()
 }
 
+// From which end an element of 0..3 and 5..7 is taken, and which one it is.
+const ELEMENTS: &[(bool, Option<u64>)] = &[
+    (false, Some(0)),
+    (true, Some(6)),
+    (false, Some(1)),
+    (true, Some(5)),
+    (true, Some(2)),
+    (false, None),
+    (true, None),
+];
+
 #[test]
 fn gives_elements_from_both_ends(rt: HostRuntime) -> Result<(), Fail> {
     let mut checks = Checks::new(rt.alloc());
     let set = set_of(rt.alloc(), &[(0, 3), (5, 7)])?;
     let mut elements = set.elts();
-    checks.same(elements.next(), Some(0));
-    checks.same(elements.next_back(), Some(6));
-    checks.same(elements.next(), Some(1));
-    checks.same(elements.next_back(), Some(5));
-    checks.same(elements.next_back(), Some(2));
-    checks.same(elements.next(), None);
-    checks.same(elements.next_back(), None);
+    for &(is_last, element) in ELEMENTS {
+        let got = if is_last {
+            elements.next_back()
+        } else {
+            elements.next()
+        };
+        checks.same(got, element);
+    }
     let array = array_of(rt.alloc(), &[(0, 3), (5, 7)])?;
     let mut elements = array.elts();
     for x in [0, 1, 2, 5, 6] {
@@ -302,23 +321,25 @@ fn gives_elements_from_both_ends(rt: HostRuntime) -> Result<(), Fail> {
     checks.verdict()
 }
 
-// A script whose answers are the same on both sets, up to its `replace`, which the array set lacks.
+// A call, whether it changes the set, and the runs of the set after it.
+const SCRIPT: &[(Call, bool, Runs)] = &[
+    (Call::Insert(5, 7), true, &[(5, 7)]),
+    (Call::Insert(1, 3), true, &[(1, 3), (5, 7)]),
+    (Call::InsertOne(3), true, &[(1, 4), (5, 7)]),
+    (Call::InsertOne(4), true, &[(1, 7)]),
+    (Call::Insert(2, 6), false, &[(1, 7)]),
+    (Call::Remove(3, 4), true, &[(1, 3), (4, 7)]),
+    (Call::Remove(7, 9), false, &[(1, 3), (4, 7)]),
+];
+
 #[test]
 fn runs_the_script_on_the_range_set(rt: HostRuntime) -> Result<(), Fail> {
     let mut checks = Checks::new(rt.alloc());
     let mut set = RangeSet::new(rt.alloc());
-    checks.same(set.insert(5..7), Ok(true));
-    checks.same(set.insert(1..3), Ok(true));
-    checks.holds(set_is(&set, &[(1, 3), (5, 7)]));
-    checks.same(set.insert_one(3), Ok(true));
-    checks.same(set.insert_one(4), Ok(true));
-    checks.holds(set_is(&set, &[(1, 7)]));
-    checks.same(set.insert(2..6), Ok(false));
-    checks.holds(set_is(&set, &[(1, 7)]));
-    checks.same(set.remove(3..4), Ok(true));
-    checks.holds(set_is(&set, &[(1, 3), (4, 7)]));
-    checks.same(set.remove(7..9), Ok(false));
-    checks.holds(set_is(&set, &[(1, 3), (4, 7)]));
+    for &(call, changes, runs) in SCRIPT {
+        checks.same(made(&mut set, call)?, changes);
+        checks.holds(set_is(&set, runs));
+    }
     checks.holds(gives(set.replace(0..10)?, &[(1, 3), (4, 7)]));
     checks.holds(set_is(&set, &[(0, 10)]));
     let run = set.pop_min().expect(&rt, "a run");
@@ -328,22 +349,15 @@ fn runs_the_script_on_the_range_set(rt: HostRuntime) -> Result<(), Fail> {
     checks.verdict()
 }
 
+// The array set has no `replace`.
 #[test]
 fn runs_the_script_on_the_array_set(rt: HostRuntime) -> Result<(), Fail> {
     let mut checks = Checks::new(rt.alloc());
     let mut set = ArrayRangeSet::new(rt.alloc());
-    checks.same(set.insert(5..7), Ok(true));
-    checks.same(set.insert(1..3), Ok(true));
-    checks.holds(array_is(&set, &[(1, 3), (5, 7)]));
-    checks.same(set.insert_one(3), Ok(true));
-    checks.same(set.insert_one(4), Ok(true));
-    checks.holds(array_is(&set, &[(1, 7)]));
-    checks.same(set.insert(2..6), Ok(false));
-    checks.holds(array_is(&set, &[(1, 7)]));
-    checks.same(set.remove(3..4), Ok(true));
-    checks.holds(array_is(&set, &[(1, 3), (4, 7)]));
-    checks.same(set.remove(7..9), Ok(false));
-    checks.holds(array_is(&set, &[(1, 3), (4, 7)]));
+    for &(call, changes, runs) in SCRIPT {
+        checks.same(made_in_array(&mut set, call)?, changes);
+        checks.holds(array_is(&set, runs));
+    }
     checks.verdict()
 }
 

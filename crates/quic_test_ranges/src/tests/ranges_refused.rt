@@ -4,6 +4,7 @@
 use quic_base::coding::NoRoom;
 use quic_ranges::range_set::{ArrayRangeSet, RangeSet};
 use quic_testing::Checks;
+use std::alloc::Global;
 use std::ops::Range;
 use std::test::Fail;
 
@@ -24,14 +25,31 @@ fn gap(index: u64) -> Range<u64> {
     start + 5..start + 10
 }
 
+// A call that changes a set.
+#[derive(Clone, Copy)]
+pub(super) enum Call {
+    Insert(u64, u64),
+    InsertOne(u32),
+    Remove(u64, u64),
+}
+
+// Makes the call, and answers whether it changes the set.
+pub(super) fn made(set: &mut RangeSet, call: Call) -> Result<bool, NoRoom> {
+    match call {
+        Call::Insert(start, end) => set.insert(start..end),
+        Call::InsertOne(x) => set.insert_one(x.into()),
+        Call::Remove(start, end) => set.remove(start..end),
+    }
+}
+
 // Calls again where one growth was refused, after a look at what stands.
 macro_rules! twice {
-    ($checks:ident, $rt:ident, $call:expr, $stands:expr) => {
+    ($checks:ident, $call:expr, $stands:expr) => {
         match $call {
             Ok(answer) => answer,
             Err(NoRoom) => {
                 $checks.holds_at("after the refusal", $stands);
-                $call.ok().expect(&$rt, "room at the second call")
+                $call?
             }
         }
     };
@@ -109,25 +127,48 @@ fn is_begun_difference(set: &RangeSet) -> bool {
     (0..COUNT + 1).any(|count| set_is_cut(set, count))
 }
 
-#[test]
-fn refused_vec_insertions(rt: HostRuntime) -> Result<(), Fail> {
-    let mut checks = Checks::new(rt.alloc());
-    let mut set = RangeSet::new(rt.alloc());
+// The set of the first runs.
+fn filled(checks: &mut Checks, alloc: Global) -> Result<RangeSet, NoRoom> {
+    let mut set = RangeSet::new(alloc);
     for index in 0..COUNT {
-        let changed = twice!(checks, rt, set.insert(run(index)), set_has(&set, index));
+        let changed = twice!(checks, set.insert(run(index)), set_has(&set, index));
         checks.holds(changed && set_has(&set, index + 1));
     }
-    checks.verdict()
+    Ok(set)
+}
+
+fn filled_array(checks: &mut Checks, alloc: Global) -> Result<ArrayRangeSet, NoRoom> {
+    let mut set = ArrayRangeSet::new(alloc);
+    for index in 0..COUNT {
+        let changed = twice!(checks, set.insert(run(index)), array_has(&set, index));
+        checks.holds(changed && array_has(&set, index + 1));
+    }
+    Ok(set)
+}
+
+// The set of the first gaps.
+fn gaps(checks: &mut Checks, alloc: Global) -> Result<RangeSet, NoRoom> {
+    let mut set = RangeSet::new(alloc);
+    for index in 0..COUNT {
+        let _ = twice!(checks, set.insert(gap(index)), set.len() as u64 == index);
+    }
+    Ok(set)
+}
+
+fn gaps_in_array(checks: &mut Checks, alloc: Global) -> Result<ArrayRangeSet, NoRoom> {
+    let mut set = ArrayRangeSet::new(alloc);
+    for index in 0..COUNT {
+        let _ = twice!(checks, set.insert(gap(index)), set.len() as u64 == index);
+    }
+    Ok(set)
 }
 
 #[test]
-fn refused_array_insertions(rt: HostRuntime) -> Result<(), Fail> {
+fn refused_insertions(rt: HostRuntime) -> Result<(), Fail> {
     let mut checks = Checks::new(rt.alloc());
-    let mut set = ArrayRangeSet::new(rt.alloc());
-    for index in 0..COUNT {
-        let changed = twice!(checks, rt, set.insert(run(index)), array_has(&set, index));
-        checks.holds(changed && array_has(&set, index + 1));
-    }
+    let set = filled(&mut checks, rt.alloc())?;
+    let array = filled_array(&mut checks, rt.alloc())?;
+    checks.holds(set_has(&set, COUNT) && array_has(&array, COUNT));
     checks.verdict()
 }
 
@@ -139,14 +180,12 @@ fn refused_single_insertions(rt: HostRuntime) -> Result<(), Fail> {
     for index in 0..COUNT {
         let changed = twice!(
             checks,
-            rt,
             set.insert_one(2 * index),
             set_has_even(&set, index)
         );
         checks.holds(changed && set_has_even(&set, index + 1));
         let changed = twice!(
             checks,
-            rt,
             array.insert_one(2 * index),
             array_has_even(&array, index)
         );
@@ -160,14 +199,13 @@ fn refused_removals(rt: HostRuntime) -> Result<(), Fail> {
     let mut checks = Checks::new(rt.alloc());
     let mut set = RangeSet::new(rt.alloc());
     let mut array = ArrayRangeSet::new(rt.alloc());
-    let _ = twice!(checks, rt, set.insert(0..END), set.is_empty());
-    let _ = twice!(checks, rt, array.insert(0..END), array.is_empty());
+    let _ = twice!(checks, set.insert(0..END), set.is_empty());
+    let _ = twice!(checks, array.insert(0..END), array.is_empty());
     for index in 0..COUNT {
-        let changed = twice!(checks, rt, set.remove(gap(index)), set_is_cut(&set, index));
+        let changed = twice!(checks, set.remove(gap(index)), set_is_cut(&set, index));
         checks.holds(changed && set_is_cut(&set, index + 1));
         let changed = twice!(
             checks,
-            rt,
             array.remove(gap(index)),
             array_is_cut(&array, index)
         );
@@ -184,7 +222,6 @@ fn refused_replacements(rt: HostRuntime) -> Result<(), Fail> {
         // Without a piece, the set alone grows.
         let _ = twice!(
             checks,
-            rt,
             set.replace(run(index)).map(|_| ()),
             set_has(&set, index)
         );
@@ -209,12 +246,9 @@ fn refused_replacements(rt: HostRuntime) -> Result<(), Fail> {
 #[test]
 fn refused_additions(rt: HostRuntime) -> Result<(), Fail> {
     let mut checks = Checks::new(rt.alloc());
-    let mut other = RangeSet::new(rt.alloc());
-    for index in 0..COUNT {
-        let _ = twice!(checks, rt, other.insert(run(index)), set_has(&other, index));
-    }
+    let other = filled(&mut checks, rt.alloc())?;
     let mut set = RangeSet::new(rt.alloc());
-    twice!(checks, rt, set.add(&other), is_begun_sum(&set));
+    twice!(checks, set.add(&other), is_begun_sum(&set));
     checks.holds(set_has(&set, COUNT) && set_has(&other, COUNT));
     checks.verdict()
 }
@@ -222,18 +256,10 @@ fn refused_additions(rt: HostRuntime) -> Result<(), Fail> {
 #[test]
 fn refused_vec_subtractions(rt: HostRuntime) -> Result<(), Fail> {
     let mut checks = Checks::new(rt.alloc());
-    let mut other = RangeSet::new(rt.alloc());
-    for index in 0..COUNT {
-        let _ = twice!(
-            checks,
-            rt,
-            other.insert(gap(index)),
-            other.len() as u64 == index
-        );
-    }
+    let other = gaps(&mut checks, rt.alloc())?;
     let mut set = RangeSet::new(rt.alloc());
-    let _ = twice!(checks, rt, set.insert(0..END), set.is_empty());
-    twice!(checks, rt, set.subtract(&other), is_begun_difference(&set));
+    let _ = twice!(checks, set.insert(0..END), set.is_empty());
+    twice!(checks, set.subtract(&other), is_begun_difference(&set));
     checks.holds(set_is_cut(&set, COUNT));
     checks.verdict()
 }
@@ -241,18 +267,10 @@ fn refused_vec_subtractions(rt: HostRuntime) -> Result<(), Fail> {
 #[test]
 fn refused_array_subtractions(rt: HostRuntime) -> Result<(), Fail> {
     let mut checks = Checks::new(rt.alloc());
-    let mut other = ArrayRangeSet::new(rt.alloc());
-    for index in 0..COUNT {
-        let _ = twice!(
-            checks,
-            rt,
-            other.insert(gap(index)),
-            other.len() as u64 == index
-        );
-    }
+    let other = gaps_in_array(&mut checks, rt.alloc())?;
     let mut set = ArrayRangeSet::new(rt.alloc());
-    let _ = twice!(checks, rt, set.insert(0..END), set.is_empty());
-    twice!(checks, rt, set.subtract(&other), array_is_cut(&set, 0));
+    let _ = twice!(checks, set.insert(0..END), set.is_empty());
+    twice!(checks, set.subtract(&other), array_is_cut(&set, 0));
     checks.holds(array_is_cut(&set, COUNT));
     checks.verdict()
 }
@@ -260,11 +278,8 @@ fn refused_array_subtractions(rt: HostRuntime) -> Result<(), Fail> {
 #[test]
 fn refused_vec_clones(rt: HostRuntime) -> Result<(), Fail> {
     let mut checks = Checks::new(rt.alloc());
-    let mut set = RangeSet::new(rt.alloc());
-    for index in 0..COUNT {
-        let _ = twice!(checks, rt, set.insert(run(index)), set_has(&set, index));
-    }
-    let copy = twice!(checks, rt, set.try_clone(), set_has(&set, COUNT));
+    let set = filled(&mut checks, rt.alloc())?;
+    let copy = twice!(checks, set.try_clone(), set_has(&set, COUNT));
     checks.holds(set_has(&copy, COUNT) && set_has(&set, COUNT));
     checks.verdict()
 }
@@ -272,16 +287,8 @@ fn refused_vec_clones(rt: HostRuntime) -> Result<(), Fail> {
 #[test]
 fn refused_array_clones(rt: HostRuntime) -> Result<(), Fail> {
     let mut checks = Checks::new(rt.alloc());
-    let mut array = ArrayRangeSet::new(rt.alloc());
-    for index in 0..COUNT {
-        let _ = twice!(
-            checks,
-            rt,
-            array.insert(run(index)),
-            array_has(&array, index)
-        );
-    }
-    let copy = twice!(checks, rt, array.try_clone(), array_has(&array, COUNT));
+    let array = filled_array(&mut checks, rt.alloc())?;
+    let copy = twice!(checks, array.try_clone(), array_has(&array, COUNT));
     checks.holds(array_has(&copy, COUNT) && array_has(&array, COUNT));
     checks.verdict()
 }
@@ -300,19 +307,27 @@ fn refused_nothing_at_two_runs(rt: HostRuntime) -> Result<(), Fail> {
     checks.verdict()
 }
 
-// Nor does one here, after which the set has no more runs than before.
+// Nor does one of these on the set of the first runs, which has no more runs after it.
+const NO_MORE_RUNS: &[(Call, bool)] = &[
+    (Call::InsertOne(5), true),
+    (Call::Insert(6, 10), true),
+    (Call::Insert(12, 13), false),
+    (Call::InsertOne(12), false),
+    (Call::Insert(395, END), true),
+    (Call::Insert(3, 21), true),
+    (Call::Remove(0, 2), true),
+    (Call::Remove(24, 34), true),
+    (Call::Remove(26, 28), false),
+    (Call::Remove(40, 45), true),
+];
+
 #[test]
 fn refused_nothing_where_runs_grow_no_more(rt: HostRuntime) -> Result<(), Fail> {
     let mut checks = Checks::new(rt.alloc());
-    let mut set = RangeSet::new(rt.alloc());
-    for index in 0..COUNT {
-        let _ = twice!(checks, rt, set.insert(run(index)), set_has(&set, index));
+    let mut set = filled(&mut checks, rt.alloc())?;
+    for &(call, changes) in NO_MORE_RUNS {
+        checks.holds(made(&mut set, call) == Ok(changes));
     }
-    checks.holds(set.insert_one(5) == Ok(true) && set.insert(6..10) == Ok(true));
-    checks.holds(set.insert(12..13) == Ok(false) && set.insert_one(12) == Ok(false));
-    checks.holds(set.insert(395..END) == Ok(true) && set.insert(3..21) == Ok(true));
-    checks.holds(set.remove(0..2) == Ok(true) && set.remove(24..34) == Ok(true));
-    checks.holds(set.remove(26..28) == Ok(false) && set.remove(40..45) == Ok(true));
     checks.holds(set.peek_min() == Some(2..24) && set.max() == Some(END - 1));
     checks.holds(set.len() as u64 == COUNT - 3);
     checks.verdict()

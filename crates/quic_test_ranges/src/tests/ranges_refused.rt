@@ -178,11 +178,7 @@ fn refused_single_insertions(rt: HostRuntime) -> Result<(), Fail> {
     let mut set = RangeSet::new(rt.alloc());
     let mut array = ArrayRangeSet::new(rt.alloc());
     for index in 0..COUNT {
-        let changed = twice!(
-            checks,
-            set.insert_one(2 * index),
-            set_has_even(&set, index)
-        );
+        let changed = twice!(checks, set.insert_one(2 * index), set_has_even(&set, index));
         checks.holds(changed && set_has_even(&set, index + 1));
         let changed = twice!(
             checks,

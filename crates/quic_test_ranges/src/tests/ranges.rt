@@ -195,12 +195,21 @@ const REPLACE_SCRIPT: &[((u64, u64), Runs)] = &[
 fn replaces_one_after_the_other(rt: HostRuntime) -> Result<(), Fail> {
     let mut checks = Checks::new(rt.alloc());
     let mut looked = RangeSet::new(rt.alloc());
-    let mut dropped = RangeSet::new(rt.alloc());
     for &((start, end), pieces) in REPLACE_SCRIPT {
         checks.holds_at(start, gives(looked.replace(start..end)?, pieces));
-        let _ = dropped.replace(start..end)?;
     }
-    checks.holds(set_is(&looked, &[(2, 10)]) && set_is(&dropped, &[(2, 10)]));
+    checks.holds(set_is(&looked, &[(2, 10)]));
+    checks.verdict()
+}
+
+#[test]
+fn replaces_one_after_the_other_without_a_look(rt: HostRuntime) -> Result<(), Fail> {
+    let mut checks = Checks::new(rt.alloc());
+    let mut dropped = RangeSet::new(rt.alloc());
+    for &((start, end), _) in REPLACE_SCRIPT {
+        replace_unseen(&mut dropped, start..end)?;
+    }
+    checks.holds(set_is(&dropped, &[(2, 10)]));
     checks.verdict()
 }
 
@@ -312,6 +321,12 @@ fn gives_elements_from_both_ends(rt: HostRuntime) -> Result<(), Fail> {
         };
         checks.same(got, element);
     }
+    checks.verdict()
+}
+
+#[test]
+fn gives_elements_of_an_array_set(rt: HostRuntime) -> Result<(), Fail> {
+    let mut checks = Checks::new(rt.alloc());
     let array = array_of(rt.alloc(), &[(0, 3), (5, 7)])?;
     let mut elements = array.elts();
     for x in [0, 1, 2, 5, 6] {
@@ -342,9 +357,7 @@ fn runs_the_script_on_the_range_set(rt: HostRuntime) -> Result<(), Fail> {
     }
     checks.holds(gives(set.replace(0..10)?, &[(1, 3), (4, 7)]));
     checks.holds(set_is(&set, &[(0, 10)]));
-    let run = set.pop_min().expect(&rt, "a run");
-    checks.same((run.start, run.end), (0, 10));
-    checks.same(set.min(), None);
+    checks.holds(set.pop_min() == Some(0..10) && set.min().is_none());
     checks.holds(set_is(&set, &[]));
     checks.verdict()
 }
@@ -381,20 +394,26 @@ fn answers_queries(rt: HostRuntime) -> Result<(), Fail> {
     checks.verdict()
 }
 
+fn has_ends(set: &RangeSet) -> bool {
+    set.min() == Some(2)
+        && set.max() == Some(8)
+        && set.peek_min() == Some(2..4)
+        && set.iter().next_back() == Some(6..9)
+}
+
+fn has_ends_in_array(set: &mut ArrayRangeSet) -> bool {
+    set.min() == Some(2)
+        && set.max() == Some(8)
+        && set.pop_min() == Some(2..4)
+        && array_is(set, &[(6, 9)])
+}
+
 #[test]
 fn answers_for_the_ends(rt: HostRuntime) -> Result<(), Fail> {
     let mut checks = Checks::new(rt.alloc());
-    let set = set_of(rt.alloc(), &[(2, 4), (6, 9)])?;
+    checks.holds(has_ends(&set_of(rt.alloc(), &[(2, 4), (6, 9)])?));
     let mut array = array_of(rt.alloc(), &[(2, 4), (6, 9)])?;
-    checks.same((set.min(), set.max()), (Some(2), Some(8)));
-    checks.same((array.min(), array.max()), (Some(2), Some(8)));
-    let peeked = set.peek_min().expect(&rt, "a run");
-    checks.same((peeked.start, peeked.end), (2, 4));
-    let popped = array.pop_min().expect(&rt, "a run");
-    checks.same((popped.start, popped.end), (2, 4));
-    checks.holds(array_is(&array, &[(6, 9)]));
-    let last = set.iter().next_back().expect(&rt, "a run");
-    checks.same((last.start, last.end), (6, 9));
+    checks.holds(has_ends_in_array(&mut array));
     checks.verdict()
 }
 
@@ -418,8 +437,14 @@ fn answers_when_empty(rt: HostRuntime) -> Result<(), Fail> {
 fn shows_sets(rt: HostRuntime) -> Result<(), Fail> {
     let mut checks = Checks::new(rt.alloc());
     let set = set_of(rt.alloc(), &[(1, 3), (5, 7)])?;
-    let array = array_of(rt.alloc(), &[(1, 3), (5, 7)])?;
     checks.debugs(rt.alloc(), &set, "RangeSet({1: 3, 5: 7})")?;
+    checks.verdict()
+}
+
+#[test]
+fn shows_array_sets(rt: HostRuntime) -> Result<(), Fail> {
+    let mut checks = Checks::new(rt.alloc());
+    let array = array_of(rt.alloc(), &[(1, 3), (5, 7)])?;
     checks.debugs(rt.alloc(), &array, "ArrayRangeSet([1..3, 5..7])")?;
     checks.verdict()
 }

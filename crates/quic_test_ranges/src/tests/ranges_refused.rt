@@ -4,7 +4,6 @@
 use quic_base::coding::NoRoom;
 use quic_ranges::range_set::{ArrayRangeSet, RangeSet};
 use quic_testing::Checks;
-use std::alloc::Global;
 use std::ops::Range;
 use std::test::Fail;
 
@@ -127,165 +126,229 @@ fn is_begun_difference(set: &RangeSet) -> bool {
     (0..COUNT + 1).any(|count| set_is_cut(set, count))
 }
 
-// The set of the first runs.
-fn filled(checks: &mut Checks, alloc: Global) -> Result<RangeSet, NoRoom> {
-    let mut set = RangeSet::new(alloc);
+// Puts the first runs in, one after the other.
+fn fill(checks: &mut Checks, set: &mut RangeSet) -> Result<(), NoRoom> {
     for index in 0..COUNT {
-        let changed = twice!(checks, set.insert(run(index)), set_has(&set, index));
-        checks.holds(changed && set_has(&set, index + 1));
+        let changed = twice!(checks, set.insert(run(index)), set_has(set, index));
+        checks.holds(changed && set_has(set, index + 1));
     }
-    Ok(set)
+    Ok(())
 }
 
-fn filled_array(checks: &mut Checks, alloc: Global) -> Result<ArrayRangeSet, NoRoom> {
-    let mut set = ArrayRangeSet::new(alloc);
+fn fill_array(checks: &mut Checks, set: &mut ArrayRangeSet) -> Result<(), NoRoom> {
     for index in 0..COUNT {
-        let changed = twice!(checks, set.insert(run(index)), array_has(&set, index));
-        checks.holds(changed && array_has(&set, index + 1));
+        let changed = twice!(checks, set.insert(run(index)), array_has(set, index));
+        checks.holds(changed && array_has(set, index + 1));
     }
-    Ok(set)
+    Ok(())
 }
 
-// The set of the first gaps.
-fn gaps(checks: &mut Checks, alloc: Global) -> Result<RangeSet, NoRoom> {
-    let mut set = RangeSet::new(alloc);
+// Puts the gaps between them in.
+fn fill_gaps(checks: &mut Checks, set: &mut RangeSet) -> Result<(), NoRoom> {
     for index in 0..COUNT {
         let _ = twice!(checks, set.insert(gap(index)), set.len() as u64 == index);
     }
-    Ok(set)
+    Ok(())
 }
 
-fn gaps_in_array(checks: &mut Checks, alloc: Global) -> Result<ArrayRangeSet, NoRoom> {
-    let mut set = ArrayRangeSet::new(alloc);
+fn fill_gaps_in_array(checks: &mut Checks, set: &mut ArrayRangeSet) -> Result<(), NoRoom> {
     for index in 0..COUNT {
         let _ = twice!(checks, set.insert(gap(index)), set.len() as u64 == index);
     }
-    Ok(set)
+    Ok(())
 }
 
 #[test]
 fn refused_insertions(rt: HostRuntime) -> Result<(), Fail> {
     let mut checks = Checks::new(rt.alloc());
-    let set = filled(&mut checks, rt.alloc())?;
-    let array = filled_array(&mut checks, rt.alloc())?;
-    checks.holds(set_has(&set, COUNT) && array_has(&array, COUNT));
+    fill(&mut checks, &mut RangeSet::new(rt.alloc()))?;
+    fill_array(&mut checks, &mut ArrayRangeSet::new(rt.alloc()))?;
     checks.verdict()
+}
+
+// Puts even numbers in, one after the other.
+fn fill_even(checks: &mut Checks, set: &mut RangeSet) -> Result<(), NoRoom> {
+    for index in 0..COUNT {
+        let changed = twice!(checks, set.insert_one(2 * index), set_has_even(set, index));
+        checks.holds(changed && set_has_even(set, index + 1));
+    }
+    Ok(())
+}
+
+fn fill_even_in_array(checks: &mut Checks, set: &mut ArrayRangeSet) -> Result<(), NoRoom> {
+    for index in 0..COUNT {
+        let changed = twice!(
+            checks,
+            set.insert_one(2 * index),
+            array_has_even(set, index)
+        );
+        checks.holds(changed && array_has_even(set, index + 1));
+    }
+    Ok(())
 }
 
 #[test]
 fn refused_single_insertions(rt: HostRuntime) -> Result<(), Fail> {
     let mut checks = Checks::new(rt.alloc());
-    let mut set = RangeSet::new(rt.alloc());
-    let mut array = ArrayRangeSet::new(rt.alloc());
-    for index in 0..COUNT {
-        let changed = twice!(checks, set.insert_one(2 * index), set_has_even(&set, index));
-        checks.holds(changed && set_has_even(&set, index + 1));
-        let changed = twice!(
-            checks,
-            array.insert_one(2 * index),
-            array_has_even(&array, index)
-        );
-        checks.holds(changed && array_has_even(&array, index + 1));
-    }
+    fill_even(&mut checks, &mut RangeSet::new(rt.alloc()))?;
+    fill_even_in_array(&mut checks, &mut ArrayRangeSet::new(rt.alloc()))?;
     checks.verdict()
+}
+
+// Puts the solid range in.
+fn make_solid(checks: &mut Checks, set: &mut RangeSet) -> Result<(), NoRoom> {
+    let changed = twice!(checks, set.insert(0..END), set.is_empty());
+    checks.holds(changed);
+    Ok(())
+}
+
+fn make_solid_array(checks: &mut Checks, set: &mut ArrayRangeSet) -> Result<(), NoRoom> {
+    let changed = twice!(checks, set.insert(0..END), set.is_empty());
+    checks.holds(changed);
+    Ok(())
+}
+
+// Takes the gaps out of the solid range, one after the other.
+fn cut(checks: &mut Checks, set: &mut RangeSet) -> Result<(), NoRoom> {
+    make_solid(checks, set)?;
+    for index in 0..COUNT {
+        let changed = twice!(checks, set.remove(gap(index)), set_is_cut(set, index));
+        checks.holds(changed && set_is_cut(set, index + 1));
+    }
+    Ok(())
+}
+
+fn cut_array(checks: &mut Checks, set: &mut ArrayRangeSet) -> Result<(), NoRoom> {
+    make_solid_array(checks, set)?;
+    for index in 0..COUNT {
+        let changed = twice!(checks, set.remove(gap(index)), array_is_cut(set, index));
+        checks.holds(changed && array_is_cut(set, index + 1));
+    }
+    Ok(())
 }
 
 #[test]
 fn refused_removals(rt: HostRuntime) -> Result<(), Fail> {
     let mut checks = Checks::new(rt.alloc());
-    let mut set = RangeSet::new(rt.alloc());
-    let mut array = ArrayRangeSet::new(rt.alloc());
-    let _ = twice!(checks, set.insert(0..END), set.is_empty());
-    let _ = twice!(checks, array.insert(0..END), array.is_empty());
-    for index in 0..COUNT {
-        let changed = twice!(checks, set.remove(gap(index)), set_is_cut(&set, index));
-        checks.holds(changed && set_is_cut(&set, index + 1));
-        let changed = twice!(
-            checks,
-            array.remove(gap(index)),
-            array_is_cut(&array, index)
-        );
-        checks.holds(changed && array_is_cut(&array, index + 1));
-    }
+    cut(&mut checks, &mut RangeSet::new(rt.alloc()))?;
+    cut_array(&mut checks, &mut ArrayRangeSet::new(rt.alloc()))?;
     checks.verdict()
+}
+
+// Puts the first runs in by `replace`. Without a piece, the set alone grows.
+fn replace_nothing(checks: &mut Checks, set: &mut RangeSet) -> Result<(), NoRoom> {
+    for index in 0..COUNT {
+        let call = set.replace(run(index)).map(|_| ());
+        if call.is_err() {
+            checks.holds_at("after the refusal", set_has(set, index));
+            let _ = set.replace(run(index))?;
+        }
+        checks.holds(set_has(set, index + 1));
+    }
+    Ok(())
+}
+
+// Puts the solid range in by `replace`. With many pieces, their list grows.
+fn replace_all(checks: &mut Checks, set: &mut RangeSet) -> Result<(), NoRoom> {
+    if set.replace(0..END).is_err() {
+        checks.holds_at("after the refusal", set_has(set, COUNT));
+        let mut pieces = set.replace(0..END)?;
+        for index in 0..COUNT {
+            checks.holds(pieces.next() == Some(run(index)));
+        }
+        checks.holds(pieces.next().is_none());
+    }
+    Ok(())
 }
 
 #[test]
 fn refused_replacements(rt: HostRuntime) -> Result<(), Fail> {
     let mut checks = Checks::new(rt.alloc());
     let mut set = RangeSet::new(rt.alloc());
-    for index in 0..COUNT {
-        // Without a piece, the set alone grows.
-        let _ = twice!(
-            checks,
-            set.replace(run(index)).map(|_| ()),
-            set_has(&set, index)
-        );
-        checks.holds(set_has(&set, index + 1));
-    }
-    // With many pieces, their list grows.
-    match set.replace(0..END) {
-        Ok(_) => {}
-        Err(NoRoom) => {
-            checks.holds(set_has(&set, COUNT));
-            let mut pieces = set.replace(0..END).ok().expect(&rt, "room");
-            for index in 0..COUNT {
-                checks.holds(pieces.next() == Some(run(index)));
-            }
-            checks.holds(pieces.next().is_none());
-        }
-    }
+    replace_nothing(&mut checks, &mut set)?;
+    replace_all(&mut checks, &mut set)?;
     checks.holds(set.iter().next() == Some(0..END) && set.len() == 1);
     checks.verdict()
+}
+
+fn add(checks: &mut Checks, set: &mut RangeSet, other: &RangeSet) -> Result<(), NoRoom> {
+    twice!(checks, set.add(other), is_begun_sum(set));
+    checks.holds(set_has(set, COUNT) && set_has(other, COUNT));
+    Ok(())
 }
 
 #[test]
 fn refused_additions(rt: HostRuntime) -> Result<(), Fail> {
     let mut checks = Checks::new(rt.alloc());
-    let other = filled(&mut checks, rt.alloc())?;
-    let mut set = RangeSet::new(rt.alloc());
-    twice!(checks, set.add(&other), is_begun_sum(&set));
-    checks.holds(set_has(&set, COUNT) && set_has(&other, COUNT));
+    let mut other = RangeSet::new(rt.alloc());
+    fill(&mut checks, &mut other)?;
+    add(&mut checks, &mut RangeSet::new(rt.alloc()), &other)?;
     checks.verdict()
+}
+
+fn subtract(checks: &mut Checks, set: &mut RangeSet, other: &RangeSet) -> Result<(), NoRoom> {
+    make_solid(checks, set)?;
+    twice!(checks, set.subtract(other), is_begun_difference(set));
+    checks.holds(set_is_cut(set, COUNT));
+    Ok(())
 }
 
 #[test]
 fn refused_vec_subtractions(rt: HostRuntime) -> Result<(), Fail> {
     let mut checks = Checks::new(rt.alloc());
-    let other = gaps(&mut checks, rt.alloc())?;
-    let mut set = RangeSet::new(rt.alloc());
-    let _ = twice!(checks, set.insert(0..END), set.is_empty());
-    twice!(checks, set.subtract(&other), is_begun_difference(&set));
-    checks.holds(set_is_cut(&set, COUNT));
+    let mut other = RangeSet::new(rt.alloc());
+    fill_gaps(&mut checks, &mut other)?;
+    subtract(&mut checks, &mut RangeSet::new(rt.alloc()), &other)?;
     checks.verdict()
+}
+
+fn subtract_array(
+    checks: &mut Checks,
+    set: &mut ArrayRangeSet,
+    other: &ArrayRangeSet,
+) -> Result<(), NoRoom> {
+    make_solid_array(checks, set)?;
+    twice!(checks, set.subtract(other), array_is_cut(set, 0));
+    checks.holds(array_is_cut(set, COUNT));
+    Ok(())
 }
 
 #[test]
 fn refused_array_subtractions(rt: HostRuntime) -> Result<(), Fail> {
     let mut checks = Checks::new(rt.alloc());
-    let other = gaps_in_array(&mut checks, rt.alloc())?;
-    let mut set = ArrayRangeSet::new(rt.alloc());
-    let _ = twice!(checks, set.insert(0..END), set.is_empty());
-    twice!(checks, set.subtract(&other), array_is_cut(&set, 0));
-    checks.holds(array_is_cut(&set, COUNT));
+    let mut other = ArrayRangeSet::new(rt.alloc());
+    fill_gaps_in_array(&mut checks, &mut other)?;
+    subtract_array(&mut checks, &mut ArrayRangeSet::new(rt.alloc()), &other)?;
     checks.verdict()
+}
+
+fn clone(checks: &mut Checks, set: &RangeSet) -> Result<(), NoRoom> {
+    let copy = twice!(checks, set.try_clone(), set_has(set, COUNT));
+    checks.holds(set_has(&copy, COUNT) && set_has(set, COUNT));
+    Ok(())
 }
 
 #[test]
 fn refused_vec_clones(rt: HostRuntime) -> Result<(), Fail> {
     let mut checks = Checks::new(rt.alloc());
-    let set = filled(&mut checks, rt.alloc())?;
-    let copy = twice!(checks, set.try_clone(), set_has(&set, COUNT));
-    checks.holds(set_has(&copy, COUNT) && set_has(&set, COUNT));
+    let mut set = RangeSet::new(rt.alloc());
+    fill(&mut checks, &mut set)?;
+    clone(&mut checks, &set)?;
     checks.verdict()
+}
+
+fn clone_array(checks: &mut Checks, set: &ArrayRangeSet) -> Result<(), NoRoom> {
+    let copy = twice!(checks, set.try_clone(), array_has(set, COUNT));
+    checks.holds(array_has(&copy, COUNT) && array_has(set, COUNT));
+    Ok(())
 }
 
 #[test]
 fn refused_array_clones(rt: HostRuntime) -> Result<(), Fail> {
     let mut checks = Checks::new(rt.alloc());
-    let array = filled_array(&mut checks, rt.alloc())?;
-    let copy = twice!(checks, array.try_clone(), array_has(&array, COUNT));
-    checks.holds(array_has(&copy, COUNT) && array_has(&array, COUNT));
+    let mut set = ArrayRangeSet::new(rt.alloc());
+    fill_array(&mut checks, &mut set)?;
+    clone_array(&mut checks, &set)?;
     checks.verdict()
 }
 
@@ -320,7 +383,8 @@ const NO_MORE_RUNS: &[(Call, bool)] = &[
 #[test]
 fn refused_nothing_where_runs_grow_no_more(rt: HostRuntime) -> Result<(), Fail> {
     let mut checks = Checks::new(rt.alloc());
-    let mut set = filled(&mut checks, rt.alloc())?;
+    let mut set = RangeSet::new(rt.alloc());
+    fill(&mut checks, &mut set)?;
     for &(call, changes) in NO_MORE_RUNS {
         checks.holds(made(&mut set, call) == Ok(changes));
     }

@@ -71,6 +71,15 @@ fn ack_bytes_from(
     Ok(out)
 }
 
+// The same set with its runs in a vector.
+fn in_vector(alloc: Global, set: &ArrayRangeSet) -> Result<RangeSet, Fail> {
+    let mut equal = RangeSet::new(alloc);
+    for run in set.iter() {
+        equal.insert(run)?;
+    }
+    Ok(equal)
+}
+
 // The bytes of an ACK of the set, if both encoders write the same.
 fn ack_bytes_of_both(
     alloc: Global,
@@ -78,10 +87,7 @@ fn ack_bytes_of_both(
     set: &ArrayRangeSet,
     counts: Option<&EcnCounts>,
 ) -> Result<Vec<u8>, Fail> {
-    let mut equal = RangeSet::new(alloc);
-    for run in set.iter() {
-        equal.insert(run)?;
-    }
+    let equal = in_vector(alloc, set)?;
     let bytes = ack_bytes(alloc, delay, set, counts)?;
     if ack_bytes_from(alloc, delay, &equal, counts)?.as_slice() != bytes.as_slice() {
         return Err("the same bytes".into());
@@ -129,6 +135,22 @@ fn acks_of_few_numbers(rt: HostRuntime) -> Result<(), Fail> {
     checks.verdict()
 }
 
+// Whether the bytes are an ACK and nothing else, and it has these ranges, this delay and these counts.
+fn is_read_as(
+    alloc: Global,
+    bytes: &[u8],
+    ranges: &[(u64, u64)],
+    delay: u64,
+    counts: EcnCounts,
+) -> Result<bool, Fail> {
+    let mut iter = Iter::new(bytes)?;
+    let Some(Ok(Frame::Ack(ack))) = iter.next() else {
+        return Ok(false);
+    };
+    let are_same = ranges_of(alloc, &ack)?.as_slice() == ranges;
+    Ok(are_same && ack.delay() == delay && ack.ecn() == Some(counts) && iter.next().is_none())
+}
+
 #[test]
 fn an_ack_of_a_set_is_read_back(rt: HostRuntime) -> Result<(), Fail> {
     let mut checks = Checks::new(rt.alloc());
@@ -138,15 +160,8 @@ fn an_ack_of_a_set_is_read_back(rt: HostRuntime) -> Result<(), Fail> {
         ect1: 24,
         ce: 12,
     };
-    let out = ack_bytes_of_both(rt.alloc(), 42, &set, Some(&counts))?;
-    let mut iter = Iter::new(out.as_slice())?;
-    let Some(Ok(Frame::Ack(ack))) = iter.next() else {
-        return Err("an ACK".into());
-    };
+    let bytes = ack_bytes_of_both(rt.alloc(), 42, &set, Some(&counts))?;
     let wanted = [(14, 14), (10, 11), (5, 5), (1, 3)];
-    checks.same(ranges_of(rt.alloc(), &ack)?.as_slice(), wanted.as_slice());
-    checks.same(ack.delay(), 42);
-    checks.holds(ack.ecn() == Some(counts));
-    checks.holds(iter.next().is_none());
+    checks.holds(is_read_as(rt.alloc(), bytes.as_slice(), &wanted, 42, counts)?);
     checks.verdict()
 }

@@ -109,6 +109,17 @@ fn one_error_and_then_nothing(rt: HostRuntime) -> Result<(), Fail> {
     checks.verdict()
 }
 
+// Whether an iterator refuses first what follows, with this type and this reason.
+fn refuses(iter: Option<Iter<'_>>, ty: FrameType, reason: &str) -> bool {
+    let Some(mut iter) = iter else {
+        return false;
+    };
+    matches!(
+        iter.next(),
+        Some(Err(invalid)) if invalid.ty == Some(ty) && invalid.reason == reason
+    )
+}
+
 // PING, CRYPTO with one byte, and a type that is cut off.
 #[test]
 fn an_iterator_that_goes_on(rt: HostRuntime) -> Result<(), Fail> {
@@ -124,25 +135,16 @@ fn an_iterator_that_goes_on(rt: HostRuntime) -> Result<(), Fail> {
     checks.same(crypto.bytes, b"a".as_slice());
     checks.same(iter.offset(), 5);
     checks.same(iter.last_type(), Some(FrameType::CRYPTO));
-    let Some(mut iter) = Iter::resume(payload, 5, Some(FrameType::CRYPTO), false) else {
-        return Err("an iterator".into());
-    };
-    checks.holds(matches!(
-        iter.next(),
-        Some(Err(invalid)) if invalid.ty == Some(FrameType::CRYPTO) && invalid.reason == "unexpected end"
-    ));
+    let cut_off = Iter::resume(payload, 5, Some(FrameType::CRYPTO), false);
+    checks.holds(refuses(cut_off, FrameType::CRYPTO, "unexpected end"));
     let Some(mut iter) = Iter::resume(payload, 6, None, false) else {
         return Err("an iterator".into());
     };
     checks.holds(iter.next().is_none());
     checks.holds(Iter::resume(payload, 7, None, false).is_none());
-    let Some(mut iter) = Iter::resume(b"\x01\x40\x01", 1, None, true) else {
-        return Err("an iterator".into());
-    };
-    checks.holds(matches!(
-        iter.next(),
-        Some(Err(invalid)) if invalid.ty == Some(FrameType::PING) && invalid.reason == "frame type not in shortest form"
-    ));
+    let long_type = Iter::resume(b"\x01\x40\x01", 1, None, true);
+    let reason = "frame type not in shortest form";
+    checks.holds(refuses(long_type, FrameType::PING, reason));
     checks.verdict()
 }
 

@@ -157,13 +157,19 @@ fn all_others_are_in_range(rt: HostRuntime) -> Result<(), Fail> {
     };
     checks.holds(frame.in_range());
     let (id, error_code) = (stream_id(), VarInt::MAX);
-    checks.holds(Frame::StopSending(StopSending { id, error_code }).in_range());
-    checks.holds(Frame::MaxData(VarInt::MAX).in_range());
-    checks.holds(Frame::PathChallenge(u64::MAX).in_range());
-    checks.holds(Frame::PathResponse(u64::MAX).in_range());
-    checks.holds(Frame::Datagram(Datagram { bytes: b"" }).in_range());
-    checks.holds(Frame::Padding.in_range() && Frame::Ping.in_range());
-    checks.holds(Frame::ImmediateAck.in_range() && Frame::HandshakeDone.in_range());
+    for frame in &[
+        Frame::StopSending(StopSending { id, error_code }),
+        Frame::MaxData(VarInt::MAX),
+        Frame::PathChallenge(u64::MAX),
+        Frame::PathResponse(u64::MAX),
+        Frame::Datagram(Datagram { bytes: b"" }),
+        Frame::Padding,
+        Frame::Ping,
+        Frame::ImmediateAck,
+        Frame::HandshakeDone,
+    ] {
+        checks.holds(frame.in_range());
+    }
     checks.verdict()
 }
 

@@ -49,7 +49,6 @@ impl ConnectionId {
 
     /// The id of these bytes. The caller must ensure that they are at most 20.
     #[inline(always)]
-    #[tactic(auto, using(crate::proofs::Ends::padding))]
     pub fn new(bytes: &[u8]) -> ConnectionId
         requires { length bytes.now ≤ MAX_CID_SIZE }
         ensures { result ≡ bytes.now }

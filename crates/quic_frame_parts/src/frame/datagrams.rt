@@ -11,7 +11,7 @@ impl Datagram<'_> {
     /// be the last of its payload. One growth of at most `size` bytes is made, and where that is
     /// refused `out` is as it was. It can't be where there is spare room for the frame. The caller must ensure
     /// that the data is below 2^62 bytes where its length is written.
-    #[tactic(auto, using(crate::proofs::Encoding::datagram_counted, crate::proofs::Encoding::datagram_open))]
+    #[tactic(auto, using(crate::proofs::Encoding::datagram_counted))]
     pub fn encode(&self, with_length: bool, out: &mut Vec<u8>) -> Result<(), NoRoom>
         requires { with_length ≡ true → length self.now.bytes.now < 2 ^ 62 }
         ensures ok { OnOk result (out.new.items ≡ out.old.items ++ shortest_frame (not with_length) (datagram_meaning self.now)) }

@@ -84,7 +84,6 @@ impl AckFrequency {
 impl Crypto<'_> {
     /// Appends the frame, as `ResetStream::encode` does. The caller must ensure that the offset and the length
     /// are below 2^62.
-    #[tactic(auto, using(crate::proofs::Encoding::crypto_parts))]
     pub fn encode<B: BufMut>(&self, out: &mut B) -> Result<(), NoRoom>
         requires offset { self.now.offset < 2 ^ 62 }
         requires length { length self.now.bytes.now < 2 ^ 62 }

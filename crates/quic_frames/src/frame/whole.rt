@@ -241,7 +241,6 @@ fn close_len(close: &Close<'_>) -> u128
 }
 
 // How many bytes a NEW_CONNECTION_ID has.
-#[tactic(auto, using(crate::proofs::Encoding::new_id_length))]
 fn new_id_len(new: &NewConnectionId) -> u128
     requires { InRange (frames.NewConnectionId new.now) }
     ensures { (last : Bool) → result ≡ length (shortest_frame last (meaning_of (frames.NewConnectionId new.now))) }

@@ -1,4 +1,4 @@
-use Rattle.std.proofs.Common.{length}
+use Rattle.std.proofs.Common.{length, rules}
 use Rattle.quic_frame_parts.proofs.Blocks.{no_ranges_left, zero_of}
 use Rattle.quic_frame_parts.proofs.frame.ack.AckIterIterator.next.Goals as goal
 
@@ -7,3 +7,6 @@ returns-then-is_empty-clause-steps c =
     let self = c.args.self.now in
     let none = no_ranges_left self.largest self.blocks.now (zero_of (length self.blocks.now) c.if-is_empty.ensures) in
     (none, none)
+
+pub returns-clause-steps : goal.returns-clause-steps
+returns-clause-steps c = search rules

@@ -1,4 +1,4 @@
-use Rattle.std.proofs.Common.{◌≡◌, false, true, ◌++◌, ◌∷◌, [], ap, sym, ◌∙◌, append_assoc, arith}
+use Rattle.std.proofs.Common.{◌≡◌, false, true, ◌++◌, ◌∷◌, [], ap, sym, ◌∙◌, append_assoc, arith, rules}
 use Rattle.quic_ranges.proofs.StepLemmas.{on_err, IsRunsOf-sum_step, IsRunsOf-sum_kept}
 use Rattle.quic_ranges.proofs.range_set.vec_range_set.RangeSet.add.Goals as goal
 
@@ -23,3 +23,6 @@ returns-in_err-join-clause-no_change c h =
     let kept = IsRunsOf-sum_kept c.args.self.now c.args.other.now c.loop-run.yielded c.next.new.self c.loop-run.self-inside.runs c.in-Some.run' h parts c.loop-run.invariant.runs in
     let never : false ≡ true = c.in_err-join.ensures.no_more_runs c.loop-run.self-inside.runs kept (omega arith) in
     absurd cc
+
+pub returns-in-Ok-clause-union : goal.returns-in-Ok-clause-union
+returns-in-Ok-clause-union c = search rules

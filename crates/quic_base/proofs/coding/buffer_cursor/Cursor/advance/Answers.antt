@@ -1,0 +1,9 @@
+use Rattle.std.proofs.Common.{arith, rules}
+use Rattle.std.proofs.lemmas.Grind.{common_steps}
+use Rattle.quic_base.proofs.coding.buffer_cursor.Cursor.advance.Goals as goal
+
+pub returns-clause-place : goal.returns-clause-place
+returns-clause-place c = search rules
+
+pub returns-clause-rest : goal.returns-clause-rest
+returns-clause-rest c = grind (arith, common_steps)

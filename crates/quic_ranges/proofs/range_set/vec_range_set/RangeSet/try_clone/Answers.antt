@@ -1,0 +1,5 @@
+use Rattle.std.proofs.Common.{rules}
+use Rattle.quic_ranges.proofs.range_set.vec_range_set.RangeSet.try_clone.Goals as goal
+
+pub returns : goal.returns
+returns c = search rules

@@ -1,0 +1,6 @@
+use Rattle.std.proofs.Common.{arith}
+use Rattle.std.proofs.lemmas.Grind.{common_steps}
+use Rattle.quic_crypto.proofs.packet_number.PacketNumber.decode.Goals as goal
+
+pub returns-in_ok-high-in-3-clause-ok : goal.returns-in_ok-high-in-3-clause-ok
+returns-in_ok-high-in-3-clause-ok g c = grind (arith, common_steps)

@@ -1,0 +1,6 @@
+use Rattle.std.proofs.Common.{arith}
+use Rattle.std.proofs.lemmas.Grind.{common_steps}
+use Rattle.quic_headers.proofs.header.Header.put_fields.Goals as goal
+
+pub returns-in-Long-clause-items : goal.returns-in-Long-clause-items
+returns-in-Long-clause-items c = grind (arith, common_steps)

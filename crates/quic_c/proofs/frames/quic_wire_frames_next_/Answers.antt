@@ -13,3 +13,6 @@ returns-in-Some-Err-clause-invalid c =
     let ended = c.if-frames-ne0.false in
     let it : left (way_of c.args.frames.now c.args.payload.now) ≡ Broken (invalid_of c.in-Some-Err.invalid) ∷ [] = search rules in
     λ _. record { told = invalid_of c.in-Some-Err.invalid; first = it; over = refl; words = c.show_invalid.ensures }
+
+pub returns-in-Some-Ok-clause-frame : goal.returns-in-Some-Ok-clause-frame
+returns-in-Some-Ok-clause-frame c = search rules

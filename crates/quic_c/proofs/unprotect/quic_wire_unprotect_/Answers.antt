@@ -1,5 +1,6 @@
 -- A number that was read is in range.
 use Rattle.std.proofs.Common.{◌≡◌, ℕ, ◌^◌, List, length, ap, ◌∙◌, arith, refl}
+use Rattle.std.proofs.lemmas.Grind.{common_steps}
 use Rattle.quic_base.proofs.PublicLaws.{num_below}
 use Rattle.quic_crypto.specs.declared.packet_number.PacketNumber.{PacketNumber}
 use Rattle.quic_crypto.specs.declared.packet_number.PacketNumber.TheVariants.{U8, U16, U24, U32}
@@ -20,3 +21,6 @@ in_range number text is =
 
 pub expand-requires-clause-valid : goal.expand-requires-clause-valid
 expand-requires-clause-valid c = in_range c.in-Ok.written _ c.in-Ok.ensures.ok.is
+
+pub returns-clause-number : goal.returns-clause-number
+returns-clause-number c = grind (arith, common_steps)

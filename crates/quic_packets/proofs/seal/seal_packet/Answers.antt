@@ -1,5 +1,5 @@
 -- What is written, and finished, is the sealed packet.
-use Rattle.std.proofs.Common.{◌≡◌, ℕ, ◌-◌, List, ◌++◌, length, sym, ap, ◌∙◌, arith, replicate, refl}
+use Rattle.std.proofs.Common.{rules, ◌≡◌, ℕ, ◌-◌, List, ◌++◌, length, sym, ap, ◌∙◌, arith, replicate, refl}
 use Rattle.quic_headers.specs.declared.header.Header.{Header}
 use Rattle.quic_packets.specs.Pairs.{KeyPair}
 use Rattle.quic_packets.specs.Sealing.{plain_packet, payload_of}
@@ -39,3 +39,9 @@ returns-clause-sealed g c =
       },
       done.0,
     )
+
+pub returns-clause-len : goal.returns-clause-len
+returns-clause-len g c = search rules
+
+pub returns-then-is_err-clause-refused : goal.returns-then-is_err-clause-refused
+returns-then-is_err-clause-refused g c = search rules

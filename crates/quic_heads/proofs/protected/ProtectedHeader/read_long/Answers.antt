@@ -1,0 +1,35 @@
+use Rattle.std.proofs.Common.{rules}
+use Rattle.quic_heads.specs.Reading.{long_at, typed_at}
+use Rattle.quic_heads.proofs.protected.ProtectedHeader.read_long.Goals as goal
+
+pub returns-then-not-contains-clause-exact : goal.returns-then-not-contains-clause-exact
+unfolding long_at typed_at
+returns-then-not-contains-clause-exact c = search rules
+
+pub returns-in-Retry-clause-exact : goal.returns-in-Retry-clause-exact
+unfolding long_at typed_at
+returns-in-Retry-clause-exact c = search rules
+
+pub returns-in_default-read_var-clause-exact : goal.returns-in_default-read_var-clause-exact
+unfolding long_at typed_at
+returns-in_default-read_var-clause-exact c = search rules
+
+pub returns-in-Standard-clause-exact : goal.returns-in-Standard-clause-exact
+unfolding long_at typed_at
+returns-in-Standard-clause-exact c = search rules
+
+pub returns-in_default-read_var-2-clause-exact : goal.returns-in_default-read_var-2-clause-exact
+unfolding long_at typed_at
+returns-in_default-read_var-2-clause-exact c = search rules
+
+pub returns-then-token_len-remaining-clause-exact : goal.returns-then-token_len-remaining-clause-exact
+unfolding long_at typed_at
+returns-then-token_len-remaining-clause-exact c = search rules
+
+pub returns-in_default-read_var-3-clause-exact : goal.returns-in_default-read_var-3-clause-exact
+unfolding long_at typed_at
+returns-in_default-read_var-3-clause-exact c = search rules
+
+pub returns-clause-exact : goal.returns-clause-exact
+unfolding long_at typed_at
+returns-clause-exact c = search rules

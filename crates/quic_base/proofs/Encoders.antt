@@ -1,12 +1,23 @@
 -- Encoders one after the other: what stands after some of them, and what after one that was refused.
-use Rattle.std.proofs.Common.{◌≡◌, ℕ, ◌+◌, List, [], ◌++◌, length, Result, Ok, Err, sym, ap, subst, ◌∙◌, append_assoc, arith}
+use Rattle.std.proofs.Common.{◌≡◌, ℕ, ◌+◌, List, [], ◌++◌, length, Result, Ok, Err, OnOk, OnErr, refl, sym, ap, subst, ◌∙◌, append_assoc, arith}
 use Rattle.std.proofs.lemmas.List.{length-append, append-nil}
+use Rattle.std.specs.Result.{is_ok}
+use Rattle.bytes.specs.Filled.{UsesSpare}
 use Rattle.quic_base.specs.Codec.{KeepsRoom}
 use Rattle.quic_base.specs.Writing.{Writes}
 use Rattle.quic_base.proofs.PublicLaws.{begun_first, begun_second}
 
 err_is_not_ok : {A E : Type 0} {e : E} {x : A} → Err e ≡ Ok x → ⊥
 err_is_not_ok is = cc
+
+-- one call that puts n bytes, and an answer that is Ok where its own is
+pub put_writes : {D E : Type 0} (put : Result (Unit {0}) D) (result : Result (Unit {0}) E) (bytes written : List ℕ) (spare : ℕ) (written' : List ℕ) (spare' n : ℕ)
+    → OnOk put (written' ≡ written ++ bytes) → OnErr put (written' ≡ written) → UsesSpare put spare spare' n → is_ok result ≡ is_ok put → length bytes ≡ n → Writes result bytes written spare written' spare'
+put_writes (Ok u) (Ok v) bytes w s w' s' n ok err room same l = record { ok = ok; err = tt; full = tt; room = omega (arith, ap length ok, length-append w bytes) }
+put_writes (Err d) (Err e) bytes w s w' s' n ok err room same l =
+    record { ok = tt; err = record { done = []; left = bytes; whole = refl; stands = err ∙ sym (append-nil w) }; full = omega (arith, room.0); room = omega (arith, ap length err, room.1) }
+put_writes (Ok u) (Err e) bytes w s w' s' n ok err room same l = cc
+put_writes (Err d) (Ok v) bytes w s w' s' n ok err room same l = cc
 
 -- what was written so far
 pub record Wrote (bytes written : List ℕ) (spare : ℕ) (written' : List ℕ) (spare' : ℕ) : Type 0 where

@@ -1,5 +1,5 @@
 -- Lemmas on big-endian numbers.
-use Rattle.std.proofs.Common.{◌≡◌, ℕ, zero, suc, ◌+◌, ◌*◌, ◌/◌, ◌%◌, ◌^◌, ◌<◌, List, [], ◌∷◌, ◌++◌, length, take, drop, refl, sym, ◌∙◌, ap, arith, lit<, length-append}
+use Rattle.std.proofs.Common.{◌≡◌, ℕ, zero, suc, ◌+◌, ◌*◌, ◌/◌, ◌%◌, ◌^◌, ◌<◌, List, [], ◌∷◌, ◌++◌, length, take, drop, get_or, refl, sym, ◌∙◌, ap, arith, lit<, length-append}
 use Rattle.std.proofs.Math.Nat.{pow-suc}
 use Rattle.std.proofs.Math.Seq.{take-append_seam, drop-append_seam}
 use Rattle.std.proofs.lemmas.Nat.{mul-add-lt, pow-add, div-mul-add, mod-mul-add, mod_below, div-add-mod'}
@@ -9,7 +9,7 @@ use Rattle.std.specs.Net.Addr.{segments_of, octets_of, ipv4_octets, ipv6_octets}
 use Rattle.std.specs.declared.net.ipv4_addr.Ipv4Addr.{Ipv4Addr}
 use Rattle.std.specs.declared.net.ipv6_addr.Ipv6Addr.{Ipv6Addr}
 use Rattle.quic_base.specs.Number.{AreBytes, num, IsNumber, IsOctets, bytes_of}
-use Rattle.quic_base.specs.Codec.{Takes}
+use Rattle.quic_base.specs.Codec.{Takes, NoFront}
 
 pub tail_bytes : (x : ℕ) (xs : List ℕ) → AreBytes (x ∷ xs) → AreBytes xs
 tail_bytes x xs h = λ i. h (suc i)
@@ -69,6 +69,10 @@ num_injective (x ∷ xs) (y ∷ ys) ha hb el en =
     cc
 
 -- what the program reads from k bytes
+pub from_be_1 : (b : List ℕ) → length b ≡ 1 → get_or b 0 0 ≡ num b
+from_be_1 (x ∷ []) h = omega arith
+from_be_1 _ h = absurd (omega arith)
+
 pub from_be_2 : (b : List ℕ) → length b ≡ 2 → from_be_bytes w16 b ≡ num b
 from_be_2 (x ∷ y ∷ []) h = omega arith
 from_be_2 _ h = absurd (omega arith)
@@ -134,11 +138,14 @@ is_number_4 n h = record { bytes = bytes_of_are_bytes 4 n; width = length-bytes_
 pub is_number_8 : (n : ℕ) → n < 2 ^ 64 → IsNumber 8 n (bytes_of 8 n)
 is_number_8 n h = record { bytes = bytes_of_are_bytes 8 n; width = length-bytes_of 8 n; value = num-bytes_of_8 n h }
 
-pub takes_8 : (old new b : List ℕ) (n : ℕ) → old ≡ b ++ new → length b ≡ 8 → AreBytes b → n ≡ from_be_bytes w64 b → Takes (IsNumber 8 n) old new
-takes_8 old new b n e l h v = record { front = b; split = e; is = record { bytes = h; width = l; value = sym (from_be_8 b l) ∙ sym v } }
+-- what is read from k bytes, and where there are fewer
+pub takes_number : (k : ℕ) (old new b : List ℕ) (n : ℕ) → old ≡ b ++ new → length b ≡ k → AreBytes b → num b ≡ n → Takes (IsNumber k n) old new
+takes_number k old new b n e l h v = record { front = b; split = e; is = record { bytes = h; width = l; value = v } }
 
--- what an encoder of fixed numbers needs
-pub ruleset fixed_numbers = (is_number_1, is_number_2, is_number_4, is_number_8)
+pub no_number : (k : ℕ) (r : List ℕ) → length r < k → (n : ℕ) → NoFront (IsNumber k n) r
+no_number k r few n b s e is =
+    let l : length r ≡ length b + length s = ap length e ∙ length-append b s in
+    omega (arith, is.width)
 
 -- a number of k bytes has one spelling
 pub number_unique : (k m n : ℕ) (b c r s : List ℕ) → b ++ r ≡ c ++ s → IsNumber k m b → IsNumber k n c → (m ≡ n) × (b ≡ c) × (r ≡ s)

@@ -130,7 +130,7 @@ impl Codec for u8 {
         Ok(u8::from_be_bytes(get_array(buf)?))
     }
 
-    #[tactic(auto, using(crate::proofs::Numbers::fixed_numbers), unfolding(crate::specs::Number::bytes_of))]
+    #[tactic(auto, using(crate::proofs::Numbers::is_number_1), unfolding(crate::specs::Number::bytes_of))]
     fn encode<B: BufMut>(&self, buf: &mut B) -> std::result::Result<(), NoRoom> {
         buf.put_u8(*self).map_err(|_| NoRoom)
     }
@@ -146,7 +146,6 @@ impl Codec for u16 {
         Ok(u16::from_be_bytes(get_array(buf)?))
     }
 
-    #[tactic(auto, using(crate::proofs::Numbers::fixed_numbers), unfolding(crate::specs::Number::bytes_of))]
     fn encode<B: BufMut>(&self, buf: &mut B) -> std::result::Result<(), NoRoom> {
         buf.put_u16(*self).map_err(|_| NoRoom)
     }
@@ -162,7 +161,6 @@ impl Codec for u32 {
         Ok(u32::from_be_bytes(get_array(buf)?))
     }
 
-    #[tactic(auto, using(crate::proofs::Numbers::fixed_numbers), unfolding(crate::specs::Number::bytes_of))]
     fn encode<B: BufMut>(&self, buf: &mut B) -> std::result::Result<(), NoRoom> {
         buf.put_u32(*self).map_err(|_| NoRoom)
     }
@@ -174,12 +172,10 @@ impl Codec for u64 {
 
     ghost encoding = { bytes_of 8 };
 
-    #[tactic(auto, using(crate::proofs::Numbers::takes_8))]
     fn decode<B: Buf>(buf: &mut B) -> Result<u64> {
         Ok(u64::from_be_bytes(get_array(buf)?))
     }
 
-    #[tactic(auto, using(crate::proofs::Numbers::fixed_numbers), unfolding(crate::specs::Number::bytes_of))]
     fn encode<B: BufMut>(&self, buf: &mut B) -> std::result::Result<(), NoRoom> {
         buf.put_u64(*self).map_err(|_| NoRoom)
     }

@@ -251,7 +251,6 @@ impl Codec for VarInt {
         Ok(VarInt(read_number(buf)?))
     }
 
-    #[tactic(auto, using(crate::proofs::Spellings::shorts), unfolding(crate::specs::Number::bytes_of))]
     fn encode<B: BufMut>(&self, buf: &mut B) -> Result<(), NoRoom>
         ensures bound { self.now < 2 ^ 62 }
         ensures spelled { Spells self.now (short self.now) }

@@ -1,8 +1,11 @@
-use Rattle.std.proofs.Common.{arith}
-use Rattle.std.proofs.lemmas.Grind.{common_steps}
+use Rattle.std.proofs.Common.{refl, rules}
 use Rattle.quic_base.specs.Number.{bytes_of}
+use Rattle.quic_base.proofs.Encoders.{put_writes}
+use Rattle.quic_base.proofs.Numbers.{is_number_2}
 use Rattle.quic_base.proofs.coding.U16Codec.encode.Goals as goal
 
-pub returns-clause-ok : goal.returns-clause-ok
+pub returns : goal.returns
 unfolding bytes_of
-returns-clause-ok g c = grind (arith, common_steps)
+returns g c =
+    let x = put_writes c.put_u16.result c.map_err.result (bytes_of 2 c.args.self.now) _ _ _ _ 2 c.put_u16.ensures.ok c.put_u16.ensures.err c.put_u16.ensures.spare c.map_err.ensures.variant refl in
+    record { spelled = is_number_2 c.args.self.now (search rules); ok = x.ok; err = x.err; full = x.full; room = x.room }

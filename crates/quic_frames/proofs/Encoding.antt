@@ -1,12 +1,15 @@
 -- The shortest spellings of whole frames. Those of the parts that frames hold are passed on.
-use Rattle.std.proofs.Common.{◌≡◌, ℕ, Bool, true, false, List, [], ◌∷◌, ◌++◌, length, ap, ◌∙◌, append_assoc, ◌+◌, ◌<◌, ◌≤◌, arith, eqb}
+use Rattle.std.proofs.Common.{◌≡◌, ℕ, Bool, true, false, List, [], ◌∷◌, ◌++◌, length, ap, ◌∙◌, append_assoc, ◌+◌, ◌<◌, ◌≤◌, arith, eqb, refl}
 use Rattle.std.proofs.lemmas.Bool.Decides.{nat_tests}
 use Rattle.std.specs.Prelude.{if◌then◌else◌}
 use Rattle.std.proofs.lemmas.List.{append-nil, length-append}
+use Rattle.quic_base.specs.Ids.{dir_number}
+use Rattle.quic_base.specs.declared.ids.Dir.{Dir}
+use Rattle.quic_base.specs.declared.ids.Dir.TheVariants.{Bi, Uni}
 use Rattle.quic_base.specs.Number.{bytes_of}
 use Rattle.quic_base.specs.Varint.{short, size}
 use Rattle.quic_frame_parts.specs.Field.{Number, Bytes}
-use Rattle.quic_frame_parts.specs.Table.{Crypto, NewToken, NewConnectionId, ConnectionClose, ApplicationClose, Datagram, PathChallenge, PathResponse, Stream}
+use Rattle.quic_frame_parts.specs.Table.{Crypto, NewToken, NewConnectionId, ConnectionClose, ApplicationClose, Datagram, PathChallenge, PathResponse, Stream, MaxStreams, StreamsBlocked}
 use Rattle.quic_frame_parts.specs.Parts.{frame_of, flag}
 use Rattle.quic_frame_parts.specs.Shortest.{shortest_frame}
 use Rattle.quic_frame_parts.specs.Numbers.{all_short}
@@ -55,6 +58,16 @@ challenge_parts last n = ap (λ (k : List ℕ). short 0x1a ++ k) (append-nil (by
 pub response_parts : (last : Bool) (n : ℕ) → shortest_frame last (frame_of PathResponse (Number n ∷ [])) ≡ short 0x1b ++ bytes_of 8 n
 unfolding shortest_frame
 response_parts last n = ap (λ (k : List ℕ). short 0x1b ++ k) (append-nil (bytes_of 8 n))
+
+pub max_streams_parts : (last : Bool) (dir : Dir) (count : ℕ) → shortest_frame last (frame_of MaxStreams (Number (dir_number dir) ∷ Number count ∷ [])) ≡ all_short ((0x12 + dir_number dir) ∷ count ∷ [])
+unfolding shortest_frame
+max_streams_parts last Bi count = refl
+max_streams_parts last Uni count = refl
+
+pub streams_blocked_parts : (last : Bool) (dir : Dir) (limit : ℕ) → shortest_frame last (frame_of StreamsBlocked (Number (dir_number dir) ∷ Number limit ∷ [])) ≡ all_short ((0x16 + dir_number dir) ∷ limit ∷ [])
+unfolding shortest_frame
+streams_blocked_parts last Bi limit = refl
+streams_blocked_parts last Uni limit = refl
 
 pub new_id_length : (last : Bool) (sequence retire : ℕ) (id token : List ℕ)
     → length (shortest_frame last (frame_of NewConnectionId (Number sequence ∷ Number retire ∷ Bytes id ∷ Bytes token ∷ []))) ≡ length (all_short (0x18 ∷ sequence ∷ retire ∷ [])) + 1 + length id + length token

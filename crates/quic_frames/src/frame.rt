@@ -26,7 +26,7 @@ pub use size_bound::{FrameStruct, RETIRE_CONNECTION_ID_SIZE_BOUND};
 
 /// A frame of a payload, whose bytes it borrows. Numbers that were read are below 2^62, but for the
 /// eight bytes of a path's challenge and response.
-#[derive(Clone, Debug, Drop)]
+#[derive(Clone, Copy, Debug)]
 pub enum Frame<'a> {
     /// Nothing (RFC 9000, section 19.1).
     Padding,

@@ -20,7 +20,7 @@ impl Frame<'_> {
     /// Where the slice has fewer, and only there, it is as it was, and the error is how many bytes are needed. The caller
     /// must ensure that the frame is in range, and that data whose length is written are below 2^62 bytes. It takes no
     /// memory.
-    #[tactic(auto, unfolding(quic_frame_parts::specs::Shortest::shortest_frame), using(crate::proofs::Encoding::challenge_parts, crate::proofs::Encoding::response_parts, crate::proofs::Encoding::crypto_parts, crate::proofs::Encoding::token_parts))]
+    #[tactic(auto, unfolding(quic_frame_parts::specs::Shortest::shortest_frame))]
     pub fn encode_into(&self, last: bool, dest: &mut [u8]) -> Result<usize, usize>
         requires { CanStand last self.now }
         ensures { Puts result (shortest_frame last (meaning_of self.now)) dest.old dest.new }

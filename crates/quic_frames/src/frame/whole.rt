@@ -27,7 +27,7 @@ impl Frame<'_> {
     /// where the spare room is less than that; then what stood there stands, followed by a beginning of
     /// the spelling. It takes no memory of its own. The caller must ensure that the frame is in range, and that
     /// data whose length is written are below 2^62 bytes.
-    #[tactic(auto, unfolding(quic_frame_parts::specs::Shortest::shortest_frame), using(crate::proofs::Encoding::challenge_parts, crate::proofs::Encoding::response_parts))]
+    #[tactic(auto, unfolding(quic_frame_parts::specs::Shortest::shortest_frame))]
     pub fn encode<B: BufMut>(&self, last: bool, out: &mut B) -> Result<(), NoRoom>
         requires { CanStand last self.now }
         ensures { Writes result (shortest_frame last (meaning_of self.now))
@@ -70,7 +70,7 @@ impl Frame<'_> {
 
     /// How many bytes `encode` appends, which asks for the same. It takes no memory.
     #[inline(always)]
-    #[tactic(auto, unfolding(quic_frame_parts::specs::Shortest::shortest_frame), using(crate::proofs::Encoding::crypto_parts, crate::proofs::Encoding::challenge_length, crate::proofs::Encoding::response_length))]
+    #[tactic(auto, unfolding(quic_frame_parts::specs::Shortest::shortest_frame), using(crate::proofs::Encoding::crypto_parts))]
     pub fn encoded_len(&self, last: bool) -> u128
         requires { CanStand last self.now }
         ensures { result ≡ length (shortest_frame last (meaning_of self.now)) }

@@ -1,6 +1,7 @@
 use Rattle.std.proofs.Common.{ℕ, List, add-one, ap, ◌∙◌, ◌++◌, get_or, arith}
 use Rattle.quic_base.specs.Varint.{short}
 use Rattle.quic_frame_parts.proofs.Numbers.{all_short-at}
+use Rattle.std.proofs.lemmas.Grind.{common_steps}
 use Rattle.quic_frame_parts.proofs.frame.write.lay_numbers.Goals as goal
 
 pub loop-number-preserved : goal.loop-number-preserved
@@ -11,3 +12,9 @@ loop-number-preserved c =
       near = omega (arith, c.loop-number.invariant.near, c.lay_number-at.ensures.near);
       front = rw (add-one, all_short-at ns i c.loop-number-test.true) (c.lay_number-at.ensures.front ∙ ap (λ (ys : List ℕ). ys ++ short (get_or ns i 0)) c.loop-number.invariant.front);
     }
+
+pub lay_number-at-requires-clause-numeric : goal.lay_number-at-requires-clause-numeric
+lay_number-at-requires-clause-numeric c = grind (arith, common_steps)
+
+pub returns-clause-front : goal.returns-clause-front
+returns-clause-front c = grind (arith, common_steps)

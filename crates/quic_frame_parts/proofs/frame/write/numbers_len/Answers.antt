@@ -1,6 +1,7 @@
 use Rattle.std.proofs.Common.{arith}
 use Rattle.quic_frame_parts.proofs.Spelled.{longer_at}
 use Rattle.quic_frame_parts.proofs.Numbers.{numeric_at}
+use Rattle.std.proofs.lemmas.Grind.{common_steps}
 use Rattle.quic_frame_parts.proofs.frame.write.numbers_len.Goals as goal
 
 pub size_of-requires : goal.size_of-requires
@@ -13,3 +14,6 @@ loop-number-preserved c =
       value = longer_at c.args.numbers.now i c.loop-number.total c.size_of.result c.loop-number-test.true c.size_of.ensures.value c.loop-number.invariant.value;
       small = omega (arith, c.loop-number.invariant.small, c.size_of.ensures.small);
     }
+
+pub returns-clause-value : goal.returns-clause-value
+returns-clause-value c = grind (arith, common_steps)

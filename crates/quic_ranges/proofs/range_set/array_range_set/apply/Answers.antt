@@ -3,6 +3,7 @@ use Rattle.std.proofs.lemmas.List.{take_at}
 use Rattle.std.specs.List.{insert}
 use Rattle.quic_ranges.specs.Splices.{substitutes}
 use Rattle.quic_ranges.proofs.SpliceLemmas.{Holds, Holds-insert, Holds-drain, Holds-same, spliced}
+use Rattle.std.proofs.lemmas.Grind.{common_steps}
 use Rattle.quic_ranges.proofs.range_set.array_range_set.apply.Goals as goal
 use Rattle.quic_ranges.proofs.range_set.array_range_set.apply.Goals.{then-less-more+in_ok-map_err, else-less-more+then-more-less, else-less-more+else-more-less}
 
@@ -25,3 +26,9 @@ returns-clause-ok c =
     c.write.ensures ∙ ap (λ l. take f l ++ (vs ++ drop (f + length vs) l)) c.as_mut_slice.ensures.value ∙ ap (λ m. take f ys ++ (vs ++ drop (f + m) ys)) (sym count) in
     let whole : length c.write.new.runs ≡ length ys = c.write.auto.runs ∙ ap length c.as_mut_slice.ensures.value in
     take_at c.write.new.runs _ (length ys) whole ∙ spliced xs ys c.write.new.runs vs f t (f + c.len-more.result) held written
+
+pub write-requires : goal.write-requires
+write-requires c = grind (arith, common_steps)
+
+pub returns-in_err-map_err-clause-more_runs : goal.returns-in_err-map_err-clause-more_runs
+returns-in_err-map_err-clause-more_runs c = grind (arith, common_steps)

@@ -75,3 +75,6 @@ returns-in_err-map_err-in-Behind-clause-err c = grind (arith, common_steps)
 
 pub returns-in_err-map_err-in-Behind-clause-no_room : goal.returns-in_err-map_err-in-Behind-clause-no_room
 returns-in_err-map_err-in-Behind-clause-no_room c = grind (arith, common_steps)
+
+pub join_among-requires : goal.join_among-requires
+join_among-requires c = grind (arith, common_steps)

@@ -3,6 +3,7 @@ use Rattle.std.proofs.lemmas.List.{append-nil}
 use Rattle.quic_ranges.specs.Pieces.{piece}
 use Rattle.quic_ranges.proofs.PlacesLemmas.{piece-full, piece-empty}
 use Rattle.quic_ranges.proofs.MergeLemmas.{difference-spent, difference-run, difference-end, RunsFrom-behind}
+use Rattle.std.proofs.lemmas.Grind.{common_steps}
 use Rattle.quic_ranges.proofs.range_set.vec_range_set.difference_of.Goals as goal
 use Rattle.quic_ranges.proofs.range_set.vec_range_set.difference_of.Goals.{then-start-others+in_ok-push, else-start-others, then-loop-next-test+else-others-next, else-loop-next-test, then-next-others, else-next-others, then-start-end+in_ok-push-2, else-start-end}
 
@@ -41,3 +42,6 @@ loop-run-preserved c =
 
 pub returns : goal.returns
 returns c = difference-end c.loop-run.left c.args.runs.now _ c.args.others.now c.loop-run.run-index c.requires.runs c.requires.others c.loop-run-test.false c.loop-run.invariant
+
+pub loop-next-init : goal.loop-next-init
+loop-next-init c = grind (arith, common_steps)

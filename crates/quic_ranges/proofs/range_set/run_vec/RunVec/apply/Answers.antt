@@ -3,6 +3,7 @@ use Rattle.std.proofs.lemmas.List.{take_at}
 use Rattle.std.specs.List.{insert}
 use Rattle.quic_ranges.specs.Splices.{substitutes, after_splice}
 use Rattle.quic_ranges.proofs.SpliceLemmas.{Holds, Holds-insert, Holds-drain, Holds-same, spliced-behind}
+use Rattle.std.proofs.lemmas.Grind.{common_steps}
 use Rattle.quic_ranges.proofs.range_set.run_vec.RunVec.apply.Goals as goal
 use Rattle.quic_ranges.proofs.range_set.run_vec.RunVec.apply.Goals.{then-less-more+in_ok-map_err, else-less-more+then-more-less, else-less-more+else-more-less}
 
@@ -27,3 +28,30 @@ returns-clause-ok c =
     let main = spliced-behind xs ys c.write.new.runs vs k c.args.change.from c.args.change.to f t (f + c.len-more.result) c.self.invariant refl refl held.0 written in
     ap (drop c.if-less-more.self-inside.taken) (take_at c.write.new.runs _ _ (c.write.auto.runs ∙ c.as_mut_slice.ensures.len))
     ∙ subst (λ j. drop j c.write.new.runs ≡ after_splice c.args.self.now c.args.change) (sym held.1) (main ∙ ap (λ l. after_splice l c.args.change) c.self.view_is)
+
+pub drain-requires-clause-in_bounds : goal.drain-requires-clause-in_bounds
+drain-requires-clause-in_bounds c = grind (arith, common_steps)
+
+pub insert-requires : goal.insert-requires
+insert-requires c = grind (arith, common_steps)
+
+pub invariant_of-self-2 : goal.invariant_of-self-2
+invariant_of-self-2 c = grind (arith, common_steps)
+
+pub overflow_add-from : goal.overflow_add-from
+overflow_add-from c = grind (arith, common_steps)
+
+pub overflow_add-from-then-more-less : goal.overflow_add-from-then-more-less
+overflow_add-from-then-more-less c = grind (arith, common_steps)
+
+pub overflow_add-to : goal.overflow_add-to
+overflow_add-to c = grind (arith, common_steps)
+
+pub place-at-requires : goal.place-at-requires
+place-at-requires c = grind (arith, common_steps)
+
+pub returns-in_err-map_err-clause-more_runs : goal.returns-in_err-map_err-clause-more_runs
+returns-in_err-map_err-clause-more_runs c = grind (arith, common_steps)
+
+pub write-requires : goal.write-requires
+write-requires c = grind (arith, common_steps)

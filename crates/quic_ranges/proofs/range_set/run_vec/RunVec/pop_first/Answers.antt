@@ -7,3 +7,6 @@ returns-then-self-len-clause-some c = grind (arith, common_steps)
 
 pub returns-else-self-len-clause-some : goal.returns-else-self-len-clause-some
 returns-else-self-len-clause-some c = grind (arith, common_steps)
+
+pub returns-in_err-first-clause-none : goal.returns-in_err-first-clause-none
+returns-in_err-first-clause-none c = grind (arith, common_steps)

@@ -7,3 +7,9 @@ returns-clause-place c = search rules
 
 pub returns-clause-rest : goal.returns-clause-rest
 returns-clause-rest c = grind (arith, common_steps)
+
+pub invariant_of-self : goal.invariant_of-self
+invariant_of-self c = grind (arith, common_steps)
+
+pub overflow_add-self : goal.overflow_add-self
+overflow_add-self c = grind (arith, common_steps)

@@ -4,3 +4,6 @@ use Rattle.quic_base.proofs.ids.connection_id.ConnectionId.encode_long.Goals as 
 
 pub returns-clause-ok : goal.returns-clause-ok
 returns-clause-ok g c = grind (arith, common_steps)
+
+pub returns-clause-room : goal.returns-clause-room
+returns-clause-room g c = grind (arith, common_steps)

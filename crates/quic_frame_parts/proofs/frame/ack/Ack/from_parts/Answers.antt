@@ -1,4 +1,5 @@
-use Rattle.std.proofs.Common.{rules}
+use Rattle.std.proofs.Common.{arith, rules}
+use Rattle.quic_frame_parts.proofs.Blocks.{acked}
 use Rattle.quic_frame_parts.proofs.frame.ack.Ack.from_parts.Goals as goal
 
 pub invariant_of-result : goal.invariant_of-result
@@ -9,3 +10,6 @@ returns-in-Err-Malformed-clause-refused c = search rules
 
 pub returns-in-Err : goal.returns-in-Err
 returns-in-Err c = search rules
+
+pub returns-in-Ok-clause-ranges : goal.returns-in-Ok-clause-ranges
+returns-in-Ok-clause-ranges c = grind (arith, acked)

@@ -11,3 +11,9 @@ returns-in-Some-true-clause-writes g c = λ plain ok.
 
 pub returns-in-Some-false-clause-writes : goal.returns-in-Some-false-clause-writes
 returns-in-Some-false-clause-writes g c = grind (arith, common_steps)
+
+pub returns-in-None-false-clause-writes : goal.returns-in-None-false-clause-writes
+returns-in-None-false-clause-writes g c = grind (arith, common_steps)
+
+pub returns-in-None-true-clause-writes : goal.returns-in-None-true-clause-writes
+returns-in-None-true-clause-writes g c = grind (arith, common_steps)

@@ -7,3 +7,9 @@ returns-clause-ok g c = grind (arith, common_steps)
 
 pub returns-clause-room : goal.returns-clause-room
 returns-clause-room g c = grind (arith, common_steps)
+
+pub returns-clause-err : goal.returns-clause-err
+returns-clause-err g c = grind (arith, common_steps)
+
+pub returns-clause-full : goal.returns-clause-full
+returns-clause-full g c = grind (arith, common_steps)

@@ -1,9 +1,10 @@
-use Rattle.std.proofs.Common.{◌∙◌, sym, subst, refl}
+use Rattle.std.proofs.Common.{arith, ◌∙◌, sym, subst, refl}
 use Rattle.std.proofs.lemmas.Result.{err_from_is_err_and}
 use Rattle.quic_base.specs.Number.{AreBytes}
 use Rattle.quic_frame_parts.specs.Numbers.{AreNumeric, AreSpelled}
 use Rattle.quic_base.proofs.Encoders.{wrote_first, writes_third, writes_begun, writes_within}
 use Rattle.quic_frame_parts.proofs.Held.{held_parts, held_many, held_whole}
+use Rattle.std.proofs.lemmas.Grind.{common_steps}
 use Rattle.quic_frame_parts.proofs.frame.ack_encode.encode_ack.Goals as goal
 
 pub head_of-requires : goal.head_of-requires
@@ -42,3 +43,6 @@ returns g c last =
     let blocks = c.shortened.ensures h.numbers (subst (AreSpelled h.numbers) (sym c.additional-2.ensures) h.spelled) in
     rw (held_whole a h last c.head_of.result c.ecn.result c.head_of.ensures c.ecn.ensures)
     (writes_third c.shortened.result c.encode_counts.result _ _ _ _ _ _ _ _ _ _ _ (wrote_first c.numbers.result _ _ _ _ _ c.numbers.ensures c.in_ok-numbers.was) blocks c.in_ok-shortened.was c.encode_counts.ensures)
+
+pub encode_counts-requires : goal.encode_counts-requires
+encode_counts-requires g c = grind (arith, common_steps)

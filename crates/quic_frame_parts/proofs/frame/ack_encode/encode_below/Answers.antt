@@ -2,6 +2,7 @@ use Rattle.std.proofs.Common.{arith}
 use Rattle.std.proofs.lemmas.Result.{err_from_is_err_and}
 use Rattle.quic_frame_parts.proofs.Sets.{has_below}
 use Rattle.quic_frame_parts.proofs.AckParts.{next_run, wrote_run, refused_run}
+use Rattle.std.proofs.lemmas.Grind.{common_steps}
 use Rattle.quic_frame_parts.proofs.frame.ack_encode.encode_below.Goals as goal
 
 pub overflow_sub-gap : goal.overflow_sub-gap
@@ -27,3 +28,6 @@ returns-in_err-numbers g c =
 pub loop-run-preserved : goal.loop-run-preserved
 loop-run-preserved g c =
     wrote_run c.numbers.result _ c.loop-run.above c.in-Some.run' c.next_back.new.self c.loop-run.runs _ _ _ _ _ _ c.loop-run.invariant c.in-Some.ensures.steps c.numbers.ensures c.in_ok-numbers.was
+
+pub loop-run-smaller : goal.loop-run-smaller
+loop-run-smaller g c = grind (arith, common_steps)

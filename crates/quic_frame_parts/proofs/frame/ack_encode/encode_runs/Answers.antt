@@ -3,6 +3,7 @@ use Rattle.std.proofs.lemmas.Result.{err_from_is_err_and}
 use Rattle.quic_frame_parts.proofs.Sets.{bounded}
 use Rattle.quic_base.proofs.Encoders.{wrote_first, writes_third, writes_begun, writes_within}
 use Rattle.quic_frame_parts.proofs.AckParts.{set_parts}
+use Rattle.std.proofs.lemmas.Grind.{common_steps}
 use Rattle.quic_frame_parts.proofs.frame.ack_encode.encode_runs.Goals as goal
 
 pub overflow_sub-greatest : goal.overflow_sub-greatest
@@ -46,3 +47,6 @@ returns g c last =
     c.requires.delay c.requires.maximal c.requires.members in
     rw (x.parts last) (writes_third c.encode_below.result c.encode_counts.result _ _ _ _ _ _ _ _ _ _ _
     (wrote_first c.numbers.result _ _ _ _ _ c.numbers.ensures c.in_ok-numbers.was) c.encode_below.ensures c.in_ok-encode_below.was c.encode_counts.ensures)
+
+pub encode_below-requires-clause-runs : goal.encode_below-requires-clause-runs
+encode_below-requires-clause-runs g c = grind (arith, common_steps)

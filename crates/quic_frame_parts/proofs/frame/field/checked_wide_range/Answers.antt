@@ -1,7 +1,8 @@
-use Rattle.std.proofs.Common.{length}
+use Rattle.std.proofs.Common.{arith, length}
 use Rattle.std.proofs.lemmas.Result.{err_from_is_err_and}
 use Rattle.quic_frame_parts.proofs.Blocks.{zero_of, some_of}
 use Rattle.quic_frame_parts.proofs.FirstRanges.{no_block, last_block, no_gap_after, block_and_gap}
+use Rattle.std.proofs.lemmas.Grind.{common_steps}
 use Rattle.quic_frame_parts.proofs.frame.field.checked_wide_range.Goals as goal
 
 pub returns-in_err-least-clause-gives : goal.returns-in_err-least-clause-gives
@@ -21,3 +22,9 @@ returns-in_err-next-clause-gives c =
 pub returns-clause-gives : goal.returns-clause-gives
 returns-clause-gives c =
     block_and_gap c.args.greatest c.in_ok-least.least c.in_ok-next.next c.args.blocks.now c.in_ok-least.rest.now c.in_ok-next.others.now c.in_ok-least.ensures.gives (some_of (length c.in_ok-least.rest.now) c.if-is_empty.ensures) c.in_ok-next.ensures.gives
+
+pub returns-clause-bytes : goal.returns-clause-bytes
+returns-clause-bytes c = grind (arith, common_steps)
+
+pub returns-then-is_empty-clause-bytes : goal.returns-then-is_empty-clause-bytes
+returns-then-is_empty-clause-bytes c = grind (arith, common_steps)

@@ -6,6 +6,7 @@ use Rattle.quic_frame_parts.specs.Shortest.{shortest_frame}
 use Rattle.quic_frame_parts.specs.Parts.{ack_meaning}
 use Rattle.quic_frame_parts.proofs.Held.{held_parts, held_many, held_whole, held_length}
 use Rattle.quic_frame_parts.proofs.Putting.{lays_more, lays_of, taken, puts_lays, puts_refused}
+use Rattle.std.proofs.lemmas.Grind.{common_steps}
 use Rattle.quic_frame_parts.proofs.frame.put.ack.Goals as goal
 
 pub head_of-requires : goal.head_of-requires
@@ -60,3 +61,15 @@ returns c last =
     let behind = lays_more (all_short h.numbers) (all_short (count_numbers c.ecn.result)) c.lay_bytes-at.new.dest c.lay_shortened-at.new.dest c.lay_bytes.new.dest _ _ _ second third in
     let whole = lays_more (all_short c.head_of.result) (all_short h.numbers ++ all_short (count_numbers c.ecn.result)) c.args.dest.now c.lay_bytes-at.new.dest c.lay_bytes.new.dest 0 _ _ first behind in
     rw (held_whole a h last c.head_of.result c.ecn.result c.head_of.ensures c.ecn.ensures) (puts_lays _ c.args.dest.now c.lay_bytes.new.dest _ whole)
+
+pub lay_bytes-at-requires : goal.lay_bytes-at-requires
+lay_bytes-at-requires c = grind (arith, common_steps)
+
+pub lay_shortened-at-requires-clause-room : goal.lay_shortened-at-requires-clause-room
+lay_shortened-at-requires-clause-room c = grind (arith, common_steps)
+
+pub slice_bounds-lay_bytes-end : goal.slice_bounds-lay_bytes-end
+slice_bounds-lay_bytes-end c = grind (arith, common_steps)
+
+pub slice_bounds-lay_bytes-end-2 : goal.slice_bounds-lay_bytes-end-2
+slice_bounds-lay_bytes-end-2 c = grind (arith, common_steps)

@@ -1,6 +1,7 @@
 use Rattle.std.proofs.Common.{arith}
 use Rattle.quic_frame_parts.proofs.Spelled.{after_shorter, after_fits, read_more, read_all}
 use Rattle.quic_frame_parts.proofs.Putting.{LaidThem, laid_one, room_for_one}
+use Rattle.std.proofs.lemmas.Grind.{common_steps}
 use Rattle.quic_frame_parts.proofs.frame.put.lay_each.Goals as goal
 
 pub lay_bytes-at-requires : goal.lay_bytes-at-requires
@@ -28,3 +29,9 @@ loop-number-preserved c =
 pub returns-clause-lays : goal.returns-clause-lays
 returns-clause-lays c ns s =
     read_all (LaidThem c.args.at c.args.dest.now c.loop-number.at c.loop-number.dest) c.loop-number.rest.now ns _ (c.loop-number.invariant.read ns s) c.in_default.ensures.gives
+
+pub loop-number-init : goal.loop-number-init
+loop-number-init c = grind (arith, common_steps)
+
+pub slice_bounds-lay_bytes-end : goal.slice_bounds-lay_bytes-end
+slice_bounds-lay_bytes-end c = grind (arith, common_steps)

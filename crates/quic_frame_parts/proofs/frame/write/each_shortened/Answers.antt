@@ -1,5 +1,7 @@
+use Rattle.std.proofs.Common.{arith}
 use Rattle.std.proofs.lemmas.Result.{err_from_is_err_and}
 use Rattle.quic_frame_parts.proofs.Spelled.{after_shorter, after_fits, read_more, read_all, wrote_one, wrote_them, refused_one}
+use Rattle.std.proofs.lemmas.Grind.{common_steps}
 use Rattle.quic_frame_parts.proofs.frame.write.each_shortened.Goals as goal
 
 pub returns-in_err-write_var : goal.returns-in_err-write_var
@@ -26,3 +28,6 @@ loop-number-preserved g c =
 
 pub returns : goal.returns
 returns g c ns s = wrote_them ns _ _ _ _ (read_all _ c.loop-number.rest.now ns _ (c.loop-number.invariant.read ns s) c.in_default.ensures.gives)
+
+pub loop-number-init : goal.loop-number-init
+loop-number-init g c = grind (arith, common_steps)

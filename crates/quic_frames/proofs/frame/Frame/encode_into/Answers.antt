@@ -1,5 +1,7 @@
+use Rattle.std.proofs.Common.{arith}
 use Rattle.quic_frame_parts.specs.Shortest.{shortest_frame}
 use Rattle.quic_frames.proofs.Encoding.{max_streams_parts, streams_blocked_parts, challenge_parts, response_parts, crypto_parts, token_parts}
+use Rattle.std.proofs.lemmas.Grind.{common_steps}
 use Rattle.quic_frames.proofs.frame.Frame.encode_into.Goals as goal
 
 pub returns-in-NewConnectionId : goal.returns-in-NewConnectionId
@@ -82,3 +84,6 @@ returns-in-MaxStreams c = rw (c.in-MaxStreams.is, max_streams_parts) (rw c.bit_o
 
 pub returns-in-StreamsBlocked : goal.returns-in-StreamsBlocked
 returns-in-StreamsBlocked c = rw (c.in-StreamsBlocked.is, streams_blocked_parts) (rw c.bit_of-in-StreamsBlocked.ensures at c.numbers-in-StreamsBlocked.ensures)
+
+pub numbers-requires-in-StreamsBlocked-clause-numeric : goal.numbers-requires-in-StreamsBlocked-clause-numeric
+numbers-requires-in-StreamsBlocked-clause-numeric c = grind (arith, common_steps)

@@ -4,6 +4,7 @@ use Rattle.quic_base.specs.Number.{AreBytes}
 use Rattle.quic_frame_parts.proofs.Varints.{varint_takes}
 use Rattle.quic_frames.specs.Meaning.{meaning_of}
 use Rattle.quic_frames.proofs.Finding.{found_whole, found_none, found_cut, found_long, found_padding}
+use Rattle.std.proofs.lemmas.Grind.{common_steps}
 use Rattle.quic_frames.proofs.frame.found.read_found.Goals as goal
 
 pub overflow_sub-bytes : goal.overflow_sub-bytes
@@ -36,3 +37,12 @@ pub returns-then-first-eq0-clause-gives : goal.returns-then-first-eq0-clause-giv
 returns-then-first-eq0-clause-gives c =
     let front : c.args.bytes.now ≡ 0 ∷ c.in-Some.rest.now = search rules in
     (found_padding c.args.strict c.args.before c.args.bytes.now c.in-Some.rest.now front, tt)
+
+pub returns-in-Err-clause-bytes : goal.returns-in-Err-clause-bytes
+returns-in-Err-clause-bytes c = grind (arith, common_steps)
+
+pub returns-in-Ok-read_frame-clause-bytes : goal.returns-in-Ok-read_frame-clause-bytes
+returns-in-Ok-read_frame-clause-bytes c = grind (arith, common_steps)
+
+pub returns-then-is_long-clause-bytes : goal.returns-then-is_long-clause-bytes
+returns-then-is_long-clause-bytes c = grind (arith, common_steps)

@@ -18,3 +18,9 @@ returns-in_err-reason-2-clause-gives c = grind (arith, common_steps)
 pub returns-in_err-ty-clause-gives : goal.returns-in_err-ty-clause-gives
 unfolding frame_at row_at
 returns-in_err-ty-clause-gives c = grind (arith, common_steps)
+
+pub from_u64_unchecked-requires : goal.from_u64_unchecked-requires
+from_u64_unchecked-requires c = grind (arith, common_steps)
+
+pub or_none-requires : goal.or_none-requires
+or_none-requires c = grind (arith, common_steps)

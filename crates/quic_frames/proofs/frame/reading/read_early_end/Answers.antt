@@ -14,3 +14,9 @@ returns-in_err-final_offset c = grind (arith, common_steps)
 pub returns-in_err-id : goal.returns-in_err-id
 unfolding frame_at row_at
 returns-in_err-id c = grind (arith, common_steps)
+
+pub from_u64_unchecked-requires : goal.from_u64_unchecked-requires
+from_u64_unchecked-requires c = grind (arith, common_steps)
+
+pub from_u64_unchecked-requires-2 : goal.from_u64_unchecked-requires-2
+from_u64_unchecked-requires-2 c = grind (arith, common_steps)

@@ -32,3 +32,6 @@ write-requires c = grind (arith, common_steps)
 
 pub returns-in_err-map_err-clause-more_runs : goal.returns-in_err-map_err-clause-more_runs
 returns-in_err-map_err-clause-more_runs c = grind (arith, common_steps)
+
+pub returns-clause-capacity : goal.returns-clause-capacity
+returns-clause-capacity c = grind (arith, common_steps)

@@ -1,6 +1,7 @@
 use Rattle.std.proofs.Common.{◌≡◌, ◌+◌, length, arith}
 use Rattle.quic_ranges.specs.Runs.{in_union}
 use Rattle.quic_ranges.proofs.ExtensionLemmas.{length-pushed}
+use Rattle.std.proofs.lemmas.Grind.{common_steps}
 use Rattle.quic_ranges.proofs.range_set.vec_range_set.join.Goals as goal
 
 pub returns-in_err-push-in-Behind-clause-no_more_runs : goal.returns-in_err-push-in-Behind-clause-no_more_runs
@@ -10,3 +11,6 @@ returns-in_err-push-in-Behind-clause-no_more_runs c rs h le =
 
 pub returns-in-Before-clause-changed : goal.returns-in-Before-clause-changed
 returns-in-Before-clause-changed c = rw c.in-Before.ensures at c.join_among.ensures.changed
+
+pub returns-in_ok-push-in-Behind-clause-union : goal.returns-in_ok-push-in-Behind-clause-union
+returns-in_ok-push-in-Behind-clause-union c = grind (arith, common_steps)

@@ -26,3 +26,6 @@ loop-other-init c = grind (arith, common_steps)
 
 pub returns : goal.returns
 returns c = grind (arith, common_steps)
+
+pub overflow_add-next : goal.overflow_add-next
+overflow_add-next c = grind (arith, common_steps)

@@ -4,3 +4,6 @@ use Rattle.quic_frame_parts.proofs.frame.close.ApplicationCloseDisplay.fmt.Goals
 
 pub returns-clause-writes : goal.returns-clause-writes
 returns-clause-writes c = grind (arith, common_steps)
+
+pub returns-then-is_empty-clause-writes : goal.returns-then-is_empty-clause-writes
+returns-then-is_empty-clause-writes c = grind (arith, common_steps)

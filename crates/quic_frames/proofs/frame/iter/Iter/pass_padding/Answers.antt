@@ -13,3 +13,6 @@ returns-then-count-gt0 c =
 
 pub returns-else-count-gt0 : goal.returns-else-count-gt0
 returns-else-count-gt0 c = grind (arith, common_steps)
+
+pub returns-then-self : goal.returns-then-self
+returns-then-self c = grind (arith, common_steps)

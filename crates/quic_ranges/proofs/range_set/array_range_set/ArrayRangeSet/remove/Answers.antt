@@ -3,6 +3,7 @@ use Rattle.std.specs.declared.ops.Range.{Range}
 use Rattle.quic_ranges.specs.Runs.{IsRunsOf, in_difference}
 use Rattle.quic_ranges.specs.Splices.{Splices}
 use Rattle.quic_ranges.proofs.SpliceLemmas.{length-spliced}
+use Rattle.std.proofs.lemmas.Grind.{common_steps}
 use Rattle.quic_ranges.proofs.range_set.array_range_set.ArrayRangeSet.remove.Goals as goal
 use Rattle.quic_ranges.proofs.range_set.array_range_set.ArrayRangeSet.remove.Goals.{After-from_residual}
 
@@ -23,3 +24,12 @@ returns-in_err-apply-clause-inline c rs h le =
     let more = more_runs c rs h in
     let room = c.self.invariant.1 in
     absurd (c.in_err-apply.ensures.no_room (omega arith))
+
+pub invariant_of-self : goal.invariant_of-self
+invariant_of-self c = grind (arith, common_steps)
+
+pub invariant_of-self-2 : goal.invariant_of-self-2
+invariant_of-self-2 c = grind (arith, common_steps)
+
+pub returns-clause-difference : goal.returns-clause-difference
+returns-clause-difference c = grind (arith, common_steps)

@@ -10,3 +10,6 @@ loop-run-preserved c = grind (arith, common_steps)
 
 pub returns-clause-equal : goal.returns-clause-equal
 returns-clause-equal c = grind (arith, common_steps)
+
+pub push_reserved-requires : goal.push_reserved-requires
+push_reserved-requires c = grind (arith, common_steps)

@@ -55,3 +55,6 @@ returns-in_err-map_err-clause-more_runs c = grind (arith, common_steps)
 
 pub write-requires : goal.write-requires
 write-requires c = grind (arith, common_steps)
+
+pub invariant_of-self : goal.invariant_of-self
+invariant_of-self c = grind (arith, common_steps)

@@ -10,3 +10,6 @@ returns-else-self-len-clause-some c = grind (arith, common_steps)
 
 pub returns-in_err-first-clause-none : goal.returns-in_err-first-clause-none
 returns-in_err-first-clause-none c = grind (arith, common_steps)
+
+pub drain-requires-clause-in_bounds : goal.drain-requires-clause-in_bounds
+drain-requires-clause-in_bounds c = grind (arith, common_steps)

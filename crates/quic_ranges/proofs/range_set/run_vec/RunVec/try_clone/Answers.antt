@@ -7,3 +7,6 @@ loop-run-preserved c = grind (arith, common_steps)
 
 pub returns : goal.returns
 returns c = grind (arith, common_steps)
+
+pub push_reserved-requires : goal.push_reserved-requires
+push_reserved-requires c = grind (arith, common_steps)

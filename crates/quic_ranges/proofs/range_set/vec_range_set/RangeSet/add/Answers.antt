@@ -1,5 +1,6 @@
 use Rattle.std.proofs.Common.{◌≡◌, false, true, ◌++◌, ◌∷◌, [], ap, sym, ◌∙◌, append_assoc, arith, rules}
 use Rattle.quic_ranges.proofs.StepLemmas.{on_err, IsRunsOf-sum_step, IsRunsOf-sum_kept}
+use Rattle.std.proofs.lemmas.Grind.{common_steps}
 use Rattle.quic_ranges.proofs.range_set.vec_range_set.RangeSet.add.Goals as goal
 
 pub loop-run-preserved : goal.loop-run-preserved
@@ -26,3 +27,12 @@ returns-in_err-join-clause-no_change c h =
 
 pub returns-in-Ok-clause-union : goal.returns-in-Ok-clause-union
 returns-in-Ok-clause-union c = search rules
+
+pub invariant_of-self-in_err-join : goal.invariant_of-self-in_err-join
+invariant_of-self-in_err-join c = grind (arith, common_steps)
+
+pub loop-run-init : goal.loop-run-init
+loop-run-init c = grind (arith, common_steps)
+
+pub returns-clause-union : goal.returns-clause-union
+returns-clause-union c = grind (arith, common_steps)

@@ -1,7 +1,8 @@
-use Rattle.std.proofs.Common.{◌≡◌, refl, ap, ◌∙◌}
+use Rattle.std.proofs.Common.{arith, ◌≡◌, refl, ap, ◌∙◌}
 use Rattle.std.specs.Slice.Iter.{iter_rest}
 use Rattle.quic_ranges.specs.Pieces.{pieces}
 use Rattle.quic_ranges.proofs.RunsLemmas.{IsRunsOf-pieces}
+use Rattle.std.proofs.lemmas.Grind.{common_steps}
 use Rattle.quic_ranges.proofs.range_set.vec_range_set.RangeSet.replace.Goals as goal
 
 pub returns : goal.returns
@@ -14,3 +15,6 @@ returns c =
         void = λ _. refl;
       },
     )
+
+pub invariant_of-self-in-Break-branch-2 : goal.invariant_of-self-in-Break-branch-2
+invariant_of-self-in-Break-branch-2 c = grind (arith, common_steps)

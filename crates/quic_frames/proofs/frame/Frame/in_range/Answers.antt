@@ -1,0 +1,75 @@
+use Rattle.std.proofs.Common.{arith}
+use Rattle.std.proofs.lemmas.Grind.{common_steps}
+use Rattle.quic_frames.proofs.frame.Frame.in_range.Goals as goal
+
+pub returns-else-is_varint : goal.returns-else-is_varint
+returns-else-is_varint c = grind (arith, common_steps)
+
+pub returns-else-is_varint-2 : goal.returns-else-is_varint-2
+returns-else-is_varint-2 c = grind (arith, common_steps)
+
+pub returns-in-Ack : goal.returns-in-Ack
+returns-in-Ack c = grind (arith, common_steps)
+
+pub returns-in-Close-Application : goal.returns-in-Close-Application
+returns-in-Close-Application c = grind (arith, common_steps)
+
+pub returns-in-MaxStreamData : goal.returns-in-MaxStreamData
+returns-in-MaxStreamData c = grind (arith, common_steps)
+
+pub returns-in-MaxStreams : goal.returns-in-MaxStreams
+returns-in-MaxStreams c = grind (arith, common_steps)
+
+pub returns-in-NewConnectionId : goal.returns-in-NewConnectionId
+returns-in-NewConnectionId c = grind (arith, common_steps)
+
+pub returns-in-NewToken : goal.returns-in-NewToken
+returns-in-NewToken c = grind (arith, common_steps)
+
+pub returns-in-Padding : goal.returns-in-Padding
+returns-in-Padding c = grind (arith, common_steps)
+
+pub returns-in-Padding-10 : goal.returns-in-Padding-10
+returns-in-Padding-10 c = grind (arith, common_steps)
+
+pub returns-in-Padding-11 : goal.returns-in-Padding-11
+returns-in-Padding-11 c = grind (arith, common_steps)
+
+pub returns-in-Padding-2 : goal.returns-in-Padding-2
+returns-in-Padding-2 c = grind (arith, common_steps)
+
+pub returns-in-Padding-3 : goal.returns-in-Padding-3
+returns-in-Padding-3 c = grind (arith, common_steps)
+
+pub returns-in-Padding-4 : goal.returns-in-Padding-4
+returns-in-Padding-4 c = grind (arith, common_steps)
+
+pub returns-in-Padding-5 : goal.returns-in-Padding-5
+returns-in-Padding-5 c = grind (arith, common_steps)
+
+pub returns-in-Padding-6 : goal.returns-in-Padding-6
+returns-in-Padding-6 c = grind (arith, common_steps)
+
+pub returns-in-Padding-7 : goal.returns-in-Padding-7
+returns-in-Padding-7 c = grind (arith, common_steps)
+
+pub returns-in-Padding-8 : goal.returns-in-Padding-8
+returns-in-Padding-8 c = grind (arith, common_steps)
+
+pub returns-in-Padding-9 : goal.returns-in-Padding-9
+returns-in-Padding-9 c = grind (arith, common_steps)
+
+pub returns-in-RetireConnectionId : goal.returns-in-RetireConnectionId
+returns-in-RetireConnectionId c = grind (arith, common_steps)
+
+pub returns-in-Stream : goal.returns-in-Stream
+returns-in-Stream c = grind (arith, common_steps)
+
+pub returns-in-StreamsBlocked : goal.returns-in-StreamsBlocked
+returns-in-StreamsBlocked c = grind (arith, common_steps)
+
+pub returns-then-is_varint : goal.returns-then-is_varint
+returns-then-is_varint c = grind (arith, common_steps)
+
+pub returns-then-is_varint-2 : goal.returns-then-is_varint-2
+returns-then-is_varint-2 c = grind (arith, common_steps)

@@ -1,5 +1,5 @@
 -- What the words of a frame of any kind but ACK are.
-use Rattle.std.proofs.Common.{◌≡◌, ℕ, ◌<◌, ◌^◌, List, [], ◌∷◌, length, None, Bool, true, false, refl, arith}
+use Rattle.std.proofs.Common.{◌≡◌, ℕ, ◌<◌, ◌^◌, List, [], ◌∷◌, length, Option, None, Some, Bool, true, false, refl, sym, ◌∙◌, ap, arith}
 use Rattle.std.specs.Prelude.{◌==◌, ◌&&◌, if◌then◌else◌}
 use Rattle.quic_base.specs.declared.ids.Dir.TheVariants as dirs
 use Rattle.quic_frame_parts.specs.Numbers.{AreNumeric}
@@ -8,7 +8,7 @@ use Rattle.quic_frames.specs.declared.frame.Frame.{Frame}
 use Rattle.quic_frames.specs.declared.frame.Frame.TheVariants as frames
 use Rattle.quic_frames.specs.InRange.{IsNoAck, IsTyped, InRange, open_data}
 use Rattle.quic_c.specs.Shown.{kind_of, flags_of, numbers_of, data_of, tail_of}
-use Rattle.quic_c.specs.Shapes.{IsSound, shape_of, kept_numbers, kept_data, token_room}
+use Rattle.quic_c.specs.Shapes.{IsSound, Shape, shape, bare_shape, first_shape, second_shape, both_shape, shape_of, masked, kept_numbers, kept_data, token_room}
 
 zero_fits : 0 < 2 ^ 62
 zero_fits = omega arith
@@ -63,33 +63,47 @@ fin_kept : (fin : Bool) → ◌≡◌ {A = ℕ} (if (if fin then 1 else 0) == 1 
 fin_kept true = refl
 fin_kept false = refl
 
+-- a kind is looked up once for all that is said of it
+none_some : (s : Shape) → ◌≡◌ {A = Option Shape} (Some s) None → ⊥
+none_some s e = cc
+
+kept_by : (frame : Frame) (s : Shape) → shape_of (kind_of frame) ≡ Some s → masked s.numbers (numbers_of frame) ≡ numbers_of frame → (if s.has_data then data_of frame else []) ≡ data_of frame
+    → ◌≡◌ {A = ℕ} (if kind_of frame == 0x08 && flags_of frame == 1 then 1 else 0) (flags_of frame) → tail_of frame ≡ token_room (kind_of frame) → Keeps frame
+kept_by frame s e numbers content flags tail = record {
+  known = λ none. none_some s (sym e ∙ none);
+  numbers = ap (λ (o : Option Shape). kept_numbers o (numbers_of frame)) e ∙ numbers;
+  content = ap (λ (o : Option Shape). kept_data o (data_of frame)) e ∙ content;
+  flags = flags;
+  tail = tail;
+}
+
 pub keeps : (frame : Frame) → IsNoAck frame → Keeps frame
-keeps frames.Padding here = record { known = λ e. cc; numbers = refl; content = refl; flags = refl; tail = refl }
+keeps frames.Padding here = kept_by frames.Padding bare_shape refl refl refl refl refl
 keeps (frames.Ack _) here = elim here [ ]
-keeps frames.Ping here = record { known = λ e. cc; numbers = refl; content = refl; flags = refl; tail = refl }
-keeps (frames.ResetStream r) here = record { known = λ e. cc; numbers = refl; content = refl; flags = refl; tail = refl }
-keeps (frames.StopSending s) here = record { known = λ e. cc; numbers = refl; content = refl; flags = refl; tail = refl }
-keeps (frames.Crypto x) here = record { known = λ e. cc; numbers = refl; content = refl; flags = refl; tail = refl }
-keeps (frames.NewToken t) here = record { known = λ e. cc; numbers = refl; content = refl; flags = refl; tail = refl }
-keeps (frames.Stream s) here = record { known = λ e. cc; numbers = refl; content = refl; flags = fin_kept s.fin; tail = refl }
-keeps (frames.MaxData n) here = record { known = λ e. cc; numbers = refl; content = refl; flags = refl; tail = refl }
-keeps (frames.MaxStreamData id offset) here = record { known = λ e. cc; numbers = refl; content = refl; flags = refl; tail = refl }
-keeps (frames.MaxStreams dirs.Bi count) here = record { known = λ e. cc; numbers = refl; content = refl; flags = refl; tail = refl }
-keeps (frames.MaxStreams dirs.Uni count) here = record { known = λ e. cc; numbers = refl; content = refl; flags = refl; tail = refl }
-keeps (frames.DataBlocked offset) here = record { known = λ e. cc; numbers = refl; content = refl; flags = refl; tail = refl }
-keeps (frames.StreamDataBlocked id offset) here = record { known = λ e. cc; numbers = refl; content = refl; flags = refl; tail = refl }
-keeps (frames.StreamsBlocked dirs.Bi limit) here = record { known = λ e. cc; numbers = refl; content = refl; flags = refl; tail = refl }
-keeps (frames.StreamsBlocked dirs.Uni limit) here = record { known = λ e. cc; numbers = refl; content = refl; flags = refl; tail = refl }
-keeps (frames.NewConnectionId n) here = record { known = λ e. cc; numbers = refl; content = refl; flags = refl; tail = refl }
-keeps (frames.RetireConnectionId sequence) here = record { known = λ e. cc; numbers = refl; content = refl; flags = refl; tail = refl }
-keeps (frames.PathChallenge n) here = record { known = λ e. cc; numbers = refl; content = refl; flags = refl; tail = refl }
-keeps (frames.PathResponse n) here = record { known = λ e. cc; numbers = refl; content = refl; flags = refl; tail = refl }
-keeps (frames.Close (closes.Connection x)) here = record { known = λ e. cc; numbers = refl; content = refl; flags = refl; tail = refl }
-keeps (frames.Close (closes.Application x)) here = record { known = λ e. cc; numbers = refl; content = refl; flags = refl; tail = refl }
-keeps (frames.Datagram d) here = record { known = λ e. cc; numbers = refl; content = refl; flags = refl; tail = refl }
-keeps (frames.AckFrequency f) here = record { known = λ e. cc; numbers = refl; content = refl; flags = refl; tail = refl }
-keeps frames.ImmediateAck here = record { known = λ e. cc; numbers = refl; content = refl; flags = refl; tail = refl }
-keeps frames.HandshakeDone here = record { known = λ e. cc; numbers = refl; content = refl; flags = refl; tail = refl }
+keeps frames.Ping here = kept_by frames.Ping bare_shape refl refl refl refl refl
+keeps (frames.ResetStream r) here = kept_by (frames.ResetStream r) (shape true true true false false) refl refl refl refl refl
+keeps (frames.StopSending s) here = kept_by (frames.StopSending s) both_shape refl refl refl refl refl
+keeps (frames.Crypto x) here = kept_by (frames.Crypto x) (shape false true false false true) refl refl refl refl refl
+keeps (frames.NewToken t) here = kept_by (frames.NewToken t) (shape false false false false true) refl refl refl refl refl
+keeps (frames.Stream s) here = kept_by (frames.Stream s) (shape true true false false true) refl refl refl (fin_kept s.fin) refl
+keeps (frames.MaxData n) here = kept_by (frames.MaxData n) second_shape refl refl refl refl refl
+keeps (frames.MaxStreamData id offset) here = kept_by (frames.MaxStreamData id offset) both_shape refl refl refl refl refl
+keeps (frames.MaxStreams dirs.Bi count) here = kept_by (frames.MaxStreams dirs.Bi count) second_shape refl refl refl refl refl
+keeps (frames.MaxStreams dirs.Uni count) here = kept_by (frames.MaxStreams dirs.Uni count) second_shape refl refl refl refl refl
+keeps (frames.DataBlocked offset) here = kept_by (frames.DataBlocked offset) second_shape refl refl refl refl refl
+keeps (frames.StreamDataBlocked id offset) here = kept_by (frames.StreamDataBlocked id offset) both_shape refl refl refl refl refl
+keeps (frames.StreamsBlocked dirs.Bi limit) here = kept_by (frames.StreamsBlocked dirs.Bi limit) second_shape refl refl refl refl refl
+keeps (frames.StreamsBlocked dirs.Uni limit) here = kept_by (frames.StreamsBlocked dirs.Uni limit) second_shape refl refl refl refl refl
+keeps (frames.NewConnectionId n) here = kept_by (frames.NewConnectionId n) (shape true true false false true) refl refl refl refl refl
+keeps (frames.RetireConnectionId sequence) here = kept_by (frames.RetireConnectionId sequence) first_shape refl refl refl refl refl
+keeps (frames.PathChallenge n) here = kept_by (frames.PathChallenge n) first_shape refl refl refl refl refl
+keeps (frames.PathResponse n) here = kept_by (frames.PathResponse n) first_shape refl refl refl refl refl
+keeps (frames.Close (closes.Connection x)) here = kept_by (frames.Close (closes.Connection x)) (shape true true false false true) refl refl refl refl refl
+keeps (frames.Close (closes.Application x)) here = kept_by (frames.Close (closes.Application x)) (shape true false false false true) refl refl refl refl refl
+keeps (frames.Datagram d) here = kept_by (frames.Datagram d) (shape false false false false true) refl refl refl refl refl
+keeps (frames.AckFrequency f) here = kept_by (frames.AckFrequency f) (shape true true true true false) refl refl refl refl refl
+keeps frames.ImmediateAck here = kept_by frames.ImmediateAck bare_shape refl refl refl refl refl
+keeps frames.HandshakeDone here = kept_by frames.HandshakeDone bare_shape refl refl refl refl refl
 
 -- data that have a written length are counted by the frame's
 pub open_short : (frame : Frame) → IsNoAck frame → length (data_of frame) < 2 ^ 62 → length (open_data frame) < 2 ^ 62

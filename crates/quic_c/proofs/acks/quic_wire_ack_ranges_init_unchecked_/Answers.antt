@@ -1,8 +1,18 @@
 use Rattle.std.proofs.Common.{arith, inl}
 use Rattle.quic_c.proofs.Fronts.{front_given}
+use Rattle.std.proofs.lemmas.Grind.{common_steps}
 use Rattle.quic_c.proofs.acks.quic_wire_ack_ranges_init_unchecked_.Goals as goal
 
 pub returns-clause-place : goal.returns-clause-place
 returns-clause-place c = λ _.
     let said = c.in-Some.ensures in
     inl (front_given c.args.payload.now c.args.frame.now c.in-Some.largest c.in-Some.blocks.now (omega arith) (omega arith) said.gives said.bound said.stands said.ack)
+
+pub returns-clause-refused : goal.returns-clause-refused
+returns-clause-refused c = grind (arith, common_steps)
+
+pub returns-in_default-clause-place : goal.returns-in_default-clause-place
+returns-in_default-clause-place c = grind (arith, common_steps)
+
+pub returns-in_default-clause-refused : goal.returns-in_default-clause-refused
+returns-in_default-clause-refused c = grind (arith, common_steps)

@@ -2,6 +2,7 @@ use Rattle.std.proofs.Common.{◌≡◌, Some, subst, ap, arith}
 use Rattle.quic_frames.specs.Walk.{Finds, Advances}
 use Rattle.quic_c.specs.Shown.{kind_of, shown}
 use Rattle.quic_c.proofs.Filling.{filling_goes_on}
+use Rattle.std.proofs.lemmas.Grind.{common_steps}
 use Rattle.quic_c.proofs.fill.fill.Goals as goal
 use Rattle.quic_c.proofs.fill.fill.Goals.{then-parts-eq0, else-parts-eq0}
 
@@ -21,3 +22,6 @@ loop-count-preserved g c =
           filling_goes_on c.args.iter.now c.args.out.now here.iter here.out here.count here.end c.next.new.self c.if-parts-eq0.iter frame c.show_parts.result stop here.invariant c.loop-count-test.true finds
           (λ none. absurd (omega (arith, kind, none, w.if-parts-eq0.false))) (λ _. w.iter-is) c.offset-end-in-Some-Ok.ensures.value words
     ]
+
+pub returns-in-Some-Err-clause-filled : goal.returns-in-Some-Err-clause-filled
+returns-in-Some-Err-clause-filled g c = grind (arith, common_steps)

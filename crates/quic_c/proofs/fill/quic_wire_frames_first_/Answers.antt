@@ -1,4 +1,4 @@
-use Rattle.std.proofs.Common.{rules, refl, ap, inl, inr, ◌≡◌, ◌<◌, ◌∙◌, [], ◌∷◌, false, None, length, set, List}
+use Rattle.std.proofs.Common.{arith, rules, refl, ap, inl, inr, ◌≡◌, ◌<◌, ◌∙◌, [], ◌∷◌, false, None, length, set, List}
 use Rattle.std.proofs.lemmas.List.{drop-set}
 use Rattle.quic_frame_parts.specs.Reading.{Broken}
 use Rattle.quic_frames.proofs.Items.{all_read}
@@ -6,6 +6,7 @@ use Rattle.quic_frames.specs.Walk.{left, first_of, invalid_of}
 use Rattle.quic_c.specs.declared.words.FrameWords.{FrameWords}
 use Rattle.quic_c.specs.Shown.{way_of, at_front}
 use Rattle.quic_c.proofs.Filling.{kinds}
+use Rattle.std.proofs.lemmas.Grind.{common_steps}
 use Rattle.quic_c.proofs.fill.quic_wire_frames_first_.Goals as goal
 
 pub returns-in-Ok-clause-frames : goal.returns-in-Ok-clause-frames
@@ -33,3 +34,18 @@ returns-in-Err-clause-invalid c =
       invalid = record { told = invalid_of c.in-Err.invalid; first = it; over = refl; words = c.show_invalid.ensures };
       entries = ap (λ (l : List FrameWords). set l 0 told) s.1 ∙ drop-set c.args.out.now 0 told room;
     }
+
+pub returns-in-Err-clause-frames : goal.returns-in-Err-clause-frames
+returns-in-Err-clause-frames c = grind (arith, common_steps)
+
+pub returns-in_default-clause-frames : goal.returns-in_default-clause-frames
+returns-in_default-clause-frames c = grind (arith, common_steps)
+
+pub returns-then-is_empty-2-clause-frames : goal.returns-then-is_empty-2-clause-frames
+returns-then-is_empty-2-clause-frames c = grind (arith, common_steps)
+
+pub returns-then-is_empty-2-clause-room : goal.returns-then-is_empty-2-clause-room
+returns-then-is_empty-2-clause-room c = grind (arith, common_steps)
+
+pub returns-then-is_empty-clause-frames : goal.returns-then-is_empty-clause-frames
+returns-then-is_empty-clause-frames c = grind (arith, common_steps)

@@ -24,3 +24,21 @@ expand-requires-clause-valid c = in_range c.in-Ok.written _ c.in-Ok.ensures.ok.i
 
 pub returns-clause-number : goal.returns-clause-number
 returns-clause-number c = grind (arith, common_steps)
+
+pub returns-clause-invalid : goal.returns-clause-invalid
+returns-clause-invalid c = grind (arith, common_steps)
+
+pub slice_bounds-rest-count : goal.slice_bounds-rest-count
+slice_bounds-rest-count c = grind (arith, common_steps)
+
+pub slice_bounds-rest-start : goal.slice_bounds-rest-start
+slice_bounds-rest-start c = grind (arith, common_steps)
+
+pub unmask_first-count-requires-clause-inside : goal.unmask_first-count-requires-clause-inside
+unmask_first-count-requires-clause-inside c = grind (arith, common_steps)
+
+pub unmask_number-requires-clause-inside : goal.unmask_number-requires-clause-inside
+unmask_number-requires-clause-inside c = grind (arith, common_steps)
+
+pub unreachable-requires : goal.unreachable-requires
+unreachable-requires c = grind (arith, common_steps)

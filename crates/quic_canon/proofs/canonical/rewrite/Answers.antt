@@ -1,6 +1,7 @@
-use Rattle.std.proofs.Common.{false}
+use Rattle.std.proofs.Common.{arith, false}
 use Rattle.quic_canon.proofs.Steps.{stands_at, small_at, finds_ok}
 use Rattle.quic_canon.proofs.RewriteWalk.{rewrite_walk_begins, never_fails, room_to_copy, room_to_write, rewrite_keeps, rewrite_writes, rewrite_done, room_to_end}
+use Rattle.std.proofs.lemmas.Grind.{common_steps}
 use Rattle.quic_canon.proofs.canonical.rewrite.Goals as goal
 
 pub loop-item-init : goal.loop-item-init
@@ -54,3 +55,9 @@ copy-requires-2 c =
 pub returns : goal.returns
 returns c =
     rewrite_done c.args.out.now c.loop-item.out c.copy-2.new.out c.args.payload.now c.loop-item.from c.loop-item.start c.loop-item.iter c.loop-item.invariant c.in_default-next.ensures.steps.0 c.copy-2.ensures.items
+
+pub slice_bounds-copy-count : goal.slice_bounds-copy-count
+slice_bounds-copy-count c = grind (arith, common_steps)
+
+pub slice_bounds-copy-start : goal.slice_bounds-copy-start
+slice_bounds-copy-start c = grind (arith, common_steps)

@@ -1,9 +1,14 @@
-use Rattle.std.proofs.Common.{◌≡◌, true, false}
+use Rattle.std.proofs.Common.{◌≡◌, ◌≢◌, true, false}
+use Rattle.quic_frames.specs.declared.frame.InvalidFrame.{InvalidFrame}
 use Rattle.quic_frames.specs.Walk.{invalid_of}
+use Rattle.quic_canon.specs.declared.canonical.CanonError.TheVariants.{Invalid, OutOfMemory}
 use Rattle.quic_canon.proofs.Steps.{finds_ok, fails_err, stands_at, small_at}
 use Rattle.quic_canon.proofs.FrontWalk.{front_walk_begins, front_done, front_fails, grows_to, ends_at, stays_at}
 use Rattle.quic_canon.proofs.canonical.shortest_front.Goals as goal
 use Rattle.quic_canon.proofs.canonical.shortest_front.Goals.{else-front-start-via-then-front-start+else-is_shortest, else-front-start-via-else-front-start}
+
+not_memory : (invalid : InvalidFrame) → Invalid invalid ≢ OutOfMemory
+not_memory invalid e = cc
 
 pub loop-item-init : goal.loop-item-init
 loop-item-init c = front_walk_begins c.args.payload.now c.in-Ok.iter c.in-Ok.ensures.first c.in-Ok.ensures.either c.in-Ok.ensures.frames c.in-Ok.ensures.broken
@@ -11,7 +16,7 @@ loop-item-init c = front_walk_begins c.args.payload.now c.in-Ok.iter c.in-Ok.ens
 pub returns-in-Err-clause-err : goal.returns-in-Err-clause-err
 returns-in-Err-clause-err c =
     let a = fails_err c.loop-item.iter c.next.new.self c.in-Some.item c.in-Err.invalid c.in-Err.is c.in-Some.ensures.steps in
-    (front_fails c.args.payload.now c.loop-item.front c.loop-item.start c.loop-item.iter (invalid_of c.in-Err.invalid) c.in-Ok.ensures.either c.loop-item.invariant a, λ e. cc)
+    (front_fails c.args.payload.now c.loop-item.front c.loop-item.start c.loop-item.iter (invalid_of c.in-Err.invalid) c.in-Ok.ensures.either c.loop-item.invariant a, not_memory c.in-Err.invalid)
 
 pub is_shortest-requires-clause-stands : goal.is_shortest-requires-clause-stands
 is_shortest-requires-clause-stands c =

@@ -1,11 +1,12 @@
 -- A refusal of the cut is a refusal of the packet.
-use Rattle.std.proofs.Common.{◌≡◌, ℕ}
+use Rattle.std.proofs.Common.{arith, ◌≡◌, ℕ}
 use Rattle.quic_base.specs.declared.ids.SpaceId.{SpaceId}
 use Rattle.quic_heads.specs.Reading.{Context}
 use Rattle.quic_packets.specs.Pairs.{KeyPair}
 use Rattle.quic_packets.specs.Spaces.{keys_in, expected_in}
 use Rattle.quic_heads.specs.declared.decode_error.PacketDecodeError.TheVariants as error
 use Rattle.quic_packets.proofs.Uncuts.{uncut_refused}
+use Rattle.std.proofs.lemmas.Grind.{common_steps}
 use Rattle.quic_packets.proofs.opening.open_first.Goals as goal
 
 pub returns-in-Err-clause-refused : goal.returns-in-Err-clause-refused
@@ -16,3 +17,6 @@ returns-in-Err-clause-refused g c =
     let expected : SpaceId → ℕ = expected_in c.args.expected.now in
     uncut_refused (g.C.ConnectionIdParser.takes_memory c.args.parser.now) key context expected c.args.bytes.items c.in-Err.e c.decode_error.result c.decode_error.ensures
     c.in-Err.ensures.answer.some (λ (same : c.in-Err.e ≡ error.OutOfMemory). c.in-Err.ensures.memory (cc))
+
+pub returns-in-Ok-open_part-clause-opened : goal.returns-in-Ok-open_part-clause-opened
+returns-in-Ok-open_part-clause-opened g c = grind (arith, common_steps)

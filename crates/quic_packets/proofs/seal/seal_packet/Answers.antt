@@ -5,6 +5,7 @@ use Rattle.quic_packets.specs.Pairs.{KeyPair}
 use Rattle.quic_packets.specs.Sealing.{plain_packet, payload_of}
 use Rattle.quic_headers.specs.Writing.{header_size, header_bytes, size_in}
 use Rattle.quic_packets.proofs.Sealings.{sealed_end}
+use Rattle.std.proofs.lemmas.Grind.{common_steps}
 use Rattle.quic_packets.proofs.seal.seal_packet.Goals as goal
 
 pub returns-clause-sealed : goal.returns-clause-sealed
@@ -45,3 +46,6 @@ returns-clause-len g c = search rules
 
 pub returns-then-is_err-clause-refused : goal.returns-then-is_err-clause-refused
 returns-then-is_err-clause-refused g c = search rules
+
+pub write_packet-partial-requires-clause-room : goal.write_packet-partial-requires-clause-room
+write_packet-partial-requires-clause-room g c = grind (arith, common_steps)

@@ -9,24 +9,14 @@ use std::alloc::Global;
 use std::ops::Range;
 use std::test::Fail;
 
-// The sets of some ranges.
-fn set_of(alloc: Global, ranges: &[(u64, u64)]) -> Result<RangeSet, NoRoom> {
-    let mut set = RangeSet::new(alloc);
-    insert_all(&mut set, ranges)?;
-    Ok(set)
-}
+// Most functions here borrow their sets, and tests take no way out while they own one: what such a function does is
+// compared with what it has to answer, so that a set without memory fails the test as a wrong one does.
 
 fn insert_all(set: &mut RangeSet, ranges: &[(u64, u64)]) -> Result<(), NoRoom> {
     for &(start, end) in ranges {
         let _ = set.insert(start..end)?;
     }
     Ok(())
-}
-
-fn array_of(alloc: Global, ranges: &[(u64, u64)]) -> Result<ArrayRangeSet, NoRoom> {
-    let mut set = ArrayRangeSet::new(alloc);
-    insert_all_in_array(&mut set, ranges)?;
-    Ok(set)
 }
 
 fn insert_all_in_array(set: &mut ArrayRangeSet, ranges: &[(u64, u64)]) -> Result<(), NoRoom> {
@@ -40,10 +30,7 @@ fn insert_all_in_array(set: &mut ArrayRangeSet, ranges: &[(u64, u64)]) -> Result
 fn set_is(set: &RangeSet, runs: &[(u64, u64)]) -> bool {
     let mut rest = set.iter();
     for &(start, end) in runs {
-        let Some(run) = rest.next() else {
-            return false;
-        };
-        if run.start != start || run.end != end {
+        if rest.next() != Some(start..end) {
             return false;
         }
     }
@@ -53,10 +40,7 @@ fn set_is(set: &RangeSet, runs: &[(u64, u64)]) -> bool {
 fn array_is(set: &ArrayRangeSet, runs: &[(u64, u64)]) -> bool {
     let mut rest = set.iter();
     for &(start, end) in runs {
-        let Some(run) = rest.next() else {
-            return false;
-        };
-        if run.start != start || run.end != end {
+        if rest.next() != Some(start..end) {
             return false;
         }
     }
@@ -67,10 +51,7 @@ fn array_is(set: &ArrayRangeSet, runs: &[(u64, u64)]) -> bool {
 fn gives(pieces: Replace<'_>, want: &[(u64, u64)]) -> bool {
     let mut rest = pieces;
     for &(start, end) in want {
-        let Some(piece) = rest.next() else {
-            return false;
-        };
-        if piece.start != start || piece.end != end {
+        if rest.next() != Some(start..end) {
             return false;
         }
     }
@@ -110,6 +91,7 @@ fn made_in_array(set: &mut ArrayRangeSet, call: Call) -> Result<bool, NoRoom> {
     match call {
         Call::Insert(start, end) => set.insert(start..end),
         Call::InsertOne(x) => set.insert_one(x.into()),
+        Call::InsertGreatest => set.insert_one(u64::MAX - 1),
         Call::Remove(start, end) => set.remove(start..end),
     }
 }
@@ -132,53 +114,72 @@ const REPLACE_ROWS: &[(Runs, (u64, u64), Runs, Runs)] = &[
     (&[(0, 10)], (5, 2), &[], &[(0, 10)]),
 ];
 
+// Whether these pieces come of an empty set that is given these runs first, and these runs are left.
+fn is_replaced(
+    set: &mut RangeSet,
+    before: Runs,
+    x: Range<u64>,
+    pieces: Runs,
+    after: Runs,
+) -> Result<bool, NoRoom> {
+    insert_all(set, before)?;
+    Ok(gives(set.replace(x)?, pieces) && set_is(set, after))
+}
+
 #[test]
 fn replaces(rt: HostRuntime) -> Result<(), Fail> {
     let mut checks = Checks::new(rt.alloc());
     for &(before, (start, end), pieces, after) in REPLACE_ROWS {
-        let mut set = set_of(rt.alloc(), before)?;
-        checks.holds_at(
-            format_args!("{start}..{end}"),
-            gives(set.replace(start..end)?, pieces),
-        );
-        checks.holds_at(format_args!("{start}..{end}"), set_is(&set, after));
+        let set = &mut RangeSet::new(rt.alloc());
+        let replaced = is_replaced(set, before, start..end, pieces, after);
+        checks.same_at(format_args!("{start}..{end}"), replaced, Ok(true));
     }
     checks.verdict()
 }
 
 // Whether the set is the same where a `Replace` is dropped before its first `next`, and after it.
-fn is_same_unseen(alloc: Global, before: Runs, x: Range<u64>, after: Runs) -> Result<bool, NoRoom> {
-    let mut set = set_of(alloc, before)?;
-    replace_unseen(&mut set, x)?;
-    Ok(set_is(&set, after))
-}
-
-fn is_same_at_a_look(
-    alloc: Global,
+fn is_same_unseen(
+    set: &mut RangeSet,
     before: Runs,
     x: Range<u64>,
     after: Runs,
 ) -> Result<bool, NoRoom> {
-    let mut set = set_of(alloc, before)?;
-    replace_at_a_look(&mut set, x)?;
-    Ok(set_is(&set, after))
+    insert_all(set, before)?;
+    replace_unseen(set, x)?;
+    Ok(set_is(set, after))
 }
 
-fn count_of(alloc: Global, before: Runs, x: Range<u64>) -> Result<u64, NoRoom> {
-    let mut set = set_of(alloc, before)?;
-    count_replaced(&mut set, x)
+fn is_same_at_a_look(
+    set: &mut RangeSet,
+    before: Runs,
+    x: Range<u64>,
+    after: Runs,
+) -> Result<bool, NoRoom> {
+    insert_all(set, before)?;
+    replace_at_a_look(set, x)?;
+    Ok(set_is(set, after))
+}
+
+fn count_of(set: &mut RangeSet, before: Runs, x: Range<u64>) -> Result<u64, NoRoom> {
+    insert_all(set, before)?;
+    count_replaced(set, x)
 }
 
 #[test]
 fn replaces_without_a_look(rt: HostRuntime) -> Result<(), Fail> {
     let mut checks = Checks::new(rt.alloc());
     for &(before, (start, end), pieces, after) in REPLACE_ROWS {
-        let unseen = is_same_unseen(rt.alloc(), before, start..end, after)?;
-        checks.holds_at(start, unseen);
-        let looked_at = is_same_at_a_look(rt.alloc(), before, start..end, after)?;
-        checks.holds_at(start, looked_at);
-        let count = count_of(rt.alloc(), before, start..end)?;
-        checks.same(count, pieces.len() as u64);
+        let unseen = is_same_unseen(&mut RangeSet::new(rt.alloc()), before, start..end, after);
+        checks.same_at(start, unseen, Ok(true));
+        let looked_at = is_same_at_a_look(
+            &mut RangeSet::new(rt.alloc()),
+            before,
+            start..end,
+            after,
+        );
+        checks.same_at(start, looked_at, Ok(true));
+        let count = count_of(&mut RangeSet::new(rt.alloc()), before, start..end);
+        checks.holds(count == Ok(pieces.len() as u64));
     }
     checks.verdict()
 }
@@ -191,109 +192,117 @@ const REPLACE_SCRIPT: &[((u64, u64), Runs)] = &[
     ((2, 7), &[(6, 7)]),
 ];
 
+fn replace_by_script(checks: &mut Checks, set: &mut RangeSet) -> Result<(), NoRoom> {
+    for &((start, end), pieces) in REPLACE_SCRIPT {
+        checks.holds_at(start, gives(set.replace(start..end)?, pieces));
+    }
+    checks.holds(set_is(set, &[(2, 10)]));
+    Ok(())
+}
+
+fn replace_by_script_unseen(checks: &mut Checks, set: &mut RangeSet) -> Result<(), NoRoom> {
+    for &((start, end), _) in REPLACE_SCRIPT {
+        replace_unseen(set, start..end)?;
+    }
+    checks.holds(set_is(set, &[(2, 10)]));
+    Ok(())
+}
+
 #[test]
 fn replaces_one_after_the_other(rt: HostRuntime) -> Result<(), Fail> {
     let mut checks = Checks::new(rt.alloc());
-    let mut looked = RangeSet::new(rt.alloc());
-    for &((start, end), pieces) in REPLACE_SCRIPT {
-        checks.holds_at(start, gives(looked.replace(start..end)?, pieces));
-    }
-    checks.holds(set_is(&looked, &[(2, 10)]));
+    let looked = replace_by_script(&mut checks, &mut RangeSet::new(rt.alloc()));
+    checks.holds(looked.is_ok());
+    let dropped = replace_by_script_unseen(&mut checks, &mut RangeSet::new(rt.alloc()));
+    checks.holds(dropped.is_ok());
     checks.verdict()
 }
 
-#[test]
-fn replaces_one_after_the_other_without_a_look(rt: HostRuntime) -> Result<(), Fail> {
-    let mut checks = Checks::new(rt.alloc());
-    let mut dropped = RangeSet::new(rt.alloc());
-    for &((start, end), _) in REPLACE_SCRIPT {
-        replace_unseen(&mut dropped, start..end)?;
-    }
-    checks.holds(set_is(&dropped, &[(2, 10)]));
-    checks.verdict()
-}
-
-#[test]
-fn removes_from_the_middle(rt: HostRuntime) -> Result<(), Fail> {
-    let mut checks = Checks::new(rt.alloc());
-    let mut set = set_of(rt.alloc(), &[(0, 10)])?;
-    checks.same(set.remove(3..5), Ok(true));
-    checks.holds(set_is(&set, &[(0, 3), (5, 10)]));
-    let mut array = array_of(rt.alloc(), &[(0, 10)])?;
-    checks.same(array.remove(3..5), Ok(true));
-    checks.holds(array_is(&array, &[(0, 3), (5, 10)]));
-    checks.verdict()
-}
-
-#[test]
-fn inserts_the_greatest_member(rt: HostRuntime) -> Result<(), Fail> {
-    let mut checks = Checks::new(rt.alloc());
-    let mut set = RangeSet::new(rt.alloc());
-    checks.same(set.insert_one(u64::MAX - 1), Ok(true));
-    checks.holds(set_is(&set, &[(u64::MAX - 1, u64::MAX)]));
-    let mut array = ArrayRangeSet::new(rt.alloc());
-    checks.same(array.insert_one(u64::MAX - 1), Ok(true));
-    checks.holds(array_is(&array, &[(u64::MAX - 1, u64::MAX)]));
-    checks.verdict()
+fn add(checks: &mut Checks, set: &mut RangeSet, other: &mut RangeSet) -> Result<(), NoRoom> {
+    insert_all(set, &[(1, 3), (5, 7)])?;
+    insert_all(other, &[(3, 5), (9, 10)])?;
+    checks.holds(set.add(other) == Ok(()));
+    checks.holds(set_is(set, &[(1, 7), (9, 10)]));
+    checks.holds(set_is(other, &[(3, 5), (9, 10)]));
+    Ok(())
 }
 
 #[test]
 fn adds(rt: HostRuntime) -> Result<(), Fail> {
     let mut checks = Checks::new(rt.alloc());
-    let mut set = set_of(rt.alloc(), &[(1, 3), (5, 7)])?;
-    let other = set_of(rt.alloc(), &[(3, 5), (9, 10)])?;
-    checks.same(set.add(&other), Ok(()));
-    checks.holds(set_is(&set, &[(1, 7), (9, 10)]));
-    checks.holds(set_is(&other, &[(3, 5), (9, 10)]));
+    let (set, other) = (
+        &mut RangeSet::new(rt.alloc()),
+        &mut RangeSet::new(rt.alloc()),
+    );
+    let added = add(&mut checks, set, other);
+    checks.holds(added.is_ok());
     checks.verdict()
+}
+
+// Whether a clone has these runs, and what it is a clone of has them still.
+fn is_cloned(set: &mut RangeSet, runs: Runs) -> Result<bool, NoRoom> {
+    insert_all(set, runs)?;
+    Ok(set_is(&set.try_clone()?, runs) && set_is(set, runs))
+}
+
+fn array_is_cloned(array: &mut ArrayRangeSet, runs: Runs) -> Result<bool, NoRoom> {
+    insert_all_in_array(array, runs)?;
+    Ok(array_is(&array.try_clone()?, runs) && array_is(array, runs))
 }
 
 #[test]
 fn clones(rt: HostRuntime) -> Result<(), Fail> {
     let mut checks = Checks::new(rt.alloc());
-    let runs = [(1, 3), (5, 7), (9, 11)];
-    let set = set_of(rt.alloc(), &runs)?;
-    checks.holds(set_is(&set.try_clone()?, &runs));
-    checks.holds(set_is(&set, &runs));
+    let three: Runs = &[(1, 3), (5, 7), (9, 11)];
+    let cloned = is_cloned(&mut RangeSet::new(rt.alloc()), three);
+    checks.holds(cloned == Ok(true));
+    let cloned = array_is_cloned(&mut ArrayRangeSet::new(rt.alloc()), three);
+    checks.holds(cloned == Ok(true));
+    let cloned = array_is_cloned(&mut ArrayRangeSet::new(rt.alloc()), &[(1, 3), (5, 7)]);
+    checks.holds(cloned == Ok(true));
     checks.verdict()
 }
 
-#[test]
-fn clones_array_sets(rt: HostRuntime) -> Result<(), Fail> {
-    let mut checks = Checks::new(rt.alloc());
-    for runs in [
-        [(1, 3), (5, 7), (9, 11)].as_slice(),
-        [(1, 3), (5, 7)].as_slice(),
-    ] {
-        let array = array_of(rt.alloc(), runs)?;
-        checks.holds(array_is(&array.try_clone()?, runs));
-        checks.holds(array_is(&array, runs));
-    }
-    checks.verdict()
+// Ranges, others that are taken from them, and what is left.
+const SUBTRACTED: (Runs, Runs, Runs) = (
+    &[(0, 100), (200, 210)],
+    &[(50, 60), (150, 300)],
+    &[(0, 50), (60, 100)],
+);
+
+fn set_leaves(set: &mut RangeSet, other: &mut RangeSet) -> Result<bool, NoRoom> {
+    let (before, taken, after) = SUBTRACTED;
+    insert_all(other, taken)?;
+    insert_all(set, before)?;
+    set.subtract(other)?;
+    Ok(set_is(set, after))
 }
 
-// Whether these ranges are left of some others.
-fn set_leaves(alloc: Global, before: Runs, other: Runs, after: Runs) -> Result<bool, NoRoom> {
-    let other = set_of(alloc, other)?;
-    let mut set = set_of(alloc, before)?;
-    set.subtract(&other)?;
-    Ok(set_is(&set, after))
-}
-
-fn array_leaves(alloc: Global, before: Runs, other: Runs, after: Runs) -> Result<bool, NoRoom> {
-    let other = array_of(alloc, other)?;
-    let mut array = array_of(alloc, before)?;
-    array.subtract(&other)?;
-    Ok(array_is(&array, after))
+fn array_leaves(array: &mut ArrayRangeSet, other: &mut ArrayRangeSet) -> Result<bool, NoRoom> {
+    let (before, taken, after) = SUBTRACTED;
+    insert_all_in_array(other, taken)?;
+    insert_all_in_array(array, before)?;
+    array.subtract(other)?;
+    Ok(array_is(array, after))
 }
 
 #[test]
 fn subtracts(rt: HostRuntime) -> Result<(), Fail> {
     let mut checks = Checks::new(rt.alloc());
-    let (before, other): (Runs, Runs) = (&[(0, 100), (200, 210)], &[(50, 60), (150, 300)]);
-    let after: Runs = &[(0, 50), (60, 100)];
-    checks.holds(set_leaves(rt.alloc(), before, other, after)?);
-    checks.holds(array_leaves(rt.alloc(), before, other, after)?);
+    let (set, other) = (
+        &mut RangeSet::new(rt.alloc()),
+        &mut RangeSet::new(rt.alloc()),
+    );
+    checks.holds(set_leaves(set, other) == Ok(true));
+    checks.verdict()
+}
+
+#[test]
+fn subtracts_from_array_sets(rt: HostRuntime) -> Result<(), Fail> {
+    let mut checks = Checks::new(rt.alloc());
+    let array = &mut ArrayRangeSet::new(rt.alloc());
+    let other = &mut ArrayRangeSet::new(rt.alloc());
+    checks.holds(array_leaves(array, other) == Ok(true));
     checks.verdict()
 }
 
@@ -308,10 +317,8 @@ const ELEMENTS: &[(bool, Option<u64>)] = &[
     (true, None),
 ];
 
-#[test]
-fn gives_elements_from_both_ends(rt: HostRuntime) -> Result<(), Fail> {
-    let mut checks = Checks::new(rt.alloc());
-    let set = set_of(rt.alloc(), &[(0, 3), (5, 7)])?;
+fn give_elements_from_both_ends(checks: &mut Checks, set: &mut RangeSet) -> Result<(), NoRoom> {
+    insert_all(set, &[(0, 3), (5, 7)])?;
     let mut elements = set.elts();
     for &(is_last, element) in ELEMENTS {
         let got = if is_last {
@@ -321,23 +328,33 @@ fn gives_elements_from_both_ends(rt: HostRuntime) -> Result<(), Fail> {
         };
         checks.same(got, element);
     }
-    checks.verdict()
+    Ok(())
 }
 
-#[test]
-fn gives_elements_of_an_array_set(rt: HostRuntime) -> Result<(), Fail> {
-    let mut checks = Checks::new(rt.alloc());
-    let array = array_of(rt.alloc(), &[(0, 3), (5, 7)])?;
+fn give_elements(checks: &mut Checks, array: &mut ArrayRangeSet) -> Result<(), NoRoom> {
+    insert_all_in_array(array, &[(0, 3), (5, 7)])?;
     let mut elements = array.elts();
-    for x in [0, 1, 2, 5, 6] {
+    for &x in &[0, 1, 2, 5, 6] {
         checks.same(elements.next(), Some(x));
     }
     checks.same(elements.next(), None);
+    Ok(())
+}
+
+#[test]
+fn gives_elements(rt: HostRuntime) -> Result<(), Fail> {
+    let mut checks = Checks::new(rt.alloc());
+    let given = give_elements_from_both_ends(&mut checks, &mut RangeSet::new(rt.alloc()));
+    checks.holds(given.is_ok());
+    let given = give_elements(&mut checks, &mut ArrayRangeSet::new(rt.alloc()));
+    checks.holds(given.is_ok());
     checks.verdict()
 }
 
 // A call, whether it changes the set, and the runs of the set after it.
-const SCRIPT: &[(Call, bool, Runs)] = &[
+type Row = (Call, bool, Runs);
+
+const SCRIPT: &[Row] = &[
     (Call::Insert(5, 7), true, &[(5, 7)]),
     (Call::Insert(1, 3), true, &[(1, 3), (5, 7)]),
     (Call::InsertOne(3), true, &[(1, 4), (5, 7)]),
@@ -347,52 +364,75 @@ const SCRIPT: &[(Call, bool, Runs)] = &[
     (Call::Remove(7, 9), false, &[(1, 3), (4, 7)]),
 ];
 
-#[test]
-fn runs_the_script_on_the_range_set(rt: HostRuntime) -> Result<(), Fail> {
-    let mut checks = Checks::new(rt.alloc());
-    let mut set = RangeSet::new(rt.alloc());
-    for &(call, changes, runs) in SCRIPT {
-        checks.same(made(&mut set, call)?, changes);
-        checks.holds(set_is(&set, runs));
+// A removal from the middle.
+const CUT_SCRIPT: &[Row] = &[
+    (Call::Insert(0, 10), true, &[(0, 10)]),
+    (Call::Remove(3, 5), true, &[(0, 3), (5, 10)]),
+];
+
+const GREATEST_SCRIPT: &[Row] = &[(Call::InsertGreatest, true, &[(u64::MAX - 1, u64::MAX)])];
+
+fn run(checks: &mut Checks, set: &mut RangeSet, script: &[Row]) -> Result<(), NoRoom> {
+    for &(call, changes, runs) in script {
+        checks.same(made(set, call)?, changes);
+        checks.holds(set_is(set, runs));
     }
-    checks.holds(gives(set.replace(0..10)?, &[(1, 3), (4, 7)]));
-    checks.holds(set_is(&set, &[(0, 10)]));
-    checks.holds(set.pop_min() == Some(0..10) && set.min().is_none());
-    checks.holds(set_is(&set, &[]));
-    checks.verdict()
+    Ok(())
+}
+
+fn run_on_array(
+    checks: &mut Checks,
+    set: &mut ArrayRangeSet,
+    script: &[Row],
+) -> Result<(), NoRoom> {
+    for &(call, changes, runs) in script {
+        checks.same(made_in_array(set, call)?, changes);
+        checks.holds(array_is(set, runs));
+    }
+    Ok(())
 }
 
 // The array set has no `replace`.
+fn run_and_replace(checks: &mut Checks, set: &mut RangeSet) -> Result<(), NoRoom> {
+    run(checks, set, SCRIPT)?;
+    checks.holds(gives(set.replace(0..10)?, &[(1, 3), (4, 7)]));
+    checks.holds(set_is(set, &[(0, 10)]));
+    checks.holds(set.pop_min() == Some(0..10) && set.min().is_none());
+    checks.holds(set_is(set, &[]));
+    Ok(())
+}
+
 #[test]
-fn runs_the_script_on_the_array_set(rt: HostRuntime) -> Result<(), Fail> {
+fn runs_scripts_on_the_range_set(rt: HostRuntime) -> Result<(), Fail> {
     let mut checks = Checks::new(rt.alloc());
-    let mut set = ArrayRangeSet::new(rt.alloc());
-    for &(call, changes, runs) in SCRIPT {
-        checks.same(made_in_array(&mut set, call)?, changes);
-        checks.holds(array_is(&set, runs));
+    let ran = run_and_replace(&mut checks, &mut RangeSet::new(rt.alloc()));
+    checks.holds(ran.is_ok());
+    for script in &[CUT_SCRIPT, GREATEST_SCRIPT] {
+        let ran = run(&mut checks, &mut RangeSet::new(rt.alloc()), script);
+        checks.holds(ran.is_ok());
     }
     checks.verdict()
 }
 
 #[test]
-fn answers_queries(rt: HostRuntime) -> Result<(), Fail> {
+fn runs_scripts_on_the_array_set(rt: HostRuntime) -> Result<(), Fail> {
     let mut checks = Checks::new(rt.alloc());
-    let set = set_of(rt.alloc(), &[(2, 4), (6, 9)])?;
-    let array = array_of(rt.alloc(), &[(2, 4), (6, 9)])?;
-    for (x, present) in [
-        (1, false),
-        (2, true),
-        (3, true),
-        (4, false),
-        (8, true),
-        (9, false),
-    ] {
-        checks.same_at(x, set.contains(x), present);
-        checks.same_at(x, array.contains(x), present);
+    for script in &[SCRIPT, CUT_SCRIPT, GREATEST_SCRIPT] {
+        let ran = run_on_array(&mut checks, &mut ArrayRangeSet::new(rt.alloc()), script);
+        checks.holds(ran.is_ok());
     }
-    checks.holds(!set.is_empty() && !array.is_empty());
     checks.verdict()
 }
+
+// Whether a number is in 2..4 or 6..9.
+const QUERIES: &[(u64, bool)] = &[
+    (1, false),
+    (2, true),
+    (3, true),
+    (4, false),
+    (8, true),
+    (9, false),
+];
 
 fn has_ends(set: &RangeSet) -> bool {
     set.min() == Some(2)
@@ -408,43 +448,73 @@ fn has_ends_in_array(set: &mut ArrayRangeSet) -> bool {
         && array_is(set, &[(6, 9)])
 }
 
-#[test]
-fn answers_for_the_ends(rt: HostRuntime) -> Result<(), Fail> {
-    let mut checks = Checks::new(rt.alloc());
-    checks.holds(has_ends(&set_of(rt.alloc(), &[(2, 4), (6, 9)])?));
-    let mut array = array_of(rt.alloc(), &[(2, 4), (6, 9)])?;
-    checks.holds(has_ends_in_array(&mut array));
-    checks.verdict()
+fn answer(checks: &mut Checks, set: &mut RangeSet) -> Result<(), NoRoom> {
+    insert_all(set, &[(2, 4), (6, 9)])?;
+    for &(x, present) in QUERIES {
+        checks.same_at(x, set.contains(x), present);
+    }
+    checks.holds(!set.is_empty());
+    checks.holds(has_ends(set));
+    Ok(())
+}
+
+fn answer_for_array(checks: &mut Checks, array: &mut ArrayRangeSet) -> Result<(), NoRoom> {
+    insert_all_in_array(array, &[(2, 4), (6, 9)])?;
+    for &(x, present) in QUERIES {
+        checks.same_at(x, array.contains(x), present);
+    }
+    checks.holds(!array.is_empty());
+    checks.holds(has_ends_in_array(array));
+    Ok(())
 }
 
 #[test]
-fn answers_when_empty(rt: HostRuntime) -> Result<(), Fail> {
+fn answers_queries(rt: HostRuntime) -> Result<(), Fail> {
     let mut checks = Checks::new(rt.alloc());
-    let mut set = set_of(rt.alloc(), &[(2, 4), (6, 9)])?;
+    let answered = answer(&mut checks, &mut RangeSet::new(rt.alloc()));
+    checks.holds(answered.is_ok());
+    let answered = answer_for_array(&mut checks, &mut ArrayRangeSet::new(rt.alloc()));
+    checks.holds(answered.is_ok());
+    checks.verdict()
+}
+
+fn answer_when_emptied(checks: &mut Checks, set: &mut RangeSet) -> Result<(), NoRoom> {
+    insert_all(set, &[(2, 4), (6, 9)])?;
     let mut starts = 0;
-    for run in &set {
+    for run in &*set {
         starts = starts ^ run.start;
     }
     checks.same(starts, 4);
     let _ = set.pop_min();
     let _ = set.pop_min();
     checks.holds(set.is_empty() && set.peek_min().is_none() && set.max().is_none());
-    checks.holds(RangeSet::new(rt.alloc()).is_empty() && ArrayRangeSet::new(rt.alloc()).is_empty());
+    Ok(())
+}
+
+#[test]
+fn answers_when_empty(rt: HostRuntime) -> Result<(), Fail> {
+    let mut checks = Checks::new(rt.alloc());
+    let answered = answer_when_emptied(&mut checks, &mut RangeSet::new(rt.alloc()));
+    checks.holds(answered.is_ok());
+    checks.holds(RangeSet::new(rt.alloc()).is_empty());
+    checks.holds(ArrayRangeSet::new(rt.alloc()).is_empty());
     checks.verdict()
+}
+
+fn show(checks: &mut Checks, alloc: Global, set: &mut RangeSet) -> Result<(), Fail> {
+    insert_all(set, &[(1, 3), (5, 7)])?;
+    checks.debugs(alloc, &*set, "RangeSet({1: 3, 5: 7})")
+}
+
+fn show_array(checks: &mut Checks, alloc: Global, array: &mut ArrayRangeSet) -> Result<(), Fail> {
+    insert_all_in_array(array, &[(1, 3), (5, 7)])?;
+    checks.debugs(alloc, &*array, "ArrayRangeSet([1..3, 5..7])")
 }
 
 #[test]
 fn shows_sets(rt: HostRuntime) -> Result<(), Fail> {
     let mut checks = Checks::new(rt.alloc());
-    let set = set_of(rt.alloc(), &[(1, 3), (5, 7)])?;
-    checks.debugs(rt.alloc(), &set, "RangeSet({1: 3, 5: 7})")?;
-    checks.verdict()
-}
-
-#[test]
-fn shows_array_sets(rt: HostRuntime) -> Result<(), Fail> {
-    let mut checks = Checks::new(rt.alloc());
-    let array = array_of(rt.alloc(), &[(1, 3), (5, 7)])?;
-    checks.debugs(rt.alloc(), &array, "ArrayRangeSet([1..3, 5..7])")?;
+    show(&mut checks, rt.alloc(), &mut RangeSet::new(rt.alloc()))?;
+    show_array(&mut checks, rt.alloc(), &mut ArrayRangeSet::new(rt.alloc()))?;
     checks.verdict()
 }

@@ -29,6 +29,7 @@ fn gap(index: u64) -> Range<u64> {
 pub(super) enum Call {
     Insert(u64, u64),
     InsertOne(u32),
+    InsertGreatest,
     Remove(u64, u64),
 }
 
@@ -37,6 +38,7 @@ pub(super) fn made(set: &mut RangeSet, call: Call) -> Result<bool, NoRoom> {
     match call {
         Call::Insert(start, end) => set.insert(start..end),
         Call::InsertOne(x) => set.insert_one(x.into()),
+        Call::InsertGreatest => set.insert_one(u64::MAX - 1),
         Call::Remove(start, end) => set.remove(start..end),
     }
 }
@@ -161,8 +163,10 @@ fn fill_gaps_in_array(checks: &mut Checks, set: &mut ArrayRangeSet) -> Result<()
 #[test]
 fn refused_insertions(rt: HostRuntime) -> Result<(), Fail> {
     let mut checks = Checks::new(rt.alloc());
-    fill(&mut checks, &mut RangeSet::new(rt.alloc()))?;
-    fill_array(&mut checks, &mut ArrayRangeSet::new(rt.alloc()))?;
+    let filled = fill(&mut checks, &mut RangeSet::new(rt.alloc()));
+    checks.holds(filled.is_ok());
+    let filled = fill_array(&mut checks, &mut ArrayRangeSet::new(rt.alloc()));
+    checks.holds(filled.is_ok());
     checks.verdict()
 }
 
@@ -190,8 +194,10 @@ fn fill_even_in_array(checks: &mut Checks, set: &mut ArrayRangeSet) -> Result<()
 #[test]
 fn refused_single_insertions(rt: HostRuntime) -> Result<(), Fail> {
     let mut checks = Checks::new(rt.alloc());
-    fill_even(&mut checks, &mut RangeSet::new(rt.alloc()))?;
-    fill_even_in_array(&mut checks, &mut ArrayRangeSet::new(rt.alloc()))?;
+    let filled = fill_even(&mut checks, &mut RangeSet::new(rt.alloc()));
+    checks.holds(filled.is_ok());
+    let filled = fill_even_in_array(&mut checks, &mut ArrayRangeSet::new(rt.alloc()));
+    checks.holds(filled.is_ok());
     checks.verdict()
 }
 
@@ -230,8 +236,10 @@ fn cut_array(checks: &mut Checks, set: &mut ArrayRangeSet) -> Result<(), NoRoom>
 #[test]
 fn refused_removals(rt: HostRuntime) -> Result<(), Fail> {
     let mut checks = Checks::new(rt.alloc());
-    cut(&mut checks, &mut RangeSet::new(rt.alloc()))?;
-    cut_array(&mut checks, &mut ArrayRangeSet::new(rt.alloc()))?;
+    let is_cut = cut(&mut checks, &mut RangeSet::new(rt.alloc()));
+    checks.holds(is_cut.is_ok());
+    let is_cut = cut_array(&mut checks, &mut ArrayRangeSet::new(rt.alloc()));
+    checks.holds(is_cut.is_ok());
     checks.verdict()
 }
 
@@ -248,8 +256,9 @@ fn replace_nothing(checks: &mut Checks, set: &mut RangeSet) -> Result<(), NoRoom
     Ok(())
 }
 
-// Puts the solid range in by `replace`. With many pieces, their list grows.
+// Puts the solid range in by `replace` after that. With many pieces, their list grows.
 fn replace_all(checks: &mut Checks, set: &mut RangeSet) -> Result<(), NoRoom> {
+    replace_nothing(checks, set)?;
     if set.replace(0..END).is_err() {
         checks.holds_at("after the refusal", set_has(set, COUNT));
         let mut pieces = set.replace(0..END)?;
@@ -258,20 +267,20 @@ fn replace_all(checks: &mut Checks, set: &mut RangeSet) -> Result<(), NoRoom> {
         }
         checks.holds(pieces.next().is_none());
     }
+    checks.holds(set.iter().next() == Some(0..END) && set.len() == 1);
     Ok(())
 }
 
 #[test]
 fn refused_replacements(rt: HostRuntime) -> Result<(), Fail> {
     let mut checks = Checks::new(rt.alloc());
-    let mut set = RangeSet::new(rt.alloc());
-    replace_nothing(&mut checks, &mut set)?;
-    replace_all(&mut checks, &mut set)?;
-    checks.holds(set.iter().next() == Some(0..END) && set.len() == 1);
+    let replaced = replace_all(&mut checks, &mut RangeSet::new(rt.alloc()));
+    checks.holds(replaced.is_ok());
     checks.verdict()
 }
 
-fn add(checks: &mut Checks, set: &mut RangeSet, other: &RangeSet) -> Result<(), NoRoom> {
+fn add(checks: &mut Checks, set: &mut RangeSet, other: &mut RangeSet) -> Result<(), NoRoom> {
+    fill(checks, other)?;
     twice!(checks, set.add(other), is_begun_sum(set));
     checks.holds(set_has(set, COUNT) && set_has(other, COUNT));
     Ok(())
@@ -280,13 +289,14 @@ fn add(checks: &mut Checks, set: &mut RangeSet, other: &RangeSet) -> Result<(), 
 #[test]
 fn refused_additions(rt: HostRuntime) -> Result<(), Fail> {
     let mut checks = Checks::new(rt.alloc());
-    let mut other = RangeSet::new(rt.alloc());
-    fill(&mut checks, &mut other)?;
-    add(&mut checks, &mut RangeSet::new(rt.alloc()), &other)?;
+    let set = &mut RangeSet::new(rt.alloc());
+    let added = add(&mut checks, set, &mut RangeSet::new(rt.alloc()));
+    checks.holds(added.is_ok());
     checks.verdict()
 }
 
-fn subtract(checks: &mut Checks, set: &mut RangeSet, other: &RangeSet) -> Result<(), NoRoom> {
+fn subtract(checks: &mut Checks, set: &mut RangeSet, other: &mut RangeSet) -> Result<(), NoRoom> {
+    fill_gaps(checks, other)?;
     make_solid(checks, set)?;
     twice!(checks, set.subtract(other), is_begun_difference(set));
     checks.holds(set_is_cut(set, COUNT));
@@ -296,17 +306,18 @@ fn subtract(checks: &mut Checks, set: &mut RangeSet, other: &RangeSet) -> Result
 #[test]
 fn refused_vec_subtractions(rt: HostRuntime) -> Result<(), Fail> {
     let mut checks = Checks::new(rt.alloc());
-    let mut other = RangeSet::new(rt.alloc());
-    fill_gaps(&mut checks, &mut other)?;
-    subtract(&mut checks, &mut RangeSet::new(rt.alloc()), &other)?;
+    let set = &mut RangeSet::new(rt.alloc());
+    let subtracted = subtract(&mut checks, set, &mut RangeSet::new(rt.alloc()));
+    checks.holds(subtracted.is_ok());
     checks.verdict()
 }
 
 fn subtract_array(
     checks: &mut Checks,
     set: &mut ArrayRangeSet,
-    other: &ArrayRangeSet,
+    other: &mut ArrayRangeSet,
 ) -> Result<(), NoRoom> {
+    fill_gaps_in_array(checks, other)?;
     make_solid_array(checks, set)?;
     twice!(checks, set.subtract(other), array_is_cut(set, 0));
     checks.holds(array_is_cut(set, COUNT));
@@ -316,53 +327,50 @@ fn subtract_array(
 #[test]
 fn refused_array_subtractions(rt: HostRuntime) -> Result<(), Fail> {
     let mut checks = Checks::new(rt.alloc());
-    let mut other = ArrayRangeSet::new(rt.alloc());
-    fill_gaps_in_array(&mut checks, &mut other)?;
-    subtract_array(&mut checks, &mut ArrayRangeSet::new(rt.alloc()), &other)?;
+    let set = &mut ArrayRangeSet::new(rt.alloc());
+    let subtracted = subtract_array(&mut checks, set, &mut ArrayRangeSet::new(rt.alloc()));
+    checks.holds(subtracted.is_ok());
     checks.verdict()
 }
 
-fn clone(checks: &mut Checks, set: &RangeSet) -> Result<(), NoRoom> {
+fn clone(checks: &mut Checks, set: &mut RangeSet) -> Result<(), NoRoom> {
+    fill(checks, set)?;
     let copy = twice!(checks, set.try_clone(), set_has(set, COUNT));
     checks.holds(set_has(&copy, COUNT) && set_has(set, COUNT));
     Ok(())
 }
 
-#[test]
-fn refused_vec_clones(rt: HostRuntime) -> Result<(), Fail> {
-    let mut checks = Checks::new(rt.alloc());
-    let mut set = RangeSet::new(rt.alloc());
-    fill(&mut checks, &mut set)?;
-    clone(&mut checks, &set)?;
-    checks.verdict()
-}
-
-fn clone_array(checks: &mut Checks, set: &ArrayRangeSet) -> Result<(), NoRoom> {
+fn clone_array(checks: &mut Checks, set: &mut ArrayRangeSet) -> Result<(), NoRoom> {
+    fill_array(checks, set)?;
     let copy = twice!(checks, set.try_clone(), array_has(set, COUNT));
     checks.holds(array_has(&copy, COUNT) && array_has(set, COUNT));
     Ok(())
 }
 
 #[test]
-fn refused_array_clones(rt: HostRuntime) -> Result<(), Fail> {
+fn refused_clones(rt: HostRuntime) -> Result<(), Fail> {
     let mut checks = Checks::new(rt.alloc());
-    let mut set = ArrayRangeSet::new(rt.alloc());
-    fill_array(&mut checks, &mut set)?;
-    clone_array(&mut checks, &set)?;
+    let cloned = clone(&mut checks, &mut RangeSet::new(rt.alloc()));
+    checks.holds(cloned.is_ok());
+    let cloned = clone_array(&mut checks, &mut ArrayRangeSet::new(rt.alloc()));
+    checks.holds(cloned.is_ok());
     checks.verdict()
 }
 
 // No call here takes memory, so each answers Ok whichever growth is refused.
+fn subtract_at_two_runs(checks: &mut Checks, set: &mut ArrayRangeSet, other: &mut ArrayRangeSet) {
+    checks.holds(set.insert(0..100) == Ok(true) && set.insert(200..210) == Ok(true));
+    checks.holds(other.insert(50..60) == Ok(true) && other.insert(150..300) == Ok(true));
+    checks.holds(set.subtract(other) == Ok(()));
+    checks.holds(set.len() == 2 && set.try_clone().is_ok());
+    checks.holds(set.remove(0..5) == Ok(true) && set.insert_one(60) == Ok(false));
+}
+
 #[test]
 fn refused_nothing_at_two_runs(rt: HostRuntime) -> Result<(), Fail> {
     let mut checks = Checks::new(rt.alloc());
-    let mut set = ArrayRangeSet::new(rt.alloc());
-    checks.holds(set.insert(0..100) == Ok(true) && set.insert(200..210) == Ok(true));
-    let mut other = ArrayRangeSet::new(rt.alloc());
-    checks.holds(other.insert(50..60) == Ok(true) && other.insert(150..300) == Ok(true));
-    checks.holds(set.subtract(&other) == Ok(()));
-    checks.holds(set.len() == 2 && set.try_clone().is_ok());
-    checks.holds(set.remove(0..5) == Ok(true) && set.insert_one(60) == Ok(false));
+    let set = &mut ArrayRangeSet::new(rt.alloc());
+    subtract_at_two_runs(&mut checks, set, &mut ArrayRangeSet::new(rt.alloc()));
     checks.verdict()
 }
 
@@ -380,15 +388,20 @@ const NO_MORE_RUNS: &[(Call, bool)] = &[
     (Call::Remove(40, 45), true),
 ];
 
-#[test]
-fn refused_nothing_where_runs_grow_no_more(rt: HostRuntime) -> Result<(), Fail> {
-    let mut checks = Checks::new(rt.alloc());
-    let mut set = RangeSet::new(rt.alloc());
-    fill(&mut checks, &mut set)?;
+fn change_runs(checks: &mut Checks, set: &mut RangeSet) -> Result<(), NoRoom> {
+    fill(checks, set)?;
     for &(call, changes) in NO_MORE_RUNS {
-        checks.holds(made(&mut set, call) == Ok(changes));
+        checks.holds(made(set, call) == Ok(changes));
     }
     checks.holds(set.peek_min() == Some(2..24) && set.max() == Some(END - 1));
     checks.holds(set.len() as u64 == COUNT - 3);
+    Ok(())
+}
+
+#[test]
+fn refused_nothing_where_runs_grow_no_more(rt: HostRuntime) -> Result<(), Fail> {
+    let mut checks = Checks::new(rt.alloc());
+    let changed = change_runs(&mut checks, &mut RangeSet::new(rt.alloc()));
+    checks.holds(changed.is_ok());
     checks.verdict()
 }

@@ -1,111 +1,125 @@
 //! Frames, read from payloads.
-use quic_base::coding::Codec;
+use quic_base::coding::{Codec, NoRoom};
 use quic_frames::frame::{Frame, FrameType, Iter};
 use quic_frames::transport_error::{Code, Error, Reason};
 use quic_testing::Checks;
+use std::alloc::Global;
 use std::test::Fail;
 
-fn type_of(number: &[u8]) -> Result<FrameType, Fail> {
+// What reads frames here owns nothing, and answers whether all was as it has to be: the checks of a test are alive to
+// its end, so that each way out of a test would have to drop them.
+
+fn type_of(number: &[u8]) -> Option<FrameType> {
     let mut left = number;
-    Ok(FrameType::decode(&mut left)?)
+    FrameType::decode(&mut left).ok()
 }
 
-#[test]
-fn a_stream_with_offset_and_length(rt: HostRuntime) -> Result<(), Fail> {
-    let mut checks = Checks::new(rt.alloc());
-    let payload = b"\x0c\x04\x40\x10ab";
-    let mut iter = Iter::new(payload)?;
-    let Some(Ok(Frame::Stream(stream))) = iter.next() else {
-        return Err("a STREAM".into());
+// A payload of one STREAM, the type that the frame has by the number in its first byte (never with the bit for the
+// length), and the frame.
+type StreamRow = (&'static [u8], u8, u64, u64, bool, &'static [u8]);
+
+const STREAMS: &[StreamRow] = &[
+    (b"\x0c\x04\x40\x10ab", 0x0c, 4, 16, false, b"ab"),
+    (b"\x08\x09x", 0x08, 9, 0, false, b"x"),
+    (b"\x09\x09x", 0x09, 9, 0, true, b"x"),
+    (b"\x0a\x09\x01x", 0x08, 9, 0, false, b"x"),
+    (b"\x0b\x09\x01x", 0x09, 9, 0, true, b"x"),
+    (b"\x0c\x09\x07x", 0x0c, 9, 7, false, b"x"),
+    (b"\x0d\x09\x07x", 0x0d, 9, 7, true, b"x"),
+    (b"\x0e\x09\x07\x01x", 0x0c, 9, 7, false, b"x"),
+    (b"\x0f\x09\x07\x01x", 0x0d, 9, 7, true, b"x"),
+    // A written offset of zero is not in the type.
+    (b"\x0d\x00\x00a", 0x09, 0, 0, true, b"a"),
+];
+
+// Whether the payload is read as that frame and nothing else.
+fn is_stream(row: &StreamRow) -> bool {
+    let &(payload, number, id, offset, fin, bytes) = row;
+    let Some(mut iter) = Iter::new(payload).ok() else {
+        return false;
     };
-    checks.same(u64::from(stream.id), 4);
-    checks.same(stream.offset, 16);
-    checks.holds(!stream.fin);
-    checks.same(stream.bytes, b"ab".as_slice());
-    checks.same(iter.offset(), 6);
-    checks.holds(iter.next().is_none());
-    checks.verdict()
+    let Some(Ok(frame)) = iter.next() else {
+        return false;
+    };
+    let has_type = Some(frame.ty()) == type_of(&[number]);
+    let Frame::Stream(stream) = frame else {
+        return false;
+    };
+    has_type
+        && u64::from(stream.id) == id
+        && stream.offset == offset
+        && stream.fin == fin
+        && stream.bytes == bytes
+        && iter.offset() == payload.len()
+        && iter.next().is_none()
 }
 
 #[test]
-fn all_eight_streams(rt: HostRuntime) -> Result<(), Fail> {
+fn streams(rt: HostRuntime) -> Result<(), Fail> {
     let mut checks = Checks::new(rt.alloc());
-    for bits in 0..8u8 {
-        let mut payload = Vec::new(rt.alloc());
-        payload.extend_from_slice(&[8 + bits, 9])?;
-        if bits & 4 != 0 {
-            payload.push(7)?;
-        }
-        if bits & 2 != 0 {
-            payload.push(1)?;
-        }
-        payload.push(b'x')?;
-        let mut iter = Iter::new(payload.as_slice())?;
-        let Some(Ok(frame)) = iter.next() else {
-            return Err("a frame".into());
-        };
-        // Never the bit for the length.
-        checks.same_at(bits, frame.ty(), type_of(&[8 + (bits & 5)])?);
-        let Frame::Stream(stream) = frame else {
-            return Err("a STREAM".into());
-        };
-        checks.same(u64::from(stream.id), 9);
-        checks.same(stream.offset, if bits & 4 != 0 { 7 } else { 0 });
-        checks.same(stream.fin, bits & 1 != 0);
-        checks.same(stream.bytes, b"x".as_slice());
-        checks.same(iter.offset(), payload.len());
+    for row in STREAMS {
+        checks.holds_at(format_args!("{row:?}"), is_stream(row));
     }
     checks.verdict()
 }
 
-#[test]
-fn a_written_offset_of_zero_is_not_in_the_type(rt: HostRuntime) -> Result<(), Fail> {
-    let mut checks = Checks::new(rt.alloc());
-    let Some(Ok(frame)) = Iter::new(b"\x0d\x00\x00a")?.next() else {
-        return Err("a frame".into());
+fn reads_crypto_padding_and_ping(checks: &mut Checks) -> bool {
+    let payload = b"\x06\x40\x05\x02hi\x00\x80\x00\x00\x01";
+    let Some(mut iter) = Iter::new(payload).ok() else {
+        return false;
     };
-    checks.same(frame.ty(), type_of(b"\x09")?);
-    checks.verdict()
-}
-
-#[test]
-fn crypto_padding_and_ping(rt: HostRuntime) -> Result<(), Fail> {
-    let mut checks = Checks::new(rt.alloc());
-    let mut iter = Iter::new(b"\x06\x40\x05\x02hi\x00\x80\x00\x00\x01")?;
     let Some(Ok(Frame::Crypto(crypto))) = iter.next() else {
-        return Err("a CRYPTO".into());
+        return false;
     };
     checks.same(crypto.offset, 5);
     checks.same(crypto.bytes, b"hi".as_slice());
     checks.same(Frame::Crypto(crypto).ty(), FrameType::CRYPTO);
     checks.same(iter.offset(), 6);
     let Some(Ok(Frame::Padding)) = iter.next() else {
-        return Err("a PADDING".into());
+        return false;
     };
     checks.same(iter.offset(), 7);
     let Some(Ok(Frame::Ping)) = iter.next() else {
-        return Err("a PING".into());
+        return false;
     };
     checks.same(iter.offset(), 11);
     checks.holds(iter.next().is_none());
     checks.same(Frame::Padding.ty(), FrameType::PADDING);
     checks.same(Frame::Ping.ty(), FrameType::PING);
+    true
+}
+
+#[test]
+fn crypto_padding_and_ping(rt: HostRuntime) -> Result<(), Fail> {
+    let mut checks = Checks::new(rt.alloc());
+    let are_read = reads_crypto_padding_and_ping(&mut checks);
+    checks.holds(are_read);
     checks.verdict()
+}
+
+fn ends_at_an_error(checks: &mut Checks) -> bool {
+    let Some(mut iter) = Iter::new(b"\x01\x0a\x00\x05ab\x01").ok() else {
+        return false;
+    };
+    let Some(Ok(Frame::Ping)) = iter.next() else {
+        return false;
+    };
+    let Some(Err(invalid)) = iter.next() else {
+        return false;
+    };
+    checks.holds(invalid.ty.is_some() && invalid.ty == type_of(b"\x0a"));
+    checks.same(invalid.reason, "unexpected end");
+    checks.same(iter.offset(), 1);
+    checks.holds(iter.next().is_none());
+    checks.holds(iter.next().is_none());
+    true
 }
 
 #[test]
 fn one_error_and_then_nothing(rt: HostRuntime) -> Result<(), Fail> {
     let mut checks = Checks::new(rt.alloc());
-    let mut iter = Iter::new(b"\x01\x0a\x00\x05ab\x01")?;
-    checks.holds(matches!(iter.next(), Some(Ok(Frame::Ping))));
-    let Some(Err(invalid)) = iter.next() else {
-        return Err("no frame".into());
-    };
-    checks.same(invalid.ty, Some(type_of(b"\x0a")?));
-    checks.same(invalid.reason, "unexpected end");
-    checks.same(iter.offset(), 1);
-    checks.holds(iter.next().is_none());
-    checks.holds(iter.next().is_none());
+    let ends = ends_at_an_error(&mut checks);
+    checks.holds(ends);
     checks.verdict()
 }
 
@@ -114,34 +128,45 @@ fn refuses(iter: Option<Iter<'_>>, ty: FrameType, reason: &str) -> bool {
     let Some(mut iter) = iter else {
         return false;
     };
-    matches!(
-        iter.next(),
-        Some(Err(invalid)) if invalid.ty == Some(ty) && invalid.reason == reason
-    )
+    let Some(Err(invalid)) = iter.next() else {
+        return false;
+    };
+    invalid.ty == Some(ty) && invalid.reason == reason
 }
 
 // PING, CRYPTO with one byte, and a type that is cut off.
-#[test]
-fn an_iterator_that_goes_on(rt: HostRuntime) -> Result<(), Fail> {
-    let mut checks = Checks::new(rt.alloc());
-    let payload = b"\x01\x06\x00\x01a\x40".as_slice();
-    let Some(mut iter) = Iter::resume(payload, 1, Some(FrameType::PING), false) else {
-        return Err("an iterator".into());
+const CUT_OFF: &[u8] = b"\x01\x06\x00\x01a\x40";
+
+fn goes_on_at_crypto(checks: &mut Checks) -> bool {
+    let Some(mut iter) = Iter::resume(CUT_OFF, 1, Some(FrameType::PING), false) else {
+        return false;
     };
     checks.same(iter.last_type(), Some(FrameType::PING));
     let Some(Ok(Frame::Crypto(crypto))) = iter.next() else {
-        return Err("a CRYPTO".into());
+        return false;
     };
     checks.same(crypto.bytes, b"a".as_slice());
     checks.same(iter.offset(), 5);
     checks.same(iter.last_type(), Some(FrameType::CRYPTO));
-    let cut_off = Iter::resume(payload, 5, Some(FrameType::CRYPTO), false);
-    checks.holds(refuses(cut_off, FrameType::CRYPTO, "unexpected end"));
-    let Some(mut iter) = Iter::resume(payload, 6, None, false) else {
-        return Err("an iterator".into());
+    true
+}
+
+fn goes_on_at_the_end() -> bool {
+    let Some(mut iter) = Iter::resume(CUT_OFF, 6, None, false) else {
+        return false;
     };
-    checks.holds(iter.next().is_none());
-    checks.holds(Iter::resume(payload, 7, None, false).is_none());
+    iter.next().is_none()
+}
+
+#[test]
+fn an_iterator_that_goes_on(rt: HostRuntime) -> Result<(), Fail> {
+    let mut checks = Checks::new(rt.alloc());
+    let goes_on = goes_on_at_crypto(&mut checks);
+    checks.holds(goes_on);
+    let cut_off = Iter::resume(CUT_OFF, 5, Some(FrameType::CRYPTO), false);
+    checks.holds(refuses(cut_off, FrameType::CRYPTO, "unexpected end"));
+    checks.holds(goes_on_at_the_end());
+    checks.holds(Iter::resume(CUT_OFF, 7, None, false).is_none());
     let long_type = Iter::resume(b"\x01\x40\x01", 1, None, true);
     let reason = "frame type not in shortest form";
     checks.holds(refuses(long_type, FrameType::PING, reason));
@@ -160,16 +185,24 @@ fn an_empty_payload_is_a_protocol_violation(rt: HostRuntime) -> Result<(), Fail>
     checks.verdict()
 }
 
+fn is_error(error: &Error, code: Code, reason: &str) -> bool {
+    error.code == code && error.reason.as_str() == reason
+}
+
 #[test]
 fn errors(rt: HostRuntime) -> Result<(), Fail> {
     let mut checks = Checks::new(rt.alloc());
-    let error = Error::FRAME_ENCODING_ERROR("malformed");
-    checks.same(error.code, Code::FRAME_ENCODING_ERROR);
-    checks.same(error.reason.as_str(), "malformed");
-    let error = Error::PROTOCOL_VIOLATION("x");
-    checks.same(error.code, Code::PROTOCOL_VIOLATION);
-    checks.same(error.reason.as_str(), "x");
+    let malformed = &Error::FRAME_ENCODING_ERROR("malformed");
+    checks.holds(is_error(malformed, Code::FRAME_ENCODING_ERROR, "malformed"));
+    let violation = &Error::PROTOCOL_VIOLATION("x");
+    checks.holds(is_error(violation, Code::PROTOCOL_VIOLATION, "x"));
+    checks.verdict()
+}
+
+#[test]
+fn an_owned_reason(rt: HostRuntime) -> Result<(), Fail> {
     let owned = Reason::Owned(String::from_str(rt.alloc(), "made")?);
+    let mut checks = Checks::new(rt.alloc());
     checks.same(owned.as_str(), "made");
     checks.verdict()
 }
@@ -210,47 +243,67 @@ const NAMES: [(FrameType, u8, &str); 24] = [
     (FrameType::IMMEDIATE_ACK, 0x1f, "IMMEDIATE_ACK"),
 ];
 
-#[test]
-fn names_of_types(rt: HostRuntime) -> Result<(), Fail> {
-    let mut checks = Checks::new(rt.alloc());
-    let alloc = rt.alloc();
-    for (ty, number, name) in NAMES {
-        checks.same(ty, type_of(&[number])?);
-        checks.displays(alloc, &ty, name)?;
-        checks.debugs(alloc, &ty, name)?;
+fn check_texts(
+    checks: &mut Checks,
+    alloc: Global,
+    ty: FrameType,
+    display: &str,
+    debug: &str,
+) -> Result<(), Fail> {
+    checks.displays(alloc, &ty, display)?;
+    checks.debugs(alloc, &ty, debug)
+}
+
+fn check_names(checks: &mut Checks, alloc: Global) -> Result<(), Fail> {
+    for &(ty, number, name) in &NAMES {
+        checks.same(Some(ty), type_of(&[number]));
+        check_texts(checks, alloc, ty, name, name)?;
     }
-    checks.same(FrameType::ACK_FREQUENCY, type_of(b"\x40\xaf")?);
-    checks.verdict()
+    checks.same(Some(FrameType::ACK_FREQUENCY), type_of(b"\x40\xaf"));
+    Ok(())
+}
+
+// Types without a constant, but for the first, and both their texts.
+const TEXTS: &[(&[u8], &str, &str)] = &[
+    (b"\x40\xaf", "ACK_FREQUENCY", "ACK_FREQUENCY"),
+    (b"\x0b", "STREAM", "Type(0b)"),
+    (b"\x30", "DATAGRAM", "Type(30)"),
+    (b"\x31", "DATAGRAM", "Type(31)"),
+    (
+        b"\xff\xff\xff\xff\xff\xff\xff\xff",
+        "<unknown 3fffffffffffffff>",
+        "Type(3fffffffffffffff)",
+    ),
+];
+
+fn check_texts_of_types(checks: &mut Checks, alloc: Global) -> Result<(), Fail> {
+    for &(bytes, display, debug) in TEXTS {
+        let Some(ty) = type_of(bytes) else {
+            return Err("a type".into());
+        };
+        check_texts(checks, alloc, ty, display, debug)?;
+    }
+    Ok(())
 }
 
 #[test]
-fn names_of_types_without_a_constant(rt: HostRuntime) -> Result<(), Fail> {
+fn names_of_types(rt: HostRuntime) -> Result<(), Fail> {
     let mut checks = Checks::new(rt.alloc());
-    let alloc = rt.alloc();
-    for (bytes, display, debug) in [
-        (b"\x40\xaf".as_slice(), "ACK_FREQUENCY", "ACK_FREQUENCY"),
-        (b"\x0b".as_slice(), "STREAM", "Type(0b)"),
-        (b"\x30".as_slice(), "DATAGRAM", "Type(30)"),
-        (b"\x31".as_slice(), "DATAGRAM", "Type(31)"),
-        (
-            b"\xff\xff\xff\xff\xff\xff\xff\xff".as_slice(),
-            "<unknown 3fffffffffffffff>",
-            "Type(3fffffffffffffff)",
-        ),
-    ] {
-        let ty = type_of(bytes)?;
-        checks.displays(alloc, &ty, display)?;
-        checks.debugs(alloc, &ty, debug)?;
-    }
+    check_names(&mut checks, rt.alloc())?;
+    check_texts_of_types(&mut checks, rt.alloc())?;
     checks.verdict()
+}
+
+fn write_types(out: &mut Vec<u8>) -> Result<(), NoRoom> {
+    FrameType::ACK_FREQUENCY.encode(out)?;
+    FrameType::PING.encode(out)
 }
 
 #[test]
 fn a_type_is_written_as_its_number(rt: HostRuntime) -> Result<(), Fail> {
     let mut checks = Checks::new(rt.alloc());
     let mut out = Vec::new(rt.alloc());
-    FrameType::ACK_FREQUENCY.encode(&mut out)?;
-    FrameType::PING.encode(&mut out)?;
+    checks.holds(write_types(&mut out).is_ok());
     checks.same(out.as_slice(), b"\x40\xaf\x01".as_slice());
     checks.verdict()
 }

@@ -2,16 +2,16 @@
 use quic_base::ids::{ConnectionId, Dir, ResetToken, StreamId};
 use quic_base::varint::VarInt;
 use quic_frames::frame::{
-    Ack, ApplicationClose, Close, ConnectionClose, Crypto, Datagram, EcnCounts, Frame, FrameStruct,
-    FrameType, Iter, NewConnectionId, RETIRE_CONNECTION_ID_SIZE_BOUND, ResetStream, StopSending,
-    Stream,
+    Ack, AckError, ApplicationClose, Close, ConnectionClose, Crypto, Datagram, EcnCounts, Frame,
+    FrameStruct, FrameType, Iter, NewConnectionId, RETIRE_CONNECTION_ID_SIZE_BOUND, ResetStream,
+    StopSending, Stream,
 };
 use quic_frames::transport_error::Code;
 use quic_testing::Checks;
 use std::test::Fail;
 
 // The greatest number that can be written, and the next one.
-const NUMBERS: [(u64, bool); 2] = [((1 << 62) - 1, true), (1 << 62, false)];
+const NUMBERS: &[(u64, bool)] = &[((1 << 62) - 1, true), (1 << 62, false)];
 
 fn stream_id() -> StreamId {
     StreamId::from(VarInt::from_u32(4))
@@ -51,14 +51,15 @@ fn close_of(frame_type: Option<FrameType>) -> ConnectionClose<'static> {
 }
 
 // Each kind is read once, and what is read is in range.
-#[test]
-fn offsets_in_range(rt: HostRuntime) -> Result<(), Fail> {
-    let mut checks = Checks::new(rt.alloc());
-    let Some(Ok(frame)) = Iter::new(b"\x11\x04\x21")?.next() else {
-        return Err("a frame".into());
+fn check_offsets(checks: &mut Checks) -> bool {
+    let Some(mut iter) = Iter::new(b"\x11\x04\x21").ok() else {
+        return false;
+    };
+    let Some(Ok(frame)) = iter.next() else {
+        return false;
     };
     checks.holds(frame.in_range());
-    for (n, fits) in NUMBERS {
+    for &(n, fits) in NUMBERS {
         checks.same(Frame::Stream(stream(n)).in_range(), fits);
         checks.same(Frame::Crypto(crypto(n)).in_range(), fits);
         let id = stream_id();
@@ -66,35 +67,53 @@ fn offsets_in_range(rt: HostRuntime) -> Result<(), Fail> {
         checks.same(Frame::StreamDataBlocked { id, offset: n }.in_range(), fits);
         checks.same(Frame::DataBlocked { offset: n }.in_range(), fits);
     }
-    checks.verdict()
+    true
 }
 
 #[test]
-fn counts_in_range(rt: HostRuntime) -> Result<(), Fail> {
+fn offsets_in_range(rt: HostRuntime) -> Result<(), Fail> {
     let mut checks = Checks::new(rt.alloc());
-    let Some(Ok(frame)) = Iter::new(b"\x12\x03")?.next() else {
-        return Err("a frame".into());
+    let is_read = check_offsets(&mut checks);
+    checks.holds(is_read);
+    checks.verdict()
+}
+
+fn check_counts(checks: &mut Checks) -> bool {
+    let Some(mut iter) = Iter::new(b"\x12\x03").ok() else {
+        return false;
+    };
+    let Some(Ok(frame)) = iter.next() else {
+        return false;
     };
     checks.holds(frame.in_range());
-    for (n, fits) in NUMBERS {
-        for dir in [Dir::Bi, Dir::Uni] {
+    for &(n, fits) in NUMBERS {
+        for &dir in &[Dir::Bi, Dir::Uni] {
             checks.same(Frame::MaxStreams { dir, count: n }.in_range(), fits);
             checks.same(Frame::StreamsBlocked { dir, limit: n }.in_range(), fits);
         }
         checks.same(Frame::RetireConnectionId { sequence: n }.in_range(), fits);
     }
-    checks.verdict()
+    true
 }
 
 #[test]
-fn counts_of_an_acknowledgement_in_range(rt: HostRuntime) -> Result<(), Fail> {
+fn counts_in_range(rt: HostRuntime) -> Result<(), Fail> {
     let mut checks = Checks::new(rt.alloc());
-    let Some(Ok(frame)) = Iter::new(b"\x03\x05\x07\x00\x00\x01\x02\x03")?.next() else {
-        return Err("a frame".into());
+    let is_read = check_counts(&mut checks);
+    checks.holds(is_read);
+    checks.verdict()
+}
+
+fn check_counts_of_an_acknowledgement(checks: &mut Checks) -> Result<bool, AckError> {
+    let Some(mut iter) = Iter::new(b"\x03\x05\x07\x00\x00\x01\x02\x03").ok() else {
+        return Ok(false);
+    };
+    let Some(Ok(frame)) = iter.next() else {
+        return Ok(false);
     };
     checks.holds(frame.in_range());
-    for (n, fits) in NUMBERS {
-        for (ect0, ect1, ce) in [(n, 0, 0), (0, n, 0), (0, 0, n)] {
+    for &(n, fits) in NUMBERS {
+        for &(ect0, ect1, ce) in &[(n, 0, 0), (0, n, 0), (0, 0, n)] {
             let counts = EcnCounts { ect0, ect1, ce };
             let ack = Ack::from_parts(5, 7, b"\x00", Some(counts))?;
             checks.same(Frame::Ack(ack).in_range(), fits);
@@ -102,18 +121,27 @@ fn counts_of_an_acknowledgement_in_range(rt: HostRuntime) -> Result<(), Fail> {
     }
     let ack = Ack::from_parts((1 << 62) - 1, (1 << 62) - 1, b"\x00", None)?;
     checks.holds(Frame::Ack(ack).in_range());
-    checks.verdict()
+    Ok(true)
 }
 
 #[test]
-fn new_ids_in_range(rt: HostRuntime) -> Result<(), Fail> {
+fn counts_of_an_acknowledgement_in_range(rt: HostRuntime) -> Result<(), Fail> {
     let mut checks = Checks::new(rt.alloc());
-    let Some(Ok(frame)) = Iter::new(b"\x18\x05\x02\x02\xaa\xbb0123456789abcdef")?.next() else {
-        return Err("a frame".into());
+    let is_read = check_counts_of_an_acknowledgement(&mut checks);
+    checks.holds(is_read == Ok(true));
+    checks.verdict()
+}
+
+fn check_new_ids(checks: &mut Checks) -> bool {
+    let Some(mut iter) = Iter::new(b"\x18\x05\x02\x02\xaa\xbb0123456789abcdef").ok() else {
+        return false;
+    };
+    let Some(Ok(frame)) = iter.next() else {
+        return false;
     };
     checks.holds(frame.in_range());
     let id = ConnectionId::new(b"\xaa\xbb");
-    for (n, fits) in NUMBERS {
+    for &(n, fits) in NUMBERS {
         checks.same(Frame::NewConnectionId(new_id(n, 0, id)).in_range(), fits);
         checks.same(Frame::NewConnectionId(new_id(n, n, id)).in_range(), fits);
     }
@@ -123,17 +151,26 @@ fn new_ids_in_range(rt: HostRuntime) -> Result<(), Fail> {
     checks.holds(!Frame::NewConnectionId(new_id(5, 2, empty)).in_range());
     let longest = ConnectionId::new(b"01234567890123456789");
     checks.holds(Frame::NewConnectionId(new_id(5, 2, longest)).in_range());
-    checks.verdict()
+    true
 }
 
 #[test]
-fn closes_in_range(rt: HostRuntime) -> Result<(), Fail> {
+fn new_ids_in_range(rt: HostRuntime) -> Result<(), Fail> {
     let mut checks = Checks::new(rt.alloc());
-    let Some(Ok(frame)) = Iter::new(b"\x1c\x07\x00\x03why")?.next() else {
-        return Err("a frame".into());
+    let is_read = check_new_ids(&mut checks);
+    checks.holds(is_read);
+    checks.verdict()
+}
+
+fn check_closes(checks: &mut Checks) -> bool {
+    let Some(mut iter) = Iter::new(b"\x1c\x07\x00\x03why").ok() else {
+        return false;
+    };
+    let Some(Ok(frame)) = iter.next() else {
+        return false;
     };
     checks.holds(frame.in_range());
-    for (ty, fits) in [
+    for &(ty, fits) in &[
         (None, true),
         (Some(FrameType::PADDING), false),
         (Some(FrameType::PING), true),
@@ -145,15 +182,24 @@ fn closes_in_range(rt: HostRuntime) -> Result<(), Fail> {
         reason: b"why",
     };
     checks.holds(Frame::Close(Close::from(close)).in_range());
+    true
+}
+
+#[test]
+fn closes_in_range(rt: HostRuntime) -> Result<(), Fail> {
+    let mut checks = Checks::new(rt.alloc());
+    let is_read = check_closes(&mut checks);
+    checks.holds(is_read);
     checks.verdict()
 }
 
 // What always can be written.
-#[test]
-fn all_others_are_in_range(rt: HostRuntime) -> Result<(), Fail> {
-    let mut checks = Checks::new(rt.alloc());
-    let Some(Ok(frame)) = Iter::new(b"\x01")?.next() else {
-        return Err("a frame".into());
+fn check_all_others(checks: &mut Checks) -> bool {
+    let Some(mut iter) = Iter::new(b"\x01").ok() else {
+        return false;
+    };
+    let Some(Ok(frame)) = iter.next() else {
+        return false;
     };
     checks.holds(frame.in_range());
     let (id, error_code) = (stream_id(), VarInt::MAX);
@@ -170,6 +216,14 @@ fn all_others_are_in_range(rt: HostRuntime) -> Result<(), Fail> {
     ] {
         checks.holds(frame.in_range());
     }
+    true
+}
+
+#[test]
+fn all_others_are_in_range(rt: HostRuntime) -> Result<(), Fail> {
+    let mut checks = Checks::new(rt.alloc());
+    let is_read = check_all_others(&mut checks);
+    checks.holds(is_read);
     checks.verdict()
 }
 

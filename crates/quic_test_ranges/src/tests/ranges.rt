@@ -1,7 +1,7 @@
 ghost use Rattle.std.specs.Prelude.{OnOk};
 ghost use Rattle.quic_ranges.specs.Runs.{IsRunsOf, in_union};
 
-use super::ranges_refused::{Call, made};
+use super::ranges_refused::{Call, made, made_in_array};
 use quic_base::coding::NoRoom;
 use quic_ranges::range_set::{ArrayRangeSet, RangeSet, Replace};
 use quic_testing::Checks;
@@ -86,18 +86,10 @@ fn count_replaced(set: &mut RangeSet, x: Range<u64>) -> Result<u64, NoRoom>
 
 type Runs = &'static [(u64, u64)];
 
-// The same on an array set.
-fn made_in_array(set: &mut ArrayRangeSet, call: Call) -> Result<bool, NoRoom> {
-    match call {
-        Call::Insert(start, end) => set.insert(start..end),
-        Call::InsertOne(x) => set.insert_one(x.into()),
-        Call::InsertGreatest => set.insert_one(u64::MAX - 1),
-        Call::Remove(start, end) => set.remove(start..end),
-    }
-}
-
 // The set before, a range, the pieces that `replace` gives, and the set after.
-const REPLACE_ROWS: &[(Runs, (u64, u64), Runs, Runs)] = &[
+type ReplaceRow = (Runs, (u64, u64), Runs, Runs);
+
+const REPLACE_ROWS: &[ReplaceRow] = &[
     (&[(1, 5)], (2, 4), &[(2, 4)], &[(1, 5)]),
     (&[(2, 4)], (1, 3), &[(2, 3)], &[(1, 4)]),
     (&[(2, 4)], (4, 6), &[], &[(2, 6)]),
@@ -114,72 +106,52 @@ const REPLACE_ROWS: &[(Runs, (u64, u64), Runs, Runs)] = &[
     (&[(0, 10)], (5, 2), &[], &[(0, 10)]),
 ];
 
-// Whether these pieces come of an empty set that is given these runs first, and these runs are left.
-fn is_replaced(
-    set: &mut RangeSet,
-    before: Runs,
-    x: Range<u64>,
-    pieces: Runs,
-    after: Runs,
-) -> Result<bool, NoRoom> {
-    insert_all(set, before)?;
-    Ok(gives(set.replace(x)?, pieces) && set_is(set, after))
+fn gives_replaced(set: &mut RangeSet, x: Range<u64>, pieces: Runs) -> bool {
+    match set.replace(x) {
+        Ok(given) => gives(given, pieces),
+        Err(NoRoom) => false,
+    }
+}
+
+// Whether an empty set that is given the runs of the row first is replaced as the row says.
+fn is_replaced(set: &mut RangeSet, row: &ReplaceRow) -> bool {
+    let &(before, (start, end), pieces, after) = row;
+    insert_all(set, before).is_ok() && gives_replaced(set, start..end, pieces) && set_is(set, after)
+}
+
+// Whether the set is the same where a `Replace` is dropped before its first `next`, and after it.
+fn is_same_unseen(set: &mut RangeSet, row: &ReplaceRow) -> bool {
+    let &(before, (start, end), _, after) = row;
+    insert_all(set, before).is_ok() && replace_unseen(set, start..end).is_ok() && set_is(set, after)
+}
+
+fn is_same_at_a_look(set: &mut RangeSet, row: &ReplaceRow) -> bool {
+    let &(before, (start, end), _, after) = row;
+    insert_all(set, before).is_ok()
+        && replace_at_a_look(set, start..end).is_ok()
+        && set_is(set, after)
+}
+
+fn is_counted(set: &mut RangeSet, row: &ReplaceRow) -> bool {
+    let &(before, (start, end), pieces, _) = row;
+    insert_all(set, before).is_ok() && count_replaced(set, start..end) == Ok(pieces.len() as u64)
+}
+
+fn check_replaced(checks: &mut Checks, alloc: Global, row: &ReplaceRow) {
+    checks.holds_at("replaced", is_replaced(&mut RangeSet::new(alloc), row));
+    checks.holds_at("unseen", is_same_unseen(&mut RangeSet::new(alloc), row));
+    checks.holds_at(
+        "at a look",
+        is_same_at_a_look(&mut RangeSet::new(alloc), row),
+    );
+    checks.holds_at("counted", is_counted(&mut RangeSet::new(alloc), row));
 }
 
 #[test]
 fn replaces(rt: HostRuntime) -> Result<(), Fail> {
     let mut checks = Checks::new(rt.alloc());
-    for &(before, (start, end), pieces, after) in REPLACE_ROWS {
-        let set = &mut RangeSet::new(rt.alloc());
-        let replaced = is_replaced(set, before, start..end, pieces, after);
-        checks.same_at(format_args!("{start}..{end}"), replaced, Ok(true));
-    }
-    checks.verdict()
-}
-
-// Whether the set is the same where a `Replace` is dropped before its first `next`, and after it.
-fn is_same_unseen(
-    set: &mut RangeSet,
-    before: Runs,
-    x: Range<u64>,
-    after: Runs,
-) -> Result<bool, NoRoom> {
-    insert_all(set, before)?;
-    replace_unseen(set, x)?;
-    Ok(set_is(set, after))
-}
-
-fn is_same_at_a_look(
-    set: &mut RangeSet,
-    before: Runs,
-    x: Range<u64>,
-    after: Runs,
-) -> Result<bool, NoRoom> {
-    insert_all(set, before)?;
-    replace_at_a_look(set, x)?;
-    Ok(set_is(set, after))
-}
-
-fn count_of(set: &mut RangeSet, before: Runs, x: Range<u64>) -> Result<u64, NoRoom> {
-    insert_all(set, before)?;
-    count_replaced(set, x)
-}
-
-#[test]
-fn replaces_without_a_look(rt: HostRuntime) -> Result<(), Fail> {
-    let mut checks = Checks::new(rt.alloc());
-    for &(before, (start, end), pieces, after) in REPLACE_ROWS {
-        let unseen = is_same_unseen(&mut RangeSet::new(rt.alloc()), before, start..end, after);
-        checks.same_at(start, unseen, Ok(true));
-        let looked_at = is_same_at_a_look(
-            &mut RangeSet::new(rt.alloc()),
-            before,
-            start..end,
-            after,
-        );
-        checks.same_at(start, looked_at, Ok(true));
-        let count = count_of(&mut RangeSet::new(rt.alloc()), before, start..end);
-        checks.holds(count == Ok(pieces.len() as u64));
+    for row in REPLACE_ROWS {
+        check_replaced(&mut checks, rt.alloc(), row);
     }
     checks.verdict()
 }
@@ -192,12 +164,11 @@ const REPLACE_SCRIPT: &[((u64, u64), Runs)] = &[
     ((2, 7), &[(6, 7)]),
 ];
 
-fn replace_by_script(checks: &mut Checks, set: &mut RangeSet) -> Result<(), NoRoom> {
+fn replace_by_script(checks: &mut Checks, set: &mut RangeSet) {
     for &((start, end), pieces) in REPLACE_SCRIPT {
-        checks.holds_at(start, gives(set.replace(start..end)?, pieces));
+        checks.holds_at(start, gives_replaced(set, start..end, pieces));
     }
     checks.holds(set_is(set, &[(2, 10)]));
-    Ok(())
 }
 
 fn replace_by_script_unseen(checks: &mut Checks, set: &mut RangeSet) -> Result<(), NoRoom> {
@@ -211,8 +182,7 @@ fn replace_by_script_unseen(checks: &mut Checks, set: &mut RangeSet) -> Result<(
 #[test]
 fn replaces_one_after_the_other(rt: HostRuntime) -> Result<(), Fail> {
     let mut checks = Checks::new(rt.alloc());
-    let looked = replace_by_script(&mut checks, &mut RangeSet::new(rt.alloc()));
-    checks.holds(looked.is_ok());
+    replace_by_script(&mut checks, &mut RangeSet::new(rt.alloc()));
     let dropped = replace_by_script_unseen(&mut checks, &mut RangeSet::new(rt.alloc()));
     checks.holds(dropped.is_ok());
     checks.verdict()
@@ -240,26 +210,44 @@ fn adds(rt: HostRuntime) -> Result<(), Fail> {
 }
 
 // Whether a clone has these runs, and what it is a clone of has them still.
-fn is_cloned(set: &mut RangeSet, runs: Runs) -> Result<bool, NoRoom> {
-    insert_all(set, runs)?;
-    Ok(set_is(&set.try_clone()?, runs) && set_is(set, runs))
+fn copy_is(set: &RangeSet, runs: Runs) -> bool {
+    let Some(copy) = set.try_clone().ok() else {
+        return false;
+    };
+    set_is(&copy, runs)
 }
 
-fn array_is_cloned(array: &mut ArrayRangeSet, runs: Runs) -> Result<bool, NoRoom> {
-    insert_all_in_array(array, runs)?;
-    Ok(array_is(&array.try_clone()?, runs) && array_is(array, runs))
+fn is_cloned(set: &mut RangeSet, runs: Runs) -> bool {
+    insert_all(set, runs).is_ok() && copy_is(set, runs) && set_is(set, runs)
 }
+
+fn array_copy_is(array: &ArrayRangeSet, runs: Runs) -> bool {
+    let Some(copy) = array.try_clone().ok() else {
+        return false;
+    };
+    array_is(&copy, runs)
+}
+
+fn array_is_cloned(array: &mut ArrayRangeSet, runs: Runs) -> bool {
+    insert_all_in_array(array, runs).is_ok() && array_copy_is(array, runs) && array_is(array, runs)
+}
+
+const THREE_RUNS: Runs = &[(1, 3), (5, 7), (9, 11)];
+
+const TWO_RUNS: Runs = &[(1, 3), (5, 7)];
 
 #[test]
 fn clones(rt: HostRuntime) -> Result<(), Fail> {
     let mut checks = Checks::new(rt.alloc());
-    let three: Runs = &[(1, 3), (5, 7), (9, 11)];
-    let cloned = is_cloned(&mut RangeSet::new(rt.alloc()), three);
-    checks.holds(cloned == Ok(true));
-    let cloned = array_is_cloned(&mut ArrayRangeSet::new(rt.alloc()), three);
-    checks.holds(cloned == Ok(true));
-    let cloned = array_is_cloned(&mut ArrayRangeSet::new(rt.alloc()), &[(1, 3), (5, 7)]);
-    checks.holds(cloned == Ok(true));
+    checks.holds(is_cloned(&mut RangeSet::new(rt.alloc()), THREE_RUNS));
+    checks.verdict()
+}
+
+#[test]
+fn clones_array_sets(rt: HostRuntime) -> Result<(), Fail> {
+    let mut checks = Checks::new(rt.alloc());
+    checks.holds(array_is_cloned(&mut ArrayRangeSet::new(rt.alloc()), THREE_RUNS));
+    checks.holds(array_is_cloned(&mut ArrayRangeSet::new(rt.alloc()), TWO_RUNS));
     checks.verdict()
 }
 
@@ -270,20 +258,20 @@ const SUBTRACTED: (Runs, Runs, Runs) = (
     &[(0, 50), (60, 100)],
 );
 
-fn set_leaves(set: &mut RangeSet, other: &mut RangeSet) -> Result<bool, NoRoom> {
+fn set_leaves(set: &mut RangeSet, other: &mut RangeSet) -> bool {
     let (before, taken, after) = SUBTRACTED;
-    insert_all(other, taken)?;
-    insert_all(set, before)?;
-    set.subtract(other)?;
-    Ok(set_is(set, after))
+    insert_all(other, taken).is_ok()
+        && insert_all(set, before).is_ok()
+        && set.subtract(other).is_ok()
+        && set_is(set, after)
 }
 
-fn array_leaves(array: &mut ArrayRangeSet, other: &mut ArrayRangeSet) -> Result<bool, NoRoom> {
+fn array_leaves(array: &mut ArrayRangeSet, other: &mut ArrayRangeSet) -> bool {
     let (before, taken, after) = SUBTRACTED;
-    insert_all_in_array(other, taken)?;
-    insert_all_in_array(array, before)?;
-    array.subtract(other)?;
-    Ok(array_is(array, after))
+    insert_all_in_array(other, taken).is_ok()
+        && insert_all_in_array(array, before).is_ok()
+        && array.subtract(other).is_ok()
+        && array_is(array, after)
 }
 
 #[test]
@@ -293,7 +281,7 @@ fn subtracts(rt: HostRuntime) -> Result<(), Fail> {
         &mut RangeSet::new(rt.alloc()),
         &mut RangeSet::new(rt.alloc()),
     );
-    checks.holds(set_leaves(set, other) == Ok(true));
+    checks.holds(set_leaves(set, other));
     checks.verdict()
 }
 
@@ -302,7 +290,7 @@ fn subtracts_from_array_sets(rt: HostRuntime) -> Result<(), Fail> {
     let mut checks = Checks::new(rt.alloc());
     let array = &mut ArrayRangeSet::new(rt.alloc());
     let other = &mut ArrayRangeSet::new(rt.alloc());
-    checks.holds(array_leaves(array, other) == Ok(true));
+    checks.holds(array_leaves(array, other));
     checks.verdict()
 }
 
@@ -317,8 +305,7 @@ const ELEMENTS: &[(bool, Option<u64>)] = &[
     (true, None),
 ];
 
-fn give_elements_from_both_ends(checks: &mut Checks, set: &mut RangeSet) -> Result<(), NoRoom> {
-    insert_all(set, &[(0, 3), (5, 7)])?;
+fn gives_elements_from_both_ends(set: &RangeSet) -> bool {
     let mut elements = set.elts();
     for &(is_last, element) in ELEMENTS {
         let got = if is_last {
@@ -326,28 +313,37 @@ fn give_elements_from_both_ends(checks: &mut Checks, set: &mut RangeSet) -> Resu
         } else {
             elements.next()
         };
-        checks.same(got, element);
+        if got != element {
+            return false;
+        }
     }
-    Ok(())
+    true
 }
 
-fn give_elements(checks: &mut Checks, array: &mut ArrayRangeSet) -> Result<(), NoRoom> {
-    insert_all_in_array(array, &[(0, 3), (5, 7)])?;
+fn array_has_elements(array: &ArrayRangeSet, wanted: &[u64]) -> bool {
     let mut elements = array.elts();
-    for &x in &[0, 1, 2, 5, 6] {
-        checks.same(elements.next(), Some(x));
+    for &element in wanted {
+        if elements.next() != Some(element) {
+            return false;
+        }
     }
-    checks.same(elements.next(), None);
-    Ok(())
+    elements.next().is_none()
+}
+
+fn set_gives(set: &mut RangeSet) -> bool {
+    insert_all(set, &[(0, 3), (5, 7)]).is_ok() && gives_elements_from_both_ends(set)
+}
+
+fn array_gives(array: &mut ArrayRangeSet) -> bool {
+    insert_all_in_array(array, &[(0, 3), (5, 7)]).is_ok()
+        && array_has_elements(array, &[0, 1, 2, 5, 6])
 }
 
 #[test]
 fn gives_elements(rt: HostRuntime) -> Result<(), Fail> {
     let mut checks = Checks::new(rt.alloc());
-    let given = give_elements_from_both_ends(&mut checks, &mut RangeSet::new(rt.alloc()));
-    checks.holds(given.is_ok());
-    let given = give_elements(&mut checks, &mut ArrayRangeSet::new(rt.alloc()));
-    checks.holds(given.is_ok());
+    checks.holds(set_gives(&mut RangeSet::new(rt.alloc())));
+    checks.holds(array_gives(&mut ArrayRangeSet::new(rt.alloc())));
     checks.verdict()
 }
 
@@ -392,13 +388,16 @@ fn run_on_array(
     Ok(())
 }
 
+fn pops_all(set: &mut RangeSet) -> bool {
+    set.pop_min() == Some(0..10) && set.min().is_none() && set_is(set, &[])
+}
+
 // The array set has no `replace`.
 fn run_and_replace(checks: &mut Checks, set: &mut RangeSet) -> Result<(), NoRoom> {
     run(checks, set, SCRIPT)?;
-    checks.holds(gives(set.replace(0..10)?, &[(1, 3), (4, 7)]));
+    checks.holds(gives_replaced(set, 0..10, &[(1, 3), (4, 7)]));
     checks.holds(set_is(set, &[(0, 10)]));
-    checks.holds(set.pop_min() == Some(0..10) && set.min().is_none());
-    checks.holds(set_is(set, &[]));
+    checks.holds(pops_all(set));
     Ok(())
 }
 
@@ -448,7 +447,9 @@ fn has_ends_in_array(set: &mut ArrayRangeSet) -> bool {
         && array_is(set, &[(6, 9)])
 }
 
+// What new sets answer, and then with these runs.
 fn answer(checks: &mut Checks, set: &mut RangeSet) -> Result<(), NoRoom> {
+    checks.holds(set.is_empty());
     insert_all(set, &[(2, 4), (6, 9)])?;
     for &(x, present) in QUERIES {
         checks.same_at(x, set.contains(x), present);
@@ -459,6 +460,7 @@ fn answer(checks: &mut Checks, set: &mut RangeSet) -> Result<(), NoRoom> {
 }
 
 fn answer_for_array(checks: &mut Checks, array: &mut ArrayRangeSet) -> Result<(), NoRoom> {
+    checks.holds(array.is_empty());
     insert_all_in_array(array, &[(2, 4), (6, 9)])?;
     for &(x, present) in QUERIES {
         checks.same_at(x, array.contains(x), present);
@@ -496,8 +498,6 @@ fn answers_when_empty(rt: HostRuntime) -> Result<(), Fail> {
     let mut checks = Checks::new(rt.alloc());
     let answered = answer_when_emptied(&mut checks, &mut RangeSet::new(rt.alloc()));
     checks.holds(answered.is_ok());
-    checks.holds(RangeSet::new(rt.alloc()).is_empty());
-    checks.holds(ArrayRangeSet::new(rt.alloc()).is_empty());
     checks.verdict()
 }
 

@@ -2,7 +2,7 @@
 // where none is: `rt try --test --fail-alloc N` refuses the Nth. After the refusal the set stands as
 // promised, and the same call then succeeds.
 use quic_base::coding::NoRoom;
-use quic_ranges::range_set::{ArrayRangeSet, RangeSet};
+use quic_ranges::range_set::{ArrayRangeSet, RangeSet, Replace};
 use quic_testing::Checks;
 use std::ops::Range;
 use std::test::Fail;
@@ -35,6 +35,15 @@ pub(super) enum Call {
 
 // Makes the call, and answers whether it changes the set.
 pub(super) fn made(set: &mut RangeSet, call: Call) -> Result<bool, NoRoom> {
+    match call {
+        Call::Insert(start, end) => set.insert(start..end),
+        Call::InsertOne(x) => set.insert_one(x.into()),
+        Call::InsertGreatest => set.insert_one(u64::MAX - 1),
+        Call::Remove(start, end) => set.remove(start..end),
+    }
+}
+
+pub(super) fn made_in_array(set: &mut ArrayRangeSet, call: Call) -> Result<bool, NoRoom> {
     match call {
         Call::Insert(start, end) => set.insert(start..end),
         Call::InsertOne(x) => set.insert_one(x.into()),
@@ -256,18 +265,36 @@ fn replace_nothing(checks: &mut Checks, set: &mut RangeSet) -> Result<(), NoRoom
     Ok(())
 }
 
+// Whether the first runs come, and no more.
+fn gives_runs(pieces: Replace<'_>) -> bool {
+    let mut rest = pieces;
+    for index in 0..COUNT {
+        if rest.next() != Some(run(index)) {
+            return false;
+        }
+    }
+    rest.next().is_none()
+}
+
+fn replaces_runs(set: &mut RangeSet) -> bool {
+    match set.replace(0..END) {
+        Ok(pieces) => gives_runs(pieces),
+        Err(NoRoom) => false,
+    }
+}
+
+fn is_solid(set: &RangeSet) -> bool {
+    set.iter().next() == Some(0..END) && set.len() == 1
+}
+
 // Puts the solid range in by `replace` after that. With many pieces, their list grows.
 fn replace_all(checks: &mut Checks, set: &mut RangeSet) -> Result<(), NoRoom> {
     replace_nothing(checks, set)?;
     if set.replace(0..END).is_err() {
         checks.holds_at("after the refusal", set_has(set, COUNT));
-        let mut pieces = set.replace(0..END)?;
-        for index in 0..COUNT {
-            checks.holds(pieces.next() == Some(run(index)));
-        }
-        checks.holds(pieces.next().is_none());
+        checks.holds(replaces_runs(set));
     }
-    checks.holds(set.iter().next() == Some(0..END) && set.len() == 1);
+    checks.holds(is_solid(set));
     Ok(())
 }
 
@@ -357,13 +384,33 @@ fn refused_clones(rt: HostRuntime) -> Result<(), Fail> {
     checks.verdict()
 }
 
+// Makes calls that take no memory, and checks whether they change the set.
+fn change(checks: &mut Checks, set: &mut RangeSet, calls: &[(Call, bool)]) {
+    for &(call, changes) in calls {
+        checks.holds(made(set, call) == Ok(changes));
+    }
+}
+
+fn change_array(checks: &mut Checks, set: &mut ArrayRangeSet, calls: &[(Call, bool)]) {
+    for &(call, changes) in calls {
+        checks.holds(made_in_array(set, call) == Ok(changes));
+    }
+}
+
 // No call here takes memory, so each answers Ok whichever growth is refused.
+const AT_FIRST: &[(Call, bool)] = &[(Call::Insert(0, 100), true), (Call::Insert(200, 210), true)];
+
+const TAKEN: &[(Call, bool)] = &[(Call::Insert(50, 60), true), (Call::Insert(150, 300), true)];
+
+const IN_THE_END: &[(Call, bool)] = &[(Call::Remove(0, 5), true), (Call::InsertOne(60), false)];
+
 fn subtract_at_two_runs(checks: &mut Checks, set: &mut ArrayRangeSet, other: &mut ArrayRangeSet) {
-    checks.holds(set.insert(0..100) == Ok(true) && set.insert(200..210) == Ok(true));
-    checks.holds(other.insert(50..60) == Ok(true) && other.insert(150..300) == Ok(true));
-    checks.holds(set.subtract(other) == Ok(()));
-    checks.holds(set.len() == 2 && set.try_clone().is_ok());
-    checks.holds(set.remove(0..5) == Ok(true) && set.insert_one(60) == Ok(false));
+    change_array(checks, set, AT_FIRST);
+    change_array(checks, other, TAKEN);
+    checks.holds(set.subtract(other).is_ok());
+    checks.holds(set.len() == 2);
+    checks.holds(set.try_clone().is_ok());
+    change_array(checks, set, IN_THE_END);
 }
 
 #[test]
@@ -390,9 +437,7 @@ const NO_MORE_RUNS: &[(Call, bool)] = &[
 
 fn change_runs(checks: &mut Checks, set: &mut RangeSet) -> Result<(), NoRoom> {
     fill(checks, set)?;
-    for &(call, changes) in NO_MORE_RUNS {
-        checks.holds(made(set, call) == Ok(changes));
-    }
+    change(checks, set, NO_MORE_RUNS);
     checks.holds(set.peek_min() == Some(2..24) && set.max() == Some(END - 1));
     checks.holds(set.len() as u64 == COUNT - 3);
     Ok(())

@@ -208,40 +208,35 @@ fn an_owned_reason(rt: HostRuntime) -> Result<(), Fail> {
 }
 
 // The types with a name of their own.
-const NAMES: [(FrameType, u8, &str); 24] = [
-    (FrameType::PADDING, 0x00, "PADDING"),
-    (FrameType::PING, 0x01, "PING"),
-    (FrameType::ACK, 0x02, "ACK"),
-    (FrameType::ACK_ECN, 0x03, "ACK_ECN"),
-    (FrameType::RESET_STREAM, 0x04, "RESET_STREAM"),
-    (FrameType::STOP_SENDING, 0x05, "STOP_SENDING"),
-    (FrameType::CRYPTO, 0x06, "CRYPTO"),
-    (FrameType::NEW_TOKEN, 0x07, "NEW_TOKEN"),
-    (FrameType::MAX_DATA, 0x10, "MAX_DATA"),
-    (FrameType::MAX_STREAM_DATA, 0x11, "MAX_STREAM_DATA"),
-    (FrameType::MAX_STREAMS_BIDI, 0x12, "MAX_STREAMS_BIDI"),
-    (FrameType::MAX_STREAMS_UNI, 0x13, "MAX_STREAMS_UNI"),
-    (FrameType::DATA_BLOCKED, 0x14, "DATA_BLOCKED"),
-    (FrameType::STREAM_DATA_BLOCKED, 0x15, "STREAM_DATA_BLOCKED"),
-    (
-        FrameType::STREAMS_BLOCKED_BIDI,
-        0x16,
-        "STREAMS_BLOCKED_BIDI",
-    ),
-    (FrameType::STREAMS_BLOCKED_UNI, 0x17, "STREAMS_BLOCKED_UNI"),
-    (FrameType::NEW_CONNECTION_ID, 0x18, "NEW_CONNECTION_ID"),
-    (
-        FrameType::RETIRE_CONNECTION_ID,
-        0x19,
-        "RETIRE_CONNECTION_ID",
-    ),
-    (FrameType::PATH_CHALLENGE, 0x1a, "PATH_CHALLENGE"),
-    (FrameType::PATH_RESPONSE, 0x1b, "PATH_RESPONSE"),
-    (FrameType::CONNECTION_CLOSE, 0x1c, "CONNECTION_CLOSE"),
-    (FrameType::APPLICATION_CLOSE, 0x1d, "APPLICATION_CLOSE"),
-    (FrameType::HANDSHAKE_DONE, 0x1e, "HANDSHAKE_DONE"),
-    (FrameType::IMMEDIATE_ACK, 0x1f, "IMMEDIATE_ACK"),
-];
+fn named(number: u8) -> Option<(FrameType, &'static str)> {
+    Some(match number {
+        0x00 => (FrameType::PADDING, "PADDING"),
+        0x01 => (FrameType::PING, "PING"),
+        0x02 => (FrameType::ACK, "ACK"),
+        0x03 => (FrameType::ACK_ECN, "ACK_ECN"),
+        0x04 => (FrameType::RESET_STREAM, "RESET_STREAM"),
+        0x05 => (FrameType::STOP_SENDING, "STOP_SENDING"),
+        0x06 => (FrameType::CRYPTO, "CRYPTO"),
+        0x07 => (FrameType::NEW_TOKEN, "NEW_TOKEN"),
+        0x10 => (FrameType::MAX_DATA, "MAX_DATA"),
+        0x11 => (FrameType::MAX_STREAM_DATA, "MAX_STREAM_DATA"),
+        0x12 => (FrameType::MAX_STREAMS_BIDI, "MAX_STREAMS_BIDI"),
+        0x13 => (FrameType::MAX_STREAMS_UNI, "MAX_STREAMS_UNI"),
+        0x14 => (FrameType::DATA_BLOCKED, "DATA_BLOCKED"),
+        0x15 => (FrameType::STREAM_DATA_BLOCKED, "STREAM_DATA_BLOCKED"),
+        0x16 => (FrameType::STREAMS_BLOCKED_BIDI, "STREAMS_BLOCKED_BIDI"),
+        0x17 => (FrameType::STREAMS_BLOCKED_UNI, "STREAMS_BLOCKED_UNI"),
+        0x18 => (FrameType::NEW_CONNECTION_ID, "NEW_CONNECTION_ID"),
+        0x19 => (FrameType::RETIRE_CONNECTION_ID, "RETIRE_CONNECTION_ID"),
+        0x1a => (FrameType::PATH_CHALLENGE, "PATH_CHALLENGE"),
+        0x1b => (FrameType::PATH_RESPONSE, "PATH_RESPONSE"),
+        0x1c => (FrameType::CONNECTION_CLOSE, "CONNECTION_CLOSE"),
+        0x1d => (FrameType::APPLICATION_CLOSE, "APPLICATION_CLOSE"),
+        0x1e => (FrameType::HANDSHAKE_DONE, "HANDSHAKE_DONE"),
+        0x1f => (FrameType::IMMEDIATE_ACK, "IMMEDIATE_ACK"),
+        _ => return None,
+    })
+}
 
 fn check_texts(
     checks: &mut Checks,
@@ -255,9 +250,11 @@ fn check_texts(
 }
 
 fn check_names(checks: &mut Checks, alloc: Global) -> Result<(), Fail> {
-    for &(ty, number, name) in &NAMES {
-        checks.same(Some(ty), type_of(&[number]));
-        check_texts(checks, alloc, ty, name, name)?;
+    for number in 0..=0xff {
+        if let Some((ty, name)) = named(number) {
+            checks.same(Some(ty), type_of(&[number]));
+            check_texts(checks, alloc, ty, name, name)?;
+        }
     }
     checks.same(Some(FrameType::ACK_FREQUENCY), type_of(b"\x40\xaf"));
     Ok(())

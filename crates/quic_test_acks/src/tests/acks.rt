@@ -8,131 +8,174 @@ use quic_testing::Checks;
 use std::alloc::Global;
 use std::test::Fail;
 
-// The ranges of an acknowledgement, as they come.
-pub fn ranges_of(alloc: Global, ack: &Ack<'_>) -> Result<Vec<(u64, u64)>, Fail> {
-    let mut ranges = Vec::new(alloc);
-    for range in ack {
-        ranges.push((*range.start(), *range.end()))?;
+// What reads frames here owns nothing and answers whether all was as it has to be, and a test has its ways out before its
+// checks begin: they are alive to its end, so that each way out behind would have to drop them.
+
+// Whether an acknowledgement has exactly these ranges, as they come.
+pub fn has_ranges(ack: &Ack<'_>, ranges: &[(u64, u64)]) -> bool {
+    let mut rest = ack.into_iter();
+    for &(start, end) in ranges {
+        if rest.next() != Some(start..=end) {
+            return false;
+        }
     }
-    Ok(ranges)
+    rest.next().is_none()
+}
+
+fn gives_two_ranges(ack: &Ack<'_>) -> bool {
+    let mut iter = ack.iter();
+    iter.next() == Some(5..=5)
+        && iter.next() == Some(0..=3)
+        && iter.next().is_none()
+        && iter.next().is_none()
 }
 
 #[test]
 fn parts_of_an_acknowledgement(rt: HostRuntime) -> Result<(), Fail> {
-    let mut checks = Checks::new(rt.alloc());
     let ack = Ack::from_parts(5, 7, b"\x00\x00\x03", None)?;
-    let wanted = [(5, 5), (0, 3)];
-    checks.same(ranges_of(rt.alloc(), &ack)?.as_slice(), wanted.as_slice());
+    let mut checks = Checks::new(rt.alloc());
+    checks.holds(has_ranges(&ack, &[(5, 5), (0, 3)]));
     checks.same(ack.largest(), 5);
     checks.same(ack.delay(), 7);
     checks.same(ack.additional(), b"\x00\x00\x03".as_slice());
     checks.holds(ack.ecn().is_none());
-    let mut iter = ack.iter();
-    checks.same(iter.next(), Some(5..=5));
-    checks.same(iter.next(), Some(0..=3));
-    checks.same(iter.next(), None);
-    checks.same(iter.next(), None);
+    checks.holds(gives_two_ranges(&ack));
     checks.verdict()
 }
 
 // The blocks of an ACK that was read are the payload's bytes, in the widths that they have there.
+const BLOCKS_READ: &[(&[u8], &[u8])] = &[
+    (b"\x02\x05\x00\x00\x00", b"\x00"),
+    (b"\x02\x05\x00\x00\x40\x00", b"\x40\x00"),
+    (
+        b"\x02\x05\x00\x01\x40\x00\x00\x40\x03",
+        b"\x40\x00\x00\x40\x03",
+    ),
+];
+
+fn has_blocks(payload: &[u8], blocks: &[u8]) -> bool {
+    let Some(mut iter) = Iter::new(payload).ok() else {
+        return false;
+    };
+    let Some(Ok(Frame::Ack(ack))) = iter.next() else {
+        return false;
+    };
+    ack.additional() == blocks
+}
+
 #[test]
 fn blocks_as_they_were_read(rt: HostRuntime) -> Result<(), Fail> {
     let mut checks = Checks::new(rt.alloc());
-    for (payload, blocks) in [
-        (b"\x02\x05\x00\x00\x00".as_slice(), b"\x00".as_slice()),
-        (
-            b"\x02\x05\x00\x00\x40\x00".as_slice(),
-            b"\x40\x00".as_slice(),
-        ),
-        (
-            b"\x02\x05\x00\x01\x40\x00\x00\x40\x03".as_slice(),
-            b"\x40\x00\x00\x40\x03".as_slice(),
-        ),
-    ] {
-        let mut frames = Iter::new(payload)?;
-        match frames.next() {
-            Some(Ok(Frame::Ack(ack))) => checks.same(ack.additional(), blocks),
-            _ => checks.holds(false),
-        }
+    for &(payload, blocks) in BLOCKS_READ {
+        checks.holds_at(format_args!("{payload:?}"), has_blocks(payload, blocks));
     }
     checks.verdict()
+}
+
+// Blocks below 5, and why they are refused.
+const REFUSED_BLOCKS: &[(&[u8], AckError)] = &[
+    (b"\x00\x00\x05", AckError::Malformed),
+    (b"\x00\x04", AckError::Malformed),
+    (b"", AckError::UnexpectedEnd),
+    (b"\x40", AckError::UnexpectedEnd),
+    (b"\x00\x00", AckError::UnexpectedEnd),
+];
+
+fn are_refused(blocks: &[u8], refused: AckError) -> bool {
+    let Err(error) = Ack::from_parts(5, 0, blocks, None) else {
+        return false;
+    };
+    error == refused
+}
+
+fn texts_of_refusals(alloc: Global) -> Result<String, Fail> {
+    let (end, malformed) = (AckError::UnexpectedEnd, AckError::Malformed);
+    Ok(format!(in alloc; "{end}, {malformed}, {end:?}")?)
 }
 
 #[test]
 fn parts_that_are_refused(rt: HostRuntime) -> Result<(), Fail> {
+    let texts = texts_of_refusals(rt.alloc())?;
     let mut checks = Checks::new(rt.alloc());
-    for (blocks, refused) in [
-        (b"\x00\x00\x05".as_slice(), AckError::Malformed),
-        (b"\x00\x04".as_slice(), AckError::Malformed),
-        (b"".as_slice(), AckError::UnexpectedEnd),
-        (b"\x40".as_slice(), AckError::UnexpectedEnd),
-        (b"\x00\x00".as_slice(), AckError::UnexpectedEnd),
-    ] {
-        let answer = Ack::from_parts(5, 0, blocks, None);
-        checks.holds_at(
-            format_args!("{refused:?}"),
-            matches!(answer, Err(error) if error == refused),
-        );
+    for &(blocks, refused) in REFUSED_BLOCKS {
+        checks.holds_at(format_args!("{refused:?}"), are_refused(blocks, refused));
     }
-    let alloc = rt.alloc();
-    let (end, malformed) = (AckError::UnexpectedEnd, AckError::Malformed);
-    checks.same(
-        format!(in alloc; "{end}, {malformed}, {end:?}")?.as_str(),
-        "unexpected end, malformed, UnexpectedEnd",
-    );
+    checks.same(texts.as_str(), "unexpected end, malformed, UnexpectedEnd");
     checks.verdict()
 }
 
 // One range at a time, of bytes that may be no blocks: below 5 a gap of 0 leaves 4 out, and 3 is next.
+const FIRST_RANGES: &[(&[u8], u64, u64, &[u8])] = &[
+    (b"\x00\x00\x03", 5, 3, b"\x03"),
+    (b"\x40\x00\x00\x03", 5, 3, b"\x03"),
+    (b"\x01\x40\x02", 4, 0, b""),
+    (b"\x05", 0, 0, b""),
+];
+
+const NO_FIRST_RANGES: &[(&[u8], AckError)] = &[
+    (b"", AckError::UnexpectedEnd),
+    (b"\x40", AckError::UnexpectedEnd),
+    (b"\x06", AckError::Malformed),
+    (b"\x00\x40", AckError::UnexpectedEnd),
+    (b"\x00\x04", AckError::Malformed),
+    (b"\x04\x00", AckError::Malformed),
+];
+
+fn is_split(blocks: &[u8], least: u64, next: u64, left: &[u8]) -> bool {
+    let Ok((first, second, rest)) = split_first_range(5, blocks) else {
+        return false;
+    };
+    first == least && second == next && rest == left
+}
+
+fn is_not_split(blocks: &[u8], refused: AckError) -> bool {
+    let Err(error) = split_first_range(5, blocks) else {
+        return false;
+    };
+    error == refused
+}
+
 #[test]
 fn a_first_range(rt: HostRuntime) -> Result<(), Fail> {
     let mut checks = Checks::new(rt.alloc());
-    for (blocks, least, next, left) in [
-        (b"\x00\x00\x03".as_slice(), 5, 3, b"\x03".as_slice()),
-        (b"\x40\x00\x00\x03".as_slice(), 5, 3, b"\x03".as_slice()),
-        (b"\x01\x40\x02".as_slice(), 4, 0, b"".as_slice()),
-        (b"\x05".as_slice(), 0, 0, b"".as_slice()),
-    ] {
-        checks.same(split_first_range(5, blocks), Ok((least, next, left)));
+    for &(blocks, least, next, left) in FIRST_RANGES {
+        checks.holds_at(next, is_split(blocks, least, next, left));
     }
-    for (blocks, refused) in [
-        (b"".as_slice(), AckError::UnexpectedEnd),
-        (b"\x40".as_slice(), AckError::UnexpectedEnd),
-        (b"\x06".as_slice(), AckError::Malformed),
-        (b"\x00\x40".as_slice(), AckError::UnexpectedEnd),
-        (b"\x00\x04".as_slice(), AckError::Malformed),
-        (b"\x04\x00".as_slice(), AckError::Malformed),
-    ] {
-        checks.same(split_first_range(5, blocks), Err(refused));
+    for &(blocks, refused) in NO_FIRST_RANGES {
+        checks.holds(is_not_split(blocks, refused));
     }
     checks.verdict()
 }
 
-#[test]
-fn an_acknowledgement_with_counts(rt: HostRuntime) -> Result<(), Fail> {
-    let mut checks = Checks::new(rt.alloc());
+fn reads_an_acknowledgement_with_counts(checks: &mut Checks) -> bool {
     let payload = b"\x03\x0e\x2a\x03\x00\x01\x01\x03\x00\x00\x02\x2a\x18\x0c";
-    let Some(Ok(frame)) = Iter::new(payload)?.next() else {
-        return Err("a frame".into());
+    let Some(mut iter) = Iter::new(payload).ok() else {
+        return false;
+    };
+    let Some(Ok(frame)) = iter.next() else {
+        return false;
     };
     checks.same(frame.ty(), FrameType::ACK);
     checks.holds(!frame.is_ack_eliciting());
     let Frame::Ack(ack) = frame else {
-        return Err("an ACK".into());
+        return false;
     };
-    let wanted = [(14, 14), (10, 11), (5, 5), (1, 3)];
-    checks.same(ranges_of(rt.alloc(), &ack)?.as_slice(), wanted.as_slice());
+    checks.holds(has_ranges(&ack, &[(14, 14), (10, 11), (5, 5), (1, 3)]));
     checks.same(ack.delay(), 0x2a);
-    let Some(counts) = ack.ecn() else {
-        return Err("counts".into());
-    };
     let wanted = EcnCounts {
         ect0: 0x2a,
         ect1: 0x18,
         ce: 0x0c,
     };
-    checks.same(counts, wanted);
+    checks.same(ack.ecn(), Some(wanted));
+    true
+}
+
+#[test]
+fn an_acknowledgement_with_counts(rt: HostRuntime) -> Result<(), Fail> {
+    let mut checks = Checks::new(rt.alloc());
+    let is_read = reads_an_acknowledgement_with_counts(&mut checks);
+    checks.holds(is_read);
     checks.verdict()
 }
 
@@ -154,103 +197,140 @@ fn counts_grow(rt: HostRuntime) -> Result<(), Fail> {
     checks.verdict()
 }
 
-// The Debug of the first frame of a payload.
-fn shown(alloc: Global, payload: &[u8]) -> Result<String, Fail> {
+// Frames, and their Debug.
+const SHOWN: &[(&[u8], &str)] = &[
+    (b"\x10\x20", "MaxData(32)"),
+    (
+        b"\x11\x08\x21",
+        "MaxStreamData { id: StreamId(8), offset: 33 }",
+    ),
+    (b"\x12\x03", "MaxStreams { dir: Bi, count: 3 }"),
+    (b"\x13\x02", "MaxStreams { dir: Uni, count: 2 }"),
+    (b"\x14\x22", "DataBlocked { offset: 34 }"),
+    (
+        b"\x15\x0c\x23",
+        "StreamDataBlocked { id: StreamId(12), offset: 35 }",
+    ),
+    (b"\x16\x01", "StreamsBlocked { dir: Bi, limit: 1 }"),
+    (b"\x17\x04", "StreamsBlocked { dir: Uni, limit: 4 }"),
+    (b"\x19\x07", "RetireConnectionId { sequence: 7 }"),
+    (
+        b"\x04\x04\x05\x06",
+        "ResetStream(ResetStream { id: StreamId(4), error_code: 5, final_offset: 6 })",
+    ),
+    (
+        b"\x05\x04\x05",
+        "StopSending(StopSending { id: StreamId(4), error_code: 5 })",
+    ),
+];
+
+// Checks the Debug of the first frame of a payload.
+fn check_debug(checks: &mut Checks, alloc: Global, payload: &[u8], text: &str) -> Result<(), Fail> {
     let Some(Ok(frame)) = Iter::new(payload)?.next() else {
         return Err("a frame".into());
     };
-    Ok(format!(in alloc; "{frame:?}")?)
+    checks.debugs(alloc, &frame, text)
 }
 
 #[test]
 fn frames_of_few_numbers(rt: HostRuntime) -> Result<(), Fail> {
     let mut checks = Checks::new(rt.alloc());
-    for (payload, text) in [
-        (b"\x10\x20".as_slice(), "MaxData(32)"),
-        (
-            b"\x11\x08\x21".as_slice(),
-            "MaxStreamData { id: StreamId(8), offset: 33 }",
-        ),
-        (b"\x12\x03".as_slice(), "MaxStreams { dir: Bi, count: 3 }"),
-        (b"\x13\x02".as_slice(), "MaxStreams { dir: Uni, count: 2 }"),
-        (b"\x14\x22".as_slice(), "DataBlocked { offset: 34 }"),
-        (
-            b"\x15\x0c\x23".as_slice(),
-            "StreamDataBlocked { id: StreamId(12), offset: 35 }",
-        ),
-        (
-            b"\x16\x01".as_slice(),
-            "StreamsBlocked { dir: Bi, limit: 1 }",
-        ),
-        (
-            b"\x17\x04".as_slice(),
-            "StreamsBlocked { dir: Uni, limit: 4 }",
-        ),
-        (b"\x19\x07".as_slice(), "RetireConnectionId { sequence: 7 }"),
-        (
-            b"\x04\x04\x05\x06".as_slice(),
-            "ResetStream(ResetStream { id: StreamId(4), error_code: 5, final_offset: 6 })",
-        ),
-        (
-            b"\x05\x04\x05".as_slice(),
-            "StopSending(StopSending { id: StreamId(4), error_code: 5 })",
-        ),
-    ] {
-        checks.same(shown(rt.alloc(), payload)?.as_str(), text);
+    for &(payload, text) in SHOWN {
+        check_debug(&mut checks, rt.alloc(), payload, text)?;
     }
     checks.verdict()
+}
+
+// PATH_RESPONSE, HANDSHAKE_DONE and IMMEDIATE_ACK.
+fn reads_what_holds_no_bytes(checks: &mut Checks, iter: &mut Iter<'_>) -> bool {
+    let Some(Ok(Frame::PathResponse(0x102))) = iter.next() else {
+        return false;
+    };
+    let Some(Ok(frame)) = iter.next() else {
+        return false;
+    };
+    checks.same(frame.ty(), FrameType::HANDSHAKE_DONE);
+    checks.holds(frame.is_ack_eliciting());
+    let Some(Ok(Frame::ImmediateAck)) = iter.next() else {
+        return false;
+    };
+    true
+}
+
+// NEW_TOKEN, CONNECTION_CLOSE and DATAGRAM.
+fn reads_what_holds_bytes(checks: &mut Checks, iter: &mut Iter<'_>) -> bool {
+    let Some(Ok(Frame::NewToken(token))) = iter.next() else {
+        return false;
+    };
+    checks.same(token.token, b"ab".as_slice());
+    let Some(Ok(frame)) = iter.next() else {
+        return false;
+    };
+    checks.same(frame.ty(), FrameType::CONNECTION_CLOSE);
+    checks.holds(!frame.is_ack_eliciting());
+    let Some(Ok(Frame::Datagram(datagram))) = iter.next() else {
+        return false;
+    };
+    checks.same(datagram.bytes, b"xy".as_slice());
+    true
+}
+
+fn reads_frames_of_the_connection(checks: &mut Checks) -> bool {
+    let payload = b"\x1b\x00\x00\x00\x00\x00\x00\x01\x02\x1e\x1f\x07\x02ab\x1c\x00\x00\x00\x30xy";
+    let Some(mut iter) = Iter::new(payload).ok() else {
+        return false;
+    };
+    reads_what_holds_no_bytes(checks, &mut iter)
+        && reads_what_holds_bytes(checks, &mut iter)
+        && iter.next().is_none()
 }
 
 #[test]
 fn frames_of_the_connection(rt: HostRuntime) -> Result<(), Fail> {
     let mut checks = Checks::new(rt.alloc());
-    let payload = b"\x1b\x00\x00\x00\x00\x00\x00\x01\x02\x1e\x1f\x07\x02ab\x1c\x00\x00\x00\x30xy";
-    let mut iter = Iter::new(payload)?;
-    checks.holds(matches!(iter.next(), Some(Ok(Frame::PathResponse(0x102)))));
-    let Some(Ok(frame)) = iter.next() else {
-        return Err("a HANDSHAKE_DONE".into());
-    };
-    checks.same(frame.ty(), FrameType::HANDSHAKE_DONE);
-    checks.holds(frame.is_ack_eliciting());
-    checks.holds(matches!(iter.next(), Some(Ok(Frame::ImmediateAck))));
-    let Some(Ok(Frame::NewToken(token))) = iter.next() else {
-        return Err("a NEW_TOKEN".into());
-    };
-    checks.same(token.token, b"ab".as_slice());
-    let Some(Ok(frame)) = iter.next() else {
-        return Err("a CONNECTION_CLOSE".into());
-    };
-    checks.same(frame.ty(), FrameType::CONNECTION_CLOSE);
-    checks.holds(!frame.is_ack_eliciting());
-    let Some(Ok(Frame::Datagram(datagram))) = iter.next() else {
-        return Err("a DATAGRAM".into());
-    };
-    checks.same(datagram.bytes, b"xy".as_slice());
-    checks.holds(iter.next().is_none());
+    let are_read = reads_frames_of_the_connection(&mut checks);
+    checks.holds(are_read);
     checks.verdict()
 }
 
-#[test]
-fn a_new_connection_id_and_an_ack_frequency(rt: HostRuntime) -> Result<(), Fail> {
-    let mut checks = Checks::new(rt.alloc());
-    let payload =
-        b"\x18\x05\x02\x02\xaa\xbb\x11\x11\x11\x11\x11\x11\x11\x11\x11\x11\x11\x11\x11\x11\x11\x12\x40\xaf\x2a\x14\x80\x00\xc3\x50\x01";
-    let mut iter = Iter::new(payload)?;
+fn reads_a_new_connection_id(checks: &mut Checks, iter: &mut Iter<'_>) -> bool {
     let Some(Ok(Frame::NewConnectionId(new))) = iter.next() else {
-        return Err("a NEW_CONNECTION_ID".into());
+        return false;
     };
     checks.same(new.sequence, 5);
     checks.same(new.retire_prior_to, 2);
     checks.same(new.id.as_slice(), b"\xaa\xbb".as_slice());
     checks.same(new.reset_token.as_slice()[15], 0x12);
+    true
+}
+
+fn reads_an_ack_frequency(checks: &mut Checks, iter: &mut Iter<'_>) -> bool {
     let Some(Ok(Frame::AckFrequency(frequency))) = iter.next() else {
-        return Err("an ACK_FREQUENCY".into());
+        return false;
     };
     checks.same(frequency.sequence.into_inner(), 0x2a);
     checks.same(frequency.ack_eliciting_threshold.into_inner(), 0x14);
     checks.same(frequency.request_max_ack_delay.into_inner(), 50000);
     checks.same(frequency.reordering_threshold.into_inner(), 1);
-    checks.holds(iter.next().is_none());
+    true
+}
+
+fn reads_a_new_connection_id_and_an_ack_frequency(checks: &mut Checks) -> bool {
+    let payload =
+        b"\x18\x05\x02\x02\xaa\xbb\x11\x11\x11\x11\x11\x11\x11\x11\x11\x11\x11\x11\x11\x11\x11\x12\x40\xaf\x2a\x14\x80\x00\xc3\x50\x01";
+    let Some(mut iter) = Iter::new(payload).ok() else {
+        return false;
+    };
+    reads_a_new_connection_id(checks, &mut iter)
+        && reads_an_ack_frequency(checks, &mut iter)
+        && iter.next().is_none()
+}
+
+#[test]
+fn a_new_connection_id_and_an_ack_frequency(rt: HostRuntime) -> Result<(), Fail> {
+    let mut checks = Checks::new(rt.alloc());
+    let are_read = reads_a_new_connection_id_and_an_ack_frequency(&mut checks);
+    checks.holds(are_read);
     checks.verdict()
 }
 
@@ -261,23 +341,31 @@ fn converted<T: Copy, U: From<T>>(value: &T) -> U
     U::from(*value)
 }
 
+fn error_of(payload: &[u8]) -> Option<InvalidFrame> {
+    let mut iter = Iter::new(payload).ok()?;
+    let Some(Err(invalid)) = iter.next() else {
+        return None;
+    };
+    Some(invalid)
+}
+
+fn check_error(checks: &mut Checks, alloc: Global, invalid: &InvalidFrame) -> Result<(), Fail> {
+    let error = converted::<InvalidFrame, Error>(invalid);
+    let text = "received a frame that was badly formatted in ACK: malformed";
+    checks.displays(alloc, &error, text)
+}
+
 #[test]
 fn what_is_no_frame(rt: HostRuntime) -> Result<(), Fail> {
-    let mut checks = Checks::new(rt.alloc());
-    let Some(Err(invalid)) = Iter::new(b"\x02\x05\x00\x01\x02\x02")?.next() else {
+    let Some(invalid) = error_of(b"\x02\x05\x00\x01\x02\x02") else {
         return Err("an error".into());
     };
+    let mut checks = Checks::new(rt.alloc());
     let wanted = InvalidFrame {
         ty: Some(FrameType::ACK),
         reason: "malformed",
     };
     checks.holds(invalid == wanted);
-    let error = converted::<InvalidFrame, Error>(&invalid);
-    let alloc = rt.alloc();
-    checks.displays(
-        alloc,
-        &error,
-        "received a frame that was badly formatted in ACK: malformed",
-    )?;
+    check_error(&mut checks, rt.alloc(), &invalid)?;
     checks.verdict()
 }

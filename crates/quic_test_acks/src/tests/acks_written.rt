@@ -3,26 +3,25 @@ ghost use Rattle.std.specs.Prelude.{IsTrue};
 ghost use Rattle.std.specs.Option.{option_copied};
 ghost use Rattle.quic_frames.specs.InRange.{AreCounts};
 
-use super::acks::ranges_of;
+use super::acks::has_ranges;
+use quic_base::coding::NoRoom;
 use quic_frames::frame::{Ack, EcnCounts, Frame, Iter};
 use quic_ranges::range_set::{ArrayRangeSet, RangeSet};
 use quic_testing::Checks;
 use std::alloc::Global;
 use std::test::Fail;
 
-// The set with these runs, as `1..4,5..6`.
-fn set_of(alloc: Global, runs: &str) -> Result<ArrayRangeSet, Fail> {
-    let mut set = ArrayRangeSet::new(alloc);
-    insert_all(&mut set, runs)?;
-    Ok(set)
+fn insert_all(set: &mut ArrayRangeSet, runs: &[(u64, u64)]) -> Result<(), NoRoom> {
+    for &(start, end) in runs {
+        let _ = set.insert(start..end)?;
+    }
+    Ok(())
 }
 
-fn insert_all(set: &mut ArrayRangeSet, runs: &str) -> Result<(), Fail> {
-    for run in runs.split(",") {
-        let Some((start, end)) = run.split_once("..") else {
-            return Err("a run".into());
-        };
-        set.insert(start.parse()?..end.parse()?)?;
+// The same set with its runs in a vector.
+fn insert_all_of(equal: &mut RangeSet, set: &ArrayRangeSet) -> Result<(), NoRoom> {
+    for run in set.iter() {
+        let _ = equal.insert(run)?;
     }
     Ok(())
 }
@@ -36,132 +35,121 @@ fn are_small(counts: Option<&EcnCounts>) -> bool
     }
 }
 
-fn ack_bytes(
-    alloc: Global,
-    delay: u64,
-    set: &ArrayRangeSet,
-    counts: Option<&EcnCounts>,
-) -> Result<Vec<u8>, Fail> {
+// Writes the ACK of a set, and answers whether that was done.
+fn encode(out: &mut Vec<u8>, delay: u64, set: &ArrayRangeSet, counts: Option<&EcnCounts>) -> bool {
     let Some(greatest) = set.max() else {
-        return Err("a number".into());
+        return false;
     };
     if greatest >= 1 << 62 || delay >= 1 << 62 || !are_small(counts) {
-        return Err("a smaller number".into());
+        return false;
     }
-    let mut out = Vec::new(alloc);
-    Ack::encode(delay, set, counts, &mut out)?;
-    Ok(out)
+    Ack::encode(delay, set, counts, out).is_ok()
 }
 
 // The same of a set whose runs lie in a vector.
-fn ack_bytes_from(
-    alloc: Global,
-    delay: u64,
-    set: &RangeSet,
-    counts: Option<&EcnCounts>,
-) -> Result<Vec<u8>, Fail> {
+fn encode_from(out: &mut Vec<u8>, delay: u64, set: &RangeSet, counts: Option<&EcnCounts>) -> bool {
     let Some(greatest) = set.max() else {
-        return Err("a number".into());
+        return false;
     };
     if greatest >= 1 << 62 || delay >= 1 << 62 || !are_small(counts) {
-        return Err("a smaller number".into());
+        return false;
     }
-    let mut out = Vec::new(alloc);
-    Ack::encode_from(delay, set, counts, &mut out)?;
-    Ok(out)
+    Ack::encode_from(delay, set, counts, out).is_ok()
 }
 
-// The same set with its runs in a vector.
-fn in_vector(alloc: Global, set: &ArrayRangeSet) -> Result<RangeSet, Fail> {
-    let mut equal = RangeSet::new(alloc);
-    for run in set.iter() {
-        equal.insert(run)?;
-    }
-    Ok(equal)
+fn encode_from_equal(
+    out: &mut Vec<u8>,
+    equal: &mut RangeSet,
+    delay: u64,
+    set: &ArrayRangeSet,
+    counts: Option<&EcnCounts>,
+) -> bool {
+    insert_all_of(equal, set).is_ok() && encode_from(out, delay, equal, counts)
 }
 
-// The bytes of an ACK of the set, if both encoders write the same.
-fn ack_bytes_of_both(
+// Writes the ACK of a set, and answers whether both encoders write the same.
+fn encode_by_both(
+    out: &mut Vec<u8>,
     alloc: Global,
     delay: u64,
     set: &ArrayRangeSet,
     counts: Option<&EcnCounts>,
-) -> Result<Vec<u8>, Fail> {
-    let equal = in_vector(alloc, set)?;
-    let bytes = ack_bytes(alloc, delay, set, counts)?;
-    if ack_bytes_from(alloc, delay, &equal, counts)?.as_slice() != bytes.as_slice() {
-        return Err("the same bytes".into());
-    }
-    Ok(bytes)
+) -> bool {
+    let mut other = Vec::new(alloc);
+    let equal = &mut RangeSet::new(alloc);
+    encode(out, delay, set, counts)
+        && encode_from_equal(&mut other, equal, delay, set, counts)
+        && out.as_slice() == other.as_slice()
 }
 
-// The bytes of the ACK that the words say.
-fn written(alloc: Global, words: &[&str]) -> Result<Vec<u8>, Fail> {
-    match words {
-        [delay, runs] => ack_bytes_of_both(alloc, delay.parse()?, &set_of(alloc, runs)?, None),
-        [delay, runs, ect0, ect1, ce] => {
-            let counts = EcnCounts {
-                ect0: ect0.parse()?,
-                ect1: ect1.parse()?,
-                ce: ce.parse()?,
-            };
-            ack_bytes_of_both(alloc, delay.parse()?, &set_of(alloc, runs)?, Some(&counts))
-        }
-        _ => Err("an unknown line".into()),
-    }
-}
+// The delay of an ACK, the runs of its set, its counts, and its bytes.
+type AckRow = (u64, &'static [(u64, u64)], Option<EcnCounts>, &'static [u8]);
 
-// Whether the words before the bar are written as the bytes behind it.
-fn is_written(alloc: Global, line: &str) -> Result<bool, Fail> {
-    let Some((call, wanted)) = line.split_once("|") else {
-        return Err("a set and the bytes of its ACK".into());
-    };
-    let words: Vec<&str> = call.split(" ").collect(alloc)?;
-    let wanted = hex::decode(alloc, wanted.as_bytes())?;
-    Ok(written(alloc, words.as_slice())?.as_slice() == wanted.as_slice())
+const ACKS: &[AckRow] = &[
+    (0, &[(0, 1)], None, b"\x02\x00\x00\x00\x00"),
+    (0, &[(0, 1), (2, 3)], None, b"\x02\x02\x00\x01\x00\x00\x00"),
+    (0, &[(0, 2), (3, 4)], None, b"\x02\x03\x00\x01\x00\x00\x01"),
+    (
+        42,
+        &[(1, 4), (5, 6), (10, 12), (14, 15)],
+        Some(EcnCounts {
+            ect0: 42,
+            ect1: 24,
+            ce: 12,
+        }),
+        b"\x03\x0e\x2a\x03\x00\x01\x01\x03\x00\x00\x02\x2a\x18\x0c",
+    ),
+];
+
+fn is_written(out: &mut Vec<u8>, set: &mut ArrayRangeSet, alloc: Global, row: &AckRow) -> bool {
+    let &(delay, runs, counts, bytes) = row;
+    insert_all(set, runs).is_ok()
+        && encode_by_both(out, alloc, delay, set, counts.as_ref())
+        && out.as_slice() == bytes
 }
 
 #[test]
 fn acks_of_few_numbers(rt: HostRuntime) -> Result<(), Fail> {
     let mut checks = Checks::new(rt.alloc());
-    for line in [
-        "0 0..1|0200000000",
-        "0 0..1,2..3|02020001000000",
-        "0 0..2,3..4|02030001000001",
-        "42 1..4,5..6,10..12,14..15 42 24 12|030e2a03000101030000022a180c",
-    ] {
-        checks.holds_at(line, is_written(rt.alloc(), line)?);
+    for row in ACKS {
+        let set = &mut ArrayRangeSet::new(rt.alloc());
+        let written = is_written(&mut Vec::new(rt.alloc()), set, rt.alloc(), row);
+        checks.holds_at(format_args!("{row:?}"), written);
     }
     checks.verdict()
 }
 
 // Whether the bytes are an ACK and nothing else, and it has these ranges, this delay and these counts.
-fn is_read_as(
-    alloc: Global,
-    bytes: &[u8],
-    ranges: &[(u64, u64)],
-    delay: u64,
-    counts: EcnCounts,
-) -> Result<bool, Fail> {
-    let mut iter = Iter::new(bytes)?;
-    let Some(Ok(Frame::Ack(ack))) = iter.next() else {
-        return Ok(false);
+fn is_read_as(bytes: &[u8], ranges: &[(u64, u64)], delay: u64, counts: EcnCounts) -> bool {
+    let Some(mut iter) = Iter::new(bytes).ok() else {
+        return false;
     };
-    let are_same = ranges_of(alloc, &ack)?.as_slice() == ranges;
-    Ok(are_same && ack.delay() == delay && ack.ecn() == Some(counts) && iter.next().is_none())
+    let Some(Ok(Frame::Ack(ack))) = iter.next() else {
+        return false;
+    };
+    has_ranges(&ack, ranges)
+        && ack.delay() == delay
+        && ack.ecn() == Some(counts)
+        && iter.next().is_none()
 }
 
-#[test]
-fn an_ack_of_a_set_is_read_back(rt: HostRuntime) -> Result<(), Fail> {
-    let mut checks = Checks::new(rt.alloc());
-    let set = set_of(rt.alloc(), "14..15,1..3,10..11,3..4,5..6,11..12")?;
+fn is_read_back(out: &mut Vec<u8>, set: &mut ArrayRangeSet, alloc: Global) -> bool {
+    let runs = [(14, 15), (1, 3), (10, 11), (3, 4), (5, 6), (11, 12)];
     let counts = EcnCounts {
         ect0: 42,
         ect1: 24,
         ce: 12,
     };
-    let bytes = ack_bytes_of_both(rt.alloc(), 42, &set, Some(&counts))?;
     let wanted = [(14, 14), (10, 11), (5, 5), (1, 3)];
-    checks.holds(is_read_as(rt.alloc(), bytes.as_slice(), &wanted, 42, counts)?);
+    insert_all(set, &runs).is_ok()
+        && encode_by_both(out, alloc, 42, set, Some(&counts))
+        && is_read_as(out.as_slice(), &wanted, 42, counts)
+}
+
+#[test]
+fn an_ack_of_a_set_is_read_back(rt: HostRuntime) -> Result<(), Fail> {
+    let mut checks = Checks::new(rt.alloc());
+    let set = &mut ArrayRangeSet::new(rt.alloc());
+    checks.holds(is_read_back(&mut Vec::new(rt.alloc()), set, rt.alloc()));
     checks.verdict()
 }

@@ -141,33 +141,63 @@ fn frame_type(alloc: Global, number: &str) -> Result<Written, Fail> {
     Ok((out, None))
 }
 
+// The same of the words of a line. Each kind is read by a function of its own, so that the choice among kinds has no way
+// out while a frame's bytes are alive.
+fn crypto_of(alloc: Global, offset: &str, bytes: &str) -> Result<Written, Fail> {
+    crypto(alloc, offset.parse()?, bytes_of(alloc, bytes)?.as_slice())
+}
+
+fn new_token_of(alloc: Global, token: &str) -> Result<Written, Fail> {
+    new_token(alloc, bytes_of(alloc, token)?.as_slice())
+}
+
+fn datagram_of(alloc: Global, with_length: bool, bytes: &str) -> Result<Written, Fail> {
+    datagram(alloc, with_length, bytes_of(alloc, bytes)?.as_slice())
+}
+
+fn new_connection_id_of(
+    alloc: Global,
+    sequence: &str,
+    retire_prior_to: &str,
+    id: &str,
+    token: &str,
+) -> Result<Written, Fail> {
+    new_connection_id(
+        alloc,
+        sequence.parse()?,
+        retire_prior_to.parse()?,
+        bytes_of(alloc, id)?.as_slice(),
+        bytes_of(alloc, token)?.as_slice(),
+    )
+}
+
+fn stream_meta_of(
+    alloc: Global,
+    id: &str,
+    start: &str,
+    end: &str,
+    fin: bool,
+    with_length: bool,
+) -> Result<Written, Fail> {
+    let offsets = start.parse()?..end.parse()?;
+    stream_meta(alloc, id, offsets, fin, with_length)
+}
+
 fn written(alloc: Global, line: &str) -> Result<Written, Fail> {
     let words: Vec<&str> = line.split(" ").collect(alloc)?;
     match words.as_slice() {
         ["reset_stream", id, code, offset] => reset_stream(alloc, id, code, offset),
         ["stop_sending", id, code] => stop_sending(alloc, id, code),
-        ["crypto", offset, bytes] => {
-            crypto(alloc, offset.parse()?, bytes_of(alloc, bytes)?.as_slice())
+        ["crypto", offset, bytes] => crypto_of(alloc, offset, bytes),
+        ["new_token", token] => new_token_of(alloc, token),
+        ["datagram", length, bytes] => datagram_of(alloc, flag(length), bytes),
+        ["new_connection_id", sequence, retire, id, token] => {
+            new_connection_id_of(alloc, sequence, retire, id, token)
         }
-        ["new_token", token] => new_token(alloc, bytes_of(alloc, token)?.as_slice()),
-        ["datagram", length, bytes] => {
-            datagram(alloc, flag(length), bytes_of(alloc, bytes)?.as_slice())
-        }
-        ["new_connection_id", sequence, retire, id, token] => new_connection_id(
-            alloc,
-            sequence.parse()?,
-            retire.parse()?,
-            bytes_of(alloc, id)?.as_slice(),
-            bytes_of(alloc, token)?.as_slice(),
-        ),
         ["ack_frequency", a, b, c, d] => ack_frequency(alloc, [a, b, c, d]),
-        ["stream_meta", id, start, end, fin, length] => stream_meta(
-            alloc,
-            id,
-            start.parse()?..end.parse()?,
-            flag(fin),
-            flag(length),
-        ),
+        ["stream_meta", id, start, end, fin, length] => {
+            stream_meta_of(alloc, id, start, end, flag(fin), flag(length))
+        }
         ["type", number] => frame_type(alloc, number),
         _ => Err("a frame".into()),
     }

@@ -24,10 +24,12 @@ pub fn has_ranges(ack: &Ack<'_>, ranges: &[(u64, u64)]) -> bool {
 
 fn gives_two_ranges(ack: &Ack<'_>) -> bool {
     let mut iter = ack.iter();
-    iter.next() == Some(5..=5)
-        && iter.next() == Some(0..=3)
-        && iter.next().is_none()
-        && iter.next().is_none()
+    for (start, end) in [(5, 5), (0, 3)] {
+        if iter.next() != Some(start..=end) {
+            return false;
+        }
+    }
+    iter.next().is_none() && iter.next().is_none()
 }
 
 #[test]
@@ -147,7 +149,21 @@ fn a_first_range(rt: HostRuntime) -> Result<(), Fail> {
     checks.verdict()
 }
 
-fn reads_an_acknowledgement_with_counts(checks: &mut Checks) -> bool {
+fn is_an_acknowledgement_with_counts(frame: &Frame<'_>) -> bool {
+    let Frame::Ack(ack) = frame else {
+        return false;
+    };
+    let wanted = EcnCounts {
+        ect0: 0x2a,
+        ect1: 0x18,
+        ce: 0x0c,
+    };
+    has_ranges(ack, &[(14, 14), (10, 11), (5, 5), (1, 3)])
+        && ack.delay() == 0x2a
+        && ack.ecn() == Some(wanted)
+}
+
+fn reads_an_acknowledgement_with_counts() -> bool {
     let payload = b"\x03\x0e\x2a\x03\x00\x01\x01\x03\x00\x00\x02\x2a\x18\x0c";
     let Some(mut iter) = Iter::new(payload).ok() else {
         return false;
@@ -155,27 +171,15 @@ fn reads_an_acknowledgement_with_counts(checks: &mut Checks) -> bool {
     let Some(Ok(frame)) = iter.next() else {
         return false;
     };
-    checks.same(frame.ty(), FrameType::ACK);
-    checks.holds(!frame.is_ack_eliciting());
-    let Frame::Ack(ack) = frame else {
-        return false;
-    };
-    checks.holds(has_ranges(&ack, &[(14, 14), (10, 11), (5, 5), (1, 3)]));
-    checks.same(ack.delay(), 0x2a);
-    let wanted = EcnCounts {
-        ect0: 0x2a,
-        ect1: 0x18,
-        ce: 0x0c,
-    };
-    checks.same(ack.ecn(), Some(wanted));
-    true
+    frame.ty() == FrameType::ACK
+        && !frame.is_ack_eliciting()
+        && is_an_acknowledgement_with_counts(&frame)
 }
 
 #[test]
 fn an_acknowledgement_with_counts(rt: HostRuntime) -> Result<(), Fail> {
     let mut checks = Checks::new(rt.alloc());
-    let is_read = reads_an_acknowledgement_with_counts(&mut checks);
-    checks.holds(is_read);
+    checks.holds(reads_an_acknowledgement_with_counts());
     checks.verdict()
 }
 
@@ -241,96 +245,82 @@ fn frames_of_few_numbers(rt: HostRuntime) -> Result<(), Fail> {
     checks.verdict()
 }
 
-// PATH_RESPONSE, HANDSHAKE_DONE and IMMEDIATE_ACK.
-fn reads_what_holds_no_bytes(checks: &mut Checks, iter: &mut Iter<'_>) -> bool {
-    let Some(Ok(Frame::PathResponse(0x102))) = iter.next() else {
-        return false;
-    };
+fn reads_handshake_done(iter: &mut Iter<'_>) -> bool {
     let Some(Ok(frame)) = iter.next() else {
         return false;
     };
-    checks.same(frame.ty(), FrameType::HANDSHAKE_DONE);
-    checks.holds(frame.is_ack_eliciting());
-    let Some(Ok(Frame::ImmediateAck)) = iter.next() else {
-        return false;
-    };
-    true
+    frame.ty() == FrameType::HANDSHAKE_DONE && frame.is_ack_eliciting()
 }
 
-// NEW_TOKEN, CONNECTION_CLOSE and DATAGRAM.
-fn reads_what_holds_bytes(checks: &mut Checks, iter: &mut Iter<'_>) -> bool {
+fn reads_a_token(iter: &mut Iter<'_>) -> bool {
     let Some(Ok(Frame::NewToken(token))) = iter.next() else {
         return false;
     };
-    checks.same(token.token, b"ab".as_slice());
+    token.token == b"ab".as_slice()
+}
+
+fn reads_a_close(iter: &mut Iter<'_>) -> bool {
     let Some(Ok(frame)) = iter.next() else {
         return false;
     };
-    checks.same(frame.ty(), FrameType::CONNECTION_CLOSE);
-    checks.holds(!frame.is_ack_eliciting());
+    frame.ty() == FrameType::CONNECTION_CLOSE && !frame.is_ack_eliciting()
+}
+
+fn reads_a_datagram(iter: &mut Iter<'_>) -> bool {
     let Some(Ok(Frame::Datagram(datagram))) = iter.next() else {
         return false;
     };
-    checks.same(datagram.bytes, b"xy".as_slice());
-    true
+    datagram.bytes == b"xy".as_slice()
 }
 
-fn reads_frames_of_the_connection(checks: &mut Checks) -> bool {
-    let payload = b"\x1b\x00\x00\x00\x00\x00\x00\x01\x02\x1e\x1f\x07\x02ab\x1c\x00\x00\x00\x30xy";
-    let Some(mut iter) = Iter::new(payload).ok() else {
-        return false;
-    };
-    reads_what_holds_no_bytes(checks, &mut iter)
-        && reads_what_holds_bytes(checks, &mut iter)
-        && iter.next().is_none()
+fn check_frames_of_the_connection(checks: &mut Checks, iter: &mut Iter<'_>) {
+    checks.holds(matches!(iter.next(), Some(Ok(Frame::PathResponse(0x102)))));
+    checks.holds(reads_handshake_done(iter));
+    checks.holds(matches!(iter.next(), Some(Ok(Frame::ImmediateAck))));
+    checks.holds(reads_a_token(iter));
+    checks.holds(reads_a_close(iter));
+    checks.holds(reads_a_datagram(iter));
+    checks.holds(iter.next().is_none());
 }
 
 #[test]
 fn frames_of_the_connection(rt: HostRuntime) -> Result<(), Fail> {
+    let payload = b"\x1b\x00\x00\x00\x00\x00\x00\x01\x02\x1e\x1f\x07\x02ab\x1c\x00\x00\x00\x30xy";
+    let mut iter = Iter::new(payload)?;
     let mut checks = Checks::new(rt.alloc());
-    let are_read = reads_frames_of_the_connection(&mut checks);
-    checks.holds(are_read);
+    check_frames_of_the_connection(&mut checks, &mut iter);
     checks.verdict()
 }
 
-fn reads_a_new_connection_id(checks: &mut Checks, iter: &mut Iter<'_>) -> bool {
+fn reads_a_new_connection_id(iter: &mut Iter<'_>) -> bool {
     let Some(Ok(Frame::NewConnectionId(new))) = iter.next() else {
         return false;
     };
-    checks.same(new.sequence, 5);
-    checks.same(new.retire_prior_to, 2);
-    checks.same(new.id.as_slice(), b"\xaa\xbb".as_slice());
-    checks.same(new.reset_token.as_slice()[15], 0x12);
-    true
+    new.sequence == 5
+        && new.retire_prior_to == 2
+        && new.id.as_slice() == b"\xaa\xbb".as_slice()
+        && new.reset_token.as_slice().last() == Some(&0x12)
 }
 
-fn reads_an_ack_frequency(checks: &mut Checks, iter: &mut Iter<'_>) -> bool {
+fn reads_an_ack_frequency(iter: &mut Iter<'_>) -> bool {
     let Some(Ok(Frame::AckFrequency(frequency))) = iter.next() else {
         return false;
     };
-    checks.same(frequency.sequence.into_inner(), 0x2a);
-    checks.same(frequency.ack_eliciting_threshold.into_inner(), 0x14);
-    checks.same(frequency.request_max_ack_delay.into_inner(), 50000);
-    checks.same(frequency.reordering_threshold.into_inner(), 1);
-    true
-}
-
-fn reads_a_new_connection_id_and_an_ack_frequency(checks: &mut Checks) -> bool {
-    let payload =
-        b"\x18\x05\x02\x02\xaa\xbb\x11\x11\x11\x11\x11\x11\x11\x11\x11\x11\x11\x11\x11\x11\x11\x12\x40\xaf\x2a\x14\x80\x00\xc3\x50\x01";
-    let Some(mut iter) = Iter::new(payload).ok() else {
-        return false;
-    };
-    reads_a_new_connection_id(checks, &mut iter)
-        && reads_an_ack_frequency(checks, &mut iter)
-        && iter.next().is_none()
+    frequency.sequence.into_inner() == 0x2a
+        && frequency.ack_eliciting_threshold.into_inner() == 0x14
+        && frequency.request_max_ack_delay.into_inner() == 50000
+        && frequency.reordering_threshold.into_inner() == 1
 }
 
 #[test]
 fn a_new_connection_id_and_an_ack_frequency(rt: HostRuntime) -> Result<(), Fail> {
+    let payload =
+        b"\x18\x05\x02\x02\xaa\xbb\x11\x11\x11\x11\x11\x11\x11\x11\x11\x11\x11\x11\x11\x11\x11\x12\x40\xaf\x2a\x14\x80\x00\xc3\x50\x01";
+    let mut iter = Iter::new(payload)?;
     let mut checks = Checks::new(rt.alloc());
-    let are_read = reads_a_new_connection_id_and_an_ack_frequency(&mut checks);
-    checks.holds(are_read);
+    checks.holds(reads_a_new_connection_id(&mut iter));
+    checks.holds(reads_an_ack_frequency(&mut iter));
+    checks.holds(iter.next().is_none());
     checks.verdict()
 }
 

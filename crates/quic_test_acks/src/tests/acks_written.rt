@@ -108,15 +108,24 @@ fn is_written(out: &mut Vec<u8>, set: &mut ArrayRangeSet, alloc: Global, row: &A
         && out.as_slice() == bytes
 }
 
+// The same of a set and a vector that are new.
+fn is_written_anew(alloc: Global, row: &AckRow) -> bool {
+    let set = &mut ArrayRangeSet::new(alloc);
+    is_written(&mut Vec::new(alloc), set, alloc, row)
+}
+
 #[test]
 fn acks_of_few_numbers(rt: HostRuntime) -> Result<(), Fail> {
     let mut checks = Checks::new(rt.alloc());
     for row in ACKS {
-        let set = &mut ArrayRangeSet::new(rt.alloc());
-        let written = is_written(&mut Vec::new(rt.alloc()), set, rt.alloc(), row);
+        let written = is_written_anew(rt.alloc(), row);
         checks.holds_at(format_args!("{row:?}"), written);
     }
     checks.verdict()
+}
+
+fn has_parts(ack: &Ack<'_>, ranges: &[(u64, u64)], delay: u64, counts: EcnCounts) -> bool {
+    has_ranges(ack, ranges) && ack.delay() == delay && ack.ecn() == Some(counts)
 }
 
 // Whether the bytes are an ACK and nothing else, and it has these ranges, this delay and these counts.
@@ -127,10 +136,7 @@ fn is_read_as(bytes: &[u8], ranges: &[(u64, u64)], delay: u64, counts: EcnCounts
     let Some(Ok(Frame::Ack(ack))) = iter.next() else {
         return false;
     };
-    has_ranges(&ack, ranges)
-        && ack.delay() == delay
-        && ack.ecn() == Some(counts)
-        && iter.next().is_none()
+    has_parts(&ack, ranges, delay, counts) && iter.next().is_none()
 }
 
 fn is_read_back(out: &mut Vec<u8>, set: &mut ArrayRangeSet, alloc: Global) -> bool {

@@ -1,7 +1,9 @@
 ghost use Rattle.std.specs.Prelude.{OnOk};
 ghost use Rattle.quic_ranges.specs.Runs.{IsRunsOf, in_union};
 
-use super::ranges_refused::{Call, made, made_in_array};
+use super::ranges_refused::{
+    Call, made, made_in_array, on_a_set, on_an_array, on_two_arrays, on_two_sets,
+};
 use quic_base::coding::NoRoom;
 use quic_ranges::range_set::{ArrayRangeSet, RangeSet, Replace};
 use quic_testing::Checks;
@@ -164,11 +166,12 @@ const REPLACE_SCRIPT: &[((u64, u64), Runs)] = &[
     ((2, 7), &[(6, 7)]),
 ];
 
-fn replace_by_script(checks: &mut Checks, set: &mut RangeSet) {
+fn replace_by_script(checks: &mut Checks, set: &mut RangeSet) -> Result<(), NoRoom> {
     for &((start, end), pieces) in REPLACE_SCRIPT {
         checks.holds_at(start, gives_replaced(set, start..end, pieces));
     }
     checks.holds(set_is(set, &[(2, 10)]));
+    Ok(())
 }
 
 fn replace_by_script_unseen(checks: &mut Checks, set: &mut RangeSet) -> Result<(), NoRoom> {
@@ -181,11 +184,8 @@ fn replace_by_script_unseen(checks: &mut Checks, set: &mut RangeSet) -> Result<(
 
 #[test]
 fn replaces_one_after_the_other(rt: HostRuntime) -> Result<(), Fail> {
-    let mut checks = Checks::new(rt.alloc());
-    replace_by_script(&mut checks, &mut RangeSet::new(rt.alloc()));
-    let dropped = replace_by_script_unseen(&mut checks, &mut RangeSet::new(rt.alloc()));
-    checks.holds(dropped.is_ok());
-    checks.verdict()
+    on_a_set(rt.alloc(), replace_by_script)?;
+    on_a_set(rt.alloc(), replace_by_script_unseen)
 }
 
 fn add(checks: &mut Checks, set: &mut RangeSet, other: &mut RangeSet) -> Result<(), NoRoom> {
@@ -199,14 +199,7 @@ fn add(checks: &mut Checks, set: &mut RangeSet, other: &mut RangeSet) -> Result<
 
 #[test]
 fn adds(rt: HostRuntime) -> Result<(), Fail> {
-    let mut checks = Checks::new(rt.alloc());
-    let (set, other) = (
-        &mut RangeSet::new(rt.alloc()),
-        &mut RangeSet::new(rt.alloc()),
-    );
-    let added = add(&mut checks, set, other);
-    checks.holds(added.is_ok());
-    checks.verdict()
+    on_two_sets(rt.alloc(), add)
 }
 
 // Whether a clone has these runs, and what it is a clone of has them still.
@@ -217,8 +210,10 @@ fn copy_is(set: &RangeSet, runs: Runs) -> bool {
     set_is(&copy, runs)
 }
 
-fn is_cloned(set: &mut RangeSet, runs: Runs) -> bool {
-    insert_all(set, runs).is_ok() && copy_is(set, runs) && set_is(set, runs)
+fn clone(checks: &mut Checks, set: &mut RangeSet) -> Result<(), NoRoom> {
+    insert_all(set, THREE_RUNS)?;
+    checks.holds(copy_is(set, THREE_RUNS) && set_is(set, THREE_RUNS));
+    Ok(())
 }
 
 fn array_copy_is(array: &ArrayRangeSet, runs: Runs) -> bool {
@@ -228,8 +223,17 @@ fn array_copy_is(array: &ArrayRangeSet, runs: Runs) -> bool {
     array_is(&copy, runs)
 }
 
-fn array_is_cloned(array: &mut ArrayRangeSet, runs: Runs) -> bool {
-    insert_all_in_array(array, runs).is_ok() && array_copy_is(array, runs) && array_is(array, runs)
+// A clone of two runs, which stand without memory, and one of three.
+fn clone_arrays(
+    checks: &mut Checks,
+    few: &mut ArrayRangeSet,
+    many: &mut ArrayRangeSet,
+) -> Result<(), NoRoom> {
+    insert_all_in_array(few, TWO_RUNS)?;
+    insert_all_in_array(many, THREE_RUNS)?;
+    checks.holds(array_copy_is(few, TWO_RUNS) && array_is(few, TWO_RUNS));
+    checks.holds(array_copy_is(many, THREE_RUNS) && array_is(many, THREE_RUNS));
+    Ok(())
 }
 
 const THREE_RUNS: Runs = &[(1, 3), (5, 7), (9, 11)];
@@ -238,17 +242,12 @@ const TWO_RUNS: Runs = &[(1, 3), (5, 7)];
 
 #[test]
 fn clones(rt: HostRuntime) -> Result<(), Fail> {
-    let mut checks = Checks::new(rt.alloc());
-    checks.holds(is_cloned(&mut RangeSet::new(rt.alloc()), THREE_RUNS));
-    checks.verdict()
+    on_a_set(rt.alloc(), clone)
 }
 
 #[test]
 fn clones_array_sets(rt: HostRuntime) -> Result<(), Fail> {
-    let mut checks = Checks::new(rt.alloc());
-    checks.holds(array_is_cloned(&mut ArrayRangeSet::new(rt.alloc()), THREE_RUNS));
-    checks.holds(array_is_cloned(&mut ArrayRangeSet::new(rt.alloc()), TWO_RUNS));
-    checks.verdict()
+    on_two_arrays(rt.alloc(), clone_arrays)
 }
 
 // Ranges, others that are taken from them, and what is left.
@@ -258,40 +257,36 @@ const SUBTRACTED: (Runs, Runs, Runs) = (
     &[(0, 50), (60, 100)],
 );
 
-fn set_leaves(set: &mut RangeSet, other: &mut RangeSet) -> bool {
+fn subtract(checks: &mut Checks, set: &mut RangeSet, other: &mut RangeSet) -> Result<(), NoRoom> {
     let (before, taken, after) = SUBTRACTED;
-    insert_all(other, taken).is_ok()
-        && insert_all(set, before).is_ok()
-        && set.subtract(other).is_ok()
-        && set_is(set, after)
+    insert_all(other, taken)?;
+    insert_all(set, before)?;
+    set.subtract(other)?;
+    checks.holds(set_is(set, after));
+    Ok(())
 }
 
-fn array_leaves(array: &mut ArrayRangeSet, other: &mut ArrayRangeSet) -> bool {
+fn subtract_array(
+    checks: &mut Checks,
+    array: &mut ArrayRangeSet,
+    other: &mut ArrayRangeSet,
+) -> Result<(), NoRoom> {
     let (before, taken, after) = SUBTRACTED;
-    insert_all_in_array(other, taken).is_ok()
-        && insert_all_in_array(array, before).is_ok()
-        && array.subtract(other).is_ok()
-        && array_is(array, after)
+    insert_all_in_array(other, taken)?;
+    insert_all_in_array(array, before)?;
+    array.subtract(other)?;
+    checks.holds(array_is(array, after));
+    Ok(())
 }
 
 #[test]
 fn subtracts(rt: HostRuntime) -> Result<(), Fail> {
-    let mut checks = Checks::new(rt.alloc());
-    let (set, other) = (
-        &mut RangeSet::new(rt.alloc()),
-        &mut RangeSet::new(rt.alloc()),
-    );
-    checks.holds(set_leaves(set, other));
-    checks.verdict()
+    on_two_sets(rt.alloc(), subtract)
 }
 
 #[test]
 fn subtracts_from_array_sets(rt: HostRuntime) -> Result<(), Fail> {
-    let mut checks = Checks::new(rt.alloc());
-    let array = &mut ArrayRangeSet::new(rt.alloc());
-    let other = &mut ArrayRangeSet::new(rt.alloc());
-    checks.holds(array_leaves(array, other));
-    checks.verdict()
+    on_two_arrays(rt.alloc(), subtract_array)
 }
 
 // From which end an element of 0..3 and 5..7 is taken, and which one it is.
@@ -330,21 +325,22 @@ fn array_has_elements(array: &ArrayRangeSet, wanted: &[u64]) -> bool {
     elements.next().is_none()
 }
 
-fn set_gives(set: &mut RangeSet) -> bool {
-    insert_all(set, &[(0, 3), (5, 7)]).is_ok() && gives_elements_from_both_ends(set)
+fn give(checks: &mut Checks, set: &mut RangeSet) -> Result<(), NoRoom> {
+    insert_all(set, &[(0, 3), (5, 7)])?;
+    checks.holds(gives_elements_from_both_ends(set));
+    Ok(())
 }
 
-fn array_gives(array: &mut ArrayRangeSet) -> bool {
-    insert_all_in_array(array, &[(0, 3), (5, 7)]).is_ok()
-        && array_has_elements(array, &[0, 1, 2, 5, 6])
+fn give_of_array(checks: &mut Checks, array: &mut ArrayRangeSet) -> Result<(), NoRoom> {
+    insert_all_in_array(array, &[(0, 3), (5, 7)])?;
+    checks.holds(array_has_elements(array, &[0, 1, 2, 5, 6]));
+    Ok(())
 }
 
 #[test]
 fn gives_elements(rt: HostRuntime) -> Result<(), Fail> {
-    let mut checks = Checks::new(rt.alloc());
-    checks.holds(set_gives(&mut RangeSet::new(rt.alloc())));
-    checks.holds(array_gives(&mut ArrayRangeSet::new(rt.alloc())));
-    checks.verdict()
+    on_a_set(rt.alloc(), give)?;
+    on_an_array(rt.alloc(), give_of_array)
 }
 
 // A call, whether it changes the set, and the runs of the set after it.
@@ -392,6 +388,14 @@ fn pops_all(set: &mut RangeSet) -> bool {
     set.pop_min() == Some(0..10) && set.min().is_none() && set_is(set, &[])
 }
 
+fn run_the_cut(checks: &mut Checks, set: &mut RangeSet) -> Result<(), NoRoom> {
+    run(checks, set, CUT_SCRIPT)
+}
+
+fn run_at_the_greatest(checks: &mut Checks, set: &mut RangeSet) -> Result<(), NoRoom> {
+    run(checks, set, GREATEST_SCRIPT)
+}
+
 // The array set has no `replace`.
 fn run_and_replace(checks: &mut Checks, set: &mut RangeSet) -> Result<(), NoRoom> {
     run(checks, set, SCRIPT)?;
@@ -403,24 +407,17 @@ fn run_and_replace(checks: &mut Checks, set: &mut RangeSet) -> Result<(), NoRoom
 
 #[test]
 fn runs_scripts_on_the_range_set(rt: HostRuntime) -> Result<(), Fail> {
-    let mut checks = Checks::new(rt.alloc());
-    let ran = run_and_replace(&mut checks, &mut RangeSet::new(rt.alloc()));
-    checks.holds(ran.is_ok());
-    for script in &[CUT_SCRIPT, GREATEST_SCRIPT] {
-        let ran = run(&mut checks, &mut RangeSet::new(rt.alloc()), script);
-        checks.holds(ran.is_ok());
-    }
-    checks.verdict()
+    on_a_set(rt.alloc(), run_and_replace)?;
+    on_a_set(rt.alloc(), run_the_cut)?;
+    on_a_set(rt.alloc(), run_at_the_greatest)
 }
 
 #[test]
 fn runs_scripts_on_the_array_set(rt: HostRuntime) -> Result<(), Fail> {
-    let mut checks = Checks::new(rt.alloc());
     for script in &[SCRIPT, CUT_SCRIPT, GREATEST_SCRIPT] {
-        let ran = run_on_array(&mut checks, &mut ArrayRangeSet::new(rt.alloc()), script);
-        checks.holds(ran.is_ok());
+        on_an_array(rt.alloc(), |checks, set| run_on_array(checks, set, script))?;
     }
-    checks.verdict()
+    Ok(())
 }
 
 // Whether a number is in 2..4 or 6..9.
@@ -472,12 +469,8 @@ fn answer_for_array(checks: &mut Checks, array: &mut ArrayRangeSet) -> Result<()
 
 #[test]
 fn answers_queries(rt: HostRuntime) -> Result<(), Fail> {
-    let mut checks = Checks::new(rt.alloc());
-    let answered = answer(&mut checks, &mut RangeSet::new(rt.alloc()));
-    checks.holds(answered.is_ok());
-    let answered = answer_for_array(&mut checks, &mut ArrayRangeSet::new(rt.alloc()));
-    checks.holds(answered.is_ok());
-    checks.verdict()
+    on_a_set(rt.alloc(), answer)?;
+    on_an_array(rt.alloc(), answer_for_array)
 }
 
 fn answer_when_emptied(checks: &mut Checks, set: &mut RangeSet) -> Result<(), NoRoom> {
@@ -495,26 +488,28 @@ fn answer_when_emptied(checks: &mut Checks, set: &mut RangeSet) -> Result<(), No
 
 #[test]
 fn answers_when_empty(rt: HostRuntime) -> Result<(), Fail> {
-    let mut checks = Checks::new(rt.alloc());
-    let answered = answer_when_emptied(&mut checks, &mut RangeSet::new(rt.alloc()));
-    checks.holds(answered.is_ok());
-    checks.verdict()
+    on_a_set(rt.alloc(), answer_when_emptied)
 }
 
-fn show(checks: &mut Checks, alloc: Global, set: &mut RangeSet) -> Result<(), Fail> {
+// Whether the set of two runs shows itself as this.
+fn shows(alloc: Global, set: &mut RangeSet, text: &str) -> Result<bool, Fail> {
     insert_all(set, &[(1, 3), (5, 7)])?;
-    checks.debugs(alloc, &*set, "RangeSet({1: 3, 5: 7})")
+    Ok(format!(in alloc; "{set:?}")?.as_str() == text)
 }
 
-fn show_array(checks: &mut Checks, alloc: Global, array: &mut ArrayRangeSet) -> Result<(), Fail> {
+fn array_shows(alloc: Global, array: &mut ArrayRangeSet, text: &str) -> Result<bool, Fail> {
     insert_all_in_array(array, &[(1, 3), (5, 7)])?;
-    checks.debugs(alloc, &*array, "ArrayRangeSet([1..3, 5..7])")
+    Ok(format!(in alloc; "{array:?}")?.as_str() == text)
 }
 
 #[test]
 fn shows_sets(rt: HostRuntime) -> Result<(), Fail> {
-    let mut checks = Checks::new(rt.alloc());
-    show(&mut checks, rt.alloc(), &mut RangeSet::new(rt.alloc()))?;
-    show_array(&mut checks, rt.alloc(), &mut ArrayRangeSet::new(rt.alloc()))?;
+    let alloc = rt.alloc();
+    let set = shows(alloc, &mut RangeSet::new(alloc), "RangeSet({1: 3, 5: 7})")?;
+    let text = "ArrayRangeSet([1..3, 5..7])";
+    let array = array_shows(alloc, &mut ArrayRangeSet::new(alloc), text)?;
+    let mut checks = Checks::new(alloc);
+    checks.holds_at("set", set);
+    checks.holds_at("array", array);
     checks.verdict()
 }

@@ -4,6 +4,7 @@
 use quic_base::coding::NoRoom;
 use quic_ranges::range_set::{ArrayRangeSet, RangeSet, Replace};
 use quic_testing::Checks;
+use std::alloc::Global;
 use std::ops::Range;
 use std::test::Fail;
 
@@ -50,6 +51,56 @@ pub(super) fn made_in_array(set: &mut ArrayRangeSet, call: Call) -> Result<bool,
         Call::InsertGreatest => set.insert_one(u64::MAX - 1),
         Call::Remove(start, end) => set.remove(start..end),
     }
+}
+
+// Has a new set checked. The checks fail where they end for want of memory.
+pub(super) fn on_a_set<F: FnOnce(&mut Checks, &mut RangeSet) -> Result<(), NoRoom>>(
+    alloc: Global,
+    check: F,
+) -> Result<(), Fail>
+    requires { F.IsAlwaysCallable check }
+{
+    let mut checks = Checks::new(alloc);
+    let checked = check(&mut checks, &mut RangeSet::new(alloc));
+    checks.holds(checked.is_ok());
+    checks.verdict()
+}
+
+pub(super) fn on_an_array<F: FnOnce(&mut Checks, &mut ArrayRangeSet) -> Result<(), NoRoom>>(
+    alloc: Global,
+    check: F,
+) -> Result<(), Fail>
+    requires { F.IsAlwaysCallable check }
+{
+    let mut checks = Checks::new(alloc);
+    let checked = check(&mut checks, &mut ArrayRangeSet::new(alloc));
+    checks.holds(checked.is_ok());
+    checks.verdict()
+}
+
+// The same with two new sets.
+pub(super) fn on_two_sets<
+    F: FnOnce(&mut Checks, &mut RangeSet, &mut RangeSet) -> Result<(), NoRoom>,
+>(alloc: Global, check: F) -> Result<(), Fail>
+    requires { F.IsAlwaysCallable check }
+{
+    let mut checks = Checks::new(alloc);
+    let mut set = RangeSet::new(alloc);
+    let checked = check(&mut checks, &mut set, &mut RangeSet::new(alloc));
+    checks.holds(checked.is_ok());
+    checks.verdict()
+}
+
+pub(super) fn on_two_arrays<
+    F: FnOnce(&mut Checks, &mut ArrayRangeSet, &mut ArrayRangeSet) -> Result<(), NoRoom>,
+>(alloc: Global, check: F) -> Result<(), Fail>
+    requires { F.IsAlwaysCallable check }
+{
+    let mut checks = Checks::new(alloc);
+    let mut set = ArrayRangeSet::new(alloc);
+    let checked = check(&mut checks, &mut set, &mut ArrayRangeSet::new(alloc));
+    checks.holds(checked.is_ok());
+    checks.verdict()
 }
 
 // Calls again where one growth was refused, after a look at what stands.
@@ -171,12 +222,8 @@ fn fill_gaps_in_array(checks: &mut Checks, set: &mut ArrayRangeSet) -> Result<()
 
 #[test]
 fn refused_insertions(rt: HostRuntime) -> Result<(), Fail> {
-    let mut checks = Checks::new(rt.alloc());
-    let filled = fill(&mut checks, &mut RangeSet::new(rt.alloc()));
-    checks.holds(filled.is_ok());
-    let filled = fill_array(&mut checks, &mut ArrayRangeSet::new(rt.alloc()));
-    checks.holds(filled.is_ok());
-    checks.verdict()
+    on_a_set(rt.alloc(), fill)?;
+    on_an_array(rt.alloc(), fill_array)
 }
 
 // Puts even numbers in, one after the other.
@@ -202,12 +249,8 @@ fn fill_even_in_array(checks: &mut Checks, set: &mut ArrayRangeSet) -> Result<()
 
 #[test]
 fn refused_single_insertions(rt: HostRuntime) -> Result<(), Fail> {
-    let mut checks = Checks::new(rt.alloc());
-    let filled = fill_even(&mut checks, &mut RangeSet::new(rt.alloc()));
-    checks.holds(filled.is_ok());
-    let filled = fill_even_in_array(&mut checks, &mut ArrayRangeSet::new(rt.alloc()));
-    checks.holds(filled.is_ok());
-    checks.verdict()
+    on_a_set(rt.alloc(), fill_even)?;
+    on_an_array(rt.alloc(), fill_even_in_array)
 }
 
 // Puts the solid range in.
@@ -244,12 +287,8 @@ fn cut_array(checks: &mut Checks, set: &mut ArrayRangeSet) -> Result<(), NoRoom>
 
 #[test]
 fn refused_removals(rt: HostRuntime) -> Result<(), Fail> {
-    let mut checks = Checks::new(rt.alloc());
-    let is_cut = cut(&mut checks, &mut RangeSet::new(rt.alloc()));
-    checks.holds(is_cut.is_ok());
-    let is_cut = cut_array(&mut checks, &mut ArrayRangeSet::new(rt.alloc()));
-    checks.holds(is_cut.is_ok());
-    checks.verdict()
+    on_a_set(rt.alloc(), cut)?;
+    on_an_array(rt.alloc(), cut_array)
 }
 
 // Puts the first runs in by `replace`. Without a piece, the set alone grows.
@@ -300,10 +339,7 @@ fn replace_all(checks: &mut Checks, set: &mut RangeSet) -> Result<(), NoRoom> {
 
 #[test]
 fn refused_replacements(rt: HostRuntime) -> Result<(), Fail> {
-    let mut checks = Checks::new(rt.alloc());
-    let replaced = replace_all(&mut checks, &mut RangeSet::new(rt.alloc()));
-    checks.holds(replaced.is_ok());
-    checks.verdict()
+    on_a_set(rt.alloc(), replace_all)
 }
 
 fn add(checks: &mut Checks, set: &mut RangeSet, other: &mut RangeSet) -> Result<(), NoRoom> {
@@ -315,11 +351,7 @@ fn add(checks: &mut Checks, set: &mut RangeSet, other: &mut RangeSet) -> Result<
 
 #[test]
 fn refused_additions(rt: HostRuntime) -> Result<(), Fail> {
-    let mut checks = Checks::new(rt.alloc());
-    let set = &mut RangeSet::new(rt.alloc());
-    let added = add(&mut checks, set, &mut RangeSet::new(rt.alloc()));
-    checks.holds(added.is_ok());
-    checks.verdict()
+    on_two_sets(rt.alloc(), add)
 }
 
 fn subtract(checks: &mut Checks, set: &mut RangeSet, other: &mut RangeSet) -> Result<(), NoRoom> {
@@ -332,11 +364,7 @@ fn subtract(checks: &mut Checks, set: &mut RangeSet, other: &mut RangeSet) -> Re
 
 #[test]
 fn refused_vec_subtractions(rt: HostRuntime) -> Result<(), Fail> {
-    let mut checks = Checks::new(rt.alloc());
-    let set = &mut RangeSet::new(rt.alloc());
-    let subtracted = subtract(&mut checks, set, &mut RangeSet::new(rt.alloc()));
-    checks.holds(subtracted.is_ok());
-    checks.verdict()
+    on_two_sets(rt.alloc(), subtract)
 }
 
 fn subtract_array(
@@ -353,35 +381,36 @@ fn subtract_array(
 
 #[test]
 fn refused_array_subtractions(rt: HostRuntime) -> Result<(), Fail> {
-    let mut checks = Checks::new(rt.alloc());
-    let set = &mut ArrayRangeSet::new(rt.alloc());
-    let subtracted = subtract_array(&mut checks, set, &mut ArrayRangeSet::new(rt.alloc()));
-    checks.holds(subtracted.is_ok());
-    checks.verdict()
+    on_two_arrays(rt.alloc(), subtract_array)
+}
+
+// Whether a copy, where there is room for one, has the first runs.
+fn copy_has(set: &RangeSet, count: u64) -> Result<bool, NoRoom> {
+    Ok(set_has(&set.try_clone()?, count))
+}
+
+fn array_copy_has(set: &ArrayRangeSet, count: u64) -> Result<bool, NoRoom> {
+    Ok(array_has(&set.try_clone()?, count))
 }
 
 fn clone(checks: &mut Checks, set: &mut RangeSet) -> Result<(), NoRoom> {
     fill(checks, set)?;
-    let copy = twice!(checks, set.try_clone(), set_has(set, COUNT));
-    checks.holds(set_has(&copy, COUNT) && set_has(set, COUNT));
+    let is_same = twice!(checks, copy_has(set, COUNT), set_has(set, COUNT));
+    checks.holds(is_same && set_has(set, COUNT));
     Ok(())
 }
 
 fn clone_array(checks: &mut Checks, set: &mut ArrayRangeSet) -> Result<(), NoRoom> {
     fill_array(checks, set)?;
-    let copy = twice!(checks, set.try_clone(), array_has(set, COUNT));
-    checks.holds(array_has(&copy, COUNT) && array_has(set, COUNT));
+    let is_same = twice!(checks, array_copy_has(set, COUNT), array_has(set, COUNT));
+    checks.holds(is_same && array_has(set, COUNT));
     Ok(())
 }
 
 #[test]
 fn refused_clones(rt: HostRuntime) -> Result<(), Fail> {
-    let mut checks = Checks::new(rt.alloc());
-    let cloned = clone(&mut checks, &mut RangeSet::new(rt.alloc()));
-    checks.holds(cloned.is_ok());
-    let cloned = clone_array(&mut checks, &mut ArrayRangeSet::new(rt.alloc()));
-    checks.holds(cloned.is_ok());
-    checks.verdict()
+    on_a_set(rt.alloc(), clone)?;
+    on_an_array(rt.alloc(), clone_array)
 }
 
 // Makes calls that take no memory, and checks whether they change the set.
@@ -404,21 +433,22 @@ const TAKEN: &[(Call, bool)] = &[(Call::Insert(50, 60), true), (Call::Insert(150
 
 const IN_THE_END: &[(Call, bool)] = &[(Call::Remove(0, 5), true), (Call::InsertOne(60), false)];
 
-fn subtract_at_two_runs(checks: &mut Checks, set: &mut ArrayRangeSet, other: &mut ArrayRangeSet) {
+fn subtract_at_two_runs(
+    checks: &mut Checks,
+    set: &mut ArrayRangeSet,
+    other: &mut ArrayRangeSet,
+) -> Result<(), NoRoom> {
     change_array(checks, set, AT_FIRST);
     change_array(checks, other, TAKEN);
-    checks.holds(set.subtract(other).is_ok());
-    checks.holds(set.len() == 2);
-    checks.holds(set.try_clone().is_ok());
+    set.subtract(other)?;
+    checks.holds(set.len() == 2 && set.try_clone().is_ok());
     change_array(checks, set, IN_THE_END);
+    Ok(())
 }
 
 #[test]
 fn refused_nothing_at_two_runs(rt: HostRuntime) -> Result<(), Fail> {
-    let mut checks = Checks::new(rt.alloc());
-    let set = &mut ArrayRangeSet::new(rt.alloc());
-    subtract_at_two_runs(&mut checks, set, &mut ArrayRangeSet::new(rt.alloc()));
-    checks.verdict()
+    on_two_arrays(rt.alloc(), subtract_at_two_runs)
 }
 
 // Nor does one of these on the set of the first runs, which has no more runs after it.
@@ -445,8 +475,5 @@ fn change_runs(checks: &mut Checks, set: &mut RangeSet) -> Result<(), NoRoom> {
 
 #[test]
 fn refused_nothing_where_runs_grow_no_more(rt: HostRuntime) -> Result<(), Fail> {
-    let mut checks = Checks::new(rt.alloc());
-    let changed = change_runs(&mut checks, &mut RangeSet::new(rt.alloc()));
-    checks.holds(changed.is_ok());
-    checks.verdict()
+    on_a_set(rt.alloc(), change_runs)
 }

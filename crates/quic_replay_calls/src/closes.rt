@@ -1,28 +1,35 @@
 //! Closes that are written: `connection CODE TYPE REASON ROOM` and `application CODE REASON ROOM`.
-use crate::words::{bytes_of, numbered, varint};
+use crate::words::{bytes_of, numbered, print_digits, type_of, varint};
 use quic_base::varint::VarInt;
 use quic_frames::frame::{ApplicationClose, ConnectionClose, FrameType};
 use quic_frames::transport_error::Code;
 use std::alloc::Global;
 use std::test::Fail;
 
+// Most functions here borrow the bytes that they fill, so that their ways out have nothing to drop.
+
 // Writes the bytes of each line's close.
 pub(crate) fn replay(rt: &HostRuntime, lines: &str) -> Result<(), Fail> {
     for line in lines.lines() {
-        let bytes = written(rt.alloc(), line)?;
-        println!(rt; "{}", hex::encode(rt.alloc(), bytes.as_slice())?)?;
+        replay_line(rt, line)?;
     }
     Ok(())
 }
 
+fn replay_line(rt: &HostRuntime, line: &str) -> Result<(), Fail> {
+    let mut out = Vec::new(rt.alloc());
+    write_line(&mut out, rt.alloc(), line)?;
+    print_digits(rt, out.as_slice())
+}
+
 // A close of the transport in so much room, which is enough for it.
-fn connection_bytes(
-    alloc: Global,
+fn write_connection(
+    out: &mut Vec<u8>,
     error_code: Code,
     frame_type: Option<FrameType>,
     reason: &[u8],
     room: usize,
-) -> Result<Vec<u8>, Fail> {
+) -> Result<(), Fail> {
     if reason.len() as u64 >= 1 << 62 {
         return Err("a shorter reason phrase".into());
     }
@@ -34,18 +41,17 @@ fn connection_bytes(
     if close.min_len() > room {
         return Err("more room".into());
     }
-    let mut out = Vec::new(alloc);
-    close.encode(&mut out, room)?;
-    Ok(out)
+    close.encode(out, room)?;
+    Ok(())
 }
 
 // One of the application.
-fn application_bytes(
-    alloc: Global,
+fn write_application(
+    out: &mut Vec<u8>,
     error_code: VarInt,
     reason: &[u8],
     room: usize,
-) -> Result<Vec<u8>, Fail> {
+) -> Result<(), Fail> {
     if reason.len() as u64 >= 1 << 62 {
         return Err("a shorter reason phrase".into());
     }
@@ -53,28 +59,50 @@ fn application_bytes(
     if close.min_len() > room {
         return Err("more room".into());
     }
-    let mut out = Vec::new(alloc);
-    close.encode(&mut out, room)?;
-    Ok(out)
+    close.encode(out, room)?;
+    Ok(())
 }
 
-fn written(alloc: Global, line: &str) -> Result<Vec<u8>, Fail> {
-    let words: Vec<&str> = line.split(" ").collect(alloc)?;
-    match words.as_slice() {
+// The same of the words of a line. The reason phrase is read last, since it is what a way out would have to drop.
+fn connection_of(
+    out: &mut Vec<u8>,
+    alloc: Global,
+    code: &str,
+    ty: &str,
+    reason: &str,
+    room: &str,
+) -> Result<(), Fail> {
+    let code = numbered(alloc, code)?;
+    let ty = type_of(alloc, ty)?;
+    let room = room.parse()?;
+    let reason = bytes_of(alloc, reason)?;
+    write_connection(out, code, ty, reason.as_slice(), room)
+}
+
+fn application_of(
+    out: &mut Vec<u8>,
+    alloc: Global,
+    code: &str,
+    reason: &str,
+    room: &str,
+) -> Result<(), Fail> {
+    let code = varint(code)?;
+    let room = room.parse()?;
+    let reason = bytes_of(alloc, reason)?;
+    write_application(out, code, reason.as_slice(), room)
+}
+
+fn write_words(out: &mut Vec<u8>, alloc: Global, words: &[&str]) -> Result<(), Fail> {
+    match words {
         ["connection", code, ty, reason, room] => {
-            let code: Code = numbered(alloc, code)?;
-            let reason = bytes_of(alloc, reason)?;
-            let ty: Option<FrameType> = if *ty == "-" {
-                None
-            } else {
-                Some(numbered(alloc, ty)?)
-            };
-            connection_bytes(alloc, code, ty, reason.as_slice(), room.parse()?)
+            connection_of(out, alloc, code, ty, reason, room)
         }
-        ["application", code, reason, room] => {
-            let reason = bytes_of(alloc, reason)?;
-            application_bytes(alloc, varint(code)?, reason.as_slice(), room.parse()?)
-        }
+        ["application", code, reason, room] => application_of(out, alloc, code, reason, room),
         _ => Err("a close".into()),
     }
+}
+
+fn write_line(out: &mut Vec<u8>, alloc: Global, line: &str) -> Result<(), Fail> {
+    let words: Vec<&str> = line.split(" ").collect(alloc)?;
+    write_words(out, alloc, words.as_slice())
 }

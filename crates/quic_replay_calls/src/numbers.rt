@@ -1,5 +1,5 @@
 //! Numbers that are read and written.
-use crate::words::bytes_of;
+use crate::words::{bytes_of, print_sized};
 use quic_base::coding::{BufMutExt, Codec};
 use quic_base::varint::VarInt;
 use std::fmt::Display;
@@ -8,24 +8,36 @@ use std::test::Fail;
 // Reads each line's bytes as a varint, and as numbers of one, two, four and eight bytes.
 pub(crate) fn replay_reading(rt: &HostRuntime, lines: &str) -> Result<(), Fail> {
     for line in lines.lines() {
-        let bytes = bytes_of(rt.alloc(), line)?;
-        let bytes = bytes.as_slice();
-        let mut left = bytes;
-        match VarInt::decode(&mut left) {
-            Ok(x) => println!(rt; "{} consumed {}", x.into_inner(), used(bytes, left))?,
-            Err(_) => println!(rt; "UnexpectedEnd consumed {}", used(bytes, left))?,
-        }
-        read_fixed::<u8>(rt, "u8", bytes)?;
-        read_fixed::<u16>(rt, "u16", bytes)?;
-        read_fixed::<u32>(rt, "u32", bytes)?;
-        read_fixed::<u64>(rt, "u64", bytes)?;
+        replay_line(rt, line)?;
     }
     Ok(())
+}
+
+fn replay_line(rt: &HostRuntime, line: &str) -> Result<(), Fail> {
+    let bytes = bytes_of(rt.alloc(), line)?;
+    read_all(rt, bytes.as_slice())
+}
+
+fn read_all(rt: &HostRuntime, bytes: &[u8]) -> Result<(), Fail> {
+    read_varint(rt, bytes)?;
+    read_fixed::<u8>(rt, "u8", bytes)?;
+    read_fixed::<u16>(rt, "u16", bytes)?;
+    read_fixed::<u32>(rt, "u32", bytes)?;
+    read_fixed::<u64>(rt, "u64", bytes)
 }
 
 // How many bytes are no longer left.
 fn used(bytes: &[u8], left: &[u8]) -> usize {
     bytes.len().wrapping_sub(left.len())
+}
+
+fn read_varint(rt: &HostRuntime, bytes: &[u8]) -> Result<(), Fail> {
+    let mut left = bytes;
+    match VarInt::decode(&mut left) {
+        Ok(x) => println!(rt; "{} consumed {}", x.into_inner(), used(bytes, left))?,
+        Err(_) => println!(rt; "UnexpectedEnd consumed {}", used(bytes, left))?,
+    }
+    Ok(())
 }
 
 fn read_fixed<T: Codec + Display + Drop>(
@@ -44,10 +56,15 @@ fn read_fixed<T: Codec + Display + Drop>(
 // Writes each line's number as a varint, and its size; or that it is too large.
 pub(crate) fn replay_writing(rt: &HostRuntime, lines: &str) -> Result<(), Fail> {
     for line in lines.lines() {
-        match VarInt::from_u64(line.parse()?) {
-            Ok(number) => write_number(rt, number)?,
-            Err(e) => println!(rt; "{e:?} ({e})")?,
-        }
+        write_or_refuse(rt, line.parse()?)?;
+    }
+    Ok(())
+}
+
+fn write_or_refuse(rt: &HostRuntime, number: u64) -> Result<(), Fail> {
+    match VarInt::from_u64(number) {
+        Ok(number) => write_number(rt, number)?,
+        Err(e) => println!(rt; "{e:?} ({e})")?,
     }
     Ok(())
 }
@@ -55,7 +72,5 @@ pub(crate) fn replay_writing(rt: &HostRuntime, lines: &str) -> Result<(), Fail> 
 fn write_number(rt: &HostRuntime, number: VarInt) -> Result<(), Fail> {
     let mut out = Vec::new(rt.alloc());
     out.write(number)?;
-    let digits = hex::encode(rt.alloc(), out.as_slice())?;
-    println!(rt; "{digits} size {}", number.size())?;
-    Ok(())
+    print_sized(rt, out.as_slice(), number.size())
 }

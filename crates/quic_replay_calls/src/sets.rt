@@ -4,25 +4,43 @@
 ghost use Rattle.std.specs.Prelude.{◌<◌, ◌-◌, ◌^◌};
 
 use quic_base::coding::NoRoom;
-use quic_ranges::range_set::{ArrayRangeSet, RangeSet};
+use quic_ranges::range_set::{ArrayRangeSet, RangeSet, Replace};
 use std::alloc::{AllocError, Global};
 use std::ops::Range;
 use std::test::Fail;
+
+// Most functions here borrow the sets, and the text that they fill, so that their ways out have nothing to drop. A text
+// is empty before.
 
 // Writes what each call answers on either set, and the runs that the set then has.
 pub(crate) fn replay(rt: &HostRuntime, lines: &str) -> Result<(), Fail> {
     let mut set = RangeSet::new(rt.alloc());
     let mut array = ArrayRangeSet::new(rt.alloc());
+    replay_on(rt, &mut set, &mut array, lines)
+}
+
+fn replay_on(
+    rt: &HostRuntime,
+    set: &mut RangeSet,
+    array: &mut ArrayRangeSet,
+    lines: &str,
+) -> Result<(), Fail> {
     for line in lines.lines() {
         if line == "new" {
-            set = RangeSet::new(rt.alloc());
-            array = ArrayRangeSet::new(rt.alloc());
-            println!(rt; "btree new | none")?;
-            println!(rt; "array new | none")?;
+            begin(rt, set, array)?;
         } else {
-            replay_call(rt, &mut set, &mut array, line)?;
+            replay_call(rt, set, array, line)?;
         }
     }
+    Ok(())
+}
+
+// Empties both sets.
+fn begin(rt: &HostRuntime, set: &mut RangeSet, array: &mut ArrayRangeSet) -> Result<(), Fail> {
+    *set = RangeSet::new(rt.alloc());
+    *array = ArrayRangeSet::new(rt.alloc());
+    println!(rt; "btree new | none")?;
+    println!(rt; "array new | none")?;
     Ok(())
 }
 
@@ -32,12 +50,58 @@ fn replay_call(
     array: &mut ArrayRangeSet,
     call: &str,
 ) -> Result<(), Fail> {
-    let (of_set, of_array) = play(rt.alloc(), set, array, call)?;
-    println!(rt; "btree {of_set} | {}", set.all_runs(rt.alloc())?)?;
-    match of_array {
-        Some(text) => println!(rt; "array {text} | {}", array.all_runs(rt.alloc())?)?,
-        None => println!(rt; "array - | {}", array.all_runs(rt.alloc())?)?,
-    }
+    let words: Vec<&str> = call.split(" ").collect(rt.alloc())?;
+    replay_words(rt, set, array, words.as_slice())
+}
+
+fn replay_words(
+    rt: &HostRuntime,
+    set: &mut RangeSet,
+    array: &mut ArrayRangeSet,
+    words: &[&str],
+) -> Result<(), Fail> {
+    let [name, words @ ..] = words else {
+        return Err(Fail::new("a call is missing"));
+    };
+    let mut numbers = Vec::new(rt.alloc());
+    push_numbers(&mut numbers, words)?;
+    replay_on_set(rt, set, name, words, numbers.as_slice())?;
+    replay_on_array(rt, array, name, words, numbers.as_slice())
+}
+
+fn replay_on_set(
+    rt: &HostRuntime,
+    set: &mut RangeSet,
+    name: &str,
+    words: &[&str],
+    numbers: &[u64],
+) -> Result<(), Fail> {
+    let mut text = String::new(rt.alloc());
+    answer_of_set(&mut text, rt.alloc(), set, name, words, numbers)?;
+    print_answer(rt, "btree", text.as_str(), set)
+}
+
+fn replay_on_array(
+    rt: &HostRuntime,
+    array: &mut ArrayRangeSet,
+    name: &str,
+    words: &[&str],
+    numbers: &[u64],
+) -> Result<(), Fail> {
+    let mut text = String::new(rt.alloc());
+    answer_of_array(&mut text, rt.alloc(), array, name, words, numbers)?;
+    print_answer(rt, "array", text.as_str(), array)
+}
+
+fn print_answer<S: Played>(
+    rt: &HostRuntime,
+    kind: &str,
+    answer: &str,
+    set: &S,
+) -> Result<(), Fail> {
+    let mut runs = String::new(rt.alloc());
+    set.all_runs(&mut runs)?;
+    println!(rt; "{kind} {answer} | {runs}")?;
     Ok(())
 }
 
@@ -65,12 +129,12 @@ trait Played: Sized + Drop {
     fn size(&self) -> (usize, bool);
 
     // The first 64 members.
-    fn members(&self, alloc: Global) -> Result<String, AllocError>;
+    fn members(&self, text: &mut String) -> Result<(), AllocError>;
 
     // The runs that `next` and `next_back` give, by the letters `F` and `B`.
-    fn runs_from(&self, alloc: Global, ends: &str) -> Result<String, AllocError>;
+    fn runs_from(&self, text: &mut String, ends: &str) -> Result<(), AllocError>;
 
-    fn all_runs(&self, alloc: Global) -> Result<String, AllocError>;
+    fn all_runs(&self, text: &mut String) -> Result<(), AllocError>;
 }
 
 impl Played for RangeSet {
@@ -110,31 +174,28 @@ impl Played for RangeSet {
         (self.len(), self.is_empty())
     }
 
-    fn members(&self, alloc: Global) -> Result<String, AllocError> {
-        let mut text = String::new(alloc);
+    fn members(&self, text: &mut String) -> Result<(), AllocError> {
         for x in self.elts().take(64) {
-            push_part(&mut text, " ", option_number_text(alloc, Some(x))?.as_str())?;
+            push_number(text, Some(x))?;
         }
         or_none(text)
     }
 
-    fn runs_from(&self, alloc: Global, ends: &str) -> Result<String, AllocError> {
-        let mut text = String::new(alloc);
+    fn runs_from(&self, text: &mut String, ends: &str) -> Result<(), AllocError> {
         let mut runs = self.iter();
         for end in ends.chars() {
             let run = match end {
                 'F' => runs.next(),
                 _ => runs.next_back(),
             };
-            push_part(&mut text, " ", option_run_text(alloc, run)?.as_str())?;
+            push_option_run(text, run)?;
         }
-        Ok(text)
+        Ok(())
     }
 
-    fn all_runs(&self, alloc: Global) -> Result<String, AllocError> {
-        let mut text = String::new(alloc);
+    fn all_runs(&self, text: &mut String) -> Result<(), AllocError> {
         for run in self {
-            push_part(&mut text, ", ", run_text(alloc, &run)?.as_str())?;
+            push_run(text, ", ", run)?;
         }
         or_none(text)
     }
@@ -177,83 +238,91 @@ impl Played for ArrayRangeSet {
         (self.len(), self.is_empty())
     }
 
-    fn members(&self, alloc: Global) -> Result<String, AllocError> {
-        let mut text = String::new(alloc);
+    fn members(&self, text: &mut String) -> Result<(), AllocError> {
         for x in self.elts().take(64) {
-            push_part(&mut text, " ", option_number_text(alloc, Some(x))?.as_str())?;
+            push_number(text, Some(x))?;
         }
         or_none(text)
     }
 
-    fn runs_from(&self, alloc: Global, ends: &str) -> Result<String, AllocError> {
-        let mut text = String::new(alloc);
+    fn runs_from(&self, text: &mut String, ends: &str) -> Result<(), AllocError> {
         let mut runs = self.iter();
         for end in ends.chars() {
             let run = match end {
                 'F' => runs.next(),
                 _ => runs.next_back(),
             };
-            push_part(&mut text, " ", option_run_text(alloc, run)?.as_str())?;
+            push_option_run(text, run)?;
         }
-        Ok(text)
+        Ok(())
     }
 
-    fn all_runs(&self, alloc: Global) -> Result<String, AllocError> {
-        let mut text = String::new(alloc);
+    fn all_runs(&self, text: &mut String) -> Result<(), AllocError> {
         for run in self.iter() {
-            push_part(&mut text, ", ", run_text(alloc, &run)?.as_str())?;
+            push_run(text, ", ", run)?;
         }
         or_none(text)
     }
 }
 
-// One more part, behind those that are there.
-fn push_part(text: &mut String, separator: &str, part: &str) -> Result<(), AllocError> {
-    if !text.is_empty() {
-        text.push_str(separator)?;
-    }
-    text.push_str(part)
-}
-
-fn or_none(text: String) -> Result<String, AllocError> {
-    let mut text = text;
+// A separator, where something stands before it.
+fn separate(text: &mut String, separator: &str) -> Result<(), AllocError> {
     if text.is_empty() {
-        text.push_str("none")?;
+        return Ok(());
     }
-    Ok(text)
+    text.push_str(separator)
 }
 
-fn run_text(alloc: Global, run: &Range<u64>) -> Result<String, AllocError> {
-    format!(in alloc; "{}..{}", run.start, run.end)
+// One more run, behind those that are there.
+fn push_run(text: &mut String, separator: &str, run: Range<u64>) -> Result<(), AllocError> {
+    separate(text, separator)?;
+    let Range { start, end } = run;
+    write!(text, "{start}..{end}")
 }
 
-fn flag_text(alloc: Global, flag: bool) -> Result<String, AllocError> {
-    format!(in alloc; "{flag}")
-}
-
-fn option_run_text(alloc: Global, run: Option<Range<u64>>) -> Result<String, AllocError> {
+fn push_option_run(text: &mut String, run: Option<Range<u64>>) -> Result<(), AllocError> {
     match run {
-        Some(run) => run_text(alloc, &run),
-        None => "None".to_string(alloc),
+        Some(run) => push_run(text, " ", run),
+        None => push_no_part(text),
     }
 }
 
-fn option_number_text(alloc: Global, number: Option<u64>) -> Result<String, AllocError> {
-    match number {
-        Some(number) => format!(in alloc; "{number}"),
-        None => "None".to_string(alloc),
+fn push_number(text: &mut String, number: Option<u64>) -> Result<(), AllocError> {
+    let Some(number) = number else {
+        return push_no_part(text);
+    };
+    separate(text, " ")?;
+    write!(text, "{number}")
+}
+
+fn push_no_part(text: &mut String) -> Result<(), AllocError> {
+    separate(text, " ")?;
+    text.push_str("None")
+}
+
+fn or_none(text: &mut String) -> Result<(), AllocError> {
+    if !text.is_empty() {
+        return Ok(());
     }
+    text.push_str("none")
+}
+
+fn push_flag(text: &mut String, flag: bool) -> Result<(), AllocError> {
+    write!(text, "{flag}")
+}
+
+fn push_size(text: &mut String, size: usize) -> Result<(), AllocError> {
+    write!(text, "{size}")
 }
 
 // The words that are numbers.
-fn numbers_of(alloc: Global, words: &[&str]) -> Result<Vec<u64>, AllocError> {
-    let mut numbers = Vec::new(alloc);
+fn push_numbers(numbers: &mut Vec<u64>, words: &[&str]) -> Result<(), AllocError> {
     for word in words {
         if let Ok(number) = word.parse::<u64>() {
             numbers.push(number)?;
         }
     }
-    Ok(numbers)
+    Ok(())
 }
 
 fn first_number(numbers: &[u64]) -> Result<u64, Fail> {
@@ -277,129 +346,157 @@ fn insert_runs<S: Played>(set: &mut S, numbers: &[u64]) -> Result<(), Fail> {
     Ok(())
 }
 
-fn insert_number<S: Played>(set: &mut S, numbers: &[u64]) -> Result<bool, Fail> {
+// What follows writes the answer of a call.
+fn insert<S: Played>(text: &mut String, set: &mut S, numbers: &[u64]) -> Result<(), Fail> {
+    let is_new = set.insert_run(first_run(numbers)?)?;
+    Ok(push_flag(text, is_new)?)
+}
+
+fn insert_one<S: Played>(text: &mut String, set: &mut S, numbers: &[u64]) -> Result<(), Fail> {
     let number = first_number(numbers)?;
     if number == u64::MAX {
         return Err(Fail::new("a number that is no member"));
     }
-    Ok(set.insert_number(number)?)
+    let is_new = set.insert_number(number)?;
+    Ok(push_flag(text, is_new)?)
 }
 
-fn subtract<S: Played>(alloc: Global, set: &mut S, numbers: &[u64]) -> Result<(), Fail> {
-    let mut other = S::empty(alloc);
-    insert_runs(&mut other, numbers)?;
-    Ok(set.subtract_set(&other)?)
+fn remove<S: Played>(text: &mut String, set: &mut S, numbers: &[u64]) -> Result<(), Fail> {
+    let was_there = set.remove_run(first_run(numbers)?)?;
+    Ok(push_flag(text, was_there)?)
 }
 
-// The answer of a call that changes either set, `None` at another call.
+fn subtract<S: Played>(
+    text: &mut String,
+    set: &mut S,
+    other: &mut S,
+    numbers: &[u64],
+) -> Result<(), Fail> {
+    insert_runs(other, numbers)?;
+    set.subtract_set(other)?;
+    Ok(text.push_str("()")?)
+}
+
+fn pop_min<S: Played>(text: &mut String, set: &mut S) -> Result<(), Fail> {
+    Ok(push_option_run(text, set.pop())?)
+}
+
+// The answer of a call that changes either set. At another call nothing is done, and it is `false`.
 fn changed<S: Played>(
+    text: &mut String,
     alloc: Global,
     set: &mut S,
     name: &str,
     numbers: &[u64],
-) -> Result<Option<String>, Fail> {
-    let text = match name {
-        "insert" => flag_text(alloc, set.insert_run(first_run(numbers)?)?),
-        "insert_one" => flag_text(alloc, insert_number(set, numbers)?),
-        "remove" => flag_text(alloc, set.remove_run(first_run(numbers)?)?),
-        "subtract" => {
-            subtract(alloc, set, numbers)?;
-            "()".to_string(alloc)
-        }
-        "pop_min" => option_run_text(alloc, set.pop()),
-        _ => return Ok(None),
+) -> Result<bool, Fail> {
+    let done = match name {
+        "insert" => insert(text, set, numbers),
+        "insert_one" => insert_one(text, set, numbers),
+        "remove" => remove(text, set, numbers),
+        "subtract" => subtract(text, set, &mut S::empty(alloc), numbers),
+        "pop_min" => pop_min(text, set),
+        _ => return Ok(false),
     };
-    Ok(Some(text?))
+    done?;
+    Ok(true)
 }
 
-// The answer of a call that only looks at either set, `None` at another call.
-fn told<S: Played>(
+// The answer of a call that only looks at either set, `false` at another call.
+fn told<S: Played>(text: &mut String, set: &S, name: &str, words: &[&str]) -> Result<bool, Fail> {
+    let done = match (name, words) {
+        ("contains", [x]) => push_flag(text, set.has(x.parse::<u64>()?)),
+        ("min", []) => push_number(text, set.ends().0),
+        ("max", []) => push_number(text, set.ends().1),
+        ("len", []) => push_size(text, set.size().0),
+        ("is_empty", []) => push_flag(text, set.size().1),
+        ("elts", []) => set.members(text),
+        ("iter", [ends]) => set.runs_from(text, ends),
+        _ => return Ok(false),
+    };
+    done?;
+    Ok(true)
+}
+
+// What a set answers to a call that both have, `false` at another call.
+fn answer<S: Played>(
+    text: &mut String,
     alloc: Global,
-    set: &S,
+    set: &mut S,
     name: &str,
     words: &[&str],
-) -> Result<Option<String>, Fail> {
-    let text = match (name, words) {
-        ("contains", [x]) => flag_text(alloc, set.has(x.parse::<u64>()?)),
-        ("min", []) => option_number_text(alloc, set.ends().0),
-        ("max", []) => option_number_text(alloc, set.ends().1),
-        ("len", []) => format!(in alloc; "{}", set.size().0),
-        ("is_empty", []) => flag_text(alloc, set.size().1),
-        ("elts", []) => set.members(alloc),
-        ("iter", [ends]) => set.runs_from(alloc, ends),
-        _ => return Ok(None),
-    };
-    Ok(Some(text?))
+    numbers: &[u64],
+) -> Result<bool, Fail> {
+    if changed(text, alloc, set, name, numbers)? {
+        return Ok(true);
+    }
+    told(text, set, name, words)
 }
 
-// The pieces that are taken; a third number says how many.
-fn replaced(alloc: Global, set: &mut RangeSet, numbers: &[u64]) -> Result<String, Fail> {
-    let limit = match numbers {
-        [_, _, limit] => *limit,
-        _ => u64::MAX,
-    };
-    let mut text = String::new(alloc);
-    let mut pieces = set.replace(first_run(numbers)?)?;
+// The pieces that are taken, so many at most.
+fn take(text: &mut String, pieces: &mut Replace<'_>, limit: u64) -> Result<(), AllocError> {
     for _ in 0..limit {
         let Some(piece) = pieces.next() else {
             break;
         };
-        push_part(&mut text, ", ", run_text(alloc, &piece)?.as_str())?;
+        push_run(text, ", ", piece)?;
     }
-    Ok(or_none(text)?)
+    or_none(text)
 }
 
-fn added(alloc: Global, set: &mut RangeSet, numbers: &[u64]) -> Result<(), Fail> {
-    let mut other = RangeSet::new(alloc);
-    insert_runs(&mut other, numbers)?;
-    Ok(set.add(&other)?)
+// A third number says how many pieces are taken.
+fn replace(text: &mut String, set: &mut RangeSet, numbers: &[u64]) -> Result<(), Fail> {
+    let limit = match numbers {
+        [_, _, limit] => *limit,
+        _ => u64::MAX,
+    };
+    let run = first_run(numbers)?;
+    let mut pieces = set.replace(run)?;
+    Ok(take(text, &mut pieces, limit)?)
+}
+
+fn add(
+    text: &mut String,
+    set: &mut RangeSet,
+    other: &mut RangeSet,
+    numbers: &[u64],
+) -> Result<(), Fail> {
+    insert_runs(other, numbers)?;
+    set.add(other)?;
+    Ok(text.push_str("()")?)
+}
+
+fn peek_min(text: &mut String, set: &RangeSet) -> Result<(), Fail> {
+    Ok(push_option_run(text, set.peek_min())?)
 }
 
 // The members that `next` and `next_back` give, by the letters `F` and `B`.
-fn members_from(alloc: Global, set: &RangeSet, ends: &str) -> Result<String, AllocError> {
-    let mut text = String::new(alloc);
+fn members_from(text: &mut String, set: &RangeSet, ends: &str) -> Result<(), Fail> {
     let mut members = set.elts();
     for end in ends.chars() {
         let x = match end {
             'F' => members.next(),
             _ => members.next_back(),
         };
-        push_part(&mut text, " ", option_number_text(alloc, x)?.as_str())?;
+        push_number(text, x)?;
     }
-    Ok(text)
+    Ok(())
 }
 
 // The answer of a call that `RangeSet` alone has.
 fn of_range_set_alone(
+    text: &mut String,
     alloc: Global,
     set: &mut RangeSet,
     name: &str,
     words: &[&str],
     numbers: &[u64],
-) -> Result<String, Fail> {
+) -> Result<(), Fail> {
     match (name, words) {
-        ("replace", _) => replaced(alloc, set, numbers),
-        ("add", _) => {
-            added(alloc, set, numbers)?;
-            Ok("()".to_string(alloc)?)
-        }
-        ("peek_min", _) => Ok(option_run_text(alloc, set.peek_min())?),
-        ("elts", [ends]) => Ok(members_from(alloc, set, ends)?),
+        ("replace", _) => replace(text, set, numbers),
+        ("add", _) => add(text, set, &mut RangeSet::new(alloc), numbers),
+        ("peek_min", _) => peek_min(text, set),
+        ("elts", [ends]) => members_from(text, set, ends),
         _ => Err(Fail::new("an unknown call")),
-    }
-}
-
-// What a set answers to a call that both have.
-fn answer<S: Played>(
-    alloc: Global,
-    set: &mut S,
-    name: &str,
-    words: &[&str],
-    numbers: &[u64],
-) -> Result<Option<String>, Fail> {
-    match changed(alloc, set, name, numbers)? {
-        Some(text) => Ok(Some(text)),
-        None => told(alloc, set, name, words),
     }
 }
 
@@ -415,25 +512,32 @@ fn follow(set: &mut ArrayRangeSet, name: &str, numbers: &[u64]) -> Result<(), Fa
     }
 }
 
-// What one call answers on the ordered set, and on the array set where it has the call.
-fn play(
+fn answer_of_set(
+    text: &mut String,
     alloc: Global,
     set: &mut RangeSet,
-    array: &mut ArrayRangeSet,
-    call: &str,
-) -> Result<(String, Option<String>), Fail> {
-    let words: Vec<&str> = call.split(" ").collect(alloc)?;
-    let [name, words @ ..] = words.as_slice() else {
-        return Err(Fail::new("a call is missing"));
-    };
-    let numbers = numbers_of(alloc, words)?;
-    let of_array = answer(alloc, array, name, words, numbers.as_slice())?;
-    if of_array.is_none() {
-        follow(array, name, numbers.as_slice())?;
+    name: &str,
+    words: &[&str],
+    numbers: &[u64],
+) -> Result<(), Fail> {
+    if answer(text, alloc, set, name, words, numbers)? {
+        return Ok(());
     }
-    let of_set = match answer(alloc, set, name, words, numbers.as_slice())? {
-        Some(text) => text,
-        None => of_range_set_alone(alloc, set, name, words, numbers.as_slice())?,
-    };
-    Ok((of_set, of_array))
+    of_range_set_alone(text, alloc, set, name, words, numbers)
+}
+
+// The array set answers `-` to a call that it lacks.
+fn answer_of_array(
+    text: &mut String,
+    alloc: Global,
+    array: &mut ArrayRangeSet,
+    name: &str,
+    words: &[&str],
+    numbers: &[u64],
+) -> Result<(), Fail> {
+    if answer(text, alloc, array, name, words, numbers)? {
+        return Ok(());
+    }
+    follow(array, name, numbers)?;
+    Ok(text.push_str("-")?)
 }

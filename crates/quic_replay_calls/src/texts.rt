@@ -1,5 +1,5 @@
 //! Texts of codes, types, ids, closes and errors: what is shown, and its fields.
-use crate::words::{bytes_of, numbered, varint};
+use crate::words::{bytes_of, numbered, type_of, varint};
 use quic_base::coding::BufMutExt;
 use quic_base::ids::{ConnectionId, EcnCodepoint, MAX_CID_SIZE, StreamId};
 use quic_frames::frame::{ApplicationClose, ConnectionClose, FrameType};
@@ -7,44 +7,63 @@ use quic_frames::transport_error::{Code, Error};
 use std::alloc::Global;
 use std::test::Fail;
 
+// Most functions here borrow the text that they fill, so that their ways out have nothing to drop.
+
 // Writes the text of each line's value, and for some the bytes that are written of it.
 pub(crate) fn replay(rt: &HostRuntime, lines: &str) -> Result<(), Fail> {
     for line in lines.lines() {
-        println!(rt; "{}", shown(rt.alloc(), line)?)?;
+        replay_line(rt, line)?;
     }
     Ok(())
 }
 
-fn hex_or_none(alloc: Global, bytes: &[u8]) -> Result<String, Fail> {
-    let mut text = hex::encode(alloc, bytes)?;
-    if text.is_empty() {
+fn replay_line(rt: &HostRuntime, line: &str) -> Result<(), Fail> {
+    let mut text = String::new(rt.alloc());
+    show_line(&mut text, rt.alloc(), line)?;
+    println!(rt; "{text}")?;
+    Ok(())
+}
+
+fn show_digits(text: &mut String, alloc: Global, bytes: &[u8]) -> Result<(), Fail> {
+    let digits = hex::encode(alloc, bytes)?;
+    text.push_str(digits.as_str())?;
+    Ok(())
+}
+
+fn show_digits_or_none(text: &mut String, alloc: Global, bytes: &[u8]) -> Result<(), Fail> {
+    if bytes.is_empty() {
         text.push_str("-")?;
+        return Ok(());
     }
-    Ok(text)
+    show_digits(text, alloc, bytes)
 }
 
-fn code_text(alloc: Global, code: Code) -> Result<String, Fail> {
-    Ok(format!(in alloc; "{code:?}: {code}")?)
+fn show_code(text: &mut String, alloc: Global, number: &str) -> Result<(), Fail> {
+    let code: Code = numbered(alloc, number)?;
+    write!(text, "{code:?}: {code}")?;
+    Ok(())
 }
 
-fn crypto_text(alloc: Global, alert: u8) -> Result<String, Fail> {
-    let code = Code::crypto(alert);
+fn show_crypto(text: &mut String, alloc: Global, alert: &str) -> Result<(), Fail> {
+    let code = Code::crypto(alert.parse()?);
+    write!(text, "{code:?}: {code} bytes ")?;
     let mut out = Vec::new(alloc);
     out.write(code)?;
-    let bytes = hex::encode(alloc, out.as_slice())?;
-    Ok(format!(in alloc; "{code:?}: {code} bytes {bytes}")?)
+    show_digits(text, alloc, out.as_slice())
 }
 
-fn type_text(alloc: Global, ty: FrameType) -> Result<String, Fail> {
-    Ok(format!(in alloc; "{ty:?}: {ty}")?)
+fn show_type(text: &mut String, alloc: Global, number: &str) -> Result<(), Fail> {
+    let ty: FrameType = numbered(alloc, number)?;
+    write!(text, "{ty:?}: {ty}")?;
+    Ok(())
 }
 
-fn stream_text(alloc: Global, number: &str) -> Result<String, Fail> {
+fn show_stream(text: &mut String, alloc: Global, number: &str) -> Result<(), Fail> {
     let id = StreamId::from(varint(number)?);
+    write!(text, "{id} bytes ")?;
     let mut out = Vec::new(alloc);
     out.write(id)?;
-    let bytes = hex::encode(alloc, out.as_slice())?;
-    Ok(format!(in alloc; "{id} bytes {bytes}")?)
+    show_digits(text, alloc, out.as_slice())
 }
 
 fn id_of(alloc: Global, digits: &str) -> Result<ConnectionId, Fail> {
@@ -55,45 +74,70 @@ fn id_of(alloc: Global, digits: &str) -> Result<ConnectionId, Fail> {
     Ok(ConnectionId::new(bytes.as_slice()))
 }
 
-fn id_text(alloc: Global, digits: &str) -> Result<String, Fail> {
+fn show_id(text: &mut String, alloc: Global, digits: &str) -> Result<(), Fail> {
     let id = id_of(alloc, digits)?;
-    Ok(format!(in alloc; "{id} {id:?}")?)
+    write!(text, "{id} {id:?}")?;
+    Ok(())
 }
 
 // An id behind its length, and what is left.
-fn long_id_text(alloc: Global, digits: &str) -> Result<String, Fail> {
+fn show_long_id(text: &mut String, alloc: Global, bytes: &[u8]) -> Result<(), Fail> {
+    let mut left = bytes;
+    match ConnectionId::decode_long(&mut left) {
+        Some(id) => write!(text, "{id} left ")?,
+        None => text.push_str("None left ")?,
+    }
+    show_digits_or_none(text, alloc, left)
+}
+
+fn show_long_id_of(text: &mut String, alloc: Global, digits: &str) -> Result<(), Fail> {
     let bytes = bytes_of(alloc, digits)?;
-    let mut left = bytes.as_slice();
-    let id = ConnectionId::decode_long(&mut left);
-    let left = hex_or_none(alloc, left)?;
-    match id {
-        Some(id) => Ok(format!(in alloc; "{id} left {left}")?),
-        None => Ok(format!(in alloc; "None left {left}")?),
-    }
+    show_long_id(text, alloc, bytes.as_slice())
 }
 
-fn type_of(alloc: Global, word: &str) -> Result<Option<FrameType>, Fail> {
-    if word == "-" {
-        return Ok(None);
-    }
-    Ok(Some(numbered(alloc, word)?))
+fn show_order(text: &mut String, alloc: Global, one: &str, other: &str) -> Result<(), Fail> {
+    let order = id_of(alloc, one)?.cmp(&id_of(alloc, other)?);
+    write!(text, "{order:?}")?;
+    Ok(())
 }
 
-// An error, and the bytes of the close that says it.
-fn error_text(alloc: Global, code: &str, ty: &str, reason: &str) -> Result<String, Fail> {
-    let mut error = Error::with_text(alloc, numbered(alloc, code)?, reason)?;
-    error.frame = type_of(alloc, ty)?;
-    let close = ConnectionClose::from(&error);
+fn show_codepoint(text: &mut String, bits: &str) -> Result<(), Fail> {
+    let codepoint = EcnCodepoint::from_bits(bits.parse()?);
+    write!(text, "{codepoint:?}")?;
+    Ok(())
+}
+
+fn write_close(out: &mut Vec<u8>, close: &ConnectionClose<'_>) -> Result<(), Fail> {
     if close.reason.len() > 1000 {
         return Err("a shorter reason phrase".into());
     }
     if close.min_len() > 1200 {
         return Err("more room".into());
     }
+    close.encode(out, 1200)?;
+    Ok(())
+}
+
+// An error, and the bytes of the close that says it.
+fn show_error(text: &mut String, alloc: Global, error: &Error) -> Result<(), Fail> {
+    write!(text, "{error} | close ")?;
     let mut out = Vec::new(alloc);
-    close.encode(&mut out, 1200)?;
-    let bytes = hex::encode(alloc, out.as_slice())?;
-    Ok(format!(in alloc; "{error} | close {bytes}")?)
+    write_close(&mut out, &ConnectionClose::from(error))?;
+    show_digits(text, alloc, out.as_slice())
+}
+
+fn show_error_of(
+    text: &mut String,
+    alloc: Global,
+    code: &str,
+    ty: &str,
+    line: &str,
+) -> Result<(), Fail> {
+    let code = numbered(alloc, code)?;
+    let ty = type_of(alloc, ty)?;
+    let mut error = Error::with_text(alloc, code, reason_of(line)?)?;
+    error.frame = ty;
+    show_error(text, alloc, &error)
 }
 
 // What stands behind the third word of a line.
@@ -108,45 +152,59 @@ fn reason_of(line: &str) -> Result<&str, Fail> {
     Ok(left)
 }
 
-fn connection_text(alloc: Global, code: &str, ty: &str, reason: &str) -> Result<String, Fail> {
+fn show_connection(
+    text: &mut String,
+    alloc: Global,
+    code: &str,
+    ty: &str,
+    reason: &str,
+) -> Result<(), Fail> {
+    let error_code = numbered(alloc, code)?;
+    let frame_type = type_of(alloc, ty)?;
     let reason = bytes_of(alloc, reason)?;
     let close = ConnectionClose {
-        error_code: numbered(alloc, code)?,
-        frame_type: type_of(alloc, ty)?,
+        error_code,
+        frame_type,
         reason: reason.as_slice(),
     };
-    Ok(format!(in alloc; "{close}")?)
+    write!(text, "{close}")?;
+    Ok(())
 }
 
-fn application_text(alloc: Global, code: &str, reason: &str) -> Result<String, Fail> {
+fn show_application(
+    text: &mut String,
+    alloc: Global,
+    code: &str,
+    reason: &str,
+) -> Result<(), Fail> {
+    let error_code = varint(code)?;
     let reason = bytes_of(alloc, reason)?;
     let close = ApplicationClose {
-        error_code: varint(code)?,
+        error_code,
         reason: reason.as_slice(),
     };
-    Ok(format!(in alloc; "{close}")?)
+    write!(text, "{close}")?;
+    Ok(())
 }
 
-fn shown(alloc: Global, line: &str) -> Result<String, Fail> {
-    let words: Vec<&str> = line.split(" ").collect(alloc)?;
-    match words.as_slice() {
-        ["code", number] => code_text(alloc, numbered(alloc, number)?),
-        ["crypto", alert] => crypto_text(alloc, alert.parse()?),
-        ["frametype", number] => type_text(alloc, numbered(alloc, number)?),
-        ["stream", number] => stream_text(alloc, number),
-        ["cid", digits] => id_text(alloc, digits),
-        ["decode_long", digits] => long_id_text(alloc, digits),
-        ["order", one, other] => {
-            let order = id_of(alloc, one)?.cmp(&id_of(alloc, other)?);
-            Ok(format!(in alloc; "{order:?}")?)
-        }
-        ["ecn", bits] => {
-            let codepoint = EcnCodepoint::from_bits(bits.parse()?);
-            Ok(format!(in alloc; "{codepoint:?}")?)
-        }
-        ["error", code, ty, ..] => error_text(alloc, code, ty, reason_of(line)?),
-        ["close", "connection", code, ty, reason] => connection_text(alloc, code, ty, reason),
-        ["close", "application", code, reason] => application_text(alloc, code, reason),
+fn show_words(text: &mut String, alloc: Global, words: &[&str], line: &str) -> Result<(), Fail> {
+    match words {
+        ["code", number] => show_code(text, alloc, number),
+        ["crypto", alert] => show_crypto(text, alloc, alert),
+        ["frametype", number] => show_type(text, alloc, number),
+        ["stream", number] => show_stream(text, alloc, number),
+        ["cid", digits] => show_id(text, alloc, digits),
+        ["decode_long", digits] => show_long_id_of(text, alloc, digits),
+        ["order", one, other] => show_order(text, alloc, one, other),
+        ["ecn", bits] => show_codepoint(text, bits),
+        ["error", code, ty, ..] => show_error_of(text, alloc, code, ty, line),
+        ["close", "connection", code, ty, reason] => show_connection(text, alloc, code, ty, reason),
+        ["close", "application", code, reason] => show_application(text, alloc, code, reason),
         _ => Err("a value".into()),
     }
+}
+
+fn show_line(text: &mut String, alloc: Global, line: &str) -> Result<(), Fail> {
+    let words: Vec<&str> = line.split(" ").collect(alloc)?;
+    show_words(text, alloc, words.as_slice(), line)
 }

@@ -1,7 +1,8 @@
-//! The words of a line.
+//! The words of a line, and bytes that are printed.
 
 use quic_base::coding::{BufMutExt, Codec};
 use quic_base::varint::VarInt;
+use quic_frames::frame::FrameType;
 use std::alloc::Global;
 use std::test::Fail;
 
@@ -21,10 +22,37 @@ pub(crate) fn flag(word: &str) -> bool {
     word == "true"
 }
 
+fn read<T: Codec + Drop>(bytes: &[u8]) -> Result<T, Fail> {
+    let mut left = bytes;
+    Ok(T::decode(&mut left)?)
+}
+
 // What is read from the shortest spelling of a number, as codes and types of frames are.
 pub(crate) fn numbered<T: Codec + Drop>(alloc: Global, word: &str) -> Result<T, Fail> {
+    let number = varint(word)?;
     let mut bytes = Vec::new(alloc);
-    bytes.write(varint(word)?)?;
-    let mut left = bytes.as_slice();
-    Ok(T::decode(&mut left)?)
+    bytes.write(number)?;
+    read(bytes.as_slice())
+}
+
+// A type of frames; `-` is none.
+pub(crate) fn type_of(alloc: Global, word: &str) -> Result<Option<FrameType>, Fail> {
+    if word == "-" {
+        return Ok(None);
+    }
+    Ok(Some(numbered(alloc, word)?))
+}
+
+// Prints bytes on a line of their own, in hexadecimal.
+pub(crate) fn print_digits(rt: &HostRuntime, bytes: &[u8]) -> Result<(), Fail> {
+    let digits = hex::encode(rt.alloc(), bytes)?;
+    println!(rt; "{digits}")?;
+    Ok(())
+}
+
+// The same with a size behind them.
+pub(crate) fn print_sized(rt: &HostRuntime, bytes: &[u8], size: usize) -> Result<(), Fail> {
+    let digits = hex::encode(rt.alloc(), bytes)?;
+    println!(rt; "{digits} size {size}")?;
+    Ok(())
 }

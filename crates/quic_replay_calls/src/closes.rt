@@ -8,15 +8,8 @@ use std::test::Fail;
 
 // Most functions here borrow the bytes that they fill, so that their ways out have nothing to drop.
 
-// Writes the bytes of each line's close.
-pub(crate) fn replay(rt: &HostRuntime, lines: &str) -> Result<(), Fail> {
-    for line in lines.lines() {
-        replay_line(rt, line)?;
-    }
-    Ok(())
-}
-
-fn replay_line(rt: &HostRuntime, line: &str) -> Result<(), Fail> {
+// Writes the bytes of a line's close.
+pub(crate) fn replay(rt: &HostRuntime, line: &str) -> Result<(), Fail> {
     let mut out = Vec::new(rt.alloc());
     write_line(&mut out, rt.alloc(), line)?;
     print_digits(rt, out.as_slice())

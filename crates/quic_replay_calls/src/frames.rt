@@ -13,15 +13,8 @@ use std::test::Fail;
 // Most functions here borrow the bytes that they fill, so that their ways out have nothing to drop. They answer the size
 // that is told beforehand, where a frame can be asked for that.
 
-// Writes the bytes of each line's frame, and its size where it can be asked for that.
-pub(crate) fn replay(rt: &HostRuntime, lines: &str) -> Result<(), Fail> {
-    for line in lines.lines() {
-        replay_line(rt, line)?;
-    }
-    Ok(())
-}
-
-fn replay_line(rt: &HostRuntime, line: &str) -> Result<(), Fail> {
+// Writes the bytes of a line's frame, and its size where it can be asked for that.
+pub(crate) fn replay(rt: &HostRuntime, line: &str) -> Result<(), Fail> {
     let mut out = Vec::new(rt.alloc());
     let size = write_line(&mut out, rt.alloc(), line)?;
     print_frame(rt, out.as_slice(), size)
@@ -34,12 +27,10 @@ fn print_frame(rt: &HostRuntime, bytes: &[u8], size: Option<usize>) -> Result<()
     }
 }
 
-fn reset_stream(
-    out: &mut Vec<u8>,
-    id: &str,
-    code: &str,
-    offset: &str,
-) -> Result<Option<usize>, Fail> {
+fn reset_stream(out: &mut Vec<u8>, fields: &[&str]) -> Result<Option<usize>, Fail> {
+    let [id, code, offset] = fields else {
+        return Err("three fields".into());
+    };
     let frame = ResetStream {
         id: StreamId::from(varint(id)?),
         error_code: varint(code)?,
@@ -49,7 +40,10 @@ fn reset_stream(
     Ok(None)
 }
 
-fn stop_sending(out: &mut Vec<u8>, id: &str, code: &str) -> Result<Option<usize>, Fail> {
+fn stop_sending(out: &mut Vec<u8>, fields: &[&str]) -> Result<Option<usize>, Fail> {
+    let [id, code] = fields else {
+        return Err("two fields".into());
+    };
     let frame = StopSending {
         id: StreamId::from(varint(id)?),
         error_code: varint(code)?,
@@ -107,8 +101,10 @@ fn new_connection_id(
     Ok(None)
 }
 
-fn ack_frequency(out: &mut Vec<u8>, fields: [&str; 4]) -> Result<Option<usize>, Fail> {
-    let [sequence, threshold, delay, reordering] = fields;
+fn ack_frequency(out: &mut Vec<u8>, fields: &[&str]) -> Result<Option<usize>, Fail> {
+    let [sequence, threshold, delay, reordering] = fields else {
+        return Err("four fields".into());
+    };
     let frame = AckFrequency {
         sequence: varint(sequence)?,
         ack_eliciting_threshold: varint(threshold)?,
@@ -139,93 +135,89 @@ fn stream_meta(
     Ok(None)
 }
 
-fn frame_type(out: &mut Vec<u8>, alloc: Global, number: &str) -> Result<Option<usize>, Fail> {
+fn frame_type(out: &mut Vec<u8>, alloc: Global, fields: &[&str]) -> Result<Option<usize>, Fail> {
+    let [number] = fields else {
+        return Err("a number".into());
+    };
     let ty: FrameType = numbered(alloc, number)?;
     out.write(ty)?;
     Ok(None)
 }
 
-// The same of the words of a line. Each kind is read by a function of its own, and in it what owns bytes comes last.
-fn crypto_of(
-    out: &mut Vec<u8>,
-    alloc: Global,
-    offset: &str,
-    bytes: &str,
-) -> Result<Option<usize>, Fail> {
+// The same of the words behind the frame's name. In these functions what owns bytes comes last.
+fn crypto_of(out: &mut Vec<u8>, alloc: Global, fields: &[&str]) -> Result<Option<usize>, Fail> {
+    let [offset, bytes] = fields else {
+        return Err("two fields".into());
+    };
     let offset = offset.parse()?;
     let bytes = bytes_of(alloc, bytes)?;
     crypto(out, offset, bytes.as_slice())
 }
 
-fn new_token_of(out: &mut Vec<u8>, alloc: Global, token: &str) -> Result<Option<usize>, Fail> {
+fn new_token_of(out: &mut Vec<u8>, alloc: Global, fields: &[&str]) -> Result<Option<usize>, Fail> {
+    let [token] = fields else {
+        return Err("a token".into());
+    };
     let token = bytes_of(alloc, token)?;
     new_token(out, token.as_slice())
 }
 
-fn datagram_of(
-    out: &mut Vec<u8>,
-    alloc: Global,
-    with_length: bool,
-    bytes: &str,
-) -> Result<Option<usize>, Fail> {
+fn datagram_of(out: &mut Vec<u8>, alloc: Global, fields: &[&str]) -> Result<Option<usize>, Fail> {
+    let [length, bytes] = fields else {
+        return Err("two fields".into());
+    };
     let bytes = bytes_of(alloc, bytes)?;
-    datagram(out, with_length, bytes.as_slice())
+    datagram(out, flag(length), bytes.as_slice())
 }
 
 fn new_connection_id_of(
     out: &mut Vec<u8>,
     alloc: Global,
-    sequence: &str,
-    retire_prior_to: &str,
-    id: &str,
-    token: &str,
+    fields: &[&str],
 ) -> Result<Option<usize>, Fail> {
+    let [sequence, retire, id, token] = fields else {
+        return Err("four fields".into());
+    };
     let sequence = sequence.parse()?;
-    let retire_prior_to = retire_prior_to.parse()?;
+    let retire = retire.parse()?;
     let id = bytes_of(alloc, id)?;
     let token = bytes_of(alloc, token)?;
-    new_connection_id(
-        out,
-        sequence,
-        retire_prior_to,
-        id.as_slice(),
-        token.as_slice(),
-    )
+    new_connection_id(out, sequence, retire, id.as_slice(), token.as_slice())
 }
 
-fn stream_meta_of(
-    out: &mut Vec<u8>,
-    id: &str,
-    start: &str,
-    end: &str,
-    fin: bool,
-    with_length: bool,
-) -> Result<Option<usize>, Fail> {
+fn stream_meta_of(out: &mut Vec<u8>, fields: &[&str]) -> Result<Option<usize>, Fail> {
+    let [id, start, end, fin, length] = fields else {
+        return Err("five fields".into());
+    };
     let id = StreamId::from(varint(id)?);
     let offsets = start.parse()?..end.parse()?;
-    stream_meta(out, id, offsets, fin, with_length)
+    stream_meta(out, id, offsets, flag(fin), flag(length))
 }
 
-fn write_words(out: &mut Vec<u8>, alloc: Global, words: &[&str]) -> Result<Option<usize>, Fail> {
-    match words {
-        ["reset_stream", id, code, offset] => reset_stream(out, id, code, offset),
-        ["stop_sending", id, code] => stop_sending(out, id, code),
-        ["crypto", offset, bytes] => crypto_of(out, alloc, offset, bytes),
-        ["new_token", token] => new_token_of(out, alloc, token),
-        ["datagram", length, bytes] => datagram_of(out, alloc, flag(length), bytes),
-        ["new_connection_id", sequence, retire, id, token] => {
-            new_connection_id_of(out, alloc, sequence, retire, id, token)
-        }
-        ["ack_frequency", a, b, c, d] => ack_frequency(out, [a, b, c, d]),
-        ["stream_meta", id, start, end, fin, length] => {
-            stream_meta_of(out, id, start, end, flag(fin), flag(length))
-        }
-        ["type", number] => frame_type(out, alloc, number),
+fn write_kind(
+    out: &mut Vec<u8>,
+    alloc: Global,
+    kind: &str,
+    fields: &[&str],
+) -> Result<Option<usize>, Fail> {
+    match kind {
+        "reset_stream" => reset_stream(out, fields),
+        "stop_sending" => stop_sending(out, fields),
+        "crypto" => crypto_of(out, alloc, fields),
+        "new_token" => new_token_of(out, alloc, fields),
+        "datagram" => datagram_of(out, alloc, fields),
+        "new_connection_id" => new_connection_id_of(out, alloc, fields),
+        "ack_frequency" => ack_frequency(out, fields),
+        "stream_meta" => stream_meta_of(out, fields),
+        "type" => frame_type(out, alloc, fields),
         _ => Err("a frame".into()),
     }
 }
 
 fn write_line(out: &mut Vec<u8>, alloc: Global, line: &str) -> Result<Option<usize>, Fail> {
     let words: Vec<&str> = line.split(" ").collect(alloc)?;
-    write_words(out, alloc, words.as_slice())
+    let [kind, fields @ ..] = words.as_slice() else {
+        return Err("a frame".into());
+    };
+    write_kind(out, alloc, kind, fields)
 }

@@ -5,15 +5,8 @@ use quic_base::varint::VarInt;
 use std::fmt::Display;
 use std::test::Fail;
 
-// Reads each line's bytes as a varint, and as numbers of one, two, four and eight bytes.
-pub(crate) fn replay_reading(rt: &HostRuntime, lines: &str) -> Result<(), Fail> {
-    for line in lines.lines() {
-        replay_line(rt, line)?;
-    }
-    Ok(())
-}
-
-fn replay_line(rt: &HostRuntime, line: &str) -> Result<(), Fail> {
+// Reads a line's bytes as a varint, and as numbers of one, two, four and eight bytes.
+pub(crate) fn replay_reading(rt: &HostRuntime, line: &str) -> Result<(), Fail> {
     let bytes = bytes_of(rt.alloc(), line)?;
     read_all(rt, bytes.as_slice())
 }
@@ -53,16 +46,9 @@ fn read_fixed<T: Codec + Display + Drop>(
     Ok(())
 }
 
-// Writes each line's number as a varint, and its size; or that it is too large.
-pub(crate) fn replay_writing(rt: &HostRuntime, lines: &str) -> Result<(), Fail> {
-    for line in lines.lines() {
-        write_or_refuse(rt, line.parse()?)?;
-    }
-    Ok(())
-}
-
-fn write_or_refuse(rt: &HostRuntime, number: u64) -> Result<(), Fail> {
-    match VarInt::from_u64(number) {
+// Writes a line's number as a varint, and its size; or that it is too large.
+pub(crate) fn replay_writing(rt: &HostRuntime, line: &str) -> Result<(), Fail> {
+    match VarInt::from_u64(line.parse()?) {
         Ok(number) => write_number(rt, number)?,
         Err(e) => println!(rt; "{e:?} ({e})")?,
     }

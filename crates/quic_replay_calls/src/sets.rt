@@ -401,20 +401,36 @@ fn changed<S: Played>(
     Ok(true)
 }
 
-// The answer of a call that only looks at either set, `false` at another call.
-fn told<S: Played>(text: &mut String, set: &S, name: &str, words: &[&str]) -> Result<bool, Fail> {
-    let done = match (name, words) {
-        ("contains", [x]) => push_flag(text, set.has(x.parse::<u64>()?)),
-        ("min", []) => push_number(text, set.ends().0),
-        ("max", []) => push_number(text, set.ends().1),
-        ("len", []) => push_size(text, set.size().0),
-        ("is_empty", []) => push_flag(text, set.size().1),
-        ("elts", []) => set.members(text),
-        ("iter", [ends]) => set.runs_from(text, ends),
+// The answer of a call that only looks at either set and has no number, `false` at another call.
+fn told_alone<S: Played>(text: &mut String, set: &S, name: &str) -> Result<bool, Fail> {
+    let done = match name {
+        "min" => push_number(text, set.ends().0),
+        "max" => push_number(text, set.ends().1),
+        "len" => push_size(text, set.size().0),
+        "is_empty" => push_flag(text, set.size().1),
+        "elts" => set.members(text),
         _ => return Ok(false),
     };
     done?;
     Ok(true)
+}
+
+// The same of a call with one word more.
+fn told_of<S: Played>(text: &mut String, set: &S, name: &str, word: &str) -> Result<bool, Fail> {
+    match name {
+        "contains" => push_flag(text, set.has(word.parse()?))?,
+        "iter" => set.runs_from(text, word)?,
+        _ => return Ok(false),
+    }
+    Ok(true)
+}
+
+fn told<S: Played>(text: &mut String, set: &S, name: &str, words: &[&str]) -> Result<bool, Fail> {
+    match words {
+        [] => told_alone(text, set, name),
+        [word] => told_of(text, set, name, word),
+        _ => Ok(false),
+    }
 }
 
 // What a set answers to a call that both have, `false` at another call.

@@ -9,15 +9,8 @@ use std::test::Fail;
 
 // Most functions here borrow the text that they fill, so that their ways out have nothing to drop.
 
-// Writes the text of each line's value, and for some the bytes that are written of it.
-pub(crate) fn replay(rt: &HostRuntime, lines: &str) -> Result<(), Fail> {
-    for line in lines.lines() {
-        replay_line(rt, line)?;
-    }
-    Ok(())
-}
-
-fn replay_line(rt: &HostRuntime, line: &str) -> Result<(), Fail> {
+// Writes the text of a line's value, and for some the bytes that are written of it.
+pub(crate) fn replay(rt: &HostRuntime, line: &str) -> Result<(), Fail> {
     let mut text = String::new(rt.alloc());
     show_line(&mut text, rt.alloc(), line)?;
     println!(rt; "{text}")?;
@@ -187,19 +180,24 @@ fn show_application(
     Ok(())
 }
 
-fn show_words(text: &mut String, alloc: Global, words: &[&str], line: &str) -> Result<(), Fail> {
-    match words {
-        ["code", number] => show_code(text, alloc, number),
-        ["crypto", alert] => show_crypto(text, alloc, alert),
-        ["frametype", number] => show_type(text, alloc, number),
-        ["stream", number] => show_stream(text, alloc, number),
-        ["cid", digits] => show_id(text, alloc, digits),
-        ["decode_long", digits] => show_long_id_of(text, alloc, digits),
-        ["order", one, other] => show_order(text, alloc, one, other),
-        ["ecn", bits] => show_codepoint(text, bits),
-        ["error", code, ty, ..] => show_error_of(text, alloc, code, ty, line),
-        ["close", "connection", code, ty, reason] => show_connection(text, alloc, code, ty, reason),
-        ["close", "application", code, reason] => show_application(text, alloc, code, reason),
+fn show_close(text: &mut String, alloc: Global, fields: &[&str]) -> Result<(), Fail> {
+    match fields {
+        ["connection", code, ty, reason] => show_connection(text, alloc, code, ty, reason),
+        ["application", code, reason] => show_application(text, alloc, code, reason),
+        _ => Err("a close".into()),
+    }
+}
+
+// What one field says.
+fn show_field(text: &mut String, alloc: Global, kind: &str, field: &str) -> Result<(), Fail> {
+    match kind {
+        "code" => show_code(text, alloc, field),
+        "crypto" => show_crypto(text, alloc, field),
+        "frametype" => show_type(text, alloc, field),
+        "stream" => show_stream(text, alloc, field),
+        "cid" => show_id(text, alloc, field),
+        "decode_long" => show_long_id_of(text, alloc, field),
+        "ecn" => show_codepoint(text, field),
         _ => Err("a value".into()),
     }
 }
@@ -207,4 +205,14 @@ fn show_words(text: &mut String, alloc: Global, words: &[&str], line: &str) -> R
 fn show_line(text: &mut String, alloc: Global, line: &str) -> Result<(), Fail> {
     let words: Vec<&str> = line.split(" ").collect(alloc)?;
     show_words(text, alloc, words.as_slice(), line)
+}
+
+fn show_words(text: &mut String, alloc: Global, words: &[&str], line: &str) -> Result<(), Fail> {
+    match words {
+        ["error", code, ty, ..] => show_error_of(text, alloc, code, ty, line),
+        ["close", fields @ ..] => show_close(text, alloc, fields),
+        ["order", one, other] => show_order(text, alloc, one, other),
+        [kind, field] => show_field(text, alloc, kind, field),
+        _ => Err("a value".into()),
+    }
 }

@@ -1,36 +1,85 @@
 //! Packet numbers of the worked rows.
+ghost use Rattle.std.specs.Prelude.{IfSome};
+ghost use Rattle.quic_crypto.specs.PacketNumbers.{IsInRange};
+
 use quic_packets::packet::PacketNumber;
 use quic_testing::Checks;
 use std::test::Fail;
+
+// A number, the one that is acknowledged, and the bytes of the shortest packet number.
+const SHORTEST: &[(u64, u64, &[u8])] = &[
+    (127, 0, b"\x7f"),
+    (128, 0, b"\x00\x80"),
+    (0x8000, 0, b"\x00\x80\x00"),
+    (0x80_0000, 0, b"\x00\x80\x00\x00"),
+    (0x7fff_ffff, 0, b"\x7f\xff\xff\xff"),
+    (0x10, 0, b"\x10"),
+    (0x100, 0, b"\x01\x00"),
+    (0x1_0000, 0, b"\x01\x00\x00"),
+    (0x100_0005, 0xff_0000, b"\x00\x00\x05"),
+];
+
+fn shortest(n: u64, acked: u64) -> Option<PacketNumber>
+    ensures { IfSome result IsInRange }
+{
+    if n < acked || n - acked >= 1 << 31 {
+        return None;
+    }
+    Some(PacketNumber::new(n, acked))
+}
+
+fn is_written(out: &mut Vec<u8>, number: PacketNumber, bytes: &[u8]) -> bool
+    requires { IsInRange number }
+{
+    number.encode(out).is_ok() && out.as_slice() == bytes
+}
+
+fn is_read(number: PacketNumber, bytes: &[u8]) -> bool {
+    let mut rest = bytes;
+    PacketNumber::decode(number.len(), &mut rest) == Ok(number) && rest.is_empty()
+}
+
+// Whether nothing is read of one byte less, and that is left.
+fn is_refused_of_less(number: PacketNumber, bytes: &[u8]) -> bool {
+    let Some((_, few)) = bytes.split_first() else {
+        return false;
+    };
+    let mut rest = few;
+    PacketNumber::decode(number.len(), &mut rest).is_err() && rest == few
+}
+
+fn is_written_and_read(out: &mut Vec<u8>, number: PacketNumber, bytes: &[u8]) -> bool
+    requires { IsInRange number }
+{
+    is_written(out, number, bytes) && is_read(number, bytes) && is_refused_of_less(number, bytes)
+}
+
+fn shortest_is(out: &mut Vec<u8>, n: u64, acked: u64, bytes: &[u8]) -> bool {
+    let Some(number) = shortest(n, acked) else {
+        return false;
+    };
+    is_written_and_read(out, number, bytes)
+}
 
 // The shortest number of this one, where that one is acknowledged, is written as these bytes and read back.
 #[test]
 fn written_and_read(rt: HostRuntime) -> Result<(), Fail> {
     let mut checks = Checks::new(rt.alloc());
-    let cases: [(PacketNumber, &[u8]); 11] = [
-        (PacketNumber::new(127, 0), b"\x7f"),
-        (PacketNumber::new(128, 0), b"\x00\x80"),
-        (PacketNumber::new(0x8000, 0), b"\x00\x80\x00"),
-        (PacketNumber::new(0x80_0000, 0), b"\x00\x80\x00\x00"),
-        (PacketNumber::new(0x7fff_ffff, 0), b"\x7f\xff\xff\xff"),
-        (PacketNumber::U16(0x80), b"\x00\x80"),
-        (PacketNumber::U32(0x4000), b"\x00\x00\x40\x00"),
-        (PacketNumber::new(0x10, 0), b"\x10"),
-        (PacketNumber::new(0x100, 0), b"\x01\x00"),
-        (PacketNumber::new(0x1_0000, 0), b"\x01\x00\x00"),
-        (PacketNumber::new(0x100_0005, 0xff_0000), b"\x00\x00\x05"),
-    ];
-    for (number, bytes) in cases {
-        let mut out = Vec::new(rt.alloc());
-        checks.holds(number.encode(&mut out).is_ok());
-        checks.same(out.as_slice(), bytes);
-        let mut rest = bytes;
-        checks.same(PacketNumber::decode(number.len(), &mut rest), Ok(number));
-        checks.holds(rest.is_empty());
-        let mut few = &bytes[1..];
-        checks.holds(PacketNumber::decode(number.len(), &mut few).is_err());
-        checks.same(few, &bytes[1..]);
+    for &(n, acked, bytes) in SHORTEST {
+        let out = &mut Vec::new(rt.alloc());
+        checks.holds_at(n, shortest_is(out, n, acked, bytes));
     }
+    checks.verdict()
+}
+
+// Numbers in more bytes than they need.
+#[test]
+fn wide_numbers_written_and_read(rt: HostRuntime) -> Result<(), Fail> {
+    let mut checks = Checks::new(rt.alloc());
+    let two = PacketNumber::U16(0x80);
+    let four = PacketNumber::U32(0x4000);
+    checks.holds(is_written_and_read(&mut Vec::new(rt.alloc()), two, b"\x00\x80"));
+    checks.holds(is_written_and_read(&mut Vec::new(rt.alloc()), four, b"\x00\x00\x40\x00"));
     checks.verdict()
 }
 
@@ -38,16 +87,11 @@ fn written_and_read(rt: HostRuntime) -> Result<(), Fail> {
 #[test]
 fn expanded(rt: HostRuntime) -> Result<(), Fail> {
     let mut checks = Checks::new(rt.alloc());
-    let rows = [
-        (PacketNumber::U8(0xff), 0, 255),
-        (PacketNumber::U8(0xff), 256, 255),
-        (PacketNumber::U8(0xff), 383, 511),
-        (PacketNumber::U8(0), 128, 256),
-        (PacketNumber::U16(0x9b32), 0xa82f_30eb, 0xa82f_9b32),
-        (PacketNumber::U24(5), 0x100_0005, 0x100_0005),
-    ];
-    for (number, expected, whole) in rows {
-        checks.same_at(expected, number.expand(expected), whole);
-    }
+    checks.same(PacketNumber::U8(0xff).expand(0), 255);
+    checks.same(PacketNumber::U8(0xff).expand(256), 255);
+    checks.same(PacketNumber::U8(0xff).expand(383), 511);
+    checks.same(PacketNumber::U8(0).expand(128), 256);
+    checks.same(PacketNumber::U16(0x9b32).expand(0xa82f_30eb), 0xa82f_9b32);
+    checks.same(PacketNumber::U24(5).expand(0x100_0005), 0x100_0005);
     checks.verdict()
 }

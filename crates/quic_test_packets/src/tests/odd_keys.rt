@@ -8,7 +8,8 @@ use quic_bench::plain::PlainKey;
 use quic_frames::frame::Frame;
 use quic_packets::crypto::{HeaderKey, PacketKey};
 use quic_packets::packet::{
-    Expected, Keys, PartialDecode, SealError, SpaceKeys, open_datagram, open_packet, seal_packet,
+    Expected, Keys, Opened, PartialDecode, SealError, SpaceKeys, open_datagram, open_packet,
+    seal_packet,
 };
 use quic_testing::Checks;
 use std::alloc::Global;
@@ -20,75 +21,121 @@ const EXPECTED: Expected = Expected {
     app: 5,
 };
 
-// PING, PADDING, PADDING with the number 5 and no id become these bytes, which are opened in each way.
-fn through_all_calls<H: HeaderKey + Copy + Drop, P: PacketKey + Copy + Drop>(
+// Whether PING, PADDING, PADDING with the number 5 and no id are sealed as these bytes.
+fn is_sealed_as<H: HeaderKey, P: PacketKey>(
+    out: &mut Vec<u8>,
+    keys: &Keys<H, P>,
+    bytes: &[u8],
+) -> bool {
+    let header = short(b"", 5);
+    let frames = [Frame::Ping, Frame::Padding, Frame::Padding];
+    let sealed = seal_packet(&header, 5, &frames, keys, out);
+    sealed == Ok(bytes.len()) && out.as_slice() == bytes
+}
+
+fn is_that_packet(opened: &Opened) -> bool {
+    opened.number == Some(5)
+        && opened.header_data.as_slice() == b"\x40\x05".as_slice()
+        && opened.payload.as_slice() == b"\x01\0\0".as_slice()
+}
+
+fn is_opened<H: HeaderKey, P: PacketKey>(
+    alloc: Global,
+    keys: &SpaceKeys<H, P>,
+    bytes: &[u8],
+) -> bool {
+    let Ok(whole) = BytesMut::copy_from_slice(alloc, bytes) else {
+        return false;
+    };
+    let Ok((opened, rest)) = open_packet(whole, &NoIds, &[1], false, keys, &EXPECTED) else {
+        return false;
+    };
+    is_that_packet(&opened) && rest.is_none()
+}
+
+fn is_opened_alone<H: HeaderKey, P: PacketKey>(
+    all: &mut Vec<Opened>,
+    alloc: Global,
+    keys: &SpaceKeys<H, P>,
+    bytes: &[u8],
+) -> bool {
+    let Ok(whole) = BytesMut::copy_from_slice(alloc, bytes) else {
+        return false;
+    };
+    let done = open_datagram(whole, &NoIds, &[1], false, keys, &EXPECTED, all);
+    done.is_ok() && all.len() == 1
+}
+
+fn is_finished<H: HeaderKey>(cut: PartialDecode, key: &H, payload: &[u8]) -> bool {
+    let Ok(packet) = cut.finish(Some(key)) else {
+        return false;
+    };
+    packet.header_data.as_slice() == b"\x40\x05".as_slice() && packet.payload.as_slice() == payload
+}
+
+// The head has two bytes.
+fn is_cut_and_finished<H: HeaderKey>(alloc: Global, key: &H, bytes: &[u8]) -> bool {
+    let Some((_, payload)) = bytes.split_at_checked(2) else {
+        return false;
+    };
+    let Ok(whole) = BytesMut::copy_from_slice(alloc, bytes) else {
+        return false;
+    };
+    let Ok((cut, _rest)) = PartialDecode::new(whole, &NoIds, &[1], false) else {
+        return false;
+    };
+    is_finished(cut, key, payload)
+}
+
+// What is sealed becomes these bytes, which are opened in each way.
+fn check_all_calls<H: HeaderKey + Copy + Drop, P: PacketKey + Copy + Drop>(
     checks: &mut Checks,
     alloc: Global,
     header: H,
     packet: P,
     bytes: &[u8],
-) -> Result<(), Fail> {
+) {
     let keys = SpaceKeys {
         initial: Keys { header, packet },
         handshake: Keys { header, packet },
         app: Keys { header, packet },
     };
-    let mut out = Vec::new(alloc);
-    let frames = [Frame::Ping, Frame::Padding, Frame::Padding];
-    let sealed = seal_packet(&short(b"", 5), 5, &frames, &keys.app, &mut out);
-    checks.same(sealed, Ok(bytes.len()));
-    checks.same(out.as_slice(), bytes);
-    let whole = BytesMut::copy_from_slice(alloc, bytes)?;
-    match open_packet(whole, &NoIds, &[1], false, &keys, &EXPECTED) {
-        Ok((opened, rest)) => {
-            checks.same(opened.number, Some(5));
-            checks.same(opened.header_data.as_slice(), b"\x40\x05".as_slice());
-            checks.same(opened.payload.as_slice(), b"\x01\0\0".as_slice());
-            checks.holds(rest.is_none());
-        }
-        Err(_) => checks.holds(false),
-    }
-    let whole = BytesMut::copy_from_slice(alloc, bytes)?;
-    let mut all = Vec::new(alloc);
-    let done = open_datagram(whole, &NoIds, &[1], false, &keys, &EXPECTED, &mut all);
-    checks.holds(done.is_ok());
-    checks.same(all.len(), 1);
-    let whole = BytesMut::copy_from_slice(alloc, bytes)?;
-    match PartialDecode::new(whole, &NoIds, &[1], false) {
-        Ok((cut, _rest)) => match cut.finish(Some(&keys.app.header)) {
-            Ok(packet) => {
-                checks.same(packet.header_data.as_slice(), b"\x40\x05".as_slice());
-                checks.same(packet.payload.as_slice(), &bytes[2..]);
-            }
-            Err(_) => checks.holds(false),
-        },
-        Err(_) => checks.holds(false),
-    }
-    Ok(())
+    let out = &mut Vec::new(alloc);
+    checks.holds_at("sealed", is_sealed_as(out, &keys.app, bytes));
+    checks.holds_at("opened", is_opened(alloc, &keys, bytes));
+    let all = &mut Vec::new(alloc);
+    checks.holds_at("opened alone", is_opened_alone(all, alloc, &keys, bytes));
+    checks.holds_at(
+        "finished",
+        is_cut_and_finished(alloc, &keys.app.header, bytes),
+    );
 }
 
 #[test]
 fn odd_keys(rt: HostRuntime) -> Result<(), Fail> {
     let mut checks = Checks::new(rt.alloc());
-    let alloc = rt.alloc();
-    through_all_calls(&mut checks, alloc, PlainKey, PlainKey, b"\x40\x05\x01\0\0")?;
+    let plain = b"\x40\x05\x01\0\0";
+    check_all_calls(&mut checks, rt.alloc(), PlainKey, PlainKey, plain);
     let masked = b"\x42\x07\x06\x05\x05\x02\x03";
-    through_all_calls(&mut checks, alloc, MaskKey, AddKey, masked)?;
+    check_all_calls(&mut checks, rt.alloc(), MaskKey, AddKey, masked);
     let added = b"\x40\x05\x06\x05\x05\x02\x03";
-    through_all_calls(&mut checks, alloc, PlainKey, AddKey, added)?;
+    check_all_calls(&mut checks, rt.alloc(), PlainKey, AddKey, added);
     checks.verdict()
+}
+
+fn is_refused_as_too_short(out: &mut Vec<u8>) -> bool {
+    let keys = Keys {
+        header: PlainKey,
+        packet: PlainKey,
+    };
+    let header = short(b"", 5);
+    let few = seal_packet(&header, 5, &[Frame::Ping], &keys, out);
+    few == Err(SealError::TooShort) && out.is_empty()
 }
 
 #[test]
 fn too_short_for_no_sample(rt: HostRuntime) -> Result<(), Fail> {
     let mut checks = Checks::new(rt.alloc());
-    let keys = Keys {
-        header: PlainKey,
-        packet: PlainKey,
-    };
-    let mut out = Vec::new(rt.alloc());
-    let few = seal_packet(&short(b"", 5), 5, &[Frame::Ping], &keys, &mut out);
-    checks.same(few, Err(SealError::TooShort));
-    checks.holds(out.is_empty());
+    checks.holds(is_refused_as_too_short(&mut Vec::new(rt.alloc())));
     checks.verdict()
 }

@@ -2,27 +2,55 @@
 use crate::worked::{ALL_ZERO, all_toy, handshake, short, toy};
 use bytes::{Bytes, BytesMut};
 use quic_base::ids::{ConnectionId, Dir, Side, StreamId};
+use quic_base::varint::VarInt;
 use quic_frames::frame::{Ack, Frame, Stream};
 use quic_packets::packet::{
-    Expected, FixedLengthConnectionIdParser, Header, InitialHeader, OpenError, PacketDecodeError,
-    PacketNumber, SealError, VERSION_2, open_datagram, open_packet, seal_packet,
+    Expected, FixedLengthConnectionIdParser, Header, InitialHeader, OpenError, Opened,
+    PacketDecodeError, PacketNumber, SealError, VERSION_2, open_datagram, open_packet, seal_packet,
 };
 use quic_testing::Checks;
 use std::alloc::Global;
 use std::test::Fail;
 
+// Most functions here borrow the bytes that they seal into, and answer whether all was as it has to be: a test has nothing
+// alive beside its checks and these bytes.
+
+// Appends PING, PADDING, PADDING in a Handshake packet.
+fn seal_handshake(out: &mut Vec<u8>, version: u32) -> Result<usize, SealError> {
+    let header = handshake(version);
+    let frames = [Frame::Ping, Frame::Padding, Frame::Padding];
+    seal_packet(&header, 0, &frames, &toy(), out)
+}
+
+// Opens a datagram whose short heads have ids of one byte.
+fn open_all(opened: &mut Vec<Opened>, datagram: Vec<u8>) -> Result<(), OpenError> {
+    open_datagram(
+        BytesMut::from_vec(datagram),
+        &FixedLengthConnectionIdParser::new(1),
+        &[1],
+        false,
+        &all_toy(),
+        &ALL_ZERO,
+        opened,
+    )
+}
+
 // A Handshake packet and a 1-RTT packet, 30 bytes each.
 const WHOLE: [u8; 60] =
     *b"\xe0\0\0\0\x01\x01\xaa\0\x40\x14\0\x01\0\0\0\0\0\0\0\0\0\0\0\0\0\0\0\0\0\0\x40\xaa\x05\x02\x03\0\x01\0\0\x01\x08\0hi\0\0\0\0\0\0\0\x05\0\0\0\0\0\0\0\0";
 
-#[test]
-fn two_packets(rt: HostRuntime) -> Result<(), Fail> {
-    let mut checks = Checks::new(rt.alloc());
-    let mut out = Vec::new(rt.alloc());
-    let frames = [Frame::Ping, Frame::Padding, Frame::Padding];
-    let sealed = seal_packet(&handshake(1), 0, &frames, &toy(), &mut out);
-    checks.same(sealed, Ok(30));
-    let ack = Ack::from_parts(3, 0, b"\0\0\x01", None).map_err(|_| "the blocks")?;
+// The heads of both packets, their numbers and their payloads.
+const PACKETS: &[(&[u8], u64, &[u8])] = &[
+    (b"\xe0\0\0\0\x01\x01\xaa\0\x40\x14\0", 0, b"\x01\0\0"),
+    (b"\x40\xaa\x05", 5, b"\x02\x03\0\x01\0\0\x01\x08\0hi"),
+];
+
+// Whether an ACK and a STREAM are appended in a 1-RTT packet.
+fn are_ack_and_stream_sealed(out: &mut Vec<u8>) -> bool {
+    let Ok(ack) = Ack::from_parts(3, 0, b"\0\0\x01", None) else {
+        return false;
+    };
+    let header = short(b"\xaa", 5);
     let stream = Stream {
         id: StreamId::new(Side::Client, Dir::Bi, 0),
         offset: 0,
@@ -30,188 +58,251 @@ fn two_packets(rt: HostRuntime) -> Result<(), Fail> {
         bytes: b"hi",
     };
     let frames = [Frame::Ack(ack), Frame::Stream(stream)];
-    let sealed = seal_packet(&short(b"\xaa", 5), 5, &frames, &toy(), &mut out);
-    checks.same(sealed, Ok(30));
-    checks.same(out.as_slice(), WHOLE.as_slice());
-    let mut opened = Vec::new(rt.alloc());
-    let done = open_datagram(
-        BytesMut::from_vec(out),
-        &FixedLengthConnectionIdParser::new(1),
-        &[1],
-        false,
-        &all_toy(),
-        &ALL_ZERO,
-        &mut opened,
-    );
-    checks.holds(done.is_ok());
-    let rows: [(&[u8], u64, &[u8]); 2] = [
-        (&WHOLE[..11], 0, b"\x01\0\0"),
-        (b"\x40\xaa\x05", 5, b"\x02\x03\0\x01\0\0\x01\x08\0hi"),
-    ];
-    checks.same(opened.len(), 2);
-    for (packet, (head, number, payload)) in opened.iter().zip(rows) {
-        checks.same(packet.header_data.as_slice(), head);
-        checks.same(packet.number, Some(number));
-        checks.same(packet.payload.as_slice(), payload);
-        checks.same(packet.header.dst_cid().as_slice(), b"\xaa".as_slice());
+    seal_packet(&header, 5, &frames, &toy(), out) == Ok(30)
+}
+
+fn are_two_sealed(out: &mut Vec<u8>) -> bool {
+    seal_handshake(out, 1) == Ok(30)
+        && are_ack_and_stream_sealed(out)
+        && out.as_slice() == WHOLE.as_slice()
+}
+
+fn is_packet(packet: &Opened, row: &(&[u8], u64, &[u8])) -> bool {
+    let &(head, number, payload) = row;
+    packet.header_data.as_slice() == head
+        && packet.number == Some(number)
+        && packet.payload.as_slice() == payload
+        && packet.header.dst_cid().as_slice() == b"\xaa".as_slice()
+}
+
+fn are_both_packets(opened: &[Opened]) -> bool {
+    for (packet, row) in opened.iter().zip(PACKETS) {
+        if !is_packet(packet, row) {
+            return false;
+        }
     }
+    opened.len() == 2
+}
+
+fn are_two_opened(opened: &mut Vec<Opened>, datagram: Vec<u8>) -> bool {
+    open_all(opened, datagram).is_ok() && are_both_packets(opened.as_slice())
+}
+
+#[test]
+fn two_packets(rt: HostRuntime) -> Result<(), Fail> {
+    let mut out = Vec::new(rt.alloc());
+    let are_sealed = are_two_sealed(&mut out);
+    let are_opened = are_two_opened(&mut Vec::new(rt.alloc()), out);
+    let mut checks = Checks::new(rt.alloc());
+    checks.holds_at("sealed", are_sealed);
+    checks.holds_at("opened", are_opened);
     checks.verdict()
+}
+
+// Appends PING, PADDING, PADDING in a 1-RTT packet.
+fn seal_short(out: &mut Vec<u8>) -> Result<usize, SealError> {
+    let header = short(b"\xaa", 5);
+    let frames = [Frame::Ping, Frame::Padding, Frame::Padding];
+    seal_packet(&header, 5, &frames, &toy(), out)
+}
+
+fn is_short_sealed_first(out: &mut Vec<u8>) -> bool {
+    seal_short(out).is_ok() && seal_handshake(out, 1).is_ok()
+}
+
+fn is_nothing_opened(opened: &mut Vec<Opened>, datagram: Vec<u8>) -> bool {
+    open_all(opened, datagram) == Err(OpenError::Unsealed) && opened.is_empty()
 }
 
 // A packet with a short head has no length, and takes what follows it.
 #[test]
 fn short_packet_first(rt: HostRuntime) -> Result<(), Fail> {
-    let mut checks = Checks::new(rt.alloc());
     let mut out = Vec::new(rt.alloc());
-    let frames = [Frame::Ping, Frame::Padding, Frame::Padding];
-    let sealed = seal_packet(&short(b"\xaa", 5), 5, &frames, &toy(), &mut out);
-    checks.holds(sealed.is_ok());
-    let sealed = seal_packet(&handshake(1), 0, &frames, &toy(), &mut out);
-    checks.holds(sealed.is_ok());
-    let mut opened = Vec::new(rt.alloc());
-    let done = open_datagram(
-        BytesMut::from_vec(out),
-        &FixedLengthConnectionIdParser::new(1),
-        &[1],
-        false,
-        &all_toy(),
-        &ALL_ZERO,
-        &mut opened,
-    );
-    checks.holds(matches!(&done, Err(OpenError::Unsealed)));
-    checks.holds(opened.is_empty());
+    let are_sealed = is_short_sealed_first(&mut out);
+    let is_refused = is_nothing_opened(&mut Vec::new(rt.alloc()), out);
+    let mut checks = Checks::new(rt.alloc());
+    checks.holds_at("sealed", are_sealed);
+    checks.holds_at("refused", is_refused);
     checks.verdict()
+}
+
+fn seal_ping(out: &mut Vec<u8>) -> Result<usize, SealError> {
+    let header = handshake(1);
+    seal_packet(&header, 0, &[Frame::Ping], &toy(), out)
+}
+
+// Appends a STREAM of these bytes in a Handshake packet.
+fn seal_data(out: &mut Vec<u8>, bytes: &[u8]) -> Result<usize, SealError> {
+    let header = handshake(1);
+    let stream = Stream {
+        id: StreamId::new(Side::Client, Dir::Bi, 0),
+        offset: 0,
+        fin: false,
+        bytes,
+    };
+    seal_packet(&header, 0, &[Frame::Stream(stream)], &toy(), out)
+}
+
+fn is_too_short(out: &mut Vec<u8>) -> bool {
+    seal_ping(out) == Err(SealError::TooShort) && out.is_empty()
+}
+
+// Whether these bytes are too many for a packet, and without their first one are not.
+fn is_too_long_by_one(out: &mut Vec<u8>, bytes: &[u8]) -> bool {
+    let Some((_, most)) = bytes.split_first() else {
+        return false;
+    };
+    seal_data(out, bytes) == Err(SealError::TooLong)
+        && out.is_empty()
+        && seal_data(out, most) == Ok(16393)
+        && out.starts_with(b"\xe0\0\0\0\x01\x01\xaa\0\x7f\xff\0\x08\0")
 }
 
 #[test]
 fn too_short_and_too_long(rt: HostRuntime) -> Result<(), Fail> {
-    let mut checks = Checks::new(rt.alloc());
     let mut out = Vec::new(rt.alloc());
-    let few = seal_packet(&handshake(1), 0, &[Frame::Ping], &toy(), &mut out);
-    checks.same(few, Err(SealError::TooShort));
+    let is_too_short = is_too_short(&mut out);
     let data = [0; 16365];
-    for (len, answer) in [(16365, Err(SealError::TooLong)), (16364, Ok(16393))] {
-        checks.holds(out.is_empty());
-        let stream = Stream {
-            id: StreamId::new(Side::Client, Dir::Bi, 0),
-            offset: 0,
-            fin: false,
-            bytes: &data[..len],
-        };
-        let frames = [Frame::Stream(stream)];
-        let sealed = seal_packet(&handshake(1), 0, &frames, &toy(), &mut out);
-        checks.same(sealed, answer);
-    }
-    checks.holds(out.starts_with(b"\xe0\0\0\0\x01\x01\xaa\0\x7f\xff\0\x08\0"));
+    let is_too_long = is_too_long_by_one(&mut out, &data);
+    let mut checks = Checks::new(rt.alloc());
+    checks.holds_at("too short", is_too_short);
+    checks.holds_at("too long", is_too_long);
     checks.verdict()
+}
+
+fn is_sealed_in_version_two(out: &mut Vec<u8>) -> bool {
+    seal_handshake(out, VERSION_2) == Ok(30)
+        && out.starts_with(b"\xf0\x6b\x33\x43\xcf\x01\xaa\0\x40\x14\0")
 }
 
 // Version 2 has other types of long heads.
 #[test]
 fn version_two(rt: HostRuntime) -> Result<(), Fail> {
     let mut checks = Checks::new(rt.alloc());
-    let mut out = Vec::new(rt.alloc());
-    let frames = [Frame::Ping, Frame::Padding, Frame::Padding];
-    let sealed = seal_packet(&handshake(VERSION_2), 0, &frames, &toy(), &mut out);
-    checks.same(sealed, Ok(30));
-    checks.holds(out.starts_with(b"\xf0\x6b\x33\x43\xcf\x01\xaa\0\x40\x14\0"));
+    checks.holds(is_sealed_in_version_two(&mut Vec::new(rt.alloc())));
     checks.verdict()
+}
+
+fn seal_number_300(out: &mut Vec<u8>) -> Result<usize, SealError> {
+    let header = short(b"\xaa", 300);
+    let frames = [Frame::Ping, Frame::Padding, Frame::Padding];
+    seal_packet(&header, 300, &frames, &toy(), out)
+}
+
+// The number that a datagram's packet is opened with, where this one is expected.
+fn opened_number(datagram: Vec<u8>, app: u32) -> Result<Option<u64>, OpenError> {
+    let expected = Expected {
+        initial: 0,
+        handshake: 0,
+        app: u64::from(app),
+    };
+    let answer = open_packet(
+        BytesMut::from_vec(datagram),
+        &FixedLengthConnectionIdParser::new(1),
+        &[1],
+        false,
+        &all_toy(),
+        &expected,
+    );
+    match answer {
+        Ok((opened, _rest)) => Ok(opened.number),
+        Err(e) => Err(e),
+    }
+}
+
+// The answer to a packet with the number 300; no number where it is not sealed.
+fn opens_300(alloc: Global, app: u32) -> Result<Option<u64>, OpenError> {
+    let mut out = Vec::new(alloc);
+    if seal_number_300(&mut out).is_err() {
+        return Ok(None);
+    }
+    opened_number(out, app)
 }
 
 // The number that is expected decides which one is read.
 #[test]
 fn number_300(rt: HostRuntime) -> Result<(), Fail> {
     let mut checks = Checks::new(rt.alloc());
-    let frames = [Frame::Ping, Frame::Padding, Frame::Padding];
-    for app in [300, 0] {
-        let mut out = Vec::new(rt.alloc());
-        let sealed = seal_packet(&short(b"\xaa", 300), 300, &frames, &toy(), &mut out);
-        checks.holds(sealed.is_ok());
-        let expected = Expected {
-            initial: 0,
-            handshake: 0,
-            app,
-        };
-        let answer = open_packet(
-            BytesMut::from_vec(out),
-            &FixedLengthConnectionIdParser::new(1),
-            &[1],
-            false,
-            &all_toy(),
-            &expected,
-        );
-        match answer {
-            Ok((opened, _rest)) => checks.same((app, opened.number), (300, Some(300))),
-            Err(e) => {
-                checks.same(app, 0);
-                checks.holds(matches!(&e, OpenError::Unsealed));
-            }
-        }
-    }
+    checks.holds(opens_300(rt.alloc(), 300) == Ok(Some(300)));
+    checks.holds(opens_300(rt.alloc(), 0) == Err(OpenError::Unsealed));
     checks.verdict()
 }
+
+// Appends an Initial packet of six frames.
+fn seal_initial(out: &mut Vec<u8>, version: u32) -> Result<usize, SealError> {
+    let header = Header::Initial(InitialHeader {
+        dst_cid: ConnectionId::new(b"\x06\xb8\x58\xec\x6f\x80\x45\x2b"),
+        src_cid: ConnectionId::new(b""),
+        token: Bytes::new(),
+        number: PacketNumber::U8(0),
+        version,
+    });
+    let frames = [
+        Frame::PathChallenge(0),
+        Frame::DataBlocked { offset: 0 },
+        Frame::MaxData(VarInt::from_u32(0)),
+        Frame::Ping,
+        Frame::Padding,
+        Frame::Padding,
+    ];
+    seal_packet(&header, 0, &frames, &toy(), out)
+}
+
+fn is_opened_with_head(datagram: Vec<u8>, head: &[u8]) -> bool {
+    let answer = open_packet(
+        BytesMut::from_vec(datagram),
+        &FixedLengthConnectionIdParser::new(0),
+        &[1, VERSION_2],
+        false,
+        &all_toy(),
+        &ALL_ZERO,
+    );
+    let Ok((opened, rest)) = answer else {
+        return false;
+    };
+    opened.header_data.as_slice() == head && rest.is_none()
+}
+
+fn has_initial_head(alloc: Global, version: u32, head: &[u8]) -> bool {
+    let mut out = Vec::new(alloc);
+    seal_initial(&mut out, version) == Ok(head.len() + 16 + 16) && is_opened_with_head(out, head)
+}
+
+// Versions, and an Initial packet's head in them.
+const INITIAL_HEADS: &[(u32, &[u8])] = &[
+    (
+        1,
+        b"\xc0\0\0\0\x01\x08\x06\xb8\x58\xec\x6f\x80\x45\x2b\0\0\x40\x21\0",
+    ),
+    (
+        VERSION_2,
+        b"\xd0\x6b\x33\x43\xcf\x08\x06\xb8\x58\xec\x6f\x80\x45\x2b\0\0\x40\x21\0",
+    ),
+];
 
 // The head's bytes as they were sealed, with the length filled in.
 #[test]
 fn initial_head(rt: HostRuntime) -> Result<(), Fail> {
     let mut checks = Checks::new(rt.alloc());
-    let rows: [(u32, &[u8]); 2] = [
-        (
-            1,
-            b"\xc0\0\0\0\x01\x08\x06\xb8\x58\xec\x6f\x80\x45\x2b\0\0\x40\x21\0",
-        ),
-        (
-            VERSION_2,
-            b"\xd0\x6b\x33\x43\xcf\x08\x06\xb8\x58\xec\x6f\x80\x45\x2b\0\0\x40\x21\0",
-        ),
-    ];
-    for (version, head) in rows {
-        let header = Header::Initial(InitialHeader {
-            dst_cid: ConnectionId::new(b"\x06\xb8\x58\xec\x6f\x80\x45\x2b"),
-            src_cid: ConnectionId::new(b""),
-            token: Bytes::new(),
-            number: PacketNumber::U8(0),
-            version,
-        });
-        let mut out = Vec::new(rt.alloc());
-        let frames = [
-            Frame::PathChallenge(0),
-            Frame::DataBlocked { offset: 0 },
-            Frame::MaxData(quic_base::varint::VarInt::from_u32(0)),
-            Frame::Ping,
-            Frame::Padding,
-            Frame::Padding,
-        ];
-        let sealed = seal_packet(&header, 0, &frames, &toy(), &mut out);
-        checks.same(sealed, Ok(head.len() + 16 + 16));
-        let answer = open_packet(
-            BytesMut::from_vec(out),
-            &FixedLengthConnectionIdParser::new(0),
-            &[1, VERSION_2],
-            false,
-            &all_toy(),
-            &ALL_ZERO,
-        );
-        match answer {
-            Ok((opened, rest)) => {
-                checks.same(opened.header_data.as_slice(), head);
-                checks.holds(rest.is_none());
-            }
-            Err(_) => checks.holds(false),
-        }
+    for &(version, head) in INITIAL_HEADS {
+        checks.holds_at(version, has_initial_head(rt.alloc(), version, head));
     }
     checks.verdict()
 }
 
-// The answer to bytes that were not sealed.
-fn opens(
-    checks: &mut Checks,
-    alloc: Global,
-    bytes: &[u8],
-    wanted: Result<&[u8], &str>,
-) -> Result<(), Fail> {
+// Bytes that were not sealed, and the payload or the text of the refusal.
+const NOT_SEALED: &[(&[u8], Result<&[u8], &str>)] = &[
+    (b"\xf0\0\0\0\x01\0\0\xab", Ok(b"\xab")),
+    (b"\xc0\0\0\0\0\0\0\0\0\0\x01", Ok(b"\0\0\0\x01")),
+    (
+        b"\xe0\0\0\0\x01\0\0\0",
+        Err("packet too short to extract header protection sample"),
+    ),
+];
+
+fn is_answer(whole: BytesMut, wanted: Result<&[u8], &str>) -> bool {
     let answer = open_packet(
-        BytesMut::copy_from_slice(alloc, bytes)?,
+        whole,
         &FixedLengthConnectionIdParser::new(0),
         &[1],
         false,
@@ -220,32 +311,27 @@ fn opens(
     );
     match answer {
         Ok((opened, rest)) => {
-            checks.same(opened.number, None);
-            checks.same(Ok(opened.payload.as_slice()), wanted);
-            checks.holds(rest.is_none());
+            opened.number.is_none() && Ok(opened.payload.as_slice()) == wanted && rest.is_none()
         }
-        Err(OpenError::Decode(PacketDecodeError::InvalidHeader(text))) => {
-            checks.same(Err(text), wanted);
-        }
-        Err(_) => checks.holds(false),
+        Err(OpenError::Decode(PacketDecodeError::InvalidHeader(text))) => Err(text) == wanted,
+        Err(_) => false,
     }
-    Ok(())
+}
+
+fn is_opened_as(alloc: Global, bytes: &[u8], wanted: Result<&[u8], &str>) -> bool {
+    let Ok(whole) = BytesMut::copy_from_slice(alloc, bytes) else {
+        return false;
+    };
+    is_answer(whole, wanted)
 }
 
 // A packet without protection as it stands, and a packet without a sample.
 #[test]
 fn not_sealed(rt: HostRuntime) -> Result<(), Fail> {
     let mut checks = Checks::new(rt.alloc());
-    let rows: [(&[u8], Result<&[u8], &str>); 3] = [
-        (b"\xf0\0\0\0\x01\0\0\xab", Ok(b"\xab")),
-        (b"\xc0\0\0\0\0\0\0\0\0\0\x01", Ok(b"\0\0\0\x01")),
-        (
-            b"\xe0\0\0\0\x01\0\0\0",
-            Err("packet too short to extract header protection sample"),
-        ),
-    ];
-    for (bytes, wanted) in rows {
-        opens(&mut checks, rt.alloc(), bytes, wanted)?;
+    for &(bytes, wanted) in NOT_SEALED {
+        let is_opened = is_opened_as(rt.alloc(), bytes, wanted);
+        checks.holds_at(format_args!("{bytes:?}"), is_opened);
     }
     checks.verdict()
 }

@@ -9,6 +9,8 @@ use quic_packets::packet::{Header, InitialHeader, LongType, PartialEncode};
 use std::alloc::Global;
 use std::test::Fail;
 
+// Most functions here borrow the bytes that they fill, so that their ways out have nothing to drop.
+
 // Writes each line's packet: its head alone where it has no number, else with its payload, sealed.
 pub(crate) fn replay(rt: &HostRuntime, lines: &str) -> Result<(), Fail> {
     for line in lines.lines() {
@@ -19,27 +21,75 @@ pub(crate) fn replay(rt: &HostRuntime, lines: &str) -> Result<(), Fail> {
 
 fn replay_line(rt: &HostRuntime, line: &str) -> Result<(), Fail> {
     let words: Vec<&str> = line.split(" ").collect(rt.alloc())?;
-    let words = words.as_slice();
-    let header = head_of(rt.alloc(), words)?;
-    let mut out = Vec::new(rt.alloc());
-    let partial = header.encode(&mut out)?;
+    replay_words(rt, words.as_slice())
+}
+
+fn replay_words(rt: &HostRuntime, words: &[&str]) -> Result<(), Fail> {
     let [.., whole, payload] = words else {
         return Err("a payload".into());
     };
-    let payload = bytes_of(rt.alloc(), payload)?;
-    if !header.is_protected() {
-        out.extend_from_slice(payload.as_slice())?;
-    } else if *whole != "-" {
-        out.extend_from_slice(payload.as_slice())?;
-        out.extend_from_slice(&[0; TAG_LEN])?;
-        finish(partial, whole.parse()?, out.as_mut_slice())?;
-    }
-    let digits = hex::encode(rt.alloc(), out.as_slice())?;
+    let header = head_of(rt.alloc(), words)?;
+    replay_packet(rt, &header, whole, payload)
+}
+
+fn replay_packet(rt: &HostRuntime, header: &Header, whole: &str, payload: &str) -> Result<(), Fail>
+    requires { IsWritable header.now }
+{
+    let mut out = Vec::new(rt.alloc());
+    let partial = write_packet(&mut out, rt.alloc(), header, whole, payload)?;
+    print_packet(rt, out.as_slice(), partial)
+}
+
+fn print_packet(rt: &HostRuntime, bytes: &[u8], partial: PartialEncode) -> Result<(), Fail> {
+    let digits = hex::encode(rt.alloc(), bytes)?;
     println!(rt;
         "{digits} start {} header_len {}",
         partial.start, partial.header_len
     )?;
     Ok(())
+}
+
+fn write_packet(
+    out: &mut Vec<u8>,
+    alloc: Global,
+    header: &Header,
+    whole: &str,
+    payload: &str,
+) -> Result<PartialEncode, Fail>
+    requires { IsWritable header.now }
+{
+    let partial = header.encode(out)?;
+    let payload = bytes_of(alloc, payload)?;
+    write_payload(
+        out,
+        partial,
+        header.is_protected(),
+        whole,
+        payload.as_slice(),
+    )?;
+    Ok(partial)
+}
+
+fn write_payload(
+    out: &mut Vec<u8>,
+    partial: PartialEncode,
+    is_protected: bool,
+    whole: &str,
+    payload: &[u8],
+) -> Result<(), Fail> {
+    if !is_protected {
+        return Ok(out.extend_from_slice(payload)?);
+    }
+    if whole == "-" {
+        return Ok(());
+    }
+    seal(out, partial, whole.parse()?, payload)
+}
+
+fn seal(out: &mut Vec<u8>, partial: PartialEncode, whole: u64, payload: &[u8]) -> Result<(), Fail> {
+    out.extend_from_slice(payload)?;
+    out.extend_from_slice(&[0; TAG_LEN])?;
+    finish(partial, whole, out.as_mut_slice())
 }
 
 // Finishes a packet that begins its buffer, if it has room for the sample and the length.
@@ -62,60 +112,109 @@ fn finish(partial: PartialEncode, whole: u64, packet: &mut [u8]) -> Result<(), F
     Ok(())
 }
 
-// The head that the words say.
+// The head that the words say. Each kind is read by a function of its own, which takes apart what stands behind its name.
 fn head_of(alloc: Global, words: &[&str]) -> Result<Header, Fail>
     ensures { IfOk result IsWritable }
 {
-    match words {
-        ["initial", kind, low, dst, src, token, version, _, _] => {
-            let token = bytes_of(alloc, token)?;
-            if token.len() as u64 >= 1 << 62 {
-                return Err("a shorter token".into());
-            }
-            Ok(Header::Initial(InitialHeader {
-                dst_cid: id(alloc, dst)?,
-                src_cid: id(alloc, src)?,
-                token: Bytes::copy_from_slice(alloc, token.as_slice())?,
-                number: number(kind, low)?,
-                version: version_of(version)?,
-            }))
-        }
-        ["handshake", kind, low, dst, src, version, _, _] => {
-            long(alloc, LongType::Handshake, [kind, low, dst, src, version])
-        }
-        ["0rtt", kind, low, dst, src, version, _, _] => {
-            long(alloc, LongType::ZeroRtt, [kind, low, dst, src, version])
-        }
-        ["short", spin, key_phase, kind, low, dst, _, _] => Ok(Header::Short {
-            spin: *spin == "true",
-            key_phase: *key_phase == "true",
-            dst_cid: id(alloc, dst)?,
-            number: number(kind, low)?,
-        }),
-        ["retry", dst, src, version, _] => Ok(Header::Retry {
-            dst_cid: id(alloc, dst)?,
-            src_cid: id(alloc, src)?,
-            version: version_of(version)?,
-        }),
-        ["version-negotiation", random, dst, src, _] => Ok(Header::VersionNegotiate {
-            random: random.parse()?,
-            src_cid: id(alloc, src)?,
-            dst_cid: id(alloc, dst)?,
-        }),
+    let [name, fields @ ..] = words else {
+        return Err("a head".into());
+    };
+    named(alloc, name, fields)
+}
+
+fn named(alloc: Global, name: &str, fields: &[&str]) -> Result<Header, Fail>
+    ensures { IfOk result IsWritable }
+{
+    match name {
+        "initial" => initial(alloc, fields),
+        "handshake" => long(alloc, LongType::Handshake, fields),
+        "0rtt" => long(alloc, LongType::ZeroRtt, fields),
+        "short" => short(alloc, fields),
+        "retry" => retry(alloc, fields),
+        "version-negotiation" => negotiation(alloc, fields),
         _ => Err("a head".into()),
     }
 }
 
-fn long(alloc: Global, ty: LongType, words: [&&str; 5]) -> Result<Header, Fail>
+fn initial(alloc: Global, fields: &[&str]) -> Result<Header, Fail>
     ensures { IfOk result IsWritable }
 {
-    let [kind, low, dst, src, version] = words;
+    let [kind, low, dst, src, token, version, _, _] = fields else {
+        return Err("eight fields".into());
+    };
+    let dst_cid = id(alloc, dst)?;
+    let src_cid = id(alloc, src)?;
+    let number = number(kind, low)?;
+    let version = version_of(version)?;
+    let token = bytes_of(alloc, token)?;
+    if token.len() as u64 >= 1 << 62 {
+        return Err("a shorter token".into());
+    }
+    Ok(Header::Initial(InitialHeader {
+        dst_cid,
+        src_cid,
+        token: Bytes::copy_from_slice(alloc, token.as_slice())?,
+        number,
+        version,
+    }))
+}
+
+fn long(alloc: Global, ty: LongType, fields: &[&str]) -> Result<Header, Fail>
+    ensures { IfOk result IsWritable }
+{
+    let [kind, low, dst, src, version, _, _] = fields else {
+        return Err("seven fields".into());
+    };
     Ok(Header::Long {
         ty,
         dst_cid: id(alloc, dst)?,
         src_cid: id(alloc, src)?,
         number: number(kind, low)?,
         version: version_of(version)?,
+    })
+}
+
+fn short(alloc: Global, fields: &[&str]) -> Result<Header, Fail>
+    ensures { IfOk result IsWritable }
+{
+    let [spin, key_phase, kind, low, dst, _, _] = fields else {
+        return Err("seven fields".into());
+    };
+    Ok(Header::Short {
+        spin: is_true(spin),
+        key_phase: is_true(key_phase),
+        dst_cid: id(alloc, dst)?,
+        number: number(kind, low)?,
+    })
+}
+
+fn is_true(word: &str) -> bool {
+    word == "true"
+}
+
+fn retry(alloc: Global, fields: &[&str]) -> Result<Header, Fail>
+    ensures { IfOk result IsWritable }
+{
+    let [dst, src, version, _] = fields else {
+        return Err("four fields".into());
+    };
+    Ok(Header::Retry {
+        dst_cid: id(alloc, dst)?,
+        src_cid: id(alloc, src)?,
+        version: version_of(version)?,
+    })
+}
+
+fn negotiation(alloc: Global, fields: &[&str]) -> Result<Header, Fail>
+    ensures { IfOk result IsWritable }
+{
+    let [random, dst, src, _] = fields else {
+        return Err("four fields".into());
+    };
+    Ok(Header::VersionNegotiate {
+        random: random.parse()?,
+        src_cid: id(alloc, src)?,
+        dst_cid: id(alloc, dst)?,
     })
 }
 

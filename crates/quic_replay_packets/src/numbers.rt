@@ -4,31 +4,43 @@ ghost use Rattle.quic_crypto.specs.PacketNumbers.{IsInRange};
 
 use crate::words::{bytes_of, number};
 use quic_packets::packet::{PacketDecodeError, PacketNumber};
-use std::alloc::Global;
 use std::test::Fail;
 
 // The packet number of each line's number, by the one that is acknowledged, and its bytes.
 pub(crate) fn replay_new(rt: &HostRuntime, lines: &str) -> Result<(), Fail> {
     for line in lines.lines() {
-        let number = made(rt.alloc(), line)?;
-        let mut out = Vec::new(rt.alloc());
-        number.encode(&mut out)?;
-        let digits = hex::encode(rt.alloc(), out.as_slice())?;
-        println!(rt; "{number:?} len {} bytes {digits}", number.len())?;
+        print_made(rt, made(line)?)?;
     }
     Ok(())
 }
 
+fn print_made(rt: &HostRuntime, number: PacketNumber) -> Result<(), Fail>
+    requires { IsInRange number }
+{
+    let mut out = Vec::new(rt.alloc());
+    number.encode(&mut out)?;
+    print_bytes(rt, number, out.as_slice())
+}
+
+fn print_bytes(rt: &HostRuntime, number: PacketNumber, bytes: &[u8]) -> Result<(), Fail> {
+    let digits = hex::encode(rt.alloc(), bytes)?;
+    println!(rt; "{number:?} len {} bytes {digits}", number.len())?;
+    Ok(())
+}
+
 // A number and the one that is acknowledged.
-fn made(alloc: Global, line: &str) -> Result<PacketNumber, Fail>
+fn made(line: &str) -> Result<PacketNumber, Fail>
     ensures { IfOk result IsInRange }
 {
-    let words: Vec<&str> = line.split(" ").collect(alloc)?;
-    let [n, acked] = words.as_slice() else {
+    let Some((n, acked)) = line.split_once(" ") else {
         return Err("two numbers".into());
     };
-    let n: u64 = n.parse()?;
-    let acked: u64 = acked.parse()?;
+    made_near(n.parse()?, acked.parse()?)
+}
+
+fn made_near(n: u64, acked: u64) -> Result<PacketNumber, Fail>
+    ensures { IfOk result IsInRange }
+{
     if n < acked || n - acked >= 1 << 31 {
         return Err("a nearer number".into());
     }
@@ -38,21 +50,34 @@ fn made(alloc: Global, line: &str) -> Result<PacketNumber, Fail>
 // The number for which each line's packet number stands, by the one that is expected.
 pub(crate) fn replay_expand(rt: &HostRuntime, lines: &str) -> Result<(), Fail> {
     for line in lines.lines() {
-        println!(rt; "{}", expanded(rt.alloc(), line)?)?;
+        print_whole(rt, expanded(line)?)?;
     }
     Ok(())
 }
 
-fn expanded(alloc: Global, line: &str) -> Result<u64, Fail> {
-    let words: Vec<&str> = line.split(" ").collect(alloc)?;
-    let [kind, low, expected] = words.as_slice() else {
+fn print_whole(rt: &HostRuntime, whole: u64) -> Result<(), Fail> {
+    println!(rt; "{whole}")?;
+    Ok(())
+}
+
+// The kind of a packet number, its value, and the number that is expected.
+fn expanded(line: &str) -> Result<u64, Fail> {
+    let Some((kind, rest)) = line.split_once(" ") else {
         return Err("three words".into());
     };
-    let expected: u64 = expected.parse()?;
+    let Some((low, expected)) = rest.split_once(" ") else {
+        return Err("three words".into());
+    };
+    expanded_by(number(kind, low)?, expected.parse()?)
+}
+
+fn expanded_by(number: PacketNumber, expected: u64) -> Result<u64, Fail>
+    requires { IsInRange number }
+{
     if expected >= 1 << 62 {
         return Err("a smaller number".into());
     }
-    Ok(number(kind, low)?.expand(expected))
+    Ok(number.expand(expected))
 }
 
 // The packet number of so many bytes that each line's bytes begin with, or the refusal.
@@ -64,25 +89,34 @@ pub(crate) fn replay_decode(rt: &HostRuntime, lines: &str) -> Result<(), Fail> {
 }
 
 fn replay_line(rt: &HostRuntime, line: &str) -> Result<(), Fail> {
-    let words: Vec<&str> = line.split(" ").collect(rt.alloc())?;
-    let [len, bytes] = words.as_slice() else {
+    let Some((len, bytes)) = line.split_once(" ") else {
         return Err("a length and bytes".into());
     };
-    let len: usize = len.parse()?;
+    let len = len.parse()?;
+    let bytes = bytes_of(rt.alloc(), bytes)?;
+    decode(rt, len, bytes.as_slice())
+}
+
+fn decode(rt: &HostRuntime, len: usize, bytes: &[u8]) -> Result<(), Fail> {
     if len < 1 || len > 4 {
         return Err("one to four bytes".into());
     }
-    let bytes = bytes_of(rt.alloc(), bytes)?;
-    let mut left = bytes.as_slice();
+    let mut left = bytes;
     match PacketNumber::decode(len, &mut left) {
-        Ok(number) => {
-            let used = bytes.len().wrapping_sub(left.len());
-            println!(rt; "{number:?} consumed {used}")?;
-        }
-        Err(e) => match PacketDecodeError::from(e) {
-            PacketDecodeError::InvalidHeader(text) => println!(rt; "error {text}")?,
-            _ => return Err("another refusal".into()),
-        },
+        Ok(number) => print_decoded(rt, number, bytes.len().wrapping_sub(left.len())),
+        Err(e) => print_refusal(rt, &PacketDecodeError::from(e)),
     }
+}
+
+fn print_decoded(rt: &HostRuntime, number: PacketNumber, used: usize) -> Result<(), Fail> {
+    println!(rt; "{number:?} consumed {used}")?;
+    Ok(())
+}
+
+fn print_refusal(rt: &HostRuntime, e: &PacketDecodeError) -> Result<(), Fail> {
+    let PacketDecodeError::InvalidHeader(text) = e else {
+        return Err("another refusal".into());
+    };
+    println!(rt; "error {text}")?;
     Ok(())
 }

@@ -1,5 +1,6 @@
 //! Frames of every kind, written at their place in a payload.
 use super::frames_written_refused::is_counted;
+use quic_base::coding::NoRoom;
 use quic_bench::frames::written_and_read;
 use quic_frames::frame::{Frame, Iter};
 use quic_testing::Checks;
@@ -103,86 +104,142 @@ const OTHERS: &str = "\
 8000001f 1f 1f
 800000af402a4014c00000000000c3504001 40af2a148000c35001 40af2a148000c35001";
 
-// The bytes of a frame, as many as are foretold.
-fn written(alloc: Global, frame: &Frame<'_>, last: bool) -> Result<Vec<u8>, Fail> {
+// Writes a frame, and answers whether that was done in as many bytes as are foretold.
+fn write(out: &mut Vec<u8>, frame: &Frame<'_>, last: bool) -> bool {
     if !frame.in_range() || !is_counted(frame) {
-        return Err("a frame in range".into());
+        return false;
     }
-    let mut out = Vec::new(alloc);
-    frame.encode(last, &mut out)?;
-    if frame.encoded_len(last) != out.len() as u128 {
-        return Err("another length".into());
-    }
-    Ok(out)
+    frame.encode(last, out).is_ok() && frame.encoded_len(last) == out.len() as u128
 }
 
-// Whether a frame that is written there is read as it is, and behind it a PING or nothing.
-fn is_read_back(alloc: Global, frame: &Frame<'_>, last: bool) -> Result<bool, Fail> {
-    let mut payload = written(alloc, frame, last)?;
-    let end = payload.len();
-    if !last {
-        payload.push(0x01)?;
+fn shows(alloc: Global, frame: &Frame<'_>, text: &str) -> bool {
+    match format!(in alloc; "{frame:?}") {
+        Ok(shown) => shown.as_str() == text,
+        Err(_) => false,
     }
-    let mut iter = Iter::new(payload.as_slice())?;
-    let Some(Ok(again)) = iter.next() else {
-        return Ok(false);
-    };
-    let is_same = format!(in alloc; "{again:?}")? == format!(in alloc; "{frame:?}")?;
-    let is_apart = iter.offset() == end;
+}
+
+// Whether both are shown by the same text.
+fn show_the_same(alloc: Global, one: &Frame<'_>, other: &Frame<'_>) -> bool {
+    match format!(in alloc; "{one:?}") {
+        Ok(shown) => shows(alloc, other, shown.as_str()),
+        Err(_) => false,
+    }
+}
+
+// Whether a PING comes, or nothing.
+fn follows(iter: &mut Iter<'_>, last: bool) -> bool {
     let next = iter.next();
-    let follows = if last {
+    if last {
         next.is_none()
     } else {
         matches!(next, Some(Ok(Frame::Ping)))
-    };
-    Ok(is_same && is_apart && follows)
+    }
 }
 
-// Whether a frame is written as these bytes in hexadecimal.
-fn is_written(alloc: Global, frame: &Frame<'_>, last: bool, digits: &str) -> Result<bool, Fail> {
-    let wanted = hex::decode(alloc, digits.as_bytes())?;
-    Ok(written(alloc, frame, last)?.as_slice() == wanted.as_slice())
+// Whether the payload is this frame up to there, and behind it a PING or nothing.
+fn is_read(alloc: Global, payload: &[u8], frame: &Frame<'_>, end: usize, last: bool) -> bool {
+    let Some(mut iter) = Iter::new(payload).ok() else {
+        return false;
+    };
+    let Some(Ok(again)) = iter.next() else {
+        return false;
+    };
+    iter.offset() == end && follows(&mut iter, last) && show_the_same(alloc, &again, frame)
+}
+
+// Whether a frame that is written there is read as it is.
+fn is_read_back(out: &mut Vec<u8>, alloc: Global, frame: &Frame<'_>, last: bool) -> bool {
+    if !write(out, frame, last) {
+        return false;
+    }
+    let end = out.len();
+    (last || out.push(0x01).is_ok()) && is_read(alloc, out.as_slice(), frame, end, last)
+}
+
+// Whether a frame is written as these bytes.
+fn is_written_as(out: &mut Vec<u8>, frame: &Frame<'_>, last: bool, wanted: &[u8]) -> bool {
+    write(out, frame, last) && out.as_slice() == wanted
+}
+
+// The same of bytes in hexadecimal.
+fn is_written(alloc: Global, frame: &Frame<'_>, last: bool, digits: &str) -> bool {
+    match hex::decode(alloc, digits.as_bytes()) {
+        Ok(wanted) => is_written_as(&mut Vec::new(alloc), frame, last, wanted.as_slice()),
+        Err(_) => false,
+    }
 }
 
 // Whether a payload is one frame, which is written so before others and as the last.
-fn is_rewritten(alloc: Global, payload: &str, counted: &str, open: &str) -> Result<bool, Fail> {
-    let payload = hex::decode(alloc, payload.as_bytes())?;
-    let mut iter = Iter::new(payload.as_slice())?;
-    let Some(Ok(frame)) = iter.next() else {
-        return Ok(false);
+fn is_one_frame(alloc: Global, payload: &[u8], counted: &str, open: &str) -> bool {
+    let Some(mut iter) = Iter::new(payload).ok() else {
+        return false;
     };
-    Ok(
-        iter.next().is_none()
-            && is_written(alloc, &frame, false, counted)?
-            && is_written(alloc, &frame, true, open)?,
-    )
+    let Some(Ok(frame)) = iter.next() else {
+        return false;
+    };
+    iter.next().is_none()
+        && is_written(alloc, &frame, false, counted)
+        && is_written(alloc, &frame, true, open)
+}
+
+// The same of a payload in hexadecimal.
+fn is_rewritten(alloc: Global, payload: &str, counted: &str, open: &str) -> bool {
+    match hex::decode(alloc, payload.as_bytes()) {
+        Ok(payload) => is_one_frame(alloc, payload.as_slice(), counted, open),
+        Err(_) => false,
+    }
 }
 
 // Whether the first frame of a payload is read back from what is written of it.
-fn comes_back(alloc: Global, payload: &str) -> Result<bool, Fail> {
-    let payload = hex::decode(alloc, payload.as_bytes())?;
-    let Some(Ok(frame)) = Iter::new(payload.as_slice())?.next() else {
-        return Ok(false);
+fn first_comes_back(alloc: Global, payload: &[u8]) -> bool {
+    let Some(mut iter) = Iter::new(payload).ok() else {
+        return false;
     };
-    Ok(is_read_back(alloc, &frame, false)? && is_read_back(alloc, &frame, true)?)
+    let Some(Ok(frame)) = iter.next() else {
+        return false;
+    };
+    is_read_back(&mut Vec::new(alloc), alloc, &frame, false)
+        && is_read_back(&mut Vec::new(alloc), alloc, &frame, true)
+}
+
+// The same of a payload in hexadecimal.
+fn comes_back(alloc: Global, payload: &str) -> bool {
+    match hex::decode(alloc, payload.as_bytes()) {
+        Ok(payload) => first_comes_back(alloc, payload.as_slice()),
+        Err(_) => false,
+    }
 }
 
 // The three words of a line.
-fn words(line: &str) -> Result<(&str, &str, &str), Fail> {
-    let Some((payload, spellings)) = line.split_once(" ") else {
-        return Err("a payload".into());
+fn words(line: &str) -> Option<(&str, &str, &str)> {
+    let (payload, spellings) = line.split_once(" ")?;
+    let (counted, open) = spellings.split_once(" ")?;
+    Some((payload, counted, open))
+}
+
+fn line_is_rewritten(alloc: Global, line: &str) -> bool {
+    let Some((payload, counted, open)) = words(line) else {
+        return false;
     };
-    let Some((counted, open)) = spellings.split_once(" ") else {
-        return Err("two spellings".into());
+    is_rewritten(alloc, payload, counted, open)
+}
+
+// An acknowledgement shows its blocks as they are spelled.
+fn line_comes_back(alloc: Global, line: &str) -> bool {
+    let Some((payload, counted, open)) = words(line) else {
+        return false;
     };
-    Ok((payload, counted, open))
+    (payload.starts_with("02") || comes_back(alloc, payload))
+        && comes_back(alloc, counted)
+        && comes_back(alloc, open)
 }
 
 #[test]
 fn shortest_frames_are_written_as_they_were_read(rt: HostRuntime) -> Result<(), Fail> {
     let mut checks = Checks::new(rt.alloc());
     for line in SHORTEST.lines() {
-        checks.holds_at(line, is_rewritten(rt.alloc(), line, line, line)?);
+        checks.holds_at(line, is_rewritten(rt.alloc(), line, line, line));
     }
     checks.verdict()
 }
@@ -191,7 +248,7 @@ fn shortest_frames_are_written_as_they_were_read(rt: HostRuntime) -> Result<(), 
 fn shortest_frames_come_back(rt: HostRuntime) -> Result<(), Fail> {
     let mut checks = Checks::new(rt.alloc());
     for line in SHORTEST.lines() {
-        checks.holds_at(line, comes_back(rt.alloc(), line)?);
+        checks.holds_at(line, comes_back(rt.alloc(), line));
     }
     checks.verdict()
 }
@@ -200,8 +257,7 @@ fn shortest_frames_come_back(rt: HostRuntime) -> Result<(), Fail> {
 fn others_are_written_in_their_shortest_form(rt: HostRuntime) -> Result<(), Fail> {
     let mut checks = Checks::new(rt.alloc());
     for line in OTHERS.lines() {
-        let (payload, counted, open) = words(line)?;
-        checks.holds_at(line, is_rewritten(rt.alloc(), payload, counted, open)?);
+        checks.holds_at(line, line_is_rewritten(rt.alloc(), line));
     }
     checks.verdict()
 }
@@ -210,30 +266,33 @@ fn others_are_written_in_their_shortest_form(rt: HostRuntime) -> Result<(), Fail
 fn others_come_back(rt: HostRuntime) -> Result<(), Fail> {
     let mut checks = Checks::new(rt.alloc());
     for line in OTHERS.lines() {
-        let (payload, counted, open) = words(line)?;
-        // An acknowledgement shows its blocks as they are spelled.
-        if !payload.starts_with("02") {
-            checks.holds_at(line, comes_back(rt.alloc(), payload)?);
-        }
-        checks.holds_at(line, comes_back(rt.alloc(), counted)?);
-        checks.holds_at(line, comes_back(rt.alloc(), open)?);
+        checks.holds_at(line, line_comes_back(rt.alloc(), line));
     }
     checks.verdict()
+}
+
+// Whether a client that writes the first frame of a payload and reads it again is shown this text.
+fn is_read_by_a_client(alloc: Global, payload: &[u8], text: &str) -> bool {
+    let Some(mut iter) = Iter::new(payload).ok() else {
+        return false;
+    };
+    let Some(Ok(frame)) = iter.next() else {
+        return false;
+    };
+    if !frame.in_range() || !is_counted(&frame) {
+        return false;
+    }
+    match written_and_read(&frame, &mut Vec::new(alloc)) {
+        Ok(again) => shows(alloc, &again, text),
+        Err(NoRoom) => false,
+    }
 }
 
 #[test]
 fn a_client_reads_what_it_writes(rt: HostRuntime) -> Result<(), Fail> {
     let mut checks = Checks::new(rt.alloc());
-    let Some(Ok(frame)) = Iter::new(b"\x40\x14\x80\x00\x00\x22")?.next() else {
-        return Err("a frame".into());
-    };
-    if !frame.in_range() || !is_counted(&frame) {
-        return Err("a frame in range".into());
-    }
-    let mut out = Vec::new(rt.alloc());
-    let Ok(again) = written_and_read(&frame, &mut out) else {
-        return Err("room".into());
-    };
-    checks.debugs(rt.alloc(), &again, "DataBlocked { offset: 34 }")?;
+    let payload = b"\x40\x14\x80\x00\x00\x22";
+    let text = "DataBlocked { offset: 34 }";
+    checks.holds(is_read_by_a_client(rt.alloc(), payload, text));
     checks.verdict()
 }

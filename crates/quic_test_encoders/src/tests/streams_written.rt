@@ -1,115 +1,150 @@
 //! Heads of streams, and datagrams, that are written by themselves.
+ghost use Rattle.std.specs.Prelude.{◌<◌, ◌^◌, length};
+
 use quic_base::ids::StreamId;
 use quic_base::varint::VarInt;
-use quic_frames::frame::{Datagram, Frame, Iter, StreamMeta, StreamMetaVec};
+use quic_frames::frame::{Datagram, Frame, Iter, Stream, StreamMeta, StreamMetaVec};
 use quic_testing::Checks;
-use std::alloc::Global;
-use std::ops::Range;
 use std::test::Fail;
 
-// A stream's head in hexadecimal, where it can be written.
-fn head(alloc: Global, offsets: Range<u64>, fin: bool, with_length: bool) -> Result<String, Fail> {
-    let Range { start, end } = offsets;
+// Where the data begin and end, whether they are the last, whether their length is written, and the head.
+type HeadRow = (u64, u64, bool, bool, &'static [u8]);
+
+const HEADS: &[HeadRow] = &[
+    (16, 18, false, true, b"\x0e\x04\x10\x02"),
+    (16, 18, false, false, b"\x0c\x04\x10"),
+    (16, 18, true, true, b"\x0f\x04\x10\x02"),
+    (16, 18, true, false, b"\x0d\x04\x10"),
+    (0, 64, false, true, b"\x0a\x04\x40\x40"),
+    (0, 64, true, true, b"\x0b\x04\x40\x40"),
+    (0, 64, true, false, b"\x09\x04"),
+    (64, 64, false, true, b"\x0e\x04\x40\x40\x00"),
+];
+
+fn is_head(out: &mut Vec<u8>, row: &HeadRow) -> bool {
+    let &(start, end, fin, with_length, head) = row;
     if start > end || end >= 1 << 62 {
-        return Err("offsets in range".into());
+        return false;
     }
     let meta = StreamMeta {
         id: StreamId::from(VarInt::from_u32(4)),
         offsets: start..end,
         fin,
     };
-    let mut out = Vec::new(alloc);
-    meta.encode(with_length, &mut out)?;
-    Ok(hex::encode(alloc, out.as_slice())?)
+    meta.encode(with_length, out).is_ok() && out.as_slice() == head
 }
 
 #[test]
 fn heads_of_streams(rt: HostRuntime) -> Result<(), Fail> {
     let mut checks = Checks::new(rt.alloc());
-    let alloc = rt.alloc();
-    checks.same(head(alloc, 16..18, false, true)?.as_str(), "0e041002");
-    checks.same(head(alloc, 16..18, false, false)?.as_str(), "0c0410");
-    checks.same(head(alloc, 16..18, true, true)?.as_str(), "0f041002");
-    checks.same(head(alloc, 16..18, true, false)?.as_str(), "0d0410");
-    checks.same(head(alloc, 0..64, false, true)?.as_str(), "0a044040");
-    checks.same(head(alloc, 0..64, true, true)?.as_str(), "0b044040");
-    checks.same(head(alloc, 0..64, true, false)?.as_str(), "0904");
-    checks.same(head(alloc, 64..64, false, true)?.as_str(), "0e04404000");
+    for row in HEADS {
+        let is_written = is_head(&mut Vec::new(rt.alloc()), row);
+        checks.holds_at(format_args!("{row:?}"), is_written);
+    }
     checks.verdict()
+}
+
+fn is_of_no_data(meta: &StreamMeta) -> bool {
+    u64::from(meta.id) == 0 && meta.offsets.start == 0 && meta.offsets.end == 0 && !meta.fin
+}
+
+fn is_head_of_no_data(out: &mut Vec<u8>, with_length: bool, head: &[u8]) -> bool {
+    let meta = StreamMeta::default();
+    meta.encode(with_length, out).is_ok() && out.as_slice() == head
 }
 
 #[test]
 fn the_head_of_no_data(rt: HostRuntime) -> Result<(), Fail> {
     let mut checks = Checks::new(rt.alloc());
-    let meta = StreamMeta::default();
-    checks.same(u64::from(meta.id), 0);
-    checks.same(
-        (meta.offsets.start, meta.offsets.end, meta.fin),
-        (0, 0, false),
-    );
-    let mut out = Vec::new(rt.alloc());
-    meta.encode(true, &mut out)?;
-    checks.same(out.as_slice(), b"\x0a\x00\x00".as_slice());
-    let mut out = Vec::new(rt.alloc());
-    meta.encode(false, &mut out)?;
-    checks.same(out.as_slice(), b"\x08\x00".as_slice());
+    checks.holds(is_of_no_data(&StreamMeta::default()));
+    let counted = is_head_of_no_data(&mut Vec::new(rt.alloc()), true, b"\x0a\x00\x00");
+    checks.holds(counted);
+    let open = is_head_of_no_data(&mut Vec::new(rt.alloc()), false, b"\x08\x00");
+    checks.holds(open);
     checks.verdict()
+}
+
+fn lay_a_head_and_its_data(out: &mut Vec<u8>) -> bool {
+    let meta = StreamMeta {
+        id: StreamId::from(VarInt::from_u32(4)),
+        offsets: 16..18,
+        fin: true,
+    };
+    meta.encode(true, out).is_ok() && out.extend_from_slice(b"ab\x01").is_ok()
+}
+
+fn is_the_stream(stream: &Stream<'_>) -> bool {
+    u64::from(stream.id) == 4
+        && stream.offset == 16
+        && stream.fin
+        && stream.bytes == b"ab".as_slice()
+}
+
+fn is_the_stream_and_a_ping(payload: &[u8]) -> bool {
+    let Some(mut iter) = Iter::new(payload).ok() else {
+        return false;
+    };
+    let Some(Ok(Frame::Stream(stream))) = iter.next() else {
+        return false;
+    };
+    is_the_stream(&stream) && matches!(iter.next(), Some(Ok(Frame::Ping))) && iter.next().is_none()
+}
+
+fn are_a_frame(out: &mut Vec<u8>) -> bool {
+    lay_a_head_and_its_data(out) && is_the_stream_and_a_ping(out.as_slice())
 }
 
 // A head and the data behind it are a frame.
 #[test]
 fn a_head_and_its_data(rt: HostRuntime) -> Result<(), Fail> {
     let mut checks = Checks::new(rt.alloc());
-    let meta = StreamMeta {
-        id: StreamId::from(VarInt::from_u32(4)),
-        offsets: 16..18,
-        fin: true,
-    };
-    let mut out = Vec::new(rt.alloc());
-    meta.encode(true, &mut out)?;
-    out.extend_from_slice(b"ab\x01")?;
-    let mut iter = Iter::new(out.as_slice())?;
-    let Some(Ok(Frame::Stream(stream))) = iter.next() else {
-        return Err("a STREAM".into());
-    };
-    checks.same(u64::from(stream.id), 4);
-    checks.same((stream.offset, stream.fin), (16, true));
-    checks.same(stream.bytes, b"ab".as_slice());
-    checks.holds(matches!(iter.next(), Some(Ok(Frame::Ping))));
-    checks.holds(iter.next().is_none());
+    checks.holds(are_a_frame(&mut Vec::new(rt.alloc())));
     checks.verdict()
+}
+
+fn is_one_head(metas: &[StreamMeta]) -> bool {
+    let [meta] = metas else {
+        return false;
+    };
+    is_of_no_data(meta)
+}
+
+fn holds_one_head(metas: &mut StreamMetaVec) -> bool {
+    metas.push(StreamMeta::default()).is_ok() && is_one_head(metas.as_slice())
 }
 
 // One head is held without memory.
 #[test]
 fn one_head_is_held(rt: HostRuntime) -> Result<(), Fail> {
     let mut checks = Checks::new(rt.alloc());
-    let mut metas = StreamMetaVec::new(rt.alloc());
-    checks.holds(metas.push(StreamMeta::default()).is_ok());
-    let [meta] = metas.as_slice() else {
-        return Err("one head".into());
-    };
-    checks.same(u64::from(meta.id), 0);
-    checks.same(
-        (meta.offsets.start, meta.offsets.end, meta.fin),
-        (0, 0, false),
-    );
+    checks.holds(holds_one_head(&mut StreamMetaVec::new(rt.alloc())));
     checks.verdict()
+}
+
+// Appends a datagram of two bytes, and answers whether this stands there then.
+fn appends(out: &mut Vec<u8>, with_length: bool, whole: &[u8]) -> bool {
+    let datagram = Datagram { bytes: b"hi" };
+    datagram.encode(with_length, out).is_ok() && out.as_slice() == whole
+}
+
+// The second one behind what stands there.
+fn appends_both(out: &mut Vec<u8>) -> bool {
+    appends(out, true, b"\x31\x02hi") && appends(out, false, b"\x31\x02hi\x30hi")
+}
+
+// How long a datagram is with its length and without it.
+fn sizes(bytes: &[u8]) -> (usize, usize)
+    requires { length bytes.now < 2 ^ 62 }
+{
+    let datagram = Datagram { bytes };
+    (datagram.size(true), datagram.size(false))
 }
 
 #[test]
 fn datagrams(rt: HostRuntime) -> Result<(), Fail> {
     let mut checks = Checks::new(rt.alloc());
-    let datagram = Datagram { bytes: b"hi" };
-    let mut out = Vec::new(rt.alloc());
-    datagram.encode(true, &mut out)?;
-    checks.same(out.as_slice(), b"\x31\x02hi".as_slice());
-    checks.same(datagram.size(true), 4);
-    // Behind what stands there.
-    datagram.encode(false, &mut out)?;
-    checks.same(out.as_slice(), b"\x31\x02hi\x30hi".as_slice());
-    checks.same(datagram.size(false), 3);
-    let long = Datagram { bytes: &[0x61; 64] };
-    checks.same((long.size(true), long.size(false)), (67, 65));
+    checks.holds(appends_both(&mut Vec::new(rt.alloc())));
+    checks.same(sizes(b"hi"), (4, 3));
+    checks.same(sizes(&[0x61; 64]), (67, 65));
     checks.verdict()
 }

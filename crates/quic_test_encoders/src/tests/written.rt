@@ -14,85 +14,71 @@ use quic_testing::codes::code_of;
 use std::alloc::Global;
 use std::test::Fail;
 
-// A close of the transport in so much room, which is enough for it.
-fn connection_bytes(
-    alloc: Global,
-    error_code: Code,
-    frame_type: Option<FrameType>,
-    reason: &[u8],
-    room: usize,
-) -> Result<Vec<u8>, Fail> {
-    if reason.len() as u64 >= 1 << 62 {
-        return Err("a greater number".into());
+// Whether a close of the transport is written so in so much room, which is enough for it.
+fn fits(out: &mut Vec<u8>, close: &ConnectionClose<'_>, room: usize, wanted: &[u8]) -> bool {
+    if close.reason.len() as u64 >= 1 << 62 || close.min_len() > room {
+        return false;
     }
-    let close = ConnectionClose {
-        error_code,
-        frame_type,
-        reason,
-    };
-    if close.min_len() > room {
-        return Err("too little room".into());
-    }
-    let mut out = Vec::new(alloc);
-    close.encode(&mut out, room)?;
-    Ok(out)
+    close.encode(out, room).is_ok() && out.as_slice() == wanted
 }
 
-fn application_bytes(
-    alloc: Global,
-    error_code: VarInt,
-    reason: &[u8],
-    room: usize,
-) -> Result<Vec<u8>, Fail> {
-    if reason.len() as u64 >= 1 << 62 {
-        return Err("a greater number".into());
-    }
-    let close = ApplicationClose { error_code, reason };
+// The code of a close, the room, and what is written.
+const APPLICATION_CLOSES: &[(u32, usize, &[u8])] = &[
+    (0, 8, b"\x1d\x00\x04abcd"),
+    (16384, 8, b"\x1d\x80\x00\x40\x00\x02ab"),
+];
+
+fn application_fits(out: &mut Vec<u8>, code: u32, room: usize, wanted: &[u8]) -> bool {
+    let close = ApplicationClose {
+        error_code: VarInt::from_u32(code),
+        reason: b"abcdef",
+    };
     if close.min_len() > room {
-        return Err("too little room".into());
+        return false;
     }
-    let mut out = Vec::new(alloc);
-    close.encode(&mut out, room)?;
-    Ok(out)
+    close.encode(out, room).is_ok() && out.as_slice() == wanted
+}
+
+// The same of the transport.
+fn connection_fits(out: &mut Vec<u8>, error_code: Code, room: usize, wanted: &[u8]) -> bool {
+    let close = ConnectionClose {
+        error_code,
+        frame_type: None,
+        reason: b"abc",
+    };
+    fits(out, &close, room, wanted)
+}
+
+fn connection_closes_fit(alloc: Global, alert: Code, none: Code) -> bool {
+    connection_fits(&mut Vec::new(alloc), alert, 5, b"\x1c\x41\x2a\x00\x00")
+        && connection_fits(&mut Vec::new(alloc), alert, 7, b"\x1c\x41\x2a\x00\x02ab")
+        && connection_fits(&mut Vec::new(alloc), none, 7, b"\x1c\x00\x00\x02ab")
+}
+
+fn close_of_an_error_fits(out: &mut Vec<u8>) -> bool {
+    let mut error = Error::FRAME_ENCODING_ERROR("malformed");
+    error.frame = Some(FrameType::ACK);
+    let close = ConnectionClose::from(&error);
+    fits(out, &close, 25, b"\x1c\x07\x02\x09malformed")
 }
 
 #[test]
 fn closes_in_little_room(rt: HostRuntime) -> Result<(), Fail> {
+    let (alert, none) = (code_of(rt.alloc(), 298)?, code_of(rt.alloc(), 0)?);
     let mut checks = Checks::new(rt.alloc());
-    for (code, room, wanted) in [
-        (0, 8, b"\x1d\x00\x04abcd".as_slice()),
-        (16384, 8, b"\x1d\x80\x00\x40\x00\x02ab".as_slice()),
-    ] {
-        let out = application_bytes(rt.alloc(), VarInt::from_u32(code), b"abcdef", room)?;
-        checks.same(out.as_slice(), wanted);
+    for &(code, room, wanted) in APPLICATION_CLOSES {
+        let is_so = application_fits(&mut Vec::new(rt.alloc()), code, room, wanted);
+        checks.holds_at(code, is_so);
     }
-    for (code, room, wanted) in [
-        (298, 5, b"\x1c\x41\x2a\x00\x00".as_slice()),
-        (298, 7, b"\x1c\x41\x2a\x00\x02ab".as_slice()),
-        (0, 7, b"\x1c\x00\x00\x02ab".as_slice()),
-    ] {
-        let code = code_of(rt.alloc(), code)?;
-        let out = connection_bytes(rt.alloc(), code, None, b"abc", room)?;
-        checks.same(out.as_slice(), wanted);
-    }
-    let mut error = Error::FRAME_ENCODING_ERROR("malformed");
-    error.frame = Some(FrameType::ACK);
-    let close = ConnectionClose::from(&error);
-    let out = connection_bytes(
-        rt.alloc(),
-        close.error_code,
-        close.frame_type,
-        close.reason,
-        25,
-    )?;
-    checks.same(out.as_slice(), b"\x1c\x07\x02\x09malformed".as_slice());
+    checks.holds(connection_closes_fit(rt.alloc(), alert, none));
+    checks.holds(close_of_an_error_fits(&mut Vec::new(rt.alloc())));
     checks.verdict()
 }
 
 #[test]
 fn the_least_room_of_closes(rt: HostRuntime) -> Result<(), Fail> {
     let mut checks = Checks::new(rt.alloc());
-    for (code, room) in [(0, 4), (16384, 6)] {
+    for &(code, room) in &[(0, 4), (16384, 6)] {
         let close = ApplicationClose {
             error_code: VarInt::from_u32(code),
             reason: b"abcdef",
@@ -109,75 +95,91 @@ fn the_least_room_of_closes(rt: HostRuntime) -> Result<(), Fail> {
     checks.verdict()
 }
 
-#[test]
-fn frames_of_a_few_numbers(rt: HostRuntime) -> Result<(), Fail> {
-    let mut checks = Checks::new(rt.alloc());
+fn writes_a_frequency(out: &mut Vec<u8>) -> bool {
     let frequency = AckFrequency {
         sequence: VarInt::from_u32(42),
         ack_eliciting_threshold: VarInt::from_u32(20),
         request_max_ack_delay: VarInt::from_u32(50000),
         reordering_threshold: VarInt::from_u32(1),
     };
-    let mut out = Vec::new(rt.alloc());
-    frequency.encode(&mut out)?;
-    checks.same(
-        out.as_slice(),
-        b"\x40\xaf\x2a\x14\x80\x00\xc3\x50\x01".as_slice(),
-    );
+    let wanted = b"\x40\xaf\x2a\x14\x80\x00\xc3\x50\x01";
+    frequency.encode(out).is_ok() && out.as_slice() == wanted.as_slice()
+}
+
+fn writes_a_reset(out: &mut Vec<u8>) -> bool {
+    let Some(error_code) = VarInt::from_u64(1699299918078358476).ok() else {
+        return false;
+    };
     let reset = ResetStream {
         id: StreamId::from(VarInt::from_u32(2024)),
-        error_code: VarInt::from_u64(1699299918078358476)?,
+        error_code,
         final_offset: VarInt::from_u32(5),
     };
-    let mut out = Vec::new(rt.alloc());
-    reset.encode(&mut out)?;
-    checks.same(
-        out.as_slice(),
-        b"\x04\x47\xe8\xd7\x95\x20\x45\xaf\xe9\x33\xcc\x05".as_slice(),
-    );
+    let wanted = b"\x04\x47\xe8\xd7\x95\x20\x45\xaf\xe9\x33\xcc\x05";
+    reset.encode(out).is_ok() && out.as_slice() == wanted.as_slice()
+}
+
+fn writes_a_stop(out: &mut Vec<u8>) -> bool {
     let stop = StopSending {
         id: StreamId::from(VarInt::from_u32(4)),
         error_code: VarInt::from_u32(5),
     };
-    let mut out = Vec::new(rt.alloc());
-    stop.encode(&mut out)?;
-    checks.same(out.as_slice(), b"\x05\x04\x05".as_slice());
+    stop.encode(out).is_ok() && out.as_slice() == b"\x05\x04\x05".as_slice()
+}
+
+fn writes_counts(out: &mut Vec<u8>) -> bool {
     let counts = EcnCounts {
         ect0: 42,
         ect1: 24,
         ce: 12,
     };
-    let mut out = Vec::new(rt.alloc());
-    counts.encode(&mut out)?;
-    checks.same(out.as_slice(), b"\x2a\x18\x0c".as_slice());
-    checks.verdict()
+    counts.encode(out).is_ok() && out.as_slice() == b"\x2a\x18\x0c".as_slice()
 }
 
 #[test]
-fn a_new_id_a_token_and_crypto_data(rt: HostRuntime) -> Result<(), Fail> {
+fn frames_of_a_few_numbers(rt: HostRuntime) -> Result<(), Fail> {
     let mut checks = Checks::new(rt.alloc());
+    checks.holds(writes_a_frequency(&mut Vec::new(rt.alloc())));
+    checks.holds(writes_a_reset(&mut Vec::new(rt.alloc())));
+    checks.holds(writes_a_stop(&mut Vec::new(rt.alloc())));
+    checks.holds(writes_counts(&mut Vec::new(rt.alloc())));
+    checks.verdict()
+}
+
+fn writes_a_new_id(out: &mut Vec<u8>) -> bool {
     let new = NewConnectionId {
         sequence: 5,
         retire_prior_to: 2,
         id: ConnectionId::new(b"\xaa\xbb"),
         reset_token: ResetToken::from([0x11; 16]),
     };
-    let mut out = Vec::new(rt.alloc());
-    new.encode(&mut out)?;
-    checks.same(out.len(), 22);
-    checks.holds(out.starts_with(b"\x18\x05\x02\x02\xaa\xbb\x11"));
-    checks.holds(out.ends_with(&[0x11; 16]));
+    new.encode(out).is_ok() && is_the_new_id(out.as_slice())
+}
+
+fn is_the_new_id(bytes: &[u8]) -> bool {
+    bytes.len() == 22
+        && bytes.starts_with(b"\x18\x05\x02\x02\xaa\xbb\x11")
+        && bytes.ends_with(&[0x11; 16])
+}
+
+fn writes_crypto_data(out: &mut Vec<u8>) -> bool {
     let frame = Crypto {
         offset: 33,
         bytes: b"\x59",
     };
-    let mut out = Vec::new(rt.alloc());
-    frame.encode(&mut out)?;
-    checks.same(out.as_slice(), b"\x06\x21\x01\x59".as_slice());
+    frame.encode(out).is_ok() && out.as_slice() == b"\x06\x21\x01\x59".as_slice()
+}
+
+fn writes_a_token(out: &mut Vec<u8>) -> bool {
     let frame = NewToken { token: b"hi" };
-    let mut out = Vec::new(rt.alloc());
-    frame.encode(&mut out)?;
-    checks.same(out.as_slice(), b"\x07\x02hi".as_slice());
-    checks.same(frame.size(), 4);
+    frame.encode(out).is_ok() && out.as_slice() == b"\x07\x02hi".as_slice() && frame.size() == 4
+}
+
+#[test]
+fn a_new_id_a_token_and_crypto_data(rt: HostRuntime) -> Result<(), Fail> {
+    let mut checks = Checks::new(rt.alloc());
+    checks.holds(writes_a_new_id(&mut Vec::new(rt.alloc())));
+    checks.holds(writes_crypto_data(&mut Vec::new(rt.alloc())));
+    checks.holds(writes_a_token(&mut Vec::new(rt.alloc())));
     checks.verdict()
 }

@@ -2,6 +2,7 @@
 use quic_bench::FailAt;
 use quic_testing::Checks;
 use quic_text::{Mode, run, status};
+use std::alloc::Global;
 use std::test::Fail;
 
 // A line, and what is printed of it.
@@ -58,35 +59,62 @@ const ROWS: &[(&str, &str)] = &[
     ("18050202aa", "error unexpected end in NEW_CONNECTION_ID\n"),
 ];
 
+// Whether a run over such a source prints this, moved at most so many bytes a call.
+fn is_printed(alloc: Global, input: &[u8], most: usize, clean: bool, text: &[u8]) -> bool {
+    let source = &mut FailAt::new(alloc, input, most, u64::MAX);
+    let sink = &mut FailAt::new(alloc, b"", most, u64::MAX);
+    let outcome = run(alloc, Mode::Frames, source, sink);
+    let wanted_status = if clean { 0 } else { 1 };
+    outcome == Ok(clean) && status(&outcome) == wanted_status && sink.output() == text
+}
+
+fn is_row(alloc: Global, line: &str, text: &str) -> bool {
+    let clean = !text.contains("error");
+    match format!(in alloc; "{line}\n") {
+        Ok(input) => is_printed(alloc, input.as_bytes(), usize::MAX, clean, text.as_bytes()),
+        Err(_) => false,
+    }
+}
+
 #[test]
 fn each_row_by_itself(rt: HostRuntime) -> Result<(), Fail> {
     let mut checks = Checks::new(rt.alloc());
     for &(line, text) in ROWS {
-        let input = format!(in rt.alloc(); "{line}\n")?;
-        let mut source = FailAt::new(rt.alloc(), input.as_bytes(), usize::MAX, u64::MAX);
-        let mut sink = FailAt::new(rt.alloc(), b"", usize::MAX, u64::MAX);
-        let outcome = run(rt.alloc(), Mode::Frames, &mut source, &mut sink);
-        let clean = !text.contains("error");
-        checks.same_at(line, outcome, Ok(clean));
-        checks.same(status(&outcome), if clean { 0 } else { 1 });
-        checks.same_at(line, sink.output(), text.as_bytes());
+        checks.holds_at(line, is_row(rt.alloc(), line, text));
     }
     checks.verdict()
+}
+
+// Puts all lines together.
+fn join_lines(input: &mut String) -> bool {
+    for &(line, _) in ROWS {
+        if writeln!(input, "{line}").is_err() {
+            return false;
+        }
+    }
+    true
+}
+
+fn join_texts(wanted: &mut String) -> bool {
+    for &(_, text) in ROWS {
+        if wanted.push_str(text).is_err() {
+            return false;
+        }
+    }
+    true
+}
+
+fn are_printed(alloc: Global, input: &mut String, wanted: &mut String) -> bool {
+    join_lines(input)
+        && join_texts(wanted)
+        && is_printed(alloc, input.as_bytes(), 1, false, wanted.as_bytes())
 }
 
 #[test]
 fn all_rows_together(rt: HostRuntime) -> Result<(), Fail> {
     let mut checks = Checks::new(rt.alloc());
-    let mut input = String::new(rt.alloc());
-    let mut wanted = String::new(rt.alloc());
-    for &(line, text) in ROWS {
-        writeln!(input, "{line}")?;
-        wanted.push_str(text)?;
-    }
-    let mut source = FailAt::new(rt.alloc(), input.as_bytes(), 1, u64::MAX);
-    let mut sink = FailAt::new(rt.alloc(), b"", 1, u64::MAX);
-    let outcome = run(rt.alloc(), Mode::Frames, &mut source, &mut sink);
-    checks.same(outcome, Ok(false));
-    checks.same(sink.output(), wanted.as_bytes());
+    let input = &mut String::new(rt.alloc());
+    let wanted = &mut String::new(rt.alloc());
+    checks.holds(are_printed(rt.alloc(), input, wanted));
     checks.verdict()
 }

@@ -2,6 +2,7 @@
 use quic_base::coding::NoRoom;
 use quic_frames::transport_error::{Code, Error};
 use quic_testing::Checks;
+use std::alloc::Global;
 use std::test::Fail;
 
 // Whether the error says this.
@@ -17,19 +18,31 @@ fn is_same_or_none(copied: &Result<Error, NoRoom>, error: &Error) -> bool {
     }
 }
 
-// What was copied stays as it was.
+// Whether what was copied stays as it was.
+fn is_left(error: &Error) -> bool {
+    let copied: Result<Error, NoRoom> = error.try_clone();
+    is(error, Code::NO_VIABLE_PATH, "a text of its own") && is_same_or_none(&copied, error)
+}
+
+// The same of an error that is made first, where there is memory for it.
+fn is_left_where_made(alloc: Global) -> bool {
+    match Error::with_text(alloc, Code::NO_VIABLE_PATH, "a text of its own") {
+        Ok(error) => is_left(&error),
+        Err(NoRoom) => true,
+    }
+}
+
+// Whether the copy is there, and equal.
+fn is_copied(error: &Error) -> bool {
+    let copied: Result<Error, NoRoom> = error.try_clone();
+    matches!(&copied, Ok(copy) if copy == error)
+}
+
 #[test]
 fn a_refused_copy_leaves_the_error(rt: HostRuntime) -> Result<(), Fail> {
     let mut checks = Checks::new(rt.alloc());
-    let Ok(error) = Error::with_text(rt.alloc(), Code::NO_VIABLE_PATH, "a text of its own") else {
-        return Ok(());
-    };
-    let copied: Result<Error, NoRoom> = error.try_clone();
-    checks.holds(is(&error, Code::NO_VIABLE_PATH, "a text of its own"));
-    checks.holds(is_same_or_none(&copied, &error));
+    checks.holds(is_left_where_made(rt.alloc()));
     // A text that is static is copied without memory.
-    let error = Error::NO_VIABLE_PATH("static");
-    let copied: Result<Error, NoRoom> = error.try_clone();
-    checks.holds(matches!(&copied, Ok(copy) if *copy == error));
+    checks.holds(is_copied(&Error::NO_VIABLE_PATH("static")));
     checks.verdict()
 }

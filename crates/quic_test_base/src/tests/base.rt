@@ -12,16 +12,34 @@ use quic_base::varint::{VarInt, VarIntBoundsExceeded};
 use quic_bench::client::{Reset, first_number, read_back, read_reset, read_two, write_reset};
 use quic_testing::Checks;
 use std::alloc::Global;
+use std::cmp::Ordering;
+use std::fmt::{Debug, Display};
 use std::hash::{DefaultHasher, Hash, Hasher};
 use std::io::Cursor;
 use std::net::{Ipv4Addr, Ipv6Addr};
 use std::test::Fail;
 
-// The bytes that a value is written as.
-fn written<T: Codec + Drop>(alloc: Global, x: T) -> Result<Vec<u8>, NoRoom> {
+// Functions here answer whether all was as it has to be, missing memory included: so no test has a way out while its
+// checks are alive.
+
+fn displays<T: Display>(alloc: Global, value: &T, text: &str) -> bool {
+    match format!(in alloc; "{value}") {
+        Ok(shown) => shown.as_str() == text,
+        Err(_) => false,
+    }
+}
+
+fn debugs<T: Debug>(alloc: Global, value: &T, text: &str) -> bool {
+    match format!(in alloc; "{value:?}") {
+        Ok(shown) => shown.as_str() == text,
+        Err(_) => false,
+    }
+}
+
+// Whether a value is written as these bytes.
+fn is_written<T: Codec + Drop>(alloc: Global, x: T, bytes: &[u8]) -> bool {
     let mut out = Vec::new(alloc);
-    out.write(x)?;
-    Ok(out)
+    out.write(x).is_ok() && out.as_slice() == bytes
 }
 
 // What a decoder answers, and how many bytes it leaves.
@@ -38,46 +56,57 @@ fn hash_of(id: &ConnectionId) -> u64 {
 }
 
 // Worked rows: each number with its shortest spelling.
+const SHORTEST: &[(u64, &[u8])] = &[
+    (63, b"\x3f"),
+    (64, b"\x40\x40"),
+    (16383, b"\x7f\xff"),
+    (16384, b"\x80\x00\x40\x00"),
+    (1 << 30, b"\xc0\x00\x00\x00\x40\x00\x00\x00"),
+    ((1 << 62) - 1, b"\xff\xff\xff\xff\xff\xff\xff\xff"),
+];
+
+fn is_got(bytes: &[u8], n: u64) -> bool {
+    let mut left = bytes;
+    left.get_var() == Ok(n) && left.is_empty()
+}
+
+fn is_spelled(alloc: Global, n: u64, bytes: &[u8]) -> bool {
+    let Some(number) = VarInt::from_u64(n).ok() else {
+        return false;
+    };
+    is_written(alloc, number, bytes) && number.size() == bytes.len() && is_got(bytes, n)
+}
+
 #[test]
 fn shortest_spellings(rt: HostRuntime) -> Result<(), Fail> {
     let mut checks = Checks::new(rt.alloc());
-    for (n, bytes) in [
-        (63, b"\x3f".as_slice()),
-        (64, b"\x40\x40".as_slice()),
-        (16383, b"\x7f\xff".as_slice()),
-        (16384, b"\x80\x00\x40\x00".as_slice()),
-        (1 << 30, b"\xc0\x00\x00\x00\x40\x00\x00\x00".as_slice()),
-        (
-            (1 << 62) - 1,
-            b"\xff\xff\xff\xff\xff\xff\xff\xff".as_slice(),
-        ),
-    ] {
-        let mut out = Vec::new(rt.alloc());
-        out.write(VarInt::from_u64(n)?)?;
-        checks.same_at(n, out.as_slice(), bytes);
-        checks.same_at(n, VarInt::from_u64(n)?.size(), bytes.len());
-        let mut left = bytes;
-        checks.same(left.get_var()?, n);
-        checks.same(left.len(), 0);
+    for &(n, bytes) in SHORTEST {
+        checks.holds_at(n, is_spelled(rt.alloc(), n, bytes));
     }
     checks.verdict()
 }
 
 // Worked rows: spellings that are no shortest ones, and others.
+const WIDTHS: &[(&[u8], u64)] = &[
+    (b"\x25", 37),
+    (b"\x40\x25", 37),
+    (b"\x7b\xbd", 15293),
+    (b"\x9d\x7f\x3e\x7d", 494878333),
+    (b"\xc2\x19\x7c\x5e\xff\x14\xe8\x8c", 151288809941952652),
+];
+
+fn is_read(bytes: &[u8], n: u64) -> bool {
+    let Some(number) = VarInt::from_u64(n).ok() else {
+        return false;
+    };
+    read::<VarInt>(bytes) == (Ok(number), 0)
+}
+
 #[test]
 fn every_width_is_read(rt: HostRuntime) -> Result<(), Fail> {
     let mut checks = Checks::new(rt.alloc());
-    for (bytes, n) in [
-        (b"\x25".as_slice(), 37),
-        (b"\x40\x25".as_slice(), 37),
-        (b"\x7b\xbd".as_slice(), 15293),
-        (b"\x9d\x7f\x3e\x7d".as_slice(), 494878333),
-        (
-            b"\xc2\x19\x7c\x5e\xff\x14\xe8\x8c".as_slice(),
-            151288809941952652,
-        ),
-    ] {
-        checks.same_at(n, read::<VarInt>(bytes), (Ok(VarInt::from_u64(n)?), 0));
+    for &(bytes, n) in WIDTHS {
+        checks.holds_at(n, is_read(bytes, n));
     }
     checks.verdict()
 }
@@ -95,227 +124,313 @@ fn refused_numbers(rt: HostRuntime) -> Result<(), Fail> {
     checks.verdict()
 }
 
+fn varints_have_their_numbers() -> bool {
+    VarInt::MAX.into_inner() == 4611686018427387903
+        && VarInt::MAX_SIZE == 8
+        && VarInt::default().into_inner() == 0
+        && VarInt::from_u32(42).into_inner() == 42
+        && VarInt::from_u64_unchecked(42).into_inner() == 42
+        && u64::from(VarInt::from_u32(42)) == 42
+        && VarInt::from_u32(41) < VarInt::from_u32(42)
+}
+
+fn is_made_of_42(number: VarInt) -> bool {
+    VarInt::from(42u8) == number
+        && VarInt::from(42u16) == number
+        && VarInt::from(42u32) == number
+        && VarInt::try_from(42u64) == Ok(number)
+        && VarInt::try_from(42u128) == Ok(number)
+        && VarInt::try_from(42usize) == Ok(number)
+}
+
+fn is_var_written(out: &mut Vec<u8>) -> bool {
+    out.write_var(15293).is_ok() && out.as_slice() == b"\x7b\xbd".as_slice()
+}
+
 #[test]
 fn conversions_of_varints(rt: HostRuntime) -> Result<(), Fail> {
     let mut checks = Checks::new(rt.alloc());
-    checks.same(VarInt::MAX.into_inner(), 4611686018427387903);
-    checks.same(VarInt::MAX_SIZE, 8);
-    checks.same(VarInt::default().into_inner(), 0);
-    checks.same(VarInt::from_u32(42).into_inner(), 42);
-    checks.same(VarInt::from_u64_unchecked(42).into_inner(), 42);
-    checks.same(VarInt::from(42u8), VarInt::from_u32(42));
-    checks.same(VarInt::from(42u16), VarInt::from_u32(42));
-    checks.same(VarInt::from(42u32), VarInt::from_u32(42));
-    checks.same(VarInt::try_from(42u64)?, VarInt::from_u32(42));
-    checks.same(VarInt::try_from(42u128)?, VarInt::from_u32(42));
-    checks.same(VarInt::try_from(42usize)?, VarInt::from_u32(42));
-    checks.same(u64::from(VarInt::from_u32(42)), 42);
-    checks.holds(VarInt::from_u32(41) < VarInt::from_u32(42));
-    let mut out = Vec::new(rt.alloc());
-    out.write_var(15293)?;
-    checks.same(out.as_slice(), b"\x7b\xbd".as_slice());
+    checks.holds(varints_have_their_numbers());
+    checks.holds(is_made_of_42(VarInt::from_u32(42)));
+    checks.holds(is_var_written(&mut Vec::new(rt.alloc())));
     checks.verdict()
+}
+
+const EIGHT: &[u8] = b"\x01\x02\x03\x04\x05\x06\x07\x08";
+
+fn numbers_are_written(alloc: Global) -> bool {
+    is_written(alloc, 0x01u8, b"\x01")
+        && is_written(alloc, 0x0102u16, b"\x01\x02")
+        && is_written(alloc, 0x01020304u32, b"\x01\x02\x03\x04")
+        && is_written(alloc, 0x0102030405060708u64, EIGHT)
+}
+
+fn numbers_are_read() -> bool {
+    read::<u8>(EIGHT) == (Ok(0x01), 7)
+        && read::<u16>(EIGHT) == (Ok(0x0102), 6)
+        && read::<u32>(EIGHT) == (Ok(0x01020304), 4)
+        && read::<u64>(EIGHT) == (Ok(0x0102030405060708), 0)
+}
+
+fn an_array_is_taken() -> bool {
+    let mut left = EIGHT;
+    get_array::<&[u8], 3>(&mut left) == Ok([1, 2, 3]) && left.len() == 5
+}
+
+fn an_array_is_laid() -> bool {
+    let mut laid = [0x0f; 4];
+    lay_array(&mut laid, 1, [7, 8]) == 3 && laid.starts_with(b"\x0f\x07\x08")
+}
+
+fn is_read_as(address: Ipv4Addr, bytes: &[u8]) -> bool {
+    read::<Ipv4Addr>(bytes) == (Ok(address), 0)
+        && read::<Ipv4Addr>(b"\x7f\x00\x00") == (Err(UnexpectedEnd), 3)
+}
+
+fn is_read_as_v6(address: Ipv6Addr, bytes: &[u8]) -> bool {
+    let Some((_, cut)) = bytes.split_first() else {
+        return false;
+    };
+    read::<Ipv6Addr>(bytes) == (Ok(address), 0) && read::<Ipv6Addr>(cut) == (Err(UnexpectedEnd), 15)
 }
 
 #[test]
 fn fixed_numbers(rt: HostRuntime) -> Result<(), Fail> {
     let mut checks = Checks::new(rt.alloc());
-    let alloc = rt.alloc();
-    checks.same(written(alloc, 0x01u8)?.as_slice(), b"\x01".as_slice());
-    checks.same(
-        written(alloc, 0x0102u16)?.as_slice(),
-        b"\x01\x02".as_slice(),
-    );
-    checks.same(
-        written(alloc, 0x01020304u32)?.as_slice(),
-        b"\x01\x02\x03\x04".as_slice(),
-    );
-    let bytes = b"\x01\x02\x03\x04\x05\x06\x07\x08".as_slice();
-    checks.same(written(alloc, 0x0102030405060708u64)?.as_slice(), bytes);
-    checks.same(read::<u8>(bytes), (Ok(0x01), 7));
-    checks.same(read::<u16>(bytes), (Ok(0x0102), 6));
-    checks.same(read::<u32>(bytes), (Ok(0x01020304), 4));
-    checks.same(read::<u64>(bytes), (Ok(0x0102030405060708), 0));
-    let mut left = bytes;
-    checks.same(get_array::<&[u8], 3>(&mut left)?, [1, 2, 3]);
-    checks.same(left.len(), 5);
-    let mut laid = [0x0f; 4];
-    checks.same(lay_array(&mut laid, 1, [7, 8]), 3);
-    checks.same(&laid[..3], b"\x0f\x07\x08".as_slice());
-    let v4 = b"\x7f\x00\x00\x01".as_slice();
-    checks.same(written(alloc, Ipv4Addr::LOCALHOST)?.as_slice(), v4);
-    checks.same(read::<Ipv4Addr>(v4), (Ok(Ipv4Addr::LOCALHOST), 0));
-    checks.same(read::<Ipv4Addr>(b"\x7f\x00\x00"), (Err(UnexpectedEnd), 3));
-    let v6 = b"\x20\x01\x0d\xb8\0\0\0\0\0\0\0\0\0\0\x12\x34".as_slice();
+    checks.holds(numbers_are_written(rt.alloc()));
+    checks.holds(numbers_are_read());
+    checks.holds(an_array_is_taken());
+    checks.holds(an_array_is_laid());
+    let v4 = b"\x7f\x00\x00\x01";
+    checks.holds(is_written(rt.alloc(), Ipv4Addr::LOCALHOST, v4));
+    checks.holds(is_read_as(Ipv4Addr::LOCALHOST, v4));
+    let v6 = b"\x20\x01\x0d\xb8\0\0\0\0\0\0\0\0\0\0\x12\x34";
     let address = Ipv6Addr::new(0x2001, 0xdb8, 0, 0, 0, 0, 0, 0x1234);
-    checks.same(written(alloc, address)?.as_slice(), v6);
-    checks.same(read::<Ipv6Addr>(v6), (Ok(address), 0));
-    checks.same(read::<Ipv6Addr>(&v6[1..]), (Err(UnexpectedEnd), 15));
+    checks.holds(is_written(rt.alloc(), address, v6));
+    checks.holds(is_read_as_v6(address, v6));
     checks.verdict()
+}
+
+fn has_its_parts(id: StreamId) -> bool {
+    u64::from(id) == 23
+        && id.initiator() == Side::Server
+        && id.dir() == Dir::Uni
+        && id.index() == 5
+        && StreamId::from(VarInt::from(id)) == id
+}
+
+fn has_its_texts(alloc: Global, id: StreamId) -> bool {
+    is_written(alloc, id, b"\x17")
+        && displays(alloc, &id, "server unidirectional stream 5")
+        && debugs(alloc, &id, "StreamId(23)")
+        && read::<StreamId>(b"\x17\x00") == (Ok(id), 1)
+}
+
+fn is_the_last(alloc: Global, last: StreamId) -> bool {
+    let text = "client bidirectional stream 1152921504606846975";
+    is_written(alloc, last, b"\xff\xff\xff\xff\xff\xff\xff\xfc") && displays(alloc, &last, text)
 }
 
 #[test]
 fn stream_ids(rt: HostRuntime) -> Result<(), Fail> {
     let mut checks = Checks::new(rt.alloc());
-    let alloc = rt.alloc();
     let id = StreamId::new(Side::Server, Dir::Uni, 5);
-    checks.same(u64::from(id), 23);
-    checks.same(written(alloc, id)?.as_slice(), b"\x17".as_slice());
-    checks.displays(alloc, &id, "server unidirectional stream 5")?;
-    checks.debugs(alloc, &id, "StreamId(23)")?;
-    checks.same(
-        (id.initiator(), id.dir(), id.index()),
-        (Side::Server, Dir::Uni, 5),
-    );
-    checks.same(StreamId::from(VarInt::from(id)), id);
-    checks.same(read::<StreamId>(b"\x17\x00"), (Ok(id), 1));
+    checks.holds(has_its_parts(id));
+    checks.holds(has_its_texts(rt.alloc(), id));
     let last = StreamId::new(Side::Client, Dir::Bi, MAX_STREAM_COUNT - 1);
-    let bytes = b"\xff\xff\xff\xff\xff\xff\xff\xfc".as_slice();
-    checks.same(written(alloc, last)?.as_slice(), bytes);
-    let text = "client bidirectional stream 1152921504606846975";
-    checks.displays(alloc, &last, text)?;
+    checks.holds(is_the_last(rt.alloc(), last));
     checks.holds(id < last);
     checks.verdict()
+}
+
+fn are_told_apart(client: Side, server: Side) -> bool {
+    client.is_client() && !client.is_server() && !server.is_client() && server.is_server()
+}
+
+fn directions_come() -> bool {
+    let mut both = Dir::iter();
+    both.next() == Some(Dir::Bi) && both.next() == Some(Dir::Uni) && both.next().is_none()
+}
+
+fn directions_have_their_texts(alloc: Global) -> bool {
+    let uni = Dir::Uni;
+    displays(alloc, &Dir::Bi, "bidirectional")
+        && displays(alloc, &uni, "unidirectional")
+        && displays(alloc, &format_args!("{uni:>16}"), "  unidirectional")
+        && debugs(alloc, &(Dir::Bi, Dir::Uni), "(Bi, Uni)")
+        && debugs(alloc, &Side::Server, "Server")
 }
 
 #[test]
 fn sides_and_directions(rt: HostRuntime) -> Result<(), Fail> {
     let mut checks = Checks::new(rt.alloc());
-    let alloc = rt.alloc();
-    checks.same(
-        (Side::Client.is_client(), Side::Client.is_server()),
-        (true, false),
-    );
-    checks.same(
-        (Side::Server.is_client(), Side::Server.is_server()),
-        (false, true),
-    );
+    checks.holds(are_told_apart(Side::Client, Side::Server));
     checks.same((!Side::Client, !Side::Server), (Side::Server, Side::Client));
     checks.same((Side::Client as u8, Side::Server as u8), (0, 1));
     checks.same((Dir::Bi as u8, Dir::Uni as u8), (0, 1));
-    let mut both = Dir::iter();
-    checks.same(
-        (both.next(), both.next(), both.next()),
-        (Some(Dir::Bi), Some(Dir::Uni), None),
-    );
-    checks.displays(alloc, &Dir::Bi, "bidirectional")?;
-    checks.displays(alloc, &Dir::Uni, "unidirectional")?;
-    let uni = Dir::Uni;
-    checks.displays(alloc, &format_args!("{uni:>16}"), "  unidirectional")?;
-    checks.debugs(alloc, &(Dir::Bi, Dir::Uni), "(Bi, Uni)")?;
-    checks.debugs(alloc, &Side::Server, "Server")?;
+    checks.holds(directions_come());
+    checks.holds(directions_have_their_texts(rt.alloc()));
     checks.verdict()
+}
+
+fn spaces_come() -> bool {
+    let mut spaces = SpaceId::iter();
+    spaces.next() == Some(SpaceId::Initial)
+        && spaces.next() == Some(SpaceId::Handshake)
+        && spaces.next() == Some(SpaceId::Data)
+        && spaces.next().is_none()
 }
 
 #[test]
 fn spaces(rt: HostRuntime) -> Result<(), Fail> {
     let mut checks = Checks::new(rt.alloc());
-    let mut spaces = SpaceId::iter();
-    checks.same(spaces.next(), Some(SpaceId::Initial));
-    checks.same(spaces.next(), Some(SpaceId::Handshake));
-    checks.same(spaces.next(), Some(SpaceId::Data));
-    checks.same(spaces.next(), None);
+    checks.holds(spaces_come());
     checks.holds(SpaceId::Initial < SpaceId::Data);
     checks.verdict()
 }
 
+// Bytes of heads of IP, and the codepoints in them.
+const CODEPOINTS: &[(u8, Option<EcnCodepoint>)] = &[
+    (0xfe, Some(EcnCodepoint::Ect0)),
+    (0xff, Some(EcnCodepoint::Ce)),
+    (0xfd, Some(EcnCodepoint::Ect1)),
+    (0x04, None),
+];
+
 #[test]
 fn codepoints(rt: HostRuntime) -> Result<(), Fail> {
     let mut checks = Checks::new(rt.alloc());
-    checks.same(EcnCodepoint::from_bits(0xfe), Some(EcnCodepoint::Ect0));
-    checks.same(EcnCodepoint::from_bits(0xff), Some(EcnCodepoint::Ce));
-    checks.same(EcnCodepoint::from_bits(0xfd), Some(EcnCodepoint::Ect1));
-    checks.same(EcnCodepoint::from_bits(0x04), None);
-    checks.same(
-        (
-            EcnCodepoint::Ect0 as u8,
-            EcnCodepoint::Ect1 as u8,
-            EcnCodepoint::Ce as u8,
-        ),
-        (2, 1, 3),
-    );
-    checks.same(
-        (EcnCodepoint::Ce.is_ce(), EcnCodepoint::Ect0.is_ce()),
-        (true, false),
-    );
+    for &(bits, codepoint) in CODEPOINTS {
+        checks.same(EcnCodepoint::from_bits(bits), codepoint);
+    }
+    checks.same(EcnCodepoint::Ect0 as u8, 2);
+    checks.same(EcnCodepoint::Ect1 as u8, 1);
+    checks.same(EcnCodepoint::Ce as u8, 3);
+    checks.holds(EcnCodepoint::Ce.is_ce());
+    checks.holds(!EcnCodepoint::Ect0.is_ce());
     checks.verdict()
+}
+
+fn compare(x: &ConnectionId, y: &ConnectionId, order: Ordering) -> bool {
+    x.cmp(y) == order && x.partial_cmp(y) == Some(order) && (x == y) == (order == Ordering::Equal)
+}
+
+fn are_in_order(ids: &[ConnectionId]) -> bool {
+    for (i, x) in ids.iter().enumerate() {
+        for (j, y) in ids.iter().enumerate() {
+            if !compare(x, y, i.cmp(&j)) {
+                return false;
+            }
+        }
+    }
+    true
+}
+
+// In order: the empty one, `00`, `ff`, `0000`.
+fn ids_are_in_order() -> bool {
+    are_in_order(&[
+        ConnectionId::new(b""),
+        ConnectionId::new(b"\x00"),
+        ConnectionId::new(b"\xff"),
+        ConnectionId::new(b"\x00\x00"),
+    ])
+}
+
+fn an_id_is_changed() -> bool {
+    let mut id = ConnectionId::new(b"\x0a\xff");
+    id.copy_from_slice(b"\x0b\x0c");
+    id.as_slice() == b"\x0b\x0c".as_slice() && a_byte_is_changed(id)
+}
+
+fn a_byte_is_changed(id: ConnectionId) -> bool {
+    let mut other = id;
+    let Some(byte) = other.as_mut_slice().get_mut(1) else {
+        return false;
+    };
+    *byte = 0xff;
+    other == ConnectionId::new(b"\x0b\xff")
+}
+
+fn an_id_is_equal(id: &ConnectionId) -> bool {
+    hash_of(id) == hash_of(&ConnectionId::new(b"\x0a\xff"))
+        && id.as_slice() == b"\x0a\xff".as_slice()
+}
+
+fn ids_have_their_texts(alloc: Global, id: &ConnectionId) -> bool {
+    let longest = ConnectionId::new(
+        b"\x00\x01\x02\x03\x04\x05\x06\x07\x08\x09\x0a\x0b\x0c\x0d\x0e\x0f\x10\x11\x12\x13",
+    );
+    displays(alloc, id, "0aff")
+        && debugs(alloc, id, "[10, 255]")
+        && displays(alloc, &longest, "000102030405060708090a0b0c0d0e0f10111213")
+}
+
+fn is_written_long(out: &mut Vec<u8>, id: &ConnectionId) -> bool {
+    id.encode_long(out).is_ok() && out.as_slice() == b"\x02\x0a\xff".as_slice()
+}
+
+fn is_taken(id: &ConnectionId) -> bool {
+    let mut left = b"\x0a\xff\x01".as_slice();
+    ConnectionId::from_buf(&mut left, 2) == *id && left == b"\x01".as_slice()
 }
 
 #[test]
 fn connection_ids(rt: HostRuntime) -> Result<(), Fail> {
     let mut checks = Checks::new(rt.alloc());
-    let alloc = rt.alloc();
-    // In order: the empty one, `00`, `ff`, `0000`.
-    let ids: &[ConnectionId] = &[
-        ConnectionId::new(b""),
-        ConnectionId::new(b"\x00"),
-        ConnectionId::new(b"\xff"),
-        ConnectionId::new(b"\x00\x00"),
-    ];
-    for (i, x) in ids.iter().enumerate() {
-        for (j, y) in ids.iter().enumerate() {
-            checks.same(x.cmp(y), i.cmp(&j));
-            checks.same(x.partial_cmp(y), Some(i.cmp(&j)));
-            checks.same(x == y, i == j);
-        }
-    }
+    checks.holds(ids_are_in_order());
+    checks.holds(an_id_is_changed());
     let id = ConnectionId::new(b"\x0a\xff");
-    checks.same(hash_of(&id), hash_of(&ConnectionId::new(b"\x0a\xff")));
-    checks.same(id.as_slice(), b"\x0a\xff".as_slice());
-    let mut other = id;
-    other.copy_from_slice(b"\x0b\x0c");
-    checks.same(other.as_slice(), b"\x0b\x0c".as_slice());
-    other.as_mut_slice()[1] = 0xff;
-    checks.same(other, ConnectionId::new(b"\x0b\xff"));
-    checks.displays(alloc, &id, "0aff")?;
-    checks.debugs(alloc, &id, "[10, 255]")?;
-    let longest = ConnectionId::new(
-        b"\x00\x01\x02\x03\x04\x05\x06\x07\x08\x09\x0a\x0b\x0c\x0d\x0e\x0f\x10\x11\x12\x13",
-    );
-    checks.displays(alloc, &longest, "000102030405060708090a0b0c0d0e0f10111213")?;
-    let mut out = Vec::new(alloc);
-    id.encode_long(&mut out)?;
-    checks.same(out.as_slice(), b"\x02\x0a\xff".as_slice());
-    let mut left = b"\x0a\xff\x01".as_slice();
-    checks.same(ConnectionId::from_buf(&mut left, 2), id);
-    checks.same(left, b"\x01".as_slice());
+    checks.holds(an_id_is_equal(&id));
+    checks.holds(ids_have_their_texts(rt.alloc(), &id));
+    checks.holds(is_written_long(&mut Vec::new(rt.alloc()), &id));
+    checks.holds(is_taken(&id));
     checks.verdict()
+}
+
+// Bytes, the id at their front that has its length before it, and what is left of them.
+const LONG_IDS: &[(&[u8], Option<&[u8]>, &[u8])] = &[
+    (b"\x02\xaa\xbb\xcc", Some(b"\xaa\xbb"), b"\xcc"),
+    (b"\x03\xaa\xbb", None, b"\xaa\xbb"),
+    (b"\x15123456789012345678901", None, b"123456789012345678901"),
+    (
+        b"\x1412345678901234567890",
+        Some(b"12345678901234567890"),
+        b"",
+    ),
+    (b"", None, b""),
+];
+
+fn is_id(decoded: Option<ConnectionId>, wanted: Option<&[u8]>) -> bool {
+    match (decoded, wanted) {
+        (Some(id), Some(bytes)) => bytes.len() <= MAX_CID_SIZE && id == ConnectionId::new(bytes),
+        (None, None) => true,
+        _ => false,
+    }
+}
+
+fn is_long_id(bytes: &[u8], id: Option<&[u8]>, rest: &[u8]) -> bool {
+    let mut left = bytes;
+    let decoded = ConnectionId::decode_long(&mut left);
+    is_id(decoded, id) && left == rest
 }
 
 #[test]
 fn long_ids(rt: HostRuntime) -> Result<(), Fail> {
     let mut checks = Checks::new(rt.alloc());
-    let mut left = b"\x02\xaa\xbb\xcc".as_slice();
-    checks.same(
-        ConnectionId::decode_long(&mut left),
-        Some(ConnectionId::new(b"\xaa\xbb")),
-    );
-    checks.same(left, b"\xcc".as_slice());
-    let mut left = b"\x03\xaa\xbb".as_slice();
-    checks.same(ConnectionId::decode_long(&mut left), None);
-    checks.same(left, b"\xaa\xbb".as_slice());
-    let mut left = b"\x15123456789012345678901".as_slice();
-    checks.same(ConnectionId::decode_long(&mut left), None);
-    checks.same(left.len(), 21);
-    let mut left = b"\x1412345678901234567890".as_slice();
-    checks.same(
-        ConnectionId::decode_long(&mut left),
-        Some(ConnectionId::new(b"12345678901234567890")),
-    );
-    let mut left = b"".as_slice();
-    checks.same(ConnectionId::decode_long(&mut left), None);
+    for &(bytes, id, rest) in LONG_IDS {
+        checks.holds_at(bytes.len(), is_long_id(bytes, id, rest));
+    }
     checks.verdict()
 }
 
-#[test]
-fn tokens_and_limits(rt: HostRuntime) -> Result<(), Fail> {
-    let mut checks = Checks::new(rt.alloc());
-    let alloc = rt.alloc();
-    let bytes = *b"0123456789abcdef";
+fn is_a_token(bytes: [u8; 16]) -> bool {
     let token = ResetToken::from(bytes);
-    checks.same(token.as_slice(), bytes.as_slice());
-    checks.same(<[u8; 16]>::from(token), bytes);
-    checks.same(token == ResetToken::from([7; RESET_TOKEN_SIZE]), false);
+    token.as_slice() == bytes.as_slice()
+        && <[u8; 16]>::from(token) == bytes
+        && token != ResetToken::from([7; RESET_TOKEN_SIZE])
+}
+
+fn an_issued_id_debugs(alloc: Global) -> bool {
     let issued = IssuedCid {
         sequence: 3,
         id: ConnectionId::new(b"\x2a"),
@@ -323,7 +438,14 @@ fn tokens_and_limits(rt: HostRuntime) -> Result<(), Fail> {
     };
     let text = "IssuedCid { sequence: 3, id: [42], reset_token: \
         ResetToken([7, 7, 7, 7, 7, 7, 7, 7, 7, 7, 7, 7, 7, 7, 7, 7]) }";
-    checks.debugs(alloc, &issued, text)?;
+    debugs(alloc, &issued, text)
+}
+
+#[test]
+fn tokens_and_limits(rt: HostRuntime) -> Result<(), Fail> {
+    let mut checks = Checks::new(rt.alloc());
+    checks.holds(is_a_token(*b"0123456789abcdef"));
+    checks.holds(an_issued_id_debugs(rt.alloc()));
     checks.same((MAX_CID_SIZE, RESET_TOKEN_SIZE), (20, 16));
     checks.same((LOC_CID_COUNT, MAX_STREAM_COUNT), (8, 1152921504606846976));
     checks.same(
@@ -337,127 +459,168 @@ fn tokens_and_limits(rt: HostRuntime) -> Result<(), Fail> {
     checks.verdict()
 }
 
+fn errors_have_their_texts(alloc: Global) -> bool {
+    let exceeded = "value too large for varint encoding";
+    displays(alloc, &UnexpectedEnd, "unexpected end of buffer")
+        && displays(alloc, &VarIntBoundsExceeded, exceeded)
+        && displays(alloc, &NoRoom, "no room in buffer")
+        && debugs(alloc, &UnexpectedEnd, "UnexpectedEnd")
+        && debugs(alloc, &VarIntBoundsExceeded, "VarIntBoundsExceeded")
+        && debugs(alloc, &NoRoom, "NoRoom")
+}
+
+fn others_have_their_texts(alloc: Global) -> bool {
+    displays(alloc, &VarInt::from_u32(42), "42")
+        && debugs(alloc, &VarInt::from_u32(42), "42")
+        && debugs(alloc, &EcnCodepoint::Ect0, "Ect0")
+        && debugs(alloc, &SpaceId::Data, "Data")
+}
+
 #[test]
 fn texts(rt: HostRuntime) -> Result<(), Fail> {
     let mut checks = Checks::new(rt.alloc());
-    let alloc = rt.alloc();
-    checks.displays(alloc, &UnexpectedEnd, "unexpected end of buffer")?;
-    checks.displays(
-        alloc,
-        &VarIntBoundsExceeded,
-        "value too large for varint encoding",
-    )?;
-    checks.displays(alloc, &NoRoom, "no room in buffer")?;
-    checks.debugs(alloc, &UnexpectedEnd, "UnexpectedEnd")?;
-    checks.debugs(alloc, &VarIntBoundsExceeded, "VarIntBoundsExceeded")?;
-    checks.debugs(alloc, &NoRoom, "NoRoom")?;
-    checks.displays(alloc, &VarInt::from_u32(42), "42")?;
-    checks.debugs(alloc, &VarInt::from_u32(42), "42")?;
-    checks.debugs(alloc, &EcnCodepoint::Ect0, "Ect0")?;
-    checks.debugs(alloc, &SpaceId::Data, "Data")?;
+    checks.holds(errors_have_their_texts(rt.alloc()));
+    checks.holds(others_have_their_texts(rt.alloc()));
     checks.verdict()
+}
+
+fn reset() -> Reset {
+    Reset {
+        id: StreamId::new(Side::Client, Dir::Bi, 1),
+        code: VarInt::from_u32(64),
+        final_offset: 5,
+    }
+}
+
+const RESET_BYTES: &[u8] = b"\x04\x40\x40\x00\x00\x00\x00\x00\x00\x00\x05";
+
+fn is_too_little(room: &mut [u8]) -> bool {
+    let mut out = Cursor::new(room);
+    out.write(7u8) == Ok(())
+        && out.write(0x01020304u32) == Err(NoRoom)
+        && out.write_var(16384) == Err(NoRoom)
+        && ConnectionId::new(b"\xaa\xbb").encode_long(&mut out) == Err(NoRoom)
+        && out.position() == 2
+}
+
+fn is_filled(room: &mut [u8]) -> bool {
+    is_too_little(room) && room.starts_with(b"\x07\x02\x09")
+}
+
+fn is_cut_at_its_limit(alloc: Global) -> bool {
+    let mut limited = Vec::new(alloc).limit(8);
+    let answer = write_reset(&reset(), &mut limited);
+    let out = limited.into_inner();
+    answer == Err(NoRoom) && out.as_slice() == b"\x04\x40\x40".as_slice()
 }
 
 // A refusal by room leaves a beginning of the spelling behind what stood there.
 #[test]
 fn refusals_by_room(rt: HostRuntime) -> Result<(), Fail> {
     let mut checks = Checks::new(rt.alloc());
-    let mut room = [9u8; 3];
-    let mut out = Cursor::new(room.as_mut_slice());
-    checks.same(out.write(7u8), Ok(()));
-    checks.same(out.write(0x01020304u32), Err(NoRoom));
-    checks.same(out.write_var(16384), Err(NoRoom));
-    checks.same(
-        ConnectionId::new(b"\xaa\xbb").encode_long(&mut out),
-        Err(NoRoom),
-    );
-    checks.same(out.position(), 2);
-    checks.same(room.as_slice(), b"\x07\x02\x09".as_slice());
-    let mut limited = Vec::new(rt.alloc()).limit(8);
-    let reset = Reset {
-        id: StreamId::new(Side::Client, Dir::Bi, 1),
-        code: VarInt::from_u32(64),
-        final_offset: 5,
-    };
-    checks.same(write_reset(&reset, &mut limited), Err(NoRoom));
-    checks.same(limited.into_inner().as_slice(), b"\x04\x40\x40".as_slice());
+    checks.holds(is_filled(&mut [9; 3]));
+    checks.holds(is_cut_at_its_limit(rt.alloc()));
     checks.verdict()
+}
+
+fn is_written_and_read(out: &mut BytesMut) -> bool {
+    write_reset(&reset(), out).is_ok()
+        && out.as_slice() == RESET_BYTES
+        && read_reset(out) == Ok(reset())
+}
+
+// A number that lies in two chunks.
+fn is_read_apart() -> bool {
+    let Some((front, back)) = RESET_BYTES.split_at_checked(6) else {
+        return false;
+    };
+    read_reset(&mut front.chain(back)) == Ok(reset())
+}
+
+fn is_cut_short() -> bool {
+    let Some(mut cut) = RESET_BYTES.get(..10) else {
+        return false;
+    };
+    read_reset(&mut cut) == Err(UnexpectedEnd)
+}
+
+fn is_first_number() -> bool {
+    let Some(bytes) = RESET_BYTES.get(1..4) else {
+        return false;
+    };
+    first_number(bytes) == Ok((64, b"\x00".as_slice()))
+}
+
+fn are_two(bytes: &[u8]) -> bool {
+    let mut left = bytes;
+    read_two::<u16, &[u8]>(&mut left) == Ok((0x0102, 0x0304))
 }
 
 // Each buffer that the codecs are used on, and the clients.
 #[test]
 fn buffers_and_clients(rt: HostRuntime) -> Result<(), Fail> {
     let mut checks = Checks::new(rt.alloc());
-    let alloc = rt.alloc();
-    let reset = Reset {
-        id: StreamId::new(Side::Client, Dir::Bi, 1),
-        code: VarInt::from_u32(64),
-        final_offset: 5,
-    };
-    let mut out = BytesMut::new(alloc);
-    write_reset(&reset, &mut out)?;
-    let bytes = b"\x04\x40\x40\x00\x00\x00\x00\x00\x00\x00\x05".as_slice();
-    checks.same(out.as_slice(), bytes);
-    checks.same(read_reset(&mut out), Ok(reset));
-    // A number that lies in two chunks.
-    let mut apart = bytes[..6].chain(&bytes[6..]);
-    checks.same(read_reset(&mut apart), Ok(reset));
-    let mut cut = &bytes[..10];
-    checks.same(read_reset(&mut cut), Err(UnexpectedEnd));
-    checks.same(first_number(&bytes[1..4]), Ok((64, b"\x00".as_slice())));
-    checks.same(
-        read_two::<u16, &[u8]>(&mut b"\x01\x02\x03\x04".as_slice()),
-        Ok((0x0102, 0x0304)),
-    );
+    checks.holds(is_written_and_read(&mut BytesMut::new(rt.alloc())));
+    checks.holds(is_read_apart());
+    checks.holds(is_cut_short());
+    checks.holds(is_first_number());
+    checks.holds(are_two(b"\x01\x02\x03\x04"));
     checks.verdict()
 }
 
-// The same of the list of texts: streams with their text and bytes, ids with both their texts.
+// The same of the list of texts: streams with their text and bytes.
+const STREAMS: &[(u64, &str, &[u8])] = &[
+    (24, "client bidirectional stream 6", b"\x18"),
+    (1694, "client unidirectional stream 423", b"\x46\x9e"),
+    (41, "server bidirectional stream 10", b"\x29"),
+    (
+        1152921504606846975,
+        "server unidirectional stream 288230376151711743",
+        b"\xcf\xff\xff\xff\xff\xff\xff\xff",
+    ),
+    (64, "client bidirectional stream 16", b"\x40\x40"),
+    (46, "client unidirectional stream 11", b"\x2e"),
+    (406, "client unidirectional stream 101", b"\x41\x96"),
+    (
+        445337273157562676,
+        "client bidirectional stream 111334318289390669",
+        b"\xc6\x2e\x27\xe3\xf3\xcc\x31\x34",
+    ),
+];
+
+fn is_stream(alloc: Global, n: u64, text: &str, bytes: &[u8]) -> bool {
+    let Some(number) = VarInt::from_u64(n).ok() else {
+        return false;
+    };
+    let id = StreamId::from(number);
+    displays(alloc, &id, text) && is_written(alloc, id, bytes)
+}
+
+// Ids with both their texts.
+const IDS: &[(&[u8], &str, &str)] = &[
+    (b"", "", "[]"),
+    (b"\x19", "19", "[25]"),
+    (b"\x66\x4b", "664b", "[102, 75]"),
+    (b"\x76\x1f", "761f", "[118, 31]"),
+    (b"\x6a\x45\x44", "6a4544", "[106, 69, 68]"),
+];
+
+fn is_shown(alloc: Global, bytes: &[u8], display: &str, debug: &str) -> bool {
+    if bytes.len() > MAX_CID_SIZE {
+        return false;
+    }
+    let id = ConnectionId::new(bytes);
+    displays(alloc, &id, display) && debugs(alloc, &id, debug)
+}
+
 #[test]
 fn texts_of_the_rust_crate(rt: HostRuntime) -> Result<(), Fail> {
     let mut checks = Checks::new(rt.alloc());
-    let alloc = rt.alloc();
-    for (n, text, bytes) in [
-        (24, "client bidirectional stream 6", b"\x18".as_slice()),
-        (
-            1694,
-            "client unidirectional stream 423",
-            b"\x46\x9e".as_slice(),
-        ),
-        (41, "server bidirectional stream 10", b"\x29".as_slice()),
-        (
-            1152921504606846975,
-            "server unidirectional stream 288230376151711743",
-            b"\xcf\xff\xff\xff\xff\xff\xff\xff".as_slice(),
-        ),
-        (64, "client bidirectional stream 16", b"\x40\x40".as_slice()),
-        (46, "client unidirectional stream 11", b"\x2e".as_slice()),
-        (
-            406,
-            "client unidirectional stream 101",
-            b"\x41\x96".as_slice(),
-        ),
-        (
-            445337273157562676,
-            "client bidirectional stream 111334318289390669",
-            b"\xc6\x2e\x27\xe3\xf3\xcc\x31\x34".as_slice(),
-        ),
-    ] {
-        let id = StreamId::from(VarInt::from_u64(n)?);
-        checks.displays(alloc, &id, text)?;
-        checks.same(written(alloc, id)?.as_slice(), bytes);
+    for &(n, text, bytes) in STREAMS {
+        checks.holds_at(n, is_stream(rt.alloc(), n, text, bytes));
     }
-    for (bytes, texts) in [
-        (b"".as_slice(), ("", "[]")),
-        (b"\x19".as_slice(), ("19", "[25]")),
-        (b"\x66\x4b".as_slice(), ("664b", "[102, 75]")),
-        (b"\x76\x1f".as_slice(), ("761f", "[118, 31]")),
-        (b"\x6a\x45\x44".as_slice(), ("6a4544", "[106, 69, 68]")),
-    ] {
-        checks.holds(bytes.len() <= MAX_CID_SIZE);
-        let id = ConnectionId::new(bytes);
-        checks.displays(alloc, &id, texts.0)?;
-        checks.debugs(alloc, &id, texts.1)?;
+    for &(bytes, display, debug) in IDS {
+        checks.holds_at(display, is_shown(rt.alloc(), bytes, display, debug));
     }
     checks.verdict()
 }

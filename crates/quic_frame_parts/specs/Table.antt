@@ -40,27 +40,93 @@ pub record Row : Type 0 where
 abbrev pub row : Name → List Field → Row
 row name fields = record { name = name; fields = fields }
 
--- the greatest number, the delay, the ranges; and the three counts
+-- ---- the fields, by their names in the RFC
+
+abbrev pub stream_id : Field
+stream_id = Varint
+
+abbrev pub error_code : Field
+error_code = Varint
+
+abbrev pub final_size : Field
+final_size = Varint
+
+abbrev pub data_offset : Field
+data_offset = Varint
+
+abbrev pub crypto_data : Field
+crypto_data = Counted
+
+abbrev pub token : Field
+token = Counted
+
+abbrev pub largest_acknowledged : Field
+largest_acknowledged = Varint
+
+abbrev pub ack_delay : Field
+ack_delay = Varint
+
+abbrev pub ack_ranges : Field
+ack_ranges = Blocks
+
+abbrev pub ect0_count : Field
+ect0_count = Varint
+
+abbrev pub ect1_count : Field
+ect1_count = Varint
+
+abbrev pub ecn_ce_count : Field
+ecn_ce_count = Varint
+
+abbrev pub maximum_stream_data : Field
+maximum_stream_data = Varint
+
+abbrev pub sequence_number : Field
+sequence_number = Varint
+
+abbrev pub retire_prior_to : Field
+retire_prior_to = Varint
+
+abbrev pub connection_id : Field
+connection_id = Id
+
+abbrev pub stateless_reset_token : Field
+stateless_reset_token = Sixteen
+
+abbrev pub frame_type : Field
+frame_type = Varint
+
+abbrev pub reason_phrase : Field
+reason_phrase = Counted
+
+abbrev pub ack_eliciting_threshold : Field
+ack_eliciting_threshold = Varint
+
+abbrev pub request_max_ack_delay : Field
+request_max_ack_delay = Varint
+
+abbrev pub reordering_threshold : Field
+reordering_threshold = Varint
+
+-- ---- the rows
+
 abbrev pub ack_row : Row
-ack_row = row Ack (Varint ∷ Varint ∷ Blocks ∷ [])
+ack_row = row Ack (largest_acknowledged ∷ ack_delay ∷ ack_ranges ∷ [])
 
 abbrev pub ack_ecn_row : Row
-ack_ecn_row = row Ack (Varint ∷ Varint ∷ Blocks ∷ Varint ∷ Varint ∷ Varint ∷ [])
+ack_ecn_row = row Ack (largest_acknowledged ∷ ack_delay ∷ ack_ranges ∷ ect0_count ∷ ect1_count ∷ ecn_ce_count ∷ [])
 
--- the stream, the error code, the final offset
 abbrev pub reset_stream_row : Row
-reset_stream_row = row ResetStream (Varint ∷ Varint ∷ Varint ∷ [])
+reset_stream_row = row ResetStream (stream_id ∷ error_code ∷ final_size ∷ [])
 
--- the stream, the error code
 abbrev pub stop_sending_row : Row
-stop_sending_row = row StopSending (Varint ∷ Varint ∷ [])
+stop_sending_row = row StopSending (stream_id ∷ error_code ∷ [])
 
--- the offset, the data
 abbrev pub crypto_row : Row
-crypto_row = row Crypto (Varint ∷ Counted ∷ [])
+crypto_row = row Crypto (data_offset ∷ crypto_data ∷ [])
 
 abbrev pub new_token_row : Row
-new_token_row = row NewToken (Counted ∷ [])
+new_token_row = row NewToken (token ∷ [])
 
 abbrev pub offset_field : Bool → Field
 offset_field is_written = if is_written then Varint else Unwritten 0
@@ -70,14 +136,13 @@ data_field is_counted = if is_counted then Counted else Rest
 
 -- a STREAM by the low three bits of its type; first whether it ends the stream, then its id, offset and data
 abbrev pub stream_row : Bool → Bool → Bool → Row
-stream_row has_offset has_length fin = row Stream (Unwritten (if fin then 1 else 0) ∷ Varint ∷ offset_field has_offset ∷ data_field has_length ∷ [])
+stream_row has_offset has_length fin = row Stream (Unwritten (if fin then 1 else 0) ∷ stream_id ∷ offset_field has_offset ∷ data_field has_length ∷ [])
 
--- the stream, the offset
 abbrev pub max_stream_data_row : Row
-max_stream_data_row = row MaxStreamData (Varint ∷ Varint ∷ [])
+max_stream_data_row = row MaxStreamData (stream_id ∷ maximum_stream_data ∷ [])
 
 abbrev pub stream_data_blocked_row : Row
-stream_data_blocked_row = row StreamDataBlocked (Varint ∷ Varint ∷ [])
+stream_data_blocked_row = row StreamDataBlocked (stream_id ∷ maximum_stream_data ∷ [])
 
 -- first the direction, then the count
 abbrev pub max_streams_row : Dir → Row
@@ -88,22 +153,21 @@ streams_blocked_row dir = row StreamsBlocked (Unwritten (dir_number dir) ∷ Var
 
 -- the sequence number, the one before which ids are retired, which is at most that, the id, the token
 abbrev pub new_connection_id_row : Row
-new_connection_id_row = row NewConnectionId (Varint ∷ Varint ∷ Ordered ∷ Id ∷ Sixteen ∷ [])
+new_connection_id_row = row NewConnectionId (sequence_number ∷ retire_prior_to ∷ Ordered ∷ connection_id ∷ stateless_reset_token ∷ [])
 
 -- the error code, the type of the frame that caused it, or 0, the reason
 abbrev pub connection_close_row : Row
-connection_close_row = row ConnectionClose (Varint ∷ Varint ∷ Counted ∷ [])
+connection_close_row = row ConnectionClose (error_code ∷ frame_type ∷ reason_phrase ∷ [])
 
 -- the error code, the reason
 abbrev pub application_close_row : Row
-application_close_row = row ApplicationClose (Varint ∷ Counted ∷ [])
+application_close_row = row ApplicationClose (error_code ∷ reason_phrase ∷ [])
 
 abbrev pub datagram_row : Bool → Row
 datagram_row has_length = row Datagram (data_field has_length ∷ [])
 
--- the sequence number, the ack-eliciting threshold, the requested maximum delay, the reordering threshold
 abbrev pub ack_frequency_row : Row
-ack_frequency_row = row AckFrequency (Varint ∷ Varint ∷ Varint ∷ Varint ∷ [])
+ack_frequency_row = row AckFrequency (sequence_number ∷ ack_eliciting_threshold ∷ request_max_ack_delay ∷ reordering_threshold ∷ [])
 
 -- a frame of one number
 abbrev pub number_row : Name → Row

@@ -1,21 +1,15 @@
 -- Each datagram has one answer.
 use Rattle.std.specs.Prelude.{◌≡◌, ℕ, ◌+◌, ◌-◌, ◌<◌, ◌≤◌, true, false, List, length, Option, Some, None, Result, Ok, Err, nat_lt, codes, unwrap_or, MatchOption, MatchResult}
-use Rattle.std.proofs.Common.{sym, ap, ◌∙◌, arith, refl, cond, subst, inl, inr, ◌++◌, ◌∷◌, length-append}
+use Rattle.std.proofs.Common.{sym, ap, ◌∙◌, arith, refl, cond, subst, inl, inr}
 use Rattle.std.proofs.lemmas.Bool.Decides.{nat_tests}
 use Rattle.std.proofs.lemmas.Bool.{cases_lt}
-use Rattle.quic_heads.specs.declared.protected.ProtectedHeader.TheVariants as head
-use Rattle.quic_base.specs.Number.{bytes_of}
-use Rattle.quic_base.specs.ConnectionId.{long_id}
 use Rattle.quic_base.specs.Number.{AreBytes}
 use Rattle.quic_heads.specs.declared.protected.ProtectedHeader.{ProtectedHeader}
 use Rattle.quic_heads.specs.Refusal.{Refusal, Invalid, Answers}
-use Rattle.quic_heads.specs.Grammar.{Head, HeadAnswer, LongStart, Cut, Uncut, no_head, past_end, CutAnswer}
-use Rattle.quic_headers.specs.Starts.{long_front}
+use Rattle.quic_heads.specs.Grammar.{Head, HeadAnswer, Cut, Uncut, no_head, past_end, CutAnswer}
 use Rattle.quic_heads.specs.Reading.{Context, head_at, cut_at, len_in}
-use Rattle.quic_heads.proofs.HeadFound.{head_found}
-use Rattle.quic_heads.proofs.HeadAgain.{head_again, refused_again}
+use Rattle.quic_heads.proofs.Heads.{head_found, head_again, refused_found, refused_again, head_strict}
 use Rattle.quic_heads.proofs.Steps.{then_ok, then_err, otherwise, taken}
-use Rattle.quic_heads.proofs.RefusedFound.{refused_found}
 
 -- what a parser takes is there
 abbrev pub Takes : Context → Type 0
@@ -24,7 +18,7 @@ Takes context = (text : List ℕ) (id : List ℕ) (n : ℕ) → context.parsed t
 head_of : (context : Context) (whole : ℕ) (bytes : List ℕ) → AreBytes bytes → length bytes ≤ whole → Takes context
     → (read : Result (ProtectedHeader × List ℕ) Refusal) → head_at context whole bytes ≡ read → HeadAnswer context whole bytes read
 head_of context whole bytes fits room takes (Ok found) e = head_found context whole bytes found.1 found.0 fits room takes e
-head_of context whole bytes fits room takes (Err r) e = refused_found context whole bytes r fits e
+head_of context whole bytes fits room takes (Err r) e = refused_found context whole bytes r fits takes e
 
 pub head_answer : (context : Context) (whole : ℕ) (bytes : List ℕ) → AreBytes bytes → length bytes ≤ whole → Takes context → HeadAnswer context whole bytes (head_at context whole bytes)
 head_answer context whole bytes fits room takes = head_of context whole bytes fits room takes (head_at context whole bytes) refl
@@ -35,44 +29,9 @@ head_sole context whole bytes (Err e) fits h = refused_again context whole bytes
 
 -- ---- cuts
 
-start_room : (context : Context) (bytes : List ℕ) (first version : ℕ) (dst src left : List ℕ) → LongStart context bytes first version dst src left → length left ≤ length bytes
-start_room context bytes first version dst src left start = omega (arith, ap length start.text, length-append (long_front first version dst src) left)
-
 -- what is left is a part of the bytes
 pub head_room : (context : Context) (whole : ℕ) (bytes : List ℕ) (h : ProtectedHeader) (rest : List ℕ) → Head context whole bytes h rest → length rest ≤ length bytes
-head_room context whole bytes (head.Short spin dst) rest d = omega (arith, ap length d.5, ap length d.9, length-append d.8 rest)
-head_room context whole bytes (head.VersionNegotiate random dst src) rest d = start_room context bytes (128 + random) 0 dst src rest d
-head_room context whole bytes (head.Retry dst src version) rest d = start_room context bytes d.0 version dst src rest d.1
-head_room context whole bytes (head.Long ty dst src len version) rest d =
-    omega (arith, start_room context bytes d.0 version dst src (d.1 ++ rest) d.2, length-append d.1 rest)
-head_room context whole bytes (head.Initial h) rest d =
-    omega (
-      arith,
-      start_room context bytes d.0 h.version h.dst_cid h.src_cid (d.1 ++ (d.2 ++ (d.3 ++ rest))) d.4,
-      length-append d.1 (d.2 ++ (d.3 ++ rest)),
-      length-append d.2 (d.3 ++ rest),
-      length-append d.3 rest,
-    )
-
-start_strict : (context : Context) (bytes : List ℕ) (first version : ℕ) (dst src left : List ℕ) → LongStart context bytes first version dst src left → length left < length bytes
-start_strict context bytes first version dst src left start =
-    omega (arith, ap length start.text, length-append (long_front first version dst src) left, length-append (first ∷ bytes_of 4 version) (long_id dst ++ long_id src))
-
--- a head takes a byte
-pub head_strict : (context : Context) (whole : ℕ) (bytes : List ℕ) (h : ProtectedHeader) (rest : List ℕ) → Head context whole bytes h rest → length rest < length bytes
-head_strict context whole bytes (head.Short spin dst) rest d = omega (arith, ap length d.5, ap length d.9, length-append d.8 rest)
-head_strict context whole bytes (head.VersionNegotiate random dst src) rest d = start_strict context bytes (128 + random) 0 dst src rest d
-head_strict context whole bytes (head.Retry dst src version) rest d = start_strict context bytes d.0 version dst src rest d.1
-head_strict context whole bytes (head.Long ty dst src len version) rest d =
-    omega (arith, start_strict context bytes d.0 version dst src (d.1 ++ rest) d.2, length-append d.1 rest)
-head_strict context whole bytes (head.Initial h) rest d =
-    omega (
-      arith,
-      start_strict context bytes d.0 h.version h.dst_cid h.src_cid (d.1 ++ (d.2 ++ (d.3 ++ rest))) d.4,
-      length-append d.1 (d.2 ++ (d.3 ++ rest)),
-      length-append d.2 (d.3 ++ rest),
-      length-append d.3 rest,
-    )
+head_room context whole bytes h rest d = omega (arith, head_strict context whole bytes h rest d)
 
 end_positive : (o : Option ℕ) (p q whole : ℕ) → 0 < p → p ≤ whole → MatchOption o (q ≡ whole) (λ len. q ≡ p + len) → 0 < q
 end_positive None p q whole some room ends = omega arith
@@ -151,7 +110,7 @@ cut_of context bytes fits takes (Ok found) e =
     subst (CutAnswer context bytes) (sym (then_ok _ _ found _ e refl))
     (behind_found context bytes found.0 found.1 (head_found context (length bytes) bytes found.1 found.0 fits (omega arith) takes e) (len_in found.0) refl)
 cut_of context bytes fits takes (Err r) e =
-    subst (CutAnswer context bytes) (sym (then_err _ _ r e)) (no_head r (refused_found context (length bytes) bytes r fits e))
+    subst (CutAnswer context bytes) (sym (then_err _ _ r e)) (no_head r (refused_found context (length bytes) bytes r fits takes e))
 
 pub cut_answer : (context : Context) (bytes : List ℕ) → AreBytes bytes → Takes context → CutAnswer context bytes (cut_at context bytes)
 cut_answer context bytes fits takes = cut_of context bytes fits takes (head_at context (length bytes) bytes) refl

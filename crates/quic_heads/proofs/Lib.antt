@@ -4,8 +4,8 @@ pub mod Datagrams
 mod Ends
 mod FieldLaws
 mod Finishes
-mod HeadAgain
-mod HeadFound
-mod RefusedFound
+pub mod Heads
+pub mod Made
+pub mod Rows
 mod Scans
 pub mod Steps

@@ -66,12 +66,12 @@ pub record IsToken (token : Place) (start stop : ℕ) : Type 0 where
   pub within : token.end < stop
 
 -- Where the fields of a head stand. What a kind lacks has no place, and is 0.
-abbrev pub AreFields : HeadKind → HeadPlaces → Type 0
-AreFields kind.Initial x = AreIds x.dst_cid x.src_cid x.head_end × IsToken x.token x.src_cid.end x.head_end
-AreFields (kind.Long ty) x = AreIds x.dst_cid x.src_cid x.head_end × IsNone x.token
-AreFields kind.Retry x = AreIds x.dst_cid x.src_cid x.head_end × IsNone x.token × (x.len ≡ 0)
-AreFields (kind.Short spin) x = (x.dst_cid.start ≡ 1) × (1 ≤ x.dst_cid.end) × (x.dst_cid.end ≡ x.head_end) × IsNone x.src_cid × IsNone x.token × (x.len ≡ 0) × (x.version ≡ 0)
-AreFields (kind.VersionNegotiate random) x = AreIds x.dst_cid x.src_cid x.head_end × IsNone x.token × (x.len ≡ 0) × (x.version ≡ 0)
+abbrev pub ArePlaces : HeadKind → HeadPlaces → Type 0
+ArePlaces kind.Initial x = AreIds x.dst_cid x.src_cid x.head_end × IsToken x.token x.src_cid.end x.head_end
+ArePlaces (kind.Long ty) x = AreIds x.dst_cid x.src_cid x.head_end × IsNone x.token
+ArePlaces kind.Retry x = AreIds x.dst_cid x.src_cid x.head_end × IsNone x.token × (x.len ≡ 0)
+ArePlaces (kind.Short spin) x = (x.dst_cid.start ≡ 1) × (1 ≤ x.dst_cid.end) × (x.dst_cid.end ≡ x.head_end) × IsNone x.src_cid × IsNone x.token × (x.len ≡ 0) × (x.version ≡ 0)
+ArePlaces (kind.VersionNegotiate random) x = AreIds x.dst_cid x.src_cid x.head_end × IsNone x.token × (x.len ≡ 0) × (x.version ≡ 0)
 
 -- The places are in order, and in the head.
 pub record AreInside (x : HeadPlaces) : Type 0 where
@@ -84,7 +84,7 @@ pub record AreInside (x : HeadPlaces) : Type 0 where
 
 -- The fields stand in the head, the head in the packet, and the packet in as many bytes.
 pub record IsLaid (x : HeadPlaces) (whole : ℕ) : Type 0 where
-  pub fields : AreFields x.kind x
+  pub fields : ArePlaces x.kind x
   pub inside : AreInside x
   pub first : 0 < x.head_end
   pub head : x.head_end ≤ x.packet_end

@@ -4,7 +4,7 @@ ghost use Rattle.quic_heads.specs.Grammar.{CutAnswer};
 ghost use Rattle.quic_heads.specs.Packet.{id_len};
 ghost use Rattle.quic_heads.specs.Parsers.{fixed_parsed};
 ghost use Rattle.quic_heads.specs.Reading.{cut_at, head_at, long_at, typed_at, len_in};
-ghost use Rattle.quic_heads.specs.Scan.{part, head_in, cut_in, read_in, AreIds, AreFields, AreInside, IsLaid, IsTold};
+ghost use Rattle.quic_heads.specs.Scan.{part, head_in, cut_in, read_in, AreIds, ArePlaces, AreInside, IsLaid, IsTold};
 
 pub use crate::fields::Place;
 use crate::fields::{pass, read_place, read_var, read_word, remaining};
@@ -147,7 +147,7 @@ fn scan_head(
     grease: bool,
 ) -> Result<HeadPlaces, ScanError>
     ensures exact { head_at (record { parsed = fixed_parsed id_len; versions = versions.now; grease = grease }) (length datagram.now) datagram.now ≡ read_in datagram.now result }
-    ensures fields { MatchResult result (λ x. AreFields x.kind x × AreInside x × (0 < x.head_end) × (x.head_end ≤ length datagram.now)) (λ e. IsTold e (length datagram.now)) }
+    ensures fields { MatchResult result (λ x. ArePlaces x.kind x × AreInside x × (0 < x.head_end) × (x.head_end ≤ length datagram.now)) (λ e. IsTold e (length datagram.now)) }
 {
     let Some(first) = datagram.first() else {
         return Err(ScanError::UnexpectedEnd);
@@ -182,7 +182,7 @@ fn scan_long(datagram: &[u8], first: u8, versions: &[u32]) -> Result<HeadPlaces,
     requires long { 128 ≤ first }
     requires some { 1 ≤ length datagram.now }
     ensures exact { long_at versions.now (length datagram.now) first (drop 1 datagram.now) ≡ read_in datagram.now result }
-    ensures fields { MatchResult result (λ x. AreFields x.kind x × AreInside x × (0 < x.head_end) × (x.head_end ≤ length datagram.now)) (λ e. IsTold e (length datagram.now)) }
+    ensures fields { MatchResult result (λ x. ArePlaces x.kind x × AreInside x × (0 < x.head_end) × (x.head_end ≤ length datagram.now)) (λ e. IsTold e (length datagram.now)) }
 {
     let mut place = 1;
     let Some(version) = read_word(datagram, &mut place) else {
@@ -234,7 +234,7 @@ fn scan_typed(
     requires len { front.len ≡ 0 }
     ensures exact { typed_at ty (length datagram.now) (part datagram.now front.dst_cid) (part datagram.now front.src_cid) front.version (drop front.head_end datagram.now)
         ≡ read_in datagram.now result }
-    ensures fields { MatchResult result (λ x. AreFields x.kind x × AreInside x × (0 < x.head_end) × (x.head_end ≤ length datagram.now)) (λ e. IsTold e (length datagram.now)) }
+    ensures fields { MatchResult result (λ x. ArePlaces x.kind x × AreInside x × (0 < x.head_end) × (x.head_end ≤ length datagram.now)) (λ e. IsTold e (length datagram.now)) }
 {
     let mut place = front.head_end;
     match ty {

@@ -1,6 +1,6 @@
 -- A sealed packet is cut from the bytes that it begins.
 use Rattle.std.specs.Prelude.{◌≡◌, ℕ, ◌+◌, ◌-◌, ◌*◌, ◌/◌, ◌%◌, ◌<◌, ◌≤◌, ◌^◌, Bool, true, false, IsTrue, List, [], ◌∷◌, ◌++◌, length, drop, Some, nat_lt, nat_eq, slice_index, slice_range, slice_index_or}
-use Rattle.std.proofs.Common.{cond, sym, ap, ◌∙◌, arith, refl, subst, get_or, inr, length-append, append_assoc, length-drop}
+use Rattle.std.proofs.Common.{cond, sym, ap, ◌∙◌, arith, refl, subst, get_or, length-append, append_assoc, length-drop}
 use Rattle.quic_base.specs.Varint.{short}
 use Rattle.quic_base.specs.ConnectionId.{long_id}
 use Rattle.quic_base.proofs.PublicLaws as law
@@ -12,6 +12,7 @@ use Rattle.quic_crypto.specs.declared.packet_number.PacketNumber.TheVariants.{U8
 use Rattle.quic_crypto.specs.PacketNumbers.{number_size, number_bytes}
 use Rattle.quic_heads.specs.declared.protected.ProtectedHeader.{ProtectedHeader}
 use Rattle.quic_heads.specs.declared.protected.ProtectedHeader.TheVariants as head
+use Rattle.quic_heads.specs.declared.protected.ProtectedInitialHeader.{ProtectedInitialHeader}
 use Rattle.quic_headers.specs.declared.long_type.LongHeaderType.{LongHeaderType}
 use Rattle.quic_headers.specs.declared.long_type.LongHeaderType.TheVariants as kind
 use Rattle.quic_headers.specs.declared.long_type.LongType.{LongType}
@@ -19,7 +20,8 @@ use Rattle.quic_headers.specs.declared.long_type.LongType.TheVariants.{Handshake
 use Rattle.quic_headers.specs.declared.header.Header.{Header}
 use Rattle.quic_headers.specs.declared.header.InitialHeader.{InitialHeader}
 use Rattle.quic_headers.specs.declared.header.Header.TheVariants as header
-use Rattle.quic_heads.specs.Grammar.{LongStart, Cut}
+use Rattle.quic_heads.specs.Grammar.{Cut}
+use Rattle.quic_heads.proofs.Made.{LongStart, fixed_set, long_head, initial_head, short_head}
 use Rattle.quic_heads.specs.Reading.{Context}
 use Rattle.quic_headers.specs.Types.{types_of, long_type, version_2, type_number, place_of}
 use Rattle.quic_heads.specs.Headers.{IsOpenedBy}
@@ -148,7 +150,7 @@ long_sealed seal key laws context ty dst src number version n payload packet res
     let whole : packet ++ rest ≡ (b ∷ tail) ++ (len ++ (behind ++ rest)) = ap (λ (xs : List ℕ). xs ++ rest) it.text ∙ joined (b ∷ tail) len behind rest in
     let start : LongStart context (packet ++ rest) b version dst src (len ++ (behind ++ rest)) = record {
       long = byte.long;
-      fixed = inr byte.fixed;
+      fixed = fixed_set context b byte.fixed;
       range = read.0;
       dst_len = read.2;
       src_len = read.3;
@@ -162,7 +164,7 @@ long_sealed seal key laws context ty dst src number version n payload packet res
         head.Long ty dst src count version,
         (
           behind ++ rest,
-          (b, len, start, read.1, byte.is, length_spelled count (sealed.short refl)),
+          long_head context (length (packet ++ rest)) (packet ++ rest) b version dst src len (behind ++ rest) ty count start read.1 byte.is (length_spelled count (sealed.short refl)),
           omega (arith, length-append behind rest, length-append packet rest),
           omega arith,
           omega (arith, length-append packet rest),
@@ -217,7 +219,7 @@ initial_sealed seal key laws context i n payload packet rest sealed read =
     ∙ append_assoc (b ∷ tail) (var ++ token) after ∙ ap (λ (xs : List ℕ). (b ∷ tail) ++ xs) (append_assoc var token after) in
     let start : LongStart context (packet ++ rest) b version i.dst_cid i.src_cid (var ++ (token ++ after)) = record {
       long = byte.long;
-      fixed = inr byte.fixed;
+      fixed = fixed_set context b byte.fixed;
       range = read.0;
       dst_len = read.2;
       src_len = read.3;
@@ -236,24 +238,16 @@ initial_sealed seal key laws context i n payload packet rest sealed read =
     ∙ middle ((first ∷ tail) ++ var) token ((len ++ number_bytes number) ++ body) token_at (token_at + length token)
     (omega (arith, length-append (first ∷ tail) var, long_length first version i.dst_cid i.src_cid))
     (omega (arith, length-append (first ∷ tail) var, long_length first version i.dst_cid i.src_cid)) in
+    let found : ProtectedInitialHeader =
+    record { dst_cid = i.dst_cid; src_cid = i.src_cid; token_pos = record { start = token_at; end = token_at + length token }; len = count; version = version } in
     record {
       cut = (
-        head.Initial (record { dst_cid = i.dst_cid; src_cid = i.src_cid; token_pos = record { start = token_at; end = token_at + length token }; len = count; version = version }),
+        head.Initial found,
         (
           behind ++ rest,
-          (
-            b,
-            var,
-            token,
-            len,
-            start,
-            read.1,
-            byte.is,
-            law.short_spells (length token) sealed.writable.0,
-            length_spelled count (sealed.short refl),
-            omega (arith, ap length whole, length-append (b ∷ tail) (var ++ (token ++ after)), length-append var (token ++ after), top),
-            refl,
-          ),
+          initial_head context (length (packet ++ rest)) (packet ++ rest) b var token len (behind ++ rest) found start read.1 byte.is
+              (law.short_spells (length token) sealed.writable.0) (length_spelled count (sealed.short refl))
+              (omega (arith, ap length whole, length-append (b ∷ tail) (var ++ (token ++ after)), length-append var (token ++ after), length-append token after, top)) refl,
           omega (arith, length-append behind rest, length-append packet rest),
           omega arith,
           omega (arith, length-append packet rest),
@@ -333,7 +327,7 @@ short_sealed seal key laws context spin key_phase dst number n payload packet re
         head.Short spin dst,
         (
           behind ++ rest,
-          (b, dst ++ (behind ++ rest), length dst, byte.short, inr byte.fixed, whole, read.1 (behind ++ rest), byte.spin_bit, dst, refl, refl),
+          short_head context (length (packet ++ rest)) (packet ++ rest) b spin dst dst (behind ++ rest) byte.short (fixed_set context b byte.fixed) whole (read.1 (behind ++ rest)) byte.spin_bit,
           omega (arith, length-append behind rest, length-append packet rest),
           ends,
           omega arith,

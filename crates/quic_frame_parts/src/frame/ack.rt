@@ -167,11 +167,13 @@ pub struct AckIter<'a> {
 
 impl Iterator for AckIter<'_> {
     ghost use Rattle.std.specs.Iterator.{YieldsFirstBy, item_count};
+    ghost use Rattle.std.specs.Prelude.{false, IfSome};
+    ghost use Rattle.std.specs.Range.{range_inclusive_exhausted};
     ghost use Rattle.quic_frame_parts.specs.Acks.{bounds_of, ranges_left};
 
     type Item = RangeInclusive<u64>;
 
-    ghost next_gives = { YieldsFirstBy bounds_of ranges_left };
+    ghost next_gives = { λ old item new. YieldsFirstBy bounds_of ranges_left old item new × IfSome item (λ range. range_inclusive_exhausted range ≡ false) };
 
     ghost remaining = { item_count ranges_left };
 

@@ -46,7 +46,7 @@ pub returns-in-None-clause-ok : goal.returns-in-None-clause-ok
 returns-in-None-clause-ok g c =
     let q : ℕ = length c.in-Ok.packet.bytes in
     let left : List ℕ = c.loop-left.left.items in
-    let cut : Cut (with_ids_of c.new-parser.result.expected_len) left c.in-Ok.packet.head c.in-Ok.packet.head_end q = cut_given _ left _ _ q c.in-Ok.ensures.answer.some in
+    let cut : Cut (with_ids_of c.new-parser.result.expected_len) left c.in-Ok.packet.head c.in-Ok.packet.head_end q = cut_given (with_ids_of c.new-parser.result.expected_len) left _ _ q c.in-Ok.ensures.answer.some in
     let none : drop q left ≡ [] = rw c.in-None.is at c.in-Ok.ensures.rest in
     text_last (with_ids_of c.new-parser.result.expected_len) c.loop-left.start (c.loop-left.start + c.len.result) q c.in-Ok.packet.head_end left (string_bytes c.pass_on_pieces.new.text) (string_bytes c.print_packet.new.text)
     (λ waits. AppendsAllBut (g.W.Sink.taken c.args.sink.now) (g.W.Sink.taken c.pass_on_pieces.new.sink) waits (string_bytes c.args.text.now ++ flat_map shown (datagram_lines (count c.args.id_len) c.args.datagram.now)))
@@ -57,7 +57,7 @@ pub returns-in-None-clause-clean : goal.returns-in-None-clause-clean
 returns-in-None-clause-clean g c =
     let q : ℕ = length c.in-Ok.packet.bytes in
     let left : List ℕ = c.loop-left.left.items in
-    let cut : Cut (with_ids_of c.new-parser.result.expected_len) left c.in-Ok.packet.head c.in-Ok.packet.head_end q = cut_given _ left _ _ q c.in-Ok.ensures.answer.some in
+    let cut : Cut (with_ids_of c.new-parser.result.expected_len) left c.in-Ok.packet.head c.in-Ok.packet.head_end q = cut_given (with_ids_of c.new-parser.result.expected_len) left _ _ q c.in-Ok.ensures.answer.some in
     let none : drop q left ≡ [] = rw c.in-None.is at c.in-Ok.ensures.rest in
     clean_last (with_ids_of c.new-parser.result.expected_len) c.loop-left.start q c.in-Ok.packet.head_end left (datagram_lines (count c.args.id_len) c.args.datagram.now) c.in-Ok.packet.head cut none c.loop-left.invariant.clean
 
@@ -65,7 +65,7 @@ pub loop-left-preserved : goal.loop-left-preserved
 loop-left-preserved g c =
     let q : ℕ = length c.in-Ok.packet.bytes in
     let left : List ℕ = c.loop-left.left.items in
-    let cut : Cut (with_ids_of c.new-parser.result.expected_len) left c.in-Ok.packet.head c.in-Ok.packet.head_end q = cut_given _ left _ _ q c.in-Ok.ensures.answer.some in
+    let cut : Cut (with_ids_of c.new-parser.result.expected_len) left c.in-Ok.packet.head c.in-Ok.packet.head_end q = cut_given (with_ids_of c.new-parser.result.expected_len) left _ _ q c.in-Ok.ensures.answer.some in
     let stop : ℕ = c.loop-left.start + c.len.result in
     let rest : (c.in-Some.rest.items ≡ drop q left) × (0 < length (drop q left)) = rw c.in-Some.is at c.in-Ok.ensures.rest in
     let lt : q < length left = omega (arith, rest.1, length-drop q left) in

@@ -6,7 +6,7 @@ pub returns-then-is_empty-clause-steps : goal.returns-then-is_empty-clause-steps
 returns-then-is_empty-clause-steps c =
     let self = c.args.self.now in
     let none = no_ranges_left self.largest self.blocks.now (zero_of (length self.blocks.now) c.if-is_empty.ensures) in
-    (none, none)
+    ((none, none), search rules)
 
 pub returns-clause-steps : goal.returns-clause-steps
 returns-clause-steps c = search rules

@@ -88,6 +88,9 @@ impl VarInt {
     }
 }
 
+// The longest spelling has eight bytes (RFC 9000, section 16).
+const _: () = prove!(VarInt::MAX_SIZE == 8);
+
 /// The default is 0.
 impl Default for VarInt {
     ghost is_default = { λ v. v ≡ 0 };

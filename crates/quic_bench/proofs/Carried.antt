@@ -4,7 +4,7 @@ use Rattle.std.proofs.Common.{sym, ap, subst, ◌∙◌, arith, append-nil}
 use Rattle.bytes.specs.Filled.{Filled}
 use Rattle.quic_heads.specs.Reading.{IsRest}
 use Rattle.quic_packets.specs.Opening.{IsBack}
-use Rattle.quic_packets.specs.Sealing.{IsPayload}
+use Rattle.quic_frames.specs.Written.{IsPayload}
 use Rattle.quic_packets.specs.declared.opening.Opened.{Opened}
 use Rattle.quic_bench.specs.Outgoing.{Carries}
 use Rattle.quic_bench.specs.declared.two_packets.Outgoing.{Outgoing}

@@ -2,3 +2,6 @@ mod Carried
 mod Ends
 mod Masks
 mod Reread
+mod HeadsBack
+mod OneLine
+mod RowOfOne

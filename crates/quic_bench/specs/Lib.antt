@@ -1,5 +1,6 @@
 pub mod Add
 pub mod AddLaws
+pub mod Lines
 pub mod Mask
 pub mod MaskLaws
 pub mod Outgoing

@@ -10,7 +10,8 @@ use Rattle.quic_packets.specs.declared.opening.Opened.{Opened}
 use Rattle.quic_packets.specs.declared.seal.SealError.{SealError}
 use Rattle.quic_packets.specs.Opening.{ExpandsIn, IsReadBack}
 use Rattle.quic_packets.specs.Pairs.{KeyPair}
-use Rattle.quic_packets.specs.Sealing.{IsLowPart, IsPayload, SealedFrames, SealRefused, payload_of}
+use Rattle.quic_frames.specs.Written.{IsPayload}
+use Rattle.quic_packets.specs.Sealing.{IsLowPart, SealedFrames, SealRefused, payload_of}
 use Rattle.quic_bench.specs.declared.two_packets.Failure.{Failure}
 use Rattle.quic_bench.specs.declared.two_packets.Failure.TheVariants as failure
 use Rattle.quic_bench.specs.declared.two_packets.Outgoing.{Outgoing}

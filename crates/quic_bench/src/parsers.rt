@@ -1,5 +1,5 @@
 //! Parsers of connection ids as endpoints may bring them.
-ghost use Rattle.std.specs.Prelude.{false};
+ghost use Rattle.std.specs.Prelude.{false, true};
 ghost use Rattle.quic_heads.specs.Parsers.{fixed_parsed, fixed_lawful};
 ghost use Rattle.quic_bench.specs.Parsers.{none_parsed, none_lawful, self_sized_parsed, self_sized_lawful};
 
@@ -68,5 +68,21 @@ impl ConnectionIdParser for SelfSized {
         let id = ConnectionId::new(&rest[..size]);
         buf.advance(size);
         Ok(id)
+    }
+}
+
+/// Takes no id, for want of memory.
+#[derive(Clone, Copy, Debug)]
+pub struct WithoutMemory;
+
+impl ConnectionIdParser for WithoutMemory {
+    ghost parsed = { λ _ bytes. none_parsed bytes };
+
+    ghost takes_memory = { λ _. true };
+
+    ghost lawful = { λ _ bytes. none_lawful bytes };
+
+    fn parse(&self, _buf: &mut Cursor) -> Result<ConnectionId, PacketDecodeError> {
+        Err(PacketDecodeError::OutOfMemory)
     }
 }

@@ -40,7 +40,7 @@ pub enum Failure {
 }
 
 // Appends a packet, sealed by the keys of its space.
-fn seal<H: HeaderKey, P: PacketKey>(
+pub(crate) fn seal<H: HeaderKey, P: PacketKey>(
     packet: &Outgoing<'_, '_>,
     keys: &SpaceKeys<H, P>,
     out: &mut Vec<u8>,

@@ -8,3 +8,4 @@ mod FrontWalk
 mod RewriteWalk
 mod Fronts
 mod Clients
+mod WrittenFrames

@@ -14,15 +14,19 @@ use crate::laws::one_least;
 use quic_frames::frame::{Frame, InvalidFrame, Iter};
 use quic_frames::laws::{least_spelling, one_reading, read_back};
 use std::alloc::{AllocError, Global};
+use thiserror::Error;
 
 /// Why there is no canonical payload.
-#[derive(Clone, Copy, Debug, PartialEq, Eq)]
+#[derive(Clone, Copy, Debug, PartialEq, Eq, Error)]
 pub enum CanonError {
     /// The payload has no frame.
+    #[error("packet payload is empty")]
     Empty,
     /// Something in the payload is no frame.
+    #[error("{}", .0.reason)]
     Invalid(InvalidFrame),
     /// The vector could not grow.
+    #[error("out of memory")]
     OutOfMemory,
 }
 
@@ -137,10 +141,12 @@ fn write_least(payload: &[u8], front: usize, out: &mut Vec<u8>)
 
 /// Appends the least payload that means what the payload does. The payload is read first; then one
 /// growth of at most its length is made, and where that is refused, or the payload is, `out` is as it was.
+/// A payload that is refused takes no memory.
 pub fn canonical(payload: &[u8], out: &mut Vec<u8>) -> Result<(), CanonError>
     ensures ok { OnOk result (AppendsLeast out.old.items out.new.items payload.now) }
     ensures err { IfErr result (λ e. IsRefused payload.now e) }
     ensures kept { OnErr result (out.new.items ≡ out.old.items) }
+    ensures unread { IfErr result (λ e. (e ≢ CanonError.OutOfMemory) → out.new ≡ out.old) }
     ensures room { vec_len out.old + length payload.now ≤ vec_capacity out.old
         → IfErr result (λ e. IsWrong payload.now e) }
 {

@@ -3,6 +3,8 @@ ghost use Rattle.std.specs.Prelude.{◌≡◌, ◌≢◌, ◌<◌, ◌↔◌, �
 ghost use Rattle.quic_base.specs.Number.{AreBytes};
 ghost use Rattle.quic_frame_parts.specs.Field.{AreApart};
 ghost use Rattle.quic_frames.specs.Least.{frame_in, shortest_frames};
+ghost use Rattle.quic_frames.specs.Written.{IsPayload};
+ghost use Rattle.quic_frames.specs.declared.frame.Frame.{Frame};
 ghost use Rattle.quic_frame_parts.specs.Payload.{Found, AreFrames, IsBroken};
 ghost use Rattle.quic_frame_parts.specs.Sets.{is_in};
 ghost use Rattle.quic_frame_parts.specs.declared.frame.fault.Fault.{Fault};
@@ -41,5 +43,14 @@ pub fn one_least()
         → (found : List Found) × AreFrames true found least × AreFrames false found least }
 {
     one_reading();
+    least_spelling();
+}
+
+/// What is written of frames is its own canonical payload: `canonical` appends just that of it, and `canonical_of`
+/// gives it without a copy. A sealed packet has such a payload.
+pub fn written_is_least()
+    ensures { (frames : List Frame) (payload : List ℕ) → frames ≢ [] → IsPayload frames payload → IsLeast payload payload }
+{
+    one_least();
     least_spelling();
 }

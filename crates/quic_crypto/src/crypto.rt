@@ -5,9 +5,11 @@ ghost use Rattle.quic_base.specs.Number.{AreBytes};
 ghost use Rattle.quic_crypto.specs.Keys.{HasSample, Protects, Unprotects, payload_in};
 
 use bytes::BytesMut;
+use thiserror::Error;
 
 /// A payload does not belong to the number, the head and the key that are to open it.
-#[derive(Clone, Copy, Debug, PartialEq, Eq)]
+#[derive(Clone, Copy, Debug, PartialEq, Eq, Error)]
+#[error("payload does not belong to the packet's number, head and key")]
 pub struct CryptoError;
 
 /// A key that hides the low bits of a head's first byte, and the packet number (RFC 9001, section 5.4). What

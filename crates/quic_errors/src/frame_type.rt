@@ -117,6 +117,14 @@ impl FrameType {
         }
     }
 
+    /// The type of this number, which is below 2^62 (RFC 9000, section 12.4).
+    pub fn of(number: u64) -> FrameType
+        requires { number < 2 ^ 62 }
+        ensures { result ≡ number }
+    {
+        FrameType(number)
+    }
+
     /// The type of this number, which is below 2^62, and none where it is 0: so a close names the
     /// frame at fault (RFC 9000, section 19.19).
     pub fn or_none(number: u64) -> Option<FrameType>
@@ -168,6 +176,9 @@ impl FrameType {
         })
     }
 }
+
+// No frame that is read is named by it: an ACK with counts is named ACK.
+const _: () = prove!(FrameType::ACK_ECN.0 == 0x03);
 
 /// A type is spelled as the varint of its number.
 impl Codec for FrameType {

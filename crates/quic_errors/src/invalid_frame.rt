@@ -14,6 +14,16 @@ pub struct InvalidFrame {
     pub reason: &'static str,
 }
 
+impl InvalidFrame {
+    /// The error that a peer is told of, as `Error::from` gives it. It takes a reference, so that a caller whose
+    /// proof is generated can go on with the error.
+    pub fn to_error(&self) -> Error
+        ensures { IsErrorOf self.now.ty self.now.reason.now result }
+    {
+        error_of(self.ty, self.reason)
+    }
+}
+
 /// The error that a peer is told of, with the type and the reason: PROTOCOL_VIOLATION where a type is not in
 /// its shortest form, and FRAME_ENCODING_ERROR for the other reasons (RFC 9000, section 12.4).
 impl From<InvalidFrame> for Error {

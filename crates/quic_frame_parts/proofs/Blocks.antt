@@ -211,6 +211,15 @@ blocks_valid greatest bytes back left fits e =
     let count : length (ranges_of greatest back) - 1 ≡ length t.ranges = omega (arith, ap length are) in
     ap (λ (n : ℕ). after_blocks n greatest back) count ∙ ap (after_blocks (length t.ranges) greatest) (sym (append-nil back)) ∙ again
 
+-- what is spelled is read, with its ranges
+pub read_again : (greatest : ℕ) (ranges : List (ℕ × ℕ)) (bytes : List ℕ) → AreBlocks greatest ranges bytes → IsBlocks greatest bytes × (ranges_of greatest bytes ≡ ranges)
+read_again greatest [] bytes s = absurd s
+read_again greatest (range ∷ ranges) bytes s =
+    let are = ranges_are greatest range ranges bytes s in
+    let again = ranges_again greatest range ranges bytes [] s in
+    let count : length (ranges_of greatest bytes) - 1 ≡ length ranges = omega (arith, ap length are) in
+    (ap (λ (n : ℕ). after_blocks n greatest bytes) count ∙ ap (after_blocks (length ranges) greatest) (sym (append-nil bytes)) ∙ again, are)
+
 -- what valid blocks spell
 pub record Blocks (greatest : ℕ) (bytes : List ℕ) : Type 0 where
   pub range : ℕ × ℕ

@@ -1,14 +1,22 @@
 -- What a decoder takes of a type, and what reading finds.
-use Rattle.std.proofs.Common.{rules, ◌≡◌, ℕ, suc, ◌∷◌, ◌-◌, Bool, true, false, List, length, Option, Ok, Err, Some, refl}
+use Rattle.std.proofs.Common.{rules, arith, ◌≡◌, ◌≤◌, ◌+◌, ◌*◌, ◌/◌, ◌%◌, ◌^◌, ℕ, suc, [], ◌∷◌, ◌-◌, Bool, true, false, cond, ltb, List, length, take, drop, Option, None, Ok, Err, Some, refl, sym, ap, subst}
+use Rattle.std.proofs.lemmas.List.{length-drop}
+use Rattle.quic_base.specs.Number.{num}
 use Rattle.quic_base.specs.Varint.{size}
 use Rattle.quic_frame_parts.specs.declared.frame.fault.Fault.{Fault}
 use Rattle.quic_frame_parts.specs.declared.frame.fault.Fault.TheVariants.{UnexpectedEnd, LongType}
 use Rattle.quic_frame_parts.specs.Payload.{Meaning}
 use Rattle.quic_frame_parts.specs.Reading.{frame_at, invalid, is_long_type, found_at}
 use Rattle.quic_base.specs.Reading.{number_at}
-use Rattle.quic_frame_parts.specs.Reading.{row_at, varint_at}
+use Rattle.quic_frame_parts.specs.AckPlace.{ReadsBlocks}
+use Rattle.quic_frame_parts.specs.Acks.{AckParts}
+use Rattle.quic_frame_parts.specs.Reading.{row_at, varint_at, blocks_at, or_end}
+use Rattle.quic_frame_parts.specs.declared.frame.ack.EcnCounts.{EcnCounts}
+use Rattle.quic_frame_parts.proofs.Steps.{ok_is}
 use Rattle.quic_frame_parts.proofs.Varints.{varint_fails}
+use Rattle.quic_frames.specs.Found.{HasItsBlocks, HasItsBlocksBehind}
 use Rattle.quic_frames.specs.Meaning.{meaning_of}
+use Rattle.quic_frames.specs.declared.frame.Frame.{Frame}
 use Rattle.quic_frames.specs.declared.frame.Frame.TheVariants as frames
 
 -- a type that was taken, and a frame that follows it
@@ -51,3 +59,31 @@ pub found_padding : (strict : Bool) (before : Option ℕ) (bytes rest : List ℕ
     → found_at strict before bytes ≡ Ok (record { type = 0; frame = meaning_of frames.Padding }, rest)
 unfolding found_at frame_at row_at varint_at
 found_padding strict before bytes rest front = rw (front, zero_at rest, one_more (length rest), one_is_short strict) refl
+
+-- a type in front of the bytes in which an ACK has its blocks
+pub behind_type : (type : ℕ) (frame : Frame) (bytes behind left : List ℕ) → varint_at bytes ≡ Ok (type, behind) → HasItsBlocks frame behind left → HasItsBlocksBehind type frame bytes left
+behind_type type (frames.Ack a) bytes behind left e h = (behind, e, h)
+behind_type type frame bytes behind left e h = tt
+
+-- what follows a number is no longer than the bytes that it was read from
+pub varint_shorter : (bytes : List ℕ) (n : ℕ) (rest : List ℕ) → varint_at bytes ≡ Ok (n, rest) → length rest ≤ length bytes
+unfolding varint_at number_at
+varint_shorter [] n rest e = absurd cc
+varint_shorter (b ∷ bs) n rest e = by_test (ltb (length bs) more) e
+  where
+    more : ℕ
+    more = 2 ^ (b / 64) - 1
+
+    by_test : (t : Bool) → or_end {A = ℕ × List ℕ} (cond t None (Some (b % 64 * 256 ^ more + num (take more bs), drop more bs))) ≡ Ok (n, rest) → length rest ≤ length (b ∷ bs)
+    by_test true e = absurd cc
+    by_test false e =
+        let same = ok_is (b % 64 * 256 ^ more + num (take more bs), drop more bs) (n, rest) e in
+        let r : drop more bs ≡ rest = ap (λ (p : ℕ × List ℕ). p.1) same in
+        omega (arith, ap length r, length-drop more bs)
+
+-- the parts of an ACK, as they were read
+pub reads : (a : AckParts) (largest delay : ℕ) (bytes behind_largest behind_delay additional behind_blocks left : List ℕ) (ecn : Option EcnCounts) → a ≡ record { largest = largest; delay = delay; additional = additional; ecn = ecn }
+    → varint_at bytes ≡ Ok (largest, behind_largest) → varint_at behind_largest ≡ Ok (delay, behind_delay) → blocks_at largest behind_delay ≡ Ok (additional, behind_blocks) → length left ≤ length behind_blocks → ReadsBlocks a bytes left
+reads a largest delay bytes behind_largest behind_delay additional behind_blocks left ecn is one two three fewer =
+    subst (λ (p : AckParts). ReadsBlocks p bytes left) (sym is)
+    (record { behind_largest = behind_largest; behind_delay = behind_delay; behind_blocks = behind_blocks; largest = one; delay = two; blocks = three; fewer = fewer })

@@ -24,7 +24,7 @@ pads strict payload offset last fits some byte =
     let front : drop offset payload ≡ 0 ∷ drop (suc offset) payload = drop-cons payload offset 0 some ∙ ap (λ (n : ℕ). n ∷ drop (suc offset) payload) byte in
     let stop : length payload - length (drop (suc offset) payload) ≡ suc offset = omega (arith, length-drop (suc offset) payload) in
     subst (λ (n : ℕ). Finds (at_place strict payload offset last) frames.Padding (at_place strict payload n (Some 0))) stop
-    (finds strict payload offset last 0 frames.Padding (drop (suc offset) payload) tt fits (omega arith) some (found_padding strict last (drop offset payload) (drop (suc offset) payload) front))
+    (finds strict payload offset last 0 frames.Padding (drop (suc offset) payload) (tt, tt) fits (omega arith) some (found_padding strict last (drop offset payload) (drop (suc offset) payload) front))
 
 -- the place behind some of them, by its parts
 pads_on : (strict : Bool) (payload : List ℕ) (offset k : ℕ) (last : Option ℕ) → AreBytes (drop offset payload) → offset + k < length payload → get_or payload (offset + k) 0 ≡ 0

@@ -11,10 +11,12 @@ use Rattle.quic_frame_parts.specs.Field as kinds
 use Rattle.quic_frame_parts.specs.Table.{is_open}
 use Rattle.quic_frame_parts.specs.Payload.{Found, IsFrame}
 use Rattle.quic_frame_parts.specs.Reading.{Invalid, found_at, Whole, Broken, items_of}
-use Rattle.quic_frames.specs.Found.{found_as}
+use Rattle.quic_frame_parts.proofs.AckPlaces.{stand_in_frame}
+use Rattle.quic_frames.specs.declared.frame.Frame.TheVariants as frames
+use Rattle.quic_frames.specs.Found.{found_as, HasItsBlocksBehind}
 use Rattle.quic_frames.specs.InRange.{IsToldApart}
 use Rattle.quic_frames.specs.Way.{Way}
-use Rattle.quic_frames.specs.Walk.{left, bytes_of_value, last_bytes, Stands, Finds}
+use Rattle.quic_frames.specs.Walk.{left, bytes_of_value, last_bytes, Stands, StandsAsRead, Finds}
 use Rattle.quic_frames.proofs.Frames.{TakesFound, found_takes}
 use Rattle.quic_frames.proofs.Items.{frame_some, nothing, items_found, items_broken, no_items, all_read}
 
@@ -149,11 +151,16 @@ rest_is payload offset = take_rest payload offset
 
 -- ---- steps of an iterator
 
+-- the blocks of an ACK stand in the bytes that are read
+stand_as_read : (type : ℕ) (frame : Frame) (bytes front left : List ℕ) → AreBytes bytes → bytes ≡ front ++ left → HasItsBlocksBehind type frame bytes left → StandsAsRead type frame front
+stand_as_read type (frames.Ack a) bytes front left fits cut h = stand_in_frame type a bytes h.0 front left fits h.1 h.2 cut
+stand_as_read type frame bytes front left fits cut h = tt
+
 abbrev pub at_place : Bool → List ℕ → ℕ → Option ℕ → Way
 at_place strict payload offset last = record { strict = strict; payload = payload; offset = offset; last = last; is_broken = false }
 
 -- a frame at the offset
-pub finds : (strict : Bool) (payload : List ℕ) (offset : ℕ) (last : Option ℕ) (ty : ℕ) (frame : Frame) (rest : List ℕ) → IsToldApart frame → AreBytes (drop offset payload) → offset ≤ length payload → offset < length payload
+pub finds : (strict : Bool) (payload : List ℕ) (offset : ℕ) (last : Option ℕ) (ty : ℕ) (frame : Frame) (rest : List ℕ) → IsToldApart frame × HasItsBlocksBehind ty frame (drop offset payload) rest → AreBytes (drop offset payload) → offset ≤ length payload → offset < length payload
     → found_at strict last (drop offset payload) ≡ Ok (found_as ty frame, rest) → Finds (at_place strict payload offset last) frame (at_place strict payload (length payload - length rest) (Some ty))
 finds strict payload offset last ty frame rest apart fits le some e =
     let found = found_as ty frame in
@@ -168,13 +175,16 @@ finds strict payload offset last ty frame rest apart fits le some e =
     let same : offset + (length bytes - length rest) ≡ stop = omega (arith, size, fewer, le) in
     let items = items_found strict offset last bytes (found, rest) fits some_left e in
     let rest_fits : AreBytes rest = back_bytes t.front rest (subst AreBytes t.parts fits) in
+    let long : length t.front ≡ stop - offset = omega (arith, ap length t.parts, length-append t.front rest, size, le) in
+    let here : slice_range payload offset stop ≡ t.front = ap (take (stop - offset)) t.parts ∙ take_at t.front rest (stop - offset) long in
     record {
       found = found;
       says = refl;
-      told_apart = apart;
+      told_apart = apart.0;
       comes = refl;
       first = items ∙ ap (λ (n : ℕ). Whole offset n found ∷ items_of strict n (Some ty) rest) same ∙ ap (λ (l : List ℕ). Whole offset stop found ∷ items_of strict stop (Some ty) l) (sym after);
       stands = cut_stands strict payload offset stop found rest c;
+      blocks = subst (λ (l : List ℕ). StandsAsRead ty frame l) (sym here) (stand_as_read ty frame bytes t.front rest fits t.parts apart.1);
       ends = λ opens. omega (arith, ap length (t.opens opens));
       is_done = (
         (λ none. drop_nothing payload stop c.within (after ∙ all_read strict stop (Some ty) rest rest_fits (ap (items_of strict stop (Some ty)) (sym after) ∙ none))),
@@ -212,12 +222,13 @@ fewer_left strict payload offset last found rest fits e =
     let size : length (take (length payload - offset) (drop offset payload)) ≡ length payload - offset = ap length (rest_is payload offset) ∙ length-drop offset payload in
     omega (arith, sizes, size)
 
-pub finds_here : (strict : Bool) (payload : List ℕ) (offset : ℕ) (last : Option ℕ) (b : Bool) (old : Way) (ty : ℕ) (frame : Frame) (rest : List ℕ) → IsToldApart frame → walk strict payload offset last b ≡ old → b ≡ false → offset ≤ length payload
+pub finds_here : (strict : Bool) (payload : List ℕ) (offset : ℕ) (last : Option ℕ) (b : Bool) (old : Way) (ty : ℕ) (frame : Frame) (rest : List ℕ)
+    → IsToldApart frame → HasItsBlocksBehind ty frame (take (length payload - offset) (drop offset payload)) rest → walk strict payload offset last b ≡ old → b ≡ false → offset ≤ length payload
     → eqb (length (take (length payload - offset) (drop offset payload))) 0 ≡ false → AreBytes (take (length payload - offset) (drop offset payload))
     → found_at strict last (take (length payload - offset) (drop offset payload)) ≡ Ok (found_as ty frame, rest) → Finds old frame (walk strict payload (length payload - length rest) (Some ty) b)
-finds_here strict payload offset last b old ty frame rest apart v f le some fits e =
+finds_here strict payload offset last b old ty frame rest apart blocks v f le some fits e =
     let cut = rest_is payload offset in
-    let here = finds strict payload offset last ty frame rest apart (subst AreBytes cut fits) le (some_bytes payload offset some) (ap (found_at strict last) (sym cut) ∙ e) in
+    let here = finds strict payload offset last ty frame rest (apart, subst (λ (l : List ℕ). HasItsBlocksBehind ty frame l rest) cut blocks) (subst AreBytes cut fits) le (some_bytes payload offset some) (ap (found_at strict last) (sym cut) ∙ e) in
     subst (λ (o : Way). Finds o frame (walk strict payload (length payload - length rest) (Some ty) b)) (is_not_broken strict payload offset last b old v f)
     (subst (λ (c : Bool). Finds (at_place strict payload offset last) frame (walk strict payload (length payload - length rest) (Some ty) c)) (sym f) here)
 

@@ -25,3 +25,4 @@ pub mod Walk
 pub mod Padding
 pub mod Found
 pub mod Placed
+pub mod Written

@@ -1,7 +1,9 @@
 -- How far an iterator has come over its payload, and what it still gives.
-use Rattle.std.specs.Prelude.{◌≡◌, ◌↔◌, ℕ, ◌-◌, ◌<◌, ◌≤◌, List, [], ◌∷◌, ◌++◌, length, map, drop, slice_range, Option, Some, None, Result, Ok, Err, Bool, true, false, if◌then◌else◌}
+use Rattle.std.specs.Prelude.{◌≡◌, ⊤, ◌↔◌, ℕ, ◌-◌, ◌<◌, ◌≤◌, List, [], ◌∷◌, ◌++◌, length, map, drop, slice_range, Option, Some, None, Result, Ok, Err, Bool, true, false, if◌then◌else◌}
 use Rattle.quic_frames.specs.declared.frame.Frame.{Frame}
+use Rattle.quic_frames.specs.declared.frame.Frame.TheVariants as frames
 use Rattle.quic_errors.specs.declared.invalid_frame.InvalidFrame.{InvalidFrame}
+use Rattle.quic_frame_parts.specs.AckPlace.{BlocksStand}
 use Rattle.quic_frame_parts.specs.Field.{Value, Number, Bytes, Ranges}
 use Rattle.quic_frame_parts.specs.Table.{is_open}
 use Rattle.quic_frame_parts.specs.declared.frame.fault.Fault.{Fault}
@@ -60,6 +62,11 @@ pub record Stands (strict : Bool) (payload : List ℕ) (start stop : ℕ) (found
   pub spelled : IsFrame strict found (slice_range payload start stop)
   pub borrowed : (bytes : List ℕ) → last_bytes None found.frame.values ≡ Some bytes → slice_range payload (stop - length bytes) stop ≡ bytes
 
+-- The bytes of an ACK's blocks are those that stand in the bytes of its frame, which has this type.
+abbrev pub StandsAsRead : ℕ → Frame → List ℕ → Type 0
+StandsAsRead type (frames.Ack a) bytes = BlocksStand type a bytes
+StandsAsRead type frame bytes = ⊤
+
 -- A frame was found, from the place before to the place after.
 pub record Finds (old : Way) (frame : Frame) (new : Way) : Type 0 where
   pub found : Found
@@ -68,6 +75,7 @@ pub record Finds (old : Way) (frame : Frame) (new : Way) : Type 0 where
   pub comes : new ≡ record old { offset = new.offset; last = Some found.type }
   pub first : left old ≡ Whole old.offset new.offset found ∷ left new
   pub stands : Stands old.strict old.payload old.offset new.offset found
+  pub blocks : StandsAsRead found.type frame (slice_range old.payload old.offset new.offset)
   pub ends : is_open found.type ≡ true → new.offset ≡ length old.payload
   pub is_done : (left new ≡ []) ↔ (new.offset ≡ length old.payload)
 

@@ -223,6 +223,7 @@ impl Header {
         ensures len { OnOk result (vec_len out.new ≡ vec_len out.old + header_size self.now) }
         ensures capacity { vec_capacity out.old ≤ vec_capacity out.new }
         ensures err { OnErr result (out.new.items ≡ out.old.items) }
+        ensures full { OnErr result (vec_capacity out.new < vec_len out.old + header_size self.now) }
         ensures spare { vec_len out.old + header_size self.now ≤ vec_capacity out.old → IsOk result }
     {
         if out.capacity() - out.len() < INITIAL_ROOM {
@@ -246,6 +247,7 @@ impl Header {
         ensures len { OnOk result (vec_len out.new ≡ vec_len out.old + header_size self.now) }
         ensures capacity { vec_capacity out.old ≤ vec_capacity out.new }
         ensures err { OnErr result (out.new.items ≡ out.old.items) }
+        ensures full { OnErr result (vec_capacity out.new < vec_len out.old + header_size self.now) }
         ensures spare { vec_len out.old + header_size self.now ≤ vec_capacity out.old → IsOk result }
     {
         if out.capacity() - out.len() < LONG_ROOM {
@@ -269,6 +271,7 @@ impl Header {
         ensures len { OnOk result (vec_len out.new ≡ vec_len out.old + header_size self.now) }
         ensures capacity { vec_capacity out.old ≤ vec_capacity out.new }
         ensures err { OnErr result (out.new.items ≡ out.old.items) }
+        ensures full { OnErr result (vec_capacity out.new < vec_len out.old + header_size self.now) }
         ensures spare { vec_len out.old + header_size self.now ≤ vec_capacity out.old → IsOk result }
     {
         if out.capacity() - out.len() < SHORT_ROOM {
@@ -292,6 +295,7 @@ impl Header {
         ensures len { OnOk result (vec_len out.new ≡ vec_len out.old + header_size self.now) }
         ensures capacity { vec_capacity out.old ≤ vec_capacity out.new }
         ensures err { OnErr result (out.new.items ≡ out.old.items) }
+        ensures full { OnErr result (vec_capacity out.new < vec_len out.old + header_size self.now) }
         ensures spare { vec_len out.old + header_size self.now ≤ vec_capacity out.old → IsOk result }
     {
         match self {
@@ -308,6 +312,7 @@ impl Header {
         ensures len { OnOk result (vec_len out.new ≡ vec_len out.old + header_size self.now) }
         ensures capacity { vec_capacity out.old ≤ vec_capacity out.new }
         ensures err { OnErr result (out.new.items ≡ out.old.items) }
+        ensures full { OnErr result (vec_capacity out.new < vec_len out.old + header_size self.now) }
         ensures spare { vec_len out.old + header_size self.now ≤ vec_capacity out.old → IsOk result }
     {
         if out.reserve(self.encoded_len()).is_err() {
@@ -361,8 +366,8 @@ impl Header {
 
     /// Appends the head, and answers where it begins and ends. The two bytes of its length, where it has one, are
     /// zeros, which `PartialEncode::finish` fills in. Answers `NoRoom` only where the spare room of `out` is less
-    /// than the head and there is no memory for more; then `out` is as it was. The caller must give a token below
-    /// 2^62 bytes, and that a `U24` is below 2^24.
+    /// than the head and there is no memory for more; then the bytes of `out` are as they were, and its room still is
+    /// less. The caller must give a token below 2^62 bytes, and that a `U24` is below 2^24.
     #[inline]
     pub fn encode(&self, out: &mut Vec<u8>) -> Result<PartialEncode, NoRoom>
         requires { IsWritable self.now }
@@ -371,6 +376,7 @@ impl Header {
         ensures len { OnOk result (vec_len out.new ≡ vec_len out.old + header_size self.now) }
         ensures capacity { vec_capacity out.old ≤ vec_capacity out.new }
         ensures err { OnErr result (out.new.items ≡ out.old.items) }
+        ensures full { OnErr result (vec_capacity out.new < vec_len out.old + header_size self.now) }
         ensures spare { vec_len out.old + header_size self.now ≤ vec_capacity out.old → IsOk result }
     {
         let start = out.len();

@@ -1,5 +1,5 @@
 //! Packets whose heads' protection is taken off (RFC 9000, section 17).
-ghost use Rattle.std.specs.Prelude.{◌≡◌, ◌<◌, length, slice_index};
+ghost use Rattle.std.specs.Prelude.{◌≡◌, ◌<◌, length, slice_index, false};
 ghost use Rattle.quic_headers.specs.declared.header.Header.TheVariants as heads;
 ghost use Rattle.quic_headers.specs.Queries.{reserved_zero};
 
@@ -30,12 +30,14 @@ pub struct Packet {
 
 impl Packet {
     /// Whether the reserved bits of the head's first byte are zero, as they have to be (RFC 9000, sections 17.2
-    /// and 17.3.1): 0x18 in a short head, 0x0c in the others. The caller must ensure that `header_data` has a byte.
+    /// and 17.3.1): 0x18 in a short head, 0x0c in the others. They are not where `header_data` has no byte.
     pub fn reserved_bits_valid(&self) -> bool
-        requires { 0 < length self.now.header_data }
-        ensures { result ≡ reserved_zero self.now.header (slice_index self.now.header_data 0) }
+        ensures some { 0 < length self.now.header_data → result ≡ reserved_zero self.now.header (slice_index self.now.header_data 0) }
+        ensures none { length self.now.header_data ≡ 0 → result ≡ false }
     {
-        let first = self.header_data.as_slice()[0];
+        let Some(first) = self.header_data.as_slice().first() else {
+            return false;
+        };
         if self.header.is_short() {
             first / 8 % 4 == 0
         } else {

@@ -1,14 +1,16 @@
 -- Packets in a row, and what is opened of a datagram.
-use Rattle.std.specs.Prelude.{◌≡◌, ℕ, ◌<◌, List, [], ◌∷◌, ◌++◌, length, Option, Some, None}
+use Rattle.std.specs.Prelude.{◌≡◌, ℕ, ◌+◌, ◌<◌, Bool, List, [], ◌∷◌, ◌++◌, length, Option, Some, None, Result, Ok, Err}
 use Rattle.bytes.specs.Filled.{Filled}
 use Rattle.quic_base.specs.declared.ids.SpaceId.{SpaceId}
 use Rattle.quic_headers.specs.declared.header.Header.{Header}
 use Rattle.quic_headers.specs.Queries.{space_in}
 use Rattle.quic_heads.specs.Reading.{Context}
 use Rattle.quic_packets.specs.declared.opening.Opened.{Opened}
+use Rattle.quic_packets.specs.declared.opening.OpenError.{OpenError}
+use Rattle.quic_packets.specs.declared.opening.OpenError.TheVariants.{OutOfMemory}
 use Rattle.quic_packets.specs.Pairs.{KeyPair}
 use Rattle.quic_packets.specs.Sealing.{IsAppended, Sealed, sealed_head}
-use Rattle.quic_packets.specs.Opening.{PacketGives, IsBack, IsReadBack, ExpandsIn}
+use Rattle.quic_packets.specs.Opening.{PacketGives, PacketRefuses, IsBack, IsReadBack, ExpandsIn}
 
 -- ---- any bytes
 
@@ -21,6 +23,24 @@ Gives keys context expected bytes opened rest =
 abbrev pub GivesBack : (SpaceId → KeyPair) → Header → ℕ → List ℕ → List ℕ → Opened → Option Filled → Type 0
 GivesBack keys h n payload rest opened left =
     IsBack (keys (space_in h)).tag_size h n payload rest opened.header opened.header_data opened.number opened.payload.items left
+
+-- What a call gives that opens the next packet of what is left of a datagram, and what is left then: nothing, after a refusal.
+abbrev pub OpensNext : Bool → (SpaceId → KeyPair) → Context → (SpaceId → ℕ) → Option Filled → Option (Result Opened OpenError) → Option Filled → Type 0
+OpensNext takes_memory keys context expected None next new = (next ≡ None) × (new ≡ None)
+OpensNext takes_memory keys context expected (Some left) None new = ⊥
+OpensNext takes_memory keys context expected (Some left) (Some (Ok opened)) new = Gives keys context expected left.items opened new
+OpensNext takes_memory keys context expected (Some left) (Some (Err e)) new = PacketRefuses takes_memory keys context expected left.items e × (new ≡ None)
+
+-- the same where a sealed packet is next
+abbrev pub OpensBack : (SpaceId → KeyPair) → Header → ℕ → List ℕ → List ℕ → Option (Result Opened OpenError) → Option Filled → Type 0
+OpensBack keys h n payload rest None new = ⊥
+OpensBack keys h n payload rest (Some (Ok opened)) new = GivesBack keys h n payload rest opened new
+OpensBack keys h n payload rest (Some (Err e)) new = e ≡ OutOfMemory
+
+-- how much is left, which each packet makes less
+abbrev pub left_size : Option Filled → ℕ
+left_size None = 0
+left_size (Some left) = 1 + length left.items
 
 -- these packets are opened one after another from the bytes, and then these are left
 pub data Steps (keys : SpaceId → KeyPair) (context : Context) (expected : SpaceId → ℕ) : List ℕ → List Opened → List ℕ → Type 0 where

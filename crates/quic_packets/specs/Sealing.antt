@@ -1,11 +1,11 @@
 -- Packets that are sealed (RFC 9000, section 12; RFC 9001, sections 5.3 and 5.4).
-use Rattle.std.specs.Prelude.{map, ◌≡◌, ℕ, ◌+◌, ◌-◌, ◌%◌, ◌<◌, ◌≤◌, ◌^◌, false, IsTrue, List, ◌++◌, length}
+use Rattle.std.specs.Prelude.{map, ◌≡◌, ℕ, ◌+◌, ◌-◌, ◌%◌, ◌<◌, ◌≤◌, ◌^◌, IsTrue, List, ◌++◌, length}
 use Rattle.quic_base.specs.Number.{AreBytes, bytes_of}
 use Rattle.quic_crypto.specs.PacketNumbers.{low_part, window_of}
 use Rattle.quic_frames.specs.declared.frame.Frame.{Frame}
-use Rattle.quic_frames.specs.Payload.{Found, AreFrames}
 use Rattle.quic_frames.specs.Meaning.{meaning_of}
-use Rattle.quic_frames.specs.Least.{AreOrExceed, shortest_frames, frame_in}
+use Rattle.quic_frames.specs.Least.{shortest_frames}
+use Rattle.quic_frames.specs.Written.{IsPayload}
 use Rattle.quic_headers.specs.declared.header.Header.{Header}
 use Rattle.quic_headers.specs.declared.header.Header.TheVariants as header
 use Rattle.quic_packets.specs.declared.seal.SealError.{SealError}
@@ -59,13 +59,6 @@ SealRefused refusal.NoRoom tag_size h sample_len payload spare =
 -- such values were appended
 abbrev pub IsAppended : {X : Type 0} → (List X → Type 0) → List X → List X → Type 0
 IsAppended {X} IsSuch old new = (added : List X) × IsSuch added × (new ≡ old ++ added)
-
--- A payload that means these frames, and is the least one that does.
-pub record IsPayload (frames : List Frame) (payload : List ℕ) : Type 0 where
-  pub found : List Found
-  pub spelled : AreFrames false found payload
-  pub means : map frame_in found ≡ map meaning_of frames
-  pub least : (others : List Found) (bytes : List ℕ) → AreFrames false others bytes → map frame_in others ≡ map meaning_of frames → AreOrExceed bytes payload
 
 -- the payload that is written of frames
 abbrev pub payload_of : List Frame → List ℕ

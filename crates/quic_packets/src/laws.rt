@@ -1,10 +1,11 @@
 //! Laws of sealed packets, which no single call carries. The functions do nothing.
 ghost use Rattle.std.specs.Prelude.{◌≡◌, ◌++◌, List, ℕ, length};
 ghost use Rattle.quic_crypto.specs.PacketNumbers.{Expands, low_part, window_of};
+ghost use Rattle.quic_frames.specs.Written.{IsPayload};
 ghost use Rattle.quic_heads.specs.Reading.{Context};
 ghost use Rattle.quic_packets.specs.Opening.{ExpandsIn, IsReadBack, Opens};
 ghost use Rattle.quic_packets.specs.Pairs.{IsLawful, KeyPair};
-ghost use Rattle.quic_packets.specs.Sealing.{IsPayload, Sealed};
+ghost use Rattle.quic_packets.specs.Sealing.{Sealed};
 
 use quic_crypto::packet_number::PacketNumber;
 use quic_frames::frame::Frame;

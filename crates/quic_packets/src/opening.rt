@@ -1,10 +1,10 @@
 //! Packets are opened (RFC 9001, sections 5.3 and 5.4).
-ghost use Rattle.std.specs.Prelude.{◌≡◌, ℕ, ◌<◌, ◌^◌, List, ◌++◌, length, IfOk, IfErr, IfSome, MatchResult, IsTrue, false, None};
+ghost use Rattle.std.specs.Prelude.{◌≡◌, ℕ, ◌<◌, ◌^◌, List, ◌++◌, length, IfOk, IfErr, IfSome, IsSome, MatchResult, IsTrue, false, None, Some};
 ghost use Rattle.quic_heads.specs.Headers.{is_protected};
 ghost use Rattle.quic_heads.specs.Queries.{space_of};
 ghost use Rattle.quic_headers.specs.Queries.{space_in};
 ghost use Rattle.quic_packets.specs.Opening.{read_by, AreExpected, IsReadBack, HasNumber, ExpandsIn, KeyGives, KeyRefuses, PacketRefuses, PartGives, PartRefuses, IsDecode};
-ghost use Rattle.quic_packets.specs.Rows.{Row, AreBack, Ends, Gives, GivesBack, IsFront, Steps};
+ghost use Rattle.quic_packets.specs.Rows.{Row, AreBack, Ends, Gives, GivesBack, IsFront, OpensBack, OpensNext, Steps, left_size};
 ghost use Rattle.quic_packets.specs.Sealing.{IsAppended, Sealed};
 ghost use Rattle.quic_packets.specs.Spaces.{expected_in};
 
@@ -18,16 +18,20 @@ use quic_heads::cut::PartialDecode;
 use quic_heads::decode_error::PacketDecodeError;
 use quic_heads::packet::Packet;
 use quic_heads::parser::ConnectionIdParser;
+use thiserror::Error;
 
 /// Why a packet is not opened. The datagram is given up: nothing behind the packet is known then.
-#[derive(Clone, Copy, Debug, PartialEq, Eq, Drop)]
+#[derive(Clone, Copy, Debug, PartialEq, Eq, Drop, Error)]
 pub enum OpenError {
     /// No packet can be cut from the datagram, or the packet is too short for a sample. It never holds
     /// `PacketDecodeError::OutOfMemory`.
+    #[error("{0}")]
     Decode(PacketDecodeError),
     /// The packet was not sealed by the keys of its space, or not with the number that was expected.
+    #[error("packet not sealed by these keys")]
     Unsealed,
     /// Memory ran out.
+    #[error("out of memory")]
     OutOfMemory,
 }
 
@@ -221,10 +225,60 @@ pub fn open_packet<C: ConnectionIdParser, H: HeaderKey, P: PacketKey>(
     }
 }
 
-/// Opens a datagram's packets one after another, as `open_packet` does, always with the expected numbers that
-/// are handed in, and appends them to `out`. After a refusal those before it stand there. Of packets in a row that
-/// were sealed by the keys handed in all are opened, in order; where memory ran out, the first ones were. The
-/// caller must give expected numbers below 2^62.
+/// What is left of a datagram, whose packets are opened one after another.
+#[derive(Debug, Drop)]
+pub struct Packets {
+    /// The bytes from the next packet on. None once nothing follows a packet, and after a refusal.
+    pub left: Option<BytesMut>,
+}
+
+impl Packets {
+    /// The packets of a datagram.
+    pub fn of(datagram: BytesMut) -> Packets
+        ensures { result.left ≡ Some datagram }
+    {
+        Packets {
+            left: Some(datagram),
+        }
+    }
+
+    /// Opens the next packet as `open_packet` does, and passes over it. Answers `None` once nothing is left. The keys
+    /// and the expected numbers may be others for each packet. After a refusal nothing is left: the datagram is given
+    /// up. The caller must give expected numbers below 2^62.
+    pub fn open_next<C: ConnectionIdParser, H: HeaderKey, P: PacketKey>(
+        &mut self,
+        parser: &C,
+        versions: &[u32],
+        grease: bool,
+        keys: &SpaceKeys<H, P>,
+        expected: &Expected,
+    ) -> Option<Result<Opened, OpenError>>
+        requires { AreExpected expected.now }
+        ensures next { OpensNext (C.takes_memory parser.now) (⟦<SpaceKeys<H, P> as PairsOfKeys>⟧.pairs keys.now)
+            (read_by (C.parsed parser.now) versions.now grease) (expected_in expected.now)
+            self.old.left result self.new.left }
+        ensures sealed { IfSome self.old.left (λ left. (h : Header) (n : ℕ) (payload packet rest : List ℕ)
+            → Sealed (⟦<SpaceKeys<H, P> as PairsOfKeys>⟧.pairs keys.now (space_in h)) h n payload packet
+            → IsReadBack (read_by (C.parsed parser.now) versions.now grease) h rest
+            → ExpandsIn h (expected_in expected.now (space_in h)) n → left.items ≡ packet ++ rest
+            → OpensBack (⟦<SpaceKeys<H, P> as PairsOfKeys>⟧.pairs keys.now) h n payload rest result self.new.left) }
+        ensures shorter { IsSome result → left_size self.new.left < left_size self.old.left }
+    {
+        let bytes = self.left.take()?;
+        match open_packet(bytes, parser, versions, grease, keys, expected) {
+            Ok((opened, rest)) => {
+                self.left = rest;
+                Some(Ok(opened))
+            }
+            Err(e) => Some(Err(e)),
+        }
+    }
+}
+
+/// Opens a datagram's packets one after another, as `Packets::open_next` does, always with the expected numbers that
+/// are handed in, and appends them to `out`. After a refusal those before it stand there, but for one that was opened
+/// where `out` couldn't grow. Of packets in a row that were sealed by the keys handed in all are opened, in order; where
+/// memory ran out, the first ones were. The caller must give expected numbers below 2^62.
 pub fn open_datagram<C: ConnectionIdParser, H: HeaderKey, P: PacketKey>(
     bytes: BytesMut,
     parser: &C,
@@ -246,19 +300,15 @@ pub fn open_datagram<C: ConnectionIdParser, H: HeaderKey, P: PacketKey>(
         → MatchResult result (λ _. IsAppended (λ added. AreBack (⟦<SpaceKeys<H, P> as PairsOfKeys>⟧.pairs keys.now) added packets) out.old.items out.new.items)
         (λ e. (e ≡ OpenError.OutOfMemory) × IsFront (⟦<SpaceKeys<H, P> as PairsOfKeys>⟧.pairs keys.now) packets out.old.items out.new.items) }
 {
-    let mut left = bytes;
-    loop {
-        match open_packet(left, parser, versions, grease, keys, expected) {
-            Ok((opened, rest)) => {
-                if out.push(opened).is_err() {
-                    return Err(OpenError::OutOfMemory);
-                }
-                match rest {
-                    None => return Ok(()),
-                    Some(next) => left = next,
-                }
-            }
+    let mut packets = Packets::of(bytes);
+    while let Some(next) = packets.open_next(parser, versions, grease, keys, expected) {
+        let opened = match next {
+            Ok(opened) => opened,
             Err(e) => return Err(e),
+        };
+        if out.push(opened).is_err() {
+            return Err(OpenError::OutOfMemory);
         }
     }
+    Ok(())
 }

@@ -1,7 +1,7 @@
 //! Heads of packets, the cutting of datagrams into packets, and packets sealed and opened.
 
 pub use crate::keys::{Expected, Keys, SpaceKeys};
-pub use crate::opening::{OpenError, Opened, open_datagram, open_packet};
+pub use crate::opening::{OpenError, Opened, Packets, open_datagram, open_packet};
 pub use crate::seal::{SealError, seal_packet};
 pub use quic_crypto::packet_number::PacketNumber;
 pub use quic_headers::encode::PartialEncode;

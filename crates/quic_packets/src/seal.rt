@@ -1,5 +1,5 @@
 //! Packets are sealed (RFC 9001, sections 5.3 and 5.4).
-ghost use Rattle.std.specs.Prelude.{◌⊎◌, IfNone, MatchOption, ◌≡◌, ℕ, ◌+◌, ◌-◌, ◌≤◌, ◌<◌, ◌^◌, ◌++◌, length, min, vec_len, vec_capacity, IfOk, IfErr, OnErr, IsTrue, IfSome, Some, take, drop, replicate};
+ghost use Rattle.std.specs.Prelude.{◌⊎◌, IfNone, MatchOption, ◌≡◌, ◌≢◌, ℕ, ◌+◌, ◌-◌, ◌≤◌, ◌<◌, ◌^◌, ◌++◌, length, min, vec_len, vec_capacity, IfOk, IfErr, OnErr, IsTrue, IfSome, Some, take, drop, replicate};
 ghost use Rattle.quic_base.specs.Number.{AreBytes};
 ghost use Rattle.quic_frames.specs.InRange.{CanFollow};
 ghost use Rattle.quic_headers.specs.Writing.{header_size, header_bytes, place_in, IsWritable, has_number, finished, HasRoom};
@@ -12,15 +12,19 @@ use quic_crypto::crypto::{HeaderKey, PacketKey};
 use quic_frames::frame::Frame;
 use quic_headers::encode::PartialEncode;
 use quic_headers::header::Header;
+use thiserror::Error;
 
 /// Why a packet is not sealed. Where several of these hold, the first of them is told.
-#[derive(Clone, Copy, Debug, PartialEq, Eq)]
+#[derive(Clone, Copy, Debug, PartialEq, Eq, Error)]
 pub enum SealError {
     /// The number, the payload and the tag have fewer bytes than four and the sample: PADDING helps.
+    #[error("packet too short for header protection sample")]
     TooShort,
     /// The head has a length, and the number, the payload and the tag have 2^14 bytes or more.
+    #[error("packet too long for its length field")]
     TooLong,
     /// The buffer's spare room is less than the packet, and there is no memory for more.
+    #[error("no room in buffer")]
     NoRoom,
 }
 
@@ -134,6 +138,9 @@ pub fn seal_packet<H: HeaderKey, P: PacketKey>(
         header.now number frames.now packet) out.old.items out.new.items) }
     ensures len { IfOk result (λ len. len ≡ header_size header.now + length (payload_of frames.now) + P.tag_size keys.now.packet) }
     ensures unchanged { OnErr result (out.new.items ≡ out.old.items) }
+    // Where the lengths are refused nothing is grown, and where a growth is refused the room stays.
+    ensures untouched { IfErr result (λ e. e ≢ SealError.NoRoom → out.new ≡ out.old) }
+    ensures capacity { OnErr result (vec_capacity out.new ≡ vec_capacity out.old) }
     ensures refused { IfErr result (λ e. SealRefused e (P.tag_size keys.now.packet) header.now (H.sample_len keys.now.header) (payload_of frames.now) (vec_capacity out.old - vec_len out.old)) }
 {
     let tag = keys.packet.tag_len();

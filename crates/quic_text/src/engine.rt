@@ -10,15 +10,19 @@ use super::output::{PIECE, pass_on_pieces, write_all};
 use super::print::print_line;
 use super::transfer::{Failed, Sink, Source};
 use std::alloc::{AllocError, Global};
+use thiserror::Error;
 
 /// Why a run ended early.
-#[derive(Clone, Copy, Debug, PartialEq, Eq)]
+#[derive(Clone, Copy, Debug, PartialEq, Eq, Error)]
 pub enum RunError {
     /// A read failed. Nothing was written.
+    #[error("read failed")]
     Read,
     /// A write failed, or the last flush. A beginning of the text was written.
+    #[error("write failed")]
     Write,
     /// A growth was refused. A beginning of the text was written.
+    #[error("out of memory")]
     OutOfMemory,
 }
 

@@ -104,10 +104,14 @@ impl<'a> Ack<'a> {
         self.ecn
     }
 
-    /// The ranges of acknowledged numbers, the greatest first. It takes no memory.
+    /// The ranges of acknowledged numbers, the greatest first: those that the blocks spell below the greatest
+    /// number (RFC 9000, section 19.3.1). It takes no memory.
+    #[tactic(auto, using(crate::proofs::Blocks::acked))]
     pub fn iter(&self) -> AckIter<'a>
-        ensures { ranges_left result ≡ ranges_acked self.now }
+        ensures ranges { ranges_left result ≡ ranges_acked self.now }
+        ensures spelled { AreBlocks (parts_of self.now).largest (ranges_left result) (parts_of self.now).additional }
     {
+        are_bytes(self.additional);
         AckIter {
             largest: self.largest,
             blocks: self.additional,

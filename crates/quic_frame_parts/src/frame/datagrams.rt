@@ -16,6 +16,7 @@ impl Datagram<'_> {
         requires { with_length ≡ true → length self.now.bytes.now < 2 ^ 62 }
         ensures ok { OnOk result (out.new.items ≡ out.old.items ++ shortest_frame (not with_length) (datagram_meaning self.now)) }
         ensures err { OnErr result (out.new.items ≡ out.old.items) }
+        ensures capacity { OnErr result (vec_capacity out.new ≡ vec_capacity out.old) }
         ensures room { vec_len out.old + length (shortest_frame (not with_length) (datagram_meaning self.now)) ≤ vec_capacity out.old → IsOk result }
     {
         if with_length {

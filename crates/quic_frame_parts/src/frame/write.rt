@@ -197,6 +197,7 @@ pub fn append(out: &mut Vec<u8>, head: &[u64], tail: &[u8]) -> Result<(), NoRoom
     requires numeric { AreNumeric head.now }
     ensures ok { OnOk result (out.new.items ≡ out.old.items ++ (all_short head.now ++ tail.now)) }
     ensures err { OnErr result (out.new.items ≡ out.old.items) }
+    ensures capacity { OnErr result (vec_capacity out.new ≡ vec_capacity out.old) }
     ensures room { vec_len out.old + length (all_short head.now ++ tail.now) ≤ vec_capacity out.old → IsOk result }
 {
     if out

@@ -1,5 +1,5 @@
 //! The frame at the front of some bytes.
-ghost use Rattle.std.specs.Prelude.{◌≡◌, ◌<◌, ◌^◌};
+ghost use Rattle.std.specs.Prelude.{◌≡◌};
 ghost use Rattle.quic_base.specs.Number.{AreBytes};
 ghost use Rattle.quic_frame_parts.specs.Reading.{found_at, is_long_type};
 ghost use Rattle.quic_frames.specs.Found.{GivesFound};
@@ -28,7 +28,7 @@ pub(super) fn read_found(
     before: Option<FrameType>,
     bytes: &[u8],
 ) -> Result<FirstFrame<'_>, InvalidFrame>
-    ensures gives { GivesFound result (found_at strict before bytes.now) }
+    ensures gives { GivesFound bytes.now result (found_at strict before bytes.now) }
     ensures bytes { AreBytes bytes.now }
 {
     // A run of PADDING is a frame for each byte, so that is looked for first.
@@ -47,7 +47,7 @@ pub(super) fn read_found(
             reason: Fault::UnexpectedEnd.reason(),
         });
     };
-    let ty = type_of(number);
+    let ty = FrameType::of(number);
     if is_long(strict, ty, bytes.len() - rest.len()) {
         let long = Some(ty);
         return Err(InvalidFrame {
@@ -62,15 +62,6 @@ pub(super) fn read_found(
             reason: fault.reason(),
         }),
     }
-}
-
-// The type of this number.
-#[inline(always)]
-fn type_of(number: u64) -> FrameType
-    requires { number < 2 ^ 62 }
-    ensures { result ≡ number }
-{
-    FrameType::or_none(number).unwrap_or(FrameType::PADDING)
 }
 
 // A type of so many bytes is in another spelling than the shortest, where only that counts.

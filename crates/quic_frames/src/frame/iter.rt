@@ -164,7 +164,8 @@ fn zeros(bytes: &[u8]) -> usize
 }
 
 /// Gives each frame, and then one `InvalidFrame` where something is none; after that nothing. It takes
-/// no memory. The bytes of a frame are a slice of the payload that ends at `offset`.
+/// no memory. The bytes of a frame are a slice of the payload that ends at `offset`; those of an ACK's blocks
+/// stand behind its type, its greatest number, its delay and the count of its ranges (RFC 9000, section 19.3).
 impl<'a> Iterator for Iter<'a> {
     ghost use Rattle.std.specs.Iterator.{item_count};
     ghost use Rattle.quic_frames.specs.Walk.{left, Advances};

@@ -21,7 +21,7 @@ use quic_frame_parts::frame::field::{blocks, varint};
 #[tactic(auto, unfolding(quic_frame_parts::specs::Reading::row_at))]
 #[inline(always)]
 fn read_ack(has_counts: bool, bytes: &[u8]) -> Result<(Frame<'_>, &[u8]), Fault>
-    ensures { GivesFrame (λ rest. rest.now) result (row_at (if has_counts then table.ack_ecn_row else table.ack_row) bytes.now) }
+    ensures { GivesFrame (λ rest. rest.now) bytes.now result (row_at (if has_counts then table.ack_ecn_row else table.ack_row) bytes.now) }
 {
     let (largest, rest) = field::near_varint(bytes)?;
     let (delay, rest) = field::near_varint(rest)?;
@@ -43,7 +43,7 @@ fn read_ack(has_counts: bool, bytes: &[u8]) -> Result<(Frame<'_>, &[u8]), Fault>
 #[inline(always)]
 fn read_early_end(ty: u64, bytes: &[u8]) -> Result<(Frame<'_>, &[u8]), Fault>
     requires either { (0x04 ≤ ty) × (ty ≤ 0x05) }
-    ensures { GivesFrame (λ rest. rest.now) result (frame_at ty bytes.now) }
+    ensures { GivesFrame (λ rest. rest.now) bytes.now result (frame_at ty bytes.now) }
 {
     let (id, rest) = varint(bytes)?;
     let (error_code, rest) = varint(rest)?;
@@ -64,7 +64,7 @@ fn read_early_end(ty: u64, bytes: &[u8]) -> Result<(Frame<'_>, &[u8]), Fault>
 #[tactic(auto, unfolding(quic_frame_parts::specs::Reading::row_at))]
 #[inline(always)]
 fn read_crypto(bytes: &[u8]) -> Result<(Frame<'_>, &[u8]), Fault>
-    ensures { GivesFrame (λ rest. rest.now) result (row_at table.crypto_row bytes.now) }
+    ensures { GivesFrame (λ rest. rest.now) bytes.now result (row_at table.crypto_row bytes.now) }
 {
     let (offset, rest) = varint(bytes)?;
     let (bytes, rest) = field::counted(rest)?;
@@ -74,7 +74,7 @@ fn read_crypto(bytes: &[u8]) -> Result<(Frame<'_>, &[u8]), Fault>
 #[tactic(auto, unfolding(quic_frame_parts::specs::Reading::row_at))]
 #[inline(always)]
 fn read_new_token(bytes: &[u8]) -> Result<(Frame<'_>, &[u8]), Fault>
-    ensures { GivesFrame (λ rest. rest.now) result (row_at table.new_token_row bytes.now) }
+    ensures { GivesFrame (λ rest. rest.now) bytes.now result (row_at table.new_token_row bytes.now) }
 {
     let (token, rest) = field::counted(bytes)?;
     Ok((Frame::NewToken(NewToken { token }), rest))
@@ -88,7 +88,7 @@ fn read_stream(
     fin: bool,
     bytes: &[u8],
 ) -> Result<(Frame<'_>, &[u8]), Fault>
-    ensures { GivesFrame (λ rest. rest.now) result (row_at (table.stream_row has_offset has_length fin) bytes.now) }
+    ensures { GivesFrame (λ rest. rest.now) bytes.now result (row_at (table.stream_row has_offset has_length fin) bytes.now) }
 {
     let (id, rest) = field::near_varint(bytes)?;
     let (offset, rest) = field::offset(has_offset, rest)?;
@@ -108,7 +108,7 @@ fn read_stream(
 #[inline(always)]
 fn read_limit(ty: u64, bytes: &[u8]) -> Result<(Frame<'_>, &[u8]), Fault>
     requires limit { (0x10 ≤ ty) × (ty ≤ 0x17) }
-    ensures { GivesFrame (λ rest. rest.now) result (frame_at ty bytes.now) }
+    ensures { GivesFrame (λ rest. rest.now) bytes.now result (frame_at ty bytes.now) }
 {
     let (first, rest) = field::near_varint(bytes)?;
     let number = VarInt::from_u64_unchecked(first);
@@ -142,7 +142,7 @@ fn id_of(bytes: &[u8]) -> ConnectionId
 #[tactic(auto, unfolding(quic_frame_parts::specs::Reading::row_at))]
 #[inline(always)]
 fn read_new_connection_id(bytes: &[u8]) -> Result<(Frame<'_>, &[u8]), Fault>
-    ensures { GivesFrame (λ rest. rest.now) result (row_at table.new_connection_id_row bytes.now) }
+    ensures { GivesFrame (λ rest. rest.now) bytes.now result (row_at table.new_connection_id_row bytes.now) }
 {
     let (sequence, rest) = field::short_varint(bytes)?;
     let (retire_prior_to, rest) = field::short_varint(rest)?;
@@ -163,7 +163,7 @@ fn read_new_connection_id(bytes: &[u8]) -> Result<(Frame<'_>, &[u8]), Fault>
 #[tactic(auto, unfolding(quic_frame_parts::specs::Reading::row_at))]
 #[inline(always)]
 fn read_retire_connection_id(bytes: &[u8]) -> Result<(Frame<'_>, &[u8]), Fault>
-    ensures { GivesFrame (λ rest. rest.now) result (row_at (table.number_row table.RetireConnectionId) bytes.now) }
+    ensures { GivesFrame (λ rest. rest.now) bytes.now result (row_at (table.number_row table.RetireConnectionId) bytes.now) }
 {
     let (sequence, rest) = varint(bytes)?;
     Ok((Frame::RetireConnectionId { sequence }, rest))
@@ -174,7 +174,7 @@ fn read_retire_connection_id(bytes: &[u8]) -> Result<(Frame<'_>, &[u8]), Fault>
 #[inline(always)]
 fn read_path(ty: u64, bytes: &[u8]) -> Result<(Frame<'_>, &[u8]), Fault>
     requires either { (0x1a ≤ ty) × (ty ≤ 0x1b) }
-    ensures { GivesFrame (λ rest. rest.now) result (frame_at ty bytes.now) }
+    ensures { GivesFrame (λ rest. rest.now) bytes.now result (frame_at ty bytes.now) }
 {
     let (token, rest) = field::eight(bytes)?;
     if ty == 0x1a {
@@ -214,7 +214,7 @@ fn close(ty: u64, bytes: &[u8]) -> Result<(Close<'_>, &[u8]), Fault>
 #[inline(always)]
 fn read_close(ty: u64, bytes: &[u8]) -> Result<(Frame<'_>, &[u8]), Fault>
     requires either { (0x1c ≤ ty) × (ty ≤ 0x1d) }
-    ensures { GivesFrame (λ rest. rest.now) result (frame_at ty bytes.now) }
+    ensures { GivesFrame (λ rest. rest.now) bytes.now result (frame_at ty bytes.now) }
 {
     match close(ty, bytes) {
         Ok((close, rest)) => Ok((Frame::Close(close), rest)),
@@ -225,7 +225,7 @@ fn read_close(ty: u64, bytes: &[u8]) -> Result<(Frame<'_>, &[u8]), Fault>
 #[tactic(auto, unfolding(quic_frame_parts::specs::Reading::row_at))]
 #[inline(always)]
 fn read_datagram(has_length: bool, bytes: &[u8]) -> Result<(Frame<'_>, &[u8]), Fault>
-    ensures { GivesFrame (λ rest. rest.now) result (row_at (table.datagram_row has_length) bytes.now) }
+    ensures { GivesFrame (λ rest. rest.now) bytes.now result (row_at (table.datagram_row has_length) bytes.now) }
 {
     let (bytes, rest) = field::data(has_length, bytes)?;
     Ok((Frame::Datagram(Datagram { bytes }), rest))
@@ -252,7 +252,7 @@ fn ack_frequency(bytes: &[u8]) -> Result<(AckFrequency, &[u8]), Fault>
 
 #[inline(always)]
 fn read_ack_frequency(bytes: &[u8]) -> Result<(Frame<'_>, &[u8]), Fault>
-    ensures { GivesFrame (λ rest. rest.now) result (row_at table.ack_frequency_row bytes.now) }
+    ensures { GivesFrame (λ rest. rest.now) bytes.now result (row_at table.ack_frequency_row bytes.now) }
 {
     match ack_frequency(bytes) {
         Ok((frequency, rest)) => Ok((Frame::AckFrequency(frequency), rest)),
@@ -264,7 +264,7 @@ fn read_ack_frequency(bytes: &[u8]) -> Result<(Frame<'_>, &[u8]), Fault>
 #[tactic(auto, unfolding(quic_frame_parts::specs::Reading::frame_at, quic_frame_parts::specs::Reading::row_at))]
 #[inline(always)]
 pub(super) fn read_frame(ty: u64, bytes: &[u8]) -> Result<(Frame<'_>, &[u8]), Fault>
-    ensures { GivesFrame (λ rest. rest.now) result (frame_at ty bytes.now) }
+    ensures { GivesFrame (λ rest. rest.now) bytes.now result (frame_at ty bytes.now) }
 {
     // The two ranges are asked for first, since what a `match` compares stands behind what it looks up.
     match ty {

@@ -341,6 +341,7 @@ fn error_of(payload: &[u8]) -> Option<InvalidFrame> {
 
 fn check_error(checks: &mut Checks, alloc: Global, invalid: &InvalidFrame) -> Result<(), Fail> {
     let error = converted::<InvalidFrame, Error>(invalid);
+    checks.holds(error == invalid.to_error());
     let text = "received a frame that was badly formatted in ACK: malformed";
     checks.displays(alloc, &error, text)
 }

@@ -1,15 +1,8 @@
 //! Types that count in their shortest form alone.
 use quic_frames::frame::{Frame, FrameType, InvalidFrame, Iter};
-use quic_frames::transport_error::{Code, Error};
+use quic_frames::transport_error::Code;
 use quic_testing::Checks;
 use std::test::Fail;
-
-// A conversion, by its bound alone.
-fn converted<T: Copy, U: From<T>>(value: &T) -> U
-    ensures { U.from_gives value.now result }
-{
-    U::from(*value)
-}
 
 #[test]
 fn a_long_type_is_a_violation(rt: HostRuntime) -> Result<(), Fail> {
@@ -25,7 +18,7 @@ fn a_long_type_is_a_violation(rt: HostRuntime) -> Result<(), Fail> {
     checks.holds(invalid == wanted);
     checks.same(iter.offset(), 0);
     checks.holds(iter.next().is_none());
-    let error = converted::<InvalidFrame, Error>(&invalid);
+    let error = invalid.to_error();
     checks.same(error.code, Code::PROTOCOL_VIOLATION);
     checks.displays(
         rt.alloc(),
@@ -46,7 +39,7 @@ fn other_reasons_are_bad_encodings(rt: HostRuntime) -> Result<(), Fail> {
         let Some(Err(invalid)) = Iter::strict(payload)?.next() else {
             return Err("an error".into());
         };
-        let error = converted::<InvalidFrame, Error>(&invalid);
+        let error = invalid.to_error();
         checks.same(error.code, Code::FRAME_ENCODING_ERROR);
     }
     checks.verdict()

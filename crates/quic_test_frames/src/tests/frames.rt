@@ -264,6 +264,7 @@ fn check_names(checks: &mut Checks, alloc: Global) -> Result<(), Fail> {
     for number in 0..=0xff {
         if let Some((ty, name)) = named(number) {
             checks.holds_at(name, type_of(&[number]) == Some(ty));
+            checks.holds_at(name, FrameType::of(u64::from(number)) == ty);
             check_texts(checks, alloc, ty, name, name)?;
         }
     }

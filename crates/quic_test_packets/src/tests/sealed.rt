@@ -3,6 +3,7 @@ use crate::worked::{ALL_ZERO, all_toy, handshake, short, toy};
 use bytes::{Bytes, BytesMut};
 use quic_base::ids::{ConnectionId, Dir, Side, StreamId};
 use quic_base::varint::VarInt;
+use quic_bench::parsers::WithoutMemory;
 use quic_frames::frame::{Ack, Frame, Stream};
 use quic_packets::packet::{
     Expected, FixedLengthConnectionIdParser, Header, InitialHeader, OpenError, Opened,
@@ -20,6 +21,34 @@ fn seal_handshake(out: &mut Vec<u8>, version: u32) -> Result<usize, SealError> {
     let header = handshake(version);
     let frames = [Frame::Ping, Frame::Padding, Frame::Padding];
     seal_packet(&header, 0, &frames, &toy(), out)
+}
+
+// Opens a datagram whose first packet has its id, and where there is no memory for the id of the second.
+fn first_stands(opened: &mut Vec<Opened>, datagram: BytesMut) -> bool {
+    let done = open_datagram(
+        datagram,
+        &WithoutMemory,
+        &[1],
+        false,
+        &all_toy(),
+        &ALL_ZERO,
+        opened,
+    );
+    let [first] = opened.as_slice() else {
+        return false;
+    };
+    done == Err(OpenError::OutOfMemory)
+        && first.number == Some(0)
+        && first.payload.as_slice() == b"\x01\0\0".as_slice()
+}
+
+// A packet that was opened stands where memory runs out at the next one.
+#[test]
+fn opened_packet_stands(rt: HostRuntime) -> Result<(), Fail> {
+    let datagram = BytesMut::copy_from_slice(rt.alloc(), &WHOLE)?;
+    let mut checks = Checks::new(rt.alloc());
+    checks.holds(first_stands(&mut Vec::new(rt.alloc()), datagram));
+    checks.verdict()
 }
 
 // Opens a datagram whose short heads have ids of one byte.

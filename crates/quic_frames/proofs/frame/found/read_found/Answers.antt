@@ -3,7 +3,7 @@ use Rattle.std.proofs.lemmas.List.{length-append}
 use Rattle.quic_base.specs.Number.{AreBytes}
 use Rattle.quic_frame_parts.proofs.Varints.{varint_takes}
 use Rattle.quic_frames.specs.Meaning.{meaning_of}
-use Rattle.quic_frames.proofs.Finding.{found_whole, found_none, found_cut, found_long, found_padding}
+use Rattle.quic_frames.proofs.Finding.{behind_type, found_whole, found_none, found_cut, found_long, found_padding}
 use Rattle.std.proofs.lemmas.Grind.{common_steps}
 use Rattle.quic_frames.proofs.frame.found.read_found.Goals as goal
 
@@ -21,22 +21,23 @@ returns-in_default-short_varint-clause-gives c =
 pub returns-in-Ok-read_frame-clause-gives : goal.returns-in-Ok-read_frame-clause-gives
 returns-in-Ok-read_frame-clause-gives c =
     let given = c.in-Ok-read_frame.ensures in (
-      found_whole c.args.strict c.args.before c.type_of-ty.result c.args.bytes.now c.in-Ok.rest.now (meaning_of c.in-Ok-read_frame.frame) c.in-Ok-read_frame.rest.now (search rules) (sym c.is_long.ensures ∙ c.if-is_long.false) (rw (← c.into_inner.ensures) given.0),
+      found_whole c.args.strict c.args.before c.of-ty.result c.args.bytes.now c.in-Ok.rest.now (meaning_of c.in-Ok-read_frame.frame) c.in-Ok-read_frame.rest.now (search rules) (sym c.is_long.ensures ∙ c.if-is_long.false) (rw (← c.into_inner.ensures) given.0),
       given.1,
+      behind_type c.of-ty.result c.in-Ok-read_frame.frame c.args.bytes.now c.in-Ok.rest.now c.in-Ok-read_frame.rest.now (search rules) given.2,
     )
 
 pub returns-in-Err-clause-gives : goal.returns-in-Err-clause-gives
 returns-in-Err-clause-gives c =
-    rw c.reason-in-Err.ensures (found_none c.args.strict c.args.before c.type_of-ty.result c.args.bytes.now c.in-Ok.rest.now c.in-Err.fault (search rules) (sym c.is_long.ensures ∙ c.if-is_long.false) (rw (← c.into_inner.ensures) c.in-Err.ensures.0))
+    rw c.reason-in-Err.ensures (found_none c.args.strict c.args.before c.of-ty.result c.args.bytes.now c.in-Ok.rest.now c.in-Err.fault (search rules) (sym c.is_long.ensures ∙ c.if-is_long.false) (rw (← c.into_inner.ensures) c.in-Err.ensures.0))
 
 pub returns-then-is_long-clause-gives : goal.returns-then-is_long-clause-gives
 returns-then-is_long-clause-gives c =
-    rw c.reason-then-is_long.ensures (found_long c.args.strict c.args.before c.type_of-ty.result c.args.bytes.now c.in-Ok.rest.now (search rules) (sym c.is_long.ensures ∙ c.if-is_long.true))
+    rw c.reason-then-is_long.ensures (found_long c.args.strict c.args.before c.of-ty.result c.args.bytes.now c.in-Ok.rest.now (search rules) (sym c.is_long.ensures ∙ c.if-is_long.true))
 
 pub returns-then-first-eq0-clause-gives : goal.returns-then-first-eq0-clause-gives
 returns-then-first-eq0-clause-gives c =
     let front : c.args.bytes.now ≡ 0 ∷ c.in-Some.rest.now = search rules in
-    (found_padding c.args.strict c.args.before c.args.bytes.now c.in-Some.rest.now front, tt)
+    (found_padding c.args.strict c.args.before c.args.bytes.now c.in-Some.rest.now front, tt, tt)
 
 pub returns-in-Err-clause-bytes : goal.returns-in-Err-clause-bytes
 returns-in-Err-clause-bytes c = grind (arith, common_steps)

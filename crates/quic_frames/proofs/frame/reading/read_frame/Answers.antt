@@ -12,7 +12,7 @@ returns-in-8-to-15 c =
     let low : 8 ≤ c.args.ty = omega arith in
     let high : c.args.ty < 16 = omega arith in
     let e = sym (ap (λ r. in_row r c.args.bytes.now) (row_of_stream c.args.ty low high)) in
-    subst (λ read. GivesFrame (λ rest. rest.now) c.read_stream.result read) e c.read_stream.ensures
+    subst (λ read. GivesFrame (λ rest. rest.now) c.args.bytes.now c.read_stream.result read) e c.read_stream.ensures
 
 pub returns-in-2 : goal.returns-in-2
 unfolding frame_at row_at

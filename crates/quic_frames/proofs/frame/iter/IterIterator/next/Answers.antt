@@ -21,7 +21,7 @@ overflow_sub-self c =
 pub returns-in-Ok-clause-steps : goal.returns-in-Ok-clause-steps
 returns-in-Ok-clause-steps c =
     let self = c.self.inside in
-    finds_here self.strict self.payload.now self.offset self.last self.is_broken _ c.in-Ok.first.ty c.in-Ok.first.frame c.in-Ok.first.rest.now c.in-Ok.ensures.gives.1 c.self.view_is c.if-self.false c.self.invariant
+    finds_here self.strict self.payload.now self.offset self.last self.is_broken _ c.in-Ok.first.ty c.in-Ok.first.frame c.in-Ok.first.rest.now c.in-Ok.ensures.gives.1 c.in-Ok.ensures.gives.2 c.self.view_is c.if-self.false c.self.invariant
     (sym c.is_empty.ensures ∙ c.if-is_empty.false) c.in-Ok.ensures.bytes c.in-Ok.ensures.gives.0
 
 pub returns-in-Ok-clause-goes : goal.returns-in-Ok-clause-goes

@@ -1,0 +1,69 @@
+-- A datagram that is one packet.
+use Rattle.std.specs.Prelude.{◌≡◌, ◌≢◌, ℕ, ◌<◌, List, [], ◌∷◌, ◌++◌, length}
+use Rattle.std.proofs.Common.{sym, ap, subst, ◌∙◌, arith, refl, true}
+use Rattle.std.specs.Prelude.{nat_eq}
+use Rattle.std.specs.Cmp.Lexicographic.{pointwise}
+use Rattle.std.proofs.lemmas.Bool.Decides.{nat_tests}
+use Rattle.quic_canon.specs.Bytes.{canon_bytes, GivesLeast}
+use Rattle.quic_canon.specs.Least.{IsLeast}
+use Rattle.quic_canon.specs.declared.canonical.CanonBytes.{CanonBytes}
+use Rattle.quic_canon.specs.declared.canonical.CanonBytes.TheVariants.{Same, Rewritten}
+use Rattle.quic_base.specs.declared.ids.SpaceId.{SpaceId}
+use Rattle.quic_frames.specs.Written.{IsPayload}
+use Rattle.quic_frames.specs.declared.frame.Frame.{Frame}
+use Rattle.quic_headers.specs.declared.header.Header.{Header}
+use Rattle.quic_packets.specs.declared.opening.Opened.{Opened}
+use Rattle.quic_packets.specs.Pairs.{KeyPair}
+use Rattle.quic_packets.specs.Rows.{AreBack}
+use Rattle.quic_packets.specs.Sealing.{IsAppended, Sealed, SealedFrames}
+use Rattle.quic_bench.specs.Outgoing.{Carries}
+use Rattle.quic_bench.specs.declared.two_packets.Outgoing.{Outgoing}
+
+one_opened : (keys : SpaceId → KeyPair) (packet : Outgoing) (payload : List ℕ) (old new added : List Opened) → IsPayload packet.frames.now payload
+    → AreBack keys added ((packet.header.now, packet.number, payload) ∷ []) → new ≡ old ++ added
+    → (opened : Opened) × (new ≡ old ++ (opened ∷ [])) × Carries opened packet
+one_opened keys packet payload old new [] is are appended = absurd are
+one_opened keys packet payload old new (opened ∷ []) is are appended =
+    (opened, appended, record { header = are.0.header; number = are.0.number; payload = subst (IsPayload packet.frames.now) (sym are.0.payload) is })
+one_opened keys packet payload old new (opened ∷ other ∷ others) is are appended = absurd are.1
+
+-- what is given of it is that packet
+pub opened_one : (keys : SpaceId → KeyPair) (packet : Outgoing) (payload : List ℕ) (old new : List Opened) → IsPayload packet.frames.now payload
+    → IsAppended (λ added. AreBack keys added ((packet.header.now, packet.number, payload) ∷ [])) old new
+    → (opened : Opened) × (new ≡ old ++ (opened ∷ [])) × Carries opened packet
+opened_one keys packet payload old new is appended = one_opened keys packet payload old new appended.0 is appended.1 appended.2
+
+-- a packet that was sealed twice
+pub sealed_same : (keys : KeyPair) (h : Header) (n : ℕ) (frames : List Frame) (one other : List ℕ)
+    → ((payload : List ℕ) (a b : List ℕ) → Sealed keys h n payload a → Sealed keys h n payload b → a ≡ b)
+    → ((a b : List ℕ) → IsPayload frames a → IsPayload frames b → a ≡ b)
+    → (before before' : List ℕ) → before ≡ before' → IsAppended (SealedFrames keys h n frames) before one → IsAppended (SealedFrames keys h n frames) before' other → one ≡ other
+sealed_same keys h n frames one other packets payloads before before' start a b =
+    let first = a.1 in
+    let second = b.1 in
+    let payload : first.payload ≡ second.payload = payloads first.payload second.payload first.is_payload second.is_payload in
+    let P : List ℕ → Type 0 = λ x. Sealed keys h n x a.0 in
+    let packet : a.0 ≡ b.0 = packets second.payload a.0 b.0 (subst P payload first.sealed) second.sealed in
+    a.2 ∙ ap (λ x. x ++ a.0) start ∙ ap (λ x. before' ++ x) packet ∙ sym b.2
+
+-- where there are some, there are not none
+pub are_some : (frames : List Frame) → 0 < length frames → frames ≢ []
+are_some frames some none = let l : length frames ≡ 0 = ap length none in omega arith
+
+same_number : (n : ℕ) → nat_eq n n ≡ true
+same_number n = grind (arith, nat_tests)
+
+bytes_same : (bytes : List ℕ) → pointwise nat_eq bytes bytes ≡ true
+bytes_same [] = refl
+bytes_same (b ∷ bytes) = rw (same_number b, bytes_same bytes) refl
+
+-- equal bytes are told to be so
+pub told_same : (some others x y : List ℕ) → x ≡ some → y ≡ others → some ≡ others → pointwise nat_eq x y ≡ true
+told_same some others x y is is' same =
+    ap (λ (z : List ℕ). pointwise nat_eq z y) (is ∙ same ∙ sym is') ∙ bytes_same y
+
+-- what is canonical is given as it is
+pub canonical_same : (payload : List ℕ) (bytes : CanonBytes) → GivesLeast payload bytes → IsLeast payload payload
+    → ((one other payload : List ℕ) → IsLeast one payload → IsLeast other payload → one ≡ other) → canon_bytes bytes ≡ payload
+canonical_same payload (Same b) gives least unique = gives.0
+canonical_same payload (Rewritten b) gives least unique = unique b.items payload payload gives.0 least

@@ -1,0 +1,4 @@
+mod Walks
+mod Sums
+mod Reread
+mod Again

@@ -1,0 +1,61 @@
+-- A payload of one ACK that was written, as it is read.
+use Rattle.std.proofs.Common.{◌≡◌, ◌≢◌, ℕ, zero, suc, ◌^◌, ◌<◌, false, List, [], ◌∷◌, ◌++◌, length, map, Option, None, Some, Result, Ok, Err, refl, sym, ap, subst, ◌∙◌, arith}
+use Rattle.std.specs.Prelude.{OnOk}
+use Rattle.std.proofs.lemmas.List.{append-nil, length-append}
+use Rattle.quic_frames.specs.declared.frame.Frame.{Frame}
+use Rattle.quic_frames.specs.declared.frame.Frame.TheVariants as frames
+use Rattle.quic_frame_parts.specs.declared.frame.close.Close.TheVariants as closes
+use Rattle.quic_frame_parts.specs.declared.frame.ack.Ack.{Ack}
+use Rattle.quic_frame_parts.specs.Table as names
+use Rattle.quic_errors.specs.declared.invalid_frame.InvalidFrame.{InvalidFrame}
+use Rattle.quic_frame_parts.specs.Payload.{Found, IsFrame, AreFrames}
+use Rattle.quic_frame_parts.specs.Reading.{Whole, Invalid}
+use Rattle.quic_frames.specs.Meaning.{meaning_of}
+use Rattle.quic_frames.specs.Way.{Way}
+use Rattle.quic_frames.specs.Walk.{left, unplaced, given, Advances}
+
+two_power : (t : ℕ) → t < 4 → 0 < 2 ^ t
+two_power zero lt = omega arith
+two_power (suc zero) lt = omega arith
+two_power (suc (suc zero)) lt = omega arith
+two_power (suc (suc (suc zero))) lt = omega arith
+two_power (suc (suc (suc (suc t)))) lt = absurd (omega (arith, lt))
+
+pub not_empty : (found : Found) (bytes : List ℕ) → IsFrame false found bytes → bytes ≢ []
+not_empty found bytes f none =
+    let s = f.type_spelled.spelled in
+    absurd (omega (arith, ap length (sym f.parts ∙ none), length-append f.type_bytes f.field_bytes, s.width, two_power s.tag s.tag_fits))
+
+-- What an encoder wrote into an empty buffer is its content.
+pub content_is : {T E : Type 0} (result : Result T E) (x : T) (old new content bytes : List ℕ) → content ≡ new → OnOk result (new ≡ old ++ bytes) → result ≡ Ok x → old ≡ [] → content ≡ bytes
+content_is (Ok y) x old new content bytes is wrote e empty = is ∙ wrote ∙ ap (λ (l : List ℕ). l ++ bytes) empty
+content_is (Err f) x old new content bytes is wrote e empty = absurd (err_is_not_ok e)
+  where
+    err_is_not_ok : {T E : Type 0} {f : E} {x : T} → Err f ≡ Ok x → ⊥
+    err_is_not_ok e = cc
+
+-- An iterator over a payload of one frame has that frame left.
+pub one_left : (found : Found) (bytes payload : List ℕ) (it : Way) → IsFrame false found bytes → payload ≡ bytes → ((fs : List Found) → AreFrames false fs payload → map unplaced (left it) ≡ map given fs)
+    → map unplaced (left it) ≡ map given (found ∷ [])
+one_left found bytes payload it f is gives =
+    let one : AreFrames false (found ∷ []) bytes = (bytes, [], sym (append-nil bytes), f, λ opens. refl, refl) in
+    gives (found ∷ []) (subst (AreFrames false (found ∷ [])) (sym is) one)
+
+-- The first item that it gives is that frame.
+pub gives_it : (found : Found) (it new : Way) (item : Option (Result Frame InvalidFrame)) → map unplaced (left it) ≡ map given (found ∷ []) → Advances it item new
+    → (frame : Frame) × (item ≡ Some (Ok frame)) × (meaning_of frame ≡ found.frame)
+gives_it found it new None one a = absurd (omega (arith, ap length (ap (map unplaced) (sym a.0) ∙ one)))
+gives_it found it new (Some (Err e)) one a = cc (ap (map unplaced) (sym a.0) ∙ one)
+gives_it found it new (Some (Ok frame)) one a =
+    let here : map unplaced (Whole it.offset new.offset a.found ∷ left new) ≡ map given (found ∷ []) = ap (map unplaced) (sym a.first) ∙ one in
+    (frame, refl, sym a.says ∙ ap (λ (f : Found). f.frame) (same here))
+  where
+    same : {f g : Found} {rs : List (Result Found Invalid)} → given f ∷ rs ≡ given g ∷ [] → f ≡ g
+    same e = cc
+
+-- a frame with the name of an ACK is one
+pub ack_only : (frame : Frame) → (meaning_of frame).name ≡ names.Ack → ((a : Ack) → frame ≡ frames.Ack a → ⊥) → ⊥
+ack_only (frames.Ack a) e other = other a refl
+ack_only (frames.Close (closes.Connection c)) e other = cc
+ack_only (frames.Close (closes.Application c)) e other = cc
+ack_only frame e other = cc

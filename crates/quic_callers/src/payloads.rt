@@ -1,0 +1,93 @@
+//! Payloads: what a capture reader and a connection do with their frames.
+ghost use Rattle.std.specs.Prelude.{◌≡◌, ◌≢◌, ◌<◌, ◌^◌, ◌++◌, List, ℕ, false, codes, length, IsTrue, IfErr, MatchBool, OnOk};
+ghost use Rattle.quic_base.specs.Number.{AreBytes};
+ghost use Rattle.quic_callers.specs.Told.{IsTold, MayGoOn};
+ghost use Rattle.quic_frame_parts.specs.Payload.{Found, AreFrames};
+ghost use Rattle.quic_frame_parts.specs.Shortest.{shortest_frame};
+ghost use Rattle.quic_frames.specs.Meaning.{meaning_of};
+ghost use Rattle.quic_frames.specs.declared.frame.Frame.TheVariants as frames;
+
+use quic_base::coding::NoRoom;
+use quic_frames::frame::{Frame, FrameType, Iter, Stream, StreamMeta};
+use quic_frames::laws::{lasting, stream_head_and_data};
+use quic_frames::transport_error::Error;
+
+/// How many bytes of stream data a payload has, up to its error, and the type of what is no frame.
+pub fn stream_data(payload: &[u8]) -> (usize, Option<FrameType>) {
+    let mut count: usize = 0;
+    let Ok(frames) = Iter::new(payload) else {
+        return (0, None);
+    };
+    for item in frames {
+        match item {
+            Ok(Frame::Stream(stream)) => count = count.saturating_add(stream.bytes.len()),
+            Ok(_) => {}
+            Err(error) => return (count, error.ty),
+        }
+    }
+    (count, None)
+}
+
+/// The same of a payload without an error; else the error by which the connection is closed, which is the one that
+/// the grammar tells.
+pub fn all_stream_data(payload: &[u8]) -> Result<usize, Error>
+    ensures ok { OnOk result ((found : List Found) × AreFrames false found payload.now) }
+    ensures err { IfErr result (λ e. IsTold payload.now e) }
+{
+    let mut count: usize = 0;
+    for item in Iter::new(payload)? {
+        match item {
+            Ok(Frame::Stream(stream)) => count = count.saturating_add(stream.bytes.len()),
+            Ok(_) => {}
+            Err(invalid) => return Err(invalid.to_error()),
+        }
+    }
+    Ok(count)
+}
+
+/// Whether no payload that begins with these bytes is without an error: just where they are told another reason
+/// than `unexpected end`.
+pub fn is_lost(front: &[u8]) -> bool
+    ensures lost { IsTrue result → (more : List ℕ) (found : List Found) → AreBytes (front.now ++ more)
+        → AreFrames false found (front.now ++ more) → ⊥ }
+    ensures going { result ≡ false → MayGoOn front.now }
+{
+    lasting();
+    let Ok(frames) = Iter::new(front) else {
+        return false;
+    };
+    for item in frames {
+        match item {
+            Ok(_) => {}
+            Err(invalid) => return is_final(invalid.reason),
+        }
+    }
+    false
+}
+
+// Whether what is told for this reason stands whatever follows.
+fn is_final(reason: &str) -> bool
+    ensures { MatchBool result (reason.now ≢ codes "unexpected end") (reason.now ≡ codes "unexpected end") }
+{
+    reason != "unexpected end"
+}
+
+/// Appends a STREAM as a sender of data does: its head, and then the data. That is its shortest spelling, as the last
+/// frame of its payload or as one that others follow. The caller must ensure that its offset is below 2^62, and the
+/// length of its data where that is written.
+pub fn write_stream(stream: &Stream<'_>, last: bool, out: &mut Vec<u8>) -> Result<(), NoRoom>
+    requires offset { stream.now.offset < 2 ^ 62 }
+    requires counted { last ≡ false → length stream.now.bytes.now < 2 ^ 62 }
+    ensures { OnOk result (out.new.items ≡ out.old.items ++ shortest_frame last (meaning_of (frames.Stream stream.now))) }
+{
+    stream_head_and_data();
+    let end = stream.offset + stream.bytes.len() as u64;
+    let meta = StreamMeta {
+        id: stream.id,
+        offsets: stream.offset..end,
+        fin: stream.fin,
+    };
+    meta.encode(!last, out)?;
+    out.extend_from_slice(stream.bytes)?;
+    Ok(())
+}

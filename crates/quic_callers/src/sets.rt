@@ -1,0 +1,16 @@
+//! Sets of packet numbers.
+ghost use Rattle.std.specs.Prelude.{◌≡◌, OnErr, OnOk};
+ghost use Rattle.quic_ranges.specs.Runs.{IsRunsOf, in_union};
+
+use quic_base::coding::NoRoom;
+use quic_ranges::range_set::RangeSet;
+use std::ops::Range;
+
+/// Puts a range into a set, and takes none of the parts that were there before. After `NoRoom` the set is as it was.
+pub fn unite(set: &mut RangeSet, range: Range<u64>) -> Result<(), NoRoom>
+    ensures ok { OnOk result (IsRunsOf (in_union set.old range) set.new) }
+    ensures err { OnErr result (set.new ≡ set.old) }
+{
+    let _ = set.replace(range)?;
+    Ok(())
+}

@@ -1,0 +1,18 @@
+use Rattle.std.proofs.Common.{◌≤◌, length, arith}
+use Rattle.std.proofs.lemmas.Grind.{common_steps}
+use Rattle.quic_frame_parts.specs.Reading.{row_at}
+use Rattle.quic_frames.proofs.Finding.{varint_shorter, reads}
+use Rattle.quic_frames.proofs.frame.reading.read_ack.Goals as goal
+
+pub returns : goal.returns
+unfolding row_at
+returns c =
+    let one = varint_shorter c.in_ok-blocks.rest.now c.in_ok-ect0.ect0 c.in_ok-ect0.rest.now c.in_ok-ect0.ensures.gives in
+    let two = varint_shorter c.in_ok-ect0.rest.now c.in_ok-ect1.ect1 c.in_ok-ect1.rest.now c.in_ok-ect1.ensures.gives in
+    let three = varint_shorter c.in_ok-ect1.rest.now c.in_ok-ce.ce c.in_ok-ce.rest.now c.in_ok-ce.ensures.gives in
+    let fewer : length c.in_ok-ce.rest.now ≤ length c.in_ok-blocks.rest.now = omega (arith, one, two, three) in (
+      grind (arith, common_steps),
+      tt,
+      reads _ c.in_ok-largest.largest c.in_ok-delay.delay c.args.bytes.now c.in_ok-largest.rest.now c.in_ok-delay.rest.now c.in_ok-blocks.blocks.now c.in_ok-blocks.rest.now c.in_ok-ce.rest.now _ c.of_blocks-ack-2.ensures
+          c.in_ok-largest.ensures.gives c.in_ok-delay.ensures.gives c.in_ok-blocks.ensures.gives fewer,
+    )

@@ -1,0 +1,88 @@
+-- Lemmas on where a reader stops.
+use Rattle.std.proofs.Common.{◌≡◌, ℕ, ◌<◌, ◌≤◌, Bool, true, false, List, [], ◌++◌, length, take, drop, get_or, refl, sym, ◌∙◌, ap, inl, arith, append_assoc, subst, inr}
+use Rattle.std.proofs.lemmas.List.{take-append-drop, length-take, drop-append-le, append_cancel_right}
+use Rattle.quic_base.specs.Codec.{Takes, Follows}
+use Rattle.quic_base.specs.Varint.{Spells}
+use Rattle.quic_params.specs.Never.{Never}
+use Rattle.quic_params.specs.declared.error.Error.{Error}
+use Rattle.quic_params.specs.declared.error.Error.TheVariants.{Malformed}
+use Rattle.quic_params.specs.declared.parameter.Row.{Row}
+use Rattle.quic_params.specs.declared.parameter.TransportParameterId.{TransportParameterId}
+use Rattle.quic_params.specs.declared.record.TransportParameters.{TransportParameters}
+use Rattle.quic_params.specs.Table.{row}
+use Rattle.quic_params.specs.Value.{IsNoValue}
+use Rattle.quic_params.specs.Entry.{Given, IsCut, IsEnd, IsKnown, Refuses, Stops, StopsAt, StopsIn, within_cut, within_entry}
+use Rattle.quic_params.specs.State.{Holds}
+use Rattle.quic_params.proofs.Entries.{at, entry_taken}
+use Rattle.quic_params.proofs.Progress.{HasRead}
+
+-- ---- ends
+
+pub end_taken : {K : List ℕ → Type 0} (old mid new : List ℕ) → Takes K old mid → IsEnd new mid → IsEnd new old
+end_taken old mid new t e = (t.front ++ e.0, t.split ∙ ap (λ l. t.front ++ l) e.1 ∙ sym (append_assoc t.front e.0 new))
+
+pub end_dropped : (count : ℕ) (whole new : List ℕ) → new ≡ drop count whole → IsEnd new whole
+end_dropped count whole new e = (take count whole, sym (take-append-drop count whole) ∙ ap (λ l. take count whole ++ l) (sym e))
+
+pub end_whole : (whole : List ℕ) → IsEnd whole whole
+end_whole whole = ([], refl)
+
+-- what is dropped of a front is dropped of the whole
+drop_within : (count len : ℕ) (mid : List ℕ) → count ≤ len → len ≤ length mid → drop count mid ≡ drop count (take len mid) ++ drop len mid
+drop_within count len mid le fits =
+    ap (drop count) (sym (take-append-drop len mid)) ∙ drop-append-le count (take len mid) (drop len mid) (omega (arith, length-take len mid))
+
+-- ---- stops
+
+-- at an entry that is cut off
+pub cut_left : (before : List Given) (old new : List ℕ) (error : Error) → IsCut old → error ≡ Malformed → IsEnd new old → StopsAt before old error new
+cut_left before old new error cut is end = within_cut cut is end
+
+-- at an entry that is refused, whose head was read, and so many bytes of its value
+entry_left : (before : List Given) (old mid new : List ℕ) (n len count : ℕ) (error : Error) → Takes (Follows (Spells n) (Spells len)) old mid → len ≤ length mid
+    → Refuses before (at n (take len mid)) error → count ≤ len → new ≡ drop count mid → StopsAt before old error new
+entry_left before old mid new n len count error t le r within e =
+    let w = entry_taken old mid n len t le in
+    let parts : (t.front ++ take len mid) ++ drop len mid ≡ w.front ++ drop len mid =
+    append_assoc t.front (take len mid) (drop len mid) ∙ ap (λ l. t.front ++ l) (take-append-drop len mid) ∙ sym t.split ∙ w.split in
+    let whole : t.front ++ take len mid ≡ w.front = append_cancel_right (t.front ++ take len mid) w.front (drop len mid) parts in
+    let value : IsEnd (drop count (take len mid)) (take len mid) = end_dropped count (take len mid) (drop count (take len mid)) refl in
+    within_entry (record { entry = at n (take len mid); front = w.front; rest = drop len mid; whole = w.split; spelled = w.is; refused = r })
+    (drop count (take len mid))
+    (t.front ++ value.0, sym whole ∙ ap (λ l. t.front ++ l) value.1 ∙ sym (append_assoc t.front value.0 (drop count (take len mid))))
+    (e ∙ drop_within count len mid within le)
+
+-- at a repeat, whose row is known by an equation
+pub repeat_left : (p : TransportParameters) (seen : List Bool) (before : List Given) (old mid : List ℕ) (n len : ℕ) (i : TransportParameterId) (w : Row) → w ≡ row i
+    → Takes (Follows (Spells n) (Spells len)) old mid → len ≤ length mid → IsKnown i n → w.once ≡ true → get_or seen w.index false ≡ true → Holds p seen before
+    → StopsAt before old Malformed mid
+repeat_left p seen before old mid n len i w e t le k once seen_it h =
+    let again : (row i).once ≡ true = sym (ap (λ r. r.once) e) ∙ once in
+    let marked : get_or seen (row i).index false ≡ true = sym (ap (λ r. get_or seen r.index false) e) ∙ seen_it in
+    entry_left before old mid mid n len 0 Malformed t le (record { id = i; known = k; cause = inl ((again, h.given_there i marked), refl) }) (omega arith) refl
+
+-- at a value that is none
+pub value_left : (p : TransportParameters) (seen : List Bool) (before : List Given) (old mid new : List ℕ) (n len count : ℕ) (i : TransportParameterId) (error : Error) (w : Row) → w ≡ row i
+    → Takes (Follows (Spells n) (Spells len)) old mid → len ≤ length mid → IsKnown i n → Never ((w.once ≡ true) × (get_or seen w.index false ≡ true))
+    → IsNoValue w.kind (take len mid) error → Holds p seen before → count ≤ len → new ≡ drop count mid → StopsAt before old error new
+value_left p seen before old mid new n len count i error w e t le k once bad h within rest =
+    let once_there : Never (((row i).once ≡ true) × (get_or seen (row i).index false ≡ true)) = subst (λ (r : Row). Never ((r.once ≡ true) × (get_or seen r.index false ≡ true))) e once in
+    let none : IsNoValue (row i).kind (take len mid) error = subst (λ (r : Row). IsNoValue r.kind (take len mid) error) e bad in
+    entry_left before old mid new n len count error t le (record { id = i; known = k; cause = inr ((λ r. once_there (r.0, h.marked i r.1)), none) }) within rest
+
+-- at a list
+pub stops_in : (whole old left : List ℕ) (p : TransportParameters) (seen : List Bool) (e : Error) → HasRead whole old p seen → 0 < length old
+    → ((before : List Given) → Holds p seen before → Stops before old e) → ((before : List Given) → Holds p seen before → StopsAt before old e left) → StopsIn whole e left
+stops_in whole old left p seen e h lt stop at = record {
+  bad = record {
+    es = h.es;
+    given = h.given;
+    front = h.front;
+    rest = old;
+    whole = h.parts;
+    list = h.list;
+    some = λ n. let z : length old ≡ 0 = ap length n in omega arith;
+    stops = stop h.given h.holds;
+  };
+  stops_at = at h.given h.holds;
+}

@@ -4,9 +4,9 @@
  * of their heads (RFC 9001, section 5.4), and the frames of a payload
  * (RFC 9000, section 19), with DATAGRAM of RFC 9221 and the ACK frequency
  * extension; and the transport parameters (RFC 9000, section 18), whose two
- * functions stand in a library of their own, libquic_c_params.a.  Those that
- * write heads, quic_wire_head_write and quic_wire_number_len, stand in
- * libquic_c_seal.a, quic_wire_canonical in libquic_c_canon.a, and sets of
+ * functions stand in a library of their own, libquic_c_params.a.  Those of
+ * heads, packet numbers and numbers of variable length stand in
+ * libquic_c_heads.a, quic_wire_canonical in libquic_c_canon.a, and sets of
  * packet numbers, with ACKs that are written of them, in libquic_c_sets.a.
  *
  * No call takes memory or keeps anything: what is kept between calls is a
@@ -26,6 +26,7 @@
 
 #include <stddef.h>
 #include <stdint.h>
+#include <string.h>
 
 #ifdef __cplusplus
 extern "C" {
@@ -191,8 +192,18 @@ typedef struct quic_wire_canon {
 #define QUIC_WIRE_RETRY 3
 #define QUIC_WIRE_1RTT 4
 #define QUIC_WIRE_VERSION_NEGOTIATION 5
+#define QUIC_WIRE_UNKNOWN_VERSION 6 /* a long head of a version that is none
+                                       of those given */
 
-/* Why no packet was cut. */
+/* Bits of a first byte. */
+#define QUIC_WIRE_LONG_FORM 0x80 /* set in all heads but those of 1-RTT */
+#define QUIC_WIRE_FIXED_BIT 0x40 /* set, but where it is greased (RFC 9287) */
+#define QUIC_WIRE_SPIN_BIT 0x20  /* of 1-RTT */
+#define QUIC_WIRE_KEY_PHASE 0x04 /* of 1-RTT, under protection */
+#define QUIC_WIRE_RESERVED_1RTT 0x18 /* must be 0, under protection */
+#define QUIC_WIRE_RESERVED_LONG 0x0c /* of Initial, 0-RTT and Handshake */
+
+/* Why a head, or its packet, isn't whole. */
 #define QUIC_WIRE_PACKET_UNSUPPORTED_VERSION 1
 #define QUIC_WIRE_PACKET_UNEXPECTED_END 2
 #define QUIC_WIRE_PACKET_FIXED_BIT_UNSET 3
@@ -201,52 +212,33 @@ typedef struct quic_wire_canon {
 #define QUIC_WIRE_PACKET_TOKEN_OUT_OF_BOUNDS 6
 #define QUIC_WIRE_PACKET_LENGTH_BEYOND_END 7
 
-/* A packet, with the protection of its head still on; or why none was cut.
- * Every place is one in the datagram, in bytes from its front. */
-typedef struct quic_wire_packet {
-  uint32_t kind;    /* QUIC_WIRE_INITIAL and so on; UINT32_MAX: no packet */
-  uint32_t flags;   /* of 1-RTT the spin bit; of a version negotiation the
-                       first byte without its highest bit */
-  uint32_t version; /* the version of QUIC, also one that isn't supported */
-  uint32_t reason;  /* of a packet 0, else QUIC_WIRE_PACKET_UNEXPECTED_END
-                       and so on */
-  size_t begin;     /* where the packet begins in the datagram */
-  size_t end;       /* where it ends */
-  size_t head_end;  /* where its head ends; where the number begins, if the
-                       packet has one */
-  size_t dcid, dcidlen;   /* the receiver's id, at most 20 bytes */
-  size_t scid, scidlen;   /* the sender's id, at most 20 bytes */
-  size_t token, tokenlen; /* the token of an Initial packet */
+/* The head of a packet, with its protection still on.  Every place is one in
+ * the packet, in bytes from its front; what the kind lacks is 0. */
+typedef struct quic_wire_head {
+  uint8_t kind;    /* QUIC_WIRE_INITIAL and so on */
+  uint8_t first;   /* the first byte as it stands */
+  uint8_t dcidlen; /* the receiver's id: quic_wire_dcid */
+  uint8_t scidlen; /* the sender's id: quic_wire_scid */
+  uint32_t version;
+  uint32_t head_end; /* where the number begins, if the packet has one */
+  uint32_t end;      /* where the packet ends, or its bytes if it is cut off */
+  uint32_t token, tokenlen; /* the token of an Initial packet */
   uint64_t len; /* how many bytes an Initial, Handshake or 0-RTT packet has
-                   from |head_end| on */
-} quic_wire_packet;
-
-/* A packet number, once the protection is taken off its head. */
-typedef struct quic_wire_opened {
-  uint64_t number;  /* the whole number */
-  size_t numberlen; /* how many bytes it has in the packet, 1 to 4 */
-  size_t payload;   /* where the payload begins in the datagram */
-} quic_wire_opened;
-
-/* Flags of a 1-RTT head that is written. */
-#define QUIC_WIRE_FLAG_SPIN 1      /* the bit for measuring round trips */
-#define QUIC_WIRE_FLAG_KEY_PHASE 2 /* the bit that changes with the keys */
+                   from |head_end| on, as its head says */
+} quic_wire_head;
 
 /* What a head says that is written, beside its ids and its token.  What its
  * kind lacks is 0. */
-typedef struct quic_wire_head {
-  uint32_t kind;      /* QUIC_WIRE_INITIAL and so on */
-  uint32_t flags;     /* of 1-RTT QUIC_WIRE_FLAG_SPIN, QUIC_WIRE_FLAG_KEY_PHASE;
-                         of a version negotiation the first byte without its
-                         highest bit */
-  uint32_t version;   /* but of 1-RTT and version negotiation */
-  uint32_t numberlen; /* how many bytes of the number are written, 1 to 4; but
-                         of Retry and version negotiation */
-  uint64_t number;    /* the whole packet number, below 2^62 */
-  uint64_t bodylen;   /* how many bytes follow the number in the packet: the
-                         payload and the tag; looked at of Initial, 0-RTT and
-                         Handshake, whose heads say the packet's length */
-} quic_wire_head;
+typedef struct quic_wire_said {
+  uint8_t kind;      /* QUIC_WIRE_INITIAL and so on */
+  uint8_t flags;     /* QUIC_WIRE_FIXED_BIT: it is clear; of 1-RTT
+                        QUIC_WIRE_SPIN_BIT and QUIC_WIRE_KEY_PHASE; of a
+                        version negotiation all bits but the highest */
+  uint8_t numberlen; /* how many bytes of the number are written, 1 to 4 */
+  uint8_t lengthlen; /* how many bytes the packet's length has, 2 or 4 */
+  uint32_t version;
+  uint64_t number; /* the packet number */
+} quic_wire_said;
 
 /* ---- Transport parameters (RFC 9000, section 18) */
 
@@ -322,14 +314,10 @@ _Static_assert(sizeof(quic_wire_ack_ranges) == 24, "64-bit words");
 _Static_assert(sizeof(quic_wire_canon) == 24, "64-bit words");
 _Static_assert(offsetof(quic_wire_canon, last_type) == 8, "64-bit words");
 _Static_assert(offsetof(quic_wire_canon, reason) == 16, "64-bit words");
-_Static_assert(sizeof(quic_wire_packet) == 96, "64-bit words");
-_Static_assert(sizeof(quic_wire_opened) == 24, "64-bit words");
 _Static_assert(sizeof(quic_wire_head) == 32, "no room between the fields");
-_Static_assert(offsetof(quic_wire_head, flags) == 4, "no room");
-_Static_assert(offsetof(quic_wire_head, version) == 8, "no room");
-_Static_assert(offsetof(quic_wire_head, numberlen) == 12, "no room");
-_Static_assert(offsetof(quic_wire_head, number) == 16, "no room");
-_Static_assert(offsetof(quic_wire_head, bodylen) == 24, "no room");
+_Static_assert(offsetof(quic_wire_head, version) == 4, "no room");
+_Static_assert(offsetof(quic_wire_head, len) == 24, "no room");
+_Static_assert(sizeof(quic_wire_said) == 16, "no room between the fields");
 _Static_assert(sizeof(quic_wire_params) == 264, "no room between the fields");
 _Static_assert(offsetof(quic_wire_params, max_idle_timeout) == 8, "no room");
 _Static_assert(offsetof(quic_wire_params, original_dst_cidlen) == 112, "no room");
@@ -362,20 +350,21 @@ int32_t quic_wire_frame_write_(const quic_wire_frame *, const uint8_t *,
                                size_t, uint32_t, uint8_t *, size_t, size_t *);
 int32_t quic_wire_canonical_(const uint8_t *, size_t, uint8_t *, size_t,
                              quic_wire_canon *);
-int32_t quic_wire_packet_next_(const uint8_t *, size_t, size_t *, uint32_t,
-                               const uint32_t *, size_t, uint32_t,
-                               quic_wire_packet *);
-int32_t quic_wire_sample_place_(const uint8_t *, size_t,
-                                const quic_wire_packet *, size_t, size_t *);
-int32_t quic_wire_unprotect_(uint8_t *, size_t, const quic_wire_packet *,
-                             const uint8_t *, size_t, uint64_t,
-                             quic_wire_opened *);
-int32_t quic_wire_protect_(uint8_t *, size_t, const quic_wire_packet *,
-                           const uint8_t *, size_t);
-int32_t quic_wire_head_write_(const quic_wire_head *, const uint8_t *, size_t,
+int32_t quic_wire_head_read_(const uint8_t *, size_t, uint32_t,
+                             const uint32_t *, size_t, quic_wire_head *);
+int32_t quic_wire_unprotect_(uint8_t *, size_t, size_t, const uint8_t *,
+                             uint64_t, uint64_t *);
+int32_t quic_wire_protect_(uint8_t *, size_t, size_t, const uint8_t *);
+int32_t quic_wire_short_write_(uint32_t, uint64_t, const uint8_t *, size_t,
+                               uint8_t *, size_t);
+int64_t quic_wire_head_write_(const quic_wire_said *, const uint8_t *, size_t,
                               const uint8_t *, size_t, const uint8_t *, size_t,
-                              uint8_t *, size_t, size_t *, size_t *);
+                              uint8_t *, size_t);
+int32_t quic_wire_set_len_(uint8_t *, size_t, size_t, uint32_t);
 int32_t quic_wire_number_len_(uint64_t, uint64_t);
+uint64_t quic_wire_number_expand_(uint64_t, uint32_t, uint64_t);
+size_t quic_wire_varint_read_(const uint8_t *, size_t, uint64_t *);
+size_t quic_wire_varint_write_(uint64_t, uint32_t, uint8_t *, size_t);
 int32_t quic_wire_params_read_(uint32_t, const uint8_t *, size_t,
                                quic_wire_params *);
 int32_t quic_wire_params_write_(uint32_t, const quic_wire_params *, uint8_t *,
@@ -635,165 +624,192 @@ static inline int quic_wire_canonical(const uint8_t *payload, size_t payloadlen,
 }
 
 /*
- * Cuts the packet that begins at |*offset| of a datagram: one call for each
- * packet, with |*offset| 0 before the first.  Ids of short heads have |cidlen|
- * bytes, at most 20.  Long heads of other versions than the |nversions|
- * |versions| are read up to their ids.  Where |grease| is not 0 the fixed bit
- * may be clear (RFC 9287).
+ * Reads the head of the packet that |bytes| begin with, be it whole or cut off
+ * behind its head.  Ids of short heads have |cidlen| bytes; |versions| are
+ * those that are read further than their ids.  The fixed bit isn't looked at:
+ * who doesn't take packets of RFC 9287 asks for it in |head->first|.
  *
- * Returns QUIC_WIRE_ITEM and the packet, and |*offset| is then its end; 0
- * where nothing is left behind a packet; QUIC_WIRE_ERR_MALFORMED with the
- * reason where no packet begins there, as in an empty datagram;
- * QUIC_WIRE_ERR_INVALID_ARGUMENT where |*offset| lies outside the datagram or
- * |cidlen| is above 20.
+ * Returns 0 and the head, whose packet ends at |head->end|, where the next one
+ * of the datagram begins; QUIC_WIRE_PACKET_LENGTH_BEYOND_END and the head, of a
+ * packet that is cut off; QUIC_WIRE_PACKET_UNSUPPORTED_VERSION and of the head
+ * its kind, its version and its ids, which may have up to 255 bytes; another
+ * reason where there is no head; QUIC_WIRE_ERR_INVALID_ARGUMENT where |cidlen|
+ * is above 20 or there are 2^32 bytes or more.  |head| changes but with the
+ * last two.
  */
-static inline int quic_wire_packet_next(const uint8_t *datagram,
-                                        size_t datagramlen, size_t *offset,
-                                        uint32_t cidlen,
-                                        const uint32_t *versions,
-                                        size_t nversions, int grease,
-                                        quic_wire_packet *packet) {
-  if (!offset || !packet || (!datagram && datagramlen) ||
-      (!versions && nversions))
+static inline int quic_wire_head_read(const uint8_t *bytes, size_t len,
+                                      uint32_t cidlen, const uint32_t *versions,
+                                      size_t nversions, quic_wire_head *head) {
+  static const uint32_t none = 0;
+  if (!bytes || !head || (!versions && nversions))
     return QUIC_WIRE_ERR_INVALID_ARGUMENT;
-  if (!datagram)
-    datagram = (const uint8_t *)quic_wire_nothing();
-  if (!versions)
-    versions = (const uint32_t *)quic_wire_nothing();
-  return quic_wire_packet_next_(datagram, datagramlen, offset, cidlen, versions,
-                                nversions, grease != 0, packet);
+  return quic_wire_head_read_(bytes, len, cidlen, versions ? versions : &none,
+                              nversions, head);
+}
+
+/* Where the ids stand in a packet of this head. */
+static inline const uint8_t *quic_wire_dcid(const uint8_t *packet,
+                                            const quic_wire_head *head) {
+  return packet + (head->first & QUIC_WIRE_LONG_FORM ? 6 : 1);
+}
+static inline const uint8_t *quic_wire_scid(const uint8_t *packet,
+                                            const quic_wire_head *head) {
+  return packet + 7 + head->dcidlen; /* of a long head */
 }
 
 /*
- * Where the sample of |samplelen| bytes begins in the datagram from which the
- * caller makes the mask of a packet's head (RFC 9001, section 5.4.2).  Returns
- * 0 and the place; QUIC_WIRE_ERR_MALFORMED where the packet is too short;
- * QUIC_WIRE_ERR_INVALID_ARGUMENT where the words name no packet of the datagram
- * that has a number.
+ * The sample of |samplelen| bytes from which the caller makes the mask of the
+ * head (RFC 9001, section 5.4.2), in a packet whose number begins at |number|,
+ * or NULL where the packet is too short.
  */
-static inline int quic_wire_sample_place(const uint8_t *datagram,
-                                         size_t datagramlen,
-                                         const quic_wire_packet *packet,
-                                         size_t samplelen, size_t *place) {
-  if (!datagram || !packet || !place)
-    return QUIC_WIRE_ERR_INVALID_ARGUMENT;
-  return quic_wire_sample_place_(datagram, datagramlen, packet, samplelen,
-                                 place);
+static inline const uint8_t *quic_wire_sample(const uint8_t *packet,
+                                              size_t packetlen, size_t number,
+                                              size_t samplelen) {
+  if (!packet || packetlen < number || packetlen - number < 4 ||
+      packetlen - number - 4 < samplelen)
+    return NULL;
+  return packet + number + 4;
 }
 
 /*
- * Takes the protection off the head of a packet by a mask of five bytes or
- * more (RFC 9001, section 5.4.1), and says its number by the one that is
- * |expected| next (RFC 9000, appendix A.3).  Returns 0;
- * QUIC_WIRE_ERR_MALFORMED where the packet ends within four bytes from where
- * the number begins; QUIC_WIRE_ERR_INVALID_ARGUMENT where the words name no
- * packet of the datagram that has a number, the mask is shorter, or |expected|
- * is 2^62 or more.  The datagram changes only with 0: the low bits of the
- * packet's first byte, and the number's bytes.
+ * Takes the protection off the head of a packet whose number begins at
+ * |place|, by a mask of five bytes (RFC 9001, section 5.4.1), and says its
+ * number by the one that is |expected| next (RFC 9000, appendix A.3); with 0 it
+ * is what is written.  Returns how many bytes the number has, 1 to 4: the
+ * payload begins behind them, and packet[0] has the key phase and the reserved
+ * bits.  QUIC_WIRE_ERR_MALFORMED where fewer than four bytes are there from
+ * |place| on; QUIC_WIRE_ERR_INVALID_ARGUMENT where |expected| is 2^62 or more.
+ * Nothing changes then.
  */
-static inline int quic_wire_unprotect(uint8_t *datagram, size_t datagramlen,
-                                      const quic_wire_packet *packet,
-                                      const uint8_t *mask, size_t masklen,
-                                      uint64_t expected,
-                                      quic_wire_opened *opened) {
-  if (!datagram || !packet || !mask || !opened)
+static inline int quic_wire_unprotect(uint8_t *packet, size_t packetlen,
+                                      size_t place, const uint8_t *mask,
+                                      uint64_t expected, uint64_t *number) {
+  if (!packet || !mask || !number)
     return QUIC_WIRE_ERR_INVALID_ARGUMENT;
-  return quic_wire_unprotect_(datagram, datagramlen, packet, mask, masklen,
-                              expected, opened);
+  return quic_wire_unprotect_(packet, packetlen, place, mask, expected, number);
 }
 
 /*
- * How many bytes of a packet |number| are written whose receiver has
- * acknowledged |largest_acked|: 1, 2, 3 or 4 as twice the distance is below
- * 2^8, 2^16, 2^24 or 2^32, so that whoever expects a number from the
- * acknowledged one to the one behind |number| finds it (RFC 9000, appendices
- * A.2 and A.3).  QUIC_WIRE_ERR_INVALID_ARGUMENT where |largest_acked| is above
- * |number|, or 2^31 or more below it.
+ * The same of a packet that stays as it is: its head is copied to |head|, which
+ * has room for |headlen| bytes, four behind |place| at least, and opened there.
  */
+static inline int quic_wire_unprotect_head(const uint8_t *packet,
+                                           size_t packetlen, size_t place,
+                                           const uint8_t *mask,
+                                           uint64_t expected, uint8_t *head,
+                                           size_t headlen, uint64_t *number) {
+  if (!packet || !mask || !head || !number)
+    return QUIC_WIRE_ERR_INVALID_ARGUMENT;
+  if (packetlen < 4 || packetlen - 4 < place)
+    return QUIC_WIRE_ERR_MALFORMED;
+  if (headlen < place + 4)
+    return QUIC_WIRE_ERR_NOBUF;
+  memcpy(head, packet, place + 4);
+  return quic_wire_unprotect_(head, place + 4, place, mask, expected, number);
+}
+
+/*
+ * Puts the protection on the head of a packet whose payload is sealed and whose
+ * number begins at |place|.  Returns how many bytes the number has, or
+ * QUIC_WIRE_ERR_MALFORMED.
+ */
+static inline int quic_wire_protect(uint8_t *packet, size_t packetlen,
+                                    size_t place, const uint8_t *mask) {
+  if (!packet || !mask)
+    return QUIC_WIRE_ERR_INVALID_ARGUMENT;
+  return quic_wire_protect_(packet, packetlen, place, mask);
+}
+
+/* How many bytes of |number| are written whose receiver has acknowledged
+ * |largest_acked|, or QUIC_WIRE_ERR_INVALID_ARGUMENT. */
 static inline int quic_wire_number_len(uint64_t number,
                                        uint64_t largest_acked) {
   return quic_wire_number_len_(number, largest_acked);
 }
 
+/* The whole number of which the low |numberlen| bytes are written, by the one
+ * that is |expected| next; UINT64_MAX where there is none. */
+static inline uint64_t quic_wire_number_expand(uint64_t written,
+                                               uint32_t numberlen,
+                                               uint64_t expected) {
+  return quic_wire_number_expand_(written, numberlen, expected);
+}
+
+/* Reads a number of variable length at the front of |bytes|.  Returns how many
+ * bytes it has, or 0 where they end within it. */
+static inline size_t quic_wire_varint_read(const uint8_t *bytes, size_t len,
+                                           uint64_t *value) {
+  return bytes && value ? quic_wire_varint_read_(bytes, len, value) : 0;
+}
+
+/* Writes a number of variable length at the front of |dest|, in |width| bytes,
+ * 1, 2, 4 or 8, or as few as it takes where that is 0.  Returns how many bytes,
+ * or 0 where it doesn't fit. */
+static inline size_t quic_wire_varint_write(uint64_t value, uint32_t width,
+                                            uint8_t *dest, size_t destlen) {
+  return dest ? quic_wire_varint_write_(value, width, dest, destlen) : 0;
+}
+
+/* How many bytes a head has whose token has |tokenlen|. */
+static inline size_t quic_wire_head_len(const quic_wire_said *said,
+                                        size_t dcidlen, size_t scidlen,
+                                        size_t tokenlen) {
+  size_t front = 7 + dcidlen + scidlen;
+  size_t end = (size_t)said->lengthlen + said->numberlen;
+  switch (said->kind) {
+  case QUIC_WIRE_INITIAL:
+    return front + end + tokenlen +
+           (tokenlen < 64 ? 1 : tokenlen < 16384 ? 2 : tokenlen < 1 << 30 ? 4 : 8);
+  case QUIC_WIRE_0RTT:
+  case QUIC_WIRE_HANDSHAKE: return front + end;
+  case QUIC_WIRE_1RTT: return 1 + dcidlen + said->numberlen;
+  default: return front;
+  }
+}
+
 /*
- * Writes the head of a packet at the front of |dest|, with no protection on it
- * (RFC 9000, section 17): what |head| says, with the receiver's id |dcid|, the
- * sender's id |scid| and the |token|.  1-RTT lacks the sender's id, and all but
- * Initial lack the token.  The length of an Initial, 0-RTT or Handshake packet
- * is written in two bytes, and counts the number's bytes and |head->bodylen|.
+ * Writes the head of a packet at the front of |dest|, with no protection on it:
+ * what |said| says, with the receiver's id |dcid|, the sender's id |scid| and
+ * the |token|.  The length that an Initial, 0-RTT or Handshake packet has is 0,
+ * until quic_wire_set_len.
  *
- * Returns 0, in |*written| how many bytes were written, and in |*number| the
- * place in |dest| where the packet number begins, the head's end where it has
- * none; QUIC_WIRE_ERR_NOBUF where |destlen| is less, and in |*written| how many
- * are needed; QUIC_WIRE_ERR_INVALID_ARGUMENT where no such head can be written:
- * an id is longer than 20 bytes, |head->number| is 2^62 or more, its bytes are
- * not 1 to 4, the length is 2^14 or more, there is no such kind, or there is
- * something that the kind lacks.  What stands in |dest| behind what was written
- * stays, and all of it where nothing was.
+ * Returns how many bytes were written, at whose end the number stands;
+ * QUIC_WIRE_ERR_NOBUF where |destlen| is less than quic_wire_head_len;
+ * QUIC_WIRE_ERR_INVALID_ARGUMENT where no such head can be written: there is no
+ * such kind, an id is longer than 20 bytes, the number is 2^62 or more or has
+ * not 1 to 4 bytes, the length has not 2 or 4, or something is said that the
+ * kind lacks.  |dest| changes where a head was written alone.
  */
-static inline int quic_wire_head_write(
-    const quic_wire_head *head, const uint8_t *dcid, size_t dcidlen,
+static inline int64_t quic_wire_head_write(
+    const quic_wire_said *said, const uint8_t *dcid, size_t dcidlen,
     const uint8_t *scid, size_t scidlen, const uint8_t *token, size_t tokenlen,
-    uint8_t *dest, size_t destlen, size_t *written, size_t *number) {
-  size_t count = 0, place = 0;
-  int answer;
-  if (!head || (!dcid && dcidlen) || (!scid && scidlen) ||
-      (!token && tokenlen) || (!dest && destlen))
+    uint8_t *dest, size_t destlen) {
+  static const uint8_t none = 0;
+  if (!said || (!dcid && dcidlen) || (!scid && scidlen) ||
+      (!token && tokenlen) || !dest)
     return QUIC_WIRE_ERR_INVALID_ARGUMENT;
   if (!dcid)
-    dcid = (const uint8_t *)quic_wire_nothing();
-  if (!scid)
-    scid = (const uint8_t *)quic_wire_nothing();
-  if (!token)
-    token = (const uint8_t *)quic_wire_nothing();
-  if (!dest)
-    dest = (uint8_t *)quic_wire_nothing();
-  answer =
-      quic_wire_head_write_(head, dcid, dcidlen, scid, scidlen, token, tokenlen,
-                            dest, destlen, &count, &place);
-  if (written && answer != QUIC_WIRE_ERR_INVALID_ARGUMENT)
-    *written = count;
-  if (number && answer == QUIC_WIRE_OK)
-    *number = place;
-  return answer;
+    dcid = &none;
+  /* A short head that says nothing else is written by its first byte. */
+  if (said->kind == QUIC_WIRE_1RTT && said->numberlen - 1u < 4 &&
+      !(said->flags & ~0x64u) &&
+      !(said->lengthlen | said->version | scidlen | tokenlen))
+    return quic_wire_short_write_(
+        (QUIC_WIRE_FIXED_BIT ^ said->flags) | (said->numberlen - 1u),
+        said->number, dcid, dcidlen, dest, destlen);
+  return quic_wire_head_write_(said, dcid, dcidlen, scid ? scid : &none, scidlen,
+                               token ? token : &none, tokenlen, dest, destlen);
 }
 
 /*
- * A packet of |kind| from |begin| to |end| of a datagram, whose number begins
- * at |number|: what quic_wire_sample_place and quic_wire_protect look at of
- * one that was written.
+ * Sets the length in the head of a packet of |packetlen| bytes whose number
+ * begins at |place|, to what there is from there on.  |lengthlen| is that of
+ * the head.  Returns 0, or QUIC_WIRE_ERR_INVALID_ARGUMENT where it doesn't fit.
  */
-static inline quic_wire_packet quic_wire_packet_at(uint32_t kind, size_t begin,
-                                                   size_t number, size_t end) {
-  quic_wire_packet packet;
-  packet.kind = kind;
-  packet.flags = packet.version = packet.reason = 0;
-  packet.begin = begin;
-  packet.end = end;
-  packet.head_end = number;
-  packet.dcid = packet.dcidlen = packet.scid = packet.scidlen = 0;
-  packet.token = packet.tokenlen = 0;
-  packet.len = 0;
-  return packet;
-}
-
-/*
- * Puts the protection on the head of a packet, once its payload is sealed, by a
- * mask of five bytes or more (RFC 9001, section 5.4.1), which is made of the
- * sample at quic_wire_sample_place.  Returns 0; QUIC_WIRE_ERR_MALFORMED where
- * the packet ends within four bytes from where the number begins;
- * QUIC_WIRE_ERR_INVALID_ARGUMENT where the words name no packet of the datagram
- * that has a number, or the mask is shorter.  The datagram changes only with 0:
- * the low bits of the packet's first byte, and the number's bytes, as many as
- * the first byte says before that.  quic_wire_unprotect gives the bytes back by
- * the same mask.
- */
-static inline int quic_wire_protect(uint8_t *datagram, size_t datagramlen,
-                                    const quic_wire_packet *packet,
-                                    const uint8_t *mask, size_t masklen) {
-  if (!datagram || !packet || !mask)
-    return QUIC_WIRE_ERR_INVALID_ARGUMENT;
-  return quic_wire_protect_(datagram, datagramlen, packet, mask, masklen);
+static inline int quic_wire_set_len(uint8_t *packet, size_t packetlen,
+                                    size_t place, uint32_t lengthlen) {
+  return packet ? quic_wire_set_len_(packet, packetlen, place, lengthlen)
+                : QUIC_WIRE_ERR_INVALID_ARGUMENT;
 }
 
 /*

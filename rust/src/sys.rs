@@ -46,33 +46,20 @@ pub struct Ranges {
     pub largest: u64,
 }
 
-/// A packet, or why none was cut.
+/// The head of a packet as places in it.
 #[repr(C)]
-#[derive(Clone, Copy, Debug, PartialEq, Eq)]
-pub struct Packet {
-    pub kind: u32,
-    pub flags: u32,
+#[derive(Clone, Copy, Debug, Default, PartialEq, Eq)]
+pub struct Head {
+    pub kind: u8,
+    pub first: u8,
+    pub dcidlen: u8,
+    pub scidlen: u8,
     pub version: u32,
-    pub reason: u32,
-    pub begin: usize,
-    pub end: usize,
-    pub head_end: usize,
-    pub dcid: usize,
-    pub dcidlen: usize,
-    pub scid: usize,
-    pub scidlen: usize,
-    pub token: usize,
-    pub tokenlen: usize,
+    pub head_end: u32,
+    pub end: u32,
+    pub token: u32,
+    pub tokenlen: u32,
     pub len: u64,
-}
-
-/// A packet number.
-#[repr(C)]
-#[derive(Clone, Copy, Debug)]
-pub struct Opened {
-    pub number: u64,
-    pub numberlen: usize,
-    pub payload: usize,
 }
 
 /// What is told of the shortest form of a payload.
@@ -87,13 +74,13 @@ pub struct Canon {
 /// What a head says beside its ids and its token.
 #[repr(C)]
 #[derive(Clone, Copy, Debug, Default)]
-pub struct Head {
-    pub kind: u32,
-    pub flags: u32,
+pub struct Said {
+    pub kind: u8,
+    pub flags: u8,
+    pub numberlen: u8,
+    pub lengthlen: u8,
     pub version: u32,
-    pub numberlen: u32,
     pub number: u64,
-    pub bodylen: u64,
 }
 
 /// Transport parameters.
@@ -135,10 +122,9 @@ pub struct Params {
 const _: () = assert!(size_of::<Frames>() == 24 && size_of::<Frame>() == 80);
 const _: () = assert!(std::mem::offset_of!(Frames, ended) == 16 && std::mem::offset_of!(Frames, strict) == 20);
 const _: () = assert!(size_of::<Range>() == 16 && size_of::<Ranges>() == 24);
-const _: () = assert!(size_of::<Packet>() == 96 && size_of::<Opened>() == 24);
+const _: () = assert!(size_of::<Head>() == 32 && std::mem::offset_of!(Head, len) == 24 && size_of::<Said>() == 16);
 const _: () = assert!(std::mem::offset_of!(Frame, numbers) == 40);
 const _: () = assert!(size_of::<Canon>() == 24 && std::mem::offset_of!(Canon, reason) == 16);
-const _: () = assert!(size_of::<Head>() == 32 && std::mem::offset_of!(Head, number) == 16);
 const _: () = assert!(std::mem::offset_of!(Range, start) == 0 && std::mem::offset_of!(Range, end) == 8);
 const _: () = assert!(size_of::<Params>() == 264 && std::mem::offset_of!(Params, original_dst_cid) == 132);
 
@@ -169,30 +155,20 @@ unsafe extern "C" {
         out_len: usize,
         written: &mut usize,
     ) -> i32;
-    fn quic_wire_packet_next_(
-        datagram: *const u8,
+    fn quic_wire_head_read_(
+        bytes: *const u8,
         len: usize,
-        offset: &mut usize,
         cid_len: u32,
         versions: *const u32,
         versions_len: usize,
-        grease: u32,
-        out: &mut Packet,
+        out: &mut Head,
     ) -> i32;
-    fn quic_wire_sample_place_(datagram: *const u8, len: usize, packet: &Packet, sample_len: usize, place: &mut usize) -> i32;
-    fn quic_wire_unprotect_(
-        datagram: *mut u8,
-        len: usize,
-        packet: &Packet,
-        mask: *const u8,
-        mask_len: usize,
-        expected: u64,
-        out: &mut Opened,
-    ) -> i32;
+    fn quic_wire_unprotect_(packet: *mut u8, len: usize, place: usize, mask: &[u8; 5], expected: u64, number: &mut u64) -> i32;
     fn quic_wire_canonical_(payload: *const u8, len: usize, dest: *mut u8, room: usize, out: &mut Canon) -> i32;
-    fn quic_wire_protect_(datagram: *mut u8, len: usize, packet: &Packet, mask: *const u8, mask_len: usize) -> i32;
+    fn quic_wire_protect_(packet: *mut u8, len: usize, place: usize, mask: &[u8; 5]) -> i32;
+    fn quic_wire_short_write_(first: u32, number: u64, dst: *const u8, dst_len: usize, out: *mut u8, out_len: usize) -> i32;
     fn quic_wire_head_write_(
-        head: &Head,
+        said: &Said,
         dst: *const u8,
         dst_len: usize,
         src: *const u8,
@@ -201,9 +177,11 @@ unsafe extern "C" {
         token_len: usize,
         out: *mut u8,
         out_len: usize,
-        written: &mut usize,
-        number: &mut usize,
-    ) -> i32;
+    ) -> i64;
+    fn quic_wire_set_len_(packet: *mut u8, len: usize, place: usize, width: u32) -> i32;
+    fn quic_wire_number_expand_(written: u64, len: u32, expected: u64) -> u64;
+    fn quic_wire_varint_read_(bytes: *const u8, len: usize, value: &mut u64) -> usize;
+    fn quic_wire_varint_write_(value: u64, width: u32, out: *mut u8, out_len: usize) -> usize;
     fn quic_wire_number_len_(number: u64, largest_acked: u64) -> i32;
     fn quic_wire_params_read_(side: u32, list: *const u8, len: usize, out: &mut Params) -> i32;
     fn quic_wire_params_write_(side: u32, params: &Params, out: *mut u8, out_len: usize, written: &mut usize) -> i32;
@@ -288,52 +266,58 @@ pub fn frame_write(frame: &Frame, data: &[u8], last: bool, out: &mut [u8], writt
 }
 
 #[inline]
-pub fn packet_next(
-    datagram: &[u8],
-    offset: &mut usize,
-    cid_len: u32,
-    versions: &[u32],
-    grease: bool,
-    out: &mut Packet,
-) -> i32 {
-    let (bytes, len) = (datagram.as_ptr(), datagram.len());
-    let (known, count) = (versions.as_ptr(), versions.len());
+pub fn head_read(bytes: &[u8], cid_len: u32, versions: &[u32], out: &mut Head) -> i32 {
     // SAFETY: as above.
-    unsafe { quic_wire_packet_next_(bytes, len, offset, cid_len, known, count, u32::from(grease), out) }
+    unsafe { quic_wire_head_read_(bytes.as_ptr(), bytes.len(), cid_len, versions.as_ptr(), versions.len(), out) }
 }
 
 #[inline]
-pub fn sample_place(datagram: &[u8], packet: &Packet, sample_len: usize, place: &mut usize) -> i32 {
+pub fn unprotect(packet: &mut [u8], place: usize, mask: &[u8; 5], expected: u64, number: &mut u64) -> i32 {
+    // SAFETY: as above; the packet is borrowed alone, so nothing overlaps it.
+    unsafe { quic_wire_unprotect_(packet.as_mut_ptr(), packet.len(), place, mask, expected, number) }
+}
+
+#[inline]
+pub fn protect(packet: &mut [u8], place: usize, mask: &[u8; 5]) -> i32 {
     // SAFETY: as above.
-    unsafe { quic_wire_sample_place_(datagram.as_ptr(), datagram.len(), packet, sample_len, place) }
+    unsafe { quic_wire_protect_(packet.as_mut_ptr(), packet.len(), place, mask) }
 }
 
 #[inline]
-pub fn unprotect(datagram: &mut [u8], packet: &Packet, mask: &[u8], expected: u64, out: &mut Opened) -> i32 {
-    let (bytes, len) = (datagram.as_mut_ptr(), datagram.len());
-    // SAFETY: as above; the datagram is borrowed alone, so nothing overlaps it.
-    unsafe { quic_wire_unprotect_(bytes, len, packet, mask.as_ptr(), mask.len(), expected, out) }
-}
-
-#[inline]
-pub fn protect(datagram: &mut [u8], packet: &Packet, mask: &[u8]) -> i32 {
-    // SAFETY: as above.
-    unsafe { quic_wire_protect_(datagram.as_mut_ptr(), datagram.len(), packet, mask.as_ptr(), mask.len()) }
-}
-
-#[inline]
-pub fn head_write(
-    head: &Head,
-    parts: [&[u8]; 3],
-    out: &mut [u8],
-    written: &mut usize,
-    number: &mut usize,
-) -> i32 {
-    let [dst, src, token] = parts;
-    let (to, from, third) = (dst.as_ptr(), src.as_ptr(), token.as_ptr());
-    let (bytes, room) = (out.as_mut_ptr(), out.len());
+pub fn short_write(first: u8, number: u64, dst: &[u8], out: &mut [u8]) -> i64 {
     // SAFETY: as above; `out` is borrowed alone, so nothing overlaps it.
-    unsafe { quic_wire_head_write_(head, to, dst.len(), from, src.len(), third, token.len(), bytes, room, written, number) }
+    i64::from(unsafe { quic_wire_short_write_(u32::from(first), number, dst.as_ptr(), dst.len(), out.as_mut_ptr(), out.len()) })
+}
+
+#[inline]
+pub fn head_write(said: &Said, [dst, src, token]: [&[u8]; 3], out: &mut [u8]) -> i64 {
+    let (to, from, third) = (dst.as_ptr(), src.as_ptr(), token.as_ptr());
+    // SAFETY: as above.
+    unsafe { quic_wire_head_write_(said, to, dst.len(), from, src.len(), third, token.len(), out.as_mut_ptr(), out.len()) }
+}
+
+#[inline]
+pub fn set_len(packet: &mut [u8], place: usize, width: u32) -> i32 {
+    // SAFETY: as above; the packet is borrowed alone.
+    unsafe { quic_wire_set_len_(packet.as_mut_ptr(), packet.len(), place, width) }
+}
+
+#[inline]
+pub fn number_expand(written: u64, len: u32, expected: u64) -> u64 {
+    // SAFETY: the declaration fits.
+    unsafe { quic_wire_number_expand_(written, len, expected) }
+}
+
+#[inline]
+pub fn varint_read(bytes: &[u8], value: &mut u64) -> usize {
+    // SAFETY: as above.
+    unsafe { quic_wire_varint_read_(bytes.as_ptr(), bytes.len(), value) }
+}
+
+#[inline]
+pub fn varint_write(value: u64, width: u32, out: &mut [u8]) -> usize {
+    // SAFETY: as above.
+    unsafe { quic_wire_varint_write_(value, width, out.as_mut_ptr(), out.len()) }
 }
 
 #[inline]

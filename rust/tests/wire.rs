@@ -2,7 +2,8 @@
 use quic_wire::canonical::{CanonError, canonical};
 use quic_wire::frame::{Ack, EcnCounts, EmptyPayload, Frame, Iter, Reason, WriteError};
 use quic_wire::packet::{
-    DEFAULT_SUPPORTED_VERSIONS, Header, LongType, PacketDecodeError, PacketNumber, Packets, ProtectedHeader, UnprotectError,
+    DEFAULT_SUPPORTED_VERSIONS, Head, HeadError, Header, LongType, PacketDecodeError, PacketNumber, PacketPlace, Packets, PacketsMut,
+    ProtectedHeader, UnprotectError, varint,
 };
 use quic_wire::range_set::{self, Run};
 use quic_wire::transport_parameters::{ConnectionId, Error, PreferredAddress, Side, TransportParameters};
@@ -130,9 +131,12 @@ fn a_packet_is_opened() {
     let place = packet.place();
     assert_eq!(place.sample(&datagram, 4), Ok(&[4, 5, 6, 7][..]));
     assert_eq!(place.sample(&datagram, 5), Err(UnprotectError::TooShort));
-    assert_eq!(place.unprotect(&mut datagram, &[0x1f, 5, 5, 5], 300), Err(UnprotectError::InvalidArgument));
-    let opened = place.unprotect(&mut datagram, &[0x1f, 5, 5, 5, 5], 300).unwrap();
-    assert_eq!((opened.number, opened.number_len, opened.payload), (300, 1, 4));
+    assert_eq!(place.unprotect(&mut datagram, &[0x1f, 5, 5, 5, 5], 1 << 62), Err(UnprotectError::InvalidArgument));
+    assert_eq!(place.unprotect(&mut datagram[..6], &[0x1f, 5, 5, 5, 5], 300), Err(UnprotectError::InvalidArgument));
+    let opened = place.unprotect_with(&mut datagram, 4, |sample| [0x1f, 5, 5, sample[1], 5], 300).unwrap();
+    assert_eq!((opened.number, opened.number_len, opened.payload, opened.first), (300, 1, 4, 0x40));
+    assert!(!opened.key_phase() && opened.reserved_bits_valid());
+    assert!(size_of::<PacketPlace>() == 12 && size_of::<Head>() == 32);
     assert_eq!(datagram, [0x40, 0xaa, 0xbb, 0x2c, 1, 2, 3, 4, 5, 6, 7]);
 }
 
@@ -144,15 +148,16 @@ fn a_packet_is_sealed_and_opened() {
     let (dst_cid, src_cid) = (&[1, 2, 3][..], &[4][..]);
     let head = Header::Long { ty: LongType::Handshake, dst_cid, src_cid, number, version: 1 };
     let mut datagram = [0xa5; 64];
-    let written = head.encode(20, &mut datagram).unwrap();
+    let written = head.encode(&mut datagram).unwrap();
+    written.set_len(&mut datagram[..34]).unwrap();
     assert_eq!(datagram[..15], [0xe0, 0, 0, 0, 1, 3, 1, 2, 3, 1, 4, 0x40, 21, 0x34, 0xa5]);
     assert_eq!((written.header_len, written.number), (14, 13));
-    assert_eq!(head.encode(20, &mut [0; 13]), Err(WriteError::NoRoom(14)));
-    assert_eq!(head.encode(1 << 14, &mut datagram), Err(WriteError::OutOfRange));
+    assert_eq!(head.encoded_len(), 14);
+    assert_eq!(head.encode(&mut [0; 13]), Err(WriteError::NoRoom(14)));
+    assert_eq!(written.set_len(&mut [0; 1 << 15]), Err(WriteError::OutOfRange));
     let before = datagram;
-    let place = written.place(0, 34);
+    let place = written.place(&datagram[..34]);
     assert_eq!(place.sample(&datagram, 16), Ok(&[0xa5; 16][..]));
-    assert_eq!(place.protect(&mut datagram, &[0xff, 1, 2, 3]), Err(UnprotectError::InvalidArgument));
     assert_eq!(place.protect(&mut datagram, &[0xff, 1, 2, 3, 4]), Ok(()));
     assert_eq!((datagram[0], datagram[13], datagram[14]), (0xef, 0x35, 0xa5));
     let packet = Packets::new(&datagram[..34], 0, &[1], false).next().unwrap().unwrap();
@@ -161,6 +166,46 @@ fn a_packet_is_sealed_and_opened() {
     let opened = packet.place().unprotect(&mut datagram, &[0xff, 1, 2, 3, 4], 0x1234).unwrap();
     assert_eq!((opened.number, opened.number_len, opened.payload), (0x1234, 1, 14));
     assert_eq!(datagram, before);
+}
+
+#[test]
+fn the_packets_of_a_datagram_are_opened_in_a_loop() {
+    let number = |number| PacketNumber { number, len: 2 };
+    let id = &[7; 8][..];
+    let mut datagram = [0; 100];
+    let long = Header::Initial { dst_cid: id, src_cid: &[], token: &[1, 2, 3], number: number(5), version: 1 };
+    let first = long.encode(&mut datagram).unwrap();
+    first.set_len(&mut datagram[..60]).unwrap();
+    first.place(&datagram[..60]).protect(&mut datagram[..60], &[9; 5]).unwrap();
+    let short = Header::Short { spin: true, key_phase: true, dst_cid: id, number: number(6) };
+    let second = short.encode_with(true, &mut datagram[60..]).unwrap();
+    assert_eq!(datagram[60], 0x25);
+    second.place(&datagram[60..]).protect(&mut datagram[60..], &[9; 5]).unwrap();
+    let mut seen = Vec::new();
+    {
+        let versions = vec![1];
+        for packet in PacketsMut::new(&mut datagram, 8, &versions, true) {
+            let packet = packet.unwrap();
+            assert_eq!(matches!(packet.header(), ProtectedHeader::Short { spin: true, .. }), !seen.is_empty());
+            let (opened, head, payload) = packet.open_with(16, |_| [9; 5], 0).unwrap();
+            seen.push((opened, head, payload));
+        }
+    }
+    assert_eq!(seen.iter().map(|x| (x.0.number, x.0.key_phase(), x.1.len(), x.2.len())).collect::<Vec<_>>(), [(5, false, 23, 37), (6, true, 11, 29)]);
+    assert_eq!(PacketNumber::expand(6, 1, 600), Some(518));
+    assert_eq!(varint::read(&[0x44, 0x01, 9]), Some((1025, 2)));
+}
+
+#[test]
+fn a_head_is_told_where_its_packet_is_cut_off() {
+    let datagram = [0xc0, 0, 0, 0, 1, 1, 0xaa, 0, 0, 0x44, 0xb0, 1];
+    let Err(HeadError::CutOff(head)) = Head::read(&datagram, 0, &[1]) else { panic!() };
+    assert_eq!((head.dst_cid(&datagram), head.head_end(), head.end()), (&[0xaa][..], 11, 12));
+    let mut unknown = vec![0xc0, 0, 0, 0, 9, 255];
+    unknown.extend([1; 255]);
+    unknown.extend([1, 2]);
+    let Err(HeadError::UnsupportedVersion(head)) = Head::read(&unknown, 0, &[1]) else { panic!() };
+    assert_eq!((head.version(), head.dst_cid(&unknown).len(), head.src_cid(&unknown)), (9, 255, &[2][..]));
 }
 
 #[test]

@@ -4,4 +4,3 @@ mod Said
 mod Filling
 mod Fronts
 mod RangeFilling
-mod Masks

@@ -1,4 +1,4 @@
-//! The wire layer of QUIC for callers that write C: packets, frames and the ranges of acknowledgements, one with
+//! The wire layer of QUIC for callers that write C: frames and the ranges of acknowledgements, one with
 //! each call. What a caller keeps between calls are plain words, and the bytes are given anew with each call. Every
 //! word may have every value: no export asks for anything.
 #![tactic(auto)]
@@ -7,11 +7,8 @@ mod acks;
 mod fill;
 mod fill_ranges;
 mod frames;
-mod packets;
-mod protect;
 mod show;
-mod unprotect;
 mod words;
 mod write;
 
-pub use words::{FrameWords, FramesWords, OpenedWords, PacketWords, RangeWords, RangesWords};
+pub use words::{FrameWords, FramesWords, RangeWords, RangesWords};

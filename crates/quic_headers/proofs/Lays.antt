@@ -2,10 +2,11 @@
 use Rattle.std.proofs.Common.{◌≡◌, ℕ, ◌+◌, ◌-◌, ◌*◌, ◌<◌, ◌≤◌, ◌^◌, List, [], ◌∷◌, ◌++◌, length, take, drop, sym, ap, ◌∙◌, arith}
 use Rattle.std.proofs.Math.Seq.{take-append-add, take-append_seam}
 use Rattle.std.proofs.lemmas.Bool.Decides.{nat_tests}
-use Rattle.std.proofs.lemmas.List.{append-nil, append_assoc, length-append, length-take-le, take-append-drop, take-append-le, take-take}
+use Rattle.std.proofs.lemmas.List.{append-nil, append_assoc, length-append, length-take-le, drop-drop, take-append-drop, take-append-le, take-take}
 use Rattle.std.specs.Int.{byte_at, to_be_bytes, w32}
 use Rattle.quic_base.specs.Number.{bytes_of}
 use Rattle.quic_base.specs.Varint.{short, size}
+use Rattle.quic_headers.specs.Laying.{length_in, with_len}
 
 -- a number below 64 is spelled by itself
 pub short_small : (n : ℕ) → n < 64 → short n ≡ n ∷ []
@@ -15,6 +16,28 @@ short_small n h = grind (arith, nat_tests)
 pub size_small : (n : ℕ) → n < 64 → size n ≡ 1
 unfolding size
 size_small n h = grind (arith, nat_tests)
+
+-- what stands behind a place stays, where it stays behind an earlier one
+pub stays : (a b : ℕ) (new old : List ℕ) → drop a new ≡ drop a old → a ≤ b → drop b new ≡ drop b old
+stays a b new old e le =
+    let at : a + (b - a) ≡ b = omega arith in
+    ap (λ (i : ℕ). drop i new) (sym at) ∙ sym (drop-drop (b - a) a new) ∙ ap (drop (b - a)) e
+    ∙ drop-drop (b - a) a old ∙ ap (λ (i : ℕ). drop i old) at
+
+-- what was laid over bytes, where nothing behind it changed
+pub laid_over : (at end : ℕ) (old new bytes : List ℕ) → take end new ≡ take at old ++ bytes → drop end new ≡ drop end old
+    → new ≡ take at old ++ (bytes ++ drop end old)
+laid_over at end old new bytes front back =
+    sym (take-append-drop end new) ∙ ap (λ (xs : List ℕ). xs ++ drop end new) front
+    ∙ ap (λ (xs : List ℕ). (take at old ++ bytes) ++ xs) back ∙ append_assoc (take at old) bytes (drop end old)
+
+-- a length was laid before a place
+pub len_laid : (width place end : ℕ) (old new bytes : List ℕ) → end ≡ place → bytes ≡ length_in width (length old - place)
+    → take end new ≡ take (place - width) old ++ bytes → drop end new ≡ drop end old → new ≡ with_len width place old
+len_laid width place end old new bytes at is front back =
+    laid_over (place - width) end old new bytes front back
+    ∙ ap (λ (i : ℕ). take (place - width) old ++ (bytes ++ drop i old)) at
+    ∙ ap (λ (xs : List ℕ). take (place - width) old ++ (xs ++ drop place old)) is
 
 -- what was laid at a place has its first k elements there
 pub shorter_laid : (k n at : ℕ) (head laid bytes : List ℕ) → k ≤ n → at ≤ length head → take (at + n) laid ≡ take at head ++ bytes → take (at + k) laid ≡ take at head ++ take k bytes

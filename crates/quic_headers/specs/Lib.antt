@@ -1,3 +1,4 @@
+pub mod Laying
 pub mod Queries
 pub mod Starts
 pub mod Types

@@ -1,18 +1,17 @@
 //! Heads are written, and packets finished (RFC 9000, section 17; RFC 9001, sections 5.3 and 5.4).
-ghost use Rattle.std.specs.Prelude.{◌≡◌, ◌+◌, ◌-◌, ◌≤◌, ◌<◌, ◌^◌, ◌++◌, length, vec_len, vec_capacity, IfOk, OnErr, OnOk, IfSome, IfNone, IsOk, option_map, take, drop};
-ghost use Rattle.quic_base.specs.ConnectionId.{long_id};
+ghost use Rattle.std.specs.Prelude.{◌≡◌, ◌+◌, ◌-◌, ◌≤◌, ◌<◌, ◌^◌, ◌++◌, length, vec_len, vec_capacity, IfOk, OnErr, OnOk, IfSome, IfNone, IsOk, IsTrue, ◌↔◌, ◌⊎◌, option_map, take, drop};
 ghost use Rattle.quic_base.specs.Number.{AreBytes, bytes_of};
-ghost use Rattle.quic_base.specs.Varint.{short, size};
-ghost use Rattle.quic_crypto.specs.PacketNumbers.{number_bytes, number_size, IsInRange};
-ghost use Rattle.quic_headers.specs.Starts.{long_front};
-ghost use Rattle.quic_headers.specs.Writing.{header_size, place_in, header_bytes, IsWritable, size_in, has_length, finished, HasRoom};
+ghost use Rattle.quic_crypto.specs.PacketNumbers.{IsInRange};
+ghost use Rattle.quic_headers.specs.declared.header.Header.TheVariants as header;
+ghost use Rattle.quic_headers.specs.declared.long_type.LongHeaderType.TheVariants as kind;
+ghost use Rattle.quic_headers.specs.Laying.{kind_of, laid_bytes, laid_len, padded_id, padded_room, HasLayRoom, IsLayable, IsShortToken, Lays};
+ghost use Rattle.quic_headers.specs.Writing.{bit, header_size, place_in, header_bytes, IsWritable, size_in, has_length, finished, HasRoom};
 
-use crate::header::Header;
-use crate::lay::{INITIAL_ROOM, LONG_ROOM, SHORT_ROOM};
-use crate::long_type::{LongHeaderType, LongType};
-use quic_base::coding::{BufMutExt, NoRoom, are_bytes};
+use crate::header::{Header, InitialHeader};
+use crate::lay::{Exact, HeaderRef, Padded};
+use crate::long_type::{HeadKind, LongType};
+use quic_base::coding::{NoRoom, are_bytes};
 use quic_base::ids::ConnectionId;
-use quic_base::varint::VarInt;
 use quic_crypto::crypto::{HeaderKey, PacketKey};
 use quic_crypto::packet_number::PacketNumber;
 
@@ -41,183 +40,211 @@ pub(crate) fn append(out: &mut Vec<u8>, bytes: &[u8])
     }
 }
 
-// How many bytes the shortest spelling of a number takes.
-#[tactic(auto, unfolding(quic_base::specs::Varint::size))]
-fn var_len(n: u64) -> usize
-    requires { n < 2 ^ 62 }
-    ensures value { result ≡ size n }
-    ensures low { 1 ≤ result }
-    ensures high { result ≤ 8 }
+// Over how many bytes a short head is laid, one that has no token, and an Initial one whose token has at most 32 bytes.
+const SHORT_ROOM: usize = 32;
+
+const LONG_ROOM: usize = 64;
+
+const INITIAL_ROOM: usize = 96;
+
+// What the first byte of a long head has beside its type and number.
+const LONG_FIRST: u8 = 0xc0;
+
+// What stands in place of a number where there is none.
+const NO_NUMBER: PacketNumber = PacketNumber::U8(0);
+
+// Whether a token is laid without a call: one of 16 to 32 bytes, or an empty one.
+#[inline(always)]
+fn is_laid_by_stores(token: &[u8]) -> bool
+    ensures { IsTrue result ↔ IsShortToken token.now }
 {
-    VarInt::from_u64_unchecked(n).size()
+    token.len() == 0 || token.len() >= 16 && token.len() <= 32
 }
 
-// Appends the shortest spelling of a number where there is room for it.
-#[tactic(auto, using(crate::proofs::Writings::short_length))]
-fn put_var(out: &mut Vec<u8>, n: u64)
-    requires fits { n < 2 ^ 62 }
-    requires room { vec_len out.old + size n ≤ vec_capacity out.old }
-    ensures items { out.new.items ≡ out.old.items ++ short n }
-    ensures len { vec_len out.new ≡ vec_len out.old + size n }
+// Appends a head where there is spare room for the longest of its kind: zeros are appended, the head is laid over them, and
+// what is left of them goes. Answers whether there was room.
+#[inline(always)]
+fn put<const ROOM: usize>(head: HeaderRef<'_, Padded<'_>>, out: &mut Vec<u8>) -> bool
+    requires layable { IsLayable padded_id head }
+    requires room { IsShortToken head.token.now → HasLayRoom padded_id padded_room head ROOM }
+    ensures items { IsTrue result → out.new.items ≡ out.old.items ++ laid_bytes padded_id head.entry }
+    ensures len { IsTrue result → vec_len out.new ≡ vec_len out.old + laid_len padded_id head.entry }
     ensures capacity { vec_capacity out.old ≤ vec_capacity out.new }
+    ensures same { IsTrue result ⊎ (out.new ≡ out.old) }
 {
-    let _before = out.as_slice();
-    match out.write_var(n) {
-        Ok(()) => (),
-        Err(_) => unreachable!(),
+    if out.capacity() - out.len() < ROOM || !is_laid_by_stores(head.token) {
+        return false;
     }
-    let _after = out.as_slice();
+    let begin = out.len();
+    append(out, &[0; ROOM]);
+    let len = head.lay::<true>(&mut out.as_mut_slice()[begin..]);
+    out.truncate(begin + len);
+    true
 }
 
-// Appends an id behind its length.
-fn put_id(out: &mut Vec<u8>, id: &ConnectionId)
-    requires room { vec_len out.old + (1 + length id.now) ≤ vec_capacity out.old }
-    ensures items { out.new.items ≡ out.old.items ++ long_id id.now }
-    ensures len { vec_len out.new ≡ vec_len out.old + (1 + length id.now) }
-    ensures capacity { vec_capacity out.old ≤ vec_capacity out.new }
+// An id that is laid with what makes it 20 bytes.
+#[inline(always)]
+fn padded(id: &ConnectionId) -> Padded<'_>
+    ensures same { padded_id result ≡ id.now }
+    ensures few { length (padded_id result) ≤ 20 }
 {
-    let id = id.as_slice();
-    append(out, &[id.len() as u8]);
-    append(out, id);
+    let _few = id.as_slice().len();
+    Padded(id)
 }
 
-// Appends what each long head begins with.
-#[tactic(auto, unfolding(quic_base::specs::Number::bytes_of))]
-fn put_long_start(
-    out: &mut Vec<u8>,
-    first: u8,
+// The kind of a Handshake or 0-RTT head.
+#[inline(always)]
+fn long_kind(ty: LongType) -> HeadKind
+    ensures { result ≡ kind_of (kind.Standard ty) }
+{
+    match ty {
+        LongType::ZeroRtt => HeadKind::ZeroRtt,
+        LongType::Handshake => HeadKind::Handshake,
+    }
+}
+
+// What the first byte of a short head has beside its number.
+#[inline(always)]
+fn short_first(spin: bool, key_phase: bool) -> u8
+    ensures value { result ≡ 64 + bit spin 32 + bit key_phase 4 }
+    ensures few { result ≤ 100 }
+{
+    let spin = if spin { 0x20 } else { 0 };
+    let key_phase = if key_phase { 0x04 } else { 0 };
+    0x40 + spin + key_phase
+}
+
+// The head of an Initial packet.
+#[inline(always)]
+fn initial_ref(initial: &InitialHeader) -> HeaderRef<'_, Padded<'_>>
+    requires { IsWritable (header.Initial initial.now) }
+    ensures lays { Lays padded_id result (header.Initial initial.now) }
+    ensures room { IsShortToken result.token.now → HasLayRoom padded_id padded_room result INITIAL_ROOM }
+{
+    HeaderRef {
+        kind: HeadKind::Initial,
+        first: LONG_FIRST,
+        version: initial.version,
+        dst_cid: padded(&initial.dst_cid),
+        src_cid: padded(&initial.src_cid),
+        token: initial.token.as_slice(),
+        number: &initial.number,
+        length_len: 2,
+    }
+}
+
+// The head of a Handshake or 0-RTT packet.
+#[inline(always)]
+fn long_ref<'a>(
+    ty: LongType,
     version: u32,
-    dst: &ConnectionId,
-    src: &ConnectionId,
-)
-    requires room { vec_len out.old + (7 + length dst.now + length src.now) ≤ vec_capacity out.old }
-    ensures items { out.new.items ≡ out.old.items ++ long_front first version dst.now src.now }
-    ensures len { vec_len out.new ≡ vec_len out.old + (7 + length dst.now + length src.now) }
-    ensures capacity { vec_capacity out.old ≤ vec_capacity out.new }
+    dst: &'a ConnectionId,
+    src: &'a ConnectionId,
+    number: &'a PacketNumber,
+) -> HeaderRef<'a, Padded<'a>>
+    requires { IsInRange number.now }
+    ensures lays { Lays padded_id result (header.Long ty dst.now src.now number.now version) }
+    ensures room { HasLayRoom padded_id padded_room result LONG_ROOM }
 {
-    append(out, &[first]);
-    append(out, &version.to_be_bytes());
-    put_id(out, dst);
-    put_id(out, src);
+    HeaderRef {
+        kind: long_kind(ty),
+        first: LONG_FIRST,
+        version,
+        dst_cid: padded(dst),
+        src_cid: padded(src),
+        token: &[],
+        number,
+        length_len: 2,
+    }
 }
 
-// Appends the part of a number that is written.
-#[tactic(auto, using(crate::proofs::Writings::number_length))]
-fn put_number(out: &mut Vec<u8>, number: PacketNumber)
-    requires valid { IsInRange number }
-    requires room { vec_len out.old + number_size number ≤ vec_capacity out.old }
-    ensures items { out.new.items ≡ out.old.items ++ number_bytes number }
-    ensures len { vec_len out.new ≡ vec_len out.old + number_size number }
-    ensures capacity { vec_capacity out.old ≤ vec_capacity out.new }
+// The head of a 1-RTT packet.
+#[inline(always)]
+fn short_ref<'a>(
+    spin: bool,
+    key_phase: bool,
+    dst_cid: &'a ConnectionId,
+    number: &'a PacketNumber,
+) -> HeaderRef<'a, Padded<'a>>
+    requires { IsInRange number.now }
+    ensures lays { Lays padded_id result (header.Short spin key_phase dst_cid.now number.now) }
+    ensures room { HasLayRoom padded_id padded_room result SHORT_ROOM }
 {
-    let _before = out.as_slice();
-    match number.encode(out) {
-        Ok(()) => (),
-        Err(_) => unreachable!(),
+    HeaderRef {
+        kind: HeadKind::Short,
+        first: short_first(spin, key_phase),
+        version: 0,
+        dst_cid: padded(dst_cid),
+        src_cid: padded(dst_cid),
+        token: &[],
+        number,
+        length_len: 2,
     }
-    let _after = out.as_slice();
 }
 
 impl Header {
-    /// How many bytes `encode` appends. The caller must meet what `encode` asks for.
-    pub fn encoded_len(&self) -> usize
+    // The same head, with ids and a token that stay where they are.
+    fn borrowed(&self) -> HeaderRef<'_, Padded<'_>>
         requires { IsWritable self.now }
-        ensures value { result ≡ header_size self.now }
+        ensures { Lays padded_id result self.now }
     {
         match self {
-            Self::Initial(head) => {
-                let token = head.token.as_slice();
-                let ids = head.dst_cid.as_slice().len() + head.src_cid.as_slice().len();
-                9 + ids + var_len(token.len() as u64) + token.len() + head.number.len()
-            }
-            Self::Long {
-                dst_cid,
-                src_cid,
-                number,
-                ..
-            } => 9 + dst_cid.as_slice().len() + src_cid.as_slice().len() + number.len(),
-            Self::Retry {
-                dst_cid,
-                src_cid,
-                ..
-            } => 7 + dst_cid.as_slice().len() + src_cid.as_slice().len(),
-            Self::Short {
-                dst_cid,
-                number,
-                ..
-            } => 1 + dst_cid.as_slice().len() + number.len(),
-            Self::VersionNegotiate {
-                src_cid,
-                dst_cid,
-                ..
-            } => { 7 + dst_cid.as_slice().len() + src_cid.as_slice().len() }
-        }
-    }
-
-    // Appends the head field by field where there is room for it. Its length, where it has one, is filled in later.
-    fn put_fields(&self, out: &mut Vec<u8>)
-        requires writable { IsWritable self.now }
-        requires room { vec_len out.old + header_size self.now ≤ vec_capacity out.old }
-        ensures items { out.new.items ≡ out.old.items ++ header_bytes self.now }
-        ensures len { vec_len out.new ≡ vec_len out.old + header_size self.now }
-        ensures capacity { vec_capacity out.old ≤ vec_capacity out.new }
-    {
-        match self {
-            Self::Initial(head) => {
-                let first = LongHeaderType::Initial.byte(head.version) + head.number.tag();
-                put_long_start(out, first, head.version, &head.dst_cid, &head.src_cid);
-                put_var(out, head.token.len() as u64);
-                append(out, head.token.as_slice());
-                append(out, &[0, 0]);
-                put_number(out, head.number);
-            }
+            Self::Initial(initial) => initial_ref(initial),
             Self::Long {
                 ty,
                 dst_cid,
                 src_cid,
                 number,
                 version,
-            } => {
-                let first = LongHeaderType::Standard(*ty).byte(*version) + number.tag();
-                put_long_start(out, first, *version, dst_cid, src_cid);
-                append(out, &[0, 0]);
-                put_number(out, *number);
-            }
+            } => long_ref(*ty, *version, dst_cid, src_cid, number),
             Self::Retry {
                 dst_cid,
                 src_cid,
                 version,
-            } => put_long_start(
-                out,
-                LongHeaderType::Retry.byte(*version),
-                *version,
-                dst_cid,
-                src_cid,
-            ),
+            } => HeaderRef {
+                kind: HeadKind::Retry,
+                first: LONG_FIRST,
+                version: *version,
+                dst_cid: padded(dst_cid),
+                src_cid: padded(src_cid),
+                token: &[],
+                number: &NO_NUMBER,
+                length_len: 2,
+            },
             Self::Short {
                 spin,
                 key_phase,
                 dst_cid,
                 number,
-            } => {
-                let spin = if *spin { 0x20 } else { 0 };
-                let key_phase = if *key_phase { 0x04 } else { 0 };
-                append(out, &[0x40 + spin + key_phase + number.tag()]);
-                append(out, dst_cid.as_slice());
-                put_number(out, *number);
-            }
+            } => short_ref(*spin, *key_phase, dst_cid, number),
             Self::VersionNegotiate {
                 random,
                 src_cid,
                 dst_cid,
-            } => put_long_start(out, 0x80 | *random, 0, dst_cid, src_cid),
+            } => HeaderRef {
+                kind: HeadKind::VersionNegotiate,
+                first: 0x80 | *random,
+                version: 0,
+                dst_cid: padded(dst_cid),
+                src_cid: padded(src_cid),
+                token: &[],
+                number: &NO_NUMBER,
+                length_len: 2,
+            },
         }
     }
 
-    // Appends the head as an Initial one: zeros are appended, the head is laid over them, and what is left of them goes. It
-    // goes field by field where it isn't laid or the buffer has no room for the zeros.
+    /// How many bytes `encode` appends. The caller must meet what `encode` asks for.
+    pub fn encoded_len(&self) -> usize
+        requires { IsWritable self.now }
+        ensures value { result ≡ header_size self.now }
+    {
+        self.borrowed().encoded_len()
+    }
+
+    // Makes room for just the head, and lays it there.
     #[inline(never)]
-    fn put_initial(&self, out: &mut Vec<u8>) -> Result<(), NoRoom>
+    fn put_with_room(&self, out: &mut Vec<u8>) -> Result<(), NoRoom>
         requires { IsWritable self.now }
         ensures ok { OnOk result (out.new.items ≡ out.old.items ++ header_bytes self.now) }
         ensures len { OnOk result (vec_len out.new ≡ vec_len out.old + header_size self.now) }
@@ -226,44 +253,31 @@ impl Header {
         ensures full { OnErr result (vec_capacity out.new < vec_len out.old + header_size self.now) }
         ensures spare { vec_len out.old + header_size self.now ≤ vec_capacity out.old → IsOk result }
     {
-        if out.capacity() - out.len() < INITIAL_ROOM {
-            return self.put_with_room(out);
+        let head = self.borrowed();
+        let head = HeaderRef {
+            kind: head.kind,
+            first: head.first,
+            version: head.version,
+            dst_cid: Exact(head.dst_cid.0.as_slice()),
+            src_cid: Exact(head.src_cid.0.as_slice()),
+            token: head.token,
+            number: head.number,
+            length_len: head.length_len,
+        };
+        let len = head.encoded_len();
+        if out.reserve(len).is_err() {
+            return Err(NoRoom);
         }
         let begin = out.len();
-        append(out, &[0; INITIAL_ROOM]);
-        let Some(initial_len) = self.lay_initial(&mut out.as_mut_slice()[begin..]) else {
-            out.truncate(begin);
-            return self.put_with_room(out);
-        };
-        out.truncate(begin + initial_len);
+        match out.resize(begin + len, 0) {
+            Ok(()) => (),
+            Err(_) => unreachable!(),
+        }
+        head.lay::<false>(&mut out.as_mut_slice()[begin..]);
         Ok(())
     }
 
-    // The same of a Handshake or 0-RTT head.
-    #[inline(never)]
-    fn put_long(&self, out: &mut Vec<u8>) -> Result<(), NoRoom>
-        requires { IsWritable self.now }
-        ensures ok { OnOk result (out.new.items ≡ out.old.items ++ header_bytes self.now) }
-        ensures len { OnOk result (vec_len out.new ≡ vec_len out.old + header_size self.now) }
-        ensures capacity { vec_capacity out.old ≤ vec_capacity out.new }
-        ensures err { OnErr result (out.new.items ≡ out.old.items) }
-        ensures full { OnErr result (vec_capacity out.new < vec_len out.old + header_size self.now) }
-        ensures spare { vec_len out.old + header_size self.now ≤ vec_capacity out.old → IsOk result }
-    {
-        if out.capacity() - out.len() < LONG_ROOM {
-            return self.put_with_room(out);
-        }
-        let begin = out.len();
-        append(out, &[0; LONG_ROOM]);
-        let Some(long_len) = self.lay_long(&mut out.as_mut_slice()[begin..]) else {
-            out.truncate(begin);
-            return self.put_with_room(out);
-        };
-        out.truncate(begin + long_len);
-        Ok(())
-    }
-
-    // The same of a short head.
+    // Appends a short head.
     #[inline(never)]
     fn put_short(&self, out: &mut Vec<u8>) -> Result<(), NoRoom>
         requires { IsWritable self.now }
@@ -274,17 +288,63 @@ impl Header {
         ensures full { OnErr result (vec_capacity out.new < vec_len out.old + header_size self.now) }
         ensures spare { vec_len out.old + header_size self.now ≤ vec_capacity out.old → IsOk result }
     {
-        if out.capacity() - out.len() < SHORT_ROOM {
-            return self.put_with_room(out);
+        if let Self::Short {
+            spin,
+            key_phase,
+            dst_cid,
+            number,
+        } = self
+        {
+            if put::<SHORT_ROOM>(short_ref(*spin, *key_phase, dst_cid, number), out) {
+                return Ok(());
+            }
         }
-        let begin = out.len();
-        append(out, &[0; SHORT_ROOM]);
-        let Some(short_len) = self.lay_short(&mut out.as_mut_slice()[begin..]) else {
-            out.truncate(begin);
-            return self.put_with_room(out);
-        };
-        out.truncate(begin + short_len);
-        Ok(())
+        self.put_with_room(out)
+    }
+
+    // Appends an Initial head.
+    #[inline(never)]
+    fn put_initial(&self, out: &mut Vec<u8>) -> Result<(), NoRoom>
+        requires { IsWritable self.now }
+        ensures ok { OnOk result (out.new.items ≡ out.old.items ++ header_bytes self.now) }
+        ensures len { OnOk result (vec_len out.new ≡ vec_len out.old + header_size self.now) }
+        ensures capacity { vec_capacity out.old ≤ vec_capacity out.new }
+        ensures err { OnErr result (out.new.items ≡ out.old.items) }
+        ensures full { OnErr result (vec_capacity out.new < vec_len out.old + header_size self.now) }
+        ensures spare { vec_len out.old + header_size self.now ≤ vec_capacity out.old → IsOk result }
+    {
+        if let Self::Initial(initial) = self {
+            if put::<INITIAL_ROOM>(initial_ref(initial), out) {
+                return Ok(());
+            }
+        }
+        self.put_with_room(out)
+    }
+
+    // Appends a Handshake or 0-RTT head, or one without a number.
+    #[inline(never)]
+    fn put_long(&self, out: &mut Vec<u8>) -> Result<(), NoRoom>
+        requires { IsWritable self.now }
+        ensures ok { OnOk result (out.new.items ≡ out.old.items ++ header_bytes self.now) }
+        ensures len { OnOk result (vec_len out.new ≡ vec_len out.old + header_size self.now) }
+        ensures capacity { vec_capacity out.old ≤ vec_capacity out.new }
+        ensures err { OnErr result (out.new.items ≡ out.old.items) }
+        ensures full { OnErr result (vec_capacity out.new < vec_len out.old + header_size self.now) }
+        ensures spare { vec_len out.old + header_size self.now ≤ vec_capacity out.old → IsOk result }
+    {
+        if let Self::Long {
+            ty,
+            dst_cid,
+            src_cid,
+            number,
+            version,
+        } = self
+        {
+            if put::<LONG_ROOM>(long_ref(*ty, *version, dst_cid, src_cid, number), out) {
+                return Ok(());
+            }
+        }
+        self.put_with_room(out)
     }
 
     // Appends a head that isn't short. It is not inlined, so that for a short one its caller makes one comparison.
@@ -302,24 +362,6 @@ impl Header {
             Self::Initial(_) => self.put_initial(out),
             _ => self.put_long(out),
         }
-    }
-
-    // Makes room for the head, and appends it field by field.
-    #[inline(never)]
-    fn put_with_room(&self, out: &mut Vec<u8>) -> Result<(), NoRoom>
-        requires { IsWritable self.now }
-        ensures ok { OnOk result (out.new.items ≡ out.old.items ++ header_bytes self.now) }
-        ensures len { OnOk result (vec_len out.new ≡ vec_len out.old + header_size self.now) }
-        ensures capacity { vec_capacity out.old ≤ vec_capacity out.new }
-        ensures err { OnErr result (out.new.items ≡ out.old.items) }
-        ensures full { OnErr result (vec_capacity out.new < vec_len out.old + header_size self.now) }
-        ensures spare { vec_len out.old + header_size self.now ≤ vec_capacity out.old → IsOk result }
-    {
-        if out.reserve(self.encoded_len()).is_err() {
-            return Err(NoRoom);
-        }
-        self.put_fields(out);
-        Ok(())
     }
 
     /// How many bytes the number takes, and whether the head has a length; none for Retry and version

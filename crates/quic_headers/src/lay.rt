@@ -1,224 +1,575 @@
-//! Heads are laid over bytes that stand at a buffer's end, field behind field, by stores of whole arrays whose ends the
-//! next field covers. So a head takes one look at the room, and no field's length takes a branch.
-ghost use Rattle.std.specs.Prelude.{◌≡◌, ◌+◌, ◌*◌, ◌^◌, ◌<◌, ◌≤◌, ◌++◌, length, take, vec_len, vec_capacity, IfSome};
+//! The one writer of heads: what a head says is laid at the front of bytes, field behind field, by stores of whole arrays whose
+//! ends the next field covers.
+ghost use Rattle.std.specs.Prelude.{◌≡◌, ◌+◌, ◌*◌, ◌^◌, ◌<◌, ◌≤◌, ◌⊎◌, ◌∷◌, ◌++◌, List, ℕ, length, take, drop, replicate, true, ◌↔◌, IsTrue};
 ghost use Rattle.quic_base.specs.ConnectionId.{long_id};
 ghost use Rattle.quic_base.specs.Number.{bytes_of};
 ghost use Rattle.quic_base.specs.Varint.{short, size};
 ghost use Rattle.quic_crypto.specs.PacketNumbers.{number_bytes, number_size, IsInRange};
 ghost use Rattle.quic_headers.specs.Starts.{long_front};
-ghost use Rattle.quic_headers.specs.Writing.{header_size, header_bytes, IsWritable};
+ghost use Rattle.quic_headers.specs.Laying.{end_bytes, end_size, first_of, laid_bytes, laid_len, token_bytes, token_size, version_said, with_len, HasLayRoom, HasLongRoom, HasLow, IsExact, IsLayable, IsLong, IsShortToken, TakesLen};
 
-use crate::header::Header;
-use crate::long_type::LongHeaderType;
+use crate::long_type::HeadKind;
 use quic_base::coding::lay_array;
 use quic_base::ids::{ConnectionId, MAX_CID_SIZE};
 use quic_crypto::packet_number::PacketNumber;
 
-// Over how many bytes an Initial head is laid: enough for the longest ids and a token that is laid.
-pub(crate) const INITIAL_ROOM: usize = 96;
+/// An id that is laid.
+pub trait LaidId: Copy {
+    ghost id: { Self → List ℕ };
 
-// Over how many bytes another long head is laid.
-pub(crate) const LONG_ROOM: usize = 64;
+    ghost room: { Self → ℕ };
 
-// Over how many bytes a short head is laid.
-pub(crate) const SHORT_ROOM: usize = 32;
+    /// How many bytes it has.
+    fn len(self) -> usize
+        ensures value { result ≡ length (id self) }
+        ensures near { result ≤ room self };
 
-// Half of the longest token that is laid, by its first and its last bytes.
-const TOKEN_END: usize = 16;
+    /// Lays it at a place, and answers where it ends. The caller must ensure that it has at most 20 bytes, and that there is
+    /// room for it, for 20 bytes where it is padded.
+    fn lay(self, out: &mut [u8], at: usize) -> usize
+        requires few { length (id self) ≤ 20 }
+        requires room { at + room self ≤ length out.old }
+        ensures end { result ≡ at + length (id self) }
+        ensures near { result ≤ at + room self }
+        ensures front { take result out.new ≡ take at out.old ++ id self }
+        ensures back { drop (at + room self) out.new ≡ drop (at + room self) out.old }
+        ensures len { length out.new ≡ length out.old };
+}
 
-// Lays an id at a place, with what makes it 20 bytes, and answers where the id ends.
+/// An id with room for 20 bytes where it is laid: it is laid with what makes it 20 bytes.
+#[derive(Clone, Copy)]
+pub struct Padded<'a>(pub &'a ConnectionId);
+
+impl LaidId for Padded<'_> {
+    ghost id = { λ s. s.0.now };
+
+    ghost room = { λ s. 20 };
+
+    #[inline(always)]
+    fn len(self) -> usize {
+        self.0.as_slice().len()
+    }
+
+    #[inline(always)]
+    fn lay(self, out: &mut [u8], at: usize) -> usize {
+        lay_array(out, at, *self.0.padded());
+        at + self.0.as_slice().len()
+    }
+}
+
+/// An id of which just its own bytes are written.
+#[derive(Clone, Copy)]
+pub struct Exact<'a>(pub &'a [u8]);
+
+impl LaidId for Exact<'_> {
+    ghost id = { λ s. s.0.now };
+
+    ghost room = { λ s. length s.0.now };
+
+    #[inline(always)]
+    fn len(self) -> usize {
+        self.0.len()
+    }
+
+    #[inline(always)]
+    fn lay(self, out: &mut [u8], at: usize) -> usize {
+        lay_id(out, at, self.0)
+    }
+}
+
+/// What a head says, with ids and a token that stay where they are.
+#[derive(Clone, Copy)]
+pub struct HeaderRef<'a, I> {
+    /// The kind.
+    pub kind: HeadKind,
+    /// What the first byte has beside the bits of the type and of the number's length. Of long heads 0xc0, or 0x80 where the
+    /// fixed bit is clear (RFC 9287). Of short ones 0x40 and 0 in the same way, 0x20 for the spin bit and 0x04 for the key
+    /// phase. Of a version negotiation all of it, with 0x80.
+    pub first: u8,
+    /// The version of QUIC. Short heads and version negotiations say none.
+    pub version: u32,
+    /// The receiver's id.
+    pub dst_cid: I,
+    /// The sender's id. Short heads have none.
+    pub src_cid: I,
+    /// The token of an Initial packet.
+    pub token: &'a [u8],
+    /// The packet's number as it is written, but of Retry and version negotiation.
+    pub number: &'a PacketNumber,
+    /// How many bytes the length takes that Initial, Handshake and 0-RTT have, 2 or 4.
+    pub length_len: usize,
+}
+
+// Lays bytes by their first N and their last N.
 #[inline(always)]
-fn lay_id(head: &mut [u8], at: usize, id: &ConnectionId) -> usize
-    requires { at + MAX_CID_SIZE ≤ length head.old }
-    ensures end { result ≡ at + length id.now }
-    ensures near { result ≤ at + MAX_CID_SIZE }
-    ensures front { take result head.new ≡ take at head.old ++ id.now }
-    ensures len { length head.new ≡ length head.old }
+fn lay_ends<const N: usize>(out: &mut [u8], at: usize, bytes: &[u8]) -> usize
+    requires many { N ≤ length bytes.now }
+    requires covered { length bytes.now ≤ N + N }
+    requires room { at + length bytes.now ≤ length out.old }
+    ensures end { result ≡ at + length bytes.now }
+    ensures front { take result out.new ≡ take at out.old ++ bytes.now }
+    ensures back { drop result out.new ≡ drop result out.old }
+    ensures len { length out.new ≡ length out.old }
 {
-    lay_array(head, at, *id.padded());
-    at + id.as_slice().len()
+    let Some(first) = bytes.first_chunk::<N>() else {
+        unreachable!()
+    };
+    let Some(last) = bytes.last_chunk::<N>() else {
+        unreachable!()
+    };
+    let (first, last) = (*first, *last);
+    lay_array(out, at, first);
+    lay_array(out, at + (bytes.len() - N), last)
+}
+
+// Lays bytes at a place, and answers where they end.
+#[inline(always)]
+fn lay_bytes(out: &mut [u8], at: usize, bytes: &[u8]) -> usize
+    requires { at + length bytes.now ≤ length out.old }
+    ensures end { result ≡ at + length bytes.now }
+    ensures front { take result out.new ≡ take at out.old ++ bytes.now }
+    ensures back { drop result out.new ≡ drop result out.old }
+    ensures len { length out.new ≡ length out.old }
+{
+    let end = at + bytes.len();
+    out[at..end].copy_from_slice(bytes);
+    end
+}
+
+// Lays an id of at most 20 bytes at a place, and answers where it ends. Those of 8 bytes, the usual ones, are laid by one store.
+#[inline(always)]
+fn lay_id(out: &mut [u8], at: usize, id: &[u8]) -> usize
+    requires few { length id.now ≤ 20 }
+    requires room { at + length id.now ≤ length out.old }
+    ensures end { result ≡ at + length id.now }
+    ensures front { take result out.new ≡ take at out.old ++ id.now }
+    ensures back { drop result out.new ≡ drop result out.old }
+    ensures len { length out.new ≡ length out.old }
+{
+    let len = id.len();
+    if len == 8 {
+        lay_whole::<8>(out, at, id)
+    } else if len > 16 {
+        lay_ends::<16>(out, at, id)
+    } else if len > 8 {
+        lay_ends::<8>(out, at, id)
+    } else if len >= 4 {
+        lay_ends::<4>(out, at, id)
+    } else if len >= 2 {
+        lay_ends::<2>(out, at, id)
+    } else if len == 1 {
+        lay_whole::<1>(out, at, id)
+    } else {
+        at
+    }
+}
+
+// Lays N bytes.
+#[inline(always)]
+fn lay_whole<const N: usize>(out: &mut [u8], at: usize, bytes: &[u8]) -> usize
+    requires many { length bytes.now ≡ N }
+    requires room { at + length bytes.now ≤ length out.old }
+    ensures end { result ≡ at + length bytes.now }
+    ensures front { take result out.new ≡ take at out.old ++ bytes.now }
+    ensures back { drop result out.new ≡ drop result out.old }
+    ensures len { length out.new ≡ length out.old }
+{
+    let Some(all) = bytes.first_chunk::<N>() else {
+        unreachable!()
+    };
+    lay_array(out, at, *all)
+}
+
+/// Lays the low `len` bytes of a number at a place, and answers where they end. The caller must ensure that these are 1 to 4,
+/// and that there is room.
+#[inline(always)]
+#[tactic(auto, unfolding(quic_base::specs::Number::bytes_of))]
+pub fn lay_low(out: &mut [u8], at: usize, number: u64, len: usize) -> usize
+    requires some { 1 ≤ len }
+    requires few { len ≤ 4 }
+    requires room { at + len ≤ length out.old }
+    ensures end { result ≡ at + len }
+    ensures front { take result out.new ≡ take at out.old ++ bytes_of len number }
+    ensures back { drop result out.new ≡ drop result out.old }
+    ensures len { length out.new ≡ length out.old }
+{
+    let [_, _, _, _, first, second, third, fourth] = number.to_be_bytes();
+    if len == 2 {
+        lay_array(out, at, [third, fourth])
+    } else if len == 4 {
+        lay_array(out, at, [first, second, third, fourth])
+    } else if len == 1 {
+        lay_array(out, at, [fourth])
+    } else {
+        lay_array(out, at, [second, third, fourth])
+    }
+}
+
+/// Lays the part of a number that is written, and answers where it ends. The caller must ensure that there is room, and that a
+/// `U24` is below 2^24.
+#[inline(always)]
+#[tactic(auto, using(crate::proofs::Lays::numbers), unfolding(quic_base::specs::Number::bytes_of))]
+pub fn lay_number(out: &mut [u8], at: usize, number: PacketNumber) -> usize
+    requires valid { IsInRange number }
+    requires room { at + number_size number ≤ length out.old }
+    ensures end { result ≡ at + number_size number }
+    ensures front { take result out.new ≡ take at out.old ++ number_bytes number }
+    ensures back { drop result out.new ≡ drop result out.old }
+    ensures len { length out.new ≡ length out.old }
+{
+    match number {
+        PacketNumber::U8(x) => lay_array(out, at, [x]),
+        PacketNumber::U16(x) => lay_array(out, at, x.to_be_bytes()),
+        PacketNumber::U24(x) => {
+            let [_, high, middle, low] = x.to_be_bytes();
+            lay_array(out, at, [high, middle, low])
+        }
+        PacketNumber::U32(x) => lay_array(out, at, x.to_be_bytes()),
+    }
+}
+
+/// Lays a short head up to its number at the front, and answers where the number begins. The caller must ensure that the id has
+/// at most 20 bytes, and that there is room for it.
+#[inline(always)]
+pub fn lay_short<I: LaidId>(out: &mut [u8], first: u8, dst_cid: I) -> usize
+    requires few { length (I.id dst_cid) ≤ 20 }
+    requires room { 1 + I.room dst_cid ≤ length out.old }
+    ensures end { result ≡ 1 + length (I.id dst_cid) }
+    ensures near { result ≤ 1 + I.room dst_cid }
+    ensures front { take result out.new ≡ first ∷ I.id dst_cid }
+    ensures back { drop (1 + I.room dst_cid) out.new ≡ drop (1 + I.room dst_cid) out.old }
+    ensures len { length out.new ≡ length out.old }
+{
+    let at = lay_array(out, 0, [first]);
+    dst_cid.lay(out, at)
 }
 
 // Lays an id behind its length.
 #[inline(always)]
-fn lay_long_id(head: &mut [u8], at: usize, id: &ConnectionId) -> usize
-    requires { at + (1 + MAX_CID_SIZE) ≤ length head.old }
-    ensures end { result ≡ at + (1 + length id.now) }
-    ensures near { result ≤ at + (1 + MAX_CID_SIZE) }
-    ensures front { take result head.new ≡ take at head.old ++ long_id id.now }
-    ensures len { length head.new ≡ length head.old }
+fn lay_long_id<I: LaidId>(out: &mut [u8], at: usize, id: I) -> usize
+    requires few { length (I.id id) ≤ 20 }
+    requires room { at + (1 + I.room id) ≤ length out.old }
+    ensures end { result ≡ at + (1 + length (I.id id)) }
+    ensures near { result ≤ at + (1 + I.room id) }
+    ensures front { take result out.new ≡ take at out.old ++ long_id (I.id id) }
+    ensures back { drop (at + (1 + I.room id)) out.new ≡ drop (at + (1 + I.room id)) out.old }
+    ensures len { length out.new ≡ length out.old }
 {
-    let at = lay_array(head, at, [id.as_slice().len() as u8]);
-    lay_id(head, at, id)
+    let at = lay_array(out, at, [id.len() as u8]);
+    id.lay(out, at)
 }
 
 // Lays what each long head begins with.
 #[inline(always)]
 #[tactic(auto, unfolding(quic_base::specs::Number::bytes_of))]
-fn lay_long_start(
-    head: &mut [u8],
-    first: u8,
-    version: u32,
-    dst: &ConnectionId,
-    src: &ConnectionId,
-) -> usize
-    requires { LONG_ROOM ≤ length head.old }
-    ensures end { result ≡ 7 + length dst.now + length src.now }
-    ensures near { result ≤ 7 + 2 * MAX_CID_SIZE }
-    ensures front { take result head.new ≡ long_front first version dst.now src.now }
-    ensures len { length head.new ≡ length head.old }
+fn lay_long_start<I: LaidId>(out: &mut [u8], first: u8, version: u32, dst: I, src: I) -> usize
+    requires dst_few { length (I.id dst) ≤ 20 }
+    requires src_few { length (I.id src) ≤ 20 }
+    requires dst_room { 6 + I.room dst ≤ length out.old }
+    requires src_room { 7 + length (I.id dst) + I.room src ≤ length out.old }
+    ensures end { result ≡ 7 + length (I.id dst) + length (I.id src) }
+    ensures front { take result out.new ≡ long_front first version (I.id dst) (I.id src) }
+    ensures back { length (I.id dst) ≡ I.room dst → length (I.id src) ≡ I.room src → drop result out.new ≡ drop result out.old }
+    ensures len { length out.new ≡ length out.old }
 {
-    let at = lay_array(head, 0, [first]);
-    let at = lay_array(head, at, version.to_be_bytes());
-    let at = lay_long_id(head, at, dst);
-    lay_long_id(head, at, src)
+    let at = lay_array(out, 0, [first]);
+    let at = lay_array(out, at, version.to_be_bytes());
+    let at = lay_long_id(out, at, dst);
+    lay_long_id(out, at, src)
 }
 
-// Lays a number of three bytes at a place, with one byte behind it, and answers where the three end.
+// Lays a token behind its length, and answers where it ends. Where SHORT is true, it is empty or has 16 to 32 bytes, and no other
+// is looked for.
 #[inline(always)]
-fn lay_three(head: &mut [u8], at: usize, x: u32) -> usize
-    requires small { x < 2 ^ 24 }
-    requires room { at + 4 ≤ length head.old }
-    ensures end { result ≡ at + 3 }
-    ensures front { take result head.new ≡ take at head.old ++ bytes_of 3 x }
-    ensures len { length head.new ≡ length head.old }
+fn lay_token<const SHORT: bool>(out: &mut [u8], at: usize, token: &[u8]) -> usize
+    requires short { SHORT ≡ true → IsShortToken token.now }
+    requires numeric { length token.now < 2 ^ 62 }
+    requires room { at + (size (length token.now) + length token.now) ≤ length out.old }
+    ensures end { result ≡ at + (size (length token.now) + length token.now) }
+    ensures front { take result out.new ≡ take at out.old ++ (short (length token.now) ++ token.now) }
+    ensures back { drop result out.new ≡ drop result out.old }
+    ensures len { length out.new ≡ length out.old }
 {
-    lay_array(head, at, (x * (1 << 8)).to_be_bytes());
-    at + 3
-}
-
-// Lays the part of a number that is written, and answers where it ends.
-#[inline(always)]
-#[tactic(auto, using(crate::proofs::Lays::numbers), unfolding(quic_base::specs::Number::bytes_of))]
-fn lay_number(head: &mut [u8], at: usize, number: PacketNumber) -> usize
-    requires valid { IsInRange number }
-    requires room { at + 4 ≤ length head.old }
-    ensures end { result ≡ at + number_size number }
-    ensures near { result ≤ at + 4 }
-    ensures front { take result head.new ≡ take at head.old ++ number_bytes number }
-    ensures len { length head.new ≡ length head.old }
-{
-    match number {
-        PacketNumber::U8(x) => lay_array(head, at, [x]),
-        PacketNumber::U16(x) => lay_array(head, at, x.to_be_bytes()),
-        PacketNumber::U24(x) => lay_three(head, at, x),
-        PacketNumber::U32(x) => lay_array(head, at, x.to_be_bytes()),
+    if SHORT || token.len() < 1 << 6 {
+        lay_short_token::<SHORT>(out, at, token)
+    } else {
+        lay_long_token(out, at, token)
     }
 }
 
-// Lays a token behind its length: an empty one, or one of 16 to 32 bytes. The others are not laid.
+// Lays a token whose length takes one byte.
 #[inline(always)]
-#[tactic(auto, using(crate::proofs::Lays::short_small, crate::proofs::Lays::size_small))]
-fn lay_token(head: &mut [u8], at: usize, token: &[u8]) -> Option<usize>
-    requires { at + 33 ≤ length head.old }
-    ensures end { IfSome result (λ end. end ≡ at + (size (length token.now) + length token.now)) }
-    ensures near { IfSome result (λ end. end ≤ at + 33) }
-    ensures front { IfSome result (λ end. take end head.new ≡ take at head.old ++ (short (length token.now) ++ token.now)) }
-    ensures len { length head.new ≡ length head.old }
+#[tactic(auto, using(crate::proofs::Lays::size_small))]
+fn lay_short_token<const SHORT: bool>(out: &mut [u8], at: usize, token: &[u8]) -> usize
+    requires short { SHORT ≡ true → IsShortToken token.now }
+    requires small { length token.now < 2 ^ 6 }
+    requires room { at + (size (length token.now) + length token.now) ≤ length out.old }
+    ensures end { result ≡ at + (size (length token.now) + length token.now) }
+    ensures front { take result out.new ≡ take at out.old ++ (short (length token.now) ++ token.now) }
+    ensures back { drop result out.new ≡ drop result out.old }
+    ensures len { length out.new ≡ length out.old }
 {
-    let len = token.len();
-    if len > 2 * TOKEN_END {
-        return None;
+    let at = lay_array(out, at, [token.len() as u8]);
+    if token.len() == 0 {
+        at
+    } else {
+        lay_some::<SHORT>(out, at, token)
     }
-    let at = lay_array(head, at, [len as u8]);
-    if len == 0 {
-        return Some(at);
-    }
-    let end = lay_ends(head, at, token)?;
-    Some(end)
 }
 
-// Lays 16 to 32 bytes: the first 16, and the last 16 over them.
+// Lays bytes, of which there are some: 16 to 32 by stores.
 #[inline(always)]
-fn lay_ends(head: &mut [u8], at: usize, bytes: &[u8]) -> Option<usize>
-    requires room { at + length bytes.now ≤ length head.old }
-    requires covered { length bytes.now ≤ 32 }
-    ensures end { IfSome result (λ end. end ≡ at + length bytes.now) }
-    ensures front { IfSome result (λ end. take end head.new ≡ take at head.old ++ bytes.now) }
-    ensures len { length head.new ≡ length head.old }
+fn lay_some<const SHORT: bool>(out: &mut [u8], at: usize, bytes: &[u8]) -> usize
+    requires short { SHORT ≡ true → IsShortToken bytes.now }
+    requires some { 0 < length bytes.now }
+    requires room { at + length bytes.now ≤ length out.old }
+    ensures end { result ≡ at + length bytes.now }
+    ensures front { take result out.new ≡ take at out.old ++ bytes.now }
+    ensures back { drop result out.new ≡ drop result out.old }
+    ensures len { length out.new ≡ length out.old }
 {
-    let first = *bytes.first_chunk::<TOKEN_END>()?;
-    let last = *bytes.last_chunk::<TOKEN_END>()?;
-    lay_array(head, at, first);
-    Some(lay_array(head, at + (bytes.len() - TOKEN_END), last))
+    if SHORT || bytes.len() >= 16 && bytes.len() <= 32 {
+        lay_ends::<16>(out, at, bytes)
+    } else {
+        lay_bytes(out, at, bytes)
+    }
 }
 
-impl Header {
-    // Lays an Initial head, and answers how many bytes it has; none where its token is not laid, or it is another head.
+// Lays a number of 2^6 or more in its shortest spelling, and answers where it ends.
+#[inline(always)]
+#[tactic(auto, unfolding(quic_base::specs::Varint::short, quic_base::specs::Varint::size, quic_base::specs::Number::bytes_of))]
+fn lay_var(out: &mut [u8], at: usize, n: u64) -> usize
+    requires large { 2 ^ 6 ≤ n }
+    requires numeric { n < 2 ^ 62 }
+    requires room { at + size n ≤ length out.old }
+    ensures end { result ≡ at + size n }
+    ensures front { take result out.new ≡ take at out.old ++ short n }
+    ensures back { drop result out.new ≡ drop result out.old }
+    ensures len { length out.new ≡ length out.old }
+{
+    if n < 1 << 14 {
+        lay_array(out, at, ((1 << 14) + n as u16).to_be_bytes())
+    } else if n < 1 << 30 {
+        lay_array(out, at, ((2 << 30) + n as u32).to_be_bytes())
+    } else {
+        lay_array(out, at, ((3 << 62) + n).to_be_bytes())
+    }
+}
+
+// Lays a token whose length takes more than a byte.
+#[inline(never)]
+fn lay_long_token(out: &mut [u8], at: usize, token: &[u8]) -> usize
+    requires large { 2 ^ 6 ≤ length token.now }
+    requires numeric { length token.now < 2 ^ 62 }
+    requires room { at + (size (length token.now) + length token.now) ≤ length out.old }
+    ensures end { result ≡ at + (size (length token.now) + length token.now) }
+    ensures front { take result out.new ≡ take at out.old ++ (short (length token.now) ++ token.now) }
+    ensures back { drop result out.new ≡ drop result out.old }
+    ensures len { length out.new ≡ length out.old }
+{
+    let at = lay_var(out, at, token.len() as u64);
+    lay_bytes(out, at, token)
+}
+
+// Lays as many zeros as a length takes, 2 or 4, and answers where they end.
+#[inline(always)]
+fn lay_no_length(out: &mut [u8], at: usize, len: usize) -> usize
+    requires known { (len ≡ 2) ⊎ (len ≡ 4) }
+    requires room { at + len ≤ length out.old }
+    ensures end { result ≡ at + len }
+    ensures front { take result out.new ≡ take at out.old ++ replicate len 0 }
+    ensures back { drop result out.new ≡ drop result out.old }
+    ensures len { length out.new ≡ length out.old }
+{
+    if len == 4 {
+        lay_array(out, at, [0, 0, 0, 0])
+    } else {
+        lay_array(out, at, [0, 0])
+    }
+}
+
+impl<I: LaidId> HeaderRef<'_, I> {
+    // The first byte of a head that isn't short.
     #[inline(always)]
-    pub(crate) fn lay_initial(&self, head: &mut [u8]) -> Option<usize>
-        requires writable { IsWritable self.now }
-        requires room { INITIAL_ROOM ≤ length head.old }
-        ensures size { IfSome result (λ len. len ≡ header_size self.now) }
-        ensures front { IfSome result (λ len. take len head.new ≡ header_bytes self.now) }
-        ensures within { IfSome result (λ len. len ≤ INITIAL_ROOM) }
-        ensures len { length head.new ≡ length head.old }
+    fn long_first(&self) -> u8
+        requires long { IsLong self.now.kind }
+        requires low { HasLow self.now.kind self.now.first }
+        ensures { result ≡ first_of self.now }
     {
-        let Self::Initial(initial) = self else {
-            return None;
-        };
-        let first = LongHeaderType::Initial.byte(initial.version) + initial.number.tag();
+        match self.kind {
+            HeadKind::VersionNegotiate => self.first,
+            HeadKind::Retry => self.first + self.kind.type_bits(self.version),
+            _ => self.first + self.kind.type_bits(self.version) + self.number.tag(),
+        }
+    }
+
+    // The version that a long head says.
+    #[inline(always)]
+    fn said_version(&self) -> u32
+        ensures { result ≡ version_said self.now }
+    {
+        match self.kind {
+            HeadKind::VersionNegotiate => 0,
+            _ => self.version,
+        }
+    }
+
+    /// How many bytes the head has. The caller must ensure that its token has fewer than 2^62.
+    pub fn encoded_len(&self) -> usize
+        requires { IsLayable I.id self.now }
+        ensures { result ≡ laid_len I.id self.now }
+    {
+        match self.kind {
+            HeadKind::Short => 1 + self.dst_cid.len() + self.number.len(),
+            HeadKind::Initial => {
+                let token = var_len(self.token.len() as u64) + self.token.len();
+                7 + self.dst_cid.len()
+                    + self.src_cid.len()
+                    + token
+                    + (self.length_len + self.number.len())
+            }
+            HeadKind::Retry => 7 + self.dst_cid.len() + self.src_cid.len(),
+            HeadKind::VersionNegotiate => 7 + self.dst_cid.len() + self.src_cid.len(),
+            _ => 7
+                + self.dst_cid.len()
+                + self.src_cid.len()
+                + (self.number.len() + self.length_len),
+        }
+    }
+
+    /// Whether so many bytes have room for the head. That they have room for the longest ids is seen first.
+    #[inline(always)]
+    #[tactic(auto, using(crate::proofs::Sizes::laid_within))]
+    pub fn fits(&self, room: usize) -> bool
+        requires { IsLayable I.id self.now }
+        ensures { IsTrue result ↔ (laid_len I.id self.now ≤ room) }
+    {
+        if room >= 64 && self.token.len() <= room - 64 {
+            return true;
+        }
+        self.encoded_len() <= room
+    }
+
+    // Lays the token of an Initial head behind its length.
+    #[inline(always)]
+    fn lay_its_token<const SHORT_TOKEN: bool>(&self, out: &mut [u8], at: usize) -> usize
+        requires short { SHORT_TOKEN ≡ true → IsShortToken self.now.token.now }
+        requires numeric { length self.now.token.now < 2 ^ 62 }
+        requires room { at + token_size self.now.kind self.now.token.now ≤ length out.old }
+        ensures end { result ≡ at + token_size self.now.kind self.now.token.now }
+        ensures front { take result out.new ≡ take at out.old ++ token_bytes self.now }
+        ensures back { drop result out.new ≡ drop result out.old }
+        ensures len { length out.new ≡ length out.old }
+    {
+        match self.kind {
+            HeadKind::Initial => lay_token::<SHORT_TOKEN>(out, at, self.token),
+            _ => at,
+        }
+    }
+
+    // Lays what stands behind the ids and the token: a length that isn't said yet, and the number.
+    #[inline(always)]
+    fn lay_end(&self, out: &mut [u8], at: usize) -> usize
+        requires known { (self.now.length_len ≡ 2) ⊎ (self.now.length_len ≡ 4) }
+        requires valid { IsInRange self.now.number.now }
+        requires room { at + end_size self.now.kind self.now.length_len self.now.number.now ≤ length out.old }
+        ensures end { result ≡ at + end_size self.now.kind self.now.length_len self.now.number.now }
+        ensures front { take result out.new ≡ take at out.old ++ end_bytes self.now }
+        ensures back { drop result out.new ≡ drop result out.old }
+        ensures len { length out.new ≡ length out.old }
+    {
+        if !self.kind.has_len() {
+            return at;
+        }
+        let at = lay_no_length(out, at, self.length_len);
+        lay_number(out, at, *self.number)
+    }
+
+    /// Lays a head that isn't short at the front, and answers how many bytes it has. Its length, where it has one, is 0, which
+    /// `set_len` or `PartialEncode::finish` fill in. The caller must ensure that there is room for it, and where SHORT_TOKEN is
+    /// true that the token is empty or has 16 to 32 bytes.
+    #[inline(always)]
+    pub fn lay_long<const SHORT_TOKEN: bool>(&self, out: &mut [u8]) -> usize
+        requires long { IsLong self.now.kind }
+        requires layable { IsLayable I.id self.now }
+        requires short { SHORT_TOKEN ≡ true → IsShortToken self.now.token.now }
+        requires room { HasLongRoom I.id I.room self.now (length out.old) }
+        ensures end { result ≡ laid_len I.id self.now }
+        ensures front { take result out.new ≡ laid_bytes I.id self.now }
+        ensures back { IsExact I.id I.room self.now → drop result out.new ≡ drop result out.old }
+        ensures len { length out.new ≡ length out.old }
+    {
         let at = lay_long_start(
-            head,
-            first,
-            initial.version,
-            &initial.dst_cid,
-            &initial.src_cid,
+            out,
+            self.long_first(),
+            self.said_version(),
+            self.dst_cid,
+            self.src_cid,
         );
-        let at = lay_token(head, at, initial.token.as_slice())?;
-        let at = lay_array(head, at, [0, 0]);
-        Some(lay_number(head, at, initial.number))
+        let at = self.lay_its_token::<SHORT_TOKEN>(out, at);
+        self.lay_end(out, at)
     }
 
-    // Lays a Handshake or 0-RTT head, and answers how many bytes it has; none where it is another head.
+    /// Lays a head at the front, and answers how many bytes it has, likewise.
     #[inline(always)]
-    pub(crate) fn lay_long(&self, head: &mut [u8]) -> Option<usize>
-        requires writable { IsWritable self.now }
-        requires room { LONG_ROOM ≤ length head.old }
-        ensures size { IfSome result (λ len. len ≡ header_size self.now) }
-        ensures front { IfSome result (λ len. take len head.new ≡ header_bytes self.now) }
-        ensures within { IfSome result (λ len. len ≤ LONG_ROOM) }
-        ensures len { length head.new ≡ length head.old }
+    pub fn lay<const SHORT_TOKEN: bool>(&self, out: &mut [u8]) -> usize
+        requires layable { IsLayable I.id self.now }
+        requires short { SHORT_TOKEN ≡ true → IsShortToken self.now.token.now }
+        requires room { HasLayRoom I.id I.room self.now (length out.old) }
+        ensures end { result ≡ laid_len I.id self.now }
+        ensures front { take result out.new ≡ laid_bytes I.id self.now }
+        ensures back { IsExact I.id I.room self.now → drop result out.new ≡ drop result out.old }
+        ensures len { length out.new ≡ length out.old }
     {
-        let Self::Long {
-            ty,
-            dst_cid,
-            src_cid,
-            number,
-            version,
-        } = self
-        else {
-            return None;
-        };
-        let first = LongHeaderType::Standard(*ty).byte(*version) + number.tag();
-        let at = lay_long_start(head, first, *version, dst_cid, src_cid);
-        let at = lay_array(head, at, [0, 0]);
-        Some(lay_number(head, at, *number))
+        match self.kind {
+            HeadKind::Short => {
+                let at = lay_short(out, self.first + self.number.tag(), self.dst_cid);
+                lay_number(out, at, *self.number)
+            }
+            _ => self.lay_long::<SHORT_TOKEN>(out),
+        }
     }
+}
 
-    // Lays a short head, and answers how many bytes it has; none where it is another head.
-    #[inline(always)]
-    pub(crate) fn lay_short(&self, head: &mut [u8]) -> Option<usize>
-        requires writable { IsWritable self.now }
-        requires room { SHORT_ROOM ≤ length head.old }
-        ensures size { IfSome result (λ len. len ≡ header_size self.now) }
-        ensures front { IfSome result (λ len. take len head.new ≡ header_bytes self.now) }
-        ensures within { IfSome result (λ len. len ≤ SHORT_ROOM) }
-        ensures len { length head.new ≡ length head.old }
-    {
-        let Self::Short {
-            spin,
-            key_phase,
-            dst_cid,
-            number,
-        } = self
-        else {
-            return None;
-        };
-        let spin = if *spin { 0x20 } else { 0 };
-        let key_phase = if *key_phase { 0x04 } else { 0 };
-        let at = lay_array(head, 0, [0x40 + spin + key_phase + number.tag()]);
-        let at = lay_id(head, at, dst_cid);
-        Some(lay_number(head, at, *number))
+// How many bytes the shortest spelling of a number takes.
+#[inline(always)]
+#[tactic(auto, unfolding(quic_base::specs::Varint::size))]
+fn var_len(n: u64) -> usize
+    requires { n < 2 ^ 62 }
+    ensures value { result ≡ size n }
+    ensures low { 1 ≤ result }
+    ensures high { result ≤ 8 }
+{
+    if n < 1 << 6 {
+        1
+    } else if n < 1 << 14 {
+        2
+    } else if n < 1 << 30 {
+        4
+    } else {
+        8
+    }
+}
+
+/// Writes how many bytes a packet has from a place on, where its number begins, into the length before it, which has 2 or 4 bytes
+/// (RFC 9000, section 17.2). Answers false where it has another count of them, where there is no such place, or where what is to
+/// be counted doesn't fit: 2^14 or more, or 2^30 or more; then nothing changes.
+pub fn set_len(packet: &mut [u8], place: usize, length_len: usize) -> bool
+    ensures set { IsTrue result → packet.new ≡ with_len length_len place packet.old }
+    ensures taken { IsTrue result ↔ TakesLen length_len place (length packet.old) }
+    ensures same { IsTrue result ⊎ (packet.new ≡ packet.old) }
+{
+    if place > packet.len() || place < length_len {
+        return false;
+    }
+    let count = packet.len() - place;
+    if length_len == 2 && count < 1 << 14 {
+        lay_array(packet, place - 2, (count as u16 + (1 << 14)).to_be_bytes());
+        true
+    } else if length_len == 4 && count < 1 << 30 {
+        lay_array(packet, place - 4, (count as u32 + (2 << 30)).to_be_bytes());
+        true
+    } else {
+        false
     }
 }

@@ -3,5 +3,6 @@
 
 pub mod encode;
 pub mod header;
-mod lay;
+pub mod laws;
+pub mod lay;
 pub mod long_type;

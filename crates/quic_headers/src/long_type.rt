@@ -1,5 +1,6 @@
 //! The first bytes of heads, and the types of long heads (RFC 9000, section 17.2; RFC 9369, section 3.2).
-ghost use Rattle.std.specs.Prelude.{◌≡◌};
+ghost use Rattle.std.specs.Prelude.{◌≡◌, ◌≤◌};
+ghost use Rattle.quic_headers.specs.Laying.{kind_of, says_length, says_number, type_bits, IsTyped};
 ghost use Rattle.quic_headers.specs.Types.{first_byte, long_type};
 
 /// The bit of a first byte that is set in long heads.
@@ -18,6 +19,81 @@ pub const VERSION_2: u32 = 0x6b33_43cf;
 const _: () = prove!(LONG_HEADER_FORM == 128 && FIXED_BIT == 64 && SPIN_BIT == 32);
 
 const _: () = prove!(VERSION_2 == 1_798_521_807);
+
+/// The kinds of heads.
+#[derive(Clone, Copy, Debug, PartialEq, Eq)]
+pub enum HeadKind {
+    /// Of an Initial packet (RFC 9000, section 17.2.2).
+    Initial,
+    /// Of a 0-RTT packet (RFC 9000, section 17.2.3).
+    ZeroRtt,
+    /// Of a Handshake packet (RFC 9000, section 17.2.4).
+    Handshake,
+    /// Of a Retry packet (RFC 9000, section 17.2.5).
+    Retry,
+    /// Of a 1-RTT packet (RFC 9000, section 17.3.1).
+    Short,
+    /// Of a version negotiation (RFC 9000, section 17.2.1).
+    VersionNegotiate,
+}
+
+impl HeadKind {
+    /// The kind of a long head of a version, by its first byte.
+    #[inline(always)]
+    pub fn of_long(first: u8, version: u32) -> HeadKind
+        ensures { result ≡ kind_of (long_type version first) }
+    {
+        let behind = if version == VERSION_2 { 3 } else { 0 };
+        match (first / 16 + behind) % 4 {
+            0 => HeadKind::Initial,
+            1 => HeadKind::ZeroRtt,
+            2 => HeadKind::Handshake,
+            _ => HeadKind::Retry,
+        }
+    }
+
+    /// The bits of a long head's first byte that say its type under a version. The caller must ensure that it says one.
+    #[inline(always)]
+    pub fn type_bits(self, version: u32) -> u8
+        requires { IsTyped self }
+        ensures value { result ≡ type_bits self version }
+        ensures few { result ≤ 48 }
+    {
+        let number = match self {
+            HeadKind::Initial => 0,
+            HeadKind::ZeroRtt => 1,
+            HeadKind::Handshake => 2,
+            _ => 3,
+        };
+        let before = if version == VERSION_2 { 1 } else { 0 };
+        (number + before) % 4 * 16
+    }
+
+    /// Whether the packet has a number.
+    #[inline(always)]
+    pub fn has_number(self) -> bool
+        ensures { result ≡ says_number self }
+    {
+        match self {
+            HeadKind::Retry => false,
+            HeadKind::VersionNegotiate => false,
+            _ => true,
+        }
+    }
+
+    /// Whether the head says a length.
+    #[inline(always)]
+    pub fn has_len(self) -> bool
+        ensures { result ≡ says_length self }
+    {
+        match self {
+            HeadKind::Initial => true,
+            HeadKind::ZeroRtt => true,
+            HeadKind::Handshake => true,
+            _ => false,
+        }
+    }
+}
 
 /// Long heads of one form.
 #[derive(Clone, Copy, Debug, PartialEq, Eq)]

@@ -9,3 +9,4 @@ pub mod Made
 pub mod Rows
 mod Scans
 pub mod Steps
+mod Wide

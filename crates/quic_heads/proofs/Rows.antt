@@ -41,10 +41,10 @@ any_again (v ∷ versions) version zero lt e =
 any_again (v ∷ versions) version (suc k) lt e =
     or_right (nat_eq v version) (list_any (λ known. nat_eq known version) versions) (any_again versions version k (omega arith) e)
 
-known_again : (versions : List ℕ) (version : ℕ) → Contains versions version → not (list_any (λ known. nat_eq known version) versions) ≡ false
+pub known_again : (versions : List ℕ) (version : ℕ) → Contains versions version → not (list_any (λ known. nat_eq known version) versions) ≡ false
 known_again versions version h = ap not (any_again versions version h.0 h.1 h.2)
 
-known_at : (versions : List ℕ) (version : ℕ) → list_any (λ known. nat_eq known version) versions ≡ true → Contains versions version
+pub known_at : (versions : List ℕ) (version : ℕ) → list_any (λ known. nat_eq known version) versions ≡ true → Contains versions version
 known_at [] version e = absurd cc
 known_at (v ∷ versions) version e =
     elim (or_true (nat_eq v version) (list_any (λ known. nat_eq known version) versions) e) [

@@ -1,43 +1,27 @@
 -- Where fields stand, and what a scan answers.
-use Rattle.std.specs.Prelude.{◌≡◌, ℕ, ◌+◌, ◌-◌, ◌<◌, ◌≤◌, List, ◌∷◌, ◌++◌, length, take, drop, Some, slice_range, Result, Ok, Err, nat_lt, true, codes, unwrap_or}
+use Rattle.std.specs.Prelude.{◌≡◌, ℕ, ◌+◌, ◌-◌, ◌<◌, ◌≤◌, List, ◌∷◌, ◌++◌, length, take, drop, None, Some, slice_range, Result, Ok, Err, nat_lt, true, false, codes, unwrap_or}
 use Rattle.std.proofs.Common.{sym, ap, ◌∙◌, arith, cond, refl, length-append, length-drop}
 use Rattle.std.proofs.lemmas.List.{drop-drop}
 use Rattle.std.proofs.lemmas.Bool.Decides.{nat_tests}
 use Rattle.quic_heads.specs.declared.protected.ProtectedHeader.{ProtectedHeader}
-use Rattle.quic_heads.specs.Fields.{id_at}
+use Rattle.quic_heads.specs.Fields.{id_at, wide_id_at}
 use Rattle.quic_heads.specs.Refusal.{Refusal, Invalid}
 use Rattle.quic_heads.specs.Reading.{Context, head_at, cut_at, len_in}
 use Rattle.quic_heads.proofs.FieldLaws.{id_found}
-use Rattle.quic_heads.proofs.Steps.{take_front, taken, then_err}
+use Rattle.quic_heads.proofs.Steps.{otherwise, some_pair, take_front, taken, then_err}
 
--- an id that was read stands behind its length
-id_place : (bytes : List ℕ) (old new : ℕ) (id : List ℕ) → old ≤ length bytes → new ≤ length bytes
-    → drop old bytes ≡ length id ∷ (id ++ drop new bytes) → (new ≡ old + 1 + length id) × (slice_range bytes (old + 1) new ≡ id)
-id_place bytes old new id before after split =
-    let stop : new ≡ old + 1 + length id = omega (arith, ap length split, length-append id (drop new bytes), length-drop old bytes, length-drop new bytes) in
-    let tail : drop (old + 1) bytes ≡ id ++ drop new bytes = sym (drop-drop 1 old bytes) ∙ ap (drop 1) split in
-    let width : length id ≡ new - (old + 1) = omega arith in
-    (stop, ap (take (new - (old + 1))) tail ∙ take_front id (drop new bytes) (new - (old + 1)) width)
+-- an id of any version stands behind its length
+wide_parts : (tail : List ℕ) (n : ℕ) → n ≤ length tail → wide_id_at (n ∷ tail) ≡ Some (take n tail, drop n tail)
+wide_parts tail n room =
+    let test : nat_lt (length tail) n ≡ false = grind (arith, nat_tests) in
+    otherwise (nat_lt (length tail) n) None (Some (take n tail, drop n tail)) _ test refl
 
-pub id_stands : (bytes : List ℕ) (old new : ℕ) (id : List ℕ) → old ≤ length bytes → new ≤ length bytes
-    → id_at (drop old bytes) ≡ Some (id, drop new bytes) → (new ≡ old + 1 + length id) × (slice_range bytes (old + 1) new ≡ id)
-id_stands bytes old new id before after read = id_place bytes old new id before after (id_found (drop old bytes) id (drop new bytes) read).1
-
--- where no head is read, nothing is cut
-pub cut_refused : (context : Context) (bytes : List ℕ) (e : Refusal) → head_at context (length bytes) bytes ≡ Err e → cut_at context bytes ≡ Err e
-unfolding cut_at
-cut_refused context bytes e read = then_err _ _ e read
-
-past : (e : Refusal) (left len : ℕ) (r : Result (ProtectedHeader × ℕ × ℕ) Refusal) → left < len → cond (nat_lt left len) (Err e) r ≡ Err e
-past e left len r lt =
-    let test : nat_lt left len ≡ true = grind (arith, nat_tests) in
-    taken (nat_lt left len) (Err e) r (Err e) test refl
-
--- nor where the length is beyond the end
-pub cut_past : (context : Context) (bytes : List ℕ) (stop remaining len : ℕ) (h : ProtectedHeader)
-    → head_at context (length bytes) bytes ≡ Ok (h, drop stop bytes)
-    → remaining ≡ length (drop stop bytes) → len ≡ unwrap_or (len_in h) remaining → remaining < len
-    → cut_at context bytes ≡ Err (Invalid (codes "packet too short to contain payload length"))
-unfolding cut_at
-cut_past context bytes stop remaining len h read left len_is lt =
-    rw (read, ← left, ← len_is) (past (Invalid (codes "packet too short to contain payload length")) remaining len _ lt)
+pub wide_stands : (bytes : List ℕ) (at n : ℕ) (tail : List ℕ) → at ≤ length bytes → drop at bytes ≡ n ∷ tail → n ≤ length tail
+    → wide_id_at (drop at bytes) ≡ Some (slice_range bytes (at + 1) (at + 1 + n), drop (at + 1 + n) bytes)
+wide_stands bytes at n tail before split room =
+    let behind : drop (at + 1) bytes ≡ tail = sym (drop-drop 1 at bytes) ∙ ap (drop 1) split in
+    let width : at + 1 + n - (at + 1) ≡ n = omega arith in
+    ap wide_id_at split ∙ wide_parts tail n room
+    ∙ some_pair (take n tail) _ (drop n tail) _
+    (ap (take n) (sym behind) ∙ ap (λ (k : ℕ). take k (drop (at + 1) bytes)) (sym width))
+    (ap (drop n) (sym behind) ∙ drop-drop n (at + 1) bytes)

@@ -5,7 +5,7 @@ pub mod Grammar
 pub mod Headers
 pub mod Packet
 pub mod Parsers
+pub mod Places
 pub mod Queries
 pub mod Reading
 pub mod Refusal
-pub mod Scan

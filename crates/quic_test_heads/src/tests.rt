@@ -5,6 +5,6 @@ mod beginnings_answers;
 mod calls;
 mod heads_refused;
 mod parsers;
+mod places;
 mod rows;
-mod scans;
 mod texts;

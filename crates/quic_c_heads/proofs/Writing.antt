@@ -1,0 +1,293 @@
+-- The head that words say, and its bytes.
+use Rattle.std.proofs.Common.{◌≡◌, ℕ, ◌+◌, ◌-◌, ◌*◌, ◌/◌, ◌%◌, ◌<◌, ◌≤◌, ◌^◌, ◌⊎◌, Bool, true, false, List, [], ◌∷◌, ◌++◌, length, take, drop, replicate, refl, sym, ap, subst, ◌∙◌, inl, inr, arith, cond}
+use Rattle.std.specs.Prelude.{bit_or, nat_eq}
+use Rattle.std.proofs.lemmas.Bool.{cases_eq}
+use Rattle.std.proofs.lemmas.List.{length-take-le, nil_from_length, take-append-drop}
+use Rattle.std.proofs.lemmas.Bool.Decides.{nat_tests}
+use Rattle.std.specs.Int.{byte_at}
+use Rattle.quic_base.specs.Number.{bytes_of}
+use Rattle.quic_crypto.specs.declared.packet_number.PacketNumber.{PacketNumber}
+use Rattle.quic_crypto.specs.PacketNumbers.{low_part, number_bytes, number_size, window_of, IsInRange}
+use Rattle.quic_headers.specs.declared.long_type.HeadKind.{HeadKind}
+use Rattle.quic_headers.specs.declared.long_type.HeadKind.TheVariants as kind
+use Rattle.quic_headers.specs.declared.header.Header.{Header}
+use Rattle.quic_headers.specs.Laying.{begun_by, has_bit, head_of, number_bits, type_bits}
+use Rattle.quic_headers.specs.Writing.{bit, head_with}
+use Rattle.quic_c_heads.specs.declared.words.SaidWords.{SaidWords}
+use Rattle.quic_c_heads.specs.Heads.{part_of, said_bytes, CanWrite}
+use Rattle.quic_c_heads.specs.Reading.{kind_word}
+use Rattle.quic_c_heads.specs.Shapes.{first_word, IsShaped}
+use Rattle.quic_c_heads.specs.Written.{short_words}
+
+-- whether the fixed bit is cleared
+abbrev pub clear_by : HeadKind → ℕ → Bool
+clear_by kind.Initial flags = has_bit 64 flags
+clear_by kind.ZeroRtt flags = has_bit 64 flags
+clear_by kind.Handshake flags = has_bit 64 flags
+clear_by kind.Retry flags = has_bit 64 flags
+clear_by kind.Short flags = has_bit 64 flags
+clear_by kind.VersionNegotiate flags = false
+
+-- the head that they say
+abbrev pub head_said : HeadKind → SaidWords → List ℕ → List ℕ → List ℕ → Header
+head_said k words dst src token = head_of k words.flags words.version dst src token (part_of words.number_len words.number)
+
+bit_at : (x n : ℕ) → x < 2 → bit (nat_eq x 1) n ≡ n * x
+bit_at x n lt = grind (arith, nat_tests)
+
+-- the bits of flags
+clear_is : (f : ℕ) → bit (has_bit 64 f) 64 ≡ 64 * (f / 64 % 2)
+clear_is f = bit_at (f / 64 % 2) 64 (omega arith)
+
+spin_is : (f : ℕ) → bit (has_bit 32 f) 32 ≡ 32 * (f / 32 % 2)
+spin_is f = bit_at (f / 32 % 2) 32 (omega arith)
+
+phase_is : (f : ℕ) → bit (has_bit 4 f) 4 ≡ 4 * (f / 4 % 2)
+phase_is f = bit_at (f / 4 % 2) 4 (omega arith)
+
+long_flags : (f : ℕ) → (f ≡ 0) ⊎ (f ≡ 64) → f ≡ bit (has_bit 64 f) 64
+long_flags f e = omega (arith, e, clear_is f)
+
+short_flags : (f : ℕ) → f < 128 → (f % 32 ≡ 0) ⊎ (f % 32 ≡ 4) → f ≡ bit (has_bit 64 f) 64 + bit (has_bit 32 f) 32 + bit (has_bit 4 f) 4
+short_flags f low e = omega (arith, e, clear_is f, spin_is f, phase_is f)
+
+-- the part of a number that is written
+abbrev Part : ℕ → ℕ → Type 0
+Part number len = (len ≡ number_size (part_of len number)) × (low_part (part_of len number) ≡ number % window_of (part_of len number)) × IsInRange (part_of len number)
+
+pub part_says : (len number : ℕ) → 1 ≤ len → len ≤ 4 → Part number len
+part_says len number some few = elim (cases_eq len 2) [
+  | inl e ↦ subst (Part number) (sym e) (refl, refl, omega arith)
+  | inr a ↦ elim (cases_eq len 3) [
+    | inl e ↦ subst (Part number) (sym e) (refl, refl, omega arith)
+    | inr b ↦ elim (cases_eq len 4) [
+      | inl e ↦ subst (Part number) (sym e) (refl, refl, omega arith)
+      | inr d ↦ (let e : 1 ≡ len = omega (arith, some, few, a, b, d) in subst (Part number) e (refl, refl, omega arith))
+    ]
+  ]
+]
+
+-- ---- that it can be written
+
+pub can_said : (k : HeadKind) (words : SaidWords) (dst src token : List ℕ) → IsShaped words dst src token → kind_word k ≡ words.kind
+    → CanWrite words dst src token (clear_by k words.flags) (head_said k words dst src token)
+can_said kind.Initial words dst src token s e =
+    let part = part_says words.number_len words.number (s.numbered.some (inl (omega (arith, e)))) s.numbered.few in
+    record {
+      says = record {
+        kind = sym e;
+        flags = long_flags words.flags (s.plain.fixed (omega (arith, e)));
+        fixed = tt;
+        version = refl;
+        number = (s.numbered.small, part.0, part.1);
+        len = s.numbered.len (omega (arith, e));
+        dst_is = refl;
+        src_is = refl;
+        token_is = refl;
+      };
+      dst_few = s.parts.dst_few;
+      src_few = s.parts.src_few;
+      low = s.plain.low;
+      writable = (s.parts.token_short, part.2);
+    }
+can_said kind.ZeroRtt words dst src token s e =
+    let part = part_says words.number_len words.number (s.numbered.some (inl (omega (arith, e)))) s.numbered.few in
+    record {
+      says = record {
+        kind = sym e;
+        flags = long_flags words.flags (s.plain.fixed (omega (arith, e)));
+        fixed = tt;
+        version = refl;
+        number = (s.numbered.small, part.0, part.1);
+        len = s.numbered.len (omega (arith, e));
+        dst_is = refl;
+        src_is = refl;
+        token_is = nil_from_length token (s.parts.no_token (omega (arith, e)));
+      };
+      dst_few = s.parts.dst_few;
+      src_few = s.parts.src_few;
+      low = s.plain.low;
+      writable = part.2;
+    }
+can_said kind.Handshake words dst src token s e =
+    let part = part_says words.number_len words.number (s.numbered.some (inl (omega (arith, e)))) s.numbered.few in
+    record {
+      says = record {
+        kind = sym e;
+        flags = long_flags words.flags (s.plain.fixed (omega (arith, e)));
+        fixed = tt;
+        version = refl;
+        number = (s.numbered.small, part.0, part.1);
+        len = s.numbered.len (omega (arith, e));
+        dst_is = refl;
+        src_is = refl;
+        token_is = nil_from_length token (s.parts.no_token (omega (arith, e)));
+      };
+      dst_few = s.parts.dst_few;
+      src_few = s.parts.src_few;
+      low = s.plain.low;
+      writable = part.2;
+    }
+can_said kind.Retry words dst src token s e = record {
+  says = record {
+    kind = sym e;
+    flags = long_flags words.flags (s.plain.fixed (omega (arith, e)));
+    fixed = tt;
+    version = refl;
+    number = s.numbered.none (inl (sym e));
+    len = s.numbered.no_len (omega (arith, e));
+    dst_is = refl;
+    src_is = refl;
+    token_is = nil_from_length token (s.parts.no_token (omega (arith, e)));
+  };
+  dst_few = s.parts.dst_few;
+  src_few = s.parts.src_few;
+  low = s.plain.low;
+  writable = tt;
+}
+can_said kind.Short words dst src token s e =
+    let part = part_says words.number_len words.number (s.numbered.some (inr (sym e))) s.numbered.few in
+    record {
+      says = record {
+        kind = sym e;
+        flags = short_flags words.flags s.plain.low (s.plain.bits (sym e));
+        fixed = tt;
+        version = s.plain.version (omega (arith, e));
+        number = (s.numbered.small, part.0, part.1);
+        len = s.numbered.no_len (omega (arith, e));
+        dst_is = refl;
+        src_is = nil_from_length src (s.parts.no_src (sym e));
+        token_is = nil_from_length token (s.parts.no_token (omega (arith, e)));
+      };
+      dst_few = s.parts.dst_few;
+      src_few = s.parts.src_few;
+      low = s.plain.low;
+      writable = part.2;
+    }
+can_said kind.VersionNegotiate words dst src token s e = record {
+  says = record {
+    kind = sym e;
+    flags = (let low : words.flags < 128 = s.plain.low in omega arith);
+    fixed = refl;
+    version = s.plain.version (omega (arith, e));
+    number = s.numbered.none (inr (sym e));
+    len = s.numbered.no_len (omega (arith, e));
+    dst_is = refl;
+    src_is = refl;
+    token_is = nil_from_length token (s.parts.no_token (omega (arith, e)));
+  };
+  dst_few = s.parts.dst_few;
+  src_few = s.parts.src_few;
+  low = s.plain.low;
+  writable = tt;
+}
+
+-- ---- the bytes
+
+begun_same : (f g : ℕ) (h : ℕ → List ℕ) (a b : ℕ) → f ≡ g → a ≡ b → begun_by f (h a) ≡ begun_by g (h b)
+begun_same f g h a b e same = ap (λ (x : ℕ). begun_by x (h a)) e ∙ ap (λ (n : ℕ). begun_by g (h n)) same
+
+-- what is laid of them
+abbrev pub laid_said : HeadKind → ℕ → SaidWords → List ℕ → List ℕ → List ℕ → List ℕ
+laid_said k len words dst src token =
+    let number = part_of words.number_len words.number in
+    begun_by (first_word k words.flags + type_bits k words.version + number_bits k number)
+    (head_with (replicate len 0) (head_of k (first_word k words.flags) words.version dst src token number))
+
+pub laid_as : (k : HeadKind) (f len : ℕ) (words : SaidWords) (dst src token : List ℕ) (number : PacketNumber) → f ≡ first_word k words.flags
+    → number ≡ part_of words.number_len words.number
+    → begun_by (f + type_bits k words.version + number_bits k number) (head_with (replicate len 0) (head_of k f words.version dst src token number))
+    ≡ laid_said k len words dst src token
+laid_as k f len words dst src token number e is =
+    ap (λ (g : ℕ). begun_by (g + type_bits k words.version + number_bits k number) (head_with (replicate len 0) (head_of k g words.version dst src token number))) e
+    ∙ ap (λ (p : PacketNumber). begun_by (first_word k words.flags + type_bits k words.version + number_bits k p)
+    (head_with (replicate len 0) (head_of k (first_word k words.flags) words.version dst src token p))) is
+
+pub bytes_said : (k : HeadKind) (len : ℕ) (words : SaidWords) (dst src token : List ℕ) → IsShaped words dst src token → kind_word k ≡ words.kind
+    → ((words.length_len ≡ 2) ⊎ (words.length_len ≡ 4) → len ≡ words.length_len)
+    → laid_said k len words dst src token ≡ said_bytes words.length_len (clear_by k words.flags) (head_said k words dst src token)
+bytes_said kind.Initial len words dst src token s e same =
+    begun_same _ _ (λ n. head_with (replicate n 0) (head_said kind.Initial words dst src token)) len words.length_len
+    (omega (arith, s.plain.fixed (omega (arith, e)), clear_is words.flags)) (same (s.numbered.len (omega (arith, e))))
+bytes_said kind.ZeroRtt len words dst src token s e same =
+    begun_same _ _ (λ n. head_with (replicate n 0) (head_said kind.ZeroRtt words dst src token)) len words.length_len
+    (omega (arith, s.plain.fixed (omega (arith, e)), clear_is words.flags)) (same (s.numbered.len (omega (arith, e))))
+bytes_said kind.Handshake len words dst src token s e same =
+    begun_same _ _ (λ n. head_with (replicate n 0) (head_said kind.Handshake words dst src token)) len words.length_len
+    (omega (arith, s.plain.fixed (omega (arith, e)), clear_is words.flags)) (same (s.numbered.len (omega (arith, e))))
+bytes_said kind.Retry len words dst src token s e same =
+    ap (λ (f : ℕ). begun_by f (head_with (replicate 0 0) (head_said kind.Retry words dst src token)))
+    (let g : first_word kind.Retry words.flags + type_bits kind.Retry words.version + 0 ≡ 192 + type_bits kind.Retry words.version - bit (has_bit 64 words.flags) 64 =
+    omega (arith, s.plain.fixed (omega (arith, e)), clear_is words.flags) in g)
+bytes_said kind.Short len words dst src token s e same =
+    let number : PacketNumber = part_of words.number_len words.number in
+    ap (λ (f : ℕ). f ∷ (dst ++ number_bytes number))
+    (let g : first_word kind.Short words.flags + 0 + (number_size number - 1)
+    ≡ 64 + bit (has_bit 32 words.flags) 32 + bit (has_bit 4 words.flags) 4 + (number_size number - 1) - bit (has_bit 64 words.flags) 64 =
+    omega (arith, s.plain.low, s.plain.bits (sym e), clear_is words.flags, spin_is words.flags, phase_is words.flags) in g)
+bytes_said kind.VersionNegotiate len words dst src token s e same =
+    let low : words.flags % 128 ≡ words.flags = (let lt : words.flags < 128 = s.plain.low in omega arith) in
+    ap (λ (f : ℕ). begun_by f (head_with (replicate 0 0) (head_said kind.VersionNegotiate words dst src token)))
+    (let g : bit_or 128 words.flags + 0 + 0 ≡ bit_or 128 (words.flags % 128) - 0 = omega (arith, ap (bit_or 128) low) in g)
+
+-- ---- what was written
+
+pub written : (n : ℕ) (old new bytes said : List ℕ) → n ≤ length new → take n new ≡ bytes → drop n new ≡ drop n old → bytes ≡ said
+    → (new ≡ said ++ drop n old) × (n ≡ length said)
+written n old new bytes said within front back same = (
+  sym (take-append-drop n new) ∙ ap (λ (xs : List ℕ). xs ++ drop n new) (front ∙ same) ∙ ap (λ (xs : List ℕ). said ++ xs) back,
+  sym (length-take-le n new within) ∙ ap length (front ∙ same),
+)
+
+-- ---- short heads by their first byte
+
+pub short_shaped : (first number : ℕ) (dst : List ℕ) → first < 128 → first / 8 % 4 ≡ 0 → number < 2 ^ 62 → length dst ≤ 20 → IsShaped (short_words first number) dst [] []
+short_shaped first number dst low clear small few = record {
+  known = omega arith;
+  numbered = record {
+    some = λ _. omega arith;
+    few = omega arith;
+    small = small;
+    none = λ e. absurd (omega (arith, e));
+    len = λ e. absurd (omega (arith, e));
+    no_len = λ _. refl;
+  };
+  plain = record {
+    fixed = λ e. absurd (omega (arith, e));
+    bits = λ _. elim (cases_eq (first / 4 % 2) 0) [ inl none ↦ inl (omega (arith, low, clear, none)) | inr some ↦ inr (omega (arith, low, clear, some)) ];
+    low = omega arith;
+    version = λ _. refl;
+  };
+  parts = record { dst_few = few; src_few = omega arith; no_src = λ _. refl; no_token = λ _. refl; token_short = omega arith };
+}
+
+low_bytes : (len number : ℕ) → 1 ≤ len → len ≤ 4 → number_bytes (part_of len number) ≡ bytes_of len number
+unfolding bytes_of
+low_bytes len number some few =
+    let P : ℕ → Type 0 = λ n. number_bytes (part_of n number) ≡ bytes_of n number in
+    elim (cases_eq len 2) [
+      | inl e ↦ subst P (sym e) (let a : byte_at 0 (number % 2 ^ 16) ≡ byte_at 0 number = omega arith in let b : byte_at 1 (number % 2 ^ 16) ≡ byte_at 1 number = omega arith in cc)
+      | inr x ↦ elim (cases_eq len 3) [
+        | inl e ↦ subst P (sym e) (let a : byte_at 0 (number % 2 ^ 24) ≡ byte_at 0 number = omega arith in let b : byte_at 1 (number % 2 ^ 24) ≡ byte_at 1 number = omega arith in
+            let d : byte_at 2 (number % 2 ^ 24) ≡ byte_at 2 number = omega arith in cc)
+        | inr y ↦ elim (cases_eq len 4) [
+          | inl e ↦ subst P (sym e) (let a : byte_at 0 (number % 2 ^ 32) ≡ byte_at 0 number = omega arith in let b : byte_at 1 (number % 2 ^ 32) ≡ byte_at 1 number = omega arith in
+              let d : byte_at 2 (number % 2 ^ 32) ≡ byte_at 2 number = omega arith in let f : byte_at 3 (number % 2 ^ 32) ≡ byte_at 3 number = omega arith in cc)
+          | inr z ↦ (let e : 1 ≡ len = omega (arith, some, few, x, y, z) in subst P e (let a : byte_at 0 (number % 2 ^ 8) ≡ byte_at 0 number = omega arith in cc))
+        ]
+      ]
+    ]
+
+-- what is laid of a short head is what its words say
+pub short_bytes : (first number : ℕ) (dst : List ℕ) → first < 128 → first / 8 % 4 ≡ 0 → number < 2 ^ 62 → length dst ≤ 20
+    → (first ∷ dst) ++ bytes_of (first % 4 + 1) number
+    ≡ said_bytes 0 (clear_by kind.Short (short_words first number).flags) (head_said kind.Short (short_words first number) dst [] [])
+short_bytes first number dst low clear small few =
+    let count : ℕ = first % 4 + 1 in
+    let words : SaidWords = short_words first number in
+    let part : PacketNumber = part_of count number in
+    let size : count ≡ number_size part = (part_says count number (omega arith) (omega arith)).0 in
+    let byte : first ≡ first_word kind.Short words.flags + 0 + (number_size part - 1) = omega (arith, low, size) in
+    ap (λ (xs : List ℕ). (first ∷ dst) ++ xs) (sym (low_bytes count number (omega arith) (omega arith)))
+    ∙ ap (λ (f : ℕ). f ∷ (dst ++ number_bytes part)) byte
+    ∙ bytes_said kind.Short 0 words dst [] [] (short_shaped first number dst low clear small few) refl (λ _. refl)

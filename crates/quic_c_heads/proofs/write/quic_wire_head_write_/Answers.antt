@@ -1,0 +1,75 @@
+-- What has the shape of no head says no head, and what has one's is laid as its bytes.
+use Rattle.std.proofs.Common.{◌≡◌, ◌+◌, ◌≤◌, ◌<◌, ◌∙◌, ℕ, List, length, ap, sym, subst, inl, inr, refl, arith, rules, to_z, w64}
+use Rattle.std.proofs.lemmas.Bool.{cases_lt}
+use Rattle.quic_crypto.specs.declared.packet_number.PacketNumber.{PacketNumber}
+use Rattle.std.specs.Prelude.{pos, take, drop}
+use Rattle.quic_headers.specs.Laying.{laid_size, number_bits, type_bits}
+use Rattle.quic_headers.proofs.Later.{laid_length}
+use Rattle.quic_c_heads.specs.Heads.{part_of, said_bytes}
+use Rattle.quic_c_heads.specs.Shapes.{first_word, IsShaped}
+use Rattle.quic_c_heads.proofs.Shaping.{shaped}
+use Rattle.quic_c_heads.proofs.Writing.{laid_as, bytes_said, can_said, clear_by, head_said, laid_said, written}
+use Rattle.quic_c_heads.proofs.write.quic_wire_head_write_.Goals as goal
+
+pub returns-then-not-is_shaped-clause-refused : goal.returns-then-not-is_shaped-clause-refused
+returns-then-not-is_shaped-clause-refused c = λ _ clear head can.
+    let yes = c.is_shaped.ensures.1 (shaped c.args.said.now c.args.dst.now c.args.src.now c.args.token.now clear head can) in
+    search (rules, yes, c.if-not-is_shaped)
+
+pub returns-then-not-fits-clause-room : goal.returns-then-not-fits-clause-room
+returns-then-not-fits-clause-room c = λ _.
+    let words = c.args.said.now in
+    let k = c.kind_of-kind.result in
+    let dst : List ℕ = c.args.dst.now in
+    let src : List ℕ = c.args.src.now in
+    let token : List ℕ = c.args.token.now in
+    let len : ℕ = c.laid_length_len.result in
+    let is : IsShaped words dst src token = search (rules, c.is_shaped.ensures, c.if-not-is_shaped) in
+    let number = c.written_part-number.result in
+    let small : length c.args.dest.now < laid_size k dst src token number len = elim (cases_lt (length c.args.dest.now) (laid_size k dst src token number len)) [
+      | inl less ↦ less
+      | inr fits ↦ absurd (let no = c.if-not-fits.ensures.1 fits in search (rules, no))
+    ] in
+    let part : PacketNumber = part_of words.number_len words.number in
+    let size : laid_size k dst src token number len ≡ laid_size k dst src token part len =
+    ap (λ (p : PacketNumber). laid_size k dst src token p len) c.written_part-number.ensures.value in
+    let whole : length (laid_said k len words dst src token) ≡ laid_size k dst src token part len =
+    laid_length k (first_word k words.flags + type_bits k words.version + number_bits k part) (first_word k words.flags) words.version dst src token part len in
+    let same : laid_said k len words dst src token ≡ said_bytes words.length_len (clear_by k words.flags) (head_said k words dst src token) =
+    bytes_said k len words dst src token is c.kind_of-kind.ensures c.laid_length_len.ensures.same in
+    record {
+      clear = clear_by k words.flags;
+      head = head_said k words dst src token;
+      can = can_said k words dst src token is c.kind_of-kind.ensures;
+      full = omega (arith, small, size, whole, ap length same);
+    }
+
+pub returns-clause-wrote : goal.returns-clause-wrote
+returns-clause-wrote c =
+    let words = c.args.said.now in
+    let k = c.kind_of-kind.result in
+    let dst : List ℕ = c.args.dst.now in
+    let src : List ℕ = c.args.src.now in
+    let token : List ℕ = c.args.token.now in
+    let n : ℕ = c.lay.result in
+    let new : List ℕ = c.lay.new.out in
+    let is : IsShaped words dst src token = search (rules, c.is_shaped.ensures, c.if-not-is_shaped) in
+    let same : laid_said k c.laid_length_len.result words dst src token ≡ said_bytes words.length_len (clear_by k words.flags) (head_said k words dst src token) =
+    bytes_said k c.laid_length_len.result words dst src token is c.kind_of-kind.ensures c.laid_length_len.ensures.same in
+    let front : take n new ≡ laid_said k c.laid_length_len.result words dst src token = c.lay.ensures.front
+    ∙ laid_as k c.first_word.result c.laid_length_len.result words dst src token c.written_part-number.result c.first_word.ensures c.written_part-number.ensures.value in
+    let back : drop n new ≡ drop n c.args.dest.now = c.lay.ensures.back (record { dst = refl; src = refl }) in
+    let within : n ≤ length new = search rules in
+    let all = written n c.args.dest.now new _ _ within front back same in
+    let count : to_z w64 n ≡ pos n = search rules in
+    inr (inr (
+      n,
+      count,
+      record {
+        clear = clear_by k words.flags;
+        head = head_said k words dst src token;
+        can = can_said k words dst src token is c.kind_of-kind.ensures;
+        front = all.0;
+        count_is = all.1;
+      },
+    ))

@@ -1,0 +1,7 @@
+pub mod Heads
+pub mod Numbers
+pub mod Protecting
+pub mod Reading
+pub mod Shapes
+pub mod Unprotecting
+pub mod Written

@@ -1,0 +1,41 @@
+-- Protection is taken off a head by a mask that the caller brings (RFC 9001, section 5.4.1).
+use Rattle.std.specs.Prelude.{◌≡◌, ℕ, zero, suc, ◌+◌, ◌%◌, ◌<◌, ◌≤◌, List, drop, slice_index, slice_set, bit_xor, nat_lt}
+use Rattle.quic_base.specs.Codec.{Takes}
+use Rattle.quic_crypto.specs.Keys.{first_unit, number_len}
+use Rattle.quic_crypto.specs.declared.packet_number.PacketNumber.{PacketNumber}
+use Rattle.quic_crypto.specs.PacketNumbers.{NumberAt, Expands, low_part, number_size, window_of}
+
+-- the first byte with its mask taken off: five bits in a short head, four in a long one
+abbrev pub unmasked_first : List ℕ → ℕ → ℕ
+unmasked_first mask first = bit_xor first (slice_index mask 0 % first_unit (nat_lt first 128))
+
+-- so many bytes of a mask, behind its first one, taken off the bytes at a place
+abbrev pub unmasked_at : ℕ → List ℕ → ℕ → List ℕ → List ℕ
+unmasked_at at mask zero bytes = bytes
+unmasked_at at mask (suc n) bytes =
+    slice_set (unmasked_at at mask n bytes) (at + n) (bit_xor (slice_index (unmasked_at at mask n bytes) (at + n)) (slice_index mask (n + 1)))
+
+-- a mask taken off a head whose number begins at a place, and has as many bytes as the first byte then says
+abbrev pub unmasked : ℕ → List ℕ → List ℕ → List ℕ
+unmasked at mask bytes =
+    let first = unmasked_first mask (slice_index bytes 0) in
+    unmasked_at at mask (number_len first) (slice_set bytes 0 first)
+
+-- a number of up to four bytes can begin at a place behind the first byte
+pub record HasNumber (place size : ℕ) : Type 0 where
+  pub behind : 0 < place
+  pub room : place + 4 ≤ size
+
+-- The number stands at a place.
+pub record StandsAt (number : PacketNumber) (at : ℕ) (bytes : List ℕ) : Type 0 where
+  pub behind : List ℕ
+  pub stands : Takes (NumberAt number) (drop at bytes) behind
+
+-- The mask was taken off, and the number that stands there was given, by the one that is expected, with how many bytes it has.
+pub record GivesNumber (place : ℕ) (mask : List ℕ) (expected : ℕ) (old new : List ℕ) (number count : ℕ) : Type 0 where
+  pub unmask : new ≡ unmasked place mask old
+  pub written : PacketNumber
+  pub stands : StandsAt written place new
+  pub size : number_size written ≡ number_len (unmasked_first mask (slice_index old 0))
+  pub whole : Expands (low_part written) (window_of written) expected number
+  pub count_is : count ≡ number_size written

@@ -1,0 +1,130 @@
+//! Heads of packets, with their protection on.
+ghost use Rattle.std.specs.Prelude.{◌≡◌, ◌+◌, ◌<◌, ◌≤◌, ◌⊎◌, ◌↔◌, ◌^◌, ◌∷◌, ℕ, Ok, drop, length, pos, negsuc, slice_index};
+ghost use Rattle.quic_heads.specs.Places.{IsPlaced, IsSeen};
+ghost use Rattle.quic_c_heads.specs.Reading.{answer_word, head_words, kind_word, Told};
+
+use crate::words::HeadWords;
+use quic_heads::places::{HeadKind, HeadPlaces, ReadError, read_head, read_long};
+
+// The word of a kind.
+#[inline(always)]
+fn kind_word(kind: HeadKind) -> u8
+    ensures { result ≡ kind_word kind }
+{
+    match kind {
+        HeadKind::Initial => 0,
+        HeadKind::ZeroRtt => 1,
+        HeadKind::Handshake => 2,
+        HeadKind::Retry => 3,
+        HeadKind::Short => 4,
+        HeadKind::VersionNegotiate => 5,
+    }
+}
+
+// The words of a head, and whether its packet is whole: 0 or 7.
+#[inline(always)]
+fn show_head(packet: &[u8], places: HeadPlaces, head: &mut HeadWords) -> u32
+    requires whole { length packet.now < 2 ^ 32 }
+    requires placed { IsPlaced places (length packet.now) }
+    ensures answer { result ≡ answer_word (Ok places) (length packet.now) }
+    ensures few { result ≤ 7 }
+    ensures words { head.new ≡ head_words packet.now (Ok places) head.old }
+{
+    let whole = packet.len();
+    let (end, answer) = match places.packet_end(whole) {
+        Some(end) => (end, 0),
+        None => (whole, 7),
+    };
+    *head = HeadWords {
+        kind: kind_word(places.kind),
+        first: places.first,
+        dst_len: places.dst_len as u8,
+        src_len: places.src_len as u8,
+        version: places.version,
+        head_end: places.head_end as u32,
+        end: end as u32,
+        token: places.token.start as u32,
+        token_len: (places.token.end - places.token.start) as u32,
+        len: places.len,
+    };
+    answer
+}
+
+// Shows what was read, and answers 0, 7 or the reason.
+#[inline(always)]
+fn show(packet: &[u8], read: Result<HeadPlaces, ReadError>, head: &mut HeadWords) -> u32
+    requires whole { length packet.now < 2 ^ 32 }
+    requires seen { IsSeen read (length packet.now) }
+    ensures answer { result ≡ answer_word read (length packet.now) }
+    ensures few { result ≤ 7 }
+    ensures words { head.new ≡ head_words packet.now read head.old }
+{
+    match read {
+        Ok(places) => show_head(packet, places, head),
+        Err(
+            ReadError::UnsupportedVersion {
+                version,
+                dst_len,
+                src_len,
+            },
+        ) => {
+            *head = HeadWords {
+                kind: 6,
+                first: packet[0],
+                dst_len: dst_len as u8,
+                src_len: src_len as u8,
+                version,
+                head_end: (6 + dst_len + 1 + src_len) as u32,
+                end: packet.len() as u32,
+                token: 0,
+                token_len: 0,
+                len: 0,
+            };
+            1
+        }
+        Err(ReadError::UnexpectedEnd) => 2,
+        Err(ReadError::SmallPacket) => 4,
+        Err(ReadError::MalformedCid) => 5,
+        Err(ReadError::TokenOutOfBounds) => 6,
+    }
+}
+
+// Shows a long head. It is a function of its own, so that a short head's caller saves no registers.
+#[inline(never)]
+fn show_long(packet: &[u8], first: u8, versions: &[u32], head: &mut HeadWords) -> u32
+    requires whole { length packet.now < 2 ^ 32 }
+    requires begins { packet.now ≡ first ∷ drop 1 packet.now }
+    requires long { 128 ≤ first }
+    ensures told { (id_len : ℕ) → Told id_len versions.now packet.now head.old result head.new }
+    ensures few { result ≤ 7 }
+{
+    show(packet, read_long(packet, first, versions), head)
+}
+
+/// Reads the head of the packet that bytes begin with, be it whole or cut off behind its head. Ids of short heads have `id_len`
+/// bytes; `versions` are those that are read further than their ids. The fixed bit isn't looked at. It answers 0 with the head of
+/// a packet that is whole, and the place where it ends; 7 with the head of one that is cut off; 1 with the version and the ids, of
+/// up to 255 bytes (RFC 8999, section 5.1), of a version that isn't known; 2, 4, 5 or 6 where no head begins there, as the first
+/// field that can't be read says; -1 just where there are 2^32 bytes or more, or `id_len` is above 20. `head` changes with 0, 7
+/// and 1 alone.
+#[unsafe(no_mangle)]
+pub extern "C" fn quic_wire_head_read_(
+    packet: &[u8],
+    id_len: u32,
+    versions: &[u32],
+    head: &mut HeadWords,
+) -> i32
+    ensures invalid { (result ≡ negsuc 0) ↔ ((2 ^ 32 ≤ length packet.now) ⊎ (20 < id_len)) }
+    ensures told { (result ≡ negsuc 0) ⊎ ((answer : ℕ) × (result ≡ pos answer) × Told id_len versions.now packet.now head.old answer head.new) }
+    ensures same { result ≡ negsuc 0 → head.new ≡ head.old }
+{
+    if packet.len() > u32::MAX as usize || id_len > 20 {
+        return -1;
+    }
+    if let Some(first) = packet.first() {
+        if *first >= 0x80 {
+            return show_long(packet, *first, versions, head) as i32;
+        }
+    }
+    show(packet, read_head(packet, id_len as usize, versions), head) as i32
+}

@@ -1,0 +1,184 @@
+//! Heads, written from words into the caller's bytes.
+ghost use Rattle.std.specs.Prelude.{◌≡◌, ◌+◌, ◌%◌, ◌^◌, ◌<◌, ◌≤◌, ◌⊎◌, ◌↔◌, ℕ, [], IsTrue, length, pos, negsuc};
+ghost use Rattle.quic_crypto.specs.PacketNumbers.{IsInRange};
+ghost use Rattle.quic_c_heads.specs.Heads.{part_of};
+ghost use Rattle.quic_c_heads.specs.Reading.{kind_word};
+ghost use Rattle.quic_c_heads.specs.Shapes.{first_word, AreParts, IsNumbered, IsPlain, IsShaped};
+ghost use Rattle.quic_c_heads.specs.Written.{short_words, NeedsMore, SaysNone, Wrote};
+
+use crate::words::SaidWords;
+use quic_crypto::packet_number::PacketNumber;
+use quic_headers::lay::{Exact, HeaderRef, lay_low, lay_short};
+use quic_headers::long_type::HeadKind;
+
+// The kind of a word.
+#[inline(always)]
+fn kind_of(word: u8) -> HeadKind
+    requires { word ≤ 5 }
+    ensures { kind_word result ≡ word }
+{
+    match word {
+        0 => HeadKind::Initial,
+        1 => HeadKind::ZeroRtt,
+        2 => HeadKind::Handshake,
+        3 => HeadKind::Retry,
+        4 => HeadKind::Short,
+        _ => HeadKind::VersionNegotiate,
+    }
+}
+
+// Whether the number, the count of its bytes and that of the length's are those of a head of the kind.
+#[inline(always)]
+fn is_numbered(said: &SaidWords) -> bool
+    requires { said.now.kind ≤ 5 }
+    ensures { IsTrue result ↔ IsNumbered said.now }
+{
+    let (kind, len) = (said.kind, said.number_len);
+    if kind == 3 || kind == 5 {
+        return said.number == 0 && len == 0 && said.length_len == 0;
+    }
+    let fits = if kind == 4 {
+        said.length_len == 0
+    } else {
+        said.length_len == 2 || said.length_len == 4
+    };
+    0 < len && len <= 4 && said.number < 1 << 62 && fits
+}
+
+// Whether the flags and the version are those of a head of the kind.
+#[inline(always)]
+fn is_plain(said: &SaidWords) -> bool
+    requires { said.now.kind ≤ 5 }
+    ensures { IsTrue result ↔ IsPlain said.now }
+{
+    match said.kind {
+        4 => {
+            said.flags < 128 && (said.flags % 32 == 0 || said.flags % 32 == 4) && said.version == 0
+        }
+        5 => said.flags < 128 && said.version == 0,
+        _ => said.flags == 0 || said.flags == 64,
+    }
+}
+
+// Whether the ids and the token are those of a head of the kind.
+#[inline(always)]
+fn are_parts(kind: u8, dst: &[u8], src: &[u8], token: &[u8]) -> bool
+    ensures { IsTrue result ↔ AreParts kind dst.now src.now token.now }
+{
+    let most_src = if kind == 4 { 0 } else { 20 };
+    let most_token = if kind == 0 { (1 << 62) - 1 } else { 0 };
+    dst.len() <= 20 && src.len() <= most_src && token.len() <= most_token
+}
+
+// Whether the words, the ids and the token are those of a head of the kind.
+#[inline(always)]
+fn is_shaped(said: &SaidWords, dst: &[u8], src: &[u8], token: &[u8]) -> bool
+    ensures { IsTrue result ↔ IsShaped said.now dst.now src.now token.now }
+{
+    said.kind <= 5 && is_numbered(said) && is_plain(said) && are_parts(said.kind, dst, src, token)
+}
+
+// The part of a number that is written in one to four bytes.
+#[inline(always)]
+fn written_part(number: u64, len: u8) -> PacketNumber
+    ensures value { result ≡ part_of len number }
+    ensures valid { IsInRange result }
+{
+    match len {
+        2 => PacketNumber::U16((number % (1 << 16)) as u16),
+        3 => PacketNumber::U24((number % (1 << 24)) as u32),
+        4 => PacketNumber::U32((number % (1 << 32)) as u32),
+        _ => PacketNumber::U8((number % (1 << 8)) as u8),
+    }
+}
+
+// What the first byte has beside its type and number.
+#[inline(always)]
+fn first_word(kind: HeadKind, flags: u8) -> u8
+    requires { flags < 128 }
+    ensures { result ≡ first_word kind flags }
+{
+    match kind {
+        HeadKind::Short => (flags + 64) % 128,
+        HeadKind::VersionNegotiate => 128 | flags,
+        _ => 128 + (flags + 64) % 128,
+    }
+}
+
+// How many bytes of length are laid, where the head says one.
+#[inline(always)]
+fn laid_length_len(said: &SaidWords) -> usize
+    ensures known { (result ≡ 2) ⊎ (result ≡ 4) }
+    ensures same { (said.now.length_len ≡ 2) ⊎ (said.now.length_len ≡ 4) → result ≡ said.now.length_len }
+{
+    if said.length_len == 4 { 4 } else { 2 }
+}
+
+/// Writes a short head of a first byte, whose lowest two bits say how many bytes of the number are written, at the front of
+/// `dest`, as `quic_wire_head_write_` does, and answers how many bytes it has. It answers -4 where `dest` has fewer; -1 just where
+/// no such head can be written: the first byte is above 0x7f or has a reserved bit, the id has more than 20 bytes, or the number
+/// is 2^62 or more. What stood behind the head stays, and all of it where nothing was written.
+#[unsafe(no_mangle)]
+pub extern "C" fn quic_wire_short_write_(
+    first: u32,
+    number: u64,
+    dst: &[u8],
+    dest: &mut [u8],
+) -> i32
+    ensures wrote { (result ≡ negsuc 3) ⊎ (result ≡ negsuc 0) ⊎ ((count : ℕ) × (result ≡ pos count)
+        × Wrote (short_words first number) dst.now [] [] dest.old dest.new count) }
+    ensures room { result ≡ negsuc 3 → NeedsMore (short_words first number) dst.now [] [] (length dest.old) }
+    ensures refused { result ≡ negsuc 0 → (128 ≤ first) ⊎ SaysNone (short_words first number) dst.now [] [] }
+    ensures same { (result ≡ negsuc 3) ⊎ (result ≡ negsuc 0) → dest.new ≡ dest.old }
+{
+    let count = (first % 4 + 1) as usize;
+    if first >= 128 || first / 8 % 4 != 0 || number >= 1 << 62 || dst.len() > 20 {
+        return -1;
+    }
+    if dest.len() < 1 + dst.len() + count {
+        return -4;
+    }
+    let at = lay_short(dest, first as u8, Exact(dst));
+    lay_low(dest, at, number, count) as i32
+}
+
+/// Writes the head that the words say with the ids of the receiver and of the sender and the token, with no protection on it, at
+/// the front of `dest` (RFC 9000, section 17), and answers how many bytes it has, at whose end the number stands. The length of an
+/// Initial, 0-RTT or Handshake packet is 0, until `quic_wire_set_len_`. What stood behind the head stays. It answers -4 where
+/// `dest` has fewer bytes; -1 just where they say no head that can be written: a kind above 5, an id of more than 20 bytes, a
+/// number of 2^62 or more or one that is written in no or more than four bytes, a length of other than 2 or 4 bytes, a token of
+/// 2^62 bytes, or something that the kind lacks. Nothing changes then.
+#[unsafe(no_mangle)]
+pub extern "C" fn quic_wire_head_write_(
+    said: &SaidWords,
+    dst: &[u8],
+    src: &[u8],
+    token: &[u8],
+    dest: &mut [u8],
+) -> i64
+    ensures wrote { (result ≡ negsuc 3) ⊎ (result ≡ negsuc 0) ⊎ ((count : ℕ) × (result ≡ pos count)
+        × Wrote said.now dst.now src.now token.now dest.old dest.new count) }
+    ensures room { result ≡ negsuc 3 → NeedsMore said.now dst.now src.now token.now (length dest.old) }
+    ensures refused { result ≡ negsuc 0 → SaysNone said.now dst.now src.now token.now }
+    ensures same { (result ≡ negsuc 3) ⊎ (result ≡ negsuc 0) → dest.new ≡ dest.old }
+{
+    if !is_shaped(said, dst, src, token) {
+        return -1;
+    }
+    let kind = kind_of(said.kind);
+    let number = written_part(said.number, said.number_len);
+    let head = HeaderRef {
+        kind,
+        first: first_word(kind, said.flags),
+        version: said.version,
+        dst_cid: Exact(dst),
+        src_cid: Exact(src),
+        token,
+        number: &number,
+        length_len: laid_length_len(said),
+    };
+    if !head.fits(dest.len()) {
+        return -4;
+    }
+    head.lay::<false>(dest) as i64
+}

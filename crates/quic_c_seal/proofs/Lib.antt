@@ -1,3 +1,0 @@
-mod Finishing
-mod Laying
-mod Shaping

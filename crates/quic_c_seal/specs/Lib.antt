@@ -1,4 +1,0 @@
-pub mod Heads
-pub mod Shapes
-pub mod Values
-pub mod Written

@@ -2,6 +2,7 @@ mod Numbers
 mod Spellings
 mod Codecs
 mod Readings
+mod Words
 mod LongIds
 mod IdMemory
 mod Ends

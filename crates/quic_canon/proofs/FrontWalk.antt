@@ -1,5 +1,5 @@
 -- A walk that finds the frames at the front of a payload that are in their shortest spellings.
-use Rattle.std.proofs.Common.{◌≡◌, ◌≢◌, ℕ, ◌-◌, ◌<◌, eqb, Bool, true, false, List, [], ◌∷◌, ◌++◌, length, map, take, drop, Option, None, Err, refl, sym, ap, subst, ◌∙◌, append_assoc, inl, inr, arith}
+use Rattle.std.proofs.Common.{◌≡◌, ◌≢◌, ℕ, ◌-◌, ◌<◌, ◌≤◌, eqb, Bool, true, false, List, [], ◌∷◌, ◌++◌, length, map, take, drop, Option, None, Err, refl, sym, ap, subst, ◌∙◌, append_assoc, inl, inr, arith}
 use Rattle.std.specs.Prelude.{◌⊎◌, slice_range}
 use Rattle.std.proofs.lemmas.List.{length-append, length-drop}
 use Rattle.quic_frames.specs.declared.frame.Frame.{Frame}
@@ -25,6 +25,7 @@ pub record InFront (payload : List ℕ) (n : ℕ) (way : Way) (found : List Foun
 
 pub record FrontWalk (payload : List ℕ) (front start : ℕ) (way : Way) : Type 0 where
   pub walks : Walks payload start way
+  pub before : front ≤ start
   pub in_front : (found : List Found) → AreFrames false found payload → InFront payload front way found
 
 -- where the walk begins
@@ -41,6 +42,7 @@ pub front_walk_begins : (payload : List ℕ) (way : Way) → way ≡ first_of fa
     → FrontWalk payload 0 0 way
 front_walk_begins payload way first e whole broken = record {
   walks = walk_begins payload way first e whole broken;
+  before = omega arith;
   in_front = λ found s. front_begins payload way found first (whole found s) s;
 }
 
@@ -62,6 +64,7 @@ front_grows payload start size old new frame b begins one len w f tested e =
     let is = shortest_there payload start size old new frame b one len w.walks f tested e in
     record {
       walks = walk_on payload start old new frame w.walks f;
+      before = omega arith;
       in_front = λ found spelled.
           let a = w.in_front found spelled in
           let rest = all_so_far payload start old found a (sym w.walks.start_is) in
@@ -92,6 +95,7 @@ front_ends payload start size old new frame b begins one all len w f tested e =
     let lt = longer_there payload start size old new frame b one len w.walks f tested e in
     record {
       walks = walk_on payload start old new frame w.walks f;
+      before = omega (arith, some);
       in_front = λ found spelled.
           let a = w.in_front found spelled in
           let rest = all_so_far payload start old found a (sym w.walks.start_is) in
@@ -112,8 +116,10 @@ pub front_stays : (payload : List ℕ) (front start : ℕ) (old new : Way) (fram
 front_stays payload front start old new frame differs w f =
     let h = here payload start old new frame w.walks f in
     let some = h.stands.some in
+    let before = w.before in
     record {
       walks = walk_on payload start old new frame w.walks f;
+      before = omega (arith, some, before);
       in_front = λ found spelled.
           let a = w.in_front found spelled in
           let g = given_on f.found (map unplaced (left new)) a.rest (sym h.first ∙ a.left_are) in
@@ -190,3 +196,7 @@ ends_at payload front start stop old new frame b begins one all same w f at test
 pub stays_at : (payload : List ℕ) (front start stop : ℕ) (old new : Way) (frame : Frame) → front ≢ start → FrontWalk payload front start old → Finds old frame new → stop ≡ new.offset → FrontWalk payload front stop new
 stays_at payload front start stop old new frame differs w f at =
     subst (λ (n : ℕ). FrontWalk payload front n new) (sym at) (front_stays payload front start old new frame differs w f)
+
+-- by another name of the place
+pub front_is : (payload : List ℕ) (front same start : ℕ) (way : Way) → same ≡ front → FrontWalk payload front start way → FrontWalk payload same start way
+front_is payload front same start way e w = subst (λ (n : ℕ). FrontWalk payload n start way) (sym e) w

@@ -5,6 +5,7 @@ mod Spans
 pub mod Cuts
 pub mod Steps
 mod FrontWalk
+mod PaddingWalk
 mod RewriteWalk
 mod Fronts
 mod Clients

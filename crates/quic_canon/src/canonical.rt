@@ -53,7 +53,16 @@ fn shortest_front(payload: &[u8]) -> Result<usize, CanonError>
         if front == start && is_shortest(&frame, is_last, stop - start) {
             front = stop;
         }
-        start = stop;
+        // Behind one byte, which PADDING has, all PADDING is passed at once.
+        if stop - start == 1 {
+            iter.pass_padding();
+            start = iter.offset();
+            if front == stop {
+                front = start;
+            }
+        } else {
+            start = stop;
+        }
     }
     Ok(front)
 }

@@ -1,5 +1,5 @@
 -- Ranges of an ACK one after the other, as a loop reads them.
-use Rattle.std.proofs.Common.{◌≡◌, ℕ, suc, ◌-◌, ◌+◌, ◌/◌, ◌%◌, ◌≤◌, ◌<◌, List, ◌∷◌, Result, Ok, Err, refl, sym, ◌∙◌, arith, rules, nat_lt, false}
+use Rattle.std.proofs.Common.{◌≡◌, ℕ, suc, ◌-◌, ◌+◌, ◌/◌, ◌%◌, ◌≤◌, ◌<◌, List, ◌∷◌, Result, Ok, Err, refl, sym, ap, ◌∙◌, arith, rules, nat_lt, false}
 use Rattle.std.proofs.lemmas.Bool.Decides.{nat_tests}
 use Rattle.quic_base.specs.Reading.{number_at}
 use Rattle.quic_frame_parts.specs.declared.frame.fault.Fault.{Fault}
@@ -19,28 +19,28 @@ from_gap count (Ok g) = after_gap count g.0 (block_at g.0 g.1)
 from_gap count (Err e) = refl
 
 -- ranges are read one by one
-by_range : (count low : ℕ) (bytes : List ℕ) → below_at (suc count) low bytes ≡ (range_at low bytes >>= λ r. below_at count r.0.0 r.1)
+pub by_range : (count low : ℕ) (bytes : List ℕ) → below_at (suc count) low bytes ≡ (range_at low bytes >>= λ r. below_at count r.0.0 r.1)
 unfolding below_at range_at
 by_range count low bytes = from_gap count (gap_at low bytes)
 
-pub goes_on : (count i low high least : ℕ) (bytes after : List ℕ) (total : Result (List ℕ) Fault) → i < count → range_at low bytes ≡ Ok ((least, high), after)
-    → below_at (count - i) low bytes ≡ total → below_at (count - (i + 1)) least after ≡ total
-goes_on count i low high least bytes after total lt r so_far =
-    let k : count - i ≡ suc (count - (i + 1)) = omega arith in
-    let one : below_at (count - i) low bytes ≡ below_at (count - (i + 1)) least after = rw (k, by_range (count - (i + 1)) low bytes, r) refl in
+pub goes_on : (left low high least : ℕ) (bytes after : List ℕ) (total : Result (List ℕ) Fault) → 0 < left → range_at low bytes ≡ Ok ((least, high), after) → below_at left low bytes ≡ total
+    → below_at (left - 1) least after ≡ total
+goes_on left low high least bytes after total some r so_far =
+    let k : left ≡ suc (left - 1) = omega arith in
+    let one : below_at left low bytes ≡ below_at (left - 1) least after = ap (λ (n : ℕ). below_at n low bytes) k ∙ rw (by_range (left - 1) low bytes, r) refl in
     sym one ∙ so_far
 
-pub range_ends : (count i low : ℕ) (bytes : List ℕ) (e : Fault) (total : Result (List ℕ) Fault) → i < count → range_at low bytes ≡ Err e → below_at (count - i) low bytes ≡ total → total ≡ Err e
-range_ends count i low bytes e total lt r so_far =
-    let k : count - i ≡ suc (count - (i + 1)) = omega arith in
-    let one : below_at (count - i) low bytes ≡ Err e = rw (k, by_range (count - (i + 1)) low bytes, r) refl in
+pub range_ends : (left low : ℕ) (bytes : List ℕ) (e : Fault) (total : Result (List ℕ) Fault) → 0 < left → range_at low bytes ≡ Err e → below_at left low bytes ≡ total → total ≡ Err e
+range_ends left low bytes e total some r so_far =
+    let k : left ≡ suc (left - 1) = omega arith in
+    let one : below_at left low bytes ≡ Err e = ap (λ (n : ℕ). below_at n low bytes) k ∙ rw (by_range (left - 1) low bytes, r) refl in
     sym so_far ∙ one
 
-pub is_done : (count i low : ℕ) (bytes : List ℕ) (total : Result (List ℕ) Fault) → count ≤ i → below_at (count - i) low bytes ≡ total → total ≡ Ok bytes
+pub is_done : (left low : ℕ) (bytes : List ℕ) (total : Result (List ℕ) Fault) → left ≤ 0 → below_at left low bytes ≡ total → total ≡ Ok bytes
 unfolding below_at
-is_done count i low bytes total le so_far =
-    let k : count - i ≡ 0 = omega arith in
-    let one : below_at (count - i) low bytes ≡ Ok bytes = rw k refl in
+is_done left low bytes total le so_far =
+    let k : left ≡ 0 = omega arith in
+    let one : below_at left low bytes ≡ Ok bytes = rw k refl in
     sym so_far ∙ one
 
 pub one_at : (n : ℕ) (rest : List ℕ) → n < 64 → varint_at (n ∷ rest) ≡ Ok (n, rest)

@@ -13,4 +13,5 @@ pub mod Held
 pub mod FirstRanges
 pub mod AckPlaces
 mod ShortBlocks
+mod ShortRanges
 pub mod Putting

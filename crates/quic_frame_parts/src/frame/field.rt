@@ -1,12 +1,12 @@
 //! Numbers, and the blocks of an ACK, read from the front of a slice.
-ghost use Rattle.std.specs.Prelude.{◌≡◌, ◌<◌, ◌≤◌, ◌^◌, List, ℕ, [], ◌∷◌, length, IfErr, IfOk, IfSome, Ok, OnOk, ◌⊎◌};
+ghost use Rattle.std.specs.Prelude.{◌≡◌, ◌<◌, ◌≤◌, ◌^◌, ◌-◌, ◌*◌, ◌++◌, List, ℕ, [], ◌∷◌, drop, length, slice_index, sum, IfErr, IfOk, IfSome, Ok, OnOk, ◌⊎◌};
+ghost use Rattle.std.specs.Int.{w64, from_le_bytes};
 ghost use Rattle.quic_base.specs.Number.{AreBytes};
 ghost use Rattle.quic_frame_parts.specs.Reading.{Gives, varint_at, block_at, gap_at, below_at, range_at, first_range_at, after_blocks, blocks_at, blocks_left, ranges_of, IsBlocks};
 ghost use Rattle.quic_frame_parts.specs.Refusal.{AreNoBlocks};
 
 use super::fault::Fault;
-use quic_base::coding::Codec;
-use quic_base::varint::VarInt;
+use quic_base::varint::{split_var, split_var_by_word};
 
 /// A number of any width, below 2^62, and what follows it.
 #[inline]
@@ -15,10 +15,22 @@ pub fn varint(bytes: &[u8]) -> Result<(u64, &[u8]), Fault>
     ensures gives { Gives (λ x. (x.0, x.1.now)) result (varint_at bytes.now) }
     ensures bound { IfOk result (λ x. x.0 < 2 ^ 62) }
 {
-    let mut rest = bytes;
-    match VarInt::decode(&mut rest) {
-        Ok(n) => Ok((n.into_inner(), rest)),
-        Err(_) => Err(Fault::UnexpectedEnd),
+    match split_var_by_word(bytes) {
+        Some(read) => Ok(read),
+        None => Err(Fault::UnexpectedEnd),
+    }
+}
+
+// The same, where most have one width, read where the call stands.
+#[inline(always)]
+#[tactic(auto, using(crate::proofs::Varints::slices))]
+fn near_varint(bytes: &[u8]) -> Result<(u64, &[u8]), Fault>
+    ensures gives { Gives (λ x. (x.0, x.1.now)) result (varint_at bytes.now) }
+    ensures bound { IfOk result (λ x. x.0 < 2 ^ 62) }
+{
+    match split_var(bytes) {
+        Some(read) => Ok(read),
+        None => Err(Fault::UnexpectedEnd),
     }
 }
 
@@ -51,14 +63,28 @@ fn block(greatest: u64, bytes: &[u8]) -> Result<(u64, &[u8]), Fault>
     Ok((greatest - n, rest))
 }
 
+// The same, read where the call stands, whatever width its number has.
+#[inline(always)]
+#[tactic(auto, unfolding(crate::specs::Reading::block_at))]
+fn near_block(greatest: u64, bytes: &[u8]) -> Result<(u64, &[u8]), Fault>
+    ensures gives { Gives (λ x. (x.0, x.1.now)) result (block_at greatest bytes.now) }
+    ensures bytes { AreBytes bytes.now }
+{
+    let (length, rest) = near_varint(bytes)?;
+    if length > greatest {
+        return Err(Fault::Malformed);
+    }
+    Ok((greatest - length, rest))
+}
+
 // The greatest number of the range below a gap, which begins below `low`, and what follows the gap.
-#[inline]
+#[inline(always)]
 #[tactic(auto, unfolding(crate::specs::Reading::gap_at))]
 fn gap(low: u64, bytes: &[u8]) -> Result<(u64, &[u8]), Fault>
     ensures gives { Gives (λ x. (x.0, x.1.now)) result (gap_at low bytes.now) }
     ensures bytes { AreBytes bytes.now }
 {
-    let (n, rest) = varint(bytes)?;
+    let (n, rest) = near_varint(bytes)?;
     if low < 2 || n > low - 2 {
         return Err(Fault::Malformed);
     }
@@ -92,7 +118,7 @@ fn range(low: u64, bytes: &[u8]) -> Result<(u64, u64, &[u8]), Fault>
         }
     }
     let (greatest, rest) = gap(low, bytes)?;
-    let (least, rest) = block(greatest, rest)?;
+    let (least, rest) = near_block(greatest, rest)?;
     Ok((least, greatest, rest))
 }
 
@@ -109,18 +135,80 @@ fn below(count: u64, low: u64, bytes: &[u8]) -> Result<&[u8], Fault>
     }
 }
 
-// The same, range by range. Each of them takes bytes, so a count beyond those ends soon.
+// The sum of the bytes of a word, of which each is below 64: of two at a time, and then of those sums.
+#[inline(always)]
+#[tactic(auto, using(crate::proofs::ShortRanges::sum_of_bytes))]
+fn sum_of(word: u64) -> u64
+    ensures sum { (bytes : List ℕ) → length bytes ≡ 8 → ((i : ℕ) → slice_index bytes i < 64) → word ≡ from_le_bytes w64 bytes → result ≡ sum bytes }
+    ensures small { result < 2 ^ 16 }
+{
+    let pairs = (word & 0x00ff_00ff_00ff_00ff) + ((word >> 8) & 0x00ff_00ff_00ff_00ff);
+    pairs.wrapping_mul(0x0001_0001_0001_0001) >> 48
+}
+
+// How many whole ranges whose numbers have one byte each begin eight bytes, and how many packet numbers they span, with
+// the gaps above them. A byte of 64 or more begins a longer number.
+#[inline(always)]
+fn short_ranges(front: &[u8; 8]) -> (u64, u64)
+    ensures few { result.0 ≤ 4 }
+    ensures read { (count low : ℕ) (rest : List ℕ) → result.0 ≤ count → result.1 ≤ low
+        → below_at count low (front.now ++ rest) ≡ below_at (count - result.0) (low - result.1) (drop (2 * result.0) front.now ++ rest) }
+{
+    let word = u64::from_le_bytes(*front);
+    let long = word & 0xc0c0_c0c0_c0c0_c0c0;
+    if long == 0 {
+        return (4, sum_of(word) + 8);
+    }
+    let ranges = u64::from(long.trailing_zeros()) / 16;
+    let short = word & ((1 << (16 * ranges)) - 1);
+    (ranges, sum_of(short) + 2 * ranges)
+}
+
+// Passes ranges whose numbers have one byte each, four at a time and then those before a longer number: how many are left
+// to read, the least number of the last that was passed, and what follows it.
+#[inline(always)]
+fn pass_short(count: u64, low: u64, bytes: &[u8]) -> (u64, u64, &[u8])
+    ensures fewer { result.0 ≤ count }
+    ensures same { below_at result.0 result.1 result.2.now ≡ below_at count low bytes.now }
+{
+    let mut left = count;
+    let mut low = low;
+    let mut rest = bytes;
+    while left >= 4 {
+        let Some(front) = rest.first_chunk::<8>() else {
+            return (left, low, rest);
+        };
+        let (ranges, all) = short_ranges(front);
+        if all > low {
+            return (left, low, rest);
+        }
+        low -= all;
+        rest = &rest[2 * ranges as usize..];
+        left -= ranges;
+        if ranges < 4 {
+            return (left, low, rest);
+        }
+    }
+    (left, low, rest)
+}
+
+// The same, range by range where they aren't short. Each of them takes bytes, so a count beyond those ends soon.
 fn each_below(count: u64, low: u64, bytes: &[u8]) -> Result<&[u8], Fault>
     ensures { Gives (λ x. x.now) result (below_at count low bytes.now) }
 {
+    let mut left = count;
     let mut low = low;
     let mut rest = bytes;
-    for _ in 0..count {
-        let (least, _, after) = range(low, rest)?;
+    loop {
+        let (others, reached, behind) = pass_short(left, low, rest);
+        if others == 0 {
+            return Ok(behind);
+        }
+        let (least, _, after) = range(reached, behind)?;
+        left = others - 1;
         low = least;
         rest = after;
     }
-    Ok(rest)
 }
 
 /// The ranges of an ACK: the bytes of their blocks and gaps, behind the count of those below the first;
@@ -177,7 +265,7 @@ fn wide_range(greatest: u64, blocks: &[u8]) -> (u64, u64, &[u8])
     ensures first { ranges_of greatest blocks.now ≡ (result.0, greatest) ∷ ranges_of result.1 result.2.now }
     ensures valid { blocks_left result.1 result.2.now ≡ Ok [] }
 {
-    let Ok((least, rest)) = block(greatest, blocks) else {
+    let Ok((least, rest)) = near_block(greatest, blocks) else {
         unreachable!()
     };
     if rest.is_empty() {

@@ -6,7 +6,7 @@ ghost use Rattle.quic_frame_parts.specs.Table.{offset_field, data_field};
 
 use quic_base::coding::Codec;
 use quic_base::ids::{MAX_CID_SIZE, RESET_TOKEN_SIZE};
-use quic_base::varint::split_var;
+use quic_base::varint::split_var_by_word;
 use quic_frame_parts::frame::fault::Fault;
 use quic_frame_parts::frame::field::varint;
 
@@ -47,7 +47,7 @@ pub(super) fn near_varint(bytes: &[u8]) -> Result<(u64, &[u8]), Fault>
     ensures gives { Gives (λ x. (x.0, x.1.now)) result (varint_at bytes.now) }
     ensures bound { IfOk result (λ x. x.0 < 2 ^ 62) }
 {
-    match split_var(bytes) {
+    match split_var_by_word(bytes) {
         Some(read) => Ok(read),
         None => Err(Fault::UnexpectedEnd),
     }

@@ -3,9 +3,10 @@ use Rattle.quic_frames.specs.declared.frame.InvalidFrame.{InvalidFrame}
 use Rattle.quic_frames.specs.Walk.{invalid_of}
 use Rattle.quic_canon.specs.declared.canonical.CanonError.TheVariants.{Invalid, OutOfMemory}
 use Rattle.quic_canon.proofs.Steps.{finds_ok, fails_err, stands_at, small_at}
-use Rattle.quic_canon.proofs.FrontWalk.{front_walk_begins, front_done, front_fails, grows_to, ends_at, stays_at}
+use Rattle.quic_canon.proofs.PaddingWalk.{padding_grows, padding_stays, padding_goes_on}
+use Rattle.quic_canon.proofs.FrontWalk.{FrontWalk, front_is, front_walk_begins, front_done, front_fails, grows_to, ends_at, stays_at}
 use Rattle.quic_canon.proofs.canonical.shortest_front.Goals as goal
-use Rattle.quic_canon.proofs.canonical.shortest_front.Goals.{else-front-start-via-then-front-start+else-is_shortest, else-front-start-via-else-front-start}
+use Rattle.quic_canon.proofs.canonical.shortest_front.Goals.{then-front-start+then-is_shortest, else-front-start, else-front-start-via-then-front-start+else-is_shortest, else-front-start-via-else-front-start}
 
 not_memory : (invalid : InvalidFrame) → Invalid invalid ≢ OutOfMemory
 not_memory invalid e = cc
@@ -28,22 +29,70 @@ is_shortest-requires-clause-small c =
     let f = finds_ok c.loop-item.iter c.next.new.self c.in-Some.item c.in-Ok-item.frame c.in-Ok-item.is c.in-Some.ensures.steps in
     small_at c.args.payload.now c.loop-item.start c.offset-stop.result c.loop-item.iter c.next.new.self c.in-Ok-item.frame c.least_spelling.ensures.least c.loop-item.invariant.walks f c.offset-stop.ensures.value
 
-pub loop-item-preserved-then-is_shortest : goal.loop-item-preserved-then-is_shortest
-loop-item-preserved-then-is_shortest c =
+pub loop-item-preserved-then-front-stop : goal.loop-item-preserved-then-front-stop
+loop-item-preserved-then-front-stop c =
     let f = finds_ok c.loop-item.iter c.next.new.self c.in-Some.item c.in-Ok-item.frame c.in-Ok-item.is c.in-Some.ensures.steps in
-    grows_to c.args.payload.now c.loop-item.front c.loop-item.start c.offset-stop.result c.loop-item.iter c.next.new.self c.in-Ok-item.frame c.is_shortest.result
-    (c.one_reading.ensures.begins_none false) c.least_spelling.ensures.least c.if-front-start.true c.loop-item.invariant f c.offset-stop.ensures.value c.is_shortest.ensures c.if-is_shortest.true
+    let w : FrontWalk c.args.payload.now c.if-front-start.front c.offset-stop.result c.next.new.self = elim c.if-front-start.branch [
+      | then-front-start+then-is_shortest w ↦
+          front_is c.args.payload.now _ _ c.offset-stop.result c.next.new.self w.front-is
+          (grows_to c.args.payload.now c.loop-item.front c.loop-item.start c.offset-stop.result c.loop-item.iter c.next.new.self c.in-Ok-item.frame w.is_shortest.result
+          (c.one_reading.ensures.begins_none false) c.least_spelling.ensures.least w.if-front-start.true c.loop-item.invariant f c.offset-stop.ensures.value w.is_shortest.ensures w.if-is_shortest.true)
+      | else-front-start w ↦ front_is c.args.payload.now _ _ c.offset-stop.result c.next.new.self w.front-is (elim w.else-front-start.branch [
+          | else-front-start-via-then-front-start+else-is_shortest v ↦
+              ends_at c.args.payload.now c.loop-item.front c.loop-item.start c.offset-stop.result c.loop-item.iter c.next.new.self c.in-Ok-item.frame v.is_shortest.result
+              (c.one_reading.ensures.begins_none false) c.least_spelling.ensures.least c.least_spelling.ensures.all_least v.if-front-start.true c.loop-item.invariant f c.offset-stop.ensures.value v.is_shortest.ensures v.if-is_shortest.false
+          | else-front-start-via-else-front-start v ↦
+              stays_at c.args.payload.now c.loop-item.front c.loop-item.start c.offset-stop.result c.loop-item.iter c.next.new.self c.in-Ok-item.frame v.if-front-start.false c.loop-item.invariant f c.offset-stop.ensures.value
+        ])
+    ] in
+    padding_grows c.args.payload.now c.if-front-start.front c.offset-stop.result c.offset-start.result c.pass_padding.result c.next.new.self c.pass_padding.new.self
+    (c.one_reading.ensures.begins_none false) c.least_spelling.ensures.least c.if-front-stop.true w c.pass_padding.ensures c.offset-start.ensures.value
+
+pub loop-item-preserved-else-front-stop : goal.loop-item-preserved-else-front-stop
+loop-item-preserved-else-front-stop c =
+    let f = finds_ok c.loop-item.iter c.next.new.self c.in-Some.item c.in-Ok-item.frame c.in-Ok-item.is c.in-Some.ensures.steps in
+    let w : FrontWalk c.args.payload.now c.if-front-start.front c.offset-stop.result c.next.new.self = elim c.if-front-start.branch [
+      | then-front-start+then-is_shortest w ↦
+          front_is c.args.payload.now _ _ c.offset-stop.result c.next.new.self w.front-is
+          (grows_to c.args.payload.now c.loop-item.front c.loop-item.start c.offset-stop.result c.loop-item.iter c.next.new.self c.in-Ok-item.frame w.is_shortest.result
+          (c.one_reading.ensures.begins_none false) c.least_spelling.ensures.least w.if-front-start.true c.loop-item.invariant f c.offset-stop.ensures.value w.is_shortest.ensures w.if-is_shortest.true)
+      | else-front-start w ↦ front_is c.args.payload.now _ _ c.offset-stop.result c.next.new.self w.front-is (elim w.else-front-start.branch [
+          | else-front-start-via-then-front-start+else-is_shortest v ↦
+              ends_at c.args.payload.now c.loop-item.front c.loop-item.start c.offset-stop.result c.loop-item.iter c.next.new.self c.in-Ok-item.frame v.is_shortest.result
+              (c.one_reading.ensures.begins_none false) c.least_spelling.ensures.least c.least_spelling.ensures.all_least v.if-front-start.true c.loop-item.invariant f c.offset-stop.ensures.value v.is_shortest.ensures v.if-is_shortest.false
+          | else-front-start-via-else-front-start v ↦
+              stays_at c.args.payload.now c.loop-item.front c.loop-item.start c.offset-stop.result c.loop-item.iter c.next.new.self c.in-Ok-item.frame v.if-front-start.false c.loop-item.invariant f c.offset-stop.ensures.value
+        ])
+    ] in
+    padding_stays c.args.payload.now c.if-front-start.front c.offset-stop.result c.offset-start.result c.pass_padding.result c.next.new.self c.pass_padding.new.self c.if-front-stop.false w c.pass_padding.ensures c.offset-start.ensures.value
 
 pub loop-item-preserved : goal.loop-item-preserved
 loop-item-preserved c =
     let f = finds_ok c.loop-item.iter c.next.new.self c.in-Some.item c.in-Ok-item.frame c.in-Ok-item.is c.in-Some.ensures.steps in
-    elim c.else-front-start.branch [
-      | else-front-start-via-then-front-start+else-is_shortest w ↦
-          ends_at c.args.payload.now c.loop-item.front c.loop-item.start c.offset-stop.result c.loop-item.iter c.next.new.self c.in-Ok-item.frame w.is_shortest.result
-          (c.one_reading.ensures.begins_none false) c.least_spelling.ensures.least c.least_spelling.ensures.all_least w.if-front-start.true c.loop-item.invariant f c.offset-stop.ensures.value w.is_shortest.ensures w.if-is_shortest.false
-      | else-front-start-via-else-front-start w ↦
-          stays_at c.args.payload.now c.loop-item.front c.loop-item.start c.offset-stop.result c.loop-item.iter c.next.new.self c.in-Ok-item.frame w.if-front-start.false c.loop-item.invariant f c.offset-stop.ensures.value
-    ]
+    let w : FrontWalk c.args.payload.now c.if-front-start.front c.offset-stop.result c.next.new.self = elim c.if-front-start.branch [
+      | then-front-start+then-is_shortest w ↦
+          front_is c.args.payload.now _ _ c.offset-stop.result c.next.new.self w.front-is
+          (grows_to c.args.payload.now c.loop-item.front c.loop-item.start c.offset-stop.result c.loop-item.iter c.next.new.self c.in-Ok-item.frame w.is_shortest.result
+          (c.one_reading.ensures.begins_none false) c.least_spelling.ensures.least w.if-front-start.true c.loop-item.invariant f c.offset-stop.ensures.value w.is_shortest.ensures w.if-is_shortest.true)
+      | else-front-start w ↦ front_is c.args.payload.now _ _ c.offset-stop.result c.next.new.self w.front-is (elim w.else-front-start.branch [
+          | else-front-start-via-then-front-start+else-is_shortest v ↦
+              ends_at c.args.payload.now c.loop-item.front c.loop-item.start c.offset-stop.result c.loop-item.iter c.next.new.self c.in-Ok-item.frame v.is_shortest.result
+              (c.one_reading.ensures.begins_none false) c.least_spelling.ensures.least c.least_spelling.ensures.all_least v.if-front-start.true c.loop-item.invariant f c.offset-stop.ensures.value v.is_shortest.ensures v.if-is_shortest.false
+          | else-front-start-via-else-front-start v ↦
+              stays_at c.args.payload.now c.loop-item.front c.loop-item.start c.offset-stop.result c.loop-item.iter c.next.new.self c.in-Ok-item.frame v.if-front-start.false c.loop-item.invariant f c.offset-stop.ensures.value
+        ])
+    ] in
+    w
+
+pub loop-item-smaller-then-front-stop : goal.loop-item-smaller-then-front-stop
+loop-item-smaller-then-front-stop c =
+    let f = finds_ok c.loop-item.iter c.next.new.self c.in-Some.item c.in-Ok-item.frame c.in-Ok-item.is c.in-Some.ensures.steps in
+    padding_goes_on c.pass_padding.result c.loop-item.iter c.next.new.self c.pass_padding.new.self c.in-Ok-item.frame f c.pass_padding.ensures
+
+pub loop-item-smaller-else-front-stop : goal.loop-item-smaller-else-front-stop
+loop-item-smaller-else-front-stop c =
+    let f = finds_ok c.loop-item.iter c.next.new.self c.in-Some.item c.in-Ok-item.frame c.in-Ok-item.is c.in-Some.ensures.steps in
+    padding_goes_on c.pass_padding.result c.loop-item.iter c.next.new.self c.pass_padding.new.self c.in-Ok-item.frame f c.pass_padding.ensures
 
 pub returns-clause-ok : goal.returns-clause-ok
 returns-clause-ok c =

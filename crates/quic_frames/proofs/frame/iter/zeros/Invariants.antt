@@ -2,6 +2,12 @@ use Rattle.std.proofs.Common.{◌≡◌, ℕ, ◌-◌, ◌<◌, ◌≤◌, lengt
 use Rattle.quic_frames.proofs.frame.iter.zeros.Given as goal
 
 -- The bytes that were passed are 0.
+abbrev pub invariant-loop-word : goal.invariant-loop-word
+invariant-loop-word l = (l.count ≤ length l.bytes) × ((k : ℕ) → k < l.count → get_or l.bytes k 0 ≡ 0)
+
+abbrev pub decreases-loop-word : goal.decreases-loop-word
+decreases-loop-word l = length l.bytes - l.count
+
 abbrev pub invariant-loop-count : goal.invariant-loop-count
 invariant-loop-count l = (l.count ≤ length l.bytes) × ((k : ℕ) → k < l.count → get_or l.bytes k 0 ≡ 0)
 

@@ -1,0 +1,62 @@
+-- Runs of PADDING within a walk over the frames at the front of a payload.
+use Rattle.std.proofs.Common.{◌≡◌, ◌≢◌, ℕ, zero, suc, ◌+◌, ◌-◌, ◌<◌, ◌≤◌, true, List, length, refl, sym, ap, subst, ◌∙◌, arith}
+use Rattle.quic_frames.specs.declared.frame.Frame.{Frame}
+use Rattle.quic_frames.specs.declared.frame.Frame.TheVariants as frames
+use Rattle.quic_frames.specs.Meaning.{meaning_of}
+use Rattle.quic_frames.specs.Padding.{PassesPadding, behind}
+use Rattle.quic_frames.specs.Way.{Way}
+use Rattle.quic_frames.specs.Walk.{Finds, left}
+use Rattle.quic_canon.proofs.FrontWalk.{FrontWalk, grows_to, stays_at}
+use Rattle.quic_canon.proofs.Spans.{one_byte}
+use Rattle.quic_canon.proofs.Steps.{BeginsNone, OneShortest, small_at}
+
+abbrev EachPads : ℕ → Way → Type 0
+EachPads count old = (k : ℕ) → k < count → Finds (behind k old) frames.Padding (behind (suc k) old)
+
+-- the place behind one more
+behind_at : (payload : List ℕ) (front start k : ℕ) (old : Way) → FrontWalk payload front start old → start + suc k ≡ (behind (suc k) old).offset
+behind_at payload front start k old w = let is = w.walks.start_is in omega (arith, is)
+
+-- each is in its shortest spelling
+all_grow : (payload : List ℕ) (start count k : ℕ) (old : Way) → BeginsNone → OneShortest → FrontWalk payload start start old → EachPads count old → k ≤ count → FrontWalk payload (start + k) (start + k) (behind k old)
+all_grow payload start count zero old begins one w each le = subst (λ (n : ℕ). FrontWalk payload n n old) (omega arith) w
+all_grow payload start count (suc k) old begins one w each le =
+    let so_far = all_grow payload start count k old begins one w each (omega arith) in
+    let f = each k (omega arith) in
+    let at = behind_at payload start start k old w in
+    let small = small_at payload (start + k) (start + suc k) (behind k old) (behind (suc k) old) frames.Padding one so_far.walks f at in
+    grows_to payload (start + k) (start + k) (start + suc k) (behind k old) (behind (suc k) old) frames.Padding true begins one refl so_far f at
+    (one_byte _ (meaning_of frames.Padding) (start + suc k - (start + k)) (omega arith) small) refl
+
+-- behind a frame that isn't, they change nothing
+all_stay : (payload : List ℕ) (front start count k : ℕ) (old : Way) → front ≢ start → FrontWalk payload front start old → EachPads count old → k ≤ count → FrontWalk payload front (start + k) (behind k old)
+all_stay payload front start count zero old differs w each le = subst (λ (n : ℕ). FrontWalk payload front n old) (omega arith) w
+all_stay payload front start count (suc k) old differs w each le =
+    let so_far = all_stay payload front start count k old differs w each (omega arith) in
+    let before = w.before in
+    stays_at payload front (start + k) (start + suc k) (behind k old) (behind (suc k) old) frames.Padding (λ e. differs (omega (arith, e, before))) so_far (each k (omega arith)) (behind_at payload front start k old w)
+
+pub padding_grows : (payload : List ℕ) (front stop later count : ℕ) (old new : Way) → BeginsNone → OneShortest → front ≡ stop → FrontWalk payload front stop old → PassesPadding old count new → later ≡ new.offset → FrontWalk payload later later new
+padding_grows payload front stop later count old new begins one same w p at =
+    let v = subst (λ (n : ℕ). FrontWalk payload n stop old) same w in
+    let passed = subst (FrontWalk payload (stop + count) (stop + count)) (sym p.comes) (all_grow payload stop count count old begins one v p.each (omega arith)) in
+    subst (λ (n : ℕ). FrontWalk payload n n new) (sym passed.walks.start_is ∙ sym at) passed
+
+pub padding_stays : (payload : List ℕ) (front stop later count : ℕ) (old new : Way) → front ≢ stop → FrontWalk payload front stop old → PassesPadding old count new → later ≡ new.offset → FrontWalk payload front later new
+padding_stays payload front stop later count old new differs w p at =
+    let passed = subst (FrontWalk payload front (stop + count)) (sym p.comes) (all_stay payload front stop count count old differs w p.each (omega arith)) in
+    subst (λ (n : ℕ). FrontWalk payload front n new) (sym passed.walks.start_is ∙ sym at) passed
+
+-- what is left gets no longer
+fewer : (count k : ℕ) (old : Way) → EachPads count old → k ≤ count → length (left (behind k old)) ≤ length (left old)
+fewer count zero old each le = omega arith
+fewer count (suc k) old each le =
+    let so_far = fewer count k old each (omega arith) in
+    let one = ap length (each k (omega arith)).first in
+    omega (arith, so_far, one)
+
+padding_shortens : (count : ℕ) (old new : Way) → PassesPadding old count new → length (left new) ≤ length (left old)
+padding_shortens count old new p = subst (λ (w : Way). length (left w) ≤ length (left old)) (sym p.comes) (fewer count count old p.each (omega arith))
+
+pub padding_goes_on : (count : ℕ) (old next new : Way) (frame : Frame) → Finds old frame next → PassesPadding next count new → length (left new) < length (left old)
+padding_goes_on count old next new frame f p = let one = ap length f.first in omega (arith, one, padding_shortens count next new p)

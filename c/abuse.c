@@ -41,19 +41,15 @@ static uint64_t edge(void) {
 static size_t place(void) { return any() % 3 ? any() % 45 : (size_t)edge(); }
 
 static void nulls(void) {
-  static const uint32_t one[] = {1};
   quic_wire_frames frames = {0, QUIC_WIRE_NO_TYPE, 0, 0};
   quic_wire_frame frame;
   quic_wire_ack_ranges ranges;
   quic_wire_range range;
-  quic_wire_packet packet;
-  quic_wire_opened opened;
   quic_wire_canon canon;
   uint8_t byte = 1, out[8];
   size_t n = 0;
   memset(&frame, 0, sizeof frame);
   memset(&ranges, 0, sizeof ranges);
-  memset(&packet, 0, sizeof packet);
   WANT(quic_wire_frames_init(NULL, &byte, 1) == INVALID);
   WANT(quic_wire_frames_init(&frames, NULL, 1) == INVALID);
   WANT(quic_wire_frames_init(&frames, NULL, 0) == QUIC_WIRE_ERR_EMPTY);
@@ -113,25 +109,6 @@ static void nulls(void) {
   WANT(quic_wire_canonical(&byte, 1, NULL, 0, &canon) == QUIC_WIRE_ERR_NOBUF &&
        canon.len == 1);
   n = 0;
-  WANT(quic_wire_packet_next(NULL, 1, &n, 0, one, 1, 0, &packet) == INVALID);
-  WANT(quic_wire_packet_next(&byte, 1, NULL, 0, one, 1, 0, &packet) == INVALID);
-  WANT(quic_wire_packet_next(&byte, 1, &n, 0, NULL, 1, 0, &packet) == INVALID);
-  WANT(quic_wire_packet_next(&byte, 1, &n, 0, one, 1, 0, NULL) == INVALID);
-  WANT(quic_wire_packet_next(&byte, 1, &n, 21, one, 1, 0, &packet) == INVALID);
-  WANT(quic_wire_packet_next(NULL, 0, &n, 0, NULL, 0, 0, &packet) ==
-           QUIC_WIRE_ERR_MALFORMED &&
-       packet.reason == QUIC_WIRE_PACKET_UNEXPECTED_END && n == 0);
-  WANT(quic_wire_sample_place(NULL, 1, &packet, 16, &n) == INVALID);
-  WANT(quic_wire_sample_place(&byte, 1, NULL, 16, &n) == INVALID);
-  WANT(quic_wire_sample_place(&byte, 1, &packet, 16, NULL) == INVALID);
-  WANT(quic_wire_unprotect(NULL, 1, &packet, out, 8, 0, &opened) == INVALID);
-  WANT(quic_wire_unprotect(&byte, 1, NULL, out, 8, 0, &opened) == INVALID);
-  WANT(quic_wire_unprotect(&byte, 1, &packet, NULL, 8, 0, &opened) == INVALID);
-  WANT(quic_wire_unprotect(&byte, 1, &packet, out, 8, 0, NULL) == INVALID);
-  WANT(quic_wire_protect(NULL, 1, &packet, out, 8) == INVALID);
-  WANT(quic_wire_protect(&byte, 1, NULL, out, 8) == INVALID);
-  WANT(quic_wire_protect(&byte, 1, &packet, NULL, 8) == INVALID);
-  n = 0;
   WANT(quic_wire_set_insert(NULL, 1, &n, 0, 1) == INVALID);
   WANT(quic_wire_set_insert(&range, 1, NULL, 0, 1) == INVALID);
   WANT(quic_wire_set_insert(NULL, 0, &n, 0, 1) == QUIC_WIRE_ERR_NOBUF);
@@ -153,26 +130,48 @@ static void nulls(void) {
 }
 
 static void head_nulls(void) {
-  quic_wire_head head = {QUIC_WIRE_RETRY, 0, 1, 0, 0, 0};
+  static const uint32_t one[] = {1};
+  quic_wire_said said = {QUIC_WIRE_RETRY, 0, 0, 0, 1, 0};
+  quic_wire_head head;
   uint8_t id[4] = {1, 2, 3, 4}, out[16];
-  size_t n = 77, place = 77;
-  WANT(quic_wire_head_write(NULL, id, 4, id, 4, NULL, 0, out, 16, &n, &place) ==
-       INVALID);
-  WANT(quic_wire_head_write(&head, NULL, 4, id, 4, NULL, 0, out, 16, &n,
-                            &place) == INVALID);
-  WANT(quic_wire_head_write(&head, id, 4, NULL, 4, NULL, 0, out, 16, &n,
-                            &place) == INVALID);
-  WANT(quic_wire_head_write(&head, id, 4, id, 4, NULL, 1, out, 16, &n,
-                            &place) == INVALID);
-  WANT(quic_wire_head_write(&head, id, 4, id, 4, NULL, 0, NULL, 16, &n,
-                            &place) == INVALID);
-  WANT(n == 77 && place == 77);
-  WANT(quic_wire_head_write(&head, NULL, 0, NULL, 0, NULL, 0, NULL, 0, &n,
-                            &place) == QUIC_WIRE_ERR_NOBUF);
-  WANT(n == 7 && place == 77);
-  WANT(quic_wire_head_write(&head, id, 4, id, 4, NULL, 0, out, 16, NULL,
-                            NULL) == 0);
+  uint64_t number = 77;
+  WANT(quic_wire_head_read(NULL, 1, 0, one, 1, &head) == INVALID);
+  WANT(quic_wire_head_read(id, 4, 0, NULL, 1, &head) == INVALID);
+  WANT(quic_wire_head_read(id, 4, 0, one, 1, NULL) == INVALID);
+  WANT(quic_wire_head_read(id, 4, 21, one, 1, &head) == INVALID);
+  WANT(quic_wire_head_read(id, 0, 0, NULL, 0, &head) ==
+       QUIC_WIRE_PACKET_UNEXPECTED_END);
+  WANT(!quic_wire_dcid(NULL, &head) && !quic_wire_dcid(id, NULL));
+  WANT(!quic_wire_scid(NULL, &head) && !quic_wire_scid(id, NULL));
+  WANT(!quic_wire_sample(NULL, 40, 0, 16) && !quic_wire_sample(id, 4, 5, 0));
+  WANT(quic_wire_unprotect(NULL, 4, 0, id, 0, &number) == INVALID);
+  WANT(quic_wire_unprotect(out, 4, 0, NULL, 0, &number) == INVALID);
+  WANT(quic_wire_unprotect(out, 4, 0, id, 0, NULL) == INVALID);
+  WANT(quic_wire_unprotect_head(NULL, 4, 0, id, 0, out, 16, &number) == INVALID);
+  WANT(quic_wire_unprotect_head(id, 4, 0, NULL, 0, out, 16, &number) == INVALID);
+  WANT(quic_wire_unprotect_head(id, 4, 0, id, 0, NULL, 16, &number) == INVALID);
+  WANT(quic_wire_unprotect_head(id, 4, 0, id, 0, out, 16, NULL) == INVALID);
+  WANT(quic_wire_protect(NULL, 4, 0, id) == INVALID);
+  WANT(quic_wire_protect(out, 4, 0, NULL) == INVALID);
+  WANT(quic_wire_head_write(NULL, id, 4, id, 4, NULL, 0, out, 16) == INVALID);
+  WANT(quic_wire_head_write(&said, NULL, 4, id, 4, NULL, 0, out, 16) == INVALID);
+  WANT(quic_wire_head_write(&said, id, 4, NULL, 4, NULL, 0, out, 16) == INVALID);
+  WANT(quic_wire_head_write(&said, id, 4, id, 4, NULL, 1, out, 16) == INVALID);
+  WANT(quic_wire_head_write(&said, id, 4, id, 4, NULL, 0, NULL, 16) == INVALID);
+  WANT(quic_wire_head_write(&said, NULL, 0, NULL, 0, NULL, 0, out, 6) ==
+       QUIC_WIRE_ERR_NOBUF);
+  WANT(quic_wire_head_write(&said, id, 4, id, 4, NULL, 0, out, 16) == 15);
   WANT(out[0] == 0xf0 && out[4] == 1 && out[5] == 4 && out[10] == 4);
+  WANT(quic_wire_head_len(NULL, 4, 4, 0) == 0);
+  WANT(quic_wire_set_len(NULL, 4, 2, 2) == INVALID && number == 77);
+  WANT(quic_wire_varint_read(NULL, 1, &number) == 0 &&
+       quic_wire_varint_read(id, 1, NULL) == 0);
+  WANT(quic_wire_varint_write(1, 0, NULL, 1) == 0);
+  WANT(quic_wire_frame_type(NULL, 1, NULL) == QUIC_WIRE_NO_TYPE);
+  WANT(quic_wire_error_type(NULL) == QUIC_WIRE_NO_TYPE &&
+       quic_wire_error_reason(NULL) == 0);
+  WANT(quic_wire_padding_count(NULL, 1, NULL) == 0 &&
+       !quic_wire_reset_token(NULL, 1, NULL));
 }
 
 static uint8_t *block(size_t len) { return malloc(len ? len : 1); }
@@ -184,6 +183,7 @@ static void read_rubbish(const uint8_t *payload, size_t len) {
   quic_wire_ack_ranges ranges;
   quic_wire_range range;
   uint32_t strict = (uint32_t)(any() % 2 ? 0 : edge());
+  const uint8_t *token;
   size_t k;
   int answer = 0;
   frames.offset = place();
@@ -195,10 +195,25 @@ static void read_rubbish(const uint8_t *payload, size_t len) {
                                                         &frame)) == 1; k++) {
     WANT(frame.begin < frame.end && frame.end <= len);
     WANT(frame.data <= frame.end && frame.datalen <= frame.end - frame.data);
+    WANT(quic_wire_frame_type(payload, len, &frame) == frames.last_type);
+    WANT(quic_wire_padding_count(payload, len, &frame) ==
+         (frame.kind == QUIC_WIRE_PADDING));
+    token = quic_wire_reset_token(payload, len, &frame);
+    WANT(frame.kind == QUIC_WIRE_NEW_CONNECTION_ID
+             ? token + 16 == payload + frame.end
+             : !token);
   }
   WANT(k < 50 && (answer == 0 || answer == INVALID ||
                   answer == QUIC_WIRE_ERR_MALFORMED));
   WANT(frames.strict == strict);
+  frame.begin = place();
+  frame.end = place();
+  frame.data = place();
+  frame.datalen = place();
+  quic_wire_frame_type(payload, len, &frame);
+  WANT(quic_wire_padding_count(payload, len, &frame) <= len);
+  token = quic_wire_reset_token(payload, len, &frame);
+  WANT(!token || token + 16 <= payload + len);
   ranges.begin = place();
   ranges.end = place();
   ranges.largest = edge();
@@ -493,78 +508,73 @@ static int strict_any(const uint8_t *bytes, size_t len) {
   return is_long;
 }
 
-/* Cuts any bytes into packets, and takes protection off any of them. */
+/* Reads any bytes as packets, and takes protection off any of them: in place, and
+ * in a copy of the head. */
 static void packet_rubbish(uint8_t *datagram, size_t len) {
   static const uint32_t versions[] = {1, 0x6b3343cf};
-  uint8_t mask[8];
-  quic_wire_packet packet;
-  quic_wire_opened opened;
-  size_t offset = any() % 4 ? 0 : place(), sample, k;
+  uint8_t mask[5], copy[40];
+  quic_wire_head head;
+  const uint8_t *sample;
+  uint64_t number = 0, expected = edge() >> 2, again = 0;
+  size_t begin = 0, k, at;
   uint32_t cidlen = (uint32_t)(any() % 22);
   int answer = 0;
   if (len > 4 && any() % 2) { /* a version that is known */
     memcpy(datagram + 1, any() % 2 ? "\0\0\0\1" : "\x6b\x33\x43\xcf", 4);
     datagram[0] |= 0xc0;
   }
-  for (k = 0; k < 8; k++)
+  for (k = 0; k < 5; k++)
     mask[k] = (uint8_t)any();
-  for (k = 0; k < 50; k++) {
-    size_t begin = offset;
-    answer = quic_wire_packet_next(datagram, len, &offset, cidlen, versions, 2,
-                                   (int)(any() % 2), &packet);
-    if (answer != QUIC_WIRE_ITEM)
+  for (; begin < len; begin += head.end) {
+    uint8_t *packet = datagram + begin;
+    answer = quic_wire_head_read(packet, len - begin, cidlen, versions, 2, &head);
+    if (cidlen > 20)
+      WANT(answer == INVALID);
+    if (answer != 0 && answer != QUIC_WIRE_PACKET_LENGTH_BEYOND_END)
       break;
-    WANT(packet.begin == begin && packet.end == offset && offset <= len);
-    WANT(packet.head_end > begin && packet.head_end <= packet.end);
-    WANT(packet.dcid + packet.dcidlen <= packet.head_end);
-    WANT(packet.scid + packet.scidlen <= packet.head_end);
-    WANT(packet.token + packet.tokenlen <= packet.head_end);
-    if (quic_wire_sample_place(datagram, len, &packet, 16, &sample) == 0)
-      WANT(sample + 16 <= packet.end);
-    if (any() % 2 && quic_wire_unprotect(datagram, len, &packet, mask,
-                                         any() % 9, edge(), &opened) == 0)
-      WANT(opened.payload == packet.head_end + opened.numberlen &&
-           opened.numberlen <= 4);
+    WANT(head.head_end && head.head_end <= head.end && head.end <= len - begin);
+    WANT(quic_wire_dcid(packet, &head) + head.dcidlen <= packet + head.head_end);
+    WANT(head.kind == QUIC_WIRE_1RTT ||
+         quic_wire_scid(packet, &head) + head.scidlen <= packet + head.head_end);
+    WANT(head.token + head.tokenlen <= head.head_end);
+    sample = quic_wire_sample(packet, head.end, head.head_end, 16);
+    WANT(!sample || sample + 16 <= packet + head.end);
+    answer = quic_wire_unprotect_head(packet, head.end, head.head_end, mask,
+                                      expected, copy, sizeof copy, &again);
+    WANT(answer == quic_wire_unprotect(packet, head.end, head.head_end, mask,
+                                       expected, &number));
+    WANT(answer >= 1 ? answer <= 4 && number == again
+                     : answer == INVALID || answer == QUIC_WIRE_ERR_MALFORMED);
   }
-  WANT(k < 50);
-  memset(&packet, 0, sizeof packet);
-  packet.kind = (uint32_t)(any() % 7);
-  packet.begin = place();
-  packet.head_end = place();
-  packet.end = place();
-  quic_wire_sample_place(datagram, len, &packet, place(), &sample);
-  quic_wire_unprotect(datagram, len, &packet, mask, any() % 9, edge(), &opened);
+  at = place();
+  answer = quic_wire_unprotect(datagram, len, at, mask, edge(), &number);
+  WANT(answer == INVALID || (answer >= 1 ? at + 4 <= len
+                                         : answer == QUIC_WIRE_ERR_MALFORMED));
 }
 
 /* A head as RFC 9000, section 17, and RFC 9369 draw it, by a plain model: its
- * length and the place of its number, or 0 where there is no such head. */
-static size_t model_head(const quic_wire_head *h, const uint8_t *const parts[3],
-                         const size_t lens[3], uint8_t *out, size_t *place) {
-  const int numbered = h->kind <= QUIC_WIRE_HANDSHAKE || h->kind == QUIC_WIRE_1RTT;
-  const uint32_t most = h->kind == QUIC_WIRE_1RTT ? 3
-                        : h->kind == QUIC_WIRE_VERSION_NEGOTIATION ? 127 : 0;
+ * length, or 0 where there is no such head. */
+static size_t model_head(const quic_wire_said *h, const uint8_t *const parts[3],
+                         const size_t lens[3], uint8_t *out) {
+  const int is_long = h->kind <= QUIC_WIRE_HANDSHAKE;
+  const int numbered = is_long || h->kind == QUIC_WIRE_1RTT;
+  const uint8_t fixed = (h->flags & QUIC_WIRE_FIXED_BIT) ^ 0x40;
   size_t n = 0, i, k;
-  if (h->kind > 5 || lens[0] > 20 || lens[1] > 20 || h->flags > most ||
-      (h->kind >= 4 && h->version) || (h->kind == 4 && lens[1]) ||
-      (h->kind && lens[2]))
-    return 0;
-  if (numbered ? h->numberlen < 1 || h->numberlen > 4 || h->number >> 62
-               : h->numberlen || h->number)
-    return 0;
-  if (h->kind <= 2 && (h->bodylen >> 14 || (h->bodylen + h->numberlen) >> 14))
+  if (h->kind > 5 || lens[0] > 20 || (h->kind != QUIC_WIRE_1RTT && lens[1] > 20) ||
+      (numbered && (h->numberlen < 1 || h->numberlen > 4)))
     return 0;
   if (h->kind == QUIC_WIRE_1RTT) {
-    out[n++] = (uint8_t)(0x40 + (h->flags % 2) * 0x20 + (h->flags / 2) * 4 +
-                         h->numberlen - 1);
+    out[n++] = (uint8_t)(fixed | (h->flags & 0x24) | (h->numberlen - 1));
     for (k = 0; k < lens[0]; k++)
       out[n++] = parts[0][k];
   } else {
-    uint32_t type = (h->kind + (h->version == 0x6b3343cf)) % 4;
-    out[n++] = (uint8_t)(h->kind == 5 ? 0x80 + h->flags
-                                      : 0xc0 + 16 * type +
-                                            (numbered ? h->numberlen - 1 : 0));
+    const int vn = h->kind == QUIC_WIRE_VERSION_NEGOTIATION;
+    uint32_t type = (h->kind + (h->version == 0x6b3343cf ? 1u : 0)) % 4;
+    out[n++] = (uint8_t)(vn ? 0x80 | h->flags
+                            : 0x80 | fixed | 16 * type |
+                                  (numbered ? h->numberlen - 1u : 0));
     for (k = 4; k--;)
-      out[n++] = (uint8_t)(h->version >> (8 * k));
+      out[n++] = (uint8_t)(vn ? 0 : h->version >> (8 * k));
     for (i = 0; i < 2; i++) {
       out[n++] = (uint8_t)lens[i];
       for (k = 0; k < lens[i]; k++)
@@ -577,69 +587,68 @@ static size_t model_head(const quic_wire_head *h, const uint8_t *const parts[3],
       for (k = 0; k < lens[2]; k++)
         out[n++] = parts[2][k];
     }
-    if (h->kind <= QUIC_WIRE_HANDSHAKE) {
-      out[n++] = (uint8_t)(0x40 + (h->bodylen + h->numberlen) / 256);
-      out[n++] = (uint8_t)(h->bodylen + h->numberlen);
-    }
+    for (k = is_long ? h->lengthlen == 4 ? 4 : 2 : 0; k--;)
+      out[n++] = 0;
   }
-  *place = n;
-  for (k = h->numberlen; k--;)
+  for (k = numbered ? h->numberlen : 0; k--;)
     out[n++] = (uint8_t)(h->number >> (8 * k));
   return n;
 }
 
-/* A packet of a head that was written, and a body behind it: it is cut as it
- * was said, its protection is put on as by hand, and taken off again. */
-static void head_cut(const quic_wire_head *h, const size_t lens[3],
-                     const uint8_t *written, size_t len, size_t place) {
-  const size_t body = h->kind <= 2 ? (size_t)h->bodylen : 20;
-  const size_t whole = len + body;
-  uint8_t *datagram = block(whole), *plain = block(whole), mask[8];
-  quic_wire_packet packet, at = quic_wire_packet_at(h->kind, 0, place, whole);
-  quic_wire_opened opened;
-  size_t offset = 0, masklen = any() % 9, k;
+/* A packet of a head that was written, and a body behind it: its length is set,
+ * it is read as it was said, its protection is put on as by hand, and taken off
+ * again. */
+static void head_cut(const quic_wire_said *h, const size_t lens[3],
+                     const uint8_t *written, size_t len) {
+  const int is_long = h->kind <= QUIC_WIRE_HANDSHAKE;
+  const int numbered = is_long || h->kind == QUIC_WIRE_1RTT;
+  const size_t whole = len + any() % 64;
+  const size_t at = len - (numbered ? h->numberlen : 0);
+  uint8_t *packet = block(whole), *plain = block(whole), mask[5];
+  quic_wire_head head;
+  uint64_t number = 0;
+  size_t k;
   int answer;
-  memcpy(datagram, written, len);
-  for (k = 0; k < body; k++)
-    datagram[len + k] = (uint8_t)any();
-  memcpy(plain, datagram, whole);
-  for (k = 0; k < 8; k++)
+  memcpy(packet, written, len);
+  for (k = len; k < whole; k++)
+    packet[k] = (uint8_t)any();
+  if (is_long)
+    WANT(quic_wire_set_len(packet, whole, at, h->lengthlen) == 0);
+  memcpy(plain, packet, whole);
+  for (k = 0; k < 5; k++)
     mask[k] = (uint8_t)any();
-  answer = quic_wire_protect(datagram, whole, &at, mask, masklen);
-  if (h->kind == QUIC_WIRE_RETRY || h->kind == QUIC_WIRE_VERSION_NEGOTIATION ||
-      masklen < 5) {
-    WANT(answer == INVALID && !memcmp(datagram, plain, whole));
-  } else if (h->numberlen + body < 4) {
-    WANT(answer == QUIC_WIRE_ERR_MALFORMED && !memcmp(datagram, plain, whole));
-  } else {
-    WANT(answer == 0);
+  answer = quic_wire_protect(packet, whole, at, mask);
+  if (whole - at < 4) {
+    WANT(answer == QUIC_WIRE_ERR_MALFORMED && !memcmp(packet, plain, whole));
+  } else if (numbered) {
+    WANT(answer == h->numberlen);
     for (k = 0; k < whole; k++) {
       uint8_t m = 0;
       if (k == 0)
         m = mask[0] & (h->kind == QUIC_WIRE_1RTT ? 0x1f : 0x0f);
-      else if (k >= place && k < place + h->numberlen)
-        m = mask[1 + k - place];
-      WANT(datagram[k] == (plain[k] ^ m));
+      else if (k >= at && k < len)
+        m = mask[1 + k - at];
+      WANT(packet[k] == (plain[k] ^ m));
     }
+  } else {
+    memcpy(packet, plain, whole);
   }
-  if (h->kind <= 3 && h->version == 0)
-    goto done; /* read as a version negotiation */
-  WANT(quic_wire_packet_next(datagram, whole, &offset, (uint32_t)lens[0],
-                             &h->version, 1, h->kind == 5, &packet) ==
-       QUIC_WIRE_ITEM);
-  WANT(packet.kind == h->kind && packet.version == h->version);
-  WANT(packet.dcidlen == lens[0] && packet.scidlen == lens[1] &&
-       packet.tokenlen == lens[2]);
-  WANT(packet.begin == 0 && packet.end == whole && packet.head_end == place);
-  WANT(packet.flags == (h->kind == QUIC_WIRE_1RTT ? h->flags % 2 : h->flags));
-  if (answer == 0) {
-    WANT(quic_wire_unprotect(datagram, whole, &packet, mask, 8, h->number,
-                             &opened) == 0);
-    WANT(opened.number == h->number && opened.numberlen == h->numberlen);
-    WANT(opened.payload == len && !memcmp(datagram, plain, whole));
+  if (h->kind > QUIC_WIRE_RETRY || h->version != 0) { /* else a negotiation */
+    WANT(quic_wire_head_read(packet, whole, (uint32_t)lens[0], &h->version, 1,
+                             &head) == 0);
+    WANT(head.kind == h->kind && head.first == packet[0]);
+    WANT(head.version == (h->kind <= QUIC_WIRE_RETRY ? h->version : 0));
+    WANT(head.dcidlen == lens[0] && head.end == whole && head.head_end == at);
+    WANT(h->kind == QUIC_WIRE_1RTT || head.scidlen == lens[1]);
+    WANT(head.tokenlen == (h->kind == QUIC_WIRE_INITIAL ? lens[2] : 0));
+    WANT(head.len == (is_long ? whole - at : 0));
   }
-done:
-  free(datagram);
+  if (numbered && answer > 0 && h->number >> 62 == 0) {
+    WANT(quic_wire_unprotect(packet, whole, at, mask, h->number, &number) ==
+         h->numberlen);
+    WANT(number == h->number && !memcmp(packet, plain, whole));
+  }
+  free(packet);
   free(plain);
 }
 
@@ -647,52 +656,65 @@ done:
  * whether a head was written. */
 static int head_written(void) {
   static const uint32_t versions[] = {1, 0x6b3343cf, 0, 0xff00001d};
-  quic_wire_head h;
+  quic_wire_said h;
   uint8_t model[512], *parts[3], *dest;
   const uint8_t *given[3];
-  size_t lens[3], room, n = 77, place = 77, want, at = 0, k, i;
-  int answer;
+  size_t lens[3], room, want, k, i;
+  int64_t answer;
   memset(&h, 0, sizeof h);
-  h.kind = (uint32_t)(any() % 60 ? any() % 6 : edge());
-  if (h.kind < 4 || !(any() % 60))
-    h.version = any() % 9 ? versions[any() % 4] : (uint32_t)any();
-  if (h.kind == 4 || h.kind == 5)
-    h.flags = (uint32_t)(any() % 9 ? any() % (h.kind == 4 ? 4 : 128) : edge());
-  if ((h.kind != 3 && h.kind != 5) || !(any() % 60)) {
-    h.numberlen = (uint32_t)(any() % 20 ? 1 + any() % 4 : edge());
-    h.number = any() % 20 ? any() >> (2 + any() % 60) : edge();
-  }
-  h.bodylen = any() % 40 ? any() % 64 : 16370 + any() % 20;
+  h.kind = (uint8_t)(any() % 60 ? any() % 6 : any());
+  h.version = any() % 9 ? versions[any() % 4] : (uint32_t)any();
+  h.flags = (uint8_t)(any() % 9 ? any() % 128 : any());
+  h.numberlen = (uint8_t)(any() % 20 ? 1 + any() % 4 : any());
+  h.lengthlen = (uint8_t)(any() % 9 ? 2 + any() % 2 * 2 : any());
+  h.number = any() % 20 ? any() >> (2 + any() % 60) : edge();
   lens[0] = any() % 40 ? any() % 21 : 21;
-  lens[1] = h.kind == 4 && any() % 60 ? 0 : any() % 40 ? any() % 21 : 21;
-  lens[2] = h.kind && any() % 60 ? 0 : any() % 4 ? any() % 40 : any() % 300;
-  if (!(any() % 40))
-    ((uint8_t *)&h)[any() % sizeof h] ^= (uint8_t)any();
+  lens[1] = any() % 40 ? any() % 21 : 21;
+  lens[2] = any() % 4 ? any() % 40 : any() % 300;
   for (i = 0; i < 3; i++) {
     given[i] = parts[i] = block(lens[i]);
     for (k = 0; k < lens[i]; k++)
       parts[i][k] = (uint8_t)any();
   }
-  want = model_head(&h, given, lens, model, &at);
+  want = model_head(&h, given, lens, model);
+  WANT(!want || quic_wire_head_len(&h, lens[0], lens[1], lens[2]) == want);
   room = any() % 3 ? want + any() % 8 : any() % (want + 1);
   dest = block(room);
   memset(dest, 0xa5, room);
   answer = quic_wire_head_write(&h, parts[0], lens[0], parts[1], lens[1],
-                                parts[2], lens[2], dest, room, &n, &place);
+                                parts[2], lens[2], dest, room);
   if (!want) {
-    WANT(answer == INVALID && n == 77 && place == 77);
+    WANT(answer == INVALID);
   } else if (room < want) {
-    WANT(answer == QUIC_WIRE_ERR_NOBUF && n == want && place == 77);
+    WANT(answer == QUIC_WIRE_ERR_NOBUF);
   } else {
-    WANT(answer == 0 && n == want && place == at && !memcmp(dest, model, n));
-    head_cut(&h, lens, dest, n, place);
+    WANT((size_t)answer == want && !memcmp(dest, model, want));
+    head_cut(&h, lens, dest, want);
   }
-  for (k = answer == 0 ? n : 0; k < room; k++)
+  for (k = answer > 0 ? want : 0; k < room; k++)
     WANT(dest[k] == 0xa5);
   for (i = 0; i < 3; i++)
     free(parts[i]);
   free(dest);
-  return answer == 0;
+  return answer > 0;
+}
+
+/* Numbers of variable length: each that is written is read, in its least width
+ * by 0, and in no less. */
+static void varint_any(void) {
+  const uint64_t n = edge();
+  const uint32_t width = (uint32_t)(any() % 9);
+  const size_t least = varint_len(n), room = any() % 10;
+  uint8_t dest[10];
+  uint64_t read = 0;
+  size_t len, want = width ? width : least;
+  if (n >> 62 || want < least || want > room || (want & (want - 1)))
+    want = 0;
+  len = quic_wire_varint_write(n, width, dest, room);
+  WANT(len == want);
+  if (len)
+    WANT(quic_wire_varint_read(dest, len, &read) == len && read == n &&
+         quic_wire_varint_read(dest, len - 1, &read) == 0);
 }
 
 /* The length of a number by a plain model, and that it is found again. */
@@ -707,21 +729,21 @@ static void number_len_any(void) {
     WANT(answer == (twice < 256 ? 1 : twice < 65536 ? 2 : twice < 16777216 ? 3 : 4));
 }
 
-/* Any words to put protection on. */
+/* Any place to put protection on. */
 static void protect_rubbish(uint8_t *datagram, size_t len) {
-  quic_wire_packet packet =
-      quic_wire_packet_at((uint32_t)(any() % 7), place(), place(), place());
-  uint8_t before[40], mask[8];
+  const size_t at = place();
+  uint8_t before[40], mask[5];
   size_t k;
   int answer;
-  for (k = 0; k < 8; k++)
+  for (k = 0; k < 5; k++)
     mask[k] = (uint8_t)any();
   memcpy(before, datagram, len);
-  answer = quic_wire_protect(datagram, len, &packet, mask, any() % 9);
+  answer = quic_wire_protect(datagram, len, at, mask);
+  WANT(answer == QUIC_WIRE_ERR_MALFORMED ||
+       (answer >= 1 && answer <= 4 && at + 4 <= len));
   for (k = 0; k < len; k++)
     WANT(datagram[k] == before[k] ||
-         (answer == 0 && (k == packet.begin ||
-                          (k >= packet.head_end && k < packet.head_end + 4))));
+         (answer > 0 && (k == 0 || (k >= at && k < at + 4))));
 }
 
 /* Bytes of a field, as an id that may be longer than it is said to be. */
@@ -790,7 +812,7 @@ static int params_written(uint32_t side) {
   int answer;
   params_rubbish(&given);
   memset(room, 0xaa, sizeof room);
-  answer = quic_wire_params_write(side, &given, room, sizeof room, &n);
+  answer = quic_wire_params_write(side ^ 1, &given, room, sizeof room, &n);
   if (answer != QUIC_WIRE_OK) {
     WANT(answer == INVALID && n == 0 && room[0] == 0xaa);
     return 0;
@@ -798,10 +820,10 @@ static int params_written(uint32_t side) {
   WANT(n <= sizeof room && (n == sizeof room || room[n] == 0xaa));
   dest = block(n);
   if (n) {
-    answer = quic_wire_params_write(side, &given, dest, n - 1, &less);
+    answer = quic_wire_params_write(side ^ 1, &given, dest, n - 1, &less);
     WANT(answer == QUIC_WIRE_ERR_NOBUF && less == n);
   }
-  WANT(quic_wire_params_write(side, &given, dest, n, &less) == QUIC_WIRE_OK);
+  WANT(quic_wire_params_write(side ^ 1, &given, dest, n, &less) == QUIC_WIRE_OK);
   WANT(less == n && (!n || !memcmp(dest, room, n)));
   memset(&got, 0xbb, sizeof got);
   WANT(quic_wire_params_read(side, dest, n, &got) == QUIC_WIRE_OK);
@@ -822,7 +844,7 @@ static void params_any(const uint8_t *list, size_t len) {
   answer = quic_wire_params_read(side, list, len, &got);
   WANT(side < 2 || answer == INVALID);
   if (answer == QUIC_WIRE_OK) {
-    WANT(quic_wire_params_write(side, &got, dest, sizeof dest, &n) ==
+    WANT(quic_wire_params_write(side ^ 1, &got, dest, sizeof dest, &n) ==
          QUIC_WIRE_OK);
     WANT(n <= len && got.reason == 0);
   } else {
@@ -834,7 +856,7 @@ static void params_any(const uint8_t *list, size_t len) {
   }
   for (k = 0; k < sizeof got; k++)
     ((uint8_t *)&got)[k] = (uint8_t)(any() % 3 ? 0 : any());
-  quic_wire_params_write(side, &got, dest, any() % sizeof dest, &n);
+  quic_wire_params_write(side ^ 1, &got, dest, any() % sizeof dest, &n);
 }
 
 /* ---- Sets, against 64 bits for the numbers from |base| on. */
@@ -1026,6 +1048,7 @@ static void rubbish(int rounds) {
     forms += canonical_any(bytes, len);
     longs += strict_any(bytes, len);
     number_len_any();
+    varint_any();
     params_any(bytes, len);
     set_rubbish();
     if (i % 8 == 0)
@@ -1038,44 +1061,9 @@ static void rubbish(int rounds) {
   WANT(longs > rounds / 5);
 }
 
-/* A short head with a number of each size, protected by a mask of one's own. */
-static void numbers(void) {
-  static const uint8_t mask[] = {0xff, 0x12, 0x34, 0x56, 0x78};
-  size_t size, k;
-  for (size = 1; size <= 4; size++) {
-    uint64_t number = 0x123456789a, expected = number + 1;
-    uint64_t low = number & ((1ull << (8 * size)) - 1);
-    uint8_t datagram[1 + 8 + 4 + 16];
-    quic_wire_packet packet;
-    quic_wire_opened opened;
-    size_t offset = 0, sample;
-    memset(datagram, 0xee, sizeof datagram);
-    datagram[0] = (uint8_t)((0x40 + size - 1) ^ (mask[0] & 0x1f));
-    for (k = 0; k < size; k++)
-      datagram[9 + k] = (uint8_t)(low >> (8 * (size - 1 - k))) ^ mask[1 + k];
-    WANT(quic_wire_packet_next(datagram, sizeof datagram, &offset, 8, NULL, 0,
-                               0, &packet) == QUIC_WIRE_ITEM);
-    WANT(packet.kind == QUIC_WIRE_1RTT && packet.head_end == 9);
-    WANT(packet.dcid == 1 && packet.dcidlen == 8 && packet.end == 29);
-    WANT(quic_wire_sample_place(datagram, sizeof datagram, &packet, 16,
-                                &sample) == 0 && sample == 13);
-    WANT(quic_wire_sample_place(datagram, sizeof datagram, &packet, 17,
-                                &sample) == QUIC_WIRE_ERR_MALFORMED);
-    WANT(quic_wire_unprotect(datagram, sizeof datagram, &packet, mask, 4,
-                             expected, &opened) == INVALID);
-    WANT(quic_wire_unprotect(datagram, sizeof datagram, &packet, mask, 5,
-                             expected, &opened) == 0);
-    WANT(datagram[0] == 0x40 + size - 1 && opened.numberlen == size);
-    WANT(opened.payload == 9 + size && opened.number == number);
-    for (k = 9 + size; k < sizeof datagram; k++)
-      WANT(datagram[k] == 0xee);
-  }
-}
-
 int main(int argc, char **argv) {
   nulls();
   head_nulls();
-  numbers();
   rubbish(argc == 2 ? atoi(argv[1]) : 300000);
   puts("abuse: all as it should be");
   return 0;

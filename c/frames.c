@@ -1,14 +1,19 @@
 /* Prints the frames of payloads, given as lines of hexadecimal, as
  * `quic-show frames` does. */
+#define _POSIX_C_SOURCE 200809L
 #include <inttypes.h>
 #include <stdio.h>
+#include <stdlib.h>
 #include <string.h>
 
 #include "quic_wire.h"
 
 static void print_type(uint64_t type) {
   const char *name = quic_wire_type_name(type);
-  name ? printf("%s", name) : printf("<unknown %" PRIx64 ">", type);
+  if (name)
+    printf("%s", name);
+  else
+    printf("<unknown %" PRIx64 ">", type);
 }
 
 static void print_frames(const uint8_t *payload, size_t len) {
@@ -35,15 +40,33 @@ static void print_frames(const uint8_t *payload, size_t len) {
   }
 }
 
-int main(void) {
-  static char line[1 << 17];
-  static uint8_t payload[1 << 16];
-  while (fgets(line, sizeof line, stdin)) {
-    size_t len = 0;
-    unsigned byte;
-    while (sscanf(line + 2 * len, "%2x", &byte) == 1)
-      payload[len++] = (uint8_t)byte;
-    print_frames(payload, len);
+/* Turns the digits of a line into bytes in their place.  Returns whether they
+ * are pairs of hexadecimal digits. */
+static int unhex(char *line, size_t len) {
+  size_t i;
+  if (len % 2 || strspn(line, "0123456789abcdefABCDEF") != len)
+    return 0;
+  for (i = 0; i < len; i += 2) {
+    char pair[3] = {line[i], line[i + 1], 0};
+    line[i / 2] = (char)strtoul(pair, NULL, 16);
   }
-  return 0;
+  return 1;
+}
+
+int main(void) {
+  char *line = NULL;
+  size_t room = 0;
+  ssize_t len;
+  while ((len = getline(&line, &room, stdin)) >= 0) {
+    if (len && line[len - 1] == '\n')
+      line[--len] = 0;
+    if (len && line[len - 1] == '\r')
+      line[--len] = 0;
+    if (unhex(line, (size_t)len))
+      print_frames((const uint8_t *)line, (size_t)len / 2);
+    else
+      puts("error not hexadecimal");
+  }
+  free(line);
+  return feof(stdin) ? 0 : 3;
 }

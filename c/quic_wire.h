@@ -1,13 +1,10 @@
+/* SPDX-License-Identifier: MIT OR Apache-2.0 */
 /*
- * quic_wire: the wire layer of QUIC version 1 and 2 for callers that write C:
- * the packets of a datagram (RFC 9000, sections 12.2 and 17), the protection
- * of their heads (RFC 9001, section 5.4), and the frames of a payload
- * (RFC 9000, section 19), with DATAGRAM of RFC 9221 and the ACK frequency
- * extension; and the transport parameters (RFC 9000, section 18), whose two
- * functions stand in a library of their own, libquic_c_params.a.  Those of
- * heads, packet numbers and numbers of variable length stand in
- * libquic_c_heads.a, quic_wire_canonical in libquic_c_canon.a, and sets of
- * packet numbers, with ACKs that are written of them, in libquic_c_sets.a.
+ * quic_wire: the wire layer of QUIC versions 1 and 2 for C and C++: frames (RFC
+ * 9000, section 19), packet headers and the packets of a datagram (sections
+ * 12.2 and 17), header protection (RFC 9001, section 5.4), transport parameters
+ * (RFC 9000, section 18), sets of packet numbers; with DATAGRAM of RFC 9221 and
+ * the ACK frequency extension.  Ciphers are the caller's.
  *
  * No call takes memory or keeps anything: what is kept between calls is a
  * struct of the caller's, and the bytes are given anew with each call.  What
@@ -19,14 +16,87 @@
  * NULL leads to as many items as the length beside it says (or to one
  * struct), and what a call may write overlaps nothing else that it is given.
  * All else is checked: NULL, lengths, places outside the bytes, numbers that
- * have no spelling, kinds that there are none of, structs of any words.
+ * can't be encoded, unknown kinds, structs of any words.
+ *
+ * The frames of a payload are read so:
+ *
+ *   quic_wire_frames frames;
+ *   quic_wire_frame frame;
+ *   int answer = quic_wire_frames_init(&frames, payload, len);
+ *   while (answer >= 0 &&
+ *          (answer = quic_wire_frames_next(&frames, payload, len, &frame)) ==
+ *              QUIC_WIRE_ITEM)
+ *     if (frame.kind == QUIC_WIRE_STREAM)
+ *       deliver(frame.stream.stream_id, frame.stream.offset,
+ *               payload + frame.data, frame.datalen);
+ *   // 0: all are read; below 0: the payload is refused from frames.offset on
+ *
+ * The packets of a datagram are opened so, where make_mask and open_payload are
+ * the caller's cipher:
+ *
+ *   while (len != 0 && quic_wire_head_read(packet, len, cidlen, versions,
+ *                                          nversions, &head) == 0) {
+ *     const uint8_t *sample =
+ *         quic_wire_sample(packet, head.end, head.head_end, 16);
+ *     if (sample && head.kind != QUIC_WIRE_RETRY &&
+ *         head.kind != QUIC_WIRE_VERSION_NEGOTIATION) {
+ *       make_mask(mask, sample);
+ *       numberlen = quic_wire_unprotect(packet, head.end, head.head_end, mask,
+ *                                       expected, &number);
+ *       size_t begin = head.head_end + (size_t)numberlen;
+ *       open_payload(number, packet, begin, packet + begin, head.end - begin);
+ *     }
+ *     packet += head.end;
+ *     len -= head.end;
+ *   }
+ *
+ * And a packet is sealed so, with room for a tag of 16 bytes behind it:
+ *
+ *   quic_wire_said said = {0};
+ *   said.kind = QUIC_WIRE_HANDSHAKE;
+ *   said.version = 1;
+ *   said.number = number;
+ *   said.numberlen = (uint8_t)quic_wire_number_len(number, largest_acked);
+ *   int64_t begin = quic_wire_head_write(&said, dcid, dcidlen, scid, scidlen,
+ *                                        NULL, 0, packet, room);
+ *   size_t place = (size_t)begin - said.numberlen; // where the number stands
+ *   quic_wire_frame_write(&frame, data, datalen, 1, packet + begin,
+ *                         room - 16 - (size_t)begin, &payloadlen);
+ *   size_t end = (size_t)begin + payloadlen + 16;
+ *   quic_wire_set_len(packet, end, place, 2);
+ *   seal_payload(number, packet, begin, packet + begin, payloadlen);
+ *   make_mask(mask, quic_wire_sample(packet, end, place, 16));
+ *   quic_wire_protect(packet, end, place, mask);
+ *
+ * A payload of fewer than 4 - numberlen bytes is padded before it is sealed, so
+ * that there is a sample (RFC 9001, section 5.4.2).
  */
 #ifndef QUIC_WIRE_H
 #define QUIC_WIRE_H
 
 #include <stddef.h>
 #include <stdint.h>
-#include <string.h>
+
+/* The version of this header: a byte each of major, minor and patch. */
+#define QUIC_WIRE_VERSION 0x000100
+#define QUIC_WIRE_VERSION_TEXT "0.1.0"
+
+/* Each function is a symbol of both libraries, the archive and the shared one.
+ * Who is linked with the archive can define QUIC_WIRE_INLINE before this
+ * header: then the C compiler inlines what the functions do before and after
+ * the calls of the proved library. */
+#ifdef QUIC_WIRE_INLINE
+#define QUIC_WIRE_API static inline
+#else
+#define QUIC_WIRE_API extern
+#endif
+
+/* gcc and clang have unnamed members in C99 too. */
+#if defined(__GNUC__) && !defined(__cplusplus)
+#define QUIC_WIRE_EXTENSION __extension__
+#else
+#define QUIC_WIRE_EXTENSION
+#endif
 
 #ifdef __cplusplus
 extern "C" {
@@ -41,7 +111,7 @@ extern "C" {
 /* The set changed. */
 #define QUIC_WIRE_CHANGED 1
 /* A pointer is NULL, a place lies outside the bytes, a number is too great,
- * or a struct says what nothing says. */
+ * or the fields of a struct describe no valid value. */
 #define QUIC_WIRE_ERR_INVALID_ARGUMENT (-1)
 /* The payload is empty: a PROTOCOL_VIOLATION of the peer. */
 #define QUIC_WIRE_ERR_EMPTY (-2)
@@ -50,6 +120,8 @@ extern "C" {
 #define QUIC_WIRE_ERR_MALFORMED (-3)
 /* The buffer has less room than is needed. */
 #define QUIC_WIRE_ERR_NOBUF (-4)
+/* The library that is linked is not this header's. */
+#define QUIC_WIRE_ERR_VERSION (-5)
 
 /* ---- Frames (RFC 9000, section 19) */
 
@@ -105,62 +177,76 @@ typedef struct quic_wire_frames {
                          no frame */
 } quic_wire_frames;
 
+/* What the kinds of frames say in numbers: the fields of a frame's union. */
+typedef struct quic_wire_ack {
+  uint64_t largest; /* the greatest packet number */
+  uint64_t delay;   /* in microseconds, shifted right by the sender's
+                       ack_delay_exponent */
+  uint64_t ect0, ect1, ce; /* packets; with QUIC_WIRE_FLAG_ECN */
+} quic_wire_ack;           /* its ranges: quic_wire_ack_ranges_init */
+typedef struct quic_wire_reset_stream {
+  uint64_t stream_id, error_code, final_size; /* bytes */
+} quic_wire_reset_stream;
+typedef struct quic_wire_stop_sending {
+  uint64_t stream_id, error_code;
+} quic_wire_stop_sending;
+typedef struct quic_wire_stream {
+  uint64_t stream_id, offset; /* bytes */
+} quic_wire_stream;
+typedef struct quic_wire_crypto {
+  uint64_t reserved; /* 0 */
+  uint64_t offset;   /* bytes */
+} quic_wire_crypto;
+typedef struct quic_wire_limit { /* MAX_DATA to STREAMS_BLOCKED_UNI */
+  uint64_t stream_id; /* MAX_STREAM_DATA, STREAM_DATA_BLOCKED; of others 0 */
+  uint64_t limit;     /* bytes; of MAX_STREAMS, STREAMS_BLOCKED: streams */
+} quic_wire_limit;
+typedef struct quic_wire_new_connection_id {
+  uint64_t sequence, retire_prior_to;
+} quic_wire_new_connection_id; /* its token: quic_wire_reset_token */
+typedef struct quic_wire_retire_connection_id {
+  uint64_t sequence;
+} quic_wire_retire_connection_id;
+typedef struct quic_wire_path { /* PATH_CHALLENGE and PATH_RESPONSE */
+  uint64_t data;                /* the eight bytes, the highest first */
+} quic_wire_path;
+typedef struct quic_wire_close {
+  uint64_t error_code;
+  uint64_t frame_type; /* 0: none; CONNECTION_CLOSE alone */
+} quic_wire_close;
+typedef struct quic_wire_ack_frequency {
+  uint64_t sequence;
+  uint64_t ack_eliciting_threshold; /* packets */
+  uint64_t max_ack_delay;           /* microseconds */
+  uint64_t reordering_threshold;    /* packets */
+} quic_wire_ack_frequency;
+
 /* A frame.  Each number of the union that |kind| doesn't name is 0, as
  * quic_wire_frame_write asks.  Numbers that were read are below 2^62, but
  * for those of paths. */
 typedef struct quic_wire_frame {
-  uint32_t kind;  /* QUIC_WIRE_PADDING and so on */
+  uint32_t kind;  /* QUIC_WIRE_PADDING and so on; as it stands in the payload:
+                     quic_wire_frame_type */
   uint32_t flags; /* QUIC_WIRE_FLAG_FIN, QUIC_WIRE_FLAG_ECN */
   size_t begin;   /* where the frame begins in the payload, in bytes */
   size_t end;     /* where it ends */
   size_t data;    /* where its data begin in the payload: of CRYPTO, NEW_TOKEN,
                      STREAM and DATAGRAM; the reason phrase of a close; the id
-                     of a NEW_CONNECTION_ID, whose token for stateless resets
-                     is the 16 bytes behind it */
-  size_t datalen; /* how many bytes these are */
-  union {
+                     of a NEW_CONNECTION_ID, with its token behind it */
+  size_t datalen; /* how many bytes these are, without that token */
+  QUIC_WIRE_EXTENSION union {
     uint64_t numbers[5];
-    struct {
-      uint64_t largest; /* the greatest packet number */
-      uint64_t delay;   /* in microseconds, shifted right by the sender's
-                           ack_delay_exponent */
-      uint64_t ect0, ect1, ce; /* packets; with QUIC_WIRE_FLAG_ECN */
-    } ack; /* its ranges: quic_wire_ack_ranges_init */
-    struct {
-      uint64_t stream_id, error_code, final_size; /* bytes */
-    } reset_stream;
-    struct {
-      uint64_t stream_id, error_code;
-    } stop_sending;
-    struct {
-      uint64_t stream_id, offset; /* bytes */
-    } stream;
-    struct {
-      uint64_t zero, offset; /* bytes */
-    } crypto;
-    struct {
-      uint64_t stream_id; /* MAX_STREAM_DATA and STREAM_DATA_BLOCKED alone */
-      uint64_t limit;     /* bytes; of MAX_STREAMS, STREAMS_BLOCKED: streams */
-    } limit;              /* MAX_DATA to STREAMS_BLOCKED_UNI */
-    struct {
-      uint64_t sequence, retire_prior_to;
-    } new_connection_id;
-    struct {
-      uint64_t sequence;
-    } retire_connection_id;
-    struct {
-      uint64_t data; /* the eight bytes, the highest first */
-    } path;          /* PATH_CHALLENGE and PATH_RESPONSE */
-    struct {
-      uint64_t error_code;
-      uint64_t frame_type; /* 0: none; CONNECTION_CLOSE alone */
-    } close;
-    struct {
-      uint64_t sequence;
-      uint64_t ack_eliciting_threshold; /* packets */
-      uint64_t max_ack_delay;           /* microseconds */
-      uint64_t reordering_threshold;    /* packets */
-    } ack_frequency;
+    quic_wire_ack ack;
+    quic_wire_reset_stream reset_stream;
+    quic_wire_stop_sending stop_sending;
+    quic_wire_stream stream;
+    quic_wire_crypto crypto;
+    quic_wire_limit limit;
+    quic_wire_new_connection_id new_connection_id;
+    quic_wire_retire_connection_id retire_connection_id;
+    quic_wire_path path;
+    quic_wire_close close;
+    quic_wire_ack_frequency ack_frequency;
   };
 } quic_wire_frame;
 
@@ -242,7 +328,7 @@ typedef struct quic_wire_said {
 
 /* ---- Transport parameters (RFC 9000, section 18) */
 
-/* The side that reads a list. */
+/* The side that calls. */
 #define QUIC_WIRE_CLIENT 0
 #define QUIC_WIRE_SERVER 1
 
@@ -299,121 +385,92 @@ typedef struct quic_wire_params {
 } quic_wire_params;
 
 /* What the library asserts of its own structs. */
-#if defined(__STDC_VERSION__) && __STDC_VERSION__ >= 201112L
-_Static_assert(sizeof(quic_wire_frames) == 24, "64-bit words");
-_Static_assert(offsetof(quic_wire_frames, offset) == 0, "64-bit words");
-_Static_assert(offsetof(quic_wire_frames, last_type) == 8, "64-bit words");
-_Static_assert(offsetof(quic_wire_frames, ended) == 16, "no room");
-_Static_assert(offsetof(quic_wire_frames, strict) == 20, "no room");
-_Static_assert(sizeof(quic_wire_frame) == 80, "64-bit words");
-_Static_assert(offsetof(quic_wire_frame, numbers) == 40, "64-bit words");
-_Static_assert(sizeof(quic_wire_range) == 16, "64-bit words");
-_Static_assert(offsetof(quic_wire_range, start) == 0, "64-bit words");
-_Static_assert(offsetof(quic_wire_range, end) == 8, "64-bit words");
-_Static_assert(sizeof(quic_wire_ack_ranges) == 24, "64-bit words");
-_Static_assert(sizeof(quic_wire_canon) == 24, "64-bit words");
-_Static_assert(offsetof(quic_wire_canon, last_type) == 8, "64-bit words");
-_Static_assert(offsetof(quic_wire_canon, reason) == 16, "64-bit words");
-_Static_assert(sizeof(quic_wire_head) == 32, "no room between the fields");
-_Static_assert(offsetof(quic_wire_head, version) == 4, "no room");
-_Static_assert(offsetof(quic_wire_head, len) == 24, "no room");
-_Static_assert(sizeof(quic_wire_said) == 16, "no room between the fields");
-_Static_assert(sizeof(quic_wire_params) == 264, "no room between the fields");
-_Static_assert(offsetof(quic_wire_params, max_idle_timeout) == 8, "no room");
-_Static_assert(offsetof(quic_wire_params, original_dst_cidlen) == 112, "no room");
-_Static_assert(offsetof(quic_wire_params, preferred_v4_port) == 128, "no room");
-_Static_assert(offsetof(quic_wire_params, original_dst_cid) == 132, "no room");
-_Static_assert(offsetof(quic_wire_params, preferred_v4) == 260, "no room");
+#if defined(__cplusplus) && __cplusplus >= 201103L
+#define QUIC_WIRE_ASSERT(so, why) static_assert(so, why)
+#elif defined(__STDC_VERSION__) && __STDC_VERSION__ >= 201112L
+#define QUIC_WIRE_ASSERT(so, why) _Static_assert(so, why)
+#endif
+#ifdef QUIC_WIRE_ASSERT
+QUIC_WIRE_ASSERT(sizeof(quic_wire_frames) == 24, "64-bit words");
+QUIC_WIRE_ASSERT(offsetof(quic_wire_frames, offset) == 0, "64-bit words");
+QUIC_WIRE_ASSERT(offsetof(quic_wire_frames, last_type) == 8, "64-bit words");
+QUIC_WIRE_ASSERT(offsetof(quic_wire_frames, ended) == 16, "no room");
+QUIC_WIRE_ASSERT(offsetof(quic_wire_frames, strict) == 20, "no room");
+QUIC_WIRE_ASSERT(sizeof(quic_wire_frame) == 80, "64-bit words");
+QUIC_WIRE_ASSERT(offsetof(quic_wire_frame, numbers) == 40, "64-bit words");
+QUIC_WIRE_ASSERT(sizeof(quic_wire_range) == 16, "64-bit words");
+QUIC_WIRE_ASSERT(offsetof(quic_wire_range, start) == 0, "64-bit words");
+QUIC_WIRE_ASSERT(offsetof(quic_wire_range, end) == 8, "64-bit words");
+QUIC_WIRE_ASSERT(sizeof(quic_wire_ack_ranges) == 24, "64-bit words");
+QUIC_WIRE_ASSERT(sizeof(quic_wire_canon) == 24, "64-bit words");
+QUIC_WIRE_ASSERT(offsetof(quic_wire_canon, last_type) == 8, "64-bit words");
+QUIC_WIRE_ASSERT(offsetof(quic_wire_canon, reason) == 16, "64-bit words");
+QUIC_WIRE_ASSERT(sizeof(quic_wire_head) == 32, "no room between the fields");
+QUIC_WIRE_ASSERT(offsetof(quic_wire_head, version) == 4, "no room");
+QUIC_WIRE_ASSERT(offsetof(quic_wire_head, len) == 24, "no room");
+QUIC_WIRE_ASSERT(sizeof(quic_wire_said) == 16, "no room between the fields");
+QUIC_WIRE_ASSERT(sizeof(quic_wire_params) == 264, "no room between the fields");
+QUIC_WIRE_ASSERT(offsetof(quic_wire_params, max_idle_timeout) == 8, "no room");
+QUIC_WIRE_ASSERT(offsetof(quic_wire_params, original_dst_cidlen) == 112,
+                 "no room");
+QUIC_WIRE_ASSERT(offsetof(quic_wire_params, preferred_v4_port) == 128,
+                 "no room");
+QUIC_WIRE_ASSERT(offsetof(quic_wire_params, original_dst_cid) == 132,
+                 "no room");
+QUIC_WIRE_ASSERT(offsetof(quic_wire_params, preferred_v4) == 260, "no room");
+#undef QUIC_WIRE_ASSERT
 #endif
 
-/* The functions of the library.  Their pointers must not be NULL, which those
- * below see to. */
-int32_t quic_wire_frames_init_(quic_wire_frames *, const uint8_t *, size_t);
-int32_t quic_wire_frames_init_strict_(quic_wire_frames *, const uint8_t *,
-                                      size_t);
-int32_t quic_wire_frames_next_(quic_wire_frames *, const uint8_t *, size_t,
-                               quic_wire_frame *);
-int32_t quic_wire_frames_fill_(quic_wire_frames *, const uint8_t *, size_t,
-                               quic_wire_frame *, size_t, size_t *);
-int32_t quic_wire_frames_first_(quic_wire_frames *, const uint8_t *, size_t,
-                               quic_wire_frame *, size_t, size_t *);
-int32_t quic_wire_ack_ranges_init_(quic_wire_ack_ranges *, const uint8_t *,
-                                   size_t, const quic_wire_frame *);
-int32_t quic_wire_ack_ranges_init_unchecked_(quic_wire_ack_ranges *,
-                                             const uint8_t *, size_t,
-                                             const quic_wire_frame *);
-int32_t quic_wire_ack_ranges_next_(quic_wire_ack_ranges *, const uint8_t *,
-                                   size_t, quic_wire_range *);
-int32_t quic_wire_ack_ranges_fill_(quic_wire_ack_ranges *, const uint8_t *,
-                                   size_t, quic_wire_range *, size_t, size_t *);
-int32_t quic_wire_frame_write_(const quic_wire_frame *, const uint8_t *,
-                               size_t, uint32_t, uint8_t *, size_t, size_t *);
-int32_t quic_wire_canonical_(const uint8_t *, size_t, uint8_t *, size_t,
-                             quic_wire_canon *);
-int32_t quic_wire_head_read_(const uint8_t *, size_t, uint32_t,
-                             const uint32_t *, size_t, quic_wire_head *);
-int32_t quic_wire_unprotect_(uint8_t *, size_t, size_t, const uint8_t *,
-                             uint64_t, uint64_t *);
-int32_t quic_wire_protect_(uint8_t *, size_t, size_t, const uint8_t *);
-int32_t quic_wire_short_write_(uint32_t, uint64_t, const uint8_t *, size_t,
-                               uint8_t *, size_t);
-int64_t quic_wire_head_write_(const quic_wire_said *, const uint8_t *, size_t,
-                              const uint8_t *, size_t, const uint8_t *, size_t,
-                              uint8_t *, size_t);
-int32_t quic_wire_set_len_(uint8_t *, size_t, size_t, uint32_t);
-int32_t quic_wire_number_len_(uint64_t, uint64_t);
-uint64_t quic_wire_number_expand_(uint64_t, uint32_t, uint64_t);
-size_t quic_wire_varint_read_(const uint8_t *, size_t, uint64_t *);
-size_t quic_wire_varint_write_(uint64_t, uint32_t, uint8_t *, size_t);
-int32_t quic_wire_params_read_(uint32_t, const uint8_t *, size_t,
-                               quic_wire_params *);
-int32_t quic_wire_params_write_(uint32_t, const quic_wire_params *, uint8_t *,
-                                size_t, size_t *);
-int32_t quic_wire_set_insert_(quic_wire_range *, size_t, size_t *, uint64_t,
-                              uint64_t);
-int32_t quic_wire_set_remove_(quic_wire_range *, size_t, size_t *, uint64_t,
-                              uint64_t);
-int32_t quic_wire_set_contains_(const quic_wire_range *, size_t, size_t,
-                                uint64_t);
-int32_t quic_wire_ack_write_(uint64_t, const quic_wire_range *, size_t, size_t,
-                             const uint64_t *, size_t, uint8_t *, size_t,
-                             size_t *);
+/* ---- The library that is linked */
 
-/* A place for what has no items, since the library takes no NULL.  It has room
- * for one item of each kind, whose words are never looked at. */
-static inline void *quic_wire_nothing(void) {
-  static uint64_t nothing;
-  return &nothing;
+/* The sizes of the structs, a byte for each, in words of 64 bits. */
+#define QUIC_WIRE_LAYOUT                                                       \
+  ((uint64_t)(sizeof(quic_wire_frames) / 8) |                                  \
+   (uint64_t)(sizeof(quic_wire_frame) / 8) << 8 |                              \
+   (uint64_t)(sizeof(quic_wire_range) / 8) << 16 |                             \
+   (uint64_t)(sizeof(quic_wire_ack_ranges) / 8) << 24 |                        \
+   (uint64_t)(sizeof(quic_wire_canon) / 8) << 32 |                             \
+   (uint64_t)(sizeof(quic_wire_head) / 8) << 40 |                              \
+   (uint64_t)(sizeof(quic_wire_said) / 8) << 48 |                              \
+   (uint64_t)(sizeof(quic_wire_params) / 8) << 56)
+
+/* QUIC_WIRE_VERSION and QUIC_WIRE_LAYOUT of the library that is linked. */
+extern uint32_t quic_wire_version(void);
+extern uint64_t quic_wire_layout(void);
+
+/*
+ * Whether the library that is linked is one for this header, which a program
+ * asks once, at its start.  Returns 0, or QUIC_WIRE_ERR_VERSION where major or
+ * minor version or the size of a struct differ.
+ */
+static inline int quic_wire_check_linked(void) {
+  return quic_wire_version() >> 8 == QUIC_WIRE_VERSION >> 8 &&
+                 quic_wire_layout() == QUIC_WIRE_LAYOUT
+             ? QUIC_WIRE_OK
+             : QUIC_WIRE_ERR_VERSION;
 }
+
+/* What an answer below 0 says, in English; of others "ok". */
+extern const char *quic_wire_strerror(int answer);
+
+/* ---- Frames, read */
 
 /*
  * Begins at the front of a |payload| of |payloadlen| bytes.  Returns 0, or
  * QUIC_WIRE_ERR_EMPTY, QUIC_WIRE_ERR_INVALID_ARGUMENT.
  */
-static inline int quic_wire_frames_init(quic_wire_frames *frames,
+QUIC_WIRE_API int quic_wire_frames_init(quic_wire_frames *frames,
                                         const uint8_t *payload,
-                                        size_t payloadlen) {
-  if (!frames || (!payload && payloadlen))
-    return QUIC_WIRE_ERR_INVALID_ARGUMENT;
-  if (!payload)
-    payload = (const uint8_t *)quic_wire_nothing();
-  return quic_wire_frames_init_(frames, payload, payloadlen);
-}
+                                        size_t payloadlen);
 
 /*
- * The same, where a type in another spelling than its shortest is no frame
+ * The same, where a type that isn't in its shortest encoding is no frame
  * (RFC 9000, section 12.4): it is told with QUIC_WIRE_REASON_LONG_TYPE.  Other
  * fields may have any width.
  */
-static inline int quic_wire_frames_init_strict(quic_wire_frames *frames,
+QUIC_WIRE_API int quic_wire_frames_init_strict(quic_wire_frames *frames,
                                                const uint8_t *payload,
-                                               size_t payloadlen) {
-  if (!frames || (!payload && payloadlen))
-    return QUIC_WIRE_ERR_INVALID_ARGUMENT;
-  if (!payload)
-    payload = (const uint8_t *)quic_wire_nothing();
-  return quic_wire_frames_init_strict_(frames, payload, payloadlen);
-}
+                                               size_t payloadlen);
 
 /*
  * Reads the next frame.  |payload| is the one that |frames| began with.
@@ -425,21 +482,15 @@ static inline int quic_wire_frames_init_strict(quic_wire_frames *frames,
  * |payloadlen|.  |frame| changes only with QUIC_WIRE_ITEM and
  * QUIC_WIRE_ERR_MALFORMED.
  */
-static inline int quic_wire_frames_next(quic_wire_frames *frames,
+QUIC_WIRE_API int quic_wire_frames_next(quic_wire_frames *frames,
                                         const uint8_t *payload,
                                         size_t payloadlen,
-                                        quic_wire_frame *frame) {
-  if (!frames || !frame || (!payload && payloadlen))
-    return QUIC_WIRE_ERR_INVALID_ARGUMENT;
-  if (!payload)
-    payload = (const uint8_t *)quic_wire_nothing();
-  return quic_wire_frames_next_(frames, payload, payloadlen, frame);
-}
+                                        quic_wire_frame *frame);
 
 /*
  * Reads the next frames, as many as the |room| entries of |out| hold, with one
- * call.  |payload| is the one that |frames| began with.  A run of PADDING is
- * one entry: from |begin| to |end| stands a frame with each byte.
+ * call.  |payload| is the one that |frames| began with.  A PADDING frame and
+ * all the zero bytes behind it are one entry: quic_wire_padding_count.
  *
  * Returns QUIC_WIRE_ITEM, and in |*count| how many entries were filled, one at
  * least; 0 where no frame is left; QUIC_WIRE_ERR_MALFORMED, once, where what
@@ -452,18 +503,10 @@ static inline int quic_wire_frames_next(quic_wire_frames *frames,
  * Once |frames->offset| is |payloadlen| nothing is left, and no call is needed
  * to learn that.
  */
-static inline int quic_wire_frames_fill(quic_wire_frames *frames,
+QUIC_WIRE_API int quic_wire_frames_fill(quic_wire_frames *frames,
                                         const uint8_t *payload,
                                         size_t payloadlen, quic_wire_frame *out,
-                                        size_t room, size_t *count) {
-  if (!frames || !count || (!payload && payloadlen) || (!out && room))
-    return QUIC_WIRE_ERR_INVALID_ARGUMENT;
-  if (!payload)
-    payload = (const uint8_t *)quic_wire_nothing();
-  if (!out)
-    out = (quic_wire_frame *)quic_wire_nothing();
-  return quic_wire_frames_fill_(frames, payload, payloadlen, out, room, count);
-}
+                                        size_t room, size_t *count);
 
 /*
  * Begins at the front of a |payload| and reads its first frames, as many as the
@@ -478,76 +521,71 @@ static inline int quic_wire_frames_fill(quic_wire_frames *frames,
  * only with QUIC_WIRE_ITEM, and nothing changes but with that and
  * QUIC_WIRE_ERR_MALFORMED.
  */
-static inline int quic_wire_frames_first(quic_wire_frames *frames,
+QUIC_WIRE_API int quic_wire_frames_first(quic_wire_frames *frames,
                                          const uint8_t *payload,
                                          size_t payloadlen,
                                          quic_wire_frame *out, size_t room,
-                                         size_t *count) {
-  if (!frames || !count || (!out && room))
-    return QUIC_WIRE_ERR_INVALID_ARGUMENT;
-  if (!payload) {
-    if (payloadlen)
-      return QUIC_WIRE_ERR_INVALID_ARGUMENT;
-    payload = (const uint8_t *)quic_wire_nothing();
-  }
-  if (!out)
-    out = (quic_wire_frame *)quic_wire_nothing();
-  return quic_wire_frames_first_(frames, payload, payloadlen, out, room, count);
-}
+                                         size_t *count);
+
+/* The type of a frame that was read of this payload, as it stands there: 0x08
+ * to 0x0f of a STREAM, 0x02 and 0x03 of an ACK.  QUIC_WIRE_NO_TYPE for NULL,
+ * and where none stands at |frame->begin|. */
+QUIC_WIRE_API uint64_t quic_wire_frame_type(const uint8_t *payload,
+                                            size_t payloadlen,
+                                            const quic_wire_frame *frame);
+
+/* How many PADDING frames an entry of quic_wire_frames_fill stands for that was
+ * read of this payload: one whose type may be encoded in up to 8 bytes, and
+ * one with each byte behind it.  0 of other kinds, and where there is no such
+ * place. */
+QUIC_WIRE_API size_t quic_wire_padding_count(const uint8_t *payload,
+                                             size_t payloadlen,
+                                             const quic_wire_frame *frame);
+
+/* The 16 bytes of the token for stateless resets of a NEW_CONNECTION_ID that
+ * was read of this payload (RFC 9000, section 19.15); NULL of other kinds, and
+ * where there is no such place. */
+QUIC_WIRE_API const uint8_t *
+quic_wire_reset_token(const uint8_t *payload, size_t payloadlen,
+                      const quic_wire_frame *frame);
 
 /* After QUIC_WIRE_ERR_MALFORMED: the last type that was read, the broken
  * frame's own included; QUIC_WIRE_NO_TYPE if none was. */
-static inline uint64_t quic_wire_error_type(const quic_wire_frame *frame) {
-  return frame->numbers[0];
-}
+QUIC_WIRE_API uint64_t quic_wire_error_type(const quic_wire_frame *frame);
 
 /* After QUIC_WIRE_ERR_MALFORMED: QUIC_WIRE_REASON_UNEXPECTED_END and so on. */
-static inline uint32_t quic_wire_error_reason(const quic_wire_frame *frame) {
-  return frame->flags;
-}
+QUIC_WIRE_API uint32_t quic_wire_error_reason(const quic_wire_frame *frame);
 
 /*
  * Begins at the greatest range of |frame|, an ACK that was read of this
  * payload.  Returns 0, or QUIC_WIRE_ERR_INVALID_ARGUMENT where its bytes
  * are no ACK.
  */
-static inline int quic_wire_ack_ranges_init(quic_wire_ack_ranges *ranges,
+QUIC_WIRE_API int quic_wire_ack_ranges_init(quic_wire_ack_ranges *ranges,
                                             const uint8_t *payload,
                                             size_t payloadlen,
-                                            const quic_wire_frame *frame) {
-  if (!ranges || !payload || !frame)
-    return QUIC_WIRE_ERR_INVALID_ARGUMENT;
-  return quic_wire_ack_ranges_init_(ranges, payload, payloadlen, frame);
-}
+                                            const quic_wire_frame *frame);
 
 /*
  * The same without a second look at the blocks of an ACK without counts, for
- * a frame that was read of this payload.  Of other words it may return 0 too;
- * the call that comes to blocks that are none refuses them then.
+ * a frame that was read of this payload.  Of other words it may return 0 too:
+ * then the bytes up to |frame->end| are read as blocks, and the call that comes
+ * to some that can be none refuses them.
  */
-static inline int
+QUIC_WIRE_API int
 quic_wire_ack_ranges_init_unchecked(quic_wire_ack_ranges *ranges,
                                     const uint8_t *payload, size_t payloadlen,
-                                    const quic_wire_frame *frame) {
-  if (!ranges || !payload || !frame)
-    return QUIC_WIRE_ERR_INVALID_ARGUMENT;
-  return quic_wire_ack_ranges_init_unchecked_(ranges, payload, payloadlen,
-                                              frame);
-}
+                                    const quic_wire_frame *frame);
 
 /*
  * Reads the next range, the greatest first.  Returns QUIC_WIRE_ITEM and the
  * range, 0 where none is left, QUIC_WIRE_ERR_INVALID_ARGUMENT for words that
  * name no blocks of an ACK.
  */
-static inline int quic_wire_ack_ranges_next(quic_wire_ack_ranges *ranges,
+QUIC_WIRE_API int quic_wire_ack_ranges_next(quic_wire_ack_ranges *ranges,
                                             const uint8_t *payload,
                                             size_t payloadlen,
-                                            quic_wire_range *range) {
-  if (!ranges || !payload || !range)
-    return QUIC_WIRE_ERR_INVALID_ARGUMENT;
-  return quic_wire_ack_ranges_next_(ranges, payload, payloadlen, range);
-}
+                                            quic_wire_range *range);
 
 /*
  * Reads the next ranges, the greatest first, as many as the |room| entries of
@@ -558,24 +596,21 @@ static inline int quic_wire_ack_ranges_next(quic_wire_ack_ranges *ranges,
  * stay, and nothing changes but with QUIC_WIRE_ITEM.  Once |ranges->begin| is
  * |ranges->end| none is left, and no call is needed to learn that.
  */
-static inline int quic_wire_ack_ranges_fill(quic_wire_ack_ranges *ranges,
+QUIC_WIRE_API int quic_wire_ack_ranges_fill(quic_wire_ack_ranges *ranges,
                                             const uint8_t *payload,
                                             size_t payloadlen,
                                             quic_wire_range *out, size_t room,
-                                            size_t *count) {
-  if (!ranges || !payload || !count || (!out && room))
-    return QUIC_WIRE_ERR_INVALID_ARGUMENT;
-  if (!out)
-    out = (quic_wire_range *)quic_wire_nothing();
-  return quic_wire_ack_ranges_fill_(ranges, payload, payloadlen, out, room,
-                                    count);
-}
+                                            size_t *count);
+
+/* ---- Frames, written */
 
 /*
  * Writes |frame|, any but an ACK, in its shortest form at the front of |dest|:
  * as the last frame of its payload (|last| is not 0), where STREAM and
  * DATAGRAM need no length, or as another one.  Its data are |frame->datalen|
- * bytes at |frame->data| of |data|; begin and end are not looked at.
+ * bytes at |frame->data| of |data|, behind which the token of a
+ * NEW_CONNECTION_ID stands; that place must lie in |data| also where there are
+ * none, as 0 does.  begin and end are not looked at.
  *
  * Returns 0, and in |*written| how many bytes were written;
  * QUIC_WIRE_ERR_NOBUF where |destlen| is less, and in |*written| how many are
@@ -583,20 +618,10 @@ static inline int quic_wire_ack_ranges_fill(quic_wire_ack_ranges *ranges,
  * be written.  What stands in |dest| behind what was written stays, and all of
  * it where nothing was.
  */
-static inline int quic_wire_frame_write(const quic_wire_frame *frame,
+QUIC_WIRE_API int quic_wire_frame_write(const quic_wire_frame *frame,
                                         const uint8_t *data, size_t datalen,
                                         int last, uint8_t *dest,
-                                        size_t destlen, size_t *written) {
-  size_t unused;
-  if (!frame || (!data && datalen) || (!dest && destlen))
-    return QUIC_WIRE_ERR_INVALID_ARGUMENT;
-  if (!data)
-    data = (const uint8_t *)quic_wire_nothing();
-  if (!dest)
-    dest = (uint8_t *)quic_wire_nothing();
-  return quic_wire_frame_write_(frame, data, datalen, last != 0, dest, destlen,
-                                written ? written : &unused);
-}
+                                        size_t destlen, size_t *written);
 
 /*
  * Writes the one shortest payload with the meaning of |payload| at the front of
@@ -611,17 +636,11 @@ static inline int quic_wire_frame_write(const quic_wire_frame *frame,
  * and all of it where nothing was; |out| changes in the words alone that are
  * told.
  */
-static inline int quic_wire_canonical(const uint8_t *payload, size_t payloadlen,
+QUIC_WIRE_API int quic_wire_canonical(const uint8_t *payload, size_t payloadlen,
                                       uint8_t *dest, size_t destlen,
-                                      quic_wire_canon *out) {
-  if ((!payload && payloadlen) || (!dest && destlen) || !out)
-    return QUIC_WIRE_ERR_INVALID_ARGUMENT;
-  if (!payload)
-    payload = (const uint8_t *)quic_wire_nothing();
-  if (!dest)
-    dest = (uint8_t *)quic_wire_nothing();
-  return quic_wire_canonical_(payload, payloadlen, dest, destlen, out);
-}
+                                      quic_wire_canon *out);
+
+/* ---- Packets, read and written */
 
 /*
  * Reads the head of the packet that |bytes| begin with, be it whole or cut off
@@ -637,135 +656,84 @@ static inline int quic_wire_canonical(const uint8_t *payload, size_t payloadlen,
  * is above 20 or there are 2^32 bytes or more.  |head| changes but with the
  * last two.
  */
-static inline int quic_wire_head_read(const uint8_t *bytes, size_t len,
+QUIC_WIRE_API int quic_wire_head_read(const uint8_t *bytes, size_t len,
                                       uint32_t cidlen, const uint32_t *versions,
-                                      size_t nversions, quic_wire_head *head) {
-  static const uint32_t none = 0;
-  if (!bytes || !head || (!versions && nversions))
-    return QUIC_WIRE_ERR_INVALID_ARGUMENT;
-  return quic_wire_head_read_(bytes, len, cidlen, versions ? versions : &none,
-                              nversions, head);
-}
+                                      size_t nversions, quic_wire_head *head);
 
-/* Where the ids stand in a packet of this head. */
-static inline const uint8_t *quic_wire_dcid(const uint8_t *packet,
-                                            const quic_wire_head *head) {
-  return packet + (head->first & QUIC_WIRE_LONG_FORM ? 6 : 1);
-}
-static inline const uint8_t *quic_wire_scid(const uint8_t *packet,
-                                            const quic_wire_head *head) {
-  return packet + 7 + head->dcidlen; /* of a long head */
-}
+/* Where the ids stand in a packet of this head, or NULL for NULL. */
+QUIC_WIRE_API const uint8_t *quic_wire_dcid(const uint8_t *packet,
+                                            const quic_wire_head *head);
+QUIC_WIRE_API const uint8_t *quic_wire_scid(const uint8_t *packet,
+                                            const quic_wire_head *head);
 
 /*
  * The sample of |samplelen| bytes from which the caller makes the mask of the
  * head (RFC 9001, section 5.4.2), in a packet whose number begins at |number|,
  * or NULL where the packet is too short.
  */
-static inline const uint8_t *quic_wire_sample(const uint8_t *packet,
+QUIC_WIRE_API const uint8_t *quic_wire_sample(const uint8_t *packet,
                                               size_t packetlen, size_t number,
-                                              size_t samplelen) {
-  if (!packet || packetlen < number || packetlen - number < 4 ||
-      packetlen - number - 4 < samplelen)
-    return NULL;
-  return packet + number + 4;
-}
+                                              size_t samplelen);
 
 /*
  * Takes the protection off the head of a packet whose number begins at
  * |place|, by a mask of five bytes (RFC 9001, section 5.4.1), and says its
- * number by the one that is |expected| next (RFC 9000, appendix A.3); with 0 it
- * is what is written.  Returns how many bytes the number has, 1 to 4: the
- * payload begins behind them, and packet[0] has the key phase and the reserved
- * bits.  QUIC_WIRE_ERR_MALFORMED where fewer than four bytes are there from
- * |place| on; QUIC_WIRE_ERR_INVALID_ARGUMENT where |expected| is 2^62 or more.
- * Nothing changes then.
+ * number by the one that is |expected| next, as quic_wire_number_expand does;
+ * with 0 it is what is written.  Returns how many bytes the number has, 1 to 4:
+ * the payload begins behind them, and packet[0] has the key phase and the
+ * reserved bits.  QUIC_WIRE_ERR_MALFORMED where fewer than four bytes are there
+ * from |place| on; QUIC_WIRE_ERR_INVALID_ARGUMENT where |expected| is 2^62 or
+ * more.  Nothing changes then.
  */
-static inline int quic_wire_unprotect(uint8_t *packet, size_t packetlen,
+QUIC_WIRE_API int quic_wire_unprotect(uint8_t *packet, size_t packetlen,
                                       size_t place, const uint8_t *mask,
-                                      uint64_t expected, uint64_t *number) {
-  if (!packet || !mask || !number)
-    return QUIC_WIRE_ERR_INVALID_ARGUMENT;
-  return quic_wire_unprotect_(packet, packetlen, place, mask, expected, number);
-}
+                                      uint64_t expected, uint64_t *number);
 
 /*
  * The same of a packet that stays as it is: its head is copied to |head|, which
  * has room for |headlen| bytes, four behind |place| at least, and opened there.
  */
-static inline int quic_wire_unprotect_head(const uint8_t *packet,
+QUIC_WIRE_API int quic_wire_unprotect_head(const uint8_t *packet,
                                            size_t packetlen, size_t place,
                                            const uint8_t *mask,
                                            uint64_t expected, uint8_t *head,
-                                           size_t headlen, uint64_t *number) {
-  if (!packet || !mask || !head || !number)
-    return QUIC_WIRE_ERR_INVALID_ARGUMENT;
-  if (packetlen < 4 || packetlen - 4 < place)
-    return QUIC_WIRE_ERR_MALFORMED;
-  if (headlen < place + 4)
-    return QUIC_WIRE_ERR_NOBUF;
-  memcpy(head, packet, place + 4);
-  return quic_wire_unprotect_(head, place + 4, place, mask, expected, number);
-}
+                                           size_t headlen, uint64_t *number);
 
 /*
  * Puts the protection on the head of a packet whose payload is sealed and whose
  * number begins at |place|.  Returns how many bytes the number has, or
  * QUIC_WIRE_ERR_MALFORMED.
  */
-static inline int quic_wire_protect(uint8_t *packet, size_t packetlen,
-                                    size_t place, const uint8_t *mask) {
-  if (!packet || !mask)
-    return QUIC_WIRE_ERR_INVALID_ARGUMENT;
-  return quic_wire_protect_(packet, packetlen, place, mask);
-}
+QUIC_WIRE_API int quic_wire_protect(uint8_t *packet, size_t packetlen,
+                                    size_t place, const uint8_t *mask);
 
 /* How many bytes of |number| are written whose receiver has acknowledged
  * |largest_acked|, or QUIC_WIRE_ERR_INVALID_ARGUMENT. */
-static inline int quic_wire_number_len(uint64_t number,
-                                       uint64_t largest_acked) {
-  return quic_wire_number_len_(number, largest_acked);
-}
+QUIC_WIRE_API int quic_wire_number_len(uint64_t number,
+                                       uint64_t largest_acked);
 
 /* The whole number of which the low |numberlen| bytes are written, by the one
- * that is |expected| next; UINT64_MAX where there is none. */
-static inline uint64_t quic_wire_number_expand(uint64_t written,
+ * that is |expected| next (RFC 9000, appendix A.3, without its last bound: near
+ * 2^62 it may be more, which no packet has); UINT64_MAX where there is none. */
+QUIC_WIRE_API uint64_t quic_wire_number_expand(uint64_t written,
                                                uint32_t numberlen,
-                                               uint64_t expected) {
-  return quic_wire_number_expand_(written, numberlen, expected);
-}
+                                               uint64_t expected);
 
 /* Reads a number of variable length at the front of |bytes|.  Returns how many
  * bytes it has, or 0 where they end within it. */
-static inline size_t quic_wire_varint_read(const uint8_t *bytes, size_t len,
-                                           uint64_t *value) {
-  return bytes && value ? quic_wire_varint_read_(bytes, len, value) : 0;
-}
+QUIC_WIRE_API size_t quic_wire_varint_read(const uint8_t *bytes, size_t len,
+                                           uint64_t *value);
 
 /* Writes a number of variable length at the front of |dest|, in |width| bytes,
  * 1, 2, 4 or 8, or as few as it takes where that is 0.  Returns how many bytes,
  * or 0 where it doesn't fit. */
-static inline size_t quic_wire_varint_write(uint64_t value, uint32_t width,
-                                            uint8_t *dest, size_t destlen) {
-  return dest ? quic_wire_varint_write_(value, width, dest, destlen) : 0;
-}
+QUIC_WIRE_API size_t quic_wire_varint_write(uint64_t value, uint32_t width,
+                                            uint8_t *dest, size_t destlen);
 
-/* How many bytes a head has whose token has |tokenlen|. */
-static inline size_t quic_wire_head_len(const quic_wire_said *said,
+/* How many bytes a head has whose token has |tokenlen|; 0 for NULL. */
+QUIC_WIRE_API size_t quic_wire_head_len(const quic_wire_said *said,
                                         size_t dcidlen, size_t scidlen,
-                                        size_t tokenlen) {
-  size_t front = 7 + dcidlen + scidlen;
-  size_t end = (size_t)said->lengthlen + said->numberlen;
-  switch (said->kind) {
-  case QUIC_WIRE_INITIAL:
-    return front + end + tokenlen +
-           (tokenlen < 64 ? 1 : tokenlen < 16384 ? 2 : tokenlen < 1 << 30 ? 4 : 8);
-  case QUIC_WIRE_0RTT:
-  case QUIC_WIRE_HANDSHAKE: return front + end;
-  case QUIC_WIRE_1RTT: return 1 + dcidlen + said->numberlen;
-  default: return front;
-  }
-}
+                                        size_t tokenlen);
 
 /*
  * Writes the head of a packet at the front of |dest|, with no protection on it:
@@ -779,78 +747,56 @@ static inline size_t quic_wire_head_len(const quic_wire_said *said,
  * such kind, an id is longer than 20 bytes, the number is 2^62 or more or has
  * not 1 to 4 bytes, the length has not 2 or 4, or something is said that the
  * kind lacks.  |dest| changes where a head was written alone.
+ * Version 0 is written too, though a reader takes such a head for a version
+ * negotiation.
  */
-static inline int64_t quic_wire_head_write(
+QUIC_WIRE_API int64_t quic_wire_head_write(
     const quic_wire_said *said, const uint8_t *dcid, size_t dcidlen,
     const uint8_t *scid, size_t scidlen, const uint8_t *token, size_t tokenlen,
-    uint8_t *dest, size_t destlen) {
-  static const uint8_t none = 0;
-  if (!said || (!dcid && dcidlen) || (!scid && scidlen) ||
-      (!token && tokenlen) || !dest)
-    return QUIC_WIRE_ERR_INVALID_ARGUMENT;
-  if (!dcid)
-    dcid = &none;
-  /* A short head that says nothing else is written by its first byte. */
-  if (said->kind == QUIC_WIRE_1RTT && said->numberlen - 1u < 4 &&
-      !(said->flags & ~0x64u) &&
-      !(said->lengthlen | said->version | scidlen | tokenlen))
-    return quic_wire_short_write_(
-        (QUIC_WIRE_FIXED_BIT ^ said->flags) | (said->numberlen - 1u),
-        said->number, dcid, dcidlen, dest, destlen);
-  return quic_wire_head_write_(said, dcid, dcidlen, scid ? scid : &none, scidlen,
-                               token ? token : &none, tokenlen, dest, destlen);
-}
+    uint8_t *dest, size_t destlen);
 
 /*
  * Sets the length in the head of a packet of |packetlen| bytes whose number
  * begins at |place|, to what there is from there on.  |lengthlen| is that of
  * the head.  Returns 0, or QUIC_WIRE_ERR_INVALID_ARGUMENT where it doesn't fit.
  */
-static inline int quic_wire_set_len(uint8_t *packet, size_t packetlen,
-                                    size_t place, uint32_t lengthlen) {
-  return packet ? quic_wire_set_len_(packet, packetlen, place, lengthlen)
-                : QUIC_WIRE_ERR_INVALID_ARGUMENT;
-}
+QUIC_WIRE_API int quic_wire_set_len(uint8_t *packet, size_t packetlen,
+                                    size_t place, uint32_t lengthlen);
+
+/* ---- Transport parameters, read and written by the |side| that calls. */
 
 /*
  * Reads a list of transport parameters to its end (RFC 9000, sections 7.4 and
- * 18).  |side| is the side that reads: QUIC_WIRE_CLIENT for what a server sent,
- * QUIC_WIRE_SERVER for what a client sent, which must lack what a server alone
- * sends.  Returns 0 and the parameters; QUIC_WIRE_ERR_MALFORMED where the list
- * is refused with a TRANSPORT_PARAMETER_ERROR, and then |params->reason| says
- * why, and nothing else of |params| changes; QUIC_WIRE_ERR_INVALID_ARGUMENT
- * where |side| is neither.
+ * 18), as QUIC_WIRE_CLIENT one that a server sent, as QUIC_WIRE_SERVER one that
+ * a client sent, which must lack what a server alone sends.  The list of no
+ * bytes gives each parameter its default.  An integer that isn't in its
+ * shortest encoding is refused, though section 16 allows it.
+ *
+ * Returns 0 and the parameters; QUIC_WIRE_ERR_MALFORMED where the list is
+ * refused with a TRANSPORT_PARAMETER_ERROR, and then |params->reason| says why,
+ * and nothing else of |params| changes; QUIC_WIRE_ERR_INVALID_ARGUMENT where
+ * |side| is neither.
  */
-static inline int quic_wire_params_read(uint32_t side, const uint8_t *list,
+QUIC_WIRE_API int quic_wire_params_read(uint32_t side, const uint8_t *list,
                                         size_t listlen,
-                                        quic_wire_params *params) {
-  if ((!list && listlen) || !params)
-    return QUIC_WIRE_ERR_INVALID_ARGUMENT;
-  return quic_wire_params_read_(
-      side, list ? list : (const uint8_t *)quic_wire_nothing(), listlen,
-      params);
-}
+                                        quic_wire_params *params);
 
 /*
- * Writes the shortest list of these parameters for the |side| that is to read
- * it: those numbers that differ from their defaults, and what else is there.
+ * Writes the shortest list of these parameters, as QUIC_WIRE_CLIENT or as
+ * QUIC_WIRE_SERVER sends it: those numbers that differ from their defaults, and
+ * what else is there.
+ *
  * Returns 0 and how many bytes were written; QUIC_WIRE_ERR_NOBUF and how many
  * are needed where |dest| has fewer; QUIC_WIRE_ERR_INVALID_ARGUMENT where the
- * side would refuse the parameters, or would not read the same words: a number
+ * peer would refuse the parameters, or would not read the same words: a number
  * is out of range, something that is absent is not 0, |reason| is not 0, or the
  * preferred address has no address, or one of zeros with port 0.  |dest|
  * changes only with 0, and then only in the bytes that were written.
  */
-static inline int quic_wire_params_write(uint32_t side,
+QUIC_WIRE_API int quic_wire_params_write(uint32_t side,
                                          const quic_wire_params *params,
                                          uint8_t *dest, size_t destlen,
-                                         size_t *written) {
-  if (!params || (!dest && destlen) || !written)
-    return QUIC_WIRE_ERR_INVALID_ARGUMENT;
-  return quic_wire_params_write_(
-      side, params, dest ? dest : (uint8_t *)quic_wire_nothing(), destlen,
-      written);
-}
+                                         size_t *written);
 
 /* ---- Sets of packet numbers: the first |count| entries of an array of |room|,
  * each a run of numbers, sorted, none empty, none touching the next.  A set of
@@ -866,43 +812,25 @@ static inline int quic_wire_params_write(uint32_t side,
  * are no such runs.  Entries behind the set keep what they hold, and nothing
  * changes but with QUIC_WIRE_CHANGED.
  */
-static inline int quic_wire_set_insert(quic_wire_range *runs, size_t room,
+QUIC_WIRE_API int quic_wire_set_insert(quic_wire_range *runs, size_t room,
                                        size_t *count, uint64_t start,
-                                       uint64_t end) {
-  if ((!runs && room) || !count)
-    return QUIC_WIRE_ERR_INVALID_ARGUMENT;
-  return quic_wire_set_insert_(
-      runs ? runs : (quic_wire_range *)quic_wire_nothing(), room, count, start,
-      end);
-}
+                                       uint64_t end);
 
 /*
  * Takes the numbers from |start| to below |end| out of the set.  Returns what
  * quic_wire_set_insert does: 0 where none of them was in it, and
  * QUIC_WIRE_ERR_NOBUF where a run falls in two and no entry is left.
  */
-static inline int quic_wire_set_remove(quic_wire_range *runs, size_t room,
+QUIC_WIRE_API int quic_wire_set_remove(quic_wire_range *runs, size_t room,
                                        size_t *count, uint64_t start,
-                                       uint64_t end) {
-  if ((!runs && room) || !count)
-    return QUIC_WIRE_ERR_INVALID_ARGUMENT;
-  return quic_wire_set_remove_(
-      runs ? runs : (quic_wire_range *)quic_wire_nothing(), room, count, start,
-      end);
-}
+                                       uint64_t end);
 
 /*
  * Returns 1 where |number| is in the set of the |count| runs, 0 where it isn't,
  * and QUIC_WIRE_ERR_INVALID_ARGUMENT where they are no such runs.
  */
-static inline int quic_wire_set_contains(const quic_wire_range *runs,
-                                         size_t count, uint64_t number) {
-  if (!runs && count)
-    return QUIC_WIRE_ERR_INVALID_ARGUMENT;
-  return quic_wire_set_contains_(
-      runs ? runs : (const quic_wire_range *)quic_wire_nothing(), count, count,
-      number);
-}
+QUIC_WIRE_API int quic_wire_set_contains(const quic_wire_range *runs,
+                                         size_t count, uint64_t number);
 
 /*
  * Writes an ACK (RFC 9000, section 19.3) of the set of the |count| runs in its
@@ -915,89 +843,26 @@ static inline int quic_wire_set_contains(const quic_wire_range *runs,
  * runs, or a number in them, the delay or a count is 2^62 or more.  What stands
  * in |dest| behind what was written stays, and all of it where nothing was.
  */
-static inline int quic_wire_ack_write(uint64_t delay,
+QUIC_WIRE_API int quic_wire_ack_write(uint64_t delay,
                                       const quic_wire_range *runs, size_t count,
                                       const uint64_t *counts, uint8_t *dest,
-                                      size_t destlen, size_t *written) {
-  size_t unused;
-  if ((!runs && count) || (!dest && destlen))
-    return QUIC_WIRE_ERR_INVALID_ARGUMENT;
-  return quic_wire_ack_write_(
-      delay, runs ? runs : (const quic_wire_range *)quic_wire_nothing(), count,
-      count, counts ? counts : (const uint64_t *)quic_wire_nothing(),
-      counts ? 3 : 0, dest ? dest : (uint8_t *)quic_wire_nothing(), destlen,
-      written ? written : &unused);
-}
+                                      size_t destlen, size_t *written);
 
 /* The name of a type as it stands on the wire, or NULL. */
-static inline const char *quic_wire_type_name(uint64_t type) {
-  switch (type) {
-  case 0x00: return "PADDING";
-  case 0x01: return "PING";
-  case 0x02: return "ACK";
-  case 0x03: return "ACK_ECN";
-  case 0x04: return "RESET_STREAM";
-  case 0x05: return "STOP_SENDING";
-  case 0x06: return "CRYPTO";
-  case 0x07: return "NEW_TOKEN";
-  case 0x08: case 0x09: case 0x0a: case 0x0b:
-  case 0x0c: case 0x0d: case 0x0e: case 0x0f: return "STREAM";
-  case 0x10: return "MAX_DATA";
-  case 0x11: return "MAX_STREAM_DATA";
-  case 0x12: return "MAX_STREAMS_BIDI";
-  case 0x13: return "MAX_STREAMS_UNI";
-  case 0x14: return "DATA_BLOCKED";
-  case 0x15: return "STREAM_DATA_BLOCKED";
-  case 0x16: return "STREAMS_BLOCKED_BIDI";
-  case 0x17: return "STREAMS_BLOCKED_UNI";
-  case 0x18: return "NEW_CONNECTION_ID";
-  case 0x19: return "RETIRE_CONNECTION_ID";
-  case 0x1a: return "PATH_CHALLENGE";
-  case 0x1b: return "PATH_RESPONSE";
-  case 0x1c: return "CONNECTION_CLOSE";
-  case 0x1d: return "APPLICATION_CLOSE";
-  case 0x1e: return "HANDSHAKE_DONE";
-  case 0x1f: return "IMMEDIATE_ACK";
-  case 0x30: case 0x31: return "DATAGRAM";
-  case 0xaf: return "ACK_FREQUENCY";
-  default: return NULL;
-  }
-}
+extern const char *quic_wire_type_name(uint64_t type);
 
 /* Why something is no frame. */
-static inline const char *quic_wire_reason_text(uint32_t reason) {
-  switch (reason) {
-  case QUIC_WIRE_REASON_UNEXPECTED_END: return "unexpected end";
-  case QUIC_WIRE_REASON_INVALID_FRAME_ID: return "invalid frame ID";
-  case QUIC_WIRE_REASON_MALFORMED: return "malformed";
-  case QUIC_WIRE_REASON_LONG_TYPE: return "frame type not in shortest form";
-  default: return "unknown";
-  }
-}
+extern const char *quic_wire_reason_text(uint32_t reason);
 
 /* Why a list of transport parameters is refused. */
-static inline const char *quic_wire_params_reason_text(uint32_t reason) {
-  switch (reason) {
-  case QUIC_WIRE_PARAMS_MALFORMED: return "malformed";
-  case QUIC_WIRE_PARAMS_ILLEGAL_VALUE: return "illegal value";
-  default: return "unknown";
-  }
-}
+extern const char *quic_wire_params_reason_text(uint32_t reason);
 
 /* Why no packet was cut; that of an unsupported version wants its number too. */
-static inline const char *quic_wire_packet_reason_text(uint32_t reason) {
-  switch (reason) {
-  case QUIC_WIRE_PACKET_UNSUPPORTED_VERSION: return "unsupported version";
-  case QUIC_WIRE_PACKET_UNEXPECTED_END: return "unexpected end of packet";
-  case QUIC_WIRE_PACKET_FIXED_BIT_UNSET: return "fixed bit unset";
-  case QUIC_WIRE_PACKET_TOO_SMALL: return "packet too small";
-  case QUIC_WIRE_PACKET_MALFORMED_CID: return "malformed cid";
-  case QUIC_WIRE_PACKET_TOKEN_OUT_OF_BOUNDS: return "token out of bounds";
-  case QUIC_WIRE_PACKET_LENGTH_BEYOND_END:
-    return "packet too short to contain payload length";
-  default: return "unknown";
-  }
-}
+extern const char *quic_wire_packet_reason_text(uint32_t reason);
+
+#ifdef QUIC_WIRE_INLINE
+#include "quic_wire_inline.h"
+#endif
 
 #ifdef __cplusplus
 }

@@ -1,14 +1,23 @@
-/* show MODE: the modes of `quic-show` that the calls for C have, with the same
- * text and status: `frames`, `strict`, `canon`, `datagram LEN`, `params SIDE`.  Its
- * input is lines of hexadecimal.  Each line's bytes stand in a block of just their
- * length, so that a sanitizer or valgrind sees each byte that is read past it. */
+/* show MODE: all modes of `quic-show` by the calls for C, with the same text,
+ * messages and status for each argument and each byte, but that it prints each
+ * line before it reads the next: where a read fails, lines before it are
+ * printed.  Each line's bytes stand in a block of just their length, so that a
+ * sanitizer or valgrind sees each byte that is read past it. */
 #define _POSIX_C_SOURCE 200809L
+#include <errno.h>
 #include <inttypes.h>
+#include <signal.h>
 #include <stdio.h>
 #include <stdlib.h>
 #include <string.h>
 
 #include "quic_wire.h"
+
+/* Ends with status 3 and a line on standard error. */
+static void fail(const char *why) {
+  fprintf(stderr, "quic-show: %s\n", why);
+  exit(3);
+}
 
 static int digit(int c) {
   if (c >= '0' && c <= '9')
@@ -89,7 +98,7 @@ static int print_canonical(const uint8_t *payload, size_t len) {
   }
   block = malloc(canon.len);
   if (!block || quic_wire_canonical(payload, len, block, canon.len, &canon))
-    exit(3);
+    fail("out of memory");
   for (i = 0; i < canon.len; i++)
     printf("%02x", block[i]);
   putchar('\n');
@@ -105,38 +114,58 @@ static void print_id(const uint8_t *datagram, size_t place, size_t len) {
     printf("%02x", datagram[place + i]);
 }
 
-static void print_packet(const uint8_t *datagram, const quic_wire_packet *p) {
+/* A packet that begins at |begin| of its datagram. */
+static void print_packet(const uint8_t *packet, size_t begin,
+                         const quic_wire_head *head) {
   static const char *const kinds[] = {"initial", "0rtt",  "handshake",
                                       "retry",   "short", "version-negotiation"};
-  printf("%zu..%zu %s dst ", p->begin, p->end, kinds[p->kind]);
-  print_id(datagram, p->dcid, p->dcidlen);
-  if (p->kind != QUIC_WIRE_1RTT) {
+  printf("%zu..%zu %s dst ", begin, begin + head->end, kinds[head->kind]);
+  print_id(quic_wire_dcid(packet, head), 0, head->dcidlen);
+  if (head->kind != QUIC_WIRE_1RTT) {
     printf(" src ");
-    print_id(datagram, p->scid, p->scidlen);
-    printf(" version %08" PRIx32, p->version);
+    print_id(quic_wire_scid(packet, head), 0, head->scidlen);
+    printf(" version %08" PRIx32, head->version);
   }
-  if (p->kind == QUIC_WIRE_INITIAL)
-    printf(" token %zu..%zu", p->token - p->begin,
-           p->token - p->begin + p->tokenlen);
+  if (head->kind == QUIC_WIRE_INITIAL)
+    printf(" token %" PRIu32 "..%" PRIu32, head->token,
+           head->token + head->tokenlen);
   putchar('\n');
 }
 
-static int print_packets(const uint8_t *datagram, size_t len, uint32_t cidlen) {
+/* Why no packet begins here, or 0 and its head. */
+static int read_head(const uint8_t *bytes, size_t len, uint32_t cidlen,
+                     quic_wire_head *head) {
   static const uint32_t versions[] = {0x00000001, 0xff00001d, 0xff00001e,
                                       0xff00001f, 0xff000020, 0xff000021,
                                       0xff000022, 0x6b3343cf};
-  quic_wire_packet packet;
-  size_t offset = 0;
   int answer;
-  while ((answer = quic_wire_packet_next(datagram, len, &offset, cidlen,
-                                         versions, 8, 0, &packet)) ==
-         QUIC_WIRE_ITEM)
-    print_packet(datagram, &packet);
-  if (answer == QUIC_WIRE_OK)
+  if (len && !(bytes[0] & QUIC_WIRE_FIXED_BIT))
+    return QUIC_WIRE_PACKET_FIXED_BIT_UNSET;
+  answer = quic_wire_head_read(bytes, len, cidlen, versions, 8, head);
+  if (answer == QUIC_WIRE_PACKET_UNSUPPORTED_VERSION &&
+      (head->dcidlen > 20 || head->scidlen > 20))
+    return QUIC_WIRE_PACKET_MALFORMED_CID;
+  return answer;
+}
+
+static int print_packets(const uint8_t *datagram, size_t len, uint32_t cidlen) {
+  static const uint8_t none = 0;
+  quic_wire_head head;
+  size_t begin = 0;
+  int answer;
+  do {
+    const uint8_t *packet = datagram ? datagram + begin : &none;
+    answer = read_head(packet, len - begin, cidlen, &head);
+    if (answer == 0) {
+      print_packet(packet, begin, &head);
+      begin += head.end;
+    }
+  } while (answer == 0 && begin < len);
+  if (answer == 0)
     return 1;
-  printf("error %s", quic_wire_packet_reason_text(packet.reason));
-  if (packet.reason == QUIC_WIRE_PACKET_UNSUPPORTED_VERSION)
-    printf(" %" PRIx32, packet.version);
+  printf("error %s", quic_wire_packet_reason_text((uint32_t)answer));
+  if (answer == QUIC_WIRE_PACKET_UNSUPPORTED_VERSION)
+    printf(" %" PRIx32, head.version);
   putchar('\n');
   return 0;
 }
@@ -209,54 +238,95 @@ static int print_params(const uint8_t *list, size_t len, uint32_t side) {
   return 1;
 }
 
-int main(int argc, char **argv) {
-  char *line = NULL;
-  size_t cap = 0;
-  ssize_t got;
-  int clean = 1, cidlen = -1, side = -1, canon = 0, strict = 0;
-  if (argc == 3 && !strcmp(argv[1], "datagram"))
-    cidlen = atoi(argv[2]);
-  else if (argc == 3 && !strcmp(argv[1], "params") &&
-           (!strcmp(argv[2], "client") || !strcmp(argv[2], "server")))
-    side = strcmp(argv[2], "server") ? QUIC_WIRE_CLIENT : QUIC_WIRE_SERVER;
-  else if (argc == 2 && !strcmp(argv[1], "canon"))
-    canon = 1;
-  else if (argc == 2 && !strcmp(argv[1], "strict"))
-    strict = 1;
-  else if (argc != 2 || strcmp(argv[1], "frames"))
-    return 2;
-  while ((got = getline(&line, &cap, stdin)) >= 0) {
-    size_t len = (size_t)got;
-    ptrdiff_t bytes;
-    uint8_t *block = NULL;
-    if (len && line[len - 1] == '\n')
-      len--;
-    if (len && line[len - 1] == '\r')
-      len--;
-    bytes = unhex(line, len);
-    if (bytes < 0) {
-      puts("error not hexadecimal");
-      clean = 0;
-      continue;
+/* The mode that the arguments ask for: which printer, and its number. */
+typedef struct mode {
+  enum { FRAMES, STRICT, CANON, DATAGRAM, PARAMS } what;
+  uint32_t number; /* the length of ids, or the side */
+} mode;
+
+/* One or two decimal digits, at most 20.  Returns -1 for any other word. */
+static int id_len(const char *word) {
+  size_t len = strlen(word);
+  if (len < 1 || len > 2 || strspn(word, "0123456789") != len)
+    return -1;
+  return atoi(word) <= 20 ? atoi(word) : -1;
+}
+
+/* Returns whether the arguments ask for a mode. */
+static int read_mode(int argc, char **argv, mode *out) {
+  static const char *const plain[] = {"frames", "strict", "canon"};
+  int i;
+  for (i = 0; i < 3; i++)
+    if (argc == 2 && !strcmp(argv[1], plain[i])) {
+      out->what = i == 0 ? FRAMES : i == 1 ? STRICT : CANON;
+      return 1;
     }
-    if (bytes) { /* For no bytes any pointer serves, NULL too. */
-      block = malloc((size_t)bytes);
-      if (!block)
-        return 3;
-      memcpy(block, line, (size_t)bytes);
-    }
-    if (side >= 0)
-      clean &= print_params(block, (size_t)bytes, (uint32_t)side);
-    else if (cidlen >= 0)
-      clean &= print_packets(block, (size_t)bytes, (uint32_t)cidlen);
-    else if (canon)
-      clean &= print_canonical(block, (size_t)bytes);
-    else
-      clean &= print_frames(block, (size_t)bytes, strict);
-    free(block);
+  if (argc == 3 && !strcmp(argv[1], "datagram") && id_len(argv[2]) >= 0) {
+    out->what = DATAGRAM;
+    out->number = (uint32_t)id_len(argv[2]);
+    return 1;
   }
+  if (argc == 3 && !strcmp(argv[1], "params") &&
+      (!strcmp(argv[2], "client") || !strcmp(argv[2], "server"))) {
+    out->what = PARAMS;
+    out->number = strcmp(argv[2], "client") ? QUIC_WIRE_SERVER : QUIC_WIRE_CLIENT;
+    return 1;
+  }
+  return 0;
+}
+
+static int print_bytes_of_line(mode m, const uint8_t *bytes, size_t len) {
+  switch (m.what) {
+  case CANON: return print_canonical(bytes, len);
+  case DATAGRAM: return print_packets(bytes, len, m.number);
+  case PARAMS: return print_params(bytes, len, m.number);
+  default: return print_frames(bytes, len, m.what == STRICT);
+  }
+}
+
+/* Prints what a line spells.  Returns whether no error was printed. */
+static int print_line(mode m, char *line, size_t len) {
+  ptrdiff_t bytes;
+  uint8_t *block = NULL;
+  int clean;
+  if (len && line[len - 1] == '\n')
+    len--;
+  if (len && line[len - 1] == '\r')
+    len--;
+  bytes = unhex(line, len);
+  if (bytes < 0) {
+    puts("error not hexadecimal");
+    return 0;
+  }
+  if (bytes) { /* For no bytes any pointer serves, NULL too. */
+    block = malloc((size_t)bytes);
+    if (!block)
+      fail("out of memory");
+    memcpy(block, line, (size_t)bytes);
+  }
+  clean = print_bytes_of_line(m, block, (size_t)bytes);
+  free(block);
+  return clean;
+}
+
+int main(int argc, char **argv) {
+  mode m = {FRAMES, 0};
+  char *line = NULL;
+  size_t room = 0;
+  ssize_t len;
+  int clean = 1;
+  signal(SIGPIPE, SIG_IGN);
+  if (!read_mode(argc, argv, &m)) {
+    fputs("usage: quic-show frames|strict|canon|datagram LEN|params "
+          "client|server\n", stderr);
+    return 2;
+  }
+  while (!ferror(stdout) && (len = getline(&line, &room, stdin)) >= 0)
+    clean &= print_line(m, line, (size_t)len);
+  if (!ferror(stdout) && !feof(stdin))
+    fail(errno == ENOMEM ? "out of memory" : "read failed");
   free(line);
-  if (ferror(stdin) || fflush(stdout) == EOF)
-    return 3;
+  if (fflush(stdout) == EOF || ferror(stdout))
+    fail("write failed");
   return clean ? 0 : 1;
 }

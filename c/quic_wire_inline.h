@@ -1,0 +1,432 @@
+/* SPDX-License-Identifier: MIT OR Apache-2.0 */
+/*
+ * What the functions of quic_wire.h do: each looks at its pointers and calls the
+ * proved library.  quic_wire.h includes it where QUIC_WIRE_INLINE is defined,
+ * and the library's own quic_wire.c, which makes symbols of them.
+ */
+#ifndef QUIC_WIRE_INLINE_H
+#define QUIC_WIRE_INLINE_H
+
+#include <string.h>
+
+/* The functions of the proved library.  Their pointers must not be NULL. */
+int32_t quic_wire_frames_init_(quic_wire_frames *, const uint8_t *, size_t);
+int32_t quic_wire_frames_init_strict_(quic_wire_frames *, const uint8_t *,
+                                      size_t);
+int32_t quic_wire_frames_next_(quic_wire_frames *, const uint8_t *, size_t,
+                               quic_wire_frame *);
+int32_t quic_wire_frames_fill_(quic_wire_frames *, const uint8_t *, size_t,
+                               quic_wire_frame *, size_t, size_t *);
+int32_t quic_wire_frames_first_(quic_wire_frames *, const uint8_t *, size_t,
+                               quic_wire_frame *, size_t, size_t *);
+int32_t quic_wire_ack_ranges_init_(quic_wire_ack_ranges *, const uint8_t *,
+                                   size_t, const quic_wire_frame *);
+int32_t quic_wire_ack_ranges_init_unchecked_(quic_wire_ack_ranges *,
+                                             const uint8_t *, size_t,
+                                             const quic_wire_frame *);
+int32_t quic_wire_ack_ranges_next_(quic_wire_ack_ranges *, const uint8_t *,
+                                   size_t, quic_wire_range *);
+int32_t quic_wire_ack_ranges_fill_(quic_wire_ack_ranges *, const uint8_t *,
+                                   size_t, quic_wire_range *, size_t, size_t *);
+int32_t quic_wire_frame_write_(const quic_wire_frame *, const uint8_t *,
+                               size_t, uint32_t, uint8_t *, size_t, size_t *);
+int32_t quic_wire_canonical_(const uint8_t *, size_t, uint8_t *, size_t,
+                             quic_wire_canon *);
+int32_t quic_wire_head_read_(const uint8_t *, size_t, uint32_t,
+                             const uint32_t *, size_t, quic_wire_head *);
+int32_t quic_wire_unprotect_(uint8_t *, size_t, size_t, const uint8_t *,
+                             uint64_t, uint64_t *);
+int32_t quic_wire_protect_(uint8_t *, size_t, size_t, const uint8_t *);
+int32_t quic_wire_short_write_(uint32_t, uint64_t, const uint8_t *, size_t,
+                               uint8_t *, size_t);
+int64_t quic_wire_head_write_(const quic_wire_said *, const uint8_t *, size_t,
+                              const uint8_t *, size_t, const uint8_t *, size_t,
+                              uint8_t *, size_t);
+int32_t quic_wire_set_len_(uint8_t *, size_t, size_t, uint32_t);
+int32_t quic_wire_number_len_(uint64_t, uint64_t);
+uint64_t quic_wire_number_expand_(uint64_t, uint32_t, uint64_t);
+size_t quic_wire_varint_read_(const uint8_t *, size_t, uint64_t *);
+size_t quic_wire_varint_write_(uint64_t, uint32_t, uint8_t *, size_t);
+int32_t quic_wire_params_read_(uint32_t, const uint8_t *, size_t,
+                               quic_wire_params *);
+int32_t quic_wire_params_write_(uint32_t, const quic_wire_params *, uint8_t *,
+                                size_t, size_t *);
+int32_t quic_wire_set_insert_(quic_wire_range *, size_t, size_t *, uint64_t,
+                              uint64_t);
+int32_t quic_wire_set_remove_(quic_wire_range *, size_t, size_t *, uint64_t,
+                              uint64_t);
+int32_t quic_wire_set_contains_(const quic_wire_range *, size_t, size_t,
+                                uint64_t);
+int32_t quic_wire_ack_write_(uint64_t, const quic_wire_range *, size_t, size_t,
+                             const uint64_t *, size_t, uint8_t *, size_t,
+                             size_t *);
+
+/* A place for what has no items, since the proved library takes no NULL.  It is
+ * aligned for each kind of item, and nothing is read or written there. */
+static inline void *quic_wire_nothing_(void) {
+  static uint64_t nothing;
+  return &nothing;
+}
+
+QUIC_WIRE_API int quic_wire_frames_init(quic_wire_frames *frames,
+                                        const uint8_t *payload,
+                                        size_t payloadlen) {
+  if (!frames || (!payload && payloadlen))
+    return QUIC_WIRE_ERR_INVALID_ARGUMENT;
+  if (!payload)
+    payload = (const uint8_t *)quic_wire_nothing_();
+  return quic_wire_frames_init_(frames, payload, payloadlen);
+}
+
+QUIC_WIRE_API int quic_wire_frames_init_strict(quic_wire_frames *frames,
+                                               const uint8_t *payload,
+                                               size_t payloadlen) {
+  if (!frames || (!payload && payloadlen))
+    return QUIC_WIRE_ERR_INVALID_ARGUMENT;
+  if (!payload)
+    payload = (const uint8_t *)quic_wire_nothing_();
+  return quic_wire_frames_init_strict_(frames, payload, payloadlen);
+}
+
+QUIC_WIRE_API int quic_wire_frames_next(quic_wire_frames *frames,
+                                        const uint8_t *payload,
+                                        size_t payloadlen,
+                                        quic_wire_frame *frame) {
+  if (!frames || !frame || (!payload && payloadlen))
+    return QUIC_WIRE_ERR_INVALID_ARGUMENT;
+  if (!payload)
+    payload = (const uint8_t *)quic_wire_nothing_();
+  return quic_wire_frames_next_(frames, payload, payloadlen, frame);
+}
+
+QUIC_WIRE_API int quic_wire_frames_fill(quic_wire_frames *frames,
+                                        const uint8_t *payload,
+                                        size_t payloadlen, quic_wire_frame *out,
+                                        size_t room, size_t *count) {
+  if (!frames || !count || (!payload && payloadlen) || (!out && room))
+    return QUIC_WIRE_ERR_INVALID_ARGUMENT;
+  if (!payload)
+    payload = (const uint8_t *)quic_wire_nothing_();
+  if (!out)
+    out = (quic_wire_frame *)quic_wire_nothing_();
+  return quic_wire_frames_fill_(frames, payload, payloadlen, out, room, count);
+}
+
+QUIC_WIRE_API int quic_wire_frames_first(quic_wire_frames *frames,
+                                         const uint8_t *payload,
+                                         size_t payloadlen,
+                                         quic_wire_frame *out, size_t room,
+                                         size_t *count) {
+  if (!frames || !count || (!out && room))
+    return QUIC_WIRE_ERR_INVALID_ARGUMENT;
+  if (!payload) {
+    if (payloadlen)
+      return QUIC_WIRE_ERR_INVALID_ARGUMENT;
+    payload = (const uint8_t *)quic_wire_nothing_();
+  }
+  if (!out)
+    out = (quic_wire_frame *)quic_wire_nothing_();
+  return quic_wire_frames_first_(frames, payload, payloadlen, out, room, count);
+}
+
+QUIC_WIRE_API uint64_t quic_wire_frame_type(const uint8_t *payload,
+                                            size_t payloadlen,
+                                            const quic_wire_frame *frame) {
+  uint64_t type;
+  if (!payload || !frame || frame->begin >= payloadlen ||
+      !quic_wire_varint_read_(payload + frame->begin,
+                              payloadlen - frame->begin, &type))
+    return QUIC_WIRE_NO_TYPE;
+  return type;
+}
+
+QUIC_WIRE_API size_t quic_wire_padding_count(const uint8_t *payload,
+                                             size_t payloadlen,
+                                             const quic_wire_frame *frame) {
+  size_t typelen;
+  if (!payload || !frame || frame->kind != QUIC_WIRE_PADDING ||
+      frame->end > payloadlen || frame->begin >= frame->end)
+    return 0;
+  typelen = (size_t)1 << (payload[frame->begin] >> 6);
+  return frame->end - frame->begin < typelen
+             ? 0
+             : frame->end - frame->begin - typelen + 1;
+}
+
+QUIC_WIRE_API const uint8_t *
+quic_wire_reset_token(const uint8_t *payload, size_t payloadlen,
+                      const quic_wire_frame *frame) {
+  if (!payload || !frame || frame->kind != QUIC_WIRE_NEW_CONNECTION_ID ||
+      frame->data > payloadlen || frame->datalen > payloadlen - frame->data ||
+      payloadlen - frame->data - frame->datalen < 16)
+    return NULL;
+  return payload + frame->data + frame->datalen;
+}
+
+QUIC_WIRE_API uint64_t quic_wire_error_type(const quic_wire_frame *frame) {
+  return frame ? frame->numbers[0] : QUIC_WIRE_NO_TYPE;
+}
+
+QUIC_WIRE_API uint32_t quic_wire_error_reason(const quic_wire_frame *frame) {
+  return frame ? frame->flags : 0;
+}
+
+QUIC_WIRE_API int quic_wire_ack_ranges_init(quic_wire_ack_ranges *ranges,
+                                            const uint8_t *payload,
+                                            size_t payloadlen,
+                                            const quic_wire_frame *frame) {
+  if (!ranges || !payload || !frame)
+    return QUIC_WIRE_ERR_INVALID_ARGUMENT;
+  return quic_wire_ack_ranges_init_(ranges, payload, payloadlen, frame);
+}
+
+QUIC_WIRE_API int
+quic_wire_ack_ranges_init_unchecked(quic_wire_ack_ranges *ranges,
+                                    const uint8_t *payload, size_t payloadlen,
+                                    const quic_wire_frame *frame) {
+  if (!ranges || !payload || !frame)
+    return QUIC_WIRE_ERR_INVALID_ARGUMENT;
+  return quic_wire_ack_ranges_init_unchecked_(ranges, payload, payloadlen,
+                                              frame);
+}
+
+QUIC_WIRE_API int quic_wire_ack_ranges_next(quic_wire_ack_ranges *ranges,
+                                            const uint8_t *payload,
+                                            size_t payloadlen,
+                                            quic_wire_range *range) {
+  if (!ranges || !payload || !range)
+    return QUIC_WIRE_ERR_INVALID_ARGUMENT;
+  return quic_wire_ack_ranges_next_(ranges, payload, payloadlen, range);
+}
+
+QUIC_WIRE_API int quic_wire_ack_ranges_fill(quic_wire_ack_ranges *ranges,
+                                            const uint8_t *payload,
+                                            size_t payloadlen,
+                                            quic_wire_range *out, size_t room,
+                                            size_t *count) {
+  if (!ranges || !payload || !count || (!out && room))
+    return QUIC_WIRE_ERR_INVALID_ARGUMENT;
+  if (!out)
+    out = (quic_wire_range *)quic_wire_nothing_();
+  return quic_wire_ack_ranges_fill_(ranges, payload, payloadlen, out, room,
+                                    count);
+}
+
+QUIC_WIRE_API int quic_wire_frame_write(const quic_wire_frame *frame,
+                                        const uint8_t *data, size_t datalen,
+                                        int last, uint8_t *dest,
+                                        size_t destlen, size_t *written) {
+  size_t unused;
+  if (!frame || (!data && datalen) || (!dest && destlen))
+    return QUIC_WIRE_ERR_INVALID_ARGUMENT;
+  if (!data)
+    data = (const uint8_t *)quic_wire_nothing_();
+  if (!dest)
+    dest = (uint8_t *)quic_wire_nothing_();
+  return quic_wire_frame_write_(frame, data, datalen, last != 0, dest, destlen,
+                                written ? written : &unused);
+}
+
+QUIC_WIRE_API int quic_wire_canonical(const uint8_t *payload, size_t payloadlen,
+                                      uint8_t *dest, size_t destlen,
+                                      quic_wire_canon *out) {
+  if ((!payload && payloadlen) || (!dest && destlen) || !out)
+    return QUIC_WIRE_ERR_INVALID_ARGUMENT;
+  if (!payload)
+    payload = (const uint8_t *)quic_wire_nothing_();
+  if (!dest)
+    dest = (uint8_t *)quic_wire_nothing_();
+  return quic_wire_canonical_(payload, payloadlen, dest, destlen, out);
+}
+
+QUIC_WIRE_API int quic_wire_head_read(const uint8_t *bytes, size_t len,
+                                      uint32_t cidlen, const uint32_t *versions,
+                                      size_t nversions, quic_wire_head *head) {
+  static const uint32_t none = 0;
+  if (!bytes || !head || (!versions && nversions))
+    return QUIC_WIRE_ERR_INVALID_ARGUMENT;
+  return quic_wire_head_read_(bytes, len, cidlen, versions ? versions : &none,
+                              nversions, head);
+}
+
+QUIC_WIRE_API const uint8_t *quic_wire_dcid(const uint8_t *packet,
+                                            const quic_wire_head *head) {
+  return packet && head ? packet + (head->first & QUIC_WIRE_LONG_FORM ? 6 : 1)
+                        : NULL;
+}
+
+QUIC_WIRE_API const uint8_t *quic_wire_scid(const uint8_t *packet,
+                                            const quic_wire_head *head) {
+  return packet && head ? packet + 7 + head->dcidlen : NULL; /* of a long head */
+}
+
+QUIC_WIRE_API const uint8_t *quic_wire_sample(const uint8_t *packet,
+                                              size_t packetlen, size_t number,
+                                              size_t samplelen) {
+  if (!packet || packetlen < number || packetlen - number < 4 ||
+      packetlen - number - 4 < samplelen)
+    return NULL;
+  return packet + number + 4;
+}
+
+QUIC_WIRE_API int quic_wire_unprotect(uint8_t *packet, size_t packetlen,
+                                      size_t place, const uint8_t *mask,
+                                      uint64_t expected, uint64_t *number) {
+  if (!packet || !mask || !number)
+    return QUIC_WIRE_ERR_INVALID_ARGUMENT;
+  return quic_wire_unprotect_(packet, packetlen, place, mask, expected, number);
+}
+
+QUIC_WIRE_API int quic_wire_unprotect_head(const uint8_t *packet,
+                                           size_t packetlen, size_t place,
+                                           const uint8_t *mask,
+                                           uint64_t expected, uint8_t *head,
+                                           size_t headlen, uint64_t *number) {
+  if (!packet || !mask || !head || !number)
+    return QUIC_WIRE_ERR_INVALID_ARGUMENT;
+  if (packetlen < 4 || packetlen - 4 < place)
+    return QUIC_WIRE_ERR_MALFORMED;
+  if (headlen < place + 4)
+    return QUIC_WIRE_ERR_NOBUF;
+  memcpy(head, packet, place + 4);
+  return quic_wire_unprotect_(head, place + 4, place, mask, expected, number);
+}
+
+QUIC_WIRE_API int quic_wire_protect(uint8_t *packet, size_t packetlen,
+                                    size_t place, const uint8_t *mask) {
+  if (!packet || !mask)
+    return QUIC_WIRE_ERR_INVALID_ARGUMENT;
+  return quic_wire_protect_(packet, packetlen, place, mask);
+}
+
+QUIC_WIRE_API int quic_wire_number_len(uint64_t number,
+                                       uint64_t largest_acked) {
+  return quic_wire_number_len_(number, largest_acked);
+}
+
+QUIC_WIRE_API uint64_t quic_wire_number_expand(uint64_t written,
+                                               uint32_t numberlen,
+                                               uint64_t expected) {
+  return quic_wire_number_expand_(written, numberlen, expected);
+}
+
+QUIC_WIRE_API size_t quic_wire_varint_read(const uint8_t *bytes, size_t len,
+                                           uint64_t *value) {
+  return bytes && value ? quic_wire_varint_read_(bytes, len, value) : 0;
+}
+
+QUIC_WIRE_API size_t quic_wire_varint_write(uint64_t value, uint32_t width,
+                                            uint8_t *dest, size_t destlen) {
+  return dest ? quic_wire_varint_write_(value, width, dest, destlen) : 0;
+}
+
+QUIC_WIRE_API size_t quic_wire_head_len(const quic_wire_said *said,
+                                        size_t dcidlen, size_t scidlen,
+                                        size_t tokenlen) {
+  size_t front = 7 + dcidlen + scidlen, end;
+  if (!said)
+    return 0;
+  end = (size_t)said->lengthlen + said->numberlen;
+  switch (said->kind) {
+  case QUIC_WIRE_INITIAL:
+    return front + end + tokenlen +
+           (tokenlen < 64 ? 1 : tokenlen < 16384 ? 2 : tokenlen < 1 << 30 ? 4 : 8);
+  case QUIC_WIRE_0RTT:
+  case QUIC_WIRE_HANDSHAKE: return front + end;
+  case QUIC_WIRE_1RTT: return 1 + dcidlen + said->numberlen;
+  default: return front;
+  }
+}
+
+QUIC_WIRE_API int64_t quic_wire_head_write(
+    const quic_wire_said *said, const uint8_t *dcid, size_t dcidlen,
+    const uint8_t *scid, size_t scidlen, const uint8_t *token, size_t tokenlen,
+    uint8_t *dest, size_t destlen) {
+  static const uint8_t none = 0;
+  if (!said || (!dcid && dcidlen) || (!scid && scidlen) ||
+      (!token && tokenlen) || !dest)
+    return QUIC_WIRE_ERR_INVALID_ARGUMENT;
+  if (!dcid)
+    dcid = &none;
+  /* A short head that says nothing else is written by its first byte. */
+  if (said->kind == QUIC_WIRE_1RTT && said->numberlen - 1u < 4 &&
+      !(said->flags & ~0x64u) &&
+      !(said->lengthlen | said->version | scidlen | tokenlen))
+    return quic_wire_short_write_(
+        (QUIC_WIRE_FIXED_BIT ^ said->flags) | (said->numberlen - 1u),
+        said->number, dcid, dcidlen, dest, destlen);
+  return quic_wire_head_write_(said, dcid, dcidlen, scid ? scid : &none, scidlen,
+                               token ? token : &none, tokenlen, dest, destlen);
+}
+
+QUIC_WIRE_API int quic_wire_set_len(uint8_t *packet, size_t packetlen,
+                                    size_t place, uint32_t lengthlen) {
+  return packet ? quic_wire_set_len_(packet, packetlen, place, lengthlen)
+                : QUIC_WIRE_ERR_INVALID_ARGUMENT;
+}
+
+QUIC_WIRE_API int quic_wire_params_read(uint32_t side, const uint8_t *list,
+                                        size_t listlen,
+                                        quic_wire_params *params) {
+  if ((!list && listlen) || !params)
+    return QUIC_WIRE_ERR_INVALID_ARGUMENT;
+  return quic_wire_params_read_(
+      side, list ? list : (const uint8_t *)quic_wire_nothing_(), listlen,
+      params);
+}
+
+QUIC_WIRE_API int quic_wire_params_write(uint32_t side,
+                                         const quic_wire_params *params,
+                                         uint8_t *dest, size_t destlen,
+                                         size_t *written) {
+  if (!params || (!dest && destlen) || !written)
+    return QUIC_WIRE_ERR_INVALID_ARGUMENT;
+  return quic_wire_params_write_( /* it asks for the side that is to read */
+      side ^ 1, params, dest ? dest : (uint8_t *)quic_wire_nothing_(), destlen,
+      written);
+}
+
+QUIC_WIRE_API int quic_wire_set_insert(quic_wire_range *runs, size_t room,
+                                       size_t *count, uint64_t start,
+                                       uint64_t end) {
+  if ((!runs && room) || !count)
+    return QUIC_WIRE_ERR_INVALID_ARGUMENT;
+  return quic_wire_set_insert_(
+      runs ? runs : (quic_wire_range *)quic_wire_nothing_(), room, count, start,
+      end);
+}
+
+QUIC_WIRE_API int quic_wire_set_remove(quic_wire_range *runs, size_t room,
+                                       size_t *count, uint64_t start,
+                                       uint64_t end) {
+  if ((!runs && room) || !count)
+    return QUIC_WIRE_ERR_INVALID_ARGUMENT;
+  return quic_wire_set_remove_(
+      runs ? runs : (quic_wire_range *)quic_wire_nothing_(), room, count, start,
+      end);
+}
+
+QUIC_WIRE_API int quic_wire_set_contains(const quic_wire_range *runs,
+                                         size_t count, uint64_t number) {
+  if (!runs && count)
+    return QUIC_WIRE_ERR_INVALID_ARGUMENT;
+  return quic_wire_set_contains_(
+      runs ? runs : (const quic_wire_range *)quic_wire_nothing_(), count, count,
+      number);
+}
+
+QUIC_WIRE_API int quic_wire_ack_write(uint64_t delay,
+                                      const quic_wire_range *runs, size_t count,
+                                      const uint64_t *counts, uint8_t *dest,
+                                      size_t destlen, size_t *written) {
+  size_t unused;
+  if ((!runs && count) || (!dest && destlen))
+    return QUIC_WIRE_ERR_INVALID_ARGUMENT;
+  return quic_wire_ack_write_(
+      delay, runs ? runs : (const quic_wire_range *)quic_wire_nothing_(), count,
+      count, counts ? counts : (const uint64_t *)quic_wire_nothing_(),
+      counts ? 3 : 0, dest ? dest : (uint8_t *)quic_wire_nothing_(), destlen,
+      written ? written : &unused);
+}
+
+#endif /* QUIC_WIRE_INLINE_H */

@@ -1,26 +1,36 @@
 //! Prints the frames of payloads, given as lines of hexadecimal, as `quic-show frames` does.
 use quic_wire::frame::Iter;
+use std::io::{self, BufRead, Write};
 
 fn unhex(line: &str) -> Option<Vec<u8>> {
     let digits = line.chars().map(|c| c.to_digit(16)).collect::<Option<Vec<_>>>()?;
-    Some(digits.chunks_exact(2).map(|pair| (pair[0] * 16 + pair[1]) as u8).collect())
+    let pairs = digits.chunks_exact(2);
+    pairs.remainder().is_empty().then(|| pairs.map(|pair| (pair[0] * 16 + pair[1]) as u8).collect())
 }
 
-fn main() {
-    for line in std::io::stdin().lines().map_while(Result::ok) {
-        let Some(payload) = unhex(&line) else { continue };
-        let mut start = 0;
-        match Iter::new(&payload) {
-            Err(empty) => println!("error {empty}"),
-            Ok(mut frames) => {
-                while let Some(item) = frames.next() {
-                    match item {
-                        Ok(frame) => println!("{start}..{} {}", frames.offset(), frame.ty()),
-                        Err(error) => println!("error {error}"),
-                    }
-                    start = frames.offset();
-                }
-            }
+fn print(payload: &[u8], out: &mut impl Write) -> io::Result<()> {
+    let mut frames = match Iter::new(payload) {
+        Ok(frames) => frames,
+        Err(empty) => return writeln!(out, "error {empty}"),
+    };
+    let mut start = 0;
+    while let Some(item) = frames.next() {
+        match item {
+            Ok(frame) => writeln!(out, "{start}..{} {}", frames.offset(), frame.ty())?,
+            Err(error) => writeln!(out, "error {error}")?,
+        }
+        start = frames.offset();
+    }
+    Ok(())
+}
+
+fn main() -> io::Result<()> {
+    let mut out = io::BufWriter::new(io::stdout().lock());
+    for line in io::stdin().lock().lines() {
+        match unhex(&line?) {
+            Some(payload) => print(&payload, &mut out)?,
+            None => writeln!(out, "error not hexadecimal")?,
         }
     }
+    out.flush()
 }

@@ -1,14 +1,16 @@
-//! show MODE: the modes of `quic-show` that this crate has, with the same text and status: `frames`, `strict`,
-//! `canon`, `datagram LEN`, `params SIDE`.
+//! show MODE: what `quic-show` prints, with its text and its status, of all of its modes: `frames`, `strict`, `canon`,
+//! `datagram LEN`, `params SIDE`.
 use quic_wire::canonical::canonical;
 use quic_wire::frame::{EmptyPayload, Iter};
-use quic_wire::packet::{DEFAULT_SUPPORTED_VERSIONS, LongType, Packets, PartialDecode, ProtectedHeader};
+use quic_wire::packet::{LongType, Packets, PartialDecode, ProtectedHeader, DEFAULT_SUPPORTED_VERSIONS};
 use quic_wire::transport_parameters::{Error, PreferredAddress, Side, TransportParameters};
-use std::io::{self, BufRead, Write};
+use quic_wire::MAX_CID_SIZE;
+use std::env;
+use std::io::{self, Read, Write};
 use std::process::ExitCode;
 
-fn unhex(line: &str) -> Option<Vec<u8>> {
-    let digits = line.chars().map(|c| c.to_digit(16)).collect::<Option<Vec<_>>>()?;
+fn unhex(line: &[u8]) -> Option<Vec<u8>> {
+    let digits = line.iter().map(|byte| char::from(*byte).to_digit(16)).collect::<Option<Vec<_>>>()?;
     let pairs = digits.chunks_exact(2);
     pairs.remainder().is_empty().then(|| pairs.map(|pair| (pair[0] * 16 + pair[1]) as u8).collect())
 }
@@ -36,9 +38,9 @@ fn print_frames(found: Result<Iter<'_>, EmptyPayload>, out: &mut impl Write) -> 
 }
 
 fn print_canonical(payload: &[u8], out: &mut impl Write) -> io::Result<bool> {
-    let mut bytes = vec![0; payload.len()];
+    let mut bytes = Vec::with_capacity(payload.len());
     match canonical(payload, &mut bytes) {
-        Ok(len) => writeln!(out, "{}", id(&bytes[..len]))?,
+        Ok(_) => writeln!(out, "{}", id(&bytes))?,
         Err(error) => {
             writeln!(out, "error {error}")?;
             return Ok(false);
@@ -48,7 +50,11 @@ fn print_canonical(payload: &[u8], out: &mut impl Write) -> io::Result<bool> {
 }
 
 fn id(bytes: &[u8]) -> String {
-    if bytes.is_empty() { "-".into() } else { bytes.iter().map(|byte| format!("{byte:02x}")).collect() }
+    if bytes.is_empty() {
+        "-".into()
+    } else {
+        bytes.iter().map(|byte| format!("{byte:02x}")).collect()
+    }
 }
 
 fn long(kind: &str, dst: &[u8], src: &[u8], version: u32) -> String {
@@ -88,7 +94,8 @@ fn print_packets(datagram: &[u8], cid_len: usize, out: &mut impl Write) -> io::R
 }
 
 fn address(a: &PreferredAddress) -> String {
-    let (v4, v6) = (a.address_v4.map_or([0; 4], |s| s.ip().octets()), a.address_v6.map_or([0; 16], |s| s.ip().octets()));
+    let (v4, v6) =
+        (a.address_v4.map_or([0; 4], |s| s.ip().octets()), a.address_v6.map_or([0; 16], |s| s.ip().octets()));
     let ports = (a.address_v4.map_or(0, |s| s.port()), a.address_v6.map_or(0, |s| s.port()));
     let front = [&v4[..], &ports.0.to_be_bytes(), &v6, &ports.1.to_be_bytes(), &[a.connection_id.len() as u8]].concat();
     id(&[&front[..], &a.connection_id, &a.stateless_reset_token].concat())
@@ -103,74 +110,110 @@ fn print_params(side: Side, list: &[u8], out: &mut impl Write) -> io::Result<boo
             return Ok(false);
         }
     };
-    let normal = TransportParameters::default();
-    let numbers = [
-        ("max_idle_timeout", p.max_idle_timeout, normal.max_idle_timeout),
-        ("max_udp_payload_size", p.max_udp_payload_size, normal.max_udp_payload_size),
-        ("initial_max_data", p.initial_max_data, normal.initial_max_data),
-        ("initial_max_stream_data_bidi_local", p.initial_max_stream_data_bidi_local, normal.initial_max_stream_data_bidi_local),
-        ("initial_max_stream_data_bidi_remote", p.initial_max_stream_data_bidi_remote, normal.initial_max_stream_data_bidi_remote),
-        ("initial_max_stream_data_uni", p.initial_max_stream_data_uni, normal.initial_max_stream_data_uni),
-        ("initial_max_streams_bidi", p.initial_max_streams_bidi, normal.initial_max_streams_bidi),
-        ("initial_max_streams_uni", p.initial_max_streams_uni, normal.initial_max_streams_uni),
-        ("ack_delay_exponent", p.ack_delay_exponent, normal.ack_delay_exponent),
-        ("max_ack_delay", p.max_ack_delay, normal.max_ack_delay),
-        ("active_connection_id_limit", p.active_connection_id_limit, normal.active_connection_id_limit),
+    for ((name, number), (_, normal)) in numbers(&p).into_iter().zip(numbers(&TransportParameters::default())) {
+        if number != normal {
+            writeln!(out, "{name} {number}")?;
+        }
+    }
+    let others = [
+        ("stateless_reset_token", p.stateless_reset_token.map(|t| id(&t))),
+        ("disable_active_migration", p.disable_active_migration.then(|| "true".into())),
+        ("max_datagram_frame_size", p.max_datagram_frame_size.map(|n| n.to_string())),
+        ("preferred_address", p.preferred_address.as_ref().map(address)),
+        ("original_dst_cid", p.original_dst_cid.map(|cid| id(&cid))),
+        ("initial_src_cid", p.initial_src_cid.map(|cid| id(&cid))),
+        ("retry_src_cid", p.retry_src_cid.map(|cid| id(&cid))),
+        ("grease_quic_bit", p.grease_quic_bit.then(|| "true".into())),
+        ("min_ack_delay", p.min_ack_delay.map(|n| n.to_string())),
     ];
-    let mut lines: Vec<(&str, String)> =
-        numbers.iter().filter(|n| n.1 != n.2).map(|(name, n, _)| (*name, n.to_string())).collect();
-    let mut line = |name, text: Option<String>| lines.extend(text.map(|text| (name, text)));
-    line("stateless_reset_token", p.stateless_reset_token.map(|t| id(&t)));
-    line("disable_active_migration", p.disable_active_migration.then(|| "true".into()));
-    line("max_datagram_frame_size", p.max_datagram_frame_size.map(|n| n.to_string()));
-    line("preferred_address", p.preferred_address.as_ref().map(address));
-    line("original_dst_cid", p.original_dst_cid.map(|cid| id(&cid)));
-    line("initial_src_cid", p.initial_src_cid.map(|cid| id(&cid)));
-    line("retry_src_cid", p.retry_src_cid.map(|cid| id(&cid)));
-    line("grease_quic_bit", p.grease_quic_bit.then(|| "true".into()));
-    line("min_ack_delay", p.min_ack_delay.map(|n| n.to_string()));
-    for (name, text) in lines {
-        writeln!(out, "{name} {text}")?;
+    for (name, text) in others {
+        if let Some(text) = text {
+            writeln!(out, "{name} {text}")?;
+        }
     }
     writeln!(out, "ok")?;
     Ok(true)
 }
 
-fn main() -> io::Result<ExitCode> {
-    let words: Vec<String> = std::env::args().skip(1).collect();
-    let mut side = None;
-    let is_canon = words == ["canon"];
-    let is_strict = words == ["strict"];
-    let cid_len = match words.iter().map(String::as_str).collect::<Vec<_>>()[..] {
-        ["frames" | "strict" | "canon"] => None,
-        ["params", "client"] => {
-            side = Some(Side::Client);
-            None
+fn numbers(p: &TransportParameters) -> [(&'static str, u64); 11] {
+    [
+        ("max_idle_timeout", p.max_idle_timeout),
+        ("max_udp_payload_size", p.max_udp_payload_size),
+        ("initial_max_data", p.initial_max_data),
+        ("initial_max_stream_data_bidi_local", p.initial_max_stream_data_bidi_local),
+        ("initial_max_stream_data_bidi_remote", p.initial_max_stream_data_bidi_remote),
+        ("initial_max_stream_data_uni", p.initial_max_stream_data_uni),
+        ("initial_max_streams_bidi", p.initial_max_streams_bidi),
+        ("initial_max_streams_uni", p.initial_max_streams_uni),
+        ("ack_delay_exponent", p.ack_delay_exponent),
+        ("max_ack_delay", p.max_ack_delay),
+        ("active_connection_id_limit", p.active_connection_id_limit),
+    ]
+}
+
+enum Mode {
+    Frames,
+    Strict,
+    Canon,
+    Datagram(usize),
+    Params(Side),
+}
+
+fn mode_of(words: &[&str]) -> Option<Mode> {
+    Some(match words {
+        ["frames"] => Mode::Frames,
+        ["strict"] => Mode::Strict,
+        ["canon"] => Mode::Canon,
+        ["params", "client"] => Mode::Params(Side::Client),
+        ["params", "server"] => Mode::Params(Side::Server),
+        ["datagram", len] if len.len() <= 2 && len.bytes().all(|byte| byte.is_ascii_digit()) => {
+            Mode::Datagram(len.parse().ok().filter(|len| *len <= MAX_CID_SIZE)?)
         }
-        ["params", "server"] => {
-            side = Some(Side::Server);
-            None
-        }
-        ["datagram", len] => len.parse::<usize>().ok(),
-        _ => return Ok(ExitCode::from(2)),
+        _ => return None,
+    })
+}
+
+fn print(mode: &Mode, line: &[u8], out: &mut impl Write) -> io::Result<bool> {
+    let Some(bytes) = unhex(line) else {
+        writeln!(out, "error not hexadecimal")?;
+        return Ok(false);
     };
-    let mut out = io::BufWriter::new(io::stdout().lock());
-    let mut clean = true;
-    for line in io::stdin().lock().lines() {
-        clean &= match (unhex(&line?), cid_len) {
-            (None, _) => {
-                writeln!(out, "error not hexadecimal")?;
-                false
-            }
-            (Some(bytes), None) => match side {
-                Some(side) => print_params(side, &bytes, &mut out)?,
-                None if is_canon => print_canonical(&bytes, &mut out)?,
-                None if is_strict => print_frames(Iter::strict(&bytes), &mut out)?,
-                None => print_frames(Iter::new(&bytes), &mut out)?,
-            },
-            (Some(bytes), Some(len)) => print_packets(&bytes, len, &mut out)?,
-        };
+    match mode {
+        Mode::Frames => print_frames(Iter::new(&bytes), out),
+        Mode::Strict => print_frames(Iter::strict(&bytes), out),
+        Mode::Canon => print_canonical(&bytes, out),
+        Mode::Datagram(len) => print_packets(&bytes, *len, out),
+        Mode::Params(side) => print_params(*side, &bytes, out),
     }
-    out.flush()?;
-    Ok(ExitCode::from(u8::from(!clean)))
+}
+
+// Reads all before it prints, as `quic-show` does.
+fn main() -> ExitCode {
+    let words: Vec<String> = env::args_os().skip(1).map(|word| word.into_string().unwrap_or_default()).collect();
+    let Some(mode) = mode_of(&words.iter().map(String::as_str).collect::<Vec<_>>()) else {
+        eprintln!("usage: show frames|strict|canon|datagram LEN|params client|server");
+        return ExitCode::from(2);
+    };
+    let mut input = Vec::new();
+    if io::stdin().lock().read_to_end(&mut input).is_err() {
+        eprintln!("show: read failed");
+        return ExitCode::from(3);
+    }
+    let mut lines: Vec<&[u8]> = input.split(|byte| *byte == b'\n').collect();
+    if lines.last().is_some_and(|last| last.is_empty()) {
+        lines.pop();
+    }
+    let mut out = io::BufWriter::new(io::stdout().lock());
+    let all = lines.into_iter().map(|line| print(&mode, line.strip_suffix(b"\r").unwrap_or(line), &mut out));
+    let clean = all.collect::<io::Result<Vec<bool>>>().and_then(|answers| {
+        out.flush()?;
+        Ok(answers.into_iter().all(|answer| answer))
+    });
+    match clean {
+        Ok(clean) => ExitCode::from(u8::from(!clean)),
+        Err(_) => {
+            eprintln!("show: write failed");
+            ExitCode::from(3)
+        }
+    }
 }

@@ -1,7 +1,11 @@
-//! The wire layer of QUIC, versions 1 and 2: the packets of datagrams (RFC 9000, sections 12.2 and 17) in [`packet`], and
+//! The wire layer of QUIC, versions 1 and 2: the packets of datagrams (RFC 9000, sections 12.2 and 17) in [`packet`];
 //! the frames of their payloads (RFC 9000, section 19, with DATAGRAM of RFC 9221 and the ACK frequency extension) in
-//! [`frame`], with their shortest form in [`canonical`]; the transport parameters (RFC 9000, section 18) in [`transport_parameters`]; and sets of packet numbers in [`range_set`]. A proved library reads and writes them; this crate gives them types, in the names of `quinn-proto`, which
-//! borrow from the caller's bytes.
+//! [`frame`], with their shortest form in [`canonical`]; the transport parameters (RFC 9000, section 18) in
+//! [`transport_parameters`]; sets of packet numbers in [`range_set`], and numbers of variable length in [`varint`].
+//!
+//! A library reads and writes them whose contracts are proved: what is read is what the RFC's grammar says of the
+//! bytes, and no input reads outside them or ends the process. This crate gives it types, in the names of
+//! `quinn-proto`, that borrow from the caller's bytes. It keeps nothing and takes no memory; ciphers are the caller's.
 //!
 //! ```
 //! use quic_wire::frame::{Frame, Iter};
@@ -11,15 +15,47 @@
 //!         frame => assert_eq!(frame, Frame::Ping),
 //!     }
 //! }
-//! # Ok::<(), Box<dyn std::error::Error>>(())
+//! # Ok::<(), quic_wire::Error>(())
 //! ```
+//!
+//! # Features
+//!
+//! The crate is `no_std`. `alloc` lets a `Vec` be written to ([`Buffer`]); `std`, the default, builds the program
+//! `quic-wire` as well.
+//!
+//! # What is read otherwise than RFC 9000 has it
+//!
+//! A transport parameter that is an integer in a longer encoding than its shortest is refused, though section 16 allows
+//! it. A version negotiation whose bit 0x40 is clear is refused unless packets are greased, though section 17.2.1 has
+//! clients ignore it.
+#![no_std]
 #![deny(unsafe_code)]
-#![warn(missing_docs)]
 
+#[cfg(feature = "alloc")]
+extern crate alloc;
+#[cfg(feature = "std")]
+extern crate std;
+
+#[allow(unsafe_code)]
+mod buffer;
 pub mod canonical;
+mod error;
 pub mod frame;
+mod ids;
 pub mod packet;
 pub mod range_set;
-pub mod transport_parameters;
 #[allow(unsafe_code)]
 mod sys;
+mod text;
+pub mod transport_error;
+pub mod transport_parameters;
+pub mod varint;
+
+pub use buffer::Buffer;
+pub use error::{Error, WriteError};
+pub use ids::{ConnectionId, Dir, Side, StreamId, MAX_CID_SIZE};
+
+/// The examples of the README.
+#[cfg(all(doctest, feature = "std"))]
+#[doc = include_str!("../README.md")]
+struct Readme;

@@ -1,0 +1,75 @@
+//! The packets of datagrams.
+use crate::args::Datagrams;
+use crate::output::{Field, Output, Value};
+use quic_wire::packet::{Head, HeadError, LongType, ProtectedHeader};
+use std::io::{self, Write};
+use Value::{Bytes, Flag, Number, Version, Versions};
+
+pub fn show(datagram: &[u8], how: &Datagrams, output: &mut Output<impl Write>) -> io::Result<()> {
+    let mut begin = 0;
+    loop {
+        let rest = &datagram[begin..];
+        if !how.grease && rest.first().is_some_and(|first| first & 0x40 == 0) {
+            return output.error("fixed bit unset", Some(begin));
+        }
+        match Head::read(rest, how.cid_len, &how.versions) {
+            Ok(head) => {
+                let (name, fields) = fields(&head, &rest[..head.end()], begin);
+                let first = [("first", Number(head.first().into()))];
+                output.item(begin..begin + head.end(), ("packet", name), &fields, &first)?;
+                begin += head.end();
+            }
+            Err(error) => return output.error_with(&error.to_string(), Some(begin), &told(&error, rest, begin)),
+        }
+        if begin == datagram.len() {
+            return Ok(());
+        }
+    }
+}
+
+// What a refusal tells of the header.
+fn told(error: &HeadError, rest: &[u8], begin: usize) -> Vec<Field> {
+    match error {
+        HeadError::UnsupportedVersion(head) => {
+            vec![("dst", Bytes(head.dst_cid(rest).into())), ("src", Bytes(head.src_cid(rest).into()))]
+        }
+        HeadError::CutOff(head) => fields(head, rest, begin).1,
+        HeadError::InvalidHeader(_) => vec![],
+    }
+}
+
+fn fields(head: &Head, packet: &[u8], begin: usize) -> (&'static str, Vec<Field>) {
+    let number_at = ("number_at", Number((begin + head.head_end()) as u64));
+    let ids = |dst: &[u8], src: &[u8]| vec![("dst", Bytes(dst.into())), ("src", Bytes(src.into()))];
+    match head.header(packet) {
+        ProtectedHeader::Initial { dst_cid, src_cid, token_pos, len, version } => {
+            let token_at = ("token_at", Number((begin + token_pos.start) as u64));
+            let token = ("token", Bytes(packet[token_pos].into()));
+            let more = [("version", Version(version)), token_at, token, ("len", Number(len)), number_at];
+            ("initial", [&ids(dst_cid, src_cid)[..], &more].concat())
+        }
+        ProtectedHeader::Long { ty, dst_cid, src_cid, len, version } => {
+            let name = if ty == LongType::Handshake { "handshake" } else { "0rtt" };
+            (
+                name,
+                [&ids(dst_cid, src_cid)[..], &[("version", Version(version)), ("len", Number(len)), number_at]]
+                    .concat(),
+            )
+        }
+        ProtectedHeader::Retry { dst_cid, src_cid, version } => {
+            let rest = packet[head.head_end()..].into();
+            let more = match head.retry(packet) {
+                Some((token, tag)) => vec![("token", Bytes(token.into())), ("tag", Bytes(tag.to_vec()))],
+                None => vec![("rest", Bytes(rest))],
+            };
+            ("retry", [&ids(dst_cid, src_cid)[..], &[("version", Version(version))], &more].concat())
+        }
+        ProtectedHeader::Short { spin, dst_cid } => {
+            ("short", vec![("dst", Bytes(dst_cid.into())), ("spin", Flag(spin)), number_at])
+        }
+        ProtectedHeader::VersionNegotiate { dst_cid, src_cid, .. } => {
+            let versions = head.versions(packet).collect();
+            ("version-negotiation", [&ids(dst_cid, src_cid)[..], &[("versions", Versions(versions))]].concat())
+        }
+    }
+}

@@ -1,0 +1,123 @@
+//! The frames of payloads.
+use crate::output::{Field, Output, Value};
+use quic_wire::frame::{Ack, ApplicationClose, Close, ConnectionClose, Entry, Frame, Iter, NewConnectionId};
+use quic_wire::varint;
+use std::io::{self, Write};
+use Value::{Bytes, Flag, Number, Ranges, Text, Word};
+
+// How many frames are read with one call.
+const ENTRIES: usize = 64;
+
+pub fn show(payload: &[u8], strict: bool, output: &mut Output<impl Write>) -> io::Result<()> {
+    let begun = if strict { Iter::strict(payload) } else { Iter::new(payload) };
+    let mut frames = match begun {
+        Ok(frames) => frames,
+        Err(empty) => return output.error(&empty.to_string(), Some(0)),
+    };
+    let mut entries = [Entry::default(); ENTRIES];
+    while let Some(batch) = frames.fill(&mut entries) {
+        let batch = match batch {
+            Ok(batch) => batch,
+            Err(invalid) => return output.error(&invalid.to_string(), Some(frames.offset())),
+        };
+        for (place, frame) in batch {
+            let bytes = &payload[place.clone()];
+            // A run of PADDING says of how many frames it is.
+            let count = ("count", Number(padding(bytes)));
+            let fields = if frame == Frame::Padding { vec![count] } else { fields(&frame) };
+            let raw_type = varint::read(bytes).map_or(0, |(ty, _)| ty);
+            output.item(place, ("type", &frame.ty().to_string()), &fields, &[("raw_type", Number(raw_type))])?;
+        }
+    }
+    Ok(())
+}
+
+// How many types of PADDING stand there, in one byte or more.
+fn padding(mut run: &[u8]) -> u64 {
+    let mut count = 0;
+    while let Some((_, len)) = varint::read(run) {
+        run = &run[len..];
+        count += 1;
+    }
+    count
+}
+
+fn fields(frame: &Frame<'_>) -> Vec<Field> {
+    match *frame {
+        Frame::Padding | Frame::Ping | Frame::ImmediateAck | Frame::HandshakeDone => vec![],
+        Frame::Ack(ack) => ack_fields(&ack),
+        Frame::ResetStream(r) => {
+            numbers([("id", r.id.into()), ("error_code", r.error_code), ("final_offset", r.final_offset)])
+        }
+        Frame::StopSending(s) => numbers([("id", s.id.into()), ("error_code", s.error_code)]),
+        Frame::Crypto(c) => [vec![("offset", Number(c.offset))], data(c.data)].concat(),
+        Frame::NewToken(t) => vec![("token", Bytes(t.token.into()))],
+        Frame::Stream(s) => {
+            let front = vec![("id", Number(s.id.into())), ("offset", Number(s.offset)), ("fin", Flag(s.fin))];
+            [front, data(s.data)].concat()
+        }
+        Frame::MaxData(limit) => numbers([("limit", limit)]),
+        Frame::MaxStreamData { id, offset } | Frame::StreamDataBlocked { id, offset } => {
+            numbers([("id", id.into()), ("offset", offset)])
+        }
+        Frame::MaxStreams { dir, count } => vec![("dir", Word(dir.to_string())), ("count", Number(count))],
+        Frame::StreamsBlocked { dir, limit } => vec![("dir", Word(dir.to_string())), ("limit", Number(limit))],
+        Frame::DataBlocked { offset } => numbers([("offset", offset)]),
+        Frame::NewConnectionId(n) => new_id_fields(&n),
+        Frame::RetireConnectionId { sequence } => numbers([("sequence", sequence)]),
+        Frame::PathChallenge(data) | Frame::PathResponse(data) => vec![("data", Bytes(data.to_be_bytes().to_vec()))],
+        Frame::Close(Close::Connection(close)) => connection_fields(&close),
+        Frame::Close(Close::Application(close)) => application_fields(&close),
+        Frame::Datagram(d) => data(d.data),
+        Frame::AckFrequency(f) => numbers([
+            ("sequence", f.sequence),
+            ("ack_eliciting_threshold", f.ack_eliciting_threshold),
+            ("request_max_ack_delay", f.request_max_ack_delay),
+            ("reordering_threshold", f.reordering_threshold),
+        ]),
+    }
+}
+
+fn numbers<const N: usize>(fields: [(&'static str, u64); N]) -> Vec<Field> {
+    fields.map(|(name, number)| (name, Number(number))).to_vec()
+}
+
+fn new_id_fields(n: &NewConnectionId<'_>) -> Vec<Field> {
+    let front = numbers([("sequence", n.sequence), ("retire_prior_to", n.retire_prior_to)]);
+    let ids = [("id", Bytes(n.id.into())), ("reset_token", Bytes(n.reset_token.to_vec()))];
+    [&front[..], &ids].concat()
+}
+
+fn data(bytes: &[u8]) -> Vec<Field> {
+    vec![("len", Number(bytes.len() as u64)), ("data", Bytes(bytes.into()))]
+}
+
+fn ack_fields(ack: &Ack<'_>) -> Vec<Field> {
+    let ranges = ack.iter().map(|range| (*range.start(), *range.end())).collect();
+    let mut fields =
+        vec![("largest", Number(ack.largest())), ("delay", Number(ack.delay())), ("ranges", Ranges(ranges))];
+    if let Some(ecn) = ack.ecn() {
+        fields.extend([("ect0", Number(ecn.ect0)), ("ect1", Number(ecn.ect1)), ("ce", Number(ecn.ce))]);
+    }
+    fields
+}
+
+fn reason(bytes: &[u8]) -> [Field; 2] {
+    [("reason", Text(bytes.into())), ("reason_bytes", Bytes(bytes.into()))]
+}
+
+fn connection_fields(close: &ConnectionClose<'_>) -> Vec<Field> {
+    let mut fields =
+        vec![("error_code", Number(close.error_code.into())), ("error_name", Word(close.error_code.to_string()))];
+    if let Some(ty) = close.frame_type {
+        fields.extend([("frame_type", Number(ty.into())), ("frame_name", Word(ty.to_string()))]);
+    }
+    fields.extend(reason(close.reason));
+    fields
+}
+
+fn application_fields(close: &ApplicationClose<'_>) -> Vec<Field> {
+    let mut fields = vec![("error_code", Number(close.error_code))];
+    fields.extend(reason(close.reason));
+    fields
+}

@@ -1,0 +1,71 @@
+//! Lists of transport parameters.
+use crate::output::{Field, Output, Value};
+use quic_wire::transport_parameters::{self, PreferredAddress, TransportParameters};
+use quic_wire::{ConnectionId, Side};
+use std::io::{self, Write};
+use Value::{Bytes, Entries, Flag, Number, Numbers, Word};
+
+pub fn show(list: &[u8], side: Side, output: &mut Output<impl Write>) -> io::Result<()> {
+    let read = match TransportParameters::read(side, list) {
+        Ok(read) => read,
+        Err(transport_parameters::Error::IllegalValue) => return output.error("illegal value", None),
+        Err(transport_parameters::Error::Malformed) => return output.error("malformed", None),
+    };
+    let all = || transport_parameters::entries(list).flatten();
+    let unknown: Vec<_> =
+        all().filter(|entry| !entry.is_known()).map(|entry| (entry.id, entry.value.to_vec())).collect();
+    let mut fields = fields(&read);
+    if !unknown.is_empty() {
+        fields.push(("unknown", Entries(unknown)));
+    }
+    fields.push(("order", Numbers(all().map(|entry| entry.id).collect())));
+    output.fields(&fields, &[])
+}
+
+// What differs from its default.
+fn fields(p: &TransportParameters) -> Vec<Field> {
+    let id = |name, id: Option<ConnectionId>| id.map(|id| (name, Bytes(id.to_vec())));
+    let mut fields = numbers(p);
+    fields.extend(p.stateless_reset_token.map(|token| ("stateless_reset_token", Bytes(token.to_vec()))));
+    fields.extend(p.disable_active_migration.then_some(("disable_active_migration", Flag(true))));
+    fields.extend(p.max_datagram_frame_size.map(|size| ("max_datagram_frame_size", Number(size))));
+    fields.extend(p.preferred_address.iter().flat_map(address));
+    fields.extend(id("original_dst_cid", p.original_dst_cid));
+    fields.extend(id("initial_src_cid", p.initial_src_cid));
+    fields.extend(id("retry_src_cid", p.retry_src_cid));
+    fields.extend(p.grease_quic_bit.then_some(("grease_quic_bit", Flag(true))));
+    fields.extend(p.min_ack_delay.map(|delay| ("min_ack_delay", Number(delay))));
+    fields
+}
+
+fn numbers(p: &TransportParameters) -> Vec<Field> {
+    let all = |p: &TransportParameters| {
+        [
+            ("max_idle_timeout", p.max_idle_timeout),
+            ("max_udp_payload_size", p.max_udp_payload_size),
+            ("initial_max_data", p.initial_max_data),
+            ("initial_max_stream_data_bidi_local", p.initial_max_stream_data_bidi_local),
+            ("initial_max_stream_data_bidi_remote", p.initial_max_stream_data_bidi_remote),
+            ("initial_max_stream_data_uni", p.initial_max_stream_data_uni),
+            ("initial_max_streams_bidi", p.initial_max_streams_bidi),
+            ("initial_max_streams_uni", p.initial_max_streams_uni),
+            ("ack_delay_exponent", p.ack_delay_exponent),
+            ("max_ack_delay", p.max_ack_delay),
+            ("active_connection_id_limit", p.active_connection_id_limit),
+        ]
+    };
+    let by_default = all(&TransportParameters::default());
+    let differs = |(number, default): ((&'static str, u64), (&str, u64))| {
+        (number.1 != default.1).then_some((number.0, Number(number.1)))
+    };
+    all(p).into_iter().zip(by_default).filter_map(differs).collect()
+}
+
+fn address(a: &PreferredAddress) -> Vec<Field> {
+    let mut fields = Vec::new();
+    fields.extend(a.address_v4.map(|address| ("preferred_address_v4", Word(address.to_string()))));
+    fields.extend(a.address_v6.map(|address| ("preferred_address_v6", Word(address.to_string()))));
+    fields.push(("preferred_address_cid", Bytes(a.connection_id.to_vec())));
+    fields.push(("preferred_address_token", Bytes(a.stateless_reset_token.to_vec())));
+    fields
+}

@@ -1,0 +1,195 @@
+//! What can go wrong, put together.
+use crate::canonical::CanonError;
+use crate::frame::{EmptyPayload, FrameType, InvalidFrame};
+use crate::packet::{HeadError, PacketDecodeError, UnprotectError};
+use crate::transport_error::Code;
+use crate::{range_set, transport_parameters};
+use core::fmt;
+
+/// Why nothing was written.
+///
+/// ```
+/// use quic_wire::frame::Frame;
+/// use quic_wire::WriteError;
+/// assert_eq!(Frame::MaxData(64).encode(true, &mut [0; 2]), Err(WriteError::NoRoom(3)));
+/// assert_eq!(WriteError::NoRoom(3).to_string(), "3 bytes of room are needed");
+/// assert!(matches!(Frame::MaxData(1 << 62).encode(true, &mut [0; 9]), Err(WriteError::OutOfRange(_))));
+/// ```
+#[derive(Clone, Copy, Debug, PartialEq, Eq, Hash)]
+#[non_exhaustive]
+pub enum WriteError {
+    /// There is less room than these bytes.
+    NoRoom(usize),
+    /// What isn't so of what was to be written: a number or a length is too great, an id has no length that it may
+    /// have.
+    OutOfRange(&'static str),
+}
+
+impl fmt::Display for WriteError {
+    fn fmt(&self, f: &mut fmt::Formatter<'_>) -> fmt::Result {
+        match self {
+            WriteError::NoRoom(needed) => write!(f, "{needed} bytes of room are needed"),
+            WriteError::OutOfRange(what) => f.write_str(what),
+        }
+    }
+}
+
+impl core::error::Error for WriteError {}
+
+/// Any error of this crate: one type for a function that goes from a datagram to its frames and back. It borrows
+/// nothing.
+///
+/// ```
+/// use quic_wire::frame::{Frame, Iter};
+/// use quic_wire::transport_error::Code;
+///
+/// fn first_limit(payload: &[u8], out: &mut [u8]) -> Result<usize, quic_wire::Error> {
+///     for frame in Iter::new(payload)? {
+///         if let Frame::MaxData(limit) = frame? {
+///             return Ok(Frame::MaxData(limit + 1).encode(true, out)?);
+///         }
+///     }
+///     Ok(0)
+/// }
+///
+/// let error = first_limit(&[0x01, 0x10], &mut [0; 9]).unwrap_err();
+/// assert_eq!(error.to_string(), "frame: unexpected end in MAX_DATA");
+/// assert_eq!(error.code(), Some(Code::FRAME_ENCODING_ERROR));
+/// assert_eq!(first_limit(&[], &mut []).unwrap_err().code(), Some(Code::PROTOCOL_VIOLATION));
+/// ```
+#[derive(Clone, Copy, Debug, PartialEq, Eq, Hash)]
+#[non_exhaustive]
+pub enum Error {
+    /// A payload has no frame.
+    EmptyPayload,
+    /// Something in a payload is no frame.
+    Frame(InvalidFrame),
+    /// A packet's version is none of those that are spoken.
+    UnsupportedVersion(u32),
+    /// No packet begins at its place in a datagram, or none that is whole.
+    Packet(&'static str),
+    /// The protection of a header can't be taken off or put on.
+    Protection(UnprotectError),
+    /// A list of transport parameters is refused.
+    TransportParameters(transport_parameters::Error),
+    /// A set has no room left, or is none.
+    Set(range_set::Error),
+    /// Nothing was written.
+    Write(WriteError),
+}
+
+impl Error {
+    /// The code with which a connection is closed for what its peer sent; none where a packet is dropped (RFC 9000,
+    /// sections 5.2 and 12.2) or the peer has no part in it.
+    ///
+    /// ```
+    /// use quic_wire::transport_error::Code;
+    /// use quic_wire::Error;
+    /// assert_eq!(Error::EmptyPayload.code(), Some(Code::PROTOCOL_VIOLATION));
+    /// assert_eq!(Error::Packet("fixed bit unset").code(), None);
+    /// ```
+    pub fn code(&self) -> Option<Code> {
+        match self {
+            Error::EmptyPayload => Some(Code::PROTOCOL_VIOLATION),
+            Error::Frame(_) => Some(Code::FRAME_ENCODING_ERROR),
+            Error::TransportParameters(_) => Some(Code::TRANSPORT_PARAMETER_ERROR),
+            _ => None,
+        }
+    }
+
+    /// The type of the frame that caused it, if one did.
+    ///
+    /// ```
+    /// use quic_wire::frame::{FrameType, Iter};
+    /// let error = quic_wire::Error::from(Iter::new(&[0x10])?.next().unwrap().unwrap_err());
+    /// assert_eq!(error.frame_type(), Some(FrameType::MAX_DATA));
+    /// # Ok::<(), quic_wire::Error>(())
+    /// ```
+    pub fn frame_type(&self) -> Option<FrameType> {
+        match self {
+            Error::Frame(invalid) => invalid.ty,
+            _ => None,
+        }
+    }
+}
+
+impl fmt::Display for Error {
+    fn fmt(&self, f: &mut fmt::Formatter<'_>) -> fmt::Result {
+        match self {
+            Error::EmptyPayload => EmptyPayload.fmt(f),
+            Error::Frame(invalid) => write!(f, "frame: {invalid}"),
+            Error::UnsupportedVersion(version) => write!(f, "packet: unsupported version {version:x}"),
+            Error::Packet(reason) => write!(f, "packet: {reason}"),
+            Error::Protection(error) => write!(f, "header protection: {error}"),
+            Error::TransportParameters(error) => error.fmt(f),
+            Error::Set(error) => write!(f, "set of packet numbers: {error}"),
+            Error::Write(error) => write!(f, "not written: {error}"),
+        }
+    }
+}
+
+impl core::error::Error for Error {}
+
+impl From<EmptyPayload> for Error {
+    fn from(_: EmptyPayload) -> Error {
+        Error::EmptyPayload
+    }
+}
+
+impl From<InvalidFrame> for Error {
+    fn from(invalid: InvalidFrame) -> Error {
+        Error::Frame(invalid)
+    }
+}
+
+impl From<PacketDecodeError<'_>> for Error {
+    fn from(error: PacketDecodeError<'_>) -> Error {
+        match error {
+            PacketDecodeError::UnsupportedVersion { version, .. } => Error::UnsupportedVersion(version),
+            PacketDecodeError::InvalidHeader(reason) => Error::Packet(reason),
+        }
+    }
+}
+
+impl From<HeadError> for Error {
+    fn from(error: HeadError) -> Error {
+        match error {
+            HeadError::UnsupportedVersion(head) => Error::UnsupportedVersion(head.version()),
+            _ => Error::Packet(error.reason()),
+        }
+    }
+}
+
+impl From<UnprotectError> for Error {
+    fn from(error: UnprotectError) -> Error {
+        Error::Protection(error)
+    }
+}
+
+impl From<transport_parameters::Error> for Error {
+    fn from(error: transport_parameters::Error) -> Error {
+        Error::TransportParameters(error)
+    }
+}
+
+impl From<range_set::Error> for Error {
+    fn from(error: range_set::Error) -> Error {
+        Error::Set(error)
+    }
+}
+
+impl From<WriteError> for Error {
+    fn from(error: WriteError) -> Error {
+        Error::Write(error)
+    }
+}
+
+impl From<CanonError> for Error {
+    fn from(error: CanonError) -> Error {
+        match error {
+            CanonError::Empty => Error::EmptyPayload,
+            CanonError::Invalid(invalid) => Error::Frame(invalid),
+            CanonError::NoRoom(needed) => Error::Write(WriteError::NoRoom(needed)),
+        }
+    }
+}

@@ -1,0 +1,448 @@
+//! A payload read frame by frame.
+use super::{
+    Ack, AckFrequency, ApplicationClose, Close, ConnectionClose, Crypto, Datagram, Dir, Frame, FrameType,
+    NewConnectionId, NewToken, ResetStream, StopSending, Stream, StreamId,
+};
+use crate::sys;
+use crate::text::Short;
+use crate::transport_error::Code;
+use core::fmt;
+use core::iter::FusedIterator;
+use core::mem::MaybeUninit;
+use core::ops::Range;
+
+/// A payload without frames (`PROTOCOL_VIOLATION`; RFC 9000, section 12.4).
+///
+/// ```
+/// use quic_wire::frame::{EmptyPayload, Iter};
+/// assert_eq!(Iter::new(&[]).unwrap_err(), EmptyPayload);
+/// ```
+#[derive(Clone, Copy, Debug, PartialEq, Eq, Hash)]
+pub struct EmptyPayload;
+
+impl fmt::Display for EmptyPayload {
+    fn fmt(&self, f: &mut fmt::Formatter<'_>) -> fmt::Result {
+        f.write_str("packet payload is empty")
+    }
+}
+
+impl core::error::Error for EmptyPayload {}
+
+/// The first thing in a payload that is no frame (`FRAME_ENCODING_ERROR`; RFC 9000, section 12.4).
+///
+/// ```
+/// use quic_wire::frame::{FrameType, InvalidFrame, Iter, Reason};
+/// let error = Iter::new(&[0x06, 0x00, 0x05])?.next().unwrap().unwrap_err();
+/// assert_eq!(error, InvalidFrame { ty: Some(FrameType::CRYPTO), reason: Reason::UnexpectedEnd });
+/// assert_eq!(error.to_string(), "unexpected end in CRYPTO");
+/// # Ok::<(), quic_wire::Error>(())
+/// ```
+#[derive(Clone, Copy, Debug, PartialEq, Eq, Hash)]
+pub struct InvalidFrame {
+    /// The last type that was read, the broken frame's own included.
+    pub ty: Option<FrameType>,
+    /// Why it is none.
+    pub reason: Reason,
+}
+
+/// Why something is no frame.
+///
+/// ```
+/// use quic_wire::frame::{Iter, Reason};
+/// let reason = |payload: &[u8]| Iter::new(payload).unwrap().next().unwrap().unwrap_err().reason;
+/// assert_eq!(reason(&[0x10]), Reason::UnexpectedEnd);
+/// assert_eq!(reason(&[0x21]), Reason::InvalidFrameId);
+/// assert_eq!(reason(&[0x02, 1, 0, 0, 2]), Reason::Malformed);
+/// assert_eq!(Reason::Malformed.to_string(), "malformed");
+/// ```
+#[derive(Clone, Copy, Debug, PartialEq, Eq, Hash)]
+#[non_exhaustive]
+pub enum Reason {
+    /// A byte is missing.
+    UnexpectedEnd,
+    /// The type is none of those that are read here.
+    InvalidFrameId,
+    /// A field has a value that it may not have.
+    Malformed,
+    /// The type is not in its shortest encoding, which [`Iter::strict`] alone tells.
+    LongType,
+}
+
+impl Reason {
+    /// Its text, as for the reason phrase of a close.
+    ///
+    /// ```
+    /// assert_eq!(quic_wire::frame::Reason::UnexpectedEnd.as_str(), "unexpected end");
+    /// ```
+    pub const fn as_str(&self) -> &'static str {
+        match self {
+            Reason::UnexpectedEnd => "unexpected end",
+            Reason::InvalidFrameId => "invalid frame ID",
+            Reason::Malformed => "malformed",
+            Reason::LongType => "frame type not in shortest form",
+        }
+    }
+}
+
+impl fmt::Display for Reason {
+    fn fmt(&self, f: &mut fmt::Formatter<'_>) -> fmt::Result {
+        f.write_str(self.as_str())
+    }
+}
+
+impl fmt::Display for InvalidFrame {
+    fn fmt(&self, f: &mut fmt::Formatter<'_>) -> fmt::Result {
+        match self.ty {
+            Some(ty) => write!(f, "{} in {ty}", self.reason),
+            None => self.reason.fmt(f),
+        }
+    }
+}
+
+impl core::error::Error for InvalidFrame {}
+
+pub(crate) fn invalid_by(last_type: u64, reason: u64) -> InvalidFrame {
+    InvalidFrame {
+        ty: FrameType::new(last_type),
+        reason: match reason {
+            1 => Reason::UnexpectedEnd,
+            2 => Reason::InvalidFrameId,
+            4 => Reason::LongType,
+            _ => Reason::Malformed,
+        },
+    }
+}
+
+/// The frames of a payload, and then one [`InvalidFrame`] where something is none. A run of PADDING is a frame for each
+/// type, mostly a byte. It is 40 bytes; [`Iter::fill`] reads many frames with one call.
+///
+/// ```
+/// use quic_wire::frame::{Frame, Iter};
+/// let mut frames = Iter::new(&[0x01, 0x00, 0x10])?;
+/// assert_eq!(frames.by_ref().take(2).collect::<Result<Vec<_>, _>>()?, [Frame::Ping, Frame::Padding]);
+/// assert!(frames.next().unwrap().is_err() && frames.next().is_none());
+/// # Ok::<(), quic_wire::Error>(())
+/// ```
+#[derive(Clone)]
+pub struct Iter<'a> {
+    payload: &'a [u8],
+    // The end of the last whole frame, and its type.
+    state: sys::Frames,
+}
+
+impl<'a> Iter<'a> {
+    /// Begins at the front of a payload.
+    ///
+    /// ```
+    /// use quic_wire::frame::{Frame, Iter};
+    /// assert_eq!(Iter::new(&[0x1e])?.next(), Some(Ok(Frame::HandshakeDone)));
+    /// assert!(Iter::new(&[]).is_err());
+    /// # Ok::<(), quic_wire::Error>(())
+    /// ```
+    ///
+    /// # Errors
+    ///
+    /// Where it is empty.
+    #[inline]
+    pub fn new(payload: &'a [u8]) -> Result<Self, EmptyPayload> {
+        Iter::begin(payload, false)
+    }
+
+    /// The same, where a type in another encoding than its shortest is no frame (RFC 9000, section 12.4). Other fields
+    /// may have any width.
+    ///
+    /// ```
+    /// use quic_wire::frame::{Frame, Iter, Reason};
+    /// let payload = [0x40, 0x01];
+    /// assert_eq!(Iter::new(&payload)?.next(), Some(Ok(Frame::Ping)));
+    /// assert_eq!(Iter::strict(&payload)?.next().unwrap().unwrap_err().reason, Reason::LongType);
+    /// # Ok::<(), quic_wire::Error>(())
+    /// ```
+    ///
+    /// # Errors
+    ///
+    /// Where it is empty.
+    #[inline]
+    pub fn strict(payload: &'a [u8]) -> Result<Self, EmptyPayload> {
+        Iter::begin(payload, true)
+    }
+
+    #[inline]
+    fn begin(payload: &'a [u8], strict: bool) -> Result<Self, EmptyPayload> {
+        if payload.is_empty() {
+            return Err(EmptyPayload);
+        }
+        let state = sys::Frames { offset: 0, last_type: u64::MAX, ended: 0, strict: u32::from(strict) };
+        Ok(Iter { payload, state })
+    }
+
+    /// Goes on at a place in a payload, behind a frame of the type `last_type`: for an owner of the payload that can't
+    /// keep what borrows it, and keeps [`Iter::offset`] and [`Iter::last_type`]. None where the place is past the end.
+    ///
+    /// ```
+    /// use quic_wire::frame::{Frame, Iter};
+    /// let payload = [0x01, 0x10, 0x05, 0x40];
+    /// let mut frames = Iter::new(&payload)?;
+    /// assert_eq!(frames.next(), Some(Ok(Frame::Ping)));
+    /// let (offset, last_type) = (frames.offset(), frames.last_type());
+    ///
+    /// let mut frames = Iter::resume(&payload, offset, last_type, false).unwrap();
+    /// assert_eq!(frames.next(), Some(Ok(Frame::MaxData(5))));
+    /// assert_eq!(frames.next().unwrap().unwrap_err().to_string(), "unexpected end in MAX_DATA");
+    /// # Ok::<(), quic_wire::Error>(())
+    /// ```
+    #[inline]
+    pub fn resume(payload: &'a [u8], offset: usize, last_type: Option<FrameType>, strict: bool) -> Option<Self> {
+        let last_type = last_type.map_or(u64::MAX, u64::from);
+        let state = sys::Frames { offset, last_type, ended: 0, strict: u32::from(strict) };
+        (offset <= payload.len()).then_some(Iter { payload, state })
+    }
+
+    /// The end of the last whole frame in the payload, in bytes.
+    ///
+    /// ```
+    /// use quic_wire::frame::Iter;
+    /// let mut frames = Iter::new(&[0x0e, 0x04, 0x00, 0x01, b'x', 0x01])?;
+    /// frames.next();
+    /// assert_eq!(frames.offset(), 5);
+    /// # Ok::<(), quic_wire::Error>(())
+    /// ```
+    #[inline]
+    pub fn offset(&self) -> usize {
+        self.state.offset
+    }
+
+    /// The type of the last whole frame as it stands in the payload, with all bits of a STREAM, an ACK or a DATAGRAM.
+    ///
+    /// ```
+    /// use quic_wire::frame::Iter;
+    /// let mut frames = Iter::new(&[0x0e, 0x04, 0x00, 0x01, b'x', 0x01])?;
+    /// frames.next();
+    /// assert_eq!(frames.last_type().map(u64::from), Some(0x0e));
+    /// # Ok::<(), quic_wire::Error>(())
+    /// ```
+    #[inline]
+    pub fn last_type(&self) -> Option<FrameType> {
+        FrameType::new(self.state.last_type)
+    }
+
+    /// The bytes that aren't read yet.
+    ///
+    /// ```
+    /// use quic_wire::frame::Iter;
+    /// let mut frames = Iter::new(&[0x0e, 0x04, 0x00, 0x01, b'x', 0x01])?;
+    /// frames.next();
+    /// assert_eq!(frames.rest(), [0x01]);
+    /// # Ok::<(), quic_wire::Error>(())
+    /// ```
+    pub fn rest(&self) -> &'a [u8] {
+        &self.payload[self.state.offset..]
+    }
+
+    /// Reads the next frames with one call, as many as there are entries, which the caller keeps from payload to
+    /// payload. A run of PADDING is one of them. `None` where nothing is left; what is no frame is told once,
+    /// behind the frames before it.
+    ///
+    /// ```
+    /// use quic_wire::frame::{Entry, Frame, Iter};
+    /// let payload = [0x01, 0x00, 0x00, 0x00, 0x10, 0x05];
+    /// let mut entries = [Entry::default(); 8];
+    /// let mut frames = Iter::new(&payload)?;
+    /// while let Some(batch) = frames.fill(&mut entries) {
+    ///     let read: Vec<_> = batch?.collect();
+    ///     assert_eq!(read, [(0..1, Frame::Ping), (1..4, Frame::Padding), (4..6, Frame::MaxData(5))]);
+    /// }
+    /// # Ok::<(), quic_wire::Error>(())
+    /// ```
+    ///
+    /// # Panics
+    ///
+    /// Where there is no entry.
+    #[inline]
+    pub fn fill<'r>(&mut self, entries: &'r mut [Entry]) -> Option<Result<Batch<'a, 'r>, InvalidFrame>> {
+        assert!(!entries.is_empty(), "frames are read into one entry at least");
+        let mut count = 0;
+        match sys::frames_fill(&mut self.state, self.payload, entries, &mut count) {
+            sys::ITEM => Some(Ok(Batch { payload: self.payload, entries: entries[..count].iter() })),
+            sys::MALFORMED => Some(Err(invalid_of(entries[0].get()))),
+            _ => None,
+        }
+    }
+}
+
+impl<'a> Iterator for Iter<'a> {
+    type Item = Result<Frame<'a>, InvalidFrame>;
+
+    #[inline]
+    fn next(&mut self) -> Option<Self::Item> {
+        match self.payload.get(self.state.offset) {
+            None => return None,
+            // PADDING in its shortest encoding needs no call. What is no frame doesn't begin so.
+            Some(0x00) => {
+                self.state.offset += 1;
+                self.state.last_type = 0x00;
+                return Some(Ok(Frame::Padding));
+            }
+            Some(_) => {}
+        }
+        let mut room = MaybeUninit::uninit();
+        match sys::frames_next(&mut self.state, self.payload, &mut room) {
+            (sys::ITEM, Some(frame)) => Some(Ok(frame_of(self.payload, frame))),
+            (_, Some(told)) => Some(Err(invalid_of(told))),
+            (_, None) => None,
+        }
+    }
+}
+
+impl FusedIterator for Iter<'_> {}
+
+impl fmt::Debug for Iter<'_> {
+    fn fmt(&self, f: &mut fmt::Formatter<'_>) -> fmt::Result {
+        f.debug_struct("Iter")
+            .field("offset", &self.offset())
+            .field("last_type", &self.last_type())
+            .field("strict", &(self.state.strict != 0))
+            .field("rest", &Short(self.rest()))
+            .finish()
+    }
+}
+
+/// Room for a frame that [`Iter::fill`] reads.
+///
+/// ```
+/// use quic_wire::frame::{Entry, Iter};
+/// // Kept as long as the connection.
+/// let mut room = vec![Entry::default(); 32];
+/// let batch = Iter::new(&[0x01, 0x01])?.fill(&mut room).unwrap()?;
+/// assert_eq!(batch.len(), 2);
+/// # Ok::<(), quic_wire::Error>(())
+/// ```
+#[derive(Clone, Copy)]
+#[repr(transparent)]
+pub struct Entry(pub(crate) sys::Frame);
+
+impl Entry {
+    fn get(&self) -> &sys::Frame {
+        &self.0
+    }
+}
+
+impl Default for Entry {
+    fn default() -> Entry {
+        Entry(super::encode::NO_FRAME)
+    }
+}
+
+impl fmt::Debug for Entry {
+    fn fmt(&self, f: &mut fmt::Formatter<'_>) -> fmt::Result {
+        f.debug_tuple("Entry").field(&(self.0.begin..self.0.end)).finish()
+    }
+}
+
+/// The frames that one call read, each with its place in the payload; a run of PADDING is one of them.
+///
+/// ```
+/// use quic_wire::frame::{Entry, Frame, Iter};
+/// let mut room = [Entry::default(); 2];
+/// let mut batch = Iter::new(&[0x00, 0x00, 0x01])?.fill(&mut room).unwrap()?;
+/// assert_eq!(batch.next(), Some((0..2, Frame::Padding)));
+/// # Ok::<(), quic_wire::Error>(())
+/// ```
+#[derive(Clone)]
+pub struct Batch<'a, 'r> {
+    payload: &'a [u8],
+    entries: core::slice::Iter<'r, Entry>,
+}
+
+impl<'a> Iterator for Batch<'a, '_> {
+    type Item = (Range<usize>, Frame<'a>);
+
+    #[inline]
+    fn next(&mut self) -> Option<Self::Item> {
+        let entry = self.entries.next()?.get();
+        Some((entry.begin..entry.end, frame_of(self.payload, entry)))
+    }
+
+    fn size_hint(&self) -> (usize, Option<usize>) {
+        self.entries.size_hint()
+    }
+}
+
+impl ExactSizeIterator for Batch<'_, '_> {}
+
+impl FusedIterator for Batch<'_, '_> {}
+
+impl fmt::Debug for Batch<'_, '_> {
+    fn fmt(&self, f: &mut fmt::Formatter<'_>) -> fmt::Result {
+        f.debug_list().entries(self.clone()).finish()
+    }
+}
+
+fn invalid_of(told: &sys::Frame) -> InvalidFrame {
+    invalid_by(told.numbers[0], u64::from(told.flags))
+}
+
+// Slices are taken with Rust's own tests, though the library proves the places.
+#[inline(always)]
+fn frame_of<'a>(payload: &'a [u8], f: &sys::Frame) -> Frame<'a> {
+    let data = &payload[f.data..f.data + f.datalen];
+    let [a, b, c, ..] = f.numbers;
+    let id = StreamId(a);
+    match f.kind {
+        0x00 => Frame::Padding,
+        0x01 => Frame::Ping,
+        0x02 => Frame::Ack(Ack::of(&payload[f.begin..f.end], f)),
+        0x04 => Frame::ResetStream(ResetStream { id, error_code: b, final_offset: c }),
+        0x05 => Frame::StopSending(StopSending { id, error_code: b }),
+        0x06 => Frame::Crypto(Crypto { offset: b, data }),
+        0x07 => Frame::NewToken(NewToken { token: data }),
+        0x08 => Frame::Stream(Stream { id, offset: b, fin: f.flags == 1, data }),
+        0x10..=0x17 => limit_of(f.kind, id, b),
+        0x19 => Frame::RetireConnectionId { sequence: a },
+        0x1a => Frame::PathChallenge(a),
+        0x1b => Frame::PathResponse(a),
+        0x30 => Frame::Datagram(Datagram { data }),
+        _ => rare_frame_of(payload, f, data),
+    }
+}
+
+#[inline]
+fn limit_of<'a>(kind: u32, id: StreamId, limit: u64) -> Frame<'a> {
+    match kind {
+        0x10 => Frame::MaxData(limit),
+        0x11 => Frame::MaxStreamData { id, offset: limit },
+        0x12 => Frame::MaxStreams { dir: Dir::Bi, count: limit },
+        0x13 => Frame::MaxStreams { dir: Dir::Uni, count: limit },
+        0x14 => Frame::DataBlocked { offset: limit },
+        0x15 => Frame::StreamDataBlocked { id, offset: limit },
+        0x16 => Frame::StreamsBlocked { dir: Dir::Bi, limit },
+        _ => Frame::StreamsBlocked { dir: Dir::Uni, limit },
+    }
+}
+
+fn rare_frame_of<'a>(payload: &'a [u8], f: &sys::Frame, data: &'a [u8]) -> Frame<'a> {
+    let [a, b, c, d, _] = f.numbers;
+    match f.kind {
+        0x18 => Frame::NewConnectionId(NewConnectionId {
+            sequence: a,
+            retire_prior_to: b,
+            id: data,
+            reset_token: payload[f.data + f.datalen..f.end].try_into().expect("a token has 16 bytes"),
+        }),
+        0x1c => Frame::Close(Close::Connection(ConnectionClose {
+            error_code: Code::of(a),
+            frame_type: (b != 0).then_some(FrameType::of(b)),
+            reason: data,
+        })),
+        0x1d => Frame::Close(Close::Application(ApplicationClose { error_code: a, reason: data })),
+        0x1e => Frame::HandshakeDone,
+        0x1f => Frame::ImmediateAck,
+        0xaf => Frame::AckFrequency(AckFrequency {
+            sequence: a,
+            ack_eliciting_threshold: b,
+            request_max_ack_delay: c,
+            reordering_threshold: d,
+        }),
+        kind => unreachable!("the library told of the kind {kind}"),
+    }
+}

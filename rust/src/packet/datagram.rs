@@ -1,0 +1,253 @@
+//! A datagram cut into its packets (RFC 9000, section 12.2).
+use super::{Head, HeadError, PacketDecodeError, PacketMut, PacketPlace, ProtectedHeader};
+use crate::text::Short;
+use core::fmt;
+use core::iter::FusedIterator;
+
+// The header that a datagram's rest begins with.
+#[inline]
+fn read_packet(rest: &[u8], how: &How<'_>) -> Result<Head, HeadError> {
+    if !how.grease && rest.first().is_some_and(|first| first & 0x40 == 0) {
+        return Err(HeadError::InvalidHeader("fixed bit unset"));
+    }
+    Head::read(rest, how.cid_len, how.versions)
+}
+
+// Its error as that of a datagram.
+#[cold]
+fn error_of(rest: &[u8], error: HeadError) -> PacketDecodeError<'_> {
+    match error {
+        HeadError::UnsupportedVersion(head) => PacketDecodeError::UnsupportedVersion {
+            src_cid: head.src_cid(rest),
+            dst_cid: head.dst_cid(rest),
+            version: head.version(),
+        },
+        _ => PacketDecodeError::InvalidHeader(error.reason()),
+    }
+}
+
+// How a datagram is read.
+#[derive(Clone, Copy, Debug)]
+struct How<'v> {
+    versions: &'v [u32],
+    cid_len: usize,
+    grease: bool,
+}
+
+impl<'v> How<'v> {
+    fn new(cid_len: usize, versions: &'v [u32], grease: bool) -> Self {
+        assert!(cid_len <= crate::ids::MAX_CID_SIZE, "the ids of short headers have at most 20 bytes");
+        How { versions, cid_len, grease }
+    }
+}
+
+/// The packets of a datagram, one after another, and then one error where no packet begins. An empty datagram is one of
+/// these. The versions may live shorter than what is read.
+///
+/// ```
+/// use quic_wire::packet::Packets;
+/// // A Handshake packet without a payload, and a short one.
+/// let datagram = [0xe0, 0, 0, 0, 1, 0, 0, 0, 0x41, 7, 7];
+/// let packets = Packets::new(&datagram, 0, &[1], false).collect::<Result<Vec<_>, _>>()?;
+/// assert_eq!(packets.iter().map(|packet| packet.place().range()).collect::<Vec<_>>(), [0..8, 8..11]);
+/// # Ok::<(), quic_wire::Error>(())
+/// ```
+#[derive(Clone)]
+pub struct Packets<'a, 'v> {
+    rest: Option<&'a [u8]>,
+    begin: usize,
+    how: How<'v>,
+}
+
+impl<'a, 'v> Packets<'a, 'v> {
+    /// Begins at the front of a datagram. Ids of short headers have `cid_len` bytes; `versions` are those that are read
+    /// further than their ids; with `grease` the fixed bit may be clear (RFC 9287).
+    ///
+    /// ```
+    /// use quic_wire::packet::{Packets, DEFAULT_SUPPORTED_VERSIONS};
+    /// let packets = Packets::new(&[0x40, 1, 2, 3], 2, DEFAULT_SUPPORTED_VERSIONS, false);
+    /// assert_eq!(packets.count(), 1);
+    /// ```
+    ///
+    /// # Panics
+    ///
+    /// Where `cid_len` is above 20.
+    pub fn new(datagram: &'a [u8], cid_len: usize, versions: &'v [u32], grease: bool) -> Self {
+        Packets { rest: Some(datagram), begin: 0, how: How::new(cid_len, versions, grease) }
+    }
+}
+
+impl<'a> Iterator for Packets<'a, '_> {
+    type Item = Result<PartialDecode<'a>, PacketDecodeError<'a>>;
+
+    #[inline]
+    fn next(&mut self) -> Option<Self::Item> {
+        let rest = self.rest.take()?;
+        let head = match read_packet(rest, &self.how) {
+            Ok(head) => head,
+            Err(error) => return Some(Err(error_of(rest, error))),
+        };
+        let (packet, rest) = rest.split_at(head.end());
+        let begin = self.begin;
+        self.begin += packet.len();
+        self.rest = (!rest.is_empty()).then_some(rest);
+        Some(Ok(PartialDecode { head, packet, begin }))
+    }
+}
+
+impl FusedIterator for Packets<'_, '_> {}
+
+impl fmt::Debug for Packets<'_, '_> {
+    fn fmt(&self, f: &mut fmt::Formatter<'_>) -> fmt::Result {
+        f.debug_struct("Packets").field("begin", &self.begin).field("rest", &self.rest.map(Short)).finish()
+    }
+}
+
+/// A packet of a datagram, with the protection of its header still on.
+///
+/// ```
+/// use quic_wire::packet::Packets;
+/// let datagram = [0xc0, 0, 0, 0, 1, 1, 0xaa, 1, 0xbb, 1, 0x77, 2, 9, 9];
+/// let packet = Packets::new(&datagram, 0, &[1], false).next().unwrap()?;
+/// assert_eq!((packet.dst_cid(), packet.data().len()), (&[0xaa][..], 14));
+/// # Ok::<(), quic_wire::Error>(())
+/// ```
+#[derive(Clone, Copy)]
+pub struct PartialDecode<'a> {
+    head: Head,
+    packet: &'a [u8],
+    begin: usize,
+}
+
+impl<'a> PartialDecode<'a> {
+    /// The packet's bytes.
+    ///
+    /// ```
+    /// use quic_wire::packet::Packets;
+    /// let datagram = [0xc0, 0, 0, 0, 1, 1, 0xaa, 1, 0xbb, 1, 0x77, 2, 9, 9];
+    /// let packet = Packets::new(&datagram, 0, &[1], false).next().unwrap()?;
+    /// assert_eq!(packet.data(), datagram);
+    /// # Ok::<(), quic_wire::Error>(())
+    /// ```
+    pub fn data(&self) -> &'a [u8] {
+        self.packet
+    }
+
+    /// Its header as places in the packet.
+    ///
+    /// ```
+    /// use quic_wire::packet::Packets;
+    /// let datagram = [0xc0, 0, 0, 0, 1, 1, 0xaa, 1, 0xbb, 1, 0x77, 2, 9, 9];
+    /// let packet = Packets::new(&datagram, 0, &[1], false).next().unwrap()?;
+    /// assert_eq!(packet.head().token(packet.data()), [0x77]);
+    /// # Ok::<(), quic_wire::Error>(())
+    /// ```
+    pub fn head(&self) -> &Head {
+        &self.head
+    }
+
+    /// Where the packet stands in its datagram, by which its protection is taken off.
+    ///
+    /// ```
+    /// use quic_wire::packet::Packets;
+    /// let datagram = [0xc0, 0, 0, 0, 1, 1, 0xaa, 1, 0xbb, 1, 0x77, 2, 9, 9];
+    /// let packet = Packets::new(&datagram, 0, &[1], false).next().unwrap()?;
+    /// assert_eq!((packet.place().range(), packet.place().number()), (0..14, 12));
+    /// # Ok::<(), quic_wire::Error>(())
+    /// ```
+    pub fn place(&self) -> PacketPlace {
+        self.head.place(self.begin)
+    }
+
+    /// What its header says.
+    ///
+    /// ```
+    /// use quic_wire::packet::{Packets, ProtectedHeader};
+    /// let datagram = [0xc0, 0, 0, 0, 1, 1, 0xaa, 1, 0xbb, 1, 0x77, 2, 9, 9];
+    /// let packet = Packets::new(&datagram, 0, &[1], false).next().unwrap()?;
+    /// assert!(matches!(packet.header(), ProtectedHeader::Initial { version: 1, len: 2, .. }));
+    /// # Ok::<(), quic_wire::Error>(())
+    /// ```
+    pub fn header(&self) -> ProtectedHeader<'a> {
+        self.head.header(self.packet)
+    }
+
+    /// The receiver's id.
+    ///
+    /// ```
+    /// use quic_wire::packet::Packets;
+    /// let datagram = [0xc0, 0, 0, 0, 1, 1, 0xaa, 1, 0xbb, 1, 0x77, 2, 9, 9];
+    /// let packet = Packets::new(&datagram, 0, &[1], false).next().unwrap()?;
+    /// assert_eq!(packet.dst_cid(), [0xaa]);
+    /// # Ok::<(), quic_wire::Error>(())
+    /// ```
+    pub fn dst_cid(&self) -> &'a [u8] {
+        self.head.dst_cid(self.packet)
+    }
+}
+
+impl fmt::Debug for PartialDecode<'_> {
+    fn fmt(&self, f: &mut fmt::Formatter<'_>) -> fmt::Result {
+        f.debug_struct("PartialDecode").field("place", &self.place().range()).field("header", &self.header()).finish()
+    }
+}
+
+/// The packets of a datagram that is opened where it stands. Each owns its part of it, so they are opened in a loop.
+///
+/// ```
+/// use quic_wire::packet::PacketsMut;
+/// let mut datagram = [0x40, 7, 0, 1, 2, 3, 4, 5, 6];
+/// let packet = PacketsMut::new(&mut datagram, 1, &[1], false).next().unwrap()?;
+/// assert_eq!(packet.open_with(3, |_| [0, 5, 0, 0, 0], 0)?.number(), 5);
+/// # Ok::<(), quic_wire::Error>(())
+/// ```
+pub struct PacketsMut<'a, 'v> {
+    rest: Option<&'a mut [u8]>,
+    how: How<'v>,
+}
+
+impl<'a, 'v> PacketsMut<'a, 'v> {
+    /// As [`Packets::new`].
+    ///
+    /// ```
+    /// use quic_wire::packet::PacketsMut;
+    /// let mut datagram = [0x40, 7, 0, 1, 2, 3, 4, 5, 6];
+    /// for packet in PacketsMut::new(&mut datagram, 1, &[1], false) {
+    ///     let packet = packet?.open_with(3, |sample| [0, sample[0], 0, 0, 0], 0)?;
+    ///     packet.payload.fill(0);
+    /// }
+    /// assert_eq!(datagram, [0x40, 7, 4, 0, 0, 0, 0, 0, 0]);
+    /// # Ok::<(), quic_wire::Error>(())
+    /// ```
+    ///
+    /// # Panics
+    ///
+    /// Where `cid_len` is above 20.
+    pub fn new(datagram: &'a mut [u8], cid_len: usize, versions: &'v [u32], grease: bool) -> Self {
+        PacketsMut { rest: Some(datagram), how: How::new(cid_len, versions, grease) }
+    }
+}
+
+impl<'a> Iterator for PacketsMut<'a, '_> {
+    type Item = Result<PacketMut<'a>, PacketDecodeError<'a>>;
+
+    #[inline]
+    fn next(&mut self) -> Option<Self::Item> {
+        let rest = self.rest.take()?;
+        let head = match read_packet(rest, &self.how) {
+            Ok(head) => head,
+            Err(error) => return Some(Err(error_of(rest, error))),
+        };
+        let (packet, rest) = rest.split_at_mut(head.end());
+        self.rest = (!rest.is_empty()).then_some(rest);
+        Some(Ok(PacketMut::new(head, packet)))
+    }
+}
+
+impl FusedIterator for PacketsMut<'_, '_> {}
+
+impl fmt::Debug for PacketsMut<'_, '_> {
+    fn fmt(&self, f: &mut fmt::Formatter<'_>) -> fmt::Result {
+        f.debug_struct("PacketsMut").field("rest", &self.rest.as_deref().map(Short)).finish()
+    }
+}

@@ -1,0 +1,398 @@
+//! The header of a packet as places in it.
+use super::{LongType, PacketPlace, ProtectedHeader};
+use crate::sys;
+use crate::text::Hex32;
+use core::fmt;
+use core::ops::Range;
+
+/// The header of a packet as places in it, before its protection is taken off: 32 bytes that borrow nothing.
+///
+/// ```
+/// use quic_wire::packet::{Head, ProtectedHeader};
+/// let packet = [0x41, 0xaa, 0xbb, 9, 9, 9, 9, 9];
+/// let head = Head::read(&packet, 2, &[1])?;
+/// assert_eq!(head.header(&packet), ProtectedHeader::Short { spin: false, dst_cid: &[0xaa, 0xbb] });
+/// assert_eq!((head.head_end(), head.end(), head.is_protected(), head.fixed_bit()), (3, 8, true, true));
+/// # Ok::<(), quic_wire::Error>(())
+/// ```
+#[derive(Clone, Copy, PartialEq, Eq, Hash)]
+pub struct Head(sys::Head);
+
+/// Why no header was read, or not of a whole packet.
+///
+/// ```
+/// use quic_wire::packet::{Head, HeadError};
+/// // A Handshake packet of 100 bytes, of which one came.
+/// let bytes = [0xe0, 0, 0, 0, 1, 1, 0xaa, 0, 0x40, 100, 7];
+/// let error = Head::read(&bytes, 0, &[1]).unwrap_err();
+/// assert_eq!(error.to_string(), "packet too short to contain payload length");
+/// let HeadError::CutOff(head) = error else { panic!() };
+/// assert_eq!((head.dst_cid(&bytes), head.head_end(), head.end()), (&[0xaa][..], 10, 11));
+/// ```
+#[derive(Clone, Copy, Debug, PartialEq, Eq, Hash)]
+pub enum HeadError {
+    /// The version is none of those that were given. Its version and its ids are told, of up to 255 bytes (RFC 8999).
+    UnsupportedVersion(Head),
+    /// The bytes end within the packet. All of its header is told.
+    CutOff(Head),
+    /// No header can be read.
+    InvalidHeader(&'static str),
+}
+
+impl HeadError {
+    pub(crate) fn reason(&self) -> &'static str {
+        match self {
+            HeadError::UnsupportedVersion(_) => "unsupported version",
+            HeadError::CutOff(_) => "packet too short to contain payload length",
+            HeadError::InvalidHeader(reason) => reason,
+        }
+    }
+}
+
+impl fmt::Display for HeadError {
+    fn fmt(&self, f: &mut fmt::Formatter<'_>) -> fmt::Result {
+        match self {
+            HeadError::UnsupportedVersion(head) => write!(f, "unsupported version {:x}", head.version()),
+            _ => f.write_str(self.reason()),
+        }
+    }
+}
+
+impl core::error::Error for HeadError {}
+
+// The kinds that the library tells.
+const INITIAL: u8 = 0;
+const ZERO_RTT: u8 = 1;
+const HANDSHAKE: u8 = 2;
+const RETRY: u8 = 3;
+const ONE_RTT: u8 = 4;
+const VERSION_NEGOTIATION: u8 = 5;
+
+impl Head {
+    /// Reads the header of the packet that bytes begin with. Ids of short headers have `cid_len` bytes; `versions` are
+    /// those that are read further than their ids. The fixed bit isn't looked at: see [`Head::fixed_bit`].
+    ///
+    /// ```
+    /// use quic_wire::packet::{Head, HeadError};
+    /// let packet = [0xc0, 0, 0, 0, 1, 1, 0xaa, 1, 0xbb, 1, 0x77, 2, 9, 9];
+    /// let head = Head::read(&packet, 0, &[1])?;
+    /// assert_eq!(head.end(), 14);
+    /// assert!(matches!(Head::read(&packet, 0, &[]), Err(HeadError::UnsupportedVersion(_))));
+    /// # Ok::<(), quic_wire::Error>(())
+    /// ```
+    ///
+    /// # Errors
+    ///
+    /// Where no header can be read, or its packet isn't whole or of another version; then what was read is told.
+    ///
+    /// # Panics
+    ///
+    /// Where `cid_len` is above 20.
+    #[inline]
+    pub fn read(bytes: &[u8], cid_len: usize, versions: &[u32]) -> Result<Head, HeadError> {
+        let mut head = sys::Head::default();
+        match sys::head_read(bytes, u32::try_from(cid_len).unwrap_or(u32::MAX), versions, &mut head) {
+            0 => Ok(Head(head)),
+            reason => Err(Head(head).error(reason, cid_len)),
+        }
+    }
+
+    #[cold]
+    fn error(self, reason: i32, cid_len: usize) -> HeadError {
+        assert!(cid_len <= crate::ids::MAX_CID_SIZE, "the ids of short headers have at most 20 bytes");
+        HeadError::InvalidHeader(match reason {
+            1 => return HeadError::UnsupportedVersion(self),
+            2 => "unexpected end of packet",
+            4 => "packet too small",
+            5 => "malformed cid",
+            6 => "token out of bounds",
+            7 => return HeadError::CutOff(self),
+            // Places have 32 bits.
+            _ => "packet of 4 GiB or more",
+        })
+    }
+
+    /// The first byte as it stands.
+    ///
+    /// ```
+    /// use quic_wire::packet::Head;
+    /// let packet = [0xc0, 0, 0, 0, 1, 1, 0xaa, 1, 0xbb, 1, 0x77, 2, 9, 9];
+    /// let head = Head::read(&packet, 0, &[1])?;
+    /// assert_eq!(head.first(), 0xc0);
+    /// # Ok::<(), quic_wire::Error>(())
+    /// ```
+    #[inline]
+    pub fn first(&self) -> u8 {
+        self.0.first
+    }
+
+    /// Whether the fixed bit is set, as in all packets but those of RFC 9287.
+    ///
+    /// ```
+    /// use quic_wire::packet::Head;
+    /// let packet = [0xc0, 0, 0, 0, 1, 1, 0xaa, 1, 0xbb, 1, 0x77, 2, 9, 9];
+    /// let head = Head::read(&packet, 0, &[1])?;
+    /// assert!(head.fixed_bit());
+    /// # Ok::<(), quic_wire::Error>(())
+    /// ```
+    #[inline]
+    pub fn fixed_bit(&self) -> bool {
+        self.0.first & 0x40 != 0
+    }
+
+    /// Whether it is a short header (RFC 9000, section 17.3).
+    ///
+    /// ```
+    /// use quic_wire::packet::Head;
+    /// let packet = [0xc0, 0, 0, 0, 1, 1, 0xaa, 1, 0xbb, 1, 0x77, 2, 9, 9];
+    /// let head = Head::read(&packet, 0, &[1])?;
+    /// assert!(!head.is_short());
+    /// # Ok::<(), quic_wire::Error>(())
+    /// ```
+    #[inline]
+    pub fn is_short(&self) -> bool {
+        self.0.first < 0x80
+    }
+
+    /// Whether the packet has a number, under protection: all but Retry and version negotiation do.
+    ///
+    /// ```
+    /// use quic_wire::packet::Head;
+    /// let packet = [0xc0, 0, 0, 0, 1, 1, 0xaa, 1, 0xbb, 1, 0x77, 2, 9, 9];
+    /// let head = Head::read(&packet, 0, &[1])?;
+    /// assert!(head.is_protected());
+    /// # Ok::<(), quic_wire::Error>(())
+    /// ```
+    #[inline]
+    pub fn is_protected(&self) -> bool {
+        matches!(self.0.kind, INITIAL | ZERO_RTT | HANDSHAKE | ONE_RTT)
+    }
+
+    /// The version of QUIC; 0 of 1-RTT and of a version negotiation.
+    ///
+    /// ```
+    /// use quic_wire::packet::Head;
+    /// let packet = [0xc0, 0, 0, 0, 1, 1, 0xaa, 1, 0xbb, 1, 0x77, 2, 9, 9];
+    /// let head = Head::read(&packet, 0, &[1])?;
+    /// assert_eq!(head.version(), 1);
+    /// # Ok::<(), quic_wire::Error>(())
+    /// ```
+    #[inline]
+    pub fn version(&self) -> u32 {
+        self.0.version
+    }
+
+    /// The receiver's id in the packet.
+    ///
+    /// ```
+    /// use quic_wire::packet::Head;
+    /// let packet = [0xc0, 0, 0, 0, 1, 1, 0xaa, 1, 0xbb, 1, 0x77, 2, 9, 9];
+    /// let head = Head::read(&packet, 0, &[1])?;
+    /// assert_eq!(head.dst_cid(&packet), [0xaa]);
+    /// # Ok::<(), quic_wire::Error>(())
+    /// ```
+    #[inline]
+    pub fn dst_cid<'a>(&self, packet: &'a [u8]) -> &'a [u8] {
+        let start = if self.is_short() { 1 } else { 6 };
+        &packet[start..start + usize::from(self.0.dcidlen)]
+    }
+
+    /// The sender's id in the packet, empty in a short header.
+    ///
+    /// ```
+    /// use quic_wire::packet::Head;
+    /// let packet = [0xc0, 0, 0, 0, 1, 1, 0xaa, 1, 0xbb, 1, 0x77, 2, 9, 9];
+    /// let head = Head::read(&packet, 0, &[1])?;
+    /// assert_eq!(head.src_cid(&packet), [0xbb]);
+    /// # Ok::<(), quic_wire::Error>(())
+    /// ```
+    #[inline]
+    pub fn src_cid<'a>(&self, packet: &'a [u8]) -> &'a [u8] {
+        let start = if self.is_short() { 1 } else { 7 + usize::from(self.0.dcidlen) };
+        &packet[start..start + usize::from(self.0.scidlen)]
+    }
+
+    /// Where the token of an Initial packet stands in it; an empty range in others.
+    ///
+    /// ```
+    /// use quic_wire::packet::Head;
+    /// let packet = [0xc0, 0, 0, 0, 1, 1, 0xaa, 1, 0xbb, 1, 0x77, 2, 9, 9];
+    /// let head = Head::read(&packet, 0, &[1])?;
+    /// assert_eq!(head.token_pos(), 10..11);
+    /// # Ok::<(), quic_wire::Error>(())
+    /// ```
+    #[inline]
+    pub fn token_pos(&self) -> Range<usize> {
+        let start = self.0.token as usize;
+        start..start + self.0.tokenlen as usize
+    }
+
+    /// The token of an Initial packet; empty in others.
+    ///
+    /// ```
+    /// use quic_wire::packet::Head;
+    /// let packet = [0xc0, 0, 0, 0, 1, 1, 0xaa, 1, 0xbb, 1, 0x77, 2, 9, 9];
+    /// let head = Head::read(&packet, 0, &[1])?;
+    /// assert_eq!(head.token(&packet), [0x77]);
+    /// # Ok::<(), quic_wire::Error>(())
+    /// ```
+    #[inline]
+    pub fn token<'a>(&self, packet: &'a [u8]) -> &'a [u8] {
+        &packet[self.token_pos()]
+    }
+
+    /// The token of a Retry and the 16 bytes of its integrity tag (RFC 9000, section 17.2.5; RFC 9001, section 5.8).
+    /// None of another packet, and where it is too short.
+    ///
+    /// ```
+    /// use quic_wire::packet::Head;
+    /// let mut packet = vec![0xf0, 0, 0, 0, 1, 0, 0, b't', b'o', b'k'];
+    /// packet.extend([9; 16]);
+    /// let head = Head::read(&packet, 0, &[1])?;
+    /// assert_eq!(head.retry(&packet), Some((&b"tok"[..], &[9; 16])));
+    /// # Ok::<(), quic_wire::Error>(())
+    /// ```
+    pub fn retry<'a>(&self, packet: &'a [u8]) -> Option<(&'a [u8], &'a [u8; 16])> {
+        if self.0.kind != RETRY {
+            return None;
+        }
+        packet.get(self.head_end()..self.end())?.split_last_chunk()
+    }
+
+    /// The versions that a version negotiation names (RFC 9000, section 17.2.1); none of another packet.
+    ///
+    /// ```
+    /// use quic_wire::packet::Head;
+    /// let packet = [0xc0, 0, 0, 0, 0, 0, 0, 0, 0, 0, 1, 0x6b, 0x33, 0x43, 0xcf];
+    /// let head = Head::read(&packet, 0, &[1])?;
+    /// assert_eq!(head.versions(&packet).collect::<Vec<_>>(), [1, 0x6b33_43cf]);
+    /// # Ok::<(), quic_wire::Error>(())
+    /// ```
+    pub fn versions<'a>(&self, packet: &'a [u8]) -> Versions<'a> {
+        let named = self.0.kind == VERSION_NEGOTIATION;
+        Versions(if named { packet.get(self.head_end()..self.end()).unwrap_or_default() } else { &[] })
+    }
+
+    /// How many bytes an Initial, Handshake or 0-RTT packet has from [`Head::head_end`] on, as it says; 0 of others.
+    ///
+    /// ```
+    /// use quic_wire::packet::Head;
+    /// let packet = [0xc0, 0, 0, 0, 1, 1, 0xaa, 1, 0xbb, 1, 0x77, 2, 9, 9];
+    /// let head = Head::read(&packet, 0, &[1])?;
+    /// assert_eq!(head.len_field(), 2);
+    /// # Ok::<(), quic_wire::Error>(())
+    /// ```
+    #[inline]
+    pub fn len_field(&self) -> u64 {
+        self.0.len
+    }
+
+    /// Where the packet ends in its bytes; where they end, if it is cut off.
+    ///
+    /// ```
+    /// use quic_wire::packet::Head;
+    /// let packet = [0xc0, 0, 0, 0, 1, 1, 0xaa, 1, 0xbb, 1, 0x77, 2, 9, 9];
+    /// let head = Head::read(&packet, 0, &[1])?;
+    /// assert_eq!(head.end(), 14);
+    /// # Ok::<(), quic_wire::Error>(())
+    /// ```
+    #[inline]
+    pub fn end(&self) -> usize {
+        self.0.end as usize
+    }
+
+    /// Where the header ends; where the number begins, if the packet has one.
+    ///
+    /// ```
+    /// use quic_wire::packet::Head;
+    /// let packet = [0xc0, 0, 0, 0, 1, 1, 0xaa, 1, 0xbb, 1, 0x77, 2, 9, 9];
+    /// let head = Head::read(&packet, 0, &[1])?;
+    /// assert_eq!(head.head_end(), 12);
+    /// # Ok::<(), quic_wire::Error>(())
+    /// ```
+    #[inline]
+    pub fn head_end(&self) -> usize {
+        self.0.head_end as usize
+    }
+
+    /// Where the packet stands that begins at a place of its datagram. One without a number has no room for protection.
+    ///
+    /// ```
+    /// use quic_wire::packet::Head;
+    /// let packet = [0xc0, 0, 0, 0, 1, 1, 0xaa, 1, 0xbb, 1, 0x77, 2, 9, 9];
+    /// let head = Head::read(&packet, 0, &[1])?;
+    /// assert_eq!(head.place(100).range(), 100..114);
+    /// # Ok::<(), quic_wire::Error>(())
+    /// ```
+    #[inline]
+    pub fn place(&self, begin: usize) -> PacketPlace {
+        let number = if self.is_protected() { self.head_end() } else { self.end() };
+        PacketPlace::of(begin, number, self.end())
+    }
+
+    /// What it says.
+    ///
+    /// ```
+    /// use quic_wire::packet::{Head, ProtectedHeader};
+    /// let packet = [0xc0, 0, 0, 0, 1, 1, 0xaa, 1, 0xbb, 1, 0x77, 2, 9, 9];
+    /// let head = Head::read(&packet, 0, &[1])?;
+    /// assert!(matches!(head.header(&packet), ProtectedHeader::Initial { len: 2, .. }));
+    /// # Ok::<(), quic_wire::Error>(())
+    /// ```
+    #[inline]
+    pub fn header<'a>(&self, packet: &'a [u8]) -> ProtectedHeader<'a> {
+        let (dst_cid, src_cid) = (self.dst_cid(packet), self.src_cid(packet));
+        let (len, version) = (self.0.len, self.0.version);
+        match self.0.kind {
+            INITIAL => ProtectedHeader::Initial { dst_cid, src_cid, token_pos: self.token_pos(), len, version },
+            ZERO_RTT => ProtectedHeader::Long { ty: LongType::ZeroRtt, dst_cid, src_cid, len, version },
+            HANDSHAKE => ProtectedHeader::Long { ty: LongType::Handshake, dst_cid, src_cid, len, version },
+            RETRY => ProtectedHeader::Retry { dst_cid, src_cid, version },
+            ONE_RTT => ProtectedHeader::Short { spin: self.0.first & 0x20 != 0, dst_cid },
+            _ => ProtectedHeader::VersionNegotiate { random: self.0.first & 0x7f, dst_cid, src_cid },
+        }
+    }
+}
+
+impl fmt::Debug for Head {
+    fn fmt(&self, f: &mut fmt::Formatter<'_>) -> fmt::Result {
+        f.debug_struct("Head")
+            .field("first", &format_args!("{:02x}", self.0.first))
+            .field("version", &format_args!("{:08x}", self.0.version))
+            .field("dst_cid_len", &self.0.dcidlen)
+            .field("src_cid_len", &self.0.scidlen)
+            .field("token_pos", &self.token_pos())
+            .field("head_end", &self.head_end())
+            .field("end", &self.end())
+            .finish()
+    }
+}
+
+/// The versions that a version negotiation names.
+///
+/// ```
+/// use quic_wire::packet::Head;
+/// let packet = [0xc0, 0, 0, 0, 0, 0, 0, 0, 0, 0, 1];
+/// assert_eq!(Head::read(&packet, 0, &[])?.versions(&packet).next(), Some(1));
+/// # Ok::<(), quic_wire::Error>(())
+/// ```
+#[derive(Clone)]
+pub struct Versions<'a>(&'a [u8]);
+
+impl Iterator for Versions<'_> {
+    type Item = u32;
+
+    fn next(&mut self) -> Option<u32> {
+        let (version, rest) = self.0.split_first_chunk()?;
+        self.0 = rest;
+        Some(u32::from_be_bytes(*version))
+    }
+}
+
+impl core::iter::FusedIterator for Versions<'_> {}
+
+impl fmt::Debug for Versions<'_> {
+    fn fmt(&self, f: &mut fmt::Formatter<'_>) -> fmt::Result {
+        f.debug_list().entries(self.clone().map(Hex32)).finish()
+    }
+}

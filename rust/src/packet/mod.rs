@@ -1,0 +1,227 @@
+//! The packets of a datagram (RFC 9000, sections 12.2 and 17), and the protection of their headers (RFC 9001, section
+//! 5.4).
+//!
+//! A datagram is opened where it stands, packet by packet. The cipher is the caller's: it makes a mask of a sample.
+//!
+//! ```
+//! use quic_wire::packet::{Header, LongType, PacketNumber, PacketsMut};
+//! # fn mask(_sample: &[u8]) -> [u8; 5] { [0x1f, 1, 2, 3, 4] }
+//! // A packet is written: its header, its payload, and then its length; it is sealed and protected.
+//! let number = PacketNumber::new(7, 0).unwrap();
+//! let header = Header::Long { ty: LongType::Handshake, dst_cid: &[1, 2], src_cid: &[3], number, version: 1 };
+//! let mut datagram = vec![0; 60];
+//! let written = header.encode(datagram.as_mut_slice())?;
+//! written.set_len(&mut datagram)?;
+//! let place = written.place(&datagram);
+//! let mask_of = mask(place.sample(&datagram, 16)?);
+//! place.protect(&mut datagram, &mask_of)?;
+//!
+//! // And opened.
+//! for packet in PacketsMut::new(&mut datagram, 0, &[1], false) {
+//!     let packet = packet?.open_with(16, mask, 7)?;
+//!     assert_eq!((packet.number(), packet.dst_cid()), (7, &[1, 2][..]));
+//!     assert!(packet.reserved_bits_valid());
+//!     // packet.header_data and packet.payload go to the AEAD.
+//! }
+//! # Ok::<(), quic_wire::Error>(())
+//! ```
+mod datagram;
+mod encode;
+mod head;
+mod number;
+mod opening;
+mod protection;
+
+pub use datagram::{Packets, PacketsMut, PartialDecode};
+pub use encode::{Header, PartialEncode};
+pub use head::{Head, HeadError, Versions};
+pub use number::PacketNumber;
+pub use opening::{Packet, PacketMut};
+pub use protection::{Opened, PacketPlace, UnprotectError};
+
+use crate::text::{Hex, Hex32};
+use core::fmt;
+use core::ops::Range;
+
+pub use crate::WriteError;
+
+/// The versions that `quinn-proto` speaks: 1, the drafts 29 to 34, and 2 (RFC 9369).
+pub const DEFAULT_SUPPORTED_VERSIONS: &[u32] =
+    &[0x0000_0001, 0xff00_001d, 0xff00_001e, 0xff00_001f, 0xff00_0020, 0xff00_0021, 0xff00_0022, 0x6b33_43cf];
+
+/// The kinds of long headers that have a number but no token.
+///
+/// ```
+/// use quic_wire::packet::{Head, LongType, ProtectedHeader};
+/// let packet = [0xd0, 0, 0, 0, 1, 0, 0, 0];
+/// let header = Head::read(&packet, 0, &[1])?.header(&packet);
+/// assert!(matches!(header, ProtectedHeader::Long { ty: LongType::ZeroRtt, .. }));
+/// # Ok::<(), quic_wire::Error>(())
+/// ```
+#[derive(Clone, Copy, Debug, PartialEq, Eq, Hash)]
+pub enum LongType {
+    /// Of the handshake.
+    Handshake,
+    /// Early data.
+    ZeroRtt,
+}
+
+/// What a header says before its protection is taken off.
+///
+/// ```
+/// use quic_wire::packet::{Head, ProtectedHeader};
+/// let packet = [0x60, 0xaa, 1, 2];
+/// assert_eq!(Head::read(&packet, 1, &[])?.header(&packet), ProtectedHeader::Short { spin: true, dst_cid: &[0xaa] });
+/// # Ok::<(), quic_wire::Error>(())
+/// ```
+#[derive(Clone, PartialEq, Eq, Hash)]
+pub enum ProtectedHeader<'a> {
+    /// The header of an Initial packet (RFC 9000, section 17.2.2).
+    Initial {
+        /// The receiver's id.
+        dst_cid: &'a [u8],
+        /// The sender's id.
+        src_cid: &'a [u8],
+        /// Where the token stands in the packet.
+        token_pos: Range<usize>,
+        /// How many bytes the packet has behind its header, the number's bytes among them.
+        len: u64,
+        /// The version of QUIC.
+        version: u32,
+    },
+    /// The header of a Handshake or 0-RTT packet (RFC 9000, sections 17.2.3 and 17.2.4).
+    Long {
+        /// Which of the two.
+        ty: LongType,
+        /// The receiver's id.
+        dst_cid: &'a [u8],
+        /// The sender's id.
+        src_cid: &'a [u8],
+        /// How many bytes the packet has behind its header, the number's bytes among them.
+        len: u64,
+        /// The version of QUIC.
+        version: u32,
+    },
+    /// The header of a Retry packet (RFC 9000, section 17.2.5).
+    Retry {
+        /// The receiver's id.
+        dst_cid: &'a [u8],
+        /// The sender's id.
+        src_cid: &'a [u8],
+        /// The version of QUIC.
+        version: u32,
+    },
+    /// The header of a 1-RTT packet (RFC 9000, section 17.3.1).
+    Short {
+        /// The bit for measuring round trips.
+        spin: bool,
+        /// The receiver's id.
+        dst_cid: &'a [u8],
+    },
+    /// The header of a version negotiation (RFC 9000, section 17.2.1).
+    VersionNegotiate {
+        /// The first byte without its highest bit.
+        random: u8,
+        /// The receiver's id.
+        dst_cid: &'a [u8],
+        /// The sender's id.
+        src_cid: &'a [u8],
+    },
+}
+
+impl<'a> ProtectedHeader<'a> {
+    /// The receiver's id.
+    ///
+    /// ```
+    /// use quic_wire::packet::ProtectedHeader;
+    /// assert_eq!(ProtectedHeader::Short { spin: true, dst_cid: &[0xaa] }.dst_cid(), [0xaa]);
+    /// ```
+    pub fn dst_cid(&self) -> &'a [u8] {
+        match self {
+            ProtectedHeader::Initial { dst_cid, .. }
+            | ProtectedHeader::Long { dst_cid, .. }
+            | ProtectedHeader::Retry { dst_cid, .. }
+            | ProtectedHeader::Short { dst_cid, .. }
+            | ProtectedHeader::VersionNegotiate { dst_cid, .. } => dst_cid,
+        }
+    }
+}
+
+impl fmt::Debug for ProtectedHeader<'_> {
+    fn fmt(&self, f: &mut fmt::Formatter<'_>) -> fmt::Result {
+        let (name, src_cid, version) = match self {
+            ProtectedHeader::Initial { src_cid, version, .. } => ("Initial", Some(src_cid), Some(version)),
+            ProtectedHeader::Long { ty: LongType::Handshake, src_cid, version, .. } => {
+                ("Handshake", Some(src_cid), Some(version))
+            }
+            ProtectedHeader::Long { src_cid, version, .. } => ("ZeroRtt", Some(src_cid), Some(version)),
+            ProtectedHeader::Retry { src_cid, version, .. } => ("Retry", Some(src_cid), Some(version)),
+            ProtectedHeader::Short { .. } => ("Short", None, None),
+            ProtectedHeader::VersionNegotiate { src_cid, .. } => ("VersionNegotiate", Some(src_cid), None),
+        };
+        let mut told = f.debug_struct(name);
+        told.field("dst_cid", &Hex(self.dst_cid()));
+        if let Some(src_cid) = src_cid {
+            told.field("src_cid", &Hex(src_cid));
+        }
+        if let Some(version) = version {
+            told.field("version", &Hex32(*version));
+        }
+        match self {
+            ProtectedHeader::Initial { token_pos, len, .. } => told.field("token_pos", token_pos).field("len", len),
+            ProtectedHeader::Long { len, .. } => told.field("len", len),
+            ProtectedHeader::Short { spin, .. } => told.field("spin", spin),
+            ProtectedHeader::VersionNegotiate { random, .. } => told.field("random", random),
+            ProtectedHeader::Retry { .. } => &mut told,
+        };
+        told.finish()
+    }
+}
+
+/// Why no packet was cut. What is left of the datagram is given up.
+///
+/// ```
+/// use quic_wire::packet::{PacketDecodeError, Packets};
+/// let datagram = [0xc0, 0, 0, 0, 9, 1, 0xaa, 1, 0xbb];
+/// let error = Packets::new(&datagram, 0, &[1], false).next().unwrap().unwrap_err();
+/// assert_eq!(error, PacketDecodeError::UnsupportedVersion { src_cid: &[0xbb], dst_cid: &[0xaa], version: 9 });
+/// ```
+#[derive(Clone, Copy, PartialEq, Eq, Hash)]
+pub enum PacketDecodeError<'a> {
+    /// The version is none of those that were given (RFC 9000, section 6.1). The ids may have up to 255 bytes.
+    UnsupportedVersion {
+        /// The sender's id.
+        src_cid: &'a [u8],
+        /// The receiver's id.
+        dst_cid: &'a [u8],
+        /// The version.
+        version: u32,
+    },
+    /// The header can't be read, or its length lies beyond the end.
+    InvalidHeader(&'static str),
+}
+
+impl fmt::Display for PacketDecodeError<'_> {
+    fn fmt(&self, f: &mut fmt::Formatter<'_>) -> fmt::Result {
+        match self {
+            PacketDecodeError::UnsupportedVersion { version, .. } => write!(f, "unsupported version {version:x}"),
+            PacketDecodeError::InvalidHeader(reason) => f.write_str(reason),
+        }
+    }
+}
+
+impl fmt::Debug for PacketDecodeError<'_> {
+    fn fmt(&self, f: &mut fmt::Formatter<'_>) -> fmt::Result {
+        match self {
+            PacketDecodeError::UnsupportedVersion { src_cid, dst_cid, version } => f
+                .debug_struct("UnsupportedVersion")
+                .field("src_cid", &Hex(src_cid))
+                .field("dst_cid", &Hex(dst_cid))
+                .field("version", &Hex32(*version))
+                .finish(),
+            PacketDecodeError::InvalidHeader(reason) => f.debug_tuple("InvalidHeader").field(reason).finish(),
+        }
+    }
+}
+
+impl core::error::Error for PacketDecodeError<'_> {}

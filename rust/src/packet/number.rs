@@ -1,0 +1,65 @@
+//! Packet numbers (RFC 9000, section 17.1).
+use crate::sys;
+
+/// A packet number, and how many of its low bytes are written (RFC 9000, section 17.1).
+///
+/// ```
+/// use quic_wire::packet::PacketNumber;
+/// let number = PacketNumber::new(0xac5c02, 0xabe8b3).unwrap();
+/// assert_eq!((number.len, number.truncated()), (2, 0x5c02));
+/// // RFC 9000, appendix A.3.
+/// assert_eq!(PacketNumber::expand(0x9b32, 2, 0xa82f30ea + 1), Some(0xa82f9b32));
+/// ```
+#[derive(Clone, Copy, Debug, PartialEq, Eq, Hash)]
+pub struct PacketNumber {
+    /// The whole number, below 2^62.
+    pub number: u64,
+    /// How many bytes are written, 1 to 4.
+    pub len: usize,
+}
+
+impl PacketNumber {
+    /// As few bytes as let a receiver find the number that has acknowledged `largest_acked` (RFC 9000, appendix A.2),
+    /// as `quinn-proto` chooses them. None where `largest_acked` is above the number, or 2^31 or more below it.
+    ///
+    /// ```
+    /// use quic_wire::packet::PacketNumber;
+    /// assert_eq!(PacketNumber::new(300, 299).map(|number| number.len), Some(1));
+    /// assert_eq!(PacketNumber::new(300, 301), None);
+    /// ```
+    #[inline]
+    pub fn new(number: u64, largest_acked: u64) -> Option<Self> {
+        let len = usize::try_from(sys::number_len(number, largest_acked)).ok()?;
+        Some(PacketNumber { number, len })
+    }
+
+    /// The bytes that are written, as a number.
+    ///
+    /// ```
+    /// use quic_wire::packet::PacketNumber;
+    /// assert_eq!(PacketNumber { number: 300, len: 1 }.truncated(), 44);
+    /// ```
+    #[inline]
+    pub const fn truncated(self) -> u64 {
+        match self.len {
+            0 => 0,
+            1..=7 => self.number & ((1 << (8 * self.len)) - 1),
+            _ => self.number,
+        }
+    }
+
+    /// The whole number of which the low `len` bytes are `written`, by the one that is expected next (RFC 9000,
+    /// appendix A.3). It may be 2^62 or more where `expected` is close to that. None where `len` isn't 1 to 4,
+    /// `written` has more bytes, or `expected` is 2^62 or more.
+    ///
+    /// ```
+    /// use quic_wire::packet::PacketNumber;
+    /// assert_eq!(PacketNumber::expand(44, 1, 301), Some(300));
+    /// assert_eq!(PacketNumber::expand(44, 5, 301), None);
+    /// ```
+    #[inline]
+    pub fn expand(written: u64, len: usize, expected: u64) -> Option<u64> {
+        let number = sys::number_expand(written, u32::try_from(len).ok()?, expected);
+        (number != u64::MAX).then_some(number)
+    }
+}

@@ -1,0 +1,267 @@
+//! A packet that is opened where it stands (RFC 9001, section 5.4).
+use super::{Head, Opened, ProtectedHeader, UnprotectError};
+use crate::text::Short;
+use core::fmt;
+
+/// A packet of a datagram that is opened where it stands.
+///
+/// ```
+/// use quic_wire::packet::PacketsMut;
+/// let mut datagram = [0x40, 7, 0, 1, 2, 3, 4, 5, 6];
+/// let packet = PacketsMut::new(&mut datagram, 1, &[1], false).next().unwrap()?;
+/// assert_eq!((packet.dst_cid(), packet.data().len()), (&[7][..], 9));
+/// # Ok::<(), quic_wire::Error>(())
+/// ```
+pub struct PacketMut<'a> {
+    head: Head,
+    packet: &'a mut [u8],
+}
+
+impl<'a> PacketMut<'a> {
+    // Of a packet that is these bytes.
+    pub(super) fn new(head: Head, packet: &'a mut [u8]) -> Self {
+        PacketMut { head, packet }
+    }
+
+    /// The packet's bytes.
+    ///
+    /// ```
+    /// use quic_wire::packet::PacketsMut;
+    /// let mut datagram = [0x40, 7, 0, 1, 2, 3, 4, 5, 6];
+    /// let packet = PacketsMut::new(&mut datagram, 1, &[1], false).next().unwrap()?;
+    /// assert_eq!(packet.data()[..3], [0x40, 7, 0]);
+    /// # Ok::<(), quic_wire::Error>(())
+    /// ```
+    pub fn data(&self) -> &[u8] {
+        self.packet
+    }
+
+    /// Its header as places in the packet.
+    ///
+    /// ```
+    /// use quic_wire::packet::PacketsMut;
+    /// let mut datagram = [0x40, 7, 0, 1, 2, 3, 4, 5, 6];
+    /// let packet = PacketsMut::new(&mut datagram, 1, &[1], false).next().unwrap()?;
+    /// assert_eq!(packet.head().head_end(), 2);
+    /// # Ok::<(), quic_wire::Error>(())
+    /// ```
+    pub fn head(&self) -> &Head {
+        &self.head
+    }
+
+    /// What its header says.
+    ///
+    /// ```
+    /// use quic_wire::packet::{PacketsMut, ProtectedHeader};
+    /// let mut datagram = [0x40, 7, 0, 1, 2, 3, 4, 5, 6];
+    /// let packet = PacketsMut::new(&mut datagram, 1, &[1], false).next().unwrap()?;
+    /// assert_eq!(packet.header(), ProtectedHeader::Short { spin: false, dst_cid: &[7] });
+    /// # Ok::<(), quic_wire::Error>(())
+    /// ```
+    pub fn header(&self) -> ProtectedHeader<'_> {
+        self.head.header(self.packet)
+    }
+
+    /// The receiver's id.
+    ///
+    /// ```
+    /// use quic_wire::packet::PacketsMut;
+    /// let mut datagram = [0x40, 7, 0, 1, 2, 3, 4, 5, 6];
+    /// let packet = PacketsMut::new(&mut datagram, 1, &[1], false).next().unwrap()?;
+    /// assert_eq!(packet.dst_cid(), [7]);
+    /// # Ok::<(), quic_wire::Error>(())
+    /// ```
+    pub fn dst_cid(&self) -> &[u8] {
+        self.head.dst_cid(self.packet)
+    }
+
+    /// All of its bytes, of which the packet is given up: for a Retry and a version negotiation, which have no
+    /// protection.
+    ///
+    /// ```
+    /// use quic_wire::packet::PacketsMut;
+    /// let mut datagram = [0xc0, 0, 0, 0, 0, 0, 0, 0, 0, 0, 1];
+    /// let packet = PacketsMut::new(&mut datagram, 0, &[1], false).next().unwrap()?;
+    /// let head = *packet.head();
+    /// assert_eq!(head.versions(packet.into_data()).collect::<Vec<_>>(), [1]);
+    /// # Ok::<(), quic_wire::Error>(())
+    /// ```
+    pub fn into_data(self) -> &'a mut [u8] {
+        self.packet
+    }
+
+    /// Takes the protection off its header by the mask that is made of a sample of so many bytes, and says its number
+    /// by the one that is expected next.
+    ///
+    /// ```
+    /// use quic_wire::packet::PacketsMut;
+    /// let mut datagram = [0x40, 7, 0, 1, 2, 3, 4, 5, 6];
+    /// let packet = PacketsMut::new(&mut datagram, 1, &[1], false).next().unwrap()?;
+    /// let packet = packet.open_with(3, |sample| [0, sample[0], 0, 0, 0], 0)?;
+    /// assert_eq!((packet.number(), packet.header_data), (4, &[0x40, 7, 4][..]));
+    /// # Ok::<(), quic_wire::Error>(())
+    /// ```
+    ///
+    /// # Errors
+    ///
+    /// Where it has no number, is too short for the sample, or `expected` is 2^62 or more.
+    #[inline]
+    pub fn open_with(
+        self,
+        sample_len: usize,
+        mask: impl FnOnce(&[u8]) -> [u8; 5],
+        expected: u64,
+    ) -> Result<Packet<'a>, UnprotectError> {
+        let opened = self.head.place(0).unprotect_with(self.packet, sample_len, mask, expected)?;
+        let (header_data, payload) = self.packet.split_at_mut(opened.payload);
+        Ok(Packet { head: self.head, opened, header_data, payload })
+    }
+}
+
+impl fmt::Debug for PacketMut<'_> {
+    fn fmt(&self, f: &mut fmt::Formatter<'_>) -> fmt::Result {
+        f.debug_struct("PacketMut").field("header", &self.header()).field("len", &self.packet.len()).finish()
+    }
+}
+
+/// A packet whose header has no protection any more, and whose payload is still sealed.
+///
+/// ```
+/// use quic_wire::packet::PacketsMut;
+/// let mut datagram = [0x44, 7, 0, 1, 2, 3, 4, 5, 6];
+/// let packet = PacketsMut::new(&mut datagram, 1, &[1], false).next().unwrap()?;
+/// let packet = packet.open_with(3, |_| [0, 5, 0, 0, 0], 0)?;
+/// assert_eq!((packet.header_data, &packet.payload[..2]), (&[0x44, 7, 5][..], &[1, 2][..]));
+/// # Ok::<(), quic_wire::Error>(())
+/// ```
+pub struct Packet<'a> {
+    /// The header with the number, which the AEAD authenticates.
+    pub header_data: &'a [u8],
+    /// The payload with its tag, to be opened where it stands.
+    pub payload: &'a mut [u8],
+    head: Head,
+    opened: Opened,
+}
+
+impl<'a> Packet<'a> {
+    /// What its header says that was never under protection.
+    ///
+    /// ```
+    /// use quic_wire::packet::{PacketsMut, ProtectedHeader};
+    /// let mut datagram = [0x44, 7, 0, 1, 2, 3, 4, 5, 6];
+    /// let packet = PacketsMut::new(&mut datagram, 1, &[1], false).next().unwrap()?;
+    /// let packet = packet.open_with(3, |_| [0, 5, 0, 0, 0], 0)?;
+    /// assert_eq!(packet.header(), ProtectedHeader::Short { spin: false, dst_cid: &[7] });
+    /// # Ok::<(), quic_wire::Error>(())
+    /// ```
+    pub fn header(&self) -> ProtectedHeader<'a> {
+        self.head.header(self.header_data)
+    }
+
+    /// The receiver's id.
+    ///
+    /// ```
+    /// use quic_wire::packet::PacketsMut;
+    /// let mut datagram = [0x44, 7, 0, 1, 2, 3, 4, 5, 6];
+    /// let packet = PacketsMut::new(&mut datagram, 1, &[1], false).next().unwrap()?;
+    /// let packet = packet.open_with(3, |_| [0, 5, 0, 0, 0], 0)?;
+    /// assert_eq!(packet.dst_cid(), [7]);
+    /// # Ok::<(), quic_wire::Error>(())
+    /// ```
+    pub fn dst_cid(&self) -> &'a [u8] {
+        self.head.dst_cid(self.header_data)
+    }
+
+    /// The sender's id, empty in a short header.
+    ///
+    /// ```
+    /// use quic_wire::packet::PacketsMut;
+    /// let mut datagram = [0x44, 7, 0, 1, 2, 3, 4, 5, 6];
+    /// let packet = PacketsMut::new(&mut datagram, 1, &[1], false).next().unwrap()?;
+    /// let packet = packet.open_with(3, |_| [0, 5, 0, 0, 0], 0)?;
+    /// assert!(packet.src_cid().is_empty());
+    /// # Ok::<(), quic_wire::Error>(())
+    /// ```
+    pub fn src_cid(&self) -> &'a [u8] {
+        self.head.src_cid(self.header_data)
+    }
+
+    /// The token of an Initial packet, empty in others.
+    ///
+    /// ```
+    /// use quic_wire::packet::PacketsMut;
+    /// let mut datagram = [0xc0, 0, 0, 0, 1, 0, 0, 1, 0x77, 5, 1, 2, 3, 4, 5];
+    /// let packet = PacketsMut::new(&mut datagram, 0, &[1], false).next().unwrap()?;
+    /// assert_eq!(packet.open_with(1, |_| [0; 5], 0)?.token(), [0x77]);
+    /// # Ok::<(), quic_wire::Error>(())
+    /// ```
+    pub fn token(&self) -> &'a [u8] {
+        self.head.token(self.header_data)
+    }
+
+    /// The whole number.
+    ///
+    /// ```
+    /// use quic_wire::packet::PacketsMut;
+    /// let mut datagram = [0x44, 7, 0, 1, 2, 3, 4, 5, 6];
+    /// let packet = PacketsMut::new(&mut datagram, 1, &[1], false).next().unwrap()?;
+    /// let packet = packet.open_with(3, |_| [0, 5, 0, 0, 0], 0)?;
+    /// assert_eq!(packet.number(), 5);
+    /// # Ok::<(), quic_wire::Error>(())
+    /// ```
+    pub fn number(&self) -> u64 {
+        self.opened.number
+    }
+
+    /// The number, how many bytes of it are written, and the first byte without protection.
+    ///
+    /// ```
+    /// use quic_wire::packet::PacketsMut;
+    /// let mut datagram = [0x44, 7, 0, 1, 2, 3, 4, 5, 6];
+    /// let packet = PacketsMut::new(&mut datagram, 1, &[1], false).next().unwrap()?;
+    /// let packet = packet.open_with(3, |_| [0, 5, 0, 0, 0], 0)?;
+    /// assert_eq!((packet.opened().number_len, packet.opened().first), (1, 0x44));
+    /// # Ok::<(), quic_wire::Error>(())
+    /// ```
+    pub fn opened(&self) -> Opened {
+        self.opened
+    }
+
+    /// The key phase of a 1-RTT packet; false of others.
+    ///
+    /// ```
+    /// use quic_wire::packet::PacketsMut;
+    /// let mut datagram = [0x44, 7, 0, 1, 2, 3, 4, 5, 6];
+    /// let packet = PacketsMut::new(&mut datagram, 1, &[1], false).next().unwrap()?;
+    /// let packet = packet.open_with(3, |_| [0, 5, 0, 0, 0], 0)?;
+    /// assert!(packet.key_phase());
+    /// # Ok::<(), quic_wire::Error>(())
+    /// ```
+    pub fn key_phase(&self) -> bool {
+        self.opened.key_phase()
+    }
+
+    /// Whether the reserved bits are 0: see [`Opened::reserved_bits_valid`].
+    ///
+    /// ```
+    /// use quic_wire::packet::PacketsMut;
+    /// let mut datagram = [0x44, 7, 0, 1, 2, 3, 4, 5, 6];
+    /// let packet = PacketsMut::new(&mut datagram, 1, &[1], false).next().unwrap()?;
+    /// let packet = packet.open_with(3, |_| [0, 5, 0, 0, 0], 0)?;
+    /// assert!(packet.reserved_bits_valid());
+    /// # Ok::<(), quic_wire::Error>(())
+    /// ```
+    pub fn reserved_bits_valid(&self) -> bool {
+        self.opened.reserved_bits_valid()
+    }
+}
+
+impl fmt::Debug for Packet<'_> {
+    fn fmt(&self, f: &mut fmt::Formatter<'_>) -> fmt::Result {
+        f.debug_struct("Packet")
+            .field("header", &self.header())
+            .field("opened", &self.opened)
+            .field("payload", &Short(self.payload))
+            .finish()
+    }
+}

@@ -1,0 +1,96 @@
+//! The functions of `quic_wire.h` that the library has; those of the header that C alone needs look for NULL.
+use super::words::{Canon, Frame, Frames, Head, Params, Range, Ranges, Said};
+
+extern "C" {
+    /// An archive of another version lacks it, so that it isn't linked.
+    pub static quic_wire_abi_1: u8;
+
+    pub fn quic_wire_frames_fill_(
+        frames: *mut Frames,
+        payload: *const u8,
+        len: usize,
+        out: *mut Frame,
+        room: usize,
+        count: *mut usize,
+    ) -> i32;
+    pub fn quic_wire_frames_next_(frames: *mut Frames, payload: *const u8, len: usize, out: *mut Frame) -> i32;
+    pub fn quic_wire_ack_ranges_init_unchecked_(
+        ranges: *mut Ranges,
+        payload: *const u8,
+        len: usize,
+        frame: *const Frame,
+    ) -> i32;
+    pub fn quic_wire_ack_ranges_next_(ranges: *mut Ranges, payload: *const u8, len: usize, out: *mut Range) -> i32;
+    pub fn quic_wire_frame_write_(
+        frame: *const Frame,
+        data: *const u8,
+        len: usize,
+        last: u32,
+        out: *mut u8,
+        out_len: usize,
+        written: *mut usize,
+    ) -> i32;
+    pub fn quic_wire_canonical_(payload: *const u8, len: usize, dest: *mut u8, room: usize, out: *mut Canon) -> i32;
+    pub fn quic_wire_head_read_(
+        bytes: *const u8,
+        len: usize,
+        cid_len: u32,
+        versions: *const u32,
+        versions_len: usize,
+        out: *mut Head,
+    ) -> i32;
+    pub fn quic_wire_unprotect_(
+        packet: *mut u8,
+        len: usize,
+        place: usize,
+        mask: *const u8,
+        expected: u64,
+        number: *mut u64,
+    ) -> i32;
+    pub fn quic_wire_protect_(packet: *mut u8, len: usize, place: usize, mask: *const u8) -> i32;
+    pub fn quic_wire_short_write_(
+        first: u32,
+        number: u64,
+        dst: *const u8,
+        dst_len: usize,
+        out: *mut u8,
+        out_len: usize,
+    ) -> i32;
+    pub fn quic_wire_long_write_(
+        said: *const Said,
+        dst: *const u8,
+        dst_len: usize,
+        src: *const u8,
+        src_len: usize,
+        token: *const u8,
+        token_len: usize,
+        out: *mut u8,
+        out_len: usize,
+    ) -> i64;
+    pub fn quic_wire_number_len_(number: u64, largest_acked: u64) -> i32;
+    pub fn quic_wire_number_expand_(written: u64, len: u32, expected: u64) -> u64;
+    pub fn quic_wire_varint_read_(bytes: *const u8, len: usize, value: *mut u64) -> usize;
+    pub fn quic_wire_varint_write_(value: u64, width: u32, out: *mut u8, out_len: usize) -> usize;
+    pub fn quic_wire_params_read_(side: u32, list: *const u8, len: usize, out: *mut Params) -> i32;
+    pub fn quic_wire_params_write_(
+        side: u32,
+        params: *const Params,
+        out: *mut u8,
+        out_len: usize,
+        written: *mut usize,
+    ) -> i32;
+    pub fn quic_wire_set_insert_(runs: *mut Range, room: usize, count: *mut usize, start: u64, end: u64) -> i32;
+    pub fn quic_wire_set_remove_(runs: *mut Range, room: usize, count: *mut usize, start: u64, end: u64) -> i32;
+    pub fn quic_wire_set_contains_(runs: *const Range, room: usize, count: usize, number: u64) -> i32;
+    pub fn quic_wire_ack_write_(
+        delay: u64,
+        runs: *const Range,
+        room: usize,
+        count: usize,
+        counts: *const u64,
+        counts_len: usize,
+        out: *mut u8,
+        out_len: usize,
+        written: *mut usize,
+    ) -> i32;
+}

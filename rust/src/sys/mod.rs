@@ -1,0 +1,281 @@
+//! The functions and structs of `quic_wire.h`, and a safe function over each. All of the crate's `unsafe` code is here
+//! and in `buffer`.
+//!
+//! What each call relies on is that its declaration is the header's, and that the library keeps the header's word: it
+//! reads only the bytes and items that a pointer and the length beside it name, writes only where the header says so,
+//! keeps no pointer, takes no memory, calls nothing back, and refuses all other words by an answer. It is machine code
+//! behind a C interface, so it may be given room that isn't initialised: it has no way to tell, and what it answers
+//! doesn't depend on what stood there.
+mod c;
+mod words;
+
+pub use words::{Canon, Frame, Frames, Head, Params, Range, Ranges, Said};
+
+use crate::frame::Entry;
+use core::mem::MaybeUninit;
+
+#[cfg(not(target_pointer_width = "64"))]
+compile_error!("the library quic_wire has places of 64 bits");
+
+/// Room for bytes, initialised or not.
+pub type Room = [MaybeUninit<u8>];
+
+/// So many bytes stand at the front of the room that a call was given. Only this module makes one from nothing.
+#[derive(Clone, Copy, Debug)]
+pub struct Filled(usize);
+
+impl Filled {
+    /// Nothing yet.
+    pub const NONE: Filled = Filled(0);
+
+    /// How many bytes these are.
+    #[inline]
+    pub fn len(self) -> usize {
+        self.0
+    }
+
+    /// Both, where the second call was given the room behind the bytes of the first.
+    #[inline]
+    pub fn then(self, behind: Filled) -> Filled {
+        Filled(self.0 + behind.0)
+    }
+}
+
+/// Puts a byte at the front of the room, which must have one.
+#[inline]
+pub fn byte(byte: u8, out: &mut Room) -> Filled {
+    out[0].write(byte);
+    Filled(1)
+}
+
+/// Copies bytes to the front of the room, which must be as long, and gives them there.
+pub fn copied<'r>(bytes: &[u8], out: &'r mut Room) -> (Filled, &'r mut [u8]) {
+    let front = &mut out[..bytes.len()];
+    for (to, byte) in front.iter_mut().zip(bytes) {
+        to.write(*byte);
+    }
+    // SAFETY: each byte of `front` was just written, and it is borrowed alone for as long as the answer lives.
+    (Filled(bytes.len()), unsafe { core::slice::from_raw_parts_mut(front.as_mut_ptr().cast(), front.len()) })
+}
+
+pub const OK: i32 = 0;
+pub const ITEM: i32 = 1;
+pub const CHANGED: i32 = 1;
+pub const EMPTY: i32 = -2;
+pub const MALFORMED: i32 = -3;
+pub const NO_ROOM: i32 = -4;
+
+// Keeps the symbol of the version in whatever links this crate.
+struct Linked(#[allow(dead_code)] *const u8);
+
+// SAFETY: the pointer is never followed; only its address is kept.
+unsafe impl Sync for Linked {}
+
+#[used]
+static LINKED: Linked = Linked(&raw const c::quic_wire_abi_1);
+
+// What a writer answers: the bytes at the front of its room, or its answer and how many it asks for.
+fn wrote(answer: i32, written: usize) -> Result<Filled, (i32, usize)> {
+    if answer == OK {
+        Ok(Filled(written))
+    } else {
+        Err((answer, written))
+    }
+}
+
+/// Reads frames into entries, of which `count` are then filled.
+#[inline]
+pub fn frames_fill(frames: &mut Frames, payload: &[u8], out: &mut [Entry], count: &mut usize) -> i32 {
+    let (entries, room) = (out.as_mut_ptr().cast::<Frame>(), out.len());
+    // SAFETY: `payload` and `out` each give their own pointer and length, and an `Entry` is a `Frame` (`transparent`),
+    // of which any words are valid; `out`, `frames` and `count` are borrowed alone, so nothing overlaps them. Any words
+    // in `frames` serve. The library looks at no other memory and keeps no pointer.
+    unsafe { c::quic_wire_frames_fill_(frames, payload.as_ptr(), payload.len(), entries, room, count) }
+}
+
+/// Reads one frame into its room: `ITEM` with it, `MALFORMED` with what is told of it, or 0.
+#[inline]
+pub fn frames_next<'r>(
+    frames: &mut Frames,
+    payload: &[u8],
+    room: &'r mut MaybeUninit<Frame>,
+) -> (i32, Option<&'r Frame>) {
+    // SAFETY: `payload` gives its own pointer and length, and `room` is that of one frame, which the library writes and
+    // doesn't read; `frames` and `room` are borrowed alone. Any words in `frames` serve. It looks at no other memory
+    // and keeps no pointer.
+    let answer = unsafe { c::quic_wire_frames_next_(frames, payload.as_ptr(), payload.len(), room.as_mut_ptr()) };
+    if answer == ITEM || answer == MALFORMED {
+        // SAFETY: with these two answers the library has written all words of the frame, of which any are valid.
+        (answer, Some(unsafe { room.assume_init_ref() }))
+    } else {
+        (answer, None)
+    }
+}
+
+#[inline]
+pub fn ack_ranges_init_unchecked(ranges: &mut Ranges, payload: &[u8], frame: &Frame) -> i32 {
+    // SAFETY: `payload` gives its own pointer and length; `ranges` is borrowed alone. "Unchecked" leaves out a second
+    // look at the blocks, not at places: any words in `frame` serve. The library looks at no other memory and keeps no
+    // pointer.
+    unsafe { c::quic_wire_ack_ranges_init_unchecked_(ranges, payload.as_ptr(), payload.len(), frame) }
+}
+
+#[inline]
+pub fn ack_ranges_next(ranges: &mut Ranges, payload: &[u8], out: &mut Range) -> i32 {
+    // SAFETY: `payload` gives its own pointer and length; `ranges` and `out` are borrowed alone. Any words in `ranges`
+    // serve. The library looks at no other memory and keeps no pointer.
+    unsafe { c::quic_wire_ack_ranges_next_(ranges, payload.as_ptr(), payload.len(), out) }
+}
+
+#[inline]
+pub fn frame_write(frame: &Frame, data: &[u8], last: bool, out: &mut Room) -> Result<Filled, (i32, usize)> {
+    let (mut written, last) = (0, u32::from(last));
+    let (to, room) = (out.as_mut_ptr().cast::<u8>(), out.len());
+    // SAFETY: `data` and `out` each give their own pointer and length; `out` and `written` are borrowed alone. Any
+    // words in `frame` serve: places outside `data` are refused. With 0 the first `written` bytes of `out` are
+    // initialised. The library looks at no other memory and keeps no pointer.
+    let answer = unsafe { c::quic_wire_frame_write_(frame, data.as_ptr(), data.len(), last, to, room, &mut written) };
+    wrote(answer, written)
+}
+
+#[inline]
+pub fn canonical(payload: &[u8], out: &mut Room) -> Result<Filled, (i32, Canon)> {
+    let mut told = Canon::default();
+    let (to, room) = (out.as_mut_ptr().cast::<u8>(), out.len());
+    // SAFETY: `payload` and `out` each give their own pointer and length; `out` and `told` are borrowed alone. With 0
+    // the first `told.len` bytes of `out` are initialised. The library looks at no other memory and keeps no pointer.
+    let answer = unsafe { c::quic_wire_canonical_(payload.as_ptr(), payload.len(), to, room, &mut told) };
+    wrote(answer, told.len).map_err(|(answer, _)| (answer, told))
+}
+
+#[inline]
+pub fn head_read(bytes: &[u8], cid_len: u32, versions: &[u32], out: &mut Head) -> i32 {
+    let (first, count) = (versions.as_ptr(), versions.len());
+    // SAFETY: `bytes` and `versions` each give their own pointer and length; `out` is borrowed alone. The library looks
+    // at no other memory and keeps no pointer.
+    unsafe { c::quic_wire_head_read_(bytes.as_ptr(), bytes.len(), cid_len, first, count, out) }
+}
+
+#[inline]
+pub fn unprotect(packet: &mut [u8], place: usize, mask: &[u8; 5], expected: u64, number: &mut u64) -> i32 {
+    let (bytes, len) = (packet.as_mut_ptr(), packet.len());
+    // SAFETY: `packet` gives its own pointer and length and is borrowed alone, as is `number`; of `mask` the five bytes
+    // are read that are there. A place outside the packet is refused. The library looks at no other memory and keeps no
+    // pointer.
+    unsafe { c::quic_wire_unprotect_(bytes, len, place, mask.as_ptr(), expected, number) }
+}
+
+#[inline]
+pub fn protect(packet: &mut [u8], place: usize, mask: &[u8; 5]) -> i32 {
+    // SAFETY: `packet` gives its own pointer and length and is borrowed alone; of `mask` the five bytes are read that
+    // are there. A place outside the packet is refused. The library looks at no other memory and keeps no pointer.
+    unsafe { c::quic_wire_protect_(packet.as_mut_ptr(), packet.len(), place, mask.as_ptr()) }
+}
+
+/// `Err` has the library's answer, below 0.
+#[inline]
+pub fn short_write(first: u8, number: u64, dst: &[u8], out: &mut Room) -> Result<Filled, i64> {
+    let (to, room, first) = (out.as_mut_ptr().cast::<u8>(), out.len(), u32::from(first));
+    // SAFETY: `dst` and `out` each give their own pointer and length; `out` is borrowed alone. An answer above 0 is how
+    // many bytes at the front of `out` are initialised. The library looks at no other memory and keeps no pointer.
+    let answer = unsafe { c::quic_wire_short_write_(first, number, dst.as_ptr(), dst.len(), to, room) };
+    usize::try_from(answer).map(Filled).map_err(|_| i64::from(answer))
+}
+
+/// `Err` has the library's answer, below 0.
+#[inline]
+pub fn long_write(said: &Said, [dst, src, token]: [&[u8]; 3], out: &mut Room) -> Result<Filled, i64> {
+    let (to, room) = (out.as_mut_ptr().cast::<u8>(), out.len());
+    let (dst, dst_len) = (dst.as_ptr(), dst.len());
+    let (src, src_len) = (src.as_ptr(), src.len());
+    let (token, token_len) = (token.as_ptr(), token.len());
+    // SAFETY: both ids, the token and `out` each give their own pointer and length; `out` is borrowed alone. Any words
+    // in `said` serve. An answer above 0 is how many bytes at the front of `out` are initialised. The library looks at
+    // no other memory and keeps no pointer.
+    let answer = unsafe { c::quic_wire_long_write_(said, dst, dst_len, src, src_len, token, token_len, to, room) };
+    usize::try_from(answer).map(Filled).map_err(|_| answer)
+}
+
+#[inline]
+pub fn number_len(number: u64, largest_acked: u64) -> i32 {
+    // SAFETY: numbers alone go in and out, and any serve.
+    unsafe { c::quic_wire_number_len_(number, largest_acked) }
+}
+
+#[inline]
+pub fn number_expand(written: u64, len: u32, expected: u64) -> u64 {
+    // SAFETY: numbers alone go in and out, and any serve.
+    unsafe { c::quic_wire_number_expand_(written, len, expected) }
+}
+
+#[inline]
+pub fn varint_read(bytes: &[u8], value: &mut u64) -> usize {
+    // SAFETY: `bytes` gives its own pointer and length; `value` is borrowed alone. The library looks at no other memory
+    // and keeps no pointer.
+    unsafe { c::quic_wire_varint_read_(bytes.as_ptr(), bytes.len(), value) }
+}
+
+/// `None` where there is no room, or the number has no encoding of this width.
+#[inline]
+pub fn varint_write(value: u64, width: u32, out: &mut Room) -> Option<Filled> {
+    let (to, room) = (out.as_mut_ptr().cast::<u8>(), out.len());
+    // SAFETY: `out` gives its own pointer and length and is borrowed alone. An answer above 0 is how many bytes at the
+    // front of it are initialised. The library looks at no other memory and keeps no pointer.
+    match unsafe { c::quic_wire_varint_write_(value, width, to, room) } {
+        0 => None,
+        len => Some(Filled(len)),
+    }
+}
+
+#[inline]
+pub fn params_read(side: u32, list: &[u8], out: &mut Params) -> i32 {
+    // SAFETY: `list` gives its own pointer and length; `out` is borrowed alone. The library looks at no other memory
+    // and keeps no pointer.
+    unsafe { c::quic_wire_params_read_(side, list.as_ptr(), list.len(), out) }
+}
+
+#[inline]
+pub fn params_write(side: u32, params: &Params, out: &mut Room) -> Result<Filled, (i32, usize)> {
+    let mut written = 0;
+    let (to, room) = (out.as_mut_ptr().cast::<u8>(), out.len());
+    // SAFETY: `out` gives its own pointer and length and is borrowed alone, as is `written`. Any words in `params`
+    // serve. With 0 the first `written` bytes of `out` are initialised. The library looks at no other memory and keeps
+    // no pointer.
+    let answer = unsafe { c::quic_wire_params_write_(side, params, to, room, &mut written) };
+    wrote(answer, written)
+}
+
+#[inline]
+pub fn set_insert(runs: &mut [Range], count: &mut usize, start: u64, end: u64) -> i32 {
+    // SAFETY: `runs` gives its own pointer and length and is borrowed alone, as is `count`. Entries that are no set and
+    // a count above their length are refused. The library looks at no other memory and keeps no pointer.
+    unsafe { c::quic_wire_set_insert_(runs.as_mut_ptr(), runs.len(), count, start, end) }
+}
+
+#[inline]
+pub fn set_remove(runs: &mut [Range], count: &mut usize, start: u64, end: u64) -> i32 {
+    // SAFETY: `runs` gives its own pointer and length and is borrowed alone, as is `count`. Entries that are no set and
+    // a count above their length are refused. The library looks at no other memory and keeps no pointer.
+    unsafe { c::quic_wire_set_remove_(runs.as_mut_ptr(), runs.len(), count, start, end) }
+}
+
+#[inline]
+pub fn set_contains(runs: &[Range], number: u64) -> i32 {
+    // SAFETY: `runs` gives its own pointer and its own length, both as room and as count. Entries that are no set are
+    // refused. The library looks at no other memory and keeps no pointer.
+    unsafe { c::quic_wire_set_contains_(runs.as_ptr(), runs.len(), runs.len(), number) }
+}
+
+#[inline]
+pub fn ack_write(delay: u64, runs: &[Range], counts: &[u64], out: &mut Room) -> Result<Filled, (i32, usize)> {
+    let mut written = 0;
+    let (first, count) = (runs.as_ptr(), runs.len());
+    let (marked, few) = (counts.as_ptr(), counts.len());
+    let (to, room) = (out.as_mut_ptr().cast::<u8>(), out.len());
+    // SAFETY: `runs`, `counts` and `out` each give their own pointer and length, `runs` both as room and as count;
+    // `out` and `written` are borrowed alone. Entries that are no set, and counts that aren't none or three, are
+    // refused. With 0 the first `written` bytes of `out` are initialised. The library looks at no other memory and
+    // keeps no pointer.
+    let answer = unsafe { c::quic_wire_ack_write_(delay, first, count, count, marked, few, to, room, &mut written) };
+    wrote(answer, written)
+}

@@ -1,0 +1,92 @@
+//! Numbers of variable length (RFC 9000, section 16).
+//!
+//! ```
+//! use quic_wire::varint;
+//! let mut out = [0; 8];
+//! assert_eq!(varint::write(1025, &mut out), Ok(2));
+//! assert_eq!(varint::read(&out), Some((1025, 2)));
+//! assert_eq!(varint::len(1025), Some(2));
+//! ```
+use crate::buffer::Buffer;
+use crate::{sys, WriteError};
+
+/// The greatest number, 2^62 - 1.
+pub const MAX: u64 = (1 << 62) - 1;
+
+/// The number that bytes begin with, and how many bytes it has, 1, 2, 4 or 8. None where they end within it.
+///
+/// ```
+/// use quic_wire::varint;
+/// assert_eq!(varint::read(&[0x44, 0x01, 7]), Some((1025, 2)));
+/// assert_eq!(varint::read(&[0x44]), None);
+/// ```
+#[inline]
+pub fn read(bytes: &[u8]) -> Option<(u64, usize)> {
+    let mut value = 0;
+    match sys::varint_read(bytes, &mut value) {
+        0 => None,
+        len => Some((value, len)),
+    }
+}
+
+/// How many bytes a number has in its shortest encoding. None above [`MAX`].
+///
+/// ```
+/// use quic_wire::varint::{len, MAX};
+/// assert_eq!([63, 64, 1 << 30, MAX, MAX + 1].map(len), [Some(1), Some(2), Some(8), Some(8), None]);
+/// ```
+#[inline]
+pub const fn len(value: u64) -> Option<usize> {
+    match value {
+        0..=0x3f => Some(1),
+        0x40..=0x3fff => Some(2),
+        0x4000..=0x3fff_ffff => Some(4),
+        0x4000_0000..=MAX => Some(8),
+        _ => None,
+    }
+}
+
+/// Writes a number in its shortest encoding, and answers how many bytes it has.
+///
+/// ```
+/// let mut out = [0; 2];
+/// assert_eq!((quic_wire::varint::write(80, &mut out), out), (Ok(2), [0x40, 80]));
+/// ```
+///
+/// # Errors
+///
+/// Where it is above [`MAX`], or there is too little room.
+#[inline]
+pub fn write<B: Buffer + ?Sized>(value: u64, out: &mut B) -> Result<usize, WriteError> {
+    write_in(value, 0, out)
+}
+
+/// Writes a number in 1, 2, 4 or 8 bytes, as for a length that is known last.
+///
+/// ```
+/// use quic_wire::varint;
+/// let mut out = [0; 4];
+/// assert_eq!(varint::write_in(5, 4, &mut out), Ok(4));
+/// assert_eq!(out, [0x80, 0, 0, 5]);
+/// assert!(varint::write_in(64, 1, &mut out).is_err());
+/// ```
+///
+/// # Errors
+///
+/// Where it doesn't fit into so many bytes, there is no such width, or there is too little room.
+#[inline]
+pub fn write_in<B: Buffer + ?Sized>(value: u64, width: usize, out: &mut B) -> Result<usize, WriteError> {
+    let needed = len(value).ok_or(WriteError::OutOfRange("a number of variable length is 2^62 or more"))?.max(width);
+    if width > 8 {
+        return Err(WriteError::OutOfRange("a number of variable length has 1, 2, 4 or 8 bytes"));
+    }
+    out.put(|room| {
+        if room.len() < needed {
+            return Err(WriteError::NoRoom(needed));
+        }
+        match sys::varint_write(value, width as u32, room) {
+            Some(filled) => Ok((filled, filled.len())),
+            None => Err(WriteError::OutOfRange("a number has no encoding of this width")),
+        }
+    })
+}

@@ -1,0 +1,335 @@
+//! Frames that are read, written and read again.
+#![cfg(feature = "alloc")]
+use quic_wire::canonical::{canonical, CanonError};
+use quic_wire::frame::{
+    Ack, ApplicationClose, Close, ConnectionClose, CryptoMeta, Datagram, DatagramMeta, EmptyPayload, Entry, Frame,
+    FrameType, Iter, NewConnectionId, Reason, Stream, StreamMeta, WriteError,
+};
+use quic_wire::transport_error::Code;
+use quic_wire::{varint, Dir, StreamId};
+use std::collections::HashSet;
+use std::mem::MaybeUninit;
+
+fn read(payload: &[u8]) -> Vec<Frame<'_>> {
+    Iter::new(payload).unwrap().collect::<Result<_, _>>().unwrap()
+}
+
+#[test]
+fn frames_borrow_the_payload() {
+    let payload = [0x0d, 0x04, 0x40, 0x07, b'h', b'i'].to_vec();
+    let [Frame::Stream(s)] = read(&payload)[..] else { panic!() };
+    assert!(s.fin && s.offset == 7 && u64::from(s.id) == 4);
+    assert_eq!(s.data.as_ptr(), payload[4..].as_ptr());
+    assert_eq!(s.data, b"hi");
+}
+
+#[test]
+fn an_iterator_is_small_and_told_apart_by_what_it_gives() {
+    assert!(size_of::<Iter<'_>>() == 40, "{}", size_of::<Iter<'_>>());
+    // Two PADDING in three bytes, one in eight, two more, and a PING.
+    let payload = [0x40, 0x00, 0x00, 0xc0, 0, 0, 0, 0, 0, 0, 0, 0, 0, 0x01];
+    let mut frames = Iter::new(&payload).unwrap();
+    let mut ends = Vec::new();
+    while let Some(frame) = frames.next() {
+        assert_eq!(frame.unwrap() == Frame::Ping, frames.offset() == 14);
+        ends.push(frames.offset());
+    }
+    assert_eq!(ends, [2, 3, 11, 12, 13, 14]);
+    assert_eq!(frames.last_type(), Some(FrameType::PING));
+    assert_eq!(frames.rest(), []);
+}
+
+#[test]
+fn many_frames_are_read_with_one_call() {
+    let payload = [0x01, 0x00, 0x00, 0x00, 0x10, 0x05, 0x01, 0x06];
+    for room in 1..6 {
+        let mut entries = vec![Entry::default(); room];
+        let (mut frames, mut given) = (Iter::new(&payload).unwrap(), Vec::new());
+        let error = loop {
+            match frames.fill(&mut entries).unwrap() {
+                Ok(batch) => {
+                    assert!(batch.len() <= room);
+                    given.extend(batch);
+                }
+                Err(error) => break error,
+            }
+        };
+        let all = [(0..1, Frame::Ping), (1..4, Frame::Padding), (4..6, Frame::MaxData(5)), (6..7, Frame::Ping)];
+        assert_eq!(given, all);
+        assert_eq!((error.to_string(), frames.offset()), ("unexpected end in CRYPTO".into(), 7));
+        assert!(frames.fill(&mut entries).is_none() && frames.next().is_none());
+    }
+    // The rest of a run of which a frame was given.
+    let mut frames = Iter::new(&payload).unwrap();
+    assert_eq!(frames.by_ref().take(2).flatten().count(), 2);
+    let mut entries = [Entry::default(); 1];
+    let batch = frames.fill(&mut entries).unwrap().unwrap();
+    assert_eq!(batch.collect::<Vec<_>>(), [(2..4, Frame::Padding)]);
+}
+
+#[test]
+fn an_iterator_goes_on_where_another_stopped() {
+    let payload = [0x10, 0x05, 0x00, 0x00, 0x08, 0x04, b'x', b'y'];
+    let all = read(&payload);
+    let (mut offset, mut last_type) = (0, None);
+    for frame in &all {
+        let mut frames = Iter::resume(&payload, offset, last_type, false).unwrap();
+        assert_eq!(frames.next(), Some(Ok(*frame)));
+        (offset, last_type) = (frames.offset(), frames.last_type());
+    }
+    assert_eq!((offset, last_type), (8, Some(FrameType::STREAM)));
+    assert!(Iter::resume(&payload, 8, last_type, false).unwrap().next().is_none());
+    assert!(Iter::resume(&payload, 9, None, false).is_none());
+    let refused = Iter::resume(&[0x01, 0x40], 1, Some(FrameType::PING), true).unwrap().next();
+    assert_eq!(refused.unwrap().unwrap_err().ty, Some(FrameType::PING));
+}
+
+#[test]
+fn the_type_is_told_as_it_stands() {
+    let payload = [0x0e, 0x04, 0x00, 0x01, b'x', 0x31, 0x00];
+    let mut frames = Iter::new(&payload).unwrap();
+    let stream = frames.next().unwrap().unwrap();
+    assert_eq!((stream.ty(), frames.last_type()), (FrameType::STREAM, FrameType::new(0x0e)));
+    let datagram = frames.next().unwrap().unwrap();
+    assert_eq!((datagram.ty(), frames.last_type()), (FrameType::DATAGRAM, FrameType::new(0x31)));
+    // PADDING counts as the last type too.
+    let mut frames = Iter::new(&[0x01, 0x00, 0x40]).unwrap();
+    assert_eq!(frames.by_ref().take(2).flatten().count(), 2);
+    assert_eq!(frames.last_type(), Some(FrameType::PADDING));
+    assert_eq!(frames.next().unwrap().unwrap_err().to_string(), "unexpected end in PADDING");
+}
+
+#[test]
+fn an_ack_is_kept_and_written_again() {
+    // 100 is the greatest number, in a longer encoding; ten numbers, none, one; then counts.
+    let bytes = [3, 0x80, 0, 0, 100, 5, 1, 0x40, 9, 0, 0, 1, 2, 3];
+    let kept: Vec<u8> = {
+        let payload = [&bytes[..], &[0x01]].concat();
+        let Frame::Ack(ack) = read(&payload)[0] else { panic!() };
+        ack.as_bytes().to_vec()
+    };
+    assert_eq!(kept, bytes);
+    let ack = Ack::from_bytes(&kept).unwrap();
+    assert_eq!((ack.largest(), ack.delay()), (100, 5));
+    assert_eq!(ack.ecn().map(|e| (e.ect0, e.ect1, e.ce)), Some((1, 2, 3)));
+    assert_eq!(ack.iter().collect::<Vec<_>>(), [91..=100, 89..=89]);
+    assert_eq!(ack.additional(), [0x40, 9, 0, 0]);
+
+    let shortest = [3, 0x40, 100, 5, 1, 9, 0, 0, 1, 2, 3];
+    let (frame, mut out) = (Frame::Ack(ack), [7; 16]);
+    assert_eq!(frame.encoded_len(true), Ok(11));
+    assert_eq!(frame.encode(false, &mut out[..10]), Err(WriteError::NoRoom(11)));
+    assert_eq!(frame.encode(false, &mut out), Ok(11));
+    assert_eq!((&out[..11], &out[11..]), (&shortest[..], &[7; 5][..]));
+    assert!(Ack::from_bytes(&bytes[..13]).is_err() && Ack::from_bytes(&[0x01]).is_err());
+    assert!(Ack::from_bytes(&[&bytes[..], &[0]].concat()).is_err() && Ack::from_bytes(&[]).is_err());
+}
+
+#[test]
+fn heads_come_before_their_data() {
+    for (start, fin, len) in [(0, false, 0), (0, true, 3), (1, false, 63), (1 << 14, true, 64), (1 << 30, false, 900)] {
+        let data = vec![0xda; len as usize];
+        let id = StreamId(start + 4);
+        let offsets = start..start + len;
+        let meta = StreamMeta { id, offsets: offsets.clone(), fin };
+        let stream = Frame::Stream(Stream { id, offset: start, fin, data: &data });
+        let heads: [(Vec<u8>, Frame<'_>, bool); 4] = [
+            (written(|out| meta.encode(true, out)), stream, false),
+            (written(|out| meta.encode(false, out)), stream, true),
+            (written(|out| DatagramMeta { len }.encode(true, out)), Frame::Datagram(Datagram { data: &data }), false),
+            (written(|out| DatagramMeta { len }.encode(false, out)), Frame::Datagram(Datagram { data: &data }), true),
+        ];
+        for (head, frame, last) in heads {
+            assert_eq!([&head[..], &data].concat(), written(|out| frame.encode(last, out)));
+        }
+        let crypto = Frame::Crypto(quic_wire::frame::Crypto { offset: start, data: &data });
+        let head = written(|out| CryptoMeta { offsets: offsets.clone() }.encode(out));
+        assert_eq!(CryptoMeta { offsets }.encoded_len(), Ok(head.len()));
+        assert_eq!([&head[..], &data].concat(), written(|out| crypto.encode(false, out)));
+        assert_eq!(meta.encoded_len(true), Ok(written(|out| meta.encode(true, out)).len()));
+    }
+}
+
+fn written(write: impl Fn(&mut Vec<u8>) -> Result<usize, WriteError>) -> Vec<u8> {
+    let mut out = vec![];
+    let len = write(&mut out).unwrap();
+    assert_eq!(out.len(), len);
+    out
+}
+
+#[test]
+fn heads_are_refused_whole() {
+    let meta = StreamMeta { id: StreamId(64), offsets: 5..70, fin: false };
+    let len = meta.encoded_len(true).unwrap();
+    for room in 0..len {
+        let mut out = vec![7; room];
+        assert_eq!(meta.encode(true, &mut out[..]), Err(WriteError::NoRoom(len)));
+        assert_eq!(out, vec![7; room]);
+    }
+    let errors = [
+        StreamMeta { offsets: 0..1 << 62, ..meta.clone() }.encode(true, &mut [0; 32]),
+        StreamMeta { id: StreamId(1 << 62), ..meta.clone() }.encode(true, &mut [0; 32]),
+        CryptoMeta { offsets: std::ops::Range { start: 2, end: 1 } }.encode(&mut [0; 32]),
+        DatagramMeta { len: 1 << 62 }.encode(false, &mut [0; 32]),
+    ];
+    assert_eq!(
+        errors.map(|error| error.unwrap_err().to_string()),
+        [
+            "data end at 2^62 or behind it",
+            "a stream's number is 2^62 or more",
+            "a range of data is reversed",
+            "data end at 2^62 or behind it",
+        ]
+    );
+}
+
+#[test]
+fn frames_are_written_at_the_end_of_a_buffer() {
+    let frame = Frame::MaxData(80);
+    let mut packet = Vec::with_capacity(2);
+    assert_eq!((frame.encode(false, &mut packet), frame.encode(true, &mut packet)), (Ok(3), Ok(3)));
+    assert_eq!(packet, [0x10, 0x40, 80, 0x10, 0x40, 80]);
+    assert_eq!(varint::write(5, &mut packet), Ok(1));
+
+    let mut room = [MaybeUninit::uninit(); 3];
+    assert_eq!(frame.encode(false, &mut room[..]), Ok(3));
+    assert_eq!(frame.encode(false, &mut room[..2]), Err(WriteError::NoRoom(3)));
+
+    // What can't be written leaves the vector as it was.
+    assert!(Frame::MaxData(1 << 62).encode(false, &mut packet).is_err());
+    assert_eq!((packet.len(), canonical(&packet[..3], &mut packet.clone())), (7, Ok(3)));
+}
+
+#[test]
+fn what_is_out_of_range_is_named() {
+    let (id, token) = ([7; 21], [9; 16]);
+    let new = |id, retire_prior_to| {
+        Frame::NewConnectionId(NewConnectionId { sequence: 4, retire_prior_to, id, reset_token: &token })
+    };
+    let close = ConnectionClose { error_code: Code::NO_ERROR, frame_type: Some(FrameType::PADDING), reason: b"" };
+    let stream = Stream { id: StreamId(0), offset: 1 << 62, fin: false, data: b"x" };
+    let refused = [
+        (Frame::MaxData(1 << 62), "a number is 2^62 or more"),
+        (new(&id[..0], 0), "a new id has 1 to 20 bytes"),
+        (new(&id, 0), "a new id has 1 to 20 bytes"),
+        (new(&id[..20], 5), "retire_prior_to is above its own sequence number"),
+        (Frame::Close(close.into()), "a close can't name PADDING, whose type says that it names none"),
+        (Frame::Stream(stream), "a number is 2^62 or more"),
+        (Frame::Stream(Stream { id: StreamId(1 << 62), offset: 0, ..stream }), "a number is 2^62 or more"),
+        (Frame::MaxStreams { dir: Dir::Uni, count: 1 << 62 }, "a number is 2^62 or more"),
+    ];
+    for (frame, what) in refused {
+        let error = frame.encode(false, &mut [0; 64]).unwrap_err();
+        assert_eq!((error, frame.encoded_len(true)), (WriteError::OutOfRange(what), Err(error)));
+        assert_eq!(error.to_string(), what);
+    }
+    assert_eq!(new(&id[..20], 4).encoded_len(false), Ok(40));
+}
+
+#[test]
+fn a_close_names_a_frame_and_is_shortened() {
+    let reason = [b'x'; 100];
+    let frame_type = FrameType::try_from(0x0a).ok();
+    let connection = ConnectionClose { error_code: Code::STREAM_LIMIT_ERROR, frame_type, reason: &reason };
+    let application = ApplicationClose { error_code: 1 << 20, reason: &reason };
+    for close in [Close::from(connection), Close::from(application)] {
+        for max_len in 0..120 {
+            let Some(short) = close.shortened(max_len) else {
+                assert!(max_len < 7);
+                continue;
+            };
+            let len = Frame::Close(short).encoded_len(true).unwrap();
+            assert!(len <= max_len);
+            // No byte more would fit, or all are there; a longer length may take the byte that is left.
+            assert!(short.reason().len() == 100 || len + 1 >= max_len, "{max_len} {len}");
+        }
+    }
+    let mut out = vec![];
+    Frame::Close(connection.into()).encode(true, &mut out).unwrap();
+    assert_eq!(read(&out), [Frame::Close(connection.into())]);
+    assert_eq!(connection.to_string(), format!("STREAM_LIMIT_ERROR in STREAM: {}", "x".repeat(100)));
+    assert_eq!(ApplicationClose { error_code: 5, reason: b"a\xffb" }.to_string(), "application error 5: a\u{fffd}b");
+}
+
+#[test]
+fn debug_shows_no_whole_datagram() {
+    let data = [0xab; 1200];
+    let stream = Frame::Stream(Stream { id: StreamId(4), offset: 7, fin: true, data: &data });
+    let text = format!("{stream:?}");
+    assert!(text.contains("[1200 bytes: abababababababababababababababab..]"), "{text}");
+    let payload = written(|out| stream.encode(true, out));
+    assert!(text.len() < 120 && format!("{:?}", Iter::new(&payload).unwrap()).len() < 160);
+    let ack = [0x02, 9, 0, 1, 0, 3, 1];
+    let shown = "Ack(Ack { largest: 9, delay: 0, ecn: None, additional: [3 bytes: 000301] })";
+    assert_eq!(format!("{:?}", read(&ack)[0]), shown);
+}
+
+#[test]
+fn frames_are_hashed() {
+    let payload = [0x01, 0x10, 0x05, 0x01, 0x02, 9, 0, 0, 0];
+    let different: HashSet<_> = read(&payload).into_iter().collect();
+    assert_eq!(different.len(), 3);
+}
+
+#[test]
+fn refusals() {
+    assert_eq!(Iter::new(&[]).err(), Some(EmptyPayload));
+    let mut iter = Iter::new(&[0x01, 0x06]).unwrap();
+    assert_eq!(iter.next(), Some(Ok(Frame::Ping)));
+    let e = iter.next().unwrap().unwrap_err();
+    assert_eq!((e.ty.map(u64::from), e.reason), (Some(6), Reason::UnexpectedEnd));
+    assert_eq!((iter.next(), iter.next()), (None, None));
+    assert_eq!(Frame::MaxData(64).encode(false, &mut [7; 2]), Err(WriteError::NoRoom(3)));
+    assert_eq!(canonical(&[], &mut [0; 1]), Err(CanonError::Empty));
+    assert_eq!(canonical(&[0x40, 1, 1], &mut [0; 1]), Err(CanonError::NoRoom(2)));
+    assert_eq!(canonical(&[1, 6], &mut [0; 8]).unwrap_err().to_string(), "unexpected end in CRYPTO");
+}
+
+#[test]
+fn a_long_type_is_refused_where_types_are_strict() {
+    // A MAX_DATA whose number takes two bytes, two PADDING, and a PING whose type does.
+    let payload = [0x10, 0x40, 0x01, 0x00, 0x00, 0x40, 0x01];
+    let front = [Frame::MaxData(1), Frame::Padding, Frame::Padding].map(Ok);
+    let mut strict = Iter::strict(&payload).unwrap();
+    assert_eq!(strict.by_ref().take(3).collect::<Vec<_>>(), front);
+    let e = strict.next().unwrap().unwrap_err();
+    assert_eq!((e.ty.map(u64::from), e.reason, strict.offset()), (Some(1), Reason::LongType, 5));
+    assert_eq!(e.to_string(), "frame type not in shortest form in PING");
+    assert_eq!(strict.next(), None);
+    assert_eq!(Iter::strict(&[]).err(), Some(EmptyPayload));
+}
+
+/// Every frame of the payloads that `QUIC_WIRE_LIST` names is written, read back and the same.
+#[test]
+fn what_is_written_is_read_back() {
+    let Ok(list) = std::env::var("QUIC_WIRE_LIST") else { return };
+    let mut count = 0;
+    for line in std::fs::read_to_string(list).unwrap().lines() {
+        let bytes = (0..line.len() / 2).map(|i| u8::from_str_radix(&line[2 * i..2 * i + 2], 16));
+        let Ok(payload) = bytes.collect::<Result<Vec<u8>, _>>() else { continue };
+        let Ok(iter) = Iter::new(&payload) else { continue };
+        for frame in iter.flatten() {
+            is_read_back(frame);
+            count += 1;
+        }
+    }
+    assert!(count > 500, "{count}");
+}
+
+fn is_read_back(frame: Frame<'_>) {
+    for last in [false, true] {
+        let len = frame.encoded_len(last).unwrap();
+        let mut out = vec![0xa5; len + 3];
+        assert_eq!(frame.encode(last, &mut out[..]), Ok(len));
+        assert_eq!(out[len..], [0xa5; 3]);
+        let again = read(&out[..len]);
+        match (frame, again[0]) {
+            (Frame::Ack(one), Frame::Ack(other)) => {
+                assert!(one.iter().eq(&other) && (one.delay(), one.ecn()) == (other.delay(), other.ecn()));
+            }
+            (one, other) => assert_eq!(one, other),
+        }
+        assert_eq!(again.len(), 1);
+        assert_eq!(frame.encode(last, &mut out[..len - 1]), Err(WriteError::NoRoom(len)));
+    }
+}

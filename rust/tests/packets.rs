@@ -1,0 +1,274 @@
+//! Packets that are cut, opened, written and sealed.
+#![cfg(feature = "alloc")]
+use quic_wire::packet::{
+    Head, HeadError, Header, LongType, Opened, PacketDecodeError, PacketNumber, PacketPlace, Packets, PacketsMut,
+    ProtectedHeader, UnprotectError, DEFAULT_SUPPORTED_VERSIONS,
+};
+use quic_wire::transport_error::Code;
+use quic_wire::{Error, WriteError};
+
+const ID: &[u8] = &[7; 8];
+
+fn number(number: u64) -> PacketNumber {
+    PacketNumber { number, len: 2 }
+}
+
+// An Initial packet of 60 bytes and a short one of 40, greased.
+fn two_packets() -> Vec<u8> {
+    let mut datagram = vec![0; 100];
+    let long = Header::Initial { dst_cid: ID, src_cid: &[], token: &[1, 2, 3], number: number(5), version: 1 };
+    let first = long.encode(&mut datagram[..]).unwrap();
+    first.set_len(&mut datagram[..60]).unwrap();
+    first.place(&datagram[..60]).protect(&mut datagram[..60], &[9; 5]).unwrap();
+    let short = Header::Short { spin: true, key_phase: true, dst_cid: ID, number: number(6) };
+    let second = short.encode_with(true, &mut datagram[60..]).unwrap();
+    assert_eq!(datagram[60], 0x25);
+    second.place(&datagram[60..]).protect(&mut datagram[60..], &[9; 5]).unwrap();
+    datagram
+}
+
+#[test]
+fn a_packet_is_opened_where_it_stands() {
+    // A short header with an id of two bytes and a number of one byte, under a mask of ones and fives.
+    let mut datagram = [0x5f, 0xaa, 0xbb, 0x2c ^ 0x05, 1, 2, 3, 4, 5, 6, 7];
+    let packet = Packets::new(&datagram, 2, DEFAULT_SUPPORTED_VERSIONS, false).next().unwrap().unwrap();
+    assert_eq!(packet.header(), ProtectedHeader::Short { spin: false, dst_cid: &[0xaa, 0xbb] });
+    let place = packet.place();
+    let mask = [0x1f, 5, 5, 5, 5];
+    assert_eq!(place.sample(&datagram, 4), Ok(&[4, 5, 6, 7][..]));
+    assert_eq!(place.sample(&datagram, 5), Err(UnprotectError::TooShort));
+    assert_eq!(place.unprotect(&mut datagram, &mask, 1 << 62), Err(UnprotectError::Expected));
+    assert_eq!(place.unprotect(&mut datagram[..6], &mask, 300), Err(UnprotectError::NotThere));
+    let told = Opened { number: 300, number_len: 1, payload: 4, first: 0x40 };
+
+    let mut head = vec![];
+    assert_eq!(place.unprotect_head(&datagram, &mask, 300, &mut head), Ok(told));
+    assert_eq!((head.len(), &head[..4]), (7, &[0x40, 0xaa, 0xbb, 0x2c][..]));
+    let few = place.unprotect_head(&datagram, &mask, 300, &mut head[..6]);
+    assert_eq!(few, Err(Error::Write(WriteError::NoRoom(7))));
+    let late = place.unprotect_head(&datagram, &mask, 1 << 62, &mut head[..]);
+    assert_eq!(late, Err(Error::Protection(UnprotectError::Expected)));
+
+    let opened = place.unprotect_with(&mut datagram, 4, |sample| [0x1f, 5, 5, sample[1], 5], 300).unwrap();
+    assert_eq!(opened, told);
+    assert!(!opened.key_phase() && opened.reserved_bits_valid());
+    assert!(size_of::<PacketPlace>() == 12 && size_of::<Head>() == 32);
+    assert_eq!(datagram, [0x40, 0xaa, 0xbb, 0x2c, 1, 2, 3, 4, 5, 6, 7]);
+}
+
+#[test]
+fn the_packets_of_a_datagram_are_opened_in_a_loop() {
+    let mut datagram = two_packets();
+    let mut seen = Vec::new();
+    {
+        // The versions live shorter than what is read.
+        let versions = vec![1];
+        for packet in PacketsMut::new(&mut datagram, 8, &versions, true) {
+            let packet = packet.unwrap();
+            let spins = matches!(packet.header(), ProtectedHeader::Short { spin: true, .. });
+            assert_eq!((spins, packet.dst_cid()), (!seen.is_empty(), ID));
+            seen.push(packet.open_with(16, |_| [9; 5], 0).unwrap());
+        }
+    }
+    let told = |i: usize| (seen[i].number(), seen[i].key_phase(), seen[i].token(), seen[i].reserved_bits_valid());
+    assert_eq!((told(0), told(1)), ((5, false, &[1, 2, 3][..], true), (6, true, &[][..], true)));
+    let lens: Vec<_> = seen.iter().map(|packet| (packet.header_data.len(), packet.payload.len())).collect();
+    assert_eq!(lens, [(23, 37), (11, 29)]);
+    assert_eq!((seen[1].src_cid(), seen[1].opened().number_len), (&[][..], 2));
+    // Each payload is written where it stands.
+    for packet in &mut seen {
+        packet.payload.fill(0xee);
+    }
+    assert!(datagram[23..60].iter().chain(&datagram[71..]).all(|byte| *byte == 0xee));
+}
+
+#[test]
+fn reserved_bits_are_told() {
+    let opened = |first| Opened { number: 0, number_len: 1, payload: 0, first };
+    let told = [0x40, 0x44, 0x48, 0x50, 0xc0, 0xc4, 0xc8].map(|first| {
+        let opened = opened(first);
+        (opened.key_phase(), opened.reserved_bits_valid())
+    });
+    let all =
+        [(false, true), (true, true), (false, false), (false, false), (false, true), (false, false), (false, false)];
+    assert_eq!(told, all);
+}
+
+#[test]
+fn a_retry_has_nothing_to_be_opened() {
+    let mut datagram = vec![0xf0, 0, 0, 0, 1, 1, 0xaa, 0, b't', b'o', b'k'];
+    datagram.extend([9; 16]);
+    let before = datagram.clone();
+    let head = *Packets::new(&datagram, 0, &[1], false).next().unwrap().unwrap().head();
+    assert_eq!((head.is_protected(), head.head_end()), (false, 8));
+    assert_eq!(head.retry(&datagram), Some((&b"tok"[..], &[9; 16])));
+    assert_eq!(head.place(0).unprotect(&mut datagram, &[0xff; 5], 0), Err(UnprotectError::TooShort));
+    let packet = PacketsMut::new(&mut datagram, 0, &[1], false).next().unwrap().unwrap();
+    assert_eq!(packet.open_with(0, |_| [0xff; 5], 0).err(), Some(UnprotectError::TooShort));
+    let packet = PacketsMut::new(&mut datagram, 0, &[1], false).next().unwrap().unwrap();
+    assert_eq!(packet.into_data(), before);
+}
+
+#[test]
+fn a_packet_is_sealed_and_opened() {
+    let number = PacketNumber::new(0x1234, 0x1200).unwrap();
+    assert_eq!((number.len, number.truncated()), (1, 0x34));
+    assert_eq!(PacketNumber::new(1, 2), None);
+    let (dst_cid, src_cid) = (&[1, 2, 3][..], &[4][..]);
+    let head = Header::Long { ty: LongType::Handshake, dst_cid, src_cid, number, version: 1 };
+    let mut datagram = vec![0x55];
+    let written = head.encode(&mut datagram).unwrap();
+    datagram.resize(1 + 34, 0xa5);
+    let packet = &mut datagram[1..];
+    written.set_len(packet).unwrap();
+    assert_eq!(packet[..15], [0xe0, 0, 0, 0, 1, 3, 1, 2, 3, 1, 4, 0x40, 21, 0x34, 0xa5]);
+    assert_eq!((written.header_len, written.number, head.encoded_len()), (14, 13, 14));
+    let before = packet.to_vec();
+    let place = written.place(packet);
+    assert_eq!((place.number(), place.sample(packet, 16)), (13, Ok(&[0xa5; 16][..])));
+    place.protect(packet, &[0xff, 1, 2, 3, 4]).unwrap();
+    assert_eq!((packet[0], packet[13], packet[14]), (0xef, 0x35, 0xa5));
+    let cut = Packets::new(packet, 0, &[1], false).next().unwrap().unwrap();
+    assert_eq!(cut.header(), ProtectedHeader::Long { ty: LongType::Handshake, dst_cid, src_cid, len: 21, version: 1 });
+    let opened = cut.place().unprotect(packet, &[0xff, 1, 2, 3, 4], 0x1234).unwrap();
+    assert_eq!((opened.number, opened.number_len, opened.payload), (0x1234, 1, 14));
+    assert_eq!(packet, before);
+}
+
+#[test]
+fn a_length_that_does_not_fit_is_refused() {
+    let header = Header::Long { ty: LongType::ZeroRtt, dst_cid: ID, src_cid: ID, number: number(1), version: 1 };
+    let mut packet = vec![0; (1 << 14) + 100];
+    let written = header.encode(&mut packet[..]).unwrap();
+    let most = written.number + (1 << 14) - 1;
+    assert_eq!(written.set_len(&mut packet[..most]), Ok(()));
+    assert_eq!(packet[written.number - 2..written.number], [0x7f, 0xff]);
+    let errors = [written.set_len(&mut packet[..most + 1]), written.set_len(&mut packet[..written.number])];
+    let named = ["a packet is too long for its length", "the header is longer than its packet"];
+    assert_eq!(errors, named.map(|what| Err(WriteError::OutOfRange(what))));
+    // A short header has none.
+    let short = Header::Short { spin: false, key_phase: false, dst_cid: ID, number: number(1) };
+    let written = short.encode(&mut packet[..]).unwrap();
+    assert_eq!(written.set_len(&mut []), Ok(()));
+}
+
+#[test]
+fn headers_that_nobody_reads_are_refused() {
+    let long = |dst_cid, number, version| Header::Initial { dst_cid, src_cid: &[], token: &[], number, version };
+    let negotiation = Header::VersionNegotiate { random: 0x3f, src_cid: &[], dst_cid: ID };
+    let refused = [
+        (long(&[0; 21], number(1), 1), "a connection id has more than 20 bytes"),
+        (long(ID, number(1 << 62), 1), "a packet number is 2^62 or more"),
+        (long(ID, PacketNumber { number: 1, len: 0 }, 1), "a packet number has 1 to 4 bytes"),
+        (long(ID, PacketNumber { number: 1, len: 5 }, 1), "a packet number has 1 to 4 bytes"),
+        (long(ID, number(1), 0), "a long header of version 0 is a version negotiation"),
+        (negotiation, "a version negotiation without the fixed bit"),
+    ];
+    for (header, what) in refused {
+        let mut out = vec![];
+        assert_eq!(header.encode(&mut out), Err(WriteError::OutOfRange(what)));
+        assert!(out.is_empty());
+    }
+    let mut out = vec![];
+    negotiation.encode_with(true, &mut out).unwrap();
+    out.extend(1_u32.to_be_bytes());
+    assert_eq!(out[0], 0xbf);
+    assert!(Packets::new(&out, 0, &[1], false).next().unwrap().is_err());
+    let greased = Packets::new(&out, 0, &[1], true).next().unwrap().unwrap();
+    assert_eq!(greased.header(), ProtectedHeader::VersionNegotiate { random: 0x3f, src_cid: &[], dst_cid: ID });
+    assert_eq!(greased.head().versions(&out).collect::<Vec<_>>(), [1]);
+}
+
+#[test]
+fn every_header_is_read_back() {
+    let (dst_cid, src_cid, number, version) = (ID, &[3; 20][..], number(0x1234), 0x6b33_43cf);
+    let headers = [
+        Header::Initial { dst_cid, src_cid, token: &[8; 70], number, version },
+        Header::Long { ty: LongType::Handshake, dst_cid, src_cid, number, version },
+        Header::Long { ty: LongType::ZeroRtt, dst_cid, src_cid, number, version },
+        Header::Retry { dst_cid, src_cid, version },
+        Header::Short { spin: true, key_phase: false, dst_cid, number },
+        Header::VersionNegotiate { random: 0x55, src_cid, dst_cid },
+    ];
+    for header in headers {
+        let mut packet = vec![];
+        let written = header.encode(&mut packet).unwrap();
+        assert_eq!((packet.len(), written.header_len), (header.encoded_len(), header.encoded_len()));
+        for room in 0..packet.len() {
+            assert_eq!(header.encode(&mut packet.clone()[..room]), Err(WriteError::NoRoom(packet.len())));
+        }
+        packet.resize(packet.len() + 20, 0);
+        written.set_len(&mut packet).unwrap();
+        let read = Packets::new(&packet, 8, &[version], false).next().unwrap().unwrap();
+        assert_eq!((read.dst_cid(), read.data()), (ID, &packet[..]));
+        let head = read.head();
+        assert_eq!(head.head_end() + if head.is_protected() { 2 } else { 0 }, written.header_len);
+        assert!(!format!("{header:?} {read:?} {head:?}").contains("0808080808080808080808080808080808"));
+    }
+}
+
+#[test]
+fn a_head_is_told_where_its_packet_is_cut_off() {
+    let datagram = [0xc0, 0, 0, 0, 1, 1, 0xaa, 0, 0, 0x44, 0xb0, 1];
+    let Err(HeadError::CutOff(head)) = Head::read(&datagram, 0, &[1]) else { panic!() };
+    assert_eq!((head.dst_cid(&datagram), head.head_end(), head.end()), (&[0xaa][..], 11, 12));
+    assert_eq!(head.len_field(), 0x4b0);
+    let mut unknown = vec![0xc0, 0, 0, 0, 9, 255];
+    unknown.extend([1; 255]);
+    unknown.extend([1, 2]);
+    let error = Head::read(&unknown, 0, &[1]).unwrap_err();
+    let HeadError::UnsupportedVersion(head) = error else { panic!() };
+    assert_eq!((head.version(), head.dst_cid(&unknown).len(), head.src_cid(&unknown)), (9, 255, &[2][..]));
+    assert_eq!(Error::from(error), Error::UnsupportedVersion(9));
+}
+
+#[test]
+fn an_unknown_version_gives_its_ids() {
+    let datagram = [0xc0, 0, 0, 0, 9, 1, 0xaa, 2, 0xbb, 0xcc, 0];
+    let mut packets = Packets::new(&datagram, 0, DEFAULT_SUPPORTED_VERSIONS, false);
+    let error = packets.next().unwrap().unwrap_err();
+    assert_eq!(error.to_string(), "unsupported version 9");
+    let PacketDecodeError::UnsupportedVersion { src_cid, dst_cid, .. } = error else { panic!() };
+    assert_eq!((dst_cid, src_cid), (&[0xaa][..], &[0xbb, 0xcc][..]));
+    assert!(packets.next().is_none());
+    let empty = Packets::new(&[], 0, &[], false).next().unwrap().unwrap_err();
+    assert_eq!(empty.to_string(), "unexpected end of packet");
+}
+
+#[test]
+fn numbers_are_told_by_the_one_that_is_expected() {
+    assert_eq!(PacketNumber::expand(6, 1, 600), Some(518));
+    assert_eq!(PacketNumber::expand(0x9b32, 2, 0xa82f_30eb), Some(0xa82f_9b32));
+    assert_eq!([PacketNumber::expand(6, 0, 1), PacketNumber::expand(6, 5, 1)], [None; 2]);
+    assert_eq!(PacketNumber::expand(6, 1, 1 << 62), None);
+    let lens = [1, 127, 128, 0x8000, 0x80_0000, 0x7fff_ffff].map(|n| PacketNumber::new(n, 0).map(|n| n.len));
+    assert_eq!(lens, [1, 1, 2, 3, 4, 4].map(Some));
+}
+
+// From a datagram to its frames by one type of error.
+fn first_frame(datagram: &mut [u8]) -> Result<u64, Error> {
+    let packet = PacketsMut::new(datagram, 8, &[1], false).next().ok_or(Error::EmptyPayload)??;
+    let packet = packet.open_with(16, |_| [9; 5], 0)?;
+    let frame = quic_wire::frame::Iter::new(packet.payload)?.next().ok_or(Error::EmptyPayload)??;
+    Ok(frame.ty().into())
+}
+
+#[test]
+fn one_error_for_a_whole_pass() {
+    let mut datagram = two_packets();
+    assert_eq!(first_frame(&mut datagram.clone()), Ok(0));
+    let named = |datagram: &mut [u8]| {
+        let error = first_frame(datagram).unwrap_err();
+        (error.to_string(), error.code(), error.frame_type())
+    };
+    assert_eq!(named(&mut datagram.clone()[60..]), ("packet: fixed bit unset".into(), None, None));
+    assert_eq!(named(&mut []), ("packet: unexpected end of packet".into(), None, None));
+    let cut = "packet: packet too short to contain payload length";
+    assert_eq!(named(&mut datagram.clone()[..59]), (cut.into(), None, None));
+    datagram[23] = 0x21;
+    let (text, code, ty) = named(&mut datagram.clone());
+    assert_eq!((&text[..], code), ("frame: invalid frame ID in <unknown 21>", Some(Code::FRAME_ENCODING_ERROR)));
+    assert_eq!(ty.map(u64::from), Some(0x21));
+    datagram[4] = 9;
+    assert_eq!(named(&mut datagram), ("packet: unsupported version 9".into(), None, None));
+}

@@ -1,0 +1,133 @@
+//! Transport parameters that are read, written and put in an order.
+#![cfg(feature = "alloc")]
+use quic_wire::transport_parameters::{entries, Entry, Error, PreferredAddress, TransportParameters};
+use quic_wire::{ConnectionId, Side, WriteError};
+use std::collections::{HashMap, HashSet};
+
+fn of_a_server() -> TransportParameters {
+    let preferred_address = PreferredAddress {
+        address_v4: Some("127.0.0.1:443".parse().unwrap()),
+        address_v6: Some("[::1]:443".parse().unwrap()),
+        connection_id: ConnectionId::new(&[7; 8]).unwrap(),
+        stateless_reset_token: [9; 16],
+    };
+    TransportParameters {
+        max_idle_timeout: 30_000,
+        initial_src_cid: ConnectionId::new(&[]),
+        preferred_address: Some(preferred_address),
+        min_ack_delay: Some(0),
+        grease_quic_bit: true,
+        ..TransportParameters::default()
+    }
+}
+
+#[test]
+fn parameters_are_read_back() {
+    let given = of_a_server();
+    let mut list = [0; 128];
+    let len = given.write(Side::Server, &mut list).unwrap();
+    assert_eq!(TransportParameters::read(Side::Client, &list[..len]), Ok(given));
+    assert_eq!(TransportParameters::read(Side::Server, &list[..len]), Err(Error::IllegalValue));
+    assert_eq!(given.write(Side::Server, &mut list[..len - 1]), Err(WriteError::NoRoom(len)));
+    assert_eq!(TransportParameters::read(Side::Client, &list[..len - 1]), Err(Error::Malformed));
+    assert_eq!(TransportParameters::read(Side::Client, &[]), Ok(TransportParameters::default()));
+    let mut vec = vec![];
+    assert_eq!((given.write(Side::Server, &mut vec), &vec[..]), (Ok(len), &list[..len]));
+}
+
+#[test]
+fn what_is_out_of_range_is_named() {
+    let d = TransportParameters::default;
+    let address = of_a_server().preferred_address.unwrap();
+    let at = |address| TransportParameters { preferred_address: Some(address), ..d() };
+    let nowhere = Some("0.0.0.0:0".parse().unwrap());
+    let refused = [
+        (Side::Client, of_a_server(), "a client sends a parameter that a server alone sends"),
+        (Side::Client, TransportParameters { max_udp_payload_size: 1199, ..d() }, "max_udp_payload_size is below 1200"),
+        (Side::Client, TransportParameters { ack_delay_exponent: 21, ..d() }, "ack_delay_exponent is above 20"),
+        (Side::Client, TransportParameters { max_ack_delay: 1 << 14, ..d() }, "max_ack_delay is 2^14 or more"),
+        (Side::Client, TransportParameters { active_connection_id_limit: 1, ..d() }, {
+            "active_connection_id_limit is below 2"
+        }),
+        (Side::Client, TransportParameters { initial_max_streams_uni: (1 << 60) + 1, ..d() }, {
+            "initial_max_streams_uni is above 2^60"
+        }),
+        (Side::Client, TransportParameters { min_ack_delay: Some(25_001), ..d() }, {
+            "min_ack_delay is longer than max_ack_delay"
+        }),
+        (Side::Client, TransportParameters { initial_max_data: 1 << 62, ..d() }, {
+            "a transport parameter is 2^62 or more"
+        }),
+        (Side::Server, at(PreferredAddress { address_v4: None, address_v6: None, ..address }), {
+            "a preferred address has no address"
+        }),
+        (Side::Server, at(PreferredAddress { address_v4: nowhere, ..address }), {
+            "a preferred address has an address of zeros with port 0"
+        }),
+        (Side::Server, at(PreferredAddress { connection_id: ConnectionId::default(), ..address }), {
+            "a preferred address has an empty connection id"
+        }),
+    ];
+    for (side, parameters, what) in refused {
+        let mut list = vec![];
+        assert_eq!(parameters.write(side, &mut list), Err(WriteError::OutOfRange(what)));
+        assert!(list.is_empty());
+    }
+    assert_eq!(Error::Malformed.to_string(), "transport parameters are malformed");
+    assert_eq!(quic_wire::Error::from(Error::IllegalValue).to_string(), "a transport parameter has an illegal value");
+}
+
+#[test]
+fn further_parameters_are_written_and_read() {
+    let sent = TransportParameters { initial_max_data: 9, max_idle_timeout: 5, ..TransportParameters::default() };
+    let extra = [Entry { id: 0x11, value: &[0, 0, 0, 1, 0, 0, 0, 1] }, Entry::reserved(7, &[]).unwrap()];
+    let mut list = vec![];
+    let len = sent.write_with(Side::Client, &extra, |_| (), &mut list).unwrap();
+    assert_eq!(len, 19);
+    assert_eq!(list, [1, 1, 5, 4, 1, 9, 0x11, 8, 0, 0, 0, 1, 0, 0, 0, 1, 0x40, 244, 0]);
+    let unknown: Vec<_> = entries(&list).flatten().filter(|entry| !entry.is_known()).collect();
+    assert_eq!(unknown, extra);
+    assert_eq!(TransportParameters::read(Side::Server, &list), Ok(sent));
+
+    let mut orders = HashSet::new();
+    for turned in 0..4 {
+        let mut list = [0; 64];
+        let len = sent.write_with(Side::Client, &extra, |all| all.rotate_left(turned), &mut list).unwrap();
+        assert_eq!(TransportParameters::read(Side::Server, &list[..len]), Ok(sent));
+        assert_eq!(sent.write_with(Side::Client, &extra, |_| (), &mut list[..18]), Err(WriteError::NoRoom(19)));
+        orders.insert(list[..len].to_vec());
+    }
+    assert_eq!(orders.len(), 4);
+}
+
+#[test]
+fn further_parameters_are_checked() {
+    let sent = TransportParameters { initial_max_data: 9, max_idle_timeout: 5, ..TransportParameters::default() };
+    let write = |extra: &[Entry<'_>]| sent.write_with(Side::Client, extra, |_| (), &mut [0; 512]);
+    let (one, value) = (Entry { id: 0x11, value: &[] }, &[][..]);
+    let many: Vec<_> = (0..63).map(|n| Entry { id: 100 + n, value }).collect();
+    assert!(write(&many[..62]).is_ok());
+    let refused = [
+        (write(&[one, Entry { id: 0x04, value }]), "a further transport parameter is one that the record has"),
+        (write(&[one, one]), "a further transport parameter is there twice"),
+        (write(&[Entry { id: 1 << 62, value }]), "the number of a transport parameter is 2^62 or more"),
+        (write(&many), "more than 64 transport parameters"),
+        (sent.write_with(Side::Client, &[one], |all| all[0] = all[1], &mut [0; 64]), {
+            "transport parameters were not only put in an order"
+        }),
+    ];
+    for (answer, what) in refused {
+        assert_eq!(answer, Err(WriteError::OutOfRange(what)));
+    }
+    assert_eq!(entries(&[0x01, 5, 0]).collect::<Vec<_>>(), [Err(Error::Malformed)]);
+    assert_eq!(Entry::reserved(u64::MAX / 31, &[]), None);
+}
+
+#[test]
+fn ids_are_keys() {
+    let id = ConnectionId::new(&[1, 2, 3]).unwrap();
+    let map: HashMap<ConnectionId, u8> = HashMap::from([(id, 5), (ConnectionId::default(), 6)]);
+    assert_eq!((map.get(&[1, 2, 3][..]), map.get(&[][..]), map.get(&[9][..])), (Some(&5), Some(&6), None));
+    assert!(ConnectionId::default() < id && id < ConnectionId::new(&[1, 3]).unwrap());
+    assert_eq!(format!("{id:?} {id}"), "010203 010203");
+}

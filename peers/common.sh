@@ -1,0 +1,49 @@
+# What the scripts of this folder share. WORK is the folder in which everything is made, LIB that of the library.
+here=$(cd "$(dirname -- "$(readlink -f -- "${BASH_SOURCE[0]}")")" && pwd)
+top=$(dirname -- "$here")
+lists=$WORK/lists
+
+# row WHAT OWN OVER: a row of the table, of the peer as it is and over the library.
+row() { printf '%s\t%s\t%s\n' "$@" >>"$WORK/table"; }
+
+# step NAME COMMAND..: a step, whose output is kept in a log; where it fails the log's end is shown.
+step() {
+    local log=$WORK/logs/$1.log
+    echo "peers: $1" >&2
+    "${@:2}" >"$log" 2>&1 || { echo "peers: $1 failed:" >&2; tail -20 "$log" >&2; exit 1; }
+}
+
+# debian ARG..: apt-get with lists, cache and state of its own, so that the machine's stay as they are.
+debian() {
+    apt-get -qq -o Dir::Etc::sourcelist="$WORK/apt/sources.list" -o Dir::Etc::sourceparts=/dev/null \
+        -o Dir::State="$WORK/apt/state" -o Dir::State::status="$WORK/apt/status" -o Dir::Cache="$WORK/apt/cache" \
+        -o APT::Sandbox::User=root "$@"
+}
+
+# Debian's list of packages and of sources, fetched once.
+debian_lists() {
+    [ ! -e "$WORK/apt/status" ] || return 0
+    mkdir -p "$WORK"/apt/{state/lists,cache/archives}/partial
+    local suite=bookworm keys=/usr/share/keyrings/debian-archive-keyring.gpg
+    local mirror=${DEBIAN_MIRROR:-http://deb.debian.org/debian}
+    printf '%s [signed-by=%s] %s %s main\n' deb "$keys" "$mirror" $suite deb-src "$keys" "$mirror" $suite \
+        >"$WORK/apt/sources.list"
+    : >"$WORK/apt/status"
+    step lists debian update
+}
+
+# callgrind FILE COMMAND..: a command, its instructions counted to a file.
+callgrind() { valgrind -q --tool=callgrind --callgrind-out-file="$1" "${@:2}"; }
+
+# parts TITLE UNIT PARTS OWN OVER: rows of what each part of a program takes, by two profiles (count.py).
+parts() {
+    python3 "$here/count.py" "$@" | while IFS=$'\t' read -r what own over; do row "$what" "$own" "$over"; done
+}
+
+# compared WHAT OWN OVER: a row of what the readers of both said of a list.
+compared() {
+    local lines panics refused read_on other
+    read -r lines panics refused read_on other < <(python3 "$here/compare.py" "$2" "$3")
+    row "$1: lines; those that panic, are refused by one alone, are read otherwise" \
+        "$lines; $panics panic, $read_on refused" "$refused refused, $other otherwise"
+}

@@ -1,0 +1,101 @@
+"""count.py TITLE UNIT PARTS PROFILE..: what parts of a program cost, by profiles of callgrind.
+
+A line of the file PARTS is `name calls functions`, two regular expressions: a function belongs to the first part whose
+`functions` match `file:function` (the file is that of the line, so inlined code counts by the file that it stands in),
+and a part is called as often as the functions that `calls` matches. What functions of a part call of those that the
+line `helpers - functions` names is the part's too. Printed are rows of tab-separated fields: each part by its calls,
+all parts by the calls of the one named UNIT, and the whole; one field for each profile.
+"""
+
+import collections
+import functools
+import re
+import sys
+
+NAME = re.compile(r"(?:\((\d+)\))?(?: ?(.*))?")
+
+
+class Profile:
+    """Instructions by `file:function`, those of what one calls, and how often each function was called."""
+
+    def __init__(self, path):
+        self.names = {}
+        self.cost = collections.Counter()
+        self.calls = collections.Counter()
+        self.into = collections.Counter()
+        self.total = 0
+        with open(path, errors="replace") as lines:
+            self.read(lines)
+
+    def named(self, kind, text):
+        number, name = NAME.fullmatch(text.strip()).groups()
+        if name:
+            self.names[kind, number] = name
+        return self.names[kind, number]
+
+    def read(self, lines):
+        file = function = callee = None
+        is_call = False
+        for line in lines:
+            key, _, value = line.partition("=")
+            if key in ("fl", "fi", "fe"):
+                file = self.named("file", value).rsplit("/", 1)[-1]
+            elif key == "fn":
+                function = self.named("function", value)
+            elif key == "cfn":
+                callee = self.named("function", value)
+            elif key in ("cfl", "cfi"):
+                self.named("file", value)
+            elif key == "calls":
+                self.calls[callee] += int(value.split()[0])
+                is_call = True
+            elif line[:1] in "+-*0123456789" and function:
+                cost = int(line.split()[1])
+                if is_call:  # the cost of what was called
+                    is_call = False
+                    self.into[f"{file}:{function}", callee] += cost
+                    continue
+                self.cost[f"{file}:{function}"] += cost
+                self.total += cost
+
+
+def read_parts(path):
+    parts = []
+    with open(path) as lines:
+        for line in lines:
+            if line.strip() and not line.startswith("#"):
+                name, calls, functions = line.split()
+                parts.append((name, re.compile(calls), re.compile(functions)))
+    return parts
+
+
+def count(parts, path):
+    """Instructions and calls of each part, and instructions of the whole."""
+    profile = Profile(path)
+    cost = collections.Counter()
+    part_of = functools.cache(lambda key: next((n for n, _, f in parts if n != "helpers" and f.search(key)), None))
+    helpers = next((f for n, _, f in parts if n == "helpers"), re.compile("^$"))
+    for key, instructions in profile.cost.items():
+        cost[part_of(key)] += instructions
+    for (key, callee), instructions in profile.into.items():
+        if part_of(key) and not part_of(f":{callee}") and helpers.search(callee):
+            cost[part_of(key)] += instructions
+    calls = {n: sum(k for f, k in profile.calls.items() if c.fullmatch(f)) for n, c, _ in parts}
+    return cost, calls, profile.total
+
+
+def main():
+    title, unit = sys.argv[1:3]
+    parts = read_parts(sys.argv[3])
+    counted = [count(parts, path) for path in sys.argv[4:]]
+    for name, _, _ in parts:
+        if any(cost[name] for cost, _, _ in counted) and all(calls[name] for _, calls, _ in counted):
+            fields = [f"{cost[name] / calls[name]:.1f} ({calls[name]} calls)" for cost, calls, _ in counted]
+            print(f"{title}: {name.replace('_', ' ')}, instructions a call", *fields, sep="\t")
+    fields = [f"{sum(cost[n] for n, _, _ in parts) / calls[unit]:.1f}" for cost, calls, _ in counted]
+    print(f"{title}: all of these, instructions for each of '{unit.replace('_', ' ')}'", *fields, sep="\t")
+    print(f"{title}: the whole program, instructions", *(total for _, _, total in counted), sep="\t")
+
+
+if __name__ == "__main__":
+    main()

@@ -1,0 +1,322 @@
+/*
+ * ngtcp2's readers of frames, and its writers of those whose data stand in one
+ * piece, over quic_wire.h.
+ */
+#include <string.h>
+
+#include "ngtcp2_cid.h"
+#include "ngtcp2_conv.h"
+#include "quic_wire_ng.h"
+
+/* ---- Read */
+
+/* The ranges of an ACK as ngtcp2 keeps them: each as the gap above it and how
+ * many numbers it has behind its first, both less one. */
+static int ack_of(ngtcp2_ack *dest, const quic_wire_frame *f,
+                  const uint8_t *payload, size_t payloadlen) {
+  quic_wire_ack_ranges left;
+  quic_wire_range r;
+  uint64_t above;
+  size_t n = 0;
+
+  if (quic_wire_ack_ranges_init_unchecked(&left, payload, payloadlen, f) != 0 ||
+      quic_wire_ack_ranges_next(&left, payload, payloadlen, &r) !=
+          QUIC_WIRE_ITEM) {
+    return NGTCP2_ERR_FRAME_ENCODING;
+  }
+  dest->type = f->flags & QUIC_WIRE_FLAG_ECN ? NGTCP2_FRAME_ACK_ECN
+                                             : NGTCP2_FRAME_ACK;
+  dest->largest_ack = (int64_t)f->ack.largest;
+  dest->ack_delay = f->ack.delay;
+  dest->ack_delay_unscaled = 0;
+  dest->ecn.ect0 = f->ack.ect0;
+  dest->ecn.ect1 = f->ack.ect1;
+  dest->ecn.ce = f->ack.ce;
+  dest->first_ack_range = r.end - 1 - r.start;
+  while (left.begin != left.end && n < NGTCP2_MAX_ACK_RANGES) {
+    above = r.start;
+    if (quic_wire_ack_ranges_next(&left, payload, payloadlen, &r) !=
+        QUIC_WIRE_ITEM) {
+      return NGTCP2_ERR_FRAME_ENCODING;
+    }
+    dest->ranges[n].gap = above - r.end - 1;
+    dest->ranges[n].len = r.end - 1 - r.start;
+    ++n;
+  }
+  dest->rangecnt = n;
+  return 0;
+}
+
+static void data_of(ngtcp2_vec *data, size_t *cnt, const quic_wire_frame *f,
+                    const uint8_t *payload) {
+  *cnt = f->datalen != 0;
+  data->len = f->datalen;
+  data->base = f->datalen ? (uint8_t *)payload + f->data : NULL;
+}
+
+/* What |f|, a frame without data that was read of |payload|, is to ngtcp2. */
+static int numbers_of(ngtcp2_frame *dest, const quic_wire_frame *f,
+                      const uint8_t *payload) {
+  switch (f->kind) {
+  case QUIC_WIRE_PADDING:
+    dest->padding.len = f->end - f->begin;
+    return 0;
+  case QUIC_WIRE_PING:
+  case QUIC_WIRE_HANDSHAKE_DONE:
+    return 0;
+  case QUIC_WIRE_RESET_STREAM:
+    dest->reset_stream.stream_id = (int64_t)f->reset_stream.stream_id;
+    dest->reset_stream.app_error_code = f->reset_stream.error_code;
+    dest->reset_stream.final_size = f->reset_stream.final_size;
+    return 0;
+  case QUIC_WIRE_STOP_SENDING:
+    dest->stop_sending.stream_id = (int64_t)f->stop_sending.stream_id;
+    dest->stop_sending.app_error_code = f->stop_sending.error_code;
+    return 0;
+  case QUIC_WIRE_MAX_DATA:
+    dest->max_data.max_data = f->limit.limit;
+    return 0;
+  case QUIC_WIRE_MAX_STREAM_DATA:
+    dest->max_stream_data.stream_id = (int64_t)f->limit.stream_id;
+    dest->max_stream_data.max_stream_data = f->limit.limit;
+    return 0;
+  case QUIC_WIRE_MAX_STREAMS_BIDI:
+  case QUIC_WIRE_MAX_STREAMS_UNI:
+    dest->max_streams.max_streams = f->limit.limit;
+    return 0;
+  case QUIC_WIRE_DATA_BLOCKED:
+    dest->data_blocked.offset = f->limit.limit;
+    return 0;
+  case QUIC_WIRE_STREAM_DATA_BLOCKED:
+    dest->stream_data_blocked.stream_id = (int64_t)f->limit.stream_id;
+    dest->stream_data_blocked.offset = f->limit.limit;
+    return 0;
+  case QUIC_WIRE_STREAMS_BLOCKED_BIDI:
+  case QUIC_WIRE_STREAMS_BLOCKED_UNI:
+    dest->streams_blocked.max_streams = f->limit.limit;
+    return 0;
+  case QUIC_WIRE_RETIRE_CONNECTION_ID:
+    dest->retire_connection_id.seq = f->retire_connection_id.sequence;
+    return 0;
+  case QUIC_WIRE_PATH_CHALLENGE:
+  case QUIC_WIRE_PATH_RESPONSE:
+    memcpy(dest->path_challenge.data, payload + f->end - 8, 8);
+    return 0;
+  default: /* IMMEDIATE_ACK and ACK_FREQUENCY, which ngtcp2 doesn't know */
+    return NGTCP2_ERR_FRAME_ENCODING;
+  }
+}
+
+/* Frames other than STREAM are read out of line, so that STREAM, which most of
+ * the bytes come in, saves no registers for them. */
+#if defined(__GNUC__)
+#  define OUT_OF_LINE __attribute__((noinline))
+#else
+#  define OUT_OF_LINE
+#endif
+
+/* What |f|, read of |payload|, is to ngtcp2. */
+OUT_OF_LINE static int frame_of(ngtcp2_frame *dest, const quic_wire_frame *f,
+                                const uint8_t *payload, size_t payloadlen) {
+  dest->type = (uint8_t)f->kind;
+  switch (f->kind) {
+  case QUIC_WIRE_ACK:
+    return ack_of(&dest->ack, f, payload, payloadlen);
+  case QUIC_WIRE_CRYPTO:
+    dest->crypto.offset = f->crypto.offset;
+    data_of(dest->crypto.data, &dest->crypto.datacnt, f, payload);
+    return 0;
+  case QUIC_WIRE_NEW_TOKEN:
+    dest->new_token.token.len = f->datalen;
+    dest->new_token.token.base = (uint8_t *)payload + f->data;
+    return 0;
+  case QUIC_WIRE_NEW_CONNECTION_ID:
+    dest->new_connection_id.seq = f->new_connection_id.sequence;
+    dest->new_connection_id.retire_prior_to =
+        f->new_connection_id.retire_prior_to;
+    ngtcp2_cid_init(&dest->new_connection_id.cid, payload + f->data,
+                    f->datalen);
+    memcpy(dest->new_connection_id.stateless_reset_token,
+           payload + f->data + f->datalen, NGTCP2_STATELESS_RESET_TOKENLEN);
+    return 0;
+  case QUIC_WIRE_CONNECTION_CLOSE:
+  case QUIC_WIRE_APPLICATION_CLOSE:
+    dest->connection_close.error_code = f->close.error_code;
+    dest->connection_close.frame_type = f->close.frame_type;
+    dest->connection_close.reasonlen = f->datalen;
+    dest->connection_close.reason =
+        f->datalen ? (uint8_t *)payload + f->data : NULL;
+    return 0;
+  case QUIC_WIRE_DATAGRAM:
+    dest->type = payload[f->begin];
+    data_of(dest->datagram.rdata, &dest->datagram.datacnt, f, payload);
+    dest->datagram.data = f->datalen ? dest->datagram.rdata : NULL;
+    return 0;
+  default:
+    return numbers_of(dest, f, payload);
+  }
+}
+
+ngtcp2_ssize ngtcp2_pkt_decode_frame(ngtcp2_frame *dest, const uint8_t *payload,
+                                     size_t payloadlen) {
+  quic_wire_frames frames = {0, QUIC_WIRE_NO_TYPE, 0, 1}; /* strict */
+  quic_wire_frame f;
+  size_t n;
+  int rv;
+
+  /* A run of PADDING is one frame to ngtcp2. */
+  rv = payloadlen && payload[0] == NGTCP2_FRAME_PADDING
+           ? quic_wire_frames_fill(&frames, payload, payloadlen, &f, 1, &n)
+           : quic_wire_frames_next(&frames, payload, payloadlen, &f);
+  if (rv != QUIC_WIRE_ITEM) {
+    return NGTCP2_ERR_FRAME_ENCODING;
+  }
+  if (f.kind == QUIC_WIRE_STREAM) {
+    dest->stream.type = NGTCP2_FRAME_STREAM;
+    /* A type is one byte here, since the reading is strict. */
+    dest->stream.flags = payload[0] & 0x7;
+    dest->stream.fin = (uint8_t)f.flags;
+    dest->stream.stream_id = (int64_t)f.stream.stream_id;
+    dest->stream.offset = f.stream.offset;
+    data_of(dest->stream.data, &dest->stream.datacnt, &f, payload);
+    return (ngtcp2_ssize)f.end;
+  }
+  rv = frame_of(dest, &f, payload, payloadlen);
+  return rv ? rv : (ngtcp2_ssize)f.end;
+}
+
+/* The readers of one kind each, which ngtcp2's tests call. */
+#define READER(NAME)                                                           \
+  ngtcp2_ssize ngtcp2_pkt_decode_##NAME##_frame(                               \
+      ngtcp2_##NAME *dest, const uint8_t *payload, size_t payloadlen) {        \
+    return ngtcp2_pkt_decode_frame((ngtcp2_frame *)dest, payload, payloadlen); \
+  }
+READER(stream)
+READER(ack)
+READER(padding)
+READER(reset_stream)
+READER(connection_close)
+READER(max_data)
+READER(max_stream_data)
+READER(max_streams)
+READER(ping)
+READER(data_blocked)
+READER(stream_data_blocked)
+READER(streams_blocked)
+READER(new_connection_id)
+READER(stop_sending)
+READER(path_challenge)
+READER(path_response)
+READER(crypto)
+READER(new_token)
+READER(retire_connection_id)
+READER(handshake_done)
+READER(datagram)
+
+/* ---- Written */
+
+static ngtcp2_ssize written(int answer, size_t n) {
+  switch (answer) {
+  case QUIC_WIRE_OK:
+    return (ngtcp2_ssize)n;
+  case QUIC_WIRE_ERR_NOBUF:
+    return NGTCP2_ERR_NOBUF;
+  default:
+    return NGTCP2_ERR_INVALID_ARGUMENT;
+  }
+}
+
+/* Writes a frame of up to three numbers, with |data| behind them. */
+static ngtcp2_ssize put(uint8_t *out, size_t outlen, uint32_t kind, uint64_t a,
+                        uint64_t b, uint64_t c, const uint8_t *data,
+                        size_t datalen, size_t taillen) {
+  quic_wire_frame f = {.kind = kind, .datalen = datalen, .numbers = {a, b, c}};
+  size_t n = 0;
+  int rv = quic_wire_frame_write(&f, data, datalen + taillen, 0, out, outlen,
+                                 &n);
+  return written(rv, n);
+}
+
+#define WRITER(NAME, KIND, A, B, C)                                            \
+  ngtcp2_ssize ngtcp2_pkt_encode_##NAME##_frame(                               \
+      uint8_t *out, size_t outlen, const ngtcp2_##NAME *fr) {                  \
+    (void)fr;                                                                  \
+    return put(out, outlen, KIND, A, B, C, NULL, 0, 0);                        \
+  }
+WRITER(ping, QUIC_WIRE_PING, 0, 0, 0)
+WRITER(handshake_done, QUIC_WIRE_HANDSHAKE_DONE, 0, 0, 0)
+WRITER(reset_stream, QUIC_WIRE_RESET_STREAM, (uint64_t)fr->stream_id,
+       fr->app_error_code, fr->final_size)
+WRITER(stop_sending, QUIC_WIRE_STOP_SENDING, (uint64_t)fr->stream_id,
+       fr->app_error_code, 0)
+WRITER(max_data, QUIC_WIRE_MAX_DATA, 0, fr->max_data, 0)
+WRITER(max_stream_data, QUIC_WIRE_MAX_STREAM_DATA, (uint64_t)fr->stream_id,
+       fr->max_stream_data, 0)
+WRITER(max_streams, fr->type, 0, fr->max_streams, 0)
+WRITER(data_blocked, QUIC_WIRE_DATA_BLOCKED, 0, fr->offset, 0)
+WRITER(stream_data_blocked, QUIC_WIRE_STREAM_DATA_BLOCKED,
+       (uint64_t)fr->stream_id, fr->offset, 0)
+WRITER(streams_blocked, fr->type, 0, fr->max_streams, 0)
+WRITER(retire_connection_id, QUIC_WIRE_RETIRE_CONNECTION_ID, fr->seq, 0, 0)
+
+static uint64_t path_number(const uint8_t *data) {
+  uint64_t number;
+  ngtcp2_get_uint64(&number, data);
+  return number;
+}
+WRITER(path_challenge, QUIC_WIRE_PATH_CHALLENGE, path_number(fr->data), 0, 0)
+WRITER(path_response, QUIC_WIRE_PATH_RESPONSE, path_number(fr->data), 0, 0)
+
+ngtcp2_ssize
+ngtcp2_pkt_encode_connection_close_frame(uint8_t *out, size_t outlen,
+                                         const ngtcp2_connection_close *fr) {
+  return put(out, outlen, fr->type, fr->error_code,
+             fr->type == NGTCP2_FRAME_CONNECTION_CLOSE ? fr->frame_type : 0, 0,
+             fr->reason, fr->reasonlen, 0);
+}
+
+ngtcp2_ssize ngtcp2_pkt_encode_new_token_frame(uint8_t *out, size_t outlen,
+                                               const ngtcp2_new_token *fr) {
+  return put(out, outlen, QUIC_WIRE_NEW_TOKEN, 0, 0, 0, fr->token.base,
+             fr->token.len, 0);
+}
+
+ngtcp2_ssize
+ngtcp2_pkt_encode_new_connection_id_frame(uint8_t *out, size_t outlen,
+                                          const ngtcp2_new_connection_id *fr) {
+  uint8_t data[NGTCP2_MAX_CIDLEN + NGTCP2_STATELESS_RESET_TOKENLEN];
+  size_t len = fr->cid.datalen;
+
+  memcpy(data, fr->cid.data, len);
+  memcpy(data + len, fr->stateless_reset_token,
+         NGTCP2_STATELESS_RESET_TOKENLEN);
+  return put(out, outlen, QUIC_WIRE_NEW_CONNECTION_ID, fr->seq,
+             fr->retire_prior_to, 0, data, len,
+             NGTCP2_STATELESS_RESET_TOKENLEN);
+}
+
+/* An ACK of a set: its runs are sorted, and ngtcp2's stand the greatest
+ * first. */
+ngtcp2_ssize ngtcp2_pkt_encode_ack_frame(uint8_t *out, size_t outlen,
+                                         ngtcp2_ack *fr) {
+  quic_wire_range runs[NGTCP2_MAX_ACK_RANGES + 1];
+  const uint64_t counts[] = {fr->ecn.ect0, fr->ecn.ect1, fr->ecn.ce};
+  uint64_t end = (uint64_t)fr->largest_ack + 1;
+  uint64_t start = end - 1 - fr->first_ack_range;
+  size_t n = fr->rangecnt + 1, at = n, len = 0, i;
+  int rv;
+
+  if (n > NGTCP2_MAX_ACK_RANGES + 1) {
+    return NGTCP2_ERR_INVALID_ARGUMENT;
+  }
+  runs[--at] = (quic_wire_range){start, end};
+  for (i = 0; i < fr->rangecnt; ++i) {
+    end = start - fr->ranges[i].gap - 1;
+    start = end - 1 - fr->ranges[i].len;
+    runs[--at] = (quic_wire_range){start, end};
+  }
+  rv = quic_wire_ack_write(fr->ack_delay, runs, n,
+                           fr->type == NGTCP2_FRAME_ACK_ECN ? counts : NULL,
+                           out, outlen, &len);
+  return written(rv, len);
+}

@@ -1,0 +1,229 @@
+/*
+ * ngtcp2's readers and writers of packet heads and its packet numbers, over
+ * quic_wire.h.
+ */
+#include <string.h>
+
+#include "ngtcp2_cid.h"
+#include "ngtcp2_macro.h"
+#include "quic_wire_ng.h"
+
+/* Those of version 1's form that ngtcp2 takes: version 1 and the drafts. */
+static const uint32_t versions[] = {NGTCP2_PROTO_VER_V1, 0xff00001du,
+                                    0xff00001eu, 0xff00001fu, 0xff000020u};
+
+/* ---- Read */
+
+/*
+ * A draft of version 2, which ngtcp2 has, is no version to the library: of its
+ * heads it tells the ids.  Reads what follows them; 0, or -1 where they end
+ * within it.
+ */
+static int read_draft(quic_wire_head *h, const uint8_t *pkt, size_t pktlen) {
+  static const uint8_t kinds[] = {QUIC_WIRE_RETRY, QUIC_WIRE_INITIAL,
+                                  QUIC_WIRE_0RTT, QUIC_WIRE_HANDSHAKE};
+  uint64_t len = 0;
+  size_t at = h->head_end, n;
+
+  if (h->dcidlen > NGTCP2_MAX_CIDLEN || h->scidlen > NGTCP2_MAX_CIDLEN) {
+    return -1;
+  }
+  h->kind = kinds[h->first >> 4 & 3];
+  if (h->kind == QUIC_WIRE_INITIAL) {
+    n = quic_wire_varint_read(pkt + at, pktlen - at, &len);
+    if (!n || pktlen - at - n < len) {
+      return -1;
+    }
+    h->token = (uint32_t)(at + n);
+    h->tokenlen = (uint32_t)len;
+    at += n + (size_t)len;
+  }
+  if (h->kind != QUIC_WIRE_RETRY) {
+    n = quic_wire_varint_read(pkt + at, pktlen - at, &h->len);
+    if (!n) {
+      return -1;
+    }
+    at += n;
+  }
+  h->head_end = (uint32_t)at;
+  return 0;
+}
+
+ngtcp2_ssize ngtcp2_pkt_decode_hd_long(ngtcp2_pkt_hd *dest, const uint8_t *pkt,
+                                       size_t pktlen) {
+  static const uint8_t types[] = {
+      NGTCP2_PKT_INITIAL, NGTCP2_PKT_0RTT, NGTCP2_PKT_HANDSHAKE,
+      NGTCP2_PKT_RETRY,   NGTCP2_PKT_1RTT, NGTCP2_PKT_VERSION_NEGOTIATION};
+  quic_wire_head h;
+  int answer = quic_wire_head_read(pkt, pktlen, 0, versions, 5, &h);
+
+  if (answer == QUIC_WIRE_PACKET_UNSUPPORTED_VERSION &&
+      h.version == NGTCP2_PROTO_VER_V2_DRAFT) {
+    answer = read_draft(&h, pkt, pktlen);
+  }
+  /* ngtcp2 looks itself at whether a packet is cut off. */
+  if ((answer != 0 && answer != QUIC_WIRE_PACKET_LENGTH_BEYOND_END) ||
+      h.kind == QUIC_WIRE_1RTT) {
+    return NGTCP2_ERR_INVALID_ARGUMENT;
+  }
+  dest->type = types[h.kind];
+  dest->flags = NGTCP2_PKT_FLAG_NONE;
+  if (h.kind != QUIC_WIRE_VERSION_NEGOTIATION) {
+    dest->flags |= NGTCP2_PKT_FLAG_LONG_FORM;
+    if (!(h.first & QUIC_WIRE_FIXED_BIT)) {
+      dest->flags |= NGTCP2_PKT_FLAG_FIXED_BIT_CLEAR;
+    }
+  }
+  ngtcp2_cid_init(&dest->dcid, quic_wire_dcid(pkt, &h), h.dcidlen);
+  ngtcp2_cid_init(&dest->scid, quic_wire_scid(pkt, &h), h.scidlen);
+  dest->version = h.version;
+  dest->pkt_num = 0;
+  dest->pkt_numlen = 0;
+  dest->token.base = h.tokenlen ? (uint8_t *)pkt + h.token : NULL;
+  dest->token.len = h.tokenlen;
+  dest->len = (size_t)h.len;
+  return (ngtcp2_ssize)h.head_end;
+}
+
+ngtcp2_ssize ngtcp2_pkt_decode_hd_short(ngtcp2_pkt_hd *dest, const uint8_t *pkt,
+                                        size_t pktlen, size_t dcidlen) {
+  quic_wire_head h;
+
+  if (quic_wire_head_read(pkt, pktlen, (uint32_t)dcidlen, NULL, 0, &h) != 0 ||
+      h.kind != QUIC_WIRE_1RTT) {
+    return NGTCP2_ERR_INVALID_ARGUMENT;
+  }
+  dest->type = NGTCP2_PKT_1RTT;
+  dest->flags = h.first & QUIC_WIRE_FIXED_BIT ? NGTCP2_PKT_FLAG_NONE
+                                              : NGTCP2_PKT_FLAG_FIXED_BIT_CLEAR;
+  ngtcp2_cid_init(&dest->dcid, pkt + 1, dcidlen);
+  ngtcp2_cid_zero(&dest->scid);
+  dest->version = 0;
+  dest->len = 0;
+  dest->pkt_num = 0;
+  dest->pkt_numlen = 0;
+  dest->token.base = NULL;
+  dest->token.len = 0;
+  return (ngtcp2_ssize)(1 + dcidlen);
+}
+
+/*
+ * The ids of a version negotiation may have 255 bytes (RFC 8999, section 6),
+ * which the library tells of versions alone that it isn't given: so its front
+ * is read as one of such a version.
+ */
+static int read_negotiation(quic_wire_head *h, const uint8_t *data,
+                            size_t datalen) {
+  uint8_t front[7 + 2 * UINT8_MAX];
+  size_t len = ngtcp2_min(datalen, sizeof(front));
+  int answer;
+
+  memcpy(front, data, len);
+  front[4] = 1;
+  answer = quic_wire_head_read(front, len, 0, NULL, 0, h);
+  h->version = 0;
+  return answer;
+}
+
+/* The version and the ids of a packet of whatever version (RFC 8999): none is
+ * given, so of each version the library tells these and no more. */
+int ngtcp2_pkt_decode_version_cid(ngtcp2_version_cid *dest, const uint8_t *data,
+                                  size_t datalen, size_t short_dcidlen) {
+  quic_wire_head h;
+  int supported;
+  int answer = quic_wire_head_read(data, datalen, (uint32_t)short_dcidlen, NULL,
+                                   0, &h);
+
+  if (answer == QUIC_WIRE_PACKET_MALFORMED_CID) {
+    answer = read_negotiation(&h, data, datalen);
+  }
+  if (answer != 0 && answer != QUIC_WIRE_PACKET_UNSUPPORTED_VERSION) {
+    return NGTCP2_ERR_INVALID_ARGUMENT;
+  }
+  dest->version = h.version;
+  dest->dcid = quic_wire_dcid(data, &h);
+  dest->dcidlen = h.dcidlen;
+  dest->scid = h.kind == QUIC_WIRE_1RTT ? NULL : quic_wire_scid(data, &h);
+  dest->scidlen = h.scidlen;
+  if (h.version == 0) {
+    return 0;
+  }
+  supported = ngtcp2_is_supported_version(h.version);
+  if (supported) {
+    return h.dcidlen > NGTCP2_MAX_CIDLEN || h.scidlen > NGTCP2_MAX_CIDLEN
+               ? NGTCP2_ERR_INVALID_ARGUMENT
+               : 0;
+  }
+  return datalen < NGTCP2_MAX_UDP_PAYLOAD_SIZE ? NGTCP2_ERR_INVALID_ARGUMENT
+                                               : NGTCP2_ERR_VERSION_NEGOTIATION;
+}
+
+/* ---- Written */
+
+static quic_wire_said said_of(const ngtcp2_pkt_hd *hd, uint8_t kind) {
+  quic_wire_said said = {kind, 0, (uint8_t)hd->pkt_numlen, NGTCP2_PKT_LENGTHLEN,
+                         hd->version, (uint64_t)hd->pkt_num};
+  if (hd->flags & NGTCP2_PKT_FLAG_FIXED_BIT_CLEAR) {
+    said.flags |= QUIC_WIRE_FIXED_BIT;
+  }
+  if (kind == QUIC_WIRE_1RTT && (hd->flags & NGTCP2_PKT_FLAG_KEY_PHASE)) {
+    said.flags |= QUIC_WIRE_KEY_PHASE;
+  }
+  return said;
+}
+
+static uint8_t kind_of(uint8_t type) {
+  switch (type) {
+  case NGTCP2_PKT_INITIAL:
+    return QUIC_WIRE_INITIAL;
+  case NGTCP2_PKT_0RTT:
+    return QUIC_WIRE_0RTT;
+  case NGTCP2_PKT_HANDSHAKE:
+    return QUIC_WIRE_HANDSHAKE;
+  default:
+    return QUIC_WIRE_RETRY;
+  }
+}
+
+ngtcp2_ssize ngtcp2_pkt_encode_hd_long(uint8_t *out, size_t outlen,
+                                       const ngtcp2_pkt_hd *hd) {
+  quic_wire_said said = said_of(hd, kind_of(hd->type));
+  int64_t n = quic_wire_head_write(&said, hd->dcid.data, hd->dcid.datalen,
+                                   hd->scid.data, hd->scid.datalen,
+                                   hd->token.base, hd->token.len, out, outlen);
+  if (n < 0) {
+    return n == QUIC_WIRE_ERR_NOBUF ? NGTCP2_ERR_NOBUF
+                                    : NGTCP2_ERR_INVALID_ARGUMENT;
+  }
+  if (hd->version == NGTCP2_PROTO_VER_V2_DRAFT) {
+    /* Of version 2's form, which the library gives to version 2 alone. */
+    out[0] = (uint8_t)((out[0] & ~NGTCP2_LONG_TYPE_MASK) |
+                       ngtcp2_pkt_versioned_type(hd->version, hd->type) << 4);
+  }
+  if (hd->len) { /* known already; else ngtcp2_ppe_final sets it */
+    quic_wire_varint_write(hd->len, NGTCP2_PKT_LENGTHLEN,
+                           out + n - hd->pkt_numlen - NGTCP2_PKT_LENGTHLEN,
+                           NGTCP2_PKT_LENGTHLEN);
+  }
+  return (ngtcp2_ssize)n;
+}
+
+ngtcp2_ssize ngtcp2_pkt_encode_hd_short(uint8_t *out, size_t outlen,
+                                        const ngtcp2_pkt_hd *hd) {
+  quic_wire_said said = said_of(hd, QUIC_WIRE_1RTT);
+  int64_t n = quic_wire_head_write(&said, hd->dcid.data, hd->dcid.datalen, NULL,
+                                   0, NULL, 0, out, outlen);
+  if (n < 0) {
+    return n == QUIC_WIRE_ERR_NOBUF ? NGTCP2_ERR_NOBUF
+                                    : NGTCP2_ERR_INVALID_ARGUMENT;
+  }
+  return (ngtcp2_ssize)n;
+}
+
+/* ---- Packet numbers */
+
+int64_t ngtcp2_pkt_adjust_pkt_num(int64_t max_pkt_num, int64_t pkt_num,
+                                  size_t n) {
+  return (int64_t)quic_wire_number_expand((uint64_t)pkt_num, (uint32_t)(n / 8),
+                                          quic_wire_ng_expected(max_pkt_num));
+}

@@ -1,0 +1,240 @@
+/*
+ * readers frames | datagrams LEN | params client|server: what ngtcp2's own
+ * functions read of lines of hexadecimal, a line for each.  It is compiled over
+ * ngtcp2 as it is and over the changed one; both must print the same.
+ */
+#include <stdio.h>
+#include <stdlib.h>
+#include <string.h>
+
+#include "ngtcp2_pkt.h"
+
+static char line[1 << 20];
+static uint8_t bytes[1 << 19];
+
+static void hex(const char *name, const uint8_t *data, size_t len) {
+  size_t i;
+  printf(" %s ", name);
+  for (i = 0; i < len; ++i) {
+    printf("%02x", data[i]);
+  }
+}
+
+static void id(const char *name, const ngtcp2_cid *cid) {
+  hex(name, cid->data, cid->datalen);
+}
+
+static void data(const ngtcp2_vec *vec, size_t count) {
+  if (count) {
+    printf(" data %zu+%zu", (size_t)(vec->base - bytes), vec->len);
+  }
+}
+
+static void show_ack(const ngtcp2_ack *ack) {
+  size_t i;
+  printf(" %ld %lu %lu", (long)ack->largest_ack, ack->ack_delay,
+         ack->first_ack_range);
+  for (i = 0; i < ack->rangecnt; ++i) {
+    printf(" %lu-%lu", ack->ranges[i].gap, ack->ranges[i].len);
+  }
+  if (ack->type == NGTCP2_FRAME_ACK_ECN) {
+    printf(" ecn %lu %lu %lu", ack->ecn.ect0, ack->ecn.ect1, ack->ecn.ce);
+  }
+}
+
+static void show_close(const ngtcp2_connection_close *close) {
+  printf(" %lu %lu reason %zu", close->error_code, close->frame_type,
+         close->reasonlen);
+  if (close->reasonlen) {
+    printf(" at %zu", (size_t)(close->reason - bytes));
+  }
+}
+
+static void show_frame(const ngtcp2_frame *f) {
+  switch (f->type) {
+  case NGTCP2_FRAME_PADDING:
+    printf(" %zu", f->padding.len);
+    return;
+  case NGTCP2_FRAME_ACK:
+  case NGTCP2_FRAME_ACK_ECN:
+    show_ack(&f->ack);
+    return;
+  case NGTCP2_FRAME_STREAM:
+    printf(" %ld %lu flags %d fin %d", (long)f->stream.stream_id,
+           f->stream.offset, f->stream.flags, f->stream.fin);
+    data(f->stream.data, f->stream.datacnt);
+    return;
+  case NGTCP2_FRAME_CRYPTO:
+    printf(" %lu", f->crypto.offset);
+    data(f->crypto.data, f->crypto.datacnt);
+    return;
+  case NGTCP2_FRAME_NEW_TOKEN:
+    data(&f->new_token.token, 1);
+    return;
+  case NGTCP2_FRAME_RESET_STREAM:
+    printf(" %ld %lu %lu", (long)f->reset_stream.stream_id,
+           f->reset_stream.app_error_code, f->reset_stream.final_size);
+    return;
+  case NGTCP2_FRAME_STOP_SENDING:
+    printf(" %ld %lu", (long)f->stop_sending.stream_id,
+           f->stop_sending.app_error_code);
+    return;
+  case NGTCP2_FRAME_MAX_STREAM_DATA:
+  case NGTCP2_FRAME_STREAM_DATA_BLOCKED:
+    printf(" %ld %lu", (long)f->max_stream_data.stream_id,
+           f->max_stream_data.max_stream_data);
+    return;
+  case NGTCP2_FRAME_MAX_DATA:
+  case NGTCP2_FRAME_MAX_STREAMS_BIDI:
+  case NGTCP2_FRAME_MAX_STREAMS_UNI:
+  case NGTCP2_FRAME_DATA_BLOCKED:
+  case NGTCP2_FRAME_STREAMS_BLOCKED_BIDI:
+  case NGTCP2_FRAME_STREAMS_BLOCKED_UNI:
+  case NGTCP2_FRAME_RETIRE_CONNECTION_ID:
+    printf(" %lu", f->max_data.max_data);
+    return;
+  case NGTCP2_FRAME_NEW_CONNECTION_ID:
+    printf(" %lu %lu", f->new_connection_id.seq,
+           f->new_connection_id.retire_prior_to);
+    id("id", &f->new_connection_id.cid);
+    hex("token", f->new_connection_id.stateless_reset_token, 16);
+    return;
+  case NGTCP2_FRAME_PATH_CHALLENGE:
+  case NGTCP2_FRAME_PATH_RESPONSE:
+    hex("data", f->path_challenge.data, 8);
+    return;
+  case NGTCP2_FRAME_CONNECTION_CLOSE:
+  case NGTCP2_FRAME_CONNECTION_CLOSE_APP:
+    show_close(&f->connection_close);
+    return;
+  case NGTCP2_FRAME_DATAGRAM:
+  case NGTCP2_FRAME_DATAGRAM_LEN:
+    data(f->datagram.data, f->datagram.datacnt);
+    return;
+  default:
+    return;
+  }
+}
+
+/* An ACK counts as read once it was seen to be valid: ngtcp2 looks at that when
+ * it uses the frame. */
+static void show_frames(size_t len) {
+  union {
+    ngtcp2_frame frame;
+    uint8_t room[sizeof(ngtcp2_frame) +
+                 NGTCP2_MAX_ACK_RANGES * sizeof(ngtcp2_ack_range)];
+  } u;
+  ngtcp2_ssize n;
+  size_t at = 0;
+
+  while (at < len) {
+    memset(&u, 0, sizeof(u));
+    n = ngtcp2_pkt_decode_frame(&u.frame, bytes + at, len - at);
+    if (n < 0 || ((u.frame.type & 0xfe) == NGTCP2_FRAME_ACK &&
+                  ngtcp2_pkt_validate_ack(&u.frame.ack) != 0)) {
+      printf("refused");
+      return;
+    }
+    printf("%zu..%zu %02x", at, at + (size_t)n, u.frame.type);
+    show_frame(&u.frame);
+    printf("; ");
+    at += (size_t)n;
+  }
+}
+
+static void show_datagram(size_t len, size_t cidlen) {
+  ngtcp2_version_cid vc;
+  ngtcp2_pkt_hd hd;
+  ngtcp2_ssize n;
+  size_t at = 0;
+  int rv;
+
+  while (at < len) {
+    memset(&vc, 0, sizeof(vc));
+    memset(&hd, 0, sizeof(hd));
+    rv = ngtcp2_pkt_decode_version_cid(&vc, bytes + at, len - at, cidlen);
+    printf("version %d", rv);
+    if (rv == 0 || rv == NGTCP2_ERR_VERSION_NEGOTIATION) {
+      printf(" %08x", vc.version);
+      hex("dst", vc.dcid, vc.dcidlen);
+      hex("src", vc.scid, vc.scidlen);
+    }
+    n = bytes[at] & 0x80
+            ? ngtcp2_pkt_decode_hd_long(&hd, bytes + at, len - at)
+            : ngtcp2_pkt_decode_hd_short(&hd, bytes + at, len - at, cidlen);
+    if (n < 0) {
+      printf("; refused");
+      return;
+    }
+    printf("; %zd type %02x flags %02x %08x len %zu token %zu", n, hd.type,
+           hd.flags, hd.version, hd.len, hd.token.len);
+    id("dst", &hd.dcid);
+    id("src", &hd.scid);
+    printf("; ");
+    if (hd.len == 0 || len - at - (size_t)n < hd.len) {
+      return;
+    }
+    at += (size_t)n + hd.len;
+  }
+}
+
+static void show_params(size_t len, int is_client) {
+  static ngtcp2_transport_params p;
+  int rv;
+
+  memset(&p, 0, sizeof(p));
+  rv = ngtcp2_decode_transport_params(
+      &p,
+      is_client ? NGTCP2_TRANSPORT_PARAMS_TYPE_ENCRYPTED_EXTENSIONS
+                : NGTCP2_TRANSPORT_PARAMS_TYPE_CLIENT_HELLO,
+      bytes, len);
+  if (rv != 0) {
+    printf("refused");
+    return;
+  }
+  printf("%lu %lu %lu %lu %lu %lu %lu %lu %lu %lu %lu %lu %d %d",
+         p.max_idle_timeout, p.max_udp_payload_size, p.initial_max_data,
+         p.initial_max_stream_data_bidi_local,
+         p.initial_max_stream_data_bidi_remote, p.initial_max_stream_data_uni,
+         p.initial_max_streams_bidi, p.initial_max_streams_uni,
+         p.ack_delay_exponent, p.max_ack_delay, p.active_connection_id_limit,
+         p.max_datagram_frame_size, p.disable_active_migration,
+         p.grease_quic_bit);
+  id("original", &p.original_dcid);
+  id("initial", &p.initial_scid);
+  id("retry", &p.retry_scid);
+  if (p.stateless_reset_token_present) {
+    hex("token", p.stateless_reset_token, 16);
+  }
+  if (p.preferred_address_present) {
+    id("preferred", &p.preferred_address.cid);
+    hex("token", p.preferred_address.stateless_reset_token, 16);
+  }
+}
+
+static size_t read_line(void) {
+  size_t len = strcspn(line, "\r\n") / 2, i;
+  unsigned byte;
+  for (i = 0; i < len; ++i) {
+    sscanf(line + 2 * i, "%2x", &byte);
+    bytes[i] = (uint8_t)byte;
+  }
+  return len;
+}
+
+int main(int argc, char **argv) {
+  const char *mode = argc > 1 ? argv[1] : "", *how = argc > 2 ? argv[2] : "";
+
+  while (fgets(line, sizeof(line), stdin)) {
+    size_t len = read_line();
+    if (!strcmp(mode, "frames")) {
+      show_frames(len);
+    } else if (!strcmp(mode, "datagrams")) {
+      show_datagram(len, (size_t)atoi(how));
+    } else {
+      show_params(len, !strcmp(how, "client"));
+    }
+    puts("");
+  }
+  return 0;
+}

@@ -1,0 +1,29 @@
+// Inputs to try the page with.
+
+export const EXAMPLES = [
+  {
+    name: "a payload",
+    mode: "frames",
+    text: "024064190203010a05020e0444b00c68656c6c6f2c20776f726c6411048001000018020108c1d2e3f405162738a0"
+      + "a1a2a3a4a5a6a7a8a9aaabacadaeaf4001000000000000",
+  },
+  {
+    name: "a payload with an error",
+    mode: "frames",
+    text: "024064190203010a05020e0444b02068656c6c6f",
+  },
+  {
+    name: "a datagram of three packets",
+    mode: "datagram",
+    text: "c300000001088394c8f03e51570808f067a5502a4262b5040badcafe4029b0ab104bddec58e8b8ffdb24215c2769"
+      + "64a0d0e6b6bb1da8bb47ed511e2defee77903ec051739ba218e700000001088394c8f03e51570808f067a5502a42"
+      + "62b54024bc5dc73ac163efe73c76bf29988565f59dc9ebd35580f9efb19715b26fb6872101c5b0a05a8394c8f03e"
+      + "5157080d8bf54958790db6de545df78d9218cf0df8b83460ccf760bf19f5",
+  },
+  {
+    name: "a server’s transport parameters",
+    mode: "params",
+    text: "00088394c8f03e515708010480007530030245c00404800c00000504800400000604800400000704800400000802"
+      + "4064090240640a01030b01190e01040f08f067a5502a4262b520048001000040ff04deadbeef",
+  },
+];

@@ -1,0 +1,93 @@
+// The structs of c/quic_wire.h as they lie in the module's memory, whose pointers and sizes have 64 bits. No other file
+// knows where a field stands. scripts/test-web compares this table with what layout.c prints of the header.
+
+// Of each struct its size, and of each field its offset and how many bytes it has, an array's all.
+export const LAYOUT = {
+  frames: { size: 24, fields: { offset: [0, 8], last_type: [8, 8], ended: [16, 4], strict: [20, 4] } },
+  frame: {
+    size: 80,
+    fields: {
+      kind: [0, 4], flags: [4, 4], begin: [8, 8], end: [16, 8], data: [24, 8], datalen: [32, 8], numbers: [40, 40],
+    },
+  },
+  range: { size: 16, fields: { start: [0, 8], end: [8, 8] } },
+  ack_ranges: { size: 24, fields: { begin: [0, 8], end: [8, 8], largest: [16, 8] } },
+  canon: { size: 24, fields: { len: [0, 8], last_type: [8, 8], reason: [16, 8] } },
+  head: {
+    size: 32,
+    fields: {
+      kind: [0, 1], first: [1, 1], dcidlen: [2, 1], scidlen: [3, 1], version: [4, 4], head_end: [8, 4], end: [12, 4],
+      token: [16, 4], tokenlen: [20, 4], len: [24, 8],
+    },
+  },
+  params: {
+    size: 264,
+    fields: {
+      present: [0, 4], reason: [4, 4], max_idle_timeout: [8, 8], max_udp_payload_size: [16, 8],
+      initial_max_data: [24, 8], initial_max_stream_data_bidi_local: [32, 8],
+      initial_max_stream_data_bidi_remote: [40, 8], initial_max_stream_data_uni: [48, 8],
+      initial_max_streams_bidi: [56, 8], initial_max_streams_uni: [64, 8], ack_delay_exponent: [72, 8],
+      max_ack_delay: [80, 8], active_connection_id_limit: [88, 8], max_datagram_frame_size: [96, 8],
+      min_ack_delay: [104, 8], original_dst_cidlen: [112, 4], initial_src_cidlen: [116, 4],
+      retry_src_cidlen: [120, 4], preferred_cidlen: [124, 4], preferred_v4_port: [128, 2], preferred_v6_port: [130, 2],
+      original_dst_cid: [132, 20], initial_src_cid: [152, 20], retry_src_cid: [172, 20], preferred_cid: [192, 20],
+      stateless_reset_token: [212, 16], preferred_token: [228, 16], preferred_v6: [244, 16], preferred_v4: [260, 4],
+    },
+  },
+};
+
+// What calls answer: QUIC_WIRE_OK and so on.
+export const OK = 0;
+export const ITEM = 1;
+export const EMPTY = -2;
+export const MALFORMED = -3;
+
+// QUIC_WIRE_NO_TYPE.
+export const NO_TYPE = 0xffffffffffffffffn;
+
+// A struct in a memory. The memory may grow between two calls.
+export class Struct {
+  constructor(memory, name, place) {
+    this.memory = memory;
+    this.place = place;
+    this.size = LAYOUT[name].size;
+    this.fields = LAYOUT[name].fields;
+  }
+
+  // A field's value as a number, which places, lengths, kinds and flags are below 2^53.
+  number(field) {
+    return Number(this.big(field));
+  }
+
+  // A field's value as a BigInt.
+  big(field) {
+    const [offset, bytes] = this.fields[field];
+    const view = new DataView(this.memory.buffer, this.place + offset, bytes);
+    switch (bytes) {
+      case 8: return view.getBigUint64(0, true);
+      case 4: return BigInt(view.getUint32(0, true));
+      case 2: return BigInt(view.getUint16(0, true));
+      default: return BigInt(view.getUint8(0));
+    }
+  }
+
+  // The entry of an array of 64-bit words.
+  entry(field, index) {
+    return new DataView(this.memory.buffer).getBigUint64(this.place + this.fields[field][0] + 8 * index, true);
+  }
+
+  // A copy of the first bytes of an array.
+  bytes(field, count = this.fields[field][1]) {
+    return new Uint8Array(this.memory.buffer, this.place + this.fields[field][0], count).slice();
+  }
+
+  set(field, value) {
+    const [offset, bytes] = this.fields[field];
+    const view = new DataView(this.memory.buffer, this.place + offset, bytes);
+    if (bytes === 8) {
+      view.setBigUint64(0, BigInt(value), true);
+    } else {
+      view.setUint32(0, Number(value), true);
+    }
+  }
+}

@@ -1,0 +1,292 @@
+// The calls of the proved library, as they stand in c/quic_wire.h, over bytes that lie in the module's memory.
+
+import { PADDING } from "./names.js";
+import { EMPTY, ITEM, LAYOUT, MALFORMED, NO_TYPE, OK, Struct } from "./layout.js";
+
+// How many frames, and how many ranges of an ACK, one call gives at most.
+const ROOM = 1024;
+const MAX_VERSIONS = 64;
+// Bits of a first byte, and QUIC_WIRE_PACKET_FIXED_BIT_UNSET.
+const LONG_FORM = 0x80;
+const FIXED_BIT = 0x40;
+const FIXED_BIT_UNSET = 3;
+const PAGE = 65536;
+
+const aligned = (place) => (place + 15) & ~15;
+
+// A list of numbers below 2^32 that grows.
+export class Words {
+  constructor() {
+    this.words = new Uint32Array(64);
+    this.count = 0;
+  }
+
+  push(word) {
+    if (this.count === this.words.length) {
+      const more = new Uint32Array(2 * this.count);
+      more.set(this.words);
+      this.words = more;
+    }
+    this.words[this.count] = word;
+    this.count += 1;
+  }
+
+  get last() {
+    return this.words[this.count - 1];
+  }
+
+  all() {
+    return this.words.subarray(0, this.count);
+  }
+}
+
+export class Library {
+  // |module| is the module's bytes. Nothing is imported by it.
+  static async load(module) {
+    const { instance } = await WebAssembly.instantiate(module, {});
+    return new Library(instance.exports);
+  }
+
+  constructor(calls) {
+    this.calls = calls;
+    this.memory = calls.memory;
+    this.free = aligned(Number(calls.__heap_base.value));
+    for (const name of ["frames", "frame", "ack_ranges", "canon", "head", "params"]) {
+      this[name] = new Struct(this.memory, name, this.take(LAYOUT[name].size));
+    }
+    this.count = this.take(8);
+    this.versions = this.take(4 * MAX_VERSIONS);
+    this.room = this.take(ROOM * LAYOUT.frame.size);
+    this.input = this.free;
+    this.length = 0;
+  }
+
+  take(size) {
+    const place = this.free;
+    this.free = aligned(place + size);
+    this.reserve(this.free);
+    return place;
+  }
+
+  // Sees to it that the memory has bytes up to |end|.
+  reserve(end) {
+    const missing = end - this.memory.buffer.byteLength;
+    if (missing > 0) {
+      this.memory.grow(BigInt(Math.ceil(missing / PAGE)));
+    }
+  }
+
+  // Puts bytes where the calls below read them.
+  hold(bytes) {
+    this.reserve(this.input + bytes.length);
+    new Uint8Array(this.memory.buffer, this.input, bytes.length).set(bytes);
+    this.length = bytes.length;
+  }
+
+  call(name, ...words) {
+    return this.calls[`quic_wire_${name}_`](...words);
+  }
+
+  at(place) {
+    return BigInt(place);
+  }
+
+  // The bytes as a pointer and a length.
+  held(length = this.length) {
+    return [BigInt(this.input), BigInt(length)];
+  }
+
+  // Begins to read frames at |offset|.
+  seek(offset, strict) {
+    this.frames.set("offset", offset);
+    this.frames.set("last_type", NO_TYPE);
+    this.frames.set("ended", 0);
+    this.frames.set("strict", strict ? 1 : 0);
+  }
+
+  // Where all frames begin, then where the last one ends; their kinds; and what ended them, or null. PADDING frames
+  // that follow each other are one.
+  readFrames(strict) {
+    const begins = new Words();
+    const kinds = new Words();
+    const begun = this.call(strict ? "frames_init_strict" : "frames_init", this.at(this.frames.place), ...this.held());
+    let error = begun === EMPTY ? { empty: true } : null;
+    while (!error && this.frames.number("offset") < this.length) {
+      const answer = this.call(
+        "frames_fill", this.at(this.frames.place), ...this.held(), this.at(this.room), BigInt(ROOM),
+        this.at(this.count),
+      );
+      if (answer === ITEM) {
+        this.addFrames(begins, kinds);
+      } else if (answer === MALFORMED) {
+        error = this.frameError(new Struct(this.memory, "frame", this.room));
+      } else {
+        throw new Error(`quic_wire_frames_fill_ answered ${answer}`);
+      }
+    }
+    const count = begins.count;
+    begins.push(begun === EMPTY ? 0 : this.frames.number("offset"));
+    return { count, begins: begins.all(), kinds: kinds.all(), error };
+  }
+
+  addFrames(begins, kinds) {
+    const view = new DataView(this.memory.buffer);
+    const count = Number(view.getBigUint64(this.count, true));
+    const { size, fields } = LAYOUT.frame;
+    for (let place = this.room; place < this.room + count * size; place += size) {
+      const kind = view.getUint32(place + fields.kind[0], true);
+      if (kind !== PADDING || kinds.last !== PADDING) {
+        kinds.push(kind);
+        // The bytes are fewer than 2^32, so the lower half of the word is the place.
+        begins.push(view.getUint32(place + fields.begin[0], true));
+      }
+    }
+  }
+
+  frameError(frame) {
+    const type = frame.entry("numbers", 0);
+    return { empty: false, reason: frame.number("flags"), type: type === NO_TYPE ? null : type };
+  }
+
+  // The frame that begins at |offset|.
+  frameAt(offset, strict) {
+    this.seek(offset, strict);
+    const answer = this.call(
+      "frames_next", this.at(this.frames.place), ...this.held(), this.at(this.frame.place),
+    );
+    if (answer !== ITEM) {
+      throw new Error(`quic_wire_frames_next_ answered ${answer}`);
+    }
+    const { frame } = this;
+    return {
+      kind: frame.number("kind"), flags: frame.number("flags"), begin: frame.number("begin"), end: frame.number("end"),
+      data: frame.number("data"), datalen: frame.number("datalen"),
+      numbers: [0, 1, 2, 3, 4].map((index) => frame.entry("numbers", index)),
+    };
+  }
+
+  // The ranges of the ACK at |offset| as pairs of BigInts, smallest and largest number, the greatest range first.
+  rangesAt(offset, strict) {
+    this.frameAt(offset, strict);
+    const ranges = [];
+    const begun = this.call(
+      "ack_ranges_init", this.at(this.ack_ranges.place), ...this.held(), this.at(this.frame.place),
+    );
+    if (begun !== OK) {
+      throw new Error(`quic_wire_ack_ranges_init_ answered ${begun}`);
+    }
+    while (this.fillRanges() === ITEM) {
+      const view = new DataView(this.memory.buffer);
+      const count = Number(view.getBigUint64(this.count, true));
+      const { size, fields } = LAYOUT.range;
+      for (let place = this.room; place < this.room + count * size; place += size) {
+        const start = view.getBigUint64(place + fields.start[0], true);
+        ranges.push([start, view.getBigUint64(place + fields.end[0], true) - 1n]);
+      }
+    }
+    return ranges;
+  }
+
+  fillRanges() {
+    return this.call(
+      "ack_ranges_fill", this.at(this.ack_ranges.place), ...this.held(), this.at(this.room), BigInt(ROOM),
+      this.at(this.count),
+    );
+  }
+
+  // The shortest payload with the same meaning, or what in it is no frame.
+  canonical() {
+    const output = aligned(this.input + this.length);
+    this.reserve(output + this.length);
+    const answer = this.call(
+      "canonical", ...this.held(), this.at(output), BigInt(this.length), this.at(this.canon.place),
+    );
+    if (answer === OK) {
+      return { bytes: new Uint8Array(this.memory.buffer, output, this.canon.number("len")).slice(), error: null };
+    }
+    if (answer === EMPTY) {
+      return { bytes: null, error: { empty: true } };
+    }
+    const type = this.canon.big("last_type");
+    const error = { empty: false, reason: this.canon.number("reason"), type: type === NO_TYPE ? null : type };
+    return { bytes: null, error };
+  }
+
+  // Sets the versions whose long headers are read.
+  speak(versions) {
+    const spoken = versions.slice(0, MAX_VERSIONS);
+    new Uint32Array(this.memory.buffer, this.versions, spoken.length).set(spoken);
+    return BigInt(spoken.length);
+  }
+
+  // Reads the head of the packet that begins at |offset|, and returns 0 or the reason why there is none. Without grease
+  // the fixed bit is looked at first, which the library leaves to its caller (RFC 9000, section 17).
+  cutPacket(offset, { idLength, versions, grease }) {
+    const first = new Uint8Array(this.memory.buffer)[this.input + offset];
+    if (!grease && offset < this.length && !(first & FIXED_BIT)) {
+      return FIXED_BIT_UNSET;
+    }
+    const spoken = this.speak(versions);
+    const answer = this.call(
+      "head_read", this.at(this.input + offset), BigInt(this.length - offset), idLength, this.at(this.versions), spoken,
+      this.at(this.head.place),
+    );
+    if (answer < OK) {
+      throw new Error(`quic_wire_head_read_ answered ${answer}`);
+    }
+    return answer;
+  }
+
+  // Where all packets begin, then where the last one ends; their kinds; and the struct of what is no packet, or null.
+  readPackets(choices) {
+    const begins = new Words();
+    const kinds = new Words();
+    let end = 0;
+    let reason;
+    do {
+      reason = this.cutPacket(end, choices);
+      if (reason === OK) {
+        begins.push(end);
+        kinds.push(this.head.number("kind"));
+        end += this.head.number("end");
+      }
+    } while (reason === OK && end < this.length);
+    begins.push(end);
+    return { begins: begins.all(), kinds: kinds.all(), refusal: reason === OK ? null : this.packetWords(end, reason) };
+  }
+
+  // The packet that begins at |offset|.
+  packetAt(offset, choices) {
+    return this.packetWords(offset, this.cutPacket(offset, choices));
+  }
+
+  // What is shown of the packet at |offset|: its places in the datagram.
+  packetWords(offset, reason) {
+    const word = (field) => this.head.number(field);
+    const dcid = offset + (word("first") & LONG_FORM ? 6 : 1);
+    return {
+      kind: word("kind"), version: word("version"), reason, begin: offset, end: offset + word("end"),
+      dcid, dcidlen: word("dcidlen"), scid: dcid + word("dcidlen") + 1, scidlen: word("scidlen"),
+      token: offset + word("token"), tokenlen: word("tokenlen"),
+    };
+  }
+
+  // What a side reads in the first |length| bytes of a list: a copy of the struct, or why the list is refused.
+  readParams(side, length = this.length) {
+    const answer = this.call(
+      "params_read", side === "server" ? 1 : 0, ...this.held(length), this.at(this.params.place),
+    );
+    if (answer !== OK) {
+      return { record: null, reason: this.params.number("reason") };
+    }
+    const { params } = this;
+    const copy = ([field, [, bytes]]) => {
+      if (bytes === 8) {
+        return [field, params.big(field)];
+      }
+      return [field, field.endsWith("len") || bytes === 2 || field === "present" || field === "reason"
+        ? params.number(field) : params.bytes(field)];
+    };
+    return { record: Object.fromEntries(Object.entries(params.fields).map(copy)), reason: 0 };
+  }
+}

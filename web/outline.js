@@ -1,0 +1,271 @@
+// The items, and under each that is open its fields. It is a tree of ARIA whose active line moves by the arrow keys.
+
+import { element, Rows } from "./rows.js";
+import { stripOf } from "./strip.js";
+
+// So many items are open at first, if each has no more lines than that.
+const OPEN_ITEMS = 200;
+const OPEN_LINES = 64;
+
+// The lines under an item: its fields, and the ranges of an ACK.
+export function linesOf(item) {
+  if (!item.ranges) {
+    return item.fields;
+  }
+  item.lines ??= [...item.fields, { name: "Ranges", begin: item.begin, end: item.end, ranges: item.ranges }];
+  return item.lines;
+}
+
+export class Outline {
+  // |on| has hover(item, field), select(item, field) and enter(item, field); field is -1 for the item itself.
+  constructor(box, on) {
+    this.box = box;
+    this.on = on;
+    this.reading = null;
+    this.spot = null;
+    // The items that are open, by their index, and how many lines stand before the first, the second, ... of them.
+    this.open = [];
+    this.before = [];
+    this.rows = new Rows(box, (index) => this.line(index));
+    box.addEventListener("pointerover", (event) => this.over(event));
+    box.addEventListener("pointerleave", () => on.hover(-1, -1));
+    box.addEventListener("click", (event) => this.click(event));
+    box.addEventListener("keydown", (event) => this.key(event));
+  }
+
+  show(reading) {
+    this.reading = reading;
+    this.spot = null;
+    this.open = [];
+    this.box.removeAttribute("aria-activedescendant");
+    if (reading.count <= OPEN_ITEMS) {
+      for (let index = 0; index < reading.count; index += 1) {
+        if (linesOf(reading.item(index)).length <= OPEN_LINES) {
+          this.open.push(index);
+        }
+      }
+    }
+    this.layOut();
+    this.rows.setCount(this.lines);
+  }
+
+  // Counts the lines of what is open.
+  layOut() {
+    this.before = [];
+    let more = 0;
+    for (const index of this.open) {
+      this.before.push(more);
+      more += linesOf(this.reading.item(index)).length;
+    }
+    this.lines = this.reading.count + more;
+  }
+
+  // The last open item for which |test| holds of its index and of the lines of open ones before it, or -1.
+  lastOpen(test) {
+    let low = 0;
+    let high = this.open.length;
+    while (low < high) {
+      const middle = (low + high) >> 1;
+      if (test(this.open[middle], this.before[middle])) {
+        low = middle + 1;
+      } else {
+        high = middle;
+      }
+    }
+    return low - 1;
+  }
+
+  // The item and the field of a line.
+  at(line) {
+    const last = this.lastOpen((index, before) => index + before < line);
+    if (last < 0) {
+      return { item: line, field: -1 };
+    }
+    const index = this.open[last];
+    const behind = line - (index + this.before[last]);
+    const count = linesOf(this.reading.item(index)).length;
+    return behind <= count ? { item: index, field: behind - 1 } : { item: index + behind - count, field: -1 };
+  }
+
+  // The line of an item or, if that is open, of one of its fields.
+  lineOf(item, field) {
+    const last = this.lastOpen((index) => index < item);
+    const before = last < 0 ? 0 : this.before[last] + linesOf(this.reading.item(this.open[last])).length;
+    return item + before + (this.isOpen(item) ? field + 1 : 0);
+  }
+
+  isOpen(item) {
+    return this.open[this.lastOpen((index) => index <= item)] === item;
+  }
+
+  // Opens or closes an item.
+  toggle(item) {
+    const { scrollTop } = this.box;
+    const at = this.lastOpen((index) => index <= item);
+    if (this.open[at] === item) {
+      this.open.splice(at, 1);
+    } else {
+      this.open.splice(at + 1, 0, item);
+    }
+    this.layOut();
+    this.rows.setCount(this.lines);
+    this.box.scrollTop = scrollTop;
+    this.rows.refresh(true);
+  }
+
+  line(index) {
+    const { item, field } = this.at(index);
+    const shown = this.reading.item(item);
+    const line = field < 0 ? this.itemLine(shown) : this.fieldLine(shown, field);
+    line.id = `${this.box.id}-${index}`;
+    line.dataset.item = item;
+    line.dataset.field = field;
+    line.setAttribute("role", "treeitem");
+    line.classList.add("line", "tone", shown.tone);
+    this.lightLine(line, item, field);
+    return line;
+  }
+
+  itemLine(item) {
+    const line = element("div", "item");
+    const isOpen = this.isOpen(item.index);
+    line.setAttribute("aria-level", 1);
+    line.setAttribute("aria-expanded", isOpen);
+    line.setAttribute("aria-setsize", this.reading.count);
+    line.setAttribute("aria-posinset", item.index + 1);
+    const caret = element("span", "caret", isOpen ? "▾" : "▸");
+    caret.setAttribute("aria-hidden", true);
+    const dot = element("span", "dot");
+    line.append(caret, dot, element("span", "name", item.name), element("span", "value", item.summary));
+    if (!item.agrees) {
+      line.append(element("span", "note differs", "fields drawn here differ from the library’s answer"));
+    }
+    line.append(element("span", "place", `${item.begin}..${item.end}`));
+    return line;
+  }
+
+  fieldLine(item, index) {
+    const lines = linesOf(item);
+    const field = lines[index];
+    const line = element("div", "field");
+    line.setAttribute("aria-level", 2);
+    line.setAttribute("aria-setsize", lines.length);
+    line.setAttribute("aria-posinset", index + 1);
+    line.classList.toggle("fault", Boolean(field.fault));
+    line.append(element("span", "name", field.name));
+    if (field.ranges) {
+      line.append(...stripOf(field.ranges));
+      return line;
+    }
+    line.append(element("span", "value", field.value));
+    if (field.note) {
+      line.append(element("span", "note", field.note));
+    }
+    line.append(element("span", "place", `${field.begin}..${field.end}`));
+    return line;
+  }
+
+  lightLine(line, item, field) {
+    const { spot } = this;
+    const isItem = spot !== null && spot.item === item;
+    const isField = isItem && spot.field === field;
+    line.classList.toggle("lit-item", isItem && !isField);
+    line.classList.toggle("lit-field", isField);
+    const isHere = isField && spot.isActive;
+    line.classList.toggle("here", isHere);
+    line.setAttribute("aria-selected", isHere);
+  }
+
+  light(spot) {
+    this.spot = spot;
+    for (const line of this.box.querySelectorAll(".line")) {
+      this.lightLine(line, Number(line.dataset.item), Number(line.dataset.field));
+    }
+    if (spot?.isActive) {
+      const id = `${this.box.id}-${this.lineOf(spot.item, spot.field)}`;
+      if (document.getElementById(id)) {
+        this.box.setAttribute("aria-activedescendant", id);
+      } else {
+        this.box.removeAttribute("aria-activedescendant");
+      }
+    }
+  }
+
+  reveal(item, field) {
+    this.rows.reveal(this.lineOf(item, field));
+  }
+
+  lineAt(target) {
+    return target.closest?.(".line") ?? null;
+  }
+
+  over(event) {
+    const line = this.lineAt(event.target);
+    this.on.hover(line ? Number(line.dataset.item) : -1, line ? Number(line.dataset.field) : -1);
+  }
+
+  click(event) {
+    const line = this.lineAt(event.target);
+    if (!line) {
+      return;
+    }
+    const item = Number(line.dataset.item);
+    if (event.target.classList.contains("caret")) {
+      this.toggle(item);
+      this.on.select(item, -1);
+    } else {
+      this.on.select(item, Number(line.dataset.field));
+    }
+  }
+
+  key(event) {
+    if (this.reading.count === 0 || event.altKey || event.metaKey) {
+      return;
+    }
+    const spot = this.spot?.isActive ? this.spot : null;
+    const isUsed = this.openByKey(event.key, spot) || this.moveByKey(event.key, spot);
+    if (isUsed) {
+      event.preventDefault();
+    }
+  }
+
+  // Enter, Right and Left. Returns whether the key did something.
+  openByKey(key, spot) {
+    if (!spot) {
+      return false;
+    }
+    const { item, field } = spot;
+    if (key === "Enter") {
+      this.on.enter(item, field);
+    } else if (key === "ArrowRight" && field < 0) {
+      if (this.isOpen(item)) {
+        this.on.select(item, linesOf(this.reading.item(item)).length > 0 ? 0 : -1);
+      } else {
+        this.toggle(item);
+        this.on.select(item, -1);
+      }
+    } else if (key === "ArrowLeft") {
+      if (field < 0 && this.isOpen(item)) {
+        this.toggle(item);
+      }
+      this.on.select(item, -1);
+    } else {
+      return false;
+    }
+    return true;
+  }
+
+  moveByKey(key, spot) {
+    const line = spot ? this.lineOf(spot.item, spot.field) : -1;
+    const steps = {
+      ArrowDown: line + 1, ArrowUp: line - 1, Home: 0, End: this.lines - 1, PageDown: line + this.rows.page,
+      PageUp: line - this.rows.page,
+    };
+    if (!(key in steps)) {
+      return false;
+    }
+    const { item, field } = this.at(Math.max(0, Math.min(this.lines - 1, steps[key])));
+    this.on.select(item, field);
+    return true;
+  }
+}

@@ -1,0 +1,329 @@
+// What is shown of bytes: items one behind the other (frames, packets, parameters), each with fields, and the error
+// that ended them. Which items there are, what they say and why they end is the library's answer; the places of fields
+// are found by a walk, and an item says so where the two differ.
+
+import { agrees, frameFields, frameSummary, paddingRun } from "./frame-fields.js";
+import { Words } from "./library.js";
+import {
+  ACK, FRAME_REASONS, frameName, frameTone, MAX_ACK_DELAY, MIN_ACK_DELAY, PACKET_REASONS, PACKET_UNSUPPORTED_VERSION,
+  packetName, packetTone, PADDING, parameterOf, PARAMS_MALFORMED, PARAMS_REASONS, REASON_END, REASON_LONG_TYPE,
+  REASON_TYPE, typeName,
+} from "./names.js";
+import { packetAgrees, packetFields, packetSummary } from "./packet-fields.js";
+import { nextEntry, parameterFields, parameterSummary } from "./parameter-fields.js";
+import { count } from "./walk.js";
+
+const KEPT_ITEMS = 4000;
+const SHOWN_RANGES = 200;
+
+// Ranges as text, the greatest first.
+export function rangesText(ranges, limit = SHOWN_RANGES) {
+  const shown = ranges.slice(0, limit).map(([from, to]) => (from === to ? `${from}` : `${from}–${to}`));
+  const more = ranges.length > limit ? ` and ${ranges.length - limit} more` : "";
+  return shown.join(", ") + more;
+}
+
+class Reading {
+  constructor(library, bytes, choices) {
+    this.library = library;
+    this.bytes = bytes;
+    this.choices = choices;
+    this.kept = new Map();
+  }
+
+  // How many items there are, what is none at the end among them.
+  get count() {
+    return this.begins.length - 1 + (this.hasRest ? 1 : 0);
+  }
+
+  // Whether bytes are left that are no item.
+  get hasRest() {
+    return this.error !== null && this.rest < this.bytes.length;
+  }
+
+  get rest() {
+    return this.begins[this.begins.length - 1];
+  }
+
+  get whole() {
+    return this.begins.length - 1;
+  }
+
+  begin(index) {
+    return this.begins[index];
+  }
+
+  end(index) {
+    return index < this.whole ? this.begins[index + 1] : this.bytes.length;
+  }
+
+  // The item that the byte at |place| belongs to, or -1.
+  indexAt(place) {
+    if (place < 0 || place >= this.bytes.length || this.count === 0 || place >= this.end(this.count - 1)) {
+      return -1;
+    }
+    let low = 0;
+    let high = this.count;
+    while (high - low > 1) {
+      const middle = (low + high) >> 1;
+      if (this.begin(middle) <= place) {
+        low = middle;
+      } else {
+        high = middle;
+      }
+    }
+    return low;
+  }
+
+  item(index) {
+    let item = this.kept.get(index);
+    if (!item) {
+      if (this.kept.size >= KEPT_ITEMS) {
+        this.kept.clear();
+      }
+      item = { index, begin: this.begin(index), end: this.end(index), broken: false, ...this.make(index) };
+      this.kept.set(index, item);
+    }
+    return item;
+  }
+
+  // The field of an item at |place|, or -1.
+  fieldAt(item, place) {
+    return item.fields.findIndex((field) => field.begin <= place && place < field.end);
+  }
+
+  // The item that is none, if there is one: what is left behind the whole ones.
+  get bad() {
+    return this.whole;
+  }
+
+  // Of what is no item: its fields as far as they go, and the one that is at fault.
+  broken(name, summary, walk, fault, end = this.bytes.length) {
+    const fields = walk.fields.slice();
+    if (walk.place < end) {
+      const value = `${end - walk.place} bytes`;
+      fields.push({ name: "not read", begin: walk.place, end, value, opaque: true });
+    }
+    if (fault) {
+      fault.fault = true;
+    }
+    return { name, summary, tone: "error", broken: true, fields, agrees: true };
+  }
+}
+
+class FramesReading extends Reading {
+  constructor(library, bytes, choices) {
+    super(library, bytes, choices);
+    const { begins, kinds, error } = library.readFrames(choices.strict);
+    this.begins = begins;
+    this.kinds = kinds;
+    this.unit = "frame";
+    this.failure = error;
+    this.error = error && this.describe(error);
+  }
+
+  kindAt(index) {
+    return this.kinds[index];
+  }
+
+  describe(error) {
+    if (error.empty) {
+      return {
+        place: 0, reason: "packet payload is empty", type: null, code: "PROTOCOL_VIOLATION (0x0a)",
+        section: "RFC 9000, section 12.4",
+      };
+    }
+    const isLong = error.reason === REASON_LONG_TYPE;
+    return {
+      place: this.walkRest().fault?.begin ?? this.rest, reason: FRAME_REASONS[error.reason], type: error.type,
+      code: isLong ? "PROTOCOL_VIOLATION (0x0a)" : "FRAME_ENCODING_ERROR (0x07)", section: "RFC 9000, section 12.4",
+    };
+  }
+
+  // The walk along what is no frame, and the field in which that went wrong.
+  walkRest() {
+    const found = frameFields(this.bytes, this.rest, this.bytes.length);
+    const { missing, wrong, fields: [type] } = found.walk;
+    const faults = { [REASON_END]: missing, [REASON_TYPE]: type, [REASON_LONG_TYPE]: type };
+    return { ...found, fault: faults[this.failure.reason] ?? wrong };
+  }
+
+  make(index) {
+    if (index === this.bad) {
+      const { walk, type, fault } = this.walkRest();
+      const name = type === null ? "no frame" : `${typeName(type)}, no frame`;
+      return this.broken(name, this.error.reason, walk, fault);
+    }
+    const begin = this.begin(index);
+    const kind = this.kinds[index];
+    const name = frameName(kind);
+    const tone = frameTone(kind);
+    if (kind === PADDING) {
+      const { frames, fields } = paddingRun(this.bytes, begin, this.end(index));
+      return { name, tone, summary: count(frames, "frame"), fields, agrees: true };
+    }
+    const frame = this.library.frameAt(begin, this.choices.strict);
+    const ranges = kind === ACK ? this.library.rangesAt(begin, this.choices.strict) : null;
+    const found = frameFields(this.bytes, begin, frame.end);
+    const summary = frameSummary(frame, ranges && rangesText(ranges, 20));
+    return { name, tone, summary, fields: found.walk.fields, ranges, agrees: agrees(frame, found) };
+  }
+
+  // The shortest payload with the same meaning, or why there is none.
+  canonical() {
+    this.shortest ??= this.library.canonical();
+    return this.shortest;
+  }
+}
+
+class DatagramReading extends Reading {
+  constructor(library, bytes, choices) {
+    super(library, bytes, choices);
+    this.unit = "packet";
+    const { begins, kinds, refusal } = library.readPackets(choices);
+    this.begins = begins;
+    this.kinds = kinds;
+    this.refusal = refusal;
+    this.error = refusal && this.describe(refusal);
+  }
+
+  describe(refusal) {
+    const isVersion = refusal.reason === PACKET_UNSUPPORTED_VERSION;
+    return {
+      place: this.walkRest().fault?.begin ?? this.rest, reason: PACKET_REASONS[refusal.reason],
+      version: isVersion ? refusal.version : null, code: null,
+      section: isVersion ? "a server may answer by a Version Negotiation packet: RFC 9000, section 6"
+        : "what is left of the datagram is dropped: RFC 9000, section 12.2",
+    };
+  }
+
+  // The walk along what is no packet, and the field in which that went wrong.
+  walkRest() {
+    const walk = packetFields(this.bytes, this.rest, this.bytes.length, null, this.choices);
+    const [first, version] = walk.fields;
+    const isVersion = this.refusal.reason === PACKET_UNSUPPORTED_VERSION;
+    return { walk, fault: isVersion ? version : walk.wrong ?? walk.missing ?? first };
+  }
+
+  make(index) {
+    if (index === this.bad) {
+      const { walk, fault } = this.walkRest();
+      return this.broken("no packet", this.error.reason, walk, fault);
+    }
+    const packet = this.packet(index);
+    const walk = packetFields(this.bytes, packet.begin, packet.end, packet.kind, this.choices);
+    return {
+      name: packetName(packet.kind), tone: packetTone(packet.kind), summary: packetSummary(packet), fields: walk.fields,
+      agrees: packetAgrees(packet, walk),
+    };
+  }
+
+  packet(index) {
+    return this.library.packetAt(this.begin(index), this.choices);
+  }
+}
+
+class ParamsReading extends Reading {
+  constructor(library, bytes, choices) {
+    super(library, bytes, choices);
+    this.unit = "parameter";
+    this.error = null;
+    this.scan();
+    const { record, reason } = library.readParams(choices.side);
+    this.record = record;
+    if (!record) {
+      this.refused = this.findBad(reason);
+      if (reason === PARAMS_MALFORMED) {
+        // Nothing behind the entry was read.
+        this.begins = this.begins.subarray(0, this.refused + 1);
+      }
+      this.error = this.describe(reason);
+    }
+  }
+
+  get bad() {
+    return this.refused ?? this.whole;
+  }
+
+  // Where all entries begin that are whole, then where the last of them ends.
+  scan() {
+    const begins = new Words();
+    begins.push(0);
+    this.delayEnd = 0;
+    for (let entry = nextEntry(this.bytes, 0); entry.end !== null; entry = nextEntry(this.bytes, entry.end)) {
+      if (entry.id === MAX_ACK_DELAY) {
+        this.delayEnd = begins.count;
+      } else if (entry.id === MIN_ACK_DELAY) {
+        this.lastMinDelay = begins.count - 1;
+      }
+      begins.push(entry.end);
+    }
+    this.begins = begins.all();
+  }
+
+  // The entry with which the list came to be refused for this reason: the one behind the longest beginning of the list
+  // that isn't. Beginnings are read by the same call as the list. With each further entry what is refused stays so,
+  // but that a max_ack_delay may allow for a min_ack_delay before it.
+  findBad(reason) {
+    const isRefused = (count) => {
+      const answer = this.library.readParams(this.choices.side, this.begins[count]);
+      return reason === PARAMS_MALFORMED ? answer.reason === reason : answer.reason !== 0;
+    };
+    let low = this.delayEnd > 0 && !isRefused(this.delayEnd) ? this.delayEnd : 0;
+    let high = this.whole + 1;
+    while (high - low > 1) {
+      const middle = (low + high) >> 1;
+      if (isRefused(middle)) {
+        high = middle;
+      } else {
+        low = middle;
+      }
+    }
+    return low;
+  }
+
+  describe(reason) {
+    const begin = this.begins[this.refused];
+    this.reason = reason;
+    return {
+      place: this.faultOf(parameterFields(this.bytes, begin).walk)?.begin ?? begin, reason: PARAMS_REASONS[reason],
+      code: "TRANSPORT_PARAMETER_ERROR (0x08)", section: "RFC 9000, section 7.4",
+    };
+  }
+
+  // The field of the refused entry that is at fault: what is cut off or no value of its kind; else a number that is
+  // out of range; else the entry's id, which stands in the list before or may not stand there.
+  faultOf(walk) {
+    const number = walk.fields.find((field) => field.name === "Value" && field.number !== undefined);
+    return walk.missing ?? walk.wrong ?? (this.reason === PARAMS_MALFORMED ? null : number) ?? walk.fields[0];
+  }
+
+  make(index) {
+    const { walk, id } = parameterFields(this.bytes, this.begin(index));
+    const name = id === null ? "no parameter" : parameterOf(id).name;
+    if (index === this.bad) {
+      const fault = this.faultOf(walk);
+      const summary = this.error.reason + (walk.missing ? "" : `: ${parameterSummary(walk, id)}`);
+      return this.broken(name, summary, walk, fault, this.end(index));
+    }
+    const { tone } = parameterOf(id);
+    const summary = parameterSummary(walk, id);
+    return { name, tone, summary, fields: walk.fields, agrees: this.agrees(walk, id, index) };
+  }
+
+  // Whether a number in the list is the record's. A min_ack_delay may stand in it again, and then the last one counts.
+  agrees(walk, id, index) {
+    const { name, kind } = parameterOf(id);
+    if (!this.record || kind !== "number" || (id === MIN_ACK_DELAY && index !== this.lastMinDelay)) {
+      return true;
+    }
+    return walk.fields.find((field) => field.name === "Value")?.number === this.record[name];
+  }
+}
+
+// Reads bytes as the choices say.
+export function readBytes(library, bytes, choices) {
+  const readers = { frames: FramesReading, datagram: DatagramReading, params: ParamsReading };
+  library.hold(bytes);
+  return new readers[choices.mode](library, bytes, choices);
+}

@@ -1,0 +1,217 @@
+"""Drives a headless browser by WebDriver: Chromium through chromedriver, Firefox through its own port."""
+import base64
+import contextlib
+import json
+import os
+import re
+import shutil
+import socket
+import subprocess
+import tempfile
+import time
+import urllib.error
+import urllib.request
+
+ENTER, TAB = "\ue007", "\ue004"
+LEFT, UP, RIGHT, DOWN = "\ue012", "\ue013", "\ue014", "\ue015"
+HOME, END, PAGE_DOWN, CONTROL = "\ue011", "\ue010", "\ue00f", "\ue009"
+
+# How long a state is polled for before the test fails, in seconds.
+PATIENCE = 60
+
+
+class Failed(Exception):
+    """What was looked for is not so."""
+
+
+class Browser:
+    """What both browsers have in common. A subclass sends commands."""
+
+    def go(self, url):
+        self.send("navigate", {"url": url})
+        self.until("return document.documentElement.dataset.state === 'ready'", "the page starts")
+
+    def run(self, script, *arguments):
+        """The value of a script's return, by its arguments."""
+        return self.send("run", {"script": script, "args": list(arguments)})
+
+    def until(self, script, what, *arguments):
+        """Polls until a script returns something true, and returns that."""
+        end = time.monotonic() + PATIENCE
+        while time.monotonic() < end:
+            value = self.run(script, *arguments)
+            if value:
+                return value
+        raise Failed(f"not seen: {what}")
+
+    def keys(self, *keys, held=()):
+        """Presses keys one after the other, others being held."""
+        actions = [{"type": "keyDown", "value": key} for key in held]
+        for key in keys:
+            actions += [{"type": "keyDown", "value": key}, {"type": "keyUp", "value": key}]
+        actions += [{"type": "keyUp", "value": key} for key in held]
+        self.send("act", {"actions": [{"type": "key", "id": "keyboard", "actions": actions}]})
+
+    def point(self, x, y, click=False):
+        """Moves the pointer to a place of the window."""
+        actions = [{"type": "pointerMove", "duration": 0, "x": int(x), "y": int(y), "origin": "viewport"}]
+        if click:
+            actions += [{"type": "pointerDown", "button": 0}, {"type": "pointerUp", "button": 0}]
+        self.send("act", {"actions": [{"type": "pointer", "id": "mouse", "actions": actions}]})
+
+
+class Chromium(Browser):
+    """Chromium, through Debian's chromium-driver."""
+
+    name = "Chromium"
+    COMMANDS = {"navigate": "url", "run": "execute/sync", "act": "actions"}
+
+    def __init__(self):
+        self.profile = tempfile.mkdtemp()
+        self.driver = subprocess.Popen(
+            ["chromedriver", "--port=0"], stdout=subprocess.PIPE, stderr=subprocess.DEVNULL, text=True)
+        self.base = self.session = None
+        for line in self.driver.stdout:
+            found = re.search(r"started successfully on port (\d+)", line)
+            if found:
+                self.base = f"http://127.0.0.1:{found[1]}"
+                break
+        try:
+            self.begin()
+        except BaseException:
+            self.close()
+            raise
+
+    def begin(self):
+        if self.base is None:
+            raise Failed("chromedriver does not start")
+        words = ["--headless=new", "--disable-gpu", f"--user-data-dir={self.profile}", "--window-size=1280,1000",
+                 "--force-device-scale-factor=1", "--hide-scrollbars"]
+        if os.geteuid() == 0:
+            words.append("--no-sandbox")
+        options = {"args": words, "binary": shutil.which("chromium")}
+        wanted = {"browserName": "chrome", "goog:chromeOptions": options, "goog:loggingPrefs": {"browser": "ALL"},
+                  "timeouts": {"script": 600000}}
+        session = self.http("POST", "/session", {"capabilities": {"alwaysMatch": wanted}})
+        self.session = f"/session/{session['sessionId']}"
+        self.version = session["capabilities"]["browserVersion"]
+
+    def http(self, method, path, body=None):
+        data = None if body is None else json.dumps(body).encode()
+        request = urllib.request.Request(self.base + path, data, {"Content-Type": "application/json"}, method=method)
+        try:
+            with urllib.request.urlopen(request, timeout=900) as answer:
+                return json.load(answer)["value"]
+        except urllib.error.HTTPError as error:
+            raise Failed(json.load(error)["value"]["message"]) from None
+
+    def send(self, command, body):
+        return self.http("POST", f"{self.session}/{self.COMMANDS[command]}", body)
+
+    def devtools(self, command, **params):
+        return self.http("POST", f"{self.session}/goog/cdp/execute", {"cmd": command, "params": params})
+
+    def errors(self):
+        """What the console was told since the last call."""
+        return [entry["message"] for entry in self.http("POST", f"{self.session}/se/log", {"type": "browser"})]
+
+    def picture(self, path, width, height, scheme):
+        """The window as it looks at a size, light or dark."""
+        self.shape(width, height, scheme)
+        with open(path, "wb") as file:
+            file.write(base64.b64decode(self.http("GET", f"{self.session}/screenshot")))
+
+    def shape(self, width, height, scheme):
+        is_phone = width < 600
+        self.devtools("Emulation.setDeviceMetricsOverride", width=width, height=height, mobile=is_phone,
+                      deviceScaleFactor=2 if is_phone else 1)
+        self.devtools("Emulation.setEmulatedMedia", features=[{"name": "prefers-color-scheme", "value": scheme}])
+
+    def unshape(self):
+        self.devtools("Emulation.clearDeviceMetricsOverride")
+        self.devtools("Emulation.setEmulatedMedia", features=[])
+
+    def close(self):
+        with contextlib.suppress(Exception):
+            self.http("DELETE", self.session)
+        self.driver.terminate()
+        self.driver.wait()
+        shutil.rmtree(self.profile, ignore_errors=True)
+
+
+class Firefox(Browser):
+    """Firefox, by the commands that its own port takes (Marionette)."""
+
+    name = "Firefox"
+    COMMANDS = {"navigate": "WebDriver:Navigate", "run": "WebDriver:ExecuteScript", "act": "WebDriver:PerformActions"}
+
+    def __init__(self):
+        self.profile = tempfile.mkdtemp()
+        with open(f"{self.profile}/user.js", "w") as file:
+            for name, value in (("marionette.port", "0"), ("datareporting.policy.dataSubmissionEnabled", "false")):
+                file.write(f'user_pref("{name}", {value});\n')
+        words = ["firefox-esr", "--headless", "--marionette", "--remote-allow-system-access", "--no-remote",
+                 "--profile", self.profile]
+        quiet = {"stdout": subprocess.DEVNULL, "stderr": subprocess.DEVNULL}
+        self.process = subprocess.Popen(words, env={**os.environ, "MOZ_HEADLESS": "1", "HOME": self.profile}, **quiet)
+        self.count = 0
+        try:
+            self.begin()
+        except BaseException:
+            self.close()
+            raise
+
+    def begin(self):
+        self.stream = self.connect()
+        self.read()
+        wanted = {"timeouts": {"script": 600000}}
+        session = self.command("WebDriver:NewSession", {"capabilities": {"alwaysMatch": wanted}})
+        self.version = session["capabilities"]["browserVersion"]
+        self.command("WebDriver:SetWindowRect", {"width": 1280, "height": 1000})
+
+    def connect(self):
+        """Polls for the port that the browser writes down, and connects to it."""
+        end = time.monotonic() + PATIENCE
+        while time.monotonic() < end and self.process.poll() is None:
+            with contextlib.suppress(OSError, ValueError):
+                with open(f"{self.profile}/MarionetteActivePort") as file:
+                    return socket.create_connection(("127.0.0.1", int(file.read())), timeout=900).makefile("rwb")
+            time.sleep(0.05)
+        raise Failed("Firefox does not start")
+
+    def read(self):
+        length = b""
+        while (byte := self.stream.read(1)) != b":":
+            length += byte
+        return json.loads(self.stream.read(int(length)))
+
+    def command(self, name, body):
+        self.count += 1
+        message = json.dumps([0, self.count, name, body]).encode()
+        self.stream.write(b"%d:%s" % (len(message), message))
+        self.stream.flush()
+        _, _, error, value = self.read()
+        if error:
+            raise Failed(error["message"])
+        return value
+
+    def send(self, command, body):
+        value = self.command(self.COMMANDS[command], body)
+        return value["value"] if isinstance(value, dict) and "value" in value else value
+
+    def errors(self):
+        """What the console was told of the page since the last call."""
+        self.command("Marionette:SetContext", {"value": "chrome"})
+        script = """const said = Services.console.getMessageArray().filter(
+            (one) => one instanceof Ci.nsIScriptError && /index\\.html/.test(one.sourceName)).map(String);
+            Services.console.reset(); return said;"""
+        said = self.command("WebDriver:ExecuteScript", {"script": script, "args": []})["value"]
+        self.command("Marionette:SetContext", {"value": "content"})
+        return said
+
+    def close(self):
+        with contextlib.suppress(Exception):
+            self.command("Marionette:Quit", {"flags": ["eForceQuit"]})
+        self.process.terminate()
+        self.process.wait()
+        shutil.rmtree(self.profile, ignore_errors=True)

@@ -1,0 +1,104 @@
+"""The lines that the page is tried with, and what quic-show prints of them."""
+import os
+import random
+import re
+import subprocess
+
+MUTATED = 10000
+SEED = 9000
+
+# The words of each command of quic-show, and the form of the page that shows the same.
+FORMS = {
+    "frames": {"mode": "frames"},
+    "strict": {"mode": "frames", "strict": True},
+    "datagram 0": {"mode": "datagram", "idLength": 0},
+    "datagram 8": {"mode": "datagram", "idLength": 8},
+    "datagram 20": {"mode": "datagram", "idLength": 20},
+    "params client": {"mode": "params", "side": "client"},
+    "params server": {"mode": "params", "side": "server"},
+}
+
+
+def read_lines(path):
+    with open(path, encoding="ascii") as file:
+        return file.read().splitlines()
+
+
+def stored(top):
+    """The lists of the repository, each with a command."""
+    data = f"{top}/crates/quic_replay/data"
+    payloads = read_lines(f"{data}/payloads.in")
+    canonical = read_lines(f"{data}/canonical.in")
+    datagrams = read_lines(f"{data}/datagrams.in")
+    params = read_lines(f"{data}/params.in")
+    lists = {"frames": payloads + canonical, "strict": payloads + canonical}
+    for length in (0, 8, 20):
+        lists[f"datagram {length}"] = datagrams
+    for side in ("client", "server"):
+        lists[f"params {side}"] = params
+    return lists
+
+
+def worked(top):
+    """The commands of README whose input is a line, and their lines."""
+    with open(f"{top}/README.md", encoding="utf-8") as file:
+        text = file.read()
+    found = re.findall(r"^    echo '?([0-9a-f][0-9a-f ]*)'? \|(?: tr -d ' :' \|)? \./quic-show (.+)$", text, re.M)
+    lists = {}
+    for digits, command in found:
+        lists.setdefault(command, []).append(digits.replace(" ", ""))
+    return lists
+
+
+def mutate(line, chance):
+    """The line with some bytes changed, left out, put in or cut off."""
+    data = bytearray.fromhex(line)
+    for _ in range(chance.randint(1, 3)):
+        place = chance.randint(0, len(data))
+        kind = chance.randrange(4)
+        if kind == 0 and place < len(data):
+            data[place] = chance.choice([0, 1, 0x40, 0x80, 0xC0, 0xFF, data[place] ^ (1 << chance.randrange(8))])
+        elif kind == 1 and place < len(data):
+            del data[place]
+        elif kind == 2:
+            data.insert(place, chance.randrange(256))
+        elif kind == 3:
+            del data[place:]
+    return data.hex()
+
+
+def mutated(lists, count=MUTATED):
+    """So many lines made of the lists' by a seed, the same share for each command."""
+    chance = random.Random(SEED)
+    share = -(-count // len(lists))
+    return {command: [mutate(chance.choice(lines), chance) for _ in range(share)] for command, lines in lists.items()}
+
+
+def printed(program, command, lines):
+    """What quic-show prints of each line."""
+    ends = {"canon": 1}
+    text = "".join(line + "\n" for line in lines)
+    done = subprocess.run([program, *command.split()], input=text, capture_output=True, text=True, check=False)
+    if done.returncode > 1:
+        raise SystemExit(f"test-web: {os.path.basename(program)} {command} ended with {done.returncode}: {done.stderr}")
+    out = done.stdout.splitlines()
+    if command in ends:
+        return out
+    return list(cut(out, lines, command))
+
+
+def cut(out, lines, command):
+    """The printed lines of each line of input: they end with the last byte, with an error, or with `ok`."""
+    at = 0
+    for line in lines:
+        begin = at
+        while True:
+            word = out[at]
+            at += 1
+            if word.startswith("error ") or word == "ok":
+                break
+            if not command.startswith("params") and word.split(" ")[0].endswith(f"..{len(line) // 2}"):
+                break
+        yield "\n".join(out[begin:at])
+    if at != len(out):
+        raise SystemExit(f"test-web: quic-show {command} printed {len(out)} lines and not {at}")

@@ -1,0 +1,144 @@
+"""run.py TOP SITE QUIC_SHOW LAYOUT [--pictures FOLDER] [--browser NAME]: tries the page in browsers.
+
+TOP is the repository, SITE the folder that scripts/web made, QUIC_SHOW the program that it is compared with, LAYOUT
+what layout.c printed.
+"""
+import argparse
+import http.server
+import os
+import shutil
+import sys
+import threading
+
+import lists
+import tests
+from browser import Chromium, Failed, Firefox
+
+PICTURES = [
+    ("web-payload.png", 1280, 1180, "light", "", "#grid [data-place='12']"),
+    ("web-datagram.png", 1280, 1000, "dark", 2, "#outline [data-item='0'][data-field='5']"),
+    ("web-error.png", 390, 844, "light", 1, None),
+]
+
+
+class Server(http.server.SimpleHTTPRequestHandler):
+    """The page at /, and the files of web/ at /web/."""
+
+    top = site = None
+
+    def translate_path(self, path):
+        path = path.split("?")[0].split("#")[0]
+        root = self.top if path.startswith("/web/") else self.site
+        return os.path.join(root, os.path.normpath(path).lstrip("/"))
+
+    def log_message(self, *words):
+        pass
+
+
+def serve(top, site):
+    Server.top, Server.site = top, site
+    server = http.server.ThreadingHTTPServer(("127.0.0.1", 0), Server)
+    threading.Thread(target=server.serve_forever, daemon=True).start()
+    return f"http://127.0.0.1:{server.server_port}"
+
+
+def silent(browser, what):
+    errors = browser.errors()
+    if errors:
+        raise Failed(f"the console, with {what}: {errors}")
+
+
+def pages(browser, host, words):
+    """What is tried of one page after the other. Says what was seen."""
+    address = f"{host}/index.html"
+    browser.go(f"file://{words.site}/index.html")
+    silent(browser, "a file")
+    print(f"  from a file: {browser.run('return document.getElementById(`status`).textContent')}")
+    browser.go(address)
+    print(f"  {tests.ways_to_write(browser)} ways to write bytes, and texts that are none")
+    print(f"  {tests.choices(browser, address)} choices that quic-show lacks, and the strip of an ACK")
+    tests.keyboard(browser, address)
+    tests.pointer(browser, address)
+    print(f"  keyboard and pointer; {tests.links(browser, address)} links")
+    for size, bound in ((65536, 1000), (1 << 20, 10000)):
+        took, what = tests.sizes(browser, address, size, bound)
+        print(f"  {size} bytes: at most {took:.0f} ms ({what})")
+    print(f"  {tests.layout(browser, host, words.layout_lines)} lines of the structs' layout; the call of CALLING.md")
+    tests.worked_call(browser, words.top)
+    silent(browser, "all of these")
+
+
+def looks(browser, host):
+    """Contrasts in both schemes, and names: Chromium alone tells these."""
+    for scheme in ("light", "dark"):
+        browser.shape(1280, 1000, scheme)
+        print(f"  {scheme}: a contrast of {tests.contrast(browser, host + '/index.html'):.1f} or more")
+    tests.widths(browser, f"{host}/index.html")
+    browser.unshape()
+    browser.go(f"{host}/index.html#read=frames&hex=0205190002")
+    tests.names(browser)
+    print("  each control has a name; nothing is wider than a window of 320 pixels")
+
+
+def take_pictures(browser, host, folder):
+    for name, width, height, scheme, example, target in PICTURES:
+        browser.shape(width, height, scheme)
+        browser.go(f"{host}/index.html")
+        if example:
+            browser.run("document.querySelectorAll('#examples button')[arguments[0]].click()", example)
+        if target:
+            browser.run("document.querySelector(arguments[0]).click()", target)
+        browser.picture(f"{folder}/{name}", width, height, scheme)
+    browser.unshape()
+    print(f"  {len(PICTURES)} pictures in {folder}")
+
+
+def all_lists(browser, host, program, groups):
+    browser.go(f"{host}/index.html")
+    for what, tried in groups:
+        count = tests.all_agree(browser, program, tried)
+        print(f"  {what}: {count} lines are shown as quic-show prints them", flush=True)
+    silent(browser, "the lists")
+
+
+def try_browser(kind, words, host, groups):
+    browser = kind()
+    try:
+        print(f"{browser.name} {browser.version}", flush=True)
+        pages(browser, host, words)
+        all_lists(browser, host, words.quic_show, groups)
+        if kind is Chromium:
+            looks(browser, host)
+            if words.pictures:
+                take_pictures(browser, host, words.pictures)
+    finally:
+        browser.close()
+
+
+def arguments():
+    words = argparse.ArgumentParser()
+    for name in ("top", "site", "quic_show", "layout"):
+        words.add_argument(name)
+    words.add_argument("--pictures")
+    words.add_argument("--browser", choices=("chromium", "firefox"))
+    return words.parse_args()
+
+
+def main():
+    words = arguments()
+    stored = lists.stored(words.top)
+    groups = [("README", lists.worked(words.top)), ("the lists", stored), ("mutated", lists.mutated(stored))]
+    with open(words.layout, encoding="ascii") as file:
+        words.layout_lines = file.read().splitlines()
+    host = serve(words.top, words.site)
+    kinds = {"chromium": Chromium, "firefox": Firefox}
+    for name, kind in kinds.items():
+        if words.browser in (None, name) and (name != "firefox" or shutil.which("firefox-esr")):
+            try_browser(kind, words, host, groups)
+
+
+if __name__ == "__main__":
+    try:
+        main()
+    except Failed as failed:
+        sys.exit(f"test-web: {failed}")

@@ -79,6 +79,11 @@ static void nulls(void) {
   WANT(quic_wire_frames_first(&frames, NULL, 0, NULL, 0, &n) ==
        QUIC_WIRE_ERR_EMPTY);
   WANT(n == 0 && frames.offset == 0);
+  WANT(quic_wire_frame_read(NULL, 1, 0, &frame, NULL, 0) == INVALID);
+  WANT(quic_wire_frame_read(&byte, 1, 0, NULL, NULL, 0) == INVALID);
+  WANT(quic_wire_frame_read(&byte, 1, 0, &frame, NULL, 1) == INVALID);
+  WANT(quic_wire_frame_read(NULL, 0, 0, &frame, NULL, 0) ==
+       QUIC_WIRE_ERR_EMPTY);
   WANT(quic_wire_ack_ranges_init(NULL, &byte, 1, &frame) == INVALID);
   WANT(quic_wire_ack_ranges_init(&ranges, NULL, 1, &frame) == INVALID);
   WANT(quic_wire_ack_ranges_init(&ranges, &byte, 1, NULL) == INVALID);
@@ -102,6 +107,15 @@ static void nulls(void) {
   WANT(quic_wire_frame_write(&frame, NULL, 0, 0, NULL, 0, &n) ==
            QUIC_WIRE_ERR_NOBUF && n == 1);
   WANT(quic_wire_frame_write(&frame, NULL, 0, 0, out, 8, NULL) == 0);
+  WANT(quic_wire_frame_len(NULL, NULL, 0, 0, &n) == INVALID);
+  WANT(quic_wire_frame_len(&frame, NULL, 1, 0, &n) == INVALID);
+  WANT(quic_wire_frame_len(&frame, NULL, 0, 0, NULL) == INVALID);
+  frame.kind = QUIC_WIRE_CRYPTO;
+  WANT(quic_wire_frame_head_write(NULL, 0, out, 8, &n) == INVALID);
+  WANT(quic_wire_frame_head_write(&frame, 0, NULL, 8, &n) == INVALID);
+  WANT(quic_wire_frame_head_write(&frame, 0, NULL, 0, &n) ==
+           QUIC_WIRE_ERR_NOBUF && n == 3);
+  WANT(quic_wire_frame_head_write(&frame, 0, out, 8, NULL) == 0);
   WANT(quic_wire_canonical(NULL, 1, out, 8, &canon) == INVALID);
   WANT(quic_wire_canonical(&byte, 1, NULL, 8, &canon) == INVALID);
   WANT(quic_wire_canonical(&byte, 1, out, 8, NULL) == INVALID);
@@ -299,6 +313,81 @@ static void first_rubbish(const uint8_t *payload, size_t len) {
   WANT(!memcmp(first, filled, sizeof first));
 }
 
+/* The ranges of an ACK that was read at the front are those of its blocks, as
+ * gap and length; |entry| gets the words that single calls give of it. */
+static void front_ranges(const uint8_t *payload, size_t len,
+                         const quic_wire_frame *frame,
+                         const quic_wire_gap *gaps, size_t room,
+                         quic_wire_frame *entry) {
+  quic_wire_ack_ranges left;
+  quic_wire_range range, above;
+  size_t k;
+  *entry = *frame;
+  entry->flags &= ~(uint32_t)QUIC_WIRE_FLAG_MORE;
+  entry->data = entry->end;
+  entry->datalen = 0;
+  WANT(quic_wire_ack_ranges_init(&left, payload, len, frame) == 0);
+  WANT(quic_wire_ack_ranges_next(&left, payload, len, &above) == 1);
+  WANT(above.end - above.start == frame->datalen + 1);
+  for (k = 0; k < frame->data; k++) {
+    WANT(quic_wire_ack_ranges_next(&left, payload, len, &range) == 1);
+    WANT(above.start - range.end == gaps[k].gap + 1);
+    WANT(range.end - range.start == gaps[k].len + 1);
+    above = range;
+  }
+  WANT((left.begin < left.end) == (frame->flags >= QUIC_WIRE_FLAG_MORE));
+  WANT(frame->data == room || left.begin == left.end);
+}
+
+/* The frames of a payload, each read at the front of what is left, are those
+ * of an iterator over it. */
+static void front_rubbish(const uint8_t *payload, size_t len) {
+  quic_wire_frames frames;
+  quic_wire_frame frame, entry, want;
+  quic_wire_gap gaps[3], before[3];
+  size_t at = 0, room = any() % 3, count;
+  int strict = (int)(any() % 2);
+  int64_t n;
+  int answer = strict ? quic_wire_frames_init_strict(&frames, payload, len)
+                      : quic_wire_frames_init(&frames, payload, len);
+  memset(before, 0xa5, sizeof before);
+  do {
+    memcpy(gaps, before, sizeof gaps);
+    memset(&frame, 0xa5, sizeof frame);
+    n = quic_wire_frame_read(payload + at, len - at, strict, &frame, gaps,
+                             room);
+    if (n < 0)
+      break;
+    WANT(quic_wire_frames_fill(&frames, payload, len, &want, 1, &count) == 1);
+    WANT(n > 0 && (size_t)n == frame.end && frames.offset == at + frame.end);
+    entry = frame;
+    count = 0;
+    if (frame.kind == QUIC_WIRE_ACK) {
+      front_ranges(payload + at, len - at, &frame, gaps, room, &entry);
+      count = frame.data;
+    }
+    WANT(count <= room && !memcmp(gaps + count, before + count,
+                                  (3 - count) * sizeof *gaps));
+    entry.begin += at;
+    entry.end += at;
+    entry.data += at;
+    WANT(!memcmp(&entry, &want, sizeof entry));
+    at += (size_t)n;
+  } while (1);
+  WANT(!memcmp(gaps, before, sizeof gaps));
+  if (n == QUIC_WIRE_ERR_EMPTY) {
+    WANT(at == len && (!len || !quic_wire_frames_next(&frames, payload, len,
+                                                      &want)));
+    return;
+  }
+  WANT(n == QUIC_WIRE_ERR_MALFORMED && answer == 0);
+  WANT(quic_wire_frames_next(&frames, payload, len, &want) == n);
+  WANT(want.begin == at && frame.begin == 0);
+  WANT(quic_wire_error_reason(&frame) == quic_wire_error_reason(&want));
+  WANT(quic_wire_error_type(&frame) == quic_wire_error_type(&want) ||
+       quic_wire_error_type(&frame) == QUIC_WIRE_NO_TYPE);
+}
+
 /* The ranges of any words, many with one call, are those of single calls. */
 static void fill_ranges_rubbish(const uint8_t *payload, size_t len) {
   quic_wire_ack_ranges one, many;
@@ -363,6 +452,45 @@ static void write_rubbish(const uint8_t *data, size_t len) {
   }
   free(out);
   free(before);
+}
+
+/* The head of a frame of any words is the front of what is written of it with
+ * data, and what can be written whole has the length that is told before. */
+static void head_rubbish(void) {
+  static const uint32_t kinds[] = {QUIC_WIRE_CRYPTO, QUIC_WIRE_STREAM,
+                                   QUIC_WIRE_DATAGRAM};
+  static uint8_t data[70], whole[128];
+  uint8_t head[48];
+  size_t room = any() % 48, n = 77, all = 77, told = 77, k;
+  int last = (int)(any() % 2), answer, written;
+  quic_wire_frame frame;
+  memset(&frame, 0, sizeof frame);
+  frame.kind = any() % 16 ? kinds[any() % 3] : (uint32_t)(any() % 0x32);
+  frame.flags = (uint32_t)(any() % 3);
+  frame.datalen = any() % 70;
+  for (k = 0; k < 5; k++)
+    frame.numbers[k] = any() % 3 ? 0 : edge();
+  memset(head, 0xa5, sizeof head);
+  answer = quic_wire_frame_head_write(&frame, last, head, room, &n);
+  written = quic_wire_frame_write(&frame, data, sizeof data, last, whole,
+                                  sizeof whole, &all);
+  WANT(quic_wire_frame_len(&frame, data, sizeof data, last, &told) == written);
+  WANT(told == all);
+  if (frame.kind != kinds[0] && frame.kind != kinds[1] &&
+      frame.kind != kinds[2]) {
+    WANT(answer == INVALID);
+  } else if (written != 0) {
+    WANT(written == INVALID && answer == INVALID && n == 77);
+  } else {
+    WANT(answer == (room < n ? QUIC_WIRE_ERR_NOBUF : 0));
+    WANT(n == all - frame.datalen);
+  }
+  for (k = answer == 0 ? n : 0; k < sizeof head; k++)
+    WANT(head[k] == 0xa5);
+  WANT(answer != 0 || !memcmp(head, whole, n));
+  frame.datalen = (size_t)edge();
+  answer = quic_wire_frame_head_write(&frame, last, head, sizeof head, &n);
+  WANT(answer == INVALID || (answer == 0 && n <= 25));
 }
 
 /* The next frame of both payloads is the same one, wherever its data stand, and
@@ -552,6 +680,23 @@ static void packet_rubbish(uint8_t *datagram, size_t len) {
                                          : answer == QUIC_WIRE_ERR_MALFORMED));
 }
 
+/* Whether the words say no more than such a head has. */
+static int says_no_more(const quic_wire_said *h, const size_t lens[3]) {
+  const int is_long = h->kind <= QUIC_WIRE_HANDSHAKE;
+  const int is_short = h->kind == QUIC_WIRE_1RTT;
+  const int is_negotiation = h->kind == QUIC_WIRE_VERSION_NEGOTIATION;
+  const int flags = is_short         ? 0x64
+                    : is_negotiation ? 0x7f
+                                     : QUIC_WIRE_FIXED_BIT;
+  if (h->flags & ~flags || (lens[2] && h->kind != QUIC_WIRE_INITIAL) ||
+      (is_short && lens[1]) || ((is_short || is_negotiation) && h->version))
+    return 0;
+  if (is_long ? h->lengthlen != 2 && h->lengthlen != 4 : h->lengthlen != 0)
+    return 0;
+  return is_long || is_short ? h->number >> 62 == 0
+                             : h->number == 0 && h->numberlen == 0;
+}
+
 /* A head as RFC 9000, section 17, and RFC 9369 draw it, by a plain model: its
  * length, or 0 where there is no such head. */
 static size_t model_head(const quic_wire_said *h, const uint8_t *const parts[3],
@@ -561,7 +706,8 @@ static size_t model_head(const quic_wire_said *h, const uint8_t *const parts[3],
   const uint8_t fixed = (h->flags & QUIC_WIRE_FIXED_BIT) ^ 0x40;
   size_t n = 0, i, k;
   if (h->kind > 5 || lens[0] > 20 || (h->kind != QUIC_WIRE_1RTT && lens[1] > 20) ||
-      (numbered && (h->numberlen < 1 || h->numberlen > 4)))
+      (numbered && (h->numberlen < 1 || h->numberlen > 4)) ||
+      !says_no_more(h, lens))
     return 0;
   if (h->kind == QUIC_WIRE_1RTT) {
     out[n++] = (uint8_t)(fixed | (h->flags & 0x24) | (h->numberlen - 1));
@@ -675,6 +821,21 @@ static int head_written(void) {
     given[i] = parts[i] = block(lens[i]);
     for (k = 0; k < lens[i]; k++)
       parts[i][k] = (uint8_t)any();
+  }
+  if (any() % 8) { /* mostly without what the kind lacks */
+    if (h.kind > QUIC_WIRE_HANDSHAKE)
+      h.lengthlen = 0;
+    if (h.kind == QUIC_WIRE_1RTT || h.kind == QUIC_WIRE_VERSION_NEGOTIATION)
+      h.version = 0;
+    if (h.kind == QUIC_WIRE_RETRY || h.kind == QUIC_WIRE_VERSION_NEGOTIATION) {
+      h.number = 0;
+      h.numberlen = 0;
+    }
+    h.flags &= h.kind == QUIC_WIRE_1RTT                  ? 0x64
+               : h.kind == QUIC_WIRE_VERSION_NEGOTIATION ? 0x7f
+                                                         : 0x40;
+    lens[1] = h.kind == QUIC_WIRE_1RTT ? 0 : lens[1];
+    lens[2] = h.kind == QUIC_WIRE_INITIAL ? lens[2] : 0;
   }
   want = model_head(&h, given, lens, model);
   WANT(!want || quic_wire_head_len(&h, lens[0], lens[1], lens[2]) == want);
@@ -1040,8 +1201,10 @@ static void rubbish(int rounds) {
     read_rubbish(bytes, len);
     fill_rubbish(bytes, len);
     first_rubbish(bytes, len);
+    front_rubbish(bytes, len);
     fill_ranges_rubbish(bytes, len);
     write_rubbish(bytes, len);
+    head_rubbish();
     packet_rubbish(bytes, len);
     protect_rubbish(bytes, len);
     heads += head_written();

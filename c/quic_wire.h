@@ -157,6 +157,8 @@ extern "C" {
 /* Flags of a frame. */
 #define QUIC_WIRE_FLAG_FIN 1 /* STREAM: the data end the stream */
 #define QUIC_WIRE_FLAG_ECN 2 /* ACK: counts of marked packets are there */
+#define QUIC_WIRE_FLAG_MORE 4 /* ACK: of quic_wire_frame_read, which had no
+                                 room for all ranges */
 
 /* No type: the word in place of one. */
 #define QUIC_WIRE_NO_TYPE UINT64_MAX
@@ -254,6 +256,13 @@ typedef struct quic_wire_frame {
 typedef struct quic_wire_range {
   uint64_t start, end;
 } quic_wire_range;
+
+/* A range of an ACK below another one, as it stands there (RFC 9000, section
+ * 19.3.1): how many packet numbers are between the two, and how many it has,
+ * both less one. */
+typedef struct quic_wire_gap {
+  uint64_t gap, len;
+} quic_wire_gap;
 
 /* How far the ranges of an ACK have been read. */
 typedef struct quic_wire_ack_ranges {
@@ -401,6 +410,8 @@ QUIC_WIRE_ASSERT(offsetof(quic_wire_frame, numbers) == 40, "64-bit words");
 QUIC_WIRE_ASSERT(sizeof(quic_wire_range) == 16, "64-bit words");
 QUIC_WIRE_ASSERT(offsetof(quic_wire_range, start) == 0, "64-bit words");
 QUIC_WIRE_ASSERT(offsetof(quic_wire_range, end) == 8, "64-bit words");
+QUIC_WIRE_ASSERT(sizeof(quic_wire_gap) == 16, "64-bit words");
+QUIC_WIRE_ASSERT(offsetof(quic_wire_gap, len) == 8, "64-bit words");
 QUIC_WIRE_ASSERT(sizeof(quic_wire_ack_ranges) == 24, "64-bit words");
 QUIC_WIRE_ASSERT(sizeof(quic_wire_canon) == 24, "64-bit words");
 QUIC_WIRE_ASSERT(offsetof(quic_wire_canon, last_type) == 8, "64-bit words");
@@ -527,6 +538,28 @@ QUIC_WIRE_API int quic_wire_frames_first(quic_wire_frames *frames,
                                          quic_wire_frame *out, size_t room,
                                          size_t *count);
 
+/*
+ * Reads the frame at the front of what is left of a payload, with no iterator:
+ * the caller goes on behind it by what is returned, until nothing is left.
+ * |frame|'s places count from |payload|.  A PADDING frame and the bytes of 0
+ * behind it are one frame.  Where |strict| is not 0, a type that isn't in its
+ * shortest encoding is no frame (RFC 9000, section 12.4).
+ *
+ * Of an ACK |frame->datalen| is its first range, less one, the ranges below it
+ * are written to the |room| entries of |gaps| as they stand, and |frame->data|
+ * is how many were; where that isn't all, QUIC_WIRE_FLAG_MORE is set, and
+ * quic_wire_ack_ranges_init gives all.  For other frames |gaps| stays.
+ *
+ * Returns where the frame ends, which is above 0; QUIC_WIRE_ERR_EMPTY where
+ * nothing is left; QUIC_WIRE_ERR_MALFORMED, and what is told of it in |frame|,
+ * where what stands at the front is no frame (its type is QUIC_WIRE_NO_TYPE if
+ * it is cut off within that); QUIC_WIRE_ERR_INVALID_ARGUMENT for NULL.
+ */
+QUIC_WIRE_API int64_t quic_wire_frame_read(const uint8_t *payload,
+                                           size_t payloadlen, int strict,
+                                           quic_wire_frame *frame,
+                                           quic_wire_gap *gaps, size_t room);
+
 /* The type of a frame that was read of this payload, as it stands there: 0x08
  * to 0x0f of a STREAM, 0x02 and 0x03 of an ACK.  QUIC_WIRE_NO_TYPE for NULL,
  * and where none stands at |frame->begin|. */
@@ -622,6 +655,23 @@ QUIC_WIRE_API int quic_wire_frame_write(const quic_wire_frame *frame,
                                         const uint8_t *data, size_t datalen,
                                         int last, uint8_t *dest,
                                         size_t destlen, size_t *written);
+
+/*
+ * Writes |frame|, a STREAM, CRYPTO or DATAGRAM, up to its data, which are
+ * |frame->datalen| bytes: the front of what quic_wire_frame_write writes of it,
+ * behind which the caller puts the data.  data, begin and end are not looked
+ * at.  Answers and |dest| are those of quic_wire_frame_write;
+ * QUIC_WIRE_ERR_INVALID_ARGUMENT also for other kinds.
+ */
+QUIC_WIRE_API int quic_wire_frame_head_write(const quic_wire_frame *frame,
+                                             int last, uint8_t *dest,
+                                             size_t destlen, size_t *written);
+
+/* How many bytes quic_wire_frame_write writes of these: returns 0 with |*len|,
+ * or QUIC_WIRE_ERR_INVALID_ARGUMENT where that does. */
+QUIC_WIRE_API int quic_wire_frame_len(const quic_wire_frame *frame,
+                                      const uint8_t *data, size_t datalen,
+                                      int last, size_t *len);
 
 /*
  * Writes the one shortest payload with the meaning of |payload| at the front of

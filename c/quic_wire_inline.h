@@ -19,6 +19,8 @@ int32_t quic_wire_frames_fill_(quic_wire_frames *, const uint8_t *, size_t,
                                quic_wire_frame *, size_t, size_t *);
 int32_t quic_wire_frames_first_(quic_wire_frames *, const uint8_t *, size_t,
                                quic_wire_frame *, size_t, size_t *);
+int64_t quic_wire_frame_read_(const uint8_t *, size_t, uint32_t,
+                              quic_wire_frame *, quic_wire_gap *, size_t);
 int32_t quic_wire_ack_ranges_init_(quic_wire_ack_ranges *, const uint8_t *,
                                    size_t, const quic_wire_frame *);
 int32_t quic_wire_ack_ranges_init_unchecked_(quic_wire_ack_ranges *,
@@ -30,6 +32,8 @@ int32_t quic_wire_ack_ranges_fill_(quic_wire_ack_ranges *, const uint8_t *,
                                    size_t, quic_wire_range *, size_t, size_t *);
 int32_t quic_wire_frame_write_(const quic_wire_frame *, const uint8_t *,
                                size_t, uint32_t, uint8_t *, size_t, size_t *);
+int32_t quic_wire_frame_head_write_(const quic_wire_frame *, uint32_t,
+                                    uint8_t *, size_t, size_t *);
 int32_t quic_wire_canonical_(const uint8_t *, size_t, uint8_t *, size_t,
                              quic_wire_canon *);
 int32_t quic_wire_head_read_(const uint8_t *, size_t, uint32_t,
@@ -129,6 +133,20 @@ QUIC_WIRE_API int quic_wire_frames_first(quic_wire_frames *frames,
   return quic_wire_frames_first_(frames, payload, payloadlen, out, room, count);
 }
 
+QUIC_WIRE_API int64_t quic_wire_frame_read(const uint8_t *payload,
+                                           size_t payloadlen, int strict,
+                                           quic_wire_frame *frame,
+                                           quic_wire_gap *gaps, size_t room) {
+  if ((!payload && payloadlen) || !frame || (!gaps && room))
+    return QUIC_WIRE_ERR_INVALID_ARGUMENT;
+  if (!payload)
+    payload = (const uint8_t *)quic_wire_nothing_();
+  if (!gaps)
+    gaps = (quic_wire_gap *)quic_wire_nothing_();
+  return quic_wire_frame_read_(payload, payloadlen, strict != 0, frame, gaps,
+                               room);
+}
+
 QUIC_WIRE_API uint64_t quic_wire_frame_type(const uint8_t *payload,
                                             size_t payloadlen,
                                             const quic_wire_frame *frame) {
@@ -225,6 +243,28 @@ QUIC_WIRE_API int quic_wire_frame_write(const quic_wire_frame *frame,
     dest = (uint8_t *)quic_wire_nothing_();
   return quic_wire_frame_write_(frame, data, datalen, last != 0, dest, destlen,
                                 written ? written : &unused);
+}
+
+QUIC_WIRE_API int quic_wire_frame_head_write(const quic_wire_frame *frame,
+                                             int last, uint8_t *dest,
+                                             size_t destlen, size_t *written) {
+  size_t unused;
+  if (!frame || (!dest && destlen))
+    return QUIC_WIRE_ERR_INVALID_ARGUMENT;
+  if (!dest)
+    dest = (uint8_t *)quic_wire_nothing_();
+  return quic_wire_frame_head_write_(frame, last != 0, dest, destlen,
+                                     written ? written : &unused);
+}
+
+QUIC_WIRE_API int quic_wire_frame_len(const quic_wire_frame *frame,
+                                      const uint8_t *data, size_t datalen,
+                                      int last, size_t *len) {
+  /* No frame has no byte, so that none fits where there is no room. */
+  int answer = len ? quic_wire_frame_write(frame, data, datalen, last, NULL, 0,
+                                           len)
+                   : QUIC_WIRE_ERR_INVALID_ARGUMENT;
+  return answer == QUIC_WIRE_ERR_NOBUF ? QUIC_WIRE_OK : answer;
 }
 
 QUIC_WIRE_API int quic_wire_canonical(const uint8_t *payload, size_t payloadlen,

@@ -160,9 +160,19 @@ int ngtcp2_pkt_decode_version_cid(ngtcp2_version_cid *dest, const uint8_t *data,
 
 /* ---- Written */
 
+/* What a kind lacks is 0. */
 static quic_wire_said said_of(const ngtcp2_pkt_hd *hd, uint8_t kind) {
-  quic_wire_said said = {kind, 0, (uint8_t)hd->pkt_numlen, NGTCP2_PKT_LENGTHLEN,
-                         hd->version, (uint64_t)hd->pkt_num};
+  quic_wire_said said = {kind, 0, 0, 0, 0, 0};
+  if (kind != QUIC_WIRE_1RTT) {
+    said.version = hd->version;
+  }
+  if (kind <= QUIC_WIRE_HANDSHAKE) {
+    said.lengthlen = NGTCP2_PKT_LENGTHLEN;
+  }
+  if (kind != QUIC_WIRE_RETRY) {
+    said.numberlen = (uint8_t)hd->pkt_numlen;
+    said.number = (uint64_t)hd->pkt_num;
+  }
   if (hd->flags & NGTCP2_PKT_FLAG_FIXED_BIT_CLEAR) {
     said.flags |= QUIC_WIRE_FIXED_BIT;
   }

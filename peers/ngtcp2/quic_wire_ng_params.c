@@ -213,18 +213,18 @@ ngtcp2_ssize ngtcp2_encode_transport_params_versioned(
   size_t frontlen = put_versions(front, params);
   size_t otherlen = frontlen ? params->version_info.other_versionslen : 0;
   size_t more = frontlen + otherlen, written = 0;
-  int client = exttype == NGTCP2_TRANSPORT_PARAMS_TYPE_ENCRYPTED_EXTENSIONS;
+  int server = exttype == NGTCP2_TRANSPORT_PARAMS_TYPE_ENCRYPTED_EXTENSIONS;
   int rv;
   (void)transport_params_version;
 
-  if (!client && exttype != NGTCP2_TRANSPORT_PARAMS_TYPE_CLIENT_HELLO) {
+  if (!server && exttype != NGTCP2_TRANSPORT_PARAMS_TYPE_CLIENT_HELLO) {
     return NGTCP2_ERR_INVALID_ARGUMENT;
   }
   params_to(&w, params);
-  if (client) {
+  if (server) {
     server_to(&w, params);
   }
-  rv = quic_wire_params_write(client ? QUIC_WIRE_CLIENT : QUIC_WIRE_SERVER, &w,
+  rv = quic_wire_params_write(server ? QUIC_WIRE_SERVER : QUIC_WIRE_CLIENT, &w,
                               dest, destlen < more ? 0 : destlen - more,
                               &written);
   if (rv == QUIC_WIRE_ERR_INVALID_ARGUMENT) {

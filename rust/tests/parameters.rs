@@ -124,6 +124,13 @@ fn further_parameters_are_checked() {
 }
 
 #[test]
+fn what_the_record_has_is_known() {
+    let known = |id: &u64| Entry { id: *id, value: &[] }.is_known();
+    let all: Vec<u64> = (0..0x3000).chain(0xff04_de00..0xff04_df00).filter(known).collect();
+    assert_eq!(all, (0..=0x10).chain([0x20, 0x2ab2, 0xff04_de1b]).collect::<Vec<_>>());
+}
+
+#[test]
 fn ids_are_keys() {
     let id = ConnectionId::new(&[1, 2, 3]).unwrap();
     let map: HashMap<ConnectionId, u8> = HashMap::from([(id, 5), (ConnectionId::default(), 6)]);

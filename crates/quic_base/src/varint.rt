@@ -233,7 +233,8 @@ pub fn split_var(bytes: &[u8]) -> Option<(u64, &[u8])>
     }
 }
 
-// The number at the front of eight bytes, and how many of them spell it: the two bits that tell the width shift the word.
+// The number at the front of eight bytes, and how many of them spell it. The two bits that tell its width shift the
+// whole word.
 #[inline(always)]
 fn number_of_word(front: &[u8; 8]) -> (u64, usize)
     ensures spelled { Spells result.0 (take result.1 front.now) }

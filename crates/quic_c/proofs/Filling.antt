@@ -35,6 +35,9 @@ behind_further (suc n) way = refl
 passed_further : (old new : Way) (count : ℕ) → PassesPadding old count new → IsFurther old new
 passed_further old new count p = subst (λ (w : Way). IsFurther old w) (sym p.comes) (behind_further count old)
 
+pub passed_payload : (old new : Way) (count : ℕ) → PassesPadding old count new → new.payload ≡ old.payload
+passed_payload old new count p = ap (λ (w : Way). w.payload) (passed_further old new count p)
+
 -- ---- the loop
 
 -- So many entries are filled, from a place up to one that ends there.

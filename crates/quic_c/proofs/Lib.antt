@@ -4,3 +4,6 @@ mod Said
 mod Filling
 mod Fronts
 mod RangeFilling
+mod GapFilling
+mod DataHeads
+mod ReadingOn

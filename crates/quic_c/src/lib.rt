@@ -4,11 +4,13 @@
 #![tactic(auto)]
 
 mod acks;
+mod data_heads;
 mod fill;
 mod fill_ranges;
 mod frames;
+mod front;
 mod show;
 mod words;
 mod write;
 
-pub use words::{FrameWords, FramesWords, RangeWords, RangesWords};
+pub use words::{FrameWords, FramesWords, GapWords, RangeWords, RangesWords};

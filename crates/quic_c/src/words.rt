@@ -44,6 +44,16 @@ pub struct RangeWords {
     pub end: u64,
 }
 
+/// A range of an ACK below another one, as it stands there (RFC 9000, section 19.3.1).
+#[repr(C)]
+#[derive(Clone, Copy)]
+pub struct GapWords {
+    /// How many numbers stand between the two, less one.
+    pub gap: u64,
+    /// How many numbers it has, less one.
+    pub len: u64,
+}
+
 /// How far the ranges of an ACK have been read.
 #[repr(C)]
 #[derive(Clone, Copy)]
@@ -62,5 +72,7 @@ const _: () = prove!(std::mem::size_of::<FramesWords>() == 24);
 const _: () = prove!(std::mem::size_of::<FrameWords>() == 80);
 
 const _: () = prove!(std::mem::size_of::<RangeWords>() == 16);
+
+const _: () = prove!(std::mem::size_of::<GapWords>() == 16);
 
 const _: () = prove!(std::mem::size_of::<RangesWords>() == 24);

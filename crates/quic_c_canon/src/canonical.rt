@@ -1,18 +1,17 @@
 //! The shortest payload of each meaning, written into the caller's bytes.
-ghost use Rattle.std.specs.Prelude.{◌≡◌, ◌≢◌, ◌+◌, ◌<◌, ◌≤◌, ◌⊎◌, ◌↔◌, ◌++◌, [], List, pos, negsuc, length, map, take, drop, IfOk, IfErr, None, false};
+ghost use Rattle.std.specs.Prelude.{◌≡◌, ◌≢◌, ◌+◌, ◌<◌, ◌≤◌, ◌⊎◌, ◌↔◌, ◌++◌, [], List, pos, negsuc, length, map, take, drop, IfOk, IfErr, IsErr, None, false};
 ghost use Rattle.quic_frame_parts.specs.Payload.{Found, AreFrames, IsEither};
 ghost use Rattle.quic_frame_parts.specs.Shortest.{shortest_frame};
 ghost use Rattle.quic_frames.specs.InRange.{CanStand};
 ghost use Rattle.quic_frames.specs.Least.{frame_in, shortest_frames};
 ghost use Rattle.quic_frames.specs.Meaning.{meaning_of};
-ghost use Rattle.quic_frames.specs.Walk.{GivesBroken, GivesFrames, first_of, invalid_of};
+ghost use Rattle.quic_frames.specs.Walk.{invalid_of, first_of, GivesFrames, GivesBroken};
 ghost use Rattle.quic_c_canon.specs.Answers.{type_word, reason_word, GivesLeast, NeedsMore, IsToldOf, TellsInvalid, HasLength};
 
 use crate::words::CanonicalWords;
 use quic_canon::laws::one_least;
 use quic_frames::frame::{Frame, FrameType, InvalidFrame, Iter};
 use quic_frames::laws::{least_spelling, one_reading, read_back};
-use std::mem::forget;
 
 // The word of a type.
 fn type_word(ty: Option<FrameType>) -> u64
@@ -45,22 +44,22 @@ fn frame_len(frame: &Frame<'_>, last: bool, len: usize) -> usize
     frame.encoded_len(last) as usize
 }
 
-// The frames of a payload that isn't empty. The error that never comes is not dropped, so that no code of this library
-// frees memory, which a module of WebAssembly has no call for.
-fn frames_of(payload: &[u8]) -> Iter<'_>
-    requires { payload.now ≢ [] }
-    ensures first { result ≡ first_of false payload.now }
+// The frames of a payload, as `Iter::new` gives them, whose error owns a text: what could drop one reaches the allocator,
+// and WebAssembly has none.
+fn begin(payload: &[u8]) -> Result<Iter<'_>, ()>
+    ensures empty { IsErr result ↔ (payload.now ≡ []) }
+    ensures first { IfOk result (λ it. it ≡ first_of false payload.now) }
     ensures either { IsEither false None payload.now }
-    ensures frames { GivesFrames false payload.now result }
-    ensures broken { GivesBroken false payload.now result }
+    ensures frames { IfOk result (λ it. GivesFrames false payload.now it) }
+    ensures broken { IfOk result (λ it. GivesBroken false payload.now it) }
 {
-    match Iter::new(payload) {
-        Ok(iter) => iter,
-        Err(error) => {
-            forget(error);
-            unreachable!()
-        }
+    if payload.is_empty() {
+        return Err(());
     }
+    let Some(iter) = Iter::resume(payload, 0, None, false) else {
+        unreachable!()
+    };
+    Ok(iter)
 }
 
 // Reads all of a payload, and tells how many bytes its frames take in their shortest spellings.
@@ -72,7 +71,9 @@ fn shortest_len(payload: &[u8]) -> Result<usize, InvalidFrame>
     one_reading();
     least_spelling();
     read_back();
-    let mut iter = frames_of(payload);
+    let Ok(mut iter) = begin(payload) else {
+        unreachable!()
+    };
     let mut total = 0;
     let mut start = 0;
     while let Some(item) = iter.next() {
@@ -113,7 +114,9 @@ fn lay(payload: &[u8], dest: &mut [u8])
 {
     one_reading();
     read_back();
-    let mut iter = frames_of(payload);
+    let Ok(mut iter) = begin(payload) else {
+        unreachable!()
+    };
     let mut at = 0;
     while let Some(item) = iter.next() {
         let Ok(frame) = item else { unreachable!() };

@@ -1,8 +1,6 @@
 -- The words of a head that can be written are those of its kind.
-use Rattle.std.proofs.Common.{◌≡◌, ℕ, ◌+◌, ◌-◌, ◌*◌, ◌/◌, ◌%◌, ◌<◌, ◌≤◌, ◌^◌, ◌⊎◌, List, length, Bool, true, false, None, Some, refl, sym, ap, subst, inl, inr, arith}
+use Rattle.std.proofs.Common.{◌≡◌, ℕ, ◌+◌, ◌%◌, ◌<◌, ◌≤◌, ◌^◌, ◌⊎◌, List, length, Bool, true, false, None, Some, sym, ap, subst, inl, inr, arith}
 use Rattle.quic_crypto.specs.declared.packet_number.PacketNumber.{PacketNumber}
-use Rattle.quic_crypto.specs.declared.packet_number.PacketNumber.TheVariants.{U8, U16, U24, U32}
-use Rattle.quic_crypto.specs.PacketNumbers.{number_size}
 use Rattle.quic_headers.proofs.Sizes.{number_few}
 use Rattle.quic_headers.specs.declared.long_type.LongType.TheVariants.{Handshake, ZeroRtt}
 use Rattle.quic_headers.specs.declared.header.Header.{Header}

@@ -1,6 +1,7 @@
 mod Cuts
 pub mod CutAnswers
 pub mod Datagrams
+mod Ended
 mod Ends
 mod FieldLaws
 mod Finishes

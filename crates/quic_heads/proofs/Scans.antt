@@ -1,14 +1,10 @@
 -- Where fields stand, and what a scan answers.
-use Rattle.std.specs.Prelude.{◌≡◌, ℕ, ◌+◌, ◌-◌, ◌<◌, ◌≤◌, List, ◌∷◌, ◌++◌, length, take, drop, None, Some, slice_range, Result, Ok, Err, nat_lt, true, false, codes, unwrap_or}
-use Rattle.std.proofs.Common.{sym, ap, ◌∙◌, arith, cond, refl, length-append, length-drop}
+use Rattle.std.specs.Prelude.{◌≡◌, ℕ, ◌+◌, ◌-◌, ◌≤◌, List, ◌∷◌, length, take, drop, None, Some, slice_range, nat_lt, false}
+use Rattle.std.proofs.Common.{sym, ap, ◌∙◌, arith, refl}
 use Rattle.std.proofs.lemmas.List.{drop-drop}
 use Rattle.std.proofs.lemmas.Bool.Decides.{nat_tests}
-use Rattle.quic_heads.specs.declared.protected.ProtectedHeader.{ProtectedHeader}
-use Rattle.quic_heads.specs.Fields.{id_at, wide_id_at}
-use Rattle.quic_heads.specs.Refusal.{Refusal, Invalid}
-use Rattle.quic_heads.specs.Reading.{Context, head_at, cut_at, len_in}
-use Rattle.quic_heads.proofs.FieldLaws.{id_found}
-use Rattle.quic_heads.proofs.Steps.{otherwise, some_pair, take_front, taken, then_err}
+use Rattle.quic_heads.specs.Fields.{wide_id_at}
+use Rattle.quic_heads.proofs.Steps.{otherwise, some_pair}
 
 -- an id of any version stands behind its length
 wide_parts : (tail : List ℕ) (n : ℕ) → n ≤ length tail → wide_id_at (n ∷ tail) ≡ Some (take n tail, drop n tail)

@@ -1,5 +1,5 @@
 -- Heads that are read with ids of any length where their version isn't known.
-use Rattle.std.specs.Prelude.{◌≡◌, ◌≢◌, ℕ, ◌+◌, ◌-◌, ◌/◌, ◌%◌, ◌<◌, ◌≤◌, Bool, true, false, List, [], ◌∷◌, ◌++◌, length, take, drop, Option, Some, None, Result, Ok, Err, Contains, nat_le, nat_lt, nat_eq, not, ◌&&◌, ◌||◌, codes}
+use Rattle.std.specs.Prelude.{◌≡◌, ◌≢◌, ℕ, ◌+◌, ◌-◌, ◌≤◌, Bool, true, false, List, [], ◌∷◌, ◌++◌, length, take, drop, Option, Some, None, Result, Ok, Err, Contains, nat_lt, nat_eq, not, ◌&&◌, ◌||◌}
 use Rattle.std.proofs.Common.{sym, ap, subst, ◌∙◌, arith, refl, cond, inl, inr, suc, length-append, length-take}
 use Rattle.std.specs.List.{list_any}
 use Rattle.std.specs.Option.{ok_or}
@@ -7,7 +7,7 @@ use Rattle.std.proofs.Math.Seq.{drop-append_seam, take-append_seam}
 use Rattle.std.proofs.lemmas.List.{take-append-drop}
 use Rattle.std.proofs.lemmas.Bool.Decides.{nat_tests}
 use Rattle.quic_base.specs.ConnectionId.{long_id}
-use Rattle.quic_base.specs.Number.{AreBytes, IsNumber, bytes_of, num}
+use Rattle.quic_base.specs.Number.{AreBytes, IsNumber, bytes_of}
 use Rattle.quic_base.specs.Reading.{number_at}
 use Rattle.quic_base.proofs.PublicLaws as law
 use Rattle.quic_headers.specs.declared.long_type.LongHeaderType.{LongHeaderType}
@@ -16,15 +16,15 @@ use Rattle.quic_headers.specs.Types.{long_type}
 use Rattle.quic_heads.specs.declared.protected.ProtectedHeader.{ProtectedHeader}
 use Rattle.quic_heads.specs.declared.protected.ProtectedHeader.TheVariants as head
 use Rattle.quic_heads.specs.Fields.{id_at, wide_id_at, word_at}
-use Rattle.quic_heads.specs.Grammar.{is_long, Head, Refused}
+use Rattle.quic_heads.specs.Grammar.{is_long, Refused}
 use Rattle.quic_heads.specs.Parsers.{fixed_parsed, fixed_lawful}
-use Rattle.quic_heads.specs.Places.{any_fixed, AnyVersion, IsUnknown, ReadAnswer}
-use Rattle.quic_heads.specs.Reading.{Context, TakesWithin, ◌>>=◌, at_end, bad_id, head_at, long_at, typed_at, wide_at, wide_head_at}
+use Rattle.quic_heads.specs.Places.{any_fixed, IsUnknown, ReadAnswer}
+use Rattle.quic_heads.specs.Reading.{TakesWithin, ◌>>=◌, at_end, bad_id, head_at, long_at, typed_at, wide_at, wide_head_at}
 use Rattle.quic_heads.specs.Refusal.{Refusal, Unsupported, Invalid, NoMemory}
-use Rattle.quic_heads.proofs.FieldLaws.{word_found, word_of, back_fits}
+use Rattle.quic_heads.proofs.FieldLaws.{word_found, word_of}
 use Rattle.quic_heads.proofs.Heads.{head_found, refused_found}
 use Rattle.quic_heads.proofs.Rows.{known_again, known_at}
-use Rattle.quic_heads.proofs.Steps.{bind_err, bool_cases, chosen, match_ok, none_some, option_cases, option_err, option_ok, otherwise, pair_parts, some_of, some_pair, some_same, taken, then_ok}
+use Rattle.quic_heads.proofs.Steps.{bind_err, bool_cases, chosen, match_ok, none_some, option_err, option_ok, otherwise, pair_parts, some_of, some_pair, some_same, taken, then_ok}
 
 abbrev pub Read : Type 0
 Read = Result (ProtectedHeader × List ℕ) Refusal

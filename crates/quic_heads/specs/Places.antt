@@ -1,5 +1,5 @@
 -- What places in bytes say: the head whose fields stand there, or a refusal.
-use Rattle.std.specs.Prelude.{◌≡◌, ◌≢◌, ℕ, ◌+◌, ◌-◌, ◌/◌, ◌%◌, ◌<◌, ◌≤◌, List, ◌∷◌, ◌++◌, drop, length, true, Option, Some, None, Result, Ok, Err, Contains, slice_range, codes, nat_lt, nat_eq, ◌||◌, if◌then◌else◌}
+use Rattle.std.specs.Prelude.{◌≡◌, ◌≢◌, ℕ, ◌+◌, ◌-◌, ◌/◌, ◌%◌, ◌<◌, ◌≤◌, List, ◌∷◌, ◌++◌, drop, length, true, Option, Some, None, Result, Ok, Err, Contains, slice_range, codes, nat_lt, nat_eq, if◌then◌else◌}
 use Rattle.quic_base.specs.ConnectionId.{long_id}
 use Rattle.quic_base.specs.Number.{IsNumber}
 use Rattle.quic_headers.specs.declared.long_type.HeadKind.{HeadKind}

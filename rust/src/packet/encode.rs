@@ -260,7 +260,8 @@ impl Header<'_> {
             _ => (fixed, version),
         };
         let PacketNumber { number, len } = number.unwrap_or(PacketNumber { number: 0, len: 0 });
-        let said = sys::Said { kind, flags, numberlen: len as u8, lengthlen: 2, version, number };
+        let lengthlen = if kind < 3 { 2 } else { 0 };
+        let said = sys::Said { kind, flags, numberlen: len as u8, lengthlen, version, number };
         Ok(Long { said, ids, token, header_len: self.encoded_len() })
     }
 }
@@ -280,7 +281,7 @@ impl Long<'_> {
     fn encode<B: Buffer + ?Sized>(&self, out: &mut B) -> Result<PartialEncode, WriteError> {
         let (header_len, number_len) = (self.header_len, usize::from(self.said.numberlen));
         let length = if number_len == 0 { 0 } else { 2 };
-        out.put(|room| match sys::long_write(&self.said, [self.ids[0], self.ids[1], self.token], room) {
+        out.put(|room| match sys::head_write(&self.said, [self.ids[0], self.ids[1], self.token], room) {
             Ok(filled) => Ok((filled, PartialEncode { header_len, number: header_len - number_len, length })),
             Err(answer) => Err(refused(answer, header_len)),
         })

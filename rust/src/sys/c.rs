@@ -56,7 +56,7 @@ extern "C" {
         out: *mut u8,
         out_len: usize,
     ) -> i32;
-    pub fn quic_wire_long_write_(
+    pub fn quic_wire_head_write_(
         said: *const Said,
         dst: *const u8,
         dst_len: usize,

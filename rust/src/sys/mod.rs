@@ -184,7 +184,7 @@ pub fn short_write(first: u8, number: u64, dst: &[u8], out: &mut Room) -> Result
 
 /// `Err` has the library's answer, below 0.
 #[inline]
-pub fn long_write(said: &Said, [dst, src, token]: [&[u8]; 3], out: &mut Room) -> Result<Filled, i64> {
+pub fn head_write(said: &Said, [dst, src, token]: [&[u8]; 3], out: &mut Room) -> Result<Filled, i64> {
     let (to, room) = (out.as_mut_ptr().cast::<u8>(), out.len());
     let (dst, dst_len) = (dst.as_ptr(), dst.len());
     let (src, src_len) = (src.as_ptr(), src.len());
@@ -192,7 +192,7 @@ pub fn long_write(said: &Said, [dst, src, token]: [&[u8]; 3], out: &mut Room) ->
     // SAFETY: both ids, the token and `out` each give their own pointer and length; `out` is borrowed alone. Any words
     // in `said` serve. An answer above 0 is how many bytes at the front of `out` are initialised. The library looks at
     // no other memory and keeps no pointer.
-    let answer = unsafe { c::quic_wire_long_write_(said, dst, dst_len, src, src_len, token, token_len, to, room) };
+    let answer = unsafe { c::quic_wire_head_write_(said, dst, dst_len, src, src_len, token, token_len, to, room) };
     usize::try_from(answer).map(Filled).map_err(|_| answer)
 }
 

@@ -146,8 +146,8 @@ fn sum_of(word: u64) -> u64
     pairs.wrapping_mul(0x0001_0001_0001_0001) >> 48
 }
 
-// How many whole ranges whose numbers have one byte each begin eight bytes, and how many packet numbers they span, with
-// the gaps above them. A byte of 64 or more begins a longer number.
+// How many whole ranges whose numbers have one byte each stand at the front of eight bytes, and how many packet numbers
+// they span, with the gaps above them. A byte of 64 or more begins a longer number.
 #[inline(always)]
 fn short_ranges(front: &[u8; 8]) -> (u64, u64)
     ensures few { result.0 ≤ 4 }
@@ -164,8 +164,8 @@ fn short_ranges(front: &[u8; 8]) -> (u64, u64)
     (ranges, sum_of(short) + 2 * ranges)
 }
 
-// Passes ranges whose numbers have one byte each, four at a time and then those before a longer number: how many are left
-// to read, the least number of the last that was passed, and what follows it.
+// Passes ranges whose numbers have one byte each, four at a time, and then those before a longer number: how many are
+// left to read, the least number of the last one that was passed, and what follows it.
 #[inline(always)]
 fn pass_short(count: u64, low: u64, bytes: &[u8]) -> (u64, u64, &[u8])
     ensures fewer { result.0 ≤ count }
@@ -192,7 +192,8 @@ fn pass_short(count: u64, low: u64, bytes: &[u8]) -> (u64, u64, &[u8])
     (left, low, rest)
 }
 
-// The same, range by range where they aren't short. Each of them takes bytes, so a count beyond those ends soon.
+// What follows so many ranges below `low`: short ones are passed at once, others are read one by one. Each of them
+// takes bytes, so a count beyond those ends soon.
 fn each_below(count: u64, low: u64, bytes: &[u8]) -> Result<&[u8], Fault>
     ensures { Gives (λ x. x.now) result (below_at count low bytes.now) }
 {

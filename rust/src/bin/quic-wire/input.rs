@@ -158,11 +158,14 @@ mod tests {
         let full = "00000000: 0001 0203 0405 0607 0809 0a0b 0c0d 0e0f  ................\n";
         let last = "00000010: 4142 20                                  AB \n";
         let short = "00000000: 2061 2020 62                             a  b\n";
-        let all = pieces(&[full, last, short, full, full, "ff\n", full].concat());
+        // What doesn't go on where the lines before it end is another piece, as a dump from a place on is.
+        let apart = "00000040: 4344                                     CD\n";
+        let all = pieces(&[full, last, short, full, full, "ff\n", full, apart].concat());
         let sixteen: Vec<u8> = (0..16).collect();
         let put_together = [&sixteen[..], b"AB "].concat();
-        let read = [put_together, b" a  b".to_vec(), sixteen.clone(), sixteen.clone(), vec![255], sixteen];
-        let lines = [1, 3, 4, 5, 6, 7];
-        assert_eq!(all, lines.into_iter().zip(read.map(Some)).collect::<Vec<_>>());
+        let others = [sixteen.clone(), sixteen.clone(), vec![255], sixteen, b"CD".to_vec()];
+        let read = [vec![put_together, b" a  b".to_vec()], others.to_vec()].concat();
+        let lines = [1, 3, 4, 5, 6, 7, 8];
+        assert_eq!(all, lines.into_iter().zip(read.into_iter().map(Some)).collect::<Vec<_>>());
     }
 }

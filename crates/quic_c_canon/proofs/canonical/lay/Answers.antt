@@ -4,29 +4,29 @@ use Rattle.quic_c_canon.proofs.LayWalk.{lay_begins, never_fails, lay_room, lay_o
 use Rattle.quic_c_canon.proofs.canonical.lay.Goals as goal
 
 pub loop-item-init : goal.loop-item-init
-loop-item-init c = lay_begins c.args.payload.now c.args.dest.now c.frames_of-iter.result c.frames_of-iter.ensures.first c.frames_of-iter.ensures.either c.frames_of-iter.ensures.frames c.frames_of-iter.ensures.broken
+loop-item-init c = lay_begins c.args.payload.now c.args.dest.now c.in-Ok.iter c.in-Ok.ensures.first c.in-Ok.ensures.either c.in-Ok.ensures.frames c.in-Ok.ensures.broken
 
-pub unreachable-requires : goal.unreachable-requires
-unreachable-requires c =
+pub unreachable-requires-in_default-item : goal.unreachable-requires-in_default-item
+unreachable-requires-in_default-item c =
     never_fails c.args.payload.now c.args.dest.now c.loop-item.dest c.loop-item.at c.loop-item.iter c.next.new.self c.in-Some.item c.in_default-item.field-0 c.requires.whole c.loop-item.invariant c.in_default-item.is c.in-Some.ensures.steps
 
 pub put-at-requires-clause-stands : goal.put-at-requires-clause-stands
 put-at-requires-clause-stands c =
-    let f = finds_ok c.loop-item.iter c.next.new.self c.in-Some.item c.in-Ok.frame c.in-Ok.is c.in-Some.ensures.steps in
-    stands_at c.args.payload.now c.loop-item.iter.offset c.offset-stop.result c.loop-item.iter c.next.new.self c.in-Ok.frame c.read_back.ensures.exact c.loop-item.invariant.walks f c.offset-stop.ensures.value
+    let f = finds_ok c.loop-item.iter c.next.new.self c.in-Some.item c.in-Ok-item.frame c.in-Ok-item.is c.in-Some.ensures.steps in
+    stands_at c.args.payload.now c.loop-item.iter.offset c.offset-stop.result c.loop-item.iter c.next.new.self c.in-Ok-item.frame c.read_back.ensures.exact c.loop-item.invariant.walks f c.offset-stop.ensures.value
 
 pub put-at-requires-clause-room : goal.put-at-requires-clause-room
 put-at-requires-clause-room c =
-    let f = finds_ok c.loop-item.iter c.next.new.self c.in-Some.item c.in-Ok.frame c.in-Ok.is c.in-Some.ensures.steps in
-    lay_room c.args.payload.now c.args.dest.now c.loop-item.dest c.loop-item.at c.offset-stop.result c.loop-item.iter c.next.new.self c.in-Ok.frame (c.one_reading.ensures.begins_none false) c.requires.whole c.requires.room
+    let f = finds_ok c.loop-item.iter c.next.new.self c.in-Some.item c.in-Ok-item.frame c.in-Ok-item.is c.in-Some.ensures.steps in
+    lay_room c.args.payload.now c.args.dest.now c.loop-item.dest c.loop-item.at c.offset-stop.result c.loop-item.iter c.next.new.self c.in-Ok-item.frame (c.one_reading.ensures.begins_none false) c.requires.whole c.requires.room
     c.loop-item.invariant f c.offset-stop.ensures.value
 
 pub loop-item-preserved : goal.loop-item-preserved
 loop-item-preserved c =
-    let f = finds_ok c.loop-item.iter c.next.new.self c.in-Some.item c.in-Ok.frame c.in-Ok.is c.in-Some.ensures.steps in
-    lay_on c.args.payload.now c.args.dest.now c.loop-item.dest c.put-at.new.dest c.loop-item.at c.put-at.result c.offset-stop.result c.loop-item.iter c.next.new.self c.in-Ok.frame (c.one_reading.ensures.begins_none false)
+    let f = finds_ok c.loop-item.iter c.next.new.self c.in-Some.item c.in-Ok-item.frame c.in-Ok-item.is c.in-Some.ensures.steps in
+    lay_on c.args.payload.now c.args.dest.now c.loop-item.dest c.put-at.new.dest c.loop-item.at c.put-at.result c.offset-stop.result c.loop-item.iter c.next.new.self c.in-Ok-item.frame (c.one_reading.ensures.begins_none false)
     c.loop-item.invariant f c.offset-stop.ensures.value c.put-at.ensures.end c.put-at.ensures.bytes c.put-at.auto.dest
 
 pub returns : goal.returns
 returns c =
-    lay_done c.args.payload.now c.args.dest.now c.loop-item.dest c.loop-item.at c.loop-item.iter c.loop-item.invariant c.in_default.ensures.steps.0
+    lay_done c.args.payload.now c.args.dest.now c.loop-item.dest c.loop-item.at c.loop-item.iter c.loop-item.invariant c.in_default-next.ensures.steps.0

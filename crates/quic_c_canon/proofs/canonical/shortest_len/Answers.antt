@@ -5,35 +5,35 @@ use Rattle.quic_c_canon.proofs.LenWalk.{len_begins, len_on, len_done, len_fails}
 use Rattle.quic_c_canon.proofs.canonical.shortest_len.Goals as goal
 
 pub loop-item-init : goal.loop-item-init
-loop-item-init c = len_begins c.args.payload.now c.frames_of-iter.result c.frames_of-iter.ensures.first c.frames_of-iter.ensures.either c.frames_of-iter.ensures.frames c.frames_of-iter.ensures.broken
+loop-item-init c = len_begins c.args.payload.now c.in-Ok.iter c.in-Ok.ensures.first c.in-Ok.ensures.either c.in-Ok.ensures.frames c.in-Ok.ensures.broken
 
 pub returns-in-Err-clause-err : goal.returns-in-Err-clause-err
 returns-in-Err-clause-err c =
     let a = fails_err c.loop-item.iter c.next.new.self c.in-Some.item c.in-Err.invalid c.in-Err.is c.in-Some.ensures.steps in
-    len_fails c.args.payload.now c.loop-item.total c.loop-item.start c.loop-item.iter (invalid_of c.in-Err.invalid) c.frames_of-iter.ensures.either c.loop-item.invariant a
+    len_fails c.args.payload.now c.loop-item.total c.loop-item.start c.loop-item.iter (invalid_of c.in-Err.invalid) c.in-Ok.ensures.either c.loop-item.invariant a
 
 pub frame_len-len-requires-clause-stands : goal.frame_len-len-requires-clause-stands
 frame_len-len-requires-clause-stands c =
-    let f = finds_ok c.loop-item.iter c.next.new.self c.in-Some.item c.in-Ok.frame c.in-Ok.is c.in-Some.ensures.steps in
-    stands_at c.args.payload.now c.loop-item.start c.offset-stop.result c.loop-item.iter c.next.new.self c.in-Ok.frame c.read_back.ensures.exact c.loop-item.invariant.walks f c.offset-stop.ensures.value
+    let f = finds_ok c.loop-item.iter c.next.new.self c.in-Some.item c.in-Ok-item.frame c.in-Ok-item.is c.in-Some.ensures.steps in
+    stands_at c.args.payload.now c.loop-item.start c.offset-stop.result c.loop-item.iter c.next.new.self c.in-Ok-item.frame c.read_back.ensures.exact c.loop-item.invariant.walks f c.offset-stop.ensures.value
 
 pub frame_len-len-requires-clause-small : goal.frame_len-len-requires-clause-small
 frame_len-len-requires-clause-small c =
-    let f = finds_ok c.loop-item.iter c.next.new.self c.in-Some.item c.in-Ok.frame c.in-Ok.is c.in-Some.ensures.steps in
-    small_at c.args.payload.now c.loop-item.start c.offset-stop.result c.loop-item.iter c.next.new.self c.in-Ok.frame c.least_spelling.ensures.least c.loop-item.invariant.walks f c.offset-stop.ensures.value
+    let f = finds_ok c.loop-item.iter c.next.new.self c.in-Some.item c.in-Ok-item.frame c.in-Ok-item.is c.in-Some.ensures.steps in
+    small_at c.args.payload.now c.loop-item.start c.offset-stop.result c.loop-item.iter c.next.new.self c.in-Ok-item.frame c.least_spelling.ensures.least c.loop-item.invariant.walks f c.offset-stop.ensures.value
 
 pub loop-item-preserved : goal.loop-item-preserved
 loop-item-preserved c =
-    let f = finds_ok c.loop-item.iter c.next.new.self c.in-Some.item c.in-Ok.frame c.in-Ok.is c.in-Some.ensures.steps in
-    len_on c.args.payload.now c.loop-item.total c.loop-item.start c.offset-stop.result c.frame_len-len.result c.loop-item.iter c.next.new.self c.in-Ok.frame
+    let f = finds_ok c.loop-item.iter c.next.new.self c.in-Some.item c.in-Ok-item.frame c.in-Ok-item.is c.in-Some.ensures.steps in
+    len_on c.args.payload.now c.loop-item.total c.loop-item.start c.offset-stop.result c.frame_len-len.result c.loop-item.iter c.next.new.self c.in-Ok-item.frame
     (c.one_reading.ensures.begins_none false) c.least_spelling.ensures.least c.loop-item.invariant f c.offset-stop.ensures.value c.frame_len-len.ensures
 
 pub returns-clause-ok : goal.returns-clause-ok
 returns-clause-ok c =
-    len_done c.args.payload.now c.loop-item.total c.loop-item.start c.loop-item.iter c.requires c.frames_of-iter.ensures.either c.loop-item.invariant c.in_default.ensures.steps.0
+    len_done c.args.payload.now c.loop-item.total c.loop-item.start c.loop-item.iter c.requires c.in-Ok.ensures.either c.loop-item.invariant c.in_default-next.ensures.steps.0
 
 pub overflow_add-total : goal.overflow_add-total
 overflow_add-total c =
-    let f = finds_ok c.loop-item.iter c.next.new.self c.in-Some.item c.in-Ok.frame c.in-Ok.is c.in-Some.ensures.steps in
-    let small = small_at c.args.payload.now c.loop-item.start c.offset-stop.result c.loop-item.iter c.next.new.self c.in-Ok.frame c.least_spelling.ensures.least c.loop-item.invariant.walks f c.offset-stop.ensures.value in
+    let f = finds_ok c.loop-item.iter c.next.new.self c.in-Some.item c.in-Ok-item.frame c.in-Ok-item.is c.in-Some.ensures.steps in
+    let small = small_at c.args.payload.now c.loop-item.start c.offset-stop.result c.loop-item.iter c.next.new.self c.in-Ok-item.frame c.least_spelling.ensures.least c.loop-item.invariant.walks f c.offset-stop.ensures.value in
     omega (arith, small, c.frame_len-len.ensures, c.loop-item.invariant.low, c.loop-item.invariant.walks.within)

@@ -1,5 +1,5 @@
 -- What has the shape of no head says no head, and what has one's is laid as its bytes.
-use Rattle.std.proofs.Common.{◌≡◌, ◌+◌, ◌≤◌, ◌<◌, ◌∙◌, ℕ, List, length, ap, sym, subst, inl, inr, refl, arith, rules, to_z, w64}
+use Rattle.std.proofs.Common.{◌≡◌, ◌+◌, ◌≤◌, ◌<◌, ◌∙◌, ℕ, List, length, ap, inl, inr, refl, arith, rules, to_z, w64}
 use Rattle.std.proofs.lemmas.Bool.{cases_lt}
 use Rattle.quic_crypto.specs.declared.packet_number.PacketNumber.{PacketNumber}
 use Rattle.std.specs.Prelude.{pos, take, drop}

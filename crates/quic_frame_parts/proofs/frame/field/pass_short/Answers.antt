@@ -11,5 +11,5 @@ pub loop-left-preserved : goal.loop-left-preserved
 loop-left-preserved c = record {
   fewer = omega arith;
   same = shorts_pass c.loop-left.left c.loop-left.low c.short_ranges-ranges.result.0 c.short_ranges-ranges.result.1 c.loop-left.rest.now c.in-Some.front.now _
-    c.in-Some.ensures.cases.same c.in-Some.ensures.cases.enough c.short_ranges-ranges.ensures.few c.short_ranges-ranges.ensures.read (omega arith) c.if-all-low.false c.loop-left.invariant.same;
+      c.in-Some.ensures.cases.same c.in-Some.ensures.cases.enough c.short_ranges-ranges.ensures.few c.short_ranges-ranges.ensures.read (omega arith) c.if-all-low.false c.loop-left.invariant.same;
 }

@@ -1,0 +1,88 @@
+-- The frame at the front of a payload, and the ranges of an ACK as gap and length.
+use Rattle.std.specs.Prelude.{◌≡◌, ℕ, ◌+◌, ◌-◌, ◌<◌, ◌≤◌, List, [], ◌∷◌, length, take, drop, nat_lt, Bool, Option, None, Some, if◌then◌else◌}
+use Rattle.quic_frames.specs.declared.frame.Frame.{Frame}
+use Rattle.quic_frames.specs.declared.frame.Frame.TheVariants as frames
+use Rattle.quic_frame_parts.specs.declared.frame.ack.Ack.{Ack}
+use Rattle.quic_frame_parts.specs.Acks.{ranges_acked}
+use Rattle.quic_frame_parts.specs.Reading.{Invalid, Item, Whole, Broken}
+use Rattle.quic_frames.specs.Way.{Way}
+use Rattle.quic_frames.specs.Padding.{PassesPadding}
+use Rattle.quic_frames.specs.Walk.{left, first_of, Finds}
+use Rattle.quic_c.specs.declared.words.FrameWords.{FrameWords}
+use Rattle.quic_c.specs.declared.words.GapWords.{GapWords}
+use Rattle.quic_c.specs.Answers.{reason_in}
+use Rattle.quic_c.specs.Shown.{kind_of, shown, shown_invalid, type_word, counts_flag}
+
+-- a range, by its least and its greatest number, below one with the least number low: the numbers between the two, less one, and its
+-- numbers, less one (RFC 9000, section 19.3.1)
+abbrev pub gap_of : ℕ → ℕ × ℕ → GapWords
+gap_of low range = record { gap = low - (range.1 + 2); len = range.1 - range.0 }
+
+-- the same of ranges, each of which stands below the one before it
+abbrev pub gaps_below : ℕ → List (ℕ × ℕ) → List GapWords
+gaps_below low [] = []
+gaps_below low (range ∷ ranges) = gap_of low range ∷ gaps_below range.0 ranges
+
+-- So many entries were filled with the first of the ranges below one with the least number low, and those behind them kept; more were
+-- not, for want of room or of a range.
+pub record FillsGaps (low : ℕ) (ranges : List (ℕ × ℕ)) (before after : List GapWords) (count : ℕ) : Type 0 where
+  pub few : count ≤ length before
+  pub one_each : count ≤ length ranges
+  pub filled : take count after ≡ gaps_below low (take count ranges)
+  pub kept : drop count after ≡ drop count before
+  pub full : count < length ranges → count ≡ length before
+
+-- 4: there are more ranges than entries were filled
+abbrev pub more_flag : ℕ → List (ℕ × ℕ) → ℕ
+more_flag count ranges = if nat_lt count (length ranges) then 4 else 0
+
+-- The words of an ACK up to a place: its first range, less one, in the place of its data's length, and in that of their offset how many
+-- entries were filled with the ranges below it.
+pub record ShowsAck (stop : ℕ) (ack : Ack) (before : List GapWords) (words : FrameWords) (after : List GapWords) : Type 0 where
+  pub least : ℕ
+  pub below : List (ℕ × ℕ)
+  pub ranges : ranges_acked ack ≡ (least, ack.largest) ∷ below
+  pub first : least + words.data_len ≡ ack.largest
+  pub gaps : FillsGaps least below before after words.data_offset
+  pub flags : words.flags ≡ counts_flag ack.ecn + more_flag words.data_offset below
+  pub others : words ≡ record (shown 0 stop (frames.Ack ack)) { flags = words.flags; data_offset = words.data_offset; data_len = words.data_len }
+
+-- The words of a frame up to a place; entries are filled for an ACK alone.
+abbrev pub ShowsFront : ℕ → Frame → List GapWords → FrameWords → List GapWords → Type 0
+ShowsFront stop (frames.Ack a) before words after = ShowsAck stop a before words after
+ShowsFront stop frame before words after = (words ≡ shown 0 stop frame) × (after ≡ before)
+
+-- The frame at the front is told, as the iterator over the payload gives it. One of PADDING (RFC 9000, section 19.1) stands also for the
+-- PADDING that follows, a frame with each byte. What is left begins where it ends.
+pub record ReadsFront (strict : Bool) (payload : List ℕ) (before : List GapWords) (stop : ℕ) (words : FrameWords) (after : List GapWords) : Type 0 where
+  pub frame : Frame
+  pub next : Way
+  pub rest : Way
+  pub finds : Finds (first_of strict payload) frame next
+  pub run : kind_of frame ≡ 0 → (more : ℕ) × PassesPadding next more rest
+  pub one : 0 < kind_of frame → rest ≡ next
+  pub ends : stop ≡ rest.offset
+  pub shows : ShowsFront stop frame before words after
+
+-- No frame stands at the front, and that is told.
+pub record TellsNone (strict : Bool) (payload : List ℕ) (words : FrameWords) : Type 0 where
+  pub told : Invalid
+  pub first : left (first_of strict payload) ≡ Broken told ∷ []
+  pub is : words ≡ shown_invalid 0 (type_word told.type) (reason_in told.reason)
+
+-- ---- reading on behind a frame
+
+-- an item over so many bytes that stand before it
+abbrev pub behind : ℕ → Item → Item
+behind count (Whole start stop found) = Whole (count + start) (count + stop) found
+behind count (Broken told) = Broken told
+
+abbrev pub or_else : Option ℕ → Option ℕ → Option ℕ
+or_else None before = before
+or_else (Some type) before = Some type
+
+-- what is told first of something that is cut off within its type: the last type before
+abbrev pub told_behind : Option ℕ → List Item → List Item
+told_behind before [] = []
+told_behind before (Whole start stop found ∷ items) = Whole start stop found ∷ items
+told_behind before (Broken told ∷ items) = Broken (record told { type = or_else told.type before }) ∷ items

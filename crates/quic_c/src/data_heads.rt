@@ -1,0 +1,110 @@
+//! The heads of STREAM, CRYPTO and DATAGRAM frames, whose data the caller puts behind them.
+ghost use Rattle.std.specs.Prelude.{◌≡◌, ◌⊎◌, ◌↔◌, ◌<◌, ◌^◌, ◌++◌, List, ℕ, Bool, pos, negsuc, length, IsTrue, IfSome};
+ghost use Rattle.quic_frame_parts.specs.Putting.{Puts};
+ghost use Rattle.quic_frame_parts.specs.Shortest.{shortest_frame, stream_head};
+ghost use Rattle.quic_frames.specs.declared.frame.Frame.{Frame};
+ghost use Rattle.quic_frames.specs.Meaning.{meaning_of};
+ghost use Rattle.quic_c.specs.Heads.{IsHeaded, HasHead, WroteHead, HeadNeedsMore, head_bytes};
+ghost use Rattle.quic_c.specs.Shown.{data_of};
+ghost use Rattle.quic_c.specs.Written.{CanWrite, flag_of};
+ghost use Rattle.quic_c.specs.declared.words.FrameWords.{FrameWords};
+
+use crate::words::FrameWords;
+use quic_errors::frame_type::FrameType;
+use quic_frame_parts::frame::put;
+
+// Whether the words say a frame that has a head.
+fn has_head(words: &FrameWords, last: bool) -> bool
+    ensures { IsTrue result ↔ HasHead words.now last }
+{
+    let (flags, len) = (words.flags, words.data_len as u64);
+    let [id, offset, c, d, e] = words.numbers;
+    if id >= 1 << 62 || offset >= 1 << 62 || c != 0 || d != 0 || e != 0 {
+        return false;
+    }
+    let is_short = len < 1 << 62;
+    match words.kind {
+        0x06 => id == 0 && flags == 0 && is_short,
+        0x08 => flags <= 1 && (last || is_short),
+        0x30 => id == 0 && offset == 0 && flags == 0 && (last || is_short),
+        _ => false,
+    }
+}
+
+// Lays the head of a STREAM at the front, with the length of its data where that is given.
+fn put_stream(
+    id: u64,
+    offset: u64,
+    fin: bool,
+    counted: Option<u64>,
+    dest: &mut [u8],
+) -> Result<usize, usize>
+    requires id { id < 2 ^ 62 }
+    requires offset { offset < 2 ^ 62 }
+    requires counted { IfSome counted (λ n. n < 2 ^ 62) }
+    ensures { Puts result (stream_head id offset fin counted) dest.old dest.new }
+{
+    let ty = FrameType::of_stream(offset != 0, fin).into_inner();
+    match (offset, counted) {
+        (0, None) => put::numbers(dest, &[ty, id]),
+        (0, Some(length)) => put::numbers(dest, &[ty + 2, id, length]),
+        (_, None) => put::numbers(dest, &[ty, id, offset]),
+        (_, Some(length)) => put::numbers(dest, &[ty + 2, id, offset, length]),
+    }
+}
+
+// Lays the head that the words say at the front.
+fn put_head(words: &FrameWords, last: bool, dest: &mut [u8]) -> Result<usize, usize>
+    requires { HasHead words.now last }
+    ensures { Puts result (head_bytes words.now last) dest.old dest.new }
+{
+    let len = words.data_len as u64;
+    let [id, offset, ..] = words.numbers;
+    match words.kind {
+        0x06 => put::numbers(dest, &[0x06, offset, len]),
+        0x08 => put_stream(id, offset, words.flags == 1, (!last).then_some(len), dest),
+        _ if last => put::numbers(dest, &[0x30]),
+        _ => put::numbers(dest, &[0x31, len]),
+    }
+}
+
+/// Writes the shortest spelling of a STREAM, CRYPTO or DATAGRAM up to its data at the front of `out`, the last frame
+/// of its payload where `last` isn't 0 (RFC 9000, sections 19.6 and 19.8; RFC 9221, section 4). The words say how
+/// many bytes the data have; where these stand isn't looked at. It answers 0 with how many bytes were written, and
+/// what stood behind them stays; -4 with how many are needed where `out` has fewer; -1 where the words say no such
+/// frame that can be written. `out` changes with 0 alone, and `written` not with -1.
+#[unsafe(no_mangle)]
+pub extern "C" fn quic_wire_frame_head_write_(
+    frame: &FrameWords,
+    last: u32,
+    out: &mut [u8],
+    written: &mut usize,
+) -> i32
+    ensures answers { (result ≡ pos 0) ⊎ (result ≡ negsuc 3) ⊎ (result ≡ negsuc 0) }
+    ensures wrote { result ≡ pos 0 → WroteHead frame.now (flag_of last) out.old out.new written.new }
+    ensures room { result ≡ negsuc 3 → HeadNeedsMore frame.now (flag_of last) out.old written.new }
+    ensures refused { (result ≡ negsuc 0) ↔ (HasHead frame.now (flag_of last) → ⊥) }
+    ensures kept { result ≡ negsuc 0 → written.new ≡ written.old }
+    ensures same { (result ≡ pos 0) ⊎ (out.new ≡ out.old) }
+{
+    let last = last != 0;
+    if !has_head(frame, last) {
+        return -1;
+    }
+    match put_head(frame, last, out) {
+        Ok(n) => {
+            *written = n;
+            0
+        }
+        Err(n) => {
+            *written = n;
+            -4
+        }
+    }
+}
+
+/// A head and then the data are the frame: what can be written whole has a head, and is that with its data behind it.
+pub fn head_and_data()
+    ensures { (words : FrameWords) (bytes : List ℕ) (last : Bool) (frame : Frame) → IsHeaded words.kind → CanWrite words bytes last frame
+        → HasHead words last × (shortest_frame last (meaning_of frame) ≡ head_bytes words last ++ data_of frame) }
+{}

@@ -1,0 +1,204 @@
+//! The frame at the front of what is left of a payload, and with an ACK its first ranges as they stand.
+ghost use Rattle.std.specs.Prelude.{◌≡◌, ◌↔◌, ◌⊎◌, ◌<◌, ◌≤◌, ℕ, List, [], Bool, Option, drop, map, IsTrue, pos, negsuc, length, not, ◌==◌, if◌then◌else◌};
+ghost use Rattle.quic_frame_parts.specs.Field.{AreBelow};
+ghost use Rattle.quic_frame_parts.specs.Reading.{Gives, varint_at};
+ghost use Rattle.quic_frames.specs.declared.frame.Frame.TheVariants as frames;
+ghost use Rattle.quic_frames.specs.Padding.{PassesPadding};
+ghost use Rattle.quic_frames.specs.Walk.{left, first_of, resumed};
+ghost use Rattle.quic_c.specs.Shown.{kind_of, shown};
+ghost use Rattle.quic_c.specs.Front.{FillsGaps, ShowsAck, ShowsFront, ReadsFront, TellsNone, behind, told_behind};
+
+use crate::frames::show_invalid;
+use crate::show::{parts_of, show};
+use crate::words::{FrameWords, GapWords};
+use quic_base::coding::are_bytes;
+use quic_base::varint::split_var;
+use quic_frame_parts::frame::fault::Fault;
+use quic_frames::frame::{Ack, Frame, Iter};
+
+// A number of any width and what follows it, made for numbers of which most have one byte, and read where the call
+// stands.
+#[inline(always)]
+#[tactic(auto, using(quic_frame_parts::proofs::Gaps::one_at, quic_frame_parts::proofs::Varints::slices))]
+fn number(bytes: &[u8]) -> Result<(u64, &[u8]), Fault>
+    ensures { Gives (λ x. (x.0, x.1.now)) result (varint_at bytes.now) }
+{
+    if let Some((first, rest)) = bytes.split_first() {
+        if *first < 64 {
+            return Ok((u64::from(*first), rest));
+        }
+    }
+    match split_var(bytes) {
+        Some(read) => Ok(read),
+        None => Err(Fault::UnexpectedEnd),
+    }
+}
+
+// Fills entries with the ranges that stand below another one, as they stand: how many, and whether none is left.
+#[inline(always)]
+fn fill_gaps(blocks: &[u8], gaps: &mut [GapWords]) -> (usize, bool)
+    requires { (least : ℕ) × (ranges : List (ℕ × ℕ)) × AreBelow least ranges blocks.now }
+    ensures fills { (least : ℕ) (ranges : List (ℕ × ℕ)) → AreBelow least ranges blocks.now → FillsGaps least ranges gaps.old gaps.new result.0 }
+    ensures whole { (least : ℕ) (ranges : List (ℕ × ℕ)) → AreBelow least ranges blocks.now → IsTrue result.1 ↔ (result.0 ≡ length ranges) }
+{
+    let mut left = blocks;
+    let mut count = 0;
+    while count < gaps.len() && !left.is_empty() {
+        let Ok((gap, behind)) = number(left) else {
+            unreachable!()
+        };
+        let Ok((len, rest)) = number(behind) else {
+            unreachable!()
+        };
+        gaps[count] = GapWords { gap, len };
+        left = rest;
+        count += 1;
+    }
+    (count, left.is_empty())
+}
+
+// The flag of an ACK of which not all ranges were filled.
+#[inline(always)]
+fn more_flag(is_whole: bool) -> u32
+    ensures value { result ≡ (if is_whole then 0 else 4) }
+    ensures small { result ≤ 4 }
+{
+    if is_whole { 0 } else { 4 }
+}
+
+// The words of an ACK that stands at the front, and as many of the ranges below its first as there are entries.
+#[inline(always)]
+fn show_ack(words: FrameWords, ack: &Ack<'_>, gaps: &mut [GapWords]) -> FrameWords
+    requires { words ≡ shown 0 words.end (frames.Ack ack.now) }
+    ensures { ShowsAck words.end ack.now gaps.old result gaps.new }
+{
+    let blocks = ack.additional();
+    are_bytes(blocks);
+    let Ok((first, below)) = number(blocks) else {
+        unreachable!()
+    };
+    let (count, is_whole) = fill_gaps(below, gaps);
+    let numbers = words.numbers;
+    FrameWords {
+        kind: words.kind,
+        flags: words.flags + more_flag(is_whole),
+        begin: words.begin,
+        end: words.end,
+        data_offset: count,
+        data_len: first as usize,
+        numbers,
+    }
+}
+
+// The words of a frame that stands at the front.
+#[inline(always)]
+fn show_front(end: usize, frame: &Frame<'_>, gaps: &mut [GapWords]) -> FrameWords
+    ensures { ShowsFront end frame.now gaps.old result gaps.new }
+{
+    let words = show(0, end, frame);
+    match frame {
+        Frame::Ack(ack) => show_ack(words, ack, gaps),
+        _ => words,
+    }
+}
+
+// Passes the PADDING that follows a frame of PADDING, and tells where the last of it ends, or else the frame.
+#[inline(always)]
+#[tactic(auto, using(crate::proofs::Filling::passed_payload))]
+fn pass_run(iter: &mut Iter<'_>, frame: &Frame<'_>) -> usize
+    ensures run { kind_of frame.now ≡ 0 → (more : ℕ) × PassesPadding iter.old more iter.new }
+    ensures one { 0 < kind_of frame.now → iter.new ≡ iter.old }
+    ensures end { result ≡ iter.new.offset }
+    ensures within { result ≤ length iter.old.payload }
+{
+    if parts_of(frame).kind == 0 {
+        iter.pass_padding();
+    }
+    iter.offset()
+}
+
+// Reads the frame at the front. There is a copy for each kind of first byte, so that what it can't be isn't looked at.
+#[inline(always)]
+fn read_front<const COPY: usize>(
+    payload: &[u8],
+    strict: bool,
+    out: &mut FrameWords,
+    gaps: &mut [GapWords],
+) -> i64
+    ensures answers { (result ≡ negsuc 1) ⊎ (result ≡ negsuc 2) ⊎ ((end : ℕ) × (result ≡ pos end) × ReadsFront strict payload.now gaps.old end out.new gaps.new) }
+    ensures empty { (result ≡ negsuc 1) ↔ (payload.now ≡ []) }
+    ensures invalid { result ≡ negsuc 2 → TellsNone strict payload.now out.new }
+    ensures same { (result ≡ negsuc 1) → out.new ≡ out.old }
+    ensures gaps { (result ≡ negsuc 1) ⊎ (result ≡ negsuc 2) → gaps.new ≡ gaps.old }
+{
+    if payload.is_empty() {
+        return -2;
+    }
+    let Some(mut iter) = Iter::resume(payload, 0, None, strict) else {
+        return -2;
+    };
+    match iter.next() {
+        None => -2,
+        Some(Ok(frame)) => {
+            let end = pass_run(&mut iter, &frame);
+            *out = show_front(end, &frame, gaps);
+            end as i64
+        }
+        Some(Err(invalid)) => {
+            *out = show_invalid(0, &invalid);
+            -3
+        }
+    }
+}
+
+// An ACK, or what else begins as one, by a call.
+#[inline(never)]
+fn read_ack(payload: &[u8], strict: bool, out: &mut FrameWords, gaps: &mut [GapWords]) -> i64
+    ensures answers { (result ≡ negsuc 1) ⊎ (result ≡ negsuc 2) ⊎ ((end : ℕ) × (result ≡ pos end) × ReadsFront strict payload.now gaps.old end out.new gaps.new) }
+    ensures empty { (result ≡ negsuc 1) ↔ (payload.now ≡ []) }
+    ensures invalid { result ≡ negsuc 2 → TellsNone strict payload.now out.new }
+    ensures same { (result ≡ negsuc 1) → out.new ≡ out.old }
+    ensures gaps { (result ≡ negsuc 1) ⊎ (result ≡ negsuc 2) → gaps.new ≡ gaps.old }
+{
+    if !payload.is_empty() && payload[0] & 0xfe == 0x02 {
+        return read_front::<0>(payload, strict, out, gaps);
+    }
+    read_front::<1>(payload, strict, out, gaps)
+}
+
+/// Reads the frame at the front of what is left of a payload (RFC 9000, section 19), where a type in another spelling
+/// than its shortest is no frame if `strict` isn't 0 (section 12.4). It answers where the frame ends, with its words,
+/// whose places count from this front; a run of PADDING, a frame with each byte, is one. Of an ACK they tell the
+/// first range, less one, as the length of its data, and the ranges below it are filled into `gaps` as they stand, as
+/// many as there is room for: how many is told as the offset of its data, and `flags` has 4 where there are more. It
+/// answers -2 just where nothing is left; -3 with the type and the reason in `out` where no frame stands at the
+/// front. `out` doesn't change with -2, and `gaps` for an ACK alone.
+#[unsafe(no_mangle)]
+pub extern "C" fn quic_wire_frame_read_(
+    payload: &[u8],
+    strict: u32,
+    out: &mut FrameWords,
+    gaps: &mut [GapWords],
+) -> i64
+    ensures answers { (result ≡ negsuc 1) ⊎ (result ≡ negsuc 2) ⊎ ((end : ℕ) × (result ≡ pos end) × ReadsFront (not (strict == 0)) payload.now gaps.old end out.new gaps.new) }
+    ensures empty { (result ≡ negsuc 1) ↔ (payload.now ≡ []) }
+    ensures invalid { result ≡ negsuc 2 → TellsNone (not (strict == 0)) payload.now out.new }
+    ensures same { (result ≡ negsuc 1) → out.new ≡ out.old }
+    ensures gaps { (result ≡ negsuc 1) ⊎ (result ≡ negsuc 2) → gaps.new ≡ gaps.old }
+{
+    if payload.is_empty() {
+        return -2;
+    }
+    if payload[0] & 0xf8 == 0x08 {
+        return read_front::<2>(payload, strict != 0, out, gaps);
+    }
+    read_ack(payload, strict != 0, out, gaps)
+}
+
+/// A payload is read frame by frame, each at the front of what is left: what an iterator gives from a place on is
+/// what it gives of the bytes there by themselves, each at a place that counts from the payload's front. What is cut
+/// off within its type, and so has none, is told by the iterator with the type before.
+pub fn read_on()
+    ensures { (strict : Bool) (offset : ℕ) (before : Option ℕ) (payload : List ℕ)
+        → left (resumed payload offset before strict) ≡ told_behind before (map (behind offset) (left (first_of strict (drop offset payload)))) }
+{}

@@ -16,8 +16,8 @@ use Rattle.quic_bench.specs.declared.two_packets.Failure.{Failure}
 use Rattle.quic_bench.specs.declared.two_packets.Failure.TheVariants as failure
 use Rattle.quic_bench.specs.declared.two_packets.Outgoing.{Outgoing}
 
--- A packet that may be sealed: its head can be written and has the low part of its number, which is below 2^62; it has frames, and
--- they can be written one after another.
+-- A packet that may be sealed: its head can be written and has the low part of its number, which is below 2^62; it
+-- has frames, and they can be written one after another.
 pub record CanBeSealed (packet : Outgoing) : Type 0 where
   pub writable : IsWritable packet.header.now
   pub protected : IsTrue (has_number packet.header.now)
@@ -26,8 +26,8 @@ pub record CanBeSealed (packet : Outgoing) : Type 0 where
   pub some : 0 < length packet.frames.now
   pub follow : CanFollow packet.frames.now
 
--- A packet that is found again where these bytes follow it: its head is read back, and its number is found by the one that is
--- expected in its space.
+-- A packet that is found again where these bytes follow it: its head is read back, and its number is found by the one
+-- that is expected in its space.
 pub record IsFoundAgain (context : Context) (expected : SpaceId → ℕ) (packet : Outgoing) (rest : List ℕ) : Type 0 where
   pub head : IsReadBack context packet.header.now rest
   pub number : ExpandsIn packet.header.now (expected (space_in packet.header.now)) packet.number

@@ -73,8 +73,8 @@ ack_front_at bytes = do
 abbrev pub IsWholeAck : List ℕ → ℕ → List ℕ → Type 0
 IsWholeAck bytes largest blocks = (greatest : ℕ) (others : List ℕ) → ack_at bytes ≡ Ok (greatest, others, []) → (ack_at bytes ≡ Ok (largest, blocks, [])) × IsBlocks largest blocks
 
--- The frame begins as an ACK without counts, and its greatest number and the place of all that follows the count of its ranges were
--- given. Where it is an ACK to its end, that is the place of its blocks.
+-- The frame begins as an ACK without counts, and its greatest number and the place of all that follows the count of
+-- its ranges were given. Where it is an ACK to its end, that is the place of its blocks.
 pub record GivesFront (frame : FrameWords) (payload : List ℕ) (new : RangesWords) : Type 0 where
   pub ordered : frame.begin ≤ frame.end
   pub ends : frame.end ≤ length payload
@@ -112,7 +112,8 @@ pub record LacksRange (ranges : RangesWords) (payload : List ℕ) : Type 0 where
   pub step : first_range_at ranges.largest (blocks_in ranges payload) ≡ Err reason
   pub refused : IsBlocks ranges.largest (blocks_in ranges payload) → ⊥
 
--- The words name no blocks: the place lies outside the payload, or it has bytes, and the number is too large or no range stands first.
+-- The words name no blocks: the place lies outside the payload, or it has bytes, and the number is too large or no
+-- range stands first.
 abbrev pub NamesNone : RangesWords → List ℕ → Type 0
 NamesNone ranges payload =
     (ranges.end < ranges.begin) ⊎ (length payload < ranges.end) ⊎ ((ranges.begin < ranges.end) × (2 ^ 62 ≤ ranges.largest)) ⊎ LacksRange ranges payload

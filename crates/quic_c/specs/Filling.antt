@@ -12,7 +12,8 @@ use Rattle.quic_c.specs.declared.words.RangeWords.{RangeWords}
 use Rattle.quic_c.specs.declared.words.RangesWords.{RangesWords}
 use Rattle.quic_c.specs.Answers.{GivesInvalid, GivesRange, NamesNone}
 
--- One entry shows a frame; one of PADDING (RFC 9000, section 19.1) shows also the PADDING that follows, a frame with each byte.
+-- One entry shows a frame; one of PADDING (RFC 9000, section 19.1) shows also the PADDING that follows, a frame with
+-- each byte.
 pub record GivesEntry (old : Way) (entry : FrameWords) (new : Way) : Type 0 where
   pub frame : Frame
   pub next : Way
@@ -55,7 +56,8 @@ StepsOver payload old range new = GivesRange old payload new range
 abbrev pub HasNoRange : RangesWords → List ℕ → Type 0
 HasNoRange ranges payload = (ranges.begin ≡ ranges.end) ⊎ NamesNone ranges payload
 
--- So many entries were filled with ranges (RFC 9000, section 19.3.1), and those behind them kept; more were not, for want of room or of a range.
+-- So many entries were filled with ranges (RFC 9000, section 19.3.1), and those behind them kept; more were not, for
+-- want of room or of a range.
 pub record FillsRanges (old : RangesWords) (payload : List ℕ) (before : List RangeWords) (new : RangesWords) (after : List RangeWords) (count : ℕ) : Type 0 where
   pub few : count ≤ length before
   pub shows : Shows (StepsOver payload) old (take count after) new

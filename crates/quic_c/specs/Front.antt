@@ -13,8 +13,8 @@ use Rattle.quic_c.specs.declared.words.GapWords.{GapWords}
 use Rattle.quic_c.specs.Answers.{reason_in}
 use Rattle.quic_c.specs.Shown.{kind_of, shown, shown_invalid, type_word, counts_flag}
 
--- a range, by its least and its greatest number, below one with the least number low: the numbers between the two, less one, and its
--- numbers, less one (RFC 9000, section 19.3.1)
+-- a range, by its least and its greatest number, below one with the least number low: the numbers between the two,
+-- less one, and its numbers, less one (RFC 9000, section 19.3.1)
 abbrev pub gap_of : ℕ → ℕ × ℕ → GapWords
 gap_of low range = record { gap = low - (range.1 + 2); len = range.1 - range.0 }
 
@@ -23,8 +23,8 @@ abbrev pub gaps_below : ℕ → List (ℕ × ℕ) → List GapWords
 gaps_below low [] = []
 gaps_below low (range ∷ ranges) = gap_of low range ∷ gaps_below range.0 ranges
 
--- So many entries were filled with the first of the ranges below one with the least number low, and those behind them kept; more were
--- not, for want of room or of a range.
+-- So many entries were filled with the first of the ranges below one with the least number low, and those behind them
+-- kept; more were not, for want of room or of a range.
 pub record FillsGaps (low : ℕ) (ranges : List (ℕ × ℕ)) (before after : List GapWords) (count : ℕ) : Type 0 where
   pub few : count ≤ length before
   pub one_each : count ≤ length ranges
@@ -36,8 +36,8 @@ pub record FillsGaps (low : ℕ) (ranges : List (ℕ × ℕ)) (before after : Li
 abbrev pub more_flag : ℕ → List (ℕ × ℕ) → ℕ
 more_flag count ranges = if nat_lt count (length ranges) then 4 else 0
 
--- The words of an ACK up to a place: its first range, less one, in the place of its data's length, and in that of their offset how many
--- entries were filled with the ranges below it.
+-- The words of an ACK up to a place: its first range, less one, in the place of its data's length, and in that of
+-- their offset how many entries were filled with the ranges below it.
 pub record ShowsAck (stop : ℕ) (ack : Ack) (before : List GapWords) (words : FrameWords) (after : List GapWords) : Type 0 where
   pub least : ℕ
   pub below : List (ℕ × ℕ)
@@ -52,8 +52,8 @@ abbrev pub ShowsFront : ℕ → Frame → List GapWords → FrameWords → List 
 ShowsFront stop (frames.Ack a) before words after = ShowsAck stop a before words after
 ShowsFront stop frame before words after = (words ≡ shown 0 stop frame) × (after ≡ before)
 
--- The frame at the front is told, as the iterator over the payload gives it. One of PADDING (RFC 9000, section 19.1) stands also for the
--- PADDING that follows, a frame with each byte. What is left begins where it ends.
+-- The frame at the front is told, as the iterator over the payload gives it. One of PADDING (RFC 9000, section 19.1)
+-- stands also for the PADDING that follows, a frame with each byte. What is left begins where it ends.
 pub record ReadsFront (strict : Bool) (payload : List ℕ) (before : List GapWords) (stop : ℕ) (words : FrameWords) (after : List GapWords) : Type 0 where
   pub frame : Frame
   pub next : Way

@@ -12,7 +12,8 @@ IsHeaded kind = (kind ≡ 0x06) ⊎ (kind ≡ 0x08) ⊎ (kind ≡ 0x30)
 abbrev pub IsCounted : ℕ → Bool → Type 0
 IsCounted kind last = (kind ≡ 0x06) ⊎ (last ≡ false)
 
--- Of the five numbers the first, the id of a STREAM, and the second, the offset of a STREAM or CRYPTO, may be other than 0.
+-- Of the five numbers the first, the id of a STREAM, and the second, the offset of a STREAM or CRYPTO, may be other
+-- than 0.
 abbrev pub AreTwo : List ℕ → Type 0
 AreTwo (a ∷ b ∷ c ∷ d ∷ e ∷ []) = (c ≡ 0) × (d ≡ 0) × (e ≡ 0)
 AreTwo numbers = ⊥
@@ -25,7 +26,8 @@ abbrev pub second_in : List ℕ → ℕ
 second_in (a ∷ b ∷ numbers) = b
 second_in numbers = 0
 
--- The words say such a frame, which can be written as the last of its payload or not; where its data stand isn't looked at.
+-- The words say such a frame, which can be written as the last of its payload or not; where its data stand isn't
+-- looked at.
 pub record HasHead (words : FrameWords) (last : Bool) : Type 0 where
   pub kind : IsHeaded words.kind
   pub two : AreTwo words.numbers

@@ -64,8 +64,8 @@ abbrev pub IsOrdered : List ℕ → Type 0
 IsOrdered (sequence ∷ retire ∷ ns) = retire ≤ sequence
 IsOrdered ns = ⊥
 
--- The numbers and the length can be those of a frame of the kind: what is written as a varint is below 2^62, and an id has 1 to 20
--- bytes and comes after what is retired.
+-- The numbers and the length can be those of a frame of the kind: what is written as a varint is below 2^62, and an
+-- id has 1 to 20 bytes and comes after what is retired.
 pub record IsSound (kind : ℕ) (numbers : List ℕ) (len : ℕ) : Type 0 where
   pub numeric : is_path kind ≡ false → AreNumeric numbers
   pub counted : is_open kind ≡ false → len < 2 ^ 62

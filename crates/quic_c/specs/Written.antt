@@ -13,8 +13,8 @@ abbrev pub token_of : Frame → List ℕ
 token_of (frames.NewConnectionId n) = n.reset_token
 token_of frame = []
 
--- The words say the frame, whose data stand in the bytes where the words say, with the token of a reset behind them. Where the
--- frame begins and ends in a payload says nothing here.
+-- The words say the frame, whose data stand in the bytes where the words say, with the token of a reset behind them.
+-- Where the frame begins and ends in a payload says nothing here.
 pub record Says (words : FrameWords) (bytes : List ℕ) (frame : Frame) : Type 0 where
   pub kind : words.kind ≡ kind_of frame
   pub flags : words.flags ≡ flags_of frame

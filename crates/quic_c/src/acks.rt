@@ -35,9 +35,9 @@ pub extern "C" fn quic_wire_ack_ranges_init_(
 }
 
 /// The same for an ACK that was read of this payload (RFC 9000, section 19.3), without a second look at its blocks:
-/// where the frame begins as one without counts, all that follows the count of its ranges is taken for blocks, and where
-/// they are none, the call that comes to it says so. It answers 0, or -1 where the place lies outside the payload or no
-/// ACK is read there; then nothing changes.
+/// where the frame begins as one without counts, all that follows the count of its ranges is taken for blocks, and
+/// where they are none, the call that comes to it says so. It answers 0, or -1 where the place lies outside the
+/// payload or no ACK is read there; then nothing changes.
 #[unsafe(no_mangle)]
 pub extern "C" fn quic_wire_ack_ranges_init_unchecked_(
     ranges: &mut RangesWords,

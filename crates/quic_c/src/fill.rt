@@ -21,8 +21,8 @@ struct Filled {
     last: Option<FrameType>,
 }
 
-// Fills entries with what stands next. Where that is no frame, it is told if none was filled. There is a copy for each caller,
-// so that each goes into its own.
+// Fills entries with what stands next. Where that is no frame, it is told if none was filled. There is a copy for
+// each caller, so that each goes into its own.
 #[inline(always)]
 fn fill<const COPY: usize>(
     iter: &mut Iter<'_>,
@@ -64,10 +64,10 @@ fn fill<const COPY: usize>(
 }
 
 /// The next frames (RFC 9000, section 19), as many as there is room for in `out`; a run of PADDING, a frame with each
-/// byte, is one entry. It answers 1 with how many entries were filled, one at least; 0 where no frame is left; -3, once,
-/// with the type and the reason in the first entry, where what stands next is no frame; -4 just where `out` has no entry
-/// and the place lies in the payload; -1 just where the place lies outside it. `count` changes with 1 alone, and nothing
-/// changes with 0, -4 and -1.
+/// byte, is one entry. It answers 1 with how many entries were filled, one at least; 0 where no frame is left; -3,
+/// once, with the type and the reason in the first entry, where what stands next is no frame; -4 just where `out` has
+/// no entry and the place lies in the payload; -1 just where the place lies outside it. `count` changes with 1 alone,
+/// and nothing changes with 0, -4 and -1.
 #[unsafe(no_mangle)]
 pub extern "C" fn quic_wire_frames_fill_(
     frames: &mut FramesWords,
@@ -117,11 +117,11 @@ pub extern "C" fn quic_wire_frames_fill_(
     }
 }
 
-/// Begins at the front of a payload and reads its first frames (RFC 9000, section 19), as `quic_wire_frames_init_` and then
-/// `quic_wire_frames_fill_` do. It answers 1 with how many entries were filled, one at least; -2 just where the payload is
-/// empty, which is refused with PROTOCOL_VIOLATION (section 12.4); -3, with the type and the reason in the first entry,
-/// where what stands at the front is no frame; -4 just where there is a payload and `out` has no entry. `count` changes
-/// with 1 alone, and nothing changes with -2 and -4.
+/// Begins at the front of a payload and reads its first frames (RFC 9000, section 19), as `quic_wire_frames_init_`
+/// and then `quic_wire_frames_fill_` do. It answers 1 with how many entries were filled, one at least; -2 just where
+/// the payload is empty, which is refused with PROTOCOL_VIOLATION (section 12.4); -3, with the type and the reason in
+/// the first entry, where what stands at the front is no frame; -4 just where there is a payload and `out` has no
+/// entry. `count` changes with 1 alone, and nothing changes with -2 and -4.
 #[unsafe(no_mangle)]
 pub extern "C" fn quic_wire_frames_first_(
     frames: &mut FramesWords,

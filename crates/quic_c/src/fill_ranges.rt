@@ -44,10 +44,10 @@ fn words_at(end: usize, left: &[u8], largest: u64) -> RangesWords
     }
 }
 
-/// The next ranges of an ACK, the greatest first (RFC 9000, section 19.3.1), as many as there is room for in `out`. It
-/// answers 1 with how many entries were filled, one at least; 0 where no byte is left; -4 just where `out` has no entry and
-/// the place lies in the payload; -1 where the words name no blocks, as `quic_wire_ack_ranges_next_` has it. Ranges that
-/// stand before what is none are given first. Nothing changes but with 1.
+/// The next ranges of an ACK, the greatest first (RFC 9000, section 19.3.1), as many as there is room for in `out`.
+/// It answers 1 with how many entries were filled, one at least; 0 where no byte is left; -4 just where `out` has no
+/// entry and the place lies in the payload; -1 where the words name no blocks, as `quic_wire_ack_ranges_next_` has
+/// it. Ranges that stand before what is none are given first. Nothing changes but with 1.
 #[unsafe(no_mangle)]
 pub extern "C" fn quic_wire_ack_ranges_fill_(
     ranges: &mut RangesWords,

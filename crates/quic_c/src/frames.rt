@@ -105,8 +105,8 @@ pub(crate) fn show_invalid(begin: usize, invalid: &InvalidFrame) -> FrameWords
     }
 }
 
-/// The next frame (RFC 9000, section 19). It answers 1 with the frame; 0 where none is left, and nothing
-/// changes; -3, once, with the type and the reason that are told of something that is no frame; -1 just where the place lies
+/// The next frame (RFC 9000, section 19). It answers 1 with the frame; 0 where none is left, and nothing changes; -3,
+/// once, with the type and the reason that are told of something that is no frame; -1 just where the place lies
 /// outside the payload, and nothing changes.
 #[unsafe(no_mangle)]
 pub extern "C" fn quic_wire_frames_next_(

@@ -44,8 +44,8 @@ fn frame_len(frame: &Frame<'_>, last: bool, len: usize) -> usize
     frame.encoded_len(last) as usize
 }
 
-// The frames of a payload, as `Iter::new` gives them, whose error owns a text: what could drop one reaches the allocator,
-// and WebAssembly has none.
+// The frames of a payload, as `Iter::new` gives them, whose error owns a text: what could drop one reaches the
+// allocator, and WebAssembly has none.
 fn begin(payload: &[u8]) -> Result<Iter<'_>, ()>
     ensures empty { IsErr result ↔ (payload.now ≡ []) }
     ensures first { IfOk result (λ it. it ≡ first_of false payload.now) }
@@ -126,8 +126,8 @@ fn lay(payload: &[u8], dest: &mut [u8])
     }
 }
 
-// Writes the shortest form of a payload, which has so many bytes, for which there is room, at the front. One that has as
-// many bytes is its own shortest form, and is copied at once.
+// Writes the shortest form of a payload, which has so many bytes, for which there is room, at the front. One that has
+// as many bytes is its own shortest form, and is copied at once.
 fn write(payload: &[u8], len: usize, dest: &mut [u8])
     requires known { HasLength payload.now len }
     requires room { len ≤ length dest.old }

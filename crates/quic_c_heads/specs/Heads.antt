@@ -25,8 +25,8 @@ head_word (header.Retry dst src version) = 3
 head_word (header.Short spin key_phase dst number) = 4
 head_word (header.VersionNegotiate random src dst) = 5
 
--- of a short head 0x20 for the spin bit and 0x04 for the key phase; of a version negotiation the first byte without its highest
--- bit; of the others and of a short head 0x40 where the fixed bit is clear (RFC 9287)
+-- of a short head 0x20 for the spin bit and 0x04 for the key phase; of a version negotiation the first byte without
+-- its highest bit; of the others and of a short head 0x40 where the fixed bit is clear (RFC 9287)
 abbrev pub flags_word : Bool → Header → ℕ
 flags_word clear (header.Initial h) = bit clear 64
 flags_word clear (header.Long ty dst src number version) = bit clear 64
@@ -91,8 +91,8 @@ pub record Says (words : SaidWords) (dst src token : List ℕ) (clear : Bool) (h
   pub src_is : src ≡ src_in head
   pub token_is : token ≡ token_in head
 
--- They say a head that can be written: ids have at most 20 bytes, and the first byte of a version negotiation seven bits beside
--- its highest.
+-- They say a head that can be written: ids have at most 20 bytes, and the first byte of a version negotiation seven
+-- bits beside its highest.
 pub record CanWrite (words : SaidWords) (dst src token : List ℕ) (clear : Bool) (head : Header) : Type 0 where
   pub says : Says words dst src token clear head
   pub dst_few : length dst ≤ 20
@@ -100,6 +100,7 @@ pub record CanWrite (words : SaidWords) (dst src token : List ℕ) (clear : Bool
   pub low : words.flags < 128
   pub writable : IsWritable head
 
--- the bytes that are written: the head's, with so many zeros as its length, and with its fixed bit cleared where that is said
+-- the bytes that are written: the head's, with so many zeros as its length, and with its fixed bit cleared where that
+-- is said
 abbrev pub said_bytes : ℕ → Bool → Header → List ℕ
 said_bytes len clear head = let bytes = head_with (replicate len 0) head in begun_by (slice_index bytes 0 - bit clear 64) bytes

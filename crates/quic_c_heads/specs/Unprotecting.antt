@@ -31,7 +31,8 @@ pub record StandsAt (number : PacketNumber) (at : ℕ) (bytes : List ℕ) : Type
   pub behind : List ℕ
   pub stands : Takes (NumberAt number) (drop at bytes) behind
 
--- The mask was taken off, and the number that stands there was given, by the one that is expected, with how many bytes it has.
+-- The mask was taken off, and the number that stands there was given, by the one that is expected, with how many
+-- bytes it has.
 pub record GivesNumber (place : ℕ) (mask : List ℕ) (expected : ℕ) (old new : List ℕ) (number count : ℕ) : Type 0 where
   pub unmask : new ≡ unmasked place mask old
   pub written : PacketNumber

@@ -4,7 +4,8 @@ use Rattle.quic_headers.specs.declared.header.Header.{Header}
 use Rattle.quic_c_heads.specs.declared.words.SaidWords.{SaidWords}
 use Rattle.quic_c_heads.specs.Heads.{said_bytes, CanWrite}
 
--- The bytes of the head that the words, the ids and the token say stand at the front, with what stood behind them, and are counted.
+-- The bytes of the head that the words, the ids and the token say stand at the front, with what stood behind them,
+-- and are counted.
 pub record Wrote (words : SaidWords) (dst src token old new : List ℕ) (count : ℕ) : Type 0 where
   pub clear : Bool
   pub head : Header

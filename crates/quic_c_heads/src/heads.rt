@@ -101,12 +101,12 @@ fn show_long(packet: &[u8], first: u8, versions: &[u32], head: &mut HeadWords) -
     show(packet, read_long(packet, first, versions), head)
 }
 
-/// Reads the head of the packet that bytes begin with, be it whole or cut off behind its head. Ids of short heads have `id_len`
-/// bytes; `versions` are those that are read further than their ids. The fixed bit isn't looked at. It answers 0 with the head of
-/// a packet that is whole, and the place where it ends; 7 with the head of one that is cut off; 1 with the version and the ids, of
-/// up to 255 bytes (RFC 8999, section 5.1), of a version that isn't known; 2, 4, 5 or 6 where no head begins there, as the first
-/// field that can't be read says; -1 just where there are 2^32 bytes or more, or `id_len` is above 20. `head` changes with 0, 7
-/// and 1 alone.
+/// Reads the head of the packet that bytes begin with, be it whole or cut off behind its head. Ids of short heads
+/// have `id_len` bytes; `versions` are those that are read further than their ids. The fixed bit isn't looked at. It
+/// answers 0 with the head of a packet that is whole, and the place where it ends; 7 with the head of one that is cut
+/// off; 1 with the version and the ids, of up to 255 bytes (RFC 8999, section 5.1), of a version that isn't known; 2,
+/// 4, 5 or 6 where no head begins there, as the first field that can't be read says; -1 just where there are 2^32
+/// bytes or more, or `id_len` is above 20. `head` changes with 0, 7 and 1 alone.
 #[unsafe(no_mangle)]
 pub extern "C" fn quic_wire_head_read_(
     packet: &[u8],

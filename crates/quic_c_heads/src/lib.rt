@@ -1,5 +1,5 @@
-//! Heads of packets for callers that write C: read, with their protection taken off and put on, and written. Every word may
-//! have every value: no export asks for anything.
+//! Heads of packets for callers that write C: read, with their protection taken off and put on, and written. Every
+//! word may have every value: no export asks for anything.
 #![tactic(auto)]
 
 mod heads;

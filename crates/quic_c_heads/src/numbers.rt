@@ -9,8 +9,8 @@ use quic_base::coding::lay_array;
 use quic_base::varint::split_var;
 use quic_crypto::packet_number::PacketNumber;
 
-/// Reads the number that bytes begin with (RFC 9000, section 16), and answers how many bytes it takes; 0 just where they end
-/// within it, and then `value` stays.
+/// Reads the number that bytes begin with (RFC 9000, section 16), and answers how many bytes it takes; 0 just where
+/// they end within it, and then `value` stays.
 #[unsafe(no_mangle)]
 pub extern "C" fn quic_wire_varint_read_(bytes: &[u8], value: &mut u64) -> usize
     ensures read { 0 < result → Takes (Spells value.new) bytes.now (drop result bytes.now) }
@@ -63,9 +63,9 @@ fn lay_spelling(value: u64, width: usize, dest: &mut [u8]) -> usize
     }
 }
 
-/// Writes a number at the front of `dest` in `width` bytes, 1, 2, 4 or 8, or in as few as it takes if that is 0 (RFC 9000,
-/// section 16), and answers how many; what stands behind them stays. It answers 0 just where there is no such width, the number
-/// doesn't fit in it, as from 2^62 on, or `dest` has fewer bytes; then nothing changes.
+/// Writes a number at the front of `dest` in `width` bytes, 1, 2, 4 or 8, or in as few as it takes if that is 0 (RFC
+/// 9000, section 16), and answers how many; what stands behind them stays. It answers 0 just where there is no such
+/// width, the number doesn't fit in it, as from 2^62 on, or `dest` has fewer bytes; then nothing changes.
 #[unsafe(no_mangle)]
 pub extern "C" fn quic_wire_varint_write_(value: u64, width: u32, dest: &mut [u8]) -> usize
     ensures wrote { (result ≡ 0) ⊎ (Spells value (spelling result value) × (dest.new ≡ spelling result value ++ drop result dest.old)) }
@@ -97,8 +97,9 @@ pub extern "C" fn quic_wire_number_len_(number: u64, largest_acked: u64) -> i32
     PacketNumber::new(number, largest_acked).len() as i32
 }
 
-/// The whole number of which the low `count` bytes are written, 1 to 4, by the one that is expected next (RFC 9000, appendix
-/// A.3); `u64::MAX` just where there are more or no such bytes, `low` takes more, or `expected` is 2^62 or more.
+/// The whole number of which the low `count` bytes are written, 1 to 4, by the one that is expected next (RFC 9000,
+/// appendix A.3); `u64::MAX` just where there are more or no such bytes, `low` takes more, or `expected` is 2^62 or
+/// more.
 #[unsafe(no_mangle)]
 pub extern "C" fn quic_wire_number_expand_(low: u64, count: u32, expected: u64) -> u64
     ensures expanded { CanExpand low count expected → Expands low (2 ^ (8 * count)) expected result × (result < 2 ^ 63) }

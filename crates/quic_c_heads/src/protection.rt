@@ -72,11 +72,12 @@ fn has_number(packet: &[u8], place: usize) -> bool
     packet.len() >= 4 && place != 0 && place <= packet.len() - 4
 }
 
-/// Takes the protection off the head of a packet whose number begins at `place`, by the mask that the caller made of the sample
-/// (RFC 9001, section 5.4.1), and gives the number by the one that is `expected` next (RFC 9000, appendix A.3). It answers how
-/// many bytes the number has: the payload begins behind them. It answers -1 just where `expected` is 2^62 or more; -3 just where
-/// it isn't and the place is 0 or has fewer than four bytes behind it. Nothing changes then, and otherwise the low bits of the
-/// first byte, five in a short head and four in a long one, and the number's bytes.
+/// Takes the protection off the head of a packet whose number begins at `place`, by the mask that the caller made of
+/// the sample (RFC 9001, section 5.4.1), and gives the number by the one that is `expected` next (RFC 9000, appendix
+/// A.3). It answers how many bytes the number has: the payload begins behind them. It answers -1 just where
+/// `expected` is 2^62 or more; -3 just where it isn't and the place is 0 or has fewer than four bytes behind it.
+/// Nothing changes then, and otherwise the low bits of the first byte, five in a short head and four in a long one,
+/// and the number's bytes.
 #[unsafe(no_mangle)]
 pub extern "C" fn quic_wire_unprotect_(
     packet: &mut [u8],
@@ -101,10 +102,10 @@ pub extern "C" fn quic_wire_unprotect_(
     written.len() as i32
 }
 
-/// Puts the protection on the head of a packet whose payload is sealed and whose number begins at `place`, by the mask that the
-/// caller made of the sample (RFC 9001, section 5.4.1), and answers how many bytes the number has. It answers -3 just where the
-/// place is 0 or has fewer than four bytes behind it, and then nothing changes. Taking protection off by the same mask gives the
-/// bytes that were there.
+/// Puts the protection on the head of a packet whose payload is sealed and whose number begins at `place`, by the
+/// mask that the caller made of the sample (RFC 9001, section 5.4.1), and answers how many bytes the number has. It
+/// answers -3 just where the place is 0 or has fewer than four bytes behind it, and then nothing changes. Taking
+/// protection off by the same mask gives the bytes that were there.
 #[unsafe(no_mangle)]
 pub extern "C" fn quic_wire_protect_(packet: &mut [u8], place: usize, mask: &[u8; 5]) -> i32
     ensures answers { (result ≡ negsuc 2) ⊎ (result ≡ pos (number_len (slice_index packet.old 0))) }
@@ -122,9 +123,9 @@ pub extern "C" fn quic_wire_protect_(packet: &mut [u8], place: usize, mask: &[u8
     count as i32
 }
 
-/// Sets the length in the head of a packet whose number begins at `place`, to how many bytes it has from there on: `length_len`
-/// bytes before the place, 2 or 4 (RFC 9000, section 17.2). It answers 0; -1 just where it is another count of them, there is no
-/// such place, or there are 2^14 or 2^30 bytes or more, and then nothing changes.
+/// Sets the length in the head of a packet whose number begins at `place`, to how many bytes it has from there on:
+/// `length_len` bytes before the place, 2 or 4 (RFC 9000, section 17.2). It answers 0; -1 just where it is another
+/// count of them, there is no such place, or there are 2^14 or 2^30 bytes or more, and then nothing changes.
 #[unsafe(no_mangle)]
 pub extern "C" fn quic_wire_set_len_(packet: &mut [u8], place: usize, length_len: u32) -> i32
     ensures answers { (result ≡ pos 0) ⊎ (result ≡ negsuc 0) }

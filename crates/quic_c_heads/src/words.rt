@@ -1,12 +1,13 @@
-//! The structs that C sees. Each of their words may hold any value, so nothing can be broken by them. They have no word of
-//! the machine's size, so they lie the same on all machines.
+//! The structs that C sees. Each of their words may hold any value, so nothing can be broken by them. They have no
+//! word of the machine's size, so they lie the same on all machines.
 
-/// The head of a packet. Every place is one in the packet. The receiver's id begins at 6 in a long head and at 1 in a short
-/// one; the sender's behind it and its own length. What the kind lacks is 0.
+/// The head of a packet. Every place is one in the packet. The receiver's id begins at 6 in a long head and at 1 in a
+/// short one; the sender's behind it and its own length. What the kind lacks is 0.
 #[repr(C)]
 #[derive(Clone, Copy)]
 pub struct HeadWords {
-    /// 0 Initial, 1 0-RTT, 2 Handshake, 3 Retry, 4 1-RTT, 5 version negotiation, 6 of a version that is none of those given.
+    /// 0 Initial, 1 0-RTT, 2 Handshake, 3 Retry, 4 1-RTT, 5 version negotiation, 6 of a version that is none of those
+    /// given.
     pub kind: u8,
     /// The first byte as it stands.
     pub first: u8,

@@ -114,10 +114,11 @@ fn laid_length_len(said: &SaidWords) -> usize
     if said.length_len == 4 { 4 } else { 2 }
 }
 
-/// Writes a short head of a first byte, whose lowest two bits say how many bytes of the number are written, at the front of
-/// `dest`, as `quic_wire_head_write_` does, and answers how many bytes it has. It answers -4 where `dest` has fewer; -1 just where
-/// no such head can be written: the first byte is above 0x7f or has a reserved bit, the id has more than 20 bytes, or the number
-/// is 2^62 or more. What stood behind the head stays, and all of it where nothing was written.
+/// Writes a short head of a first byte, whose lowest two bits say how many bytes of the number are written, at the
+/// front of `dest`, as `quic_wire_head_write_` does, and answers how many bytes it has. It answers -4 where `dest`
+/// has fewer; -1 just where no such head can be written: the first byte is above 0x7f or has a reserved bit, the id
+/// has more than 20 bytes, or the number is 2^62 or more. What stood behind the head stays, and all of it where
+/// nothing was written.
 #[unsafe(no_mangle)]
 pub extern "C" fn quic_wire_short_write_(
     first: u32,
@@ -142,12 +143,13 @@ pub extern "C" fn quic_wire_short_write_(
     lay_low(dest, at, number, count) as i32
 }
 
-/// Writes the head that the words say with the ids of the receiver and of the sender and the token, with no protection on it, at
-/// the front of `dest` (RFC 9000, section 17), and answers how many bytes it has, at whose end the number stands. The length of an
-/// Initial, 0-RTT or Handshake packet is 0, until `quic_wire_set_len_`. What stood behind the head stays. It answers -4 where
-/// `dest` has fewer bytes; -1 just where they say no head that can be written: a kind above 5, an id of more than 20 bytes, a
-/// number of 2^62 or more or one that is written in no or more than four bytes, a length of other than 2 or 4 bytes, a token of
-/// 2^62 bytes, or something that the kind lacks. Nothing changes then.
+/// Writes the head that the words say with the ids of the receiver and of the sender and the token, with no
+/// protection on it, at the front of `dest` (RFC 9000, section 17), and answers how many bytes it has, at whose end
+/// the number stands. The length of an Initial, 0-RTT or Handshake packet is 0, until `quic_wire_set_len_`. What
+/// stood behind the head stays. It answers -4 where `dest` has fewer bytes; -1 just where they say no head that can
+/// be written: a kind above 5, an id of more than 20 bytes, a number of 2^62 or more or one that is written in no or
+/// more than four bytes, a length of other than 2 or 4 bytes, a token of 2^62 bytes, or something that the kind
+/// lacks. Nothing changes then.
 #[unsafe(no_mangle)]
 pub extern "C" fn quic_wire_head_write_(
     said: &SaidWords,

@@ -10,7 +10,8 @@ use Rattle.quic_c_params.specs.declared.write.Flags.{Flags}
 use Rattle.quic_c_params.specs.Answers.{IsSide}
 use Rattle.quic_c_params.specs.Shown.{params_words, v4_in, v6_in}
 
--- The words are those of the record, whose fields hold what their types do; it has neither grease nor an order of writing.
+-- The words are those of the record, whose fields hold what their types do; it has neither grease nor an order of
+-- writing.
 pub record Says (words : ParamsWords) (p : TransportParameters) : Type 0 where
   pub words_are : words ≡ params_words p
   pub typed : IsTyped p

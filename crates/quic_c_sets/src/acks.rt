@@ -129,11 +129,11 @@ fn lay_ack(
     Ok(numbers_at(dest, at, counts))
 }
 
-/// Writes an ACK of the set that the first `count` entries are, in its shortest form, at the front of `dest`. `counts` has
-/// the numbers of packets marked ECT(0), ECT(1) and ECN-CE, or nothing. It answers 0 with how many bytes were written, and
-/// what stood behind them stays; -4 with how many are needed where `dest` has fewer; -1 just where the entries are no runs,
-/// as for `quic_wire_set_insert_`, or none, or a number in them, the delay or a count is 2^62 or more, or `counts` has
-/// another length. `dest` changes with 0 alone, and `written` not with -1.
+/// Writes an ACK of the set that the first `count` entries are, in its shortest form, at the front of `dest`.
+/// `counts` has the numbers of packets marked ECT(0), ECT(1) and ECN-CE, or nothing. It answers 0 with how many bytes
+/// were written, and what stood behind them stays; -4 with how many are needed where `dest` has fewer; -1 just where
+/// the entries are no runs, as for `quic_wire_set_insert_`, or none, or a number in them, the delay or a count is
+/// 2^62 or more, or `counts` has another length. `dest` changes with 0 alone, and `written` not with -1.
 #[unsafe(no_mangle)]
 pub extern "C" fn quic_wire_ack_write_(
     delay: u64,

@@ -129,8 +129,8 @@ pub(crate) fn removal(runs: &[RunWords], x: RunWords) -> Option<Splice>
     })
 }
 
-// Makes a change of the set that the first words are, and counts its runs anew, if there is room for them. The runs behind
-// the change move at once.
+// Makes a change of the set that the first words are, and counts its runs anew, if there is room for them. The runs
+// behind the change move at once.
 #[inline(always)]
 pub(crate) fn make(runs: &mut [RunWords], count: &mut usize, change: Splice) -> bool
     requires within { count.old ≤ length runs.old }

@@ -1,5 +1,5 @@
-//! Sets of packet numbers in an array of runs that the caller owns, and ACKs of such sets, for callers that write C. Every
-//! word may have every value: no export asks for anything.
+//! Sets of packet numbers in an array of runs that the caller owns, and ACKs of such sets, for callers that write C.
+//! Every word may have every value: no export asks for anything.
 #![tactic(auto)]
 
 mod acks;

@@ -1,5 +1,5 @@
-//! Whether words are the runs of a set, and where a number falls among runs. Each place is found by halving, after a look
-//! at the last run, where most changes are.
+//! Whether words are the runs of a set, and where a number falls among runs. Each place is found by halving, after a
+//! look at the last run, where most changes are.
 ghost use Rattle.std.specs.Prelude.{◌≡◌, ◌≤◌, ◌↔◌, length, IsTrue};
 ghost use Rattle.quic_ranges.specs.Runs.{IsMaximalRuns, member};
 ghost use Rattle.quic_ranges.specs.Places.{ends_below, starts_upto};

@@ -7,13 +7,15 @@ use Rattle.quic_frame_parts.specs.Reading.{reason_text}
 use Rattle.quic_frame_parts.specs.declared.frame.fault.Fault.{Fault}
 use Rattle.quic_frame_parts.specs.declared.frame.fault.Fault.TheVariants.{UnexpectedEnd}
 
--- The payload has no frame, or it is frames and then something that isn't one, and the error tells its type and its reason.
+-- The payload has no frame, or it is frames and then something that isn't one, and the error tells its type and its
+-- reason.
 abbrev pub IsTold : List ℕ → Error → Type 0
 IsTold payload error =
     ((payload ≡ []) × IsError error protocol_violation (codes "packet payload is empty"))
     ⊎ ((found : List Found) × (type : Option ℕ) × (reason : Fault) × IsBroken false None found payload type reason × IsErrorOf type (reason_text reason) error)
 
--- No error stands in the bytes that what follows couldn't mend: they are none, or frames, or frames and then something that is cut off.
+-- No error stands in the bytes that what follows couldn't mend: they are none, or frames, or frames and then
+-- something that is cut off.
 abbrev pub MayGoOn : List ℕ → Type 0
 MayGoOn front =
     (front ≡ []) ⊎ ((found : List Found) × AreFrames false found front) ⊎ ((found : List Found) × (type : Option ℕ) × IsBroken false None found front type UnexpectedEnd)

@@ -9,7 +9,8 @@ pub record IsCut (payload : List ℕ) (n : ℕ) (found others : List Found) : Ty
   pub parts : shortest_frames (map frame_in found) ≡ take n payload ++ shortest_frames (map frame_in others)
   pub within : n ≤ length payload
 
--- The bytes are a payload, whose first frame that isn't in its shortest spelling, if there is one, begins after n bytes.
+-- The bytes are a payload, whose first frame that isn't in its shortest spelling, if there is one, begins after n
+-- bytes.
 pub record IsFront (payload : List ℕ) (n : ℕ) : Type 0 where
   pub some : payload ≢ []
   pub found : List Found

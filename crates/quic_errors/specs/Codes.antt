@@ -129,7 +129,8 @@ pub record IsSame (one other : Error) : Type 0 where
 abbrev pub long_type_reason : List ℕ
 long_type_reason = codes "frame type not in shortest form"
 
--- The error is what is told of something that is no frame: by another code where only the spelling of its type is wrong.
+-- The error is what is told of something that is no frame: by another code where only the spelling of its type is
+-- wrong.
 pub record IsErrorOf (ty : Option ℕ) (reason : List ℕ) (error : Error) : Type 0 where
   pub long_is : reason ≡ long_type_reason → error.code ≡ protocol_violation
   pub other_is : reason ≢ long_type_reason → error.code ≡ frame_encoding_error

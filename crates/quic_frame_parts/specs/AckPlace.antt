@@ -7,8 +7,8 @@ use Rattle.quic_frame_parts.specs.declared.frame.fault.Fault.{Fault}
 use Rattle.quic_frame_parts.specs.declared.frame.fault.Fault.TheVariants.{InvalidFrameId}
 use Rattle.quic_frame_parts.specs.Reading.{◌>>=◌, varint_at, blocks_at}
 
--- The blocks of an ACK stand in the bytes of its frame: behind the type, the greatest number, the delay, and how many ranges are
--- below the first.
+-- The blocks of an ACK stand in the bytes of its frame: behind the type, the greatest number, the delay, and how many
+-- ranges are below the first.
 pub record BlocksStand (type : ℕ) (ack : Ack) (bytes : List ℕ) : Type 0 where
   pub head : List ℕ
   pub back : List ℕ
@@ -31,8 +31,8 @@ ack_at bytes = do
   type ← varint_at bytes
   if (type.0 == 2) || (type.0 == 3) then behind_ack_type type.1 else Err InvalidFrameId
 
--- These are the greatest number, the delay and the blocks that the bytes behind a type begin with; no more is left of the bytes than
--- follows the blocks.
+-- These are the greatest number, the delay and the blocks that the bytes behind a type begin with; no more is left of
+-- the bytes than follows the blocks.
 pub record ReadsBlocks (a : AckParts) (bytes left : List ℕ) : Type 0 where
   pub behind_largest : List ℕ
   pub behind_delay : List ℕ

@@ -1,4 +1,5 @@
--- What stands between the bytes of a frame: kinds of fields, and the bytes that spell each (RFC 9000, sections 16 and 19).
+-- What stands between the bytes of a frame: kinds of fields, and the bytes that spell each (RFC 9000, sections 16 and
+-- 19).
 use Rattle.std.specs.Prelude.{◌≡◌, ⊤, ℕ, zero, suc, ◌+◌, ◌-◌, ◌≤◌, ◌<◌, List, [], ◌∷◌, ◌++◌, length, nat_lt, nat_le, ◌==◌, ◌||◌, Bool, true, false, if◌then◌else◌, ◌⊎◌}
 use Rattle.quic_base.specs.Codec.{NoFront}
 use Rattle.quic_base.specs.Number.{IsNumber}
@@ -89,7 +90,8 @@ LacksNumber bytes = (n : ℕ) → NoFront (Spells n) bytes
 abbrev pub Begins : List ℕ → (ℕ → List ℕ → Type 0) → Type 0
 Begins bytes P = (n : ℕ) × (front back : List ℕ) × (bytes ≡ front ++ back) × Spells n front × P n back
 
--- A number can't be read: it is cut off, or one by which a bound would be negative, or what comes after it can't be read.
+-- A number can't be read: it is cut off, or one by which a bound would be negative, or what comes after it can't be
+-- read.
 abbrev pub NumberStops : List ℕ → Fault → (ℕ → Bool) → (ℕ → List ℕ → Type 0) → Type 0
 NumberStops bytes reason is_large After =
     (LacksNumber bytes × (reason ≡ UnexpectedEnd))

@@ -73,7 +73,8 @@ abbrev pub first_number : List Value → ℕ
 first_number (Number n ∷ values) = n
 first_number values = 0
 
--- the type by which a frame is named: that of a STREAM tells whether it ends the stream, and whether its offset is not 0
+-- the type by which a frame is named: that of a STREAM tells whether it ends the stream, and whether its offset is
+-- not 0
 abbrev pub named_type : Name → List Value → ℕ
 named_type names.Padding values = 0x00
 named_type names.Ping values = 0x01

@@ -2,8 +2,8 @@
 use Rattle.std.specs.Prelude.{◌≡◌, ℕ, ◌+◌, ◌<◌, List, ◌++◌, length, take, drop, Result, IfOk, OnErr, IfErr}
 use Rattle.quic_frame_parts.specs.Numbers.{AreSpelled, all_short}
 
--- The bytes stand at the front, with what stood behind them, and are counted; or there is less room than that, how much they
--- need is told, and nothing changes.
+-- The bytes stand at the front, with what stood behind them, and are counted; or there is less room than that, how
+-- much they need is told, and nothing changes.
 pub record Puts (result : Result ℕ ℕ) (bytes old new : List ℕ) : Type 0 where
   pub count : IfOk result (λ n. n ≡ length bytes)
   pub front : IfOk result (λ n. new ≡ bytes ++ drop n old)

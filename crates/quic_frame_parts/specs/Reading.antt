@@ -81,8 +81,8 @@ range_at low bytes = do
   block ← block_at gap.0 gap.1
   Ok ((block.0, gap.0), block.1)
 
--- what follows a first range with this least number: the greatest number of the next one, and the blocks of that one and those
--- below it; 0 where nothing follows
+-- what follows a first range with this least number: the greatest number of the next one, and the blocks of that one
+-- and those below it; 0 where nothing follows
 abbrev pub next_range_at : ℕ → List ℕ → Result (ℕ × ℕ × List ℕ) Fault
 next_range_at least [] = Ok (least, 0, [])
 next_range_at least (b ∷ bytes) = gap_at least (b ∷ bytes) >>= λ gap. Ok (least, gap.0, gap.1)

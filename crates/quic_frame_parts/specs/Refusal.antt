@@ -3,7 +3,8 @@ use Rattle.std.specs.Prelude.{ℕ, List}
 use Rattle.quic_frame_parts.specs.declared.frame.fault.Fault.{Fault}
 use Rattle.quic_frame_parts.specs.Field.{AreBlocks, RangesStop}
 
--- The bytes are not the blocks of an ACK with this greatest number, and reading so many pairs of them stops for this reason.
+-- The bytes are not the blocks of an ACK with this greatest number, and reading so many pairs of them stops for this
+-- reason.
 pub record AreNoBlocks (greatest : ℕ) (bytes : List ℕ) (reason : Fault) : Type 0 where
   pub none : (ranges : List (ℕ × ℕ)) → AreBlocks greatest ranges bytes → ⊥
   pub pairs : ℕ

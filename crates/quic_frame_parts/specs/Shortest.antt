@@ -40,7 +40,8 @@ abbrev pub shortest_fields : List Field → List Value → List ℕ
 shortest_fields [] values = []
 shortest_fields (field ∷ fields) values = shortest_of field values ++ shortest_fields fields (values_after field values)
 
--- the type by which a frame is written: an ACK's tells whether counts are given, that of a STREAM or a DATAGRAM whether it is the last
+-- the type by which a frame is written: an ACK's tells whether counts are given, that of a STREAM or a DATAGRAM
+-- whether it is the last
 abbrev pub written_type : Bool → Name → List Value → ℕ
 written_type last Ack (greatest ∷ delay ∷ ranges ∷ []) = 0x02
 written_type last Ack values = 0x03
@@ -59,14 +60,16 @@ shortest_frame last frame = let t = written_type last frame.name frame.values in
 abbrev pub written_offset : ℕ → List ℕ
 written_offset offset = if offset == 0 then [] else short offset
 
--- the bytes of a STREAM before its data: its type, its id, its offset where that isn't 0, and the length of the data where it is written
+-- the bytes of a STREAM before its data: its type, its id, its offset where that isn't 0, and the length of the data
+-- where it is written
 abbrev pub stream_head : ℕ → ℕ → Bool → Option ℕ → List ℕ
 stream_head id offset fin None = short (named_type Stream (flag fin ∷ Number id ∷ Number offset ∷ [])) ++ (short id ++ written_offset offset)
 stream_head id offset fin (Some n) = short (named_type Stream (flag fin ∷ Number id ∷ Number offset ∷ []) + 2) ++ (short id ++ (written_offset offset ++ short n))
 
 -- ---- closes that are cut to their room
 
--- the least room that a close asks for: its type, two bytes or the code's, the type of the frame, and the length of the whole reason
+-- the least room that a close asks for: its type, two bytes or the code's, the type of the frame, and the length of
+-- the whole reason
 abbrev pub least_room : Close → ℕ
 least_room (closes.Connection c) = 1 + max 2 (size c.error_code) + size (type_or_zero c.frame_type) + size (length c.reason.now)
 least_room (closes.Application c) = 1 + max 2 (size c.error_code) + size (length c.reason.now)

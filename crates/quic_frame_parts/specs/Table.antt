@@ -1,5 +1,5 @@
--- The types of frames, and the fields of each (RFC 9000, section 19; RFC 9221, section 4; the last row and 0x1f are of the
--- ACK frequency extension).
+-- The types of frames, and the fields of each (RFC 9000, section 19; RFC 9221, section 4; the last row and 0x1f are
+-- of the ACK frequency extension).
 use Rattle.std.specs.Prelude.{ℕ, List, [], ◌∷◌, Option, Some, None, Bool, true, false, ◌==◌, ◌||◌, if◌then◌else◌}
 use Rattle.std.specs.Map.{lookup}
 use Rattle.quic_base.specs.declared.ids.Dir.{Dir}

@@ -19,7 +19,8 @@ use Rattle.quic_frame_parts.proofs.Steps.{true_is_not_false}
 use Rattle.quic_frame_parts.proofs.Varints.{varint_some}
 use Rattle.quic_frames.proofs.LeastFields.{both_least, at_most, number_least, AllFit, fields_spelled, fields_least}
 
--- The type has a row of the frame's name, and the frame's values fit its fields. A frame that takes all that is left is the last.
+-- The type has a row of the frame's name, and the frame's values fit its fields. A frame that takes all that is left
+-- is the last.
 pub record FitsRow (last : Bool) (t : ℕ) (frame : Meaning) : Type 0 where
   pub small : t < 2 ^ 62
   pub closed : is_open t ≡ true → last ≡ true

@@ -21,8 +21,8 @@ abbrev pub HasItsBlocks : Frame → List ℕ → List ℕ → Type 0
 HasItsBlocks (frames.Ack a) bytes left = ReadsBlocks (parts_of a) bytes left
 HasItsBlocks frame bytes left = ⊤
 
--- What the reader of a frame's fields returned of these bytes is what reading gives, no type is given as 0, and an ACK has its blocks
--- as they stand.
+-- What the reader of a frame's fields returned of these bytes is what reading gives, no type is given as 0, and an
+-- ACK has its blocks as they stand.
 abbrev pub GivesFrame : {R : Type 0} → (R → List ℕ) → List ℕ → Result (Frame × R) Fault → Result (Meaning × List ℕ) Fault → Type 0
 GivesFrame left bytes result read =
     Gives (λ x. (meaning_of x.0, left x.1)) result read × IfOk result (λ x. IsToldApart x.0) × IfOk result (λ x. HasItsBlocks x.0 bytes (left x.1))

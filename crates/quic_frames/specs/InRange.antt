@@ -14,9 +14,9 @@ abbrev pub IsToldApart : Frame → Type 0
 IsToldApart (frames.Close (closes.Connection c)) = c.frame_type ≢ Some 0
 IsToldApart frame = ⊤
 
--- The frame has a spelling, by which it is read as it is: numbers of any width are below 2^62, an id has 1 to 20 bytes, and
--- what is retired comes before it; type 0 isn't told from no type (RFC 9000, sections 16, 19.15 and 19.19). Numbers whose
--- type holds the bound are not named.
+-- The frame has a spelling, by which it is read as it is: numbers of any width are below 2^62, an id has 1 to 20
+-- bytes, and what is retired comes before it; type 0 isn't told from no type (RFC 9000, sections 16, 19.15 and
+-- 19.19). Numbers whose type holds the bound are not named.
 abbrev pub InRange : Frame → Type 0
 InRange (frames.Ack a) = IsAckInRange a
 InRange (frames.Crypto c) = AreNumeric (c.offset ∷ length c.bytes.now ∷ [])
@@ -33,7 +33,8 @@ InRange (frames.Close (closes.Connection c)) = IsToldApart (frames.Close (closes
 InRange (frames.Close (closes.Application c)) = length c.reason.now < 2 ^ 62
 InRange frame = ⊤
 
--- What the types of a frame's parts hold by themselves: where numbers are below 2^62 or 2^64, and that a token has 16 bytes.
+-- What the types of a frame's parts hold by themselves: where numbers are below 2^62 or 2^64, and that a token has 16
+-- bytes.
 abbrev pub IsTyped : Frame → Type 0
 IsTyped (frames.ResetStream r) = AreNumeric (r.id ∷ r.error_code ∷ r.final_offset ∷ [])
 IsTyped (frames.StopSending s) = AreNumeric (s.id ∷ s.error_code ∷ [])

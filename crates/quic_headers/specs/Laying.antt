@@ -1,5 +1,5 @@
--- Heads as they are laid over bytes: what a head says, with a first byte whose fixed bit may be clear (RFC 9287), and with as
--- many zeros in place of its length as are asked for.
+-- Heads as they are laid over bytes: what a head says, with a first byte whose fixed bit may be clear (RFC 9287), and
+-- with as many zeros in place of its length as are asked for.
 use Rattle.std.specs.Prelude.{◌≡◌, ℕ, ◌+◌, ◌-◌, ◌*◌, ◌/◌, ◌%◌, ◌<◌, ◌≤◌, ◌^◌, ◌⊎◌, Bool, true, false, List, [], ◌∷◌, ◌++◌, length, take, drop, replicate, ◌==◌, if◌then◌else◌}
 use Rattle.quic_base.specs.Number.{bytes_of}
 use Rattle.quic_base.specs.Varint.{short, size}
@@ -39,8 +39,8 @@ number_bits head.VersionNegotiate number = 0
 abbrev pub has_bit : ℕ → ℕ → Bool
 has_bit bit byte = (byte / bit % 2) == 1
 
--- The head that is said. Of its first byte, first is what neither the type nor the number says: 0x20 is the spin bit and 0x04 the
--- key phase of a short head, and a version negotiation has seven bits of it as it likes.
+-- The head that is said. Of its first byte, first is what neither the type nor the number says: 0x20 is the spin bit
+-- and 0x04 the key phase of a short head, and a version negotiation has seven bits of it as it likes.
 abbrev pub head_of : HeadKind → ℕ → ℕ → List ℕ → List ℕ → List ℕ → PacketNumber → Header
 head_of head.Initial first version dst src token number =
     header.Initial (record { dst_cid = dst; src_cid = src; token = token; number = number; version = version })
@@ -94,7 +94,8 @@ laid_size head.VersionNegotiate dst src token number len = 7 + length dst + leng
 abbrev pub laid_len : {I : Type 0} → (I → List ℕ) → HeaderRef I → ℕ
 laid_len id said = laid_size said.kind (id said.dst_cid) (id said.src_cid) said.token.now said.number.now said.length_len
 
--- what a first byte has beside its type and number has room for these: all eight bits of a version negotiation are its own
+-- what a first byte has beside its type and number has room for these: all eight bits of a version negotiation are
+-- its own
 abbrev pub HasLow : HeadKind → ℕ → Type 0
 HasLow head.Initial first = first ≤ 192
 HasLow head.ZeroRtt first = first ≤ 192

@@ -40,7 +40,8 @@ phase_in (header.Retry dst src version) = false
 phase_in (header.Short spin key_phase dst number) = key_phase
 phase_in (header.VersionNegotiate random src dst) = false
 
--- the reserved bits of a first byte are zero: 0x18 in short heads, 0x0c in the others (RFC 9000, sections 17.2 and 17.3.1)
+-- the reserved bits of a first byte are zero: 0x18 in short heads, 0x0c in the others (RFC 9000, sections 17.2 and
+-- 17.3.1)
 abbrev pub reserved_zero : Header → ℕ → Bool
 reserved_zero (header.Initial h) first = nat_eq (first / 4 % 4) 0
 reserved_zero (header.Long ty dst src number version) first = nat_eq (first / 4 % 4) 0

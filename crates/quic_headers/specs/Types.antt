@@ -37,7 +37,8 @@ place_of ty (k ∷ ks) = if nat_eq (type_code k) (type_code ty) then 0 else 1 + 
 abbrev pub type_number : ℕ → LongHeaderType → ℕ
 type_number version ty = place_of ty (types_of version)
 
--- the first byte of a type under a version: bits 0x80 and 0x40 are set, and so are those of its number; the lowest four are clear
+-- the first byte of a type under a version: bits 0x80 and 0x40 are set, and so are those of its number; the lowest
+-- four are clear
 abbrev pub first_byte : ℕ → LongHeaderType → ℕ
 first_byte version ty = 192 + 16 * type_number version ty
 

@@ -45,7 +45,8 @@ head_with len (header.VersionNegotiate random src dst) = head_front (header.Vers
 abbrev pub header_bytes : Header → List ℕ
 header_bytes h = head_with no_length h
 
--- what is asked of a head that is written: a token whose length has a spelling, and a number that takes no more bytes than it says
+-- what is asked of a head that is written: a token whose length has a spelling, and a number that takes no more bytes
+-- than it says
 abbrev pub IsWritable : Header → Type 0
 IsWritable (header.Initial h) = (length h.token < 2 ^ 62) × IsInRange h.number
 IsWritable (header.Long ty dst src number version) = IsInRange number
@@ -106,13 +107,13 @@ sealed_packet header_len None bytes = bytes
 sealed_packet header_len (Some key) bytes =
     take header_len bytes ++ key.1 (take header_len bytes) (payload_in header_len key.0 bytes)
 
--- A packet before its head is protected: its length filled in where pn says so, pn being the length of its number and whether
--- it has a length; its payload sealed if there is a key for it.
+-- A packet before its head is protected: its length filled in where pn says so, pn being the length of its number and
+-- whether it has a length; its payload sealed if there is a key for it.
 abbrev pub finished : ℕ × Bool → ℕ → Option (ℕ × (List ℕ → List ℕ → List ℕ)) → List ℕ → List ℕ
 finished pn header_len key bytes = sealed_packet header_len key (with_length pn.0 pn.1 header_len bytes)
 
--- A packet of that size has room for its number behind the first byte, for the two bytes of its length where it has one, which
--- is below 2^14 then, for its head, and for the sample, which begins four bytes behind the number's place.
+-- A packet of that size has room for its number behind the first byte, for the two bytes of its length where it has
+-- one, which is below 2^14 then, for its head, and for the sample, which begins four bytes behind the number's place.
 pub record HasRoom (pn_len : ℕ) (write_len : Bool) (header_len sample_len size : ℕ) : Type 0 where
   pub head : pn_len < header_len
   pub length_place : IsTrue write_len → pn_len + 2 ≤ header_len

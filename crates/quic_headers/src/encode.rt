@@ -61,8 +61,8 @@ fn is_laid_by_stores(token: &[u8]) -> bool
     token.len() == 0 || token.len() >= 16 && token.len() <= 32
 }
 
-// Appends a head where there is spare room for the longest of its kind: zeros are appended, the head is laid over them, and
-// what is left of them goes. Answers whether there was room.
+// Appends a head where there is spare room for the longest of its kind: zeros are appended, the head is laid over
+// them, and what is left of them goes. Answers whether there was room.
 #[inline(always)]
 fn put<const ROOM: usize>(head: HeaderRef<'_, Padded<'_>>, out: &mut Vec<u8>) -> bool
     requires layable { IsLayable padded_id head }

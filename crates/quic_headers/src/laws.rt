@@ -5,8 +5,8 @@ ghost use Rattle.quic_headers.specs.Writing.{has_length, header_bytes, header_si
 
 use crate::header::Header;
 
-/// A head whose length is filled in once the payload stands behind it is the head that is written with its length at once. It
-/// counts the number's bytes and the payload's.
+/// A head whose length is filled in once the payload stands behind it is the head that is written with its length at
+/// once. It counts the number's bytes and the payload's.
 pub fn length_later()
     // By `PartialEncode::finish`.
     ensures finished { (h : Header) (body : List ℕ) → IsTrue (has_length h)

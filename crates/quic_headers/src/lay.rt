@@ -1,5 +1,5 @@
-//! The one writer of heads: what a head says is laid at the front of bytes, field behind field, by stores of whole arrays whose
-//! ends the next field covers.
+//! The one writer of heads: what a head says is laid at the front of bytes, field behind field, by stores of whole
+//! arrays whose ends the next field covers.
 ghost use Rattle.std.specs.Prelude.{◌≡◌, ◌+◌, ◌*◌, ◌^◌, ◌<◌, ◌≤◌, ◌⊎◌, ◌∷◌, ◌++◌, List, ℕ, length, take, drop, replicate, true, ◌↔◌, IsTrue};
 ghost use Rattle.quic_base.specs.ConnectionId.{long_id};
 ghost use Rattle.quic_base.specs.Number.{bytes_of};
@@ -24,8 +24,8 @@ pub trait LaidId: Copy {
         ensures value { result ≡ length (id self) }
         ensures near { result ≤ room self };
 
-    /// Lays it at a place, and answers where it ends. The caller must ensure that it has at most 20 bytes, and that there is
-    /// room for it, for 20 bytes where it is padded.
+    /// Lays it at a place, and answers where it ends. The caller must ensure that it has at most 20 bytes, and that
+    /// there is room for it, for 20 bytes where it is padded.
     fn lay(self, out: &mut [u8], at: usize) -> usize
         requires few { length (id self) ≤ 20 }
         requires room { at + room self ≤ length out.old }
@@ -82,9 +82,9 @@ impl LaidId for Exact<'_> {
 pub struct HeaderRef<'a, I> {
     /// The kind.
     pub kind: HeadKind,
-    /// What the first byte has beside the bits of the type and of the number's length. Of long heads 0xc0, or 0x80 where the
-    /// fixed bit is clear (RFC 9287). Of short ones 0x40 and 0 in the same way, 0x20 for the spin bit and 0x04 for the key
-    /// phase. Of a version negotiation all of it, with 0x80.
+    /// What the first byte has beside the bits of the type and of the number's length. Of long heads 0xc0, or 0x80
+    /// where the fixed bit is clear (RFC 9287). Of short ones 0x40 and 0 in the same way, 0x20 for the spin bit and
+    /// 0x04 for the key phase. Of a version negotiation all of it, with 0x80.
     pub first: u8,
     /// The version of QUIC. Short heads and version negotiations say none.
     pub version: u32,
@@ -136,7 +136,8 @@ fn lay_bytes(out: &mut [u8], at: usize, bytes: &[u8]) -> usize
     end
 }
 
-// Lays an id of at most 20 bytes at a place, and answers where it ends. Those of 8 bytes, the usual ones, are laid by one store.
+// Lays an id of at most 20 bytes at a place, and answers where it ends. Those of 8 bytes, the usual ones, are laid by
+// one store.
 #[inline(always)]
 fn lay_id(out: &mut [u8], at: usize, id: &[u8]) -> usize
     requires few { length id.now ≤ 20 }
@@ -180,8 +181,8 @@ fn lay_whole<const N: usize>(out: &mut [u8], at: usize, bytes: &[u8]) -> usize
     lay_array(out, at, *all)
 }
 
-/// Lays the low `len` bytes of a number at a place, and answers where they end. The caller must ensure that these are 1 to 4,
-/// and that there is room.
+/// Lays the low `len` bytes of a number at a place, and answers where they end. The caller must ensure that these are
+/// 1 to 4, and that there is room.
 #[inline(always)]
 #[tactic(auto, unfolding(quic_base::specs::Number::bytes_of))]
 pub fn lay_low(out: &mut [u8], at: usize, number: u64, len: usize) -> usize
@@ -205,8 +206,8 @@ pub fn lay_low(out: &mut [u8], at: usize, number: u64, len: usize) -> usize
     }
 }
 
-/// Lays the part of a number that is written, and answers where it ends. The caller must ensure that there is room, and that a
-/// `U24` is below 2^24.
+/// Lays the part of a number that is written, and answers where it ends. The caller must ensure that there is room,
+/// and that a `U24` is below 2^24.
 #[inline(always)]
 #[tactic(auto, using(crate::proofs::Lays::numbers), unfolding(quic_base::specs::Number::bytes_of))]
 pub fn lay_number(out: &mut [u8], at: usize, number: PacketNumber) -> usize
@@ -228,8 +229,8 @@ pub fn lay_number(out: &mut [u8], at: usize, number: PacketNumber) -> usize
     }
 }
 
-/// Lays a short head up to its number at the front, and answers where the number begins. The caller must ensure that the id has
-/// at most 20 bytes, and that there is room for it.
+/// Lays a short head up to its number at the front, and answers where the number begins. The caller must ensure that
+/// the id has at most 20 bytes, and that there is room for it.
 #[inline(always)]
 pub fn lay_short<I: LaidId>(out: &mut [u8], first: u8, dst_cid: I) -> usize
     requires few { length (I.id dst_cid) ≤ 20 }
@@ -278,8 +279,8 @@ fn lay_long_start<I: LaidId>(out: &mut [u8], first: u8, version: u32, dst: I, sr
     lay_long_id(out, at, src)
 }
 
-// Lays a token behind its length, and answers where it ends. Where SHORT is true, it is empty or has 16 to 32 bytes, and no other
-// is looked for.
+// Lays a token behind its length, and answers where it ends. Where SHORT is true, it is empty or has 16 to 32 bytes,
+// and no other is looked for.
 #[inline(always)]
 fn lay_token<const SHORT: bool>(out: &mut [u8], at: usize, token: &[u8]) -> usize
     requires short { SHORT ≡ true → IsShortToken token.now }
@@ -485,9 +486,9 @@ impl<I: LaidId> HeaderRef<'_, I> {
         lay_number(out, at, *self.number)
     }
 
-    /// Lays a head that isn't short at the front, and answers how many bytes it has. Its length, where it has one, is 0, which
-    /// `set_len` or `PartialEncode::finish` fill in. The caller must ensure that there is room for it, and where SHORT_TOKEN is
-    /// true that the token is empty or has 16 to 32 bytes.
+    /// Lays a head that isn't short at the front, and answers how many bytes it has. Its length, where it has one, is
+    /// 0, which `set_len` or `PartialEncode::finish` fill in. The caller must ensure that there is room for it, and
+    /// where SHORT_TOKEN is true that the token is empty or has 16 to 32 bytes.
     #[inline(always)]
     pub fn lay_long<const SHORT_TOKEN: bool>(&self, out: &mut [u8]) -> usize
         requires long { IsLong self.now.kind }
@@ -551,9 +552,9 @@ fn var_len(n: u64) -> usize
     }
 }
 
-/// Writes how many bytes a packet has from a place on, where its number begins, into the length before it, which has 2 or 4 bytes
-/// (RFC 9000, section 17.2). Answers false where it has another count of them, where there is no such place, or where what is to
-/// be counted doesn't fit: 2^14 or more, or 2^30 or more; then nothing changes.
+/// Writes how many bytes a packet has from a place on, where its number begins, into the length before it, which has
+/// 2 or 4 bytes (RFC 9000, section 17.2). Answers false where it has another count of them, where there is no such
+/// place, or where what is to be counted doesn't fit: 2^14 or more, or 2^30 or more; then nothing changes.
 pub fn set_len(packet: &mut [u8], place: usize, length_len: usize) -> bool
     ensures set { IsTrue result → packet.new ≡ with_len length_len place packet.old }
     ensures taken { IsTrue result ↔ TakesLen length_len place (length packet.old) }

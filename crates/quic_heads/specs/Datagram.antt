@@ -11,8 +11,8 @@ pub record Placed : Type 0 where
   pub stop : ℕ
   pub header : ProtectedHeader
 
--- The bytes that begin at start are these packets, one after another up to their end; or these, and then bytes from which no
--- packet can be cut, with their refusal.
+-- The bytes that begin at start are these packets, one after another up to their end; or these, and then bytes from
+-- which no packet can be cut, with their refusal.
 pub data ArePackets (context : Context) : ℕ → List ℕ → List Placed → Option Refusal → Type 0 where
   last : (start : ℕ) (bytes : List ℕ) (h : ProtectedHeader) (p : ℕ) → Cut context bytes h p (length bytes)
       → ArePackets context start bytes (record { start = start; stop = start + length bytes; header = h } ∷ []) None

@@ -138,8 +138,8 @@ IsUnknown context bytes version dst src =
 abbrev pub any_fixed : ℕ → List ℕ → Context
 any_fixed id_len versions = record { parsed = fixed_parsed id_len; versions = versions; grease = true }
 
--- A head and what is left behind it, or a refusal, is what the bytes begin with. A long head of an unknown version is told by its
--- ids also where they are longer than those of the versions that are known.
+-- A head and what is left behind it, or a refusal, is what the bytes begin with. A long head of an unknown version is
+-- told by its ids also where they are longer than those of the versions that are known.
 abbrev pub ReadAnswer : Context → List ℕ → Result (ProtectedHeader × List ℕ) Refusal → Type 0
 ReadAnswer context bytes (Ok found) = Head context (length bytes) bytes found.0 found.1
 ReadAnswer context bytes (Err (Unsupported src dst version)) = IsUnknown context bytes version dst src

@@ -23,7 +23,8 @@ pub struct HeadPlaces {
     pub version: u32,
     /// How many bytes the receiver's id has, which begins at 6 in a long head and at 1 in a short one.
     pub dst_len: usize,
-    /// How many bytes the sender's id has, which begins behind the receiver's and its own length. Short heads have none.
+    /// How many bytes the sender's id has, which begins behind the receiver's and its own length. Short heads have
+    /// none.
     pub src_len: usize,
     /// The token of an Initial packet.
     pub token: Place,
@@ -36,8 +37,8 @@ pub struct HeadPlaces {
 /// Why no head can be read. Nothing behind the place can be read then either: the datagram is given up.
 #[derive(Clone, Copy, Debug, PartialEq, Eq)]
 pub enum ReadError {
-    /// The version of a long head is none of those that the endpoint speaks (RFC 9000, section 6.1). Its ids may have up to
-    /// 255 bytes (RFC 8999, section 5.1).
+    /// The version of a long head is none of those that the endpoint speaks (RFC 9000, section 6.1). Its ids may have
+    /// up to 255 bytes (RFC 8999, section 5.1).
     UnsupportedVersion {
         /// The version.
         version: u32,
@@ -73,10 +74,10 @@ impl HeadPlaces {
     }
 }
 
-/// Reads the head at the front of bytes, in the order of its fields, also where the packet is cut off behind it. The fixed
-/// bit is not looked at. Ids of short heads have `id_len` bytes, of which the caller must ensure that they are at most 20;
-/// `versions` are those that are read further than their ids. The first field that can't be read is the refusal. Nothing is
-/// allocated.
+/// Reads the head at the front of bytes, in the order of its fields, also where the packet is cut off behind it. The
+/// fixed bit is not looked at. Ids of short heads have `id_len` bytes, of which the caller must ensure that they are
+/// at most 20; `versions` are those that are read further than their ids. The first field that can't be read is the
+/// refusal. Nothing is allocated.
 #[inline(always)]
 pub fn read_head(bytes: &[u8], id_len: usize, versions: &[u32]) -> Result<HeadPlaces, ReadError>
     requires { id_len ≤ MAX_CID_SIZE }

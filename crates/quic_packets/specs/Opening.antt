@@ -114,7 +114,8 @@ IsReadBack context (header.Retry dst src version) rest = ⊥
 IsReadBack context (header.Short spin key_phase dst number) rest = (rest ≡ []) × ((tail : List ℕ) → context.parsed (dst ++ tail) ≡ Ok (dst, length dst))
 IsReadBack context (header.VersionNegotiate random src dst) rest = ⊥
 
--- The first packet of the bytes is cut behind so many bytes, and the key of its space gives this head, number and payload of it.
+-- The first packet of the bytes is cut behind so many bytes, and the key of its space gives this head, number and
+-- payload of it.
 pub record Opens (keys : KeyPair) (context : Context) (expected : ℕ) (bytes : List ℕ) (count : ℕ) (h : Header) (n : ℕ) (payload : List ℕ) : Type 0 where
   pub found : ProtectedHeader
   pub at : ℕ
@@ -122,7 +123,8 @@ pub record Opens (keys : KeyPair) (context : Context) (expected : ℕ) (bytes : 
   pub space : space_of found ≡ Some (space_in h)
   pub gives : KeyGives keys expected found at (take count bytes) h (sealed_head keys.tag_size h payload) (Some n) payload
 
--- what is given of a packet that was sealed with a tag of that many bytes: its head with the head's bytes, its number, its payload, and what follows it
+-- what is given of a packet that was sealed with a tag of that many bytes: its head with the head's bytes, its
+-- number, its payload, and what follows it
 pub record IsBack (tag_size : ℕ) (h : Header) (n : ℕ) (payload rest : List ℕ) (got : Header) (head : List ℕ) (number : Option ℕ) (opened : List ℕ) (left : Option Filled) : Type 0 where
   pub header_back : got ≡ h
   pub head_back : head ≡ sealed_head tag_size h payload

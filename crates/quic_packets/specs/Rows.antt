@@ -24,7 +24,8 @@ abbrev pub GivesBack : (SpaceId → KeyPair) → Header → ℕ → List ℕ →
 GivesBack keys h n payload rest opened left =
     IsBack (keys (space_in h)).tag_size h n payload rest opened.header opened.header_data opened.number opened.payload.items left
 
--- What a call gives that opens the next packet of what is left of a datagram, and what is left then: nothing, after a refusal.
+-- What a call gives that opens the next packet of what is left of a datagram, and what is left then: nothing, after a
+-- refusal.
 abbrev pub OpensNext : Bool → (SpaceId → KeyPair) → Context → (SpaceId → ℕ) → Option Filled → Option (Result Opened OpenError) → Option Filled → Type 0
 OpensNext takes_memory keys context expected None next new = (next ≡ None) × (new ≡ None)
 OpensNext takes_memory keys context expected (Some left) None new = ⊥
@@ -59,7 +60,8 @@ pub record Ends (keys : SpaceId → KeyPair) (context : Context) (expected : Spa
 
 -- ---- sealed bytes
 
--- the bytes are packets in a row, each of a head, a number and a payload, sealed by these keys and read back where it stands
+-- the bytes are packets in a row, each of a head, a number and a payload, sealed by these keys and read back where it
+-- stands
 pub data Row (seal : SpaceId → KeyPair) (context : Context) (expected : SpaceId → ℕ) : List (Header × ℕ × List ℕ) → List ℕ → Type 0 where
   last : (h : Header) (n : ℕ) (payload packet : List ℕ) → Sealed (seal (space_in h)) h n payload packet → IsReadBack context h [] → ExpandsIn h (expected (space_in h)) n
       → Row seal context expected ((h, n, payload) ∷ []) packet

@@ -33,9 +33,10 @@ sealed_head tag_size h payload = head_with (bytes_of 2 (2 ^ 14 + protected_len t
 abbrev pub plain_packet : KeyPair → Header → ℕ → List ℕ → List ℕ
 plain_packet keys h n payload = sealed_head keys.tag_size h payload ++ keys.sealed n (sealed_head keys.tag_size h payload) payload
 
--- Bytes are a packet of this head, number and payload, sealed by these keys: the head can be written, and its number is the low
--- part of this one, which is below 2^62; from the number on there are four bytes and the sample, and fewer than 2^14 where the
--- head has a length; the bytes are the head with its length, and the sealed payload, the head being protected.
+-- Bytes are a packet of this head, number and payload, sealed by these keys: the head can be written, and its number
+-- is the low part of this one, which is below 2^62; from the number on there are four bytes and the sample, and fewer
+-- than 2^14 where the head has a length; the bytes are the head with its length, and the sealed payload, the head
+-- being protected.
 pub record Sealed (keys : KeyPair) (h : Header) (n : ℕ) (payload bytes : List ℕ) : Type 0 where
   pub writable : IsWritable h
   pub low : IsLowPart h n
@@ -46,8 +47,8 @@ pub record Sealed (keys : KeyPair) (h : Header) (n : ℕ) (payload bytes : List 
   pub payload_bytes : AreBytes payload
   pub text : bytes ≡ keys.protected (header_size h - size_in h) (plain_packet keys h n payload)
 
--- Why a packet is not sealed: the first of these, in this order. From the number on there are fewer than four bytes and the
--- sample; there are 2^14 or more, and the head has a length; the spare room is less than the packet.
+-- Why a packet is not sealed: the first of these, in this order. From the number on there are fewer than four bytes
+-- and the sample; there are 2^14 or more, and the head has a length; the spare room is less than the packet.
 abbrev pub SealRefused : SealError → ℕ → Header → ℕ → List ℕ → ℕ → Type 0
 SealRefused refusal.TooShort tag_size h sample_len payload spare = protected_len tag_size h payload < 4 + sample_len
 SealRefused refusal.TooLong tag_size h sample_len payload spare =

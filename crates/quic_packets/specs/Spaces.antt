@@ -1,4 +1,5 @@
--- Keys and expected numbers by the space of a packet's number (RFC 9000, section 12.3); 0-RTT packets share that of short ones.
+-- Keys and expected numbers by the space of a packet's number (RFC 9000, section 12.3); 0-RTT packets share that of
+-- short ones.
 use Rattle.std.specs.Prelude.{ℕ}
 use Rattle.quic_base.specs.declared.ids.SpaceId.{SpaceId}
 use Rattle.quic_base.specs.declared.ids.SpaceId.TheVariants as space

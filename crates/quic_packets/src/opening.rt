@@ -277,8 +277,8 @@ impl Packets {
 
 /// Opens a datagram's packets one after another, as `Packets::open_next` does, always with the expected numbers that
 /// are handed in, and appends them to `out`. After a refusal those before it stand there, but for one that was opened
-/// where `out` couldn't grow. Of packets in a row that were sealed by the keys handed in all are opened, in order; where
-/// memory ran out, the first ones were. The caller must give expected numbers below 2^62.
+/// where `out` couldn't grow. Of packets in a row that were sealed by the keys handed in all are opened, in order;
+/// where memory ran out, the first ones were. The caller must give expected numbers below 2^62.
 pub fn open_datagram<C: ConnectionIdParser, H: HeaderKey, P: PacketKey>(
     bytes: BytesMut,
     parser: &C,

@@ -312,7 +312,8 @@ pub removed-beyond : (n a b : ℕ) (rs : List (Range ℕ)) → RunsFrom n rs →
 removed-beyond n a b [] h lt le = refl
 removed-beyond n a b (r ∷ rs) h lt le = removed-kept a b r rs h.1 lt (inr (omega arith)) ∙ ap (λ l. r ∷ l) (removed-beyond (r.end + 1) a b rs h.2 lt (omega arith))
 
--- a removal, by places: the runs that end at a or before, what is left of the next, and those that start at b or later, where b is one more than m
+-- a removal, by places: the runs that end at a or before, what is left of the next, and those that start at b or
+-- later, where b is one more than m
 pub removed-places : (n a m : ℕ) (rs : List (Range ℕ)) → RunsFrom n rs → a ≤ m
     → removed rs a (suc m) ≡ take (ends_below rs (suc a)) rs ++ (rest rs a (suc m) ++ drop (starts_upto rs m) rs)
 removed-places n a m [] h le = refl

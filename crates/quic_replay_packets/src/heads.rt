@@ -112,7 +112,8 @@ fn finish(partial: PartialEncode, whole: u64, packet: &mut [u8]) -> Result<(), F
     Ok(())
 }
 
-// The head that the words say. Each kind is read by a function of its own, which takes apart what stands behind its name.
+// The head that the words say. Each kind is read by a function of its own, which takes apart what stands behind its
+// name.
 fn head_of(alloc: Global, words: &[&str]) -> Result<Header, Fail>
     ensures { IfOk result IsWritable }
 {

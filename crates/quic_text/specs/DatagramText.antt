@@ -13,7 +13,8 @@ use Rattle.quic_heads.specs.declared.protected.ProtectedHeader.{ProtectedHeader}
 use Rattle.quic_heads.specs.declared.protected.ProtectedHeader.TheVariants as head
 use Rattle.quic_text.specs.Printed.{Printed, Plain, Error}
 
--- how datagrams are read: ids of short heads have that many bytes, the versions are the usual ones, and the fixed bit is asked for
+-- how datagrams are read: ids of short heads have that many bytes, the versions are the usual ones, and the fixed bit
+-- is asked for
 abbrev pub with_ids_of : ℕ → Context
 with_ids_of len = record { parsed = fixed_parsed len; versions = DEFAULT_SUPPORTED_VERSIONS.now; grease = false }
 

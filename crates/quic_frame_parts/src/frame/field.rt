@@ -278,8 +278,8 @@ fn wide_range(greatest: u64, blocks: &[u8]) -> (u64, u64, &[u8])
     (least, next, others)
 }
 
-// The same of bytes of which nothing is known, or why no range stands first. A gap and a block of one byte each, as most
-// are, are read where the call stands.
+// The same of bytes of which nothing is known, or why no range stands first. A gap and a block of one byte each, as
+// most are, are read where the call stands.
 #[inline(always)]
 pub(super) fn checked_range(greatest: u64, blocks: &[u8]) -> Result<(u64, u64, &[u8]), Fault>
     ensures gives { Gives (λ x. (x.0, x.1, x.2.now)) result (first_range_at greatest blocks.now) }

@@ -141,8 +141,8 @@ pub fn stream(dest: &mut [u8], stream: &Stream<'_>, counted: Option<u64>) -> Res
     }
 }
 
-/// Lays an acknowledgement that is held, whose numbers may have been spelled in any widths, in its shortest spelling, in
-/// the same way. Blocks that are in their shortest spelling are copied.
+/// Lays an acknowledgement that is held, whose numbers may have been spelled in any widths, in its shortest spelling,
+/// in the same way. Blocks that are in their shortest spelling are copied.
 pub fn ack(dest: &mut [u8], ack: &Ack<'_>) -> Result<usize, usize>
     requires { IsAckInRange ack.now }
     ensures { (last : Bool) → Puts result (shortest_frame last (ack_meaning ack.now)) dest.old dest.new }
@@ -173,8 +173,8 @@ fn lay_counts(counts: &mut [u8; HEAD_ROOM], ecn: Option<EcnCounts>) -> usize
     }
 }
 
-// Lays the numbers that the bytes spell, in their shortest spellings of so many bytes, over those at a place, and answers
-// where they end.
+// Lays the numbers that the bytes spell, in their shortest spellings of so many bytes, over those at a place, and
+// answers where they end.
 fn lay_shortened(dest: &mut [u8], at: usize, spelled: &[u8], len: usize) -> usize
     requires shortens { Shortens spelled.now len }
     requires room { at + len ≤ length dest.old }

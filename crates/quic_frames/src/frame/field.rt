@@ -23,8 +23,8 @@ fn bytes_of(n: u64, bytes: &[u8]) -> Result<(&[u8], &[u8]), Fault>
     Ok(bytes.split_at(n as usize))
 }
 
-/// A number of any width, and what follows it, made for numbers of which nearly all have one byte: such a one is read where
-/// the call stands.
+/// A number of any width, and what follows it, made for numbers of which nearly all have one byte: such a one is read
+/// where the call stands.
 #[inline(always)]
 #[tactic(auto, using(quic_frame_parts::proofs::Gaps::one_at))]
 pub(super) fn short_varint(bytes: &[u8]) -> Result<(u64, &[u8]), Fault>

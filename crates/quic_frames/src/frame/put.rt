@@ -15,11 +15,11 @@ use quic_frame_parts::frame::encode::type_or_zero;
 use quic_frame_parts::frame::put;
 
 impl Frame<'_> {
-    /// Lays the shortest spelling of the frame, which is the last of its payload or not, at the front of the slice, and
-    /// answers how many bytes it has; these are the bytes that `encode` appends, and what stands behind them stays.
-    /// Where the slice has fewer, and only there, it is as it was, and the error is how many bytes are needed. The caller
-    /// must ensure that the frame is in range, and that data whose length is written are below 2^62 bytes. It takes no
-    /// memory.
+    /// Lays the shortest spelling of the frame, which is the last of its payload or not, at the front of the slice,
+    /// and answers how many bytes it has; these are the bytes that `encode` appends, and what stands behind them
+    /// stays. Where the slice has fewer, and only there, it is as it was, and the error is how many bytes are needed.
+    /// The caller must ensure that the frame is in range, and that data whose length is written are below 2^62 bytes.
+    /// It takes no memory.
     #[tactic(auto, unfolding(quic_frame_parts::specs::Shortest::shortest_frame))]
     pub fn encode_into(&self, last: bool, dest: &mut [u8]) -> Result<usize, usize>
         requires { CanStand last self.now }

@@ -17,7 +17,8 @@ use quic_base::varint::VarInt;
 use quic_frame_parts::frame::fault::Fault;
 use quic_frame_parts::frame::field::{blocks, varint};
 
-// An ACK, with counts or without. Both are read by one body, so that reading a frame stays small enough to go into its callers.
+// An ACK, with counts or without. Both are read by one body, so that reading a frame stays small enough to go into
+// its callers.
 #[tactic(auto, unfolding(quic_frame_parts::specs::Reading::row_at))]
 #[inline(always)]
 fn read_ack(has_counts: bool, bytes: &[u8]) -> Result<(Frame<'_>, &[u8]), Fault>
@@ -38,8 +39,8 @@ fn read_ack(has_counts: bool, bytes: &[u8]) -> Result<(Frame<'_>, &[u8]), Fault>
     Ok((Frame::Ack(ack), rest))
 }
 
-// A stream that its sender or its receiver ends early: both frames begin with its id and an error code. It is read by a call, so
-// that reading a frame stays small enough to go into its callers.
+// A stream that its sender or its receiver ends early: both frames begin with its id and an error code. It is read by
+// a call, so that reading a frame stays small enough to go into its callers.
 #[tactic(auto, unfolding(quic_frame_parts::specs::Reading::frame_at, quic_frame_parts::specs::Reading::row_at))]
 #[inline(never)]
 fn read_early_end(ty: u64, bytes: &[u8]) -> Result<(Frame<'_>, &[u8]), Fault>
@@ -103,8 +104,8 @@ fn read_stream(
     Ok((Frame::Stream(stream), rest))
 }
 
-// The limits of a peer, and what tells that one of them was reached. All begin with a number, which is read by one body, so that
-// reading a frame stays small enough to go into its callers.
+// The limits of a peer, and what tells that one of them was reached. All begin with a number, which is read by one
+// body, so that reading a frame stays small enough to go into its callers.
 #[tactic(auto, unfolding(quic_frame_parts::specs::Reading::frame_at, quic_frame_parts::specs::Reading::row_at))]
 #[inline(always)]
 fn read_limit(ty: u64, bytes: &[u8]) -> Result<(Frame<'_>, &[u8]), Fault>
@@ -131,7 +132,8 @@ fn read_limit(ty: u64, bytes: &[u8]) -> Result<(Frame<'_>, &[u8]), Fault>
     Ok((frame, rest))
 }
 
-// A connection id of these bytes. It is copied by a call, so that reading a frame stays small enough to go into its callers.
+// A connection id of these bytes. It is copied by a call, so that reading a frame stays small enough to go into its
+// callers.
 #[inline(never)]
 fn id_of(bytes: &[u8]) -> ConnectionId
     requires { length bytes.now ≤ 20 }
@@ -185,8 +187,8 @@ fn read_path(ty: u64, bytes: &[u8]) -> Result<(Frame<'_>, &[u8]), Fault>
     Ok((Frame::PathResponse(token), rest))
 }
 
-// A close by the transport or by the application: both begin with an error code and end with a reason phrase. It is read by a
-// call, so that reading a frame stays small enough to go into its callers.
+// A close by the transport or by the application: both begin with an error code and end with a reason phrase. It is
+// read by a call, so that reading a frame stays small enough to go into its callers.
 #[tactic(auto, unfolding(quic_frame_parts::specs::Reading::frame_at, quic_frame_parts::specs::Reading::row_at))]
 #[inline(never)]
 fn close(ty: u64, bytes: &[u8]) -> Result<(Close<'_>, &[u8]), Fault>

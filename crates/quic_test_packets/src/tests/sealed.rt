@@ -13,8 +13,8 @@ use quic_testing::Checks;
 use std::alloc::Global;
 use std::test::Fail;
 
-// Most functions here borrow the bytes that they seal into, and answer whether all was as it has to be: a test has nothing
-// alive beside its checks and these bytes.
+// Most functions here borrow the bytes that they seal into, and answer whether all was as it has to be: a test has
+// nothing alive beside its checks and these bytes.
 
 // Appends PING, PADDING, PADDING in a Handshake packet.
 fn seal_handshake(out: &mut Vec<u8>, version: u32) -> Result<usize, SealError> {

@@ -8,7 +8,8 @@ ghost use Rattle.quic_c_heads.specs.Written.{short_words, NeedsMore, SaysNone, W
 
 use crate::words::SaidWords;
 use quic_crypto::packet_number::PacketNumber;
-use quic_headers::lay::{Exact, HeaderRef, lay_low, lay_short};
+use quic_headers::fields::lay_low;
+use quic_headers::lay::{Exact, HeaderRef, lay_short};
 use quic_headers::long_type::HeadKind;
 
 // The kind of a word.

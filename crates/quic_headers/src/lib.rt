@@ -2,6 +2,7 @@
 #![tactic(auto)]
 
 pub mod encode;
+pub mod fields;
 pub mod header;
 pub mod laws;
 pub mod lay;

@@ -1,6 +1,6 @@
 use Rattle.std.proofs.Common.{arith}
 use Rattle.std.proofs.lemmas.Slice.{drop-put_mid}
-use Rattle.quic_headers.proofs.lay.lay_bytes.Goals as goal
+use Rattle.quic_headers.proofs.fields.lay_bytes.Goals as goal
 
 pub returns-clause-back : goal.returns-clause-back
 returns-clause-back c =

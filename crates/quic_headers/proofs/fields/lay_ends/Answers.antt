@@ -1,7 +1,7 @@
 -- The two ends cover the bytes.
 use Rattle.std.proofs.Common.{◌≡◌, ℕ, ◌+◌, ◌-◌, List, ◌++◌, length, take, refl, sym, ap, ◌∙◌, arith}
 use Rattle.quic_headers.proofs.Lays.{both_ends, stays}
-use Rattle.quic_headers.proofs.lay.lay_ends.Goals as goal
+use Rattle.quic_headers.proofs.fields.lay_ends.Goals as goal
 
 pub returns-clause-front : goal.returns-clause-front
 returns-clause-front g c =

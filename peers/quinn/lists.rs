@@ -1,5 +1,6 @@
 //! What quinn-proto's readers make of lists of hexadecimal lines, a line for each: of files in the folder `LISTS`, into
-//! files of the folder `SHOWN`. The file is put into quinn-proto as it is and into the changed one.
+//! files of the folder `SHOWN`. The file is put into quinn-proto as it is and, with four words changed (run), into the
+//! changed one.
 use std::panic::{catch_unwind, RefUnwindSafe};
 
 use bytes::{Bytes, BytesMut};
@@ -29,7 +30,7 @@ fn shown(list: &str, name: &str, show: impl Fn(Vec<u8>) -> String + RefUnwindSaf
 fn frames(payload: Vec<u8>) -> String {
     let payload = Bytes::from(payload);
     let mut shown = String::new();
-    for frame in Iter::new(PAYLOAD) {
+    for frame in Iter::new(payload) {
         match frame {
             Frame::Invalid { .. } => return shown + "refused",
             Frame::Ack(ack) => {

@@ -1,9 +1,9 @@
 //! The glue to `quic_wire`: its frames to and from those of this crate.
 use bytes::Bytes;
 pub(crate) use quic_wire::frame::Frame;
-use quic_wire::frame::{self as theirs, FrameType, Reason, WriteError};
-use quic_wire::packet::varint;
+use quic_wire::frame::{self as theirs, FrameType};
 use quic_wire::range_set::Run;
+use quic_wire::transport_error::Code;
 
 use crate::{
     frame::{self, Type},
@@ -11,89 +11,31 @@ use crate::{
     Dir, ResetToken, StreamId, TransportErrorCode, VarInt,
 };
 
-/// Makes room behind `buf`, at most `bound` bytes, lets them be written, and gives back the rest.
-/// `quic_wire` writes into a slice alone: so the room is filled with zeros first.
-#[inline]
-pub(crate) fn written<T>(
-    buf: &mut Vec<u8>,
-    bound: usize,
-    write: impl FnOnce(&mut [u8]) -> (usize, T),
-) -> T {
-    const SMALL: usize = 48;
-    let start = buf.len();
-    if bound <= SMALL {
-        buf.extend_from_slice(&[0; SMALL]);
-    } else {
-        buf.resize(start + bound, 0);
-    }
-    let (count, told) = write(&mut buf[start..]);
-    buf.truncate(start + count);
-    told
-}
-
-/// A frame that is in range, in the room that it has.
-fn frame(written: Result<usize, WriteError>) -> (usize, ()) {
-    (written.expect("a frame in range, and room for it"), ())
-}
-
-#[inline]
-fn bound(frame: &Frame<'_>) -> usize {
-    // No call says how long a frame gets, but for one that fails.
-    48 + match frame {
-        Frame::Crypto(x) => x.data.len(),
-        Frame::Datagram(x) => x.data.len(),
-        Frame::Close(theirs::Close::Connection(x)) => x.reason.len(),
-        Frame::Close(theirs::Close::Application(x)) => x.reason.len(),
-        _ => 0,
-    }
-}
-
 pub(crate) fn put(buf: &mut Vec<u8>, x: &Frame<'_>) {
-    written(buf, bound(x), |out| frame(x.encode(false, out)))
+    x.encode(false, buf).expect("a frame in range");
 }
 
 pub(crate) fn put_last(buf: &mut Vec<u8>, x: &Frame<'_>) {
-    written(buf, bound(x), |out| frame(x.encode(true, out)))
+    x.encode(true, buf).expect("a frame in range");
+}
+
+/// A close of at most `max_len` bytes, with as much of its reason as that lets it have.
+pub(crate) fn put_close(buf: &mut Vec<u8>, close: theirs::Close<'_>, max_len: usize) {
+    put(buf, &Frame::Close(close.shortened(max_len).expect("room for a close")));
 }
 
 /// An ACK of the set of these runs.
 pub(crate) fn put_ack(buf: &mut Vec<u8>, delay: u64, runs: &[Run], ecn: Option<&theirs::EcnCounts>) {
-    written(buf, 64 + 16 * runs.len(), |out| frame(theirs::Ack::encode(delay, runs, ecn, out)))
+    theirs::Ack::encode(delay, runs, ecn, buf).expect("a set in range");
 }
 
-/// The head of a STREAM frame, which `quic_wire` writes with its data alone: its numbers are
-/// written by it, one after the other.
-pub(crate) fn put_stream_head(buf: &mut Vec<u8>, ty: u8, numbers: &[u64]) {
-    written(buf, 1 + 8 * 3, |out| {
-        out[0] = ty;
-        let mut end = 1;
-        for &number in numbers {
-            end += varint::write(number, &mut out[end..]).expect("below 2^62");
-        }
-        (end, ())
-    })
+pub(crate) fn code(code: TransportErrorCode) -> Code {
+    Code::new(code.into()).expect("below 2^62")
 }
 
-/// `FrameType` can be made of no number: so a payload of the type alone is read, and what is told
-/// of it has the type.
-pub(crate) fn frame_type(ty: u64) -> FrameType {
-    let mut bytes = Vec::with_capacity(8);
-    crate::coding::BufMutExt::write_var(&mut bytes, ty);
-    match theirs::Iter::new(&bytes).expect("a byte at least").next() {
-        Some(Ok(frame)) => frame.ty(),
-        Some(Err(e)) => e.ty.expect("a whole type"),
-        None => unreachable!(),
-    }
-}
-
-/// `Reason` has no text of its own; that of `InvalidFrame` names the type too.
-pub(crate) fn reason(reason: Reason) -> &'static str {
-    match reason {
-        Reason::UnexpectedEnd => "unexpected end",
-        Reason::InvalidFrameId => "invalid frame ID",
-        Reason::Malformed => "malformed",
-        Reason::LongType => "frame type not in shortest form",
-    }
+/// That of PADDING says that none is known.
+pub(crate) fn frame_type(ty: u64) -> Option<FrameType> {
+    FrameType::new(ty).filter(|ty| *ty != FrameType::PADDING)
 }
 
 pub(crate) fn token(token: &ResetToken) -> [u8; 16] {
@@ -160,7 +102,7 @@ pub(crate) fn owned<'a>(payload: &Bytes, frame: Frame<'a>) -> frame::Frame<'a> {
         Frame::PathResponse(x) => Ours::PathResponse(x),
         Frame::Close(theirs::Close::Connection(x)) => {
             Ours::Close(frame::Close::Connection(frame::ConnectionClose {
-                error_code: TransportErrorCode::of(x.error_code),
+                error_code: TransportErrorCode::of(x.error_code.into()),
                 frame_type: x.frame_type.map(|t| Type(t.into())),
                 reason: payload.slice_ref(x.reason),
             }))

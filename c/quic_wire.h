@@ -226,7 +226,8 @@ typedef struct quic_wire_ack_frequency {
 
 /* A frame.  Each number of the union that |kind| doesn't name is 0, as
  * quic_wire_frame_write asks.  Numbers that were read are below 2^62, but
- * for those of paths. */
+ * for those of paths.  Whether data end below 2^62, and whether limits of
+ * streams are at most 2^60, isn't looked at: that is the connection's. */
 typedef struct quic_wire_frame {
   uint32_t kind;  /* QUIC_WIRE_PADDING and so on; as it stands in the payload:
                      quic_wire_frame_type */

@@ -116,8 +116,9 @@ extern "C" {
 #define QUIC_WIRE_ERR_INVALID_ARGUMENT (-1)
 /* The payload is empty: a PROTOCOL_VIOLATION of the peer. */
 #define QUIC_WIRE_ERR_EMPTY (-2)
-/* Something in the bytes is no frame (a FRAME_ENCODING_ERROR of the peer), no
- * packet, or too short for a sample; a struct tells more. */
+/* Something in the bytes is no frame (a FRAME_ENCODING_ERROR of the peer, with
+ * QUIC_WIRE_REASON_LONG_TYPE a PROTOCOL_VIOLATION), no list of parameters, or
+ * too short for a packet's number; a struct tells more of the first two. */
 #define QUIC_WIRE_ERR_MALFORMED (-3)
 /* The buffer has less room than is needed. */
 #define QUIC_WIRE_ERR_NOBUF (-4)

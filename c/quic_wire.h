@@ -359,8 +359,10 @@ typedef struct quic_wire_said {
 #define QUIC_WIRE_HAS_MIN_ACK_DELAY 0x400
 
 /* Why a list is refused. */
-#define QUIC_WIRE_PARAMS_MALFORMED 1
-#define QUIC_WIRE_PARAMS_ILLEGAL_VALUE 2
+#define QUIC_WIRE_PARAMS_MALFORMED 1 /* an entry is cut off, no value of its
+                                        kind, or a repeat */
+#define QUIC_WIRE_PARAMS_ILLEGAL_VALUE 2 /* a value is out of range, or may not
+                                            come from that side */
 
 /* Transport parameters.  What is absent is 0 in all of its words and bytes, but
  * for the numbers that have a default: these hold it then.  Ids stand at the

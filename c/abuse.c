@@ -188,6 +188,38 @@ static void head_nulls(void) {
        !quic_wire_reset_token(NULL, 1, NULL));
 }
 
+/* Lengths of two and of four bytes on both sides of 2^14. */
+static void long_lengths(void) {
+  static uint8_t packet[(1 << 14) + 4];
+  WANT(quic_wire_set_len(packet, sizeof packet, 4, 2) == INVALID);
+  WANT(quic_wire_set_len(packet, sizeof packet - 1, 4, 2) == 0);
+  WANT(!memcmp(packet, "\0\0\x7f\xff", 5));
+  WANT(quic_wire_set_len(packet, sizeof packet, 4, 4) == 0);
+  WANT(!memcmp(packet, "\x80\0\x40\0", 5));
+}
+
+static void params_nulls(void) {
+  quic_wire_params params;
+  uint8_t byte = 0, out[8];
+  size_t n = 77;
+  WANT(quic_wire_params_read(QUIC_WIRE_CLIENT, NULL, 1, &params) == INVALID);
+  WANT(quic_wire_params_read(QUIC_WIRE_CLIENT, &byte, 1, NULL) == INVALID);
+  WANT(quic_wire_params_read(2, &byte, 1, &params) == INVALID);
+  WANT(quic_wire_params_read(QUIC_WIRE_SERVER, NULL, 0, &params) == 0);
+  WANT(params.max_ack_delay == 25 && params.present == 0);
+  WANT(quic_wire_params_write(QUIC_WIRE_CLIENT, NULL, out, 8, &n) == INVALID);
+  WANT(quic_wire_params_write(QUIC_WIRE_CLIENT, &params, NULL, 8, &n) ==
+       INVALID);
+  WANT(quic_wire_params_write(QUIC_WIRE_CLIENT, &params, out, 8, NULL) ==
+       INVALID);
+  WANT(quic_wire_params_write(2, &params, out, 8, &n) == INVALID && n == 77);
+  WANT(quic_wire_params_write(QUIC_WIRE_CLIENT, &params, NULL, 0, &n) == 0 &&
+       n == 0);
+  params.max_ack_delay = 26;
+  WANT(quic_wire_params_write(QUIC_WIRE_CLIENT, &params, NULL, 0, &n) ==
+           QUIC_WIRE_ERR_NOBUF && n == 3);
+}
+
 static uint8_t *block(size_t len) { return malloc(len ? len : 1); }
 
 /* Reads on from any place, with any last type; and the ranges of any words. */
@@ -518,12 +550,12 @@ static void same_frame(const uint8_t *a, size_t alen, const quic_wire_frame *x,
   WANT(quic_wire_ack_ranges_next(&others, b, blen, &other) == 0);
 }
 
-/* The bytes of a frame in its shortest form: what quic_wire_frame_write writes
- * of it; of an ACK by a plain model, from its ranges. */
 static size_t varint_len(uint64_t n) {
   return n < 64 ? 1 : n < 16384 ? 2 : n < 1u << 30 ? 4 : 8;
 }
 
+/* The bytes of a frame in its shortest form: what quic_wire_frame_write writes
+ * of it; of an ACK by a plain model, from its ranges. */
 static size_t shortest_len(const uint8_t *payload, size_t len,
                            const quic_wire_frame *f, int last) {
   uint8_t out[64];
@@ -890,6 +922,59 @@ static void number_len_any(void) {
     WANT(answer == (twice < 256 ? 1 : twice < 65536 ? 2 : twice < 16777216 ? 3 : 4));
 }
 
+/* Numbers of any words are expanded as RFC 9000, appendix A.3, has it, without
+ * its last bound. */
+static void number_expand_any(void) {
+  const uint32_t len = (uint32_t)(any() % 6);
+  const uint64_t window = 1ull << (8 * len), half = window / 2;
+  const uint64_t expected = edge() >> (any() % 9 ? 2 : 0);
+  const uint64_t written = any() % 9 ? edge() % window : edge();
+  uint64_t number = UINT64_MAX;
+  if (len >= 1 && len <= 4 && written < window && expected >> 62 == 0) {
+    number = (expected & ~(window - 1)) | written;
+    if (number + half <= expected)
+      number += window;
+    else if (number > expected + half && number >= window)
+      number -= window;
+  }
+  WANT(quic_wire_number_expand(written, len, expected) == number);
+}
+
+/* A head of any bytes is opened in a copy where that has room, and a length is
+ * set where it fits. */
+static void place_any(uint8_t *packet, size_t len) {
+  static const uint8_t mask[5] = {0xff, 1, 2, 3, 4};
+  const size_t at = place(), headlen = any() % 40;
+  const uint32_t lengthlen = (uint32_t)(any() % 6);
+  uint8_t before[40], head[40];
+  uint64_t number = 77;
+  size_t k;
+  int answer;
+  memcpy(before, packet, len);
+  memset(head, 0xa5, sizeof head);
+  answer = quic_wire_unprotect_head(packet, len, at, mask, 0, head, headlen,
+                                    &number);
+  if (len < 4 || at > len - 4)
+    WANT(answer == QUIC_WIRE_ERR_MALFORMED);
+  else if (headlen < at + 4)
+    WANT(answer == QUIC_WIRE_ERR_NOBUF);
+  else
+    WANT(at ? answer >= 1 && answer <= 4 : answer == QUIC_WIRE_ERR_MALFORMED);
+  for (k = headlen; k < sizeof head; k++)
+    WANT(head[k] == 0xa5);
+  WANT((answer > 0 || number == 77) && !memcmp(packet, before, len));
+  answer = quic_wire_set_len(packet, len, at, lengthlen);
+  if ((lengthlen == 2 || lengthlen == 4) && lengthlen <= at && at <= len) {
+    WANT(answer == 0);
+    WANT(quic_wire_varint_read(packet + at - lengthlen, lengthlen, &number) ==
+             lengthlen && number == len - at);
+    memcpy(packet + at - lengthlen, before + at - lengthlen, lengthlen);
+  } else {
+    WANT(answer == INVALID);
+  }
+  WANT(!memcmp(packet, before, len));
+}
+
 /* Any place to put protection on. */
 static void protect_rubbish(uint8_t *datagram, size_t len) {
   const size_t at = place();
@@ -1038,7 +1123,7 @@ static unsigned runs_of_bits(uint64_t bits, uint64_t base,
 }
 
 static size_t put(uint8_t *dest, uint64_t n) {
-  size_t len = n < 64 ? 1 : n < 16384 ? 2 : n < 1u << 30 ? 4 : 8, k;
+  size_t len = varint_len(n), k;
   for (k = 0; k < len; k++)
     dest[k] = (uint8_t)(n >> (8 * (len - 1 - k)));
   dest[0] |= (uint8_t)((len == 1 ? 0 : len == 2 ? 1 : len == 4 ? 2 : 3) << 6);
@@ -1211,7 +1296,9 @@ static void rubbish(int rounds) {
     forms += canonical_any(bytes, len);
     longs += strict_any(bytes, len);
     number_len_any();
+    number_expand_any();
     varint_any();
+    place_any(bytes, len);
     params_any(bytes, len);
     set_rubbish();
     if (i % 8 == 0)
@@ -1227,6 +1314,8 @@ static void rubbish(int rounds) {
 int main(int argc, char **argv) {
   nulls();
   head_nulls();
+  long_lengths();
+  params_nulls();
   rubbish(argc == 2 ? atoi(argv[1]) : 300000);
   puts("abuse: all as it should be");
   return 0;

@@ -3,6 +3,7 @@
 
 #include "quic_wire_inline.h"
 
-/* The Rust crate links against this name alone, so that a library of another layout fails to link.  Its number goes up
- * with each change of a struct or of a function. */
+/* What the Rust crate asks for by name, so that it isn't linked with a library
+ * of another layout.  Its number goes up with each change of a struct or of a
+ * function. */
 const unsigned char quic_wire_abi_1 = 1;

@@ -57,14 +57,15 @@
  *   said.version = 1;
  *   said.number = number;
  *   said.numberlen = (uint8_t)quic_wire_number_len(number, largest_acked);
+ *   said.lengthlen = 2;
  *   int64_t begin = quic_wire_head_write(&said, dcid, dcidlen, scid, scidlen,
  *                                        NULL, 0, packet, room);
  *   size_t place = (size_t)begin - said.numberlen; // where the number stands
  *   quic_wire_frame_write(&frame, data, datalen, 1, packet + begin,
  *                         room - 16 - (size_t)begin, &payloadlen);
  *   size_t end = (size_t)begin + payloadlen + 16;
- *   quic_wire_set_len(packet, end, place, 2);
- *   seal_payload(number, packet, begin, packet + begin, payloadlen);
+ *   quic_wire_set_len(packet, end, place, said.lengthlen);
+ *   seal_payload(number, packet, (size_t)begin, packet + begin, payloadlen);
  *   make_mask(mask, quic_wire_sample(packet, end, place, 16));
  *   quic_wire_protect(packet, end, place, mask);
  *
@@ -115,8 +116,9 @@ extern "C" {
 #define QUIC_WIRE_ERR_INVALID_ARGUMENT (-1)
 /* The payload is empty: a PROTOCOL_VIOLATION of the peer. */
 #define QUIC_WIRE_ERR_EMPTY (-2)
-/* Something in the bytes is no frame (a FRAME_ENCODING_ERROR of the peer), no
- * packet, or too short for a sample; a struct tells more. */
+/* Something in the bytes is no frame (a FRAME_ENCODING_ERROR of the peer, with
+ * QUIC_WIRE_REASON_LONG_TYPE a PROTOCOL_VIOLATION), no list of parameters, or
+ * too short for a packet's number; a struct tells more of the first two. */
 #define QUIC_WIRE_ERR_MALFORMED (-3)
 /* The buffer has less room than is needed. */
 #define QUIC_WIRE_ERR_NOBUF (-4)
@@ -225,7 +227,8 @@ typedef struct quic_wire_ack_frequency {
 
 /* A frame.  Each number of the union that |kind| doesn't name is 0, as
  * quic_wire_frame_write asks.  Numbers that were read are below 2^62, but
- * for those of paths. */
+ * for those of paths.  Whether data end below 2^62, and whether limits of
+ * streams are at most 2^60, isn't looked at: that is the connection's. */
 typedef struct quic_wire_frame {
   uint32_t kind;  /* QUIC_WIRE_PADDING and so on; as it stands in the payload:
                      quic_wire_frame_type */
@@ -298,7 +301,8 @@ typedef struct quic_wire_canon {
 #define QUIC_WIRE_RESERVED_1RTT 0x18 /* must be 0, under protection */
 #define QUIC_WIRE_RESERVED_LONG 0x0c /* of Initial, 0-RTT and Handshake */
 
-/* Why a head, or its packet, isn't whole. */
+/* Why a head, or its packet, isn't whole.  That the fixed bit is unset is for
+ * callers to say: no function answers it. */
 #define QUIC_WIRE_PACKET_UNSUPPORTED_VERSION 1
 #define QUIC_WIRE_PACKET_UNEXPECTED_END 2
 #define QUIC_WIRE_PACKET_FIXED_BIT_UNSET 3
@@ -355,8 +359,10 @@ typedef struct quic_wire_said {
 #define QUIC_WIRE_HAS_MIN_ACK_DELAY 0x400
 
 /* Why a list is refused. */
-#define QUIC_WIRE_PARAMS_MALFORMED 1
-#define QUIC_WIRE_PARAMS_ILLEGAL_VALUE 2
+#define QUIC_WIRE_PARAMS_MALFORMED 1 /* an entry is cut off, no value of its
+                                        kind, or a repeat */
+#define QUIC_WIRE_PARAMS_ILLEGAL_VALUE 2 /* a value is out of range, or may not
+                                            come from that side */
 
 /* Transport parameters.  What is absent is 0 in all of its words and bytes, but
  * for the numbers that have a default: these hold it then.  Ids stand at the
@@ -434,7 +440,8 @@ QUIC_WIRE_ASSERT(offsetof(quic_wire_params, preferred_v4) == 260, "no room");
 
 /* ---- The library that is linked */
 
-/* The sizes of the structs, a byte for each, in words of 64 bits. */
+/* The sizes of the structs but quic_wire_gap, a byte for each, in words of 64
+ * bits. */
 #define QUIC_WIRE_LAYOUT                                                       \
   ((uint64_t)(sizeof(quic_wire_frames) / 8) |                                  \
    (uint64_t)(sizeof(quic_wire_frame) / 8) << 8 |                              \
@@ -702,9 +709,9 @@ QUIC_WIRE_API int quic_wire_canonical(const uint8_t *payload, size_t payloadlen,
  * of the datagram begins; QUIC_WIRE_PACKET_LENGTH_BEYOND_END and the head, of a
  * packet that is cut off; QUIC_WIRE_PACKET_UNSUPPORTED_VERSION and of the head
  * its kind, its version and its ids, which may have up to 255 bytes; another
- * reason where there is no head; QUIC_WIRE_ERR_INVALID_ARGUMENT where |cidlen|
- * is above 20 or there are 2^32 bytes or more.  |head| changes but with the
- * last two.
+ * reason where there is no head; QUIC_WIRE_ERR_INVALID_ARGUMENT for NULL, or
+ * where |cidlen| is above 20 or there are 2^32 bytes or more.  |head| stays
+ * with the last two.
  */
 QUIC_WIRE_API int quic_wire_head_read(const uint8_t *bytes, size_t len,
                                       uint32_t cidlen, const uint32_t *versions,
@@ -731,17 +738,19 @@ QUIC_WIRE_API const uint8_t *quic_wire_sample(const uint8_t *packet,
  * number by the one that is |expected| next, as quic_wire_number_expand does;
  * with 0 it is what is written.  Returns how many bytes the number has, 1 to 4:
  * the payload begins behind them, and packet[0] has the key phase and the
- * reserved bits.  QUIC_WIRE_ERR_MALFORMED where fewer than four bytes are there
- * from |place| on; QUIC_WIRE_ERR_INVALID_ARGUMENT where |expected| is 2^62 or
- * more.  Nothing changes then.
+ * reserved bits.  QUIC_WIRE_ERR_MALFORMED where |place| is 0 or has fewer than
+ * four bytes from it on; QUIC_WIRE_ERR_INVALID_ARGUMENT for NULL, or where
+ * |expected| is 2^62 or more.  Nothing changes then.
  */
 QUIC_WIRE_API int quic_wire_unprotect(uint8_t *packet, size_t packetlen,
                                       size_t place, const uint8_t *mask,
                                       uint64_t expected, uint64_t *number);
 
 /*
- * The same of a packet that stays as it is: its head is copied to |head|, which
- * has room for |headlen| bytes, four behind |place| at least, and opened there.
+ * The same of a packet that stays as it is: its head and the four bytes from
+ * |place| on are copied to |head|, which has room for |headlen| bytes, and
+ * opened there.  QUIC_WIRE_ERR_NOBUF where that is less.  With an answer below
+ * 0 |number| stays, and |head| may hold the copy.
  */
 QUIC_WIRE_API int quic_wire_unprotect_head(const uint8_t *packet,
                                            size_t packetlen, size_t place,
@@ -751,20 +760,23 @@ QUIC_WIRE_API int quic_wire_unprotect_head(const uint8_t *packet,
 
 /*
  * Puts the protection on the head of a packet whose payload is sealed and whose
- * number begins at |place|.  Returns how many bytes the number has, or
- * QUIC_WIRE_ERR_MALFORMED.
+ * number begins at |place|.  Returns how many bytes the number has;
+ * QUIC_WIRE_ERR_MALFORMED where |place| is 0 or has fewer than four bytes from
+ * it on; QUIC_WIRE_ERR_INVALID_ARGUMENT for NULL.  Nothing changes then.
  */
 QUIC_WIRE_API int quic_wire_protect(uint8_t *packet, size_t packetlen,
                                     size_t place, const uint8_t *mask);
 
 /* How many bytes of |number| are written whose receiver has acknowledged
- * |largest_acked|, or QUIC_WIRE_ERR_INVALID_ARGUMENT. */
+ * |largest_acked|, 1 to 4; QUIC_WIRE_ERR_INVALID_ARGUMENT where that is above
+ * |number|, or 2^31 or more below it. */
 QUIC_WIRE_API int quic_wire_number_len(uint64_t number,
                                        uint64_t largest_acked);
 
 /* The whole number of which the low |numberlen| bytes are written, by the one
  * that is |expected| next (RFC 9000, appendix A.3, without its last bound: near
- * 2^62 it may be more, which no packet has); UINT64_MAX where there is none. */
+ * 2^62 it may be more, which no packet has); UINT64_MAX where |numberlen| isn't
+ * 1 to 4, |written| takes more bytes, or |expected| is 2^62 or more. */
 QUIC_WIRE_API uint64_t quic_wire_number_expand(uint64_t written,
                                                uint32_t numberlen,
                                                uint64_t expected);
@@ -776,7 +788,7 @@ QUIC_WIRE_API size_t quic_wire_varint_read(const uint8_t *bytes, size_t len,
 
 /* Writes a number of variable length at the front of |dest|, in |width| bytes,
  * 1, 2, 4 or 8, or as few as it takes where that is 0.  Returns how many bytes,
- * or 0 where it doesn't fit. */
+ * or 0 where it doesn't fit, and then |dest| stays. */
 QUIC_WIRE_API size_t quic_wire_varint_write(uint64_t value, uint32_t width,
                                             uint8_t *dest, size_t destlen);
 
@@ -808,7 +820,9 @@ QUIC_WIRE_API int64_t quic_wire_head_write(
 /*
  * Sets the length in the head of a packet of |packetlen| bytes whose number
  * begins at |place|, to what there is from there on.  |lengthlen| is that of
- * the head.  Returns 0, or QUIC_WIRE_ERR_INVALID_ARGUMENT where it doesn't fit.
+ * the head.  Returns 0, or QUIC_WIRE_ERR_INVALID_ARGUMENT where that is neither
+ * 2 nor 4, has no place before |place| or can't hold the length; nothing
+ * changes then.
  */
 QUIC_WIRE_API int quic_wire_set_len(uint8_t *packet, size_t packetlen,
                                     size_t place, uint32_t lengthlen);

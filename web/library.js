@@ -1,15 +1,15 @@
 // The calls of the proved library, as they stand in c/quic_wire.h, over bytes that lie in the module's memory.
 
-import { PADDING } from "./names.js";
+import { PACKET_FIXED_BIT_UNSET, PACKET_MALFORMED_CID, PACKET_UNSUPPORTED_VERSION, PADDING } from "./names.js";
 import { EMPTY, ITEM, LAYOUT, MALFORMED, NO_TYPE, OK, Struct } from "./layout.js";
 
 // How many frames, and how many ranges of an ACK, one call gives at most.
 const ROOM = 1024;
 const MAX_VERSIONS = 64;
-// Bits of a first byte, and QUIC_WIRE_PACKET_FIXED_BIT_UNSET.
+// Bits of a first byte.
 const LONG_FORM = 0x80;
 const FIXED_BIT = 0x40;
-const FIXED_BIT_UNSET = 3;
+const MAX_ID = 20;
 const PAGE = 65536;
 
 const aligned = (place) => (place + 15) & ~15;
@@ -219,12 +219,13 @@ export class Library {
     return BigInt(spoken.length);
   }
 
-  // Reads the head of the packet that begins at |offset|, and returns 0 or the reason why there is none. Without grease
-  // the fixed bit is looked at first, which the library leaves to its caller (RFC 9000, section 17).
+  // Reads the head of the packet that begins at |offset|, and returns 0 or the reason why there is none. Two things the
+  // library leaves to its caller: without grease the fixed bit is looked at first (RFC 9000, section 17), and an id of
+  // more than 20 bytes is refused in other versions too.
   cutPacket(offset, { idLength, versions, grease }) {
     const first = new Uint8Array(this.memory.buffer)[this.input + offset];
     if (!grease && offset < this.length && !(first & FIXED_BIT)) {
-      return FIXED_BIT_UNSET;
+      return PACKET_FIXED_BIT_UNSET;
     }
     const spoken = this.speak(versions);
     const answer = this.call(
@@ -234,7 +235,8 @@ export class Library {
     if (answer < OK) {
       throw new Error(`quic_wire_head_read_ answered ${answer}`);
     }
-    return answer;
+    const hasLongId = () => this.head.number("dcidlen") > MAX_ID || this.head.number("scidlen") > MAX_ID;
+    return answer === PACKET_UNSUPPORTED_VERSION && hasLongId() ? PACKET_MALFORMED_CID : answer;
   }
 
   // Where all packets begin, then where the last one ends; their kinds; and the struct of what is no packet, or null.

@@ -82,6 +82,8 @@ export const PACKET_REASONS = [
   "malformed cid", "token out of bounds", "packet too short to contain payload length",
 ];
 export const PACKET_UNSUPPORTED_VERSION = 1;
+export const PACKET_FIXED_BIT_UNSET = 3;
+export const PACKET_MALFORMED_CID = 5;
 
 // Of each kind of packet: the word that quic-show prints, its name, and its tone.
 const PACKETS = [

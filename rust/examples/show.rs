@@ -2,7 +2,9 @@
 //! `datagram LEN`, `params SIDE`.
 use quic_wire::canonical::canonical;
 use quic_wire::frame::{EmptyPayload, Iter};
-use quic_wire::packet::{LongType, Packets, PartialDecode, ProtectedHeader, DEFAULT_SUPPORTED_VERSIONS};
+use quic_wire::packet::{
+    LongType, PacketDecodeError, Packets, PartialDecode, ProtectedHeader, DEFAULT_SUPPORTED_VERSIONS,
+};
 use quic_wire::transport_parameters::{Error, PreferredAddress, Side, TransportParameters};
 use quic_wire::MAX_CID_SIZE;
 use std::env;
@@ -77,6 +79,18 @@ fn packet(packet: &PartialDecode<'_>) -> String {
     }
 }
 
+// In a version that isn't known an id may have up to 255 bytes, but `quic-show` refuses one of more than 20 there too.
+fn refusal(error: &PacketDecodeError<'_>) -> String {
+    match error {
+        PacketDecodeError::UnsupportedVersion { src_cid, dst_cid, .. }
+            if src_cid.len().max(dst_cid.len()) > MAX_CID_SIZE =>
+        {
+            "malformed cid".into()
+        }
+        _ => error.to_string(),
+    }
+}
+
 fn print_packets(datagram: &[u8], cid_len: usize, out: &mut impl Write) -> io::Result<bool> {
     for item in Packets::new(datagram, cid_len, DEFAULT_SUPPORTED_VERSIONS, false) {
         match item {
@@ -85,7 +99,7 @@ fn print_packets(datagram: &[u8], cid_len: usize, out: &mut impl Write) -> io::R
                 writeln!(out, "{}..{} {}", place.start, place.end, packet(&found))?;
             }
             Err(error) => {
-                writeln!(out, "error {error}")?;
+                writeln!(out, "error {}", refusal(&error))?;
                 return Ok(false);
             }
         }

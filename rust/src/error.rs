@@ -1,6 +1,6 @@
 //! What can go wrong, put together.
 use crate::canonical::CanonError;
-use crate::frame::{EmptyPayload, FrameType, InvalidFrame};
+use crate::frame::{EmptyPayload, FrameType, InvalidFrame, Reason};
 use crate::packet::{HeadError, PacketDecodeError, UnprotectError};
 use crate::transport_error::Code;
 use crate::{range_set, transport_parameters};
@@ -88,9 +88,14 @@ impl Error {
     /// assert_eq!(Error::EmptyPayload.code(), Some(Code::PROTOCOL_VIOLATION));
     /// assert_eq!(Error::Packet("fixed bit unset").code(), None);
     /// ```
+    ///
+    /// What is no frame is a `FRAME_ENCODING_ERROR`, but for a type that isn't in its shortest encoding (RFC 9000,
+    /// section 12.4), which strict iterators alone refuse ([`Iter::strict`](crate::frame::Iter::strict)).
     pub fn code(&self) -> Option<Code> {
         match self {
-            Error::EmptyPayload => Some(Code::PROTOCOL_VIOLATION),
+            Error::EmptyPayload | Error::Frame(InvalidFrame { reason: Reason::LongType, .. }) => {
+                Some(Code::PROTOCOL_VIOLATION)
+            }
             Error::Frame(_) => Some(Code::FRAME_ENCODING_ERROR),
             Error::TransportParameters(_) => Some(Code::TRANSPORT_PARAMETER_ERROR),
             _ => None,

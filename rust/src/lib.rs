@@ -27,7 +27,8 @@
 //!
 //! A transport parameter that is an integer in a longer encoding than its shortest is refused, though section 16 allows
 //! it. A version negotiation whose bit 0x40 is clear is refused unless packets are greased, though section 17.2.1 has
-//! clients ignore it.
+//! clients ignore it. Whether data end below 2^62 and limits on streams are at most 2^60 isn't looked at: that is the
+//! connection's to judge.
 #![no_std]
 #![deny(unsafe_code)]
 

@@ -295,6 +295,7 @@ fn a_long_type_is_refused_where_types_are_strict() {
     let e = strict.next().unwrap().unwrap_err();
     assert_eq!((e.ty.map(u64::from), e.reason, strict.offset()), (Some(1), Reason::LongType, 5));
     assert_eq!(e.to_string(), "frame type not in shortest form in PING");
+    assert_eq!(quic_wire::Error::from(e).code(), Some(Code::PROTOCOL_VIOLATION));
     assert_eq!(strict.next(), None);
     assert_eq!(Iter::strict(&[]).err(), Some(EmptyPayload));
 }

@@ -48,6 +48,9 @@ fn a_packet_is_opened_where_it_stands() {
     assert_eq!(few, Err(Error::Write(WriteError::NoRoom(7))));
     let late = place.unprotect_head(&datagram, &mask, 1 << 62, &mut head[..]);
     assert_eq!(late, Err(Error::Protection(UnprotectError::Expected)));
+    let mut none = vec![];
+    let front = PacketPlace::new(0..11, 0).unprotect_head(&datagram, &mask, 300, &mut none);
+    assert_eq!((front, none.len()), (Err(Error::Protection(UnprotectError::TooShort)), 0));
 
     let opened = place.unprotect_with(&mut datagram, 4, |sample| [0x1f, 5, 5, sample[1], 5], 300).unwrap();
     assert_eq!(opened, told);

@@ -207,7 +207,7 @@ fn as_shown(mode: &str, input: &str, answer: &str) -> String {
         }
         last = number;
         match (mode, text.strip_prefix("error ")) {
-            ("datagram", Some(error)) => shown.push_str(&format!("error {}\n", error.split(" dst=").next().unwrap())),
+            ("datagram", Some(error)) => shown.push_str(&no_packet(error)),
             (_, Some(error)) => shown.push_str(&format!("error {error}\n")),
             ("frames", None) => shown.push_str(&frame(text, lines[number - 1])),
             ("datagram", None) => shown.push_str(&packet(text)),
@@ -237,6 +237,16 @@ fn frame(text: &str, line: &str) -> String {
         start = next;
     }
     shown
+}
+
+// `quic-show` refuses an id of more than 20 bytes in any version.
+fn no_packet(error: &str) -> String {
+    let reason = error.split(" dst=").next().unwrap();
+    let has_long_id = || field(error, "dst").len().max(field(error, "src").len()) > 40;
+    if reason.starts_with("unsupported version") && has_long_id() {
+        return "error malformed cid\n".into();
+    }
+    format!("error {reason}\n")
 }
 
 fn packet(text: &str) -> String {

@@ -1,9 +1,10 @@
 // count WORK ROUNDS [FILE [KIND]]: one kind of work, so many rounds over a file of lines in hexadecimal. Prints how
 // many items there were in a round, and a sum. WORK: frames, canonical (of payloads; with KIND c of their canonical
 // forms); ngtcp2 (with KIND w of those payloads alone that are frames to their end without PADDING, for ngtcp2 too
-// where there is one, and the items are frames); copy, decode, cut (of datagrams; KIND s, i or h: those that begin with a short, Initial or Handshake head);
-// read, write (of lists of parameters); number, number0, expand, expand0 (0: without the work); initial, handshake, short;
-// ranges (of the ACKs of payloads), encode, in_range (of their frames); set KIND NAME N, two WORK NAME NAME N, ack NAME N (of sets, below).
+// where there is one, and the items are frames); copy, decode, cut (of datagrams; KIND s, i or h: those that begin with
+// a short, Initial or Handshake head); read, write (of lists of parameters); number, number0, expand, expand0 (0:
+// without the work); initial, handshake, short; ranges (of the ACKs of payloads), encode, in_range (of their frames);
+// set KIND NAME N, two WORK NAME NAME N, ack NAME N (of sets, below).
 #include <stdint.h>
 #include <stdio.h>
 #include <stdlib.h>
@@ -134,8 +135,8 @@ static void shuffle(u64 *numbers, size_t n) {
     }
 }
 
-// Packet numbers in order, one in 50 lost, and one in 20 late by up to 8 places; with `leave` the 400 that end 200 below
-// an insertion leave after each 32nd.
+// Packet numbers in order, one in 50 lost, and one in 20 late by up to 8 places; with `leave` the 400 that end 200
+// below an insertion leave after each 32nd.
 static void packets(u64 *numbers, size_t n, int leave) {
     size_t len = 0;
     for (u64 number = 0; len < n; number++)
@@ -156,7 +157,8 @@ static void packets(u64 *numbers, size_t n, int leave) {
     }
 }
 
-// Single numbers that touch none: up, down or any (in any order); then each is removed (-r) or looked for (-c) in any order.
+// Single numbers that touch none: up, down or any (in any order); then each is removed (-r) or looked for (-c) in any
+// order.
 static void singles(const char *name, u64 *numbers, size_t n) {
     for (size_t i = 0; i < n; i++) numbers[i] = 4 + (!strncmp(name, "down", 4) ? n - 1 - i : i) * 4;
     if (!strncmp(name, "any", 3)) shuffle(numbers, n);
@@ -167,8 +169,9 @@ static void singles(const char *name, u64 *numbers, size_t n) {
     for (size_t i = 0; i < n; i++) operation(then[1] == 'c' ? 2 : 1, numbers[i], 1);
 }
 
-// NAME: order; packets, packets-r; up, up-r, down, any, any-r, any-c; hole (single numbers leave one range in any order);
-// runs4, runs5, runs7 (single numbers, every fourth, from 4, 5, 7 on); inner, wide (runs of 4 and of 6, every eighth).
+// NAME: order; packets, packets-r; up, up-r, down, any, any-r, any-c; hole (single numbers leave one range in any
+// order); runs4, runs5, runs7 (single numbers, every fourth, from 4, 5, 7 on); inner, wide (runs of 4 and of 6, every
+// eighth).
 static void generate(const char *name, size_t n) {
     u64 *numbers = malloc(2 * n * sizeof *numbers);
     operations = malloc((4 * n + 16) * sizeof *operations);
@@ -232,14 +235,16 @@ int main(int argc, char **argv) {
     if (argc > 3 && !is_of_sets) load(argv[3], argc > 4 ? argv[4][0] : 'a');
     if (is_of_sets) sum = sets(argc, argv, rounds);
     else if (!strcmp(work, "frames")) sum = over(count_frames, rounds);
-    else if (!strcmp(work, "ranges") || !strcmp(work, "encode") || !strcmp(work, "in_range")) sum = of_frames(work, rounds);
+    else if (!strcmp(work, "ranges") || !strcmp(work, "encode") || !strcmp(work, "in_range"))
+        sum = of_frames(work, rounds);
     else if (!strcmp(work, "ngtcp2")) sum = over(ngtcp2_sum, rounds);
     else if (!strcmp(work, "canonical")) sum = over(count_canonical, rounds);
     else if (!strcmp(work, "copy")) sum = over(count_copy, rounds);
     else if (!strcmp(work, "decode")) sum = over(count_decode, rounds);
     else if (!strcmp(work, "cut")) sum = over(count_cut, rounds);
     else if (!strcmp(work, "read")) sum = over(count_params_read, rounds);
-    else if (!strcmp(work, "write")) for (size_t i = 0; i < items_len; i++) sum += count_params_write(items[i], sizes[i], rounds);
+    else if (!strcmp(work, "write"))
+        for (size_t i = 0; i < items_len; i++) sum += count_params_write(items[i], sizes[i], rounds);
     else {
         items_len = 1000;
         if (!strncmp(work, "number", 6)) sum = numbers(rounds, work[6] != '0');

@@ -1,9 +1,10 @@
 // crossing WORK ROUNDS FILE: reads the payloads of a file of lines in hexadecimal so many rounds by the calls for C.
-// Prints how many items one round has, and a number that depends on all of them. WORK is frames (the numbers and the length
-// of each), many-frames (the same by calls that fill 16 entries, where a run of PADDING is one), ranges (of each ACK, read too),
-// acks (the same, frames and ranges by calls that fill 16), or packets (of each line as a datagram, ids of 8 bytes).
-// With a number in place of FILE: set-push (a run behind so many others), set-grow (the last of so many runs), set-contains
-// (each of so many) or set-ack (of so many), each a thousand times, less what set-0 takes.
+// Prints how many items one round has, and a number that depends on all of them. WORK is frames (the numbers and the
+// length of each), many-frames (the same by calls that fill 16 entries, where a run of PADDING is one), ranges (of each
+// ACK, read too), acks (the same, frames and ranges by calls that fill 16), or packets (of each line as a datagram, the
+// heads with ids of 8 bytes). With a number in place of FILE: set-push (a run behind so many others), set-grow (the
+// last of so many runs), set-contains (each of so many) or set-ack (of so many), each a thousand times, less what set-0
+// takes.
 #include <stdint.h>
 #include <stdio.h>
 #include <stdlib.h>
@@ -15,8 +16,8 @@ typedef uint64_t u64;
 
 static u64 items;
 
-// What is looked at of a frame: its kind, and by that some of its numbers and the length of its data, those that the program
-// over the Rust crate looks at; of an ACK, where it ends in place of how many bytes its blocks have.
+// What is looked at of a frame: its kind, and by that some of its numbers and the length of its data, those that
+// count_frames looks at; of an ACK, where it ends in place of how many bytes its blocks have.
 static inline __attribute__((always_inline)) u64 sum_of(const quic_wire_frame *frame) {
     switch (frame->kind) {
     case QUIC_WIRE_ACK:
@@ -138,12 +139,14 @@ static u64 many_acks_of(const uint8_t *payload, size_t len) {
 
 static u64 packets_of(const uint8_t *datagram, size_t len) {
     static const uint32_t versions[] = {1, 0x6b3343cf};
-    quic_wire_packet packet;
-    size_t offset = 0;
+    quic_wire_head head;
     u64 sum = 0;
-    while (quic_wire_packet_next(datagram, len, &offset, 8, versions, 2, 0, &packet) == QUIC_WIRE_ITEM) {
-        sum += packet.kind + packet.version + packet.head_end + packet.dcid + packet.dcidlen + packet.scid +
-               packet.scidlen + packet.token + packet.tokenlen + packet.len + packet.end;
+    while (len != 0 && quic_wire_head_read(datagram, len, 8, versions, 2, &head) == QUIC_WIRE_OK &&
+           head.first & QUIC_WIRE_FIXED_BIT) {
+        sum += head.kind + head.version + head.head_end + head.dcidlen + head.scidlen + head.token + head.tokenlen +
+               head.len + head.end + *quic_wire_dcid(datagram, &head);
+        datagram += head.end;
+        len -= head.end;
         items++;
     }
     return sum;

@@ -247,7 +247,7 @@ impl PacketPlace {
     ///
     /// # Errors
     ///
-    /// As [`PacketPlace::unprotect`], and where `head` has too little room.
+    /// As [`PacketPlace::unprotect`], and where `head` has too little room. Nothing is written then.
     pub fn unprotect_head<B: Buffer + ?Sized>(
         &self,
         datagram: &[u8],
@@ -259,7 +259,8 @@ impl PacketPlace {
         if expected > varint::MAX {
             return Err(UnprotectError::Expected.into());
         }
-        let protected = packet.get(..self.place() + 4).ok_or(UnprotectError::TooShort)?;
+        let place = Some(self.place()).filter(|place| *place != 0);
+        let protected = place.and_then(|place| packet.get(..place + 4)).ok_or(UnprotectError::TooShort)?;
         let told = head.put(|room| {
             if room.len() < protected.len() {
                 return Err(WriteError::NoRoom(protected.len()));

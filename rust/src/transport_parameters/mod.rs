@@ -36,7 +36,7 @@ use core::net::{SocketAddrV4, SocketAddrV6};
 /// ```
 #[derive(Clone, Copy, Debug, PartialEq, Eq, Hash)]
 pub enum Error {
-    /// The side does not take the parameters, or the preferred address has no address.
+    /// A value is out of its range, a client sent what a server alone sends, or the preferred address has no address.
     IllegalValue,
     /// It is no list: an entry is cut off, no value of its kind, or a repeat.
     Malformed,

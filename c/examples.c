@@ -1,0 +1,95 @@
+/* The examples at the head of quic_wire.h, which scripts/callers cuts out of it
+ * as example-1.h to example-3.h: the third seals a packet, the second opens it,
+ * and the first reads its frames.  The cipher is none: it turns each bit, and
+ * its tag is the packet's number. */
+#include <stdio.h>
+#include <stdlib.h>
+#include <string.h>
+
+#include "quic_wire.h"
+
+static void check(int is_so, const char *what) {
+  if (!is_so) {
+    fprintf(stderr, "examples: %s\n", what);
+    exit(1);
+  }
+}
+
+static int delivered, opened;
+
+static void deliver(uint64_t id, uint64_t offset, const uint8_t *data,
+                    size_t len) {
+  check(id == 4 && offset == 9 && len == 5 && !memcmp(data, "hello", 5),
+        "other data");
+  delivered++;
+}
+
+static void read_payload(const uint8_t *payload, size_t len) {
+#include "example-1.h"
+  check(answer == 0 && frames.offset == len, "no frames");
+}
+
+static void make_mask(uint8_t *mask, const uint8_t *sample) {
+  memcpy(mask, sample, 5);
+}
+
+static void turn(uint8_t *bytes, size_t len) {
+  size_t i;
+  for (i = 0; i < len; i++)
+    bytes[i] ^= 0xff;
+}
+
+static void seal_payload(uint64_t number, const uint8_t *packet, size_t headlen,
+                         uint8_t *payload, size_t len) {
+  check(packet + headlen == payload, "another place");
+  turn(payload, len);
+  memset(payload + len, (int)number, 16);
+}
+
+static void open_payload(uint64_t number, const uint8_t *packet, size_t headlen,
+                         uint8_t *payload, size_t len) {
+  check(packet + headlen == payload && number == 1, "another packet");
+  check(payload[len - 16] == 1 && payload[len - 1] == 1, "another tag");
+  turn(payload, len - 16);
+  read_payload(payload, len - 16);
+  opened++;
+}
+
+static void open_packets(uint8_t *packet, size_t len) {
+  static const uint32_t versions[] = {1};
+  const size_t nversions = 1;
+  const uint32_t cidlen = 4;
+  const uint64_t expected = 1;
+  quic_wire_head head;
+  uint64_t number;
+  uint8_t mask[5];
+  int numberlen;
+#include "example-2.h"
+  check(len == 0, "no packet");
+}
+
+static size_t seal_a_packet(uint8_t *packet, size_t room) {
+  static const uint8_t dcid[] = {1, 2, 3, 4}, scid[] = {5, 6}, data[] = "hello";
+  const size_t dcidlen = sizeof dcid, scidlen = sizeof scid, datalen = 5;
+  const uint64_t number = 1, largest_acked = 0;
+  quic_wire_frame frame;
+  uint8_t mask[5];
+  size_t payloadlen = 0;
+  memset(&frame, 0, sizeof frame);
+  frame.kind = QUIC_WIRE_STREAM;
+  frame.datalen = datalen;
+  frame.stream.stream_id = 4;
+  frame.stream.offset = 9;
+#include "example-3.h"
+  return end;
+}
+
+int main(void) {
+  uint8_t datagram[1200];
+  size_t len = seal_a_packet(datagram, 600);
+  len += seal_a_packet(datagram + len, 600);
+  open_packets(datagram, len);
+  check(opened == 2 && delivered == 2, "two packets of one frame each");
+  puts("the examples of quic_wire.h: two packets sealed, opened and read");
+  return 0;
+}

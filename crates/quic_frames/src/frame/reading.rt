@@ -39,28 +39,57 @@ fn read_ack(has_counts: bool, bytes: &[u8]) -> Result<(Frame<'_>, &[u8]), Fault>
     Ok((Frame::Ack(ack), rest))
 }
 
-// A stream that its sender or its receiver ends early: both frames begin with its id and an error code. It is read by
-// a call, so that reading a frame stays small enough to go into its callers.
-#[tactic(auto, unfolding(quic_frame_parts::specs::Reading::frame_at, quic_frame_parts::specs::Reading::row_at))]
+// The end of a stream by its sender. It is read by a call that gives no whole frame: so reading a frame stays small
+// enough to go into its callers, and no frame is made ready for the call to fill.
+#[tactic(auto, unfolding(quic_frame_parts::specs::Reading::row_at))]
 #[inline(never)]
-fn read_early_end(ty: u64, bytes: &[u8]) -> Result<(Frame<'_>, &[u8]), Fault>
-    requires either { (0x04 ≤ ty) × (ty ≤ 0x05) }
-    ensures { GivesFrame (λ rest. rest.now) bytes.now result (frame_at ty bytes.now) }
+fn reset_stream(bytes: &[u8]) -> Result<(ResetStream, &[u8]), Fault>
+    ensures { Gives (λ x. (meaning_of (frames.ResetStream x.0), x.1.now)) result (row_at table.reset_stream_row bytes.now) }
 {
     let (id, rest) = varint(bytes)?;
     let (error_code, rest) = varint(rest)?;
-    let id = StreamId::from(VarInt::from_u64_unchecked(id));
-    let error_code = VarInt::from_u64_unchecked(error_code);
-    if ty == 0x05 {
-        return Ok((Frame::StopSending(StopSending { id, error_code }), rest));
-    }
     let (final_offset, rest) = varint(rest)?;
     let reset = ResetStream {
-        id,
-        error_code,
+        id: StreamId::from(VarInt::from_u64_unchecked(id)),
+        error_code: VarInt::from_u64_unchecked(error_code),
         final_offset: VarInt::from_u64_unchecked(final_offset),
     };
-    Ok((Frame::ResetStream(reset), rest))
+    Ok((reset, rest))
+}
+
+#[inline(always)]
+fn read_reset_stream(bytes: &[u8]) -> Result<(Frame<'_>, &[u8]), Fault>
+    ensures { GivesFrame (λ rest. rest.now) bytes.now result (row_at table.reset_stream_row bytes.now) }
+{
+    match reset_stream(bytes) {
+        Ok((reset, rest)) => Ok((Frame::ResetStream(reset), rest)),
+        Err(fault) => Err(fault),
+    }
+}
+
+// The end of a stream by its receiver, read by a call for the same reasons.
+#[tactic(auto, unfolding(quic_frame_parts::specs::Reading::row_at))]
+#[inline(never)]
+fn stop_sending(bytes: &[u8]) -> Result<(StopSending, &[u8]), Fault>
+    ensures { Gives (λ x. (meaning_of (frames.StopSending x.0), x.1.now)) result (row_at table.stop_sending_row bytes.now) }
+{
+    let (id, rest) = varint(bytes)?;
+    let (error_code, rest) = varint(rest)?;
+    let stop = StopSending {
+        id: StreamId::from(VarInt::from_u64_unchecked(id)),
+        error_code: VarInt::from_u64_unchecked(error_code),
+    };
+    Ok((stop, rest))
+}
+
+#[inline(always)]
+fn read_stop_sending(bytes: &[u8]) -> Result<(Frame<'_>, &[u8]), Fault>
+    ensures { GivesFrame (λ rest. rest.now) bytes.now result (row_at table.stop_sending_row bytes.now) }
+{
+    match stop_sending(bytes) {
+        Ok((stop, rest)) => Ok((Frame::StopSending(stop), rest)),
+        Err(fault) => Err(fault),
+    }
 }
 
 #[tactic(auto, unfolding(quic_frame_parts::specs::Reading::row_at))]
@@ -105,14 +134,14 @@ fn read_stream(
 }
 
 // The limits of a peer, and what tells that one of them was reached. All begin with a number, which is read by one
-// body, so that reading a frame stays small enough to go into its callers.
+// body and by a call, so that reading a frame stays small enough to go into its callers.
 #[tactic(auto, unfolding(quic_frame_parts::specs::Reading::frame_at, quic_frame_parts::specs::Reading::row_at))]
 #[inline(always)]
 fn read_limit(ty: u64, bytes: &[u8]) -> Result<(Frame<'_>, &[u8]), Fault>
     requires limit { (0x10 ≤ ty) × (ty ≤ 0x17) }
     ensures { GivesFrame (λ rest. rest.now) bytes.now result (frame_at ty bytes.now) }
 {
-    let (first, rest) = field::near_varint(bytes)?;
+    let (first, rest) = varint(bytes)?;
     let number = VarInt::from_u64_unchecked(first);
     if ty == 0x11 || ty == 0x15 {
         let (offset, rest) = varint(rest)?;
@@ -142,11 +171,11 @@ fn id_of(bytes: &[u8]) -> ConnectionId
     ConnectionId::new(bytes)
 }
 
-// Another id, read by a call for the same reason.
+// Another id, read by a call for the same reasons.
 #[tactic(auto, unfolding(quic_frame_parts::specs::Reading::row_at))]
 #[inline(never)]
-fn read_new_connection_id(bytes: &[u8]) -> Result<(Frame<'_>, &[u8]), Fault>
-    ensures { GivesFrame (λ rest. rest.now) bytes.now result (row_at table.new_connection_id_row bytes.now) }
+fn new_connection_id(bytes: &[u8]) -> Result<(NewConnectionId, &[u8]), Fault>
+    ensures { Gives (λ x. (meaning_of (frames.NewConnectionId x.0), x.1.now)) result (row_at table.new_connection_id_row bytes.now) }
 {
     let (sequence, rest) = field::short_varint(bytes)?;
     let (retire_prior_to, rest) = field::short_varint(rest)?;
@@ -155,13 +184,23 @@ fn read_new_connection_id(bytes: &[u8]) -> Result<(Frame<'_>, &[u8]), Fault>
     }
     let (id, rest) = field::connection_id(rest)?;
     let (reset_token, rest) = field::reset_token(rest)?;
-    let frame = NewConnectionId {
+    let issued = NewConnectionId {
         sequence,
         retire_prior_to,
         id: id_of(id),
         reset_token: ResetToken::from(reset_token),
     };
-    Ok((Frame::NewConnectionId(frame), rest))
+    Ok((issued, rest))
+}
+
+#[inline(always)]
+fn read_new_connection_id(bytes: &[u8]) -> Result<(Frame<'_>, &[u8]), Fault>
+    ensures { GivesFrame (λ rest. rest.now) bytes.now result (row_at table.new_connection_id_row bytes.now) }
+{
+    match new_connection_id(bytes) {
+        Ok((issued, rest)) => Ok((Frame::NewConnectionId(issued), rest)),
+        Err(fault) => Err(fault),
+    }
 }
 
 #[tactic(auto, unfolding(quic_frame_parts::specs::Reading::row_at))]
@@ -173,9 +212,9 @@ fn read_retire_connection_id(bytes: &[u8]) -> Result<(Frame<'_>, &[u8]), Fault>
     Ok((Frame::RetireConnectionId { sequence }, rest))
 }
 
-// The eight bytes of a path, there or back, read by a call for the same reason.
+// The eight bytes of a path, there or back.
 #[tactic(auto, unfolding(quic_frame_parts::specs::Reading::frame_at, quic_frame_parts::specs::Reading::row_at))]
-#[inline(never)]
+#[inline(always)]
 fn read_path(ty: u64, bytes: &[u8]) -> Result<(Frame<'_>, &[u8]), Fault>
     requires either { (0x1a ≤ ty) × (ty ≤ 0x1b) }
     ensures { GivesFrame (λ rest. rest.now) bytes.now result (frame_at ty bytes.now) }
@@ -280,7 +319,8 @@ pub(super) fn read_frame(ty: u64, bytes: &[u8]) -> Result<(Frame<'_>, &[u8]), Fa
         0x00 => Ok((Frame::Padding, bytes)),
         0x01 => Ok((Frame::Ping, bytes)),
         0x02 | 0x03 => read_ack(ty & 1 != 0, bytes),
-        0x04 | 0x05 => read_early_end(ty, bytes),
+        0x04 => read_reset_stream(bytes),
+        0x05 => read_stop_sending(bytes),
         0x06 => read_crypto(bytes),
         0x07 => read_new_token(bytes),
         0x18 => read_new_connection_id(bytes),

@@ -10,7 +10,7 @@ ghost use Rattle.quic_headers.specs.Laying.{end_bytes, end_size, first_of, laid_
 use crate::fields::{lay_bytes, lay_ends, lay_id, lay_number};
 use crate::long_type::HeadKind;
 use quic_base::coding::lay_array;
-use quic_base::ids::{ConnectionId, MAX_CID_SIZE};
+use quic_base::ids::ConnectionId;
 use quic_crypto::packet_number::PacketNumber;
 
 /// An id that is laid.

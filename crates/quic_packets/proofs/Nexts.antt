@@ -13,7 +13,7 @@ use Rattle.quic_packets.specs.Pairs.{KeyPair}
 use Rattle.quic_packets.specs.Sealing.{IsAppended, Sealed}
 use Rattle.quic_packets.specs.Opening.{PacketRefuses, IsReadBack, ExpandsIn}
 use Rattle.quic_packets.specs.Rows.{Row, AreBack, Steps, Ends, IsFront, OpensNext, OpensBack}
-use Rattle.quic_packets.proofs.Rows.{Kept, kept_start, kept_step, kept_end, steps_end, row_first, row_front, gives_memory}
+use Rattle.quic_packets.proofs.Rows.{Kept, kept_start, kept_step, kept_end, steps_end, row_first, row_front}
 
 -- all packets were opened
 pub record All (keys : SpaceId → KeyPair) (context : Context) (expected : SpaceId → ℕ) (before : List Opened) (bytes : List ℕ) (now : List Opened) : Type 0 where
@@ -31,10 +31,15 @@ Backs keys context expected old next new = IfSome old (λ left. (h : Header) (n 
     → Sealed (keys (space_in h)) h n payload packet → IsReadBack context h rest → ExpandsIn h (expected (space_in h)) n → left.items ≡ packet ++ rest
     → OpensBack keys h n payload rest next new)
 
-pub reached_start : (keys : SpaceId → KeyPair) (context : Context) (expected : SpaceId → ℕ) (before : List Opened) (bytes : Filled) (left : Option Filled) → left ≡ Some bytes
-    → Reached keys context expected before bytes.items before left
-reached_start keys context expected before bytes left is =
-    subst (Reached keys context expected before bytes.items before) (sym is) (kept_start keys keys context expected before bytes.items)
+pub reached_first : (keys : SpaceId → KeyPair) (context : Context) (expected : SpaceId → ℕ) (before : List Opened) (bytes : Filled) → Reached keys context expected before bytes.items before (Some bytes)
+reached_first keys context expected before bytes = kept_start keys keys context expected before bytes.items
+
+-- room is made for one packet more
+pub with_room : (keys : SpaceId → KeyPair) (context : Context) (expected : SpaceId → ℕ) (before : List Opened) (bytes : List ℕ) (now new : List Opened) (left : Option Filled) (next : Filled)
+    → Reached keys context expected before bytes now left → left ≡ Some next → new ≡ now → Reached keys context expected before bytes new (Some next)
+with_room keys context expected before bytes now new left next it is same =
+    subst (λ (out : List Opened). Reached keys context expected before bytes out (Some next)) (sym same)
+    (subst (Reached keys context expected before bytes now) is it)
 
 -- a packet more
 step_from : (takes_memory : Bool) (keys : SpaceId → KeyPair) (context : Context) (expected : SpaceId → ℕ) (before : List Opened) (bytes : List ℕ) (now new : List Opened) (opened : Opened) (old left : Option Filled)
@@ -57,10 +62,9 @@ reached_step takes_memory keys context expected before bytes now new opened old 
     (subst (λ (x : Result Opened OpenError). Backs keys context expected old (Some x) left) is back) pushed
 
 -- nothing is left
-pub reached_end : (takes_memory : Bool) (keys : SpaceId → KeyPair) (context : Context) (expected : SpaceId → ℕ) (before : List Opened) (bytes : List ℕ) (now : List Opened) (old left : Option Filled)
-    → Reached keys context expected before bytes now old → OpensNext takes_memory keys context expected old None left → All keys context expected before bytes now
-reached_end takes_memory keys context expected before bytes now None left it opens = it
-reached_end takes_memory keys context expected before bytes now (Some old) left it opens = absurd opens
+pub reached_all : (keys : SpaceId → KeyPair) (context : Context) (expected : SpaceId → ℕ) (before : List Opened) (bytes : List ℕ) (now : List Opened) (left : Option Filled)
+    → Reached keys context expected before bytes now left → left ≡ None → All keys context expected before bytes now
+reached_all keys context expected before bytes now left it is = subst (Reached keys context expected before bytes now) is it
 
 -- the next packet is refused
 abbrev pub Stopped : Bool → (SpaceId → KeyPair) → Context → (SpaceId → ℕ) → List Opened → List ℕ → List Opened → OpenError → Type 0
@@ -94,25 +98,3 @@ sealed_refused takes_memory keys context expected before bytes now e old left ne
     sealed_from takes_memory keys context expected before bytes now e old left it
     (subst (λ (x : Result Opened OpenError). OpensNext takes_memory keys context expected old (Some x) left) is opens)
     (subst (λ (x : Result Opened OpenError). Backs keys context expected old (Some x) left) is back)
-
--- a packet was opened, and there is no memory to keep it
-full_from : (takes_memory : Bool) (keys : SpaceId → KeyPair) (context : Context) (expected : SpaceId → ℕ) (before : List Opened) (bytes : List ℕ) (now : List Opened) (opened : Opened) (old left : Option Filled)
-    → Reached keys context expected before bytes now old → OpensNext takes_memory keys context expected old (Some (Ok opened)) left
-    → Stopped takes_memory keys context expected before bytes now OutOfMemory
-    × ((packets : List (Header × ℕ × List ℕ)) → Row keys context expected packets bytes → IsFront keys packets before now)
-full_from takes_memory keys context expected before bytes now opened None left it next = absurd (let f = next.0 in cc)
-full_from takes_memory keys context expected before bytes now opened (Some old) left it next = (
-  (old.items, it.steps, gives_memory takes_memory keys context expected old.items opened left next),
-  λ packets row. row_front keys keys context expected before bytes now old.items it packets row,
-)
-
-pub reached_full : (takes_memory : Bool) (keys : SpaceId → KeyPair) (context : Context) (expected : SpaceId → ℕ) (before : List Opened) (bytes : List ℕ) (now new : List Opened) (opened : Opened) (old left : Option Filled) (next : Result Opened OpenError)
-    → Reached keys context expected before bytes now old → next ≡ Ok opened → OpensNext takes_memory keys context expected old (Some next) left → new ≡ now
-    → Stopped takes_memory keys context expected before bytes new OutOfMemory
-    × ((packets : List (Header × ℕ × List ℕ)) → Row keys context expected packets bytes → IsFront keys packets before new)
-reached_full takes_memory keys context expected before bytes now new opened old left next it is opens same =
-    let full = full_from takes_memory keys context expected before bytes now opened old left it
-    (subst (λ (x : Result Opened OpenError). OpensNext takes_memory keys context expected old (Some x) left) is opens) in (
-      subst (λ (out : List Opened). Stopped takes_memory keys context expected before bytes out OutOfMemory) (sym same) full.0,
-      λ packets row. subst (λ (out : List Opened). IsFront keys packets before out) (sym same) (full.1 packets row),
-    )

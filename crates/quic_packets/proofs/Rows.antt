@@ -1,6 +1,6 @@
 -- Packets in a row are opened one after another.
 use Rattle.std.specs.Prelude.{Bool, ◌≡◌, ℕ, ◌<◌, List, [], ◌∷◌, ◌++◌, length, Option, Some, None}
-use Rattle.std.proofs.Common.{inr, sym, ap, ◌∙◌, arith, refl, subst, append_assoc, append-nil}
+use Rattle.std.proofs.Common.{sym, ap, ◌∙◌, arith, refl, subst, append_assoc, append-nil}
 use Rattle.bytes.specs.Filled.{Filled}
 use Rattle.quic_base.specs.declared.ids.SpaceId.{SpaceId}
 use Rattle.quic_headers.specs.Queries.{space_in}
@@ -116,8 +116,3 @@ steps_end seal key context expected before bytes now left new opened it gives sa
 pub row_front : (seal : SpaceId → KeyPair) (key : SpaceId → KeyPair) (context : Context) (expected : SpaceId → ℕ) (before : List Opened) (bytes : List ℕ) (now : List Opened) (left : List ℕ)
     → Kept seal key context expected before bytes now left → (packets : List (Header × ℕ × List ℕ)) → Row seal context expected packets bytes → IsFront seal packets before now
 row_front seal key context expected before bytes now left it packets row = let p = it.progress packets row in (p.0, p.1, p.2, p.3)
-
--- where a packet could be opened, memory may also run out
-pub gives_memory : (takes_memory : Bool) (key : SpaceId → KeyPair) (context : Context) (expected : SpaceId → ℕ) (bytes : List ℕ) (opened : Opened) (rest : Option Filled)
-    → Gives key context expected bytes opened rest → PacketRefuses takes_memory key context expected bytes error.OutOfMemory
-gives_memory takes_memory key context expected bytes opened rest gives = inr (gives.0, gives.1, gives.2, gives.3, tt)

@@ -18,7 +18,8 @@ pub fn one_packet()
     ensures packet { (keys : KeyPair) (h : Header) (n : ℕ) (payload one other : List ℕ)
         → Sealed keys h n payload one → Sealed keys h n payload other → one ≡ other }
     // Frames have one payload that is the least.
-    ensures payload { (frames : List Frame) (one other : List ℕ) → IsPayload frames one → IsPayload frames other → one ≡ other }
+    ensures payload { (frames : List Frame) (one other : List ℕ) → IsPayload frames one → IsPayload frames other
+        → one ≡ other }
     ensures number { (number : PacketNumber) (expected one other : ℕ)
         → Expands (low_part number) (window_of number) expected one
         → Expands (low_part number) (window_of number) expected other → one ≡ other }

@@ -165,7 +165,8 @@ fn open_part<H: HeaderKey, P: PacketKey>(
     }
 }
 
-// Opens a datagram's first packet, and gives what follows it.
+// Cuts a datagram's first packet and opens it, and gives what follows it. Where there is no room for what is opened,
+// nothing is.
 fn open_first<C: ConnectionIdParser, H: HeaderKey, P: PacketKey>(
     bytes: BytesMut,
     parser: &C,
@@ -173,19 +174,54 @@ fn open_first<C: ConnectionIdParser, H: HeaderKey, P: PacketKey>(
     grease: bool,
     keys: &SpaceKeys<H, P>,
     expected: &Expected,
+    room: bool,
 ) -> Result<(Opened, Option<BytesMut>), OpenError>
     requires { AreExpected expected.now }
     ensures opened { IfOk result (λ x. Gives (⟦<SpaceKeys<H, P> as PairsOfKeys>⟧.pairs keys.now)
         (read_by (C.parsed parser.now) versions.now grease) (expected_in expected.now) bytes.items x.0 x.1) }
     ensures refused { IfErr result (λ e. PacketRefuses (C.takes_memory parser.now) (⟦<SpaceKeys<H, P> as PairsOfKeys>⟧.pairs keys.now)
         (read_by (C.parsed parser.now) versions.now grease) (expected_in expected.now) bytes.items e) }
+    ensures roomy { IfOk result (λ _. IsTrue room) }
 {
     let (partial, rest) = match PartialDecode::new(bytes, parser, versions, grease) {
         Ok(parts) => parts,
         Err(e) => return Err(decode_error(&e)),
     };
+    if !room {
+        return Err(OpenError::OutOfMemory);
+    }
     match open_part(partial, keys, expected) {
         Ok(opened) => Ok((opened, rest)),
+        Err(e) => Err(e),
+    }
+}
+
+// The same, where what was sealed by the keys is opened to what it was.
+fn open_one<C: ConnectionIdParser, H: HeaderKey, P: PacketKey>(
+    bytes: BytesMut,
+    parser: &C,
+    versions: &[u32],
+    grease: bool,
+    keys: &SpaceKeys<H, P>,
+    expected: &Expected,
+    room: bool,
+) -> Result<(Opened, Option<BytesMut>), OpenError>
+    requires { AreExpected expected.now }
+    ensures opened { IfOk result (λ x. Gives (⟦<SpaceKeys<H, P> as PairsOfKeys>⟧.pairs keys.now)
+        (read_by (C.parsed parser.now) versions.now grease) (expected_in expected.now) bytes.items x.0 x.1) }
+    ensures refused { IfErr result (λ e. PacketRefuses (C.takes_memory parser.now) (⟦<SpaceKeys<H, P> as PairsOfKeys>⟧.pairs keys.now)
+        (read_by (C.parsed parser.now) versions.now grease) (expected_in expected.now) bytes.items e) }
+    ensures shorter { IfOk result (λ x. IfSome x.1 (λ rest. length rest.items < length bytes.items)) }
+    ensures sealed { (h : Header) (n : ℕ) (payload packet rest : List ℕ)
+        → Sealed (⟦<SpaceKeys<H, P> as PairsOfKeys>⟧.pairs keys.now (space_in h)) h n payload packet
+        → IsReadBack (read_by (C.parsed parser.now) versions.now grease) h rest
+        → ExpandsIn h (expected_in expected.now (space_in h)) n → bytes.items ≡ packet ++ rest
+        → MatchResult result (λ x. GivesBack (⟦<SpaceKeys<H, P> as PairsOfKeys>⟧.pairs keys.now) h n payload rest x.0 x.1) (λ e. e ≡ OpenError.OutOfMemory) }
+    ensures roomy { IfOk result (λ _. IsTrue room) }
+{
+    are_bytes(bytes.as_slice());
+    match open_first(bytes, parser, versions, grease, keys, expected, room) {
+        Ok(opened) => Ok(opened),
         Err(e) => Err(e),
     }
 }
@@ -194,11 +230,11 @@ fn open_first<C: ConnectionIdParser, H: HeaderKey, P: PacketKey>(
 /// Ids of short heads are taken by `parser`; heads of other versions than `versions` are refused; with `grease`
 /// the fixed bit may be clear. A Retry or version negotiation is given as it stands, with no number.
 ///
-/// Refused with `Decode` where `PartialDecode::new` or `PartialDecode::finish` refuses the packet, and with
-/// `Unsealed` exactly where the packet key answers `CryptoError`; `OutOfMemory` may stand in place of every
-/// answer but a refusal of `PartialDecode::new`. What was sealed by the keys handed in, with a number that is
-/// found from the expected one, is opened to the same head, number and payload, or memory ran out. The caller
-/// must give expected numbers below 2^62.
+/// Refused with `Decode` only where `PartialDecode::new` or `PartialDecode::finish` refuses the packet, and with
+/// `Unsealed` only where the packet key answers `CryptoError`. Once a packet was cut, `OutOfMemory` may stand in place
+/// of every answer; before, where the parser takes memory. What was sealed by the keys handed in, with a number that is
+/// found from the expected one, is opened to the same head, number and payload, or memory ran out. The caller must give
+/// expected numbers below 2^62.
 pub fn open_packet<C: ConnectionIdParser, H: HeaderKey, P: PacketKey>(
     bytes: BytesMut,
     parser: &C,
@@ -215,30 +251,27 @@ pub fn open_packet<C: ConnectionIdParser, H: HeaderKey, P: PacketKey>(
     ensures shorter { IfOk result (λ x. IfSome x.1 (λ rest. length rest.items < length bytes.items)) }
     ensures sealed { (h : Header) (n : ℕ) (payload packet rest : List ℕ)
         → Sealed (⟦<SpaceKeys<H, P> as PairsOfKeys>⟧.pairs keys.now (space_in h)) h n payload packet
-        → IsReadBack (read_by (C.parsed parser.now) versions.now grease) h rest → ExpandsIn h (expected_in expected.now (space_in h)) n → bytes.items ≡ packet ++ rest
+        → IsReadBack (read_by (C.parsed parser.now) versions.now grease) h rest
+        → ExpandsIn h (expected_in expected.now (space_in h)) n → bytes.items ≡ packet ++ rest
         → MatchResult result (λ x. GivesBack (⟦<SpaceKeys<H, P> as PairsOfKeys>⟧.pairs keys.now) h n payload rest x.0 x.1) (λ e. e ≡ OpenError.OutOfMemory) }
 {
-    are_bytes(bytes.as_slice());
-    match open_first(bytes, parser, versions, grease, keys, expected) {
-        Ok(opened) => Ok(opened),
-        Err(e) => Err(e),
-    }
+    open_one(bytes, parser, versions, grease, keys, expected, true)
 }
 
 /// What is left of a datagram, whose packets are opened one after another.
 #[derive(Debug, Drop)]
 pub struct Packets {
     /// The bytes from the next packet on. None once nothing follows a packet, and after a refusal.
-    pub left: Option<BytesMut>,
+    pub rest: Option<BytesMut>,
 }
 
 impl Packets {
     /// The packets of a datagram.
-    pub fn of(datagram: BytesMut) -> Packets
-        ensures { result.left ≡ Some datagram }
+    pub fn new(datagram: BytesMut) -> Packets
+        ensures { result.rest ≡ Some datagram }
     {
         Packets {
-            left: Some(datagram),
+            rest: Some(datagram),
         }
     }
 
@@ -256,18 +289,18 @@ impl Packets {
         requires { AreExpected expected.now }
         ensures next { OpensNext (C.takes_memory parser.now) (⟦<SpaceKeys<H, P> as PairsOfKeys>⟧.pairs keys.now)
             (read_by (C.parsed parser.now) versions.now grease) (expected_in expected.now)
-            self.old.left result self.new.left }
-        ensures sealed { IfSome self.old.left (λ left. (h : Header) (n : ℕ) (payload packet rest : List ℕ)
+            self.old.rest result self.new.rest }
+        ensures sealed { IfSome self.old.rest (λ left. (h : Header) (n : ℕ) (payload packet rest : List ℕ)
             → Sealed (⟦<SpaceKeys<H, P> as PairsOfKeys>⟧.pairs keys.now (space_in h)) h n payload packet
             → IsReadBack (read_by (C.parsed parser.now) versions.now grease) h rest
             → ExpandsIn h (expected_in expected.now (space_in h)) n → left.items ≡ packet ++ rest
-            → OpensBack (⟦<SpaceKeys<H, P> as PairsOfKeys>⟧.pairs keys.now) h n payload rest result self.new.left) }
-        ensures shorter { IsSome result → left_size self.new.left < left_size self.old.left }
+            → OpensBack (⟦<SpaceKeys<H, P> as PairsOfKeys>⟧.pairs keys.now) h n payload rest result self.new.rest) }
+        ensures shorter { IsSome result → left_size self.new.rest < left_size self.old.rest }
     {
-        let bytes = self.left.take()?;
+        let bytes = self.rest.take()?;
         match open_packet(bytes, parser, versions, grease, keys, expected) {
             Ok((opened, rest)) => {
-                self.left = rest;
+                self.rest = rest;
                 Some(Ok(opened))
             }
             Err(e) => Some(Err(e)),
@@ -276,9 +309,9 @@ impl Packets {
 }
 
 /// Opens a datagram's packets one after another, as `Packets::open_next` does, always with the expected numbers that
-/// are handed in, and appends them to `out`. After a refusal those before it stand there, but for one that was opened
-/// where `out` couldn't grow. Of packets in a row that were sealed by the keys handed in all are opened, in order;
-/// where memory ran out, the first ones were. The caller must give expected numbers below 2^62.
+/// are handed in, and appends them to `out`. There is room for a packet in `out` before it is opened, so after a
+/// refusal whatever was opened stands there. Of packets in a row that were sealed by the keys handed in all are opened,
+/// in order; where memory ran out, the first ones were. The caller must give expected numbers below 2^62.
 pub fn open_datagram<C: ConnectionIdParser, H: HeaderKey, P: PacketKey>(
     bytes: BytesMut,
     parser: &C,
@@ -291,24 +324,28 @@ pub fn open_datagram<C: ConnectionIdParser, H: HeaderKey, P: PacketKey>(
     requires { AreExpected expected.now }
     ensures opened { IfOk result (λ _. IsAppended (λ added. Ends (⟦<SpaceKeys<H, P> as PairsOfKeys>⟧.pairs keys.now)
         (read_by (C.parsed parser.now) versions.now grease) (expected_in expected.now) bytes.items added) out.old.items out.new.items) }
-    ensures refused { IfErr result (λ e. (left : List ℕ) × IsAppended (λ added. Steps (⟦<SpaceKeys<H, P> as PairsOfKeys>⟧.pairs keys.now)
+    ensures refused { IfErr result (λ e. (left : List ℕ)
+        × IsAppended (λ added. Steps (⟦<SpaceKeys<H, P> as PairsOfKeys>⟧.pairs keys.now)
         (read_by (C.parsed parser.now) versions.now grease) (expected_in expected.now) bytes.items added left) out.old.items out.new.items
         × PacketRefuses (C.takes_memory parser.now) (⟦<SpaceKeys<H, P> as PairsOfKeys>⟧.pairs keys.now)
         (read_by (C.parsed parser.now) versions.now grease) (expected_in expected.now) left e) }
     ensures sealed { (packets : List (Header × ℕ × List ℕ)) → Row (⟦<SpaceKeys<H, P> as PairsOfKeys>⟧.pairs keys.now)
         (read_by (C.parsed parser.now) versions.now grease) (expected_in expected.now) packets bytes.items
         → MatchResult result (λ _. IsAppended (λ added. AreBack (⟦<SpaceKeys<H, P> as PairsOfKeys>⟧.pairs keys.now) added packets) out.old.items out.new.items)
-        (λ e. (e ≡ OpenError.OutOfMemory) × IsFront (⟦<SpaceKeys<H, P> as PairsOfKeys>⟧.pairs keys.now) packets out.old.items out.new.items) }
+        (λ e. (e ≡ OpenError.OutOfMemory)
+        × IsFront (⟦<SpaceKeys<H, P> as PairsOfKeys>⟧.pairs keys.now) packets out.old.items out.new.items) }
 {
-    let mut packets = Packets::of(bytes);
-    while let Some(next) = packets.open_next(parser, versions, grease, keys, expected) {
-        let opened = match next {
-            Ok(opened) => opened,
+    let mut left = Some(bytes);
+    while let Some(bytes) = left.take() {
+        let room = out.reserve(1).is_ok();
+        let (opened, rest) = match open_one(bytes, parser, versions, grease, keys, expected, room) {
+            Ok(parts) => parts,
             Err(e) => return Err(e),
         };
         if out.push(opened).is_err() {
-            return Err(OpenError::OutOfMemory);
+            unreachable!();
         }
+        left = rest;
     }
     Ok(())
 }

@@ -1,68 +1,55 @@
--- One packet after another is opened.
-use Rattle.std.proofs.Common.{rules, ◌≡◌, ℕ, ◌++◌, [], ◌∷◌, refl}
+-- One packet after another is opened, each where there is room for it.
+use Rattle.std.proofs.Common.{rules, ◌≡◌, ℕ, ◌++◌, [], ◌∷◌, None, Some, Ok, Err, refl, subst}
+use Rattle.bytes.specs.Filled.{Filled}
 use Rattle.quic_base.specs.declared.ids.SpaceId.{SpaceId}
 use Rattle.quic_heads.specs.Reading.{Context}
 use Rattle.quic_packets.specs.Pairs.{KeyPair}
 use Rattle.quic_packets.specs.Spaces.{keys_in, expected_in}
-use Rattle.quic_packets.proofs.Nexts.{reached_start, reached_step, reached_end, reached_refused, sealed_refused, reached_full}
+use Rattle.quic_packets.proofs.Nexts.{Reached, reached_first, with_room, reached_step, reached_all, reached_refused, sealed_refused}
 use Rattle.quic_packets.proofs.opening.open_datagram.Goals as goal
 
-pub loop-next-init : goal.loop-next-init
-loop-next-init g c =
+pub loop-bytes-init : goal.loop-bytes-init
+loop-bytes-init g c =
     let context : Context = record { parsed = g.C.ConnectionIdParser.parsed c.args.parser.now; versions = c.args.versions.now; grease = c.args.grease } in
     let keys : SpaceId → KeyPair = (λ space. record { sample_len = g.H.HeaderKey.sample_len (keys_in c.args.keys.now space).header; tag_size = g.P.PacketKey.tag_size (keys_in c.args.keys.now space).packet; protected = g.H.HeaderKey.protected (keys_in c.args.keys.now space).header; unprotected = g.H.HeaderKey.unprotected (keys_in c.args.keys.now space).header; sealed = g.P.PacketKey.sealed (keys_in c.args.keys.now space).packet; opened = g.P.PacketKey.opened (keys_in c.args.keys.now space).packet }) in
     let expected : SpaceId → ℕ = expected_in c.args.expected.now in
-    reached_start keys context expected c.args.out.now.items c.args.bytes c.of-packets.result.left c.of-packets.ensures
+    reached_first keys context expected c.args.out.now.items c.args.bytes
 
-pub loop-next-preserved : goal.loop-next-preserved
-loop-next-preserved g c =
+pub loop-bytes-preserved : goal.loop-bytes-preserved
+loop-bytes-preserved g c =
     let context : Context = record { parsed = g.C.ConnectionIdParser.parsed c.args.parser.now; versions = c.args.versions.now; grease = c.args.grease } in
     let keys : SpaceId → KeyPair = (λ space. record { sample_len = g.H.HeaderKey.sample_len (keys_in c.args.keys.now space).header; tag_size = g.P.PacketKey.tag_size (keys_in c.args.keys.now space).packet; protected = g.H.HeaderKey.protected (keys_in c.args.keys.now space).header; unprotected = g.H.HeaderKey.unprotected (keys_in c.args.keys.now space).header; sealed = g.P.PacketKey.sealed (keys_in c.args.keys.now space).packet; opened = g.P.PacketKey.opened (keys_in c.args.keys.now space).packet }) in
     let expected : SpaceId → ℕ = expected_in c.args.expected.now in
-    let pushed : c.push.new.self.items ≡ c.loop-next.out.items ++ (c.in-Ok.opened ∷ []) = search rules in
-    reached_step (g.C.ConnectionIdParser.takes_memory c.args.parser.now) keys context expected c.args.out.now.items c.args.bytes.items c.loop-next.out.items c.push.new.self.items c.in-Ok.opened c.loop-next.packets.left c.open_next.new.self.left c.in-Some.next
-    c.loop-next.invariant c.in-Ok.is c.in-Some.ensures.next c.in-Some.ensures.sealed pushed
+    let is : c.loop-bytes.left ≡ Some c.in-Some.bytes = cc in
+    let there = with_room keys context expected c.args.out.now.items c.args.bytes.items c.loop-bytes.out.items c.reserve.new.self.items c.loop-bytes.left c.in-Some.bytes c.loop-bytes.invariant is c.reserve.ensures.items in
+    let pushed : c.push.new.self.items ≡ c.reserve.new.self.items ++ (c.in-Ok.parts.0 ∷ []) = search rules in
+    reached_step (g.C.ConnectionIdParser.takes_memory c.args.parser.now) keys context expected c.args.out.now.items c.args.bytes.items c.reserve.new.self.items c.push.new.self.items c.in-Ok.parts.0 (Some c.in-Some.bytes) c.in-Ok.parts.1 (Ok c.in-Ok.parts.0)
+    there refl c.in-Ok.ensures.opened c.in-Ok.ensures.sealed pushed
 
 pub returns-in-Err-clause-refused : goal.returns-in-Err-clause-refused
 returns-in-Err-clause-refused g c =
     let context : Context = record { parsed = g.C.ConnectionIdParser.parsed c.args.parser.now; versions = c.args.versions.now; grease = c.args.grease } in
     let keys : SpaceId → KeyPair = (λ space. record { sample_len = g.H.HeaderKey.sample_len (keys_in c.args.keys.now space).header; tag_size = g.P.PacketKey.tag_size (keys_in c.args.keys.now space).packet; protected = g.H.HeaderKey.protected (keys_in c.args.keys.now space).header; unprotected = g.H.HeaderKey.unprotected (keys_in c.args.keys.now space).header; sealed = g.P.PacketKey.sealed (keys_in c.args.keys.now space).packet; opened = g.P.PacketKey.opened (keys_in c.args.keys.now space).packet }) in
     let expected : SpaceId → ℕ = expected_in c.args.expected.now in
-    reached_refused (g.C.ConnectionIdParser.takes_memory c.args.parser.now) keys context expected c.args.out.now.items c.args.bytes.items c.loop-next.out.items c.in-Err.e c.loop-next.packets.left c.open_next.new.self.left c.in-Some.next
-    c.loop-next.invariant c.in-Err.is c.in-Some.ensures.next
+    let is : c.loop-bytes.left ≡ Some c.in-Some.bytes = cc in
+    let there = with_room keys context expected c.args.out.now.items c.args.bytes.items c.loop-bytes.out.items c.reserve.new.self.items c.loop-bytes.left c.in-Some.bytes c.loop-bytes.invariant is c.reserve.ensures.items in
+    reached_refused (g.C.ConnectionIdParser.takes_memory c.args.parser.now) keys context expected c.args.out.now.items c.args.bytes.items c.reserve.new.self.items c.in-Err.e (Some c.in-Some.bytes) None (Err c.in-Err.e)
+    there refl (c.in-Err.ensures.refused, refl)
 
 pub returns-in-Err-clause-sealed : goal.returns-in-Err-clause-sealed
 returns-in-Err-clause-sealed g c =
     let context : Context = record { parsed = g.C.ConnectionIdParser.parsed c.args.parser.now; versions = c.args.versions.now; grease = c.args.grease } in
     let keys : SpaceId → KeyPair = (λ space. record { sample_len = g.H.HeaderKey.sample_len (keys_in c.args.keys.now space).header; tag_size = g.P.PacketKey.tag_size (keys_in c.args.keys.now space).packet; protected = g.H.HeaderKey.protected (keys_in c.args.keys.now space).header; unprotected = g.H.HeaderKey.unprotected (keys_in c.args.keys.now space).header; sealed = g.P.PacketKey.sealed (keys_in c.args.keys.now space).packet; opened = g.P.PacketKey.opened (keys_in c.args.keys.now space).packet }) in
     let expected : SpaceId → ℕ = expected_in c.args.expected.now in
-    sealed_refused (g.C.ConnectionIdParser.takes_memory c.args.parser.now) keys context expected c.args.out.now.items c.args.bytes.items c.loop-next.out.items c.in-Err.e c.loop-next.packets.left c.open_next.new.self.left c.in-Some.next
-    c.loop-next.invariant c.in-Err.is c.in-Some.ensures.next c.in-Some.ensures.sealed
-
-pub returns-then-is_err-clause-refused : goal.returns-then-is_err-clause-refused
-returns-then-is_err-clause-refused g c =
-    let context : Context = record { parsed = g.C.ConnectionIdParser.parsed c.args.parser.now; versions = c.args.versions.now; grease = c.args.grease } in
-    let keys : SpaceId → KeyPair = (λ space. record { sample_len = g.H.HeaderKey.sample_len (keys_in c.args.keys.now space).header; tag_size = g.P.PacketKey.tag_size (keys_in c.args.keys.now space).packet; protected = g.H.HeaderKey.protected (keys_in c.args.keys.now space).header; unprotected = g.H.HeaderKey.unprotected (keys_in c.args.keys.now space).header; sealed = g.P.PacketKey.sealed (keys_in c.args.keys.now space).packet; opened = g.P.PacketKey.opened (keys_in c.args.keys.now space).packet }) in
-    let expected : SpaceId → ℕ = expected_in c.args.expected.now in
-    let unchanged : c.push.new.self.items ≡ c.loop-next.out.items = search rules in
-    (reached_full (g.C.ConnectionIdParser.takes_memory c.args.parser.now) keys context expected c.args.out.now.items c.args.bytes.items c.loop-next.out.items c.push.new.self.items c.in-Ok.opened c.loop-next.packets.left c.open_next.new.self.left c.in-Some.next
-    c.loop-next.invariant c.in-Ok.is c.in-Some.ensures.next unchanged).0
-
-pub returns-then-is_err-clause-sealed : goal.returns-then-is_err-clause-sealed
-returns-then-is_err-clause-sealed g c = λ packets row.
-    let context : Context = record { parsed = g.C.ConnectionIdParser.parsed c.args.parser.now; versions = c.args.versions.now; grease = c.args.grease } in
-    let keys : SpaceId → KeyPair = (λ space. record { sample_len = g.H.HeaderKey.sample_len (keys_in c.args.keys.now space).header; tag_size = g.P.PacketKey.tag_size (keys_in c.args.keys.now space).packet; protected = g.H.HeaderKey.protected (keys_in c.args.keys.now space).header; unprotected = g.H.HeaderKey.unprotected (keys_in c.args.keys.now space).header; sealed = g.P.PacketKey.sealed (keys_in c.args.keys.now space).packet; opened = g.P.PacketKey.opened (keys_in c.args.keys.now space).packet }) in
-    let expected : SpaceId → ℕ = expected_in c.args.expected.now in
-    let unchanged : c.push.new.self.items ≡ c.loop-next.out.items = search rules in (
-      refl,
-      (reached_full (g.C.ConnectionIdParser.takes_memory c.args.parser.now) keys context expected c.args.out.now.items c.args.bytes.items c.loop-next.out.items c.push.new.self.items c.in-Ok.opened c.loop-next.packets.left c.open_next.new.self.left c.in-Some.next
-          c.loop-next.invariant c.in-Ok.is c.in-Some.ensures.next unchanged).1 packets row,
-    )
+    let is : c.loop-bytes.left ≡ Some c.in-Some.bytes = cc in
+    let there = with_room keys context expected c.args.out.now.items c.args.bytes.items c.loop-bytes.out.items c.reserve.new.self.items c.loop-bytes.left c.in-Some.bytes c.loop-bytes.invariant is c.reserve.ensures.items in
+    sealed_refused (g.C.ConnectionIdParser.takes_memory c.args.parser.now) keys context expected c.args.out.now.items c.args.bytes.items c.reserve.new.self.items c.in-Err.e (Some c.in-Some.bytes) None (Err c.in-Err.e)
+    there refl (c.in-Err.ensures.refused, refl) c.in-Err.ensures.sealed
 
 pub returns-clause-sealed : goal.returns-clause-sealed
 returns-clause-sealed g c =
     let context : Context = record { parsed = g.C.ConnectionIdParser.parsed c.args.parser.now; versions = c.args.versions.now; grease = c.args.grease } in
     let keys : SpaceId → KeyPair = (λ space. record { sample_len = g.H.HeaderKey.sample_len (keys_in c.args.keys.now space).header; tag_size = g.P.PacketKey.tag_size (keys_in c.args.keys.now space).packet; protected = g.H.HeaderKey.protected (keys_in c.args.keys.now space).header; unprotected = g.H.HeaderKey.unprotected (keys_in c.args.keys.now space).header; sealed = g.P.PacketKey.sealed (keys_in c.args.keys.now space).packet; opened = g.P.PacketKey.opened (keys_in c.args.keys.now space).packet }) in
     let expected : SpaceId → ℕ = expected_in c.args.expected.now in
-    (reached_end (g.C.ConnectionIdParser.takes_memory c.args.parser.now) keys context expected c.args.out.now.items c.args.bytes.items c.loop-next.out.items c.loop-next.packets.left c.open_next.new.self.left
-    c.loop-next.invariant c.in_default.ensures.next).back
+    let none : c.loop-bytes.left ≡ None = cc in
+    (reached_all keys context expected c.args.out.now.items c.args.bytes.items c.loop-bytes.out.items c.loop-bytes.left c.loop-bytes.invariant none).back

@@ -8,7 +8,7 @@ use Rattle.quic_packets.specs.Pairs.{KeyPair}
 use Rattle.quic_packets.specs.Spaces.{keys_in, expected_in}
 use Rattle.quic_packets.proofs.Opened.{Lawful}
 use Rattle.quic_packets.proofs.OpenedBack.{Known, gives_back, refuses_back, gives_shorter}
-use Rattle.quic_packets.proofs.opening.open_packet.Goals as goal
+use Rattle.quic_packets.proofs.opening.open_one.Goals as goal
 
 pub returns-in-Ok-clause-sealed : goal.returns-in-Ok-clause-sealed
 returns-in-Ok-clause-sealed g c = λ h n payload packet rest sealed read expands whole.

@@ -1,7 +1,5 @@
 mod Carried
 mod Ends
 mod Masks
-mod Reread
-mod HeadsBack
 mod OneLine
 mod RowOfOne

@@ -6,4 +6,3 @@ pub mod MaskLaws
 pub mod Outgoing
 pub mod Parsers
 pub mod Plain
-pub mod Reset

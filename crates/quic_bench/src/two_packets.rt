@@ -95,7 +95,8 @@ pub fn sealed_and_opened<C: ConnectionIdParser, H: HeaderKey, P: PacketKey>(
     requires first { CanBeSealed first.now }
     requires second { CanBeSealed second.now }
     requires expected { AreExpected expected.now }
-    requires front { (rest : List ℕ) → IsFoundAgain (read_by (C.parsed parser.now) versions.now false) (expected_in expected.now) first.now rest }
+    requires front { (rest : List ℕ)
+        → IsFoundAgain (read_by (C.parsed parser.now) versions.now false) (expected_in expected.now) first.now rest }
     requires back { IsFoundAgain (read_by (C.parsed parser.now) versions.now false) (expected_in expected.now) second.now [] }
     ensures opened { IfOk result (λ x. Carries x.0 first.now × Carries x.1 second.now) }
     ensures refused { IfErr result (λ e. IsFailure (⟦<SpaceKeys<H, P> as PairsOfKeys>⟧.pairs keys.now) first.now second.now e) }

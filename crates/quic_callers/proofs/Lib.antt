@@ -2,3 +2,6 @@ mod Walks
 mod Sums
 mod Reread
 mod Again
+mod Counts
+mod HeadsBack
+mod Values

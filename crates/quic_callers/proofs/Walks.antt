@@ -20,14 +20,14 @@ pub record IsOnTheWay (payload : List ℕ) (way : Way) : Type 0 where
   pub found : List Found
   pub items : map unplaced (left (first_of false payload)) ≡ map given found ++ map unplaced (left way)
 
-pub on_the_way_first : (payload : List ℕ) (way : Way) → way ≡ first_of false payload → IsOnTheWay payload way
+unfoldable pub on_the_way_first : (payload : List ℕ) (way : Way) → way ≡ first_of false payload → IsOnTheWay payload way
 on_the_way_first payload way e = record { found = []; items = ap (λ (w : Way). map unplaced (left w)) (sym e) }
 
-push : (found : List Found) (one : Found) (rest : List (Result Found Invalid)) → map given found ++ given one ∷ rest ≡ map given (found ++ one ∷ []) ++ rest
+pub push : (found : List Found) (one : Found) (rest : List (Result Found Invalid)) → map given found ++ given one ∷ rest ≡ map given (found ++ one ∷ []) ++ rest
 push [] one rest = refl
 push (first ∷ found) one rest = ap (λ (l : List (Result Found Invalid)). given first ∷ l) (push found one rest)
 
-pub on_the_way_next : (payload : List ℕ) (way next : Way) (frame : Frame) → IsOnTheWay payload way → Finds way frame next → IsOnTheWay payload next
+unfoldable pub on_the_way_next : (payload : List ℕ) (way next : Way) (frame : Frame) → IsOnTheWay payload way → Finds way frame next → IsOnTheWay payload next
 on_the_way_next payload way next frame w f = record {
   found = w.found ++ f.found ∷ [];
   items = w.items ∙ ap (λ l. map given w.found ++ map unplaced l) f.first ∙ push w.found f.found (map unplaced (left next));
@@ -96,6 +96,27 @@ pub may_go_on : (front : List ℕ) (i : InvalidFrame) → IsMet front (invalid_o
 may_go_on front i m cut =
     let end : m.reason ≡ UnexpectedEnd = reason_is_end m.reason (ap (λ (x : Invalid). x.reason) m.told ∙ cut) in
     inr (inr (m.found, m.type, subst (λ (r : Fault). IsBroken false None m.found front m.type r) end m.broken))
+
+same_frames : (found others : List Found) → map given found ≡ map given others → found ≡ others
+same_frames [] [] e = refl
+same_frames [] (other ∷ others) e = cc
+same_frames (first ∷ found) [] e = cc
+same_frames (first ∷ found) (other ∷ others) e =
+    let rest : map given found ≡ map given others = cc in
+    let same = same_frames found others rest in
+    cc
+
+-- nothing is left, and nothing was no frame: the frames that came are those of the payload
+pub those_frames : (payload : List ℕ) (start way : Way) → start ≡ first_of false payload → (w : IsOnTheWay payload way) → left way ≡ [] → IsEither false None payload → GivesFrames false payload start
+    → GivesBroken false payload start → AreFrames false w.found payload
+those_frames payload start way first w none either frames broken = by_case either
+  where
+    items : map unplaced (left start) ≡ map given w.found
+    items = ap (λ (o : Way). map unplaced (left o)) first ∙ w.items ∙ ap (λ l. map given w.found ++ map unplaced l) none ∙ append-nil (map given w.found)
+
+    by_case : IsEither false None payload → AreFrames false w.found payload
+    by_case (inl s) = subst (λ found. AreFrames false found payload) (same_frames s.0 w.found (sym (frames s.0 s.1) ∙ items)) s.1
+    by_case (inr s) = no_error w.found s.0 (invalid s.1 s.2) (sym items ∙ broken s.0 s.1 s.2 s.3)
 
 -- nothing is left, and nothing was no frame
 pub all_frames : (payload : List ℕ) (start way : Way) → start ≡ first_of false payload → IsOnTheWay payload way → left way ≡ [] → IsEither false None payload → GivesBroken false payload start

@@ -1,2 +1,4 @@
 pub mod Acked
+pub mod Data
+pub mod Reset
 pub mod Told

@@ -2,5 +2,10 @@
 #![tactic(auto)]
 
 pub mod acks;
+pub mod client;
+pub mod frames;
+pub mod heads;
+pub mod lists;
+pub mod params;
 pub mod payloads;
 pub mod sets;

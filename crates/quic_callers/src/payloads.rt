@@ -1,6 +1,7 @@
 //! Payloads: what a capture reader and a connection do with their frames.
-ghost use Rattle.std.specs.Prelude.{◌≡◌, ◌≢◌, ◌<◌, ◌^◌, ◌++◌, List, ℕ, false, codes, length, IsTrue, IfErr, MatchBool, OnOk};
+ghost use Rattle.std.specs.Prelude.{◌≡◌, ◌≢◌, ◌<◌, ◌^◌, ◌-◌, ◌++◌, List, ℕ, false, codes, length, min, IsTrue, IfErr, IfOk, MatchBool, OnOk};
 ghost use Rattle.quic_base.specs.Number.{AreBytes};
+ghost use Rattle.quic_callers.specs.Data.{streams_len};
 ghost use Rattle.quic_callers.specs.Told.{IsTold, MayGoOn};
 ghost use Rattle.quic_frame_parts.specs.Payload.{Found, AreFrames};
 ghost use Rattle.quic_frame_parts.specs.Shortest.{shortest_frame};
@@ -28,17 +29,21 @@ pub fn stream_data(payload: &[u8]) -> (usize, Option<FrameType>) {
     (count, None)
 }
 
-/// The same of a payload without an error; else the error by which the connection is closed, which is the one that
-/// the grammar tells.
+/// How many bytes of stream data a payload without an error has, or 2^64 - 1 where that is less; else the error by
+/// which the connection is closed, which is the one that the grammar tells.
 pub fn all_stream_data(payload: &[u8]) -> Result<usize, Error>
-    ensures ok { OnOk result ((found : List Found) × AreFrames false found payload.now) }
+    ensures ok { IfOk result (λ count. (found : List Found) × AreFrames false found payload.now
+        × (count ≡ min (streams_len found) (2 ^ 64 - 1))) }
     ensures err { IfErr result (λ e. IsTold payload.now e) }
 {
     let mut count: usize = 0;
     for item in Iter::new(payload)? {
         match item {
-            Ok(Frame::Stream(stream)) => count = count.saturating_add(stream.bytes.len()),
-            Ok(_) => {}
+            Ok(frame) => {
+                if let Frame::Stream(stream) = frame {
+                    count = count.saturating_add(stream.bytes.len());
+                }
+            }
             Err(invalid) => return Err(invalid.to_error()),
         }
     }

@@ -9,7 +9,7 @@ use quic_base::ids::{
     RESET_TOKEN_SIZE, ResetToken, Side, SpaceId, StreamId,
 };
 use quic_base::varint::{VarInt, VarIntBoundsExceeded};
-use quic_bench::client::{Reset, first_number, read_back, read_reset, read_two, write_reset};
+use quic_callers::client::{Reset, first_number, read_back, read_reset, read_two, write_reset};
 use quic_testing::Checks;
 use std::alloc::Global;
 use std::cmp::Ordering;

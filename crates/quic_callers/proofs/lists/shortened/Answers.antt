@@ -3,8 +3,8 @@ use Rattle.quic_params.specs.Meaning.{IsMeant}
 use Rattle.quic_params.specs.Range.{plain}
 use Rattle.quic_params.specs.Writing.{written}
 use Rattle.quic_params.specs.declared.record.TransportParameters.{TransportParameters}
-use Rattle.quic_bench.proofs.Reread.{content_is}
-use Rattle.quic_bench.proofs.lists.shortened.Goals as goal
+use Rattle.quic_callers.proofs.Reread.{content_is}
+use Rattle.quic_callers.proofs.lists.shortened.Goals as goal
 
 -- a record that was read is plain
 plain_is : (p : TransportParameters) → p.grease_transport_parameter ≡ None → p.write_order ≡ None → plain p ≡ p

@@ -1,6 +1,6 @@
 use Rattle.quic_base.specs.Varint.{Spells, short}
 use Rattle.quic_base.proofs.PublicLaws.{reads_back, spells_unique, short_spells}
-use Rattle.quic_bench.proofs.client.read_back.Goals as goal
+use Rattle.quic_callers.proofs.client.read_back.Goals as goal
 
 pub returns : goal.returns
 returns c =

@@ -3,8 +3,8 @@ use Rattle.std.proofs.Common.{ℕ, List, sym, subst, eq-eqb}
 use Rattle.quic_base.specs.Number.{AreBytes}
 use Rattle.quic_heads.specs.Grammar.{Cut}
 use Rattle.quic_heads.specs.Reading.{Context}
-use Rattle.quic_bench.proofs.HeadsBack.{as_long}
-use Rattle.quic_bench.proofs.heads.cut_twice.Goals as goal
+use Rattle.quic_callers.proofs.HeadsBack.{as_long}
+use Rattle.quic_callers.proofs.heads.cut_twice.Goals as goal
 
 pub returns : goal.returns
 returns g c =

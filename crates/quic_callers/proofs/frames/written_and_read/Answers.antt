@@ -1,10 +1,9 @@
-use Rattle.std.proofs.Common.{true, false, refl, sym, subst, ◌∙◌, Some}
+use Rattle.std.proofs.Common.{◌≡◌, true, false, refl, sym, ap, ◌∙◌}
 use Rattle.quic_frames.specs.Meaning.{meaning_of}
 use Rattle.quic_frames.specs.Shortest.{shortest_frame}
 use Rattle.quic_frames.specs.Least.{as_written}
-use Rattle.quic_frames.specs.Walk.{Advances}
-use Rattle.quic_bench.proofs.Reread.{not_empty, content_is, one_left, gives_some, gives_frame, gives_it}
-use Rattle.quic_bench.proofs.frames.written_and_read.Goals as goal
+use Rattle.quic_callers.proofs.Reread.{not_empty, content_is, one_left, gives_it}
+use Rattle.quic_callers.proofs.frames.written_and_read.Goals as goal
 
 pub unreachable-requires : goal.unreachable-requires
 unreachable-requires c =
@@ -19,7 +18,9 @@ unreachable-requires-in-None c =
     let spelled = (c.read_back.ensures.one false true c.args.frame.now c.type_bounds-2.ensures c.requires.stands).0 in
     let content = content_is c.encode.result c.in_ok-encode.field-0 _ _ _ (shortest_frame true m) c.deref.ensures.value c.encode.ensures.ok c.in_ok-encode.was c.requires.empty in
     let one = one_left (as_written true m) (shortest_frame true m) _ c.in-Ok.frames spelled content c.in-Ok.ensures.frames in
-    gives_some (as_written true m) c.in-Ok.frames c.next.new.self one c.in-None.ensures.steps
+    let first = gives_it (as_written true m) c.in-Ok.frames c.next.new.self c.next.result one c.next.ensures.steps in
+    let given = first.1 in
+    cc
 
 pub unreachable-requires-in-Some-Err : goal.unreachable-requires-in-Some-Err
 unreachable-requires-in-Some-Err c =
@@ -27,7 +28,9 @@ unreachable-requires-in-Some-Err c =
     let spelled = (c.read_back.ensures.one false true c.args.frame.now c.type_bounds-2.ensures c.requires.stands).0 in
     let content = content_is c.encode.result c.in_ok-encode.field-0 _ _ _ (shortest_frame true m) c.deref.ensures.value c.encode.ensures.ok c.in_ok-encode.was c.requires.empty in
     let one = one_left (as_written true m) (shortest_frame true m) _ c.in-Ok.frames spelled content c.in-Ok.ensures.frames in
-    gives_frame (as_written true m) c.in-Ok.frames c.next.new.self c.in-Some-Err.field-0 one c.in-Some-Err.ensures.steps c.in-Some-Err.field-0-is
+    let first = gives_it (as_written true m) c.in-Ok.frames c.next.new.self c.next.result one c.next.ensures.steps in
+    let given = first.1 in
+    cc
 
 pub returns : goal.returns
 returns c =
@@ -35,4 +38,7 @@ returns c =
     let spelled = (c.read_back.ensures.one false true c.args.frame.now c.type_bounds-2.ensures c.requires.stands).0 in
     let content = content_is c.encode.result c.in_ok-encode.field-0 _ _ _ (shortest_frame true m) c.deref.ensures.value c.encode.ensures.ok c.in_ok-encode.was c.requires.empty in
     let one = one_left (as_written true m) (shortest_frame true m) _ c.in-Ok.frames spelled content c.in-Ok.ensures.frames in
-    gives_it (as_written true m) c.in-Ok.frames c.next.new.self c.in-Some-Ok.read one (subst (λ r. Advances c.in-Ok.frames (Some r) c.next.new.self) c.in-Some-Ok.field-0-is c.in-Some-Ok.ensures.steps)
+    let first = gives_it (as_written true m) c.in-Ok.frames c.next.new.self c.next.result one c.next.ensures.steps in
+    let given = first.1 in
+    let same : c.in-Some-Ok.read ≡ first.0 = cc in
+    ap meaning_of same ∙ first.2

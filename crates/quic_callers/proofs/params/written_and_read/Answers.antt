@@ -2,8 +2,9 @@ use Rattle.std.proofs.Common.{ℕ, List, Ok, sym, subst}
 use Rattle.quic_params.specs.Meaning.{IsAnswer}
 use Rattle.quic_params.specs.Range.{plain}
 use Rattle.quic_params.specs.Writing.{written}
-use Rattle.quic_bench.proofs.Reread.{content_is, same_value, value_not_error}
-use Rattle.quic_bench.proofs.params.written_and_read.Goals as goal
+use Rattle.quic_callers.proofs.Reread.{content_is}
+use Rattle.quic_callers.proofs.Values.{same_value, value_not_error}
+use Rattle.quic_callers.proofs.params.written_and_read.Goals as goal
 
 pub unreachable-requires : goal.unreachable-requires
 unreachable-requires c =

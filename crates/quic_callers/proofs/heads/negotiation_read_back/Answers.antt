@@ -6,8 +6,8 @@ use Rattle.quic_headers.specs.Writing.{header_bytes}
 use Rattle.quic_headers.specs.declared.header.Header.TheVariants as header
 use Rattle.quic_heads.specs.Grammar.{Head}
 use Rattle.quic_heads.specs.Reading.{Context}
-use Rattle.quic_bench.proofs.HeadsBack.{fixed}
-use Rattle.quic_bench.proofs.heads.negotiation_read_back.Goals as goal
+use Rattle.quic_callers.proofs.HeadsBack.{fixed}
+use Rattle.quic_callers.proofs.heads.negotiation_read_back.Goals as goal
 
 pub returns-in-Ok-clause-back : goal.returns-in-Ok-clause-back
 returns-in-Ok-clause-back g c =

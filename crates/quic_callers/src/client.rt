@@ -3,7 +3,7 @@
 ghost use Rattle.std.specs.Prelude.{◌≡◌, ◌<◌, ◌^◌, ◌++◌, List, ℕ, Ok, length, IfOk, OnErr, OnOk};
 ghost use Rattle.quic_base.specs.Codec.{Takes, NoFront, Follows, IsBegun, KeepsRoom};
 ghost use Rattle.quic_base.specs.Varint.{Spells, short};
-ghost use Rattle.quic_bench.specs.Reset.{SpellsReset, reset_bytes};
+ghost use Rattle.quic_callers.specs.Reset.{SpellsReset, reset_bytes};
 
 use bytes::{Buf, BufMut};
 use quic_base::coding::{BufExt, BufMutExt, Codec, NoRoom, Result};

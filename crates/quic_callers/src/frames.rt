@@ -33,7 +33,8 @@ pub fn written_and_read<'a>(frame: &Frame<'_>, out: &'a mut Vec<u8>) -> Result<F
 /// no two of them touch. The largest number must be below 2^62.
 pub fn ranges_of_blocks(largest: u64, blocks: &[u8]) -> Result<AckIter<'_>, AckError>
     requires { largest < 2 ^ 62 }
-    ensures spelled { IfOk result (λ iter. (ranges : List (ℕ × ℕ)) → AreBlocks largest ranges blocks.now → ranges_left iter ≡ ranges) }
+    ensures spelled { IfOk result (λ iter. (ranges : List (ℕ × ℕ)) → AreBlocks largest ranges blocks.now
+        → ranges_left iter ≡ ranges) }
     ensures apart { IfOk result (λ iter. AreApart (ranges_left iter)) }
 {
     laws::one_list_of_ranges();

@@ -2,7 +2,7 @@ use Rattle.quic_base.specs.Codec.{Follows}
 use Rattle.quic_base.specs.Number.{IsNumber}
 use Rattle.quic_base.specs.Varint.{Spells}
 use Rattle.quic_base.proofs.PublicLaws.{cut_first, cut_second, on_err, spells_unique}
-use Rattle.quic_bench.proofs.client.read_reset.Goals as goal
+use Rattle.quic_callers.proofs.client.read_reset.Goals as goal
 
 pub returns-in_err-id-clause-cut : goal.returns-in_err-id-clause-cut
 returns-in_err-id-clause-cut g c = on_err c.from_residual.result (λ id code offset.

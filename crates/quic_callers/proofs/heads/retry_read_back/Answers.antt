@@ -6,7 +6,7 @@ use Rattle.quic_headers.specs.Writing.{header_bytes}
 use Rattle.quic_headers.specs.declared.header.Header.TheVariants as header
 use Rattle.quic_heads.specs.Grammar.{Head}
 use Rattle.quic_heads.specs.Reading.{Context}
-use Rattle.quic_bench.proofs.heads.retry_read_back.Goals as goal
+use Rattle.quic_callers.proofs.heads.retry_read_back.Goals as goal
 
 pub returns-in-Ok-clause-back : goal.returns-in-Ok-clause-back
 returns-in-Ok-clause-back g c =

@@ -4,6 +4,8 @@ mod beginnings;
 mod beginnings_answers;
 mod calls;
 mod heads_refused;
+mod negotiation;
+mod packets;
 mod parsers;
 mod places;
 mod rows;

@@ -2,7 +2,10 @@
 
 mod client;
 mod heads;
+mod heads_refused;
 mod numbers;
 mod odd_keys;
 mod packets_refused;
+mod queries;
+mod row;
 mod sealed;

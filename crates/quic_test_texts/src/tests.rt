@@ -1,7 +1,11 @@
 //! Worked rows, answers of the Rust crate, and what no clause says.
 
+mod beginnings;
+mod beginnings_answers;
 mod engine;
+mod interrupted;
 mod lines;
+mod long_texts;
 mod texts;
 mod texts_answers;
 mod texts_refused;

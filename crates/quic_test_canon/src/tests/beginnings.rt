@@ -73,6 +73,105 @@ fn beginnings_of_an_ack_frequency(rt: HostRuntime) -> Result<(), Fail> {
     checks.verdict()
 }
 
+// Frames that say where they end, one of each type that has fields, each with its type.
+const ENDED: &[(u8, &[u8])] = &[
+    (0x02, b"\x02\x0e\x2a\x01\x01\x00\x40\x02"),
+    (0x03, b"\x03\x0e\x2a\x01\x01\x00\x02\x40\x2a\x18\x0c"),
+    (0x04, b"\x04\x04\x40\x40\x80\x00\x40\x00"),
+    (0x05, b"\x05\x04\x40\x40"),
+    (0x06, b"\x06\x40\x40\x02hi"),
+    (0x07, b"\x07\x03abc"),
+    (0x0a, b"\x0a\x04\x02hi"),
+    (0x0b, b"\x0b\x44\x00\x02hi"),
+    (0x0e, b"\x0e\x04\x40\x10\x02hi"),
+    (0x0f, b"\x0f\x04\x07\x40\x02hi"),
+    (0x10, b"\x10\x80\x00\x40\x00"),
+    (0x11, b"\x11\x04\x40\x40"),
+    (0x12, b"\x12\x40\x40"),
+    (0x13, b"\x13\x40\x40"),
+    (0x14, b"\x14\x40\x40"),
+    (0x15, b"\x15\x04\x40\x40"),
+    (0x16, b"\x16\x40\x40"),
+    (0x17, b"\x17\x40\x40"),
+    (0x18, b"\x18\x05\x02\x02\xaa\xbb0123456789abcdef"),
+    (0x19, b"\x19\x40\x40"),
+    (0x1a, b"\x1a\x01\x02\x03\x04\x05\x06\x07\x08"),
+    (0x1b, b"\x1b\x01\x02\x03\x04\x05\x06\x07\x08"),
+    (0x1c, b"\x1c\x0a\x00\x03bad"),
+    (0x1d, b"\x1d\x80\x00\x40\x00\x02ab"),
+    (0x31, b"\x31\x02hi"),
+];
+
+#[test]
+fn beginnings_of_what_says_its_end(rt: HostRuntime) -> Result<(), Fail> {
+    let mut checks = Checks::new(rt.alloc());
+    for &(number, frame) in ENDED {
+        let ty = Some(FrameType::of(u64::from(number)));
+        for k in 1..frame.len() {
+            let at = format_args!("{k} bytes of type {number:x}");
+            checks.holds_at(at, is_cut(&frame[..k], &ty));
+        }
+        checks.holds_at(number, is_whole(true, frame));
+    }
+    checks.verdict()
+}
+
+// Frames that go on to the end of the payload, each with its type and how many bytes stand before the data: with
+// these it is whole, however many bytes of the data follow (RFC 9000, section 19.8; RFC 9221, section 4).
+const OPEN: &[(u8, usize, &[u8])] = &[
+    (0x08, 2, b"\x08\x04hi"),
+    (0x09, 3, b"\x09\x44\x00hi"),
+    (0x0c, 4, b"\x0c\x04\x40\x10hi"),
+    (0x0d, 3, b"\x0d\x04\x07hi"),
+    (0x30, 1, b"\x30hi"),
+];
+
+#[test]
+fn beginnings_of_what_goes_on_to_the_end(rt: HostRuntime) -> Result<(), Fail> {
+    let mut checks = Checks::new(rt.alloc());
+    for &(number, head, frame) in OPEN {
+        let ty = Some(FrameType::of(u64::from(number)));
+        for k in 1..=frame.len() {
+            let begun = &frame[..k];
+            let is_told = if k < head {
+                is_cut(begun, &ty)
+            } else {
+                is_whole(true, begun)
+            };
+            checks.holds_at(format_args!("{k} bytes of type {number:x}"), is_told);
+        }
+    }
+    checks.verdict()
+}
+
+// NEW_CONNECTION_ID with a field that can't be: retired behind its own number, an id of no bytes, and one of 21. From
+// so many bytes on it is malformed, whatever is cut off behind them; before, it ends (RFC 9000, section 19.15).
+const MALFORMED: &[(usize, &[u8])] = &[
+    (3, b"\x18\x01\x02\x02\xaa\xbb0123456789abcdef"),
+    (5, b"\x18\x40\x02\x00\x000123456789abcdef"),
+    (4, b"\x18\x05\x02\x000123456789abcdef"),
+    (4, b"\x18\x05\x02\x15abcdefghijklmnopqrstu0123456789abcdef"),
+];
+
+#[test]
+fn beginnings_of_an_id_that_cannot_be(rt: HostRuntime) -> Result<(), Fail> {
+    let mut checks = Checks::new(rt.alloc());
+    let ty = Some(FrameType::NEW_CONNECTION_ID);
+    for &(at, frame) in MALFORMED {
+        for k in 1..=frame.len() {
+            let reason = if k < at {
+                "unexpected end"
+            } else {
+                "malformed"
+            };
+            let is_told = is_broken(false, &frame[..k], &ty, reason)
+                && is_broken(true, &frame[..k], &ty, reason);
+            checks.holds_at(format_args!("{k} bytes, wrong from {at} on"), is_told);
+        }
+    }
+    checks.verdict()
+}
+
 // A payload is read without an error exactly where it has a shortest form, which is no longer, is its own and is
 // read where types count in their shortest form alone; else the error is the same.
 fn is_told_alike(alloc: Global, payload: &[u8]) -> bool {

@@ -1,7 +1,7 @@
 //! Frames of every kind, written at their place in a payload.
 use super::frames_written_refused::is_counted;
 use quic_base::coding::NoRoom;
-use quic_bench::frames::written_and_read;
+use quic_callers::frames::written_and_read;
 use quic_frames::frame::{Frame, Iter};
 use quic_testing::Checks;
 use std::alloc::Global;

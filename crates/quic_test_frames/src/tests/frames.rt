@@ -178,6 +178,59 @@ fn an_iterator_that_goes_on(rt: HostRuntime) -> Result<(), Fail> {
     checks.verdict()
 }
 
+// Whether just so much PADDING is passed, up to this place.
+fn passes(iter: &mut Iter<'_>, count: usize, offset: usize) -> bool {
+    iter.pass_padding() == count && iter.offset() == offset
+}
+
+// Eleven bytes of PADDING, PING, two of PADDING, a type that is none, and PADDING behind that.
+const PADDED: &[u8] = b"\0\0\0\0\0\0\0\0\0\0\0\x01\0\0\x21\0";
+
+fn passes_what_stands_next() -> bool {
+    let Some(mut iter) = Iter::new(PADDED).ok() else {
+        return false;
+    };
+    passes(&mut iter, 11, 11)
+        && iter.last_type() == Some(FrameType::PADDING)
+        && passes(&mut iter, 0, 11)
+        && matches!(iter.next(), Some(Ok(Frame::Ping)))
+        && passes(&mut iter, 2, 14)
+        && iter.last_type() == Some(FrameType::PADDING)
+        && matches!(iter.next(), Some(Err(_)))
+        && passes(&mut iter, 0, 14)
+        && iter.next().is_none()
+}
+
+// A type of two bytes is none that is passed.
+fn passes_nothing_else() -> bool {
+    let Some(mut iter) = Iter::new(b"\x40\0\x01").ok() else {
+        return false;
+    };
+    passes(&mut iter, 0, 0)
+        && iter.last_type().is_none()
+        && matches!(iter.next(), Some(Ok(Frame::Padding)))
+        && passes(&mut iter, 0, 2)
+        && matches!(iter.next(), Some(Ok(Frame::Ping)))
+        && passes(&mut iter, 0, 3)
+        && iter.last_type() == Some(FrameType::PING)
+}
+
+fn passes_to_the_end() -> bool {
+    let Some(mut iter) = Iter::new(b"\0\0\0").ok() else {
+        return false;
+    };
+    passes(&mut iter, 3, 3) && iter.next().is_none() && passes(&mut iter, 0, 3)
+}
+
+#[test]
+fn padding_is_passed(rt: HostRuntime) -> Result<(), Fail> {
+    let mut checks = Checks::new(rt.alloc());
+    checks.holds_at("what stands next", passes_what_stands_next());
+    checks.holds_at("nothing else", passes_nothing_else());
+    checks.holds_at("to the end", passes_to_the_end());
+    checks.verdict()
+}
+
 #[test]
 fn an_empty_payload_is_a_protocol_violation(rt: HostRuntime) -> Result<(), Fail> {
     let mut checks = Checks::new(rt.alloc());

@@ -2,8 +2,11 @@
 ghost use Rattle.std.specs.Prelude.{IfSome};
 ghost use Rattle.quic_crypto.specs.PacketNumbers.{IsInRange};
 
+use bytes::BufMut;
+use quic_base::coding::NoRoom;
 use quic_packets::packet::PacketNumber;
 use quic_testing::Checks;
+use std::alloc::Global;
 use std::test::Fail;
 
 // A number, the one that is acknowledged, and the bytes of the shortest packet number.
@@ -93,5 +96,46 @@ fn expanded(rt: HostRuntime) -> Result<(), Fail> {
     checks.same(PacketNumber::U8(0).expand(128), 256);
     checks.same(PacketNumber::U16(0x9b32).expand(0xa82f_30eb), 0xa82f_9b32);
     checks.same(PacketNumber::U24(5).expand(0x100_0005), 0x100_0005);
+    checks.verdict()
+}
+
+// Whether nothing is written where there is room for one byte less.
+fn is_refused_where_full(alloc: Global, n: u64, acked: u64) -> bool {
+    let Some(number) = shortest(n, acked) else {
+        return false;
+    };
+    let mut limited = Vec::new(alloc).limit(number.len().saturating_sub(1));
+    let answer = number.encode(&mut limited);
+    let out = limited.into_inner();
+    answer == Err(NoRoom) && out.is_empty()
+}
+
+#[test]
+fn refused_for_want_of_room(rt: HostRuntime) -> Result<(), Fail> {
+    let mut checks = Checks::new(rt.alloc());
+    for &(n, acked, _) in SHORTEST {
+        checks.holds_at(n, is_refused_where_full(rt.alloc(), n, acked));
+    }
+    checks.verdict()
+}
+
+// First bytes of heads, and how many bytes a number takes behind them: one more than their lowest two bits say.
+const LENGTHS: &[(u8, usize)] = &[
+    (0x00, 1),
+    (0x01, 2),
+    (0x02, 3),
+    (0x03, 4),
+    (0xc0, 1),
+    (0x45, 2),
+    (0xfe, 3),
+    (0xff, 4),
+];
+
+#[test]
+fn lengths_by_the_first_byte(rt: HostRuntime) -> Result<(), Fail> {
+    let mut checks = Checks::new(rt.alloc());
+    for &(first, len) in LENGTHS {
+        checks.same_at(first, PacketNumber::decode_len(first), len);
+    }
     checks.verdict()
 }

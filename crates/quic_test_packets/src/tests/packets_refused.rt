@@ -1,11 +1,13 @@
 //! Sealing and opening where memory is refused: each test holds whichever allocation fails, and where none does.
+use crate::counting::{CountingKey, all_counting, opened_by};
 use crate::worked::{ALL_ZERO, all_toy, handshake, short, toy};
 use bytes::BytesMut;
 use quic_bench::parsers::NoIds;
 use quic_frames::frame::Frame;
+use quic_packets::crypto::toy::ToyHeaderKey;
 use quic_packets::packet::{
-    FixedLengthConnectionIdParser, OpenError, Opened, SealError, open_datagram, open_packet,
-    seal_packet,
+    FixedLengthConnectionIdParser, OpenError, Opened, SealError, SpaceKeys, open_datagram,
+    open_packet, seal_packet,
 };
 use quic_testing::Checks;
 use std::test::Fail;
@@ -122,5 +124,35 @@ fn first_packets_stand(rt: HostRuntime) -> Result<(), Fail> {
     let opened = &mut Vec::new(rt.alloc());
     checks.holds(are_opened_or_refused(opened, bytes));
     checks.holds(are_first(opened.as_slice()));
+    checks.verdict()
+}
+
+// Whether as many packets stand as payloads were opened by the keys, which are both where nothing was refused.
+fn are_all_that_were_opened(
+    opened: &mut Vec<Opened>,
+    keys: &SpaceKeys<ToyHeaderKey, CountingKey>,
+    bytes: BytesMut,
+) -> bool {
+    let done = open_datagram(
+        bytes,
+        &FixedLengthConnectionIdParser::new(1),
+        &[1],
+        false,
+        keys,
+        &ALL_ZERO,
+        opened,
+    );
+    opened.len() == opened_by(keys) && done.is_ok() == (opened.len() == 2)
+}
+
+// No packet is opened that doesn't stand then: a key that is used only so often is not used in vain.
+#[test]
+fn what_is_opened_stands(rt: HostRuntime) -> Result<(), Fail> {
+    let Ok(bytes) = BytesMut::copy_from_slice(rt.alloc(), &WHOLE) else {
+        return Ok(());
+    };
+    let mut checks = Checks::new(rt.alloc());
+    let opened = &mut Vec::new(rt.alloc());
+    checks.holds(are_all_that_were_opened(opened, &all_counting(), bytes));
     checks.verdict()
 }

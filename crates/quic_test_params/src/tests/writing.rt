@@ -1,7 +1,7 @@
 //! What is written of records.
 use super::{DOWNWARD, WHOLE, preferred, two_limits, whole};
 use quic_base::ids::Side;
-use quic_bench::params::written_and_read;
+use quic_callers::params::written_and_read;
 use quic_params::transport_parameters::{
     ReservedTransportParameter, TransportParameters, WriteOrder,
 };
@@ -115,5 +115,65 @@ fn written_and_read_back(rt: HostRuntime) -> Result<(), Fail> {
         checks.same(read, Ok(params));
         checks.same(out.len(), 75 + 9);
     }
+    checks.verdict()
+}
+
+fn is_untouched(room: &[u8]) -> bool {
+    for &byte in room {
+        if byte != 0xff {
+            return false;
+        }
+    }
+    true
+}
+
+fn is_front(room: &[u8], bytes: &[u8]) -> bool {
+    let Some((front, rest)) = room.split_at_checked(bytes.len()) else {
+        return false;
+    };
+    front == bytes && is_untouched(rest)
+}
+
+// Whether these bytes are laid at the front, and what stands behind them stays.
+fn is_laid(params: &TransportParameters, bytes: &[u8]) -> bool {
+    let mut room = [0xff; 90];
+    params.write_into(&mut room) == Ok(bytes.len()) && is_front(&room, bytes)
+}
+
+// The same where there is just their room.
+fn is_laid_in_its_room(params: &TransportParameters, bytes: &[u8]) -> bool {
+    let mut room = [0xff; 90];
+    let Some(just) = room.get_mut(..bytes.len()) else {
+        return false;
+    };
+    params.write_into(just) == Ok(bytes.len()) && is_front(&room, bytes)
+}
+
+// Whether nothing is laid where there is room for one byte less, and their number is told.
+fn is_refused(params: &TransportParameters, bytes: &[u8]) -> bool {
+    let mut room = [0xff; 90];
+    let Some(little) = room.get_mut(..bytes.len().saturating_sub(1)) else {
+        return false;
+    };
+    params.write_into(little) == Err(bytes.len()) && is_untouched(&room)
+}
+
+fn is_laid_whole_or_not(params: &TransportParameters, bytes: &[u8]) -> bool {
+    is_laid(params, bytes) && is_laid_in_its_room(params, bytes) && is_refused(params, bytes)
+}
+
+#[test]
+fn lists_are_laid_at_the_front(rt: HostRuntime) -> Result<(), Fail> {
+    let mut checks = Checks::new(rt.alloc());
+    let bytes = hex::decode(rt.alloc(), WHOLE)?;
+    checks.holds_at(
+        "most kinds",
+        is_laid_whole_or_not(&whole(), bytes.as_slice()),
+    );
+    let two = b"\x03\x02\x44\xb0\x08\x01\x10";
+    checks.holds_at("two limits", is_laid_whole_or_not(&two_limits(), two));
+    let none = TransportParameters::default();
+    checks.holds_at("no entry", is_laid(&none, b""));
+    checks.holds_at("no entry and no room", none.write_into(&mut []) == Ok(0));
     checks.verdict()
 }

@@ -68,7 +68,7 @@ fn is_printed(alloc: Global, input: &[u8], most: usize, clean: bool, text: &[u8]
     outcome == Ok(clean) && status(&outcome) == wanted_status && sink.output() == text
 }
 
-fn is_row(alloc: Global, line: &str, text: &str) -> bool {
+pub fn is_row(alloc: Global, line: &str, text: &str) -> bool {
     let clean = !text.contains("error");
     match format!(in alloc; "{line}\n") {
         Ok(input) => is_printed(alloc, input.as_bytes(), usize::MAX, clean, text.as_bytes()),

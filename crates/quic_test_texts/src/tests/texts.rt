@@ -13,7 +13,7 @@ use std::test::Fail;
 // Functions here own little and answer whether all was as it has to be: so tests have few ways out while their checks
 // are alive.
 
-fn displays<T: Display>(alloc: Global, value: &T, text: &str) -> bool {
+pub fn displays<T: Display>(alloc: Global, value: &T, text: &str) -> bool {
     match format!(in alloc; "{value}") {
         Ok(shown) => shown.as_str() == text,
         Err(_) => false,
@@ -54,7 +54,7 @@ fn parts(line: &str) -> Option<(&str, &str, &str, &str)> {
     Some((number, ty, text, display))
 }
 
-fn error_with_text_displays(alloc: Global, code: Code, text: &str, display: &str) -> bool {
+pub fn error_with_text_displays(alloc: Global, code: Code, text: &str, display: &str) -> bool {
     match Error::with_text(alloc, code, text) {
         Ok(error) => displays(alloc, &error, display),
         Err(_) => false,

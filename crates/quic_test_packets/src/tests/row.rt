@@ -1,0 +1,223 @@
+//! The sixty bytes of two worked packets: cut off anywhere, in the other order, under version 2, and with a tag that
+//! was changed.
+use super::sealed::{
+    WHOLE, are_ack_and_stream_sealed, are_first_packets, is_packet, seal_handshake,
+};
+use crate::worked::{ALL_ZERO, all_toy};
+use bytes::BytesMut;
+use quic_base::ids::ConnectionId;
+use quic_packets::packet::{
+    FixedLengthConnectionIdParser, Header, LongType, OpenError, Opened, PacketDecodeError,
+    PacketNumber, PartialDecode, VERSION_2, open_datagram, open_packet,
+};
+use quic_testing::Checks;
+use std::alloc::Global;
+use std::test::Fail;
+
+// Opens a datagram whose short heads have ids of one byte, where these versions are spoken.
+fn open(
+    opened: &mut Vec<Opened>,
+    alloc: Global,
+    datagram: &[u8],
+    versions: &[u32],
+) -> Result<(), OpenError> {
+    let Ok(bytes) = BytesMut::copy_from_slice(alloc, datagram) else {
+        return Err(OpenError::OutOfMemory);
+    };
+    open_datagram(
+        bytes,
+        &FixedLengthConnectionIdParser::new(1),
+        versions,
+        false,
+        &all_toy(),
+        &ALL_ZERO,
+        opened,
+    )
+}
+
+fn refused(text: &'static str) -> Result<(), OpenError> {
+    Err(OpenError::Decode(PacketDecodeError::InvalidHeader(text)))
+}
+
+// What is answered to the first bytes of the row, and how many packets stand then. The Handshake packet takes 30 of
+// them: its version ends at 5, its ids at 8, its length at 10. The 1-RTT packet has its id up to 32; four bytes and the
+// sample, which has 16, follow that at 52, and the tag that belongs to it ends at 60.
+fn wanted(len: usize) -> (Result<(), OpenError>, usize) {
+    match len {
+        0..=4 => (refused("unexpected end of packet"), 0),
+        5..=7 => (refused("malformed cid"), 0),
+        8..=9 => (refused("unexpected end of packet"), 0),
+        10..=29 => (refused("packet too short to contain payload length"), 0),
+        30 => (Ok(()), 1),
+        31 => (refused("packet too small"), 1),
+        32..=51 => (
+            refused("packet too short to extract header protection sample"),
+            1,
+        ),
+        52..=59 => (Err(OpenError::Unsealed), 1),
+        _ => (Ok(()), 2),
+    }
+}
+
+fn is_answered(opened: &mut Vec<Opened>, alloc: Global, len: usize) -> bool {
+    let Some(datagram) = WHOLE.get(..len) else {
+        return false;
+    };
+    let (answer, count) = wanted(len);
+    open(opened, alloc, datagram, &[1]) == answer
+        && opened.len() == count
+        && are_first_packets(opened.as_slice())
+}
+
+#[test]
+fn every_beginning(rt: HostRuntime) -> Result<(), Fail> {
+    let mut checks = Checks::new(rt.alloc());
+    for len in 0..=WHOLE.len() {
+        let opened = &mut Vec::new(rt.alloc());
+        checks.holds_at(len, is_answered(opened, rt.alloc(), len));
+    }
+    checks.verdict()
+}
+
+// The same packets, the 1-RTT packet first.
+const SHORT_FIRST: [u8; 60] =
+    *b"\x40\xaa\x05\x02\x03\0\x01\0\0\x01\x08\0hi\0\0\0\0\0\0\0\x05\0\0\0\0\0\0\0\0\xe0\0\0\0\x01\x01\xaa\0\x40\x14\0\x01\0\0\0\0\0\0\0\0\0\0\0\0\0\0\0\0\0\0";
+
+fn is_sealed_short_first(out: &mut Vec<u8>) -> bool {
+    are_ack_and_stream_sealed(out)
+        && seal_handshake(out, 1) == Ok(30)
+        && out.as_slice() == SHORT_FIRST.as_slice()
+}
+
+// Whether one packet takes all of it.
+fn is_one_packet(alloc: Global, datagram: &[u8]) -> bool {
+    let Ok(bytes) = BytesMut::copy_from_slice(alloc, datagram) else {
+        return false;
+    };
+    let Ok((packet, rest)) = PartialDecode::new(
+        bytes,
+        &FixedLengthConnectionIdParser::new(1),
+        &[1],
+        false,
+    ) else {
+        return false;
+    };
+    packet.data() == datagram && !packet.has_long_header() && rest.is_none()
+}
+
+fn is_not_opened(opened: &mut Vec<Opened>, alloc: Global, datagram: &[u8]) -> bool {
+    open(opened, alloc, datagram, &[1]) == Err(OpenError::Unsealed) && opened.is_empty()
+}
+
+// A packet with a short head has no length, so that the tag is looked for at the end of the other one.
+#[test]
+fn the_same_packets_short_first(rt: HostRuntime) -> Result<(), Fail> {
+    let mut checks = Checks::new(rt.alloc());
+    let out = &mut Vec::new(rt.alloc());
+    checks.holds_at("sealed", is_sealed_short_first(out));
+    checks.holds_at("one packet", is_one_packet(rt.alloc(), &SHORT_FIRST));
+    let opened = &mut Vec::new(rt.alloc());
+    checks.holds_at("refused", is_not_opened(opened, rt.alloc(), &SHORT_FIRST));
+    checks.verdict()
+}
+
+// The same packets, the Handshake packet under version 2, whose heads have other types (RFC 9369, section 3.2).
+const OF_VERSION_2: [u8; 60] =
+    *b"\xf0\x6b\x33\x43\xcf\x01\xaa\0\x40\x14\0\x01\0\0\0\0\0\0\0\0\0\0\0\0\0\0\0\0\0\0\x40\xaa\x05\x02\x03\0\x01\0\0\x01\x08\0hi\0\0\0\0\0\0\0\x05\0\0\0\0\0\0\0\0";
+
+fn is_sealed_under_version_2(out: &mut Vec<u8>) -> bool {
+    seal_handshake(out, VERSION_2) == Ok(30)
+        && are_ack_and_stream_sealed(out)
+        && out.as_slice() == OF_VERSION_2.as_slice()
+}
+
+fn is_handshake_of_version_2(header: &Header) -> bool {
+    let Header::Long {
+        ty,
+        number,
+        version,
+        ..
+    } = header
+    else {
+        return false;
+    };
+    *ty == LongType::Handshake && *number == PacketNumber::U8(0) && *version == VERSION_2
+}
+
+const FIRST_OF_VERSION_2: (&[u8], u64, &[u8]) = (
+    b"\xf0\x6b\x33\x43\xcf\x01\xaa\0\x40\x14\0",
+    0,
+    b"\x01\0\0",
+);
+
+const SECOND: (&[u8], u64, &[u8]) = (b"\x40\xaa\x05", 5, b"\x02\x03\0\x01\0\0\x01\x08\0hi");
+
+fn are_those_of_version_2(opened: &[Opened]) -> bool {
+    let [first, second] = opened else {
+        return false;
+    };
+    is_handshake_of_version_2(&first.header)
+        && is_packet(first, &FIRST_OF_VERSION_2)
+        && is_packet(second, &SECOND)
+}
+
+fn is_opened_under_version_2(opened: &mut Vec<Opened>, alloc: Global) -> bool {
+    open(opened, alloc, &OF_VERSION_2, &[1, VERSION_2]).is_ok()
+        && are_those_of_version_2(opened.as_slice())
+}
+
+// Whether the datagram is refused where version 1 is the only one.
+fn is_unsupported(opened: &mut Vec<Opened>, alloc: Global) -> bool {
+    let unsupported = PacketDecodeError::UnsupportedVersion {
+        src_cid: ConnectionId::new(b""),
+        dst_cid: ConnectionId::new(b"\xaa"),
+        version: VERSION_2,
+    };
+    let answer = open(opened, alloc, &OF_VERSION_2, &[1]);
+    answer == Err(OpenError::Decode(unsupported)) && opened.is_empty()
+}
+
+#[test]
+fn the_same_packets_under_version_2(rt: HostRuntime) -> Result<(), Fail> {
+    let mut checks = Checks::new(rt.alloc());
+    let out = &mut Vec::new(rt.alloc());
+    checks.holds_at("sealed", is_sealed_under_version_2(out));
+    let opened = &mut Vec::new(rt.alloc());
+    checks.holds_at("opened", is_opened_under_version_2(opened, rt.alloc()));
+    let opened = &mut Vec::new(rt.alloc());
+    checks.holds_at("unsupported", is_unsupported(opened, rt.alloc()));
+    checks.verdict()
+}
+
+// The number that the first packet of a datagram is opened with.
+fn first_number(alloc: Global, datagram: &[u8]) -> Result<Option<u64>, OpenError> {
+    let Ok(bytes) = BytesMut::copy_from_slice(alloc, datagram) else {
+        return Err(OpenError::OutOfMemory);
+    };
+    let parser = FixedLengthConnectionIdParser::new(1);
+    match open_packet(bytes, &parser, &[1], false, &all_toy(), &ALL_ZERO) {
+        Ok((opened, _rest)) => Ok(opened.number),
+        Err(e) => Err(e),
+    }
+}
+
+// Whether the first packet is not opened where one bit of this byte is changed.
+fn is_unsealed_by_a_bit(alloc: Global, at: usize) -> bool {
+    let mut changed = WHOLE;
+    let Some(byte) = changed.get_mut(at) else {
+        return false;
+    };
+    *byte ^= 1;
+    first_number(alloc, &changed) == Err(OpenError::Unsealed)
+}
+
+// The tag is the last 16 bytes of the first packet. Want of memory is not told where there is memory.
+#[test]
+fn a_changed_tag(rt: HostRuntime) -> Result<(), Fail> {
+    let mut checks = Checks::new(rt.alloc());
+    checks.holds(first_number(rt.alloc(), &WHOLE) == Ok(Some(0)));
+    for at in 14..30 {
+        checks.holds_at(at, is_unsealed_by_a_bit(rt.alloc(), at));
+    }
+    checks.verdict()
+}

@@ -216,7 +216,8 @@ typedef struct quic_wire_path { /* PATH_CHALLENGE and PATH_RESPONSE */
 } quic_wire_path;
 typedef struct quic_wire_close {
   uint64_t error_code;
-  uint64_t frame_type; /* 0: none; CONNECTION_CLOSE alone */
+  uint64_t frame_type; /* of CONNECTION_CLOSE alone; 0: none is known, so that
+                          PADDING, whose type is 0, can't be named */
 } quic_wire_close;
 typedef struct quic_wire_ack_frequency {
   uint64_t sequence;
@@ -649,8 +650,10 @@ QUIC_WIRE_API int quic_wire_ack_ranges_fill(quic_wire_ack_ranges *ranges,
  * as the last frame of its payload (|last| is not 0), where STREAM and
  * DATAGRAM need no length, or as another one.  Its data are |frame->datalen|
  * bytes at |frame->data| of |data|, behind which the token of a
- * NEW_CONNECTION_ID stands; that place must lie in |data| also where there are
- * none, as 0 does.  begin and end are not looked at.
+ * NEW_CONNECTION_ID stands.  Where |frame->datalen| is 0, as it is of each kind
+ * without data, neither |data| nor that place is looked at, so that a PING is
+ * written as it was read, with any |data| or NULL.  begin and end are not
+ * looked at.
  *
  * Returns 0, and in |*written| how many bytes were written;
  * QUIC_WIRE_ERR_NOBUF where |destlen| is less, and in |*written| how many are
@@ -703,7 +706,8 @@ QUIC_WIRE_API int quic_wire_canonical(const uint8_t *payload, size_t payloadlen,
  * Reads the head of the packet that |bytes| begin with, be it whole or cut off
  * behind its head.  Ids of short heads have |cidlen| bytes; |versions| are
  * those that are read further than their ids.  The fixed bit isn't looked at:
- * who doesn't take packets of RFC 9287 asks for it in |head->first|.
+ * who doesn't take packets of RFC 9287 asks for it in |head->first|, but not of
+ * a version negotiation, where clients ignore it (RFC 9000, section 17.2.1).
  *
  * Returns 0 and the head, whose packet ends at |head->end|, where the next one
  * of the datagram begins; QUIC_WIRE_PACKET_LENGTH_BEYOND_END and the head, of a
@@ -774,9 +778,11 @@ QUIC_WIRE_API int quic_wire_number_len(uint64_t number,
                                        uint64_t largest_acked);
 
 /* The whole number of which the low |numberlen| bytes are written, by the one
- * that is |expected| next (RFC 9000, appendix A.3, without its last bound: near
- * 2^62 it may be more, which no packet has); UINT64_MAX where |numberlen| isn't
- * 1 to 4, |written| takes more bytes, or |expected| is 2^62 or more. */
+ * that is |expected| next (RFC 9000, appendix A.3); UINT64_MAX where
+ * |numberlen| isn't 1 to 4, |written| takes more bytes, or |expected| is 2^62
+ * or more.  Where |expected| is at most 2^(8 * numberlen - 1) below 2^62 the
+ * number may be 2^62 or more, which no packet has; appendix A.3 gives the one
+ * that is less by 2^(8 * numberlen) then. */
 QUIC_WIRE_API uint64_t quic_wire_number_expand(uint64_t written,
                                                uint32_t numberlen,
                                                uint64_t expected);
@@ -807,10 +813,14 @@ QUIC_WIRE_API size_t quic_wire_head_len(const quic_wire_said *said,
  * QUIC_WIRE_ERR_NOBUF where |destlen| is less than quic_wire_head_len;
  * QUIC_WIRE_ERR_INVALID_ARGUMENT where no such head can be written: there is no
  * such kind, an id is longer than 20 bytes, the number is 2^62 or more or has
- * not 1 to 4 bytes, the length has not 2 or 4, or something is said that the
- * kind lacks.  |dest| changes where a head was written alone.
- * Version 0 is written too, though a reader takes such a head for a version
- * negotiation.
+ * not 1 to 4 bytes, the length has not 2 or 4, an Initial, 0-RTT, Handshake or
+ * Retry packet has version 0, which would be a version negotiation (RFC 9000,
+ * section 17.2.1), or something is said that the kind lacks.  |dest| changes
+ * where a head was written alone.
+ *
+ * A version negotiation is written also where |said->flags| lacks
+ * QUIC_WIRE_FIXED_BIT: RFC 9000, section 17.2.1, has that bit set where QUIC
+ * may share its port (RFC 7983), and readers that ask for it refuse it.
  */
 QUIC_WIRE_API int64_t quic_wire_head_write(
     const quic_wire_said *said, const uint8_t *dcid, size_t dcidlen,
@@ -833,8 +843,9 @@ QUIC_WIRE_API int quic_wire_set_len(uint8_t *packet, size_t packetlen,
  * Reads a list of transport parameters to its end (RFC 9000, sections 7.4 and
  * 18), as QUIC_WIRE_CLIENT one that a server sent, as QUIC_WIRE_SERVER one that
  * a client sent, which must lack what a server alone sends.  The list of no
- * bytes gives each parameter its default.  An integer that isn't in its
- * shortest encoding is refused, though section 16 allows it.
+ * bytes gives each parameter its default.  An integer with a default that isn't
+ * in its shortest encoding is refused as malformed, though section 16 allows
+ * it; max_datagram_frame_size and min_ack_delay are taken in any.
  *
  * Returns 0 and the parameters; QUIC_WIRE_ERR_MALFORMED where the list is
  * refused with a TRANSPORT_PARAMETER_ERROR, and then |params->reason| says why,

@@ -235,10 +235,14 @@ QUIC_WIRE_API int quic_wire_frame_write(const quic_wire_frame *frame,
                                         int last, uint8_t *dest,
                                         size_t destlen, size_t *written) {
   size_t unused;
-  if (!frame || (!data && datalen) || (!dest && destlen))
+  if (!frame || (!dest && destlen))
     return QUIC_WIRE_ERR_INVALID_ARGUMENT;
-  if (!data)
+  if (!data) {
+    if (datalen && frame->datalen)
+      return QUIC_WIRE_ERR_INVALID_ARGUMENT;
     data = (const uint8_t *)quic_wire_nothing_();
+    datalen = 0;
+  }
   if (!dest)
     dest = (uint8_t *)quic_wire_nothing_();
   return quic_wire_frame_write_(frame, data, datalen, last != 0, dest, destlen,

@@ -1,6 +1,7 @@
 pub mod Places
 mod Shapes
 mod Said
+mod Meanings
 mod Filling
 mod Fronts
 mod RangeFilling

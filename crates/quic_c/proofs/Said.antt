@@ -1,12 +1,14 @@
 -- What words say, and why they say no frame.
-use Rattle.std.proofs.Common.{◌≡◌, ℕ, ◌+◌, ◌<◌, ◌≤◌, ◌^◌, List, [], ◌∷◌, length, Option, None, Some, Bool, true, false, refl, sym, ap, ◌∙◌, arith}
-use Rattle.std.specs.Prelude.{◌==◌, ◌&&◌, if◌then◌else◌}
+use Rattle.std.proofs.Common.{◌≡◌, ℕ, ◌+◌, ◌<◌, ◌≤◌, ◌^◌, List, [], ◌∷◌, length, take, drop, Option, None, Some, Bool, true, false, refl, sym, ap, subst, ◌∙◌, inl, inr, arith}
+use Rattle.std.specs.Prelude.{◌==◌, ◌&&◌, ℤ, if◌then◌else◌}
+use Rattle.std.proofs.lemmas.Bool.{cases_eq}
+use Rattle.std.proofs.lemmas.Bool.Decides.{nat_tests}
 use Rattle.quic_frames.specs.declared.frame.Frame.{Frame}
 use Rattle.quic_frames.specs.InRange.{IsNoAck, IsTyped}
 use Rattle.quic_c.specs.declared.words.FrameWords.{FrameWords}
-use Rattle.quic_c.specs.Shown.{data_of, tail_of}
-use Rattle.quic_c.specs.Shapes.{Shape, IsSound, Fills, HasPieces, IsShown, shape_of, kept_numbers, kept_data, token_room}
-use Rattle.quic_c.specs.Written.{Says, CanWrite, SaysNone}
+use Rattle.quic_c.specs.Shown.{kind_of, data_of, tail_of}
+use Rattle.quic_c.specs.Shapes.{Shape, IsSound, Fills, HasPieces, IsShown, LacksData, LacksPieces, shape_of, shows_data, kept_numbers, kept_data, kept_token, token_room}
+use Rattle.quic_c.specs.Written.{Says, CanWrite, SaysNone, Wrote, NeedsMore, IsAnswer}
 use Rattle.quic_c.proofs.Shapes.{sound, keeps, open_short, counted_short}
 
 pub not_sound : (words : FrameWords) (bytes : List ℕ) (last : Bool) → (IsSound words.kind words.numbers words.data_len → ⊥) → SaysNone words bytes last
@@ -19,10 +21,11 @@ not_counted words bytes last inner long frame can =
     let short = counted_short frame can.kind can.stands.in_range (can.stands.counted inner) in
     absurd (omega (arith, short, long, can.said.count))
 
-pub not_within : (words : FrameWords) (bytes : List ℕ) (last : Bool) → length bytes < words.data_offset + words.data_len + token_room words.kind → SaysNone words bytes last
-not_within words bytes last long frame can =
+pub not_within : (words : FrameWords) (bytes : List ℕ) (last : Bool) → LacksPieces words bytes → SaysNone words bytes last
+not_within words bytes last lacks frame can =
     let tail : token_room words.kind ≡ tail_of frame = ap token_room can.said.kind ∙ sym (keeps frame can.kind).tail in
-    absurd (omega (arith, long, tail, can.said.within))
+    let within = can.said.within (omega (arith, lacks.some, tail)) in
+    absurd (omega (arith, lacks.past, tail, within))
 
 pub not_known : (words : FrameWords) (bytes : List ℕ) (last : Bool) → shape_of words.kind ≡ None → SaysNone words bytes last
 not_known words bytes last none frame can = (keeps frame can.kind).known (sym (ap shape_of can.said.kind) ∙ none)
@@ -79,4 +82,75 @@ can_write words bytes front token last frame p f s typed short = record {
   kind = f.no_ack;
   typed = typed;
   stands = record { in_range = f.in_range; counted = λ inner. open_short frame f.no_ack (rw s.count (short inner)) };
+}
+
+-- ---- words without data
+
+same_branches : (b : Bool) → ◌≡◌ {A = List ℕ} [] (if b then [] else [])
+same_branches true = refl
+same_branches false = refl
+
+none_taken : (n : ℕ) (xs : List ℕ) → n ≡ 0 → [] ≡ take n xs
+none_taken n xs e = subst (λ (k : ℕ). [] ≡ take k xs) (sym e) refl
+
+pub no_pieces : (words : FrameWords) (payload bytes behind : List ℕ) → words.data_len ≡ 0 → token_room words.kind ≡ 0 → length bytes ≡ 0 → length behind ≡ 0
+    → HasPieces words payload bytes behind
+no_pieces words payload bytes behind none roomless b t = record {
+  within = λ some. absurd (omega (arith, some, none, roomless));
+  content = sym (empty bytes (sym b)) ∙ none_taken words.data_len (drop words.data_offset payload) none;
+  width = b ∙ sym none;
+  room = t ∙ sym roomless;
+  token = ap (kept_token words.kind) (sym (empty behind (sym t))) ∙ sym (same_branches (words.kind == 0x18))
+      ∙ none_taken (token_room words.kind) (drop words.data_len (drop words.data_offset payload)) roomless;
+}
+
+data_kept : (shape : Option Shape) (bytes : List ℕ) → shows_data shape ≡ false → kept_data shape bytes ≡ []
+data_kept None bytes e = refl
+data_kept (Some s) bytes e = ap (λ (b : Bool). if b then bytes else []) e
+
+no_data : (words : FrameWords) (bytes : List ℕ) (last : Bool) (frame : Frame) → LacksData words → CanWrite words bytes last frame → words.data_len ≡ 0
+no_data words bytes last frame (inl none) can = none
+no_data words bytes last frame (inr e) can =
+    let lacks : shows_data (shape_of (kind_of frame)) ≡ false = ap (λ (k : ℕ). shows_data (shape_of k)) (sym can.said.kind) ∙ e in
+    can.said.count ∙ ap length (sym (keeps frame can.kind).content ∙ data_kept (shape_of (kind_of frame)) (data_of frame) lacks)
+
+no_room : (kind : ℕ) → (kind ≡ 0x18 → ⊥) → token_room kind ≡ 0
+no_room kind other = grind (arith, nat_tests)
+
+no_tail : (words : FrameWords) (bytes : List ℕ) (last : Bool) (frame : Frame) → words.data_len ≡ 0 → CanWrite words bytes last frame → tail_of frame ≡ 0
+no_tail words bytes last frame none can = elim (cases_eq (kind_of frame) 0x18) [
+  | inl e ↦ absurd (omega (arith, (sound frame can.kind can.typed can.stands.in_range).some e, can.said.count, none))
+  | inr other ↦ (keeps frame can.kind).tail ∙ no_room (kind_of frame) other
+]
+
+pub elsewhere : (words : FrameWords) (bytes others : List ℕ) (last : Bool) (frame : Frame) → LacksData words → CanWrite words bytes last frame → CanWrite words others last frame
+elsewhere words bytes others last frame lacks can =
+    let s = can.said in
+    let none : words.data_len ≡ 0 = no_data words bytes last frame lacks can in
+    let tail : tail_of frame ≡ 0 = no_tail words bytes last frame none can in
+    let content : take words.data_len (drop words.data_offset others) ≡ data_of frame =
+    sym (none_taken words.data_len (drop words.data_offset others) none) ∙ none_taken words.data_len (drop words.data_offset bytes) none ∙ s.content in
+    record {
+      said = record {
+        kind = s.kind;
+        flags = s.flags;
+        numbers = s.numbers;
+        count = s.count;
+        within = λ some. absurd (omega (arith, some, none, tail));
+        content = content;
+        token = sym (none_taken (tail_of frame) (drop words.data_len (drop words.data_offset others)) tail)
+            ∙ none_taken (tail_of frame) (drop words.data_len (drop words.data_offset bytes)) tail ∙ s.token;
+      };
+      kind = can.kind;
+      typed = can.typed;
+      stands = can.stands;
+    }
+
+-- an answer that is right of some bytes is right of all others
+pub answer_elsewhere : (words : FrameWords) (bytes others : List ℕ) (last : Bool) (answer : ℤ) (old new : List ℕ) (written : ℕ) → LacksData words
+    → IsAnswer words bytes last answer old new written → IsAnswer words others last answer old new written
+answer_elsewhere words bytes others last answer old new written lacks is = record {
+  wrote = λ e. let w = is.wrote e in record { frame = w.frame; can = elsewhere words bytes others last w.frame lacks w.can; count = w.count; front = w.front };
+  room = λ e. let w = is.room e in record { frame = w.frame; can = elsewhere words bytes others last w.frame lacks w.can; count = w.count; full = w.full };
+  refused = λ e frame can. is.refused e frame (elsewhere words others bytes last frame lacks can);
 }

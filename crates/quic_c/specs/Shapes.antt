@@ -1,5 +1,5 @@
 -- Which words a kind of frame has.
-use Rattle.std.specs.Prelude.{◌≡◌, ℕ, ◌+◌, ◌<◌, ◌≤◌, ◌^◌, ◌==◌, ◌&&◌, ◌||◌, List, [], ◌∷◌, length, take, drop, Bool, true, false, Option, None, Some, if◌then◌else◌}
+use Rattle.std.specs.Prelude.{◌≡◌, ℕ, ◌+◌, ◌<◌, ◌≤◌, ◌^◌, ◌==◌, ◌&&◌, ◌||◌, ◌⊎◌, List, [], ◌∷◌, length, take, drop, Bool, true, false, Option, None, Some, if◌then◌else◌}
 use Rattle.std.specs.Map.{lookup}
 use Rattle.quic_frame_parts.specs.Numbers.{AreNumeric}
 use Rattle.quic_frames.specs.declared.frame.Frame.{Frame}
@@ -40,6 +40,14 @@ shapes =
 
 abbrev pub shape_of : ℕ → Option Shape
 shape_of kind = lookup (λ u. kind == u) shapes
+
+abbrev pub shows_data : Option Shape → Bool
+shows_data None = false
+shows_data (Some s) = s.has_data
+
+-- The words say no data, or a kind that has none.
+abbrev pub LacksData : FrameWords → Type 0
+LacksData words = (words.data_len ≡ 0) ⊎ (shows_data (shape_of words.kind) ≡ false)
 
 abbrev pub masked : List Bool → List ℕ → List ℕ
 masked (is_kept ∷ mask) (n ∷ ns) = (if is_kept then n else 0) ∷ masked mask ns
@@ -91,13 +99,18 @@ pub record Fills (type : ℕ) (is_fin : Bool) (given bytes behind : List ℕ) (f
   pub no_ack : IsNoAck frame
   pub in_range : InRange frame
 
--- The bytes and the token stand where the words say.
+-- The bytes and the token stand where the words say; where there are neither, that may be anywhere.
 pub record HasPieces (words : FrameWords) (payload bytes behind : List ℕ) : Type 0 where
-  pub within : words.data_offset + words.data_len + token_room words.kind ≤ length payload
+  pub within : 0 < words.data_len + token_room words.kind → words.data_offset + words.data_len + token_room words.kind ≤ length payload
   pub content : bytes ≡ take words.data_len (drop words.data_offset payload)
   pub width : length bytes ≡ words.data_len
   pub room : length behind ≡ token_room words.kind
   pub token : kept_token words.kind behind ≡ take (token_room words.kind) (drop words.data_len (drop words.data_offset payload))
+
+-- There is something to stand there, and the payload ends before.
+pub record LacksPieces (words : FrameWords) (payload : List ℕ) : Type 0 where
+  pub some : 0 < words.data_len + token_room words.kind
+  pub past : length payload < words.data_offset + words.data_len + token_room words.kind
 
 -- The frame has the flags, the numbers and the length of the words.
 pub record IsShown (words : FrameWords) (frame : Frame) : Type 0 where

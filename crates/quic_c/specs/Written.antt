@@ -1,5 +1,5 @@
 -- The frames that words say, and what the call answers that writes them.
-use Rattle.std.specs.Prelude.{◌≡◌, ℕ, ◌+◌, ◌<◌, ◌≤◌, ◌==◌, List, [], ◌++◌, length, take, drop, Bool, not}
+use Rattle.std.specs.Prelude.{◌≡◌, ℕ, ◌+◌, ◌<◌, ◌≤◌, ◌==◌, ℤ, pos, negsuc, List, [], ◌++◌, length, take, drop, Bool, not}
 use Rattle.quic_frame_parts.specs.Shortest.{shortest_frame}
 use Rattle.quic_frames.specs.declared.frame.Frame.{Frame}
 use Rattle.quic_frames.specs.declared.frame.Frame.TheVariants as frames
@@ -14,13 +14,13 @@ token_of (frames.NewConnectionId n) = n.reset_token
 token_of frame = []
 
 -- The words say the frame, whose data stand in the bytes where the words say, with the token of a reset behind them.
--- Where the frame begins and ends in a payload says nothing here.
+-- Where there are neither, their place says nothing, nor does ever where the frame begins and ends in a payload.
 pub record Says (words : FrameWords) (bytes : List ℕ) (frame : Frame) : Type 0 where
   pub kind : words.kind ≡ kind_of frame
   pub flags : words.flags ≡ flags_of frame
   pub numbers : words.numbers ≡ numbers_of frame
   pub count : words.data_len ≡ length (data_of frame)
-  pub within : words.data_offset + words.data_len + tail_of frame ≤ length bytes
+  pub within : 0 < words.data_len + tail_of frame → words.data_offset + words.data_len + tail_of frame ≤ length bytes
   pub content : take words.data_len (drop words.data_offset bytes) ≡ data_of frame
   pub token : take (tail_of frame) (drop words.data_len (drop words.data_offset bytes)) ≡ token_of frame
 
@@ -52,3 +52,9 @@ pub record NeedsMore (words : FrameWords) (bytes : List ℕ) (last : Bool) (old 
 -- The words say no such frame.
 abbrev pub SaysNone : FrameWords → List ℕ → Bool → Type 0
 SaysNone words bytes last = (frame : Frame) → CanWrite words bytes last frame → ⊥
+
+-- The answer, and what the call leaves, are right of the words and these bytes.
+pub record IsAnswer (words : FrameWords) (bytes : List ℕ) (last : Bool) (answer : ℤ) (old new : List ℕ) (written : ℕ) : Type 0 where
+  pub wrote : answer ≡ pos 0 → Wrote words bytes last old new written
+  pub room : answer ≡ negsuc 3 → NeedsMore words bytes last old written
+  pub refused : answer ≡ negsuc 0 → SaysNone words bytes last

@@ -1,10 +1,13 @@
 //! Frames, written from words into the caller's bytes.
-ghost use Rattle.std.specs.Prelude.{◌≡◌, ◌<◌, ◌≤◌, ◌+◌, ◌^◌, ◌⊎◌, ◌↔◌, [], ◌∷◌, pos, negsuc, length, false, IsTrue, IfSome, IsNone, None};
+ghost use Rattle.std.specs.Prelude.{◌≡◌, ◌<◌, ◌≤◌, ◌^◌, ◌⊎◌, ◌↔◌, ℕ, Bool, List, [], ◌∷◌, pos, negsuc, length, false, IsTrue, IfSome, IsNone, None};
 ghost use Rattle.quic_frame_parts.specs.Numbers.{AreNumeric};
+ghost use Rattle.quic_frames.specs.declared.frame.Frame.{Frame};
 ghost use Rattle.quic_frames.specs.declared.frame.Frame.TheVariants as frames;
+ghost use Rattle.quic_frames.specs.Meaning.{meaning_of};
 ghost use Rattle.quic_frame_parts.specs.declared.frame.close.Close.TheVariants as closes;
-ghost use Rattle.quic_c.specs.Shapes.{IsSound, Fills, HasPieces, IsShown, shape_of, token_room};
-ghost use Rattle.quic_c.specs.Written.{CanWrite, SaysNone, Wrote, NeedsMore, flag_of};
+ghost use Rattle.quic_c.specs.Shapes.{IsSound, Fills, HasPieces, IsShown, LacksData, LacksPieces, shape_of, token_room};
+ghost use Rattle.quic_c.specs.Written.{CanWrite, SaysNone, Wrote, NeedsMore, IsAnswer, flag_of};
+ghost use Rattle.quic_c.specs.declared.words.FrameWords.{FrameWords};
 
 use crate::show::parts_of;
 use crate::words::FrameWords;
@@ -231,17 +234,29 @@ fn frame_of<'a>(
     }
 }
 
-// The data that the words say, and the token of a reset behind them, which a NEW_CONNECTION_ID alone has.
+// How many bytes of a token stand behind the data.
+#[inline(always)]
+fn token_room(kind: u32) -> usize
+    ensures { result ≡ token_room kind }
+{
+    if kind == 0x18 { 16 } else { 0 }
+}
+
+// The data that the words say, and the token of a reset behind them, which a NEW_CONNECTION_ID alone has. Where there
+// are neither, nothing of `data` is looked at.
 fn pieces<'a>(words: &FrameWords, data: &'a [u8]) -> Option<(&'a [u8], &'a [u8])>
     ensures some { IfSome result (λ p. HasPieces words.now data.now p.0.now p.1.now) }
-    ensures none { IsNone result → length data.now < words.now.data_offset + words.now.data_len + token_room words.now.kind }
+    ensures none { IsNone result → LacksPieces words.now data.now }
 {
     let (offset, len) = (words.data_offset, words.data_len);
+    let room = token_room(words.kind);
+    if len == 0 && room == 0 {
+        return Some((&data[..0], &data[..0]));
+    }
     if offset > data.len() || len > data.len() - offset {
         return None;
     }
     let (front, back) = data[offset..].split_at(len);
-    let room = if words.kind == 0x18 { 16 } else { 0 };
     if back.len() < room {
         return None;
     }
@@ -283,10 +298,11 @@ fn said<'a>(words: &FrameWords, data: &'a [u8], last: bool) -> Option<Frame<'a>>
 
 /// Writes the shortest spelling of the frame that the words say, the last of its payload where `last` isn't 0, at
 /// the front of `out` (RFC 9000, section 19). Its data, of a NEW_CONNECTION_ID the id with the sixteen bytes of its
-/// token behind it, stand in `data` where the words say; where the frame begins and ends isn't looked at. It answers
-/// 0 with how many bytes were written, and what stood behind them stays; -4 with how many are needed where `out` has
-/// fewer; -1 where the words say no frame that can be written, or an ACK: these are written from sets. `out`
-/// changes with 0 alone, and `written` not with -1.
+/// token behind it, stand in `data` where the words say. Where the words say no data, as those of a kind without any,
+/// neither `data` nor that place is looked at; where the frame begins and ends never is. It answers 0 with how many
+/// bytes were written, and what stood behind them stays; -4 with how many are needed where `out` has fewer; -1 where
+/// the words say no frame that can be written, or an ACK: these are written from sets. `out` changes with 0 alone, and
+/// `written` not with -1.
 #[unsafe(no_mangle)]
 pub extern "C" fn quic_wire_frame_write_(
     frame: &FrameWords,
@@ -300,6 +316,8 @@ pub extern "C" fn quic_wire_frame_write_(
     ensures room { result ≡ negsuc 3 → NeedsMore frame.now data.now (flag_of last) out.old written.new }
     ensures refused { result ≡ negsuc 0 → SaysNone frame.now data.now (flag_of last) × (written.new ≡ written.old) }
     ensures same { (result ≡ pos 0) ⊎ (out.new ≡ out.old) }
+    ensures any_data { LacksData frame.now → (others : List ℕ)
+        → IsAnswer frame.now others (flag_of last) result out.old out.new written.new }
 {
     let last = last != 0;
     let Some(frame) = said(frame, data, last) else {
@@ -316,3 +334,10 @@ pub extern "C" fn quic_wire_frame_write_(
         }
     }
 }
+
+/// Words say one frame at most: each that the same words and bytes say has the same meaning, and so the same spelling.
+/// So an answer that is right of some words and bytes is the only one.
+pub fn one_frame()
+    ensures { (words : FrameWords) (bytes : List ℕ) (last : Bool) (one other : Frame) → CanWrite words bytes last one
+        → CanWrite words bytes last other → meaning_of one ≡ meaning_of other }
+{}

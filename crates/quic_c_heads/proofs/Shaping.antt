@@ -35,9 +35,14 @@ short_flags false false true flags e = inr (omega (arith, e))
 short_flags false false false flags e = inl (omega (arith, e))
 
 -- a long head's flags and version
-long_plain : (words : SaidWords) (clear : Bool) → words.kind < 4 → words.flags ≡ bit clear 64 → words.flags < 128 → IsPlain words
-long_plain words clear kind e low =
-    record { fixed = λ _. fixed_flags clear words.flags e; bits = λ k. absurd (omega (arith, k, kind)); low = low; version = λ k. absurd (omega (arith, k, kind)) }
+long_plain : (words : SaidWords) (clear : Bool) → words.kind < 4 → words.flags ≡ bit clear 64 → words.flags < 128 → (words.kind < 4 → 0 < words.version) → IsPlain words
+long_plain words clear kind e low named = record {
+  fixed = λ _. fixed_flags clear words.flags e;
+  bits = λ k. absurd (omega (arith, k, kind));
+  low = low;
+  version = λ k. absurd (omega (arith, k, kind));
+  named = named;
+}
 
 -- the parts of a head that has no token
 no_token : (kind : ℕ) (dst src token : List ℕ) → length dst ≤ 20 → length src ≤ 20 → (kind ≡ 4 → length src ≡ 0) → length token ≡ 0 → AreParts kind dst src token
@@ -50,7 +55,7 @@ shaped words dst src token clear (header.Initial h) can =
     record {
       known = omega (arith, k);
       numbered = with_number words h.number can.says.number (inl (omega (arith, k))) (λ _. can.says.len) (λ e. absurd (omega (arith, k, e)));
-      plain = long_plain words clear (omega (arith, k)) can.says.flags can.low;
+      plain = long_plain words clear (omega (arith, k)) can.says.flags can.low can.named;
       parts = record {
         dst_few = can.dst_few;
         src_few = can.src_few;
@@ -64,7 +69,7 @@ shaped words dst src token clear (header.Long ZeroRtt to from number version) ca
     record {
       known = omega (arith, k);
       numbered = with_number words number can.says.number (inl (omega (arith, k))) (λ _. can.says.len) (λ e. absurd (omega (arith, k, e)));
-      plain = long_plain words clear (omega (arith, k)) can.says.flags can.low;
+      plain = long_plain words clear (omega (arith, k)) can.says.flags can.low can.named;
       parts = no_token words.kind dst src token can.dst_few can.src_few (λ e. absurd (omega (arith, k, e))) (ap length can.says.token_is);
     }
 shaped words dst src token clear (header.Long Handshake to from number version) can =
@@ -72,7 +77,7 @@ shaped words dst src token clear (header.Long Handshake to from number version) 
     record {
       known = omega (arith, k);
       numbered = with_number words number can.says.number (inl (omega (arith, k))) (λ _. can.says.len) (λ e. absurd (omega (arith, k, e)));
-      plain = long_plain words clear (omega (arith, k)) can.says.flags can.low;
+      plain = long_plain words clear (omega (arith, k)) can.says.flags can.low can.named;
       parts = no_token words.kind dst src token can.dst_few can.src_few (λ e. absurd (omega (arith, k, e))) (ap length can.says.token_is);
     }
 shaped words dst src token clear (header.Retry to from version) can =
@@ -80,7 +85,7 @@ shaped words dst src token clear (header.Retry to from version) can =
     record {
       known = omega (arith, k);
       numbered = without_number words can.says.number (inl k) can.says.len;
-      plain = long_plain words clear (omega (arith, k)) can.says.flags can.low;
+      plain = long_plain words clear (omega (arith, k)) can.says.flags can.low can.named;
       parts = no_token words.kind dst src token can.dst_few can.src_few (λ e. absurd (omega (arith, k, e))) (ap length can.says.token_is);
     }
 shaped words dst src token clear (header.Short spin key_phase to number) can =
@@ -93,6 +98,7 @@ shaped words dst src token clear (header.Short spin key_phase to number) can =
         bits = λ _. short_flags clear spin key_phase words.flags can.says.flags;
         low = can.low;
         version = λ _. can.says.version;
+        named = can.named;
       };
       parts = no_token words.kind dst src token can.dst_few can.src_few (λ _. ap length can.says.src_is) (ap length can.says.token_is);
     }
@@ -101,6 +107,12 @@ shaped words dst src token clear (header.VersionNegotiate random from to) can =
     record {
       known = omega (arith, k);
       numbered = without_number words can.says.number (inr k) can.says.len;
-      plain = record { fixed = λ e. absurd (omega (arith, k, e)); bits = λ e. absurd (omega (arith, k, e)); low = can.low; version = λ _. can.says.version };
+      plain = record {
+        fixed = λ e. absurd (omega (arith, k, e));
+        bits = λ e. absurd (omega (arith, k, e));
+        low = can.low;
+        version = λ _. can.says.version;
+        named = can.named;
+      };
       parts = no_token words.kind dst src token can.dst_few can.src_few (λ e. absurd (omega (arith, k, e))) (ap length can.says.token_is);
     }

@@ -88,6 +88,7 @@ can_said kind.Initial words dst src token s e =
       dst_few = s.parts.dst_few;
       src_few = s.parts.src_few;
       low = s.plain.low;
+      named = s.plain.named;
       writable = (s.parts.token_short, part.2);
     }
 can_said kind.ZeroRtt words dst src token s e =
@@ -107,6 +108,7 @@ can_said kind.ZeroRtt words dst src token s e =
       dst_few = s.parts.dst_few;
       src_few = s.parts.src_few;
       low = s.plain.low;
+      named = s.plain.named;
       writable = part.2;
     }
 can_said kind.Handshake words dst src token s e =
@@ -126,6 +128,7 @@ can_said kind.Handshake words dst src token s e =
       dst_few = s.parts.dst_few;
       src_few = s.parts.src_few;
       low = s.plain.low;
+      named = s.plain.named;
       writable = part.2;
     }
 can_said kind.Retry words dst src token s e = record {
@@ -143,6 +146,7 @@ can_said kind.Retry words dst src token s e = record {
   dst_few = s.parts.dst_few;
   src_few = s.parts.src_few;
   low = s.plain.low;
+  named = s.plain.named;
   writable = tt;
 }
 can_said kind.Short words dst src token s e =
@@ -162,6 +166,7 @@ can_said kind.Short words dst src token s e =
       dst_few = s.parts.dst_few;
       src_few = s.parts.src_few;
       low = s.plain.low;
+      named = s.plain.named;
       writable = part.2;
     }
 can_said kind.VersionNegotiate words dst src token s e = record {
@@ -179,6 +184,7 @@ can_said kind.VersionNegotiate words dst src token s e = record {
   dst_few = s.parts.dst_few;
   src_few = s.parts.src_few;
   low = s.plain.low;
+  named = s.plain.named;
   writable = tt;
 }
 
@@ -257,6 +263,7 @@ short_shaped first number dst low clear small few = record {
     bits = λ _. elim (cases_eq (first / 4 % 2) 0) [ inl none ↦ inl (omega (arith, low, clear, none)) | inr some ↦ inr (omega (arith, low, clear, some)) ];
     low = omega arith;
     version = λ _. refl;
+    named = λ e. absurd (omega (arith, e));
   };
   parts = record { dst_few = few; src_few = omega arith; no_src = λ _. refl; no_token = λ _. refl; token_short = omega arith };
 }

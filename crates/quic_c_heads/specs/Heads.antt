@@ -91,13 +91,15 @@ pub record Says (words : SaidWords) (dst src token : List ℕ) (clear : Bool) (h
   pub src_is : src ≡ src_in head
   pub token_is : token ≡ token_in head
 
--- They say a head that can be written: ids have at most 20 bytes, and the first byte of a version negotiation seven
--- bits beside its highest.
+-- They say a head that can be written: ids have at most 20 bytes, the first byte of a version negotiation seven bits
+-- beside its highest, and no other long head version 0, by which a version negotiation is told (RFC 9000, section
+-- 17.2.1).
 pub record CanWrite (words : SaidWords) (dst src token : List ℕ) (clear : Bool) (head : Header) : Type 0 where
   pub says : Says words dst src token clear head
   pub dst_few : length dst ≤ 20
   pub src_few : length src ≤ 20
   pub low : words.flags < 128
+  pub named : words.kind < 4 → 0 < words.version
   pub writable : IsWritable head
 
 -- the bytes that are written: the head's, with so many zeros as its length, and with its fixed bit cleared where that

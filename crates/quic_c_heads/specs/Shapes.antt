@@ -19,6 +19,7 @@ pub record IsPlain (words : SaidWords) : Type 0 where
   pub bits : words.kind ≡ 4 → (words.flags % 32 ≡ 0) ⊎ (words.flags % 32 ≡ 4)
   pub low : words.flags < 128
   pub version : 4 ≤ words.kind → words.version ≡ 0
+  pub named : words.kind < 4 → 0 < words.version
 
 -- The ids and the token are those of a head of the kind.
 pub record AreParts (kind : ℕ) (dst src token : List ℕ) : Type 0 where

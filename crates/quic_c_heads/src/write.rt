@@ -57,7 +57,7 @@ fn is_plain(said: &SaidWords) -> bool
             said.flags < 128 && (said.flags % 32 == 0 || said.flags % 32 == 4) && said.version == 0
         }
         5 => said.flags < 128 && said.version == 0,
-        _ => said.flags == 0 || said.flags == 64,
+        _ => said.version != 0 && (said.flags == 0 || said.flags == 64),
     }
 }
 
@@ -149,8 +149,9 @@ pub extern "C" fn quic_wire_short_write_(
 /// the number stands. The length of an Initial, 0-RTT or Handshake packet is 0, until `quic_wire_set_len_`. What
 /// stood behind the head stays. It answers -4 where `dest` has fewer bytes; -1 just where they say no head that can
 /// be written: a kind above 5, an id of more than 20 bytes, a number of 2^62 or more or one that is written in no or
-/// more than four bytes, a length of other than 2 or 4 bytes, a token of 2^62 bytes, or something that the kind
-/// lacks. Nothing changes then.
+/// more than four bytes, a length of other than 2 or 4 bytes, a token of 2^62 bytes, version 0 in an Initial, 0-RTT,
+/// Handshake or Retry head, which would be a version negotiation (RFC 9000, section 17.2.1), or something that the
+/// kind lacks. Nothing changes then. A version negotiation is written with any low bits of its first byte.
 #[unsafe(no_mangle)]
 pub extern "C" fn quic_wire_head_write_(
     said: &SaidWords,

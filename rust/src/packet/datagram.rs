@@ -61,7 +61,8 @@ pub struct Packets<'a, 'v> {
 
 impl<'a, 'v> Packets<'a, 'v> {
     /// Begins at the front of a datagram. Ids of short headers have `cid_len` bytes; `versions` are those that are read
-    /// further than their ids; with `grease` the fixed bit may be clear (RFC 9287).
+    /// further than their ids; with `grease` the fixed bit may be clear (RFC 9287). Without, a version negotiation is
+    /// refused too where it is clear, though section 17.2.1 of RFC 9000 has clients ignore it there.
     ///
     /// ```
     /// use quic_wire::packet::{Packets, DEFAULT_SUPPORTED_VERSIONS};

@@ -69,7 +69,9 @@ pub enum Header<'a> {
     },
     /// The header of a version negotiation (RFC 9000, section 17.2.1).
     VersionNegotiate {
-        /// The first byte without its highest bit. Who doesn't take greased packets looks for 0x40 in it.
+        /// The first byte without its highest bit. Who doesn't take greased packets looks for 0x40 in it, which RFC
+        /// 9000, section 17.2.1, has set where QUIC may share its port; without it, [`Header::encode_with`] alone
+        /// writes it.
         random: u8,
         /// The sender's id.
         src_cid: &'a [u8],
@@ -194,7 +196,8 @@ impl Header<'_> {
     /// # Errors
     ///
     /// Where nobody would read it: ids of more than 20 bytes, a number of 2^62 or more or not in one to four bytes, a
-    /// long header of version 0, `random` without 0x40; or where there is too little room.
+    /// long header of version 0; where `random` lacks 0x40, which [`Packets`](super::Packets) asks for unless packets
+    /// are greased; or where there is too little room.
     #[inline]
     pub fn encode<B: Buffer + ?Sized>(&self, out: &mut B) -> Result<PartialEncode, WriteError> {
         self.encode_with(false, out)

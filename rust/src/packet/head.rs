@@ -126,7 +126,8 @@ impl Head {
         self.0.first
     }
 
-    /// Whether the fixed bit is set, as in all packets but those of RFC 9287.
+    /// Whether the fixed bit is set, as in all packets but those of RFC 9287. In a version negotiation clients ignore
+    /// it (RFC 9000, section 17.2.1).
     ///
     /// ```
     /// use quic_wire::packet::Head;

@@ -49,8 +49,9 @@ impl PacketNumber {
     }
 
     /// The whole number of which the low `len` bytes are `written`, by the one that is expected next (RFC 9000,
-    /// appendix A.3). It may be 2^62 or more where `expected` is close to that. None where `len` isn't 1 to 4,
-    /// `written` has more bytes, or `expected` is 2^62 or more.
+    /// appendix A.3). None where `len` isn't 1 to 4, `written` has more bytes, or `expected` is 2^62 or more. Where
+    /// `expected` is at most `2^(8 * len - 1)` below 2^62 the number may be 2^62 or more, which no packet has; appendix
+    /// A.3 gives the one that is less by `2^(8 * len)` then.
     ///
     /// ```
     /// use quic_wire::packet::PacketNumber;

@@ -132,7 +132,7 @@ pub fn frame_write(frame: &Frame, data: &[u8], last: bool, out: &mut Room) -> Re
     let (mut written, last) = (0, u32::from(last));
     let (to, room) = (out.as_mut_ptr().cast::<u8>(), out.len());
     // SAFETY: `data` and `out` each give their own pointer and length; `out` and `written` are borrowed alone. Any
-    // words in `frame` serve: places outside `data` are refused. With 0 the first `written` bytes of `out` are
+    // words in `frame` serve: bytes outside `data` are refused. With 0 the first `written` bytes of `out` are
     // initialised. The library looks at no other memory and keeps no pointer.
     let answer = unsafe { c::quic_wire_frame_write_(frame, data.as_ptr(), data.len(), last, to, room, &mut written) };
     wrote(answer, written)

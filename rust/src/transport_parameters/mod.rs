@@ -156,6 +156,9 @@ impl TransportParameters {
     /// Reads a list that `side` got from its peer: a server takes nothing that a server alone sends. Parameters that
     /// aren't known are passed; [`entries`] gives these.
     ///
+    /// An integer with a default is refused as malformed where its encoding is longer than its shortest, though section
+    /// 16 of RFC 9000 allows it. `max_datagram_frame_size` and `min_ack_delay` are taken in any.
+    ///
     /// ```
     /// use quic_wire::transport_parameters::TransportParameters;
     /// use quic_wire::Side;

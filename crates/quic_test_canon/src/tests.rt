@@ -2,6 +2,7 @@
 
 mod beginnings;
 mod canonical;
+mod errors;
 mod growth_refused;
 mod lines;
 mod strict;

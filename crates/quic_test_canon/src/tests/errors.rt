@@ -1,0 +1,41 @@
+//! Errors of the calls, as they are displayed.
+use quic_canon::canonical::CanonError;
+use quic_errors::frame_type::FrameType;
+use quic_frames::frame::InvalidFrame;
+use quic_testing::Checks;
+use std::alloc::Global;
+use std::error::Error;
+use std::test::Fail;
+
+// An error's text, by the trait of errors.
+fn says<E: Error>(checks: &mut Checks, alloc: Global, error: &E, text: &str) -> Result<(), Fail> {
+    checks.displays(alloc, error, text)
+}
+
+#[test]
+fn errors_are_told(rt: HostRuntime) -> Result<(), Fail> {
+    let mut checks = Checks::new(rt.alloc());
+    let long = CanonError::Invalid(InvalidFrame {
+        ty: Some(FrameType::PADDING),
+        reason: "frame type not in shortest form",
+    });
+    says(
+        &mut checks,
+        rt.alloc(),
+        &CanonError::Empty,
+        "packet payload is empty",
+    )?;
+    says(
+        &mut checks,
+        rt.alloc(),
+        &long,
+        "frame type not in shortest form",
+    )?;
+    says(
+        &mut checks,
+        rt.alloc(),
+        &CanonError::OutOfMemory,
+        "out of memory",
+    )?;
+    checks.verdict()
+}

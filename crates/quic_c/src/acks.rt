@@ -45,8 +45,11 @@ pub extern "C" fn quic_wire_ack_ranges_init_unchecked_(
     frame: &FrameWords,
 ) -> i32
     ensures answers { (result ≡ pos 0) ⊎ (result ≡ negsuc 0) }
-    ensures place { result ≡ pos 0 → GivesFront frame.now payload.now ranges.new ⊎ (LacksFront frame.now payload.now × GivesPlace frame.now payload.now ranges.new) }
-    ensures refused { result ≡ negsuc 0 → LacksFront frame.now payload.now × LacksAck frame.now payload.now × (ranges.new ≡ ranges.old) }
+    ensures place { result ≡ pos 0
+        → GivesFront frame.now payload.now ranges.new
+        ⊎ (LacksFront frame.now payload.now × GivesPlace frame.now payload.now ranges.new) }
+    ensures refused { result ≡ negsuc 0
+        → LacksFront frame.now payload.now × LacksAck frame.now payload.now × (ranges.new ≡ ranges.old) }
 {
     let (begin, end) = (frame.begin, frame.end);
     if begin > end || end > payload.len() {

@@ -105,6 +105,7 @@ pub extern "C" fn quic_wire_frame_head_write_(
 
 /// A head and then the data are the frame: what can be written whole has a head, and is that with its data behind it.
 pub fn head_and_data()
-    ensures { (words : FrameWords) (bytes : List ℕ) (last : Bool) (frame : Frame) → IsHeaded words.kind → CanWrite words bytes last frame
+    ensures { (words : FrameWords) (bytes : List ℕ) (last : Bool) (frame : Frame) → IsHeaded words.kind
+        → CanWrite words bytes last frame
         → HasHead words last × (shortest_frame last (meaning_of frame) ≡ head_bytes words last ++ data_of frame) }
 {}

@@ -75,8 +75,10 @@ pub extern "C" fn quic_wire_frames_fill_(
     out: &mut [FrameWords],
     count: &mut usize,
 ) -> i32
-    ensures answers { (result ≡ pos 1) ⊎ (result ≡ pos 0) ⊎ (result ≡ negsuc 2) ⊎ (result ≡ negsuc 3) ⊎ (result ≡ negsuc 0) }
-    ensures frames { result ≡ pos 1 → (0 < count.new) × Fills (way_of frames.old payload.now) out.old (way_of frames.new payload.now) out.new count.new }
+    ensures answers { (result ≡ pos 1) ⊎ (result ≡ pos 0) ⊎ (result ≡ negsuc 2) ⊎ (result ≡ negsuc 3)
+        ⊎ (result ≡ negsuc 0) }
+    ensures frames { result ≡ pos 1
+        → (0 < count.new) × Fills (way_of frames.old payload.now) out.old (way_of frames.new payload.now) out.new count.new }
     ensures end { result ≡ pos 0 → left (way_of frames.old payload.now) ≡ [] }
     ensures invalid { result ≡ negsuc 2 → TellsInvalid frames.old payload.now out.old frames.new out.new }
     ensures room { (result ≡ negsuc 3) ↔ ((frames.old.offset ≤ length payload.now) × (out.old ≡ [])) }
@@ -130,7 +132,8 @@ pub extern "C" fn quic_wire_frames_first_(
     count: &mut usize,
 ) -> i32
     ensures answers { (result ≡ pos 1) ⊎ (result ≡ negsuc 1) ⊎ (result ≡ negsuc 2) ⊎ (result ≡ negsuc 3) }
-    ensures frames { result ≡ pos 1 → (0 < count.new) × Fills (first_of false payload.now) out.old (way_of frames.new payload.now) out.new count.new }
+    ensures frames { result ≡ pos 1
+        → (0 < count.new) × Fills (first_of false payload.now) out.old (way_of frames.new payload.now) out.new count.new }
     ensures empty { (result ≡ negsuc 1) ↔ (payload.now ≡ []) }
     ensures invalid { result ≡ negsuc 2 → TellsInvalid (at_front 0) payload.now out.old frames.new out.new }
     ensures room { (result ≡ negsuc 3) ↔ ((0 < length payload.now) × (out.old ≡ [])) }

@@ -56,7 +56,8 @@ pub extern "C" fn quic_wire_ack_ranges_fill_(
     count: &mut usize,
 ) -> i32
     ensures answers { (result ≡ pos 1) ⊎ (result ≡ pos 0) ⊎ (result ≡ negsuc 3) ⊎ (result ≡ negsuc 0) }
-    ensures ranges { result ≡ pos 1 → (0 < count.new) × FillsRanges ranges.old payload.now out.old ranges.new out.new count.new }
+    ensures ranges { result ≡ pos 1
+        → (0 < count.new) × FillsRanges ranges.old payload.now out.old ranges.new out.new count.new }
     ensures end { result ≡ pos 0 → IsWithin ranges.old payload.now × (ranges.old.begin ≡ ranges.old.end) }
     ensures room { (result ≡ negsuc 3) ↔ (IsWithin ranges.old payload.now × (out.old ≡ [])) }
     ensures invalid { result ≡ negsuc 0 → NamesNone ranges.old payload.now }

@@ -116,7 +116,8 @@ pub extern "C" fn quic_wire_frames_next_(
 ) -> i32
     ensures answers { (result ≡ pos 1) ⊎ (result ≡ pos 0) ⊎ (result ≡ negsuc 2) ⊎ (result ≡ negsuc 0) }
     ensures frame { result ≡ pos 1 → GivesFrame frames.old payload.now frames.new out.new }
-    ensures end { result ≡ pos 0 → (left (way_of frames.old payload.now) ≡ []) × (frames.new ≡ frames.old) × (out.new ≡ out.old) }
+    ensures end { result ≡ pos 0
+        → (left (way_of frames.old payload.now) ≡ []) × (frames.new ≡ frames.old) × (out.new ≡ out.old) }
     ensures invalid { result ≡ negsuc 2 → GivesInvalid frames.old payload.now frames.new out.new }
     ensures outside { (result ≡ negsuc 0) ↔ (length payload.now < frames.old.offset) }
     ensures refused { result ≡ negsuc 0 → (frames.new ≡ frames.old) × (out.new ≡ out.old) }

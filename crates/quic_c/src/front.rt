@@ -38,8 +38,10 @@ fn number(bytes: &[u8]) -> Result<(u64, &[u8]), Fault>
 #[inline(always)]
 fn fill_gaps(blocks: &[u8], gaps: &mut [GapWords]) -> (usize, bool)
     requires { (least : ℕ) × (ranges : List (ℕ × ℕ)) × AreBelow least ranges blocks.now }
-    ensures fills { (least : ℕ) (ranges : List (ℕ × ℕ)) → AreBelow least ranges blocks.now → FillsGaps least ranges gaps.old gaps.new result.0 }
-    ensures whole { (least : ℕ) (ranges : List (ℕ × ℕ)) → AreBelow least ranges blocks.now → IsTrue result.1 ↔ (result.0 ≡ length ranges) }
+    ensures fills { (least : ℕ) (ranges : List (ℕ × ℕ)) → AreBelow least ranges blocks.now
+        → FillsGaps least ranges gaps.old gaps.new result.0 }
+    ensures whole { (least : ℕ) (ranges : List (ℕ × ℕ)) → AreBelow least ranges blocks.now
+        → IsTrue result.1 ↔ (result.0 ≡ length ranges) }
 {
     let mut left = blocks;
     let mut count = 0;
@@ -125,7 +127,8 @@ fn read_front<const COPY: usize>(
     out: &mut FrameWords,
     gaps: &mut [GapWords],
 ) -> i64
-    ensures answers { (result ≡ negsuc 1) ⊎ (result ≡ negsuc 2) ⊎ ((end : ℕ) × (result ≡ pos end) × ReadsFront strict payload.now gaps.old end out.new gaps.new) }
+    ensures answers { (result ≡ negsuc 1) ⊎ (result ≡ negsuc 2)
+        ⊎ ((end : ℕ) × (result ≡ pos end) × ReadsFront strict payload.now gaps.old end out.new gaps.new) }
     ensures empty { (result ≡ negsuc 1) ↔ (payload.now ≡ []) }
     ensures invalid { result ≡ negsuc 2 → TellsNone strict payload.now out.new }
     ensures same { (result ≡ negsuc 1) → out.new ≡ out.old }
@@ -154,7 +157,8 @@ fn read_front<const COPY: usize>(
 // An ACK, or what else begins as one, by a call.
 #[inline(never)]
 fn read_ack(payload: &[u8], strict: bool, out: &mut FrameWords, gaps: &mut [GapWords]) -> i64
-    ensures answers { (result ≡ negsuc 1) ⊎ (result ≡ negsuc 2) ⊎ ((end : ℕ) × (result ≡ pos end) × ReadsFront strict payload.now gaps.old end out.new gaps.new) }
+    ensures answers { (result ≡ negsuc 1) ⊎ (result ≡ negsuc 2)
+        ⊎ ((end : ℕ) × (result ≡ pos end) × ReadsFront strict payload.now gaps.old end out.new gaps.new) }
     ensures empty { (result ≡ negsuc 1) ↔ (payload.now ≡ []) }
     ensures invalid { result ≡ negsuc 2 → TellsNone strict payload.now out.new }
     ensures same { (result ≡ negsuc 1) → out.new ≡ out.old }
@@ -180,7 +184,8 @@ pub extern "C" fn quic_wire_frame_read_(
     out: &mut FrameWords,
     gaps: &mut [GapWords],
 ) -> i64
-    ensures answers { (result ≡ negsuc 1) ⊎ (result ≡ negsuc 2) ⊎ ((end : ℕ) × (result ≡ pos end) × ReadsFront (not (strict == 0)) payload.now gaps.old end out.new gaps.new) }
+    ensures answers { (result ≡ negsuc 1) ⊎ (result ≡ negsuc 2)
+        ⊎ ((end : ℕ) × (result ≡ pos end) × ReadsFront (not (strict == 0)) payload.now gaps.old end out.new gaps.new) }
     ensures empty { (result ≡ negsuc 1) ↔ (payload.now ≡ []) }
     ensures invalid { result ≡ negsuc 2 → TellsNone (not (strict == 0)) payload.now out.new }
     ensures same { (result ≡ negsuc 1) → out.new ≡ out.old }

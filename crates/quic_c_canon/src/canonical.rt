@@ -108,7 +108,8 @@ fn put(frame: &Frame<'_>, last: bool, dest: &mut [u8], at: usize) -> usize
 fn lay(payload: &[u8], dest: &mut [u8])
     requires some { payload.now ≢ [] }
     requires whole { (found : List Found) × AreFrames false found payload.now }
-    requires room { (found : List Found) → AreFrames false found payload.now → length (shortest_frames (map frame_in found)) ≤ length dest.old }
+    requires room { (found : List Found) → AreFrames false found payload.now
+        → length (shortest_frames (map frame_in found)) ≤ length dest.old }
     ensures { (found : List Found) → AreFrames false found payload.now
         → dest.new ≡ shortest_frames (map frame_in found) ++ drop (length (shortest_frames (map frame_in found))) dest.old }
 {

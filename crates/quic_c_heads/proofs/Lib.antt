@@ -1,3 +1,4 @@
+mod Answered
 mod Masks
 mod Shaping
 mod Writing

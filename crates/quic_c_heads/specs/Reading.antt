@@ -17,7 +17,7 @@ kind_word kind.Retry = 3
 kind_word kind.Short = 4
 kind_word kind.VersionNegotiate = 5
 
-abbrev whole_word : Option ℕ → ℕ
+abbrev pub whole_word : Option ℕ → ℕ
 whole_word (Some end) = 0
 whole_word None = 7
 

@@ -1,9 +1,13 @@
 //! Heads of packets, with their protection on.
 ghost use Rattle.std.specs.Prelude.{◌≡◌, ◌+◌, ◌<◌, ◌≤◌, ◌⊎◌, ◌↔◌, ◌^◌, ◌∷◌, ℕ, Ok, drop, length, pos, negsuc, slice_index};
-ghost use Rattle.quic_heads.specs.Places.{IsPlaced, IsSeen};
+ghost use Rattle.quic_heads.specs.Grammar.{Cut};
+ghost use Rattle.quic_heads.specs.Places.{any_fixed, IsPlaced, IsSeen};
+ghost use Rattle.quic_heads.specs.declared.protected.ProtectedHeader.{ProtectedHeader};
 ghost use Rattle.quic_c_heads.specs.Reading.{answer_word, head_words, kind_word, Told};
 
 use crate::words::HeadWords;
+use quic_base::coding::are_bytes;
+use quic_heads::laws::{one_reading, places_cut};
 use quic_heads::places::{HeadKind, HeadPlaces, ReadError, read_head, read_long};
 
 // The word of a kind.
@@ -107,6 +111,8 @@ fn show_long(packet: &[u8], first: u8, versions: &[u32], head: &mut HeadWords) -
 /// off; 1 with the version and the ids, of up to 255 bytes (RFC 8999, section 5.1), of a version that isn't known; 2,
 /// 4, 5 or 6 where no head begins there, as the first field that can't be read says; -1 just where there are 2^32
 /// bytes or more, or `id_len` is above 20. `head` changes with 0, 7 and 1 alone.
+///
+/// The fixed bit stands in `head.first`. In a version negotiation clients ignore it (RFC 9000, section 17.2.1).
 #[unsafe(no_mangle)]
 pub extern "C" fn quic_wire_head_read_(
     packet: &[u8],
@@ -115,9 +121,20 @@ pub extern "C" fn quic_wire_head_read_(
     head: &mut HeadWords,
 ) -> i32
     ensures invalid { (result ≡ negsuc 0) ↔ ((2 ^ 32 ≤ length packet.now) ⊎ (20 < id_len)) }
-    ensures told { (result ≡ negsuc 0) ⊎ ((answer : ℕ) × (result ≡ pos answer) × Told id_len versions.now packet.now head.old answer head.new) }
+    ensures told { (result ≡ negsuc 0)
+        ⊎ ((answer : ℕ) × (result ≡ pos answer) × Told id_len versions.now packet.now head.old answer head.new) }
     ensures same { result ≡ negsuc 0 → head.new ≡ head.old }
+    // There is one answer, and one way to tell it.
+    ensures one { (result ≡ negsuc 0)
+        ⊎ ((answer : ℕ) (words : HeadWords) → Told id_len versions.now packet.now head.old answer words
+        → (result ≡ pos answer) × (head.new ≡ words)) }
+    // The packet that is whole is the one that is cut from the bytes.
+    ensures whole { result ≡ pos 0
+        → (h : ProtectedHeader) × Cut (any_fixed id_len versions.now) packet.now h head.new.head_end head.new.end }
 {
+    one_reading();
+    places_cut();
+    are_bytes(packet);
     if packet.len() > u32::MAX as usize || id_len > 20 {
         return -1;
     }

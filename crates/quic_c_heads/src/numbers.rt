@@ -68,7 +68,8 @@ fn lay_spelling(value: u64, width: usize, dest: &mut [u8]) -> usize
 /// width, the number doesn't fit in it, as from 2^62 on, or `dest` has fewer bytes; then nothing changes.
 #[unsafe(no_mangle)]
 pub extern "C" fn quic_wire_varint_write_(value: u64, width: u32, dest: &mut [u8]) -> usize
-    ensures wrote { (result ≡ 0) ⊎ (Spells value (spelling result value) × (dest.new ≡ spelling result value ++ drop result dest.old)) }
+    ensures wrote { (result ≡ 0)
+        ⊎ (Spells value (spelling result value) × (dest.new ≡ spelling result value ++ drop result dest.old)) }
     ensures width { (result ≡ 0) ⊎ CanSpell value width (length dest.old) result }
     ensures none { result ≡ 0 → (n : ℕ) → CanSpell value width (length dest.old) n → ⊥ }
     ensures same { (0 < result) ⊎ (dest.new ≡ dest.old) }
@@ -88,8 +89,10 @@ pub extern "C" fn quic_wire_varint_write_(value: u64, width: u32, dest: &mut [u8
 #[unsafe(no_mangle)]
 pub extern "C" fn quic_wire_number_len_(number: u64, largest_acked: u64) -> i32
     ensures invalid { (result ≡ negsuc 0) ↔ ((number < largest_acked) ⊎ (largest_acked + 2 ^ 31 ≤ number)) }
-    ensures chosen { (result ≡ negsuc 0) ⊎ ((size : ℕ) × (result ≡ pos size) × (1 ≤ size) × (size ≤ 4) × SizeFor (number - largest_acked) size
-        × ((expected m : ℕ) → largest_acked ≤ expected → expected ≤ number + 1 → Expands (number % 2 ^ (8 * size)) (2 ^ (8 * size)) expected m → m ≡ number)) }
+    ensures chosen { (result ≡ negsuc 0)
+        ⊎ ((size : ℕ) × (result ≡ pos size) × (1 ≤ size) × (size ≤ 4) × SizeFor (number - largest_acked) size
+        × ((expected m : ℕ) → largest_acked ≤ expected → expected ≤ number + 1
+        → Expands (number % 2 ^ (8 * size)) (2 ^ (8 * size)) expected m → m ≡ number)) }
 {
     if number < largest_acked || number - largest_acked >= 1 << 31 {
         return -1;
@@ -99,10 +102,11 @@ pub extern "C" fn quic_wire_number_len_(number: u64, largest_acked: u64) -> i32
 
 /// The whole number of which the low `count` bytes are written, 1 to 4, by the one that is expected next (RFC 9000,
 /// appendix A.3); `u64::MAX` just where there are more or no such bytes, `low` takes more, or `expected` is 2^62 or
-/// more.
+/// more. As of `PacketNumber::expand`, the number may be 2^62 or more where appendix A.3 gives one below.
 #[unsafe(no_mangle)]
 pub extern "C" fn quic_wire_number_expand_(low: u64, count: u32, expected: u64) -> u64
-    ensures expanded { CanExpand low count expected → Expands low (2 ^ (8 * count)) expected result × (result < 2 ^ 63) }
+    ensures expanded { CanExpand low count expected
+        → Expands low (2 ^ (8 * count)) expected result × (result < 2 ^ 63) }
     ensures none { (CanExpand low count expected → ⊥) → result ≡ 2 ^ 64 - 1 }
 {
     if expected >= 1 << 62 {

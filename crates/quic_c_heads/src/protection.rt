@@ -86,7 +86,9 @@ pub extern "C" fn quic_wire_unprotect_(
     expected: u64,
     number: &mut u64,
 ) -> i32
-    ensures opened { (result ≡ negsuc 2) ⊎ (result ≡ negsuc 0) ⊎ ((count : ℕ) × (result ≡ pos count) × GivesNumber place mask.now expected packet.old packet.new number.new count) }
+    ensures opened { (result ≡ negsuc 2) ⊎ (result ≡ negsuc 0)
+        ⊎ ((count : ℕ) × (result ≡ pos count)
+        × GivesNumber place mask.now expected packet.old packet.new number.new count) }
     ensures short { (result ≡ negsuc 2) ↔ ((expected < 2 ^ 62) × (HasNumber place (length packet.old) → ⊥)) }
     ensures invalid { (result ≡ negsuc 0) ↔ (2 ^ 62 ≤ expected) }
     ensures same { (result ≡ negsuc 2) ⊎ (result ≡ negsuc 0) → (packet.new ≡ packet.old) × (number.new ≡ number.old) }

@@ -35,6 +35,9 @@ fn reason_of(error: Error) -> u32
 /// changes, just where the side refuses the list: 1 malformed, where the first entry that is refused is cut off, no
 /// value of its kind, or a repeat; 2 an illegal value. It answers -1 just where `side` is above 1, and nothing
 /// changes.
+///
+/// An integer with a default in a longer spelling than its shortest is no value of its kind, though RFC 9000, section
+/// 16, allows it; `max_datagram_frame_size` and `min_ack_delay` are taken in any.
 #[unsafe(no_mangle)]
 pub extern "C" fn quic_wire_params_read_(side: u32, bytes: &[u8], out: &mut ParamsWords) -> i32
     ensures answers { (result ≡ pos 0) ⊎ (result ≡ negsuc 2) ⊎ (result ≡ negsuc 0) }

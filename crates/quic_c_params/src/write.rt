@@ -108,7 +108,8 @@ fn id_in(len: u32, bytes: &[u8; 20]) -> ConnectionId
 }
 
 fn v4_in(there: bool, octets: [u8; 4], port: u16) -> Option<SocketAddrV4>
-    ensures { (o : Option SocketAddrV4) → there ≡ is_some o → octets ≡ octets_of_v4 o → port ≡ port_of_v4 o → result ≡ o }
+    ensures { (o : Option SocketAddrV4) → there ≡ is_some o → octets ≡ octets_of_v4 o → port ≡ port_of_v4 o
+        → result ≡ o }
 {
     if there {
         Some(SocketAddrV4::new(Ipv4Addr::from_octets(octets), port))
@@ -118,7 +119,8 @@ fn v4_in(there: bool, octets: [u8; 4], port: u16) -> Option<SocketAddrV4>
 }
 
 fn v6_in(there: bool, octets: [u8; 16], port: u16) -> Option<SocketAddrV6>
-    ensures { (o : Option SocketAddrV6) → IfSome o IsToldV6 → there ≡ is_some o → octets ≡ octets_of_v6 o → port ≡ port_of_v6 o → result ≡ o }
+    ensures { (o : Option SocketAddrV6) → IfSome o IsToldV6 → there ≡ is_some o → octets ≡ octets_of_v6 o
+        → port ≡ port_of_v6 o → result ≡ o }
 {
     if there {
         Some(SocketAddrV6::new(Ipv6Addr::from_octets(octets), port, 0, 0))
@@ -128,13 +130,15 @@ fn v6_in(there: bool, octets: [u8; 16], port: u16) -> Option<SocketAddrV6>
 }
 
 fn maybe_id(there: bool, len: u32, bytes: &[u8; 20]) -> Option<ConnectionId>
-    ensures { (o : Option (List ℕ)) → IfSome o (λ id. length id ≤ 20) → there ≡ is_some o → len ≡ len_of o → bytes.now ≡ id_of o → result ≡ o }
+    ensures { (o : Option (List ℕ)) → IfSome o (λ id. length id ≤ 20) → there ≡ is_some o → len ≡ len_of o
+        → bytes.now ≡ id_of o → result ≡ o }
 {
     if there { Some(id_in(len, bytes)) } else { None }
 }
 
 fn address_in(words: &ParamsWords, flags: Flags) -> Option<PreferredAddress>
-    ensures { (p : TransportParameters) → words.now ≡ params_words p → HasFlags flags p → IfSome p.preferred_address IsTypedAddress → IfSome p.preferred_address IsTold
+    ensures { (p : TransportParameters) → words.now ≡ params_words p → HasFlags flags p
+        → IfSome p.preferred_address IsTypedAddress → IfSome p.preferred_address IsTold
         → result ≡ p.preferred_address }
 {
     if !flags.address {

@@ -105,7 +105,8 @@ fn lay_ack(
     dest: &mut [u8],
 ) -> Result<usize, usize>
     requires { SaysAck delay runs.now count counts.now }
-    ensures { (last : Bool) → Puts result (shortest_frame last (ack_of delay (first_runs count runs.now) (counts_in counts.now))) dest.old dest.new }
+    ensures { (last : Bool)
+        → Puts result (shortest_frame last (ack_of delay (first_runs count runs.now) (counts_in counts.now))) dest.old dest.new }
 {
     let first = runs[count - 1];
     let below = &runs[..count - 1];
@@ -145,8 +146,10 @@ pub extern "C" fn quic_wire_ack_write_(
 ) -> i32
     ensures answers { (result ≡ pos 0) ⊎ (result ≡ negsuc 3) ⊎ (result ≡ negsuc 0) }
     ensures says { (result ≡ negsuc 0) ⊎ SaysAck delay runs.now count counts.now }
-    ensures wrote { result ≡ pos 0 → (last : Bool) → Puts (Ok written.new) (shortest_frame last (ack_of delay (first_runs count runs.now) (counts_in counts.now))) dest.old dest.new }
-    ensures room { result ≡ negsuc 3 → (last : Bool) → Puts (Err written.new) (shortest_frame last (ack_of delay (first_runs count runs.now) (counts_in counts.now))) dest.old dest.new }
+    ensures wrote { result ≡ pos 0 → (last : Bool)
+        → Puts (Ok written.new) (shortest_frame last (ack_of delay (first_runs count runs.now) (counts_in counts.now))) dest.old dest.new }
+    ensures room { result ≡ negsuc 3 → (last : Bool)
+        → Puts (Err written.new) (shortest_frame last (ack_of delay (first_runs count runs.now) (counts_in counts.now))) dest.old dest.new }
     ensures refused { (result ≡ negsuc 0) ↔ (SaysAck delay runs.now count counts.now → ⊥) }
     ensures same { (result ≡ negsuc 0) → (written.new ≡ written.old) × (dest.new ≡ dest.old) }
 {

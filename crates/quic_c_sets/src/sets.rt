@@ -20,9 +20,12 @@ pub extern "C" fn quic_wire_set_insert_(
     end: u64,
 ) -> i32
     ensures answers { (result ≡ pos 1) ⊎ (result ≡ pos 0) ⊎ (result ≡ negsuc 3) ⊎ (result ≡ negsuc 0) }
-    ensures changed { result ≡ pos 1 → Becomes (in_union (first_runs count.old runs.old) (span start end)) runs.old count.old runs.new count.new }
-    ensures kept { result ≡ pos 0 → Stays (in_union (first_runs count.old runs.old) (span start end)) runs.old count.old }
-    ensures room { result ≡ negsuc 3 → LacksRoom (in_union (first_runs count.old runs.old) (span start end)) runs.old count.old }
+    ensures changed { result ≡ pos 1
+        → Becomes (in_union (first_runs count.old runs.old) (span start end)) runs.old count.old runs.new count.new }
+    ensures kept { result ≡ pos 0
+        → Stays (in_union (first_runs count.old runs.old) (span start end)) runs.old count.old }
+    ensures room { result ≡ negsuc 3
+        → LacksRoom (in_union (first_runs count.old runs.old) (span start end)) runs.old count.old }
     ensures invalid { (result ≡ negsuc 0) ↔ (IsSet runs.old count.old → ⊥) }
     ensures same { (result ≡ pos 1) ⊎ ((runs.new ≡ runs.old) × (count.new ≡ count.old)) }
 {
@@ -46,9 +49,12 @@ pub extern "C" fn quic_wire_set_remove_(
     end: u64,
 ) -> i32
     ensures answers { (result ≡ pos 1) ⊎ (result ≡ pos 0) ⊎ (result ≡ negsuc 3) ⊎ (result ≡ negsuc 0) }
-    ensures changed { result ≡ pos 1 → Becomes (in_difference (first_runs count.old runs.old) (span start end)) runs.old count.old runs.new count.new }
-    ensures kept { result ≡ pos 0 → Stays (in_difference (first_runs count.old runs.old) (span start end)) runs.old count.old }
-    ensures room { result ≡ negsuc 3 → LacksRoom (in_difference (first_runs count.old runs.old) (span start end)) runs.old count.old }
+    ensures changed { result ≡ pos 1
+        → Becomes (in_difference (first_runs count.old runs.old) (span start end)) runs.old count.old runs.new count.new }
+    ensures kept { result ≡ pos 0
+        → Stays (in_difference (first_runs count.old runs.old) (span start end)) runs.old count.old }
+    ensures room { result ≡ negsuc 3
+        → LacksRoom (in_difference (first_runs count.old runs.old) (span start end)) runs.old count.old }
     ensures invalid { (result ≡ negsuc 0) ↔ (IsSet runs.old count.old → ⊥) }
     ensures same { (result ≡ pos 1) ⊎ ((runs.new ≡ runs.old) × (count.new ≡ count.old)) }
 {

@@ -23,7 +23,7 @@ pub enum CanonError {
     #[error("packet payload is empty")]
     Empty,
     /// Something in the payload is no frame.
-    #[error("{}", .0.reason)]
+    #[error("{0}")]
     Invalid(InvalidFrame),
     /// The vector could not grow.
     #[error("out of memory")]

@@ -49,7 +49,8 @@ pub fn one_least()
 /// What is written of frames is its own canonical payload: `canonical` appends just that of it, and `canonical_of`
 /// gives it without a copy. A sealed packet has such a payload.
 pub fn written_is_least()
-    ensures { (frames : List Frame) (payload : List ℕ) → frames ≢ [] → IsPayload frames payload → IsLeast payload payload }
+    ensures { (frames : List Frame) (payload : List ℕ) → frames ≢ [] → IsPayload frames payload
+        → IsLeast payload payload }
 {
     one_least();
     least_spelling();

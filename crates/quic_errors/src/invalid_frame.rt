@@ -3,6 +3,7 @@ ghost use Rattle.quic_errors.specs.Codes.{IsErrorOf};
 
 use crate::frame_type::FrameType;
 use crate::transport_error::{Code, Error, Reason};
+use std::fmt;
 
 /// What could not be read: the first thing in a payload that is no frame.
 #[derive(Clone, Copy, Debug, PartialEq, Eq)]
@@ -23,6 +24,24 @@ impl InvalidFrame {
         error_of(self.ty, self.reason)
     }
 }
+
+/// `REASON in TYPE`, or the reason alone where no type was read.
+impl fmt::Display for InvalidFrame {
+    ghost use Rattle.std.specs.Prelude.{Some, ◌++◌};
+    ghost use Rattle.quic_errors.specs.Names.{in_type};
+
+    ghost output = { λ invalid. Some (invalid.reason.now ++ in_type invalid.ty) };
+
+    fn fmt<W: fmt::Write>(&self, f: &mut fmt::Formatter<W>) -> fmt::Result {
+        let reason = self.reason;
+        match self.ty {
+            Some(ty) => write!(f, "{reason} in {ty}"),
+            None => f.write_str(reason),
+        }
+    }
+}
+
+impl std::error::Error for InvalidFrame {}
 
 /// The error that a peer is told of, with the type and the reason: PROTOCOL_VIOLATION where a type is not in
 /// its shortest form, and FRAME_ENCODING_ERROR for the other reasons (RFC 9000, section 12.4).

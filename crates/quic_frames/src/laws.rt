@@ -153,5 +153,6 @@ pub fn stream_head_and_data()
 #[tactic(auto, using(crate::proofs::SizeBounds::retire_bound))]
 pub fn retire_connection_id_is_bounded()
     ensures value { RETIRE_CONNECTION_ID_SIZE_BOUND ≡ 9 }
-    ensures bounds { (last : Bool) (sequence : ℕ) → length (shortest_frame last (meaning_of (frames.RetireConnectionId sequence))) ≤ RETIRE_CONNECTION_ID_SIZE_BOUND }
+    ensures bounds { (last : Bool) (sequence : ℕ)
+        → length (shortest_frame last (meaning_of (frames.RetireConnectionId sequence))) ≤ RETIRE_CONNECTION_ID_SIZE_BOUND }
 {}

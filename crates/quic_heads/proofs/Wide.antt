@@ -22,7 +22,7 @@ use Rattle.quic_heads.specs.Places.{any_fixed, IsUnknown, ReadAnswer}
 use Rattle.quic_heads.specs.Reading.{TakesWithin, ◌>>=◌, at_end, bad_id, head_at, long_at, typed_at, wide_at, wide_head_at}
 use Rattle.quic_heads.specs.Refusal.{Refusal, Unsupported, Invalid, NoMemory}
 use Rattle.quic_heads.proofs.FieldLaws.{word_found, word_of}
-use Rattle.quic_heads.proofs.Heads.{head_found, refused_found}
+use Rattle.quic_heads.proofs.Heads.{head_found, head_again, refused_found, refused_again}
 use Rattle.quic_heads.proofs.Rows.{known_again, known_at}
 use Rattle.quic_heads.proofs.Steps.{bind_err, bool_cases, chosen, match_ok, none_some, option_err, option_ok, otherwise, pair_parts, some_of, some_pair, some_same, taken, then_ok}
 
@@ -95,13 +95,13 @@ wide_again id rest =
 -- but for unknown versions one says what the other does
 abbrev pub Agrees : Read → Read → Type 0
 Agrees (Ok x) other = other ≡ Ok x
-Agrees (Err (Unsupported src dst version)) other = Unit {0}
+Agrees (Err (Unsupported src dst version)) other = (found : ProtectedHeader × List ℕ) → other ≡ Ok found → ⊥
 Agrees (Err (Invalid text)) other = other ≡ Err (Invalid text)
 Agrees (Err NoMemory) other = other ≡ Err NoMemory
 
 agrees_self : (r : Read) → Agrees r r
 agrees_self (Ok x) = refl
-agrees_self (Err (Unsupported src dst version)) = tt
+agrees_self (Err (Unsupported src dst version)) = λ found e. cc
 agrees_self (Err (Invalid text)) = refl
 agrees_self (Err NoMemory) = refl
 
@@ -138,14 +138,14 @@ agree_few : (zero known wide : Bool) (src dst : List ℕ) (version : ℕ) (r t :
 agree_few zero known true src dst version r t e = absurd cc
 agree_few true known false src dst version r t e = agrees_self r
 agree_few false true false src dst version r t e = agrees_self t
-agree_few false false false src dst version r t e = tt
+agree_few false false false src dst version r t e = λ found is. cc
 
 agree_many : (zero known wide : Bool) (src dst : List ℕ) (version : ℕ) (r t : Read) → wide ≡ true
     → Agrees (cond (not zero && not known) (Err (Unsupported src dst version)) (cond wide (Err bad_id) (cond zero r t))) (Err bad_id)
 agree_many zero known false src dst version r t e = absurd cc
 agree_many true known true src dst version r t e = refl
 agree_many false true true src dst version r t e = refl
-agree_many false false true src dst version r t e = tt
+agree_many false false true src dst version r t e = λ found is. cc
 
 wide_agrees : (versions : List ℕ) (whole first : ℕ) (bytes : List ℕ) → Agrees (wide_at versions whole first bytes) (long_at versions whole first bytes)
 unfolding wide_at long_at
@@ -335,3 +335,31 @@ long_answer id_len versions bytes first fits r split long e =
     let test : nat_lt first 128 ≡ false = grind (arith, nat_tests) in
     read_answer id_len versions bytes fits r
     (ap (wide_head_at id_len versions (length bytes)) split ∙ otherwise (nat_lt first 128) _ _ _ test e)
+
+-- ---- one reading
+
+sole : (id_len : ℕ) (versions bytes : List ℕ) (w r : Read) → AreBytes bytes → wide_head_at id_len versions (length bytes) bytes ≡ w → Agrees w (head_at (any_fixed id_len versions) (length bytes) bytes)
+    → ReadAnswer (any_fixed id_len versions) bytes r → w ≡ r
+sole id_len versions bytes (Ok x) (Ok found) fits e agrees a = sym agrees ∙ head_again (any_fixed id_len versions) (length bytes) bytes found.0 found.1 a
+sole id_len versions bytes (Ok x) (Err (Unsupported src dst version)) fits e agrees a = absurd (let told = unknown_told id_len versions (length bytes) bytes src dst version a in cc)
+sole id_len versions bytes (Ok x) (Err (Invalid text)) fits e agrees a = absurd (let told = refused_again (any_fixed id_len versions) (length bytes) bytes (Invalid text) fits a.0 in cc)
+sole id_len versions bytes (Ok x) (Err NoMemory) fits e agrees a = absurd (let told = refused_again (any_fixed id_len versions) (length bytes) bytes NoMemory fits a.0 in cc)
+sole id_len versions bytes (Err (Unsupported s d v)) (Ok found) fits e agrees a = absurd (agrees found (head_again (any_fixed id_len versions) (length bytes) bytes found.0 found.1 a))
+sole id_len versions bytes (Err (Unsupported s d v)) (Err (Unsupported src dst version)) fits e agrees a = sym e ∙ unknown_told id_len versions (length bytes) bytes src dst version a
+sole id_len versions bytes (Err (Unsupported s d v)) (Err (Invalid text)) fits e agrees a = absurd (a.1 v d s (unknown_found id_len versions (length bytes) bytes s d v fits e))
+sole id_len versions bytes (Err (Unsupported s d v)) (Err NoMemory) fits e agrees a = absurd (a.1 v d s (unknown_found id_len versions (length bytes) bytes s d v fits e))
+sole id_len versions bytes (Err (Invalid t)) (Ok found) fits e agrees a = absurd (let told = head_again (any_fixed id_len versions) (length bytes) bytes found.0 found.1 a in cc)
+sole id_len versions bytes (Err (Invalid t)) (Err (Unsupported src dst version)) fits e agrees a = absurd (let told = unknown_told id_len versions (length bytes) bytes src dst version a in cc)
+sole id_len versions bytes (Err (Invalid t)) (Err (Invalid text)) fits e agrees a = sym agrees ∙ refused_again (any_fixed id_len versions) (length bytes) bytes (Invalid text) fits a.0
+sole id_len versions bytes (Err (Invalid t)) (Err NoMemory) fits e agrees a = sym agrees ∙ refused_again (any_fixed id_len versions) (length bytes) bytes NoMemory fits a.0
+sole id_len versions bytes (Err NoMemory) (Ok found) fits e agrees a = absurd (let told = head_again (any_fixed id_len versions) (length bytes) bytes found.0 found.1 a in cc)
+sole id_len versions bytes (Err NoMemory) (Err (Unsupported src dst version)) fits e agrees a = absurd (let told = unknown_told id_len versions (length bytes) bytes src dst version a in cc)
+sole id_len versions bytes (Err NoMemory) (Err (Invalid text)) fits e agrees a = sym agrees ∙ refused_again (any_fixed id_len versions) (length bytes) bytes (Invalid text) fits a.0
+sole id_len versions bytes (Err NoMemory) (Err NoMemory) fits e agrees a = refl
+
+-- bytes begin with one head, the ids of one unknown version, or one refusal
+pub read_sole : (id_len : ℕ) (versions bytes : List ℕ) (one other : Read) → AreBytes bytes → ReadAnswer (any_fixed id_len versions) bytes one → ReadAnswer (any_fixed id_len versions) bytes other → one ≡ other
+read_sole id_len versions bytes one other fits a b =
+    let read : Read = wide_head_at id_len versions (length bytes) bytes in
+    let agrees = head_agrees id_len versions (length bytes) bytes in
+    sym (sole id_len versions bytes read one fits refl agrees a) ∙ sole id_len versions bytes read other fits refl agrees b

@@ -23,10 +23,12 @@ impl PartialDecode {
     pub fn finish<H: HeaderKey>(self, key: Option<&H>) -> Result<Packet, PacketDecodeError>
         requires { IsTrue (is_protected self.head) → IsSome key }
         ensures opened { IfOk result (λ packet. IsOpened self.head self.head_end packet.header (packet.header_data ++ packet.payload.items) (length packet.header_data)) }
-        ensures plain { IfOk result (λ packet. is_protected self.head ≡ false → packet.header_data ++ packet.payload.items ≡ self.bytes) }
+        ensures plain { IfOk result (λ packet. is_protected self.head ≡ false
+            → packet.header_data ++ packet.payload.items ≡ self.bytes) }
         ensures unprotected { IfOk result (λ packet. IfSome key.entry (λ k. IsTrue (is_protected self.head)
             → packet.header_data ++ packet.payload.items ≡ H.unprotected k.now self.head_end self.bytes)) }
-        ensures sample { IfOk result (λ _. IfSome key.entry (λ k. IsTrue (is_protected self.head) → HasSample (H.sample_len k.now) self.head_end self.bytes)) }
+        ensures sample { IfOk result (λ _. IfSome key.entry (λ k. IsTrue (is_protected self.head)
+            → HasSample (H.sample_len k.now) self.head_end self.bytes)) }
         ensures refused { IfErr result (λ e. IfSome key.entry (λ k. IsTrue (is_protected self.head)
             → IsUnfinished (HasSample (H.sample_len k.now) self.head_end self.bytes) (refusal_of e))) }
         ensures refused_plain { IfErr result (λ e. is_protected self.head ≡ false → refusal_of e ≡ NoMemory) }

@@ -32,7 +32,8 @@ impl Packet {
     /// Whether the reserved bits of the head's first byte are zero, as they have to be (RFC 9000, sections 17.2
     /// and 17.3.1): 0x18 in a short head, 0x0c in the others. They are not where `header_data` has no byte.
     pub fn reserved_bits_valid(&self) -> bool
-        ensures some { 0 < length self.now.header_data → result ≡ reserved_zero self.now.header (slice_index self.now.header_data 0) }
+        ensures some { 0 < length self.now.header_data
+            → result ≡ reserved_zero self.now.header (slice_index self.now.header_data 0) }
         ensures none { length self.now.header_data ≡ 0 → result ≡ false }
     {
         let Some(first) = self.header_data.as_slice().first() else {

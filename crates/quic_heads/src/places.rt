@@ -74,10 +74,12 @@ impl HeadPlaces {
     }
 }
 
-/// Reads the head at the front of bytes, in the order of its fields, also where the packet is cut off behind it. The
-/// fixed bit is not looked at. Ids of short heads have `id_len` bytes, of which the caller must ensure that they are
-/// at most 20; `versions` are those that are read further than their ids. The first field that can't be read is the
-/// refusal. Nothing is allocated.
+/// Reads the head at the front of bytes, in the order of its fields, also where the packet is cut off behind it. Ids of
+/// short heads have `id_len` bytes, of which the caller must ensure that they are at most 20; `versions` are those that
+/// are read further than their ids. The first field that can't be read is the refusal. Nothing is allocated.
+///
+/// The fixed bit is not looked at: it stands in `first`. In a version negotiation clients ignore it (RFC 9000, section
+/// 17.2.1).
 #[inline(always)]
 pub fn read_head(bytes: &[u8], id_len: usize, versions: &[u32]) -> Result<HeadPlaces, ReadError>
     requires { id_len ≤ MAX_CID_SIZE }

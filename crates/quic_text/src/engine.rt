@@ -62,7 +62,8 @@ pub fn run<R: Source, W: Sink>(
 
 // All that the source gives, until it ends.
 fn read_all<R: Source>(alloc: Global, source: &mut R) -> Result<Vec<u8>, RunError>
-    ensures ok { IfOk result (λ input. IsTrue (R.has_ended source.new) × (R.given source.new ≡ R.given source.old ++ input.items)) }
+    ensures ok { IfOk result (λ input. IsTrue (R.has_ended source.new)
+        × (R.given source.new ≡ R.given source.old ++ input.items)) }
     ensures err { OnErr result ((input : List ℕ) × (R.given source.new ≡ R.given source.old ++ input)) }
     ensures read { R.has_failed source.old ≡ false → IsErrOf result RunError.Read ↔ IsTrue (R.has_failed source.new) }
     ensures write { IsErrOf result RunError.Write → ⊥ }

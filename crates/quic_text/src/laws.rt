@@ -33,7 +33,8 @@ pub fn packets_printed()
         → ArePackets (with_ids_of (count len)) 0 bytes packets refusal
         → payload_lines (Mode.Datagram len) bytes ≡ map packet_line packets ++ refusal_lines refusal }
     ensures some { (len : IdLen) (bytes : List ℕ) → AreBytes bytes
-        → (packets : List Placed) × (refusal : Option Refusal) × ArePackets (with_ids_of (count len)) 0 bytes packets refusal }
+        → (packets : List Placed) × (refusal : Option Refusal)
+        × ArePackets (with_ids_of (count len)) 0 bytes packets refusal }
 {}
 
 /// Where a payload is these frames, or these and then something that is none, `frames` prints just their lines,
@@ -73,7 +74,8 @@ pub fn canonical_printed()
 
 /// What `params` prints of a list is what is printed for the answer that the grammar gives to it.
 pub fn parameter_lines()
-    ensures { (side : Side) (list : List ℕ) (answer : Result TransportParameters Error) → AreBytes list → IsAnswer side list answer
+    ensures { (side : Side) (list : List ℕ) (answer : Result TransportParameters Error) → AreBytes list
+        → IsAnswer side list answer
         → parameter_lines side list ≡ answer_lines answer }
 {
     laws::one_answer();

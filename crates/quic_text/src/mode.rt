@@ -26,9 +26,13 @@ pub fn mode_of(words: &[&str]) -> Option<Mode>
     ensures frames { (result ≡ Some Mode.Frames) ↔ (map (λ word. word.now) words.now ≡ codes "frames" ∷ []) }
     ensures strict { (result ≡ Some Mode.Strict) ↔ (map (λ word. word.now) words.now ≡ codes "strict" ∷ []) }
     ensures canon { (result ≡ Some Mode.Canon) ↔ (map (λ word. word.now) words.now ≡ codes "canon" ∷ []) }
-    ensures datagram { (len : ℕ) → (asked_len result ≡ Some len) ↔ ((word : List ℕ) × (map (λ word. word.now) words.now ≡ codes "datagram" ∷ word ∷ []) × IsIdLen len word) }
-    ensures client { (result ≡ Some (Mode.Params Side.Client)) ↔ (map (λ word. word.now) words.now ≡ codes "params" ∷ codes "client" ∷ []) }
-    ensures server { (result ≡ Some (Mode.Params Side.Server)) ↔ (map (λ word. word.now) words.now ≡ codes "params" ∷ codes "server" ∷ []) }
+    ensures datagram { (len : ℕ)
+        → (asked_len result ≡ Some len)
+        ↔ ((word : List ℕ) × (map (λ word. word.now) words.now ≡ codes "datagram" ∷ word ∷ []) × IsIdLen len word) }
+    ensures client { (result ≡ Some (Mode.Params Side.Client))
+        ↔ (map (λ word. word.now) words.now ≡ codes "params" ∷ codes "client" ∷ []) }
+    ensures server { (result ≡ Some (Mode.Params Side.Server))
+        ↔ (map (λ word. word.now) words.now ≡ codes "params" ∷ codes "server" ∷ []) }
 {
     match words {
         ["frames"] => Some(Mode::Frames),

@@ -1,5 +1,5 @@
 //! Acknowledgements: which packet numbers arrived (RFC 9000, section 19.3).
-ghost use Rattle.std.specs.Prelude.{◌≡◌, ◌+◌, ◌<◌, ◌^◌, [], Ok, Some, IfErr, IfOk};
+ghost use Rattle.std.specs.Prelude.{◌≡◌, ◌+◌, ◌<◌, ◌^◌, ℕ, List, [], Ok, Some, IfErr, IfOk};
 ghost use Rattle.quic_frame_parts.specs.Field.{AreBlocks};
 ghost use Rattle.quic_frame_parts.specs.Reading.{IsBlocks, blocks_left};
 ghost use Rattle.quic_frame_parts.specs.Refusal.{AreNoBlocks};
@@ -63,9 +63,10 @@ impl<'a> Ack<'a> {
         }
     }
 
-    /// The same where the blocks are known to be such.
+    /// The same where the blocks are known to spell ranges below the greatest number.
+    #[tactic(auto, using(crate::proofs::Blocks::read_again))]
     pub fn of_blocks(largest: u64, delay: u64, blocks: &'a [u8], ecn: Option<EcnCounts>) -> Self
-        requires { IsBlocks largest blocks.now }
+        requires { (ranges : List (ℕ × ℕ)) × AreBlocks largest ranges blocks.now }
         ensures { parts_of result ≡ record { largest = largest; delay = delay; additional = blocks.now; ecn = ecn } }
     {
         Ack {

@@ -31,7 +31,8 @@ impl Ack<'_> {
         requires members { (n : ℕ) → member ranges.now n ≡ true → n < 2 ^ 62 }
         requires delay { delay < 2 ^ 62 }
         requires counts { AreCounts (option_copied ecn) }
-        ensures { (last : Bool) → Writes result (shortest_frame last (ack_of delay ranges.now (option_copied ecn.entry)))
+        ensures { (last : Bool)
+            → Writes result (shortest_frame last (ack_of delay ranges.now (option_copied ecn.entry)))
             (B.written out.old) (B.spare out.old) (B.written out.new) (B.spare out.new) }
     {
         encode_runs(delay, ranges.iter(), ranges.len(), ecn.copied(), out)

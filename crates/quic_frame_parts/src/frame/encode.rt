@@ -192,9 +192,11 @@ impl ConnectionClose<'_> {
     pub fn encode<B: BufMut>(&self, out: &mut B, max_len: usize) -> Result<(), NoRoom>
         requires reason { length self.now.reason.now < 2 ^ 62 }
         requires room { least_room (closes.Connection self.now) ≤ max_len }
-        ensures writes { (last : Bool) → Writes result (shortest_frame last (close_in max_len (closes.Connection self.now)))
+        ensures writes { (last : Bool)
+            → Writes result (shortest_frame last (close_in max_len (closes.Connection self.now)))
             (B.written out.old) (B.spare out.old) (B.written out.new) (B.spare out.new) }
-        ensures fits { (last : Bool) → length (shortest_frame last (close_in max_len (closes.Connection self.now))) ≤ max_len }
+        ensures fits { (last : Bool)
+            → length (shortest_frame last (close_in max_len (closes.Connection self.now))) ≤ max_len }
     {
         self.encode_with(out, cut(self.reason, max_len - self.min_len()))
     }
@@ -203,7 +205,8 @@ impl ConnectionClose<'_> {
     #[tactic(auto, using(crate::proofs::Encoding::connection_close_parts))]
     pub fn encode_with<B: BufMut>(&self, out: &mut B, reason: &[u8]) -> Result<(), NoRoom>
         requires { length reason.now < 2 ^ 62 }
-        ensures { (last : Bool) → Writes result (shortest_frame last (connection_close self.now.error_code self.now.frame_type reason.now))
+        ensures { (last : Bool)
+            → Writes result (shortest_frame last (connection_close self.now.error_code self.now.frame_type reason.now))
             (B.written out.old) (B.spare out.old) (B.written out.new) (B.spare out.new) }
     {
         let ty = type_or_zero(self.frame_type);
@@ -226,9 +229,11 @@ impl ApplicationClose<'_> {
     pub fn encode<B: BufMut>(&self, out: &mut B, max_len: usize) -> Result<(), NoRoom>
         requires reason { length self.now.reason.now < 2 ^ 62 }
         requires room { least_room (closes.Application self.now) ≤ max_len }
-        ensures writes { (last : Bool) → Writes result (shortest_frame last (close_in max_len (closes.Application self.now)))
+        ensures writes { (last : Bool)
+            → Writes result (shortest_frame last (close_in max_len (closes.Application self.now)))
             (B.written out.old) (B.spare out.old) (B.written out.new) (B.spare out.new) }
-        ensures fits { (last : Bool) → length (shortest_frame last (close_in max_len (closes.Application self.now))) ≤ max_len }
+        ensures fits { (last : Bool)
+            → length (shortest_frame last (close_in max_len (closes.Application self.now))) ≤ max_len }
     {
         self.encode_with(out, cut(self.reason, max_len - self.min_len()))
     }

@@ -2,6 +2,7 @@
 ghost use Rattle.std.specs.Prelude.{◌≡◌, ◌<◌, ◌≤◌, ◌^◌, ◌-◌, ◌*◌, ◌++◌, List, ℕ, [], ◌∷◌, drop, length, slice_index, sum, IfErr, IfOk, IfSome, Ok, OnOk, ◌⊎◌};
 ghost use Rattle.std.specs.Int.{w64, from_le_bytes};
 ghost use Rattle.quic_base.specs.Number.{AreBytes};
+ghost use Rattle.quic_frame_parts.specs.Field.{AreBlocks};
 ghost use Rattle.quic_frame_parts.specs.Reading.{Gives, varint_at, block_at, gap_at, below_at, range_at, first_range_at, after_blocks, blocks_at, blocks_left, ranges_of, IsBlocks};
 ghost use Rattle.quic_frame_parts.specs.Refusal.{AreNoBlocks};
 
@@ -139,7 +140,8 @@ fn below(count: u64, low: u64, bytes: &[u8]) -> Result<&[u8], Fault>
 #[inline(always)]
 #[tactic(auto, using(crate::proofs::ShortRanges::sum_of_bytes))]
 fn sum_of(word: u64) -> u64
-    ensures sum { (bytes : List ℕ) → length bytes ≡ 8 → ((i : ℕ) → slice_index bytes i < 64) → word ≡ from_le_bytes w64 bytes → result ≡ sum bytes }
+    ensures sum { (bytes : List ℕ) → length bytes ≡ 8 → ((i : ℕ) → slice_index bytes i < 64)
+        → word ≡ from_le_bytes w64 bytes → result ≡ sum bytes }
     ensures small { result < 2 ^ 16 }
 {
     let pairs = (word & 0x00ff_00ff_00ff_00ff) + ((word >> 8) & 0x00ff_00ff_00ff_00ff);
@@ -219,6 +221,7 @@ fn each_below(count: u64, low: u64, bytes: &[u8]) -> Result<&[u8], Fault>
 pub fn blocks(greatest: u64, bytes: &[u8]) -> Result<(&[u8], &[u8]), Fault>
     ensures gives { Gives (λ x. (x.0.now, x.1.now)) result (blocks_at greatest bytes.now) }
     ensures valid { IfOk result (λ x. IsBlocks greatest x.0.now) }
+    ensures spelled { IfOk result (λ x. (ranges : List (ℕ × ℕ)) × AreBlocks greatest ranges x.0.now) }
 {
     let (count, bytes) = small_varint(bytes)?;
     let (low, rest) = block(greatest, bytes)?;
@@ -229,7 +232,8 @@ pub fn blocks(greatest: u64, bytes: &[u8]) -> Result<(&[u8], &[u8]), Fault>
 // Whether the bytes are a first block and any number of pairs of gap and block, and nothing else.
 pub(super) fn all_blocks(greatest: u64, bytes: &[u8]) -> Result<(), Fault>
     ensures ok { OnOk result (IsBlocks greatest bytes.now) }
-    ensures err { IfErr result (λ e. AreNoBlocks greatest bytes.now e × ((e ≡ Fault.UnexpectedEnd) ⊎ (e ≡ Fault.Malformed))) }
+    ensures err { IfErr result (λ e. AreNoBlocks greatest bytes.now e
+        × ((e ≡ Fault.UnexpectedEnd) ⊎ (e ≡ Fault.Malformed))) }
 {
     let (mut low, mut rest) = block(greatest, bytes)?;
     while !rest.is_empty() {

@@ -22,7 +22,8 @@ pub fn split_first_range(greatest: u64, blocks: &[u8]) -> Result<(u64, u64, &[u8
     ensures left { IfOk result (λ x. drop (length blocks.now - length x.2.now) blocks.now ≡ x.2.now) }
 
     // The ranges of blocks of an ACK are the first one and those of what is left, which are blocks too.
-    ensures first { IfOk result (λ x. IsBlocks greatest blocks.now → ranges_of greatest blocks.now ≡ (x.0, greatest) ∷ ranges_of x.1 x.2.now) }
+    ensures first { IfOk result (λ x. IsBlocks greatest blocks.now
+        → ranges_of greatest blocks.now ≡ (x.0, greatest) ∷ ranges_of x.1 x.2.now) }
     ensures valid { IfOk result (λ x. IsBlocks greatest blocks.now → blocks_left x.1 x.2.now ≡ Ok []) }
 
     // What is refused is no blocks.

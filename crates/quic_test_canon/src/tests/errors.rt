@@ -29,7 +29,7 @@ fn errors_are_told(rt: HostRuntime) -> Result<(), Fail> {
         &mut checks,
         rt.alloc(),
         &long,
-        "frame type not in shortest form",
+        "frame type not in shortest form in PADDING",
     )?;
     says(
         &mut checks,

@@ -81,9 +81,5 @@ fn print_frame(start: usize, end: usize, ty: FrameType, text: &mut String) -> Re
 pub(super) fn print_invalid(invalid: &InvalidFrame, text: &mut String) -> Result<(), AllocError>
     ensures { OnOk result (string_bytes text.new ≡ string_bytes text.old ++ shown (item_line (Broken (invalid_of invalid.now)))) }
 {
-    let reason = invalid.reason;
-    match invalid.ty {
-        Some(ty) => writeln!(text, "error {reason} in {ty}"),
-        None => writeln!(text, "error {reason}"),
-    }
+    writeln!(text, "error {invalid}")
 }

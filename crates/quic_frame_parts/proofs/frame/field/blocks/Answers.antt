@@ -1,9 +1,9 @@
-use Rattle.std.proofs.Common.{◌≡◌, Ok, refl, subst, rules}
+use Rattle.std.proofs.Common.{◌≡◌, ◌∷◌, Ok, refl, subst, rules}
 use Rattle.quic_base.specs.Number.{AreBytes}
 use Rattle.quic_base.proofs.PublicLaws.{back_bytes}
 use Rattle.quic_frame_parts.specs.Reading.{after_blocks, blocks_at}
 use Rattle.quic_frame_parts.proofs.Varints.{varint_takes}
-use Rattle.quic_frame_parts.proofs.Blocks.{ranges_shorter, blocks_valid}
+use Rattle.quic_frame_parts.proofs.Blocks.{ranges_shorter, blocks_take, blocks_valid}
 use Rattle.quic_frame_parts.proofs.frame.field.blocks.Goals as goal
 
 pub overflow_sub-bytes : goal.overflow_sub-bytes
@@ -20,3 +20,10 @@ unfolding blocks_at after_blocks
 returns-clause-valid c =
     let e : blocks_at c.args.greatest c.args.bytes.now ≡ Ok (c.split_at.result.0.now, c.split_at.result.1.now) = search rules in
     blocks_valid c.args.greatest c.args.bytes.now _ _ (λ i. (c.type_inv.bytes i).fits) e
+
+pub returns-clause-spelled : goal.returns-clause-spelled
+unfolding blocks_at after_blocks
+returns-clause-spelled c =
+    let e : blocks_at c.args.greatest c.args.bytes.now ≡ Ok (c.split_at.result.0.now, c.split_at.result.1.now) = search rules in
+    let t = blocks_take c.args.greatest c.args.bytes.now _ _ (λ i. (c.type_inv.bytes i).fits) e in
+    (t.range ∷ t.ranges, t.blocks)

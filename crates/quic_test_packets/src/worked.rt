@@ -6,9 +6,12 @@ ghost use Rattle.quic_heads.specs.Reading.{Context};
 ghost use Rattle.quic_packets.specs.Opening.{ExpandsIn, IsReadBack};
 ghost use Rattle.quic_packets.specs.Sealing.{IsLowPart};
 
+use bytes::Bytes;
 use quic_base::ids::ConnectionId;
 use quic_packets::crypto::toy::{ToyHeaderKey, ToyPacketKey};
-use quic_packets::packet::{Expected, Header, Keys, LongType, PacketNumber, SpaceKeys};
+use quic_packets::packet::{
+    Expected, Header, InitialHeader, Keys, LongType, PacketNumber, SpaceKeys,
+};
 
 /// The number 0 is expected in each space.
 pub const ALL_ZERO: Expected = Expected {
@@ -32,6 +35,20 @@ pub fn all_toy() -> SpaceKeys<ToyHeaderKey, ToyPacketKey> {
         handshake: toy(),
         app: toy(),
     }
+}
+
+/// The head of an Initial packet from the id `04` to `010203`, with a token and a number of three bytes.
+pub fn initial(token: &'static [u8]) -> Header
+    requires { length token.now < 2 ^ 62 }
+    ensures { IsWritable result }
+{
+    Header::Initial(InitialHeader {
+        dst_cid: ConnectionId::new(b"\x01\x02\x03"),
+        src_cid: ConnectionId::new(b"\x04"),
+        token: Bytes::from_static(token),
+        number: PacketNumber::U24(0x12_3456),
+        version: 1,
+    })
 }
 
 /// The head of a Handshake packet for the id `aa`, with the number 0 in one byte.

@@ -1,11 +1,8 @@
 //! Heads as they are written, into a vector with just their room and into one with more.
-ghost use Rattle.std.specs.Prelude.{◌<◌, ◌^◌, length};
 ghost use Rattle.quic_headers.specs.Writing.{IsWritable};
 
-use crate::worked::{handshake, short};
-use bytes::Bytes;
-use quic_base::ids::ConnectionId;
-use quic_packets::packet::{Header, InitialHeader, PacketNumber};
+use crate::worked::{handshake, initial, short};
+use quic_packets::packet::Header;
 use quic_testing::Checks;
 use std::alloc::Global;
 use std::test::Fail;
@@ -31,20 +28,6 @@ fn check_written(checks: &mut Checks, alloc: Global, head: &Header, bytes: &[u8]
         "roomy",
         is_written_with_room(&mut Vec::new(alloc), head, bytes),
     );
-}
-
-// An Initial head with a token.
-fn initial(token: &'static [u8]) -> Header
-    requires { length token.now < 2 ^ 62 }
-    ensures { IsWritable result }
-{
-    Header::Initial(InitialHeader {
-        dst_cid: ConnectionId::new(b"\x01\x02\x03"),
-        src_cid: ConnectionId::new(b"\x04"),
-        token: Bytes::from_static(token),
-        number: PacketNumber::U24(0x12_3456),
-        version: 1,
-    })
 }
 
 fn check_handshake(checks: &mut Checks, alloc: Global) {

@@ -1,14 +1,12 @@
 //! Heads and packet numbers written where memory is refused: each test holds whichever allocation fails, and where none
 //! does.
-ghost use Rattle.std.specs.Prelude.{◌<◌, ◌^◌, length};
 ghost use Rattle.quic_crypto.specs.PacketNumbers.{IsInRange};
 ghost use Rattle.quic_headers.specs.Writing.{IsWritable};
 
-use crate::worked::{handshake, short};
-use bytes::Bytes;
+use crate::worked::{handshake, initial, short};
 use quic_base::coding::NoRoom;
 use quic_base::ids::ConnectionId;
-use quic_packets::packet::{Header, InitialHeader, PacketNumber};
+use quic_packets::packet::{Header, PacketNumber};
 use quic_testing::Checks;
 use std::alloc::Global;
 use std::test::Fail;
@@ -63,20 +61,6 @@ fn check(checks: &mut Checks, alloc: Global, head: &Header, bytes: &[u8])
 {
     let out = &mut Vec::new(alloc);
     checks.holds_at(format_args!("{bytes:?}"), is_whole_or_not(out, head, bytes));
-}
-
-// An Initial head with a token.
-fn initial(token: &'static [u8]) -> Header
-    requires { length token.now < 2 ^ 62 }
-    ensures { IsWritable result }
-{
-    Header::Initial(InitialHeader {
-        dst_cid: ConnectionId::new(b"\x01\x02\x03"),
-        src_cid: ConnectionId::new(b"\x04"),
-        token: Bytes::from_static(token),
-        number: PacketNumber::U24(0x12_3456),
-        version: 1,
-    })
 }
 
 fn retry() -> Header

@@ -206,7 +206,17 @@ static void head_nulls(void) {
   WANT(quic_wire_head_write(NULL, id, 4, id, 4, NULL, 0, out, 16) == INVALID);
   WANT(quic_wire_head_write(&said, NULL, 4, id, 4, NULL, 0, out, 16) == INVALID);
   WANT(quic_wire_head_write(&said, id, 4, NULL, 4, NULL, 0, out, 16) == INVALID);
-  WANT(quic_wire_head_write(&said, id, 4, id, 4, NULL, 1, out, 16) == INVALID);
+  WANT(quic_wire_head_write(&said, id, 4, id, 4, NULL, 1, out, 16) == 15);
+  said.kind = QUIC_WIRE_1RTT;
+  WANT(quic_wire_head_write(&said, id, 4, NULL, 4, NULL, 1, out, 16) == INVALID);
+  said.numberlen = 1;
+  WANT(quic_wire_head_write(&said, id, 4, NULL, 4, NULL, 1, out, 16) == 6);
+  said.kind = QUIC_WIRE_INITIAL;
+  said.lengthlen = 2;
+  WANT(quic_wire_head_write(&said, id, 2, id, 2, NULL, 1, out, 16) == INVALID);
+  WANT(quic_wire_head_write(&said, id, 2, id, 2, id, 1, out, 16) == 16);
+  said.kind = QUIC_WIRE_RETRY;
+  WANT(quic_wire_short_read(NULL, 5, 4) == 0);
   WANT(quic_wire_head_write(&said, id, 4, id, 4, NULL, 0, NULL, 16) == INVALID);
   WANT(quic_wire_head_write(&said, NULL, 0, NULL, 0, NULL, 0, out, 6) ==
        QUIC_WIRE_ERR_NOBUF);
@@ -729,6 +739,8 @@ static void packet_rubbish(uint8_t *datagram, size_t len) {
     answer = quic_wire_head_read(packet, len - begin, cidlen, versions, 2, &head);
     if (cidlen > 20)
       WANT(answer == INVALID);
+    WANT(quic_wire_short_read(packet, len - begin, cidlen) ==
+         (answer == 0 && head.kind == QUIC_WIRE_1RTT ? head.head_end : 0));
     if (answer != 0 && answer != QUIC_WIRE_PACKET_LENGTH_BEYOND_END)
       break;
     WANT(head.head_end && head.head_end <= head.end && head.end <= len - begin);
@@ -751,23 +763,6 @@ static void packet_rubbish(uint8_t *datagram, size_t len) {
                                          : answer == QUIC_WIRE_ERR_MALFORMED));
 }
 
-/* Whether the words say no more than such a head has. */
-static int says_no_more(const quic_wire_said *h, const size_t lens[3]) {
-  const int is_long = h->kind <= QUIC_WIRE_HANDSHAKE;
-  const int is_short = h->kind == QUIC_WIRE_1RTT;
-  const int is_negotiation = h->kind == QUIC_WIRE_VERSION_NEGOTIATION;
-  const int flags = is_short         ? 0x64
-                    : is_negotiation ? 0x7f
-                                     : QUIC_WIRE_FIXED_BIT;
-  if (h->flags & ~flags || (lens[2] && h->kind != QUIC_WIRE_INITIAL) ||
-      (is_short && lens[1]) || ((is_short || is_negotiation) && h->version))
-    return 0;
-  if (is_long ? h->lengthlen != 2 && h->lengthlen != 4 : h->lengthlen != 0)
-    return 0;
-  return is_long || is_short ? h->number >> 62 == 0
-                             : h->number == 0 && h->numberlen == 0;
-}
-
 /* A head as RFC 9000, section 17, and RFC 9369 draw it, by a plain model: its
  * length, or 0 where there is no such head. */
 static size_t model_head(const quic_wire_said *h, const uint8_t *const parts[3],
@@ -778,8 +773,8 @@ static size_t model_head(const quic_wire_said *h, const uint8_t *const parts[3],
   size_t n = 0, i, k;
   if (h->kind > 5 || lens[0] > 20 || (h->kind != QUIC_WIRE_1RTT && lens[1] > 20) ||
       (h->kind <= QUIC_WIRE_RETRY && h->version == 0) ||
-      (numbered && (h->numberlen < 1 || h->numberlen > 4)) ||
-      !says_no_more(h, lens))
+      (numbered && (h->numberlen < 1 || h->numberlen > 4 || h->number >> 62)) ||
+      (is_long && h->lengthlen != 2 && h->lengthlen != 4))
     return 0;
   if (h->kind == QUIC_WIRE_1RTT) {
     out[n++] = (uint8_t)(fixed | (h->flags & 0x24) | (h->numberlen - 1));
@@ -788,7 +783,7 @@ static size_t model_head(const quic_wire_said *h, const uint8_t *const parts[3],
   } else {
     const int vn = h->kind == QUIC_WIRE_VERSION_NEGOTIATION;
     uint32_t type = (h->kind + (h->version == 0x6b3343cf ? 1u : 0)) % 4;
-    out[n++] = (uint8_t)(vn ? 0x80 | h->flags
+    out[n++] = (uint8_t)(vn ? 0x80 | (h->flags & 0x7f)
                             : 0x80 | fixed | 16 * type |
                                   (numbered ? h->numberlen - 1u : 0));
     for (k = 4; k--;)
@@ -854,7 +849,7 @@ static void head_cut(const quic_wire_said *h, const size_t lens[3],
   WANT(quic_wire_head_read(packet, whole, (uint32_t)lens[0], &h->version, 1,
                            &head) == 0);
   WANT(head.kind == h->kind && head.first == packet[0]);
-  WANT(head.version == h->version);
+  WANT(head.version == (h->kind <= QUIC_WIRE_RETRY ? h->version : 0));
   WANT(head.dcidlen == lens[0] && head.end == whole && head.head_end == at);
   WANT(h->kind == QUIC_WIRE_1RTT || head.scidlen == lens[1]);
   WANT(head.tokenlen == (h->kind == QUIC_WIRE_INITIAL ? lens[2] : 0));
@@ -891,21 +886,6 @@ static int head_written(void) {
     given[i] = parts[i] = block(lens[i]);
     for (k = 0; k < lens[i]; k++)
       parts[i][k] = (uint8_t)any();
-  }
-  if (any() % 8) { /* mostly without what the kind lacks */
-    if (h.kind > QUIC_WIRE_HANDSHAKE)
-      h.lengthlen = 0;
-    if (h.kind == QUIC_WIRE_1RTT || h.kind == QUIC_WIRE_VERSION_NEGOTIATION)
-      h.version = 0;
-    if (h.kind == QUIC_WIRE_RETRY || h.kind == QUIC_WIRE_VERSION_NEGOTIATION) {
-      h.number = 0;
-      h.numberlen = 0;
-    }
-    h.flags &= h.kind == QUIC_WIRE_1RTT                  ? 0x64
-               : h.kind == QUIC_WIRE_VERSION_NEGOTIATION ? 0x7f
-                                                         : 0x40;
-    lens[1] = h.kind == QUIC_WIRE_1RTT ? 0 : lens[1];
-    lens[2] = h.kind == QUIC_WIRE_INITIAL ? lens[2] : 0;
   }
   want = model_head(&h, given, lens, model);
   WANT(!want || quic_wire_head_len(&h, lens[0], lens[1], lens[2]) == want);

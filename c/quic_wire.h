@@ -328,7 +328,7 @@ typedef struct quic_wire_head {
 } quic_wire_head;
 
 /* What a head says that is written, beside its ids and its token.  What its
- * kind lacks is 0. */
+ * kind lacks isn't looked at. */
 typedef struct quic_wire_said {
   uint8_t kind;      /* QUIC_WIRE_INITIAL and so on */
   uint8_t flags;     /* QUIC_WIRE_FIXED_BIT: it is clear; of 1-RTT
@@ -721,6 +721,15 @@ QUIC_WIRE_API int quic_wire_head_read(const uint8_t *bytes, size_t len,
                                       uint32_t cidlen, const uint32_t *versions,
                                       size_t nversions, quic_wire_head *head);
 
+/*
+ * Where the short head ends that |packet| begins with, whose id has |cidlen|
+ * bytes: where the number begins.  It is what quic_wire_head_read tells of such
+ * a packet, and the quickest way to it.  0 where no short head begins there, or
+ * |cidlen| is above 20, and for NULL.  The fixed bit isn't looked at.
+ */
+QUIC_WIRE_API size_t quic_wire_short_read(const uint8_t *packet,
+                                          size_t packetlen, uint32_t cidlen);
+
 /* Where the ids stand in a packet of this head, or NULL for NULL. */
 QUIC_WIRE_API const uint8_t *quic_wire_dcid(const uint8_t *packet,
                                             const quic_wire_head *head);
@@ -811,12 +820,24 @@ QUIC_WIRE_API size_t quic_wire_head_len(const quic_wire_said *said,
  *
  * Returns how many bytes were written, at whose end the number stands;
  * QUIC_WIRE_ERR_NOBUF where |destlen| is less than quic_wire_head_len;
- * QUIC_WIRE_ERR_INVALID_ARGUMENT where no such head can be written: there is no
- * such kind, an id is longer than 20 bytes, the number is 2^62 or more or has
- * not 1 to 4 bytes, the length has not 2 or 4, an Initial, 0-RTT, Handshake or
- * Retry packet has version 0, which would be a version negotiation (RFC 9000,
- * section 17.2.1), or something is said that the kind lacks.  |dest| changes
- * where a head was written alone.
+ * QUIC_WIRE_ERR_INVALID_ARGUMENT for NULL, or where no such head can be
+ * written: there is no such kind, an id is longer than 20 bytes, the number is
+ * 2^62 or more or has not 1 to 4 bytes, the length has not 2 or 4, or an
+ * Initial, 0-RTT, Handshake or Retry packet has version 0, which would be a
+ * version negotiation (RFC 9000, section 17.2.1).  |dest| changes where a head
+ * was written alone.
+ *
+ * What is looked at, and nothing else, so that one |said| serves all kinds:
+ *
+ *   Initial          |flags|, |version|, both ids, |token|, |number|,
+ *                    |numberlen|, |lengthlen|
+ *   0-RTT, Handshake the same but for |token|
+ *   Retry            |flags|, |version|, both ids
+ *   1-RTT            |flags|, |dcid|, |number|, |numberlen|
+ *   negotiation      |flags|, both ids
+ *
+ * and of |flags| QUIC_WIRE_FIXED_BIT, with 1-RTT also QUIC_WIRE_SPIN_BIT and
+ * QUIC_WIRE_KEY_PHASE, and with a version negotiation the seven low bits.
  *
  * A version negotiation is written also where |said->flags| lacks
  * QUIC_WIRE_FIXED_BIT: RFC 9000, section 17.2.1, has that bit set where QUIC

@@ -38,6 +38,7 @@ int32_t quic_wire_canonical_(const uint8_t *, size_t, uint8_t *, size_t,
                              quic_wire_canon *);
 int32_t quic_wire_head_read_(const uint8_t *, size_t, uint32_t,
                              const uint32_t *, size_t, quic_wire_head *);
+size_t quic_wire_short_read_(const uint8_t *, size_t, uint32_t);
 int32_t quic_wire_unprotect_(uint8_t *, size_t, size_t, const uint8_t *,
                              uint64_t, uint64_t *);
 int32_t quic_wire_protect_(uint8_t *, size_t, size_t, const uint8_t *);
@@ -293,6 +294,11 @@ QUIC_WIRE_API int quic_wire_head_read(const uint8_t *bytes, size_t len,
                               nversions, head);
 }
 
+QUIC_WIRE_API size_t quic_wire_short_read(const uint8_t *packet,
+                                          size_t packetlen, uint32_t cidlen) {
+  return packet ? quic_wire_short_read_(packet, packetlen, cidlen) : 0;
+}
+
 QUIC_WIRE_API const uint8_t *quic_wire_dcid(const uint8_t *packet,
                                             const quic_wire_head *head) {
   return packet && head ? packet + (head->first & QUIC_WIRE_LONG_FORM ? 6 : 1)
@@ -387,18 +393,21 @@ QUIC_WIRE_API int64_t quic_wire_head_write(
     const uint8_t *scid, size_t scidlen, const uint8_t *token, size_t tokenlen,
     uint8_t *dest, size_t destlen) {
   static const uint8_t none = 0;
-  if (!said || (!dcid && dcidlen) || (!scid && scidlen) ||
-      (!token && tokenlen) || !dest)
+  if (!said || (!dcid && dcidlen) || !dest)
     return QUIC_WIRE_ERR_INVALID_ARGUMENT;
   if (!dcid)
     dcid = &none;
-  /* A short head that says nothing else is written by its first byte. */
-  if (said->kind == QUIC_WIRE_1RTT && said->numberlen - 1u < 4 &&
-      !(said->flags & ~0x64u) &&
-      !(said->lengthlen | said->version | scidlen | tokenlen))
+  if (said->kind == QUIC_WIRE_1RTT) {
+    if (said->numberlen - 1u > 3)
+      return QUIC_WIRE_ERR_INVALID_ARGUMENT;
     return quic_wire_short_write_(
-        (QUIC_WIRE_FIXED_BIT ^ said->flags) | (said->numberlen - 1u),
+        (QUIC_WIRE_FIXED_BIT ^ (said->flags & 0x64u)) | (said->numberlen - 1u),
         said->number, dcid, dcidlen, dest, destlen);
+  }
+  if (said->kind != QUIC_WIRE_INITIAL)
+    tokenlen = 0;
+  if ((!scid && scidlen) || (!token && tokenlen))
+    return QUIC_WIRE_ERR_INVALID_ARGUMENT;
   return quic_wire_head_write_(said, dcid, dcidlen, scid ? scid : &none, scidlen,
                                token ? token : &none, tokenlen, dest, destlen);
 }

@@ -1,8 +1,8 @@
 -- The head that words say, and its bytes.
 use Rattle.std.proofs.Common.{◌≡◌, ℕ, ◌+◌, ◌-◌, ◌*◌, ◌/◌, ◌%◌, ◌<◌, ◌≤◌, ◌^◌, ◌⊎◌, Bool, false, List, [], ◌∷◌, ◌++◌, length, take, drop, replicate, refl, sym, ap, subst, ◌∙◌, inl, inr, arith}
-use Rattle.std.specs.Prelude.{bit_or, nat_eq}
+use Rattle.std.specs.Prelude.{◌≢◌, bit_or, nat_eq}
 use Rattle.std.proofs.lemmas.Bool.{cases_eq}
-use Rattle.std.proofs.lemmas.List.{length-take-le, nil_from_length, take-append-drop}
+use Rattle.std.proofs.lemmas.List.{length-take-le, take-append-drop}
 use Rattle.std.proofs.lemmas.Bool.Decides.{nat_tests}
 use Rattle.std.specs.Int.{byte_at}
 use Rattle.quic_base.specs.Number.{bytes_of}
@@ -16,7 +16,7 @@ use Rattle.quic_headers.specs.Writing.{bit, head_with}
 use Rattle.quic_c_heads.specs.declared.words.SaidWords.{SaidWords}
 use Rattle.quic_c_heads.specs.Heads.{part_of, said_bytes, CanWrite}
 use Rattle.quic_c_heads.specs.Reading.{kind_word}
-use Rattle.quic_c_heads.specs.Shapes.{first_word, IsShaped}
+use Rattle.quic_c_heads.specs.Shapes.{first_word, IsNumbered, IsShaped}
 use Rattle.quic_c_heads.specs.Written.{short_words}
 
 -- whether the fixed bit is cleared
@@ -45,12 +45,6 @@ spin_is f = bit_at (f / 32 % 2) 32 (omega arith)
 phase_is : (f : ℕ) → bit (has_bit 4 f) 4 ≡ 4 * (f / 4 % 2)
 phase_is f = bit_at (f / 4 % 2) 4 (omega arith)
 
-long_flags : (f : ℕ) → (f ≡ 0) ⊎ (f ≡ 64) → f ≡ bit (has_bit 64 f) 64
-long_flags f e = omega (arith, e, clear_is f)
-
-short_flags : (f : ℕ) → f < 128 → (f % 32 ≡ 0) ⊎ (f % 32 ≡ 4) → f ≡ bit (has_bit 64 f) 64 + bit (has_bit 32 f) 32 + bit (has_bit 4 f) 4
-short_flags f low e = omega (arith, e, clear_is f, spin_is f, phase_is f)
-
 -- the part of a number that is written
 abbrev Part : ℕ → ℕ → Type 0
 Part number len = (len ≡ number_size (part_of len number)) × (low_part (part_of len number) ≡ number % window_of (part_of len number)) × IsInRange (part_of len number)
@@ -69,122 +63,109 @@ part_says len number some few = elim (cases_eq len 2) [
 
 -- ---- that it can be written
 
-pub can_said : (k : HeadKind) (words : SaidWords) (dst src token : List ℕ) → IsShaped words dst src token → kind_word k ≡ words.kind
-    → CanWrite words dst src token (clear_by k words.flags) (head_said k words dst src token)
-can_said kind.Initial words dst src token s e =
-    let part = part_says words.number_len words.number (s.numbered.some (inl (omega (arith, e)))) s.numbered.few in
+-- what is said of a number
+numbered : (words : SaidWords) → IsNumbered words → (words.kind ≤ 2) ⊎ (words.kind ≡ 4)
+    → (words.number < 2 ^ 62) × Part words.number words.number_len
+numbered words s kind =
+    let n = s.number kind in (n.2, part_says words.number_len words.number n.0 n.1)
+
+-- what is said of a sender's id
+source_said : (words : SaidWords) (dst src token from : List ℕ) → IsShaped words dst src token → (words.kind ≢ 4 → from ≡ src) → words.kind ≢ 4
+    → (src ≡ from) × (length src ≤ 20)
+source_said words dst src token from s source other = (sym (source other), s.parts.src_few other)
+
+pub can_said : (k : HeadKind) (words : SaidWords) (dst src token from own : List ℕ) → IsShaped words dst src token → kind_word k ≡ words.kind
+    → (words.kind ≢ 4 → from ≡ src) → (words.kind ≡ 0 → own ≡ token) → CanWrite words dst src token (clear_by k words.flags) (head_said k words dst from own)
+can_said kind.Initial words dst src token from own s e source mine =
+    let n = numbered words s.numbered (inl (omega (arith, e))) in
     record {
       says = record {
         kind = sym e;
-        flags = long_flags words.flags (s.plain.fixed (omega (arith, e)));
-        fixed = tt;
-        version = refl;
-        number = (s.numbered.small, part.0, part.1);
+        flags = refl;
+        version = (refl, s.named (omega (arith, e)));
+        number = (n.0, n.1.0, n.1.1);
         len = s.numbered.len (omega (arith, e));
         dst_is = refl;
-        src_is = refl;
-        token_is = refl;
+        src_is = source_said words dst src token from s source (λ z. omega (arith, e, z));
+        token_is = sym (mine (sym e));
       };
       dst_few = s.parts.dst_few;
-      src_few = s.parts.src_few;
-      low = s.plain.low;
-      named = s.plain.named;
-      writable = (s.parts.token_short, part.2);
+      writable = (subst (λ (t : List ℕ). length t < 2 ^ 62) (sym (mine (sym e))) (s.parts.token_short (sym e)), n.1.2);
     }
-can_said kind.ZeroRtt words dst src token s e =
-    let part = part_says words.number_len words.number (s.numbered.some (inl (omega (arith, e)))) s.numbered.few in
+can_said kind.ZeroRtt words dst src token from own s e source mine =
+    let n = numbered words s.numbered (inl (omega (arith, e))) in
     record {
       says = record {
         kind = sym e;
-        flags = long_flags words.flags (s.plain.fixed (omega (arith, e)));
-        fixed = tt;
-        version = refl;
-        number = (s.numbered.small, part.0, part.1);
+        flags = refl;
+        version = (refl, s.named (omega (arith, e)));
+        number = (n.0, n.1.0, n.1.1);
         len = s.numbered.len (omega (arith, e));
         dst_is = refl;
-        src_is = refl;
-        token_is = nil_from_length token (s.parts.no_token (omega (arith, e)));
+        src_is = source_said words dst src token from s source (λ z. omega (arith, e, z));
+        token_is = tt;
       };
       dst_few = s.parts.dst_few;
-      src_few = s.parts.src_few;
-      low = s.plain.low;
-      named = s.plain.named;
-      writable = part.2;
+      writable = n.1.2;
     }
-can_said kind.Handshake words dst src token s e =
-    let part = part_says words.number_len words.number (s.numbered.some (inl (omega (arith, e)))) s.numbered.few in
+can_said kind.Handshake words dst src token from own s e source mine =
+    let n = numbered words s.numbered (inl (omega (arith, e))) in
     record {
       says = record {
         kind = sym e;
-        flags = long_flags words.flags (s.plain.fixed (omega (arith, e)));
-        fixed = tt;
-        version = refl;
-        number = (s.numbered.small, part.0, part.1);
+        flags = refl;
+        version = (refl, s.named (omega (arith, e)));
+        number = (n.0, n.1.0, n.1.1);
         len = s.numbered.len (omega (arith, e));
         dst_is = refl;
-        src_is = refl;
-        token_is = nil_from_length token (s.parts.no_token (omega (arith, e)));
+        src_is = source_said words dst src token from s source (λ z. omega (arith, e, z));
+        token_is = tt;
       };
       dst_few = s.parts.dst_few;
-      src_few = s.parts.src_few;
-      low = s.plain.low;
-      named = s.plain.named;
-      writable = part.2;
+      writable = n.1.2;
     }
-can_said kind.Retry words dst src token s e = record {
+can_said kind.Retry words dst src token from own s e source mine = record {
   says = record {
     kind = sym e;
-    flags = long_flags words.flags (s.plain.fixed (omega (arith, e)));
-    fixed = tt;
-    version = refl;
-    number = s.numbered.none (inl (sym e));
-    len = s.numbered.no_len (omega (arith, e));
+    flags = refl;
+    version = (refl, s.named (omega (arith, e)));
+    number = tt;
+    len = tt;
     dst_is = refl;
-    src_is = refl;
-    token_is = nil_from_length token (s.parts.no_token (omega (arith, e)));
+    src_is = source_said words dst src token from s source (λ z. omega (arith, e, z));
+    token_is = tt;
   };
   dst_few = s.parts.dst_few;
-  src_few = s.parts.src_few;
-  low = s.plain.low;
-  named = s.plain.named;
   writable = tt;
 }
-can_said kind.Short words dst src token s e =
-    let part = part_says words.number_len words.number (s.numbered.some (inr (sym e))) s.numbered.few in
+can_said kind.Short words dst src token from own s e source mine =
+    let n = numbered words s.numbered (inr (sym e)) in
     record {
       says = record {
         kind = sym e;
-        flags = short_flags words.flags s.plain.low (s.plain.bits (sym e));
-        fixed = tt;
-        version = s.plain.version (omega (arith, e));
-        number = (s.numbered.small, part.0, part.1);
-        len = s.numbered.no_len (omega (arith, e));
+        flags = (refl, refl, refl);
+        version = tt;
+        number = (n.0, n.1.0, n.1.1);
+        len = tt;
         dst_is = refl;
-        src_is = nil_from_length src (s.parts.no_src (sym e));
-        token_is = nil_from_length token (s.parts.no_token (omega (arith, e)));
+        src_is = tt;
+        token_is = tt;
       };
       dst_few = s.parts.dst_few;
-      src_few = s.parts.src_few;
-      low = s.plain.low;
-      named = s.plain.named;
-      writable = part.2;
+      writable = n.1.2;
     }
-can_said kind.VersionNegotiate words dst src token s e = record {
+can_said kind.VersionNegotiate words dst src token from own s e source mine = record {
   says = record {
     kind = sym e;
-    flags = (let low : words.flags < 128 = s.plain.low in omega arith);
-    fixed = refl;
-    version = s.plain.version (omega (arith, e));
-    number = s.numbered.none (inr (sym e));
-    len = s.numbered.no_len (omega (arith, e));
+    flags = (refl, refl);
+    version = tt;
+    number = tt;
+    len = tt;
     dst_is = refl;
-    src_is = refl;
-    token_is = nil_from_length token (s.parts.no_token (omega (arith, e)));
+    src_is = source_said words dst src token from s source (λ z. omega (arith, e, z));
+    token_is = tt;
   };
   dst_few = s.parts.dst_few;
-  src_few = s.parts.src_few;
-  low = s.plain.low;
-  named = s.plain.named;
   writable = tt;
 }
 
@@ -209,32 +190,31 @@ laid_as k f len words dst src token number e is =
     ∙ ap (λ (p : PacketNumber). begun_by (first_word k words.flags + type_bits k words.version + number_bits k p)
     (head_with (replicate len 0) (head_of k (first_word k words.flags) words.version dst src token p))) is
 
-pub bytes_said : (k : HeadKind) (len : ℕ) (words : SaidWords) (dst src token : List ℕ) → IsShaped words dst src token → kind_word k ≡ words.kind
+pub bytes_said : (k : HeadKind) (len : ℕ) (words : SaidWords) (dst src token : List ℕ) → IsNumbered words → kind_word k ≡ words.kind
     → ((words.length_len ≡ 2) ⊎ (words.length_len ≡ 4) → len ≡ words.length_len)
     → laid_said k len words dst src token ≡ said_bytes words.length_len (clear_by k words.flags) (head_said k words dst src token)
 bytes_said kind.Initial len words dst src token s e same =
     begun_same _ _ (λ n. head_with (replicate n 0) (head_said kind.Initial words dst src token)) len words.length_len
-    (omega (arith, s.plain.fixed (omega (arith, e)), clear_is words.flags)) (same (s.numbered.len (omega (arith, e))))
+    (omega (arith, clear_is words.flags)) (same (s.len (omega (arith, e))))
 bytes_said kind.ZeroRtt len words dst src token s e same =
     begun_same _ _ (λ n. head_with (replicate n 0) (head_said kind.ZeroRtt words dst src token)) len words.length_len
-    (omega (arith, s.plain.fixed (omega (arith, e)), clear_is words.flags)) (same (s.numbered.len (omega (arith, e))))
+    (omega (arith, clear_is words.flags)) (same (s.len (omega (arith, e))))
 bytes_said kind.Handshake len words dst src token s e same =
     begun_same _ _ (λ n. head_with (replicate n 0) (head_said kind.Handshake words dst src token)) len words.length_len
-    (omega (arith, s.plain.fixed (omega (arith, e)), clear_is words.flags)) (same (s.numbered.len (omega (arith, e))))
+    (omega (arith, clear_is words.flags)) (same (s.len (omega (arith, e))))
 bytes_said kind.Retry len words dst src token s e same =
     ap (λ (f : ℕ). begun_by f (head_with (replicate 0 0) (head_said kind.Retry words dst src token)))
     (let g : first_word kind.Retry words.flags + type_bits kind.Retry words.version + 0 ≡ 192 + type_bits kind.Retry words.version - bit (has_bit 64 words.flags) 64 =
-    omega (arith, s.plain.fixed (omega (arith, e)), clear_is words.flags) in g)
+    omega (arith, clear_is words.flags) in g)
 bytes_said kind.Short len words dst src token s e same =
     let number : PacketNumber = part_of words.number_len words.number in
     ap (λ (f : ℕ). f ∷ (dst ++ number_bytes number))
     (let g : first_word kind.Short words.flags + 0 + (number_size number - 1)
     ≡ 64 + bit (has_bit 32 words.flags) 32 + bit (has_bit 4 words.flags) 4 + (number_size number - 1) - bit (has_bit 64 words.flags) 64 =
-    omega (arith, s.plain.low, s.plain.bits (sym e), clear_is words.flags, spin_is words.flags, phase_is words.flags) in g)
+    omega (arith, clear_is words.flags, spin_is words.flags, phase_is words.flags) in g)
 bytes_said kind.VersionNegotiate len words dst src token s e same =
-    let low : words.flags % 128 ≡ words.flags = (let lt : words.flags < 128 = s.plain.low in omega arith) in
     ap (λ (f : ℕ). begun_by f (head_with (replicate 0 0) (head_said kind.VersionNegotiate words dst src token)))
-    (let g : bit_or 128 words.flags + 0 + 0 ≡ bit_or 128 (words.flags % 128) - 0 = omega (arith, ap (bit_or 128) low) in g)
+    (let g : bit_or 128 (words.flags % 128) + 0 + 0 ≡ bit_or 128 (words.flags % 128) - 0 = omega arith in g)
 
 -- ---- what was written
 
@@ -247,26 +227,18 @@ written n old new bytes said within front back same = (
 
 -- ---- short heads by their first byte
 
-pub short_shaped : (first number : ℕ) (dst : List ℕ) → first < 128 → first / 8 % 4 ≡ 0 → number < 2 ^ 62 → length dst ≤ 20 → IsShaped (short_words first number) dst [] []
-short_shaped first number dst low clear small few = record {
+pub short_shaped : (first number : ℕ) (dst : List ℕ) → number < 2 ^ 62 → length dst ≤ 20 → IsShaped (short_words first number) dst [] []
+short_shaped first number dst small few = record {
   known = omega arith;
-  numbered = record {
-    some = λ _. omega arith;
-    few = omega arith;
-    small = small;
-    none = λ e. absurd (omega (arith, e));
-    len = λ e. absurd (omega (arith, e));
-    no_len = λ _. refl;
-  };
-  plain = record {
-    fixed = λ e. absurd (omega (arith, e));
-    bits = λ _. elim (cases_eq (first / 4 % 2) 0) [ inl none ↦ inl (omega (arith, low, clear, none)) | inr some ↦ inr (omega (arith, low, clear, some)) ];
-    low = omega arith;
-    version = λ _. refl;
-    named = λ e. absurd (omega (arith, e));
-  };
-  parts = record { dst_few = few; src_few = omega arith; no_src = λ _. refl; no_token = λ _. refl; token_short = omega arith };
+  numbered = record { number = λ _. (omega arith, omega arith, small); len = λ e. absurd (omega (arith, e)) };
+  named = λ e. absurd (omega (arith, e));
+  parts = record { dst_few = few; src_few = λ _. omega arith; token_short = λ _. omega arith };
 }
+
+pub short_can : (first number : ℕ) (dst : List ℕ) → number < 2 ^ 62 → length dst ≤ 20
+    → CanWrite (short_words first number) dst [] [] (clear_by kind.Short (short_words first number).flags) (head_said kind.Short (short_words first number) dst [] [])
+short_can first number dst small few =
+    can_said kind.Short (short_words first number) dst [] [] [] [] (short_shaped first number dst small few) refl (λ _. refl) (λ _. refl)
 
 low_bytes : (len number : ℕ) → 1 ≤ len → len ≤ 4 → number_bytes (part_of len number) ≡ bytes_of len number
 unfolding bytes_of
@@ -297,4 +269,4 @@ short_bytes first number dst low clear small few =
     let byte : first ≡ first_word kind.Short words.flags + 0 + (number_size part - 1) = omega (arith, low, size) in
     ap (λ (xs : List ℕ). (first ∷ dst) ++ xs) (sym (low_bytes count number (omega arith) (omega arith)))
     ∙ ap (λ (f : ℕ). f ∷ (dst ++ number_bytes part)) byte
-    ∙ bytes_said kind.Short 0 words dst [] [] (short_shaped first number dst low clear small few) refl (λ _. refl)
+    ∙ bytes_said kind.Short 0 words dst [] [] (short_shaped first number dst small few).numbered refl (λ _. refl)

@@ -6,7 +6,7 @@ use Rattle.quic_crypto.specs.PacketNumbers.{low_part, number_size, window_of}
 use Rattle.quic_headers.specs.declared.long_type.LongType.TheVariants.{Handshake, ZeroRtt}
 use Rattle.quic_headers.specs.declared.header.Header.{Header}
 use Rattle.quic_headers.specs.declared.header.Header.TheVariants as header
-use Rattle.quic_headers.specs.Laying.{begun_by}
+use Rattle.quic_headers.specs.Laying.{begun_by, has_bit}
 use Rattle.quic_headers.specs.Queries.{dst_in, number_in}
 use Rattle.quic_headers.specs.Writing.{bit, head_with, IsWritable}
 use Rattle.quic_c_heads.specs.declared.words.SaidWords.{SaidWords}
@@ -25,81 +25,69 @@ head_word (header.Retry dst src version) = 3
 head_word (header.Short spin key_phase dst number) = 4
 head_word (header.VersionNegotiate random src dst) = 5
 
--- of a short head 0x20 for the spin bit and 0x04 for the key phase; of a version negotiation the first byte without
--- its highest bit; of the others and of a short head 0x40 where the fixed bit is clear (RFC 9287)
-abbrev pub flags_word : Bool → Header → ℕ
-flags_word clear (header.Initial h) = bit clear 64
-flags_word clear (header.Long ty dst src number version) = bit clear 64
-flags_word clear (header.Retry dst src version) = bit clear 64
-flags_word clear (header.Short spin key_phase dst number) = bit clear 64 + bit spin 32 + bit key_phase 4
-flags_word clear (header.VersionNegotiate random src dst) = random
+-- Of a short head 0x20 is the spin bit and 0x04 the key phase, of a version negotiation the seven low bits stand as they
+-- are, and of the others and of a short head the fixed bit is clear where 0x40 is set (RFC 9287).
+abbrev pub SaysFlags : ℕ → Bool → Header → Type 0
+SaysFlags flags clear (header.Initial h) = clear ≡ has_bit 0x40 flags
+SaysFlags flags clear (header.Long ty dst src number version) = clear ≡ has_bit 0x40 flags
+SaysFlags flags clear (header.Retry dst src version) = clear ≡ has_bit 0x40 flags
+SaysFlags flags clear (header.Short spin key_phase dst number) = (clear ≡ has_bit 0x40 flags) × (spin ≡ has_bit 0x20 flags) × (key_phase ≡ has_bit 0x04 flags)
+SaysFlags flags clear (header.VersionNegotiate random src dst) = (clear ≡ false) × (random ≡ flags % 128)
 
--- a version negotiation has no fixed bit
-abbrev pub CanClear : Bool → Header → Type 0
-CanClear clear (header.Initial h) = Unit {0}
-CanClear clear (header.Long ty dst src number version) = Unit {0}
-CanClear clear (header.Retry dst src version) = Unit {0}
-CanClear clear (header.Short spin key_phase dst number) = Unit {0}
-CanClear clear (header.VersionNegotiate random src dst) = clear ≡ false
+-- A version that isn't 0, by which a version negotiation is told (RFC 9000, section 17.2.1); short heads and version
+-- negotiations say none.
+abbrev pub SaysVersion : ℕ → Header → Type 0
+SaysVersion version (header.Initial h) = (version ≡ h.version) × (0 < version)
+SaysVersion version (header.Long ty dst src number named) = (version ≡ named) × (0 < version)
+SaysVersion version (header.Retry dst src named) = (version ≡ named) × (0 < version)
+SaysVersion version (header.Short spin key_phase dst number) = Unit {0}
+SaysVersion version (header.VersionNegotiate random src dst) = Unit {0}
 
--- the version, 0 of heads that say none
-abbrev pub version_in : Header → ℕ
-version_in (header.Initial h) = h.version
-version_in (header.Long ty dst src number version) = version
-version_in (header.Retry dst src version) = version
-version_in (header.Short spin key_phase dst number) = 0
-version_in (header.VersionNegotiate random src dst) = 0
-
--- the sender's id, which a short head lacks
-abbrev pub src_in : Header → List ℕ
-src_in (header.Initial h) = h.src_cid
-src_in (header.Long ty dst src number version) = src
-src_in (header.Retry dst src version) = src
-src_in (header.Short spin key_phase dst number) = []
-src_in (header.VersionNegotiate random src dst) = src
+-- the sender's id, of at most 20 bytes, which a short head lacks
+abbrev pub SaysSource : List ℕ → Header → Type 0
+SaysSource id (header.Initial h) = (id ≡ h.src_cid) × (length id ≤ 20)
+SaysSource id (header.Long ty dst src number version) = (id ≡ src) × (length id ≤ 20)
+SaysSource id (header.Retry dst src version) = (id ≡ src) × (length id ≤ 20)
+SaysSource id (header.Short spin key_phase dst number) = Unit {0}
+SaysSource id (header.VersionNegotiate random src dst) = (id ≡ src) × (length id ≤ 20)
 
 -- the token, which an Initial packet alone has in its head
-abbrev pub token_in : Header → List ℕ
-token_in (header.Initial h) = h.token
-token_in (header.Long ty dst src number version) = []
-token_in (header.Retry dst src version) = []
-token_in (header.Short spin key_phase dst number) = []
-token_in (header.VersionNegotiate random src dst) = []
+abbrev pub SaysToken : List ℕ → Header → Type 0
+SaysToken token (header.Initial h) = token ≡ h.token
+SaysToken token (header.Long ty dst src number version) = Unit {0}
+SaysToken token (header.Retry dst src version) = Unit {0}
+SaysToken token (header.Short spin key_phase dst number) = Unit {0}
+SaysToken token (header.VersionNegotiate random src dst) = Unit {0}
 
--- how many bytes the length has, 2 or 4; 0 of a head that says none
+-- how many bytes the length has, 2 or 4, of a head that says one
 abbrev pub LengthIs : ℕ → Header → Type 0
 LengthIs len (header.Initial h) = (len ≡ 2) ⊎ (len ≡ 4)
 LengthIs len (header.Long ty dst src number version) = (len ≡ 2) ⊎ (len ≡ 4)
-LengthIs len (header.Retry dst src version) = len ≡ 0
-LengthIs len (header.Short spin key_phase dst number) = len ≡ 0
-LengthIs len (header.VersionNegotiate random src dst) = len ≡ 0
+LengthIs len (header.Retry dst src version) = Unit {0}
+LengthIs len (header.Short spin key_phase dst number) = Unit {0}
+LengthIs len (header.VersionNegotiate random src dst) = Unit {0}
 
--- A number below 2^62, of which so many bytes are written (RFC 9000, section 17.1); 0 and 0 where a head has none.
+-- A number below 2^62, of which so many bytes are written (RFC 9000, section 17.1), where the head has one.
 abbrev pub SaysNumber : ℕ → ℕ → Option PacketNumber → Type 0
-SaysNumber number len None = (number ≡ 0) × (len ≡ 0)
+SaysNumber number len None = Unit {0}
 SaysNumber number len (Some written) = (number < 2 ^ 62) × (len ≡ number_size written) × (low_part written ≡ number % window_of written)
 
--- The words, two ids and a token say the head, with a fixed bit that is clear or isn't.
+-- The words, two ids and a token say the head, with a fixed bit that is clear or isn't. What its kind lacks isn't
+-- looked at.
 pub record Says (words : SaidWords) (dst src token : List ℕ) (clear : Bool) (head : Header) : Type 0 where
   pub kind : words.kind ≡ head_word head
-  pub flags : words.flags ≡ flags_word clear head
-  pub fixed : CanClear clear head
-  pub version : words.version ≡ version_in head
+  pub flags : SaysFlags words.flags clear head
+  pub version : SaysVersion words.version head
   pub number : SaysNumber words.number words.number_len (number_in head)
   pub len : LengthIs words.length_len head
   pub dst_is : dst ≡ dst_in head
-  pub src_is : src ≡ src_in head
-  pub token_is : token ≡ token_in head
+  pub src_is : SaysSource src head
+  pub token_is : SaysToken token head
 
--- They say a head that can be written: ids have at most 20 bytes, the first byte of a version negotiation seven bits
--- beside its highest, and no other long head version 0, by which a version negotiation is told (RFC 9000, section
--- 17.2.1).
+-- They say a head that can be written: the receiver's id has at most 20 bytes.
 pub record CanWrite (words : SaidWords) (dst src token : List ℕ) (clear : Bool) (head : Header) : Type 0 where
   pub says : Says words dst src token clear head
   pub dst_few : length dst ≤ 20
-  pub src_few : length src ≤ 20
-  pub low : words.flags < 128
-  pub named : words.kind < 4 → 0 < words.version
   pub writable : IsWritable head
 
 -- the bytes that are written: the head's, with so many zeros as its length, and with its fixed bit cleared where that

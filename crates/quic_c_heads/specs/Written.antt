@@ -1,5 +1,5 @@
 -- What the calls answer that write heads.
-use Rattle.std.specs.Prelude.{◌≡◌, ℕ, ◌+◌, ◌-◌, ◌%◌, ◌<◌, Bool, List, ◌++◌, length, drop}
+use Rattle.std.specs.Prelude.{◌≡◌, ℕ, ◌+◌, ◌-◌, ◌/◌, ◌%◌, ◌<◌, ◌≤◌, ◌⊎◌, Bool, List, ◌++◌, length, drop}
 use Rattle.quic_headers.specs.declared.header.Header.{Header}
 use Rattle.quic_c_heads.specs.declared.words.SaidWords.{SaidWords}
 use Rattle.quic_c_heads.specs.Heads.{said_bytes, CanWrite}
@@ -23,6 +23,11 @@ pub record NeedsMore (words : SaidWords) (dst src token : List ℕ) (room : ℕ)
 -- They say no such head.
 abbrev pub SaysNone : SaidWords → List ℕ → List ℕ → List ℕ → Type 0
 SaysNone words dst src token = (clear : Bool) (head : Header) → CanWrite words dst src token clear head → ⊥
+
+-- A byte is no first byte of a short head whose reserved bits are 0: its highest bit is set, or one of those is (RFC
+-- 9000, section 17.3.1).
+abbrev pub HasReserved : ℕ → Type 0
+HasReserved first = (128 ≤ first) ⊎ (0 < first / 8 % 4)
 
 -- the words of a short head by its first byte and its number
 abbrev pub short_words : ℕ → ℕ → SaidWords

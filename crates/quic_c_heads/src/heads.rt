@@ -1,6 +1,6 @@
 //! Heads of packets, with their protection on.
-ghost use Rattle.std.specs.Prelude.{◌≡◌, ◌+◌, ◌<◌, ◌≤◌, ◌⊎◌, ◌↔◌, ◌^◌, ◌∷◌, ℕ, Ok, drop, length, pos, negsuc, slice_index};
-ghost use Rattle.quic_heads.specs.Grammar.{Cut};
+ghost use Rattle.std.specs.Prelude.{◌≡◌, ◌+◌, ◌<◌, ◌≤◌, ◌⊎◌, ◌↔◌, ◌^◌, ◌∷◌, ℕ, List, [], Ok, drop, length, pos, negsuc, slice_index};
+ghost use Rattle.quic_heads.specs.Grammar.{Cut, Head};
 ghost use Rattle.quic_heads.specs.Places.{any_fixed, IsPlaced, IsSeen};
 ghost use Rattle.quic_heads.specs.declared.protected.ProtectedHeader.{ProtectedHeader};
 ghost use Rattle.quic_c_heads.specs.Reading.{answer_word, head_words, kind_word, Told};
@@ -144,4 +144,32 @@ pub extern "C" fn quic_wire_head_read_(
         }
     }
     show(packet, read_head(packet, id_len as usize, versions), head) as i32
+}
+
+/// Where the short head ends that a packet begins with, whose id has `id_len` bytes (RFC 9000, section 17.3); 0 just
+/// where none begins there: no byte or a long head's first byte stands there, the bytes end within the id, or `id_len`
+/// is above 20. The fixed bit isn't looked at.
+#[unsafe(no_mangle)]
+pub extern "C" fn quic_wire_short_read_(packet: &[u8], id_len: u32) -> usize
+    ensures read { 0 < result → (h : ProtectedHeader)
+        × Head (any_fixed id_len []) (length packet.now) packet.now h (drop result packet.now) }
+    ensures short { 0 < result → slice_index packet.now 0 < 128 }
+    ensures within { result ≤ length packet.now }
+    ensures none { result ≡ 0 → (20 < id_len) ⊎ (128 ≤ slice_index packet.now 0)
+        ⊎ ((h : ProtectedHeader) (rest : List ℕ) → Head (any_fixed id_len []) (length packet.now) packet.now h rest → ⊥) }
+{
+    one_reading();
+    are_bytes(packet);
+    if id_len > 20 {
+        return 0;
+    }
+    if let Some(first) = packet.first() {
+        if *first >= 0x80 {
+            return 0;
+        }
+    }
+    match read_head(packet, id_len as usize, &[]) {
+        Ok(places) => places.head_end,
+        Err(_) => 0,
+    }
 }

@@ -29,7 +29,7 @@ pub struct HeadWords {
     pub len: u64,
 }
 
-/// What a head says that is written, beside its ids and its token. What its kind lacks is 0.
+/// What a head says that is written, beside its ids and its token. What its kind lacks isn't looked at.
 #[repr(C)]
 #[derive(Clone, Copy)]
 pub struct SaidWords {
@@ -38,7 +38,7 @@ pub struct SaidWords {
     /// Of 1-RTT 0x20 for the spin bit and 0x04 for the key phase; of a version negotiation the first byte without its
     /// highest bit; of the others and of 1-RTT 0x40 where the fixed bit is clear.
     pub flags: u8,
-    /// How many bytes of the number are written, 1 to 4; Retry and version negotiation have none.
+    /// How many bytes of the number are written, 1 to 4, of all but Retry and version negotiation.
     pub number_len: u8,
     /// How many bytes the length takes, 2 or 4, of Initial, 0-RTT and Handshake.
     pub length_len: u8,

@@ -1,10 +1,10 @@
 //! Heads, written from words into the caller's bytes.
-ghost use Rattle.std.specs.Prelude.{◌≡◌, ◌+◌, ◌%◌, ◌^◌, ◌<◌, ◌≤◌, ◌⊎◌, ◌↔◌, ℕ, [], IsTrue, length, pos, negsuc};
+ghost use Rattle.std.specs.Prelude.{◌≡◌, ◌≢◌, ◌+◌, ◌%◌, ◌^◌, ◌<◌, ◌≤◌, ◌⊎◌, ◌↔◌, ℕ, [], IsTrue, length, pos, negsuc};
 ghost use Rattle.quic_crypto.specs.PacketNumbers.{IsInRange};
 ghost use Rattle.quic_c_heads.specs.Heads.{part_of};
 ghost use Rattle.quic_c_heads.specs.Reading.{kind_word};
-ghost use Rattle.quic_c_heads.specs.Shapes.{first_word, AreParts, IsNumbered, IsPlain, IsShaped};
-ghost use Rattle.quic_c_heads.specs.Written.{short_words, NeedsMore, SaysNone, Wrote};
+ghost use Rattle.quic_c_heads.specs.Shapes.{first_word, AreParts, IsNumbered, IsShaped};
+ghost use Rattle.quic_c_heads.specs.Written.{short_words, HasReserved, NeedsMore, SaysNone, Wrote};
 
 use crate::words::SaidWords;
 use quic_crypto::packet_number::PacketNumber;
@@ -34,31 +34,11 @@ fn is_numbered(said: &SaidWords) -> bool
     requires { said.now.kind ≤ 5 }
     ensures { IsTrue result ↔ IsNumbered said.now }
 {
-    let (kind, len) = (said.kind, said.number_len);
-    if kind == 3 || kind == 5 {
-        return said.number == 0 && len == 0 && said.length_len == 0;
+    if said.kind == 3 || said.kind == 5 {
+        return true;
     }
-    let fits = if kind == 4 {
-        said.length_len == 0
-    } else {
-        said.length_len == 2 || said.length_len == 4
-    };
-    0 < len && len <= 4 && said.number < 1 << 62 && fits
-}
-
-// Whether the flags and the version are those of a head of the kind.
-#[inline(always)]
-fn is_plain(said: &SaidWords) -> bool
-    requires { said.now.kind ≤ 5 }
-    ensures { IsTrue result ↔ IsPlain said.now }
-{
-    match said.kind {
-        4 => {
-            said.flags < 128 && (said.flags % 32 == 0 || said.flags % 32 == 4) && said.version == 0
-        }
-        5 => said.flags < 128 && said.version == 0,
-        _ => said.version != 0 && (said.flags == 0 || said.flags == 64),
-    }
+    let fits = said.kind == 4 || said.length_len == 2 || said.length_len == 4;
+    0 < said.number_len && said.number_len <= 4 && said.number < 1 << 62 && fits
 }
 
 // Whether the ids and the token are those of a head of the kind.
@@ -66,9 +46,7 @@ fn is_plain(said: &SaidWords) -> bool
 fn are_parts(kind: u8, dst: &[u8], src: &[u8], token: &[u8]) -> bool
     ensures { IsTrue result ↔ AreParts kind dst.now src.now token.now }
 {
-    let most_src = if kind == 4 { 0 } else { 20 };
-    let most_token = if kind == 0 { (1 << 62) - 1 } else { 0 };
-    dst.len() <= 20 && src.len() <= most_src && token.len() <= most_token
+    dst.len() <= 20 && (kind == 4 || src.len() <= 20) && (kind != 0 || token.len() < 1 << 62)
 }
 
 // Whether the words, the ids and the token are those of a head of the kind.
@@ -76,7 +54,28 @@ fn are_parts(kind: u8, dst: &[u8], src: &[u8], token: &[u8]) -> bool
 fn is_shaped(said: &SaidWords, dst: &[u8], src: &[u8], token: &[u8]) -> bool
     ensures { IsTrue result ↔ IsShaped said.now dst.now src.now token.now }
 {
-    said.kind <= 5 && is_numbered(said) && is_plain(said) && are_parts(said.kind, dst, src, token)
+    said.kind <= 5
+        && (said.kind >= 4 || said.version != 0)
+        && is_numbered(said)
+        && are_parts(said.kind, dst, src, token)
+}
+
+// The sender's id, of heads that have one.
+#[inline(always)]
+fn source_of<'a>(kind: u8, src: &'a [u8]) -> &'a [u8]
+    ensures has { kind ≢ 4 → result.now ≡ src.now }
+    ensures none { kind ≡ 4 → result.now ≡ [] }
+{
+    if kind == 4 { &[] } else { src }
+}
+
+// The token, of heads that have one.
+#[inline(always)]
+fn token_of<'a>(kind: u8, token: &'a [u8]) -> &'a [u8]
+    ensures has { kind ≡ 0 → result.now ≡ token.now }
+    ensures none { kind ≢ 0 → result.now ≡ [] }
+{
+    if kind == 0 { token } else { &[] }
 }
 
 // The part of a number that is written in one to four bytes.
@@ -96,13 +95,13 @@ fn written_part(number: u64, len: u8) -> PacketNumber
 // What the first byte has beside its type and number.
 #[inline(always)]
 fn first_word(kind: HeadKind, flags: u8) -> u8
-    requires { flags < 128 }
     ensures { result ≡ first_word kind flags }
 {
+    let clear = 64 * (flags / 64 % 2);
     match kind {
-        HeadKind::Short => (flags + 64) % 128,
-        HeadKind::VersionNegotiate => 128 | flags,
-        _ => 128 + (flags + 64) % 128,
+        HeadKind::Short => 64 - clear + 32 * (flags / 32 % 2) + 4 * (flags / 4 % 2),
+        HeadKind::VersionNegotiate => 128 | (flags % 128),
+        _ => 192 - clear,
     }
 }
 
@@ -130,7 +129,8 @@ pub extern "C" fn quic_wire_short_write_(
     ensures wrote { (result ≡ negsuc 3) ⊎ (result ≡ negsuc 0) ⊎ ((count : ℕ) × (result ≡ pos count)
         × Wrote (short_words first number) dst.now [] [] dest.old dest.new count) }
     ensures room { result ≡ negsuc 3 → NeedsMore (short_words first number) dst.now [] [] (length dest.old) }
-    ensures refused { result ≡ negsuc 0 → (128 ≤ first) ⊎ SaysNone (short_words first number) dst.now [] [] }
+    ensures refused { result ≡ negsuc 0 → HasReserved first ⊎ SaysNone (short_words first number) dst.now [] [] }
+    ensures plain { (result ≡ negsuc 0) ⊎ (HasReserved first → ⊥) }
     ensures same { (result ≡ negsuc 3) ⊎ (result ≡ negsuc 0) → dest.new ≡ dest.old }
 {
     let count = (first % 4 + 1) as usize;
@@ -146,12 +146,12 @@ pub extern "C" fn quic_wire_short_write_(
 
 /// Writes the head that the words say with the ids of the receiver and of the sender and the token, with no
 /// protection on it, at the front of `dest` (RFC 9000, section 17), and answers how many bytes it has, at whose end
-/// the number stands. The length of an Initial, 0-RTT or Handshake packet is 0, until `quic_wire_set_len_`. What
-/// stood behind the head stays. It answers -4 where `dest` has fewer bytes; -1 just where they say no head that can
-/// be written: a kind above 5, an id of more than 20 bytes, a number of 2^62 or more or one that is written in no or
-/// more than four bytes, a length of other than 2 or 4 bytes, a token of 2^62 bytes, version 0 in an Initial, 0-RTT,
-/// Handshake or Retry head, which would be a version negotiation (RFC 9000, section 17.2.1), or something that the
-/// kind lacks. Nothing changes then. A version negotiation is written with any low bits of its first byte.
+/// the number stands. The length of an Initial, 0-RTT or Handshake packet is 0, until `quic_wire_set_len_`. What the
+/// kind lacks isn't looked at. What stood behind the head stays. It answers -4 where `dest` has fewer bytes; -1 just
+/// where they say no head that can be written: a kind above 5, an id of more than 20 bytes, a number of 2^62 or more
+/// or one that is written in no or more than four bytes, a length of other than 2 or 4 bytes, a token of 2^62 bytes,
+/// or version 0 in an Initial, 0-RTT, Handshake or Retry head, which would be a version negotiation (RFC 9000, section
+/// 17.2.1). Nothing changes then. A version negotiation is written with any low bits of its first byte.
 #[unsafe(no_mangle)]
 pub extern "C" fn quic_wire_head_write_(
     said: &SaidWords,
@@ -171,13 +171,15 @@ pub extern "C" fn quic_wire_head_write_(
     }
     let kind = kind_of(said.kind);
     let number = written_part(said.number, said.number_len);
+    let source = source_of(said.kind, src);
+    let own = token_of(said.kind, token);
     let head = HeaderRef {
         kind,
         first: first_word(kind, said.flags),
         version: said.version,
         dst_cid: Exact(dst),
-        src_cid: Exact(src),
-        token,
+        src_cid: Exact(source),
+        token: own,
         number: &number,
         length_len: laid_length_len(said),
     };

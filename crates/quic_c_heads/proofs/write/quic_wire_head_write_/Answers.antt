@@ -21,10 +21,10 @@ returns-then-not-fits-clause-room c = λ _.
     let words = c.args.said.now in
     let k = c.kind_of-kind.result in
     let dst : List ℕ = c.args.dst.now in
-    let src : List ℕ = c.args.src.now in
-    let token : List ℕ = c.args.token.now in
+    let src : List ℕ = c.source_of-source.result.now in
+    let token : List ℕ = c.token_of-own.result.now in
     let len : ℕ = c.laid_length_len.result in
-    let is : IsShaped words dst src token = search (rules, c.is_shaped.ensures, c.if-not-is_shaped) in
+    let is : IsShaped words dst c.args.src.now c.args.token.now = search (rules, c.is_shaped.ensures, c.if-not-is_shaped) in
     let number = c.written_part-number.result in
     let small : length c.args.dest.now < laid_size k dst src token number len = elim (cases_lt (length c.args.dest.now) (laid_size k dst src token number len)) [
       | inl less ↦ less
@@ -36,11 +36,11 @@ returns-then-not-fits-clause-room c = λ _.
     let whole : length (laid_said k len words dst src token) ≡ laid_size k dst src token part len =
     laid_length k (first_word k words.flags + type_bits k words.version + number_bits k part) (first_word k words.flags) words.version dst src token part len in
     let same : laid_said k len words dst src token ≡ said_bytes words.length_len (clear_by k words.flags) (head_said k words dst src token) =
-    bytes_said k len words dst src token is c.kind_of-kind.ensures c.laid_length_len.ensures.same in
+    bytes_said k len words dst src token is.numbered c.kind_of-kind.ensures c.laid_length_len.ensures.same in
     record {
       clear = clear_by k words.flags;
       head = head_said k words dst src token;
-      can = can_said k words dst src token is c.kind_of-kind.ensures;
+      can = can_said k words dst c.args.src.now c.args.token.now src token is c.kind_of-kind.ensures c.source_of-source.ensures.has c.token_of-own.ensures.has;
       full = omega (arith, small, size, whole, ap length same);
     }
 
@@ -49,13 +49,13 @@ returns-clause-wrote c =
     let words = c.args.said.now in
     let k = c.kind_of-kind.result in
     let dst : List ℕ = c.args.dst.now in
-    let src : List ℕ = c.args.src.now in
-    let token : List ℕ = c.args.token.now in
+    let src : List ℕ = c.source_of-source.result.now in
+    let token : List ℕ = c.token_of-own.result.now in
     let n : ℕ = c.lay.result in
     let new : List ℕ = c.lay.new.out in
-    let is : IsShaped words dst src token = search (rules, c.is_shaped.ensures, c.if-not-is_shaped) in
+    let is : IsShaped words dst c.args.src.now c.args.token.now = search (rules, c.is_shaped.ensures, c.if-not-is_shaped) in
     let same : laid_said k c.laid_length_len.result words dst src token ≡ said_bytes words.length_len (clear_by k words.flags) (head_said k words dst src token) =
-    bytes_said k c.laid_length_len.result words dst src token is c.kind_of-kind.ensures c.laid_length_len.ensures.same in
+    bytes_said k c.laid_length_len.result words dst src token is.numbered c.kind_of-kind.ensures c.laid_length_len.ensures.same in
     let front : take n new ≡ laid_said k c.laid_length_len.result words dst src token = c.lay.ensures.front
     ∙ laid_as k c.first_word.result c.laid_length_len.result words dst src token c.written_part-number.result c.first_word.ensures c.written_part-number.ensures.value in
     let back : drop n new ≡ drop n c.args.dest.now = c.lay.ensures.back (record { dst = refl; src = refl }) in
@@ -68,7 +68,7 @@ returns-clause-wrote c =
       record {
         clear = clear_by k words.flags;
         head = head_said k words dst src token;
-        can = can_said k words dst src token is c.kind_of-kind.ensures;
+        can = can_said k words dst c.args.src.now c.args.token.now src token is c.kind_of-kind.ensures c.source_of-source.ensures.has c.token_of-own.ensures.has;
         front = all.0;
         count_is = all.1;
       },

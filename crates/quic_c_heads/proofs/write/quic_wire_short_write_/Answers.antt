@@ -6,7 +6,7 @@ use Rattle.quic_base.proofs.PublicLaws.{length-bytes_of}
 use Rattle.quic_headers.proofs.Lays.{stays}
 use Rattle.quic_headers.specs.declared.long_type.HeadKind.TheVariants as kind
 use Rattle.quic_c_heads.specs.Written.{short_words}
-use Rattle.quic_c_heads.proofs.Writing.{can_said, clear_by, head_said, short_bytes, short_shaped, written}
+use Rattle.quic_c_heads.proofs.Writing.{clear_by, head_said, short_bytes, short_can, written}
 use Rattle.quic_c_heads.proofs.write.quic_wire_short_write_.Goals as goal
 
 pub returns-then-dest-dst-clause-room : goal.returns-then-dest-dst-clause-room
@@ -22,7 +22,7 @@ returns-then-dest-dst-clause-room c = λ _.
     record {
       clear = clear_by kind.Short (short_words first number).flags;
       head = head_said kind.Short (short_words first number) dst [] [];
-      can = can_said kind.Short (short_words first number) dst [] [] (short_shaped first number dst low plain small few) refl;
+      can = short_can first number dst small few;
       full = omega (arith, ap length bytes, length-append (first ∷ dst) (bytes_of (first % 4 + 1) number), length-bytes_of (first % 4 + 1) number);
     }
 
@@ -50,7 +50,7 @@ returns-clause-wrote c =
       record {
         clear = clear_by kind.Short (short_words first number).flags;
         head = head_said kind.Short (short_words first number) dst [] [];
-        can = can_said kind.Short (short_words first number) dst [] [] (short_shaped first number dst low plain small few) refl;
+        can = short_can first number dst small few;
         front = all.0;
         count_is = all.1;
       },

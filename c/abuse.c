@@ -419,6 +419,11 @@ static void front_ranges(const uint8_t *payload, size_t len,
   WANT(frame->data == room || left.begin == left.end);
 }
 
+static int is_extension(const quic_wire_frame *frame) {
+  return frame->kind == QUIC_WIRE_ACK_FREQUENCY ||
+         frame->kind == QUIC_WIRE_IMMEDIATE_ACK;
+}
+
 /* The frames of a payload, each read at the front of what is left, are those
  * of an iterator over it. */
 static void front_rubbish(const uint8_t *payload, size_t len) {
@@ -426,20 +431,20 @@ static void front_rubbish(const uint8_t *payload, size_t len) {
   quic_wire_frame frame, entry, want;
   quic_wire_gap gaps[3], before[3];
   size_t at = 0, room = any() % 3, count;
-  int strict = (int)(any() % 2);
+  int how = (int)(any() % 4);
   int64_t n;
-  int answer = strict ? quic_wire_frames_init_strict(&frames, payload, len)
+  int answer = how & QUIC_WIRE_READ_STRICT ? quic_wire_frames_init_strict(&frames, payload, len)
                       : quic_wire_frames_init(&frames, payload, len);
   memset(before, 0xa5, sizeof before);
   do {
     memcpy(gaps, before, sizeof gaps);
     memset(&frame, 0xa5, sizeof frame);
-    n = quic_wire_frame_read(payload + at, len - at, strict, &frame, gaps,
-                             room);
+    n = quic_wire_frame_read(payload + at, len - at, how, &frame, gaps, room);
     if (n < 0)
       break;
     WANT(quic_wire_frames_fill(&frames, payload, len, &want, 1, &count) == 1);
     WANT(n > 0 && (size_t)n == frame.end && frames.offset == at + frame.end);
+    WANT(!(how & QUIC_WIRE_READ_BASIC) || !is_extension(&frame));
     entry = frame;
     count = 0;
     if (frame.kind == QUIC_WIRE_ACK) {
@@ -461,7 +466,12 @@ static void front_rubbish(const uint8_t *payload, size_t len) {
     return;
   }
   WANT(n == QUIC_WIRE_ERR_MALFORMED && answer == 0);
-  WANT(quic_wire_frames_next(&frames, payload, len, &want) == n);
+  if (quic_wire_frames_next(&frames, payload, len, &want) == 1) {
+    WANT(how & QUIC_WIRE_READ_BASIC && is_extension(&want));
+    WANT(quic_wire_error_type(&frame) == want.kind);
+    WANT(quic_wire_error_reason(&frame) == QUIC_WIRE_REASON_INVALID_FRAME_ID);
+    return;
+  }
   WANT(want.begin == at && frame.begin == 0);
   WANT(quic_wire_error_reason(&frame) == quic_wire_error_reason(&want));
   WANT(quic_wire_error_type(&frame) == quic_wire_error_type(&want) ||

@@ -135,7 +135,7 @@ QUIC_WIRE_API int quic_wire_frames_first(quic_wire_frames *frames,
 }
 
 QUIC_WIRE_API int64_t quic_wire_frame_read(const uint8_t *payload,
-                                           size_t payloadlen, int strict,
+                                           size_t payloadlen, int how,
                                            quic_wire_frame *frame,
                                            quic_wire_gap *gaps, size_t room) {
   if ((!payload && payloadlen) || !frame || (!gaps && room))
@@ -144,8 +144,8 @@ QUIC_WIRE_API int64_t quic_wire_frame_read(const uint8_t *payload,
     payload = (const uint8_t *)quic_wire_nothing_();
   if (!gaps)
     gaps = (quic_wire_gap *)quic_wire_nothing_();
-  return quic_wire_frame_read_(payload, payloadlen, strict != 0, frame, gaps,
-                               room);
+  return quic_wire_frame_read_(payload, payloadlen, (uint32_t)how & 3, frame,
+                               gaps, room);
 }
 
 QUIC_WIRE_API uint64_t quic_wire_frame_type(const uint8_t *payload,

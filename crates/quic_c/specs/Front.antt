@@ -1,5 +1,5 @@
 -- The frame at the front of a payload, and the ranges of an ACK as gap and length.
-use Rattle.std.specs.Prelude.{◌≡◌, ℕ, ◌+◌, ◌-◌, ◌<◌, ◌≤◌, List, [], ◌∷◌, length, take, drop, nat_lt, Bool, Option, None, Some, if◌then◌else◌}
+use Rattle.std.specs.Prelude.{◌≡◌, ℕ, ◌+◌, ◌-◌, ◌<◌, ◌≤◌, ◌⊎◌, ◌==◌, ◌||◌, not, true, List, [], ◌∷◌, length, take, drop, nat_lt, Bool, Option, None, Some, if◌then◌else◌}
 use Rattle.quic_frames.specs.declared.frame.Frame.{Frame}
 use Rattle.quic_frames.specs.declared.frame.Frame.TheVariants as frames
 use Rattle.quic_frame_parts.specs.declared.frame.ack.Ack.{Ack}
@@ -52,13 +52,19 @@ abbrev pub ShowsFront : ℕ → Frame → List GapWords → FrameWords → List 
 ShowsFront stop (frames.Ack a) before words after = ShowsAck stop a before words after
 ShowsFront stop frame before words after = (words ≡ shown 0 stop frame) × (after ≡ before)
 
--- The frame at the front is told, as the iterator over the payload gives it. One of PADDING (RFC 9000, section 19.1)
--- stands also for the PADDING that follows, a frame with each byte. What is left begins where it ends.
-pub record ReadsFront (strict : Bool) (payload : List ℕ) (before : List GapWords) (stop : ℕ) (words : FrameWords) (after : List GapWords) : Type 0 where
+-- ACK_FREQUENCY and IMMEDIATE_ACK, whose types are unknown where the extension for ACK frequency wasn't negotiated
+abbrev pub IsExtension : ℕ → Type 0
+IsExtension kind = (kind ≡ 0xaf) ⊎ (kind ≡ 0x1f)
+
+-- The frame at the front is told, as the iterator over the payload gives it, and where just the frames of RFC 9000 and
+-- DATAGRAM count it is one of these. One of PADDING (RFC 9000, section 19.1) stands also for the PADDING that follows, a
+-- frame with each byte. What is left begins where it ends.
+pub record ReadsFront (strict basic : Bool) (payload : List ℕ) (before : List GapWords) (stop : ℕ) (words : FrameWords) (after : List GapWords) : Type 0 where
   pub frame : Frame
   pub next : Way
   pub rest : Way
   pub finds : Finds (first_of strict payload) frame next
+  pub known : (basic ≡ true) × IsExtension (kind_of frame) → ⊥
   pub run : kind_of frame ≡ 0 → (more : ℕ) × PassesPadding next more rest
   pub one : 0 < kind_of frame → rest ≡ next
   pub ends : stop ≡ rest.offset
@@ -69,6 +75,22 @@ pub record TellsNone (strict : Bool) (payload : List ℕ) (words : FrameWords) :
   pub told : Invalid
   pub first : left (first_of strict payload) ≡ Broken told ∷ []
   pub is : words ≡ shown_invalid 0 (type_word told.type) (reason_in told.reason)
+
+-- A frame of that extension stands at the front, and is told as one of an unknown type.
+pub record TellsUnknown (strict : Bool) (payload : List ℕ) (words : FrameWords) : Type 0 where
+  pub frame : Frame
+  pub next : Way
+  pub finds : Finds (first_of strict payload) frame next
+  pub unknown : IsExtension (kind_of frame)
+  pub is : words ≡ shown_invalid 0 (kind_of frame) 2
+
+-- by a word: 1, and 3 and more, whether a type counts in its shortest spelling alone
+abbrev pub is_strict : ℕ → Bool
+is_strict how = not (how == 0 || how == 2)
+
+-- 2 and more, whether the frames of the extension are unknown
+abbrev pub is_basic : ℕ → Bool
+is_basic how = nat_lt 1 how
 
 -- ---- reading on behind a frame
 

@@ -1,12 +1,12 @@
 //! The frame at the front of what is left of a payload, and with an ACK its first ranges as they stand.
-ghost use Rattle.std.specs.Prelude.{◌≡◌, ◌↔◌, ◌⊎◌, ◌<◌, ◌≤◌, ℕ, List, [], Bool, Option, drop, map, IsTrue, pos, negsuc, length, not, ◌==◌, if◌then◌else◌};
+ghost use Rattle.std.specs.Prelude.{◌≡◌, ◌↔◌, ◌⊎◌, ◌<◌, ◌≤◌, ℕ, List, [], Bool, Option, drop, map, IsTrue, pos, negsuc, length, true, if◌then◌else◌};
 ghost use Rattle.quic_frame_parts.specs.Field.{AreBelow};
 ghost use Rattle.quic_frame_parts.specs.Reading.{Gives, varint_at};
 ghost use Rattle.quic_frames.specs.declared.frame.Frame.TheVariants as frames;
 ghost use Rattle.quic_frames.specs.Padding.{PassesPadding};
 ghost use Rattle.quic_frames.specs.Walk.{left, first_of, resumed};
-ghost use Rattle.quic_c.specs.Shown.{kind_of, shown};
-ghost use Rattle.quic_c.specs.Front.{FillsGaps, ShowsAck, ShowsFront, ReadsFront, TellsNone, behind, told_behind};
+ghost use Rattle.quic_c.specs.Shown.{kind_of, shown, shown_invalid};
+ghost use Rattle.quic_c.specs.Front.{FillsGaps, ShowsAck, ShowsFront, IsExtension, ReadsFront, TellsNone, TellsUnknown, is_strict, is_basic, behind, told_behind};
 
 use crate::frames::show_invalid;
 use crate::show::{parts_of, show};
@@ -119,18 +119,57 @@ fn pass_run(iter: &mut Iter<'_>, frame: &Frame<'_>) -> usize
     iter.offset()
 }
 
+// Whether the frame is one of the extension for ACK frequency, where these are unknown.
+#[inline(always)]
+fn is_unknown(basic: bool, frame: &Frame<'_>) -> bool
+    ensures { IsTrue result ↔ (basic ≡ true) × IsExtension (kind_of frame.now) }
+{
+    match frame {
+        Frame::AckFrequency(_) => basic,
+        Frame::ImmediateAck => basic,
+        _ => false,
+    }
+}
+
+// Whether a type counts in its shortest spelling alone, and whether the extension is unknown, by the caller's word.
+#[inline(always)]
+fn ways(how: u32) -> (bool, bool)
+    ensures strict { result.0 ≡ is_strict how }
+    ensures basic { result.1 ≡ is_basic how }
+{
+    (!(how == 0 || how == 2), how > 1)
+}
+
+// What is told of such a frame where its type is unknown.
+#[inline(never)]
+fn show_unknown(kind: u32) -> FrameWords
+    ensures { result ≡ shown_invalid 0 kind 2 }
+{
+    FrameWords {
+        kind: u32::MAX,
+        flags: 2,
+        begin: 0,
+        end: 0,
+        data_offset: 0,
+        data_len: 0,
+        numbers: [u64::from(kind), 0, 0, 0, 0],
+    }
+}
+
 // Reads the frame at the front. There is a copy for each kind of first byte, so that what it can't be isn't looked at.
 #[inline(always)]
 fn read_front<const COPY: usize>(
     payload: &[u8],
     strict: bool,
+    basic: bool,
     out: &mut FrameWords,
     gaps: &mut [GapWords],
 ) -> i64
     ensures answers { (result ≡ negsuc 1) ⊎ (result ≡ negsuc 2)
-        ⊎ ((end : ℕ) × (result ≡ pos end) × ReadsFront strict payload.now gaps.old end out.new gaps.new) }
+        ⊎ ((end : ℕ) × (result ≡ pos end) × ReadsFront strict basic payload.now gaps.old end out.new gaps.new) }
     ensures empty { (result ≡ negsuc 1) ↔ (payload.now ≡ []) }
-    ensures invalid { result ≡ negsuc 2 → TellsNone strict payload.now out.new }
+    ensures invalid { result ≡ negsuc 2 → TellsNone strict payload.now out.new
+        ⊎ (basic ≡ true) × TellsUnknown strict payload.now out.new }
     ensures same { (result ≡ negsuc 1) → out.new ≡ out.old }
     ensures gaps { (result ≡ negsuc 1) ⊎ (result ≡ negsuc 2) → gaps.new ≡ gaps.old }
 {
@@ -143,6 +182,10 @@ fn read_front<const COPY: usize>(
     match iter.next() {
         None => -2,
         Some(Ok(frame)) => {
+            if is_unknown(basic, &frame) {
+                *out = show_unknown(parts_of(&frame).kind);
+                return -3;
+            }
             let end = pass_run(&mut iter, &frame);
             *out = show_front(end, &frame, gaps);
             end as i64
@@ -156,48 +199,58 @@ fn read_front<const COPY: usize>(
 
 // An ACK, or what else begins as one, by a call.
 #[inline(never)]
-fn read_ack(payload: &[u8], strict: bool, out: &mut FrameWords, gaps: &mut [GapWords]) -> i64
-    ensures answers { (result ≡ negsuc 1) ⊎ (result ≡ negsuc 2)
-        ⊎ ((end : ℕ) × (result ≡ pos end) × ReadsFront strict payload.now gaps.old end out.new gaps.new) }
-    ensures empty { (result ≡ negsuc 1) ↔ (payload.now ≡ []) }
-    ensures invalid { result ≡ negsuc 2 → TellsNone strict payload.now out.new }
-    ensures same { (result ≡ negsuc 1) → out.new ≡ out.old }
-    ensures gaps { (result ≡ negsuc 1) ⊎ (result ≡ negsuc 2) → gaps.new ≡ gaps.old }
-{
-    if !payload.is_empty() && payload[0] & 0xfe == 0x02 {
-        return read_front::<0>(payload, strict, out, gaps);
-    }
-    read_front::<1>(payload, strict, out, gaps)
-}
-
-/// Reads the frame at the front of what is left of a payload (RFC 9000, section 19), where a type in another spelling
-/// than its shortest is no frame if `strict` isn't 0 (section 12.4). It answers where the frame ends, with its words,
-/// whose places count from this front; a run of PADDING, a frame with each byte, is one. Of an ACK they tell the
-/// first range, less one, as the length of its data, and the ranges below it are filled into `gaps` as they stand, as
-/// many as there is room for: how many is told as the offset of its data, and `flags` has 4 where there are more. It
-/// answers -2 just where nothing is left; -3 with the type and the reason in `out` where no frame stands at the
-/// front. `out` doesn't change with -2, and `gaps` for an ACK alone.
-#[unsafe(no_mangle)]
-pub extern "C" fn quic_wire_frame_read_(
+fn read_ack(
     payload: &[u8],
-    strict: u32,
+    strict: bool,
+    basic: bool,
     out: &mut FrameWords,
     gaps: &mut [GapWords],
 ) -> i64
     ensures answers { (result ≡ negsuc 1) ⊎ (result ≡ negsuc 2)
-        ⊎ ((end : ℕ) × (result ≡ pos end) × ReadsFront (not (strict == 0)) payload.now gaps.old end out.new gaps.new) }
+        ⊎ ((end : ℕ) × (result ≡ pos end) × ReadsFront strict basic payload.now gaps.old end out.new gaps.new) }
     ensures empty { (result ≡ negsuc 1) ↔ (payload.now ≡ []) }
-    ensures invalid { result ≡ negsuc 2 → TellsNone (not (strict == 0)) payload.now out.new }
+    ensures invalid { result ≡ negsuc 2 → TellsNone strict payload.now out.new
+        ⊎ (basic ≡ true) × TellsUnknown strict payload.now out.new }
+    ensures same { (result ≡ negsuc 1) → out.new ≡ out.old }
+    ensures gaps { (result ≡ negsuc 1) ⊎ (result ≡ negsuc 2) → gaps.new ≡ gaps.old }
+{
+    if !payload.is_empty() && payload[0] & 0xfe == 0x02 {
+        return read_front::<0>(payload, strict, basic, out, gaps);
+    }
+    read_front::<1>(payload, strict, basic, out, gaps)
+}
+
+/// Reads the frame at the front of what is left of a payload (RFC 9000, section 19), where a type in another spelling
+/// than its shortest is no frame if `how` is 1 or from 3 on (section 12.4), and ACK_FREQUENCY and IMMEDIATE_ACK are
+/// unknown types if it is from 2 on. It answers where the frame ends, with its words, whose places count from this
+/// front; a run of PADDING, a frame with each byte, is one. Of an ACK they tell the first range, less one, as the
+/// length of its data, and the ranges below it are filled into `gaps` as they stand, as many as there is room for: how
+/// many is told as the offset of its data, and `flags` has 4 where there are more. It answers -2 just where nothing is
+/// left; -3 with the type and the reason in `out` where no frame stands at the front. `out` doesn't change with -2, and
+/// `gaps` for an ACK alone.
+#[unsafe(no_mangle)]
+pub extern "C" fn quic_wire_frame_read_(
+    payload: &[u8],
+    how: u32,
+    out: &mut FrameWords,
+    gaps: &mut [GapWords],
+) -> i64
+    ensures answers { (result ≡ negsuc 1) ⊎ (result ≡ negsuc 2)
+        ⊎ ((end : ℕ) × (result ≡ pos end) × ReadsFront (is_strict how) (is_basic how) payload.now gaps.old end out.new gaps.new) }
+    ensures empty { (result ≡ negsuc 1) ↔ (payload.now ≡ []) }
+    ensures invalid { result ≡ negsuc 2 → TellsNone (is_strict how) payload.now out.new
+        ⊎ (is_basic how ≡ true) × TellsUnknown (is_strict how) payload.now out.new }
     ensures same { (result ≡ negsuc 1) → out.new ≡ out.old }
     ensures gaps { (result ≡ negsuc 1) ⊎ (result ≡ negsuc 2) → gaps.new ≡ gaps.old }
 {
     if payload.is_empty() {
         return -2;
     }
+    let (strict, basic) = ways(how);
     if payload[0] & 0xf8 == 0x08 {
-        return read_front::<2>(payload, strict != 0, out, gaps);
+        return read_front::<2>(payload, strict, basic, out, gaps);
     }
-    read_ack(payload, strict != 0, out, gaps)
+    read_ack(payload, strict, basic, out, gaps)
 }
 
 /// A payload is read frame by frame, each at the front of what is left: what an iterator gives from a place on is

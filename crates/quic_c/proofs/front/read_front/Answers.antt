@@ -1,4 +1,4 @@
-use Rattle.std.proofs.Common.{◌≡◌, [], ◌∷◌, None, Some, subst, rules}
+use Rattle.std.proofs.Common.{inl, ◌≡◌, [], ◌∷◌, None, Some, subst, rules}
 use Rattle.quic_frame_parts.specs.Reading.{Broken}
 use Rattle.quic_frames.proofs.Items.{all_read}
 use Rattle.quic_frames.specs.Walk.{invalid_of, left, first_of, Advances}
@@ -14,4 +14,4 @@ pub returns-in-Some-Err-clause-invalid : goal.returns-in-Some-Err-clause-invalid
 returns-in-Some-Err-clause-invalid g c =
     let s = subst (λ f. Advances c.in-Some.iter (Some f) c.next.new.self) c.in-Some-Err.field-0-is c.in-Some-Err.ensures.steps in
     let first : left (first_of c.args.strict c.args.payload.now) ≡ Broken (invalid_of c.in-Some-Err.invalid) ∷ [] = rw c.in-Some.ensures.way at s.0 in
-    λ _. record { told = invalid_of c.in-Some-Err.invalid; first = first; is = c.show_invalid.ensures }
+    λ _. inl (record { told = invalid_of c.in-Some-Err.invalid; first = first; is = c.show_invalid.ensures })

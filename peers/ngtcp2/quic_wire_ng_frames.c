@@ -10,20 +10,10 @@
 
 /* ---- Read */
 
-/* The ranges of an ACK as ngtcp2 keeps them: each as the gap above it and how
- * many numbers it has behind its first, both less one. */
-static int ack_of(ngtcp2_ack *dest, const quic_wire_frame *f,
-                  const uint8_t *payload, size_t payloadlen) {
-  quic_wire_ack_ranges left;
-  quic_wire_range r;
-  uint64_t above;
-  size_t n = 0;
-
-  if (quic_wire_ack_ranges_init_unchecked(&left, payload, payloadlen, f) != 0 ||
-      quic_wire_ack_ranges_next(&left, payload, payloadlen, &r) !=
-          QUIC_WIRE_ITEM) {
-    return NGTCP2_ERR_FRAME_ENCODING;
-  }
+/* The ranges of an ACK stand in |dest| already, as ngtcp2 keeps them: each as
+ * the gap above it and how many numbers it has behind its first, both less
+ * one.  Those that there was no room for were looked at, and are left out. */
+static int ack_of(ngtcp2_ack *dest, const quic_wire_frame *f) {
   dest->type = f->flags & QUIC_WIRE_FLAG_ECN ? NGTCP2_FRAME_ACK_ECN
                                              : NGTCP2_FRAME_ACK;
   dest->largest_ack = (int64_t)f->ack.largest;
@@ -32,18 +22,8 @@ static int ack_of(ngtcp2_ack *dest, const quic_wire_frame *f,
   dest->ecn.ect0 = f->ack.ect0;
   dest->ecn.ect1 = f->ack.ect1;
   dest->ecn.ce = f->ack.ce;
-  dest->first_ack_range = r.end - 1 - r.start;
-  while (left.begin != left.end && n < NGTCP2_MAX_ACK_RANGES) {
-    above = r.start;
-    if (quic_wire_ack_ranges_next(&left, payload, payloadlen, &r) !=
-        QUIC_WIRE_ITEM) {
-      return NGTCP2_ERR_FRAME_ENCODING;
-    }
-    dest->ranges[n].gap = above - r.end - 1;
-    dest->ranges[n].len = r.end - 1 - r.start;
-    ++n;
-  }
-  dest->rangecnt = n;
+  dest->first_ack_range = f->datalen;
+  dest->rangecnt = f->data;
   return 0;
 }
 
@@ -102,7 +82,7 @@ static int numbers_of(ngtcp2_frame *dest, const quic_wire_frame *f,
   case QUIC_WIRE_PATH_RESPONSE:
     memcpy(dest->path_challenge.data, payload + f->end - 8, 8);
     return 0;
-  default: /* IMMEDIATE_ACK and ACK_FREQUENCY, which ngtcp2 doesn't know */
+  default: /* none: IMMEDIATE_ACK and ACK_FREQUENCY are unknown types here */
     return NGTCP2_ERR_FRAME_ENCODING;
   }
 }
@@ -117,11 +97,11 @@ static int numbers_of(ngtcp2_frame *dest, const quic_wire_frame *f,
 
 /* What |f|, read of |payload|, is to ngtcp2. */
 OUT_OF_LINE static int frame_of(ngtcp2_frame *dest, const quic_wire_frame *f,
-                                const uint8_t *payload, size_t payloadlen) {
+                                const uint8_t *payload) {
   dest->type = (uint8_t)f->kind;
   switch (f->kind) {
   case QUIC_WIRE_ACK:
-    return ack_of(&dest->ack, f, payload, payloadlen);
+    return ack_of(&dest->ack, f);
   case QUIC_WIRE_CRYPTO:
     dest->crypto.offset = f->crypto.offset;
     data_of(dest->crypto.data, &dest->crypto.datacnt, f, payload);
@@ -159,16 +139,15 @@ OUT_OF_LINE static int frame_of(ngtcp2_frame *dest, const quic_wire_frame *f,
 
 ngtcp2_ssize ngtcp2_pkt_decode_frame(ngtcp2_frame *dest, const uint8_t *payload,
                                      size_t payloadlen) {
-  quic_wire_frames frames = {0, QUIC_WIRE_NO_TYPE, 0, 1}; /* strict */
   quic_wire_frame f;
-  size_t n;
   int rv;
 
-  /* A run of PADDING is one frame to ngtcp2. */
-  rv = payloadlen && payload[0] == NGTCP2_FRAME_PADDING
-           ? quic_wire_frames_fill(&frames, payload, payloadlen, &f, 1, &n)
-           : quic_wire_frames_next(&frames, payload, payloadlen, &f);
-  if (rv != QUIC_WIRE_ITEM) {
+  /* The frame at the front, as ngtcp2 has them: a run of PADDING is one, and the
+   * ranges of an ACK are gap and length, which are written where they go. */
+  if (quic_wire_frame_read(payload, payloadlen,
+                           QUIC_WIRE_READ_STRICT | QUIC_WIRE_READ_BASIC, &f,
+                           (quic_wire_gap *)dest->ack.ranges,
+                           NGTCP2_MAX_ACK_RANGES) < 0) {
     return NGTCP2_ERR_FRAME_ENCODING;
   }
   if (f.kind == QUIC_WIRE_STREAM) {
@@ -181,7 +160,7 @@ ngtcp2_ssize ngtcp2_pkt_decode_frame(ngtcp2_frame *dest, const uint8_t *payload,
     data_of(dest->stream.data, &dest->stream.datacnt, &f, payload);
     return (ngtcp2_ssize)f.end;
   }
-  rv = frame_of(dest, &f, payload, payloadlen);
+  rv = frame_of(dest, &f, payload);
   return rv ? rv : (ngtcp2_ssize)f.end;
 }
 

@@ -87,15 +87,14 @@ ngtcp2_ssize ngtcp2_pkt_decode_hd_long(ngtcp2_pkt_hd *dest, const uint8_t *pkt,
 
 ngtcp2_ssize ngtcp2_pkt_decode_hd_short(ngtcp2_pkt_hd *dest, const uint8_t *pkt,
                                         size_t pktlen, size_t dcidlen) {
-  quic_wire_head h;
+  size_t end = quic_wire_short_read(pkt, pktlen, (uint32_t)dcidlen);
 
-  if (quic_wire_head_read(pkt, pktlen, (uint32_t)dcidlen, NULL, 0, &h) != 0 ||
-      h.kind != QUIC_WIRE_1RTT) {
+  if (end == 0) {
     return NGTCP2_ERR_INVALID_ARGUMENT;
   }
   dest->type = NGTCP2_PKT_1RTT;
-  dest->flags = h.first & QUIC_WIRE_FIXED_BIT ? NGTCP2_PKT_FLAG_NONE
-                                              : NGTCP2_PKT_FLAG_FIXED_BIT_CLEAR;
+  dest->flags = pkt[0] & QUIC_WIRE_FIXED_BIT ? NGTCP2_PKT_FLAG_NONE
+                                             : NGTCP2_PKT_FLAG_FIXED_BIT_CLEAR;
   ngtcp2_cid_init(&dest->dcid, pkt + 1, dcidlen);
   ngtcp2_cid_zero(&dest->scid);
   dest->version = 0;
@@ -104,7 +103,7 @@ ngtcp2_ssize ngtcp2_pkt_decode_hd_short(ngtcp2_pkt_hd *dest, const uint8_t *pkt,
   dest->pkt_numlen = 0;
   dest->token.base = NULL;
   dest->token.len = 0;
-  return (ngtcp2_ssize)(1 + dcidlen);
+  return (ngtcp2_ssize)end;
 }
 
 /*
@@ -160,23 +159,17 @@ int ngtcp2_pkt_decode_version_cid(ngtcp2_version_cid *dest, const uint8_t *data,
 
 /* ---- Written */
 
-/* What a kind lacks is 0. */
+/* One struct for all kinds: what a kind lacks isn't looked at. */
 static quic_wire_said said_of(const ngtcp2_pkt_hd *hd, uint8_t kind) {
-  quic_wire_said said = {kind, 0, 0, 0, 0, 0};
-  if (kind != QUIC_WIRE_1RTT) {
-    said.version = hd->version;
-  }
-  if (kind <= QUIC_WIRE_HANDSHAKE) {
-    said.lengthlen = NGTCP2_PKT_LENGTHLEN;
-  }
-  if (kind != QUIC_WIRE_RETRY) {
-    said.numberlen = (uint8_t)hd->pkt_numlen;
-    said.number = (uint64_t)hd->pkt_num;
-  }
+  quic_wire_said said = {.kind = kind,
+                         .numberlen = (uint8_t)hd->pkt_numlen,
+                         .lengthlen = NGTCP2_PKT_LENGTHLEN,
+                         .version = hd->version,
+                         .number = (uint64_t)hd->pkt_num};
   if (hd->flags & NGTCP2_PKT_FLAG_FIXED_BIT_CLEAR) {
     said.flags |= QUIC_WIRE_FIXED_BIT;
   }
-  if (kind == QUIC_WIRE_1RTT && (hd->flags & NGTCP2_PKT_FLAG_KEY_PHASE)) {
+  if (hd->flags & NGTCP2_PKT_FLAG_KEY_PHASE) {
     said.flags |= QUIC_WIRE_KEY_PHASE;
   }
   return said;

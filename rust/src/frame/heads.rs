@@ -1,4 +1,5 @@
 //! Frames without their data, which the writer puts behind them from where it has them.
+use super::encode::NO_FRAME;
 use super::StreamId;
 use crate::buffer::Buffer;
 use crate::sys::{self, Filled, Room};
@@ -73,8 +74,8 @@ impl StreamMeta {
     /// Where the range is reversed, its end or the stream's number is 2^62 or more, or there is too little room.
     #[inline]
     pub fn encode<B: Buffer + ?Sized>(&self, length: bool, out: &mut B) -> Result<usize, WriteError> {
-        let head = self.head(length)?;
-        out.put(|room| head.write(room))
+        let head = self.head()?;
+        out.put(|room| write(&head, length, room))
     }
 
     /// How many bytes the frame has without its data.
@@ -90,18 +91,18 @@ impl StreamMeta {
     ///
     /// As [`StreamMeta::encode`], but for room.
     pub fn encoded_len(&self, length: bool) -> Result<usize, WriteError> {
-        Ok(self.head(length)?.len())
+        len_of(&self.head()?, length)
     }
 
     #[inline]
-    fn head(&self, length: bool) -> Result<Head, WriteError> {
-        let len = length_of(&self.offsets)?;
+    fn head(&self) -> Result<sys::Frame, WriteError> {
+        let datalen = length_of(&self.offsets)?;
         let (id, start) = (self.id.0, self.offsets.start);
         if id > varint::MAX {
             return Err(WriteError::OutOfRange("a stream's number is 2^62 or more"));
         }
-        let ty = 0x08 | u8::from(start != 0) << 2 | u8::from(length) << 1 | u8::from(self.fin);
-        Ok(Head { ty, numbers: [Some(id), (start != 0).then_some(start), length.then_some(len)] })
+        let flags = u32::from(self.fin);
+        Ok(sys::Frame { kind: 0x08, flags, datalen, numbers: [id, start, 0, 0, 0], ..NO_FRAME })
     }
 }
 
@@ -121,7 +122,7 @@ impl CryptoMeta {
     #[inline]
     pub fn encode<B: Buffer + ?Sized>(&self, out: &mut B) -> Result<usize, WriteError> {
         let head = self.head()?;
-        out.put(|room| head.write(room))
+        out.put(|room| write(&head, true, room))
     }
 
     /// How many bytes the frame has without its data.
@@ -135,13 +136,13 @@ impl CryptoMeta {
     ///
     /// As [`CryptoMeta::encode`], but for room.
     pub fn encoded_len(&self) -> Result<usize, WriteError> {
-        Ok(self.head()?.len())
+        len_of(&self.head()?, true)
     }
 
     #[inline]
-    fn head(&self) -> Result<Head, WriteError> {
-        let (len, start) = (length_of(&self.offsets)?, self.offsets.start);
-        Ok(Head { ty: 0x06, numbers: [Some(start), Some(len), None] })
+    fn head(&self) -> Result<sys::Frame, WriteError> {
+        let datalen = length_of(&self.offsets)?;
+        Ok(sys::Frame { kind: 0x06, datalen, numbers: [0, self.offsets.start, 0, 0, 0], ..NO_FRAME })
     }
 }
 
@@ -161,8 +162,8 @@ impl DatagramMeta {
     /// Where the length is 2^62 or more, or there is too little room.
     #[inline]
     pub fn encode<B: Buffer + ?Sized>(&self, length: bool, out: &mut B) -> Result<usize, WriteError> {
-        let head = self.head(length)?;
-        out.put(|room| head.write(room))
+        let head = self.head()?;
+        out.put(|room| write(&head, length, room))
     }
 
     /// How many bytes the frame has without its data.
@@ -176,49 +177,38 @@ impl DatagramMeta {
     ///
     /// As [`DatagramMeta::encode`], but for room.
     pub fn encoded_len(&self, length: bool) -> Result<usize, WriteError> {
-        Ok(self.head(length)?.len())
+        len_of(&self.head()?, length)
     }
 
     #[inline]
-    fn head(&self, length: bool) -> Result<Head, WriteError> {
-        let len = length_of(&(0..self.len))?;
-        Ok(Head { ty: 0x30 | u8::from(length), numbers: [length.then_some(len), None, None] })
+    fn head(&self) -> Result<sys::Frame, WriteError> {
+        let datalen = length_of(&(0..self.len))?;
+        Ok(sys::Frame { kind: 0x30, datalen, ..NO_FRAME })
     }
 }
 
-fn length_of(offsets: &Range<u64>) -> Result<u64, WriteError> {
+// How many bytes the data are, which end below 2^62.
+fn length_of(offsets: &Range<u64>) -> Result<usize, WriteError> {
     match offsets.end.checked_sub(offsets.start) {
         None => Err(WriteError::OutOfRange("a range of data is reversed")),
         Some(_) if offsets.end > varint::MAX => Err(WriteError::OutOfRange("data end at 2^62 or behind it")),
-        Some(len) => Ok(len),
+        Some(len) => Ok(len as usize),
     }
 }
 
-// The type, and the numbers before the data, which are below 2^62.
-struct Head {
-    ty: u8,
-    numbers: [Option<u64>; 3],
+// Writes a frame up to its data, with their length, which CRYPTO always has, or without.
+#[inline]
+fn write(head: &sys::Frame, length: bool, room: &mut Room) -> Result<(Filled, usize), WriteError> {
+    match sys::frame_head_write(head, !length, room) {
+        Ok(filled) => Ok((filled, filled.len())),
+        Err((sys::NO_ROOM, needed)) => Err(WriteError::NoRoom(needed)),
+        Err(_) => Err(WriteError::OutOfRange("a number is 2^62 or more")),
+    }
 }
 
-impl Head {
-    #[inline]
-    fn len(&self) -> usize {
-        1 + self.numbers.iter().flatten().map(|number| varint::len(*number).unwrap_or(8)).sum::<usize>()
-    }
-
-    #[inline]
-    fn write(&self, room: &mut Room) -> Result<(Filled, usize), WriteError> {
-        let len = self.len();
-        if room.len() < len {
-            return Err(WriteError::NoRoom(len));
-        }
-        let mut filled = sys::byte(self.ty, room);
-        for number in self.numbers.into_iter().flatten() {
-            let Some(written) = sys::varint_write(number, 0, &mut room[filled.len()..]) else {
-                return Err(WriteError::OutOfRange("a number is 2^62 or more"));
-            };
-            filled = filled.then(written);
-        }
-        Ok((filled, filled.len()))
+fn len_of(head: &sys::Frame, length: bool) -> Result<usize, WriteError> {
+    match write(head, length, &mut []) {
+        Err(WriteError::NoRoom(needed)) => Ok(needed),
+        answer => answer.map(|(_, len)| len),
     }
 }

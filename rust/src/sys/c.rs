@@ -30,6 +30,13 @@ extern "C" {
         out_len: usize,
         written: *mut usize,
     ) -> i32;
+    pub fn quic_wire_frame_head_write_(
+        frame: *const Frame,
+        last: u32,
+        out: *mut u8,
+        out_len: usize,
+        written: *mut usize,
+    ) -> i32;
     pub fn quic_wire_canonical_(payload: *const u8, len: usize, dest: *mut u8, room: usize, out: *mut Canon) -> i32;
     pub fn quic_wire_head_read_(
         bytes: *const u8,
@@ -39,6 +46,7 @@ extern "C" {
         versions_len: usize,
         out: *mut Head,
     ) -> i32;
+    pub fn quic_wire_short_read_(packet: *const u8, len: usize, cid_len: u32) -> usize;
     pub fn quic_wire_unprotect_(
         packet: *mut u8,
         len: usize,

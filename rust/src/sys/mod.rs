@@ -41,13 +41,6 @@ impl Filled {
     }
 }
 
-/// Puts a byte at the front of the room, which must have one.
-#[inline]
-pub fn byte(byte: u8, out: &mut Room) -> Filled {
-    out[0].write(byte);
-    Filled(1)
-}
-
 /// Copies bytes to the front of the room, which must be as long, and gives them there.
 pub fn copied<'r>(bytes: &[u8], out: &'r mut Room) -> (Filled, &'r mut [u8]) {
     let front = &mut out[..bytes.len()];
@@ -139,6 +132,17 @@ pub fn frame_write(frame: &Frame, data: &[u8], last: bool, out: &mut Room) -> Re
 }
 
 #[inline]
+pub fn frame_head_write(frame: &Frame, last: bool, out: &mut Room) -> Result<Filled, (i32, usize)> {
+    let (mut written, last) = (0, u32::from(last));
+    let (to, room) = (out.as_mut_ptr().cast::<u8>(), out.len());
+    // SAFETY: `out` gives its own pointer and length; `out` and `written` are borrowed alone. Any words in `frame`
+    // serve: where its data stand isn't looked at. With 0 the first `written` bytes of `out` are initialised. The
+    // library looks at no other memory and keeps no pointer.
+    let answer = unsafe { c::quic_wire_frame_head_write_(frame, last, to, room, &mut written) };
+    wrote(answer, written)
+}
+
+#[inline]
 pub fn canonical(payload: &[u8], out: &mut Room) -> Result<Filled, (i32, Canon)> {
     let mut told = Canon::default();
     let (to, room) = (out.as_mut_ptr().cast::<u8>(), out.len());
@@ -154,6 +158,12 @@ pub fn head_read(bytes: &[u8], cid_len: u32, versions: &[u32], out: &mut Head) -
     // SAFETY: `bytes` and `versions` each give their own pointer and length; `out` is borrowed alone. The library looks
     // at no other memory and keeps no pointer.
     unsafe { c::quic_wire_head_read_(bytes.as_ptr(), bytes.len(), cid_len, first, count, out) }
+}
+
+#[inline]
+pub fn short_read(packet: &[u8], cid_len: u32) -> usize {
+    // SAFETY: `packet` gives its own pointer and length. The library looks at no other memory and keeps no pointer.
+    unsafe { c::quic_wire_short_read_(packet.as_ptr(), packet.len(), cid_len) }
 }
 
 #[inline]

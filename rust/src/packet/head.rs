@@ -98,18 +98,18 @@ impl Head {
     }
 
     /// Where the short header ends that a packet begins with, whose id has `cid_len` bytes: where its number begins. It
-    /// is what [`Head::read`] tells of such a packet as [`Head::header_len`], with fewer instructions; `None` where no
+    /// is what [`Head::read`] tells of such a packet as [`Head::head_end`], with fewer instructions; `None` where no
     /// short header begins there.
     ///
     /// ```
     /// use quic_wire::packet::Head;
     /// let packet = [0x40, 0xaa, 0xbb, 7];
-    /// assert_eq!(Head::short_header_len(&packet, 2), Some(3));
-    /// assert_eq!(Head::short_header_len(&packet, 4), None);
-    /// assert_eq!(Head::short_header_len(&[0xc0, 0xaa, 0xbb, 7], 2), None);
+    /// assert_eq!(Head::short_head_end(&packet, 2), Some(3));
+    /// assert_eq!(Head::short_head_end(&packet, 4), None);
+    /// assert_eq!(Head::short_head_end(&[0xc0, 0xaa, 0xbb, 7], 2), None);
     /// ```
     #[inline]
-    pub fn short_header_len(packet: &[u8], cid_len: usize) -> Option<usize> {
+    pub fn short_head_end(packet: &[u8], cid_len: usize) -> Option<usize> {
         match sys::short_read(packet, u32::try_from(cid_len).ok()?) {
             0 => None,
             end => Some(end),

@@ -130,9 +130,18 @@ int ngtcp2_pkt_decode_version_cid(ngtcp2_version_cid *dest, const uint8_t *data,
                                   size_t datalen, size_t short_dcidlen) {
   quic_wire_head h;
   int supported;
-  int answer = quic_wire_head_read(data, datalen, (uint32_t)short_dcidlen, NULL,
-                                   0, &h);
+  int answer;
 
+  if (quic_wire_short_read(data, datalen, (uint32_t)short_dcidlen)) {
+    dest->version = 0;
+    dest->dcid = data + 1;
+    dest->dcidlen = short_dcidlen;
+    dest->scid = NULL;
+    dest->scidlen = 0;
+    return 0;
+  }
+  answer = quic_wire_head_read(data, datalen, (uint32_t)short_dcidlen, NULL, 0,
+                               &h);
   if (answer == QUIC_WIRE_PACKET_MALFORMED_CID) {
     answer = read_negotiation(&h, data, datalen);
   }
@@ -142,7 +151,7 @@ int ngtcp2_pkt_decode_version_cid(ngtcp2_version_cid *dest, const uint8_t *data,
   dest->version = h.version;
   dest->dcid = quic_wire_dcid(data, &h);
   dest->dcidlen = h.dcidlen;
-  dest->scid = h.kind == QUIC_WIRE_1RTT ? NULL : quic_wire_scid(data, &h);
+  dest->scid = quic_wire_scid(data, &h);
   dest->scidlen = h.scidlen;
   if (h.version == 0) {
     return 0;

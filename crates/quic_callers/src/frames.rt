@@ -1,7 +1,8 @@
 //! Frames that are written and read again: what callers learn from the contracts of both.
-ghost use Rattle.std.specs.Prelude.{◌≡◌, ◌<◌, ◌^◌, true, ℕ, List, IfOk, []};
-ghost use Rattle.quic_frame_parts.specs.Acks.{ranges_left};
+ghost use Rattle.std.specs.Prelude.{◌≡◌, ◌<◌, ◌^◌, true, ℕ, List, IfErr, IfOk, []};
+ghost use Rattle.quic_frame_parts.specs.Acks.{fault_of, ranges_left};
 ghost use Rattle.quic_frame_parts.specs.Field.{AreApart, AreBlocks};
+ghost use Rattle.quic_frame_parts.specs.Refusal.{AreNoBlocks};
 ghost use Rattle.quic_frames.specs.InRange.{CanStand};
 ghost use Rattle.quic_frames.specs.Meaning.{meaning_of};
 
@@ -30,12 +31,13 @@ pub fn written_and_read<'a>(frame: &Frame<'_>, out: &'a mut Vec<u8>) -> Result<F
 }
 
 /// The ranges of an ACK's blocks below its largest number, as they come: they are those that the blocks spell, and
-/// no two of them touch. The largest number must be below 2^62.
+/// no two of them touch; or why the bytes are no blocks. The largest number must be below 2^62.
 pub fn ranges_of_blocks(largest: u64, blocks: &[u8]) -> Result<AckIter<'_>, AckError>
     requires { largest < 2 ^ 62 }
     ensures spelled { IfOk result (λ iter. (ranges : List (ℕ × ℕ)) → AreBlocks largest ranges blocks.now
         → ranges_left iter ≡ ranges) }
     ensures apart { IfOk result (λ iter. AreApart (ranges_left iter)) }
+    ensures refused { IfErr result (λ e. AreNoBlocks largest blocks.now (fault_of e)) }
 {
     laws::one_list_of_ranges();
     let ack = Ack::from_parts(largest, 0, blocks, None)?;

@@ -433,8 +433,9 @@ static void front_rubbish(const uint8_t *payload, size_t len) {
   size_t at = 0, room = any() % 3, count;
   int how = (int)(any() % 4);
   int64_t n;
-  int answer = how & QUIC_WIRE_READ_STRICT ? quic_wire_frames_init_strict(&frames, payload, len)
-                      : quic_wire_frames_init(&frames, payload, len);
+  int answer = how & QUIC_WIRE_READ_STRICT
+                   ? quic_wire_frames_init_strict(&frames, payload, len)
+                   : quic_wire_frames_init(&frames, payload, len);
   memset(before, 0xa5, sizeof before);
   do {
     memcpy(gaps, before, sizeof gaps);

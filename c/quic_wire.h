@@ -162,7 +162,7 @@ extern "C" {
 #define QUIC_WIRE_FLAG_MORE 4 /* ACK: of quic_wire_frame_read, which had no
                                  room for all ranges */
 
-/* How quic_wire_frame_read reads. */
+/* How quic_wire_frame_read reads: one of these, both by |, or 0. */
 #define QUIC_WIRE_READ_STRICT 1
 #define QUIC_WIRE_READ_BASIC 2
 
@@ -554,10 +554,10 @@ QUIC_WIRE_API int quic_wire_frames_first(quic_wire_frames *frames,
  * Reads the frame at the front of what is left of a payload, with no iterator:
  * the caller goes on behind it by what is returned, until nothing is left.
  * |frame|'s places count from |payload|.  A PADDING frame and the bytes of 0
- * behind it are one frame.  With QUIC_WIRE_READ_STRICT in |how| a type that isn't
- * in its shortest encoding is no frame (RFC 9000, section 12.4); with
- * QUIC_WIRE_READ_BASIC ACK_FREQUENCY and IMMEDIATE_ACK are frames of an unknown
- * type, as they are where their extension wasn't negotiated.
+ * behind it are one frame.  |how| is 0 or of these: with QUIC_WIRE_READ_STRICT a
+ * type that isn't in its shortest encoding is no frame (RFC 9000, section 12.4);
+ * with QUIC_WIRE_READ_BASIC ACK_FREQUENCY and IMMEDIATE_ACK are frames of an
+ * unknown type, as they are where their extension wasn't negotiated.
  *
  * Of an ACK |frame->datalen| is its first range, less one, the ranges below it
  * are written to the |room| entries of |gaps| as they stand, and |frame->data|

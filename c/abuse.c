@@ -113,6 +113,10 @@ static void nulls(void) {
   WANT(quic_wire_frame_write(&frame, NULL, 1, 0, out, 8, &n) == INVALID);
   WANT(quic_wire_frame_len(&frame, NULL, 1, 0, &n) == INVALID);
   frame.datalen = 0;
+  WANT(quic_wire_ack_gaps_write(NULL, NULL, 0, out, 8, &n) == INVALID);
+  WANT(quic_wire_ack_gaps_write(&frame, NULL, 1, out, 8, &n) == INVALID);
+  WANT(quic_wire_ack_gaps_write(&frame, NULL, 0, NULL, 8, &n) == INVALID);
+  WANT(quic_wire_ack_gaps_write(&frame, NULL, 0, out, 8, NULL) == INVALID);
   WANT(quic_wire_frame_head_write(NULL, 0, out, 8, &n) == INVALID);
   WANT(quic_wire_frame_head_write(&frame, 0, NULL, 8, &n) == INVALID);
   WANT(quic_wire_frame_head_write(&frame, 0, NULL, 0, &n) ==
@@ -424,6 +428,40 @@ static int is_extension(const quic_wire_frame *frame) {
          frame->kind == QUIC_WIRE_IMMEDIATE_ACK;
 }
 
+/* An ACK that was read, |len| bytes of |payload|, is written by its gaps in its
+ * shortest form, where all of them were told; and not where it goes below 0. */
+static void gaps_written(const uint8_t *payload, size_t len,
+                         const quic_wire_frame *frame,
+                         const quic_wire_gap *gaps) {
+  uint8_t out[128], shortest[128];
+  quic_wire_frame below = *frame;
+  quic_wire_canon canon;
+  size_t n = 0, room = sizeof out, k;
+  int answer;
+  memset(out, 0xa5, sizeof out);
+  below.datalen = (size_t)frame->ack.largest + 1;
+  WANT(quic_wire_ack_gaps_write(&below, gaps, frame->data, out, room, &n) ==
+       INVALID);
+  answer = quic_wire_ack_gaps_write(frame, gaps, frame->data, out, room, &n);
+  if (frame->flags & QUIC_WIRE_FLAG_MORE) {
+    WANT(answer == INVALID && n == 0);
+  } else {
+    WANT(quic_wire_canonical(payload, len, shortest, sizeof shortest, &canon) ==
+         0);
+    WANT(answer == 0 && n == canon.len && !memcmp(out, shortest, n));
+    memset(out, 0xa5, n);
+    room = any() % (canon.len + 1);
+    n = 0;
+    answer = quic_wire_ack_gaps_write(frame, gaps, frame->data, out, room, &n);
+    WANT(n == canon.len &&
+         answer == (room < n ? QUIC_WIRE_ERR_NOBUF : QUIC_WIRE_OK));
+    if (answer == 0)
+      memset(out, 0xa5, n);
+  }
+  for (k = 0; k < sizeof out; k++)
+    WANT(out[k] == 0xa5);
+}
+
 /* The frames of a payload, each read at the front of what is left, are those
  * of an iterator over it. */
 static void front_rubbish(const uint8_t *payload, size_t len) {
@@ -451,6 +489,7 @@ static void front_rubbish(const uint8_t *payload, size_t len) {
     if (frame.kind == QUIC_WIRE_ACK) {
       front_ranges(payload + at, len - at, &frame, gaps, room, &entry);
       count = frame.data;
+      gaps_written(payload + at, (size_t)n, &frame, gaps);
     }
     WANT(count <= room && !memcmp(gaps + count, before + count,
                                   (3 - count) * sizeof *gaps));

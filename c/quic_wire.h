@@ -683,6 +683,24 @@ QUIC_WIRE_API int quic_wire_frame_head_write(const quic_wire_frame *frame,
                                              int last, uint8_t *dest,
                                              size_t destlen, size_t *written);
 
+/*
+ * Writes an ACK in its shortest form at the front of |dest|, as
+ * quic_wire_frame_read tells one: |ack->ack| has the greatest number, the delay
+ * and, where |ack->flags| is QUIC_WIRE_FLAG_ECN and not 0, the counts;
+ * |ack->datalen| is the first range, less one, and the |ngaps| entries of |gaps|
+ * are the ranges below it.  Nothing else of |ack| is looked at but its kind.
+ *
+ * Returns 0, and in |*written| how many bytes were written;
+ * QUIC_WIRE_ERR_NOBUF where |destlen| is less, and in |*written| how many are
+ * needed; QUIC_WIRE_ERR_INVALID_ARGUMENT for NULL, or where they are no ACK: a
+ * range goes below 0, or a number is 2^62 or more.  What stands in |dest| behind
+ * what was written stays, and all of it where nothing was.
+ */
+QUIC_WIRE_API int quic_wire_ack_gaps_write(const quic_wire_frame *ack,
+                                           const quic_wire_gap *gaps,
+                                           size_t ngaps, uint8_t *dest,
+                                           size_t destlen, size_t *written);
+
 /* How many bytes quic_wire_frame_write writes of these: returns 0 with |*len|,
  * or QUIC_WIRE_ERR_INVALID_ARGUMENT where that does. */
 QUIC_WIRE_API int quic_wire_frame_len(const quic_wire_frame *frame,

@@ -34,6 +34,8 @@ int32_t quic_wire_frame_write_(const quic_wire_frame *, const uint8_t *,
                                size_t, uint32_t, uint8_t *, size_t, size_t *);
 int32_t quic_wire_frame_head_write_(const quic_wire_frame *, uint32_t,
                                     uint8_t *, size_t, size_t *);
+int32_t quic_wire_ack_gaps_write_(const quic_wire_frame *, const quic_wire_gap *,
+                                  size_t, uint8_t *, size_t, size_t *);
 int32_t quic_wire_canonical_(const uint8_t *, size_t, uint8_t *, size_t,
                              quic_wire_canon *);
 int32_t quic_wire_head_read_(const uint8_t *, size_t, uint32_t,
@@ -270,6 +272,19 @@ QUIC_WIRE_API int quic_wire_frame_len(const quic_wire_frame *frame,
                                            len)
                    : QUIC_WIRE_ERR_INVALID_ARGUMENT;
   return answer == QUIC_WIRE_ERR_NOBUF ? QUIC_WIRE_OK : answer;
+}
+
+QUIC_WIRE_API int quic_wire_ack_gaps_write(const quic_wire_frame *ack,
+                                           const quic_wire_gap *gaps,
+                                           size_t ngaps, uint8_t *dest,
+                                           size_t destlen, size_t *written) {
+  if (!ack || (!gaps && ngaps) || (!dest && destlen) || !written)
+    return QUIC_WIRE_ERR_INVALID_ARGUMENT;
+  if (!gaps)
+    gaps = (const quic_wire_gap *)quic_wire_nothing_();
+  if (!dest)
+    dest = (uint8_t *)quic_wire_nothing_();
+  return quic_wire_ack_gaps_write_(ack, gaps, ngaps, dest, destlen, written);
 }
 
 QUIC_WIRE_API int quic_wire_canonical(const uint8_t *payload, size_t payloadlen,

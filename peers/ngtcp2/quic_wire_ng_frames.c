@@ -274,28 +274,16 @@ ngtcp2_pkt_encode_new_connection_id_frame(uint8_t *out, size_t outlen,
              NGTCP2_STATELESS_RESET_TOKENLEN);
 }
 
-/* An ACK of a set: its runs are sorted, and ngtcp2's stand the greatest
- * first. */
 ngtcp2_ssize ngtcp2_pkt_encode_ack_frame(uint8_t *out, size_t outlen,
                                          ngtcp2_ack *fr) {
-  quic_wire_range runs[NGTCP2_MAX_ACK_RANGES + 1];
-  const uint64_t counts[] = {fr->ecn.ect0, fr->ecn.ect1, fr->ecn.ce};
-  uint64_t end = (uint64_t)fr->largest_ack + 1;
-  uint64_t start = end - 1 - fr->first_ack_range;
-  size_t n = fr->rangecnt + 1, at = n, len = 0, i;
-  int rv;
-
-  if (n > NGTCP2_MAX_ACK_RANGES + 1) {
-    return NGTCP2_ERR_INVALID_ARGUMENT;
-  }
-  runs[--at] = (quic_wire_range){start, end};
-  for (i = 0; i < fr->rangecnt; ++i) {
-    end = start - fr->ranges[i].gap - 1;
-    start = end - 1 - fr->ranges[i].len;
-    runs[--at] = (quic_wire_range){start, end};
-  }
-  rv = quic_wire_ack_write(fr->ack_delay, runs, n,
-                           fr->type == NGTCP2_FRAME_ACK_ECN ? counts : NULL,
-                           out, outlen, &len);
-  return written(rv, len);
+  const quic_wire_frame f = {
+      .kind = QUIC_WIRE_ACK,
+      .flags = fr->type == NGTCP2_FRAME_ACK_ECN ? QUIC_WIRE_FLAG_ECN : 0,
+      .datalen = fr->first_ack_range,
+      .numbers = {(uint64_t)fr->largest_ack, fr->ack_delay, fr->ecn.ect0,
+                  fr->ecn.ect1, fr->ecn.ce}};
+  size_t n = 0;
+  int rv = quic_wire_ack_gaps_write(&f, (const quic_wire_gap *)fr->ranges,
+                                    fr->rangecnt, out, outlen, &n);
+  return written(rv, n);
 }

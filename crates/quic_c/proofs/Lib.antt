@@ -6,5 +6,6 @@ mod Filling
 mod Fronts
 mod RangeFilling
 mod GapFilling
+mod AckGaps
 mod DataHeads
 mod ReadingOn

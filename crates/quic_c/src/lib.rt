@@ -3,6 +3,7 @@
 //! word may have every value: no export asks for anything.
 #![tactic(auto)]
 
+mod ack_gaps;
 mod acks;
 mod data_heads;
 mod fill;

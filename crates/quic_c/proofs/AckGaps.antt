@@ -1,0 +1,324 @@
+-- ACKs that words say by gap and length: there is one at most, and these are its bytes.
+use Rattle.std.proofs.Common.{◌≡◌, ℕ, zero, suc, ◌+◌, ◌-◌, ◌*◌, ◌<◌, ◌≤◌, ◌^◌, Bool, true, false, ◌⊎◌, inl, inr, List, [], ◌∷◌, ◌++◌, length, refl, sym, ap, subst, ◌∙◌, arith}
+use Rattle.std.specs.Prelude.{Some, None, drop, get_or, slice_index, take, ◌==◌, if◌then◌else◌}
+use Rattle.std.proofs.lemmas.Bool.Decides.{nat_tests}
+use Rattle.std.proofs.lemmas.List.{append-nil, at_drop_more, drop_all, length-append, take-append-drop, take_all, take_more}
+use Rattle.quic_base.specs.Varint.{short, size}
+use Rattle.quic_base.proofs.PublicLaws.{length-short}
+use Rattle.quic_frame_parts.proofs.AckParts.{ack_parts}
+use Rattle.quic_frame_parts.proofs.Putting.{lays_more, lays_none}
+use Rattle.quic_frame_parts.proofs.Spelled.{all_short-append}
+use Rattle.quic_frame_parts.specs.Putting.{Lays}
+use Rattle.quic_frame_parts.specs.Numbers.{AreNumeric, all_short}
+use Rattle.quic_frame_parts.specs.Sets.{ack_type, count_numbers}
+use Rattle.quic_frame_parts.specs.Shortest.{shortest_below, shortest_frame}
+use Rattle.quic_c.specs.declared.words.FrameWords.{FrameWords}
+use Rattle.quic_c.specs.declared.words.GapWords.{GapWords}
+use Rattle.quic_c.specs.AckGaps.{ack_bytes, ack_said, counts_list, counts_said, delay_in, front_numbers, gap_numbers, greatest_in, AreUnder, Fit, IsAck, SaysAck}
+use Rattle.quic_c.specs.Front.{gap_of, gaps_below}
+
+-- ---- the ranges that gaps say
+
+ranges_of : ℕ → List GapWords → List (ℕ × ℕ)
+ranges_of low [] = []
+ranges_of low (g ∷ gaps) = (low - 2 - g.gap - g.len, low - 2 - g.gap) ∷ ranges_of (low - 2 - g.gap - g.len) gaps
+
+under_of : (low : ℕ) (gaps : List GapWords) → Fit low gaps → AreUnder low (ranges_of low gaps)
+unfolding ranges_of
+under_of low [] f = tt
+under_of low (g ∷ gaps) f = let h = f.0 in (omega (arith, h), omega (arith, h), under_of (low - 2 - g.gap - g.len) gaps f.1)
+
+made : (a b x y : ℕ) → a ≡ x → b ≡ y → ◌≡◌ {A = GapWords} (record { gap = a; len = b }) (record { gap = x; len = y })
+made a b x y e f = cc
+
+gaps_of : (low : ℕ) (gaps : List GapWords) → Fit low gaps → gaps ≡ gaps_below low (ranges_of low gaps)
+unfolding ranges_of
+gaps_of low [] f = refl
+gaps_of low (g ∷ gaps) f =
+    let h = f.0 in
+    let top : ℕ = low - 2 - g.gap in
+    let least : ℕ = top - g.len in
+    let same : g ≡ gap_of low (least, top) = made g.gap g.len (low - (top + 2)) (top - least) (omega (arith, h)) (omega (arith, h)) in
+    ap (λ (x : GapWords). x ∷ gaps) same ∙ ap (λ (l : List GapWords). gap_of low (least, top) ∷ l) (gaps_of least gaps f.1)
+
+fit_below : (low : ℕ) (below : List (ℕ × ℕ)) → AreUnder low below → Fit low (gaps_below low below)
+fit_below low [] u = tt
+fit_below low (r ∷ ranges) u =
+    let a = u.0 in
+    let b = u.1 in
+    let next : r.0 ≡ low - 2 - (low - (r.1 + 2)) - (r.1 - r.0) = omega (arith, a, b) in
+    (omega (arith, a, b), subst (λ (l : ℕ). Fit l (gaps_below r.0 ranges)) next (fit_below r.0 ranges u.2))
+
+-- ---- their bytes
+
+bytes_below : (low : ℕ) (below : List (ℕ × ℕ)) → shortest_below low below ≡ all_short (gap_numbers (gaps_below low below))
+bytes_below low [] = refl
+bytes_below low (r ∷ ranges) = ap (λ (l : List ℕ). short (low - (r.1 + 2)) ++ (short (r.1 - r.0) ++ l)) (bytes_below r.0 ranges)
+
+many_below : (low : ℕ) (below : List (ℕ × ℕ)) → length below ≡ length (gaps_below low below)
+many_below low [] = refl
+many_below low (r ∷ ranges) = omega (arith, many_below r.0 ranges)
+
+type_by : (flags a b c : ℕ) → (flags ≡ 0) ⊎ (flags ≡ 2)
+    → ack_type (counts_said (if flags == 2 then a ∷ b ∷ c ∷ [] else [])) ≡ (if flags == 2 then 0x03 else 0x02)
+type_by flags a b c e = elim e [
+  | inl none ↦ subst (λ (f : ℕ). ack_type (counts_said (if f == 2 then a ∷ b ∷ c ∷ [] else [])) ≡ (if f == 2 then 0x03 else 0x02)) (sym none) refl
+  | inr some ↦ subst (λ (f : ℕ). ack_type (counts_said (if f == 2 then a ∷ b ∷ c ∷ [] else [])) ≡ (if f == 2 then 0x03 else 0x02)) (sym some) refl
+]
+
+counts_by : (flags a b c : ℕ) → (flags ≡ 0) ⊎ (flags ≡ 2)
+    → count_numbers (counts_said (if flags == 2 then a ∷ b ∷ c ∷ [] else [])) ≡ (if flags == 2 then a ∷ b ∷ c ∷ [] else [])
+counts_by flags a b c e = elim e [
+  | inl none ↦ subst (λ (f : ℕ). count_numbers (counts_said (if f == 2 then a ∷ b ∷ c ∷ [] else [])) ≡ (if f == 2 then a ∷ b ∷ c ∷ [] else [])) (sym none) refl
+  | inr some ↦ subst (λ (f : ℕ). count_numbers (counts_said (if f == 2 then a ∷ b ∷ c ∷ [] else [])) ≡ (if f == 2 then a ∷ b ∷ c ∷ [] else [])) (sym some) refl
+]
+
+-- the bytes of the ACK that words and gaps say
+pub whole : (last : Bool) (words : FrameWords) (gaps : List GapWords) (low : ℕ) (below : List (ℕ × ℕ)) → SaysAck words gaps low below
+    → shortest_frame last (ack_said words low below) ≡ ack_bytes words gaps
+whole last words gaps low below s =
+    let g : ℕ = greatest_in words in
+    let d : ℕ = delay_in words in
+    let counts : List ℕ = counts_list words in
+    let parts = ack_parts last g d (low, g) below (counts_said counts) in
+    let type : ack_type (counts_said counts) ≡ (if words.flags == 2 then 0x03 else 0x02) = type_by words.flags (slice_index words.numbers 2) (slice_index words.numbers 3) (slice_index words.numbers 4) s.flags in
+    let numbers : count_numbers (counts_said counts) ≡ counts = counts_by words.flags (slice_index words.numbers 2) (slice_index words.numbers 3) (slice_index words.numbers 4) s.flags in
+    let count : length below ≡ length gaps = many_below low below ∙ ap length (sym s.gaps_are) in
+    let first : g - low ≡ words.data_len = (let e = s.first in omega (arith, e)) in
+    let bytes : shortest_below low below ≡ all_short (gap_numbers gaps) = bytes_below low below ∙ ap (λ (x : List GapWords). all_short (gap_numbers x)) (sym s.gaps_are) in
+    parts
+    ∙ ap (λ (t : ℕ). all_short (t ∷ g ∷ d ∷ length below ∷ (g - low) ∷ []) ++ (shortest_below low below ++ all_short (count_numbers (counts_said counts)))) type
+    ∙ ap (λ (n : ℕ). all_short ((if words.flags == 2 then 0x03 else 0x02) ∷ g ∷ d ∷ n ∷ (g - low) ∷ []) ++ (shortest_below low below ++ all_short (count_numbers (counts_said counts)))) count
+    ∙ ap (λ (n : ℕ). all_short ((if words.flags == 2 then 0x03 else 0x02) ∷ g ∷ d ∷ length gaps ∷ n ∷ []) ++ (shortest_below low below ++ all_short (count_numbers (counts_said counts)))) first
+    ∙ ap (λ (l : List ℕ). all_short (front_numbers words gaps) ++ (l ++ all_short (count_numbers (counts_said counts)))) bytes
+    ∙ ap (λ (l : List ℕ). all_short (front_numbers words gaps) ++ (all_short (gap_numbers gaps) ++ all_short l)) numbers
+
+pub is_of : (words : FrameWords) (gaps : List GapWords) (low : ℕ) (below : List (ℕ × ℕ)) → SaysAck words gaps low below → IsAck words gaps
+is_of words gaps low below s =
+    let e = s.first in
+    let down : low ≡ greatest_in words - words.data_len = omega (arith, e) in
+    record {
+      kind = s.kind;
+      flags = s.flags;
+      first = omega (arith, e);
+      fit = subst (λ (l : ℕ). Fit l gaps) down (subst (λ (x : List GapWords). Fit low x) (sym s.gaps_are) (fit_below low below s.under));
+      greatest = s.greatest;
+      delay = s.delay;
+      counts = s.counts;
+    }
+
+pub says_of : (words : FrameWords) (gaps : List GapWords) → IsAck words gaps → (low : ℕ) × (below : List (ℕ × ℕ)) × SaysAck words gaps low below
+says_of words gaps i =
+    let low : ℕ = greatest_in words - words.data_len in
+    let f = i.first in (
+      low,
+      ranges_of low gaps,
+      record {
+        kind = i.kind;
+        flags = i.flags;
+        first = omega (arith, f);
+        under = under_of low gaps i.fit;
+        gaps_are = gaps_of low gaps i.fit;
+        greatest = i.greatest;
+        delay = i.delay;
+        counts = i.counts;
+      },
+    )
+
+-- ---- how many bytes these are
+
+pub few : (low : ℕ) (gaps : List GapWords) → Fit low gaps → 2 * length gaps ≤ low
+few low [] f = omega arith
+few low (g ∷ gaps) f = let h = f.0 in let less = few (low - 2 - g.gap - g.len) gaps f.1 in omega (arith, h, less)
+
+pub numeric : (low : ℕ) (gaps : List GapWords) → low < 2 ^ 62 → Fit low gaps → AreNumeric (gap_numbers gaps)
+numeric low [] lt f = tt
+numeric low (g ∷ gaps) lt f =
+    let h = f.0 in (omega (arith, h, lt), (omega (arith, h, lt), numeric (low - 2 - g.gap - g.len) gaps (omega (arith, lt)) f.1))
+
+size_few : (n : ℕ) → size n ≤ 8
+unfolding size
+size_few n = grind (arith, nat_tests)
+
+all_few : (ns : List ℕ) → length (all_short ns) ≤ 8 * length ns
+all_few [] = omega arith
+all_few (n ∷ ns) = omega (arith, length-append (short n) (all_short ns), length-short n, size_few n, all_few ns)
+
+two_each : (gaps : List GapWords) → length (gap_numbers gaps) ≡ 2 * length gaps
+two_each [] = refl
+two_each (g ∷ gaps) = omega (arith, two_each gaps)
+
+three_at_most : (some : Bool) (a b c : ℕ) → length (if some then a ∷ b ∷ c ∷ [] else []) ≤ 3
+three_at_most true a b c = omega arith
+three_at_most false a b c = omega arith
+
+few_counts : (words : FrameWords) → length (counts_list words) ≤ 3
+few_counts words = three_at_most (words.flags == 2) (slice_index words.numbers 2) (slice_index words.numbers 3) (slice_index words.numbers 4)
+
+pub longest : (words : FrameWords) (gaps : List GapWords) → length (ack_bytes words gaps) ≤ 64 + 16 * length gaps
+longest words gaps =
+    let front : List ℕ = all_short (front_numbers words gaps) in
+    let middle : List ℕ = all_short (gap_numbers gaps) in
+    let end : List ℕ = all_short (counts_list words) in
+    omega (
+      arith,
+      length-append front (middle ++ end),
+      length-append middle end,
+      all_few (front_numbers words gaps),
+      all_few (gap_numbers gaps),
+      all_few (counts_list words),
+      two_each gaps,
+      few_counts words,
+    )
+
+-- ---- they are laid
+
+pub laid_two : (a b : ℕ) (old one new : List ℕ) (at place end : ℕ) → Lays (short a) at old place one → Lays (short b) place one end new
+    → Lays (all_short (a ∷ b ∷ [])) at old end new
+laid_two a b old one new at place end x y =
+    subst (λ (l : List ℕ). Lays (short a ++ l) at old end new) (sym (append-nil (short b))) (lays_more (short a) (short b) old one new at place end x y)
+
+pub laid_front : (t g d n f : ℕ) (old one two new : List ℕ) (place stop end : ℕ) → Lays (short t) 0 old place one → Lays (all_short (g ∷ d ∷ [])) place one stop two
+    → Lays (all_short (n ∷ f ∷ [])) stop two end new → Lays (all_short (t ∷ g ∷ d ∷ n ∷ f ∷ [])) 0 old end new
+laid_front t g d n f old one two new place stop end x y z =
+    let behind = lays_more (all_short (g ∷ d ∷ [])) (all_short (n ∷ f ∷ [])) one two new place stop end y z in
+    lays_more (short t) (all_short (g ∷ d ∷ n ∷ f ∷ [])) old one new 0 place end x
+    (subst (λ (l : List ℕ). Lays l place one end new) (sym (all_short-append (g ∷ d ∷ []) (n ∷ f ∷ []))) behind)
+
+pub laid_counts : (words : FrameWords) (old one new : List ℕ) (at place end : ℕ) → words.flags ≡ 2
+    → Lays (all_short (slice_index words.numbers 2 ∷ slice_index words.numbers 3 ∷ [])) at old place one → Lays (short (slice_index words.numbers 4)) place one end new
+    → Lays (all_short (counts_list words)) at old end new
+laid_counts words old one new at place end two x y =
+    let a : ℕ = slice_index words.numbers 2 in
+    let b : ℕ = slice_index words.numbers 3 in
+    let c : ℕ = slice_index words.numbers 4 in
+    let last : Lays (all_short (c ∷ [])) place one end new = subst (λ (l : List ℕ). Lays l place one end new) (sym (append-nil (short c))) y in
+    let all = lays_more (all_short (a ∷ b ∷ [])) (all_short (c ∷ [])) old one new at place end x last in
+    let joined : Lays (all_short (a ∷ b ∷ c ∷ [])) at old end new = subst (λ (l : List ℕ). Lays l at old end new) (sym (all_short-append (a ∷ b ∷ []) (c ∷ []))) all in
+    subst (λ (f : ℕ). Lays (all_short (if f == 2 then a ∷ b ∷ c ∷ [] else [])) at old end new) (sym two) joined
+
+-- ---- gap after gap
+
+abbrev pub none : GapWords
+none = record { gap = 0; len = 0 }
+
+-- what is left fits just where all do
+pub record FitsOn (first : ℕ) (gaps : List GapWords) (i low : ℕ) : Type 0 where
+  pub on : Fit low (drop i gaps) → Fit first gaps
+  pub back : Fit first gaps → Fit low (drop i gaps)
+
+cons_of : (gaps : List GapWords) (i : ℕ) → i < length gaps → drop i gaps ≡ get_or gaps i none ∷ drop (i + 1) gaps
+cons_of gaps i lt = at_drop_more (λ (x : List GapWords). x) gaps i none lt
+
+pub fits_more : (first low : ℕ) (gaps : List GapWords) (i : ℕ) → i < length gaps → (get_or gaps i none).gap + 2 + (get_or gaps i none).len ≤ low → FitsOn first gaps i low
+    → FitsOn first gaps (i + 1) (low - 2 - (get_or gaps i none).gap - (get_or gaps i none).len)
+fits_more first low gaps i lt h inv = record {
+  on = λ f. inv.on (subst (λ (x : List GapWords). Fit low x) (sym (cons_of gaps i lt)) (h, f));
+  back = λ f. (subst (λ (x : List GapWords). Fit low x) (cons_of gaps i lt) (inv.back f)).1;
+}
+
+pub fits_here : (first low : ℕ) (gaps : List GapWords) (i : ℕ) → i < length gaps → FitsOn first gaps i low → Fit first gaps
+    → (get_or gaps i none).gap + 2 + (get_or gaps i none).len ≤ low
+fits_here first low gaps i lt inv f = (subst (λ (x : List GapWords). Fit low x) (cons_of gaps i lt) (inv.back f)).0
+
+pub fits_all : (first low : ℕ) (gaps : List GapWords) (i : ℕ) → length gaps ≤ i → FitsOn first gaps i low → Fit first gaps
+fits_all first low gaps i le inv = inv.on (subst (λ (x : List GapWords). Fit low x) (sym (drop_all i gaps le)) tt)
+
+numbers_append : (a b : List GapWords) → gap_numbers (a ++ b) ≡ gap_numbers a ++ gap_numbers b
+numbers_append [] b = refl
+numbers_append (g ∷ a) b = ap (λ (l : List ℕ). g.gap ∷ g.len ∷ l) (numbers_append a b)
+
+pub gap_more : (gaps : List GapWords) (i : ℕ) → i < length gaps
+    → all_short (gap_numbers (take (i + 1) gaps)) ≡ all_short (gap_numbers (take i gaps)) ++ all_short ((get_or gaps i none).gap ∷ (get_or gaps i none).len ∷ [])
+gap_more gaps i lt =
+    let g : GapWords = get_or gaps i none in
+    ap (λ (x : List GapWords). all_short (gap_numbers x)) (take_more gaps i none lt) ∙ ap all_short (numbers_append (take i gaps) (g ∷ []))
+    ∙ all_short-append (gap_numbers (take i gaps)) (g.gap ∷ g.len ∷ [])
+
+-- so many bytes were counted, and no more than the numbers that were passed
+pub record CountedOn (low : ℕ) (gaps : List GapWords) (i len : ℕ) : Type 0 where
+  pub rest : ℕ
+  pub fit : Fit rest (drop i gaps)
+  pub counted : len ≡ length (all_short (gap_numbers (take i gaps)))
+  pub small : len + rest ≤ low
+
+size_least : (n : ℕ) → size n ≤ n + 1
+unfolding size
+size_least n = grind (arith, nat_tests)
+
+two_long : (a b : ℕ) → length (all_short (a ∷ b ∷ [])) ≡ size a + size b
+two_long a b = omega (arith, length-append (short a) (short b ++ []), length-append (short b) [], length-short a, length-short b)
+
+pub counted_here : (low : ℕ) (gaps : List GapWords) (i len : ℕ) → i < length gaps → CountedOn low gaps i len
+    → (get_or gaps i none).gap + 2 + (get_or gaps i none).len ≤ low - len
+counted_here low gaps i len lt inv =
+    let h = (subst (λ (x : List GapWords). Fit inv.rest x) (cons_of gaps i lt) inv.fit).0 in
+    let small = inv.small in
+    omega (arith, h, small)
+
+pub counted_more : (low : ℕ) (gaps : List GapWords) (i len : ℕ) → i < length gaps → CountedOn low gaps i len
+    → CountedOn low gaps (i + 1) (len + (size (get_or gaps i none).gap + size (get_or gaps i none).len))
+counted_more low gaps i len lt inv =
+    let g : GapWords = get_or gaps i none in
+    let now = subst (λ (x : List GapWords). Fit inv.rest x) (cons_of gaps i lt) inv.fit in
+    let h = now.0 in
+    let small = inv.small in
+    let counted = inv.counted in
+    record {
+      rest = inv.rest - 2 - g.gap - g.len;
+      fit = now.1;
+      counted = omega (arith, counted, ap length (gap_more gaps i lt), length-append (all_short (gap_numbers (take i gaps))) (all_short (g.gap ∷ g.len ∷ [])), two_long g.gap g.len);
+      small = omega (arith, h, small, size_least g.gap, size_least g.len);
+    }
+
+pub counted_none : (low : ℕ) (gaps : List GapWords) → Fit low gaps → CountedOn low gaps 0 0
+counted_none low gaps f = record { rest = low; fit = f; counted = refl; small = omega arith }
+
+pub counted_all : (low : ℕ) (gaps : List GapWords) (i len : ℕ) → length gaps ≤ i → CountedOn low gaps i len → len ≡ length (all_short (gap_numbers gaps))
+counted_all low gaps i len le inv = inv.counted ∙ ap (λ (x : List GapWords). length (all_short (gap_numbers x))) (take_all i gaps le)
+
+-- so many gaps were laid
+pub record LaidOn (gaps : List GapWords) (at : ℕ) (old : List ℕ) (i end : ℕ) (new : List ℕ) : Type 0 where
+  pub laid : Lays (all_short (gap_numbers (take i gaps))) at old end new
+  pub len : length new ≡ length old
+
+pub laid_none : (gaps : List GapWords) (at : ℕ) (old : List ℕ) → LaidOn gaps at old 0 at old
+laid_none gaps at old = record { laid = lays_none at old; len = refl }
+
+pub laid_more : (gaps : List GapWords) (at i end stop : ℕ) (old one new : List ℕ) → i < length gaps → LaidOn gaps at old i end one
+    → Lays (all_short ((get_or gaps i none).gap ∷ (get_or gaps i none).len ∷ [])) end one stop new → length new ≡ length one → LaidOn gaps at old (i + 1) stop new
+laid_more gaps at i end stop old one new lt inv y same = record {
+  laid = subst (λ (l : List ℕ). Lays l at old stop new) (sym (gap_more gaps i lt))
+      (lays_more (all_short (gap_numbers (take i gaps))) (all_short ((get_or gaps i none).gap ∷ (get_or gaps i none).len ∷ [])) old one new at end stop inv.laid y);
+  len = same ∙ inv.len;
+}
+
+pub laid_all : (gaps : List GapWords) (at i end : ℕ) (old new : List ℕ) → length gaps ≤ i → LaidOn gaps at old i end new → Lays (all_short (gap_numbers gaps)) at old end new
+laid_all gaps at i end old new le inv = subst (λ (x : List GapWords). Lays (all_short (gap_numbers x)) at old end new) (take_all i gaps le) inv.laid
+
+pub numeric_at : (gaps : List GapWords) (i : ℕ) → i < length gaps → AreNumeric (gap_numbers gaps) → ((get_or gaps i none).gap < 2 ^ 62) × ((get_or gaps i none).len < 2 ^ 62)
+numeric_at [] i lt n = absurd (omega (arith, lt))
+numeric_at (g ∷ gaps) zero lt n = (n.0, n.1.0)
+numeric_at (g ∷ gaps) (suc i) lt n = numeric_at gaps i (omega (arith, lt)) n.1.1
+
+-- the next two numbers have room
+pub room_at : (gaps : List GapWords) (at i end : ℕ) (old one : List ℕ) → i < length gaps → at + length (all_short (gap_numbers gaps)) ≤ length old → LaidOn gaps at old i end one
+    → end + length (all_short ((get_or gaps i none).gap ∷ (get_or gaps i none).len ∷ [])) ≤ length one
+room_at gaps at i end old one lt room inv =
+    let g : GapWords = get_or gaps i none in
+    let front : List GapWords = take (i + 1) gaps in
+    let back : List GapWords = drop (i + 1) gaps in
+    let parts : gap_numbers gaps ≡ gap_numbers front ++ gap_numbers back = ap gap_numbers (sym (take-append-drop (i + 1) gaps)) ∙ numbers_append front back in
+    let so_far = inv.laid.count in
+    let same = inv.len in
+    omega (
+      arith,
+      room,
+      so_far,
+      same,
+      ap (λ (l : List ℕ). length (all_short l)) parts,
+      ap length (all_short-append (gap_numbers front) (gap_numbers back)),
+      length-append (all_short (gap_numbers front)) (all_short (gap_numbers back)),
+      ap length (gap_more gaps i lt),
+      length-append (all_short (gap_numbers (take i gaps))) (all_short (g.gap ∷ g.len ∷ [])),
+    )

@@ -1,0 +1,78 @@
+-- ACKs that words say by gap and length (RFC 9000, section 19.3).
+use Rattle.std.specs.Prelude.{◌≡◌, ⊤, ℕ, ◌+◌, ◌-◌, ◌<◌, ◌≤◌, ◌^◌, ◌⊎◌, List, [], ◌∷◌, ◌++◌, length, slice_index, Option, Some, None, ◌==◌, if◌then◌else◌}
+use Rattle.quic_frame_parts.specs.declared.frame.ack.EcnCounts.{EcnCounts}
+use Rattle.quic_frame_parts.specs.Field.{Number, Ranges}
+use Rattle.quic_frame_parts.specs.Numbers.{AreNumeric, all_short}
+use Rattle.quic_frame_parts.specs.Parts.{counts_of, frame_of}
+use Rattle.quic_frame_parts.specs.Payload.{Meaning}
+use Rattle.quic_frame_parts.specs.Table.{Ack}
+use Rattle.quic_c.specs.declared.words.FrameWords.{FrameWords}
+use Rattle.quic_c.specs.declared.words.GapWords.{GapWords}
+use Rattle.quic_c.specs.Front.{gaps_below}
+
+-- the greatest number and the delay
+abbrev pub greatest_in : FrameWords → ℕ
+greatest_in words = slice_index words.numbers 0
+
+abbrev pub delay_in : FrameWords → ℕ
+delay_in words = slice_index words.numbers 1
+
+-- the counts of ECT(0), ECT(1) and ECN-CE, with flag 2
+abbrev pub counts_list : FrameWords → List ℕ
+counts_list words =
+    if words.flags == 2 then slice_index words.numbers 2 ∷ slice_index words.numbers 3 ∷ slice_index words.numbers 4 ∷ [] else []
+
+abbrev pub counts_said : List ℕ → Option EcnCounts
+counts_said (ect0 ∷ ect1 ∷ ce ∷ []) = Some (record { ect0 = ect0; ect1 = ect1; ce = ce })
+counts_said counts = None
+
+-- ranges one below the other, and all below one with the least number low: at least one number stands between two
+abbrev pub AreUnder : ℕ → List (ℕ × ℕ) → Type 0
+AreUnder low [] = ⊤
+AreUnder low (range ∷ ranges) = (range.0 ≤ range.1) × (range.1 + 2 ≤ low) × AreUnder range.0 ranges
+
+-- The words and the gaps say an ACK, whose first range goes down to low, and whose others stand below it.
+pub record SaysAck (words : FrameWords) (gaps : List GapWords) (low : ℕ) (below : List (ℕ × ℕ)) : Type 0 where
+  pub kind : words.kind ≡ 0x02
+  pub flags : (words.flags ≡ 0) ⊎ (words.flags ≡ 2)
+  pub first : low + words.data_len ≡ greatest_in words
+  pub under : AreUnder low below
+  pub gaps_are : gaps ≡ gaps_below low below
+  pub greatest : greatest_in words < 2 ^ 62
+  pub delay : delay_in words < 2 ^ 62
+  pub counts : AreNumeric (counts_list words)
+
+-- the ACK
+abbrev pub ack_said : FrameWords → ℕ → List (ℕ × ℕ) → Meaning
+ack_said words low below =
+    frame_of Ack (Number (greatest_in words) ∷ Number (delay_in words) ∷ Ranges ((low, greatest_in words) ∷ below) ∷ counts_of (counts_said (counts_list words)))
+
+-- ---- No public clause cites what follows.
+
+-- the numbers of gaps, as they stand on the wire
+abbrev pub gap_numbers : List GapWords → List ℕ
+gap_numbers [] = []
+gap_numbers (g ∷ gaps) = g.gap ∷ g.len ∷ gap_numbers gaps
+
+-- the ranges below one with the least number low are numbers from 0 on
+abbrev pub Fit : ℕ → List GapWords → Type 0
+Fit low [] = ⊤
+Fit low (g ∷ gaps) = (g.gap + 2 + g.len ≤ low) × Fit (low - 2 - g.gap - g.len) gaps
+
+-- Such words and gaps say an ACK.
+pub record IsAck (words : FrameWords) (gaps : List GapWords) : Type 0 where
+  pub kind : words.kind ≡ 0x02
+  pub flags : (words.flags ≡ 0) ⊎ (words.flags ≡ 2)
+  pub first : words.data_len ≤ greatest_in words
+  pub fit : Fit (greatest_in words - words.data_len) gaps
+  pub greatest : greatest_in words < 2 ^ 62
+  pub delay : delay_in words < 2 ^ 62
+  pub counts : AreNumeric (counts_list words)
+
+-- their numbers in front of the gaps, with the type first
+abbrev pub front_numbers : FrameWords → List GapWords → List ℕ
+front_numbers words gaps = (if words.flags == 2 then 0x03 else 0x02) ∷ greatest_in words ∷ delay_in words ∷ length gaps ∷ words.data_len ∷ []
+
+-- the bytes that are written
+abbrev pub ack_bytes : FrameWords → List GapWords → List ℕ
+ack_bytes words gaps = all_short (front_numbers words gaps) ++ (all_short (gap_numbers gaps) ++ all_short (counts_list words))

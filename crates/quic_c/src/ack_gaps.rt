@@ -1,0 +1,230 @@
+//! ACKs written by gap and length, as they stand on the wire (RFC 9000, section 19.3).
+ghost use Rattle.std.specs.Prelude.{◌≡◌, ◌⊎◌, ◌↔◌, ◌+◌, ◌<◌, ◌≤◌, ◌^◌, ◌++◌, ◌∷◌, ℕ, List, [], Bool, Ok, Err, IfErr, OnOk, IsTrue, length, pos, negsuc, ◌==◌, if◌then◌else◌};
+ghost use Rattle.quic_base.specs.Varint.{short};
+ghost use Rattle.quic_frame_parts.specs.Numbers.{AreNumeric, all_short};
+ghost use Rattle.quic_frame_parts.specs.Putting.{Lays, Puts};
+ghost use Rattle.quic_frame_parts.specs.Shortest.{shortest_frame};
+ghost use Rattle.quic_c.specs.AckGaps.{ack_bytes, ack_said, counts_list, front_numbers, gap_numbers, Fit, IsAck, SaysAck};
+
+use crate::words::{FrameWords, GapWords};
+use quic_base::coding::lay_array;
+use quic_frame_parts::frame::write::{numbers_len, size_of};
+
+// The type, which tells whether there are counts.
+#[inline(always)]
+fn type_of(ack: &FrameWords) -> u64
+    ensures { result ≡ (if ack.now.flags == 2 then 0x03 else 0x02) }
+{
+    if ack.flags == 2 { 0x03 } else { 0x02 }
+}
+
+// Lays a number in its shortest spelling over the bytes at a place, and answers where it ends.
+#[inline(always)]
+#[tactic(auto, unfolding(quic_base::specs::Varint::short, quic_base::specs::Varint::size, quic_base::specs::Number::bytes_of))]
+fn lay(dest: &mut [u8], at: usize, n: u64) -> usize
+    requires numeric { n < 2 ^ 62 }
+    requires room { at + length (short n) ≤ length dest.old }
+    ensures lays { Lays (short n) at dest.old result dest.new }
+    ensures len { length dest.new ≡ length dest.old }
+{
+    if n < 1 << 6 {
+        lay_array(dest, at, [n as u8])
+    } else if n < 1 << 14 {
+        lay_array(dest, at, ((1 << 14) + n as u16).to_be_bytes())
+    } else if n < 1 << 30 {
+        lay_array(dest, at, ((2 << 30) + n as u32).to_be_bytes())
+    } else {
+        lay_array(dest, at, ((3 << 62) + n).to_be_bytes())
+    }
+}
+
+// Whether all ranges that stand below one with the least number low are numbers from 0 on.
+#[inline(always)]
+fn fit(low: u64, gaps: &[GapWords]) -> bool
+    ensures { IsTrue result ↔ Fit low gaps.now }
+{
+    let mut low = low;
+    for gap in gaps {
+        if low < 2 || gap.gap > low - 2 || gap.len > low - 2 - gap.gap {
+            return false;
+        }
+        low = low - 2 - gap.gap - gap.len;
+    }
+    true
+}
+
+// How many bytes the gaps and lengths have.
+fn gaps_len(low: u64, gaps: &[GapWords]) -> usize
+    requires fit { Fit low gaps.now }
+    requires small { low < 2 ^ 62 }
+    ensures value { result ≡ length (all_short (gap_numbers gaps.now)) }
+    ensures few { result ≤ low }
+{
+    let mut len = 0;
+    for gap in gaps {
+        len += size_of(gap.gap) + size_of(gap.len);
+    }
+    len
+}
+
+// Lays two numbers, one behind the other.
+#[inline(always)]
+fn lay_two(dest: &mut [u8], at: usize, one: u64, other: u64) -> usize
+    requires one { one < 2 ^ 62 }
+    requires other { other < 2 ^ 62 }
+    requires room { at + length (all_short (one ∷ other ∷ [])) ≤ length dest.old }
+    ensures lays { Lays (all_short (one ∷ other ∷ [])) at dest.old result dest.new }
+    ensures len { length dest.new ≡ length dest.old }
+{
+    let at = lay(dest, at, one);
+    lay(dest, at, other)
+}
+
+// Lays the gaps and lengths over the bytes at a place, and answers where they end.
+#[inline(always)]
+fn lay_gaps(dest: &mut [u8], at: usize, gaps: &[GapWords]) -> usize
+    requires numeric { AreNumeric (gap_numbers gaps.now) }
+    requires room { at + length (all_short (gap_numbers gaps.now)) ≤ length dest.old }
+    ensures lays { Lays (all_short (gap_numbers gaps.now)) at dest.old result dest.new }
+    ensures len { length dest.new ≡ length dest.old }
+{
+    let mut at = at;
+    for gap in gaps {
+        at = lay_two(dest, at, gap.gap, gap.len);
+    }
+    at
+}
+
+// Lays the numbers in front of the gaps at the front, the type first.
+#[inline(always)]
+fn lay_front(dest: &mut [u8], ack: &FrameWords, gaps: &[GapWords]) -> usize
+    requires ack { IsAck ack.now gaps.now }
+    requires room { length (all_short (front_numbers ack.now gaps.now)) ≤ length dest.old }
+    ensures lays { Lays (all_short (front_numbers ack.now gaps.now)) 0 dest.old result dest.new }
+    ensures len { length dest.new ≡ length dest.old }
+{
+    let ty = type_of(ack);
+    let at = lay(dest, 0, ty);
+    let at = lay_two(dest, at, ack.numbers[0], ack.numbers[1]);
+    lay_two(dest, at, gaps.len() as u64, ack.data_len as u64)
+}
+
+// Lays the counts, where the words have any.
+#[inline(always)]
+fn lay_counts(dest: &mut [u8], at: usize, ack: &FrameWords) -> usize
+    requires counts { AreNumeric (counts_list ack.now) }
+    requires room { at + length (all_short (counts_list ack.now)) ≤ length dest.old }
+    ensures lays { Lays (all_short (counts_list ack.now)) at dest.old result dest.new }
+    ensures len { length dest.new ≡ length dest.old }
+{
+    if ack.flags != 2 {
+        return at;
+    }
+    let at = lay_two(dest, at, ack.numbers[2], ack.numbers[3]);
+    lay(dest, at, ack.numbers[4])
+}
+
+// How many bytes the ACK has.
+#[inline(never)]
+fn ack_len(ack: &FrameWords, gaps: &[GapWords]) -> usize
+    requires { IsAck ack.now gaps.now }
+    ensures { result ≡ length (ack_bytes ack.now gaps.now) }
+{
+    let ty = type_of(ack);
+    let (greatest, first) = (ack.numbers[0], ack.data_len as u64);
+    let front = [ty, greatest, ack.numbers[1], gaps.len() as u64, first];
+    let counts = if ack.flags == 2 {
+        numbers_len(&[ack.numbers[2], ack.numbers[3], ack.numbers[4]]) as usize
+    } else {
+        0
+    };
+    numbers_len(&front) as usize + gaps_len(greatest - first, gaps) + counts
+}
+
+// Whether so many bytes have room for the ACK, or how many it has. That they have room for the longest numbers is seen
+// first.
+#[inline(always)]
+fn look_for_room(ack: &FrameWords, gaps: &[GapWords], room: usize) -> Result<(), usize>
+    requires { IsAck ack.now gaps.now }
+    ensures fits { OnOk result (length (ack_bytes ack.now gaps.now) ≤ room) }
+    ensures needed { IfErr result (λ n. (n ≡ length (ack_bytes ack.now gaps.now)) × (room < n)) }
+{
+    let sixteens = room / 16;
+    if sixteens >= gaps.len() && sixteens - gaps.len() >= 4 {
+        return Ok(());
+    }
+    let needed = ack_len(ack, gaps);
+    if room < needed { Err(needed) } else { Ok(()) }
+}
+
+// Lays the ACK at the front.
+#[inline(always)]
+fn lay_ack(ack: &FrameWords, gaps: &[GapWords], dest: &mut [u8]) -> Result<usize, usize>
+    requires { IsAck ack.now gaps.now }
+    ensures { Puts result (ack_bytes ack.now gaps.now) dest.old dest.new }
+{
+    look_for_room(ack, gaps, dest.len())?;
+    let at = lay_front(dest, ack, gaps);
+    let at = lay_gaps(dest, at, gaps);
+    Ok(lay_counts(dest, at, ack))
+}
+
+// Whether the words and the gaps say an ACK.
+#[inline(always)]
+fn is_ack(ack: &FrameWords, gaps: &[GapWords]) -> bool
+    ensures { IsTrue result ↔ IsAck ack.now gaps.now }
+{
+    let (greatest, delay, first) = (ack.numbers[0], ack.numbers[1], ack.data_len as u64);
+    if ack.kind != 0x02 || greatest >= 1 << 62 || delay >= 1 << 62 || first > greatest {
+        return false;
+    }
+    has_counts(ack) && fit(greatest - first, gaps)
+}
+
+// Whether the flags say counts or none, and these are numbers.
+#[inline(always)]
+fn has_counts(ack: &FrameWords) -> bool
+    ensures { IsTrue result ↔ ((ack.now.flags ≡ 0) ⊎ (ack.now.flags ≡ 2)) × AreNumeric (counts_list ack.now) }
+{
+    if ack.flags != 2 {
+        return ack.flags == 0;
+    }
+    ack.numbers[2] < 1 << 62 && ack.numbers[3] < 1 << 62 && ack.numbers[4] < 1 << 62
+}
+
+/// Writes an ACK in its shortest spelling at the front of `out`, of words and gaps as `quic_wire_frame_read_` tells
+/// them: the greatest number, the delay and with flag 2 the counts stand in the numbers, the first range, less one, in
+/// the place of the length of data, and the ranges below it, as gap and length, in `gaps`. Nothing else of the words
+/// is looked at but their kind. It answers 0 with how many bytes were written, and what stood behind them stays; -4
+/// with how many are needed where `out` has fewer; -1 just where the words and gaps say no ACK: a range goes below 0,
+/// or a number is 2^62 or more. `out` changes with 0 alone, and `written` not with -1.
+#[unsafe(no_mangle)]
+pub extern "C" fn quic_wire_ack_gaps_write_(
+    ack: &FrameWords,
+    gaps: &[GapWords],
+    out: &mut [u8],
+    written: &mut usize,
+) -> i32
+    ensures answers { (result ≡ pos 0) ⊎ (result ≡ negsuc 3) ⊎ (result ≡ negsuc 0) }
+    ensures wrote { result ≡ pos 0 → (last : Bool) (low : ℕ) (below : List (ℕ × ℕ)) → SaysAck ack.now gaps.now low below
+        → Puts (Ok written.new) (shortest_frame last (ack_said ack.now low below)) out.old out.new }
+    ensures room { result ≡ negsuc 3 → (last : Bool) (low : ℕ) (below : List (ℕ × ℕ)) → SaysAck ack.now gaps.now low below
+        → Puts (Err written.new) (shortest_frame last (ack_said ack.now low below)) out.old out.new }
+    ensures says { (result ≡ negsuc 0) ⊎ ((low : ℕ) × (below : List (ℕ × ℕ)) × SaysAck ack.now gaps.now low below) }
+    ensures refused { result ≡ negsuc 0 → (low : ℕ) (below : List (ℕ × ℕ)) → SaysAck ack.now gaps.now low below → ⊥ }
+    ensures same { (result ≡ negsuc 0) → (written.new ≡ written.old) × (out.new ≡ out.old) }
+{
+    if !is_ack(ack, gaps) {
+        return -1;
+    }
+    match lay_ack(ack, gaps, out) {
+        Ok(len) => {
+            *written = len;
+            0
+        }
+        Err(needed) => {
+            *written = needed;
+            -4
+        }
+    }
+}

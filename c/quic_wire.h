@@ -693,7 +693,8 @@ QUIC_WIRE_API int quic_wire_frame_head_write(const quic_wire_frame *frame,
  * Returns 0, and in |*written| how many bytes were written;
  * QUIC_WIRE_ERR_NOBUF where |destlen| is less, and in |*written| how many are
  * needed; QUIC_WIRE_ERR_INVALID_ARGUMENT for NULL, or where they are no ACK: a
- * range goes below 0, or a number is 2^62 or more.  What stands in |dest| behind
+ * range goes below 0, a number is 2^62 or more, or the flags are others, as with
+ * QUIC_WIRE_FLAG_MORE, where ranges are lacking.  What stands in |dest| behind
  * what was written stays, and all of it where nothing was.
  */
 QUIC_WIRE_API int quic_wire_ack_gaps_write(const quic_wire_frame *ack,

@@ -154,6 +154,8 @@ fn datagrams(random: &mut Random) {
     let sample_len = random.below(17) as usize;
     let mask = [(); 5].map(|()| random.next() as u8);
     let expected = random.number();
+    let short = Head::read(&datagram, cid_len, VERSIONS).ok().filter(Head::is_short).map(|head| head.head_end());
+    assert_eq!(Head::short_head_end(&datagram, cid_len), short);
     let mut opened = datagram.clone();
     let mut cut = Packets::new(&datagram, cid_len, VERSIONS, grease);
     for packet in PacketsMut::new(&mut opened, cid_len, VERSIONS, grease) {

@@ -195,9 +195,10 @@ fn has_counts(ack: &FrameWords) -> bool
 /// Writes an ACK in its shortest spelling at the front of `out`, of words and gaps as `quic_wire_frame_read_` tells
 /// them: the greatest number, the delay and with flag 2 the counts stand in the numbers, the first range, less one, in
 /// the place of the length of data, and the ranges below it, as gap and length, in `gaps`. Nothing else of the words
-/// is looked at but their kind. It answers 0 with how many bytes were written, and what stood behind them stays; -4
-/// with how many are needed where `out` has fewer; -1 just where the words and gaps say no ACK: a range goes below 0,
-/// or a number is 2^62 or more. `out` changes with 0 alone, and `written` not with -1.
+/// is looked at but their kind and flags. It answers 0 with how many bytes were written, and what stood behind them
+/// stays; -4 with how many are needed where `out` has fewer; -1 just where the words and gaps say no ACK: the kind is
+/// another, the flags are neither 0 nor 2, a range goes below 0, or a number is 2^62 or more. `out` changes with 0
+/// alone, and `written` not with -1.
 #[unsafe(no_mangle)]
 pub extern "C" fn quic_wire_ack_gaps_write_(
     ack: &FrameWords,
@@ -208,7 +209,8 @@ pub extern "C" fn quic_wire_ack_gaps_write_(
     ensures answers { (result ≡ pos 0) ⊎ (result ≡ negsuc 3) ⊎ (result ≡ negsuc 0) }
     ensures wrote { result ≡ pos 0 → (last : Bool) (low : ℕ) (below : List (ℕ × ℕ)) → SaysAck ack.now gaps.now low below
         → Puts (Ok written.new) (shortest_frame last (ack_said ack.now low below)) out.old out.new }
-    ensures room { result ≡ negsuc 3 → (last : Bool) (low : ℕ) (below : List (ℕ × ℕ)) → SaysAck ack.now gaps.now low below
+    ensures room { result ≡ negsuc 3 → (last : Bool) (low : ℕ) (below : List (ℕ × ℕ))
+        → SaysAck ack.now gaps.now low below
         → Puts (Err written.new) (shortest_frame last (ack_said ack.now low below)) out.old out.new }
     ensures says { (result ≡ negsuc 0) ⊎ ((low : ℕ) × (below : List (ℕ × ℕ)) × SaysAck ack.now gaps.now low below) }
     ensures refused { result ≡ negsuc 0 → (low : ℕ) (below : List (ℕ × ℕ)) → SaysAck ack.now gaps.now low below → ⊥ }

@@ -557,7 +557,8 @@ QUIC_WIRE_API int quic_wire_frames_first(quic_wire_frames *frames,
  * behind it are one frame.  |how| is 0 or of these: with QUIC_WIRE_READ_STRICT a
  * type that isn't in its shortest encoding is no frame (RFC 9000, section 12.4);
  * with QUIC_WIRE_READ_BASIC ACK_FREQUENCY and IMMEDIATE_ACK are frames of an
- * unknown type, as they are where their extension wasn't negotiated.
+ * unknown type, as they are where their extension wasn't negotiated, but that
+ * one which is broken within its fields is told for that.
  *
  * Of an ACK |frame->datalen| is its first range, less one, the ranges below it
  * are written to the |room| entries of |gaps| as they stand, and |frame->data|

@@ -3,6 +3,8 @@
 pub use crate::error::Error;
 pub use crate::order::WriteOrder;
 pub use crate::parameter::TransportParameterId;
+pub use crate::reading::{known, split_entry};
 pub use crate::record::TransportParameters;
 pub use crate::reserved::{MAX_PAYLOAD_SIZE, ReservedTransportParameter};
 pub use crate::value::{PreferredAddress, Value};
+pub use crate::writing::write_entry;

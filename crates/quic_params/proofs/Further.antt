@@ -1,0 +1,194 @@
+-- Lists of a record with further entries, and the entries of a list.
+use Rattle.std.proofs.Common.{◌≡◌, ◌≢◌, ℕ, zero, suc, ◌+◌, ◌-◌, ◌<◌, ◌≤◌, Bool, true, false, cond, List, [], ◌∷◌, ◌++◌, length, get_or, map, reverse, Ok, refl, sym, ◌∙◌, ap, subst, arith, append_assoc, inl, inr}
+use mathlib.Core.List.{reverse_aux, reverse-reverse}
+use Rattle.std.specs.Prelude.{nat_lt, Contains, All}
+use Rattle.std.specs.List.{flat_map, sum_by}
+use Rattle.std.specs.List.Sorted.{IsPermutation}
+use Rattle.std.proofs.lemmas.List.{append-nil, get_or-map, get_or_append_left, get_or-append-add, length-append}
+use Rattle.std.proofs.lemmas.List.Sorted.{sum_by-IsPermutation, All-permutation}
+use Rattle.std.proofs.lemmas.List.Sums.{sum_by-cons}
+use Rattle.std.proofs.lemmas.Bool.Decides.{nat_tests}
+use Rattle.quic_base.specs.Codec.{Follows}
+use Rattle.quic_base.specs.declared.ids.Side.{Side}
+use Rattle.quic_params.specs.Never.{Never}
+use Rattle.quic_params.specs.declared.parameter.TransportParameterId.{TransportParameterId}
+use Rattle.quic_params.specs.declared.parameter.TransportParameterId.TheVariants.{MaxIdleTimeout}
+use Rattle.quic_params.specs.declared.record.TransportParameters.{TransportParameters}
+use Rattle.quic_params.specs.Table.{row, ids, rows}
+use Rattle.quic_params.specs.Entry.{Entry, Given, IsEntry, IsGiven, Passed, AreEntries, Give}
+use Rattle.quic_params.specs.Meaning.{IsMeant, IsAnswer}
+use Rattle.quic_params.specs.Order.{id_at}
+use Rattle.quic_params.specs.Range.{IsTyped, IsInRange, plain}
+use Rattle.quic_params.specs.Writing.{entry, written_for}
+use Rattle.quic_params.specs.Further.{AreInOrder, IsRecordOf, IsOther, AreOthers, pieces, IsOrderOf}
+use Rattle.quic_params.proofs.Entries.{entry_unique}
+use Rattle.quic_params.proofs.Progress.{entry_some}
+use Rattle.quic_params.proofs.Least.{is_entry}
+use Rattle.quic_params.proofs.Orders.{downward, all_once, downward_below}
+use Rattle.quic_params.proofs.Again.{IsSound, Reads, add, at_itself, all_held, given_after, given_by, gives, is_at, plain_valid, reads_entry, reads_none, reads_parameter, sound_of, times}
+
+-- ---- pieces
+
+abbrev pub piece_at : TransportParameters → List Entry → ℕ → List ℕ
+piece_at p es i = get_or (pieces p es) i []
+
+abbrev bytes_of_entry : Entry → List ℕ
+bytes_of_entry e = entry e.number e.bytes
+
+pub piece_of_row : (p : TransportParameters) (es : List Entry) (i : ℕ) → i < rows → piece_at p es i ≡ written_for p (id_at i)
+piece_of_row p es i lt =
+    let w : List (List ℕ) = map (written_for p) ids in
+    get_or_append_left w (map bytes_of_entry es) [] i lt ∙ get_or-map (written_for p) ids i MaxIdleTimeout [] lt
+
+pub piece_of_other : (p : TransportParameters) (es : List Entry) (j : ℕ) (d : Entry) → j < length es → piece_at p es (rows + j) ≡ bytes_of_entry (get_or es j d)
+piece_of_other p es j d lt =
+    get_or-append-add (map (written_for p) ids) (map bytes_of_entry es) j [] ∙ get_or-map bytes_of_entry es j d [] lt
+
+pub other_at : (es : List Entry) (j : ℕ) (d : Entry) → AreOthers es → j < length es → IsOther (get_or es j d)
+other_at [] j d h lt = absurd (omega (arith, lt))
+other_at (e ∷ es) zero d h lt = h.0
+other_at (e ∷ es) (suc j) d h lt = other_at es j d h.2 (omega (arith, lt))
+
+-- ---- the rows among the indices of an order
+
+abbrev own : List ℕ → List ℕ
+own [] = []
+own (i ∷ os) = cond (nat_lt i rows) (i ∷ own os) (own os)
+
+-- how often the parameter stands at an index, which may be that of a further entry
+abbrev own_at : TransportParameterId → ℕ → ℕ
+own_at id i = cond (nat_lt i rows) (is_at id i) 0
+
+times_cond : (id : TransportParameterId) (t : Bool) (i : ℕ) (os : List ℕ) → times id (cond t (i ∷ os) os) ≡ cond t (is_at id i) 0 + times id os
+times_cond id true i os = refl
+times_cond id false i os = omega arith
+
+times_own : (id : TransportParameterId) (os : List ℕ) → times id (own os) ≡ sum_by (own_at id) os
+times_own id [] = refl
+times_own id (i ∷ os) = times_cond id (nat_lt i rows) i (own os) ∙ ap (λ n. own_at id i + n) (times_own id os) ∙ sym (sum_by-cons (own_at id) i os)
+
+not_below : (n : ℕ) → nat_lt (n + rows) rows ≡ false
+not_below n = grind (arith, nat_tests)
+
+own_downward : (id : TransportParameterId) → sum_by (own_at id) (downward rows) ≡ 1
+own_downward MaxIdleTimeout = refl
+own_downward _ = refl
+
+own_more : (id : TransportParameterId) (n : ℕ) → sum_by (own_at id) (downward (n + rows)) ≡ 1
+own_more id zero = own_downward id
+own_more id (suc n) =
+    let all = sum_by-cons (own_at id) (n + rows) (downward (n + rows)) in
+    let none : own_at id (n + rows) ≡ 0 = ap (λ t. cond t (is_at id (n + rows)) 0) (not_below n) in
+    let next : suc n + rows ≡ suc (n + rows) = omega arith in
+    ap (λ (m : ℕ). sum_by (own_at id) (downward m)) next ∙ all ∙ omega (arith, none, own_more id n)
+
+own_once : (n : ℕ) (order : List ℕ) → IsOrderOf (rows + n) order → (id : TransportParameterId) → times id (own order) ≡ 1
+own_once n order h id =
+    let same : rows + n ≡ n + rows = omega arith in
+    times_own id order ∙ sum_by-IsPermutation (own_at id) (downward (rows + n)) order (all_once (rows + n) order h.width h.each)
+    ∙ ap (λ (m : ℕ). sum_by (own_at id) (downward m)) same ∙ own_more id n
+
+order_within : (n : ℕ) (order : List ℕ) → IsOrderOf n order → All (λ x. x < n) order
+order_within n order h = All-permutation (λ x. x < n) (downward n) order (all_once n order h.width h.each) (downward_below n n (omega arith))
+
+-- ---- what is read of such a list
+
+abbrev below : ℕ → List ℕ → Type 0
+below n [] = Unit {0}
+below n (i ∷ os) = (i < n) × below n os
+
+all_below : (n : ℕ) (os : List ℕ) → All (λ x. x < n) os → below n os
+all_below n [] h = tt
+all_below n (i ∷ os) h = (h zero i (omega arith), all_below n os (λ k d lt. h (suc k) d (omega (arith, lt))))
+
+-- what is given before the others of an order
+abbrev Free : List ℕ → List Given → Type 0
+Free os before = (id : TransportParameterId) → 1 ≤ times id os → IsGiven id before → ⊥
+
+abbrev Once : List ℕ → Type 0
+Once os = (id : TransportParameterId) → times id os ≤ 1
+
+abbrev Then : TransportParameters → List Entry → List ℕ → List ℕ → Type 0
+Then p es os mine = (before : List Given) (front : List ℕ) → Once mine → Free mine before → Reads before front → Reads (given_by p mine before) (front ++ flat_map (piece_at p es) os)
+
+reads_row : (p : TransportParameters) (es : List Entry) (i : ℕ) (os mine : List ℕ) → IsSound p → i < rows → Then p es os mine → Then p es (i ∷ os) (i ∷ mine)
+reads_row p es i os mine s lt rest before front once free r =
+    let o : TransportParameterId = id_at i in
+    let here : 1 ≤ times o (i ∷ mine) = omega (arith, at_itself i) in
+    let x : Reads (add o (gives p o) before) (front ++ written_for p o) = reads_parameter p o before front s (free o here) r in
+    let y : Reads (add o (gives p o) before) (front ++ piece_at p es i) = subst (λ (b : List ℕ). Reads (add o (gives p o) before) (front ++ b)) (sym (piece_of_row p es i lt)) x in
+    let once' : Once mine = λ id. omega (arith, once id) in
+    let free' : Free mine (add o (gives p o) before) = λ id h g.
+    elim (given_after id o (gives p o) before g) [
+      | inl e ↦ let again : 1 ≤ times o mine = subst (λ (j : TransportParameterId). 1 ≤ times j mine) (sym e) h in omega (arith, at_itself i, again, once o)
+      | inr b ↦ free id (omega (arith, h)) b
+    ] in
+    subst (Reads (given_by p mine (add o (gives p o) before))) (append_assoc front (piece_at p es i) (flat_map (piece_at p es) os))
+    (rest (add o (gives p o) before) (front ++ piece_at p es i) once' free' y)
+
+reads_other : (p : TransportParameters) (es : List Entry) (i : ℕ) (os mine : List ℕ) → AreOthers es → rows ≤ i → i < rows + length es → Then p es os mine → Then p es (i ∷ os) mine
+reads_other p es i os mine h le lt rest before front once free r =
+    let j : ℕ = i - rows in
+    let d : Entry = record { number = 0; bytes = [] } in
+    let e : Entry = get_or es j d in
+    let small : j < length es = omega (arith, le, lt) in
+    let is : IsOther e = other_at es j d h small in
+    let at : rows + j ≡ i = omega (arith, le) in
+    let same : piece_at p es i ≡ entry e.number e.bytes = ap (piece_at p es) (sym at) ∙ piece_of_other p es j d small in
+    let x : Reads before (front ++ piece_at p es i) = subst (λ (b : List ℕ). Reads before (front ++ b)) (sym same)
+    (reads_entry before before front (entry e.number e.bytes) e r (is_entry e.number e.bytes is.numeric is.short) (Passed is.unknown refl)) in
+    subst (Reads (given_by p mine before)) (append_assoc front (piece_at p es i) (flat_map (piece_at p es) os)) (rest before (front ++ piece_at p es i) once free x)
+
+reads_either : (t : Bool) (p : TransportParameters) (es : List Entry) (i : ℕ) (os mine : List ℕ) → nat_lt i rows ≡ t → IsSound p → AreOthers es → i < rows + length es → Then p es os mine → Then p es (i ∷ os) (cond t (i ∷ mine) mine)
+reads_either true p es i os mine e s h lt rest = reads_row p es i os mine s (grind (arith, nat_tests)) rest
+reads_either false p es i os mine e s h lt rest = reads_other p es i os mine h (grind (arith, nat_tests)) lt rest
+
+reads_mixed : (p : TransportParameters) (es : List Entry) (os : List ℕ) → IsSound p → AreOthers es → below (rows + length es) os → Then p es os (own os)
+reads_mixed p es [] s h b = λ before front once free r. reads_none before front r
+reads_mixed p es (i ∷ os) s h b = reads_either (nat_lt i rows) p es i os (own os) refl s h b.0 (reads_mixed p es os s h b.1)
+
+pub read_further : (p : TransportParameters) (es : List Entry) (order : List ℕ) → IsSound p → AreOthers es → IsOrderOf (rows + length es) order → IsMeant (plain p) (flat_map (piece_at p es) order)
+read_further p es order s h o =
+    let start : Reads [] [] = record { es = []; list = record { entries = refl; gives = refl } } in
+    let one = own_once (length es) order o in
+    let r = reads_mixed p es order s h (all_below (rows + length es) order (order_within (rows + length es) order o)) [] [] (λ id. omega (arith, one id)) (λ id le g. g) start in
+    record { es = r.es; given = given_by p (own order) []; list = r.list; is_record = record { slots_are = all_held p (own order) one; no_grease = refl; no_order = refl } }
+
+pub answers_further : (side : Side) (p : TransportParameters) (es : List Entry) (order : List ℕ) → IsTyped p → IsInRange side p → AreOthers es → IsOrderOf (rows + length es) order
+    → IsAnswer side (flat_map (piece_at p es) order) (Ok (plain p))
+answers_further side p es order t h others o = (read_further p es order (sound_of side p t h) others o, plain_valid side p h.valid)
+
+-- ---- the entries of a list
+
+-- the first entry of a list
+pub first_entry : (e : Entry) (es : List Entry) (b : List ℕ) → AreInOrder (e ∷ es) b → b ≢ []
+first_entry e es b h nil =
+    let l : 0 ≡ length h.front + length h.back = ap length (sym nil ∙ h.whole) ∙ length-append h.front h.back in
+    omega (arith, entry_some e.number e.bytes h.front h.first)
+
+same_entry : (e d : Entry) → e.number ≡ d.number → e.bytes ≡ d.bytes → e ≡ d
+same_entry e d n b = ap (λ (m : ℕ). record { number = m; bytes = e.bytes }) n ∙ ap (λ (l : List ℕ). record { number = d.number; bytes = l }) b
+
+pub in_order_once : (es fs : List Entry) (b : List ℕ) → AreInOrder es b → AreInOrder fs b → es ≡ fs
+in_order_once [] [] b p q = refl
+in_order_once [] (f ∷ fs) b p q = absurd (first_entry f fs b q p)
+in_order_once (e ∷ es) [] b p q = absurd (first_entry e es b p q)
+in_order_once (e ∷ es) (f ∷ fs) b p q =
+    let u = entry_unique e.number f.number e.bytes f.bytes p.front q.front p.back q.back (sym p.whole ∙ q.whole) p.first q.first in
+    let rest : es ≡ fs = in_order_once es fs p.back p.second (subst (AreInOrder fs) (sym u.3) q.second) in
+    ap (λ (x : Entry). x ∷ es) (same_entry e f u.0 u.1) ∙ ap (λ (l : List Entry). f ∷ l) rest
+
+-- entries, the last first, in front of others
+in_order_from : (es fs : List Entry) (a b : List ℕ) → AreEntries es a → AreInOrder fs b → AreInOrder (reverse_aux es fs) (a ++ b)
+in_order_from [] fs a b p q = subst (AreInOrder fs) (ap (λ l. l ++ b) (sym p)) q
+in_order_from (e ∷ es) fs a b p q =
+    subst (AreInOrder (reverse_aux es (e ∷ fs))) (sym (append_assoc p.front p.back b) ∙ ap (λ l. l ++ b) (sym p.whole))
+    (in_order_from es (e ∷ fs) p.front (p.back ++ b) p.first (record { front = p.back; back = b; whole = refl; first = p.second; second = q }))
+
+pub of_record : (side : Side) (b : List ℕ) (p : TransportParameters) → IsAnswer side b (Ok p) → (es : List Entry) × AreInOrder es b × IsRecordOf es p
+of_record side b p h =
+    let m : IsMeant p b = h.0 in (
+      reverse m.es,
+      subst (AreInOrder (reverse m.es)) (append-nil b) (in_order_from m.es [] b [] m.list.entries refl),
+      record { given = m.given; gives = subst (λ (l : List Entry). Give l m.given) (sym (reverse-reverse m.es)) m.list.gives; is_record = m.is_record },
+    )

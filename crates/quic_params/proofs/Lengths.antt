@@ -1,5 +1,5 @@
 -- How long at most what is written of a record is.
-use Rattle.std.proofs.Common.{◌≡◌, ℕ, ◌*◌, ◌≤◌, List, [], ◌∷◌, ◌++◌, length, length-append, refl, arith}
+use Rattle.std.proofs.Common.{◌≡◌, ℕ, ◌+◌, ◌*◌, ◌≤◌, List, [], ◌∷◌, ◌++◌, length, length-append, refl, arith}
 use Rattle.std.specs.Prelude.{Bool, true, false, cond, Option, Some, None, IfSome}
 use Rattle.std.specs.List.{flat_map}
 use Rattle.std.specs.Net.Addr.{ipv4_octets, ipv6_octets, ipv6_segments}
@@ -78,7 +78,7 @@ kind_below : (k : Kind) (a b : List ℕ) → length a ≤ 77 → length b ≤ 77
 kind_below K.Skipped a b l m = l
 kind_below _ a b l m = m
 
-for_below : (p : TransportParameters) → IsTyped p → (id : TransportParameterId) → length (written_for p id) ≤ 77
+pub for_below : (p : TransportParameters) → IsTyped p → (id : TransportParameterId) → length (written_for p id) ≤ 77
 unfolding written_for
 for_below p t id = kind_below (row id).kind (grease_bytes p.grease_transport_parameter) (piece id (slot p id)) (grease_below p.grease_transport_parameter t.grease) (piece_below id (slot p id) (t.values id))
 
@@ -93,3 +93,10 @@ order_long (Some l) t = t.width
 pub written_below : (p : TransportParameters) → IsTyped p → length (written p) ≤ 1617
 written_below p t =
     omega (arith, all_below (λ i. written_for p (id_at i)) (λ i. for_below p t (id_at i)) (order_of p.write_order), order_long p.write_order t.order)
+
+pub head_below : (number len : ℕ) → length (short number ++ short len) ≤ 16
+head_below number len = omega (arith, short_below number, short_below len, length-append (short number) (short len))
+
+pub whole_below : (number : ℕ) (value : List ℕ) → length (entry number value) ≤ 16 + length value
+whole_below number value =
+    omega (arith, short_below number, short_below (length value), length-append (short number) (short (length value) ++ value), length-append (short (length value)) value)

@@ -1,1 +1,4 @@
 mod Said
+mod Places
+mod Others
+mod Pieces

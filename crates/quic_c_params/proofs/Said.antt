@@ -38,7 +38,7 @@ said_v6 (Some x) a ip octets port s i p f c told there from at =
     ap Some (same_v6 a x (i ∙ same_ip ip (v6_ip x) segments) (p ∙ at) (f ∙ sym told.1) (c ∙ sym told.2))
 
 -- a record by its fields
-plain_is : (p : TransportParameters) → p.grease_transport_parameter ≡ None → p.write_order ≡ None → plain p ≡ p
+pub plain_is : (p : TransportParameters) → p.grease_transport_parameter ≡ None → p.write_order ≡ None → plain p ≡ p
 plain_is p g o =
     ap (λ (w : Option (List ℕ)). record p { grease_transport_parameter = None; write_order = w }) (sym o) ∙ ap (λ (w : Option Reserved). record p { grease_transport_parameter = w }) (sym g)
 

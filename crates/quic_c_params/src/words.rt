@@ -1,4 +1,4 @@
-//! The struct that C sees. Each of its words may hold any value, so nothing can be broken by it.
+//! The structs that C sees. Each of their words may hold any value, so nothing can be broken by them.
 
 /// Transport parameters (RFC 9000, section 18.2). What is absent is 0 in all of its words and bytes, but for the
 /// numbers that have a default: these hold it then.
@@ -67,5 +67,21 @@ pub struct ParamsWords {
     pub preferred_v4: [u8; 4],
 }
 
-// The size that every declaration of this struct in C must have.
+/// An entry of a list of parameters (RFC 9000, section 18).
+#[repr(C)]
+#[derive(Clone, Copy, PartialEq, Eq)]
+pub struct EntryWords {
+    /// Its number, below 2^62.
+    pub id: u64,
+    /// Where its value begins in the bytes that were read.
+    pub value: usize,
+    /// How many bytes its value has. The next entry begins behind them.
+    pub value_len: usize,
+    /// 1 where the record has the parameter, and 0 where it doesn't.
+    pub known: u64,
+}
+
+// The sizes that every declaration of these structs in C must have.
 const _: () = prove!(std::mem::size_of::<ParamsWords>() == 264);
+
+const _: () = prove!(std::mem::size_of::<EntryWords>() == 32);

@@ -203,7 +203,7 @@ fn same_words(a: &ParamsWords, b: &ParamsWords) -> bool
 }
 
 // The record that the words say, where the side reads it back.
-fn said(side: Side, words: &ParamsWords) -> Option<TransportParameters>
+pub(crate) fn said(side: Side, words: &ParamsWords) -> Option<TransportParameters>
     ensures some { IfSome result (λ p. Says words.now p × IsInRange side p × IsAnswer side (written p) (Ok p)) }
     ensures none { IsNone result → (p : TransportParameters) → Says words.now p → IsInRange side p → ⊥ }
 {

@@ -1,21 +1,18 @@
 -- Lists of a record with further entries, and the entries of a list.
 use Rattle.std.proofs.Common.{◌≡◌, ◌≢◌, ℕ, zero, suc, ◌+◌, ◌-◌, ◌<◌, ◌≤◌, Bool, true, false, cond, List, [], ◌∷◌, ◌++◌, length, get_or, map, reverse, Ok, refl, sym, ◌∙◌, ap, subst, arith, append_assoc, inl, inr}
 use mathlib.Core.List.{reverse_aux, reverse-reverse}
-use Rattle.std.specs.Prelude.{nat_lt, Contains, All}
+use Rattle.std.specs.Prelude.{nat_lt, All}
 use Rattle.std.specs.List.{flat_map, sum_by}
-use Rattle.std.specs.List.Sorted.{IsPermutation}
 use Rattle.std.proofs.lemmas.List.{append-nil, get_or-map, get_or_append_left, get_or-append-add, length-append}
 use Rattle.std.proofs.lemmas.List.Sorted.{sum_by-IsPermutation, All-permutation}
 use Rattle.std.proofs.lemmas.List.Sums.{sum_by-cons}
 use Rattle.std.proofs.lemmas.Bool.Decides.{nat_tests}
-use Rattle.quic_base.specs.Codec.{Follows}
 use Rattle.quic_base.specs.declared.ids.Side.{Side}
-use Rattle.quic_params.specs.Never.{Never}
 use Rattle.quic_params.specs.declared.parameter.TransportParameterId.{TransportParameterId}
 use Rattle.quic_params.specs.declared.parameter.TransportParameterId.TheVariants.{MaxIdleTimeout}
 use Rattle.quic_params.specs.declared.record.TransportParameters.{TransportParameters}
-use Rattle.quic_params.specs.Table.{row, ids, rows}
-use Rattle.quic_params.specs.Entry.{Entry, Given, IsEntry, IsGiven, Passed, AreEntries, Give}
+use Rattle.quic_params.specs.Table.{ids, rows}
+use Rattle.quic_params.specs.Entry.{Entry, Given, IsGiven, Passed, AreEntries, Give}
 use Rattle.quic_params.specs.Meaning.{IsMeant, IsAnswer}
 use Rattle.quic_params.specs.Order.{id_at}
 use Rattle.quic_params.specs.Range.{IsTyped, IsInRange, plain}
@@ -88,7 +85,7 @@ own_once n order h id =
     times_own id order ∙ sum_by-IsPermutation (own_at id) (downward (rows + n)) order (all_once (rows + n) order h.width h.each)
     ∙ ap (λ (m : ℕ). sum_by (own_at id) (downward m)) same ∙ own_more id n
 
-order_within : (n : ℕ) (order : List ℕ) → IsOrderOf n order → All (λ x. x < n) order
+pub order_within : (n : ℕ) (order : List ℕ) → IsOrderOf n order → All (λ x. x < n) order
 order_within n order h = All-permutation (λ x. x < n) (downward n) order (all_once n order h.width h.each) (downward_below n n (omega arith))
 
 -- ---- what is read of such a list

@@ -1,0 +1,78 @@
+-- Lists of parameters by their entries, and with further ones: RFC 9000, section 18.
+use Rattle.std.specs.Prelude.{◌≡◌, ℕ, ◌+◌, ◌<◌, ◌≤◌, ◌^◌, ◌⊎◌, List, [], ◌++◌, length, take, drop, Result, Ok, IfOk, IfErr, OnErr}
+use Rattle.quic_base.specs.Codec.{Takes}
+use Rattle.quic_params.specs.Never.{Never}
+use Rattle.quic_params.specs.declared.parameter.TransportParameterId.{TransportParameterId}
+use Rattle.quic_params.specs.declared.record.TransportParameters.{TransportParameters}
+use Rattle.quic_params.specs.Entry.{Entry, IsEntry, IsKnown}
+use Rattle.quic_params.specs.Further.{AreInOrder, AreOthers, IsOrderOf, asked, listed}
+use Rattle.quic_params.specs.Meaning.{IsAnswer}
+use Rattle.quic_params.specs.Table.{rows}
+use Rattle.quic_c_params.specs.declared.words.EntryWords.{EntryWords}
+use Rattle.quic_c_params.specs.declared.words.ParamsWords.{ParamsWords}
+use Rattle.quic_c_params.specs.Written.{CanWrite}
+
+-- 1 where a record has the parameter of this number, and 0 where it doesn't
+abbrev pub TellsKnown : ℕ → ℕ → Type 0
+TellsKnown known number = ((known ≡ 1) × (id : TransportParameterId) × IsKnown id number) ⊎ (known ≡ 0) × ((id : TransportParameterId) → Never (IsKnown id number))
+
+-- The words tell the entry at the front of a list: its number, the place of its value, behind which the next one begins.
+pub record GivesEntry (list : List ℕ) (words : EntryWords) : Type 0 where
+  pub entry : Takes (IsEntry words.id (take words.value_len (drop words.value list))) list (drop (words.value + words.value_len) list)
+  pub within : words.value + words.value_len ≤ length list
+  pub known : TellsKnown words.known words.id
+
+-- Bytes are laid at the front, with what stood behind them, and are counted; or there is less room than that, how much
+-- they need is told, and nothing changes.
+pub record Lies (result : Result ℕ ℕ) (bytes old new : List ℕ) : Type 0 where
+  pub count : IfOk result (λ n. n ≡ length bytes)
+  pub front : IfOk result (λ n. new ≡ bytes ++ drop n old)
+  pub needed : IfErr result (λ n. n ≡ length bytes)
+  pub full : OnErr result (length old < length bytes)
+  pub same : OnErr result (new ≡ old)
+
+-- Bytes stand at the front, with what stood behind them, and are counted.
+pub record Stands (bytes old new : List ℕ) (count : ℕ) : Type 0 where
+  pub count_is : count ≡ length bytes
+  pub front : new ≡ bytes ++ drop count old
+
+-- There is less room than bytes need, and how much that is was told.
+pub record Lacks (bytes old : List ℕ) (needed : ℕ) : Type 0 where
+  pub count_is : needed ≡ length bytes
+  pub full : length old < needed
+
+-- what no index leads to
+abbrev pub any_entry : Entry
+any_entry = record { number = 0; bytes = [] }
+
+-- These are the entries of a list that may stand among those of a record, so many that a byte counts all of them.
+pub record IsFurther (es : List Entry) (list : List ℕ) : Type 0 where
+  pub entries : AreInOrder es list
+  pub others : AreOthers es
+  pub few : rows + length es ≤ 256
+  pub short : length list < 2 ^ 40
+
+-- The words say a record that the side reads back, the list further entries, and the order one of all of them, or none.
+pub record CanList (side : ℕ) (words : ParamsWords) (further order : List ℕ) (p : TransportParameters) (es : List Entry) : Type 0 where
+  pub record_is : CanWrite side words p
+  pub further_are : IsFurther es further
+  pub order_is : IsOrderOf (rows + length es) (asked (rows + length es) order)
+
+-- The list of a record with further entries stands at the front, and the side reads that record of it.
+pub record WroteList (side : ℕ) (words : ParamsWords) (further order old new : List ℕ) (count : ℕ) : Type 0 where
+  pub params : TransportParameters
+  pub es : List Entry
+  pub can : CanList side words further order params es
+  pub stands : Stands (listed params es order) old new count
+  pub read_back : IsAnswer can.record_is.reader (listed params es order) (Ok params)
+
+-- There is less room than that list needs, and how much that is was told.
+pub record ListLacks (side : ℕ) (words : ParamsWords) (further order old : List ℕ) (needed : ℕ) : Type 0 where
+  pub params : TransportParameters
+  pub es : List Entry
+  pub can : CanList side words further order params es
+  pub lacks : Lacks (listed params es order) old needed
+
+-- There is no such list.
+abbrev pub SaysNoList : ℕ → ParamsWords → List ℕ → List ℕ → Type 0
+SaysNoList side words further order = (p : TransportParameters) (es : List Entry) → CanList side words further order p es → ⊥

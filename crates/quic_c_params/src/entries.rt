@@ -1,0 +1,80 @@
+//! The entries of a list of transport parameters, whether a record has them or not (RFC 9000, section 18).
+ghost use Rattle.std.specs.Prelude.{◌≡◌, ◌≢◌, ◌⊎◌, ◌↔◌, ◌<◌, ◌≤◌, ◌^◌, ℕ, [], length, pos, negsuc};
+ghost use Rattle.quic_params.specs.Entry.{IsCut};
+ghost use Rattle.quic_params.specs.Writing.{entry};
+ghost use Rattle.quic_c_params.specs.Lists.{GivesEntry, Lacks, Stands, TellsKnown};
+
+use crate::words::EntryWords;
+use quic_params::transport_parameters::{known, split_entry, write_entry_into};
+
+// Whether a record has the parameter of this number: 1 or 0.
+#[inline(always)]
+fn known_word(number: u64) -> u64
+    ensures { TellsKnown result number }
+{
+    match known(number) {
+        Some(_) => 1,
+        None => 0,
+    }
+}
+
+/// Reads the entry at the front of a list of transport parameters, one that the record has or another (RFC 9000, section
+/// 18). It answers 0 with its number, the place and the length of its value, behind which the next entry begins, and
+/// whether the record has it; -2 just where the list is empty; -3 just where its first entry is cut off. `entry`
+/// changes with 0 alone. Whether the value is one of its kind isn't looked at.
+#[unsafe(no_mangle)]
+pub extern "C" fn quic_wire_param_read_(list: &[u8], entry: &mut EntryWords) -> i32
+    ensures answers { (result ≡ pos 0) ⊎ (result ≡ negsuc 1) ⊎ (result ≡ negsuc 2) }
+    ensures read { result ≡ pos 0 → GivesEntry list.now entry.new }
+    ensures empty { (result ≡ negsuc 1) ↔ (list.now ≡ []) }
+    ensures cut { result ≡ negsuc 2 → IsCut list.now }
+    ensures same { (result ≡ pos 0) ⊎ (entry.new ≡ entry.old) }
+{
+    if list.is_empty() {
+        return -2;
+    }
+    let Some((id, value, rest)) = split_entry(list) else {
+        return -3;
+    };
+    let end = list.len() - rest.len();
+    *entry = EntryWords {
+        id,
+        value: end - value.len(),
+        value_len: value.len(),
+        known: known_word(id),
+    };
+    0
+}
+
+/// Writes an entry in its least widths at the front of `dest`: its number, how many bytes its value has, and these (RFC
+/// 9000, section 18). It answers 0 with how many bytes were written, and what stood behind them stays; -4 with how many
+/// are needed where `dest` has fewer; -1 just where the number, or how many bytes the value has, is 2^62 or more. `dest`
+/// changes with 0 alone, and `written` not with -1.
+#[unsafe(no_mangle)]
+pub extern "C" fn quic_wire_param_write_(
+    id: u64,
+    value: &[u8],
+    dest: &mut [u8],
+    written: &mut usize,
+) -> i32
+    ensures answers { (result ≡ pos 0) ⊎ (result ≡ negsuc 3) ⊎ (result ≡ negsuc 0) }
+    ensures wrote { result ≡ pos 0 → Stands (entry id value.now) dest.old dest.new written.new }
+    ensures room { result ≡ negsuc 3 → Lacks (entry id value.now) dest.old written.new }
+    ensures refused { (result ≡ negsuc 0) ↔ ((2 ^ 62 ≤ id) ⊎ (2 ^ 62 ≤ length value.now)) }
+    ensures same { (result ≡ pos 0) ⊎ (dest.new ≡ dest.old) }
+    ensures same_count { result ≡ negsuc 0 → written.new ≡ written.old }
+{
+    if id >= 1 << 62 || value.len() >= 1 << 62 {
+        return -1;
+    }
+    match write_entry_into(id, value, dest) {
+        Ok(n) => {
+            *written = n;
+            0
+        }
+        Err(n) => {
+            *written = n;
+            -4
+        }
+    }
+}

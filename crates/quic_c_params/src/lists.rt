@@ -1,0 +1,172 @@
+//! A list of transport parameters with further entries among those of a record.
+ghost use Rattle.std.specs.Prelude.{◌≡◌, ◌⊎◌, ◌+◌, ◌*◌, ◌<◌, ◌≤◌, ◌^◌, ◌++◌, ◌↔◌, ℕ, List, [], get_or, length, take, drop, pos, negsuc, IfOk, IfErr, IfSome, IsNone, OnErr};
+ghost use Rattle.std.specs.List.{flat_map};
+ghost use Rattle.quic_params.specs.Entry.{Entry};
+ghost use Rattle.quic_params.specs.Further.{AreInOrder, IsOrderOf, asked, listed, pieces};
+ghost use Rattle.quic_params.specs.Order.{id_at};
+ghost use Rattle.quic_params.specs.Table.{rows};
+ghost use Rattle.quic_params.specs.Writing.{entry, written_for};
+ghost use Rattle.quic_params.specs.declared.record.TransportParameters.{TransportParameters};
+ghost use Rattle.quic_c_params.specs.Lists.{CanList, IsFurther, Lies, ListLacks, SaysNoList, WroteList};
+
+use crate::further::{ROWS, count_further, index_at, is_order, nth};
+use crate::read::side_of;
+use crate::words::ParamsWords;
+use crate::write::said;
+use quic_params::laws;
+use quic_params::transport_parameters::{
+    TransportParameterId, TransportParameters, write_entry_into,
+};
+
+// The parameter of a row.
+fn row_at(index: usize) -> TransportParameterId
+    requires { index < rows }
+    ensures { result ≡ id_at index }
+{
+    TransportParameterId::SUPPORTED[index]
+}
+
+// Lays what is written for a row at the front of a slice.
+fn lay_row(
+    params: &TransportParameters,
+    id: TransportParameterId,
+    dest: &mut [u8],
+) -> Result<usize, usize>
+    ensures lies { Lies result (written_for params.now id) dest.old dest.new }
+    ensures few { length (written_for params.now id) ≤ 77 }
+{
+    params.write_one_into(id, dest)
+}
+
+// Lays an entry in its least widths at the front of a slice.
+fn lay_entry(number: u64, value: &[u8], dest: &mut [u8]) -> Result<usize, usize>
+    requires number { number < 2 ^ 62 }
+    requires len { length value.now < 2 ^ 62 }
+    ensures lies { Lies result (entry number value.now) dest.old dest.new }
+    ensures few { length (entry number value.now) ≤ 16 + length value.now }
+{
+    write_entry_into(number, value, dest)
+}
+
+// Lays the piece at an index at the front of a slice: a row of the record, or a further entry. Where the slice has fewer
+// bytes, it is as it was, and the error is how many the piece has.
+fn lay_piece(
+    params: &TransportParameters,
+    further: &[u8],
+    index: usize,
+    dest: &mut [u8],
+) -> Result<usize, usize>
+    requires there { (es : List Entry) × IsFurther es further.now × (index < rows + length es) }
+    ensures lies { (es : List Entry) → AreInOrder es further.now
+        → Lies result (get_or (pieces params.now es) index []) dest.old dest.new }
+    ensures few { (es : List Entry) → AreInOrder es further.now
+        → length (get_or (pieces params.now es) index []) ≤ 77 + length further.now }
+{
+    if index < ROWS {
+        return lay_row(params, row_at(index), dest);
+    }
+    let (number, value) = nth(further, index - ROWS);
+    lay_entry(number, value, dest)
+}
+
+// How many pieces a list has with these further entries, if they are such, and the order is one of all.
+fn count_pieces(further: &[u8], order: &[u8]) -> Option<usize>
+    ensures some { IfSome result (λ n. (es : List Entry) × IsFurther es further.now × (n ≡ rows + length es)
+        × IsOrderOf n (asked n order.now)) }
+    ensures none { IsNone result → (es : List Entry) → IsFurther es further.now
+        → IsOrderOf (rows + length es) (asked (rows + length es) order.now) → ⊥ }
+{
+    let count = ROWS + count_further(further)?;
+    if is_order(count, order) {
+        Some(count)
+    } else {
+        None
+    }
+}
+
+// How many bytes the list has whose pieces stand in an order.
+fn list_len(params: &TransportParameters, further: &[u8], count: usize, order: &[u8]) -> usize
+    requires there { (es : List Entry) × IsFurther es further.now × (count ≡ rows + length es) }
+    requires order { IsOrderOf count (asked count order.now) }
+    ensures { (es : List Entry) → AreInOrder es further.now → result ≡ length (listed params.now es order.now) }
+{
+    let mut len = 0;
+    for place in 0..count {
+        let index = index_at(count, order, place);
+        len += match lay_piece(params, further, index, &mut []) {
+            Ok(piece_len) => piece_len,
+            Err(piece_len) => piece_len,
+        };
+    }
+    len
+}
+
+// Lays the pieces in an order over the front of a slice that has room for them.
+fn lay_list(
+    params: &TransportParameters,
+    further: &[u8],
+    count: usize,
+    order: &[u8],
+    dest: &mut [u8],
+)
+    requires there { (es : List Entry) × IsFurther es further.now × (count ≡ rows + length es) }
+    requires order { IsOrderOf count (asked count order.now) }
+    requires room { (es : List Entry) → AreInOrder es further.now → length (listed params.now es order.now) ≤ length dest.old }
+    ensures { (es : List Entry) → AreInOrder es further.now
+        → dest.new ≡ listed params.now es order.now ++ drop (length (listed params.now es order.now)) dest.old }
+{
+    let mut at = 0;
+    for place in 0..count {
+        let index = index_at(count, order, place);
+        match lay_piece(params, further, index, &mut dest[at..]) {
+            Ok(piece_len) => at += piece_len,
+            Err(_) => unreachable!(),
+        }
+    }
+}
+
+/// Writes the list of the parameters that the words say with further entries, in an order, at the front of `dest`, each
+/// in its least widths (RFC 9000, sections 7.4 and 18): `side` is 0 where a client is to read it, 1 where a server is.
+/// `further` is a list of entries that no record has, none of them twice, as `quic_wire_param_write_` writes them. The
+/// rows of the table (quinn-proto's `SUPPORTED`) have the numbers 0 to 20, and the further entries those from 21 on, 235
+/// at most; `order` has each of these numbers once, or is empty, and then the entries stand as they are numbered. It
+/// answers 0 with how many bytes were written, and what stood behind them stays: reading them for this side gives the
+/// same words. It answers -4 with how many bytes are needed where `dest` has fewer; -1 where `quic_wire_params_write_`
+/// does, or `further` or `order` are none of that, or `further` has 2^40 bytes or more. `dest` changes with 0 alone,
+/// and `written` not with -1.
+#[unsafe(no_mangle)]
+pub extern "C" fn quic_wire_params_write_with_(
+    side: u32,
+    words: &ParamsWords,
+    further: &[u8],
+    order: &[u8],
+    dest: &mut [u8],
+    written: &mut usize,
+) -> i32
+    ensures answers { (result ≡ pos 0) ⊎ (result ≡ negsuc 3) ⊎ (result ≡ negsuc 0) }
+    ensures wrote { result ≡ pos 0
+        → WroteList side words.now further.now order.now dest.old dest.new written.new }
+    ensures room { result ≡ negsuc 3 → ListLacks side words.now further.now order.now dest.old written.new }
+    ensures refused { result ≡ negsuc 0 → SaysNoList side words.now further.now order.now }
+    ensures same { (result ≡ pos 0) ⊎ (dest.new ≡ dest.old) }
+    ensures same_count { result ≡ negsuc 0 → written.new ≡ written.old }
+{
+    let Some(reader) = side_of(side) else {
+        return -1;
+    };
+    let Some(params) = said(reader, words) else {
+        return -1;
+    };
+    let Some(count) = count_pieces(further, order) else {
+        return -1;
+    };
+    laws::further();
+    params.type_bounds();
+    let len = list_len(&params, further, count, order);
+    *written = len;
+    if dest.len() < len {
+        return -4;
+    }
+    lay_list(&params, further, count, order, dest);
+    0
+}

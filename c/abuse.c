@@ -270,6 +270,89 @@ static void params_nulls(void) {
   params.max_ack_delay = 26;
   WANT(quic_wire_params_write(QUIC_WIRE_CLIENT, &params, NULL, 0, &n) ==
            QUIC_WIRE_ERR_NOBUF && n == 3);
+  WANT(quic_wire_params_read_sized(QUIC_WIRE_CLIENT, &byte, 0, &params,
+                                   sizeof params - 1) == INVALID);
+  n = 77;
+  WANT(quic_wire_params_write_sized(QUIC_WIRE_CLIENT, &params,
+                                    sizeof params + 8, out, 8, &n) == INVALID);
+  WANT(quic_wire_params_write_with_sized(QUIC_WIRE_CLIENT, &params, 0, NULL, 0,
+                                         NULL, 0, out, 8, &n) == INVALID);
+  WANT(n == 77);
+}
+
+/* Further entries behind and among those of a client's record, by RFC 9000,
+ * section 18: max_idle_timeout 5 and initial_max_data 9, the versions of RFC
+ * 9368, and the reserved parameter 27 + 7 * 31 = 244. */
+static void params_with(void) {
+  static const uint8_t list[] = {1,    1, 5, 4, 1, 9, 0x11, 4,    0,
+                                 0,    0, 1, 0x40, 244, 0};
+  static const uint8_t turned[] = {0x40, 244, 0, 4, 1, 9, 0x11, 4, 0,
+                                   0,    0,   1, 1, 1, 5};
+  static const uint8_t versions[] = {0, 0, 0, 1};
+  const uint32_t side = QUIC_WIRE_CLIENT;
+  quic_wire_params params, got;
+  quic_wire_param param;
+  uint8_t further[16], order[QUIC_WIRE_PARAM_ROWS + 2], out[32], k;
+  size_t n = 0, m = 0, w = 77;
+  WANT(quic_wire_params_read(QUIC_WIRE_SERVER, NULL, 0, &params) == 0);
+  params.max_idle_timeout = 5;
+  params.initial_max_data = 9;
+  WANT(quic_wire_param_write(QUIC_WIRE_PARAM_VERSION_INFORMATION, versions, 4,
+                             further, sizeof further, &n) == 0 && n == 6);
+  WANT(quic_wire_param_write(QUIC_WIRE_PARAM_RESERVED(7), NULL, 0, further + n,
+                             2, &m) == QUIC_WIRE_ERR_NOBUF && m == 3);
+  WANT(quic_wire_param_write(QUIC_WIRE_PARAM_RESERVED(7), NULL, 0, further + n,
+                             3, &m) == 0 && m == 3);
+  n += m;
+  WANT(quic_wire_params_write_with(side, &params, further, n, NULL, 0, out,
+                                   sizeof out, &w) == 0);
+  WANT(w == sizeof list && !memcmp(out, list, w));
+  for (k = 0; k < sizeof order; k++)
+    order[k] = (uint8_t)(sizeof order - 1 - k);
+  order[1] = 2, order[20] = 21; /* 22 2 20 .. 3 21 1 0 */
+  WANT(quic_wire_params_write_with(side, &params, further, n, order,
+                                   sizeof order, out, sizeof out, &w) == 0);
+  WANT(w == sizeof turned && !memcmp(out, turned, w));
+  WANT(quic_wire_params_read(QUIC_WIRE_SERVER, out, w, &got) == 0);
+  WANT(!memcmp(&got, &params, sizeof got));
+  WANT(quic_wire_params_write_with(side, &params, further, n, order,
+                                   sizeof order, out, w - 1, &m) ==
+           QUIC_WIRE_ERR_NOBUF && m == w);
+  m = 77;
+  WANT(quic_wire_params_write_with(side, &params, further, n, order,
+                                   sizeof order - 1, out, 32, &m) == INVALID);
+  order[0] = 21;
+  WANT(quic_wire_params_write_with(side, &params, further, n, order,
+                                   sizeof order, out, 32, &m) == INVALID);
+  WANT(quic_wire_params_write_with(side, &params, list, 3, NULL, 0, out, 32,
+                                   &m) == INVALID); /* one that it has */
+  memcpy(out, further, 6), memcpy(out + 6, further, 6);
+  WANT(quic_wire_params_write_with(side, &params, out, 12, NULL, 0, out + 12,
+                                   20, &m) == INVALID); /* one twice */
+  WANT(quic_wire_params_write_with(side, &params, further, n - 1, NULL, 0, out,
+                                   32, &m) == INVALID); /* one is cut off */
+  WANT(quic_wire_params_write_with(side, &params, NULL, 1, NULL, 0, out, 32,
+                                   &m) == INVALID);
+  WANT(quic_wire_params_write_with(side, &params, NULL, 0, NULL, 1, out, 32,
+                                   &m) == INVALID);
+  WANT(quic_wire_params_write_with(side, NULL, NULL, 0, NULL, 0, out, 32,
+                                   &m) == INVALID);
+  WANT(quic_wire_params_write_with(2, &params, NULL, 0, NULL, 0, out, 32,
+                                   &m) == INVALID);
+  WANT(m == 77);
+  WANT(quic_wire_param_read(NULL, 1, &param) == INVALID);
+  WANT(quic_wire_param_read(list, 1, NULL) == INVALID);
+  WANT(quic_wire_param_read(NULL, 0, &param) == QUIC_WIRE_ERR_EMPTY);
+  WANT(quic_wire_param_read(list, 2, &param) == QUIC_WIRE_ERR_MALFORMED);
+  WANT(quic_wire_param_read(list + 6, 9, &param) == 0 && param.id == 0x11);
+  WANT(param.value == 2 && param.valuelen == 4);
+  WANT(quic_wire_param_write((uint64_t)1 << 62, NULL, 0, out, 32, &m) ==
+       INVALID);
+  WANT(quic_wire_param_write(1, NULL, 1, out, 32, &m) == INVALID);
+  WANT(quic_wire_param_write(1, NULL, 0, NULL, 32, &m) == INVALID);
+  WANT(quic_wire_param_write(1, NULL, 0, out, 32, NULL) == INVALID && m == 77);
+  WANT(quic_wire_param_is_known(0x10) && !quic_wire_param_is_known(0x11));
+  WANT(!quic_wire_param_is_known(QUIC_WIRE_PARAM_RESERVED(0)));
 }
 
 static uint8_t *block(size_t len) { return malloc(len ? len : 1); }
@@ -1146,6 +1229,73 @@ static int params_written(uint32_t side) {
   return 1;
 }
 
+/* The entries of any list, one behind the other, each of which is written in at
+ * most as many bytes and read back.  Returns how many bytes of |further| were
+ * filled with those that can stand beside a record, and |*count| how many of
+ * these there are. */
+static size_t params_entries(const uint8_t *list, size_t len, uint8_t *further,
+                             size_t room, size_t *count) {
+  quic_wire_param param, again, other;
+  uint8_t out[64];
+  size_t at = 0, filled = 0, n, k;
+  int answer;
+  *count = 0;
+  while ((answer = quic_wire_param_read(list + at, len - at, &param)) == 0) {
+    const uint8_t *value = list + at + param.value;
+    size_t end = param.value + param.valuelen;
+    WANT(param.value >= 2 && end <= len - at);
+    at += end;
+    if (param.valuelen > 40)
+      continue;
+    WANT(quic_wire_param_write(param.id, value, param.valuelen, out, sizeof out,
+                               &n) == 0 && n <= end);
+    WANT(quic_wire_param_read(out, n, &again) == 0 && again.id == param.id);
+    WANT(again.valuelen == param.valuelen && again.value + again.valuelen == n);
+    WANT(!memcmp(out + again.value, value, param.valuelen));
+    for (k = 0; k < filled; k += other.value + other.valuelen)
+      if (quic_wire_param_read(further + k, filled - k, &other) != 0 ||
+          other.id == param.id)
+        break;
+    if (k == filled && !quic_wire_param_is_known(param.id) &&
+        n <= room - filled && *count < 200) {
+      memcpy(further + filled, out, n);
+      filled += n;
+      ++*count;
+    }
+  }
+  WANT(answer == (at == len ? QUIC_WIRE_ERR_EMPTY : QUIC_WIRE_ERR_MALFORMED));
+  return filled;
+}
+
+/* Further entries of any list among those of a record, in any order. */
+static void params_mixed(uint32_t side, const quic_wire_params *params,
+                         const uint8_t *list, size_t len) {
+  uint8_t further[512], order[QUIC_WIRE_PARAM_ROWS + 200], out[1024];
+  quic_wire_params got;
+  size_t count, n = 0, less = 0, k, all;
+  size_t filled = params_entries(list, len, further, sizeof further, &count);
+  int answer;
+  all = QUIC_WIRE_PARAM_ROWS + count;
+  for (k = 0; k < all; k++) {
+    size_t other = any() % (k + 1);
+    order[k] = order[other];
+    order[other] = (uint8_t)k;
+  }
+  answer = quic_wire_params_write_with(side ^ 1, params, further, filled, order,
+                                       any() % 4 ? all : 0, out, sizeof out, &n);
+  WANT(answer == 0);
+  WANT(quic_wire_params_read(side, out, n, &got) == 0);
+  WANT(!memcmp(&got, params, sizeof got));
+  if (n) {
+    WANT(quic_wire_params_write_with(side ^ 1, params, further, filled, order,
+                                     all, out, n - 1, &less) ==
+             QUIC_WIRE_ERR_NOBUF && less == n);
+  }
+  order[any() % all] = (uint8_t)any();
+  quic_wire_params_write_with(side ^ 1, params, list, any() % (len + 1), order,
+                              any() % all, out, any() % sizeof out, &n);
+}
+
 /* Any bytes as a list, and any words as parameters. */
 static void params_any(const uint8_t *list, size_t len) {
   quic_wire_params got, same;
@@ -1161,6 +1311,7 @@ static void params_any(const uint8_t *list, size_t len) {
     WANT(quic_wire_params_write(side ^ 1, &got, dest, sizeof dest, &n) ==
          QUIC_WIRE_OK);
     WANT(n <= len && got.reason == 0);
+    params_mixed(side, &got, list, len);
   } else {
     if (answer == QUIC_WIRE_ERR_MALFORMED) {
       WANT(got.reason == 1 || got.reason == 2);
@@ -1385,6 +1536,7 @@ int main(int argc, char **argv) {
   head_nulls();
   long_lengths();
   params_nulls();
+  params_with();
   rubbish(argc == 2 ? atoi(argv[1]) : 300000);
   puts("abuse: all as it should be");
   return 0;

@@ -404,6 +404,23 @@ typedef struct quic_wire_params {
   uint8_t preferred_v4[4];
 } quic_wire_params;
 
+/* An entry of a list of transport parameters (RFC 9000, section 18). */
+typedef struct quic_wire_param {
+  uint64_t id;     /* its number, below 2^62 */
+  size_t value;    /* the place of its value in the list that was read */
+  size_t valuelen; /* the next entry begins behind so many bytes */
+} quic_wire_param;
+
+/* Numbers of parameters that quic_wire_params has no field for: the versions
+ * of RFC 9368, and the |n|th of those that have no meaning and that each peer
+ * passes (RFC 9000, section 18.1). */
+#define QUIC_WIRE_PARAM_VERSION_INFORMATION 0x11
+#define QUIC_WIRE_PARAM_RESERVED(n) (31 * (uint64_t)(n) + 27)
+
+/* How many rows the table has in which quic_wire_params_write_with numbers the
+ * parameters that quic_wire_params has. */
+#define QUIC_WIRE_PARAM_ROWS 21
+
 /* What the library asserts of its own structs. */
 #if defined(__cplusplus) && __cplusplus >= 201103L
 #define QUIC_WIRE_ASSERT(so, why) static_assert(so, why)
@@ -440,6 +457,8 @@ QUIC_WIRE_ASSERT(offsetof(quic_wire_params, preferred_v4_port) == 128,
 QUIC_WIRE_ASSERT(offsetof(quic_wire_params, original_dst_cid) == 132,
                  "no room");
 QUIC_WIRE_ASSERT(offsetof(quic_wire_params, preferred_v4) == 260, "no room");
+QUIC_WIRE_ASSERT(sizeof(quic_wire_param) == 24, "64-bit words");
+QUIC_WIRE_ASSERT(offsetof(quic_wire_param, value) == 8, "64-bit words");
 #undef QUIC_WIRE_ASSERT
 #endif
 
@@ -898,10 +917,23 @@ QUIC_WIRE_API int quic_wire_set_len(uint8_t *packet, size_t packetlen,
  * refused with a TRANSPORT_PARAMETER_ERROR, and then |params->reason| says why,
  * and nothing else of |params| changes; QUIC_WIRE_ERR_INVALID_ARGUMENT where
  * |side| is neither.
+ *
+ * |size| is that of the struct as the caller has it, so that it can grow at its
+ * end in a later version without a change for callers of this one: a size that
+ * the library doesn't know is refused with QUIC_WIRE_ERR_INVALID_ARGUMENT.
  */
-QUIC_WIRE_API int quic_wire_params_read(uint32_t side, const uint8_t *list,
+QUIC_WIRE_API int quic_wire_params_read_sized(uint32_t side,
+                                              const uint8_t *list,
+                                              size_t listlen,
+                                              quic_wire_params *params,
+                                              size_t size);
+
+static inline int quic_wire_params_read(uint32_t side, const uint8_t *list,
                                         size_t listlen,
-                                        quic_wire_params *params);
+                                        quic_wire_params *params) {
+  return quic_wire_params_read_sized(side, list, listlen, params,
+                                     sizeof *params);
+}
 
 /*
  * Writes the shortest list of these parameters, as QUIC_WIRE_CLIENT or as
@@ -915,10 +947,86 @@ QUIC_WIRE_API int quic_wire_params_read(uint32_t side, const uint8_t *list,
  * preferred address has no address, or one of zeros with port 0.  |dest|
  * changes only with 0, and then only in the bytes that were written.
  */
-QUIC_WIRE_API int quic_wire_params_write(uint32_t side,
+QUIC_WIRE_API int quic_wire_params_write_sized(uint32_t side,
+                                               const quic_wire_params *params,
+                                               size_t size, uint8_t *dest,
+                                               size_t destlen, size_t *written);
+
+static inline int quic_wire_params_write(uint32_t side,
                                          const quic_wire_params *params,
                                          uint8_t *dest, size_t destlen,
-                                         size_t *written);
+                                         size_t *written) {
+  return quic_wire_params_write_sized(side, params, sizeof *params, dest,
+                                      destlen, written);
+}
+
+/*
+ * The same with further entries, in an order.  |further| is a list of entries
+ * that quic_wire_params has no fields for, none of them twice, at most 235, as
+ * quic_wire_param_write writes them one behind the other.  The parameters of
+ * quic_wire_params are numbered as the rows of this table are, whether they are
+ * written or not, and the further entries from QUIC_WIRE_PARAM_ROWS on; |order|
+ * has each of these numbers once, or |orderlen| is 0, and then the entries
+ * stand as they are numbered.
+ *
+ *    0 max_idle_timeout                     11 (a reserved one, never written)
+ *    1 max_udp_payload_size                 12 stateless_reset_token
+ *    2 initial_max_data                     13 disable_active_migration
+ *    3 initial_max_stream_data_bidi_local   14 max_datagram_frame_size
+ *    4 initial_max_stream_data_bidi_remote  15 preferred_address
+ *    5 initial_max_stream_data_uni          16 original_destination_connection_id
+ *    6 initial_max_streams_bidi             17 initial_source_connection_id
+ *    7 initial_max_streams_uni              18 retry_source_connection_id
+ *    8 ack_delay_exponent                   19 grease_quic_bit
+ *    9 max_ack_delay                        20 min_ack_delay
+ *   10 active_connection_id_limit
+ *
+ * Each entry is written in its least widths, and the peer reads the same
+ * |params|.  Returns what quic_wire_params_write does;
+ * QUIC_WIRE_ERR_INVALID_ARGUMENT also where |further| or |order| are none of
+ * that.
+ */
+QUIC_WIRE_API int quic_wire_params_write_with_sized(
+    uint32_t side, const quic_wire_params *params, size_t size,
+    const uint8_t *further, size_t furtherlen, const uint8_t *order,
+    size_t orderlen, uint8_t *dest, size_t destlen, size_t *written);
+
+static inline int quic_wire_params_write_with(
+    uint32_t side, const quic_wire_params *params, const uint8_t *further,
+    size_t furtherlen, const uint8_t *order, size_t orderlen, uint8_t *dest,
+    size_t destlen, size_t *written) {
+  return quic_wire_params_write_with_sized(side, params, sizeof *params,
+                                           further, furtherlen, order, orderlen,
+                                           dest, destlen, written);
+}
+
+/*
+ * Reads the entry at the front of a |list| of transport parameters, be it one
+ * that quic_wire_params has a field for or another.  The next one begins behind
+ * its value.  Whether the value is one of its kind isn't looked at, nor whether
+ * an entry is there twice: quic_wire_params_read does that.
+ *
+ * Returns 0 and the entry; QUIC_WIRE_ERR_EMPTY where the list is empty;
+ * QUIC_WIRE_ERR_MALFORMED where its first entry is cut off;
+ * QUIC_WIRE_ERR_INVALID_ARGUMENT for NULL.  |param| changes only with 0.
+ */
+QUIC_WIRE_API int quic_wire_param_read(const uint8_t *list, size_t listlen,
+                                       quic_wire_param *param);
+
+/*
+ * Writes an entry of a list at the front of |dest| in its least widths.
+ *
+ * Returns 0 and how many bytes were written; QUIC_WIRE_ERR_NOBUF and how many
+ * are needed where |dest| has fewer; QUIC_WIRE_ERR_INVALID_ARGUMENT for NULL, or
+ * where |id| is 2^62 or more.  |dest| changes only with 0, and then only in the
+ * bytes that were written.
+ */
+QUIC_WIRE_API int quic_wire_param_write(uint64_t id, const uint8_t *value,
+                                        size_t valuelen, uint8_t *dest,
+                                        size_t destlen, size_t *written);
+
+/* Whether quic_wire_params has the parameter of this number: 1 or 0. */
+QUIC_WIRE_API int quic_wire_param_is_known(uint64_t id);
 
 /* ---- Sets of packet numbers: the first |count| entries of an array of |room|,
  * each a run of numbers, sorted, none empty, none touching the next.  A set of

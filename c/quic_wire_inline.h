@@ -58,6 +58,13 @@ int32_t quic_wire_params_read_(uint32_t, const uint8_t *, size_t,
                                quic_wire_params *);
 int32_t quic_wire_params_write_(uint32_t, const quic_wire_params *, uint8_t *,
                                 size_t, size_t *);
+int32_t quic_wire_params_write_with_(uint32_t, const quic_wire_params *,
+                                     const uint8_t *, size_t, const uint8_t *,
+                                     size_t, uint8_t *, size_t, size_t *);
+int32_t quic_wire_param_read_(const uint8_t *, size_t, quic_wire_param *);
+int32_t quic_wire_param_write_(uint64_t, const uint8_t *, size_t, uint8_t *,
+                               size_t, size_t *);
+uint32_t quic_wire_param_is_known_(uint64_t);
 int32_t quic_wire_set_insert_(quic_wire_range *, size_t, size_t *, uint64_t,
                               uint64_t);
 int32_t quic_wire_set_remove_(quic_wire_range *, size_t, size_t *, uint64_t,
@@ -433,25 +440,64 @@ QUIC_WIRE_API int quic_wire_set_len(uint8_t *packet, size_t packetlen,
                 : QUIC_WIRE_ERR_INVALID_ARGUMENT;
 }
 
-QUIC_WIRE_API int quic_wire_params_read(uint32_t side, const uint8_t *list,
-                                        size_t listlen,
-                                        quic_wire_params *params) {
-  if ((!list && listlen) || !params)
+QUIC_WIRE_API int quic_wire_params_read_sized(uint32_t side,
+                                              const uint8_t *list,
+                                              size_t listlen,
+                                              quic_wire_params *params,
+                                              size_t size) {
+  if ((!list && listlen) || !params || size != sizeof *params)
     return QUIC_WIRE_ERR_INVALID_ARGUMENT;
   return quic_wire_params_read_(
       side, list ? list : (const uint8_t *)quic_wire_nothing_(), listlen,
       params);
 }
 
-QUIC_WIRE_API int quic_wire_params_write(uint32_t side,
-                                         const quic_wire_params *params,
-                                         uint8_t *dest, size_t destlen,
-                                         size_t *written) {
-  if (!params || (!dest && destlen) || !written)
+QUIC_WIRE_API int quic_wire_params_write_sized(uint32_t side,
+                                               const quic_wire_params *params,
+                                               size_t size, uint8_t *dest,
+                                               size_t destlen,
+                                               size_t *written) {
+  if (!params || size != sizeof *params || (!dest && destlen) || !written)
     return QUIC_WIRE_ERR_INVALID_ARGUMENT;
   return quic_wire_params_write_( /* it asks for the side that is to read */
       side ^ 1, params, dest ? dest : (uint8_t *)quic_wire_nothing_(), destlen,
       written);
+}
+
+QUIC_WIRE_API int quic_wire_params_write_with_sized(
+    uint32_t side, const quic_wire_params *params, size_t size,
+    const uint8_t *further, size_t furtherlen, const uint8_t *order,
+    size_t orderlen, uint8_t *dest, size_t destlen, size_t *written) {
+  const uint8_t *none = (const uint8_t *)quic_wire_nothing_();
+  if (!params || size != sizeof *params || (!further && furtherlen) ||
+      (!order && orderlen) || (!dest && destlen) || !written)
+    return QUIC_WIRE_ERR_INVALID_ARGUMENT;
+  return quic_wire_params_write_with_(
+      side ^ 1, params, further ? further : none, furtherlen,
+      order ? order : none, orderlen,
+      dest ? dest : (uint8_t *)quic_wire_nothing_(), destlen, written);
+}
+
+QUIC_WIRE_API int quic_wire_param_read(const uint8_t *list, size_t listlen,
+                                       quic_wire_param *param) {
+  if ((!list && listlen) || !param)
+    return QUIC_WIRE_ERR_INVALID_ARGUMENT;
+  return quic_wire_param_read_(
+      list ? list : (const uint8_t *)quic_wire_nothing_(), listlen, param);
+}
+
+QUIC_WIRE_API int quic_wire_param_write(uint64_t id, const uint8_t *value,
+                                        size_t valuelen, uint8_t *dest,
+                                        size_t destlen, size_t *written) {
+  if ((!value && valuelen) || (!dest && destlen) || !written)
+    return QUIC_WIRE_ERR_INVALID_ARGUMENT;
+  return quic_wire_param_write_(
+      id, value ? value : (const uint8_t *)quic_wire_nothing_(), valuelen,
+      dest ? dest : (uint8_t *)quic_wire_nothing_(), destlen, written);
+}
+
+QUIC_WIRE_API int quic_wire_param_is_known(uint64_t id) {
+  return (int)quic_wire_param_is_known_(id);
 }
 
 QUIC_WIRE_API int quic_wire_set_insert(quic_wire_range *runs, size_t room,

@@ -134,10 +134,13 @@ function address(view, p) {
     return `${v4}${port(128)}${v6}${port(130)}${cidLen}${hex(cid)}${token}`;
 }
 
+// The size of quic_wire_params.
+const PARAMS_SIZE = 264n;
+
 function params(bytes, side) {
     const view = give(bytes);
     const p = at.out;
-    if (wire.quic_wire_params_read(side, pointer(at.bytes), BigInt(bytes.length), pointer(p)) !== OK) {
+    if (wire.quic_wire_params_read_sized(side, pointer(at.bytes), BigInt(bytes.length), pointer(p), PARAMS_SIZE) !== OK) {
         return [`error ${text(wire.quic_wire_params_reason_text(view.getUint32(p + 4, true)))}`];
     }
     const present = view.getUint32(p, true);

@@ -246,8 +246,12 @@ fn parameters(random: &mut Random) {
     }
     let Ok(read) = TransportParameters::read(side, &list) else { return };
     let unknown: Vec<_> = entries(&list).map(Result::unwrap).filter(|entry| !entry.is_known()).collect();
-    let mut again = vec![];
-    match read.write_with(!side, &unknown, |all| all.reverse(), &mut again) {
+    let (mut further, mut again) = (vec![], vec![]);
+    for entry in &unknown {
+        entry.write(&mut further).unwrap();
+    }
+    let order: Vec<u8> = (0..(TransportParameters::ROWS + unknown.len()) as u8).rev().collect();
+    match read.write_with(!side, &further, &order, &mut again) {
         Ok(len) => {
             assert_eq!(len, again.len());
             assert_eq!(TransportParameters::read(side, &again), Ok(read));

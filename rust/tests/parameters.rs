@@ -77,25 +77,36 @@ fn what_is_out_of_range_is_named() {
     assert_eq!(quic_wire::Error::from(Error::IllegalValue).to_string(), "a transport parameter has an illegal value");
 }
 
+// Entries one behind the other.
+fn list_of(all: &[Entry<'_>]) -> Vec<u8> {
+    let mut list = vec![];
+    for entry in all {
+        entry.write(&mut list).unwrap();
+    }
+    list
+}
+
 #[test]
 fn further_parameters_are_written_and_read() {
     let sent = TransportParameters { initial_max_data: 9, max_idle_timeout: 5, ..TransportParameters::default() };
     let extra = [Entry { id: 0x11, value: &[0, 0, 0, 1, 0, 0, 0, 1] }, Entry::reserved(7, &[]).unwrap()];
+    let further = list_of(&extra);
     let mut list = vec![];
-    let len = sent.write_with(Side::Client, &extra, |_| (), &mut list).unwrap();
+    let len = sent.write_with(Side::Client, &further, &[], &mut list).unwrap();
     assert_eq!(len, 19);
     assert_eq!(list, [1, 1, 5, 4, 1, 9, 0x11, 8, 0, 0, 0, 1, 0, 0, 0, 1, 0x40, 244, 0]);
     let unknown: Vec<_> = entries(&list).flatten().filter(|entry| !entry.is_known()).collect();
     assert_eq!(unknown, extra);
     assert_eq!(TransportParameters::read(Side::Server, &list), Ok(sent));
 
-    let mut orders = HashSet::new();
-    for turned in 0..4 {
+    let (mut orders, mut order) = (HashSet::new(), (0..23).collect::<Vec<u8>>());
+    for _ in 0..23 {
         let mut list = [0; 64];
-        let len = sent.write_with(Side::Client, &extra, |all| all.rotate_left(turned), &mut list).unwrap();
+        let len = sent.write_with(Side::Client, &further, &order, &mut list).unwrap();
         assert_eq!(TransportParameters::read(Side::Server, &list[..len]), Ok(sent));
-        assert_eq!(sent.write_with(Side::Client, &extra, |_| (), &mut list[..18]), Err(WriteError::NoRoom(19)));
+        assert_eq!(sent.write_with(Side::Client, &further, &order, &mut list[..18]), Err(WriteError::NoRoom(19)));
         orders.insert(list[..len].to_vec());
+        order.rotate_left(1);
     }
     assert_eq!(orders.len(), 4);
 }
@@ -103,17 +114,22 @@ fn further_parameters_are_written_and_read() {
 #[test]
 fn further_parameters_are_checked() {
     let sent = TransportParameters { initial_max_data: 9, max_idle_timeout: 5, ..TransportParameters::default() };
-    let write = |extra: &[Entry<'_>]| sent.write_with(Side::Client, extra, |_| (), &mut [0; 512]);
+    let write = |further: &[u8], order: &[u8]| sent.write_with(Side::Client, further, order, &mut [0; 1024]);
     let (one, value) = (Entry { id: 0x11, value: &[] }, &[][..]);
-    let many: Vec<_> = (0..63).map(|n| Entry { id: 100 + n, value }).collect();
-    assert!(write(&many[..62]).is_ok());
+    let many: Vec<_> = (0..236).map(|n| Entry { id: 100 + n, value }).collect();
+    assert!(write(&list_of(&many[..235]), &[]).is_ok());
     let refused = [
-        (write(&[one, Entry { id: 0x04, value }]), "a further transport parameter is one that the record has"),
-        (write(&[one, one]), "a further transport parameter is there twice"),
-        (write(&[Entry { id: 1 << 62, value }]), "the number of a transport parameter is 2^62 or more"),
-        (write(&many), "more than 64 transport parameters"),
-        (sent.write_with(Side::Client, &[one], |all| all[0] = all[1], &mut [0; 64]), {
-            "transport parameters were not only put in an order"
+        (write(&list_of(&[one, Entry { id: 0x04, value }]), &[]), {
+            "a further transport parameter is one that the record has"
+        }),
+        (write(&list_of(&[one, one]), &[]), "a further transport parameter is there twice"),
+        (write(&[0x11], &[]), "a further transport parameter is cut off"),
+        (write(&list_of(&many), &[]), "more than 235 further transport parameters"),
+        (write(&[], &[0]), "the order isn't one of all transport parameters"),
+        (write(&[], &[1; 21]), "the order isn't one of all transport parameters"),
+        (Entry { id: 1 << 62, value }.write(&mut vec![]), "the number of a transport parameter is 2^62 or more"),
+        (TransportParameters { max_ack_delay: 1 << 14, ..sent }.write_with(Side::Client, &[], &[], &mut vec![]), {
+            "max_ack_delay is 2^14 or more"
         }),
     ];
     for (answer, what) in refused {

@@ -25,7 +25,7 @@ fn writers_say_what_room_they_need() {
     let short = Header::Short { spin: false, key_phase: false, dst_cid: &[1, 2, 3], number };
     let long = Header::Initial { dst_cid: &[1], src_cid: &[2], token: &[3], number, version: 1 };
     let parameters = TransportParameters { initial_max_data: 80, ..TransportParameters::default() };
-    let extra = [Entry { id: 0x11, value: &[0, 0, 0, 1] }];
+    let entry = Entry { id: 0x11, value: &[0, 0, 0, 1] };
     check(3, |out| Frame::MaxData(80).encode(false, out));
     check(5, |out| Ack::encode(0, &[Run { start: 1, end: 3 }], None, out));
     check(4, |out| StreamMeta { id: StreamId(4), offsets: 16..18, fin: false }.encode(true, out));
@@ -34,7 +34,8 @@ fn writers_say_what_room_they_need() {
     check(6, |out| short.encode(out).map(|written| written.header_len));
     check(15, |out| long.encode(out).map(|written| written.header_len));
     check(4, |out| parameters.write(Side::Client, out));
-    check(10, |out| parameters.write_with(Side::Client, &extra, |_| (), out));
+    check(6, |out| entry.write(out));
+    check(10, |out| parameters.write_with(Side::Client, &[0x11, 4, 0, 0, 0, 1], &[], out));
     check(2, |out| varint::write(80, out));
     check(3, |out| match canonical(&[0x10, 0x80, 0, 0, 80], out) {
         Err(CanonError::NoRoom(needed)) => Err(WriteError::NoRoom(needed)),

@@ -3,12 +3,12 @@ use Rattle.std.proofs.Common.{◌≡◌, ℕ, ◌+◌, ◌-◌, List, ◌++◌, 
 use Rattle.std.proofs.lemmas.List.{drop_at, take_at}
 use Rattle.quic_base.specs.Codec.{Takes}
 use Rattle.quic_params.specs.Entry.{IsEntry}
-use Rattle.quic_c_params.specs.Lists.{GivesEntry, TellsKnown}
+use Rattle.quic_c_params.specs.Lists.{GivesEntry}
 
 -- where the value of the first entry lies
-pub gives_entry : (list value rest : List ℕ) (id known : ℕ) → Takes (IsEntry id value) list rest → TellsKnown known id
-    → GivesEntry list (record { id = id; value = length list - length rest - length value; value_len = length value; known = known })
-gives_entry list value rest id known t k =
+pub gives_entry : (list value rest : List ℕ) (id : ℕ) → Takes (IsEntry id value) list rest
+    → GivesEntry list (record { id = id; value = length list - length rest - length value; value_len = length value })
+gives_entry list value rest id t =
     let f = t.is in
     let g = f.second in
     let head : List ℕ = f.front ++ g.front in
@@ -27,5 +27,4 @@ gives_entry list value rest id known t k =
       entry = subst (λ (v : List ℕ). Takes (IsEntry id v) list (drop (length list - length rest - length value + length value) list)) (sym is)
           (subst (λ (r : List ℕ). Takes (IsEntry id value) list r) (sym left) t);
       within = omega (arith, long);
-      known = k;
     }

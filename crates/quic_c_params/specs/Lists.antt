@@ -20,7 +20,6 @@ TellsKnown known number = ((known ≡ 1) × (id : TransportParameterId) × IsKno
 pub record GivesEntry (list : List ℕ) (words : EntryWords) : Type 0 where
   pub entry : Takes (IsEntry words.id (take words.value_len (drop words.value list))) list (drop (words.value + words.value_len) list)
   pub within : words.value + words.value_len ≤ length list
-  pub known : TellsKnown words.known words.id
 
 -- Bytes are laid at the front, with what stood behind them, and are counted; or there is less room than that, how much
 -- they need is told, and nothing changes.

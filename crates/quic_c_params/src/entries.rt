@@ -7,20 +7,20 @@ ghost use Rattle.quic_c_params.specs.Lists.{GivesEntry, Lacks, Stands, TellsKnow
 use crate::words::EntryWords;
 use quic_params::transport_parameters::{known, split_entry, write_entry_into};
 
-// Whether a record has the parameter of this number: 1 or 0.
-#[inline(always)]
-fn known_word(number: u64) -> u64
-    ensures { TellsKnown result number }
+/// Whether a record has the parameter of this number: 1 or 0 (RFC 9000, section 18.2). It has none of a number that is kept
+/// free of any meaning (section 18.1).
+#[unsafe(no_mangle)]
+pub extern "C" fn quic_wire_param_is_known_(id: u64) -> u32
+    ensures { TellsKnown result id }
 {
-    match known(number) {
+    match known(id) {
         Some(_) => 1,
         None => 0,
     }
 }
 
 /// Reads the entry at the front of a list of transport parameters, one that the record has or another (RFC 9000, section
-/// 18). It answers 0 with its number, the place and the length of its value, behind which the next entry begins, and
-/// whether the record has it; -2 just where the list is empty; -3 just where its first entry is cut off. `entry`
+/// 18). It answers 0 with its number, and the place and the length of its value, behind which the next entry begins; -2 just where the list is empty; -3 just where its first entry is cut off. `entry`
 /// changes with 0 alone. Whether the value is one of its kind isn't looked at.
 #[unsafe(no_mangle)]
 pub extern "C" fn quic_wire_param_read_(list: &[u8], entry: &mut EntryWords) -> i32
@@ -41,7 +41,6 @@ pub extern "C" fn quic_wire_param_read_(list: &[u8], entry: &mut EntryWords) -> 
         id,
         value: end - value.len(),
         value_len: value.len(),
-        known: known_word(id),
     };
     0
 }

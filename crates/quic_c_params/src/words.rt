@@ -77,11 +77,9 @@ pub struct EntryWords {
     pub value: usize,
     /// How many bytes its value has. The next entry begins behind them.
     pub value_len: usize,
-    /// 1 where the record has the parameter, and 0 where it doesn't.
-    pub known: u64,
 }
 
 // The sizes that every declaration of these structs in C must have.
 const _: () = prove!(std::mem::size_of::<ParamsWords>() == 264);
 
-const _: () = prove!(std::mem::size_of::<EntryWords>() == 32);
+const _: () = prove!(std::mem::size_of::<EntryWords>() == 24);

@@ -178,7 +178,7 @@ pub fn write_entry_into(number: u64, value: &[u8], dest: &mut [u8]) -> Result<us
     fill_head(number, value.len() as u64, &mut room);
     let head = room.filled();
     let len = head.len() + value.len();
-    if dest.len() < len {
+    if len > dest.len() {
         return Err(len);
     }
     dest[..head.len()].copy_from_slice(head);

@@ -1,5 +1,5 @@
 //! The functions of `quic_wire.h` that the library has; those of the header that C alone needs look for NULL.
-use super::words::{Canon, Frame, Frames, Head, Params, Range, Ranges, Said};
+use super::words::{Canon, Frame, Frames, Head, Param, Params, Range, Ranges, Said};
 
 extern "C" {
     /// An archive of another version lacks it, so that it isn't linked.
@@ -87,6 +87,27 @@ extern "C" {
         out_len: usize,
         written: *mut usize,
     ) -> i32;
+    pub fn quic_wire_params_write_with_(
+        side: u32,
+        params: *const Params,
+        further: *const u8,
+        further_len: usize,
+        order: *const u8,
+        order_len: usize,
+        out: *mut u8,
+        out_len: usize,
+        written: *mut usize,
+    ) -> i32;
+    pub fn quic_wire_param_read_(list: *const u8, len: usize, out: *mut Param) -> i32;
+    pub fn quic_wire_param_write_(
+        id: u64,
+        value: *const u8,
+        len: usize,
+        out: *mut u8,
+        out_len: usize,
+        written: *mut usize,
+    ) -> i32;
+    pub fn quic_wire_param_is_known_(id: u64) -> u32;
     pub fn quic_wire_set_insert_(runs: *mut Range, room: usize, count: *mut usize, start: u64, end: u64) -> i32;
     pub fn quic_wire_set_remove_(runs: *mut Range, room: usize, count: *mut usize, start: u64, end: u64) -> i32;
     pub fn quic_wire_set_contains_(runs: *const Range, room: usize, count: usize, number: u64) -> i32;

@@ -9,7 +9,7 @@
 mod c;
 mod words;
 
-pub use words::{Canon, Frame, Frames, Head, Params, Range, Ranges, Said};
+pub use words::{Canon, Frame, Frames, Head, Param, Params, Range, Ranges, Said};
 
 use crate::frame::Entry;
 use core::mem::MaybeUninit;
@@ -253,6 +253,50 @@ pub fn params_write(side: u32, params: &Params, out: &mut Room) -> Result<Filled
     // no pointer.
     let answer = unsafe { c::quic_wire_params_write_(side, params, to, room, &mut written) };
     wrote(answer, written)
+}
+
+#[inline]
+pub fn params_write_with(
+    side: u32,
+    params: &Params,
+    further: &[u8],
+    order: &[u8],
+    out: &mut Room,
+) -> Result<Filled, (i32, usize)> {
+    let mut written = 0;
+    let (list, len) = (further.as_ptr(), further.len());
+    let (indices, count) = (order.as_ptr(), order.len());
+    let (to, room) = (out.as_mut_ptr().cast::<u8>(), out.len());
+    // SAFETY: `further`, `order` and `out` each give their own pointer and length; `out` and `written` are borrowed
+    // alone. Any words in `params` serve; bytes that are no entries, and an order that isn't one of all, are refused.
+    // With 0 the first `written` bytes of `out` are initialised. The library looks at no other memory and keeps no
+    // pointer.
+    let answer =
+        unsafe { c::quic_wire_params_write_with_(side, params, list, len, indices, count, to, room, &mut written) };
+    wrote(answer, written)
+}
+
+#[inline]
+pub fn param_read(list: &[u8], out: &mut Param) -> i32 {
+    // SAFETY: `list` gives its own pointer and length; `out` is borrowed alone. The library looks at no other memory
+    // and keeps no pointer.
+    unsafe { c::quic_wire_param_read_(list.as_ptr(), list.len(), out) }
+}
+
+#[inline]
+pub fn param_write(id: u64, value: &[u8], out: &mut Room) -> Result<Filled, (i32, usize)> {
+    let mut written = 0;
+    let (to, room) = (out.as_mut_ptr().cast::<u8>(), out.len());
+    // SAFETY: `value` and `out` each give their own pointer and length; `out` and `written` are borrowed alone. With 0
+    // the first `written` bytes of `out` are initialised. The library looks at no other memory and keeps no pointer.
+    let answer = unsafe { c::quic_wire_param_write_(id, value.as_ptr(), value.len(), to, room, &mut written) };
+    wrote(answer, written)
+}
+
+#[inline]
+pub fn param_is_known(id: u64) -> bool {
+    // SAFETY: it takes a number alone.
+    unsafe { c::quic_wire_param_is_known_(id) == 1 }
 }
 
 #[inline]

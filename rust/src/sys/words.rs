@@ -121,6 +121,15 @@ pub struct Params {
     pub preferred_v4: [u8; 4],
 }
 
+/// An entry of a list of transport parameters: its number, and the place of its value.
+#[repr(C)]
+#[derive(Clone, Copy, Debug, Default, PartialEq, Eq, Hash)]
+pub struct Param {
+    pub id: u64,
+    pub value: usize,
+    pub valuelen: usize,
+}
+
 // Each struct is the header's: its size, its alignment, and where each field stands and how long it is.
 macro_rules! layout {
     ($type:ty, $size:literal, $align:literal: $($field:ident $at:literal $len:literal,)*) => {
@@ -152,3 +161,4 @@ layout!(Params, 264, 8: present 0 4, reason 4 4, max_idle_timeout 8 8, max_udp_p
     preferred_v6_port 130 2, original_dst_cid 132 20, initial_src_cid 152 20, retry_src_cid 172 20,
     preferred_cid 192 20, stateless_reset_token 212 16, preferred_token 228 16, preferred_v6 244 16,
     preferred_v4 260 4,);
+layout!(Param, 24, 8: id 0 8, value 8 8, valuelen 16 8,);

@@ -1,7 +1,7 @@
 //! Lists of transport parameters by their entries: what the record doesn't have, and the order (RFC 9000, section 18).
 use super::{Error, Side, TransportParameters};
 use crate::buffer::Buffer;
-use crate::sys::{self, Filled, Room};
+use crate::sys;
 use crate::text::Short;
 use crate::{varint, WriteError};
 use core::fmt;
@@ -20,35 +20,6 @@ pub struct Entry<'a> {
     /// Its value.
     pub value: &'a [u8],
 }
-
-// The parameters that the record has.
-const KNOWN: [u64; 20] = [
-    0x00,
-    0x01,
-    0x02,
-    0x03,
-    0x04,
-    0x05,
-    0x06,
-    0x07,
-    0x08,
-    0x09,
-    0x0a,
-    0x0b,
-    0x0c,
-    0x0d,
-    0x0e,
-    0x0f,
-    0x10,
-    0x20,
-    0x2ab2,
-    0xff04_de1b,
-];
-
-// The longest list of the record has 289 bytes.
-const OWN_ROOM: usize = 512;
-// How many entries a list has that is written by them.
-const MOST: usize = 64;
 
 impl<'a> Entry<'a> {
     /// The nth of the parameters that have no meaning and that peers must pass, of the number `31 * n + 27` (RFC 9000,
@@ -82,11 +53,27 @@ impl<'a> Entry<'a> {
     /// assert!(Entry { id: 0x0f, value: &[] }.is_known() && !Entry { id: 0x11, value: &[] }.is_known());
     /// ```
     pub fn is_known(&self) -> bool {
-        KNOWN.contains(&self.id)
+        sys::param_is_known(self.id)
     }
 
-    fn encoded_len(&self) -> Option<usize> {
-        Some(varint::len(self.id)? + varint::len(self.value.len() as u64)? + self.value.len())
+    /// Writes the entry in its least widths, and answers how many bytes it has.
+    ///
+    /// ```
+    /// use quic_wire::transport_parameters::Entry;
+    /// let mut list = [0; 8];
+    /// assert_eq!(Entry { id: 0x11, value: &[0, 0, 0, 1] }.write(&mut list), Ok(6));
+    /// assert_eq!(list, [0x11, 4, 0, 0, 0, 1, 0, 0]);
+    /// ```
+    ///
+    /// # Errors
+    ///
+    /// Where its number is 2^62 or more, or there is too little room.
+    pub fn write<B: Buffer + ?Sized>(&self, out: &mut B) -> Result<usize, WriteError> {
+        out.put(|room| match sys::param_write(self.id, self.value, room) {
+            Ok(filled) => Ok((filled, filled.len())),
+            Err((sys::NO_ROOM, needed)) => Err(WriteError::NoRoom(needed)),
+            Err(_) => Err(WriteError::OutOfRange("the number of a transport parameter is 2^62 or more")),
+        })
     }
 }
 
@@ -122,29 +109,19 @@ pub fn entries(list: &[u8]) -> Entries<'_> {
 #[derive(Clone)]
 pub struct Entries<'a>(&'a [u8]);
 
-impl<'a> Entries<'a> {
-    // One entry, and what is behind it.
-    fn split(list: &'a [u8]) -> Option<(Entry<'a>, &'a [u8])> {
-        let (id, id_len) = varint::read(list)?;
-        let (len, len_len) = varint::read(&list[id_len..])?;
-        let (value, rest) = list[id_len + len_len..].split_at_checked(usize::try_from(len).ok()?)?;
-        Some((Entry { id, value }, rest))
-    }
-}
-
 impl<'a> Iterator for Entries<'a> {
     type Item = Result<Entry<'a>, Error>;
 
     fn next(&mut self) -> Option<Self::Item> {
-        if self.0.is_empty() {
-            return None;
-        }
-        match Entries::split(self.0) {
-            Some((entry, rest)) => {
+        let mut read = sys::Param::default();
+        match sys::param_read(self.0, &mut read) {
+            sys::OK => {
+                let (front, rest) = self.0.split_at(read.value + read.valuelen);
                 self.0 = rest;
-                Some(Ok(entry))
+                Some(Ok(Entry { id: read.id, value: &front[read.value..] }))
             }
-            None => {
+            sys::EMPTY => None,
+            _ => {
                 self.0 = &[];
                 Some(Err(Error::Malformed))
             }
@@ -161,17 +138,26 @@ impl fmt::Debug for Entries<'_> {
 }
 
 impl TransportParameters {
-    /// Writes the list that `side` sends with further entries, in the order in which `order` puts all of them: by
-    /// default the record's and then the further ones.
+    /// How many rows the table of the record's parameters has, in which [`TransportParameters::write_with`] numbers
+    /// them: those of quinn-proto's `TransportParameterId::SUPPORTED`.
+    pub const ROWS: usize = 21;
+
+    /// Writes the list that `side` sends with `further` entries, which the record has no fields for and which
+    /// [`Entry::write`] wrote one behind the other. `order` numbers the record's parameters by their rows, whether they
+    /// are written or not, and the further entries from [`TransportParameters::ROWS`] on, and has each of these numbers
+    /// once; or it is empty, and then the further entries stand behind the others.
     ///
     /// ```
     /// use quic_wire::transport_parameters::{entries, Entry, TransportParameters};
     /// use quic_wire::Side;
     /// let sent = TransportParameters { initial_max_data: 9, ..TransportParameters::default() };
-    /// let extra = [Entry { id: 0x11, value: &[0, 0, 0, 1] }, Entry::reserved(4, b"?").unwrap()];
+    /// let mut further = vec![];
+    /// Entry { id: 0x11, value: &[0, 0, 0, 1] }.write(&mut further)?;
+    /// Entry::reserved(4, b"?").unwrap().write(&mut further)?;
+    /// // As with `order.shuffle(&mut rng)`.
+    /// let order: Vec<u8> = (0..TransportParameters::ROWS as u8 + 2).rev().collect();
     /// let mut list = [0; 64];
-    /// // As with `entries.shuffle(&mut rng)`.
-    /// let len = sent.write_with(Side::Client, &extra, |entries| entries.reverse(), &mut list)?;
+    /// let len = sent.write_with(Side::Client, &further, &order, &mut list)?;
     /// let ids: Vec<u64> = entries(&list[..len]).map(|entry| entry.unwrap().id).collect();
     /// assert_eq!(ids, [151, 0x11, 0x04]);
     /// assert_eq!(TransportParameters::read(Side::Server, &list[..len])?, sent);
@@ -180,62 +166,41 @@ impl TransportParameters {
     ///
     /// # Errors
     ///
-    /// As [`TransportParameters::write`]; where a further entry is one that the record has or is there twice, its
-    /// number is 2^62 or more, there are more than 64 in all, or `order` does anything but put them in an order.
+    /// As [`TransportParameters::write`]; where `further` isn't such a list, or has more than 235 entries; where
+    /// `order` isn't one of all.
     pub fn write_with<B: Buffer + ?Sized>(
         &self,
         side: Side,
-        extra: &[Entry<'_>],
-        order: impl FnOnce(&mut [Entry<'_>]),
+        further: &[u8],
+        order: &[u8],
         out: &mut B,
     ) -> Result<usize, WriteError> {
-        let mut own = [0; OWN_ROOM];
-        let own_len = self.write(side, &mut own)?;
-        check(extra)?;
-        let (mut all, mut count) = ([Entry::default(); MOST], 0);
-        for entry in entries(&own[..own_len]).flatten().chain(extra.iter().copied()) {
-            *all.get_mut(count).ok_or(WriteError::OutOfRange("more than 64 transport parameters"))? = entry;
-            count += 1;
-        }
-        let before = all;
-        order(&mut all[..count]);
-        let all = &all[..count];
-        if !before[..count].iter().all(|entry| all.contains(entry)) {
-            return Err(WriteError::OutOfRange("transport parameters were not only put in an order"));
-        }
-        let lens = all.iter().map(Entry::encoded_len);
-        let needed = lens.sum::<Option<usize>>().ok_or(WriteError::OutOfRange("a transport parameter is too long"))?;
-        out.put(|room| {
-            if room.len() < needed {
-                return Err(WriteError::NoRoom(needed));
-            }
-            let filled = write_all(all, room).ok_or(WriteError::OutOfRange("a transport parameter is too long"))?;
-            Ok((filled, filled.len()))
+        self.check_scope()?;
+        let (words, reader) = (self.words(), !side as u32);
+        out.put(|room| match sys::params_write_with(reader, &words, further, order, room) {
+            Ok(filled) => Ok((filled, filled.len())),
+            Err((sys::NO_ROOM, needed)) => Err(WriteError::NoRoom(needed)),
+            Err(_) => Err(self.write(side, &mut [0; OWN_ROOM]).err().unwrap_or_else(|| why_not(further))),
         })
     }
 }
 
-fn check(extra: &[Entry<'_>]) -> Result<(), WriteError> {
-    let twice = |(i, entry): (usize, &Entry<'_>)| extra[..i].iter().any(|before| before.id == entry.id);
-    if extra.iter().any(|entry| entry.id > varint::MAX) {
-        return Err(WriteError::OutOfRange("the number of a transport parameter is 2^62 or more"));
-    }
-    if extra.iter().any(Entry::is_known) {
-        return Err(WriteError::OutOfRange("a further transport parameter is one that the record has"));
-    }
-    if extra.iter().enumerate().any(twice) {
-        return Err(WriteError::OutOfRange("a further transport parameter is there twice"));
-    }
-    Ok(())
-}
+// The longest list of the record has 289 bytes.
+const OWN_ROOM: usize = 512;
 
-// Writes entries for which there is room.
-fn write_all(all: &[Entry<'_>], room: &mut Room) -> Option<Filled> {
-    let mut filled = Filled::NONE;
-    for entry in all {
-        filled = filled.then(sys::varint_write(entry.id, 0, &mut room[filled.len()..])?);
-        filled = filled.then(sys::varint_write(entry.value.len() as u64, 0, &mut room[filled.len()..])?);
-        filled = filled.then(sys::copied(entry.value, &mut room[filled.len()..]).0);
-    }
-    Some(filled)
+// Why entries can't stand beside those of a record, or else that their order is none.
+#[cold]
+fn why_not(further: &[u8]) -> WriteError {
+    let twice = |(i, entry): (usize, Entry<'_>)| entries(further).take(i).flatten().any(|before| before.id == entry.id);
+    WriteError::OutOfRange(if entries(further).any(|entry| entry.is_err()) {
+        "a further transport parameter is cut off"
+    } else if entries(further).count() > 256 - TransportParameters::ROWS {
+        "more than 235 further transport parameters"
+    } else if entries(further).flatten().any(|entry| entry.is_known()) {
+        "a further transport parameter is one that the record has"
+    } else if entries(further).flatten().enumerate().any(twice) {
+        "a further transport parameter is there twice"
+    } else {
+        "the order isn't one of all transport parameters"
+    })
 }

@@ -195,16 +195,22 @@ impl TransportParameters {
     ///
     /// Where the peer would refuse it, or there is too little room.
     pub fn write<B: Buffer + ?Sized>(&self, side: Side, out: &mut B) -> Result<usize, WriteError> {
-        let scoped = |a: PreferredAddress| a.address_v6.is_some_and(|s| s.flowinfo() != 0 || s.scope_id() != 0);
-        if self.preferred_address.is_some_and(scoped) {
-            return Err(WriteError::OutOfRange("a preferred address has a flow label or a scope"));
-        }
+        self.check_scope()?;
         let (words, reader) = (self.words(), !side as u32);
         out.put(|room| match sys::params_write(reader, &words, room) {
             Ok(filled) => Ok((filled, filled.len())),
             Err((sys::NO_ROOM, needed)) => Err(WriteError::NoRoom(needed)),
             Err(_) => Err(WriteError::OutOfRange(self.why_not(side))),
         })
+    }
+
+    // The words of an address of IPv6 have neither.
+    fn check_scope(&self) -> Result<(), WriteError> {
+        let scoped = |a: PreferredAddress| a.address_v6.is_some_and(|s| s.flowinfo() != 0 || s.scope_id() != 0);
+        if self.preferred_address.is_some_and(scoped) {
+            return Err(WriteError::OutOfRange("a preferred address has a flow label or a scope"));
+        }
+        Ok(())
     }
 
     #[cold]

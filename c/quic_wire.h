@@ -739,9 +739,10 @@ QUIC_WIRE_API int quic_wire_canonical(const uint8_t *payload, size_t payloadlen,
  * of the datagram begins; QUIC_WIRE_PACKET_LENGTH_BEYOND_END and the head, of a
  * packet that is cut off; QUIC_WIRE_PACKET_UNSUPPORTED_VERSION and of the head
  * its kind, its version and its ids, which may have up to 255 bytes; another
- * reason where there is no head; QUIC_WIRE_ERR_INVALID_ARGUMENT for NULL, or
- * where |cidlen| is above 20 or there are 2^32 bytes or more.  |head| stays
- * with the last two.
+ * reason where there is no head, or where a version negotiation has longer ids
+ * than 20 bytes, which quic_wire_negotiation_read tells;
+ * QUIC_WIRE_ERR_INVALID_ARGUMENT for NULL, or where |cidlen| is above 20 or
+ * there are 2^32 bytes or more.  |head| stays with the last two.
  */
 QUIC_WIRE_API int quic_wire_head_read(const uint8_t *bytes, size_t len,
                                       uint32_t cidlen, const uint32_t *versions,

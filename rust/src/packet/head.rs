@@ -70,7 +70,8 @@ const VERSION_NEGOTIATION: u8 = 5;
 
 impl Head {
     /// Reads the header of the packet that bytes begin with. Ids of short headers have `cid_len` bytes; `versions` are
-    /// those that are read further than their ids. The fixed bit isn't looked at: see [`Head::fixed_bit`].
+    /// those that are read further than their ids. The fixed bit isn't looked at: see [`Head::fixed_bit`]. Ids of a
+    /// version negotiation that are longer than 20 bytes are told by [`Head::read_version_negotiation`] alone.
     ///
     /// ```
     /// use quic_wire::packet::{Head, HeadError};

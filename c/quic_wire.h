@@ -758,9 +758,10 @@ QUIC_WIRE_API int quic_wire_canonical(const uint8_t *payload, size_t payloadlen,
  * of the datagram begins; QUIC_WIRE_PACKET_LENGTH_BEYOND_END and the head, of a
  * packet that is cut off; QUIC_WIRE_PACKET_UNSUPPORTED_VERSION and of the head
  * its kind, its version and its ids, which may have up to 255 bytes; another
- * reason where there is no head; QUIC_WIRE_ERR_INVALID_ARGUMENT for NULL, or
- * where |cidlen| is above 20 or there are 2^32 bytes or more.  |head| stays
- * with the last two.
+ * reason where there is no head, or where a version negotiation has longer ids
+ * than 20 bytes, which quic_wire_negotiation_read tells;
+ * QUIC_WIRE_ERR_INVALID_ARGUMENT for NULL, or where |cidlen| is above 20 or
+ * there are 2^32 bytes or more.  |head| stays with the last two.
  */
 QUIC_WIRE_API int quic_wire_head_read(const uint8_t *bytes, size_t len,
                                       uint32_t cidlen, const uint32_t *versions,
@@ -774,6 +775,24 @@ QUIC_WIRE_API int quic_wire_head_read(const uint8_t *bytes, size_t len,
  */
 QUIC_WIRE_API size_t quic_wire_short_read(const uint8_t *packet,
                                           size_t packetlen, uint32_t cidlen);
+
+/*
+ * Reads the head of the version negotiation that |packet| is (RFC 9000, section
+ * 17.2.1).  Its ids are those of the packet that it answers, which may be of any
+ * version, so they have up to 255 bytes (RFC 8999, section 6).  It is what
+ * quic_wire_head_read tells where both have at most 20, which refuses longer
+ * ones.  The seven low bits of the first byte aren't looked at.
+ *
+ * Returns 0 and the head, behind which the versions stand from |head->head_end|
+ * to |head->end|, four bytes each, the highest first; QUIC_WIRE_ERR_MALFORMED
+ * where none begins there: the highest bit of the first byte is clear, the
+ * version isn't 0, or the bytes end within the ids;
+ * QUIC_WIRE_ERR_INVALID_ARGUMENT for NULL, or where there are 2^32 bytes or
+ * more.  |head| changes with 0 alone.
+ */
+QUIC_WIRE_API int quic_wire_negotiation_read(const uint8_t *packet,
+                                             size_t packetlen,
+                                             quic_wire_head *head);
 
 /* Where the ids stand in a packet of this head, or NULL for NULL. */
 QUIC_WIRE_API const uint8_t *quic_wire_dcid(const uint8_t *packet,
@@ -892,6 +911,26 @@ QUIC_WIRE_API int64_t quic_wire_head_write(
     const quic_wire_said *said, const uint8_t *dcid, size_t dcidlen,
     const uint8_t *scid, size_t scidlen, const uint8_t *token, size_t tokenlen,
     uint8_t *dest, size_t destlen);
+
+/*
+ * Writes a version negotiation at the front of |dest|, all of it: the first byte
+ * |first| with its highest bit set, version 0, the ids, which may have 255 bytes
+ * (RFC 8999, section 6), and the versions.  |dcid| is the source id of the packet
+ * that it answers, |scid| its destination id (RFC 9000, section 17.2.1).  The
+ * seven low bits of |first| are free; that section has QUIC_WIRE_FIXED_BIT set
+ * where QUIC may share its port (RFC 7983), and readers that ask for it refuse a
+ * packet without it.
+ *
+ * Returns 0, and in |*written| how many bytes were written;
+ * QUIC_WIRE_ERR_NOBUF where |destlen| is less, and in |*written| how many are
+ * needed; QUIC_WIRE_ERR_INVALID_ARGUMENT for NULL, or where an id is longer than
+ * 255 bytes, and then |*written| stays.  What stands in |dest| behind what was
+ * written stays, and all of it where nothing was.
+ */
+QUIC_WIRE_API int quic_wire_negotiation_write(
+    uint8_t first, const uint8_t *dcid, size_t dcidlen, const uint8_t *scid,
+    size_t scidlen, const uint32_t *versions, size_t nversions, uint8_t *dest,
+    size_t destlen, size_t *written);
 
 /*
  * Sets the length in the head of a packet of |packetlen| bytes whose number

@@ -41,6 +41,7 @@ int32_t quic_wire_canonical_(const uint8_t *, size_t, uint8_t *, size_t,
 int32_t quic_wire_head_read_(const uint8_t *, size_t, uint32_t,
                              const uint32_t *, size_t, quic_wire_head *);
 size_t quic_wire_short_read_(const uint8_t *, size_t, uint32_t);
+int32_t quic_wire_negotiation_read_(const uint8_t *, size_t, quic_wire_head *);
 int32_t quic_wire_unprotect_(uint8_t *, size_t, size_t, const uint8_t *,
                              uint64_t, uint64_t *);
 int32_t quic_wire_protect_(uint8_t *, size_t, size_t, const uint8_t *);
@@ -49,6 +50,9 @@ int32_t quic_wire_short_write_(uint32_t, uint64_t, const uint8_t *, size_t,
 int64_t quic_wire_head_write_(const quic_wire_said *, const uint8_t *, size_t,
                               const uint8_t *, size_t, const uint8_t *, size_t,
                               uint8_t *, size_t);
+int32_t quic_wire_negotiation_write_(uint8_t, const uint8_t *, size_t,
+                                     const uint8_t *, size_t, const uint32_t *,
+                                     size_t, uint8_t *, size_t, size_t *);
 int32_t quic_wire_set_len_(uint8_t *, size_t, size_t, uint32_t);
 int32_t quic_wire_number_len_(uint64_t, uint64_t);
 uint64_t quic_wire_number_expand_(uint64_t, uint32_t, uint64_t);
@@ -321,6 +325,14 @@ QUIC_WIRE_API size_t quic_wire_short_read(const uint8_t *packet,
   return packet ? quic_wire_short_read_(packet, packetlen, cidlen) : 0;
 }
 
+QUIC_WIRE_API int quic_wire_negotiation_read(const uint8_t *packet,
+                                             size_t packetlen,
+                                             quic_wire_head *head) {
+  if (!packet || !head)
+    return QUIC_WIRE_ERR_INVALID_ARGUMENT;
+  return quic_wire_negotiation_read_(packet, packetlen, head);
+}
+
 QUIC_WIRE_API const uint8_t *quic_wire_dcid(const uint8_t *packet,
                                             const quic_wire_head *head) {
   return packet && head ? packet + (head->first & QUIC_WIRE_LONG_FORM ? 6 : 1)
@@ -432,6 +444,22 @@ QUIC_WIRE_API int64_t quic_wire_head_write(
     return QUIC_WIRE_ERR_INVALID_ARGUMENT;
   return quic_wire_head_write_(said, dcid, dcidlen, scid ? scid : &none, scidlen,
                                token ? token : &none, tokenlen, dest, destlen);
+}
+
+QUIC_WIRE_API int quic_wire_negotiation_write(
+    uint8_t first, const uint8_t *dcid, size_t dcidlen, const uint8_t *scid,
+    size_t scidlen, const uint32_t *versions, size_t nversions, uint8_t *dest,
+    size_t destlen, size_t *written) {
+  static const uint32_t none = 0;
+  if ((!dcid && dcidlen) || (!scid && scidlen) || (!versions && nversions) ||
+      (!dest && destlen) || !written)
+    return QUIC_WIRE_ERR_INVALID_ARGUMENT;
+  if (!dest)
+    dest = (uint8_t *)quic_wire_nothing_();
+  return quic_wire_negotiation_write_(
+      first, dcid ? dcid : (const uint8_t *)&none, dcidlen,
+      scid ? scid : (const uint8_t *)&none, scidlen, versions ? versions : &none,
+      nversions, dest, destlen, written);
 }
 
 QUIC_WIRE_API int quic_wire_set_len(uint8_t *packet, size_t packetlen,

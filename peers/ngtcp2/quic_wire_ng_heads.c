@@ -5,7 +5,6 @@
 #include <string.h>
 
 #include "ngtcp2_cid.h"
-#include "ngtcp2_macro.h"
 #include "quic_wire_ng.h"
 
 /* Those of version 1's form that ngtcp2 takes: version 1 and the drafts. */
@@ -106,26 +105,9 @@ ngtcp2_ssize ngtcp2_pkt_decode_hd_short(ngtcp2_pkt_hd *dest, const uint8_t *pkt,
   return (ngtcp2_ssize)end;
 }
 
-/*
- * The ids of a version negotiation may have 255 bytes (RFC 8999, section 6),
- * which the library tells of versions alone that it isn't given: so its front
- * is read as one of such a version.
- */
-static int read_negotiation(quic_wire_head *h, const uint8_t *data,
-                            size_t datalen) {
-  uint8_t front[7 + 2 * UINT8_MAX];
-  size_t len = ngtcp2_min(datalen, sizeof(front));
-  int answer;
-
-  memcpy(front, data, len);
-  front[4] = 1;
-  answer = quic_wire_head_read(front, len, 0, NULL, 0, h);
-  h->version = 0;
-  return answer;
-}
-
 /* The version and the ids of a packet of whatever version (RFC 8999): none is
- * given, so of each version the library tells these and no more. */
+ * given, so of each version the library tells these and no more.  Those of a
+ * version negotiation may be longer than version 1 has them. */
 int ngtcp2_pkt_decode_version_cid(ngtcp2_version_cid *dest, const uint8_t *data,
                                   size_t datalen, size_t short_dcidlen) {
   quic_wire_head h;
@@ -143,7 +125,7 @@ int ngtcp2_pkt_decode_version_cid(ngtcp2_version_cid *dest, const uint8_t *data,
   answer = quic_wire_head_read(data, datalen, (uint32_t)short_dcidlen, NULL, 0,
                                &h);
   if (answer == QUIC_WIRE_PACKET_MALFORMED_CID) {
-    answer = read_negotiation(&h, data, datalen);
+    answer = quic_wire_negotiation_read(data, datalen, &h);
   }
   if (answer != 0 && answer != QUIC_WIRE_PACKET_UNSUPPORTED_VERSION) {
     return NGTCP2_ERR_INVALID_ARGUMENT;
@@ -228,6 +210,20 @@ ngtcp2_ssize ngtcp2_pkt_encode_hd_short(uint8_t *out, size_t outlen,
   if (n < 0) {
     return n == QUIC_WIRE_ERR_NOBUF ? NGTCP2_ERR_NOBUF
                                     : NGTCP2_ERR_INVALID_ARGUMENT;
+  }
+  return (ngtcp2_ssize)n;
+}
+
+ngtcp2_ssize ngtcp2_pkt_write_version_negotiation(
+    uint8_t *dest, size_t destlen, uint8_t unused_random, const uint8_t *dcid,
+    size_t dcidlen, const uint8_t *scid, size_t scidlen, const uint32_t *sv,
+    size_t nsv) {
+  size_t n;
+  int answer = quic_wire_negotiation_write(unused_random, dcid, dcidlen, scid,
+                                           scidlen, sv, nsv, dest, destlen, &n);
+  if (answer != 0) {
+    return answer == QUIC_WIRE_ERR_NOBUF ? NGTCP2_ERR_NOBUF
+                                         : NGTCP2_ERR_INVALID_ARGUMENT;
   }
   return (ngtcp2_ssize)n;
 }

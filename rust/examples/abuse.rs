@@ -2,7 +2,9 @@
 //! however they are asked: one frame or many, from the front or resumed, in place or copied, written and read.
 use quic_wire::canonical::canonical;
 use quic_wire::frame::{Ack, CryptoMeta, DatagramMeta, Entry, Frame, Iter, StreamMeta};
-use quic_wire::packet::{Head, HeadError, Header, LongType, PacketNumber, PacketPlace, Packets, PacketsMut};
+use quic_wire::packet::{
+    Head, HeadError, Header, LongType, PacketNumber, PacketPlace, Packets, PacketsMut, VersionNegotiation,
+};
 use quic_wire::range_set::ArrayRangeSet;
 use quic_wire::transport_parameters::{self, entries, TransportParameters};
 use quic_wire::{varint, Side, StreamId, WriteError};
@@ -288,6 +290,28 @@ fn sets(random: &mut Random) {
     }
 }
 
+fn negotiations(random: &mut Random) {
+    let most = [24, 260][random.below(2) as usize];
+    let (dst_cid, src_cid) = (&random.bytes(most)[..], &random.bytes(most)[..]);
+    let versions: Vec<_> = (0..random.below(5)).map(|_| random.next() as u32).collect();
+    let answer = VersionNegotiation { random: random.next() as u8, dst_cid, src_cid, versions: &versions };
+    let mut packet = vec![];
+    let Ok(len) = answer.encode(&mut packet) else {
+        assert!(packet.is_empty() && dst_cid.len().max(src_cid.len()) > 255);
+        return;
+    };
+    assert_eq!((packet.len(), packet.len()), (len, answer.encoded_len()));
+    let head = Head::read_version_negotiation(&packet).unwrap();
+    assert_eq!((head.dst_cid(&packet), head.src_cid(&packet)), (dst_cid, src_cid));
+    assert!(head.versions(&packet).eq(versions));
+    let damaged = random.below(len as u64) as usize;
+    packet[damaged] ^= 1 << random.below(8);
+    if let Some(head) = Head::read_version_negotiation(&packet) {
+        let longest = head.dst_cid(&packet).len().max(head.src_cid(&packet).len());
+        assert_eq!(Head::read(&packet, 0, VERSIONS).ok(), (longest <= 20).then_some(head));
+    }
+}
+
 fn main() {
     let mut words = env::args().skip(1).map(|word| word.parse::<u64>().expect("a number"));
     let rounds = words.next().unwrap_or(100_000);
@@ -297,6 +321,7 @@ fn main() {
         heads(&mut random);
         datagrams(&mut random);
         headers(&mut random);
+        negotiations(&mut random);
         parameters(&mut random);
         sets(&mut random);
     }

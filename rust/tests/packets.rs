@@ -2,7 +2,7 @@
 #![cfg(feature = "alloc")]
 use quic_wire::packet::{
     Head, HeadError, Header, LongType, Opened, PacketDecodeError, PacketNumber, PacketPlace, Packets, PacketsMut,
-    ProtectedHeader, UnprotectError, DEFAULT_SUPPORTED_VERSIONS,
+    ProtectedHeader, UnprotectError, VersionNegotiation, DEFAULT_SUPPORTED_VERSIONS,
 };
 use quic_wire::transport_error::Code;
 use quic_wire::{Error, WriteError};
@@ -180,6 +180,33 @@ fn headers_that_nobody_reads_are_refused() {
     let greased = Packets::new(&out, 0, &[1], true).next().unwrap().unwrap();
     assert_eq!(greased.header(), ProtectedHeader::VersionNegotiate { random: 0x3f, src_cid: &[], dst_cid: ID });
     assert_eq!(greased.head().versions(&out).collect::<Vec<_>>(), [1]);
+}
+
+#[test]
+fn a_version_negotiation_is_written_with_ids_of_any_length() {
+    let (dst_cid, src_cid, versions) = (&[7; 255][..], &[9; 21][..], &[1, 0x6b33_43cf][..]);
+    let answer = VersionNegotiation { random: 0xff, dst_cid, src_cid, versions };
+    let bytes = [&[0xff, 0, 0, 0, 0, 255], dst_cid, &[21], src_cid, &[0, 0, 0, 1, 0x6b, 0x33, 0x43, 0xcf]].concat();
+    let mut out = vec![0xa5];
+    assert_eq!((answer.encode(&mut out), answer.encoded_len()), (Ok(bytes.len()), bytes.len()));
+    assert_eq!(out[1..], bytes);
+    let mut room = [0xa5; 300];
+    let short = bytes.len() - 1;
+    assert_eq!(answer.encode(&mut room[..short]), Err(WriteError::NoRoom(bytes.len())));
+    assert_eq!(room, [0xa5; 300]);
+    let head = Head::read_version_negotiation(&bytes).unwrap();
+    assert_eq!(head.header(&bytes), ProtectedHeader::VersionNegotiate { random: 0x7f, dst_cid, src_cid });
+    assert_eq!((head.head_end(), head.end(), head.is_protected()), (7 + 255 + 21, bytes.len(), false));
+    assert_eq!(head.versions(&bytes).collect::<Vec<_>>(), versions);
+    assert!((0..head.head_end()).all(|len| Head::read_version_negotiation(&bytes[..len]).is_none()));
+    let other = [0x80, 0, 0, 0, 1, 0, 0];
+    assert_eq!(Head::read_version_negotiation(&other), None);
+    let too_long = VersionNegotiation { src_cid: &[9; 256], ..answer };
+    let what = WriteError::OutOfRange("a connection id has more than 255 bytes");
+    assert_eq!(too_long.encode(&mut out), Err(what));
+    let small = VersionNegotiation { random: 3, dst_cid: &[0xaa], src_cid: &[], versions };
+    let shown = "VersionNegotiation { dst_cid: aa, src_cid: , random: 3, versions: [00000001, 6b3343cf] }";
+    assert_eq!(format!("{small:?}"), shown);
 }
 
 #[test]

@@ -1,4 +1,5 @@
 mod Answered
 mod Masks
+mod Negotiated
 mod Shaping
 mod Writing

@@ -1,4 +1,5 @@
 pub mod Heads
+pub mod Negotiation
 pub mod Numbers
 pub mod Protecting
 pub mod Reading

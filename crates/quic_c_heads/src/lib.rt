@@ -3,6 +3,7 @@
 #![tactic(auto)]
 
 mod heads;
+mod negotiation;
 mod numbers;
 mod protection;
 mod words;

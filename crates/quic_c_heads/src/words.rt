@@ -11,7 +11,8 @@ pub struct HeadWords {
     pub kind: u8,
     /// The first byte as it stands.
     pub first: u8,
-    /// How many bytes the receiver's id has, at most 20 but of an unknown version.
+    /// How many bytes the receiver's id has, at most 20 but of an unknown version, and where a version negotiation
+    /// alone is read.
     pub dst_len: u8,
     /// How many bytes the sender's id has, likewise.
     pub src_len: u8,

@@ -94,7 +94,7 @@ fn written_part(number: u64, len: u8) -> PacketNumber
 
 // What the first byte has beside its type and number.
 #[inline(always)]
-fn first_word(kind: HeadKind, flags: u8) -> u8
+pub(crate) fn first_word(kind: HeadKind, flags: u8) -> u8
     ensures { result ≡ first_word kind flags }
 {
     let clear = 64 * (flags / 64 % 2);

@@ -67,7 +67,8 @@ pub enum Header<'a> {
         /// The packet's number.
         number: PacketNumber,
     },
-    /// The header of a version negotiation (RFC 9000, section 17.2.1).
+    /// The header of a version negotiation (RFC 9000, section 17.2.1). The whole packet, whose ids may be longer, is
+    /// [`VersionNegotiation`](super::VersionNegotiation).
     VersionNegotiate {
         /// The first byte without its highest bit. Who doesn't take greased packets looks for 0x40 in it, which RFC
         /// 9000, section 17.2.1, has set where QUIC may share its port; without it, [`Header::encode_with`] alone

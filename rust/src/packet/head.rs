@@ -70,7 +70,8 @@ const VERSION_NEGOTIATION: u8 = 5;
 
 impl Head {
     /// Reads the header of the packet that bytes begin with. Ids of short headers have `cid_len` bytes; `versions` are
-    /// those that are read further than their ids. The fixed bit isn't looked at: see [`Head::fixed_bit`].
+    /// those that are read further than their ids. The fixed bit isn't looked at: see [`Head::fixed_bit`]. Ids of a
+    /// version negotiation that are longer than 20 bytes are told by [`Head::read_version_negotiation`] alone.
     ///
     /// ```
     /// use quic_wire::packet::{Head, HeadError};
@@ -113,6 +114,30 @@ impl Head {
         match sys::short_read(packet, u32::try_from(cid_len).ok()?) {
             0 => None,
             end => Some(end),
+        }
+    }
+
+    /// Reads the header of the version negotiation that a packet is. Its ids are those of the packet that it answers,
+    /// which may be of any version, so they have up to 255 bytes (RFC 8999, section 6). [`Head::read`] tells the same
+    /// where both have at most 20, and refuses longer ones. `None` where no version negotiation begins there, or where
+    /// there are 4 GiB or more. The fixed bit isn't looked at.
+    ///
+    /// ```
+    /// use quic_wire::packet::{Head, VersionNegotiation};
+    /// let (dst_cid, src_cid) = (&[7; 30][..], &[][..]);
+    /// let mut packet = [0; 41];
+    /// VersionNegotiation { random: 0x40, dst_cid, src_cid, versions: &[1] }.encode(&mut packet)?;
+    /// let head = Head::read_version_negotiation(&packet).unwrap();
+    /// assert_eq!((head.dst_cid(&packet), head.src_cid(&packet)), (dst_cid, src_cid));
+    /// assert_eq!(head.versions(&packet).collect::<Vec<_>>(), [1]);
+    /// assert!(Head::read(&packet, 0, &[]).is_err());
+    /// # Ok::<(), quic_wire::WriteError>(())
+    /// ```
+    pub fn read_version_negotiation(packet: &[u8]) -> Option<Head> {
+        let mut head = sys::Head::default();
+        match sys::negotiation_read(packet, &mut head) {
+            0 => Some(Head(head)),
+            _ => None,
         }
     }
 

@@ -28,6 +28,7 @@
 mod datagram;
 mod encode;
 mod head;
+mod negotiation;
 mod number;
 mod opening;
 mod protection;
@@ -35,6 +36,7 @@ mod protection;
 pub use datagram::{Packets, PacketsMut, PartialDecode};
 pub use encode::{Header, PartialEncode};
 pub use head::{Head, HeadError, Versions};
+pub use negotiation::VersionNegotiation;
 pub use number::PacketNumber;
 pub use opening::{Packet, PacketMut};
 pub use protection::{Opened, PacketPlace, UnprotectError};

@@ -47,6 +47,7 @@ extern "C" {
         out: *mut Head,
     ) -> i32;
     pub fn quic_wire_short_read_(packet: *const u8, len: usize, cid_len: u32) -> usize;
+    pub fn quic_wire_negotiation_read_(packet: *const u8, len: usize, out: *mut Head) -> i32;
     pub fn quic_wire_unprotect_(
         packet: *mut u8,
         len: usize,
@@ -75,6 +76,18 @@ extern "C" {
         out: *mut u8,
         out_len: usize,
     ) -> i64;
+    pub fn quic_wire_negotiation_write_(
+        first: u8,
+        dst: *const u8,
+        dst_len: usize,
+        src: *const u8,
+        src_len: usize,
+        versions: *const u32,
+        versions_len: usize,
+        out: *mut u8,
+        out_len: usize,
+        written: *mut usize,
+    ) -> i32;
     pub fn quic_wire_number_len_(number: u64, largest_acked: u64) -> i32;
     pub fn quic_wire_number_expand_(written: u64, len: u32, expected: u64) -> u64;
     pub fn quic_wire_varint_read_(bytes: *const u8, len: usize, value: *mut u64) -> usize;

@@ -167,6 +167,13 @@ pub fn short_read(packet: &[u8], cid_len: u32) -> usize {
 }
 
 #[inline]
+pub fn negotiation_read(packet: &[u8], out: &mut Head) -> i32 {
+    // SAFETY: `packet` gives its own pointer and length; `out` is borrowed alone. The library looks at no other memory
+    // and keeps no pointer.
+    unsafe { c::quic_wire_negotiation_read_(packet.as_ptr(), packet.len(), out) }
+}
+
+#[inline]
 pub fn unprotect(packet: &mut [u8], place: usize, mask: &[u8; 5], expected: u64, number: &mut u64) -> i32 {
     let (bytes, len) = (packet.as_mut_ptr(), packet.len());
     // SAFETY: `packet` gives its own pointer and length and is borrowed alone, as is `number`; of `mask` the five bytes
@@ -204,6 +211,26 @@ pub fn head_write(said: &Said, [dst, src, token]: [&[u8]; 3], out: &mut Room) ->
     // no other memory and keeps no pointer.
     let answer = unsafe { c::quic_wire_head_write_(said, dst, dst_len, src, src_len, token, token_len, to, room) };
     usize::try_from(answer).map(Filled).map_err(|_| answer)
+}
+
+pub fn negotiation_write(
+    first: u8,
+    [dst, src]: [&[u8]; 2],
+    versions: &[u32],
+    out: &mut Room,
+) -> Result<Filled, (i32, usize)> {
+    let mut written = 0;
+    let (to, room) = (out.as_mut_ptr().cast::<u8>(), out.len());
+    let (dst, dst_len) = (dst.as_ptr(), dst.len());
+    let (src, src_len) = (src.as_ptr(), src.len());
+    let (named, count) = (versions.as_ptr(), versions.len());
+    // SAFETY: both ids, `versions` and `out` each give their own pointer and length; `out` and `written` are borrowed
+    // alone. With 0 the first `written` bytes of `out` are initialised. The library looks at no other memory and keeps
+    // no pointer.
+    let answer = unsafe {
+        c::quic_wire_negotiation_write_(first, dst, dst_len, src, src_len, named, count, to, room, &mut written)
+    };
+    wrote(answer, written)
 }
 
 #[inline]

@@ -6,6 +6,7 @@ use super::{
 use crate::sys;
 use crate::text::Short;
 use crate::transport_error::Code;
+use crate::varint;
 use core::fmt;
 use core::iter::FusedIterator;
 use core::mem::MaybeUninit;
@@ -114,7 +115,7 @@ pub(crate) fn invalid_by(last_type: u64, reason: u64) -> InvalidFrame {
 }
 
 /// The frames of a payload, and then one [`InvalidFrame`] where something is none. A run of PADDING is a frame for each
-/// type, mostly a byte. It is 40 bytes; [`Iter::fill`] reads many frames with one call.
+/// type, mostly a byte. It is 48 bytes; [`Iter::fill`] reads many frames with one call.
 ///
 /// ```
 /// use quic_wire::frame::{Frame, Iter};
@@ -128,6 +129,8 @@ pub struct Iter<'a> {
     payload: &'a [u8],
     // The end of the last whole frame, and its type.
     state: sys::Frames,
+    // Whether ACK_FREQUENCY and IMMEDIATE_ACK are unknown types.
+    basic: bool,
 }
 
 impl<'a> Iter<'a> {
@@ -173,7 +176,26 @@ impl<'a> Iter<'a> {
             return Err(EmptyPayload);
         }
         let state = sys::Frames { offset: 0, last_type: u64::MAX, ended: 0, strict: u32::from(strict) };
-        Ok(Iter { payload, state })
+        Ok(Iter { payload, state, basic: false })
+    }
+
+    /// The same frames, but that ACK_FREQUENCY and IMMEDIATE_ACK are of unknown types, as they are where the ACK
+    /// frequency extension wasn't negotiated. One that is broken within its fields is told for that.
+    ///
+    /// ```
+    /// use quic_wire::frame::{Frame, Iter, Reason};
+    /// let payload = [0x01, 0x1f];
+    /// assert!(Iter::strict(&payload)?.eq([Ok(Frame::Ping), Ok(Frame::ImmediateAck)]));
+    /// let mut frames = Iter::strict(&payload)?.without_ack_frequency();
+    /// assert_eq!(frames.next(), Some(Ok(Frame::Ping)));
+    /// let error = frames.next().unwrap().unwrap_err();
+    /// assert_eq!((error.reason, frames.next()), (Reason::InvalidFrameId, None));
+    /// assert_eq!(error.to_string(), "invalid frame ID in IMMEDIATE_ACK");
+    /// # Ok::<(), quic_wire::Error>(())
+    /// ```
+    #[inline]
+    pub fn without_ack_frequency(self) -> Self {
+        Iter { basic: true, ..self }
     }
 
     /// Goes on at a place in a payload, behind a frame of the type `last_type`: for an owner of the payload that can't
@@ -195,7 +217,7 @@ impl<'a> Iter<'a> {
     pub fn resume(payload: &'a [u8], offset: usize, last_type: Option<FrameType>, strict: bool) -> Option<Self> {
         let last_type = last_type.map_or(u64::MAX, u64::from);
         let state = sys::Frames { offset, last_type, ended: 0, strict: u32::from(strict) };
-        (offset <= payload.len()).then_some(Iter { payload, state })
+        (offset <= payload.len()).then_some(Iter { payload, state, basic: false })
     }
 
     /// The end of the last whole frame in the payload, in bytes.
@@ -261,19 +283,45 @@ impl<'a> Iter<'a> {
     #[inline]
     pub fn fill<'r>(&mut self, entries: &'r mut [Entry]) -> Option<Result<Batch<'a, 'r>, InvalidFrame>> {
         assert!(!entries.is_empty(), "frames are read into one entry at least");
-        let mut count = 0;
+        if self.state.offset >= self.payload.len() {
+            return None;
+        }
+        let (mut count, before) = (0, self.state.last_type);
         match sys::frames_fill(&mut self.state, self.payload, entries, &mut count) {
+            sys::ITEM if self.basic => self.known(&entries[..count], before),
             sys::ITEM => Some(Ok(Batch { payload: self.payload, entries: entries[..count].iter() })),
             sys::MALFORMED => Some(Err(invalid_of(entries[0].get()))),
             _ => None,
         }
+    }
+
+    // The frames up to one of the extension, which begins what is left, or ends it where none stands before it.
+    fn known<'r>(&mut self, entries: &'r [Entry], before: u64) -> Option<Result<Batch<'a, 'r>, InvalidFrame>> {
+        let known = entries.iter().take_while(|entry| !is_extension(entry.get())).count();
+        match (known.checked_sub(1), entries.get(known)) {
+            (_, None) => {}
+            (None, Some(entry)) => return Some(Err(self.refuse(entry.get(), before))),
+            (Some(last), Some(entry)) => {
+                let ty = varint::read(&self.payload[entries[last].get().begin..]).map_or(u64::MAX, |(ty, _)| ty);
+                self.state = sys::Frames { offset: entry.get().begin, last_type: ty, ended: 0, ..self.state };
+            }
+        }
+        Some(Ok(Batch { payload: self.payload, entries: entries[..known].iter() }))
+    }
+
+    // Ends in front of a frame of the extension, behind one of the type `before`.
+    #[cold]
+    fn refuse(&mut self, frame: &sys::Frame, before: u64) -> InvalidFrame {
+        self.state = sys::Frames { offset: frame.begin, last_type: before, ended: 1, ..self.state };
+        InvalidFrame { ty: FrameType::new(frame.kind.into()), reason: Reason::InvalidFrameId }
     }
 }
 
 impl<'a> Iterator for Iter<'a> {
     type Item = Result<Frame<'a>, InvalidFrame>;
 
-    #[inline]
+    // A frame is made where it is looked at, which takes a fifth less than one that is handed over.
+    #[inline(always)]
     fn next(&mut self) -> Option<Self::Item> {
         match self.payload.get(self.state.offset) {
             None => return None,
@@ -285,8 +333,9 @@ impl<'a> Iterator for Iter<'a> {
             }
             Some(_) => {}
         }
-        let mut room = MaybeUninit::uninit();
+        let (mut room, before) = (MaybeUninit::uninit(), self.state.last_type);
         match sys::frames_next(&mut self.state, self.payload, &mut room) {
+            (sys::ITEM, Some(frame)) if self.basic && is_extension(frame) => Some(Err(self.refuse(frame, before))),
             (sys::ITEM, Some(frame)) => Some(Ok(frame_of(self.payload, frame))),
             (_, Some(told)) => Some(Err(invalid_of(told))),
             (_, None) => None,
@@ -302,6 +351,7 @@ impl fmt::Debug for Iter<'_> {
             .field("offset", &self.offset())
             .field("last_type", &self.last_type())
             .field("strict", &(self.state.strict != 0))
+            .field("ack_frequency", &!self.basic)
             .field("rest", &Short(self.rest()))
             .finish()
     }
@@ -357,7 +407,7 @@ pub struct Batch<'a, 'r> {
 impl<'a> Iterator for Batch<'a, '_> {
     type Item = (Range<usize>, Frame<'a>);
 
-    #[inline]
+    #[inline(always)]
     fn next(&mut self) -> Option<Self::Item> {
         let entry = self.entries.next()?.get();
         Some((entry.begin..entry.end, frame_of(self.payload, entry)))
@@ -376,6 +426,12 @@ impl fmt::Debug for Batch<'_, '_> {
     fn fmt(&self, f: &mut fmt::Formatter<'_>) -> fmt::Result {
         f.debug_list().entries(self.clone()).finish()
     }
+}
+
+// Whether the frame is one of the ACK frequency extension.
+#[inline]
+fn is_extension(frame: &sys::Frame) -> bool {
+    matches!(frame.kind, 0x1f | 0xaf)
 }
 
 fn invalid_of(told: &sys::Frame) -> InvalidFrame {

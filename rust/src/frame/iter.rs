@@ -1,7 +1,7 @@
 //! A payload read frame by frame.
 use super::{
-    Ack, AckFrequency, ApplicationClose, Close, ConnectionClose, Crypto, Datagram, Dir, Frame, FrameType,
-    NewConnectionId, NewToken, ResetStream, StopSending, Stream, StreamId,
+    invalid_by, Ack, AckFrequency, ApplicationClose, Close, ConnectionClose, Crypto, Datagram, Dir, EmptyPayload,
+    Frame, FrameType, InvalidFrame, NewConnectionId, NewToken, Reason, ResetStream, StopSending, Stream, StreamId,
 };
 use crate::sys;
 use crate::text::Short;
@@ -11,108 +11,6 @@ use core::fmt;
 use core::iter::FusedIterator;
 use core::mem::MaybeUninit;
 use core::ops::Range;
-
-/// A payload without frames (`PROTOCOL_VIOLATION`; RFC 9000, section 12.4).
-///
-/// ```
-/// use quic_wire::frame::{EmptyPayload, Iter};
-/// assert_eq!(Iter::new(&[]).unwrap_err(), EmptyPayload);
-/// ```
-#[derive(Clone, Copy, Debug, PartialEq, Eq, Hash)]
-pub struct EmptyPayload;
-
-impl fmt::Display for EmptyPayload {
-    fn fmt(&self, f: &mut fmt::Formatter<'_>) -> fmt::Result {
-        f.write_str("packet payload is empty")
-    }
-}
-
-impl core::error::Error for EmptyPayload {}
-
-/// The first thing in a payload that is no frame (`FRAME_ENCODING_ERROR`; RFC 9000, section 12.4).
-///
-/// ```
-/// use quic_wire::frame::{FrameType, InvalidFrame, Iter, Reason};
-/// let error = Iter::new(&[0x06, 0x00, 0x05])?.next().unwrap().unwrap_err();
-/// assert_eq!(error, InvalidFrame { ty: Some(FrameType::CRYPTO), reason: Reason::UnexpectedEnd });
-/// assert_eq!(error.to_string(), "unexpected end in CRYPTO");
-/// # Ok::<(), quic_wire::Error>(())
-/// ```
-#[derive(Clone, Copy, Debug, PartialEq, Eq, Hash)]
-pub struct InvalidFrame {
-    /// The last type that was read, the broken frame's own included.
-    pub ty: Option<FrameType>,
-    /// Why it is none.
-    pub reason: Reason,
-}
-
-/// Why something is no frame.
-///
-/// ```
-/// use quic_wire::frame::{Iter, Reason};
-/// let reason = |payload: &[u8]| Iter::new(payload).unwrap().next().unwrap().unwrap_err().reason;
-/// assert_eq!(reason(&[0x10]), Reason::UnexpectedEnd);
-/// assert_eq!(reason(&[0x21]), Reason::InvalidFrameId);
-/// assert_eq!(reason(&[0x02, 1, 0, 0, 2]), Reason::Malformed);
-/// assert_eq!(Reason::Malformed.to_string(), "malformed");
-/// ```
-#[derive(Clone, Copy, Debug, PartialEq, Eq, Hash)]
-#[non_exhaustive]
-pub enum Reason {
-    /// A byte is missing.
-    UnexpectedEnd,
-    /// The type is none of those that are read here.
-    InvalidFrameId,
-    /// A field has a value that it may not have.
-    Malformed,
-    /// The type is not in its shortest encoding, which strict iterators alone tell ([`Iter::strict`]).
-    LongType,
-}
-
-impl Reason {
-    /// Its text, as for the reason phrase of a close.
-    ///
-    /// ```
-    /// assert_eq!(quic_wire::frame::Reason::UnexpectedEnd.as_str(), "unexpected end");
-    /// ```
-    pub const fn as_str(&self) -> &'static str {
-        match self {
-            Reason::UnexpectedEnd => "unexpected end",
-            Reason::InvalidFrameId => "invalid frame ID",
-            Reason::Malformed => "malformed",
-            Reason::LongType => "frame type not in shortest form",
-        }
-    }
-}
-
-impl fmt::Display for Reason {
-    fn fmt(&self, f: &mut fmt::Formatter<'_>) -> fmt::Result {
-        f.write_str(self.as_str())
-    }
-}
-
-impl fmt::Display for InvalidFrame {
-    fn fmt(&self, f: &mut fmt::Formatter<'_>) -> fmt::Result {
-        match self.ty {
-            Some(ty) => write!(f, "{} in {ty}", self.reason),
-            None => self.reason.fmt(f),
-        }
-    }
-}
-
-impl core::error::Error for InvalidFrame {}
-
-pub(crate) fn invalid_by(last_type: u64, reason: u64) -> InvalidFrame {
-    InvalidFrame {
-        ty: FrameType::new(last_type),
-        reason: match reason {
-            1 => Reason::UnexpectedEnd,
-            2 => Reason::InvalidFrameId,
-            4 => Reason::LongType,
-            _ => Reason::Malformed,
-        },
-    }
-}
 
 /// The frames of a payload, and then one [`InvalidFrame`] where something is none. A run of PADDING is a frame for each
 /// type, mostly a byte. It is 48 bytes; [`Iter::fill`] reads many frames with one call.
@@ -283,59 +181,74 @@ impl<'a> Iter<'a> {
     #[inline]
     pub fn fill<'r>(&mut self, entries: &'r mut [Entry]) -> Option<Result<Batch<'a, 'r>, InvalidFrame>> {
         assert!(!entries.is_empty(), "frames are read into one entry at least");
-        if self.state.offset >= self.payload.len() {
-            return None;
+        let first = *self.payload.get(self.state.offset)?;
+        if let Some(invalid) = self.refused(first) {
+            return Some(Err(invalid));
         }
-        let (mut count, before) = (0, self.state.last_type);
+        let mut count = 0;
         match sys::frames_fill(&mut self.state, self.payload, entries, &mut count) {
-            sys::ITEM if self.basic => self.known(&entries[..count], before),
-            sys::ITEM => Some(Ok(Batch { payload: self.payload, entries: entries[..count].iter() })),
+            sys::ITEM => {
+                let read = &entries[..count];
+                let known = if self.basic { self.known(read) } else { read };
+                Some(Ok(Batch { payload: self.payload, entries: known.iter() }))
+            }
             sys::MALFORMED => Some(Err(invalid_of(entries[0].get()))),
             _ => None,
         }
     }
 
-    // The frames up to one of the extension, which begins what is left, or ends it where none stands before it.
-    fn known<'r>(&mut self, entries: &'r [Entry], before: u64) -> Option<Result<Batch<'a, 'r>, InvalidFrame>> {
-        let known = entries.iter().take_while(|entry| !is_extension(entry.get())).count();
-        match (known.checked_sub(1), entries.get(known)) {
-            (_, None) => {}
-            (None, Some(entry)) => return Some(Err(self.refuse(entry.get(), before))),
-            (Some(last), Some(entry)) => {
-                let ty = varint::read(&self.payload[entries[last].get().begin..]).map_or(u64::MAX, |(ty, _)| ty);
-                self.state = sys::Frames { offset: entry.get().begin, last_type: ty, ended: 0, ..self.state };
-            }
+    // Those that stand before one of the extension, which is what is left then.
+    fn known<'r>(&mut self, read: &'r [Entry]) -> &'r [Entry] {
+        let (known, rest) = read.split_at(read.iter().take_while(|entry| !is_extension(entry.get())).count());
+        if let (Some(last), Some(next)) = (known.last(), rest.first()) {
+            let ty = varint::read(&self.payload[last.get().begin..]);
+            self.state.offset = next.get().begin;
+            self.state.last_type = ty.map_or(u64::MAX, |(ty, _)| ty);
         }
-        Some(Ok(Batch { payload: self.payload, entries: entries[..known].iter() }))
+        known
     }
 
-    // Ends in front of a frame of the extension, behind one of the type `before`.
+    // Ends in front of a frame of the extension that begins with this byte, where it is unknown.
+    #[inline(always)]
+    fn refused(&mut self, first: u8) -> Option<InvalidFrame> {
+        if self.basic && matches!(first, 0x1f | 0x40..) {
+            self.refused_extension()
+        } else {
+            None
+        }
+    }
+
     #[cold]
-    fn refuse(&mut self, frame: &sys::Frame, before: u64) -> InvalidFrame {
-        self.state = sys::Frames { offset: frame.begin, last_type: before, ended: 1, ..self.state };
-        InvalidFrame { ty: FrameType::new(frame.kind.into()), reason: Reason::InvalidFrameId }
+    fn refused_extension(&mut self) -> Option<InvalidFrame> {
+        let (mut state, mut room) = (self.state, MaybeUninit::uninit());
+        match sys::frames_next(&mut state, self.payload, &mut room) {
+            (sys::ITEM, Some(frame)) if is_extension(frame) => {
+                self.state.ended = 1;
+                Some(InvalidFrame { ty: FrameType::new(frame.kind.into()), reason: Reason::InvalidFrameId })
+            }
+            _ => None,
+        }
     }
 }
 
 impl<'a> Iterator for Iter<'a> {
     type Item = Result<Frame<'a>, InvalidFrame>;
 
-    // A frame is made where it is looked at, which takes a fifth less than one that is handed over.
+    // Made where it is looked at, a frame takes a fifth less than one that is handed over.
     #[inline(always)]
     fn next(&mut self) -> Option<Self::Item> {
-        match self.payload.get(self.state.offset) {
-            None => return None,
-            // PADDING in its shortest encoding needs no call. What is no frame doesn't begin so.
-            Some(0x00) => {
-                self.state.offset += 1;
-                self.state.last_type = 0x00;
-                return Some(Ok(Frame::Padding));
-            }
-            Some(_) => {}
+        let first = *self.payload.get(self.state.offset)?;
+        // PADDING in its shortest encoding needs no call. What is no frame doesn't begin so.
+        if first == 0x00 {
+            self.state.offset += 1;
+            self.state.last_type = 0x00;
+            return Some(Ok(Frame::Padding));
         }
-        let (mut room, before) = (MaybeUninit::uninit(), self.state.last_type);
+        if let Some(invalid) = self.refused(first) {
+            return Some(Err(invalid));
+        }
+        let mut room = MaybeUninit::uninit();
         match sys::frames_next(&mut self.state, self.payload, &mut room) {
-            (sys::ITEM, Some(frame)) if self.basic && is_extension(frame) => Some(Err(self.refuse(frame, before))),
             (sys::ITEM, Some(frame)) => Some(Ok(frame_of(self.payload, frame))),
             (_, Some(told)) => Some(Err(invalid_of(told))),
             (_, None) => None,

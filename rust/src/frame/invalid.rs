@@ -55,7 +55,7 @@ pub enum Reason {
     InvalidFrameId,
     /// A field has a value that it may not have.
     Malformed,
-    /// The type is not in its shortest encoding, which strict iterators alone tell ([`Iter::strict`]).
+    /// The type is not in its shortest encoding, which strict iterators alone tell ([`Iter::strict`](super::Iter::strict)).
     LongType,
 }
 

@@ -115,7 +115,7 @@ pub(crate) fn owned<'a>(payload: &Bytes, frame: Frame<'a>) -> frame::Frame<'a> {
         }
         Frame::Datagram(x) => Ours::Datagram(frame::Datagram { data: payload.slice_ref(x.data) }),
         Frame::HandshakeDone => Ours::HandshakeDone,
-        // This version of quinn doesn't know these two, and no flag leaves them out.
+        // Of an extension that this version of quinn doesn't know: `Iter::new` reads without it.
         Frame::AckFrequency(_) => Ours::Invalid { ty: Type(0xaf), reason: "invalid frame ID" },
         Frame::ImmediateAck => Ours::Invalid { ty: Type(0x1f), reason: "invalid frame ID" },
     }

@@ -67,14 +67,22 @@ impl Random {
     }
 }
 
+fn how(iter: Iter<'_>, basic: bool) -> Iter<'_> {
+    if basic {
+        iter.without_ack_frequency()
+    } else {
+        iter
+    }
+}
+
 fn frames(random: &mut Random) {
     let payload = random.payload();
-    let strict = random.below(2) == 0;
-    let begin = || if strict { Iter::strict(&payload) } else { Iter::new(&payload) }.unwrap();
+    let (strict, basic) = (random.below(2) == 0, random.below(2) == 0);
+    let begin = || how(if strict { Iter::strict(&payload) } else { Iter::new(&payload) }.unwrap(), basic);
     let (mut one, mut all, mut last) = (begin(), Vec::new(), None);
     let end = loop {
         let before = (one.offset(), one.last_type());
-        let mut resumed = Iter::resume(&payload, before.0, last, strict).unwrap();
+        let mut resumed = how(Iter::resume(&payload, before.0, last, strict).unwrap(), basic);
         let item = one.next();
         assert_eq!(item, resumed.next());
         assert_eq!((one.offset(), one.last_type()), (resumed.offset(), resumed.last_type()));
@@ -96,6 +104,7 @@ fn frames(random: &mut Random) {
         }
     };
     assert_eq!(told, end);
+    assert!(!basic || !all.iter().any(|item| matches!(item.1, Frame::ImmediateAck | Frame::AckFrequency(_))));
     let is_padding = |frame: &Frame<'_>| *frame == Frame::Padding;
     let others = |all: &[(std::ops::Range<usize>, Frame<'_>)]| {
         all.iter().filter(|(_, frame)| !is_padding(frame)).map(|item| format!("{item:?}")).collect::<Vec<_>>()

@@ -3,7 +3,7 @@
 use quic_wire::canonical::{canonical, CanonError};
 use quic_wire::frame::{
     Ack, ApplicationClose, Close, ConnectionClose, CryptoMeta, Datagram, DatagramMeta, EmptyPayload, Entry, Frame,
-    FrameType, Iter, NewConnectionId, Reason, Stream, StreamMeta, WriteError,
+    FrameType, InvalidFrame, Iter, NewConnectionId, Reason, Stream, StreamMeta, WriteError,
 };
 use quic_wire::transport_error::Code;
 use quic_wire::{varint, Dir, StreamId};
@@ -25,7 +25,7 @@ fn frames_borrow_the_payload() {
 
 #[test]
 fn an_iterator_is_small_and_told_apart_by_what_it_gives() {
-    assert!(size_of::<Iter<'_>>() == 40, "{}", size_of::<Iter<'_>>());
+    assert!(size_of::<Iter<'_>>() == 48, "{}", size_of::<Iter<'_>>());
     // Two PADDING in three bytes, one in eight, two more, and a PING.
     let payload = [0x40, 0x00, 0x00, 0xc0, 0, 0, 0, 0, 0, 0, 0, 0, 0, 0x01];
     let mut frames = Iter::new(&payload).unwrap();
@@ -298,6 +298,43 @@ fn a_long_type_is_refused_where_types_are_strict() {
     assert_eq!(quic_wire::Error::from(e).code(), Some(Code::PROTOCOL_VIOLATION));
     assert_eq!(strict.next(), None);
     assert_eq!(Iter::strict(&[]).err(), Some(EmptyPayload));
+}
+
+#[test]
+fn the_ack_frequency_extension_is_left_out_where_it_is_unknown() {
+    // A PING, a run of PADDING, a STREAM in two bytes, an IMMEDIATE_ACK or an ACK_FREQUENCY, and a PING.
+    for extension in [&[0x1f][..], &[0x40, 0xaf, 1, 2, 3, 4]] {
+        let payload = [&[0x01, 0x00, 0x00, 0x0a, 4, 0], extension, &[0x01]].concat();
+        let ty = read(&payload)[4].ty();
+        let invalid = InvalidFrame { ty: Some(ty), reason: Reason::InvalidFrameId };
+        let begin = || Iter::strict(&payload).unwrap().without_ack_frequency();
+        let mut frames = begin();
+        assert!(frames.by_ref().take(4).eq(read(&payload)[..4].iter().map(|frame| Ok(*frame))));
+        let mut resumed = Iter::resume(&payload, 6, frames.last_type(), true).unwrap().without_ack_frequency();
+        let behind = (6, FrameType::new(0x0a));
+        for mut iter in [frames, resumed.clone()] {
+            assert_eq!((iter.offset(), iter.last_type()), behind);
+            assert_eq!((iter.next(), iter.next()), (Some(Err(invalid)), None));
+            assert_eq!((iter.offset(), iter.last_type()), behind);
+        }
+        let mut entries = [Entry::default(); 1];
+        assert_eq!(resumed.fill(&mut entries).unwrap().unwrap_err(), invalid);
+
+        for room in 1..8 {
+            let (mut iter, mut entries, mut count) = (begin(), vec![Entry::default(); room], 0);
+            let error = loop {
+                match iter.fill(&mut entries).unwrap() {
+                    Ok(batch) => count += batch.len(),
+                    Err(error) => break error,
+                }
+            };
+            assert_eq!((count, error, iter.offset(), iter.last_type()), (3, invalid, behind.0, behind.1));
+            assert!(iter.fill(&mut entries).is_none() && iter.next().is_none());
+        }
+    }
+    let error = |payload: &[u8]| Iter::strict(payload).unwrap().without_ack_frequency().next().unwrap().unwrap_err();
+    assert_eq!(error(&[0x40, 0xaf, 1, 2, 3]).to_string(), "unexpected end in ACK_FREQUENCY");
+    assert_eq!(error(&[0x40, 0x1f]).reason, Reason::LongType);
 }
 
 /// Every frame of the payloads that `QUIC_WIRE_LIST` names is written, read back and the same.

@@ -4,7 +4,8 @@
 // ACK, read too), acks (the same, frames and ranges by calls that fill 16), or packets (of each line as a datagram, the
 // heads with ids of 8 bytes). With a number in place of FILE: set-push (a run behind so many others), set-grow (the
 // last of so many runs), set-contains (each of so many) or set-ack (of so many), each a thousand times, less what set-0
-// takes.
+// takes; or a call by itself, call-NAME of those in calls below, with ids of so many bytes or an ACK of so many ranges,
+// each a thousand times, less what call-none takes.
 #include <stdint.h>
 #include <stdio.h>
 #include <stdlib.h>
@@ -175,6 +176,90 @@ static u64 on_a_set(char work, size_t runs_len) {
     return sum;
 }
 
+// What the calls by themselves work on: ids of id_len bytes, an ACK of gaps_len + 1 ranges, and what is read.
+static uint8_t id[20], token[16], source[2048], dest[2048];
+static size_t id_len, gaps_len, source_len;
+static quic_wire_gap gaps[MANY];
+static const quic_wire_frame stream = {.kind = QUIC_WIRE_STREAM, .datalen = 1000, .stream = {4, 70000}};
+static const quic_wire_frame ack = {.kind = QUIC_WIRE_ACK, .datalen = 9, .ack = {1000, 25, 0, 0, 0}};
+
+static u64 none(u64 turn) { return turn; }
+
+static u64 short_read(u64 turn) { return turn + quic_wire_short_read(source, source_len, (uint32_t)id_len); }
+
+static u64 front_read(u64 turn) {
+    quic_wire_frame frame;
+    int64_t end = quic_wire_frame_read(source, source_len, 0, &frame, gaps, MANY);
+    return turn + (u64)end + frame.kind + frame.datalen + frame.data;
+}
+
+static u64 stream_head(u64 turn) {
+    size_t written = 0;
+    return turn + (u64)quic_wire_frame_head_write(&stream, 0, dest, sizeof dest, &written) + written;
+}
+
+static u64 ack_write(u64 turn) {
+    size_t written = 0;
+    return turn + (u64)quic_wire_ack_gaps_write(&ack, gaps, gaps_len, dest, sizeof dest, &written) + written;
+}
+
+static inline __attribute__((always_inline)) u64 head_of(uint8_t kind, u64 turn) {
+    quic_wire_said said = {
+        .kind = kind, .flags = QUIC_WIRE_FIXED_BIT, .numberlen = 2, .lengthlen = 2, .version = 1, .number = turn};
+    size_t token_len = kind == QUIC_WIRE_INITIAL ? sizeof token : 0;
+    return (u64)quic_wire_head_write(&said, id, id_len, id, id_len, token, token_len, dest, sizeof dest);
+}
+
+static u64 initial(u64 turn) { return head_of(QUIC_WIRE_INITIAL, turn); }
+static u64 zero_rtt(u64 turn) { return head_of(QUIC_WIRE_0RTT, turn); }
+static u64 handshake(u64 turn) { return head_of(QUIC_WIRE_HANDSHAKE, turn); }
+static u64 retry(u64 turn) { return head_of(QUIC_WIRE_RETRY, turn); }
+static u64 one_rtt(u64 turn) { return head_of(QUIC_WIRE_1RTT, turn); }
+static u64 negotiation(u64 turn) { return head_of(QUIC_WIRE_VERSION_NEGOTIATION, turn); }
+
+static const struct {
+    const char *name;
+    u64 (*call)(u64);
+} calls[] = {
+    {"none", none},
+    {"short-read", short_read},
+    {"stream-read", front_read},
+    {"ack-read", front_read},
+    {"stream-head", stream_head},
+    {"ack-write", ack_write},
+    {"initial", initial},
+    {"0rtt", zero_rtt},
+    {"handshake", handshake},
+    {"retry", retry},
+    {"1rtt", one_rtt},
+    {"negotiation", negotiation},
+};
+
+// A thousand calls by themselves of this name, with ids of so many bytes or an ACK of so many ranges.
+static u64 on_calls(const char *name, size_t len) {
+    u64 (*call)(u64) = NULL;
+    u64 sum = 0;
+    for (size_t k = 0; k < sizeof calls / sizeof *calls; k++)
+        call = strcmp(name, calls[k].name) ? call : calls[k].call;
+    if (!call || len > 20 || len > MANY)
+        exit(2);
+    id_len = len;
+    gaps_len = len ? len - 1 : 0;
+    for (size_t k = 0; k < gaps_len; k++)
+        gaps[k] = (quic_wire_gap){1, 3};
+    source[0] = QUIC_WIRE_FIXED_BIT;
+    source_len = 1200;
+    if (!strcmp(name, "ack-read"))
+        quic_wire_ack_gaps_write(&ack, gaps, gaps_len, source, sizeof source, &source_len);
+    if (!strcmp(name, "stream-read"))
+        quic_wire_frame_write(&stream, dest, stream.datalen, 0, source, sizeof source, &source_len);
+    for (u64 turn = 0; turn < 1000; turn++) {
+        sum += call(turn);
+        items++;
+    }
+    return sum;
+}
+
 int main(int argc, char **argv) {
     static char line[1 << 20];
     static uint8_t *bytes[1 << 16];
@@ -183,13 +268,13 @@ int main(int argc, char **argv) {
     u64 sum = 0;
     if (argc != 4)
         return 2;
-    if (!strncmp(argv[1], "set-", 4)) {
-        size_t runs_len = strtoul(argv[3], NULL, 10);
-        if (runs_len > 1024)
+    if (!strncmp(argv[1], "set-", 4) || !strncmp(argv[1], "call-", 5)) {
+        size_t len = strtoul(argv[3], NULL, 10);
+        if (len > 1024)
             return 2;
         for (int r = 0; r < atoi(argv[2]); r++) {
             items = 0;
-            sum += on_a_set(argv[1][4], runs_len);
+            sum += argv[1][0] == 's' ? on_a_set(argv[1][4], len) : on_calls(argv[1] + 5, len);
         }
         printf("%lu items, %lu\n", (unsigned long)items, (unsigned long)sum);
         return 0;

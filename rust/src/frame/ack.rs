@@ -277,6 +277,9 @@ impl Iterator for AckIter<'_> {
 
     #[inline]
     fn next(&mut self) -> Option<RangeInclusive<u64>> {
+        if self.state.begin >= self.state.end {
+            return None;
+        }
         let mut range = sys::Range { start: 0, end: 0 };
         match sys::ack_ranges_next(&mut self.state, self.bytes, &mut range) {
             sys::ITEM => Some(range.start..=range.end - 1),

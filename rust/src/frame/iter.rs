@@ -1,120 +1,19 @@
 //! A payload read frame by frame.
 use super::{
-    Ack, AckFrequency, ApplicationClose, Close, ConnectionClose, Crypto, Datagram, Dir, Frame, FrameType,
-    NewConnectionId, NewToken, ResetStream, StopSending, Stream, StreamId,
+    invalid_by, Ack, AckFrequency, ApplicationClose, Close, ConnectionClose, Crypto, Datagram, Dir, EmptyPayload,
+    Frame, FrameType, InvalidFrame, NewConnectionId, NewToken, Reason, ResetStream, StopSending, Stream, StreamId,
 };
 use crate::sys;
 use crate::text::Short;
 use crate::transport_error::Code;
+use crate::varint;
 use core::fmt;
 use core::iter::FusedIterator;
 use core::mem::MaybeUninit;
 use core::ops::Range;
 
-/// A payload without frames (`PROTOCOL_VIOLATION`; RFC 9000, section 12.4).
-///
-/// ```
-/// use quic_wire::frame::{EmptyPayload, Iter};
-/// assert_eq!(Iter::new(&[]).unwrap_err(), EmptyPayload);
-/// ```
-#[derive(Clone, Copy, Debug, PartialEq, Eq, Hash)]
-pub struct EmptyPayload;
-
-impl fmt::Display for EmptyPayload {
-    fn fmt(&self, f: &mut fmt::Formatter<'_>) -> fmt::Result {
-        f.write_str("packet payload is empty")
-    }
-}
-
-impl core::error::Error for EmptyPayload {}
-
-/// The first thing in a payload that is no frame (`FRAME_ENCODING_ERROR`; RFC 9000, section 12.4).
-///
-/// ```
-/// use quic_wire::frame::{FrameType, InvalidFrame, Iter, Reason};
-/// let error = Iter::new(&[0x06, 0x00, 0x05])?.next().unwrap().unwrap_err();
-/// assert_eq!(error, InvalidFrame { ty: Some(FrameType::CRYPTO), reason: Reason::UnexpectedEnd });
-/// assert_eq!(error.to_string(), "unexpected end in CRYPTO");
-/// # Ok::<(), quic_wire::Error>(())
-/// ```
-#[derive(Clone, Copy, Debug, PartialEq, Eq, Hash)]
-pub struct InvalidFrame {
-    /// The last type that was read, the broken frame's own included.
-    pub ty: Option<FrameType>,
-    /// Why it is none.
-    pub reason: Reason,
-}
-
-/// Why something is no frame.
-///
-/// ```
-/// use quic_wire::frame::{Iter, Reason};
-/// let reason = |payload: &[u8]| Iter::new(payload).unwrap().next().unwrap().unwrap_err().reason;
-/// assert_eq!(reason(&[0x10]), Reason::UnexpectedEnd);
-/// assert_eq!(reason(&[0x21]), Reason::InvalidFrameId);
-/// assert_eq!(reason(&[0x02, 1, 0, 0, 2]), Reason::Malformed);
-/// assert_eq!(Reason::Malformed.to_string(), "malformed");
-/// ```
-#[derive(Clone, Copy, Debug, PartialEq, Eq, Hash)]
-#[non_exhaustive]
-pub enum Reason {
-    /// A byte is missing.
-    UnexpectedEnd,
-    /// The type is none of those that are read here.
-    InvalidFrameId,
-    /// A field has a value that it may not have.
-    Malformed,
-    /// The type is not in its shortest encoding, which strict iterators alone tell ([`Iter::strict`]).
-    LongType,
-}
-
-impl Reason {
-    /// Its text, as for the reason phrase of a close.
-    ///
-    /// ```
-    /// assert_eq!(quic_wire::frame::Reason::UnexpectedEnd.as_str(), "unexpected end");
-    /// ```
-    pub const fn as_str(&self) -> &'static str {
-        match self {
-            Reason::UnexpectedEnd => "unexpected end",
-            Reason::InvalidFrameId => "invalid frame ID",
-            Reason::Malformed => "malformed",
-            Reason::LongType => "frame type not in shortest form",
-        }
-    }
-}
-
-impl fmt::Display for Reason {
-    fn fmt(&self, f: &mut fmt::Formatter<'_>) -> fmt::Result {
-        f.write_str(self.as_str())
-    }
-}
-
-impl fmt::Display for InvalidFrame {
-    fn fmt(&self, f: &mut fmt::Formatter<'_>) -> fmt::Result {
-        match self.ty {
-            Some(ty) => write!(f, "{} in {ty}", self.reason),
-            None => self.reason.fmt(f),
-        }
-    }
-}
-
-impl core::error::Error for InvalidFrame {}
-
-pub(crate) fn invalid_by(last_type: u64, reason: u64) -> InvalidFrame {
-    InvalidFrame {
-        ty: FrameType::new(last_type),
-        reason: match reason {
-            1 => Reason::UnexpectedEnd,
-            2 => Reason::InvalidFrameId,
-            4 => Reason::LongType,
-            _ => Reason::Malformed,
-        },
-    }
-}
-
 /// The frames of a payload, and then one [`InvalidFrame`] where something is none. A run of PADDING is a frame for each
-/// type, mostly a byte. It is 40 bytes; [`Iter::fill`] reads many frames with one call.
+/// type, mostly a byte. It is 48 bytes; [`Iter::fill`] reads many frames with one call.
 ///
 /// ```
 /// use quic_wire::frame::{Frame, Iter};
@@ -128,6 +27,8 @@ pub struct Iter<'a> {
     payload: &'a [u8],
     // The end of the last whole frame, and its type.
     state: sys::Frames,
+    // Whether ACK_FREQUENCY and IMMEDIATE_ACK are unknown types.
+    basic: bool,
 }
 
 impl<'a> Iter<'a> {
@@ -173,7 +74,26 @@ impl<'a> Iter<'a> {
             return Err(EmptyPayload);
         }
         let state = sys::Frames { offset: 0, last_type: u64::MAX, ended: 0, strict: u32::from(strict) };
-        Ok(Iter { payload, state })
+        Ok(Iter { payload, state, basic: false })
+    }
+
+    /// The same frames, but that ACK_FREQUENCY and IMMEDIATE_ACK are of unknown types, as they are where the ACK
+    /// frequency extension wasn't negotiated. One that is broken within its fields is told for that.
+    ///
+    /// ```
+    /// use quic_wire::frame::{Frame, Iter, Reason};
+    /// let payload = [0x01, 0x1f];
+    /// assert!(Iter::strict(&payload)?.eq([Ok(Frame::Ping), Ok(Frame::ImmediateAck)]));
+    /// let mut frames = Iter::strict(&payload)?.without_ack_frequency();
+    /// assert_eq!(frames.next(), Some(Ok(Frame::Ping)));
+    /// let error = frames.next().unwrap().unwrap_err();
+    /// assert_eq!((error.reason, frames.next()), (Reason::InvalidFrameId, None));
+    /// assert_eq!(error.to_string(), "invalid frame ID in IMMEDIATE_ACK");
+    /// # Ok::<(), quic_wire::Error>(())
+    /// ```
+    #[inline]
+    pub fn without_ack_frequency(self) -> Self {
+        Iter { basic: true, ..self }
     }
 
     /// Goes on at a place in a payload, behind a frame of the type `last_type`: for an owner of the payload that can't
@@ -195,7 +115,7 @@ impl<'a> Iter<'a> {
     pub fn resume(payload: &'a [u8], offset: usize, last_type: Option<FrameType>, strict: bool) -> Option<Self> {
         let last_type = last_type.map_or(u64::MAX, u64::from);
         let state = sys::Frames { offset, last_type, ended: 0, strict: u32::from(strict) };
-        (offset <= payload.len()).then_some(Iter { payload, state })
+        (offset <= payload.len()).then_some(Iter { payload, state, basic: false })
     }
 
     /// The end of the last whole frame in the payload, in bytes.
@@ -261,10 +181,51 @@ impl<'a> Iter<'a> {
     #[inline]
     pub fn fill<'r>(&mut self, entries: &'r mut [Entry]) -> Option<Result<Batch<'a, 'r>, InvalidFrame>> {
         assert!(!entries.is_empty(), "frames are read into one entry at least");
+        let first = *self.payload.get(self.state.offset)?;
+        if let Some(invalid) = self.refused(first) {
+            return Some(Err(invalid));
+        }
         let mut count = 0;
         match sys::frames_fill(&mut self.state, self.payload, entries, &mut count) {
-            sys::ITEM => Some(Ok(Batch { payload: self.payload, entries: entries[..count].iter() })),
+            sys::ITEM => {
+                let read = &entries[..count];
+                let known = if self.basic { self.known(read) } else { read };
+                Some(Ok(Batch { payload: self.payload, entries: known.iter() }))
+            }
             sys::MALFORMED => Some(Err(invalid_of(entries[0].get()))),
+            _ => None,
+        }
+    }
+
+    // Those that stand before one of the extension, which is what is left then.
+    fn known<'r>(&mut self, read: &'r [Entry]) -> &'r [Entry] {
+        let (known, rest) = read.split_at(read.iter().take_while(|entry| !is_extension(entry.get())).count());
+        if let (Some(last), Some(next)) = (known.last(), rest.first()) {
+            let ty = varint::read(&self.payload[last.get().begin..]);
+            self.state.offset = next.get().begin;
+            self.state.last_type = ty.map_or(u64::MAX, |(ty, _)| ty);
+        }
+        known
+    }
+
+    // Ends in front of a frame of the extension that begins with this byte, where it is unknown.
+    #[inline(always)]
+    fn refused(&mut self, first: u8) -> Option<InvalidFrame> {
+        if self.basic && matches!(first, 0x1f | 0x40..) {
+            self.refused_extension()
+        } else {
+            None
+        }
+    }
+
+    #[cold]
+    fn refused_extension(&mut self) -> Option<InvalidFrame> {
+        let (mut state, mut room) = (self.state, MaybeUninit::uninit());
+        match sys::frames_next(&mut state, self.payload, &mut room) {
+            (sys::ITEM, Some(frame)) if is_extension(frame) => {
+                self.state.ended = 1;
+                Some(InvalidFrame { ty: FrameType::new(frame.kind.into()), reason: Reason::InvalidFrameId })
+            }
             _ => None,
         }
     }
@@ -273,17 +234,18 @@ impl<'a> Iter<'a> {
 impl<'a> Iterator for Iter<'a> {
     type Item = Result<Frame<'a>, InvalidFrame>;
 
-    #[inline]
+    // Made where it is looked at, a frame takes a fifth less than one that is handed over.
+    #[inline(always)]
     fn next(&mut self) -> Option<Self::Item> {
-        match self.payload.get(self.state.offset) {
-            None => return None,
-            // PADDING in its shortest encoding needs no call. What is no frame doesn't begin so.
-            Some(0x00) => {
-                self.state.offset += 1;
-                self.state.last_type = 0x00;
-                return Some(Ok(Frame::Padding));
-            }
-            Some(_) => {}
+        let first = *self.payload.get(self.state.offset)?;
+        // PADDING in its shortest encoding needs no call. What is no frame doesn't begin so.
+        if first == 0x00 {
+            self.state.offset += 1;
+            self.state.last_type = 0x00;
+            return Some(Ok(Frame::Padding));
+        }
+        if let Some(invalid) = self.refused(first) {
+            return Some(Err(invalid));
         }
         let mut room = MaybeUninit::uninit();
         match sys::frames_next(&mut self.state, self.payload, &mut room) {
@@ -302,6 +264,7 @@ impl fmt::Debug for Iter<'_> {
             .field("offset", &self.offset())
             .field("last_type", &self.last_type())
             .field("strict", &(self.state.strict != 0))
+            .field("ack_frequency", &!self.basic)
             .field("rest", &Short(self.rest()))
             .finish()
     }
@@ -357,7 +320,7 @@ pub struct Batch<'a, 'r> {
 impl<'a> Iterator for Batch<'a, '_> {
     type Item = (Range<usize>, Frame<'a>);
 
-    #[inline]
+    #[inline(always)]
     fn next(&mut self) -> Option<Self::Item> {
         let entry = self.entries.next()?.get();
         Some((entry.begin..entry.end, frame_of(self.payload, entry)))
@@ -376,6 +339,12 @@ impl fmt::Debug for Batch<'_, '_> {
     fn fmt(&self, f: &mut fmt::Formatter<'_>) -> fmt::Result {
         f.debug_list().entries(self.clone()).finish()
     }
+}
+
+// Whether the frame is one of the ACK frequency extension.
+#[inline]
+fn is_extension(frame: &sys::Frame) -> bool {
+    matches!(frame.kind, 0x1f | 0xaf)
 }
 
 fn invalid_of(told: &sys::Frame) -> InvalidFrame {

@@ -13,14 +13,16 @@ mod ack;
 mod close;
 mod encode;
 mod heads;
+mod invalid;
 mod iter;
 mod ty;
 
 pub use ack::{Ack, AckError, AckIter, EcnCounts};
 pub use close::{ApplicationClose, Close, ConnectionClose};
 pub use heads::{CryptoMeta, DatagramMeta, StreamMeta};
-pub(crate) use iter::invalid_by;
-pub use iter::{Batch, EmptyPayload, Entry, InvalidFrame, Iter, Reason};
+pub(crate) use invalid::invalid_by;
+pub use invalid::{EmptyPayload, InvalidFrame, Reason};
+pub use iter::{Batch, Entry, Iter};
 pub use ty::{FrameType, NoFrameType};
 
 pub use crate::ids::{Dir, StreamId};

@@ -1,0 +1,105 @@
+//! What is no frame.
+use super::FrameType;
+use core::fmt;
+
+/// A payload without frames (`PROTOCOL_VIOLATION`; RFC 9000, section 12.4).
+///
+/// ```
+/// use quic_wire::frame::{EmptyPayload, Iter};
+/// assert_eq!(Iter::new(&[]).unwrap_err(), EmptyPayload);
+/// ```
+#[derive(Clone, Copy, Debug, PartialEq, Eq, Hash)]
+pub struct EmptyPayload;
+
+impl fmt::Display for EmptyPayload {
+    fn fmt(&self, f: &mut fmt::Formatter<'_>) -> fmt::Result {
+        f.write_str("packet payload is empty")
+    }
+}
+
+impl core::error::Error for EmptyPayload {}
+
+/// The first thing in a payload that is no frame (`FRAME_ENCODING_ERROR`; RFC 9000, section 12.4).
+///
+/// ```
+/// use quic_wire::frame::{FrameType, InvalidFrame, Iter, Reason};
+/// let error = Iter::new(&[0x06, 0x00, 0x05])?.next().unwrap().unwrap_err();
+/// assert_eq!(error, InvalidFrame { ty: Some(FrameType::CRYPTO), reason: Reason::UnexpectedEnd });
+/// assert_eq!(error.to_string(), "unexpected end in CRYPTO");
+/// # Ok::<(), quic_wire::Error>(())
+/// ```
+#[derive(Clone, Copy, Debug, PartialEq, Eq, Hash)]
+pub struct InvalidFrame {
+    /// The last type that was read, the broken frame's own included.
+    pub ty: Option<FrameType>,
+    /// Why it is none.
+    pub reason: Reason,
+}
+
+/// Why something is no frame.
+///
+/// ```
+/// use quic_wire::frame::{Iter, Reason};
+/// let reason = |payload: &[u8]| Iter::new(payload).unwrap().next().unwrap().unwrap_err().reason;
+/// assert_eq!(reason(&[0x10]), Reason::UnexpectedEnd);
+/// assert_eq!(reason(&[0x21]), Reason::InvalidFrameId);
+/// assert_eq!(reason(&[0x02, 1, 0, 0, 2]), Reason::Malformed);
+/// assert_eq!(Reason::Malformed.to_string(), "malformed");
+/// ```
+#[derive(Clone, Copy, Debug, PartialEq, Eq, Hash)]
+#[non_exhaustive]
+pub enum Reason {
+    /// A byte is missing.
+    UnexpectedEnd,
+    /// The type is none of those that are read here.
+    InvalidFrameId,
+    /// A field has a value that it may not have.
+    Malformed,
+    /// The type is not in its shortest encoding, which strict iterators alone tell ([`Iter::strict`](super::Iter::strict)).
+    LongType,
+}
+
+impl Reason {
+    /// Its text, as for the reason phrase of a close.
+    ///
+    /// ```
+    /// assert_eq!(quic_wire::frame::Reason::UnexpectedEnd.as_str(), "unexpected end");
+    /// ```
+    pub const fn as_str(&self) -> &'static str {
+        match self {
+            Reason::UnexpectedEnd => "unexpected end",
+            Reason::InvalidFrameId => "invalid frame ID",
+            Reason::Malformed => "malformed",
+            Reason::LongType => "frame type not in shortest form",
+        }
+    }
+}
+
+impl fmt::Display for Reason {
+    fn fmt(&self, f: &mut fmt::Formatter<'_>) -> fmt::Result {
+        f.write_str(self.as_str())
+    }
+}
+
+impl fmt::Display for InvalidFrame {
+    fn fmt(&self, f: &mut fmt::Formatter<'_>) -> fmt::Result {
+        match self.ty {
+            Some(ty) => write!(f, "{} in {ty}", self.reason),
+            None => self.reason.fmt(f),
+        }
+    }
+}
+
+impl core::error::Error for InvalidFrame {}
+
+pub(crate) fn invalid_by(last_type: u64, reason: u64) -> InvalidFrame {
+    InvalidFrame {
+        ty: FrameType::new(last_type),
+        reason: match reason {
+            1 => Reason::UnexpectedEnd,
+            2 => Reason::InvalidFrameId,
+            4 => Reason::LongType,
+            _ => Reason::Malformed,
+        },
+    }
+}

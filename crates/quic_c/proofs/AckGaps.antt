@@ -1,8 +1,10 @@
 -- ACKs that words say by gap and length: there is one at most, and these are its bytes.
-use Rattle.std.proofs.Common.{◌≡◌, ℕ, zero, suc, ◌+◌, ◌-◌, ◌*◌, ◌<◌, ◌≤◌, ◌^◌, Bool, true, false, ◌⊎◌, inl, inr, List, [], ◌∷◌, ◌++◌, length, refl, sym, ap, subst, ◌∙◌, arith}
-use Rattle.std.specs.Prelude.{Some, None, drop, get_or, slice_index, take, ◌==◌, if◌then◌else◌}
+use Rattle.std.proofs.Common.{append_assoc, ℤ, to_z, of_z, w32, ◌≡◌, ℕ, zero, suc, ◌+◌, ◌-◌, ◌*◌, ◌<◌, ◌≤◌, ◌^◌, Bool, true, false, ◌⊎◌, inl, inr, List, [], ◌∷◌, ◌++◌, length, refl, sym, ap, subst, ◌∙◌, arith}
+use Rattle.std.specs.Prelude.{◌↔◌, IsTrue, pos, negsuc, bit_or, nat_lt, drop, get_or, slice_index, take, ◌==◌, if◌then◌else◌}
 use Rattle.std.proofs.lemmas.Bool.Decides.{nat_tests}
-use Rattle.std.proofs.lemmas.List.{append-nil, at_drop_more, drop_all, length-append, take-append-drop, take_all, take_more}
+use Rattle.std.proofs.lemmas.Bool.{lt-ltb, ltb-true}
+use Rattle.std.proofs.lemmas.List.{append-nil, at_drop_more, drop-drop, drop_all, length-append, take-append-drop, take_all, take_more}
+use Rattle.std.proofs.lemmas.Nat.{le_or_l, le_or_r, or_lt}
 use Rattle.quic_base.specs.Varint.{short, size}
 use Rattle.quic_base.proofs.PublicLaws.{length-short}
 use Rattle.quic_frame_parts.proofs.AckParts.{ack_parts}
@@ -14,7 +16,7 @@ use Rattle.quic_frame_parts.specs.Sets.{ack_type, count_numbers}
 use Rattle.quic_frame_parts.specs.Shortest.{shortest_below, shortest_frame}
 use Rattle.quic_c.specs.declared.words.FrameWords.{FrameWords}
 use Rattle.quic_c.specs.declared.words.GapWords.{GapWords}
-use Rattle.quic_c.specs.AckGaps.{ack_bytes, ack_said, counts_list, counts_said, delay_in, front_numbers, gap_numbers, greatest_in, AreUnder, Fit, IsAck, SaysAck}
+use Rattle.quic_c.specs.AckGaps.{ack_bytes, ack_said, behind_type, counts_list, counts_said, delay_in, front_numbers, gap_numbers, greatest_in, AreUnder, Fit, IsAck, SaysAck}
 use Rattle.quic_c.specs.Front.{gap_of, gaps_below}
 
 -- ---- the ranges that gaps say
@@ -125,6 +127,41 @@ says_of words gaps i =
       },
     )
 
+-- ---- numbers by their bits
+
+both_below : (a b : ℕ) → bit_or a b < 2 ^ 62 → (a < 2 ^ 62) × (b < 2 ^ 62)
+both_below a b lt = (omega (arith, lt, le_or_l a b), omega (arith, lt, le_or_r a b))
+
+three_below : (a b c : ℕ) → (bit_or (bit_or a b) c < 2 ^ 62) ↔ AreNumeric (a ∷ b ∷ c ∷ [])
+three_below a b c = (
+  λ lt.
+      let two = both_below (bit_or a b) c lt in
+      let one = both_below a b two.0 in
+      (one.0, (one.1, (two.1, tt))),
+  λ n. or_lt 62 (bit_or a b) c (or_lt 62 a b n.0 n.1.0) n.1.1.0,
+)
+
+pub counts_below : (words : FrameWords) → words.flags ≡ 2
+    → (bit_or (bit_or (slice_index words.numbers 2) (slice_index words.numbers 3)) (slice_index words.numbers 4) < 2 ^ 62) ↔ AreNumeric (counts_list words)
+counts_below words two =
+    let a : ℕ = slice_index words.numbers 2 in
+    let b : ℕ = slice_index words.numbers 3 in
+    let c : ℕ = slice_index words.numbers 4 in
+    subst (λ (f : ℕ). (bit_or (bit_or a b) c < 2 ^ 62) ↔ AreNumeric (if f == 2 then a ∷ b ∷ c ∷ [] else [])) (sym two) (three_below a b c)
+
+pub numeric_by : (words : FrameWords) (bits : ℕ) → (words.flags ≡ 0) ⊎ (words.flags ≡ 2) → (bits < 2 ^ 62) ↔ AreNumeric (counts_list words)
+    → IsTrue (nat_lt (bit_or (bit_or (greatest_in words) (delay_in words)) bits) (2 ^ 62))
+    ↔ (((words.flags ≡ 0) ⊎ (words.flags ≡ 2)) × AreNumeric (greatest_in words ∷ delay_in words ∷ counts_list words))
+numeric_by words bits flags counts =
+    let g : ℕ = greatest_in words in
+    let d : ℕ = delay_in words in (
+      λ e.
+          let all = both_below (bit_or g d) bits (ltb-true (bit_or (bit_or g d) bits) (2 ^ 62) e) in
+          let front = both_below g d all.0 in
+          (flags, (front.0, (front.1, counts.0 all.1))),
+      λ n. lt-ltb (bit_or (bit_or g d) bits) (2 ^ 62) (or_lt 62 (bit_or g d) bits (or_lt 62 g d n.1.0 n.1.1.0) (counts.1 n.1.1.1)),
+    )
+
 -- ---- how many bytes these are
 
 pub few : (low : ℕ) (gaps : List GapWords) → Fit low gaps → 2 * length gaps ≤ low
@@ -173,29 +210,105 @@ longest words gaps =
 
 -- ---- they are laid
 
+size_some : (n : ℕ) → 1 ≤ size n
+unfolding size
+size_some n = grind (arith, nat_tests)
+
+short_one : (n : ℕ) → n < 64 → short n ≡ n ∷ []
+unfolding short
+short_one n lt = rw (lt-ltb n 64 lt) refl
+
+-- two numbers of one byte each
+pub both_small : (a b : ℕ) → bit_or a b < 64 → (a < 64) × (b < 64)
+both_small a b lt = (omega (arith, lt, le_or_l a b), omega (arith, lt, le_or_r a b))
+
+pub short_two : (a b : ℕ) → bit_or a b < 64 → all_short (a ∷ b ∷ []) ≡ a ∷ b ∷ []
+short_two a b lt =
+    let both = both_small a b lt in
+    rw (short_one a both.0, short_one b both.1) refl
+
+pub few_two : (a b : ℕ) → 2 ≤ length (all_short (a ∷ b ∷ []))
+few_two a b = omega (arith, length-append (short a) (short b ++ []), length-append (short b) [], length-short a, length-short b, size_some a, size_some b)
+
 pub laid_two : (a b : ℕ) (old one new : List ℕ) (at place end : ℕ) → Lays (short a) at old place one → Lays (short b) place one end new
     → Lays (all_short (a ∷ b ∷ [])) at old end new
 laid_two a b old one new at place end x y =
     subst (λ (l : List ℕ). Lays (short a ++ l) at old end new) (sym (append-nil (short b))) (lays_more (short a) (short b) old one new at place end x y)
 
-pub laid_front : (t g d n f : ℕ) (old one two new : List ℕ) (place stop end : ℕ) → Lays (short t) 0 old place one → Lays (all_short (g ∷ d ∷ [])) place one stop two
-    → Lays (all_short (n ∷ f ∷ [])) stop two end new → Lays (all_short (t ∷ g ∷ d ∷ n ∷ f ∷ [])) 0 old end new
-laid_front t g d n f old one two new place stop end x y z =
-    let behind = lays_more (all_short (g ∷ d ∷ [])) (all_short (n ∷ f ∷ [])) one two new place stop end y z in
-    lays_more (short t) (all_short (g ∷ d ∷ n ∷ f ∷ [])) old one new 0 place end x
-    (subst (λ (l : List ℕ). Lays l place one end new) (sym (all_short-append (g ∷ d ∷ []) (n ∷ f ∷ []))) behind)
+pub laid_front : (g d n f : ℕ) (old one two new : List ℕ) (place stop end : ℕ) → Lays (short g) 1 old place one → Lays (short d) place one stop two
+    → Lays (all_short (n ∷ f ∷ [])) stop two end new → Lays (all_short (g ∷ d ∷ n ∷ f ∷ [])) 1 old end new
+laid_front g d n f old one two new place stop end x y z =
+    lays_more (short g) (all_short (d ∷ n ∷ f ∷ [])) old one new 1 place end x (lays_more (short d) (all_short (n ∷ f ∷ [])) one two new place stop end y z)
 
 pub laid_counts : (words : FrameWords) (old one new : List ℕ) (at place end : ℕ) → words.flags ≡ 2
-    → Lays (all_short (slice_index words.numbers 2 ∷ slice_index words.numbers 3 ∷ [])) at old place one → Lays (short (slice_index words.numbers 4)) place one end new
+    → Lays (short (slice_index words.numbers 2)) at old place one → Lays (all_short (slice_index words.numbers 3 ∷ slice_index words.numbers 4 ∷ [])) place one end new
     → Lays (all_short (counts_list words)) at old end new
 laid_counts words old one new at place end two x y =
     let a : ℕ = slice_index words.numbers 2 in
     let b : ℕ = slice_index words.numbers 3 in
     let c : ℕ = slice_index words.numbers 4 in
-    let last : Lays (all_short (c ∷ [])) place one end new = subst (λ (l : List ℕ). Lays l place one end new) (sym (append-nil (short c))) y in
-    let all = lays_more (all_short (a ∷ b ∷ [])) (all_short (c ∷ [])) old one new at place end x last in
-    let joined : Lays (all_short (a ∷ b ∷ c ∷ [])) at old end new = subst (λ (l : List ℕ). Lays l at old end new) (sym (all_short-append (a ∷ b ∷ []) (c ∷ []))) all in
+    let joined : Lays (all_short (a ∷ b ∷ c ∷ [])) at old end new = lays_more (short a) (all_short (b ∷ c ∷ [])) old one new at place end x y in
     subst (λ (f : ℕ). Lays (all_short (if f == 2 then a ∷ b ∷ c ∷ [] else [])) at old end new) (sym two) joined
+
+-- ---- the type is laid last
+
+-- the type's byte, by the flags
+pub first_byte : (words : FrameWords) (gaps : List GapWords) → words.flags ≡ 2 → all_short (front_numbers words gaps) ≡ 0x03 ∷ all_short (behind_type words gaps)
+unfolding short
+first_byte words gaps two = subst (λ (f : ℕ). all_short ((if f == 2 then 0x03 else 0x02) ∷ behind_type words gaps) ≡ 0x03 ∷ all_short (behind_type words gaps)) (sym two) refl
+
+pub first_without : (words : FrameWords) (gaps : List GapWords) → words.flags ≡ 0 → all_short (front_numbers words gaps) ≡ 0x02 ∷ all_short (behind_type words gaps)
+unfolding short
+first_without words gaps none = subst (λ (f : ℕ). all_short ((if f == 2 then 0x03 else 0x02) ∷ behind_type words gaps) ≡ 0x02 ∷ all_short (behind_type words gaps)) (sym none) refl
+
+pub no_counts : (words : FrameWords) → words.flags ≡ 0 → counts_list words ≡ []
+no_counts words none =
+    subst (λ (f : ℕ). (if f == 2 then slice_index words.numbers 2 ∷ slice_index words.numbers 3 ∷ slice_index words.numbers 4 ∷ [] else []) ≡ []) (sym none) refl
+
+-- how much room each part has
+pub record Room (words : FrameWords) (gaps : List GapWords) (room : ℕ) : Type 0 where
+  pub all : 1 + length (all_short (behind_type words gaps)) + length (all_short (gap_numbers gaps)) + length (all_short (counts_list words)) ≤ room
+
+pub room_of : (words : FrameWords) (gaps : List GapWords) (room : ℕ) → (words.flags ≡ 0) ⊎ (words.flags ≡ 2) → length (ack_bytes words gaps) ≤ room → Room words gaps room
+room_of words gaps room flags le =
+    let front : List ℕ = all_short (front_numbers words gaps) in
+    let middle : List ℕ = all_short (gap_numbers gaps) in
+    let end : List ℕ = all_short (counts_list words) in
+    let one : length front ≡ 1 + length (all_short (behind_type words gaps)) = elim flags [
+      | inl none ↦ omega (arith, ap length (first_without words gaps none))
+      | inr some ↦ omega (arith, ap length (first_byte words gaps some))
+    ] in
+    record { all = omega (arith, le, one, length-append front (middle ++ end), length-append middle end) }
+
+tail_of : (k : ℕ) (bytes old mid : List ℕ) → 1 ≤ length old → take (suc k) mid ≡ take 1 old ++ bytes → take k (drop 1 mid) ≡ bytes
+tail_of k bytes [] mid le e = absurd (omega (arith, le))
+tail_of k bytes (o ∷ old) [] le e = absurd (omega (arith, ap length e))
+tail_of k bytes (o ∷ old) (m ∷ mid) le e = ap (λ (l : List ℕ). drop 1 l) e
+
+typed : (t : ℕ) (bytes old mid new : List ℕ) (end first : ℕ) → 1 ≤ length old → Lays bytes 1 old end mid → first ≡ 0 + 1 → take first new ≡ take 0 mid ++ (t ∷ [])
+    → drop first new ≡ drop first mid → Lays (t ∷ bytes) 0 old end new
+typed t bytes old mid new end first le x one front back =
+    let k : ℕ = length bytes in
+    let count = x.count in
+    let next : end ≡ suc k = omega (arith, count) in
+    let is : new ≡ t ∷ drop 1 mid =
+    sym (take-append-drop first new) ∙ ap (λ (l : List ℕ). l ++ drop first new) front ∙ ap (λ (l : List ℕ). t ∷ l) back ∙ ap (λ (n : ℕ). t ∷ drop n mid) one in
+    let rest : take k (drop 1 mid) ≡ bytes = tail_of k bytes old mid le (subst (λ (n : ℕ). take n mid ≡ take 1 old ++ bytes) next x.front) in
+    record {
+      count = omega (arith, count);
+      front = ap (λ (l : List ℕ). take end l) is ∙ ap (λ (n : ℕ). take n (t ∷ drop 1 mid)) next ∙ ap (λ (l : List ℕ). t ∷ l) rest;
+      back = ap (λ (l : List ℕ). drop end l) is ∙ ap (λ (n : ℕ). drop n (t ∷ drop 1 mid)) next ∙ drop-drop k 1 mid ∙ ap (λ (n : ℕ). drop n mid) (sym count) ∙ x.back;
+    }
+
+-- the numbers behind the type, the gaps, the type and the counts were laid, one after the other
+pub laid_ack : (t : ℕ) (behind middle end old front mid one new : List ℕ) (place at stop first : ℕ) → 1 ≤ length old → Lays behind 1 old place front → Lays middle place front at mid
+    → first ≡ 0 + 1 → take first one ≡ take 0 mid ++ (t ∷ []) → drop first one ≡ drop first mid → Lays end at one stop new
+    → Lays ((t ∷ behind) ++ (middle ++ end)) 0 old stop new
+laid_ack t behind middle end old front mid one new place at stop first le x y a b c z =
+    let so_far : Lays (behind ++ middle) 1 old at mid = lays_more behind middle old front mid 1 place at x y in
+    let with_type : Lays (t ∷ (behind ++ middle)) 0 old at one = typed t (behind ++ middle) old mid one at first le so_far a b c in
+    let all = lays_more (t ∷ (behind ++ middle)) end old one new 0 at stop with_type z in
+    subst (λ (l : List ℕ). Lays (t ∷ l) 0 old stop new) (append_assoc behind middle end) all
 
 -- ---- gap after gap
 
@@ -322,3 +435,13 @@ room_at gaps at i end old one lt room inv =
       ap length (gap_more gaps i lt),
       length-append (all_short (gap_numbers (take i gaps))) (all_short (g.gap ∷ g.len ∷ [])),
     )
+
+-- an answer as the word that it is told by
+pub same_answer : (answer : ℤ) → (answer ≡ pos 0) ⊎ ((answer ≡ negsuc 3) ⊎ (answer ≡ negsuc 0)) → to_z w32 (of_z w32 answer) ≡ answer
+same_answer answer cases = elim cases [
+  | inl done ↦ subst (λ (z : ℤ). to_z w32 (of_z w32 z) ≡ z) (sym done) refl
+  | inr other ↦ elim other [
+    | inl less ↦ subst (λ (z : ℤ). to_z w32 (of_z w32 z) ≡ z) (sym less) refl
+    | inr wrong ↦ subst (λ (z : ℤ). to_z w32 (of_z w32 z) ≡ z) (sym wrong) refl
+  ]
+]

@@ -69,9 +69,13 @@ pub record IsAck (words : FrameWords) (gaps : List GapWords) : Type 0 where
   pub delay : delay_in words < 2 ^ 62
   pub counts : AreNumeric (counts_list words)
 
--- their numbers in front of the gaps, with the type first
+-- their numbers in front of the gaps, behind the type
+abbrev pub behind_type : FrameWords → List GapWords → List ℕ
+behind_type words gaps = greatest_in words ∷ delay_in words ∷ length gaps ∷ words.data_len ∷ []
+
+-- these with the type
 abbrev pub front_numbers : FrameWords → List GapWords → List ℕ
-front_numbers words gaps = (if words.flags == 2 then 0x03 else 0x02) ∷ greatest_in words ∷ delay_in words ∷ length gaps ∷ words.data_len ∷ []
+front_numbers words gaps = (if words.flags == 2 then 0x03 else 0x02) ∷ behind_type words gaps
 
 -- the bytes that are written
 abbrev pub ack_bytes : FrameWords → List GapWords → List ℕ

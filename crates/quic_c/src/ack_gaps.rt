@@ -1,10 +1,10 @@
 //! ACKs written by gap and length, as they stand on the wire (RFC 9000, section 19.3).
-ghost use Rattle.std.specs.Prelude.{◌≡◌, ◌⊎◌, ◌↔◌, ◌+◌, ◌<◌, ◌≤◌, ◌^◌, ◌++◌, ◌∷◌, ℕ, List, [], Bool, Ok, Err, IfErr, OnOk, IsTrue, length, pos, negsuc, ◌==◌, if◌then◌else◌};
+ghost use Rattle.std.specs.Prelude.{◌≡◌, ◌⊎◌, ◌↔◌, ◌+◌, ◌*◌, ◌<◌, ◌≤◌, ◌^◌, ◌++◌, ◌∷◌, ℕ, List, [], Bool, Ok, Err, IsTrue, length, pos, negsuc, ◌==◌, if◌then◌else◌};
 ghost use Rattle.quic_base.specs.Varint.{short};
 ghost use Rattle.quic_frame_parts.specs.Numbers.{AreNumeric, all_short};
 ghost use Rattle.quic_frame_parts.specs.Putting.{Lays, Puts};
 ghost use Rattle.quic_frame_parts.specs.Shortest.{shortest_frame};
-ghost use Rattle.quic_c.specs.AckGaps.{ack_bytes, ack_said, counts_list, front_numbers, gap_numbers, Fit, IsAck, SaysAck};
+ghost use Rattle.quic_c.specs.AckGaps.{ack_bytes, ack_said, behind_type, counts_list, delay_in, gap_numbers, greatest_in, Fit, IsAck, SaysAck};
 
 use crate::words::{FrameWords, GapWords};
 use quic_base::coding::lay_array;
@@ -16,6 +16,17 @@ fn type_of(ack: &FrameWords) -> u64
     ensures { result ≡ (if ack.now.flags == 2 then 0x03 else 0x02) }
 {
     if ack.flags == 2 { 0x03 } else { 0x02 }
+}
+
+// Lays two bytes, each by a store of its own: no word is made of them first.
+#[inline(always)]
+fn lay_bytes(dest: &mut [u8], at: usize, one: u8, other: u8) -> usize
+    requires { at + 2 ≤ length dest.old }
+    ensures lays { Lays (one ∷ other ∷ []) at dest.old result dest.new }
+    ensures len { length dest.new ≡ length dest.old }
+{
+    let at = lay_array(dest, at, [one]);
+    lay_array(dest, at, [other])
 }
 
 // Lays a number in its shortest spelling over the bytes at a place, and answers where it ends.
@@ -30,11 +41,11 @@ fn lay(dest: &mut [u8], at: usize, n: u64) -> usize
     if n < 1 << 6 {
         lay_array(dest, at, [n as u8])
     } else if n < 1 << 14 {
-        lay_array(dest, at, ((1 << 14) + n as u16).to_be_bytes())
+        lay_bytes(dest, at, (1 << 6) + (n / 256) as u8, (n % 256) as u8)
     } else if n < 1 << 30 {
         lay_array(dest, at, ((2 << 30) + n as u32).to_be_bytes())
     } else {
-        lay_array(dest, at, ((3 << 62) + n).to_be_bytes())
+        lay_array(dest, at, (3 << 62 | n).to_be_bytes())
     }
 }
 
@@ -67,7 +78,7 @@ fn gaps_len(low: u64, gaps: &[GapWords]) -> usize
     len
 }
 
-// Lays two numbers, one behind the other.
+// Lays two numbers, one behind the other. Where both have one byte, one test tells that.
 #[inline(always)]
 fn lay_two(dest: &mut [u8], at: usize, one: u64, other: u64) -> usize
     requires one { one < 2 ^ 62 }
@@ -76,6 +87,9 @@ fn lay_two(dest: &mut [u8], at: usize, one: u64, other: u64) -> usize
     ensures lays { Lays (all_short (one ∷ other ∷ [])) at dest.old result dest.new }
     ensures len { length dest.new ≡ length dest.old }
 {
+    if (one | other) < 1 << 6 {
+        return lay_bytes(dest, at, one as u8, other as u8);
+    }
     let at = lay(dest, at, one);
     lay(dest, at, other)
 }
@@ -95,33 +109,47 @@ fn lay_gaps(dest: &mut [u8], at: usize, gaps: &[GapWords]) -> usize
     at
 }
 
-// Lays the numbers in front of the gaps at the front, the type first.
+// Lays the numbers between the type and the gaps behind the first byte.
 #[inline(always)]
 fn lay_front(dest: &mut [u8], ack: &FrameWords, gaps: &[GapWords]) -> usize
     requires ack { IsAck ack.now gaps.now }
-    requires room { length (all_short (front_numbers ack.now gaps.now)) ≤ length dest.old }
-    ensures lays { Lays (all_short (front_numbers ack.now gaps.now)) 0 dest.old result dest.new }
+    requires room { 1 + length (all_short (behind_type ack.now gaps.now)) ≤ length dest.old }
+    ensures lays { Lays (all_short (behind_type ack.now gaps.now)) 1 dest.old result dest.new }
     ensures len { length dest.new ≡ length dest.old }
 {
-    let ty = type_of(ack);
-    let at = lay(dest, 0, ty);
-    let at = lay_two(dest, at, ack.numbers[0], ack.numbers[1]);
+    let at = lay(dest, 1, ack.numbers[0]);
+    let at = lay(dest, at, ack.numbers[1]);
     lay_two(dest, at, gaps.len() as u64, ack.data_len as u64)
 }
 
-// Lays the counts, where the words have any.
+// Lays the counts.
 #[inline(always)]
 fn lay_counts(dest: &mut [u8], at: usize, ack: &FrameWords) -> usize
+    requires some { ack.now.flags ≡ 2 }
     requires counts { AreNumeric (counts_list ack.now) }
     requires room { at + length (all_short (counts_list ack.now)) ≤ length dest.old }
     ensures lays { Lays (all_short (counts_list ack.now)) at dest.old result dest.new }
     ensures len { length dest.new ≡ length dest.old }
 {
+    let at = lay(dest, at, ack.numbers[2]);
+    lay_two(dest, at, ack.numbers[3], ack.numbers[4])
+}
+
+// Lays the ACK at the front, and its type last, where the flags are looked at for the counts.
+#[inline(always)]
+fn lay_ack(ack: &FrameWords, gaps: &[GapWords], dest: &mut [u8]) -> usize
+    requires ack { IsAck ack.now gaps.now }
+    requires room { length (ack_bytes ack.now gaps.now) ≤ length dest.old }
+    ensures { Puts (Ok result) (ack_bytes ack.now gaps.now) dest.old dest.new }
+{
+    let at = lay_front(dest, ack, gaps);
+    let at = lay_gaps(dest, at, gaps);
     if ack.flags != 2 {
+        lay_array(dest, 0, [0x02]);
         return at;
     }
-    let at = lay_two(dest, at, ack.numbers[2], ack.numbers[3]);
-    lay(dest, at, ack.numbers[4])
+    lay_array(dest, 0, [0x03]);
+    lay_counts(dest, at, ack)
 }
 
 // How many bytes the ACK has.
@@ -141,32 +169,12 @@ fn ack_len(ack: &FrameWords, gaps: &[GapWords]) -> usize
     numbers_len(&front) as usize + gaps_len(greatest - first, gaps) + counts
 }
 
-// Whether so many bytes have room for the ACK, or how many it has. That they have room for the longest numbers is seen
-// first.
+// Whether so many bytes have room for the ACK, were each of its numbers a longest one.
 #[inline(always)]
-fn look_for_room(ack: &FrameWords, gaps: &[GapWords], room: usize) -> Result<(), usize>
-    requires { IsAck ack.now gaps.now }
-    ensures fits { OnOk result (length (ack_bytes ack.now gaps.now) ≤ room) }
-    ensures needed { IfErr result (λ n. (n ≡ length (ack_bytes ack.now gaps.now)) × (room < n)) }
+fn has_room(gaps: &[GapWords], room: usize) -> bool
+    ensures { IsTrue result → 64 + 16 * length gaps.now ≤ room }
 {
-    let sixteens = room / 16;
-    if sixteens >= gaps.len() && sixteens - gaps.len() >= 4 {
-        return Ok(());
-    }
-    let needed = ack_len(ack, gaps);
-    if room < needed { Err(needed) } else { Ok(()) }
-}
-
-// Lays the ACK at the front.
-#[inline(always)]
-fn lay_ack(ack: &FrameWords, gaps: &[GapWords], dest: &mut [u8]) -> Result<usize, usize>
-    requires { IsAck ack.now gaps.now }
-    ensures { Puts result (ack_bytes ack.now gaps.now) dest.old dest.new }
-{
-    look_for_room(ack, gaps, dest.len())?;
-    let at = lay_front(dest, ack, gaps);
-    let at = lay_gaps(dest, at, gaps);
-    Ok(lay_counts(dest, at, ack))
+    room / 16 >= gaps.len() + 4
 }
 
 // Whether the words and the gaps say an ACK.
@@ -174,22 +182,54 @@ fn lay_ack(ack: &FrameWords, gaps: &[GapWords], dest: &mut [u8]) -> Result<usize
 fn is_ack(ack: &FrameWords, gaps: &[GapWords]) -> bool
     ensures { IsTrue result ↔ IsAck ack.now gaps.now }
 {
-    let (greatest, delay, first) = (ack.numbers[0], ack.numbers[1], ack.data_len as u64);
-    if ack.kind != 0x02 || greatest >= 1 << 62 || delay >= 1 << 62 || first > greatest {
-        return false;
-    }
-    has_counts(ack) && fit(greatest - first, gaps)
+    let (greatest, first) = (ack.numbers[0], ack.data_len as u64);
+    ack.kind == 0x02 && are_numeric(ack) && first <= greatest && fit(greatest - first, gaps)
 }
 
-// Whether the flags say counts or none, and these are numbers.
+// The bits of all counts in one word, which is below 2^62 just where they are.
 #[inline(always)]
-fn has_counts(ack: &FrameWords) -> bool
-    ensures { IsTrue result ↔ ((ack.now.flags ≡ 0) ⊎ (ack.now.flags ≡ 2)) × AreNumeric (counts_list ack.now) }
+fn bits_of_counts(ack: &FrameWords) -> u64
+    ensures { result < 2 ^ 62 ↔ AreNumeric (counts_list ack.now) }
 {
-    if ack.flags != 2 {
-        return ack.flags == 0;
+    if ack.flags == 2 {
+        ack.numbers[2] | ack.numbers[3] | ack.numbers[4]
+    } else {
+        0
     }
-    ack.numbers[2] < 1 << 62 && ack.numbers[3] < 1 << 62 && ack.numbers[4] < 1 << 62
+}
+
+// Whether the flags say counts or none, and these, the greatest number and the delay are numbers.
+#[inline(always)]
+fn are_numeric(ack: &FrameWords) -> bool
+    ensures { IsTrue result ↔ ((ack.now.flags ≡ 0) ⊎ (ack.now.flags ≡ 2))
+        × AreNumeric (greatest_in ack.now ∷ delay_in ack.now ∷ counts_list ack.now) }
+{
+    if ack.flags != 0 && ack.flags != 2 {
+        return false;
+    }
+    (ack.numbers[0] | ack.numbers[1] | bits_of_counts(ack)) < 1 << 62
+}
+
+// Writes the ACK where it fits, for which its bytes are counted first, or refuses it.
+#[inline(never)]
+fn write_counted(ack: &FrameWords, gaps: &[GapWords], out: &mut [u8], written: &mut usize) -> i32
+    ensures answers { (result ≡ pos 0) ⊎ (result ≡ negsuc 3) ⊎ (result ≡ negsuc 0) }
+    ensures says { (result ≡ negsuc 0) ⊎ IsAck ack.now gaps.now }
+    ensures wrote { result ≡ pos 0 → Puts (Ok written.new) (ack_bytes ack.now gaps.now) out.old out.new }
+    ensures room { result ≡ negsuc 3 → Puts (Err written.new) (ack_bytes ack.now gaps.now) out.old out.new }
+    ensures refused { result ≡ negsuc 0 → IsAck ack.now gaps.now → ⊥ }
+    ensures same { (result ≡ negsuc 0) → (written.new ≡ written.old) × (out.new ≡ out.old) }
+{
+    if !is_ack(ack, gaps) {
+        return -1;
+    }
+    let needed = ack_len(ack, gaps);
+    if out.len() < needed {
+        *written = needed;
+        return -4;
+    }
+    *written = lay_ack(ack, gaps, out);
+    0
 }
 
 /// Writes an ACK in its shortest spelling at the front of `out`, of words and gaps as `quic_wire_frame_read_` tells
@@ -216,17 +256,9 @@ pub extern "C" fn quic_wire_ack_gaps_write_(
     ensures refused { result ≡ negsuc 0 → (low : ℕ) (below : List (ℕ × ℕ)) → SaysAck ack.now gaps.now low below → ⊥ }
     ensures same { (result ≡ negsuc 0) → (written.new ≡ written.old) × (out.new ≡ out.old) }
 {
-    if !is_ack(ack, gaps) {
-        return -1;
+    if has_room(gaps, out.len()) && is_ack(ack, gaps) {
+        *written = lay_ack(ack, gaps, out);
+        return 0;
     }
-    match lay_ack(ack, gaps, out) {
-        Ok(len) => {
-            *written = len;
-            0
-        }
-        Err(needed) => {
-            *written = needed;
-            -4
-        }
-    }
+    write_counted(ack, gaps, out, written)
 }

@@ -1,33 +1,75 @@
-use Rattle.std.proofs.Common.{ℕ, List, ◌++◌, ◌-◌, arith}
-use Rattle.std.proofs.lemmas.List.{length-append}
-use Rattle.quic_frame_parts.proofs.Putting.{lays_more, puts_lays}
+use Rattle.std.proofs.Common.{◌≡◌, ℕ, List, [], ◌∷◌, ◌++◌, ◌∙◌, ◌-◌, length, ap, subst, sym, inl, inr, arith}
+use Rattle.quic_frame_parts.proofs.Putting.{lays_none, puts_lays}
 use Rattle.quic_frame_parts.specs.Numbers.{all_short}
-use Rattle.quic_c.specs.AckGaps.{counts_list, front_numbers, gap_numbers, greatest_in}
-use Rattle.quic_c.proofs.AckGaps.{numeric}
+use Rattle.quic_frame_parts.specs.Putting.{Lays}
+use Rattle.quic_c.specs.AckGaps.{ack_bytes, behind_type, counts_list, gap_numbers, greatest_in}
+use Rattle.quic_c.proofs.AckGaps.{first_byte, first_without, laid_ack, no_counts, numeric, room_of}
 use Rattle.quic_c.proofs.ack_gaps.lay_ack.Goals as goal
+
+pub lay_front-at-requires-clause-room : goal.lay_front-at-requires-clause-room
+lay_front-at-requires-clause-room c =
+    let room = (room_of c.args.ack.now c.args.gaps.now (length c.args.dest.now) c.requires.ack.flags c.requires.room).all in
+    omega (arith, room)
 
 pub lay_gaps-at-requires-clause-numeric : goal.lay_gaps-at-requires-clause-numeric
 lay_gaps-at-requires-clause-numeric c =
-    let small = c.requires.greatest in
-    numeric (greatest_in c.args.ack.now - c.args.ack.now.data_len) c.args.gaps.now (omega (arith, small)) c.requires.fit
+    let small = c.requires.ack.greatest in
+    numeric (greatest_in c.args.ack.now - c.args.ack.now.data_len) c.args.gaps.now (omega (arith, small)) c.requires.ack.fit
+
+pub lay_gaps-at-requires-clause-room : goal.lay_gaps-at-requires-clause-room
+lay_gaps-at-requires-clause-room c =
+    let room = (room_of c.args.ack.now c.args.gaps.now (length c.args.dest.now) c.requires.ack.flags c.requires.room).all in
+    let one = c.lay_front-at.ensures.lays.count in
+    omega (arith, room, one, c.lay_front-at.ensures.len)
+
+pub lay_array-requires : goal.lay_array-requires
+lay_array-requires c =
+    let room = (room_of c.args.ack.now c.args.gaps.now (length c.args.dest.now) c.requires.ack.flags c.requires.room).all in
+    (omega arith, omega (arith, room, c.lay_front-at.ensures.len, c.lay_gaps-at.ensures.len))
+
+pub lay_array-requires-2 : goal.lay_array-requires-2
+lay_array-requires-2 c =
+    let room = (room_of c.args.ack.now c.args.gaps.now (length c.args.dest.now) c.requires.ack.flags c.requires.room).all in
+    (omega arith, omega (arith, room, c.lay_front-at.ensures.len, c.lay_gaps-at.ensures.len))
 
 pub lay_counts-requires-clause-room : goal.lay_counts-requires-clause-room
 lay_counts-requires-clause-room c =
-    let front : List ℕ = all_short (front_numbers c.args.ack.now c.args.gaps.now) in
-    let middle : List ℕ = all_short (gap_numbers c.args.gaps.now) in
-    let end : List ℕ = all_short (counts_list c.args.ack.now) in
+    let room = (room_of c.args.ack.now c.args.gaps.now (length c.args.dest.now) c.requires.ack.flags c.requires.room).all in
     let one = c.lay_front-at.ensures.lays.count in
     let two = c.lay_gaps-at.ensures.lays.count in
-    let fits = c.in_ok-look_for_room.ensures.fits in
-    omega (arith, one, two, fits, c.lay_front-at.ensures.len, c.lay_gaps-at.ensures.len, length-append front (middle ++ end), length-append middle end)
+    omega (arith, room, one, two, c.lay_front-at.ensures.len, c.lay_gaps-at.ensures.len, c.lay_array-2.ensures.len)
+
+pub returns-then-ack-ne2 : goal.returns-then-ack-ne2
+returns-then-ack-ne2 c =
+    let words = c.args.ack.now in
+    let gaps = c.args.gaps.now in
+    let behind : List ℕ = all_short (behind_type words gaps) in
+    let middle : List ℕ = all_short (gap_numbers gaps) in
+    let room = (room_of words gaps (length c.args.dest.now) c.requires.ack.flags c.requires.room).all in
+    let none : c.args.ack.now.flags ≡ 0 = elim c.requires.ack.flags [
+      | inl none ↦ none
+      | inr some ↦ absurd (c.if-ack-ne2.true some)
+    ] in
+    let is : ack_bytes words gaps ≡ (0x02 ∷ behind) ++ (middle ++ []) =
+    ap (λ (l : List ℕ). l ++ (middle ++ all_short (counts_list words))) (first_without words gaps none)
+    ∙ ap (λ (l : List ℕ). (0x02 ∷ behind) ++ (middle ++ all_short l)) (no_counts words none) in
+    let all = laid_ack 0x02 behind middle [] c.args.dest.now c.lay_front-at.new.dest c.lay_gaps-at.new.dest c.lay_array.new.bytes c.lay_array.new.bytes
+    c.lay_front-at.result c.lay_gaps-at.result c.lay_gaps-at.result c.lay_array.result (omega (arith, room)) c.lay_front-at.ensures.lays c.lay_gaps-at.ensures.lays
+    c.lay_array.ensures.end c.lay_array.ensures.front c.lay_array.ensures.back (lays_none c.lay_gaps-at.result c.lay_array.new.bytes) in
+    puts_lays (ack_bytes words gaps) c.args.dest.now c.lay_array.new.bytes c.lay_gaps-at.result
+    (subst (λ (l : List ℕ). Lays l 0 c.args.dest.now c.lay_gaps-at.result c.lay_array.new.bytes) (sym is) all)
 
 pub returns : goal.returns
 returns c =
-    let front : List ℕ = all_short (front_numbers c.args.ack.now c.args.gaps.now) in
-    let middle : List ℕ = all_short (gap_numbers c.args.gaps.now) in
-    let end : List ℕ = all_short (counts_list c.args.ack.now) in
-    let behind =
-    lays_more middle end c.lay_front-at.new.dest c.lay_gaps-at.new.dest c.lay_counts.new.dest c.lay_front-at.result c.lay_gaps-at.result c.lay_counts.result c.lay_gaps-at.ensures.lays c.lay_counts.ensures.lays in
-    let all =
-    lays_more front (middle ++ end) c.args.dest.now c.lay_front-at.new.dest c.lay_counts.new.dest 0 c.lay_front-at.result c.lay_counts.result c.lay_front-at.ensures.lays behind in
-    puts_lays (front ++ (middle ++ end)) c.args.dest.now c.lay_counts.new.dest c.lay_counts.result all
+    let words = c.args.ack.now in
+    let gaps = c.args.gaps.now in
+    let behind : List ℕ = all_short (behind_type words gaps) in
+    let middle : List ℕ = all_short (gap_numbers gaps) in
+    let end : List ℕ = all_short (counts_list words) in
+    let room = (room_of words gaps (length c.args.dest.now) c.requires.ack.flags c.requires.room).all in
+    let is : ack_bytes words gaps ≡ (0x03 ∷ behind) ++ (middle ++ end) = ap (λ (l : List ℕ). l ++ (middle ++ end)) (first_byte words gaps c.if-ack-ne2.false) in
+    let all = laid_ack 0x03 behind middle end c.args.dest.now c.lay_front-at.new.dest c.lay_gaps-at.new.dest c.lay_array-2.new.bytes c.lay_counts.new.dest
+    c.lay_front-at.result c.lay_gaps-at.result c.lay_counts.result c.lay_array-2.result (omega (arith, room)) c.lay_front-at.ensures.lays c.lay_gaps-at.ensures.lays
+    c.lay_array-2.ensures.end c.lay_array-2.ensures.front c.lay_array-2.ensures.back c.lay_counts.ensures.lays in
+    puts_lays (ack_bytes words gaps) c.args.dest.now c.lay_counts.new.dest c.lay_counts.result
+    (subst (λ (l : List ℕ). Lays l 0 c.args.dest.now c.lay_counts.result c.lay_counts.new.dest) (sym is) all)

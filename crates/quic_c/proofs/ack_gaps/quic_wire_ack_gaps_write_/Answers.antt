@@ -1,24 +1,36 @@
-use Rattle.std.proofs.Common.{ℕ, List, refl, sym, subst, inr, rules}
+use Rattle.std.proofs.Common.{ℕ, List, ◌∙◌, inl, inr, refl, subst, sym, arith}
 use Rattle.std.specs.Prelude.{Ok, Err}
 use Rattle.quic_frame_parts.specs.Putting.{Puts}
-use Rattle.quic_c.proofs.AckGaps.{is_of, says_of, whole}
+use Rattle.quic_c.proofs.AckGaps.{is_of, longest, same_answer, says_of, whole}
 use Rattle.quic_c.proofs.ack_gaps.quic_wire_ack_gaps_write_.Goals as goal
 
-pub returns-then-not-is_ack-clause-refused : goal.returns-then-not-is_ack-clause-refused
-returns-then-not-is_ack-clause-refused c = λ _ low below s.
-    let yes = c.is_ack.ensures.1 (is_of c.args.ack.now c.args.gaps.now low below s) in
-    search (rules, yes, c.if-not-is_ack)
+pub lay_ack-requires-clause-room : goal.lay_ack-requires-clause-room
+lay_ack-requires-clause-room c = omega (arith, longest c.args.ack.now c.args.gaps.now, c.if-has_room.ensures)
 
-pub returns-in-Ok-clause-wrote : goal.returns-in-Ok-clause-wrote
-returns-in-Ok-clause-wrote c = λ _ last low below s.
-    subst (λ (b : List ℕ). Puts (Ok c.in-Ok.len) b c.args.out.now c.lay_ack.new.dest) (sym (whole last c.args.ack.now c.args.gaps.now low below s)) c.in-Ok.ensures
+pub returns-then-is_ack-clause-wrote : goal.returns-then-is_ack-clause-wrote
+returns-then-is_ack-clause-wrote c = λ _ last low below s.
+    subst (λ (b : List ℕ). Puts (Ok c.lay_ack.result) b c.args.out.now c.lay_ack.new.dest) (sym (whole last c.args.ack.now c.args.gaps.now low below s)) c.lay_ack.ensures
 
-pub returns-in-Err-clause-room : goal.returns-in-Err-clause-room
-returns-in-Err-clause-room c = λ _ last low below s.
-    subst (λ (b : List ℕ). Puts (Err c.in-Err.needed) b c.args.out.now c.lay_ack.new.dest) (sym (whole last c.args.ack.now c.args.gaps.now low below s)) c.in-Err.ensures
+pub returns-then-is_ack-clause-says : goal.returns-then-is_ack-clause-says
+returns-then-is_ack-clause-says c = inr (says_of c.args.ack.now c.args.gaps.now (c.if-is_ack.ensures.0 refl))
 
-pub returns-in-Ok-clause-says : goal.returns-in-Ok-clause-says
-returns-in-Ok-clause-says c = inr (says_of c.args.ack.now c.args.gaps.now (c.is_ack.ensures.0 (search (rules, c.if-not-is_ack))))
+pub returns-clause-wrote : goal.returns-clause-wrote
+returns-clause-wrote c = λ e last low below s.
+    let zero = sym (same_answer c.write_counted.result c.write_counted.ensures.answers) ∙ e in
+    subst (λ (b : List ℕ). Puts (Ok c.write_counted.new.written) b c.args.out.now c.write_counted.new.out) (sym (whole last c.args.ack.now c.args.gaps.now low below s)) (c.write_counted.ensures.wrote zero)
 
-pub returns-in-Err-clause-says : goal.returns-in-Err-clause-says
-returns-in-Err-clause-says c = inr (says_of c.args.ack.now c.args.gaps.now (c.is_ack.ensures.0 (search (rules, c.if-not-is_ack))))
+pub returns-clause-room : goal.returns-clause-room
+returns-clause-room c = λ e last low below s.
+    let less = sym (same_answer c.write_counted.result c.write_counted.ensures.answers) ∙ e in
+    subst (λ (b : List ℕ). Puts (Err c.write_counted.new.written) b c.args.out.now c.write_counted.new.out) (sym (whole last c.args.ack.now c.args.gaps.now low below s)) (c.write_counted.ensures.room less)
+
+pub returns-clause-says : goal.returns-clause-says
+returns-clause-says c = elim c.write_counted.ensures.says [
+  | inl none ↦ inl (same_answer c.write_counted.result c.write_counted.ensures.answers ∙ none)
+  | inr is ↦ inr (says_of c.args.ack.now c.args.gaps.now is)
+]
+
+pub returns-clause-refused : goal.returns-clause-refused
+returns-clause-refused c = λ e low below s.
+    let none = sym (same_answer c.write_counted.result c.write_counted.ensures.answers) ∙ e in
+    c.write_counted.ensures.refused none (is_of c.args.ack.now c.args.gaps.now low below s)

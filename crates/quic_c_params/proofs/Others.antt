@@ -1,5 +1,5 @@
 -- Further entries of a list, and orders.
-use Rattle.std.proofs.Common.{◌≡◌, ◌≢◌, ℕ, zero, suc, ◌+◌, ◌<◌, ◌≤◌, ◌^◌, true, false, List, [], ◌∷◌, length, drop, drop-cons, get_or, refl, sym, ◌∙◌, ap, subst, arith, length-append, inl, inr}
+use Rattle.std.proofs.Common.{◌≡◌, ◌≢◌, ℕ, zero, suc, ◌+◌, ◌<◌, ◌≤◌, ◌^◌, true, false, List, [], ◌∷◌, length, drop, drop-cons, get_or, refl, sym, ◌∙◌, ap, subst, arith, inl, inr}
 use Rattle.std.specs.Prelude.{MatchOption, Option, None, Some, is_some}
 use Rattle.std.proofs.lemmas.Bool.{false≢true}
 use Rattle.std.proofs.lemmas.List.{length-drop}
@@ -11,33 +11,10 @@ use Rattle.quic_params.specs.Entry.{Entry, IsEntry, IsCut, IsKnown}
 use Rattle.quic_params.specs.Further.{AreInOrder, AreOthers, HasNumber, IsOther, IsOrderOf, upward, asked}
 use Rattle.quic_params.specs.Table.{rows}
 use Rattle.quic_params.proofs.Again.{get_upward}
-use Rattle.quic_params.proofs.Entries.{entry_unique}
-use Rattle.quic_params.proofs.Further.{order_within}
-use Rattle.quic_params.proofs.Progress.{entry_some}
+use Rattle.quic_params.proofs.Further.{next, order_within}
 use Rattle.quic_c_params.specs.Lists.{any_entry, IsFurther}
 
 -- ---- the entry at the front
-
-pub shorter : (n : ℕ) (x b r : List ℕ) → Takes (IsEntry n x) b r → length r < length b
-shorter n x b r t = omega (arith, entry_some n x t.front t.is, ap length t.split, length-append t.front r)
-
-none_taken : (n : ℕ) (x b r : List ℕ) → Takes (IsEntry n x) b r → b ≢ []
-none_taken n x b r t nil = omega (arith, shorter n x b r t, ap length nil)
-
-pub record Next (n : ℕ) (x r : List ℕ) (es : List Entry) : Type 0 where
-  pub first : Entry
-  pub others : List Entry
-  pub whole : es ≡ first ∷ others
-  pub number : first.number ≡ n
-  pub bytes : first.bytes ≡ x
-  pub behind : AreInOrder others r
-
--- entries that begin with one that was taken
-pub next : (n : ℕ) (x b r : List ℕ) (es : List Entry) → Takes (IsEntry n x) b r → AreInOrder es b → Next n x r es
-next n x b r [] t h = absurd (none_taken n x b r t h)
-next n x b r (e ∷ es) t h =
-    let u = entry_unique e.number n e.bytes x h.front t.front h.back r (sym h.whole ∙ t.split) h.first t.is in
-    record { first = e; others = es; whole = refl; number = u.0; bytes = u.1; behind = subst (AreInOrder es) u.3 h.second }
 
 abbrev pub taken : ℕ → List ℕ → Entry
 taken n x = record { number = n; bytes = x }

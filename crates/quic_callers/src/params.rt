@@ -1,14 +1,18 @@
 //! Transport parameters that are written and read again, and those that are remembered: what callers learn from the
 //! contracts and the laws.
-ghost use Rattle.std.specs.Prelude.{◌≡◌, IfOk, OnOk, []};
+ghost use Rattle.std.specs.Prelude.{◌≡◌, IfOk, IfSome, OnOk, Ok, List, [], ◌∷◌};
+ghost use Rattle.quic_params.specs.Entry.{Entry};
+ghost use Rattle.quic_params.specs.Further.{IsRecordOf};
+ghost use Rattle.quic_params.specs.Meaning.{IsAnswer};
 ghost use Rattle.quic_params.specs.Range.{IsInRange, plain};
 ghost use Rattle.quic_params.specs.Resumption.{Resumes};
+ghost use Rattle.quic_params.specs.declared.record.TransportParameters.{TransportParameters};
 
 use quic_base::coding::NoRoom;
 use quic_base::ids::Side;
 use quic_errors::transport_error::Error;
 use quic_params::laws;
-use quic_params::transport_parameters::TransportParameters;
+use quic_params::transport_parameters::{TransportParameters, split_entry};
 
 /// Writes a record and gives what a peer of the side reads of it: the record without grease and in the order of
 /// the table. The caller must ensure that the record is in range for the side, and that the buffer is empty.
@@ -29,6 +33,21 @@ pub fn written_and_read(
         Ok(read) => Ok(read),
         Err(_) => unreachable!(),
     }
+}
+
+/// The number of the first entry of a list that a side takes, of a parameter that is known or another: `None` where it
+/// refuses the list, or there is none. What the record has came of that entry and the ones behind it.
+pub fn first_read(side: Side, list: &[u8]) -> Option<u64>
+    ensures { IfSome result (λ number. (p : TransportParameters) × (first : Entry) × (others : List Entry)
+        × IsAnswer side list.now (Ok p) × (first.number ≡ number) × IsRecordOf (first ∷ others) p) }
+{
+    laws::entries();
+    let mut rest = list;
+    let Ok(_record) = TransportParameters::read(side, &mut rest) else {
+        return None;
+    };
+    let (number, _, _) = split_entry(list)?;
+    Some(number)
 }
 
 /// Whether the second parameters keep what is remembered of the first, and the third of the second. Then the third

@@ -7,12 +7,13 @@ use Rattle.std.proofs.lemmas.List.{append-nil, get_or-map, get_or_append_left, g
 use Rattle.std.proofs.lemmas.List.Sorted.{sum_by-IsPermutation, All-permutation}
 use Rattle.std.proofs.lemmas.List.Sums.{sum_by-cons}
 use Rattle.std.proofs.lemmas.Bool.Decides.{nat_tests}
+use Rattle.quic_base.specs.Codec.{Takes}
 use Rattle.quic_base.specs.declared.ids.Side.{Side}
 use Rattle.quic_params.specs.declared.parameter.TransportParameterId.{TransportParameterId}
 use Rattle.quic_params.specs.declared.parameter.TransportParameterId.TheVariants.{MaxIdleTimeout}
 use Rattle.quic_params.specs.declared.record.TransportParameters.{TransportParameters}
 use Rattle.quic_params.specs.Table.{ids, rows}
-use Rattle.quic_params.specs.Entry.{Entry, Given, IsGiven, Passed, AreEntries, Give}
+use Rattle.quic_params.specs.Entry.{Entry, Given, IsEntry, IsGiven, Passed, AreEntries, Give}
 use Rattle.quic_params.specs.Meaning.{IsMeant, IsAnswer}
 use Rattle.quic_params.specs.Order.{id_at}
 use Rattle.quic_params.specs.Range.{IsTyped, IsInRange, plain}
@@ -189,3 +190,25 @@ of_record side b p h =
       subst (AreInOrder (reverse m.es)) (append-nil b) (in_order_from m.es [] b [] m.list.entries refl),
       record { given = m.given; gives = subst (λ (l : List Entry). Give l m.given) (sym (reverse-reverse m.es)) m.list.gives; is_record = m.is_record },
     )
+
+-- the entry at the front
+pub shorter : (n : ℕ) (x b r : List ℕ) → Takes (IsEntry n x) b r → length r < length b
+shorter n x b r t = omega (arith, entry_some n x t.front t.is, ap length t.split, length-append t.front r)
+
+none_taken : (n : ℕ) (x b r : List ℕ) → Takes (IsEntry n x) b r → b ≢ []
+none_taken n x b r t nil = omega (arith, shorter n x b r t, ap length nil)
+
+pub record Next (n : ℕ) (x r : List ℕ) (es : List Entry) : Type 0 where
+  pub first : Entry
+  pub others : List Entry
+  pub whole : es ≡ first ∷ others
+  pub number : first.number ≡ n
+  pub bytes : first.bytes ≡ x
+  pub behind : AreInOrder others r
+
+-- entries that begin with one that was taken
+pub next : (n : ℕ) (x b r : List ℕ) (es : List Entry) → Takes (IsEntry n x) b r → AreInOrder es b → Next n x r es
+next n x b r [] t h = absurd (none_taken n x b r t h)
+next n x b r (e ∷ es) t h =
+    let u = entry_unique e.number n e.bytes x h.front t.front h.back r (sym h.whole ∙ t.split) h.first t.is in
+    record { first = e; others = es; whole = refl; number = u.0; bytes = u.1; behind = subst (AreInOrder es) u.3 h.second }

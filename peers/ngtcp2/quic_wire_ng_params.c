@@ -60,7 +60,7 @@ static void params_of(ngtcp2_transport_params *dest,
   }
 }
 
-/* version_information (RFC 9368), which the library skips and doesn't tell. */
+/* version_information (RFC 9368), of which quic_wire_params has nothing. */
 static int versions_of(ngtcp2_transport_params *dest, const uint8_t *value,
                        size_t len) {
   uint32_t version;
@@ -89,8 +89,8 @@ int ngtcp2_decode_transport_params_versioned(
     ngtcp2_transport_params_type exttype, const uint8_t *data, size_t datalen) {
   quic_wire_params w;
   int client = exttype == NGTCP2_TRANSPORT_PARAMS_TYPE_ENCRYPTED_EXTENSIONS;
-  uint64_t id, len;
-  size_t at;
+  quic_wire_param entry;
+  size_t at = 0;
   int rv;
   (void)transport_params_version;
 
@@ -103,16 +103,14 @@ int ngtcp2_decode_transport_params_versioned(
     return NGTCP2_ERR_MALFORMED_TRANSPORT_PARAM;
   }
   params_of(params, &w);
-  /* The list was read, so it is one of whole entries. */
-  for (at = 0; at < datalen; at += (size_t)len) {
-    at += quic_wire_varint_read(data + at, datalen - at, &id);
-    at += quic_wire_varint_read(data + at, datalen - at, &len);
-    if (id == NGTCP2_TRANSPORT_PARAM_VERSION_INFORMATION_DRAFT) {
-      rv = versions_of(params, data + at, (size_t)len);
+  while (quic_wire_param_read(data + at, datalen - at, &entry) == 0) {
+    if (entry.id == NGTCP2_TRANSPORT_PARAM_VERSION_INFORMATION_DRAFT) {
+      rv = versions_of(params, data + at + entry.value, entry.valuelen);
       if (rv != 0) {
         return rv;
       }
     }
+    at += entry.value + entry.valuelen;
   }
   if (!(w.present & QUIC_WIRE_HAS_INITIAL_SRC_CID) ||
       (client && !(w.present & QUIC_WIRE_HAS_ORIGINAL_DST_CID))) {
@@ -191,7 +189,8 @@ static void params_to(quic_wire_params *w, const ngtcp2_transport_params *p) {
   }
 }
 
-/* Writes version_information, or nothing where there is none; how many bytes. */
+/* Writes version_information up to its other versions, which lie elsewhere, or
+ * nothing where there is none; how many bytes. */
 static size_t put_versions(uint8_t out[64], const ngtcp2_transport_params *p) {
   size_t len = 4 + p->version_info.other_versionslen, at;
 

@@ -1,6 +1,6 @@
 -- The parts of an ACK, as its encoders write them.
-use Rattle.std.proofs.Common.{◌≡◌, ℕ, ◌+◌, ◌-◌, ◌<◌, ◌^◌, Bool, true, List, [], ◌∷◌, ◌++◌, length, refl, sym, ap, ◌∙◌, append_assoc, arith}
-use Rattle.std.specs.Prelude.{Option, Some, None, Result, Ok, Err}
+use Rattle.std.proofs.Common.{◌≡◌, ℕ, ◌+◌, ◌-◌, ◌<◌, ◌^◌, Bool, true, List, [], ◌∷◌, ◌++◌, length, refl, sym, ap, subst, ◌∙◌, append_assoc, arith}
+use Rattle.std.specs.Prelude.{Option, Some, None, Result, Ok, Err, take}
 use Rattle.std.proofs.lemmas.List.{append-nil, length-append}
 use Rattle.std.specs.declared.ops.Range.{Range}
 use Rattle.quic_base.specs.Varint.{short}
@@ -12,9 +12,11 @@ use Rattle.quic_frame_parts.specs.Payload.{Meaning}
 use Rattle.quic_frame_parts.specs.Parts.{frame_of, counts_of}
 use Rattle.quic_frame_parts.specs.Sets.{ends_of, ranges_in, ack_of, ack_type, count_numbers}
 use Rattle.quic_frame_parts.specs.Shortest.{shortest_below, shortest_frame}
+use Rattle.quic_base.specs.Codec.{IsBegun, KeepsRoom}
 use Rattle.quic_base.specs.Writing.{Writes}
 use Rattle.quic_frame_parts.specs.Numbers.{AreNumeric, all_short}
-use Rattle.quic_base.proofs.Encoders.{Wrote, wrote_nothing, wrote_more, writes_within}
+use Rattle.quic_frame_parts.specs.Putting.{Flushes}
+use Rattle.quic_base.proofs.Encoders.{Wrote, wrote_nothing, wrote_more, writes_last, writes_within}
 use Rattle.quic_frame_parts.proofs.Sets.{bounded, ranges_in-last, length-ranges_in, HasBelow, has_below}
 
 pub ack_parts : (last : Bool) (greatest delay : ℕ) (range : ℕ × ℕ) (ranges : List (ℕ × ℕ)) (counts : Option EcnCounts)
@@ -126,3 +128,86 @@ same_ack greatest delay greatest' delay' ranges ranges' counts counts' e =
     let two : delay ≡ delay' = cc in
     let others : counts_of counts ≡ counts_of counts' = cc in
     (one, two, same_counts counts counts' others)
+
+-- ---- runs that are put together in a chunk
+
+-- what was written of all the bytes, what is held behind it, and the runs that are left below another one
+pub record HoldsRuns (all held : List ℕ) (above : Range ℕ) (left : List (Range ℕ)) (written : List ℕ) (spare : ℕ) (written' : List ℕ) (spare' : ℕ) : Type 0 where
+  pub before : List ℕ
+  pub wrote : Wrote before written spare written' spare'
+  pub parts : all ≡ (before ++ held) ++ shortest_below above.start (ranges_in left)
+  pub maximal : IsMaximalRuns (left ++ above ∷ [])
+  pub bound : above.start < 2 ^ 62
+
+pub holds_first : (held : List ℕ) (above : Range ℕ) (runs : List (Range ℕ)) (w : List ℕ) (s : ℕ) → IsMaximalRuns (runs ++ above ∷ []) → above.start < 2 ^ 62
+    → HoldsRuns (held ++ shortest_below above.start (ranges_in runs)) held above runs w s w s
+holds_first held above runs w s maximal bound = record { before = []; wrote = wrote_nothing w s; parts = refl; maximal = maximal; bound = bound }
+
+-- as if what is held were written
+as_written : (all held : List ℕ) (above : Range ℕ) (left : List (Range ℕ)) (w w1 : List ℕ) (s s1 : ℕ) → (x : HoldsRuns all held above left w s w1 s1)
+    → WroteRuns all above left [] 0 (x.before ++ held) 0
+as_written all held above left w w1 s s1 x =
+    record { before = x.before ++ held; wrote = record { stands = refl; room = omega arith }; parts = x.parts; maximal = x.maximal; bound = x.bound }
+
+pub next_held : (all held : List ℕ) (above run : Range ℕ) (runs left : List (Range ℕ)) (w w1 : List ℕ) (s s1 : ℕ) (x : HoldsRuns all held above left w s w1 s1) → left ≡ runs ++ run ∷ []
+    → NextRun all (x.before ++ held) above run runs
+unfolding as_written
+next_held all held above run runs left w w1 s s1 x e = next_run all above run runs left [] (x.before ++ held) 0 0 (as_written all held above left w w1 s s1 x) e
+
+-- a beginning of what was held was appended, and the next run is laid behind the rest
+pub holds_more : (all held held' : List ℕ) (above run : Range ℕ) (runs left : List (Range ℕ)) (w w1 w2 : List ℕ) (s s1 s2 : ℕ) → HoldsRuns all held above left w s w1 s1 → left ≡ runs ++ run ∷ []
+    → (b : IsBegun w1 held w2) → KeepsRoom w1 s1 w2 s2 → held' ≡ b.left ++ all_short (run_numbers above run) → HoldsRuns all held' run runs w s w2 s2
+holds_more all held held' above run runs left w w1 w2 s s1 s2 x e b room is =
+    let n = next_held all held above run runs left w w1 s s1 x e in
+    let bytes : List ℕ = shortest_below run.start (ranges_in runs) in
+    let numbers : List ℕ = all_short (run_numbers above run) in
+    let stands : w2 ≡ w ++ (x.before ++ b.done) = b.stands ∙ ap (λ (l : List ℕ). l ++ b.done) x.wrote.stands ∙ append_assoc w x.before b.done in
+    let kept = x.wrote.room in
+    let moved : (x.before ++ (b.done ++ b.left)) ++ (numbers ++ bytes) ≡ ((x.before ++ b.done) ++ (b.left ++ numbers)) ++ bytes = simp (append_assoc) in
+    record {
+      before = x.before ++ b.done;
+      wrote = record { stands = stands; room = omega (arith, kept, room) };
+      parts = n.parts ∙ ap (λ (l : List ℕ). (x.before ++ l) ++ (numbers ++ bytes)) b.whole ∙ moved ∙ ap (λ (l : List ℕ). ((x.before ++ b.done) ++ l) ++ bytes) (sym is);
+      maximal = n.below.maximal;
+      bound = omega (arith, n.below.some, n.below.apart, x.bound);
+    }
+
+-- what was held was refused
+pub holds_refused : {D E : Type 0} (r : Result (Unit {0}) E) (refused : Result (Unit {0}) D) (d : D) (error : E) (all held : List ℕ) (above : Range ℕ) (left : List (Range ℕ)) (w w1 w2 : List ℕ) (s s1 s2 : ℕ)
+    → HoldsRuns all held above left w s w1 s1 → Writes r held w1 s1 w2 s2 → r ≡ Err error → refused ≡ Err d → Writes refused all w s w2 s2
+holds_refused r refused d error all held above left w w1 w2 s s1 s2 x y is was =
+    let bytes : List ℕ = shortest_below above.start (ranges_in left) in
+    writes_within r refused d x.before held bytes all w w1 w2 s s1 s2 error (x.parts ∙ append_assoc x.before held bytes) x.wrote y is was
+
+-- what is held is the rest
+pub holds_last : {E : Type 0} (r : Result (Unit {0}) E) (all held : List ℕ) (above : Range ℕ) (left : List (Range ℕ)) (w w1 w2 : List ℕ) (s s1 s2 : ℕ)
+    → HoldsRuns all held above left w s w1 s1 → left ≡ [] → Writes r held w1 s1 w2 s2 → Writes r all w s w2 s2
+holds_last r all held above left w w1 w2 s s1 s2 x none y =
+    let whole : all ≡ x.before ++ held = x.parts ∙ ap (λ (l : List (Range ℕ)). (x.before ++ held) ++ shortest_below above.start (ranges_in l)) none ∙ append-nil (x.before ++ held) in
+    subst (λ (l : List ℕ). Writes r l w s w2 s2) (sym whole) (writes_last r x.before held w w1 w2 s s1 s2 x.wrote y)
+
+-- nothing was appended of what is held, all of it, or, where it was refused, a beginning
+pub keeps_held : {E : Type 0} (at : ℕ) (chunk w : List ℕ) (s : ℕ) → Flushes {E = E} (Ok at) at chunk w s w s
+keeps_held at chunk w s = record {
+  begun = record { done = []; left = take at chunk; whole = refl; stands = sym (append-nil w) };
+  left = refl;
+  full = tt;
+  room = omega arith;
+}
+
+pub flushes_held : {E : Type 0} (at : ℕ) (chunk w w1 : List ℕ) (s s1 : ℕ) → Wrote (take at chunk) w s w1 s1 → Flushes {E = E} (Ok 0) at chunk w s w1 s1
+flushes_held at chunk w w1 s s1 x = record {
+  begun = record { done = take at chunk; left = []; whole = sym (append-nil (take at chunk)); stands = x.stands };
+  left = refl;
+  full = tt;
+  room = x.room;
+}
+
+pub refuses_held : {E : Type 0} (e : E) (at : ℕ) (chunk w w1 : List ℕ) (s s1 : ℕ) → Flushes {E = E} (Err e) at chunk w s w1 s1 → Writes {E = E} (Err e) (take at chunk) w s w1 s1
+refuses_held e at chunk w w1 s s1 x = record { ok = tt; err = x.begun; full = x.full; room = x.room }
+
+-- the front is held, and the counts follow what is written of the runs
+pub writes_in_two : {E : Type 0} (r : Result (Unit {0}) E) (all front held below counts w w1 : List ℕ) (s s1 : ℕ) → all ≡ front ++ (below ++ counts) → held ≡ front
+    → Writes r ((held ++ below) ++ counts) w s w1 s1 → Writes r all w s w1 s1
+writes_in_two r all front held below counts w w1 s s1 parts is x =
+    subst (λ (l : List ℕ). Writes r l w s w1 s1) (sym (parts ∙ sym (append_assoc front below counts) ∙ ap (λ (l : List ℕ). (l ++ below) ++ counts) (sym is))) x

@@ -1,5 +1,6 @@
 -- What an encoder does to the front of a slice.
 use Rattle.std.specs.Prelude.{◌≡◌, ℕ, ◌+◌, ◌<◌, List, ◌++◌, length, take, drop, Result, IfOk, OnErr, IfErr}
+use Rattle.quic_base.specs.Codec.{IsBegun, KeepsRoom}
 use Rattle.quic_frame_parts.specs.Numbers.{AreSpelled, all_short}
 
 -- The bytes stand at the front, with what stood behind them, and are counted; or there is less room than that, how
@@ -24,3 +25,11 @@ pub record Shortens (spelled : List ℕ) (len : ℕ) : Type 0 where
   pub numbers : List ℕ
   pub spells : AreSpelled numbers spelled
   pub long : (ns : List ℕ) → AreSpelled ns spelled → len ≡ length (all_short ns)
+
+-- A beginning of what is held, the front of a chunk up to a place, was appended, and what is left of it stands at the
+-- front of the chunk, up to the answer; or there was less room than that.
+pub record Flushes {E : Type 0} (result : Result ℕ E) (at : ℕ) (chunk written : List ℕ) (spare : ℕ) (written' : List ℕ) (spare' : ℕ) : Type 0 where
+  pub begun : IsBegun written (take at chunk) written'
+  pub left : IfOk result (λ n. take n chunk ≡ begun.left)
+  pub full : OnErr result (spare < length (take at chunk))
+  pub room : KeepsRoom written spare written' spare'

@@ -1,5 +1,5 @@
 //! Acknowledgements, written in their shortest form (RFC 9000, section 19.3).
-ghost use Rattle.std.specs.Prelude.{◌≡◌, ◌≢◌, ◌<◌, ◌≤◌, ◌-◌, ◌/◌, ◌^◌, ◌∷◌, ◌++◌, [], ℕ, Bool, true, length};
+ghost use Rattle.std.specs.Prelude.{◌≡◌, ◌≢◌, ◌<◌, ◌≤◌, ◌+◌, ◌-◌, ◌/◌, ◌^◌, ◌∷◌, ◌++◌, [], ℕ, Bool, IfOk, true, length, take};
 ghost use Rattle.std.specs.Option.{option_copied};
 ghost use Rattle.quic_ranges.specs.Runs.{IsMaximalRuns, member};
 ghost use Rattle.quic_frame_parts.specs.Acks.{ranges_acked};
@@ -7,6 +7,7 @@ ghost use Rattle.quic_frame_parts.specs.Parts.{ack_meaning};
 ghost use Rattle.quic_frame_parts.specs.Sets.{AreCounts, IsAckInRange, ranges_in, ack_of, ack_type, count_numbers, head_numbers};
 ghost use Rattle.quic_frame_parts.specs.Shortest.{shortest_frame, shortest_below};
 ghost use Rattle.quic_base.specs.Writing.{Writes};
+ghost use Rattle.quic_frame_parts.specs.Putting.{Flushes};
 ghost use Rattle.quic_frame_parts.specs.Numbers.{all_short};
 
 use super::ack::{Ack, EcnCounts};
@@ -15,6 +16,9 @@ use bytes::BufMut;
 use quic_base::coding::NoRoom;
 use quic_ranges::range_set::{ArrayRangeSet, Iter, RangeSet};
 use std::ops::Range;
+
+// How many bytes the array has in which numbers are put together, so that the room is looked at once for many.
+const CHUNK: usize = 64;
 
 impl Ack<'_> {
     /// Appends an ACK of a set (RFC 9000, section 19.3). The caller must ensure that the set has a number, and
@@ -81,8 +85,9 @@ fn encode_runs<B: BufMut>(
     let greatest = first.end - 1;
     let block = greatest - first.start;
     let below = count as u64 - 1;
-    write::numbers(out, &[type_of(ecn), greatest, delay, below, block])?;
-    encode_below(first, runs, out)?;
+    let mut chunk = [0; CHUNK];
+    let at = write::lay_numbers(&mut chunk, &[type_of(ecn), greatest, delay, below, block]);
+    encode_below(&mut chunk, at, first, runs, out)?;
     encode_counts(ecn, out)
 }
 
@@ -93,22 +98,58 @@ fn type_of(ecn: Option<EcnCounts>) -> u64
     if ecn.is_some() { 0x03 } else { 0x02 }
 }
 
-// Appends the runs below another one, the greatest first: for each the numbers between it and the one
-// above it, less one, and its numbers, less one.
-fn encode_below<B: BufMut>(above: Range<u64>, runs: Iter<'_>, out: &mut B) -> Result<(), NoRoom>
+// Appends what is held where two numbers more may have no room behind it, and answers where these go.
+#[inline(always)]
+fn make_room<B: BufMut>(chunk: &[u8; CHUNK], at: usize, out: &mut B) -> Result<usize, NoRoom>
+    requires { at ≤ CHUNK }
+    ensures near { IfOk result (λ n. n + 16 ≤ CHUNK) }
+    ensures flushes { Flushes result at chunk.now (B.written out.old) (B.spare out.old) (B.written out.new) (B.spare out.new) }
+{
+    if at <= CHUNK - 16 {
+        return Ok(at);
+    }
+    write::bytes(out, &chunk[..at])?;
+    Ok(0)
+}
+
+// Lays two numbers, one behind the other.
+#[inline(always)]
+fn lay_two(chunk: &mut [u8; CHUNK], at: usize, gap: u64, len: u64) -> usize
+    requires room { at + 16 ≤ CHUNK }
+    requires gap { gap < 2 ^ 62 }
+    requires len { len < 2 ^ 62 }
+    ensures near { result ≤ CHUNK }
+    ensures front { take result chunk.new ≡ take at chunk.old ++ all_short (gap ∷ len ∷ []) }
+{
+    let at = write::lay_number(chunk, at, gap);
+    write::lay_number(chunk, at, len)
+}
+
+// Appends what is held, the front of the chunk, and the runs below another one, the greatest first: for each the
+// numbers between it and the one above it, less one, and its numbers, less one. They are put together in the chunk.
+fn encode_below<B: BufMut>(
+    chunk: &mut [u8; CHUNK],
+    at: usize,
+    above: Range<u64>,
+    runs: Iter<'_>,
+    out: &mut B,
+) -> Result<(), NoRoom>
+    requires held { at ≤ CHUNK }
     requires runs { IsMaximalRuns (runs ++ above ∷ []) }
     requires bound { above.start < 2 ^ 62 }
-    ensures { Writes result (shortest_below above.start (ranges_in runs.entry))
+    ensures { Writes result (take at chunk.old ++ shortest_below above.start (ranges_in runs.entry))
         (B.written out.old) (B.spare out.old) (B.written out.new) (B.spare out.new) }
 {
+    let mut at = at;
     let mut above = above;
     let mut runs = runs;
     while let Some(run) = runs.next_back() {
+        at = make_room(chunk, at, out)?;
         let gap = above.start - run.end - 1;
-        write::numbers(out, &[gap, run.end - 1 - run.start])?;
+        at = lay_two(chunk, at, gap, run.end - 1 - run.start);
         above = run;
     }
-    Ok(())
+    write::bytes(out, &chunk[..at])
 }
 
 // Appends the counts, where they are given.

@@ -39,11 +39,12 @@ pub(super) fn lay_number(head: &mut [u8], at: usize, n: u64) -> usize
 
 // Lays numbers, one behind the other, and answers where they end.
 #[inline(always)]
-pub(super) fn lay_numbers(head: &mut [u8; HEAD_ROOM], numbers: &[u64]) -> usize
-    requires few { length numbers.now ≤ 5 }
+pub(super) fn lay_numbers(head: &mut [u8], numbers: &[u64]) -> usize
+    requires room { 8 * length numbers.now ≤ length head.old }
     requires numeric { AreNumeric numbers.now }
-    ensures within { result ≤ HEAD_ROOM }
+    ensures within { result ≤ 8 * length numbers.now }
     ensures front { take result head.new ≡ all_short numbers.now }
+    ensures len { length head.new ≡ length head.old }
 {
     let mut at = 0;
     for number in numbers {

@@ -24,7 +24,7 @@ returns-then-dest-needed c last =
     let a = c.args.ack.now in
     let h = held_parts a (subst AreBytes c.additional.ensures c.count_and_len-numbers.ensures.bytes) c.requires in
     let blocks = c.count_and_len-numbers.ensures.len h.numbers (subst (AreSpelled h.numbers) (sym c.additional.ensures) h.spelled) in
-    let front = taken c.lay_numbers-head_len.result 40 c.lay_numbers-head_len.new.head _ c.lay_numbers-head_len.ensures.within c.lay_numbers-head_len.array_long c.lay_numbers-head_len.ensures.front in
+    let front = taken c.lay_numbers-head_len.result 40 c.lay_numbers-head_len.new.head _ (omega (arith, c.lay_numbers-head_len.ensures.within, ap length c.head_of.ensures)) c.lay_numbers-head_len.ensures.len c.lay_numbers-head_len.ensures.front in
     let end = taken c.lay_counts-counts_len.result 40 c.lay_counts-counts_len.new.counts _ c.lay_counts-counts_len.ensures.within c.lay_counts-counts_len.array_long c.lay_counts-counts_len.ensures.front in
     puts_refused (shortest_frame last (ack_meaning a)) c.args.dest.now _ (held_length a h last c.head_of.result c.ecn.result _ _ _ c.head_of.ensures c.ecn.ensures front blocks end) c.if-dest-needed.true
 
@@ -45,7 +45,7 @@ lay_bytes-requires c =
     let h = held_parts a (subst AreBytes c.additional.ensures c.count_and_len-numbers.ensures.bytes) c.requires in
     let blocks = c.count_and_len-numbers.ensures.len h.numbers (subst (AreSpelled h.numbers) (sym c.additional.ensures) h.spelled) in
     let middle = (c.lay_shortened-at.ensures.lays h.numbers (subst (AreSpelled h.numbers) (sym c.additional-2.ensures) h.spelled)).count in
-    let front = taken c.lay_numbers-head_len.result 40 c.lay_numbers-head_len.new.head _ c.lay_numbers-head_len.ensures.within c.lay_numbers-head_len.array_long c.lay_numbers-head_len.ensures.front in
+    let front = taken c.lay_numbers-head_len.result 40 c.lay_numbers-head_len.new.head _ (omega (arith, c.lay_numbers-head_len.ensures.within, ap length c.head_of.ensures)) c.lay_numbers-head_len.ensures.len c.lay_numbers-head_len.ensures.front in
     let end = taken c.lay_counts-counts_len.result 40 c.lay_counts-counts_len.new.counts _ c.lay_counts-counts_len.ensures.within c.lay_counts-counts_len.array_long c.lay_counts-counts_len.ensures.front in
     omega (arith, blocks, middle, front, end, ap length c.lay_numbers-head_len.ensures.front, ap length c.lay_counts-counts_len.ensures.front, c.lay_bytes-at.ensures.end, c.if-dest-needed.false, c.lay_shortened-at.ensures.len, c.lay_bytes-at.ensures.len)
 

@@ -2,6 +2,7 @@
 ghost use Rattle.std.specs.Prelude.{◌≡◌, ◌<◌, ◌^◌, ◌-◌, ◌↔◌, ◌⊎◌, ℕ, [], ◌∷◌, pos, negsuc, length, codes, true, false, not, ◌==◌, None};
 ghost use Rattle.quic_frames.specs.declared.frame.Frame.{Frame};
 ghost use Rattle.quic_frame_parts.specs.Reading.{Invalid, Broken, invalid};
+ghost use Rattle.quic_frames.specs.Way.{Way};
 ghost use Rattle.quic_frames.specs.Walk.{left, first_of, Finds};
 ghost use Rattle.quic_c.specs.Shown.{way_of, at_front, type_in, type_word, shown, shown_invalid};
 ghost use Rattle.quic_c.specs.Answers.{GivesFrame, GivesInvalid, reason_in};
@@ -28,6 +29,18 @@ pub(crate) fn type_word(ty: Option<FrameType>) -> u64
     match ty {
         Some(ty) => ty.into_inner(),
         None => u64::MAX,
+    }
+}
+
+// The type of a frame that was read last, as it stands there: each known type has fewer than 16 bits.
+#[inline(always)]
+pub(crate) fn type_read(iter: &Iter<'_>) -> u16
+    requires { (old : Way) × (frame : Frame) × Finds old frame iter.now }
+    ensures { (old : Way) (frame : Frame) (finds : Finds old frame iter.now) → result ≡ finds.found.type }
+{
+    match iter.last_type() {
+        Some(ty) => ty.into_inner() as u16,
+        None => 0,
     }
 }
 
@@ -95,7 +108,8 @@ pub(crate) fn show_invalid(begin: usize, invalid: &InvalidFrame) -> FrameWords
     ensures { result ≡ shown_invalid begin (type_word invalid.now.ty) (reason_in invalid.now.reason.now) }
 {
     FrameWords {
-        kind: u32::MAX,
+        kind: u16::MAX,
+        ty: 0,
         flags: reason_in(invalid.reason),
         begin,
         end: begin,
@@ -138,7 +152,7 @@ pub extern "C" fn quic_wire_frames_next_(
         None => 0,
         Some(Ok(frame)) => {
             let end = iter.offset();
-            *out = show(begin, end, &frame);
+            *out = show(begin, end, type_read(&iter), &frame);
             frames.offset = end;
             frames.last_type = type_word(iter.last_type());
             1

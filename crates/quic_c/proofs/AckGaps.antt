@@ -1,6 +1,6 @@
 -- ACKs that words say by gap and length: there is one at most, and these are its bytes.
 use Rattle.std.proofs.Common.{◌≡◌, ℕ, zero, suc, ◌+◌, ◌-◌, ◌*◌, ◌<◌, ◌≤◌, ◌^◌, Bool, true, false, ◌⊎◌, inl, inr, List, [], ◌∷◌, ◌++◌, length, refl, sym, ap, subst, ◌∙◌, arith}
-use Rattle.std.specs.Prelude.{Some, None, drop, get_or, slice_index, take, ◌==◌, if◌then◌else◌}
+use Rattle.std.specs.Prelude.{drop, get_or, slice_index, take, ◌==◌, if◌then◌else◌}
 use Rattle.std.proofs.lemmas.Bool.Decides.{nat_tests}
 use Rattle.std.proofs.lemmas.List.{append-nil, at_drop_more, drop_all, length-append, take-append-drop, take_all, take_more}
 use Rattle.quic_base.specs.Varint.{short, size}

@@ -68,7 +68,7 @@ pub filling_goes_on : (old : Way) (before : List FrameWords) (here : Way) (after
     → stop ≡ new.offset → type ≡ finds.found.type → entry ≡ shown end stop type frame → Filling old before new (set after count entry) (count + 1) stop
 filling_goes_on old before here after count end next new frame entry stop type s room f run one e begins words =
     let same_words : entry ≡ shown here.offset new.offset f.found.type frame =
-      words ∙ ap (λ (n : ℕ). shown n stop type frame) (sym s.place) ∙ ap (λ (n : ℕ). shown here.offset n type frame) e ∙ ap (λ (n : ℕ). shown here.offset new.offset n frame) begins in
+    words ∙ ap (λ (n : ℕ). shown n stop type frame) (sym s.place) ∙ ap (λ (n : ℕ). shown here.offset n type frame) e ∙ ap (λ (n : ℕ). shown here.offset new.offset n frame) begins in
     let gives : GivesEntry here entry new = record { frame = frame; next = next; finds = f; run = run; one = one; words = same_words } in
     let front : take (count + 1) (set after count entry) ≡ take count after ++ entry ∷ [] = take_more_set after count entry room in
     record {

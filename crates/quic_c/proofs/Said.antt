@@ -1,5 +1,5 @@
 -- What words say, and why they say no frame.
-use Rattle.std.proofs.Common.{◌≡◌, ℕ, ◌+◌, ◌<◌, ◌≤◌, ◌^◌, List, [], ◌∷◌, length, take, drop, Option, None, Some, Bool, true, false, refl, sym, ap, subst, ◌∙◌, inl, inr, arith}
+use Rattle.std.proofs.Common.{◌≡◌, ℕ, ◌<◌, ◌≤◌, ◌^◌, List, [], ◌∷◌, length, take, drop, Option, None, Some, Bool, true, false, refl, sym, ap, subst, ◌∙◌, inl, inr, arith}
 use Rattle.std.specs.Prelude.{◌==◌, ◌&&◌, ℤ, if◌then◌else◌}
 use Rattle.std.proofs.lemmas.Bool.{cases_eq}
 use Rattle.std.proofs.lemmas.Bool.Decides.{nat_tests}
@@ -8,7 +8,7 @@ use Rattle.quic_frames.specs.InRange.{IsNoAck, IsTyped}
 use Rattle.quic_c.specs.declared.words.FrameWords.{FrameWords}
 use Rattle.quic_c.specs.Shown.{kind_of, data_of, tail_of}
 use Rattle.quic_c.specs.Shapes.{Shape, IsSound, Fills, HasPieces, IsShown, LacksData, LacksPieces, shape_of, shows_data, kept_numbers, kept_data, kept_token, token_room}
-use Rattle.quic_c.specs.Written.{Says, CanWrite, SaysNone, Wrote, NeedsMore, IsAnswer}
+use Rattle.quic_c.specs.Written.{Says, CanWrite, SaysNone, IsAnswer}
 use Rattle.quic_c.proofs.Shapes.{sound, keeps, open_short, counted_short}
 
 pub not_sound : (words : FrameWords) (bytes : List ℕ) (last : Bool) → (IsSound words.kind words.numbers words.data_len → ⊥) → SaysNone words bytes last

@@ -12,8 +12,9 @@ use Rattle.quic_frames.specs.Walk.{first_of, Finds}
 use Rattle.quic_c.specs.declared.words.FrameWords.{FrameWords}
 use Rattle.quic_c.specs.declared.words.FramesWords.{FramesWords}
 use Rattle.quic_c.specs.declared.words.GapWords.{GapWords}
-use Rattle.quic_c.specs.Shown.{kind_of, shown, way_of}
+use Rattle.quic_c.specs.Shown.{kind_of, shown, type_in, way_of}
 use Rattle.quic_c.specs.Answers.{GivesFrame}
+use Rattle.quic_c.specs.Filling.{further}
 use Rattle.quic_c.specs.Front.{IsExtension, ReadsFront, ShowsFront}
 
 all_fit : List (ℕ × Row) → Bool
@@ -56,6 +57,14 @@ last_fits old new frame finds t e =
     omega (arith, small, last_is old new frame finds t e)
 
 -- ---- a frame's words, with its type
+
+word_back : (t : ℕ) → t < 2 ^ 16 → type_in t ≡ Some t
+word_back t small = grind (arith, nat_tests)
+
+-- where an iterator stands behind a frame, by its end and its type
+pub behind_frame : (here next : Way) (frame : Frame) (finds : Finds here frame next) (stop type : ℕ) → stop ≡ next.offset → type ≡ finds.found.type → type < 2 ^ 16 → further here stop (type_in type) ≡ next
+behind_frame here next frame finds stop type ends begins small =
+    ap (λ (n : ℕ). further here n (type_in type)) ends ∙ ap (λ (l : Option ℕ). further here next.offset l) (word_back type small ∙ ap (λ (n : ℕ). Some n) begins) ∙ sym finds.comes
 
 -- the same frame found between equal places
 found_between : (here next old new : Way) (frame : Frame) (finds : Finds here frame next) → here ≡ old → next ≡ new → (f : Finds old frame new) × (f.found ≡ finds.found)

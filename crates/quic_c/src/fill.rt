@@ -44,7 +44,7 @@ fn fill<const COPY: usize>(
                 }
                 let begin = end;
                 end = iter.offset();
-                out[count] = show_parts(begin, end, ty, parts);
+                out[count] = show_parts(begin, end, ty as u16, parts);
                 count += 1;
             }
             Some(Err(invalid)) => {

@@ -34,14 +34,15 @@ pub(crate) fn type_word(ty: Option<FrameType>) -> u64
 
 // The type of a frame that was read last, as it stands there: each known type has fewer than 16 bits.
 #[inline(always)]
-pub(crate) fn type_read(iter: &Iter<'_>) -> u16
+pub(crate) fn type_read(iter: &Iter<'_>) -> u64
     requires { (old : Way) × (frame : Frame) × Finds old frame iter.now }
-    ensures { (old : Way) (frame : Frame) (finds : Finds old frame iter.now) → result ≡ finds.found.type }
+    ensures value { (old : Way) (frame : Frame) (finds : Finds old frame iter.now) → result ≡ finds.found.type }
+    ensures fits { result < 2 ^ 16 }
 {
-    match iter.last_type() {
-        Some(ty) => ty.into_inner() as u16,
-        None => 0,
-    }
+    let Some(ty) = iter.last_type() else {
+        unreachable!()
+    };
+    ty.into_inner()
 }
 
 // The number of a reason.
@@ -119,6 +120,38 @@ pub(crate) fn show_invalid(begin: usize, invalid: &InvalidFrame) -> FrameWords
     }
 }
 
+// The next frame of an iterator that stands where the words say. There is a copy for what begins with 0, PADDING, so
+// that the words of a run's many frames are stored by themselves.
+#[inline(always)]
+fn give_next<const COPY: usize>(
+    iter: &mut Iter<'_>,
+    frames: &mut FramesWords,
+    out: &mut FrameWords,
+) -> i32
+    requires { way_of frames.old iter.old.payload ≡ iter.old }
+    ensures answers { (result ≡ pos 1) ⊎ (result ≡ pos 0) ⊎ (result ≡ negsuc 2) }
+    ensures frame { result ≡ pos 1 → GivesFrame frames.old iter.old.payload frames.new out.new }
+    ensures end { result ≡ pos 0 → (left iter.old ≡ []) × (frames.new ≡ frames.old) × (out.new ≡ out.old) }
+    ensures invalid { result ≡ negsuc 2 → GivesInvalid frames.old iter.old.payload frames.new out.new }
+{
+    let begin = frames.offset;
+    match iter.next() {
+        None => 0,
+        Some(Ok(frame)) => {
+            let (end, ty) = (iter.offset(), type_read(iter));
+            *out = show(begin, end, ty as u16, &frame);
+            frames.offset = end;
+            frames.last_type = ty;
+            1
+        }
+        Some(Err(invalid)) => {
+            frames.ended = 1;
+            *out = show_invalid(begin, &invalid);
+            -3
+        }
+    }
+}
+
 /// The next frame (RFC 9000, section 19). It answers 1 with the frame; 0 where none is left, and nothing changes; -3,
 /// once, with the type and the reason that are told of something that is no frame; -1 just where the place lies
 /// outside the payload, and nothing changes.
@@ -148,19 +181,8 @@ pub extern "C" fn quic_wire_frames_next_(
     if frames.ended != 0 {
         return 0;
     }
-    match iter.next() {
-        None => 0,
-        Some(Ok(frame)) => {
-            let end = iter.offset();
-            *out = show(begin, end, type_read(&iter), &frame);
-            frames.offset = end;
-            frames.last_type = type_word(iter.last_type());
-            1
-        }
-        Some(Err(invalid)) => {
-            frames.ended = 1;
-            *out = show_invalid(begin, &invalid);
-            -3
-        }
+    match payload[begin..].first() {
+        Some(0) => give_next::<0>(&mut iter, frames, out),
+        _ => give_next::<1>(&mut iter, frames, out),
     }
 }

@@ -190,7 +190,7 @@ fn read_front<const COPY: usize>(
             }
             let ty = type_read(&iter);
             let end = pass_run(&mut iter, &frame);
-            *out = show_front(end, ty, &frame, gaps);
+            *out = show_front(end, ty as u16, &frame, gaps);
             end as i64
         }
         Some(Err(invalid)) => {

@@ -1,5 +1,4 @@
-use Rattle.std.proofs.Common.{arith}
-use Rattle.quic_c.proofs.AckGaps.{laid_all, laid_more, laid_none, numeric_at, room_at}
+use Rattle.quic_c.proofs.AckGaps.{laid_more, numeric_at, room_at}
 use Rattle.quic_c.proofs.ack_gaps.lay_gaps.Goals as goal
 
 pub lay_two-at-requires-clause-one : goal.lay_two-at-requires-clause-one

@@ -1,4 +1,4 @@
-use Rattle.std.proofs.Common.{ℕ, List, refl, sym, subst, inr, rules}
+use Rattle.std.proofs.Common.{ℕ, List, sym, subst, inr, rules}
 use Rattle.std.specs.Prelude.{Ok, Err}
 use Rattle.quic_frame_parts.specs.Putting.{Puts}
 use Rattle.quic_c.proofs.AckGaps.{is_of, says_of, whole}

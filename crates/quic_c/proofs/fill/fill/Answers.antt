@@ -13,7 +13,7 @@ loop-count-preserved g c =
     let finds : Finds here.iter frame c.next.new.self = subst (λ f. Advances here.iter (Some f) c.next.new.self) c.in-Some-Ok.field-0-is c.in-Some-Ok.ensures.steps in
     let stop = c.offset-end-in-Some-Ok.result in
     let ty = c.type_read-ty.result in
-    let begins = c.type_read-ty.ensures here.iter frame finds in
+    let begins = c.type_read-ty.ensures.value here.iter frame finds in
     let words : c.show_parts.result ≡ shown here.end stop ty frame = rw c.parts_of-parts.ensures at c.show_parts.ensures in
     let kind : c.parts_of-parts.result.kind ≡ kind_of frame = ap (λ p. p.kind) c.parts_of-parts.ensures in
     elim c.if-parts-eq0.branch [

@@ -25,11 +25,11 @@ returns-else-is_unknown-clause-answers g c =
     let here : c.in-Some.iter ≡ first_of c.args.strict c.args.payload.now = c.in-Some.ensures.way in
     let steps : Finds c.in-Some.iter frame c.next.new.self = subst (λ f. Advances c.in-Some.iter (Some f) c.next.new.self) c.in-Some-Ok.field-0-is c.in-Some-Ok.ensures.steps in
     let finds : Finds (first_of c.args.strict c.args.payload.now) frame c.next.new.self = subst (λ w. Finds w frame c.next.new.self) here steps in
-    let begins = c.type_read-ty.ensures (first_of c.args.strict c.args.payload.now) frame finds in
+    let begins = c.type_read-ty.ensures.value (first_of c.args.strict c.args.payload.now) frame finds in
     let known : (c.args.basic ≡ true) × IsExtension (kind_of frame) → ⊥ = search rules in
     let ends = c.pass_run-end.ensures in
     let reads =
-      reads_front c.args.strict c.args.basic c.args.payload.now c.args.gaps.now c.pass_run-end.result c.show_front.result c.show_front.new.gaps frame c.next.new.self c.pass_run-end.new.iter
-      c.type_read-ty.result finds known ends.run ends.one ends.end begins c.show_front.ensures in
+    reads_front c.args.strict c.args.basic c.args.payload.now c.args.gaps.now c.pass_run-end.result c.show_front.result c.show_front.new.gaps frame c.next.new.self c.pass_run-end.new.iter
+    c.type_read-ty.result finds known ends.run ends.one ends.end begins c.show_front.ensures in
     let same : to_z w64 c.pass_run-end.result ≡ pos c.pass_run-end.result = search rules in
     inr (inr (c.pass_run-end.result, same, reads))

@@ -253,11 +253,11 @@ static void head_nulls(void) {
   WANT(quic_wire_varint_read(NULL, 1, &number) == 0 &&
        quic_wire_varint_read(id, 1, NULL) == 0);
   WANT(quic_wire_varint_write(1, 0, NULL, 1) == 0);
-  WANT(quic_wire_frame_type(NULL, 1, NULL) == QUIC_WIRE_NO_TYPE);
   WANT(quic_wire_error_type(NULL) == QUIC_WIRE_NO_TYPE &&
        quic_wire_error_reason(NULL) == 0);
   WANT(quic_wire_padding_count(NULL, 1, NULL) == 0 &&
-       !quic_wire_reset_token(NULL, 1, NULL));
+       !quic_wire_reset_token(NULL, 1, NULL) &&
+       !quic_wire_path_data(NULL, 1, NULL));
 }
 
 /* Lengths of two and of four bytes on both sides of 2^14. */
@@ -377,6 +377,19 @@ static void params_with(void) {
 
 static uint8_t *block(size_t len) { return malloc(len ? len : 1); }
 
+/* The eight bytes of a frame that was read, as its number says them. */
+static void path_bytes(const uint8_t *payload, size_t len,
+                       const quic_wire_frame *frame) {
+  const uint8_t *bytes = quic_wire_path_data(payload, len, frame);
+  uint64_t number = 0;
+  size_t k;
+  WANT(!bytes == (frame->kind != QUIC_WIRE_PATH_CHALLENGE &&
+                  frame->kind != QUIC_WIRE_PATH_RESPONSE));
+  for (k = 0; bytes && k < 8; k++)
+    number = number << 8 | bytes[k];
+  WANT(!bytes || number == frame->path.data);
+}
+
 /* Reads on from any place, with any last type; and the ranges of any words. */
 static void read_rubbish(const uint8_t *payload, size_t len) {
   quic_wire_frames frames;
@@ -385,6 +398,7 @@ static void read_rubbish(const uint8_t *payload, size_t len) {
   quic_wire_range range;
   uint32_t strict = (uint32_t)(any() % 2 ? 0 : edge());
   const uint8_t *token;
+  uint64_t type;
   size_t k;
   int answer = 0;
   frames.offset = place();
@@ -396,14 +410,18 @@ static void read_rubbish(const uint8_t *payload, size_t len) {
                                                         &frame)) == 1; k++) {
     WANT(frame.begin < frame.end && frame.end <= len);
     WANT(frame.data <= frame.end && frame.datalen <= frame.end - frame.data);
-    WANT(quic_wire_frame_type(payload, len, &frame) == frames.last_type);
+    WANT(quic_wire_varint_read(payload + frame.begin, len - frame.begin,
+                               &type) &&
+         frame.type == type && type == frames.last_type);
     WANT(quic_wire_padding_count(payload, len, &frame) ==
          (frame.kind == QUIC_WIRE_PADDING));
     token = quic_wire_reset_token(payload, len, &frame);
     WANT(frame.kind == QUIC_WIRE_NEW_CONNECTION_ID
              ? token + 16 == payload + frame.end
              : !token);
+    path_bytes(payload, len, &frame);
   }
+  WANT(answer != QUIC_WIRE_ERR_MALFORMED || frame.type == 0);
   WANT(k < 50 && (answer == 0 || answer == INVALID ||
                   answer == QUIC_WIRE_ERR_MALFORMED));
   WANT(frames.strict == strict);
@@ -411,7 +429,8 @@ static void read_rubbish(const uint8_t *payload, size_t len) {
   frame.end = place();
   frame.data = place();
   frame.datalen = place();
-  quic_wire_frame_type(payload, len, &frame);
+  token = quic_wire_path_data(payload, len, &frame);
+  WANT(!token || (payload <= token && token + 8 <= payload + len));
   WANT(quic_wire_padding_count(payload, len, &frame) <= len);
   token = quic_wire_reset_token(payload, len, &frame);
   WANT(!token || token + 16 <= payload + len);
@@ -662,7 +681,8 @@ static void write_rubbish(const uint8_t *data, size_t len) {
   memset(out, 0xa5, room);
   memcpy(before, out, room);
   memset(&frame, 0, sizeof frame);
-  frame.kind = (uint32_t)(any() % 5 ? any() % 0x32 : edge());
+  frame.kind = (uint16_t)(any() % 5 ? any() % 0x32 : edge());
+  frame.type = (uint16_t)any();
   frame.flags = (uint32_t)(any() % 3);
   frame.data = place();
   frame.datalen = place();
@@ -691,7 +711,7 @@ static void write_rubbish(const uint8_t *data, size_t len) {
 /* The head of a frame of any words is the front of what is written of it with
  * data, and what can be written whole has the length that is told before. */
 static void head_rubbish(void) {
-  static const uint32_t kinds[] = {QUIC_WIRE_CRYPTO, QUIC_WIRE_STREAM,
+  static const uint16_t kinds[] = {QUIC_WIRE_CRYPTO, QUIC_WIRE_STREAM,
                                    QUIC_WIRE_DATAGRAM};
   static uint8_t data[70], whole[128];
   uint8_t head[48];
@@ -699,7 +719,8 @@ static void head_rubbish(void) {
   int last = (int)(any() % 2), answer, written;
   quic_wire_frame frame;
   memset(&frame, 0, sizeof frame);
-  frame.kind = any() % 16 ? kinds[any() % 3] : (uint32_t)(any() % 0x32);
+  frame.kind = any() % 16 ? kinds[any() % 3] : (uint16_t)(any() % 0x32);
+  frame.type = (uint16_t)any();
   frame.flags = (uint32_t)(any() % 3);
   frame.datalen = any() % 70;
   for (k = 0; k < 5; k++)

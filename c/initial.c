@@ -153,7 +153,7 @@ static void print_frames(const uint8_t *payload, size_t len) {
                                                         &frame, 1, &count)) ==
                             QUIC_WIRE_ITEM)
     printf("%zu..%zu %s\n", frame.begin, frame.end,
-           quic_wire_type_name(quic_wire_frame_type(payload, len, &frame)));
+           quic_wire_type_name(frame.type));
   check(answer == QUIC_WIRE_OK, quic_wire_strerror(answer));
 }
 

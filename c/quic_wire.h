@@ -235,8 +235,11 @@ typedef struct quic_wire_ack_frequency {
  * for those of paths.  Whether data end below 2^62, and whether limits of
  * streams are at most 2^60, isn't looked at: that is the connection's. */
 typedef struct quic_wire_frame {
-  uint32_t kind;  /* QUIC_WIRE_PADDING and so on; as it stands in the payload:
-                     quic_wire_frame_type */
+  uint16_t kind;  /* QUIC_WIRE_PADDING and so on */
+  uint16_t type;  /* the type as it stands in the payload: 0x08 to 0x0f of a
+                     STREAM, 0x02 and 0x03 of an ACK, 0x30 and 0x31 of a
+                     DATAGRAM, of others |kind|.  What writes a frame doesn't
+                     look at it */
   uint32_t flags; /* QUIC_WIRE_FLAG_FIN, QUIC_WIRE_FLAG_ECN */
   size_t begin;   /* where the frame begins in the payload, in bytes */
   size_t end;     /* where it ends */
@@ -434,6 +437,8 @@ QUIC_WIRE_ASSERT(offsetof(quic_wire_frames, last_type) == 8, "64-bit words");
 QUIC_WIRE_ASSERT(offsetof(quic_wire_frames, ended) == 16, "no room");
 QUIC_WIRE_ASSERT(offsetof(quic_wire_frames, strict) == 20, "no room");
 QUIC_WIRE_ASSERT(sizeof(quic_wire_frame) == 80, "64-bit words");
+QUIC_WIRE_ASSERT(offsetof(quic_wire_frame, type) == 2, "no room");
+QUIC_WIRE_ASSERT(offsetof(quic_wire_frame, flags) == 4, "no room");
 QUIC_WIRE_ASSERT(offsetof(quic_wire_frame, numbers) == 40, "64-bit words");
 QUIC_WIRE_ASSERT(sizeof(quic_wire_range) == 16, "64-bit words");
 QUIC_WIRE_ASSERT(offsetof(quic_wire_range, start) == 0, "64-bit words");
@@ -594,13 +599,6 @@ QUIC_WIRE_API int64_t quic_wire_frame_read(const uint8_t *payload,
                                            quic_wire_frame *frame,
                                            quic_wire_gap *gaps, size_t room);
 
-/* The type of a frame that was read of this payload, as it stands there: 0x08
- * to 0x0f of a STREAM, 0x02 and 0x03 of an ACK.  QUIC_WIRE_NO_TYPE for NULL,
- * and where none stands at |frame->begin|. */
-QUIC_WIRE_API uint64_t quic_wire_frame_type(const uint8_t *payload,
-                                            size_t payloadlen,
-                                            const quic_wire_frame *frame);
-
 /* How many PADDING frames an entry of quic_wire_frames_fill stands for that was
  * read of this payload: one whose type may be encoded in up to 8 bytes, and
  * one with each byte behind it.  0 of other kinds, and where there is no such
@@ -616,8 +614,16 @@ QUIC_WIRE_API const uint8_t *
 quic_wire_reset_token(const uint8_t *payload, size_t payloadlen,
                       const quic_wire_frame *frame);
 
+/* The eight bytes of a PATH_CHALLENGE or PATH_RESPONSE that was read of this
+ * payload (RFC 9000, sections 19.17 and 19.18), which are |path.data| as a
+ * number; NULL of other kinds, and where there is no such place. */
+QUIC_WIRE_API const uint8_t *quic_wire_path_data(const uint8_t *payload,
+                                                 size_t payloadlen,
+                                                 const quic_wire_frame *frame);
+
 /* After QUIC_WIRE_ERR_MALFORMED: the last type that was read, the broken
- * frame's own included; QUIC_WIRE_NO_TYPE if none was. */
+ * frame's own included; QUIC_WIRE_NO_TYPE if none was.  It may be any number
+ * below 2^62, and |frame->type| is 0. */
 QUIC_WIRE_API uint64_t quic_wire_error_type(const quic_wire_frame *frame);
 
 /* After QUIC_WIRE_ERR_MALFORMED: QUIC_WIRE_REASON_UNEXPECTED_END and so on. */
@@ -678,8 +684,8 @@ QUIC_WIRE_API int quic_wire_ack_ranges_fill(quic_wire_ack_ranges *ranges,
  * bytes at |frame->data| of |data|, behind which the token of a
  * NEW_CONNECTION_ID stands.  Where |frame->datalen| is 0, as it is of each kind
  * without data, neither |data| nor that place is looked at, so that a PING is
- * written as it was read, with any |data| or NULL.  begin and end are not
- * looked at.
+ * written as it was read, with any |data| or NULL.  type, begin and end are
+ * not looked at.
  *
  * Returns 0, and in |*written| how many bytes were written;
  * QUIC_WIRE_ERR_NOBUF where |destlen| is less, and in |*written| how many are
@@ -695,8 +701,8 @@ QUIC_WIRE_API int quic_wire_frame_write(const quic_wire_frame *frame,
 /*
  * Writes |frame|, a STREAM, CRYPTO or DATAGRAM, up to its data, which are
  * |frame->datalen| bytes: the front of what quic_wire_frame_write writes of it,
- * behind which the caller puts the data.  data, begin and end are not looked
- * at.  Answers and |dest| are those of quic_wire_frame_write;
+ * behind which the caller puts the data.  type, data, begin and end are not
+ * looked at.  Answers and |dest| are those of quic_wire_frame_write;
  * QUIC_WIRE_ERR_INVALID_ARGUMENT also for other kinds.
  */
 QUIC_WIRE_API int quic_wire_frame_head_write(const quic_wire_frame *frame,

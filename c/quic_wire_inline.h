@@ -161,17 +161,6 @@ QUIC_WIRE_API int64_t quic_wire_frame_read(const uint8_t *payload,
                                gaps, room);
 }
 
-QUIC_WIRE_API uint64_t quic_wire_frame_type(const uint8_t *payload,
-                                            size_t payloadlen,
-                                            const quic_wire_frame *frame) {
-  uint64_t type;
-  if (!payload || !frame || frame->begin >= payloadlen ||
-      !quic_wire_varint_read_(payload + frame->begin,
-                              payloadlen - frame->begin, &type))
-    return QUIC_WIRE_NO_TYPE;
-  return type;
-}
-
 QUIC_WIRE_API size_t quic_wire_padding_count(const uint8_t *payload,
                                              size_t payloadlen,
                                              const quic_wire_frame *frame) {
@@ -193,6 +182,17 @@ quic_wire_reset_token(const uint8_t *payload, size_t payloadlen,
       payloadlen - frame->data - frame->datalen < 16)
     return NULL;
   return payload + frame->data + frame->datalen;
+}
+
+QUIC_WIRE_API const uint8_t *quic_wire_path_data(const uint8_t *payload,
+                                                 size_t payloadlen,
+                                                 const quic_wire_frame *frame) {
+  if (!payload || !frame ||
+      (frame->kind != QUIC_WIRE_PATH_CHALLENGE &&
+       frame->kind != QUIC_WIRE_PATH_RESPONSE) ||
+      frame->end > payloadlen || frame->end < 8)
+    return NULL;
+  return payload + frame->end - 8;
 }
 
 QUIC_WIRE_API uint64_t quic_wire_error_type(const quic_wire_frame *frame) {

@@ -17,6 +17,7 @@ static void frames(void) {
   FIELD(frames, strict);
   STRUCT(frame);
   FIELD(frame, kind);
+  FIELD(frame, type);
   FIELD(frame, flags);
   FIELD(frame, begin);
   FIELD(frame, end);

@@ -7,7 +7,8 @@ export const LAYOUT = {
   frame: {
     size: 80,
     fields: {
-      kind: [0, 4], flags: [4, 4], begin: [8, 8], end: [16, 8], data: [24, 8], datalen: [32, 8], numbers: [40, 40],
+      kind: [0, 2], type: [2, 2], flags: [4, 4], begin: [8, 8], end: [16, 8], data: [24, 8], datalen: [32, 8],
+      numbers: [40, 40],
     },
   },
   range: { size: 16, fields: { start: [0, 8], end: [8, 8] } },

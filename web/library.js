@@ -134,7 +134,7 @@ export class Library {
     const count = Number(view.getBigUint64(this.count, true));
     const { size, fields } = LAYOUT.frame;
     for (let place = this.room; place < this.room + count * size; place += size) {
-      const kind = view.getUint32(place + fields.kind[0], true);
+      const kind = view.getUint16(place + fields.kind[0], true);
       if (kind !== PADDING || kinds.last !== PADDING) {
         kinds.push(kind);
         // The bytes are fewer than 2^32, so the lower half of the word is the place.

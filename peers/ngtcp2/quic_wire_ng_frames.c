@@ -14,8 +14,6 @@
  * the gap above it and how many numbers it has behind its first, both less
  * one.  Those that there was no room for were looked at, and are left out. */
 static int ack_of(ngtcp2_ack *dest, const quic_wire_frame *f) {
-  dest->type = f->flags & QUIC_WIRE_FLAG_ECN ? NGTCP2_FRAME_ACK_ECN
-                                             : NGTCP2_FRAME_ACK;
   dest->largest_ack = (int64_t)f->ack.largest;
   dest->ack_delay = f->ack.delay;
   dest->ack_delay_unscaled = 0;
@@ -98,7 +96,7 @@ static int numbers_of(ngtcp2_frame *dest, const quic_wire_frame *f,
 /* What |f|, read of |payload|, is to ngtcp2. */
 OUT_OF_LINE static int frame_of(ngtcp2_frame *dest, const quic_wire_frame *f,
                                 const uint8_t *payload) {
-  dest->type = (uint8_t)f->kind;
+  dest->type = (uint8_t)f->type;
   switch (f->kind) {
   case QUIC_WIRE_ACK:
     return ack_of(&dest->ack, f);
@@ -128,7 +126,6 @@ OUT_OF_LINE static int frame_of(ngtcp2_frame *dest, const quic_wire_frame *f,
         f->datalen ? (uint8_t *)payload + f->data : NULL;
     return 0;
   case QUIC_WIRE_DATAGRAM:
-    dest->type = payload[f->begin];
     data_of(dest->datagram.rdata, &dest->datagram.datacnt, f, payload);
     dest->datagram.data = f->datalen ? dest->datagram.rdata : NULL;
     return 0;
@@ -152,8 +149,7 @@ ngtcp2_ssize ngtcp2_pkt_decode_frame(ngtcp2_frame *dest, const uint8_t *payload,
   }
   if (f.kind == QUIC_WIRE_STREAM) {
     dest->stream.type = NGTCP2_FRAME_STREAM;
-    /* A type is one byte here, since the reading is strict. */
-    dest->stream.flags = payload[0] & 0x7;
+    dest->stream.flags = f.type & 0x7;
     dest->stream.fin = (uint8_t)f.flags;
     dest->stream.stream_id = (int64_t)f.stream.stream_id;
     dest->stream.offset = f.stream.offset;
@@ -206,7 +202,7 @@ static ngtcp2_ssize written(int answer, size_t n) {
 }
 
 /* Writes a frame of up to three numbers, with |data| behind them. */
-static ngtcp2_ssize put(uint8_t *out, size_t outlen, uint32_t kind, uint64_t a,
+static ngtcp2_ssize put(uint8_t *out, size_t outlen, uint16_t kind, uint64_t a,
                         uint64_t b, uint64_t c, const uint8_t *data,
                         size_t datalen, size_t taillen) {
   quic_wire_frame f = {.kind = kind, .datalen = datalen, .numbers = {a, b, c}};

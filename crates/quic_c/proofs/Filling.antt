@@ -63,11 +63,12 @@ next_further here next new frame f run one =
       | inr is ↦ subst (λ (w : Way). IsFurther here w) (sym (one is)) (found_further here next frame f)
     ]
 
-pub filling_goes_on : (old : Way) (before : List FrameWords) (here : Way) (after : List FrameWords) (count end : ℕ) (next new : Way) (frame : Frame) (entry : FrameWords) (stop : ℕ)
-    → Filling old before here after count end → count < length after → Finds here frame next → (kind_of frame ≡ 0 → (more : ℕ) × PassesPadding next more new) → (0 < kind_of frame → new ≡ next)
-    → stop ≡ new.offset → entry ≡ shown end stop frame → Filling old before new (set after count entry) (count + 1) stop
-filling_goes_on old before here after count end next new frame entry stop s room f run one e words =
-    let same_words : entry ≡ shown here.offset new.offset frame = words ∙ ap (λ (n : ℕ). shown n stop frame) (sym s.place) ∙ ap (λ (n : ℕ). shown here.offset n frame) e in
+pub filling_goes_on : (old : Way) (before : List FrameWords) (here : Way) (after : List FrameWords) (count end : ℕ) (next new : Way) (frame : Frame) (entry : FrameWords) (stop type : ℕ)
+    → Filling old before here after count end → count < length after → (finds : Finds here frame next) → (kind_of frame ≡ 0 → (more : ℕ) × PassesPadding next more new) → (0 < kind_of frame → new ≡ next)
+    → stop ≡ new.offset → type ≡ finds.found.type → entry ≡ shown end stop type frame → Filling old before new (set after count entry) (count + 1) stop
+filling_goes_on old before here after count end next new frame entry stop type s room f run one e begins words =
+    let same_words : entry ≡ shown here.offset new.offset f.found.type frame =
+    words ∙ ap (λ (n : ℕ). shown n stop type frame) (sym s.place) ∙ ap (λ (n : ℕ). shown here.offset n type frame) e ∙ ap (λ (n : ℕ). shown here.offset new.offset n frame) begins in
     let gives : GivesEntry here entry new = record { frame = frame; next = next; finds = f; run = run; one = one; words = same_words } in
     let front : take (count + 1) (set after count entry) ≡ take count after ++ entry ∷ [] = take_more_set after count entry room in
     record {

@@ -9,3 +9,4 @@ mod GapFilling
 mod AckGaps
 mod DataHeads
 mod ReadingOn
+mod Types

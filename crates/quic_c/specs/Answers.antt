@@ -22,7 +22,7 @@ reason_in reason = if pointwise nat_eq reason (codes "unexpected end") then 1 el
 pub record GivesFrame (old : FramesWords) (payload : List ℕ) (new : FramesWords) (out : FrameWords) : Type 0 where
   pub frame : Frame
   pub finds : Finds (way_of old payload) frame (way_of new payload)
-  pub words : out ≡ shown old.offset new.offset frame
+  pub words : out ≡ shown old.offset new.offset finds.found.type frame
 
 -- No frame stands there, and that is told; nothing is left.
 pub record GivesInvalid (old : FramesWords) (payload : List ℕ) (new : FramesWords) (out : FrameWords) : Type 0 where

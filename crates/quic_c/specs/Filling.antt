@@ -20,7 +20,7 @@ pub record GivesEntry (old : Way) (entry : FrameWords) (new : Way) : Type 0 wher
   pub finds : Finds old frame next
   pub run : kind_of frame ≡ 0 → (more : ℕ) × PassesPadding next more new
   pub one : 0 < kind_of frame → new ≡ next
-  pub words : entry ≡ shown old.offset new.offset frame
+  pub words : entry ≡ shown old.offset new.offset finds.found.type frame
 
 -- The entries show all that stands between two places, each by one step from where the one before it ends.
 abbrev pub Shows : {P E : Type 0} → (P → E → P → Type 0) → P → List E → P → Type 0

@@ -36,21 +36,21 @@ pub record FillsGaps (low : ℕ) (ranges : List (ℕ × ℕ)) (before after : Li
 abbrev pub more_flag : ℕ → List (ℕ × ℕ) → ℕ
 more_flag count ranges = if nat_lt count (length ranges) then 4 else 0
 
--- The words of an ACK up to a place: its first range, less one, in the place of its data's length, and in that of
+-- The words of an ACK of this type up to a place: its first range, less one, in the place of its data's length, and in that of
 -- their offset how many entries were filled with the ranges below it.
-pub record ShowsAck (stop : ℕ) (ack : Ack) (before : List GapWords) (words : FrameWords) (after : List GapWords) : Type 0 where
+pub record ShowsAck (stop type : ℕ) (ack : Ack) (before : List GapWords) (words : FrameWords) (after : List GapWords) : Type 0 where
   pub least : ℕ
   pub below : List (ℕ × ℕ)
   pub ranges : ranges_acked ack ≡ (least, ack.largest) ∷ below
   pub first : least + words.data_len ≡ ack.largest
   pub gaps : FillsGaps least below before after words.data_offset
   pub flags : words.flags ≡ counts_flag ack.ecn + more_flag words.data_offset below
-  pub others : words ≡ record (shown 0 stop (frames.Ack ack)) { flags = words.flags; data_offset = words.data_offset; data_len = words.data_len }
+  pub others : words ≡ record (shown 0 stop type (frames.Ack ack)) { flags = words.flags; data_offset = words.data_offset; data_len = words.data_len }
 
--- The words of a frame up to a place; entries are filled for an ACK alone.
-abbrev pub ShowsFront : ℕ → Frame → List GapWords → FrameWords → List GapWords → Type 0
-ShowsFront stop (frames.Ack a) before words after = ShowsAck stop a before words after
-ShowsFront stop frame before words after = (words ≡ shown 0 stop frame) × (after ≡ before)
+-- The words of a frame of this type up to a place; entries are filled for an ACK alone.
+abbrev pub ShowsFront : ℕ → ℕ → Frame → List GapWords → FrameWords → List GapWords → Type 0
+ShowsFront stop type (frames.Ack a) before words after = ShowsAck stop type a before words after
+ShowsFront stop type frame before words after = (words ≡ shown 0 stop type frame) × (after ≡ before)
 
 -- ACK_FREQUENCY and IMMEDIATE_ACK, whose types are unknown where the extension for ACK frequency wasn't negotiated
 abbrev pub IsExtension : ℕ → Type 0
@@ -68,7 +68,7 @@ pub record ReadsFront (strict basic : Bool) (payload : List ℕ) (before : List 
   pub run : kind_of frame ≡ 0 → (more : ℕ) × PassesPadding next more rest
   pub one : 0 < kind_of frame → rest ≡ next
   pub ends : stop ≡ rest.offset
-  pub shows : ShowsFront stop frame before words after
+  pub shows : ShowsFront stop finds.found.type frame before words after
 
 -- No frame stands at the front, and that is told.
 pub record TellsNone (strict : Bool) (payload : List ℕ) (words : FrameWords) : Type 0 where

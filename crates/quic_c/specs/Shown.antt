@@ -105,10 +105,10 @@ data_of (frames.Close (closes.Connection c)) = c.reason.now
 data_of (frames.Close (closes.Application c)) = c.reason.now
 data_of frame = []
 
--- the words of a frame that stands in a payload from start to stop
-abbrev pub shown : ℕ → ℕ → Frame → FrameWords
-shown start stop frame = record { kind = kind_of frame; flags = flags_of frame; begin = start; end = stop; data_offset = stop - tail_of frame - length (data_of frame); data_len = length (data_of frame); numbers = numbers_of frame }
+-- the words of a frame that stands in a payload from start to stop and begins with this type
+abbrev pub shown : ℕ → ℕ → ℕ → Frame → FrameWords
+shown start stop type frame = record { kind = kind_of frame; ty = type; flags = flags_of frame; begin = start; end = stop; data_offset = stop - tail_of frame - length (data_of frame); data_len = length (data_of frame); numbers = numbers_of frame }
 
 -- what is no frame, by the word of the last type and the number of its reason, at the end of the last frame
 abbrev pub shown_invalid : ℕ → ℕ → ℕ → FrameWords
-shown_invalid start ty reason = record { kind = 2 ^ 32 - 1; flags = reason; begin = start; end = start; data_offset = start; data_len = 0; numbers = ty ∷ 0 ∷ 0 ∷ 0 ∷ 0 ∷ [] }
+shown_invalid start ty reason = record { kind = 2 ^ 16 - 1; ty = 0; flags = reason; begin = start; end = start; data_offset = start; data_len = 0; numbers = ty ∷ 0 ∷ 0 ∷ 0 ∷ 0 ∷ [] }

@@ -5,7 +5,7 @@ ghost use Rattle.quic_frames.specs.Walk.{left, first_of, invalid_of};
 ghost use Rattle.quic_c.specs.Shown.{way_of, at_front};
 ghost use Rattle.quic_c.specs.Filling.{Fills, TellsInvalid, further};
 
-use crate::frames::{show_invalid, type_in, type_word};
+use crate::frames::{show_invalid, type_in, type_read, type_word};
 use crate::show::{parts_of, show_parts};
 use crate::words::{FrameWords, FramesWords};
 use quic_frames::frame::{FrameType, InvalidFrame, Iter};
@@ -37,13 +37,14 @@ fn fill<const COPY: usize>(
     while count < out.len() {
         match iter.next() {
             Some(Ok(frame)) => {
+                let ty = type_read(iter);
                 let parts = parts_of(&frame);
                 if parts.kind == 0 {
                     iter.pass_padding();
                 }
                 let begin = end;
                 end = iter.offset();
-                out[count] = show_parts(begin, end, parts);
+                out[count] = show_parts(begin, end, ty as u16, parts);
                 count += 1;
             }
             Some(Err(invalid)) => {

@@ -2,6 +2,7 @@
 ghost use Rattle.std.specs.Prelude.{◌≡◌, ◌<◌, ◌^◌, ◌-◌, ◌↔◌, ◌⊎◌, ℕ, [], ◌∷◌, pos, negsuc, length, codes, true, false, not, ◌==◌, None};
 ghost use Rattle.quic_frames.specs.declared.frame.Frame.{Frame};
 ghost use Rattle.quic_frame_parts.specs.Reading.{Invalid, Broken, invalid};
+ghost use Rattle.quic_frames.specs.Way.{Way};
 ghost use Rattle.quic_frames.specs.Walk.{left, first_of, Finds};
 ghost use Rattle.quic_c.specs.Shown.{way_of, at_front, type_in, type_word, shown, shown_invalid};
 ghost use Rattle.quic_c.specs.Answers.{GivesFrame, GivesInvalid, reason_in};
@@ -29,6 +30,19 @@ pub(crate) fn type_word(ty: Option<FrameType>) -> u64
         Some(ty) => ty.into_inner(),
         None => u64::MAX,
     }
+}
+
+// The type of a frame that was read last, as it stands there: each known type has fewer than 16 bits.
+#[inline(always)]
+pub(crate) fn type_read(iter: &Iter<'_>) -> u64
+    requires { (old : Way) × (frame : Frame) × Finds old frame iter.now }
+    ensures value { (old : Way) (frame : Frame) (finds : Finds old frame iter.now) → result ≡ finds.found.type }
+    ensures fits { result < 2 ^ 16 }
+{
+    let Some(ty) = iter.last_type() else {
+        unreachable!()
+    };
+    ty.into_inner()
 }
 
 // The number of a reason.
@@ -95,13 +109,46 @@ pub(crate) fn show_invalid(begin: usize, invalid: &InvalidFrame) -> FrameWords
     ensures { result ≡ shown_invalid begin (type_word invalid.now.ty) (reason_in invalid.now.reason.now) }
 {
     FrameWords {
-        kind: u32::MAX,
+        kind: u16::MAX,
+        ty: 0,
         flags: reason_in(invalid.reason),
         begin,
         end: begin,
         data_offset: begin,
         data_len: 0,
         numbers: [type_word(invalid.ty), 0, 0, 0, 0],
+    }
+}
+
+// The next frame of an iterator that stands where the words say. There is a copy for what begins with 0, PADDING, so
+// that the words of a run's many frames are stored by themselves.
+#[inline(always)]
+fn give_next<const COPY: usize>(
+    iter: &mut Iter<'_>,
+    frames: &mut FramesWords,
+    out: &mut FrameWords,
+) -> i32
+    requires { way_of frames.old iter.old.payload ≡ iter.old }
+    ensures answers { (result ≡ pos 1) ⊎ (result ≡ pos 0) ⊎ (result ≡ negsuc 2) }
+    ensures frame { result ≡ pos 1 → GivesFrame frames.old iter.old.payload frames.new out.new }
+    ensures end { result ≡ pos 0 → (left iter.old ≡ []) × (frames.new ≡ frames.old) × (out.new ≡ out.old) }
+    ensures invalid { result ≡ negsuc 2 → GivesInvalid frames.old iter.old.payload frames.new out.new }
+{
+    let begin = frames.offset;
+    match iter.next() {
+        None => 0,
+        Some(Ok(frame)) => {
+            let (end, ty) = (iter.offset(), type_read(iter));
+            *out = show(begin, end, ty as u16, &frame);
+            frames.offset = end;
+            frames.last_type = ty;
+            1
+        }
+        Some(Err(invalid)) => {
+            frames.ended = 1;
+            *out = show_invalid(begin, &invalid);
+            -3
+        }
     }
 }
 
@@ -134,19 +181,8 @@ pub extern "C" fn quic_wire_frames_next_(
     if frames.ended != 0 {
         return 0;
     }
-    match iter.next() {
-        None => 0,
-        Some(Ok(frame)) => {
-            let end = iter.offset();
-            *out = show(begin, end, &frame);
-            frames.offset = end;
-            frames.last_type = type_word(iter.last_type());
-            1
-        }
-        Some(Err(invalid)) => {
-            frames.ended = 1;
-            *out = show_invalid(begin, &invalid);
-            -3
-        }
+    match payload[begin..].first() {
+        Some(0) => give_next::<0>(&mut iter, frames, out),
+        _ => give_next::<1>(&mut iter, frames, out),
     }
 }

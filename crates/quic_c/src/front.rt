@@ -8,7 +8,7 @@ ghost use Rattle.quic_frames.specs.Walk.{left, first_of, resumed};
 ghost use Rattle.quic_c.specs.Shown.{kind_of, shown, shown_invalid};
 ghost use Rattle.quic_c.specs.Front.{FillsGaps, ShowsAck, ShowsFront, IsExtension, ReadsFront, TellsNone, TellsUnknown, is_strict, is_basic, behind, told_behind};
 
-use crate::frames::show_invalid;
+use crate::frames::{show_invalid, type_read};
 use crate::show::{parts_of, show};
 use crate::words::{FrameWords, GapWords};
 use quic_base::coding::are_bytes;
@@ -71,8 +71,8 @@ fn more_flag(is_whole: bool) -> u32
 // The words of an ACK that stands at the front, and as many of the ranges below its first as there are entries.
 #[inline(always)]
 fn show_ack(words: FrameWords, ack: &Ack<'_>, gaps: &mut [GapWords]) -> FrameWords
-    requires { words ≡ shown 0 words.end (frames.Ack ack.now) }
-    ensures { ShowsAck words.end ack.now gaps.old result gaps.new }
+    requires { words ≡ shown 0 words.end words.ty (frames.Ack ack.now) }
+    ensures { ShowsAck words.end words.ty ack.now gaps.old result gaps.new }
 {
     let blocks = ack.additional();
     are_bytes(blocks);
@@ -83,6 +83,7 @@ fn show_ack(words: FrameWords, ack: &Ack<'_>, gaps: &mut [GapWords]) -> FrameWor
     let numbers = words.numbers;
     FrameWords {
         kind: words.kind,
+        ty: words.ty,
         flags: words.flags + more_flag(is_whole),
         begin: words.begin,
         end: words.end,
@@ -92,12 +93,12 @@ fn show_ack(words: FrameWords, ack: &Ack<'_>, gaps: &mut [GapWords]) -> FrameWor
     }
 }
 
-// The words of a frame that stands at the front.
+// The words of a frame of this type that stands at the front.
 #[inline(always)]
-fn show_front(end: usize, frame: &Frame<'_>, gaps: &mut [GapWords]) -> FrameWords
-    ensures { ShowsFront end frame.now gaps.old result gaps.new }
+fn show_front(end: usize, ty: u16, frame: &Frame<'_>, gaps: &mut [GapWords]) -> FrameWords
+    ensures { ShowsFront end ty frame.now gaps.old result gaps.new }
 {
-    let words = show(0, end, frame);
+    let words = show(0, end, ty, frame);
     match frame {
         Frame::Ack(ack) => show_ack(words, ack, gaps),
         _ => words,
@@ -142,11 +143,12 @@ fn ways(how: u32) -> (bool, bool)
 
 // What is told of such a frame where its type is unknown.
 #[inline(never)]
-fn show_unknown(kind: u32) -> FrameWords
+fn show_unknown(kind: u16) -> FrameWords
     ensures { result ≡ shown_invalid 0 kind 2 }
 {
     FrameWords {
-        kind: u32::MAX,
+        kind: u16::MAX,
+        ty: 0,
         flags: 2,
         begin: 0,
         end: 0,
@@ -186,8 +188,9 @@ fn read_front<const COPY: usize>(
                 *out = show_unknown(parts_of(&frame).kind);
                 return -3;
             }
+            let ty = type_read(&iter);
             let end = pass_run(&mut iter, &frame);
-            *out = show_front(end, &frame, gaps);
+            *out = show_front(end, ty as u16, &frame, gaps);
             end as i64
         }
         Some(Err(invalid)) => {

@@ -9,7 +9,7 @@ use quic_frames::frame::{Close, Frame};
 // What the words of a frame take from the frame alone, by one look at its kind.
 #[derive(Clone, Copy)]
 pub(crate) struct Parts {
-    pub(crate) kind: u32,
+    pub(crate) kind: u16,
     pub(crate) flags: u32,
     pub(crate) tail: usize,
     pub(crate) data_len: usize,
@@ -17,7 +17,7 @@ pub(crate) struct Parts {
 }
 
 #[inline(always)]
-fn without_data(kind: u32, numbers: [u64; 5]) -> Parts
+fn without_data(kind: u16, numbers: [u64; 5]) -> Parts
     ensures { result ≡ record { kind = kind; flags = 0; tail = 0; data_len = 0; numbers = numbers } }
 {
     Parts {
@@ -30,7 +30,7 @@ fn without_data(kind: u32, numbers: [u64; 5]) -> Parts
 }
 
 #[inline(always)]
-fn with_data(kind: u32, flags: u32, numbers: [u64; 5], bytes: &[u8]) -> Parts
+fn with_data(kind: u16, flags: u32, numbers: [u64; 5], bytes: &[u8]) -> Parts
     ensures { result ≡ record { kind = kind; flags = flags; tail = 0; data_len = length bytes.now; numbers = numbers } }
 {
     Parts {
@@ -137,14 +137,15 @@ pub(crate) fn parts_of(frame: &Frame<'_>) -> Parts
     }
 }
 
-// The words that begin and end there, with what is taken from a frame.
+// The words that begin and end there, of this type, with what is taken from a frame.
 #[inline(always)]
-pub(crate) fn show_parts(begin: usize, end: usize, of_frame: Parts) -> FrameWords
-    ensures { result ≡ record { kind = of_frame.kind; flags = of_frame.flags; begin = begin; end = end; data_offset = end - of_frame.tail - of_frame.data_len; data_len = of_frame.data_len; numbers = of_frame.numbers } }
+pub(crate) fn show_parts(begin: usize, end: usize, ty: u16, of_frame: Parts) -> FrameWords
+    ensures { result ≡ record { kind = of_frame.kind; ty = ty; flags = of_frame.flags; begin = begin; end = end; data_offset = end - of_frame.tail - of_frame.data_len; data_len = of_frame.data_len; numbers = of_frame.numbers } }
 {
     let numbers = of_frame.numbers;
     FrameWords {
         kind: of_frame.kind,
+        ty,
         flags: of_frame.flags,
         begin,
         end,
@@ -156,10 +157,10 @@ pub(crate) fn show_parts(begin: usize, end: usize, of_frame: Parts) -> FrameWord
     }
 }
 
-/// The words of a frame that stands in a payload from `begin` to `end`.
+/// The words of a frame of this type that stands in a payload from `begin` to `end`.
 #[inline(always)]
-pub(crate) fn show(begin: usize, end: usize, frame: &Frame<'_>) -> FrameWords
-    ensures { result ≡ shown begin end frame.now }
+pub(crate) fn show(begin: usize, end: usize, ty: u16, frame: &Frame<'_>) -> FrameWords
+    ensures { result ≡ shown begin end ty frame.now }
 {
-    show_parts(begin, end, parts_of(frame))
+    show_parts(begin, end, ty, parts_of(frame))
 }

@@ -19,7 +19,9 @@ pub struct FramesWords {
 #[derive(Clone, Copy)]
 pub struct FrameWords {
     /// Its type, the same one for every STREAM, ACK and DATAGRAM.
-    pub kind: u32,
+    pub kind: u16,
+    /// Its type as it stands there; 0 of what is no frame. Writing doesn't look at it.
+    pub ty: u16,
     /// 1: the end of a stream. 2: an ACK with counts.
     pub flags: u32,
     /// Where it begins in the payload.

@@ -29,7 +29,7 @@ fn are_varints(numbers: [u64; 5]) -> bool
 }
 
 // Whether the numbers and the length can be those of a frame of the kind.
-fn is_sound(kind: u32, numbers: [u64; 5], len: usize) -> bool
+fn is_sound(kind: u16, numbers: [u64; 5], len: usize) -> bool
     ensures { IsTrue result ↔ IsSound kind numbers len }
 {
     let is_path = kind == 0x1a || kind == 0x1b;
@@ -192,7 +192,7 @@ fn new_connection_id<'a>(sequence: u64, retire: u64, id: &[u8], token: &[u8]) ->
 
 // The frame of a kind with these words, of which it takes what the kind has; none of an unknown kind or of an ACK.
 fn frame_of<'a>(
-    kind: u32,
+    kind: u16,
     is_fin: bool,
     numbers: [u64; 5],
     data: &'a [u8],
@@ -236,7 +236,7 @@ fn frame_of<'a>(
 
 // How many bytes of a token stand behind the data.
 #[inline(always)]
-fn token_room(kind: u32) -> usize
+fn token_room(kind: u16) -> usize
     ensures { result ≡ token_room kind }
 {
     if kind == 0x18 { 16 } else { 0 }

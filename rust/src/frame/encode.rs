@@ -7,7 +7,7 @@ use crate::WriteError;
 use core::mem::MaybeUninit;
 
 pub(super) const NO_FRAME: sys::Frame =
-    sys::Frame { kind: 0, flags: 0, begin: 0, end: 0, data: 0, datalen: 0, numbers: [0; 5] };
+    sys::Frame { kind: 0, ty: 0, flags: 0, begin: 0, end: 0, data: 0, datalen: 0, numbers: [0; 5] };
 
 // An id and a token, as they stand one behind the other.
 type IdAndToken = [u8; MAX_CID_SIZE + 16];
@@ -94,7 +94,7 @@ impl<'a> Frame<'a> {
 
     // The number of the frame's kind.
     #[inline]
-    pub(super) fn kind(&self) -> u64 {
+    pub(super) fn kind(&self) -> u16 {
         match self {
             Frame::Padding => 0x00,
             Frame::Ping => 0x01,
@@ -148,7 +148,7 @@ impl<'a> Frame<'a> {
             _ => [0; 5],
         };
         let flags = u32::from(matches!(self, Frame::Stream(s) if s.fin));
-        sys::Frame { kind: self.kind() as u32, flags, numbers, datalen: self.data().len(), ..NO_FRAME }
+        sys::Frame { kind: self.kind(), flags, numbers, datalen: self.data().len(), ..NO_FRAME }
     }
 
     // Its data, or the id of a NEW_CONNECTION_ID.

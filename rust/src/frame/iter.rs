@@ -6,7 +6,6 @@ use super::{
 use crate::sys;
 use crate::text::Short;
 use crate::transport_error::Code;
-use crate::varint;
 use core::fmt;
 use core::iter::FusedIterator;
 use core::mem::MaybeUninit;
@@ -201,9 +200,8 @@ impl<'a> Iter<'a> {
     fn known<'r>(&mut self, read: &'r [Entry]) -> &'r [Entry] {
         let (known, rest) = read.split_at(read.iter().take_while(|entry| !is_extension(entry.get())).count());
         if let (Some(last), Some(next)) = (known.last(), rest.first()) {
-            let ty = varint::read(&self.payload[last.get().begin..]);
             self.state.offset = next.get().begin;
-            self.state.last_type = ty.map_or(u64::MAX, |(ty, _)| ty);
+            self.state.last_type = last.get().ty.into();
         }
         known
     }
@@ -376,7 +374,7 @@ fn frame_of<'a>(payload: &'a [u8], f: &sys::Frame) -> Frame<'a> {
 }
 
 #[inline]
-fn limit_of<'a>(kind: u32, id: StreamId, limit: u64) -> Frame<'a> {
+fn limit_of<'a>(kind: u16, id: StreamId, limit: u64) -> Frame<'a> {
     match kind {
         0x10 => Frame::MaxData(limit),
         0x11 => Frame::MaxStreamData { id, offset: limit },

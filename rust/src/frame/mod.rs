@@ -126,7 +126,7 @@ impl Frame<'_> {
     pub fn ty(&self) -> FrameType {
         match self {
             Frame::Stream(s) => FrameType::of(0x08 + if s.offset != 0 { 4 } else { 0 } + u64::from(s.fin)),
-            _ => FrameType::of(self.kind()),
+            _ => FrameType::of(self.kind().into()),
         }
     }
 

@@ -15,7 +15,8 @@ pub struct Frames {
 #[repr(C)]
 #[derive(Clone, Copy, Debug, PartialEq, Eq, Hash)]
 pub struct Frame {
-    pub kind: u32,
+    pub kind: u16,
+    pub ty: u16,
     pub flags: u32,
     pub begin: usize,
     pub end: usize,
@@ -146,7 +147,7 @@ macro_rules! layout {
 }
 
 layout!(Frames, 24, 8: offset 0 8, last_type 8 8, ended 16 4, strict 20 4,);
-layout!(Frame, 80, 8: kind 0 4, flags 4 4, begin 8 8, end 16 8, data 24 8, datalen 32 8, numbers 40 40,);
+layout!(Frame, 80, 8: kind 0 2, ty 2 2, flags 4 4, begin 8 8, end 16 8, data 24 8, datalen 32 8, numbers 40 40,);
 layout!(Range, 16, 8: start 0 8, end 8 8,);
 layout!(Ranges, 24, 8: begin 0 8, end 8 8, largest 16 8,);
 layout!(Canon, 24, 8: len 0 8, last_type 8 8, reason 16 8,);

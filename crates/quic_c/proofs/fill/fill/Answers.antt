@@ -12,15 +12,17 @@ loop-count-preserved g c =
     let frame = c.in-Some-Ok.frame in
     let finds : Finds here.iter frame c.next.new.self = subst (λ f. Advances here.iter (Some f) c.next.new.self) c.in-Some-Ok.field-0-is c.in-Some-Ok.ensures.steps in
     let stop = c.offset-end-in-Some-Ok.result in
-    let words : c.show_parts.result ≡ shown here.end stop frame = rw c.parts_of-parts.ensures at c.show_parts.ensures in
+    let ty = c.type_read-ty.result in
+    let begins = c.type_read-ty.ensures.value here.iter frame finds in
+    let words : c.show_parts.result ≡ shown here.end stop ty frame = rw c.parts_of-parts.ensures at c.show_parts.ensures in
     let kind : c.parts_of-parts.result.kind ≡ kind_of frame = ap (λ p. p.kind) c.parts_of-parts.ensures in
     elim c.if-parts-eq0.branch [
       | then-parts-eq0 w ↦
-          filling_goes_on c.args.iter.now c.args.out.now here.iter here.out here.count here.end c.next.new.self c.if-parts-eq0.iter frame c.show_parts.result stop here.invariant c.loop-count-test.true finds
-          (λ _. (w.pass_padding.result, rw w.iter-is w.pass_padding.ensures)) (λ some. absurd (omega (arith, kind, some, w.if-parts-eq0.true))) c.offset-end-in-Some-Ok.ensures.value words
+          filling_goes_on c.args.iter.now c.args.out.now here.iter here.out here.count here.end c.next.new.self c.if-parts-eq0.iter frame c.show_parts.result stop ty here.invariant c.loop-count-test.true finds
+          (λ _. (w.pass_padding.result, rw w.iter-is w.pass_padding.ensures)) (λ some. absurd (omega (arith, kind, some, w.if-parts-eq0.true))) c.offset-end-in-Some-Ok.ensures.value begins words
       | else-parts-eq0 w ↦
-          filling_goes_on c.args.iter.now c.args.out.now here.iter here.out here.count here.end c.next.new.self c.if-parts-eq0.iter frame c.show_parts.result stop here.invariant c.loop-count-test.true finds
-          (λ none. absurd (omega (arith, kind, none, w.if-parts-eq0.false))) (λ _. w.iter-is) c.offset-end-in-Some-Ok.ensures.value words
+          filling_goes_on c.args.iter.now c.args.out.now here.iter here.out here.count here.end c.next.new.self c.if-parts-eq0.iter frame c.show_parts.result stop ty here.invariant c.loop-count-test.true finds
+          (λ none. absurd (omega (arith, kind, none, w.if-parts-eq0.false))) (λ _. w.iter-is) c.offset-end-in-Some-Ok.ensures.value begins words
     ]
 
 pub returns-in-Some-Err-clause-filled : goal.returns-in-Some-Err-clause-filled

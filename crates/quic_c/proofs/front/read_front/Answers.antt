@@ -1,7 +1,10 @@
-use Rattle.std.proofs.Common.{inl, ◌≡◌, [], ◌∷◌, None, Some, subst, rules}
+use Rattle.std.proofs.Common.{inl, inr, true, pos, to_z, w64, ◌≡◌, [], ◌∷◌, None, Some, subst, rules}
 use Rattle.quic_frame_parts.specs.Reading.{Broken}
 use Rattle.quic_frames.proofs.Items.{all_read}
-use Rattle.quic_frames.specs.Walk.{invalid_of, left, first_of, Advances}
+use Rattle.quic_frames.specs.Walk.{invalid_of, left, first_of, Advances, Finds}
+use Rattle.quic_c.specs.Shown.{kind_of}
+use Rattle.quic_c.specs.Front.{IsExtension}
+use Rattle.quic_c.proofs.Types.{reads_front}
 use Rattle.quic_c.proofs.front.read_front.Goals as goal
 
 pub returns-in-None-clause-empty : goal.returns-in-None-clause-empty
@@ -15,3 +18,18 @@ returns-in-Some-Err-clause-invalid g c =
     let s = subst (λ f. Advances c.in-Some.iter (Some f) c.next.new.self) c.in-Some-Err.field-0-is c.in-Some-Err.ensures.steps in
     let first : left (first_of c.args.strict c.args.payload.now) ≡ Broken (invalid_of c.in-Some-Err.invalid) ∷ [] = rw c.in-Some.ensures.way at s.0 in
     λ _. inl (record { told = invalid_of c.in-Some-Err.invalid; first = first; is = c.show_invalid.ensures })
+
+pub returns-else-is_unknown-clause-answers : goal.returns-else-is_unknown-clause-answers
+returns-else-is_unknown-clause-answers g c =
+    let frame = c.in-Some-Ok.frame in
+    let here : c.in-Some.iter ≡ first_of c.args.strict c.args.payload.now = c.in-Some.ensures.way in
+    let steps : Finds c.in-Some.iter frame c.next.new.self = subst (λ f. Advances c.in-Some.iter (Some f) c.next.new.self) c.in-Some-Ok.field-0-is c.in-Some-Ok.ensures.steps in
+    let finds : Finds (first_of c.args.strict c.args.payload.now) frame c.next.new.self = subst (λ w. Finds w frame c.next.new.self) here steps in
+    let begins = c.type_read-ty.ensures.value (first_of c.args.strict c.args.payload.now) frame finds in
+    let known : (c.args.basic ≡ true) × IsExtension (kind_of frame) → ⊥ = search rules in
+    let ends = c.pass_run-end.ensures in
+    let reads =
+    reads_front c.args.strict c.args.basic c.args.payload.now c.args.gaps.now c.pass_run-end.result c.show_front.result c.show_front.new.gaps frame c.next.new.self c.pass_run-end.new.iter
+    c.type_read-ty.result finds known ends.run ends.one ends.end begins c.show_front.ensures in
+    let same : to_z w64 c.pass_run-end.result ≡ pos c.pass_run-end.result = search rules in
+    inr (inr (c.pass_run-end.result, same, reads))

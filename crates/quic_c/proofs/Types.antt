@@ -1,0 +1,84 @@
+-- The types of frames that were read.
+use Rattle.std.proofs.Common.{◌≡◌, ℕ, ◌<◌, ◌^◌, Bool, true, false, List, [], ◌∷◌, Option, Some, refl, sym, ap, subst, ◌∙◌, inl, inr, arith}
+use Rattle.std.specs.Prelude.{◌⊎◌, ◌==◌, ◌&&◌, nat_lt}
+use Rattle.std.specs.Map.{lookup}
+use Rattle.std.proofs.lemmas.Bool.Decides.{nat_tests}
+use Rattle.quic_frame_parts.specs.Payload.{Found}
+use Rattle.quic_frame_parts.specs.Table.{Row, rows, row_of}
+use Rattle.quic_frames.specs.declared.frame.Frame.{Frame}
+use Rattle.quic_frames.specs.Way.{Way}
+use Rattle.quic_frames.specs.Padding.{PassesPadding}
+use Rattle.quic_frames.specs.Walk.{first_of, Finds}
+use Rattle.quic_c.specs.declared.words.FrameWords.{FrameWords}
+use Rattle.quic_c.specs.declared.words.FramesWords.{FramesWords}
+use Rattle.quic_c.specs.declared.words.GapWords.{GapWords}
+use Rattle.quic_c.specs.Shown.{kind_of, shown, type_in, way_of}
+use Rattle.quic_c.specs.Answers.{GivesFrame}
+use Rattle.quic_c.specs.Filling.{further}
+use Rattle.quic_c.specs.Front.{IsExtension, ReadsFront, ShowsFront}
+
+all_fit : List (ℕ × Row) → Bool
+all_fit [] = true
+all_fit (entry ∷ entries) = nat_lt entry.0 (2 ^ 16) && all_fit entries
+
+both_of : (b c : Bool) → (b && c) ≡ true → (b ≡ true) × (c ≡ true)
+both_of true c h = (refl, h)
+both_of false c h = absurd cc
+
+cases_bool : (b : Bool) → (b ≡ true) ⊎ (b ≡ false)
+cases_bool true = inl refl
+cases_bool false = inr refl
+
+found_fits : (t : ℕ) (entries : List (ℕ × Row)) (r : Row) → all_fit entries ≡ true → lookup (λ u. t == u) entries ≡ Some r → t < 2 ^ 16
+unfolding all_fit
+found_fits t [] r fit e = absurd cc
+found_fits t (entry ∷ entries) r fit e =
+    let w = both_of (nat_lt entry.0 (2 ^ 16)) (all_fit entries) fit in
+    elim (cases_bool (t == entry.0)) [
+      | inl here ↦ grind (arith, nat_tests)
+      | inr other ↦ found_fits t entries r w.1 (rw other at e)
+    ]
+
+row_fits : (t : ℕ) (r : Row) → row_of t ≡ Some r → t < 2 ^ 16
+unfolding all_fit
+row_fits t r e = found_fits t rows r refl e
+
+some_is : {t u : ℕ} → ◌≡◌ {A = Option ℕ} (Some t) (Some u) → t ≡ u
+some_is e = cc
+
+-- the last type behind a frame that was found is its type
+pub last_is : (old new : Way) (frame : Frame) (finds : Finds old frame new) (t : ℕ) → new.last ≡ Some t → t ≡ finds.found.type
+last_is old new frame finds t e = some_is (sym e ∙ ap (λ (w : Way). w.last) finds.comes)
+
+-- and it is one of the table
+pub last_fits : (old new : Way) (frame : Frame) (finds : Finds old frame new) (t : ℕ) → new.last ≡ Some t → t < 2 ^ 16
+last_fits old new frame finds t e =
+    let small = row_fits finds.found.type finds.stands.spelled.row finds.stands.spelled.in_table in
+    omega (arith, small, last_is old new frame finds t e)
+
+-- ---- a frame's words, with its type
+
+word_back : (t : ℕ) → t < 2 ^ 16 → type_in t ≡ Some t
+word_back t small = grind (arith, nat_tests)
+
+-- where an iterator stands behind a frame, by its end and its type
+pub behind_frame : (here next : Way) (frame : Frame) (finds : Finds here frame next) (stop type : ℕ) → stop ≡ next.offset → type ≡ finds.found.type → type < 2 ^ 16 → further here stop (type_in type) ≡ next
+behind_frame here next frame finds stop type ends begins small =
+    ap (λ (n : ℕ). further here n (type_in type)) ends ∙ ap (λ (l : Option ℕ). further here next.offset l) (word_back type small ∙ ap (λ (n : ℕ). Some n) begins) ∙ sym finds.comes
+
+-- the same frame found between equal places
+found_between : (here next old new : Way) (frame : Frame) (finds : Finds here frame next) → here ≡ old → next ≡ new → (f : Finds old frame new) × (f.found ≡ finds.found)
+found_between here next old new frame finds p q =
+    subst (λ (w : Way). (f : Finds w frame new) × (f.found ≡ finds.found)) p (subst (λ (w : Way). (f : Finds here frame w) × (f.found ≡ finds.found)) q (finds, refl))
+
+pub gives_frame : (old new : FramesWords) (payload : List ℕ) (out : FrameWords) (here next : Way) (frame : Frame) (type : ℕ) (finds : Finds here frame next)
+    → way_of old payload ≡ here → way_of new payload ≡ next → type ≡ finds.found.type → out ≡ shown old.offset new.offset type frame → GivesFrame old payload new out
+gives_frame old new payload out here next frame type finds is_here is_next begins words =
+    let f = found_between here next (way_of old payload) (way_of new payload) frame finds (sym is_here) (sym is_next) in
+    record { frame = frame; finds = f.0; words = words ∙ ap (λ (n : ℕ). shown old.offset new.offset n frame) (begins ∙ ap (λ (x : Found). x.type) (sym f.1)) }
+
+pub reads_front : (strict basic : Bool) (payload : List ℕ) (before : List GapWords) (stop : ℕ) (words : FrameWords) (after : List GapWords) (frame : Frame) (next rest : Way) (type : ℕ)
+    → (finds : Finds (first_of strict payload) frame next) → ((basic ≡ true) × IsExtension (kind_of frame) → ⊥) → (kind_of frame ≡ 0 → (more : ℕ) × PassesPadding next more rest) → (0 < kind_of frame → rest ≡ next)
+    → stop ≡ rest.offset → type ≡ finds.found.type → ShowsFront stop type frame before words after → ReadsFront strict basic payload before stop words after
+reads_front strict basic payload before stop words after frame next rest type finds known run one ends begins shows =
+    record { frame = frame; next = next; rest = rest; finds = finds; known = known; run = run; one = one; ends = ends; shows = subst (λ (t : ℕ). ShowsFront stop t frame before words after) begins shows }

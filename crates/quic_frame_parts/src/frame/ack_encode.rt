@@ -103,7 +103,8 @@ fn type_of(ecn: Option<EcnCounts>) -> u64
 fn make_room<B: BufMut>(chunk: &[u8; CHUNK], at: usize, out: &mut B) -> Result<usize, NoRoom>
     requires { at ≤ CHUNK }
     ensures near { IfOk result (λ n. n + 16 ≤ CHUNK) }
-    ensures flushes { Flushes result at chunk.now (B.written out.old) (B.spare out.old) (B.written out.new) (B.spare out.new) }
+    ensures flushes { Flushes result at chunk.now
+        (B.written out.old) (B.spare out.old) (B.written out.new) (B.spare out.new) }
 {
     if at <= CHUNK - 16 {
         return Ok(at);

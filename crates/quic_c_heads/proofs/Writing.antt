@@ -2,21 +2,24 @@
 use Rattle.std.proofs.Common.{◌≡◌, ℕ, ◌+◌, ◌-◌, ◌*◌, ◌/◌, ◌%◌, ◌<◌, ◌≤◌, ◌^◌, ◌⊎◌, Bool, false, List, [], ◌∷◌, ◌++◌, length, take, drop, replicate, refl, sym, ap, subst, ◌∙◌, inl, inr, arith}
 use Rattle.std.specs.Prelude.{◌≢◌, bit_or, nat_eq}
 use Rattle.std.proofs.lemmas.Bool.{cases_eq}
-use Rattle.std.proofs.lemmas.List.{length-take-le, take-append-drop}
+use Rattle.std.proofs.lemmas.List.{length-append, length-replicate, length-take-le, take-append-drop}
 use Rattle.std.proofs.lemmas.Bool.Decides.{nat_tests}
 use Rattle.std.specs.Int.{byte_at}
+use Rattle.quic_base.specs.ConnectionId.{long_id}
 use Rattle.quic_base.specs.Number.{bytes_of}
+use Rattle.quic_base.proofs.PublicLaws.{length-bytes_of}
 use Rattle.quic_crypto.specs.declared.packet_number.PacketNumber.{PacketNumber}
 use Rattle.quic_crypto.specs.PacketNumbers.{low_part, number_bytes, number_size, window_of, IsInRange}
 use Rattle.quic_headers.specs.declared.long_type.HeadKind.{HeadKind}
 use Rattle.quic_headers.specs.declared.long_type.HeadKind.TheVariants as kind
 use Rattle.quic_headers.specs.declared.header.Header.{Header}
 use Rattle.quic_headers.specs.Laying.{begun_by, has_bit, head_of, number_bits, type_bits}
+use Rattle.quic_headers.specs.Starts.{long_front}
 use Rattle.quic_headers.specs.Writing.{bit, head_with}
 use Rattle.quic_c_heads.specs.declared.words.SaidWords.{SaidWords}
 use Rattle.quic_c_heads.specs.Heads.{part_of, said_bytes, CanWrite}
 use Rattle.quic_c_heads.specs.Reading.{kind_word}
-use Rattle.quic_c_heads.specs.Shapes.{first_word, IsNumbered, IsShaped}
+use Rattle.quic_c_heads.specs.Shapes.{first_word, plain_first, IsNumbered, IsShaped}
 use Rattle.quic_c_heads.specs.Written.{short_words}
 
 -- whether the fixed bit is cleared
@@ -270,3 +273,41 @@ short_bytes first number dst low clear small few =
     ap (λ (xs : List ℕ). (first ∷ dst) ++ xs) (sym (low_bytes count number (omega arith) (omega arith)))
     ∙ ap (λ (f : ℕ). f ∷ (dst ++ number_bytes part)) byte
     ∙ bytes_said kind.Short 0 words dst [] [] (short_shaped first number dst small few).numbered refl (λ _. refl)
+
+-- ---- heads of packets with a length and no token
+
+-- what is laid of one, field behind field, is what its words say
+pub plain_bytes : (k : HeadKind) (words : SaidWords) (dst src : List ℕ) → (kind_word k ≡ 1) ⊎ (kind_word k ≡ 2) → 1 ≤ words.number_len → words.number_len ≤ 4
+    → long_front (plain_first k words) words.version dst src ++ (replicate words.length_len 0 ++ bytes_of words.number_len words.number)
+    ≡ laid_said k words.length_len words dst src []
+plain_bytes kind.ZeroRtt words dst src plain some few =
+    let part : PacketNumber = part_of words.number_len words.number in
+    let size : words.number_len ≡ number_size part = (part_says words.number_len words.number some few).0 in
+    let ids : List ℕ = bytes_of 4 words.version ++ (long_id dst ++ long_id src) in
+    ap (λ (xs : List ℕ). long_front (plain_first kind.ZeroRtt words) words.version dst src ++ (replicate words.length_len 0 ++ xs)) (sym (low_bytes words.number_len words.number some few))
+    ∙ ap (λ (n : ℕ). (192 - 64 * (words.flags / 64 % 2) + type_bits kind.ZeroRtt words.version + (n - 1)) ∷ (ids ++ (replicate words.length_len 0 ++ number_bytes part))) size
+plain_bytes kind.Handshake words dst src plain some few =
+    let part : PacketNumber = part_of words.number_len words.number in
+    let size : words.number_len ≡ number_size part = (part_says words.number_len words.number some few).0 in
+    let ids : List ℕ = bytes_of 4 words.version ++ (long_id dst ++ long_id src) in
+    ap (λ (xs : List ℕ). long_front (plain_first kind.Handshake words) words.version dst src ++ (replicate words.length_len 0 ++ xs)) (sym (low_bytes words.number_len words.number some few))
+    ∙ ap (λ (n : ℕ). (192 - 64 * (words.flags / 64 % 2) + type_bits kind.Handshake words.version + (n - 1)) ∷ (ids ++ (replicate words.length_len 0 ++ number_bytes part))) size
+plain_bytes kind.Initial words dst src plain some few = absurd (omega (arith, plain))
+plain_bytes kind.Retry words dst src plain some few = absurd (omega (arith, plain))
+plain_bytes kind.Short words dst src plain some few = absurd (omega (arith, plain))
+plain_bytes kind.VersionNegotiate words dst src plain some few = absurd (omega (arith, plain))
+
+pub plain_long : (first version len count number : ℕ) (dst src : List ℕ)
+    → length (long_front first version dst src ++ (replicate len 0 ++ bytes_of count number)) ≡ 7 + length dst + length src + (len + count)
+plain_long first version len count number dst src =
+    let ids : List ℕ = bytes_of 4 version ++ (long_id dst ++ long_id src) in
+    omega (
+      arith,
+      length-append ids (replicate len 0 ++ bytes_of count number),
+      length-append (bytes_of 4 version) (long_id dst ++ long_id src),
+      length-append (long_id dst) (long_id src),
+      length-append (replicate len 0) (bytes_of count number),
+      length-replicate {A = ℕ} len 0,
+      length-bytes_of 4 version,
+      length-bytes_of count number,
+    )

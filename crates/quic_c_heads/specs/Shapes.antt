@@ -2,6 +2,7 @@
 use Rattle.std.specs.Prelude.{◌≡◌, ◌≢◌, ℕ, ◌+◌, ◌-◌, ◌*◌, ◌/◌, ◌%◌, ◌<◌, ◌≤◌, ◌^◌, ◌⊎◌, List, length, bit_or}
 use Rattle.quic_headers.specs.declared.long_type.HeadKind.{HeadKind}
 use Rattle.quic_headers.specs.declared.long_type.HeadKind.TheVariants as kind
+use Rattle.quic_headers.specs.Laying.{type_bits}
 use Rattle.quic_c_heads.specs.declared.words.SaidWords.{SaidWords}
 
 -- The number, the count of its bytes and that of the length's are those of a head of the kind.
@@ -30,3 +31,7 @@ first_word kind.Handshake flags = 192 - 64 * (flags / 64 % 2)
 first_word kind.Retry flags = 192 - 64 * (flags / 64 % 2)
 first_word kind.Short flags = 64 - 64 * (flags / 64 % 2) + 32 * (flags / 32 % 2) + 4 * (flags / 4 % 2)
 first_word kind.VersionNegotiate flags = bit_or 128 (flags % 128)
+
+-- the first byte of a packet with a length
+abbrev pub plain_first : HeadKind → SaidWords → ℕ
+plain_first kind words = 192 - 64 * (words.flags / 64 % 2) + type_bits kind words.version + (words.number_len - 1)

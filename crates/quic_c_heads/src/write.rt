@@ -1,15 +1,20 @@
 //! Heads, written from words into the caller's bytes.
-ghost use Rattle.std.specs.Prelude.{◌≡◌, ◌≢◌, ◌+◌, ◌%◌, ◌^◌, ◌<◌, ◌≤◌, ◌⊎◌, ◌↔◌, ℕ, [], IsTrue, length, pos, negsuc};
+ghost use Rattle.std.specs.Prelude.{◌≡◌, ◌≢◌, ◌+◌, ◌%◌, ◌^◌, ◌<◌, ◌≤◌, ◌⊎◌, ◌↔◌, ◌++◌, ℕ, [], IsTrue, length, take, drop, replicate, pos, negsuc};
+ghost use Rattle.quic_base.specs.ConnectionId.{long_id};
+ghost use Rattle.quic_base.specs.Number.{bytes_of};
 ghost use Rattle.quic_crypto.specs.PacketNumbers.{IsInRange};
+ghost use Rattle.quic_headers.specs.Laying.{IsTyped};
+ghost use Rattle.quic_headers.specs.Starts.{long_front};
 ghost use Rattle.quic_c_heads.specs.Heads.{part_of};
 ghost use Rattle.quic_c_heads.specs.Reading.{kind_word};
-ghost use Rattle.quic_c_heads.specs.Shapes.{first_word, AreParts, IsNumbered, IsShaped};
+ghost use Rattle.quic_c_heads.specs.Shapes.{first_word, plain_first, AreParts, IsNumbered, IsShaped};
 ghost use Rattle.quic_c_heads.specs.Written.{short_words, HasReserved, NeedsMore, SaysNone, Wrote};
 
 use crate::words::SaidWords;
+use quic_base::coding::lay_array;
 use quic_crypto::packet_number::PacketNumber;
 use quic_headers::fields::lay_low;
-use quic_headers::lay::{Exact, HeaderRef, lay_short};
+use quic_headers::lay::{Exact, HeaderRef, LaidId, lay_short};
 use quic_headers::long_type::HeadKind;
 
 // The kind of a word.
@@ -144,22 +149,111 @@ pub extern "C" fn quic_wire_short_write_(
     lay_low(dest, at, number, count) as i32
 }
 
-/// Writes the head that the words say with the ids of the receiver and of the sender and the token, with no
-/// protection on it, at the front of `dest` (RFC 9000, section 17), and answers how many bytes it has, at whose end
-/// the number stands. The length of an Initial, 0-RTT or Handshake packet is 0, until `quic_wire_set_len_`. What the
-/// kind lacks isn't looked at. What stood behind the head stays. It answers -4 where `dest` has fewer bytes; -1 just
-/// where they say no head that can be written: a kind above 5, an id of more than 20 bytes, a number of 2^62 or more
-/// or one that is written in no or more than four bytes, a length of other than 2 or 4 bytes, a token of 2^62 bytes,
-/// or version 0 in an Initial, 0-RTT, Handshake or Retry head, which would be a version negotiation (RFC 9000, section
-/// 17.2.1). Nothing changes then. A version negotiation is written with any low bits of its first byte.
-#[unsafe(no_mangle)]
-pub extern "C" fn quic_wire_head_write_(
+// Lays an id behind its length.
+#[inline(always)]
+fn lay_long_id(dest: &mut [u8], at: usize, id: &[u8]) -> usize
+    requires few { length id.now ≤ 20 }
+    requires room { at + (1 + length id.now) ≤ length dest.old }
+    ensures end { result ≡ at + (1 + length id.now) }
+    ensures front { take result dest.new ≡ take at dest.old ++ long_id id.now }
+    ensures back { drop result dest.new ≡ drop result dest.old }
+    ensures len { length dest.new ≡ length dest.old }
+{
+    let at = lay_array(dest, at, [id.len() as u8]);
+    Exact(id).lay(dest, at)
+}
+
+// Lays a long head up to its ids' end at the front.
+#[inline(always)]
+#[tactic(auto, unfolding(quic_base::specs::Number::bytes_of))]
+fn lay_front(kind: HeadKind, said: &SaidWords, dst: &[u8], src: &[u8], dest: &mut [u8]) -> usize
+    requires typed { IsTyped kind }
+    requires some { 1 ≤ said.now.number_len }
+    requires few { said.now.number_len ≤ 4 }
+    requires dst_few { length dst.now ≤ 20 }
+    requires src_few { length src.now ≤ 20 }
+    requires room { 7 + length dst.now + length src.now ≤ length dest.old }
+    ensures end { result ≡ 7 + length dst.now + length src.now }
+    ensures front { take result dest.new
+        ≡ long_front (plain_first kind said.now) said.now.version dst.now src.now }
+    ensures back { drop result dest.new ≡ drop result dest.old }
+    ensures len { length dest.new ≡ length dest.old }
+{
+    let first = 192 - 64 * (said.flags / 64 % 2)
+        + kind.type_bits(said.version)
+        + (said.number_len - 1);
+    let at = lay_array(dest, 0, [first]);
+    let at = lay_array(dest, at, said.version.to_be_bytes());
+    let at = lay_long_id(dest, at, dst);
+    lay_long_id(dest, at, src)
+}
+
+// Lays a length that isn't said yet.
+#[inline(always)]
+fn lay_no_length(dest: &mut [u8], at: usize, len: usize) -> usize
+    requires known { (len ≡ 2) ⊎ (len ≡ 4) }
+    requires room { at + len ≤ length dest.old }
+    ensures end { result ≡ at + len }
+    ensures front { take result dest.new ≡ take at dest.old ++ replicate len 0 }
+    ensures back { drop result dest.new ≡ drop result dest.old }
+    ensures len { length dest.new ≡ length dest.old }
+{
+    if len == 4 {
+        lay_array(dest, at, [0, 0, 0, 0])
+    } else {
+        lay_array(dest, at, [0, 0])
+    }
+}
+
+// Lays a length, which is 0, and the number.
+#[inline(always)]
+fn lay_end(said: &SaidWords, dest: &mut [u8], at: usize) -> usize
+    requires known { (said.now.length_len ≡ 2) ⊎ (said.now.length_len ≡ 4) }
+    requires some { 1 ≤ said.now.number_len }
+    requires few { said.now.number_len ≤ 4 }
+    requires room { at + (said.now.length_len + said.now.number_len) ≤ length dest.old }
+    ensures end { result ≡ at + (said.now.length_len + said.now.number_len) }
+    ensures front { take result dest.new ≡ take at dest.old
+        ++ (replicate said.now.length_len 0 ++ bytes_of said.now.number_len said.now.number) }
+    ensures back { drop result dest.new ≡ drop result dest.old }
+    ensures len { length dest.new ≡ length dest.old }
+{
+    let at = lay_no_length(dest, at, said.length_len as usize);
+    lay_low(dest, at, said.number, said.number_len as usize)
+}
+
+// Writes the head of a 0-RTT or Handshake packet, as `quic_wire_head_write_` does.
+#[inline(always)]
+fn write_plain(
+    kind: HeadKind,
     said: &SaidWords,
     dst: &[u8],
     src: &[u8],
     token: &[u8],
     dest: &mut [u8],
 ) -> i64
+    requires kind { kind_word kind ≡ said.now.kind }
+    requires plain { (kind_word kind ≡ 1) ⊎ (kind_word kind ≡ 2) }
+    ensures wrote { (result ≡ negsuc 3) ⊎ (result ≡ negsuc 0) ⊎ ((count : ℕ) × (result ≡ pos count)
+        × Wrote said.now dst.now src.now token.now dest.old dest.new count) }
+    ensures room { result ≡ negsuc 3 → NeedsMore said.now dst.now src.now token.now (length dest.old) }
+    ensures refused { result ≡ negsuc 0 → SaysNone said.now dst.now src.now token.now }
+    ensures same { (result ≡ negsuc 3) ⊎ (result ≡ negsuc 0) → dest.new ≡ dest.old }
+{
+    if !is_shaped(said, dst, src, token) {
+        return -1;
+    }
+    let end = said.length_len as usize + said.number_len as usize;
+    if dest.len() < 7 + dst.len() + src.len() + end {
+        return -4;
+    }
+    let at = lay_front(kind, said, dst, src, dest);
+    lay_end(said, dest, at) as i64
+}
+
+// Writes any head, likewise.
+#[inline(always)]
+fn write_any(said: &SaidWords, dst: &[u8], src: &[u8], token: &[u8], dest: &mut [u8]) -> i64
     ensures wrote { (result ≡ negsuc 3) ⊎ (result ≡ negsuc 0) ⊎ ((count : ℕ) × (result ≡ pos count)
         × Wrote said.now dst.now src.now token.now dest.old dest.new count) }
     ensures room { result ≡ negsuc 3 → NeedsMore said.now dst.now src.now token.now (length dest.old) }
@@ -187,4 +281,33 @@ pub extern "C" fn quic_wire_head_write_(
         return -4;
     }
     head.lay::<false>(dest) as i64
+}
+
+/// Writes the head that the words say with the ids of the receiver and of the sender and the token, with no
+/// protection on it, at the front of `dest` (RFC 9000, section 17), and answers how many bytes it has, at whose end
+/// the number stands. The length of an Initial, 0-RTT or Handshake packet is 0, until `quic_wire_set_len_`. What the
+/// kind lacks isn't looked at. What stood behind the head stays. It answers -4 where `dest` has fewer bytes; -1 just
+/// where they say no head that can be written: a kind above 5, an id of more than 20 bytes, a number of 2^62 or more
+/// or one that is written in no or more than four bytes, a length of other than 2 or 4 bytes, a token of 2^62 bytes,
+/// or version 0 in an Initial, 0-RTT, Handshake or Retry head, which would be a version negotiation (RFC 9000, section
+/// 17.2.1). Nothing changes then. A version negotiation is written with any low bits of its first byte.
+#[unsafe(no_mangle)]
+pub extern "C" fn quic_wire_head_write_(
+    said: &SaidWords,
+    dst: &[u8],
+    src: &[u8],
+    token: &[u8],
+    dest: &mut [u8],
+) -> i64
+    ensures wrote { (result ≡ negsuc 3) ⊎ (result ≡ negsuc 0) ⊎ ((count : ℕ) × (result ≡ pos count)
+        × Wrote said.now dst.now src.now token.now dest.old dest.new count) }
+    ensures room { result ≡ negsuc 3 → NeedsMore said.now dst.now src.now token.now (length dest.old) }
+    ensures refused { result ≡ negsuc 0 → SaysNone said.now dst.now src.now token.now }
+    ensures same { (result ≡ negsuc 3) ⊎ (result ≡ negsuc 0) → dest.new ≡ dest.old }
+{
+    match said.kind {
+        1 => write_plain(HeadKind::ZeroRtt, said, dst, src, token, dest),
+        2 => write_plain(HeadKind::Handshake, said, dst, src, token, dest),
+        _ => write_any(said, dst, src, token, dest),
+    }
 }

@@ -9,7 +9,7 @@ use Rattle.quic_c_heads.specs.Heads.{part_of, said_bytes}
 use Rattle.quic_c_heads.specs.Shapes.{first_word, IsShaped}
 use Rattle.quic_c_heads.proofs.Shaping.{shaped}
 use Rattle.quic_c_heads.proofs.Writing.{laid_as, bytes_said, can_said, clear_by, head_said, laid_said, written}
-use Rattle.quic_c_heads.proofs.write.quic_wire_head_write_.Goals as goal
+use Rattle.quic_c_heads.proofs.write.write_any.Goals as goal
 
 pub returns-then-not-is_shaped-clause-refused : goal.returns-then-not-is_shaped-clause-refused
 returns-then-not-is_shaped-clause-refused c = λ _ clear head can.

@@ -1,22 +1,24 @@
 -- The head that words say, and its bytes.
-use Rattle.std.proofs.Common.{◌≡◌, ℕ, ◌+◌, ◌-◌, ◌*◌, ◌/◌, ◌%◌, ◌<◌, ◌≤◌, ◌^◌, ◌⊎◌, Bool, false, List, [], ◌∷◌, ◌++◌, length, take, drop, replicate, refl, sym, ap, subst, ◌∙◌, inl, inr, arith}
+use Rattle.std.proofs.Common.{◌≡◌, ℕ, ◌+◌, ◌-◌, ◌*◌, ◌/◌, ◌%◌, ◌<◌, ◌≤◌, ◌^◌, ◌⊎◌, Bool, false, List, [], ◌∷◌, ◌++◌, length, take, drop, replicate, IsTrue, refl, sym, ap, subst, ◌∙◌, inl, inr, arith, rules}
 use Rattle.std.specs.Prelude.{◌≢◌, bit_or, nat_eq}
 use Rattle.std.proofs.lemmas.Bool.{cases_eq}
-use Rattle.std.proofs.lemmas.List.{length-take-le, take-append-drop}
+use Rattle.std.proofs.lemmas.List.{append-nil, length-take-le, take-append-drop}
 use Rattle.std.proofs.lemmas.Bool.Decides.{nat_tests}
 use Rattle.std.specs.Int.{byte_at}
+use Rattle.quic_base.specs.ConnectionId.{long_id}
 use Rattle.quic_base.specs.Number.{bytes_of}
 use Rattle.quic_crypto.specs.declared.packet_number.PacketNumber.{PacketNumber}
 use Rattle.quic_crypto.specs.PacketNumbers.{low_part, number_bytes, number_size, window_of, IsInRange}
 use Rattle.quic_headers.specs.declared.long_type.HeadKind.{HeadKind}
 use Rattle.quic_headers.specs.declared.long_type.HeadKind.TheVariants as kind
 use Rattle.quic_headers.specs.declared.header.Header.{Header}
-use Rattle.quic_headers.specs.Laying.{begun_by, has_bit, head_of, number_bits, type_bits}
+use Rattle.quic_headers.specs.Laying.{begun_by, has_bit, head_of, laid_size, number_bits, says_length, token_by, type_bits, IsTyped}
+use Rattle.quic_headers.specs.Starts.{long_front}
 use Rattle.quic_headers.specs.Writing.{bit, head_with}
 use Rattle.quic_c_heads.specs.declared.words.SaidWords.{SaidWords}
 use Rattle.quic_c_heads.specs.Heads.{part_of, said_bytes, CanWrite}
 use Rattle.quic_c_heads.specs.Reading.{kind_word}
-use Rattle.quic_c_heads.specs.Shapes.{first_word, IsNumbered, IsShaped}
+use Rattle.quic_c_heads.specs.Shapes.{first_word, numbered_bytes, numbered_first, numbered_size, IsNumbered, IsShaped}
 use Rattle.quic_c_heads.specs.Written.{short_words}
 
 -- whether the fixed bit is cleared
@@ -270,3 +272,62 @@ short_bytes first number dst low clear small few =
     ap (λ (xs : List ℕ). (first ∷ dst) ++ xs) (sym (low_bytes count number (omega arith) (omega arith)))
     ∙ ap (λ (f : ℕ). f ∷ (dst ++ number_bytes part)) byte
     ∙ bytes_said kind.Short 0 words dst [] [] (short_shaped first number dst small few).numbered refl (λ _. refl)
+
+-- ---- heads of packets with a number and a length
+
+pub with_length : (k : HeadKind) (words : SaidWords) → kind_word k ≡ words.kind → IsTrue (says_length k) → words.kind ≤ 2
+with_length kind.Initial words e has = omega (arith, e)
+with_length kind.ZeroRtt words e has = omega (arith, e)
+with_length kind.Handshake words e has = omega (arith, e)
+with_length kind.Retry words e has = absurd (search (rules, has))
+with_length kind.Short words e has = absurd (search (rules, has))
+with_length kind.VersionNegotiate words e has = absurd (search (rules, has))
+
+pub typed : (k : HeadKind) → IsTrue (says_length k) → IsTyped k
+typed kind.Initial has = tt
+typed kind.ZeroRtt has = tt
+typed kind.Handshake has = tt
+typed kind.Retry has = absurd (search (rules, has))
+typed kind.Short has = absurd (search (rules, has))
+typed kind.VersionNegotiate has = absurd (search (rules, has))
+
+-- how many bytes one takes
+pub numbered_room : (k : HeadKind) (words : SaidWords) (dst src token : List ℕ) → IsTrue (says_length k) → 1 ≤ words.number_len → words.number_len ≤ 4
+    → laid_size k dst src token (part_of words.number_len words.number) words.length_len ≡ numbered_size k words dst src token
+numbered_room kind.Initial words dst src token has some few = omega (arith, (part_says words.number_len words.number some few).0)
+numbered_room kind.ZeroRtt words dst src token has some few = omega (arith, (part_says words.number_len words.number some few).0)
+numbered_room kind.Handshake words dst src token has some few = omega (arith, (part_says words.number_len words.number some few).0)
+numbered_room kind.Retry words dst src token has some few = absurd (search (rules, has))
+numbered_room kind.Short words dst src token has some few = absurd (search (rules, has))
+numbered_room kind.VersionNegotiate words dst src token has some few = absurd (search (rules, has))
+
+-- what is laid of one, field behind field, is what its words say
+pub numbered_said : (k : HeadKind) (words : SaidWords) (dst src token : List ℕ) → IsTrue (says_length k) → 1 ≤ words.number_len → words.number_len ≤ 4
+    → numbered_bytes k words dst src token ≡ laid_said k words.length_len words dst src token
+numbered_said kind.Initial words dst src token has some few =
+    let part : PacketNumber = part_of words.number_len words.number in
+    let size : words.number_len ≡ number_size part = (part_says words.number_len words.number some few).0 in
+    let own : List ℕ = token_by kind.Initial token in
+    let ids : List ℕ = bytes_of 4 words.version ++ (long_id dst ++ long_id src) in
+    ap (λ (xs : List ℕ). (long_front (numbered_first kind.Initial words) words.version dst src ++ own) ++ (replicate words.length_len 0 ++ xs))
+    (sym (low_bytes words.number_len words.number some few))
+    ∙ ap (λ (n : ℕ). (192 - 64 * (words.flags / 64 % 2) + type_bits kind.Initial words.version + (n - 1)) ∷ ((ids ++ own) ++ (replicate words.length_len 0 ++ number_bytes part))) size
+numbered_said kind.ZeroRtt words dst src token has some few =
+    let part : PacketNumber = part_of words.number_len words.number in
+    let size : words.number_len ≡ number_size part = (part_says words.number_len words.number some few).0 in
+    let front : List ℕ = long_front (numbered_first kind.ZeroRtt words) words.version dst src in
+    let ids : List ℕ = bytes_of 4 words.version ++ (long_id dst ++ long_id src) in
+    ap (λ (xs : List ℕ). xs ++ (replicate words.length_len 0 ++ bytes_of words.number_len words.number)) (append-nil front)
+    ∙ ap (λ (xs : List ℕ). front ++ (replicate words.length_len 0 ++ xs)) (sym (low_bytes words.number_len words.number some few))
+    ∙ ap (λ (n : ℕ). (192 - 64 * (words.flags / 64 % 2) + type_bits kind.ZeroRtt words.version + (n - 1)) ∷ (ids ++ (replicate words.length_len 0 ++ number_bytes part))) size
+numbered_said kind.Handshake words dst src token has some few =
+    let part : PacketNumber = part_of words.number_len words.number in
+    let size : words.number_len ≡ number_size part = (part_says words.number_len words.number some few).0 in
+    let front : List ℕ = long_front (numbered_first kind.Handshake words) words.version dst src in
+    let ids : List ℕ = bytes_of 4 words.version ++ (long_id dst ++ long_id src) in
+    ap (λ (xs : List ℕ). xs ++ (replicate words.length_len 0 ++ bytes_of words.number_len words.number)) (append-nil front)
+    ∙ ap (λ (xs : List ℕ). front ++ (replicate words.length_len 0 ++ xs)) (sym (low_bytes words.number_len words.number some few))
+    ∙ ap (λ (n : ℕ). (192 - 64 * (words.flags / 64 % 2) + type_bits kind.Handshake words.version + (n - 1)) ∷ (ids ++ (replicate words.length_len 0 ++ number_bytes part))) size
+numbered_said kind.Retry words dst src token has some few = absurd (search (rules, has))
+numbered_said kind.Short words dst src token has some few = absurd (search (rules, has))
+numbered_said kind.VersionNegotiate words dst src token has some few = absurd (search (rules, has))

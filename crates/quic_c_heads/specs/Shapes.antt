@@ -1,7 +1,10 @@
 -- What a kind of head has.
-use Rattle.std.specs.Prelude.{◌≡◌, ◌≢◌, ℕ, ◌+◌, ◌-◌, ◌*◌, ◌/◌, ◌%◌, ◌<◌, ◌≤◌, ◌^◌, ◌⊎◌, List, length, bit_or}
+use Rattle.std.specs.Prelude.{◌≡◌, ◌≢◌, ℕ, ◌+◌, ◌-◌, ◌*◌, ◌/◌, ◌%◌, ◌<◌, ◌≤◌, ◌^◌, ◌⊎◌, List, ◌++◌, length, replicate, bit_or}
+use Rattle.quic_base.specs.Number.{bytes_of}
 use Rattle.quic_headers.specs.declared.long_type.HeadKind.{HeadKind}
 use Rattle.quic_headers.specs.declared.long_type.HeadKind.TheVariants as kind
+use Rattle.quic_headers.specs.Laying.{token_by, token_size, type_bits}
+use Rattle.quic_headers.specs.Starts.{long_front}
 use Rattle.quic_c_heads.specs.declared.words.SaidWords.{SaidWords}
 
 -- The number, the count of its bytes and that of the length's are those of a head of the kind.
@@ -30,3 +33,16 @@ first_word kind.Handshake flags = 192 - 64 * (flags / 64 % 2)
 first_word kind.Retry flags = 192 - 64 * (flags / 64 % 2)
 first_word kind.Short flags = 64 - 64 * (flags / 64 % 2) + 32 * (flags / 32 % 2) + 4 * (flags / 4 % 2)
 first_word kind.VersionNegotiate flags = bit_or 128 (flags % 128)
+
+-- the first byte of a packet with a number and a length
+abbrev pub numbered_first : HeadKind → SaidWords → ℕ
+numbered_first kind words = 192 - 64 * (words.flags / 64 % 2) + type_bits kind words.version + (words.number_len - 1)
+
+-- the bytes of its head: up to the ids' end, the token of an Initial, so many zeros as the length, and the number
+abbrev pub numbered_bytes : HeadKind → SaidWords → List ℕ → List ℕ → List ℕ → List ℕ
+numbered_bytes kind words dst src token =
+    (long_front (numbered_first kind words) words.version dst src ++ token_by kind token)
+    ++ (replicate words.length_len 0 ++ bytes_of words.number_len words.number)
+
+abbrev pub numbered_size : HeadKind → SaidWords → List ℕ → List ℕ → List ℕ → ℕ
+numbered_size kind words dst src token = 7 + length dst + length src + token_size kind token + (words.length_len + words.number_len)

@@ -1,32 +1,19 @@
 //! Heads, written from words into the caller's bytes.
-ghost use Rattle.std.specs.Prelude.{◌≡◌, ◌≢◌, ◌+◌, ◌%◌, ◌^◌, ◌<◌, ◌≤◌, ◌⊎◌, ◌↔◌, ℕ, [], IsTrue, length, pos, negsuc};
+ghost use Rattle.std.specs.Prelude.{◌≡◌, ◌≢◌, ◌+◌, ◌%◌, ◌^◌, ◌<◌, ◌≤◌, ◌⊎◌, ◌↔◌, ◌++◌, ℕ, [], IsTrue, length, take, drop, replicate, pos, negsuc};
+ghost use Rattle.quic_base.specs.Number.{bytes_of};
 ghost use Rattle.quic_crypto.specs.PacketNumbers.{IsInRange};
+ghost use Rattle.quic_headers.specs.Laying.{token_by, token_size, IsTyped};
+ghost use Rattle.quic_headers.specs.Starts.{long_front};
 ghost use Rattle.quic_c_heads.specs.Heads.{part_of};
 ghost use Rattle.quic_c_heads.specs.Reading.{kind_word};
-ghost use Rattle.quic_c_heads.specs.Shapes.{first_word, AreParts, IsNumbered, IsShaped};
+ghost use Rattle.quic_c_heads.specs.Shapes.{first_word, numbered_bytes, numbered_first, numbered_size, AreParts, IsNumbered, IsShaped};
 ghost use Rattle.quic_c_heads.specs.Written.{short_words, HasReserved, NeedsMore, SaysNone, Wrote};
 
 use crate::words::SaidWords;
 use quic_crypto::packet_number::PacketNumber;
 use quic_headers::fields::lay_low;
-use quic_headers::lay::{Exact, HeaderRef, lay_short};
+use quic_headers::lay::{Exact, HeaderRef, lay_long_start, lay_no_length, lay_short, lay_token};
 use quic_headers::long_type::HeadKind;
-
-// The kind of a word.
-#[inline(always)]
-fn kind_of(word: u8) -> HeadKind
-    requires { word ≤ 5 }
-    ensures { kind_word result ≡ word }
-{
-    match word {
-        0 => HeadKind::Initial,
-        1 => HeadKind::ZeroRtt,
-        2 => HeadKind::Handshake,
-        3 => HeadKind::Retry,
-        4 => HeadKind::Short,
-        _ => HeadKind::VersionNegotiate,
-    }
-}
 
 // Whether the number, the count of its bytes and that of the length's are those of a head of the kind.
 #[inline(always)]
@@ -144,6 +131,131 @@ pub extern "C" fn quic_wire_short_write_(
     lay_low(dest, at, number, count) as i32
 }
 
+// Lays a long head up to its ids' end at the front.
+#[inline(always)]
+fn lay_front(kind: HeadKind, said: &SaidWords, dst: &[u8], src: &[u8], dest: &mut [u8]) -> usize
+    requires typed { IsTyped kind }
+    requires some { 1 ≤ said.now.number_len }
+    requires few { said.now.number_len ≤ 4 }
+    requires dst_few { length dst.now ≤ 20 }
+    requires src_few { length src.now ≤ 20 }
+    requires room { 7 + length dst.now + length src.now ≤ length dest.old }
+    ensures end { result ≡ 7 + length dst.now + length src.now }
+    ensures front { take result dest.new
+        ≡ long_front (numbered_first kind said.now) said.now.version dst.now src.now }
+    ensures back { drop result dest.new ≡ drop result dest.old }
+    ensures len { length dest.new ≡ length dest.old }
+{
+    let first = 192 - 64 * (said.flags / 64 % 2)
+        + kind.type_bits(said.version)
+        + (said.number_len - 1);
+    lay_long_start(dest, first, said.version, Exact(dst), Exact(src))
+}
+
+// Lays the token of an Initial head behind its length.
+#[inline(always)]
+fn lay_own_token(kind: HeadKind, dest: &mut [u8], at: usize, token: &[u8]) -> usize
+    requires numeric { length token.now < 2 ^ 62 }
+    requires room { at + token_size kind token.now ≤ length dest.old }
+    ensures end { result ≡ at + token_size kind token.now }
+    ensures front { take result dest.new ≡ take at dest.old ++ token_by kind token.now }
+    ensures back { drop result dest.new ≡ drop result dest.old }
+    ensures len { length dest.new ≡ length dest.old }
+{
+    match kind {
+        HeadKind::Initial => lay_token::<false>(dest, at, token),
+        _ => at,
+    }
+}
+
+// Lays a length, which is 0, and the number.
+#[inline(always)]
+fn lay_end(said: &SaidWords, dest: &mut [u8], at: usize) -> usize
+    requires known { (said.now.length_len ≡ 2) ⊎ (said.now.length_len ≡ 4) }
+    requires some { 1 ≤ said.now.number_len }
+    requires few { said.now.number_len ≤ 4 }
+    requires room { at + (said.now.length_len + said.now.number_len) ≤ length dest.old }
+    ensures end { result ≡ at + (said.now.length_len + said.now.number_len) }
+    ensures front { take result dest.new ≡ take at dest.old
+        ++ (replicate said.now.length_len 0 ++ bytes_of said.now.number_len said.now.number) }
+    ensures back { drop result dest.new ≡ drop result dest.old }
+    ensures len { length dest.new ≡ length dest.old }
+{
+    let at = lay_no_length(dest, at, said.length_len as usize);
+    lay_low(dest, at, said.number, said.number_len as usize)
+}
+
+// Lays the head of a packet with a number and a length at the front.
+#[inline(always)]
+fn lay_numbered(
+    kind: HeadKind,
+    said: &SaidWords,
+    dst: &[u8],
+    src: &[u8],
+    token: &[u8],
+    dest: &mut [u8],
+) -> usize
+    requires typed { IsTyped kind }
+    requires known { (said.now.length_len ≡ 2) ⊎ (said.now.length_len ≡ 4) }
+    requires some { 1 ≤ said.now.number_len }
+    requires few { said.now.number_len ≤ 4 }
+    requires dst_few { length dst.now ≤ 20 }
+    requires src_few { length src.now ≤ 20 }
+    requires numeric { length token.now < 2 ^ 62 }
+    requires room { numbered_size kind said.now dst.now src.now token.now ≤ length dest.old }
+    ensures end { result ≡ numbered_size kind said.now dst.now src.now token.now }
+    ensures front { take result dest.new ≡ numbered_bytes kind said.now dst.now src.now token.now }
+    ensures back { drop result dest.new ≡ drop result dest.old }
+    ensures len { length dest.new ≡ length dest.old }
+{
+    let at = lay_front(kind, said, dst, src, dest);
+    let at = lay_own_token(kind, dest, at, token);
+    lay_end(said, dest, at)
+}
+
+// Writes a head of a kind, as `quic_wire_head_write_` does.
+#[inline(always)]
+fn write_as(
+    kind: HeadKind,
+    said: &SaidWords,
+    dst: &[u8],
+    src: &[u8],
+    token: &[u8],
+    dest: &mut [u8],
+) -> i64
+    requires kind { kind_word kind ≡ said.now.kind }
+    ensures wrote { (result ≡ negsuc 3) ⊎ (result ≡ negsuc 0) ⊎ ((count : ℕ) × (result ≡ pos count)
+        × Wrote said.now dst.now src.now token.now dest.old dest.new count) }
+    ensures room { result ≡ negsuc 3 → NeedsMore said.now dst.now src.now token.now (length dest.old) }
+    ensures refused { result ≡ negsuc 0 → SaysNone said.now dst.now src.now token.now }
+    ensures same { (result ≡ negsuc 3) ⊎ (result ≡ negsuc 0) → dest.new ≡ dest.old }
+{
+    if !is_shaped(said, dst, src, token) {
+        return -1;
+    }
+    let number = written_part(said.number, said.number_len);
+    let source = source_of(said.kind, src);
+    let own = token_of(said.kind, token);
+    let head = HeaderRef {
+        kind,
+        first: first_word(kind, said.flags),
+        version: said.version,
+        dst_cid: Exact(dst),
+        src_cid: Exact(source),
+        token: own,
+        number: &number,
+        length_len: laid_length_len(said),
+    };
+    if !head.fits(dest.len()) {
+        return -4;
+    }
+    if kind.has_len() {
+        lay_numbered(kind, said, dst, src, own, dest) as i64
+    } else {
+        head.lay::<false>(dest) as i64
+    }
+}
+
 /// Writes the head that the words say with the ids of the receiver and of the sender and the token, with no
 /// protection on it, at the front of `dest` (RFC 9000, section 17), and answers how many bytes it has, at whose end
 /// the number stands. The length of an Initial, 0-RTT or Handshake packet is 0, until `quic_wire_set_len_`. What the
@@ -166,25 +278,13 @@ pub extern "C" fn quic_wire_head_write_(
     ensures refused { result ≡ negsuc 0 → SaysNone said.now dst.now src.now token.now }
     ensures same { (result ≡ negsuc 3) ⊎ (result ≡ negsuc 0) → dest.new ≡ dest.old }
 {
-    if !is_shaped(said, dst, src, token) {
-        return -1;
+    match said.kind {
+        0 => write_as(HeadKind::Initial, said, dst, src, token, dest),
+        1 => write_as(HeadKind::ZeroRtt, said, dst, src, token, dest),
+        2 => write_as(HeadKind::Handshake, said, dst, src, token, dest),
+        3 => write_as(HeadKind::Retry, said, dst, src, token, dest),
+        4 => write_as(HeadKind::Short, said, dst, src, token, dest),
+        5 => write_as(HeadKind::VersionNegotiate, said, dst, src, token, dest),
+        _ => -1,
     }
-    let kind = kind_of(said.kind);
-    let number = written_part(said.number, said.number_len);
-    let source = source_of(said.kind, src);
-    let own = token_of(said.kind, token);
-    let head = HeaderRef {
-        kind,
-        first: first_word(kind, said.flags),
-        version: said.version,
-        dst_cid: Exact(dst),
-        src_cid: Exact(source),
-        token: own,
-        number: &number,
-        length_len: laid_length_len(said),
-    };
-    if !head.fits(dest.len()) {
-        return -4;
-    }
-    head.lay::<false>(dest) as i64
 }

@@ -131,10 +131,11 @@ fn lay_long_id<I: LaidId>(out: &mut [u8], at: usize, id: I) -> usize
     id.lay(out, at)
 }
 
-// Lays what each long head begins with.
+/// Lays what each long head begins with, up to the end of the sender's id, at the front, and answers where it ends. The
+/// caller must ensure that each id has at most 20 bytes, and that there is room for it.
 #[inline(always)]
 #[tactic(auto, unfolding(quic_base::specs::Number::bytes_of))]
-fn lay_long_start<I: LaidId>(out: &mut [u8], first: u8, version: u32, dst: I, src: I) -> usize
+pub fn lay_long_start<I: LaidId>(out: &mut [u8], first: u8, version: u32, dst: I, src: I) -> usize
     requires dst_few { length (I.id dst) ≤ 20 }
     requires src_few { length (I.id src) ≤ 20 }
     requires dst_room { 6 + I.room dst ≤ length out.old }
@@ -150,10 +151,10 @@ fn lay_long_start<I: LaidId>(out: &mut [u8], first: u8, version: u32, dst: I, sr
     lay_long_id(out, at, src)
 }
 
-// Lays a token behind its length, and answers where it ends. Where SHORT is true, it is empty or has 16 to 32 bytes,
-// and no other is looked for.
+/// Lays a token behind its length, and answers where it ends. The caller must ensure that there is room for it, that it
+/// has fewer than 2^62 bytes, and where SHORT is true that it is empty or has 16 to 32.
 #[inline(always)]
-fn lay_token<const SHORT: bool>(out: &mut [u8], at: usize, token: &[u8]) -> usize
+pub fn lay_token<const SHORT: bool>(out: &mut [u8], at: usize, token: &[u8]) -> usize
     requires short { SHORT ≡ true → IsShortToken token.now }
     requires numeric { length token.now < 2 ^ 62 }
     requires room { at + (size (length token.now) + length token.now) ≤ length out.old }
@@ -243,9 +244,9 @@ fn lay_long_token(out: &mut [u8], at: usize, token: &[u8]) -> usize
     lay_bytes(out, at, token)
 }
 
-// Lays as many zeros as a length takes, 2 or 4, and answers where they end.
+/// Lays as many zeros as a length takes, 2 or 4, and answers where they end. The caller must ensure that there is room.
 #[inline(always)]
-fn lay_no_length(out: &mut [u8], at: usize, len: usize) -> usize
+pub fn lay_no_length(out: &mut [u8], at: usize, len: usize) -> usize
     requires known { (len ≡ 2) ⊎ (len ≡ 4) }
     requires room { at + len ≤ length out.old }
     ensures end { result ≡ at + len }

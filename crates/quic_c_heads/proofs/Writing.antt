@@ -12,13 +12,13 @@ use Rattle.quic_crypto.specs.PacketNumbers.{low_part, number_bytes, number_size,
 use Rattle.quic_headers.specs.declared.long_type.HeadKind.{HeadKind}
 use Rattle.quic_headers.specs.declared.long_type.HeadKind.TheVariants as kind
 use Rattle.quic_headers.specs.declared.header.Header.{Header}
-use Rattle.quic_headers.specs.Laying.{begun_by, has_bit, head_of, laid_size, number_bits, says_length, token_by, type_bits, IsTyped}
+use Rattle.quic_headers.specs.Laying.{begun_by, has_bit, head_of, number_bits, says_length, token_by, type_bits}
 use Rattle.quic_headers.specs.Starts.{long_front}
 use Rattle.quic_headers.specs.Writing.{bit, head_with}
 use Rattle.quic_c_heads.specs.declared.words.SaidWords.{SaidWords}
 use Rattle.quic_c_heads.specs.Heads.{part_of, said_bytes, CanWrite}
 use Rattle.quic_c_heads.specs.Reading.{kind_word}
-use Rattle.quic_c_heads.specs.Shapes.{first_word, numbered_bytes, numbered_first, numbered_size, IsNumbered, IsShaped}
+use Rattle.quic_c_heads.specs.Shapes.{first_word, numbered_bytes, numbered_first, IsNumbered, IsShaped}
 use Rattle.quic_c_heads.specs.Written.{short_words}
 
 -- whether the fixed bit is cleared
@@ -282,24 +282,6 @@ with_length kind.Handshake words e has = omega (arith, e)
 with_length kind.Retry words e has = absurd (search (rules, has))
 with_length kind.Short words e has = absurd (search (rules, has))
 with_length kind.VersionNegotiate words e has = absurd (search (rules, has))
-
-pub typed : (k : HeadKind) → IsTrue (says_length k) → IsTyped k
-typed kind.Initial has = tt
-typed kind.ZeroRtt has = tt
-typed kind.Handshake has = tt
-typed kind.Retry has = absurd (search (rules, has))
-typed kind.Short has = absurd (search (rules, has))
-typed kind.VersionNegotiate has = absurd (search (rules, has))
-
--- how many bytes one takes
-pub numbered_room : (k : HeadKind) (words : SaidWords) (dst src token : List ℕ) → IsTrue (says_length k) → 1 ≤ words.number_len → words.number_len ≤ 4
-    → laid_size k dst src token (part_of words.number_len words.number) words.length_len ≡ numbered_size k words dst src token
-numbered_room kind.Initial words dst src token has some few = omega (arith, (part_says words.number_len words.number some few).0)
-numbered_room kind.ZeroRtt words dst src token has some few = omega (arith, (part_says words.number_len words.number some few).0)
-numbered_room kind.Handshake words dst src token has some few = omega (arith, (part_says words.number_len words.number some few).0)
-numbered_room kind.Retry words dst src token has some few = absurd (search (rules, has))
-numbered_room kind.Short words dst src token has some few = absurd (search (rules, has))
-numbered_room kind.VersionNegotiate words dst src token has some few = absurd (search (rules, has))
 
 -- what is laid of one, field behind field, is what its words say
 pub numbered_said : (k : HeadKind) (words : SaidWords) (dst src token : List ℕ) → IsTrue (says_length k) → 1 ≤ words.number_len → words.number_len ≤ 4

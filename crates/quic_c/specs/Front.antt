@@ -36,8 +36,8 @@ pub record FillsGaps (low : ℕ) (ranges : List (ℕ × ℕ)) (before after : Li
 abbrev pub more_flag : ℕ → List (ℕ × ℕ) → ℕ
 more_flag count ranges = if nat_lt count (length ranges) then 4 else 0
 
--- The words of an ACK of this type up to a place: its first range, less one, in the place of its data's length, and in
--- that of their offset how many entries were filled with the ranges below it.
+-- The words of an ACK of this type up to a place: its first range, less one, in the place of its data's length, and in that of
+-- their offset how many entries were filled with the ranges below it.
 pub record ShowsAck (stop type : ℕ) (ack : Ack) (before : List GapWords) (words : FrameWords) (after : List GapWords) : Type 0 where
   pub least : ℕ
   pub below : List (ℕ × ℕ)

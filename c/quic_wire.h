@@ -173,7 +173,7 @@ extern "C" {
 #define QUIC_WIRE_REASON_UNEXPECTED_END 1
 #define QUIC_WIRE_REASON_INVALID_FRAME_ID 2
 #define QUIC_WIRE_REASON_MALFORMED 3
-#define QUIC_WIRE_REASON_LONG_TYPE 4 /* quic_wire_frames_init_strict alone */
+#define QUIC_WIRE_REASON_LONG_TYPE 4 /* of strict readers alone */
 
 /* How far an iterator over a payload has come.  A struct of any other words is
  * harmless, and reads from |offset| on. */

@@ -3,6 +3,7 @@ mod Spellings
 mod Codecs
 mod Readings
 mod Words
+mod Sizes
 mod LongIds
 mod IdMemory
 mod Ends

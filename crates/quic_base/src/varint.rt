@@ -71,22 +71,20 @@ impl VarInt {
     }
 
     /// The length in bytes of the shortest spelling: 1, 2, 4 or 8.
-    #[tactic(auto, unfolding(crate::specs::Varint::size))]
+    #[inline(always)]
     pub const fn size(self) -> usize
         ensures { result ≡ size self }
     {
-        let x = self.0;
-        if x < 1 << 6 {
-            1
-        } else if x < 1 << 14 {
-            2
-        } else if x < 1 << 30 {
-            4
-        } else {
-            8
-        }
+        let highest = 63 - (self.0 | 1).leading_zeros();
+        SIZES[highest as usize] as usize
     }
 }
+
+// How many bytes the shortest spelling has of a number whose highest bit is this one, of those from 0 to 61.
+const SIZES: [u8; 62] = [
+    1, 1, 1, 1, 1, 1, 2, 2, 2, 2, 2, 2, 2, 2, 4, 4, 4, 4, 4, 4, 4, 4, 4, 4, 4, 4, 4, 4, 4, 4, 8, 8,
+    8, 8, 8, 8, 8, 8, 8, 8, 8, 8, 8, 8, 8, 8, 8, 8, 8, 8, 8, 8, 8, 8, 8, 8, 8, 8, 8, 8, 8, 8,
+];
 
 // The longest spelling has eight bytes (RFC 9000, section 16).
 const _: () = prove!(VarInt::MAX_SIZE == 8);

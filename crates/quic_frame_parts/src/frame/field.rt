@@ -304,7 +304,7 @@ fn checked_wide_range(greatest: u64, blocks: &[u8]) -> Result<(u64, u64, &[u8]),
     ensures gives { Gives (λ x. (x.0, x.1, x.2.now)) result (first_range_at greatest blocks.now) }
     ensures bytes { AreBytes blocks.now }
 {
-    let (least, rest) = block(greatest, blocks)?;
+    let (least, rest) = near_block(greatest, blocks)?;
     if rest.is_empty() {
         return Ok((least, 0, rest));
     }

@@ -174,11 +174,11 @@ pub fn numbers_len(numbers: &[u64]) -> u128
     ensures value { result ≡ length (all_short numbers.now) }
     ensures small { result ≤ 8 * length numbers.now }
 {
-    let mut total: u128 = 0;
+    let mut total = 0;
     for number in numbers {
-        total += size_of(*number) as u128;
+        total += size_of(*number);
     }
-    total
+    total as u128
 }
 
 /// How many bytes `numbers_and_bytes` appends.

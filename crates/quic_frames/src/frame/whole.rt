@@ -181,11 +181,12 @@ fn stream_len(stream: &Stream<'_>, last: bool) -> u128
     let length = stream.bytes.len();
     let offset_len = size_unless(stream.offset == 0, stream.offset);
     let length_len = size_unless(last, length as u64);
-    1 + write::size_of(stream.id.into()) as u128 + offset_len + length_len + length as u128
+    let head = 1 + write::size_of(stream.id.into()) + offset_len + length_len;
+    head as u128 + length as u128
 }
 
 // The size of a number, where it isn't left out.
-fn size_unless(is_left_out: bool, n: u64) -> u128
+fn size_unless(is_left_out: bool, n: u64) -> usize
     requires { is_left_out ≡ false → n < 2 ^ 62 }
     ensures value { result ≡ (if is_left_out then 0 else size n) }
     ensures small { result ≤ 8 }
@@ -193,7 +194,7 @@ fn size_unless(is_left_out: bool, n: u64) -> u128
     if is_left_out {
         0
     } else {
-        write::size_of(n) as u128
+        write::size_of(n)
     }
 }
 

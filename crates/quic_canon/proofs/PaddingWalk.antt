@@ -1,5 +1,5 @@
--- Runs of PADDING within a walk over the frames at the front of a payload.
-use Rattle.std.proofs.Common.{◌≡◌, ◌≢◌, ℕ, zero, suc, ◌+◌, ◌-◌, ◌<◌, ◌≤◌, true, List, length, refl, sym, ap, subst, ◌∙◌, arith}
+-- Runs of PADDING within the walks over a payload.
+use Rattle.std.proofs.Common.{◌≡◌, ◌≢◌, ℕ, zero, suc, ◌+◌, ◌-◌, ◌<◌, ◌≤◌, true, List, length, Vec, Global, refl, sym, ap, subst, ◌∙◌, arith}
 use Rattle.quic_frames.specs.declared.frame.Frame.{Frame}
 use Rattle.quic_frames.specs.declared.frame.Frame.TheVariants as frames
 use Rattle.quic_frames.specs.Meaning.{meaning_of}
@@ -7,6 +7,7 @@ use Rattle.quic_frames.specs.Padding.{PassesPadding, behind}
 use Rattle.quic_frames.specs.Way.{Way}
 use Rattle.quic_frames.specs.Walk.{Finds, left}
 use Rattle.quic_canon.proofs.FrontWalk.{FrontWalk, grows_to, stays_at}
+use Rattle.quic_canon.proofs.RewriteWalk.{RewriteWalk, rewrite_keeps}
 use Rattle.quic_canon.proofs.Spans.{one_byte}
 use Rattle.quic_canon.proofs.Steps.{BeginsNone, OneShortest, small_at}
 
@@ -47,6 +48,32 @@ padding_stays payload front stop later count old new differs w p at =
     let passed = subst (FrontWalk payload front (stop + count)) (sym p.comes) (all_stay payload front stop count count old differs w p.each (omega arith)) in
     subst (λ (n : ℕ). FrontWalk payload front n new) (sym passed.walks.start_is ∙ sym at) passed
 
+-- while a payload is written anew, each stands as it is
+all_kept : (old new : Vec ℕ Global) (payload : List ℕ) (from start count k : ℕ) (way : Way) → BeginsNone → OneShortest → RewriteWalk old new payload from start way → EachPads count way → k ≤ count → RewriteWalk old new payload from (start + k) (behind k way)
+all_kept old new payload from start count zero way begins one w each le = subst (λ (n : ℕ). RewriteWalk old new payload from n way) (omega arith) w
+all_kept old new payload from start count (suc k) way begins one w each le =
+    let so_far = all_kept old new payload from start count k way begins one w each (omega arith) in
+    let f = each k (omega arith) in
+    let is = w.walks.start_is in
+    let at : start + suc k ≡ (behind (suc k) way).offset = omega (arith, is) in
+    let small = small_at payload (start + k) (start + suc k) (behind k way) (behind (suc k) way) frames.Padding one so_far.walks f at in
+    rewrite_keeps old new payload from (start + k) (start + suc k) (behind k way) (behind (suc k) way) frames.Padding true begins one so_far f at
+    (one_byte _ (meaning_of frames.Padding) (start + suc k - (start + k)) (omega arith) small) refl
+
+padding_kept : (old new : Vec ℕ Global) (payload : List ℕ) (from stop later count : ℕ) (way next : Way) → BeginsNone → OneShortest → RewriteWalk old new payload from stop way → PassesPadding way count next → later ≡ next.offset → RewriteWalk old new payload from later next
+padding_kept old new payload from stop later count way next begins one w p at =
+    let passed = subst (RewriteWalk old new payload from (stop + count)) (sym p.comes) (all_kept old new payload from stop count count way begins one w p.each (omega arith)) in
+    subst (λ (n : ℕ). RewriteWalk old new payload from n next) (sym passed.walks.start_is ∙ sym at) passed
+
+-- the place by another name, behind PADDING and where none is passed
+pub passed_as : (old out : Vec ℕ Global) (payload : List ℕ) (from stop later count : ℕ) (way next there : Way) → BeginsNone → OneShortest → RewriteWalk old out payload from stop way → PassesPadding way count next → there ≡ next → later ≡ there.offset → RewriteWalk old out payload from later there
+passed_as old out payload from stop later count way next there begins one w p is at =
+    subst (RewriteWalk old out payload from later) (sym is) (padding_kept old out payload from stop later count way next begins one w p (at ∙ ap (λ (x : Way). x.offset) is))
+
+pub stands_as : (old out : Vec ℕ Global) (payload : List ℕ) (from stop later : ℕ) (way there : Way) → RewriteWalk old out payload from stop way → stop ≡ way.offset → there ≡ way → later ≡ there.offset → RewriteWalk old out payload from later there
+stands_as old out payload from stop later way there w stop-is is at =
+    subst (RewriteWalk old out payload from later) (sym is) (subst (λ (n : ℕ). RewriteWalk old out payload from n way) (stop-is ∙ sym (at ∙ ap (λ (x : Way). x.offset) is)) w)
+
 -- what is left gets no longer
 fewer : (count k : ℕ) (old : Way) → EachPads count old → k ≤ count → length (left (behind k old)) ≤ length (left old)
 fewer count zero old each le = omega arith
@@ -60,3 +87,9 @@ padding_shortens count old new p = subst (λ (w : Way). length (left w) ≤ leng
 
 pub padding_goes_on : (count : ℕ) (old next new : Way) (frame : Frame) → Finds old frame next → PassesPadding next count new → length (left new) < length (left old)
 padding_goes_on count old next new frame f p = let one = ap length f.first in omega (arith, one, padding_shortens count next new p)
+
+pub frame_goes_on : (old next there : Way) (frame : Frame) → Finds old frame next → there ≡ next → length (left there) < length (left old)
+frame_goes_on old next there frame f is = let one = ap length f.first in subst (λ (w : Way). length (left w) < length (left old)) (sym is) (omega (arith, one))
+
+pub padding_goes_on_as : (count : ℕ) (old next new there : Way) (frame : Frame) → Finds old frame next → PassesPadding next count new → there ≡ new → length (left there) < length (left old)
+padding_goes_on_as count old next new there frame f p is = subst (λ (w : Way). length (left w) < length (left old)) (sym is) (padding_goes_on count old next new frame f p)

@@ -87,6 +87,11 @@ room_to_write old new mid payload from start stop way next frame begins all s w 
     let here : length (shortest_frame (eqb stop size) (meaning_of frame)) ≡ length (shortest_frame last (meaning_of frame)) = ap (λ (k : ℕ). length (shortest_frame (eqb k size) (meaning_of frame))) at in
     omega (arith, here, same, is, stand_len old new payload from start way s.0 r, few_bytes old new payload from start way s.0 all s.1 r, room, w.capacity, capacity, ap length copied, length-append new.items (slice_range payload from start), new.ok.0, mid.ok.0)
 
+-- the same by other names
+pub walk_as : (old new out : Vec ℕ Global) (payload : List ℕ) (from place start : ℕ) (way : Way) → out ≡ new → place ≡ from → RewriteWalk old new payload from start way → RewriteWalk old out payload place start way
+walk_as old new out payload from place start way out-is place-is w =
+    subst (λ (n : ℕ). RewriteWalk old out payload n start way) (sym place-is) (subst (λ (v : Vec ℕ Global). RewriteWalk old v payload from start way) (sym out-is) w)
+
 -- the frame that was found stands as it is
 pub rewrite_keeps : (old new : Vec ℕ Global) (payload : List ℕ) (from start stop : ℕ) (way next : Way) (frame : Frame) (b : Bool) → BeginsNone → OneShortest → RewriteWalk old new payload from start way → Finds way frame next → stop ≡ next.offset
     → Tested b frame start stop (length payload) → b ≡ true → RewriteWalk old new payload from stop next

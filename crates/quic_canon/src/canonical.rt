@@ -128,7 +128,11 @@ fn rewrite(payload: &[u8], out: &mut Vec<u8>)
             write(&frame, is_last, out);
             from = stop;
         }
-        start = stop;
+        // Behind one byte, which PADDING has, all PADDING is passed at once.
+        if stop - start == 1 {
+            iter.pass_padding();
+        }
+        start = iter.offset();
     }
     copy(&payload[from..], out);
 }

@@ -6,137 +6,7 @@
 // last of so many runs), set-contains (each of so many) or set-ack (of so many), each a thousand times, less what set-0
 // takes; or a call by itself, call-NAME of those in calls below, with ids of so many bytes or an ACK of so many ranges,
 // each a thousand times, less what call-none takes.
-#include <stdint.h>
-#include <stdio.h>
-#include <stdlib.h>
-#include <string.h>
-
-#include "quic_wire.h"
-
-typedef uint64_t u64;
-
-static u64 items;
-
-// What is looked at of a frame: its kind, and by that some of its numbers and the length of its data, those that
-// count_frames looks at; of an ACK, where it ends in place of how many bytes its blocks have.
-static inline __attribute__((always_inline)) u64 sum_of(const quic_wire_frame *frame) {
-    switch (frame->kind) {
-    case QUIC_WIRE_ACK:
-        return frame->ack.largest + frame->ack.delay + frame->end;
-    case QUIC_WIRE_RESET_STREAM:
-        return frame->reset_stream.final_size;
-    case QUIC_WIRE_STOP_SENDING:
-        return frame->stop_sending.error_code;
-    case QUIC_WIRE_CRYPTO:
-        return frame->crypto.offset + frame->datalen;
-    case QUIC_WIRE_NEW_TOKEN:
-    case QUIC_WIRE_DATAGRAM:
-        return frame->datalen;
-    case QUIC_WIRE_STREAM:
-        return frame->stream.stream_id + frame->stream.offset + frame->datalen;
-    case QUIC_WIRE_MAX_DATA:
-    case QUIC_WIRE_MAX_STREAM_DATA:
-    case QUIC_WIRE_MAX_STREAMS_BIDI:
-    case QUIC_WIRE_MAX_STREAMS_UNI:
-    case QUIC_WIRE_DATA_BLOCKED:
-    case QUIC_WIRE_STREAM_DATA_BLOCKED:
-    case QUIC_WIRE_STREAMS_BLOCKED_BIDI:
-    case QUIC_WIRE_STREAMS_BLOCKED_UNI:
-        return frame->limit.limit;
-    case QUIC_WIRE_NEW_CONNECTION_ID:
-        return frame->new_connection_id.sequence + frame->datalen;
-    case QUIC_WIRE_RETIRE_CONNECTION_ID:
-        return frame->retire_connection_id.sequence;
-    case QUIC_WIRE_PATH_CHALLENGE:
-    case QUIC_WIRE_PATH_RESPONSE:
-        return frame->path.data;
-    case QUIC_WIRE_ACK_FREQUENCY:
-        return frame->ack_frequency.max_ack_delay;
-    default:
-        return 1;
-    }
-}
-
-static u64 frames_of(const uint8_t *payload, size_t len) {
-    quic_wire_frames frames;
-    quic_wire_frame frame;
-    u64 sum = 0;
-    if (quic_wire_frames_init(&frames, payload, len))
-        return 0;
-    while (quic_wire_frames_next(&frames, payload, len, &frame) == QUIC_WIRE_ITEM) {
-        sum += sum_of(&frame);
-        items++;
-    }
-    return sum;
-}
-
-static u64 ranges_of(const uint8_t *payload, size_t len) {
-    quic_wire_frames frames;
-    quic_wire_frame frame;
-    u64 sum = 0;
-    if (quic_wire_frames_init(&frames, payload, len))
-        return 0;
-    while (quic_wire_frames_next(&frames, payload, len, &frame) == QUIC_WIRE_ITEM) {
-        quic_wire_ack_ranges at;
-        quic_wire_range range;
-        if (frame.kind != QUIC_WIRE_ACK || quic_wire_ack_ranges_init_unchecked(&at, payload, len, &frame))
-            continue;
-        while (quic_wire_ack_ranges_next(&at, payload, len, &range) == QUIC_WIRE_ITEM) {
-            sum += range.start ^ range.end;
-            items++;
-        }
-    }
-    return sum;
-}
-
-#define MANY 16
-
-static u64 many_ranges_of(const uint8_t *payload, size_t len, const quic_wire_frame *ack) {
-    quic_wire_ack_ranges ranges;
-    quic_wire_range filled[MANY];
-    size_t count;
-    u64 sum = 0;
-    if (quic_wire_ack_ranges_init_unchecked(&ranges, payload, len, ack))
-        return 0;
-    while (ranges.begin < ranges.end &&
-           quic_wire_ack_ranges_fill(&ranges, payload, len, filled, MANY, &count) == QUIC_WIRE_ITEM) {
-        for (size_t k = 0; k < count; k++)
-            sum += filled[k].start ^ filled[k].end;
-        items += count;
-    }
-    return sum;
-}
-
-static u64 many_frames_of(const uint8_t *payload, size_t len) {
-    quic_wire_frames frames;
-    quic_wire_frame filled[MANY];
-    size_t count;
-    u64 sum = 0;
-    int answer = quic_wire_frames_first(&frames, payload, len, filled, MANY, &count);
-    while (answer == QUIC_WIRE_ITEM) {
-        for (size_t k = 0; k < count; k++)
-            sum += sum_of(&filled[k]);
-        items += count;
-        if (frames.offset == len)
-            break;
-        answer = quic_wire_frames_fill(&frames, payload, len, filled, MANY, &count);
-    }
-    return sum;
-}
-
-static u64 many_acks_of(const uint8_t *payload, size_t len) {
-    quic_wire_frames frames;
-    quic_wire_frame filled[MANY];
-    size_t count;
-    u64 sum = 0;
-    if (quic_wire_frames_init(&frames, payload, len))
-        return 0;
-    while (frames.offset < len &&
-           quic_wire_frames_fill(&frames, payload, len, filled, MANY, &count) == QUIC_WIRE_ITEM)
-        for (size_t k = 0; k < count; k++)
-            sum += filled[k].kind == QUIC_WIRE_ACK ? many_ranges_of(payload, len, &filled[k]) : 0;
-    return sum;
-}
+#include "crossing.h"
 
 static u64 packets_of(const uint8_t *datagram, size_t len) {
     static const uint32_t versions[] = {1, 0x6b3343cf};
@@ -148,7 +18,7 @@ static u64 packets_of(const uint8_t *datagram, size_t len) {
                head.len + head.end + *quic_wire_dcid(datagram, &head);
         datagram += head.end;
         len -= head.end;
-        items++;
+        counted++;
     }
     return sum;
 }
@@ -171,7 +41,7 @@ static u64 on_a_set(char work, size_t runs_len) {
         else if (work == 'a')
             sum += quic_wire_ack_write(turn, runs, count, NULL, dest, sizeof dest, &written);
         sum += count + written;
-        items++;
+        counted++;
     }
     return sum;
 }
@@ -255,7 +125,7 @@ static u64 on_calls(const char *name, size_t len) {
         quic_wire_frame_write(&stream, dest, stream.datalen, 0, source, sizeof source, &source_len);
     for (u64 turn = 0; turn < 1000; turn++) {
         sum += call(turn);
-        items++;
+        counted++;
     }
     return sum;
 }
@@ -273,10 +143,10 @@ int main(int argc, char **argv) {
         if (len > 1024)
             return 2;
         for (int r = 0; r < atoi(argv[2]); r++) {
-            items = 0;
+            counted = 0;
             sum += argv[1][0] == 's' ? on_a_set(argv[1][4], len) : on_calls(argv[1] + 5, len);
         }
-        printf("%lu items, %lu\n", (unsigned long)items, (unsigned long)sum);
+        printf("%lu items, %lu\n", (unsigned long)counted, (unsigned long)sum);
         return 0;
     }
     FILE *file = fopen(argv[3], "r");
@@ -301,10 +171,10 @@ int main(int argc, char **argv) {
                                                                : frames_of;
     int rounds = atoi(argv[2]);
     for (int r = 0; r < rounds; r++) {
-        items = 0;
+        counted = 0;
         for (size_t i = 0; i < count; i++)
             sum += work(bytes[i], lens[i]);
     }
-    printf("%lu items, %lu\n", (unsigned long)items, (unsigned long)sum);
+    printf("%lu items, %lu\n", (unsigned long)counted, (unsigned long)sum);
     return 0;
 }

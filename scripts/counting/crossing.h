@@ -1,0 +1,133 @@
+// What crossing.c counts and times.c takes the time of: payloads, packets, sets and calls by themselves, by the calls for
+// C. The items are counted.
+#include <stdint.h>
+#include <stdio.h>
+#include <stdlib.h>
+#include <string.h>
+
+#include "quic_wire.h"
+
+typedef uint64_t u64;
+
+static u64 counted;
+
+// What is looked at of a frame: its kind, and by that some of its numbers and the length of its data, those that
+// count_frames looks at; of an ACK, where it ends in place of how many bytes its blocks have.
+static inline __attribute__((always_inline)) u64 sum_of(const quic_wire_frame *frame) {
+    switch (frame->kind) {
+    case QUIC_WIRE_ACK:
+        return frame->ack.largest + frame->ack.delay + frame->end;
+    case QUIC_WIRE_RESET_STREAM:
+        return frame->reset_stream.final_size;
+    case QUIC_WIRE_STOP_SENDING:
+        return frame->stop_sending.error_code;
+    case QUIC_WIRE_CRYPTO:
+        return frame->crypto.offset + frame->datalen;
+    case QUIC_WIRE_NEW_TOKEN:
+    case QUIC_WIRE_DATAGRAM:
+        return frame->datalen;
+    case QUIC_WIRE_STREAM:
+        return frame->stream.stream_id + frame->stream.offset + frame->datalen;
+    case QUIC_WIRE_MAX_DATA:
+    case QUIC_WIRE_MAX_STREAM_DATA:
+    case QUIC_WIRE_MAX_STREAMS_BIDI:
+    case QUIC_WIRE_MAX_STREAMS_UNI:
+    case QUIC_WIRE_DATA_BLOCKED:
+    case QUIC_WIRE_STREAM_DATA_BLOCKED:
+    case QUIC_WIRE_STREAMS_BLOCKED_BIDI:
+    case QUIC_WIRE_STREAMS_BLOCKED_UNI:
+        return frame->limit.limit;
+    case QUIC_WIRE_NEW_CONNECTION_ID:
+        return frame->new_connection_id.sequence + frame->datalen;
+    case QUIC_WIRE_RETIRE_CONNECTION_ID:
+        return frame->retire_connection_id.sequence;
+    case QUIC_WIRE_PATH_CHALLENGE:
+    case QUIC_WIRE_PATH_RESPONSE:
+        return frame->path.data;
+    case QUIC_WIRE_ACK_FREQUENCY:
+        return frame->ack_frequency.max_ack_delay;
+    default:
+        return 1;
+    }
+}
+
+static u64 frames_of(const uint8_t *payload, size_t len) {
+    quic_wire_frames frames;
+    quic_wire_frame frame;
+    u64 sum = 0;
+    if (quic_wire_frames_init(&frames, payload, len))
+        return 0;
+    while (quic_wire_frames_next(&frames, payload, len, &frame) == QUIC_WIRE_ITEM) {
+        sum += sum_of(&frame);
+        counted++;
+    }
+    return sum;
+}
+
+static u64 ranges_of(const uint8_t *payload, size_t len) {
+    quic_wire_frames frames;
+    quic_wire_frame frame;
+    u64 sum = 0;
+    if (quic_wire_frames_init(&frames, payload, len))
+        return 0;
+    while (quic_wire_frames_next(&frames, payload, len, &frame) == QUIC_WIRE_ITEM) {
+        quic_wire_ack_ranges at;
+        quic_wire_range range;
+        if (frame.kind != QUIC_WIRE_ACK || quic_wire_ack_ranges_init_unchecked(&at, payload, len, &frame))
+            continue;
+        while (quic_wire_ack_ranges_next(&at, payload, len, &range) == QUIC_WIRE_ITEM) {
+            sum += range.start ^ range.end;
+            counted++;
+        }
+    }
+    return sum;
+}
+
+#define MANY 16
+
+static u64 many_ranges_of(const uint8_t *payload, size_t len, const quic_wire_frame *ack) {
+    quic_wire_ack_ranges ranges;
+    quic_wire_range filled[MANY];
+    size_t count;
+    u64 sum = 0;
+    if (quic_wire_ack_ranges_init_unchecked(&ranges, payload, len, ack))
+        return 0;
+    while (ranges.begin < ranges.end &&
+           quic_wire_ack_ranges_fill(&ranges, payload, len, filled, MANY, &count) == QUIC_WIRE_ITEM) {
+        for (size_t k = 0; k < count; k++)
+            sum += filled[k].start ^ filled[k].end;
+        counted += count;
+    }
+    return sum;
+}
+
+static u64 many_frames_of(const uint8_t *payload, size_t len) {
+    quic_wire_frames frames;
+    quic_wire_frame filled[MANY];
+    size_t count;
+    u64 sum = 0;
+    int answer = quic_wire_frames_first(&frames, payload, len, filled, MANY, &count);
+    while (answer == QUIC_WIRE_ITEM) {
+        for (size_t k = 0; k < count; k++)
+            sum += sum_of(&filled[k]);
+        counted += count;
+        if (frames.offset == len)
+            break;
+        answer = quic_wire_frames_fill(&frames, payload, len, filled, MANY, &count);
+    }
+    return sum;
+}
+
+static u64 many_acks_of(const uint8_t *payload, size_t len) {
+    quic_wire_frames frames;
+    quic_wire_frame filled[MANY];
+    size_t count;
+    u64 sum = 0;
+    if (quic_wire_frames_init(&frames, payload, len))
+        return 0;
+    while (frames.offset < len &&
+           quic_wire_frames_fill(&frames, payload, len, filled, MANY, &count) == QUIC_WIRE_ITEM)
+        for (size_t k = 0; k < count; k++)
+            sum += filled[k].kind == QUIC_WIRE_ACK ? many_ranges_of(payload, len, &filled[k]) : 0;
+    return sum;
+}

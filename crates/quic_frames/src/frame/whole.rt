@@ -191,11 +191,7 @@ fn size_unless(is_left_out: bool, n: u64) -> usize
     ensures value { result ≡ (if is_left_out then 0 else size n) }
     ensures small { result ≤ 8 }
 {
-    if is_left_out {
-        0
-    } else {
-        write::size_of(n)
-    }
+    if is_left_out { 0 } else { write::size_of(n) }
 }
 
 // How many bytes `encode_datagram` appends.

@@ -1,17 +1,21 @@
 -- A walk over a payload that lays its frames in their shortest spellings, one behind the other.
-use Rattle.std.proofs.Common.{◌≡◌, ℕ, ◌+◌, ◌≤◌, eqb, false, List, [], ◌∷◌, ◌++◌, length, map, take, drop, Some, None, Result, Err, refl, sym, ap, ◌∙◌, subst, append_assoc, inl, inr, arith}
-use Rattle.std.proofs.lemmas.List.{append-nil, length-append, drop-drop, drop_at, take_at}
+use Rattle.std.proofs.Common.{◌≡◌, ℕ, zero, suc, ◌+◌, ◌≤◌, eqb, false, List, [], ◌∷◌, ◌++◌, length, map, take, drop, Some, None, Result, Err, refl, sym, ap, ◌∙◌, subst, append_assoc, inl, inr, arith}
+use Rattle.std.specs.Prelude.{replicate}
+use Rattle.std.proofs.lemmas.List.{append-nil, length-append, length-take, length-drop, length-replicate, replicate-append-replicate, take-append-drop, drop-drop, drop_at, take_at}
 use Rattle.quic_errors.specs.declared.invalid_frame.InvalidFrame.{InvalidFrame}
 use Rattle.quic_frames.specs.declared.frame.Frame.{Frame}
+use Rattle.quic_frames.specs.declared.frame.Frame.TheVariants as frames
 use Rattle.quic_frame_parts.specs.Payload.{Found, AreFrames, IsEither}
 use Rattle.quic_frame_parts.specs.Reading.{Invalid}
 use Rattle.quic_frame_parts.specs.Shortest.{shortest_frame}
 use Rattle.quic_frames.specs.Least.{AreOrExceed, frame_in, shortest_frames}
 use Rattle.quic_frames.specs.Meaning.{meaning_of}
+use Rattle.quic_frames.specs.Padding.{PassesPadding, behind}
 use Rattle.quic_frames.specs.Way.{Way}
 use Rattle.quic_frames.specs.Walk.{GivesFrames, GivesBroken, invalid_of, left, first_of, unplaced, given, Finds, Advances}
 use Rattle.quic_canon.proofs.LeastPayloads.{Shortest}
 use Rattle.quic_canon.proofs.Steps.{BeginsNone, Walks, walk_on, next_frame, frame_length, shortest_next, walk_begins, fails_err}
+use Rattle.quic_c_canon.proofs.PaddingBytes.{EachPads, padding_is}
 
 -- The bytes of the frames so far stand at the front, with what stood behind them.
 pub record Lays (payload old new : List ℕ) (at start : ℕ) (way : Way) (found : List Found) : Type 0 where
@@ -106,6 +110,70 @@ lay_on payload old new out at end stop way next frame begins w f there ends wrot
             front = laid old new out l.bytes here at end l.at_is l.front stops (wrote ∙ ap (λ (x : List ℕ). take at new ++ (x ++ drop end new)) is);
           };
     }
+
+-- bytes of 0 over those that stood at a place
+abbrev padded : List ℕ → ℕ → ℕ → List ℕ
+padded bytes at k = take at bytes ++ (replicate k 0 ++ drop (at + k) bytes)
+
+length-padded : (bytes : List ℕ) (at k : ℕ) → at + k ≤ length bytes → length (padded bytes at k) ≡ length bytes
+length-padded bytes at k le =
+    omega (arith, length-append (take at bytes) (replicate k 0 ++ drop (at + k) bytes), length-append (replicate k 0) (drop (at + k) bytes), length-take at bytes, length-replicate {A = ℕ} k 0, length-drop (at + k) bytes)
+
+padded_none : (bytes : List ℕ) (at : ℕ) → padded bytes at 0 ≡ bytes
+padded_none bytes at = ap (λ (n : ℕ). take at bytes ++ drop n bytes) (omega arith) ∙ take-append-drop at bytes
+
+-- one more
+joined : (head zeros more front back rest : List ℕ) → front ≡ head ++ zeros → back ≡ rest → zeros ++ (0 ∷ []) ≡ more → head ++ (more ++ rest) ≡ front ++ ((0 ∷ []) ++ back)
+joined head zeros more front back rest front-is back-is one =
+    ap (λ (l : List ℕ). head ++ (l ++ rest)) (sym one) ∙ ap (λ (l : List ℕ). head ++ l) (append_assoc zeros (0 ∷ []) rest) ∙ sym (append_assoc head zeros ((0 ∷ []) ++ rest))
+    ∙ ap (λ (l : List ℕ). l ++ ((0 ∷ []) ++ rest)) (sym front-is) ∙ ap (λ (l : List ℕ). front ++ ((0 ∷ []) ++ l)) (sym back-is)
+
+same_on : (k a : ℕ) → replicate k a ++ (a ∷ []) ≡ replicate (suc k) a
+same_on k a = let next : k + 1 ≡ suc k = omega arith in replicate-append-replicate k 1 a ∙ ap (λ (n : ℕ). replicate n a) next
+
+padded_on : (bytes : List ℕ) (at k : ℕ) → at + k ≤ length bytes → padded bytes at (suc k) ≡ take (at + k) (padded bytes at k) ++ ((0 ∷ []) ++ drop (at + suc k) (padded bytes at k))
+padded_on bytes at k le =
+    let head = take at bytes ++ replicate k 0 in
+    let rest = drop (at + k) bytes in
+    let len : length head ≡ at + k = omega (arith, length-append (take at bytes) (replicate k 0), length-take at bytes, length-replicate {A = ℕ} k 0) in
+    let cut : padded bytes at k ≡ head ++ rest = sym (append_assoc (take at bytes) (replicate k 0) rest) in
+    let back : drop (at + k) (padded bytes at k) ≡ rest = ap (drop (at + k)) cut ∙ drop_at head rest (at + k) len in
+    joined (take at bytes) (replicate k 0) (replicate (suc k) 0) (take (at + k) (padded bytes at k)) (drop (at + suc k) (padded bytes at k)) (drop (at + suc k) bytes) (ap (take (at + k)) cut ∙ take_at head rest (at + k) len)
+    (subst (λ (n : ℕ). drop n (padded bytes at k) ≡ drop n bytes) (omega arith) (further (at + k) 1 (padded bytes at k) bytes back)) (same_on k 0)
+
+abbrev HasRoom : List ℕ → List ℕ → Type 0
+HasRoom payload old = (found : List Found) → AreFrames false found payload → length (shortest_frames (map frame_in found)) ≤ length old
+
+-- each frame of PADDING is laid as a byte of 0
+all_laid : (payload old new : List ℕ) (at count k : ℕ) (way : Way) → BeginsNone → ((found : List Found) × AreFrames false found payload) → HasRoom payload old → LayWalk payload old new at way → EachPads count way → k ≤ count
+    → (at + k ≤ length new) × LayWalk payload old (padded new at k) (at + k) (behind k way)
+all_laid payload old new at count zero way begins s room w each le =
+    let l = w.lays s.0 s.1 in
+    let same : LayWalk payload old (padded new at 0) at way = subst (λ (x : List ℕ). LayWalk payload old x at way) (sym (padded_none new at)) w in
+    (omega (arith, ap length l.front, length-append l.bytes (drop at old), l.at_is), subst (λ (n : ℕ). LayWalk payload old (padded new at 0) n way) (omega arith) same)
+all_laid payload old new at count (suc k) way begins s room w each le =
+    let so_far = all_laid payload old new at count k way begins s room w each (omega arith) in
+    let f = each k (omega arith) in
+    let next = behind (suc k) way in
+    let one = padding_is (eqb next.offset (length payload)) in
+    let same = length-padded new at k so_far.0 in
+    let fits = lay_room payload old (padded new at k) (at + k) next.offset (behind k way) next frames.Padding begins s room so_far.1 f refl in
+    let on : at + suc k ≤ length new = omega (arith, fits, ap length one, same) in
+    let wrote = padded_on new at k so_far.0 ∙ ap (λ (x : List ℕ). take (at + k) (padded new at k) ++ (x ++ drop (at + suc k) (padded new at k))) (sym one) in
+    let size_kept : length (padded new at (suc k)) ≡ length (padded new at k) = omega (arith, same, length-padded new at (suc k) on) in
+    (on, lay_on payload old (padded new at k) (padded new at (suc k)) (at + k) (at + suc k) next.offset (behind k way) next frames.Padding begins so_far.1 f refl (omega (arith, ap length one)) wrote size_kept)
+
+pub pad_room : (payload old new : List ℕ) (at count : ℕ) (way next : Way) → BeginsNone → ((found : List Found) × AreFrames false found payload) → HasRoom payload old → LayWalk payload old new at way → PassesPadding way count next
+    → at + count ≤ length new
+pad_room payload old new at count way next begins s room w p = (all_laid payload old new at count count way begins s room w p.each (omega arith)).0
+
+pub lay_pads : (payload old new out : List ℕ) (at end count : ℕ) (way next : Way) → BeginsNone → ((found : List Found) × AreFrames false found payload) → HasRoom payload old → LayWalk payload old new at way → PassesPadding way count next
+    → end ≡ at + count → out ≡ take at new ++ (replicate count 0 ++ drop end new) → LayWalk payload old out end next
+lay_pads payload old new out at end count way next begins s room w p ends wrote =
+    let laid_all = (all_laid payload old new at count count way begins s room w p.each (omega arith)).1 in
+    let there : LayWalk payload old (padded new at count) (at + count) next = subst (LayWalk payload old (padded new at count) (at + count)) (sym p.comes) laid_all in
+    let is : out ≡ padded new at count = wrote ∙ ap (λ (n : ℕ). take at new ++ (replicate count 0 ++ drop n new)) ends in
+    subst (λ (n : ℕ). LayWalk payload old out n next) (sym ends) (subst (λ (x : List ℕ). LayWalk payload old x (at + count) next) (sym is) there)
 
 none_given : (rest : List Found) → [] ≡ map given rest → rest ≡ []
 none_given [] e = refl

@@ -1,16 +1,19 @@
 -- A walk over a payload that sums up how many bytes its frames take in their shortest spellings.
-use Rattle.std.proofs.Common.{◌≡◌, ◌≢◌, ℕ, ◌+◌, ◌≤◌, eqb, false, List, [], ◌∷◌, ◌++◌, length, map, drop, None, Err, refl, sym, ap, ◌∙◌, subst, inl, inr, arith}
+use Rattle.std.proofs.Common.{◌≡◌, ◌≢◌, ℕ, zero, suc, ◌+◌, ◌≤◌, eqb, false, List, [], ◌∷◌, ◌++◌, length, map, drop, None, Err, refl, sym, ap, ◌∙◌, subst, inl, inr, arith}
 use Rattle.std.proofs.lemmas.List.{length-append}
 use Rattle.quic_frames.specs.declared.frame.Frame.{Frame}
+use Rattle.quic_frames.specs.declared.frame.Frame.TheVariants as frames
 use Rattle.quic_frame_parts.specs.Payload.{Found, AreFrames, IsEither}
 use Rattle.quic_frame_parts.specs.Reading.{Invalid, invalid, Broken}
 use Rattle.quic_frame_parts.specs.Shortest.{shortest_frame}
 use Rattle.quic_frames.specs.Least.{frame_in, shortest_frames}
 use Rattle.quic_frames.specs.Meaning.{meaning_of}
+use Rattle.quic_frames.specs.Padding.{PassesPadding, behind}
 use Rattle.quic_frames.specs.Way.{Way}
 use Rattle.quic_frames.specs.Walk.{GivesFrames, GivesBroken, left, first_of, unplaced, given, Finds}
 use Rattle.quic_canon.proofs.Steps.{BeginsNone, OneShortest, Walks, walk_on, next_frame, span_of, frame_length, shortest_next, walk_begins, small_at}
 use Rattle.quic_c_canon.specs.Answers.{IsToldOf, HasLength}
+use Rattle.quic_c_canon.proofs.PaddingBytes.{EachPads, padding_is}
 
 -- So many bytes are those of the frames so far, and the others are still to come.
 pub record Sums (payload : List ℕ) (total start : ℕ) (way : Way) (found : List Found) : Type 0 where
@@ -56,6 +59,28 @@ len_on payload total start stop n way next frame begins one w f at counted =
           };
     } in
     subst (λ (k : ℕ). LenWalk payload (total + n) k next) (sym at) on
+
+-- each frame of PADDING is one byte more
+all_counted : (payload : List ℕ) (total start count k : ℕ) (way : Way) → BeginsNone → OneShortest → LenWalk payload total start way → EachPads count way → k ≤ count → LenWalk payload (total + k) (start + k) (behind k way)
+all_counted payload total start count zero way begins one w each le =
+    subst (λ (n : ℕ). LenWalk payload n (start + 0) way) (omega arith) (subst (λ (n : ℕ). LenWalk payload total n way) (omega arith) w)
+all_counted payload total start count (suc k) way begins one w each le =
+    let so_far = all_counted payload total start count k way begins one w each (omega arith) in
+    let is = w.walks.start_is in
+    let at : start + suc k ≡ (behind (suc k) way).offset = omega (arith, is) in
+    let counted = sym (ap length (padding_is (eqb (start + suc k) (length payload)))) in
+    subst (λ (n : ℕ). LenWalk payload n (start + suc k) (behind (suc k) way)) (omega arith)
+    (len_on payload (total + k) (start + k) (start + suc k) 1 (behind k way) (behind (suc k) way) frames.Padding begins one so_far (each k (omega arith)) at counted)
+
+pub len_passed : (payload : List ℕ) (total start count : ℕ) (way next : Way) → BeginsNone → OneShortest → LenWalk payload total start way → PassesPadding way count next → LenWalk payload (total + count) (start + count) next
+len_passed payload total start count way next begins one w p =
+    subst (LenWalk payload (total + count) (start + count)) (sym p.comes) (all_counted payload total start count count way begins one w p.each (omega arith))
+
+-- by other names
+pub len_as : (payload : List ℕ) (total sum start later : ℕ) (way there : Way) → LenWalk payload total start way → sum ≡ total → there ≡ way → later ≡ there.offset → LenWalk payload sum later there
+len_as payload total sum start later way there w sum-is is at =
+    let here : LenWalk payload sum start there = subst (λ (n : ℕ). LenWalk payload n start there) (sym sum-is) (subst (LenWalk payload total start) (sym is) w) in
+    subst (λ (n : ℕ). LenWalk payload sum n there) (sym here.walks.start_is ∙ sym at) here
 
 none_given : (rest : List Found) → [] ≡ map given rest → rest ≡ []
 none_given [] e = refl

@@ -1,2 +1,3 @@
+mod PaddingBytes
 mod LenWalk
 mod LayWalk

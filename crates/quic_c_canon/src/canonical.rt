@@ -1,5 +1,5 @@
 //! The shortest payload of each meaning, written into the caller's bytes.
-ghost use Rattle.std.specs.Prelude.{◌≡◌, ◌≢◌, ◌+◌, ◌<◌, ◌≤◌, ◌⊎◌, ◌↔◌, ◌++◌, [], List, pos, negsuc, length, map, take, drop, IfOk, IfErr, IsErr, None, false};
+ghost use Rattle.std.specs.Prelude.{◌≡◌, ◌≢◌, ◌+◌, ◌<◌, ◌≤◌, ◌⊎◌, ◌↔◌, ◌++◌, [], List, pos, negsuc, length, map, take, drop, replicate, IfOk, IfErr, IsErr, None, false};
 ghost use Rattle.quic_frame_parts.specs.Payload.{Found, AreFrames, IsEither};
 ghost use Rattle.quic_frame_parts.specs.Shortest.{shortest_frame};
 ghost use Rattle.quic_frames.specs.InRange.{CanStand};
@@ -85,7 +85,11 @@ fn shortest_len(payload: &[u8]) -> Result<usize, InvalidFrame>
         let is_last = stop == payload.len();
         let len = frame_len(&frame, is_last, stop - start);
         total += len;
-        start = stop;
+        // Behind one byte, which PADDING has, all PADDING is passed at once.
+        if stop - start == 1 {
+            total += iter.pass_padding();
+        }
+        start = iter.offset();
     }
     Ok(total)
 }
@@ -102,6 +106,17 @@ fn put(frame: &Frame<'_>, last: bool, dest: &mut [u8], at: usize) -> usize
         Ok(n) => at + n,
         Err(_) => unreachable!(),
     }
+}
+
+// Lays so many bytes of 0 at a place, and answers where they end.
+fn pad(count: usize, dest: &mut [u8], at: usize) -> usize
+    requires { at + count ≤ length dest.old }
+    ensures end { result ≡ at + count }
+    ensures bytes { dest.new ≡ take at dest.old ++ (replicate count 0 ++ drop result dest.old) }
+{
+    let end = at + count;
+    dest[at..end].fill(0);
+    end
 }
 
 // Lays the frames of a payload in their shortest spellings, for which there is room, at the front.
@@ -124,6 +139,10 @@ fn lay(payload: &[u8], dest: &mut [u8])
         let stop = iter.offset();
         let is_last = stop == payload.len();
         at = put(&frame, is_last, dest, at);
+        // Behind PADDING, all PADDING is passed at once.
+        if let Frame::Padding = frame {
+            at = pad(iter.pass_padding(), dest, at);
+        }
     }
 }
 

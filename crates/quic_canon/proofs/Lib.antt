@@ -5,7 +5,7 @@ mod Spans
 pub mod Cuts
 pub mod Steps
 mod FrontWalk
-mod PaddingWalk
+pub mod PaddingWalk
 mod RewriteWalk
 mod Fronts
 mod Clients

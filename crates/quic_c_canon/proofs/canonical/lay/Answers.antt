@@ -1,6 +1,7 @@
 use Rattle.std.proofs.Common.{false}
 use Rattle.quic_canon.proofs.Steps.{finds_ok, stands_at}
-use Rattle.quic_c_canon.proofs.LayWalk.{lay_begins, never_fails, lay_room, lay_on, lay_done}
+use Rattle.quic_canon.proofs.PaddingWalk.{padding_goes_on}
+use Rattle.quic_c_canon.proofs.LayWalk.{lay_begins, never_fails, lay_room, lay_on, pad_room, lay_pads, lay_done}
 use Rattle.quic_c_canon.proofs.canonical.lay.Goals as goal
 
 pub loop-item-init : goal.loop-item-init
@@ -26,6 +27,26 @@ loop-item-preserved c =
     let f = finds_ok c.loop-item.iter c.next.new.self c.in-Some.item c.in-Ok-item.frame c.in-Ok-item.is c.in-Some.ensures.steps in
     lay_on c.args.payload.now c.args.dest.now c.loop-item.dest c.put-at.new.dest c.loop-item.at c.put-at.result c.offset-stop.result c.loop-item.iter c.next.new.self c.in-Ok-item.frame (c.one_reading.ensures.begins_none false)
     c.loop-item.invariant f c.offset-stop.ensures.value c.put-at.ensures.end c.put-at.ensures.bytes c.put-at.auto.dest
+
+pub pad-at-requires : goal.pad-at-requires
+pad-at-requires c =
+    let f = finds_ok c.loop-item.iter c.next.new.self c.in-Some.item c.in-Ok-item.frame c.in-Ok-item.is c.in-Some.ensures.steps in
+    let w = lay_on c.args.payload.now c.args.dest.now c.loop-item.dest c.put-at.new.dest c.loop-item.at c.put-at.result c.offset-stop.result c.loop-item.iter c.next.new.self c.in-Ok-item.frame (c.one_reading.ensures.begins_none false)
+    c.loop-item.invariant f c.offset-stop.ensures.value c.put-at.ensures.end c.put-at.ensures.bytes c.put-at.auto.dest in
+    pad_room c.args.payload.now c.args.dest.now c.put-at.new.dest c.put-at.result c.pass_padding.result c.next.new.self c.pass_padding.new.self (c.one_reading.ensures.begins_none false) c.requires.whole c.requires.room w c.pass_padding.ensures
+
+pub loop-item-preserved-in-Padding : goal.loop-item-preserved-in-Padding
+loop-item-preserved-in-Padding c =
+    let f = finds_ok c.loop-item.iter c.next.new.self c.in-Some.item c.in-Ok-item.frame c.in-Ok-item.is c.in-Some.ensures.steps in
+    let w = lay_on c.args.payload.now c.args.dest.now c.loop-item.dest c.put-at.new.dest c.loop-item.at c.put-at.result c.offset-stop.result c.loop-item.iter c.next.new.self c.in-Ok-item.frame (c.one_reading.ensures.begins_none false)
+    c.loop-item.invariant f c.offset-stop.ensures.value c.put-at.ensures.end c.put-at.ensures.bytes c.put-at.auto.dest in
+    lay_pads c.args.payload.now c.args.dest.now c.put-at.new.dest c.pad-at.new.dest c.put-at.result c.pad-at.result c.pass_padding.result c.next.new.self c.pass_padding.new.self (c.one_reading.ensures.begins_none false)
+    c.requires.whole c.requires.room w c.pass_padding.ensures c.pad-at.ensures.end c.pad-at.ensures.bytes
+
+pub loop-item-smaller-in-Padding : goal.loop-item-smaller-in-Padding
+loop-item-smaller-in-Padding c =
+    let f = finds_ok c.loop-item.iter c.next.new.self c.in-Some.item c.in-Ok-item.frame c.in-Ok-item.is c.in-Some.ensures.steps in
+    padding_goes_on c.pass_padding.result c.loop-item.iter c.next.new.self c.pass_padding.new.self c.in-Ok-item.frame f c.pass_padding.ensures
 
 pub returns : goal.returns
 returns c =

@@ -1,0 +1,16 @@
+-- A frame of PADDING is one byte of 0.
+use Rattle.std.proofs.Common.{◌≡◌, ℕ, suc, ◌<◌, Bool, [], ◌∷◌, refl}
+use Rattle.quic_base.specs.Varint.{size, short}
+use Rattle.quic_frames.specs.declared.frame.Frame.TheVariants as frames
+use Rattle.quic_frame_parts.specs.Shortest.{shortest_frame}
+use Rattle.quic_frames.specs.Meaning.{meaning_of}
+use Rattle.quic_frames.specs.Padding.{behind}
+use Rattle.quic_frames.specs.Way.{Way}
+use Rattle.quic_frames.specs.Walk.{Finds}
+
+abbrev pub EachPads : ℕ → Way → Type 0
+EachPads count way = (k : ℕ) → k < count → Finds (behind k way) frames.Padding (behind (suc k) way)
+
+pub padding_is : (last : Bool) → shortest_frame last (meaning_of frames.Padding) ≡ 0 ∷ []
+unfolding shortest_frame short size
+padding_is last = refl

@@ -7,31 +7,6 @@
 // set KIND NAME N, two WORK NAME NAME N, ack NAME N (of sets, below).
 #include "work.h"
 
-static u64 numbers(u32 rounds, u32 work) {
-    u64 sum = 0;
-    for (u32 i = 0; i < 1000 * rounds; i++) {
-        u64 acked = next() >> (3 + next() % 40), n = acked + (next() >> (34 + next() % 30)) % (1u << 31);
-        sum += count_number(n, acked, work);
-    }
-    return sum;
-}
-
-static u64 expansions(u32 rounds, u32 work) {
-    u64 sum = 0;
-    for (u32 i = 0; i < 1000 * rounds; i++) {
-        u32 len = 1 + next() % 4, x = (u32)next() >> (32 - 8 * len);
-        sum += count_expand(len, x, next() >> (2 + next() % 50), work);
-    }
-    return sum;
-}
-
-static u64 over(u64 (*call)(const uint8_t *, size_t), u32 rounds) {
-    u64 sum = 0;
-    for (u32 r = 0; r < rounds; r++)
-        for (size_t i = 0; i < items_len; i++) sum += call(items[i], sizes[i]);
-    return sum;
-}
-
 // Work on sets: WORK ROUNDS and what else it takes. Answers a sum, and counts the items.
 static u64 sets(int argc, char **argv, u32 rounds) {
     u64 sum = 0;
@@ -87,8 +62,8 @@ int main(int argc, char **argv) {
         for (size_t i = 0; i < items_len; i++) sum += count_params_write(items[i], sizes[i], rounds);
     else {
         items_len = 1000;
-        if (!strncmp(work, "number", 6)) sum = numbers(rounds, work[6] != '0');
-        else if (!strncmp(work, "expand", 6)) sum = expansions(rounds, work[6] != '0');
+        if (!strncmp(work, "number", 6)) sum = numbers(count_number, rounds, work[6] != '0');
+        else if (!strncmp(work, "expand", 6)) sum = expansions(count_expand, rounds, work[6] != '0');
         else sum = count_head(*work == 'i' ? 0 : *work == 'h' ? 1 : 2, 1000 * rounds);
     }
     printf("%zu %llu\n", frames_len ? frames_len : items_len, (unsigned long long)sum);

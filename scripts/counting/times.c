@@ -2,9 +2,6 @@
 // ngtcp2 (NGTCP2), in turn in one process, the best of so many rounds, on the lists of FOLDER: datagrams.hex,
 // params.hex, and all others as payloads. A line for each work: nanoseconds an item, and the ratios to this library's
 // peers. Times are of one machine and hour: only the ratios of one run say something.
-//
-// The crate's calls are those of calls.txt over quinn-proto, under the names below; its payloads are kept beforehand,
-// each as one buffer, and named by their places.
 #include <dirent.h>
 #include <time.h>
 
@@ -12,19 +9,7 @@
 #include "work.h"
 
 #ifdef QUINN
-void quinn_load(const uint8_t *, size_t);
-u64 quinn_sum(size_t);
-u64 quinn_acks(size_t);
-u64 quinn_encode(size_t, u32);
-u64 quinn_ack_encode(const u64 *, size_t, u64, u32);
-u64 quinn_array(const u64 *, size_t);
-u64 quinn_tree(const u64 *, size_t);
-u64 quinn_count_copy(const uint8_t *, size_t);
-u64 quinn_count_decode(const uint8_t *, size_t);
-u64 quinn_count_cut(const uint8_t *, size_t);
-u64 quinn_count_params_read(const uint8_t *, size_t);
-u64 quinn_count_params_write(const uint8_t *, size_t, u32);
-u64 quinn_count_head(u32, u32);
+#include "crate.h"
 #define PEER(call) call
 #else
 #define PEER(call) NULL

@@ -161,3 +161,28 @@ static void generate(const char *name, size_t n) {
     else singles(name, numbers, n);
     free(numbers);
 }
+
+static inline u64 numbers(u64 (*call)(u64, u64, u32), u32 rounds, u32 work) {
+    u64 sum = 0;
+    for (u32 i = 0; i < 1000 * rounds; i++) {
+        u64 acked = next() >> (3 + next() % 40), n = acked + (next() >> (34 + next() % 30)) % (1u << 31);
+        sum += call(n, acked, work);
+    }
+    return sum;
+}
+
+static inline u64 expansions(u64 (*call)(u32, u32, u64, u32), u32 rounds, u32 work) {
+    u64 sum = 0;
+    for (u32 i = 0; i < 1000 * rounds; i++) {
+        u32 len = 1 + next() % 4, x = (u32)next() >> (32 - 8 * len);
+        sum += call(len, x, next() >> (2 + next() % 50), work);
+    }
+    return sum;
+}
+
+static inline u64 over(u64 (*call)(const uint8_t *, size_t), u32 rounds) {
+    u64 sum = 0;
+    for (u32 r = 0; r < rounds; r++)
+        for (size_t i = 0; i < items_len; i++) sum += call(items[i], sizes[i]);
+    return sum;
+}

@@ -189,6 +189,10 @@ static void heads_and_sets(void) {
         COMPARE("ArrayRangeSet of 1,000", orders[k], all, {"ours", array}, {"crate", PEER(quinn_array_set)});
         COMPARE("RangeSet of 1,000", orders[k], all, {"ours", vec}, {"crate", PEER(quinn_tree_set)});
     }
+    // What a peer can make of a set that isn't bounded: each change stands in front of all runs before it.
+    rounds = 1;
+    generate("down", 100000);
+    COMPARE("RangeSet of 100,000", "down", 100000.0, {"ours", vec}, {"crate", PEER(quinn_tree_set)});
 }
 
 static void reload(const char *folder, const char *file, char kind) {

@@ -107,10 +107,8 @@ fn split_at_colon(text: &[u8]) -> Option<(&[u8], &[u8])> {
 // One byte or more, each of two digits, with spaces between them.
 fn bytes_by_twos(text: &[u8]) -> Option<Vec<u8>> {
     let mut words = text.split(|byte| *byte == b' ').filter(|word| !word.is_empty());
-    if words.any(|word| word.len() != 2) {
-        return None;
-    }
-    unhex(text).filter(|bytes| !bytes.is_empty())
+    let are_twos = words.all(|word| word.len() == 2 && word.iter().all(u8::is_ascii_hexdigit));
+    unhex(text).filter(|bytes| are_twos && !bytes.is_empty())
 }
 
 /// What a line is to the dump before it.

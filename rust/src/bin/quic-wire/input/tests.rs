@@ -115,6 +115,9 @@ fn dumps_that_do_not_go_on_are_refused_once() {
     assert_eq!(errors("000000 01 02\n000002 0\nzz\n000003 03\n000004\n"), [broken(2)]);
     assert_eq!(errors("00000000  01 02  |..|\n00000003\n"), [broken(2)]);
     assert_eq!(errors("ffffffffffffffff  01  |.|\nfffffffffffffff0  01  |.|\n"), [broken(2)]);
+    // One of `xxd` is broken behind `*` alone.
+    let xxd = "00000000: 0001  ..\n*\n00000003: 01  .\n00000004: 02  .\n";
+    assert_eq!(errors(xxd), [broken(3)]);
     let two = pieces("000000 01\n000002 03\n000000 04\n000001\n");
     assert_eq!(two, [(1, Err(broken(2).1)), (3, Ok(vec![4]))]);
 }
@@ -125,6 +128,9 @@ fn other_dumps_are_refused() {
         "00000000: 01010000 10110010 11001101 01010001 01101110 01110100  ABCDEF",
         "0000000 b250 51cd 746e aee0",
         "0000000 131120 050715",
+        "0000000 01 ,, 02",
+        "0000008 01",
+        "*",
         "0000000",
         "00000000: 5",
         "+0000000: 05",

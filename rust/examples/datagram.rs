@@ -1,5 +1,6 @@
-//! A datagram from end to end, with a cipher that is none: two packets are written, sealed, opened again, and what they
-//! hold is acknowledged. No `std` is needed but for printing.
+//! A datagram from end to end: two packets are written, sealed and opened again, what they hold is acknowledged, and
+//! one that was changed on its way is dropped. Where ciphers go stands [`NoProtection`], which hides nothing. No `std`
+//! is needed but for printing.
 use quic_wire::frame::{Ack, Crypto, Frame, Iter, StreamMeta};
 use quic_wire::packet::{Header, PacketNumber, PacketsMut};
 use quic_wire::range_set::ArrayRangeSet;
@@ -10,12 +11,30 @@ const SAMPLE: usize = 16;
 const VERSION: u32 = 1;
 const ID: &[u8] = &[7; 8];
 
-// What a cipher makes of a sample.
-fn mask(sample: &[u8]) -> [u8; 5] {
-    [sample[0], sample[1], sample[2], sample[3], sample[4]]
+/// NO PROTECTION: the payload stays readable, anybody can make its tag, and the mask is the sample itself. Whoever
+/// builds a stack puts an AEAD and the cipher of headers here (RFC 9001, section 5).
+struct NoProtection;
+
+impl NoProtection {
+    // The XOR of blocks, which an AEAD would make of its key, the number, the header and the payload.
+    fn tag(header: &[u8], payload: &[u8]) -> [u8; TAG] {
+        let mut tag = [0x5a; TAG];
+        header.iter().chain(payload).enumerate().for_each(|(i, byte)| tag[i % TAG] ^= byte);
+        tag
+    }
+
+    fn open<'p>(header: &[u8], payload: &'p [u8]) -> Option<&'p [u8]> {
+        let (payload, tag) = payload.split_at(payload.len().checked_sub(TAG)?);
+        (tag == Self::tag(header, payload)).then_some(payload)
+    }
+
+    fn mask(sample: &[u8]) -> [u8; 5] {
+        [sample[0], sample[1], sample[2], sample[3], sample[4]]
+    }
 }
 
-// Behind the header comes the payload, then a tag; then the length is known, and the sample.
+// Behind the header comes the payload, then room for the tag; then the length is known, which the tag covers, and with
+// the tag the sample.
 fn seal(
     datagram: &mut Vec<u8>,
     header: Header<'_>,
@@ -24,15 +43,18 @@ fn seal(
     let begin = datagram.len();
     let written = header.encode(datagram)?;
     payload(datagram)?;
-    datagram.extend([0x5a; TAG]);
+    datagram.extend([0; TAG]);
     let packet = &mut datagram[begin..];
     written.set_len(packet)?;
+    let (header_data, sealed) = packet.split_at_mut(written.header_len);
+    let (payload, tag) = sealed.split_at_mut(sealed.len() - TAG);
+    tag.copy_from_slice(&NoProtection::tag(header_data, payload));
     let place = written.place(packet);
-    let mask = mask(place.sample(packet, SAMPLE)?);
+    let mask = NoProtection::mask(place.sample(packet, SAMPLE)?);
     Ok(place.protect(packet, &mask)?)
 }
 
-fn main() -> Result<(), Error> {
+fn write() -> Result<Vec<u8>, Error> {
     let number = |number| PacketNumber::new(number, 0).ok_or(Error::Packet("no such number"));
     let mut datagram = Vec::with_capacity(1200);
     let long = Header::Initial { dst_cid: ID, src_cid: &[], token: &[], number: number(2)?, version: VERSION };
@@ -48,19 +70,43 @@ fn main() -> Result<(), Error> {
         out.extend(b"def");
         Ok(())
     })?;
-    println!("{} bytes", datagram.len());
+    Ok(datagram)
+}
 
-    let mut received = ArrayRangeSet::<32>::new();
-    for packet in PacketsMut::new(&mut datagram, ID.len(), &[VERSION], false) {
-        let packet = packet?.open_with(SAMPLE, mask, 0)?;
-        let payload = &packet.payload[..packet.payload.len() - TAG];
+// The numbers of the packets that were opened, which are looked at in their order.
+fn read(datagram: &mut [u8]) -> Result<ArrayRangeSet<32>, Error> {
+    let mut received = ArrayRangeSet::new();
+    for packet in PacketsMut::new(datagram, ID.len(), &[VERSION], false) {
+        let packet = packet?.open_with(SAMPLE, NoProtection::mask, 0)?;
+        let Some(payload) = NoProtection::open(packet.header_data, packet.payload) else {
+            println!("{} is dropped", packet.number());
+            continue;
+        };
         for frame in Iter::new(payload)? {
             println!("{} {:?}", packet.number(), frame?);
         }
         received.insert_or_drop_min(packet.number()..packet.number() + 1);
     }
+    Ok(received)
+}
+
+fn main() -> Result<(), Error> {
+    let datagram = write()?;
+    println!("{} bytes", datagram.len());
+    let received = read(&mut datagram.clone())?;
     let mut out = Vec::new();
     Ack::encode(0, received.runs(), None, &mut out)?;
     println!("{out:02x?}");
     Ok(())
+}
+
+#[test]
+fn what_is_sealed_is_opened_unless_it_was_changed() -> Result<(), Error> {
+    let datagram = write()?;
+    assert_eq!(read(&mut datagram.clone())?.elts().collect::<Vec<_>>(), [2, 3]);
+    // The last byte is one of the second packet's tag.
+    let mut changed = datagram.clone();
+    *changed.last_mut().expect("it has bytes") ^= 1;
+    assert_eq!(read(&mut changed)?.elts().collect::<Vec<_>>(), [2]);
+    main()
 }

@@ -4,6 +4,8 @@ use std::fs;
 use std::io::{BufRead, BufReader, Write};
 use std::process::{Command, Stdio};
 
+const NO_BYTES: &str = "not hexadecimal, nor a dump as xxd, hexdump -C or od -t x1 prints it";
+
 fn run(arguments: &[&str], input: &[u8]) -> (String, String, i32) {
     let mut command = Command::new(env!("CARGO_BIN_EXE_quic-wire"));
     command.args(arguments).stdin(Stdio::piped()).stdout(Stdio::piped()).stderr(Stdio::piped());
@@ -64,7 +66,7 @@ fn every_field_of_a_frame_is_printed() {
         ),
         ("21", "error invalid frame ID in <unknown 21>"),
         ("", "error packet payload is empty"),
-        ("0", "error not hexadecimal"),
+        ("0", &format!("error {NO_BYTES}")),
     ];
     let input: String = rows.iter().map(|(line, _)| format!("{line}\n")).collect();
     let all: Vec<_> = rows.iter().enumerate().map(|(i, (_, answer))| format!("{}: {answer}", i + 1)).collect();
@@ -137,6 +139,8 @@ fn calls_end_with_their_status() {
         &["params", "--side", "peer"],
         &["params", "--side"],
         &["frames", "--json=1"],
+        &["frames", "--color=yes"],
+        &["frames", "--color"],
         &["frames", "-x"],
     ] {
         let (out, err, status) = run(wrong, b"01\n");
@@ -187,9 +191,55 @@ fn files_and_dumps_are_named() {
         format!("{one}:1: 1..16 PADDING count=15"),
         format!("{one}:1: 16..17 HANDSHAKE_DONE"),
         format!("{one}:3: 0..1 PING"),
-        format!("{two}:1: error not hexadecimal"),
+        format!("{two}:1: error {NO_BYTES}"),
     ];
     assert_eq!((text.lines().collect::<Vec<_>>(), status), (all.iter().map(String::as_str).collect(), 1));
+}
+
+// The same bytes by each program, where it is installed: 1200 bytes, most of which `*` stands for.
+#[test]
+fn dumps_of_programs_are_read_as_one() {
+    let path = std::env::temp_dir().join(format!("quic-wire-dumped-{}", std::process::id()));
+    let payload = [&[0x06, 0x00, 0x40, 0x64][..], &[b' '; 100], &[0; 1096]].concat();
+    fs::write(&path, payload).unwrap();
+    for words in [
+        &["xxd"][..],
+        &["xxd", "-a"],
+        &["xxd", "-g1", "-u"],
+        &["xxd", "-g0"],
+        &["hexdump", "-C"],
+        &["hexdump", "-Cv"],
+        &["od", "-A", "x", "-t", "x1z"],
+        &["od", "-A", "x", "-t", "x1"],
+        &["od", "-t", "x1"],
+        &["od", "-v", "-t", "x1z"],
+    ] {
+        let Ok(dumped) = Command::new(words[0]).args(&words[1..]).arg(&path).output() else { continue };
+        let (text, _, status) = run(&["frames"], &[&dumped.stdout[..], b"\n01\n"].concat());
+        let count = dumped.stdout.iter().filter(|byte| **byte == b'\n').count();
+        let crypto = format!("1: 0..104 CRYPTO offset=0 len=100 data={}", "20".repeat(100));
+        let all = [crypto, "1: 104..1200 PADDING count=1096".into(), format!("{}: 0..1 PING", count + 2)];
+        assert_eq!(
+            (text.lines().collect::<Vec<_>>(), status),
+            (all.iter().map(String::as_str).collect(), 0),
+            "{words:?}"
+        );
+    }
+    fs::remove_file(&path).unwrap();
+}
+
+#[test]
+fn colours_are_asked_for() {
+    let coloured = "\x1b[2m1:\x1b[0m \x1b[33m0..2\x1b[0m \x1b[1;32mMAX_DATA\x1b[0m \x1b[36mlimit\x1b[0m=5";
+    let error = "\x1b[2m2:\x1b[0m \x1b[1;31merror unexpected end in MAX_DATA\x1b[0m";
+    let plain = ["1: 0..2 MAX_DATA limit=5", "2: error unexpected end in MAX_DATA"];
+    let input = "1005\n10\n";
+    assert_eq!(lines(&["frames", "--color=always"], input), [coloured, error]);
+    for way in [&["frames"][..], &["frames", "--color=auto"], &["frames", "--color", "never"]] {
+        assert_eq!(lines(way, input), plain);
+    }
+    let json = lines(&["frames", "--json"], input);
+    assert_eq!(lines(&["frames", "--color=always", "--json"], input), json);
 }
 
 // What `quic-show` prints of a list, by the lines of this program. Lines with other hexadecimal than it takes are left
@@ -207,6 +257,7 @@ fn as_shown(mode: &str, input: &str, answer: &str) -> String {
         }
         last = number;
         match (mode, text.strip_prefix("error ")) {
+            (_, Some(NO_BYTES)) => shown.push_str("error not hexadecimal\n"),
             ("datagram", Some(error)) => shown.push_str(&no_packet(error)),
             (_, Some(error)) => shown.push_str(&format!("error {error}\n")),
             ("frames", None) => shown.push_str(&frame(text, lines[number - 1])),

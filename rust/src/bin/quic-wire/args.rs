@@ -1,4 +1,5 @@
 //! What the program is called with.
+use crate::colour::When;
 use quic_wire::packet::DEFAULT_SUPPORTED_VERSIONS;
 use quic_wire::{Side, MAX_CID_SIZE};
 use std::ffi::{OsStr, OsString};
@@ -16,18 +17,24 @@ MODE is what a line is:
   params      a list of transport parameters
 
 Without FILE, and for -, standard input is read. A line is hexadecimal, in which spaces, tabs, commas, colons and 0x
-may stand; lines of an `xxd` dump are put together to what was dumped. Each line of output begins with the number of
-the line that it belongs to, and is written before the next one is read.
+may stand. Lines of a dump are put together to what was dumped; they are known by the offset in front of them:
+  00000010: 0102 ..    `xxd`
+  00000010  01 02 ..   `hexdump -C`
+  000010 01 02 ..      `od -A x -t x1` or, with text, `od -A x -t x1z`
+  0000020 01 02 ..     `od -t x1`: seven octal digits
+A blank line ends a dump, as its last offset does. Each line of output begins with the number of the line that it
+belongs to, and is written before the next one is read.
 
 options:
-  --json               an object of JSON in each line, for other programs
+  --color WHEN         always, never or auto: on a terminal, unless NO_COLOR is set or TERM is dumb; by default auto
+  --json               an object of JSON in each line, for other programs; it has no colours
   --strict             of frames: a type counts in its shortest encoding alone
   --cid-len N          of datagram: how many bytes the ids of short headers have, 0 to 20; by default 0
   --versions LIST      of datagram: the versions that are read, in hexadecimal with commas between them;
                        by default 1, the drafts 29 to 34, and 2 (6b3343cf)
   --grease             of datagram: the fixed bit may be clear (RFC 9287)
   --side client|server of params: the side that reads the list; by default the client, who takes all of them
-  --help, --version
+  -h, --help; -V, --version
 
 It ends with 0 where every line was read, 1 where an error was printed, 2 for a wrong call, and 3 where reading or
 writing failed.
@@ -41,6 +48,7 @@ pub enum Call {
 pub struct Args {
     pub mode: Mode,
     pub json: bool,
+    pub colours: When,
     pub files: Vec<OsString>,
 }
 
@@ -60,6 +68,7 @@ pub struct Datagrams {
 #[derive(Default)]
 struct Options {
     json: bool,
+    colours: When,
     strict: bool,
     grease: bool,
     cid_len: Option<usize>,
@@ -88,7 +97,7 @@ pub fn parse(words: impl Iterator<Item = OsString>) -> Result<Call, String> {
         files.push("-".into());
     }
     let mode = mode.ok_or("what is a line: frames, datagram or params?")?;
-    Ok(Call::Show(Args { json: options.json, mode: options.mode(&mode)?, files }))
+    Ok(Call::Show(Args { json: options.json, colours: options.colours, mode: options.mode(&mode)?, files }))
 }
 
 impl Options {
@@ -112,6 +121,7 @@ impl Options {
             next.ok_or_else(|| format!("{name} wants a value"))
         };
         match name {
+            "--color" => self.colours = when(&value()?)?,
             "--cid-len" => self.cid_len = Some(cid_len(&value()?)?),
             "--versions" => self.versions = Some(versions(&value()?)?),
             "--side" => self.side = Some(side(&value()?)?),
@@ -161,5 +171,14 @@ fn side(text: &str) -> Result<Side, String> {
         "client" => Ok(Side::Client),
         "server" => Ok(Side::Server),
         _ => Err(format!("a side is client or server, not {text}")),
+    }
+}
+
+fn when(text: &str) -> Result<When, String> {
+    match text {
+        "always" => Ok(When::Always),
+        "never" => Ok(When::Never),
+        "auto" => Ok(When::Auto),
+        _ => Err(format!("colours are always, never or auto, not {text}")),
     }
 }

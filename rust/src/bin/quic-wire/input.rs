@@ -1,12 +1,15 @@
-//! Lines of hexadecimal, and `xxd` dumps.
+//! Lines of hexadecimal, and dumps.
+use crate::dump::{self, Dump, Line, Step};
 use std::io::{self, BufRead};
+
+const NEITHER: &str = "not hexadecimal, nor a dump as xxd, hexdump -C or od -t x1 prints it";
 
 /// What is to be read as one, and the line that it begins with.
 #[derive(Debug, PartialEq)]
 pub struct Piece {
     pub line: usize,
-    /// None where the line isn't hexadecimal.
-    pub bytes: Option<Vec<u8>>,
+    /// Or why there are none.
+    pub bytes: Result<Vec<u8>, String>,
 }
 
 /// The pieces of a source, each as soon as it is whole.
@@ -14,29 +17,15 @@ pub struct Pieces<R> {
     source: R,
     line: usize,
     dump: Option<Dump>,
+    // Whether a dump ended with the line before, but for blank ones.
+    is_behind_dump: bool,
     // What was read beyond a dump.
     next: Option<Piece>,
 }
 
-// The lines of a dump that were read.
-struct Dump {
-    line: usize,
-    // Where its first byte stood in what was dumped.
-    base: u64,
-    bytes: Vec<u8>,
-}
-
-// A line of a dump.
-struct DumpLine {
-    offset: u64,
-    bytes: Vec<u8>,
-    // Whether it has fewer bytes than a line holds, so that no other follows.
-    is_last: bool,
-}
-
 impl<R: BufRead> Pieces<R> {
     pub fn new(source: R) -> Self {
-        Pieces { source, line: 0, dump: None, next: None }
+        Pieces { source, line: 0, dump: None, is_behind_dump: false, next: None }
     }
 
     // The next line without its end.
@@ -56,29 +45,42 @@ impl<R: BufRead> Pieces<R> {
     }
 
     // What is whole once a line is read.
-    fn take(&mut self, line: &[u8]) -> Option<Piece> {
-        let Some(read) = dump_line(line) else {
-            let piece = Piece { line: self.line, bytes: unhex(line) };
-            return match self.finish() {
-                Some(dumped) => {
-                    self.next = Some(piece);
-                    Some(dumped)
-                }
-                None => Some(piece),
-            };
-        };
-        let goes_on = |dump: &Dump| dump.base + dump.bytes.len() as u64 == read.offset;
-        let before = if self.dump.as_ref().is_some_and(goes_on) { None } else { self.finish() };
-        let dump = self.dump.get_or_insert(Dump { line: self.line, base: read.offset, bytes: Vec::new() });
-        dump.bytes.extend(&read.bytes);
-        if read.is_last {
-            self.next = self.finish();
+    fn take(&mut self, text: &[u8]) -> Option<Piece> {
+        let step = self.dump.as_mut().map(|dump| dump.take(self.line, text));
+        match step {
+            Some(Step::GoesOn) => return None,
+            Some(Step::Ends) => return self.finish(),
+            Some(Step::Another) | None => {}
         }
-        before.or_else(|| self.next.take())
+        let Some(before) = self.finish() else { return self.begin(text) };
+        self.next = self.begin(text);
+        Some(before)
+    }
+
+    // A line behind what is whole.
+    fn begin(&mut self, text: &[u8]) -> Option<Piece> {
+        if self.is_behind_dump && text.trim_ascii().is_empty() {
+            return None;
+        }
+        self.is_behind_dump = false;
+        let read = Line::read(text).filter(Line::begins_dump);
+        let Some(first) = read else {
+            let bytes = if dump::has_xxd_offset(text) { None } else { unhex(text) };
+            return Some(Piece { line: self.line, bytes: bytes.ok_or_else(|| NEITHER.into()) });
+        };
+        let is_whole = first.is_last;
+        self.dump = Some(Dump::new(self.line, first));
+        if is_whole {
+            self.finish()
+        } else {
+            None
+        }
     }
 
     fn finish(&mut self) -> Option<Piece> {
-        self.dump.take().map(|dump| Piece { line: dump.line, bytes: Some(dump.bytes) })
+        let dump = self.dump.take()?;
+        self.is_behind_dump = true;
+        Some(dump.finish())
     }
 }
 
@@ -103,8 +105,8 @@ impl<R: BufRead> Iterator for Pieces<R> {
     }
 }
 
-// Digits by twos, with spaces, tabs, commas and colons between them, and 0x before them.
-fn unhex(line: &[u8]) -> Option<Vec<u8>> {
+/// Digits by twos, with spaces, tabs, commas and colons between them, and 0x before them.
+pub fn unhex(line: &[u8]) -> Option<Vec<u8>> {
     let mut bytes = Vec::with_capacity(line.len() / 2);
     for word in line.split(|byte| b" \t,:".contains(byte)).filter(|word| !word.is_empty()) {
         let digits = word.strip_prefix(b"0x").or_else(|| word.strip_prefix(b"0X")).unwrap_or(word);
@@ -123,49 +125,5 @@ fn digit(byte: u8) -> Option<u8> {
     char::from(byte).to_digit(16).map(|digit| digit as u8)
 }
 
-// `OFFSET: DIGITS  TEXT`: eight digits or more, groups with a space between them, and behind two the text.
-fn dump_line(line: &[u8]) -> Option<DumpLine> {
-    let end = line.iter().position(|byte| *byte == b':').filter(|end| *end >= 8)?;
-    let offset = u64::from_str_radix(std::str::from_utf8(&line[..end]).ok()?, 16).ok()?;
-    let rest = line[end + 1..].strip_prefix(b" ")?;
-    let end = rest.windows(2).position(|two| two == b"  ").unwrap_or(rest.len());
-    let (digits, text) = rest.split_at(end);
-    let bytes = unhex(digits).filter(|bytes| !bytes.is_empty())?;
-    // Digits that are lacking leave spaces before the text.
-    let is_last = text.starts_with(b"   ");
-    Some(DumpLine { offset, bytes, is_last })
-}
-
 #[cfg(test)]
-mod tests {
-    use super::*;
-
-    fn pieces(text: &str) -> Vec<(usize, Option<Vec<u8>>)> {
-        Pieces::new(text.as_bytes()).map(|piece| piece.map(|piece| (piece.line, piece.bytes)).unwrap()).collect()
-    }
-
-    #[test]
-    fn lines_are_hexadecimal() {
-        let answers = pieces("0aFF\r\n0a:ff 01\n0x0a, 0xFF\n\n0\nzz\n0x\n+1\n0aff");
-        let all = [(1, vec![10, 255]), (2, vec![10, 255, 1]), (3, vec![10, 255]), (4, vec![])];
-        let (read, refused) = answers.split_at(4);
-        assert_eq!(read, all.map(|(line, bytes)| (line, Some(bytes))));
-        assert_eq!(refused, [(5, None), (6, None), (7, None), (8, None), (9, Some(vec![10, 255]))]);
-    }
-
-    #[test]
-    fn dumps_are_put_together() {
-        let full = "00000000: 0001 0203 0405 0607 0809 0a0b 0c0d 0e0f  ................\n";
-        let last = "00000010: 4142 20                                  AB \n";
-        let short = "00000000: 2061 2020 62                             a  b\n";
-        // What doesn't go on where the lines before it end is another piece, as a dump from a place on is.
-        let apart = "00000040: 4344                                     CD\n";
-        let all = pieces(&[full, last, short, full, full, "ff\n", full, apart].concat());
-        let sixteen: Vec<u8> = (0..16).collect();
-        let put_together = [&sixteen[..], b"AB "].concat();
-        let others = [sixteen.clone(), sixteen.clone(), vec![255], sixteen, b"CD".to_vec()];
-        let read = [vec![put_together, b" a  b".to_vec()], others.to_vec()].concat();
-        let lines = [1, 3, 4, 5, 6, 7, 8];
-        assert_eq!(all, lines.into_iter().zip(read.into_iter().map(Some)).collect::<Vec<_>>());
-    }
-}
+mod tests;

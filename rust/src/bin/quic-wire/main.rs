@@ -1,6 +1,8 @@
-//! The program `quic-wire`: what the bytes of QUIC say, from lines of hexadecimal or `xxd` dumps.
+//! The program `quic-wire`: what the bytes of QUIC say, from lines of hexadecimal or dumps.
 mod args;
+mod colour;
 mod datagram;
+mod dump;
 mod frames;
 mod input;
 mod output;
@@ -8,7 +10,7 @@ mod params;
 
 use args::{Args, Call, Mode};
 use input::{Piece, Pieces};
-use output::Output;
+use output::{Look, Output};
 use std::fs::File;
 use std::io::{self, BufRead, BufReader, Write};
 use std::process::ExitCode;
@@ -31,7 +33,7 @@ fn main() -> ExitCode {
 }
 
 fn show(args: &Args) -> ExitCode {
-    let mut output = Output::new(io::stdout().lock(), args.json);
+    let mut output = Output::new(io::stdout().lock(), look(args));
     let mut answer = Ok(());
     for file in &args.files {
         if args.files.len() > 1 {
@@ -60,6 +62,14 @@ fn show(args: &Args) -> ExitCode {
     finish(written, output.is_clean())
 }
 
+fn look(args: &Args) -> Look {
+    match args {
+        Args { json: true, .. } => Look::Json,
+        _ if args.colours.is_on() => Look::Coloured,
+        _ => Look::Plain,
+    }
+}
+
 enum Failure {
     Reading(io::Error),
     Writing(io::Error),
@@ -71,10 +81,10 @@ fn show_all(args: &Args, source: impl BufRead, output: &mut Output<impl Write>) 
         let Piece { line, bytes } = piece.map_err(Failure::Reading)?;
         output.set_line(line);
         let written = match (&args.mode, bytes) {
-            (_, None) => output.error("not hexadecimal", None),
-            (Mode::Frames { strict }, Some(bytes)) => frames::show(&bytes, *strict, output),
-            (Mode::Datagram(how), Some(bytes)) => datagram::show(&bytes, how, output),
-            (Mode::Params { side }, Some(bytes)) => params::show(&bytes, *side, output),
+            (_, Err(what)) => output.error(&what, None),
+            (Mode::Frames { strict }, Ok(bytes)) => frames::show(&bytes, *strict, output),
+            (Mode::Datagram(how), Ok(bytes)) => datagram::show(&bytes, how, output),
+            (Mode::Params { side }, Ok(bytes)) => params::show(&bytes, *side, output),
         };
         written.and_then(|()| output.flush()).map_err(Failure::Writing)?;
     }

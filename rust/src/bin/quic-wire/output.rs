@@ -1,4 +1,5 @@
 //! Lines for people and for programs.
+use crate::colour::{Painted, Part};
 use std::fmt::{self, Display, Formatter, Write as _};
 use std::io::{self, Write};
 use std::ops::Range;
@@ -21,18 +22,26 @@ pub enum Value {
 
 pub type Field = (&'static str, Value);
 
+/// How lines look.
+#[derive(Clone, Copy, PartialEq)]
+pub enum Look {
+    Plain,
+    Coloured,
+    Json,
+}
+
 /// Where the lines go.
 pub struct Output<W> {
     out: W,
-    json: bool,
+    look: Look,
     file: Option<String>,
     line: usize,
     is_clean: bool,
 }
 
 impl<W: Write> Output<W> {
-    pub fn new(out: W, json: bool) -> Self {
-        Output { out, json, file: None, line: 0, is_clean: true }
+    pub fn new(out: W, look: Look) -> Self {
+        Output { out, look, file: None, line: 0, is_clean: true }
     }
 
     pub fn set_file(&mut self, file: String) {
@@ -60,25 +69,26 @@ impl<W: Write> Output<W> {
         fields: &[Field],
         more: &[Field],
     ) -> io::Result<()> {
-        if self.json {
+        if self.look == Look::Json {
             let places = [("start", Value::Number(place.start as u64)), ("end", Value::Number(place.end as u64))];
             let name = [(key, Value::Word(name.into()))];
             return self.object(&[&places[..], &name, fields, more].concat());
         }
-        let mut line = format!("{}..{} {name}", place.start, place.end);
-        for (name, value) in fields {
-            // Writing to a string doesn't fail.
-            let _ = write!(line, " {name}={value}");
-        }
-        self.text(&line)
+        let place = self.paint(Part::Place, format_args!("{}..{}", place.start, place.end)).to_string();
+        let line = format!("{place} {}", self.paint(Part::Kind, name));
+        self.text(self.behind(line, fields))
     }
 
     /// Fields alone, for people each in its line.
     pub fn fields(&mut self, fields: &[Field], more: &[Field]) -> io::Result<()> {
-        if self.json {
+        if self.look == Look::Json {
             return self.object(&[fields, more].concat());
         }
-        fields.iter().try_for_each(|(name, value)| self.text(&format!("{name}={value}")))
+        for (name, value) in fields {
+            let name = self.paint(Part::Name, name);
+            self.text(format_args!("{name}={value}"))?;
+        }
+        Ok(())
     }
 
     pub fn error(&mut self, what: &str, offset: Option<usize>) -> io::Result<()> {
@@ -88,23 +98,34 @@ impl<W: Write> Output<W> {
     /// An error with what was read before it.
     pub fn error_with(&mut self, what: &str, offset: Option<usize>, fields: &[Field]) -> io::Result<()> {
         self.is_clean = false;
-        if self.json {
+        if self.look == Look::Json {
             let offset = offset.map(|offset| ("offset", Value::Number(offset as u64)));
             let error = ("error", Value::Word(what.into()));
             return self.object(&[offset.as_slice(), &[error], fields].concat());
         }
-        let mut line = format!("error {what}");
-        for (name, value) in fields {
-            let _ = write!(line, " {name}={value}");
-        }
-        self.text(&line)
+        let line = self.paint(Part::Error, format_args!("error {what}")).to_string();
+        self.text(self.behind(line, fields))
     }
 
-    fn text(&mut self, text: &str) -> io::Result<()> {
-        match &self.file {
-            Some(file) => writeln!(self.out, "{file}:{}: {text}", self.line),
-            None => writeln!(self.out, "{}: {text}", self.line),
+    fn paint<T: Display>(&self, part: Part, text: T) -> Painted<T> {
+        part.paint(self.look == Look::Coloured, text)
+    }
+
+    // A line with fields behind it.
+    fn behind(&self, mut line: String, fields: &[Field]) -> String {
+        for (name, value) in fields {
+            // Writing to a string doesn't fail.
+            let _ = write!(line, " {}={value}", self.paint(Part::Name, name));
         }
+        line
+    }
+
+    fn text(&mut self, text: impl Display) -> io::Result<()> {
+        let source = match &self.file {
+            Some(file) => self.paint(Part::Source, format!("{file}:{}:", self.line)),
+            None => self.paint(Part::Source, format!("{}:", self.line)),
+        };
+        writeln!(self.out, "{source} {text}")
     }
 
     fn object(&mut self, fields: &[Field]) -> io::Result<()> {
@@ -213,9 +234,9 @@ impl Display for Quoted<'_> {
 mod tests {
     use super::*;
 
-    fn written(json: bool, write: impl Fn(&mut Output<&mut Vec<u8>>) -> io::Result<()>) -> String {
+    fn written(look: Look, write: impl Fn(&mut Output<&mut Vec<u8>>) -> io::Result<()>) -> String {
         let mut bytes = Vec::new();
-        let mut output = Output::new(&mut bytes, json);
+        let mut output = Output::new(&mut bytes, look);
         output.set_line(7);
         write(&mut output).unwrap();
         String::from_utf8(bytes).unwrap()
@@ -226,16 +247,20 @@ mod tests {
         let fields = [("reason", Value::Text(b"a\"\n\xff".to_vec())), ("ranges", Value::Ranges(vec![(1, 2), (0, 0)]))];
         let more = [("raw_type", Value::Number(28))];
         let item = |output: &mut Output<&mut Vec<u8>>| output.item(0..5, ("type", "CLOSE"), &fields, &more);
-        assert_eq!(written(false, item), "7: 0..5 CLOSE reason=\"a\\\"\\n\u{fffd}\" ranges=1-2,0-0\n");
+        assert_eq!(written(Look::Plain, item), "7: 0..5 CLOSE reason=\"a\\\"\\n\u{fffd}\" ranges=1-2,0-0\n");
         let object = "{\"line\":7,\"start\":0,\"end\":5,\"type\":\"CLOSE\",\"reason\":\"a\\\"\\u000a\u{fffd}\",\
                       \"ranges\":[[1,2],[0,0]],\"raw_type\":28}\n";
-        assert_eq!(written(true, item), object);
+        assert_eq!(written(Look::Json, item), object);
+        let coloured =
+            "\x1b[2m7:\x1b[0m \x1b[33m0..5\x1b[0m \x1b[1;32mCLOSE\x1b[0m \x1b[36mreason\x1b[0m=\"a\\\"\\n\u{fffd}\" \
+                        \x1b[36mranges\x1b[0m=1-2,0-0\n";
+        assert_eq!(written(Look::Coloured, item), coloured);
     }
 
     #[test]
     fn errors_are_remembered() {
         let mut bytes = Vec::new();
-        let mut output = Output::new(&mut bytes, false);
+        let mut output = Output::new(&mut bytes, Look::Plain);
         assert!(output.is_clean());
         output.set_file("list".into());
         output.error_with("cut off", Some(3), &[("version", Value::Version(9))]).unwrap();

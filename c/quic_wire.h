@@ -424,8 +424,12 @@ typedef struct quic_wire_param {
  * parameters that quic_wire_params has. */
 #define QUIC_WIRE_PARAM_ROWS 21
 
-/* What the library asserts of its own structs. */
-#if defined(__cplusplus) && __cplusplus >= 201103L
+/* What the library asserts of its own structs, which no machine of 32 bits can
+ * keep to. */
+#if (defined(__SIZEOF_POINTER__) && __SIZEOF_POINTER__ < 8) ||                 \
+    (defined(UINTPTR_MAX) && UINTPTR_MAX <= 0xffffffff)
+#error "quic_wire is for machines whose pointers and lengths have 64 bits"
+#elif defined(__cplusplus) && __cplusplus >= 201103L
 #define QUIC_WIRE_ASSERT(so, why) static_assert(so, why)
 #elif defined(__STDC_VERSION__) && __STDC_VERSION__ >= 201112L
 #define QUIC_WIRE_ASSERT(so, why) _Static_assert(so, why)

@@ -72,6 +72,30 @@
  * A payload of fewer than 4 - numberlen bytes is padded before it is sealed, so
  * that there is a sample (RFC 9001, section 5.4.2).
  */
+/*
+ * All of it is in one file, to copy and to read.  Each section begins with four
+ * dashes.  Words and structs come first:
+ *
+ *   Results
+ *   Frames (RFC 9000, section 19)
+ *   Packets (RFC 9000, section 17)
+ *   Transport parameters (RFC 9000, section 18)
+ *
+ * Functions follow:
+ *
+ *   The library that is linked
+ *   Frames, read
+ *   The ranges of an ACK, read
+ *   Frames, written
+ *   Payloads in their shortest form
+ *   Heads of packets, read
+ *   The protection of heads
+ *   Numbers of packets, and of variable length
+ *   Heads of packets, written
+ *   Transport parameters, read and written
+ *   Sets of packet numbers, and ACKs of them
+ *   Texts
+ */
 #ifndef QUIC_WIRE_H
 #define QUIC_WIRE_H
 
@@ -424,8 +448,14 @@ typedef struct quic_wire_param {
  * parameters that quic_wire_params has. */
 #define QUIC_WIRE_PARAM_ROWS 21
 
-/* What the library asserts of its own structs. */
-#if defined(__cplusplus) && __cplusplus >= 201103L
+/* ---- The library that is linked */
+
+/* What the library asserts of its own structs, which no machine of 32 bits can
+ * keep to. */
+#if (defined(__SIZEOF_POINTER__) && __SIZEOF_POINTER__ < 8) ||                 \
+    (defined(UINTPTR_MAX) && UINTPTR_MAX <= 0xffffffff)
+#error "quic_wire is for machines whose pointers and lengths have 64 bits"
+#elif defined(__cplusplus) && __cplusplus >= 201103L
 #define QUIC_WIRE_ASSERT(so, why) static_assert(so, why)
 #elif defined(__STDC_VERSION__) && __STDC_VERSION__ >= 201112L
 #define QUIC_WIRE_ASSERT(so, why) _Static_assert(so, why)
@@ -467,8 +497,6 @@ QUIC_WIRE_ASSERT(offsetof(quic_wire_param, value) == 8, "64-bit words");
 #undef QUIC_WIRE_ASSERT
 #endif
 
-/* ---- The library that is linked */
-
 /* The sizes of the structs but quic_wire_gap, a byte for each, in words of 64
  * bits. */
 #define QUIC_WIRE_LAYOUT                                                       \
@@ -496,9 +524,6 @@ static inline int quic_wire_check_linked(void) {
              ? QUIC_WIRE_OK
              : QUIC_WIRE_ERR_VERSION;
 }
-
-/* What an answer below 0 says, in English; of others "ok". */
-extern const char *quic_wire_strerror(int answer);
 
 /* ---- Frames, read */
 
@@ -629,6 +654,8 @@ QUIC_WIRE_API uint64_t quic_wire_error_type(const quic_wire_frame *frame);
 /* After QUIC_WIRE_ERR_MALFORMED: QUIC_WIRE_REASON_UNEXPECTED_END and so on. */
 QUIC_WIRE_API uint32_t quic_wire_error_reason(const quic_wire_frame *frame);
 
+/* ---- The ranges of an ACK, read */
+
 /*
  * Begins at the greatest range of |frame|, an ACK that was read of this
  * payload.  Returns 0, or QUIC_WIRE_ERR_INVALID_ARGUMENT where its bytes
@@ -734,6 +761,8 @@ QUIC_WIRE_API int quic_wire_frame_len(const quic_wire_frame *frame,
                                       const uint8_t *data, size_t datalen,
                                       int last, size_t *len);
 
+/* ---- Payloads in their shortest form */
+
 /*
  * Writes the one shortest payload with the meaning of |payload| at the front of
  * |dest|: the same frames in the same order, each in its shortest form (RFC
@@ -751,7 +780,7 @@ QUIC_WIRE_API int quic_wire_canonical(const uint8_t *payload, size_t payloadlen,
                                       uint8_t *dest, size_t destlen,
                                       quic_wire_canon *out);
 
-/* ---- Packets, read and written */
+/* ---- Heads of packets, read */
 
 /*
  * Reads the head of the packet that |bytes| begin with, be it whole or cut off
@@ -806,6 +835,8 @@ QUIC_WIRE_API const uint8_t *quic_wire_dcid(const uint8_t *packet,
 QUIC_WIRE_API const uint8_t *quic_wire_scid(const uint8_t *packet,
                                             const quic_wire_head *head);
 
+/* ---- The protection of heads */
+
 /*
  * The sample of |samplelen| bytes from which the caller makes the mask of the
  * head (RFC 9001, section 5.4.2), in a packet whose number begins at |number|,
@@ -850,6 +881,8 @@ QUIC_WIRE_API int quic_wire_unprotect_head(const uint8_t *packet,
 QUIC_WIRE_API int quic_wire_protect(uint8_t *packet, size_t packetlen,
                                     size_t place, const uint8_t *mask);
 
+/* ---- Numbers of packets, and of variable length */
+
 /* How many bytes of |number| are written whose receiver has acknowledged
  * |largest_acked|, 1 to 4; QUIC_WIRE_ERR_INVALID_ARGUMENT where that is above
  * |number|, or 2^31 or more below it. */
@@ -876,6 +909,8 @@ QUIC_WIRE_API size_t quic_wire_varint_read(const uint8_t *bytes, size_t len,
  * or 0 where it doesn't fit, and then |dest| stays. */
 QUIC_WIRE_API size_t quic_wire_varint_write(uint64_t value, uint32_t width,
                                             uint8_t *dest, size_t destlen);
+
+/* ---- Heads of packets, written */
 
 /* How many bytes a head has whose token has |tokenlen|; 0 for NULL. */
 QUIC_WIRE_API size_t quic_wire_head_len(const quic_wire_said *said,
@@ -948,7 +983,7 @@ QUIC_WIRE_API int quic_wire_negotiation_write(
 QUIC_WIRE_API int quic_wire_set_len(uint8_t *packet, size_t packetlen,
                                     size_t place, uint32_t lengthlen);
 
-/* ---- Transport parameters, read and written by the |side| that calls. */
+/* ---- Transport parameters, read and written, by the |side| that calls. */
 
 /*
  * Reads a list of transport parameters to its end (RFC 9000, sections 7.4 and
@@ -1073,10 +1108,10 @@ QUIC_WIRE_API int quic_wire_param_write(uint64_t id, const uint8_t *value,
 /* Whether quic_wire_params has the parameter of this number: 1 or 0. */
 QUIC_WIRE_API int quic_wire_param_is_known(uint64_t id);
 
-/* ---- Sets of packet numbers: the first |count| entries of an array of |room|,
- * each a run of numbers, sorted, none empty, none touching the next.  A set of
- * no entries is empty.  Whether the entries are such runs is looked at with
- * each call. */
+/* ---- Sets of packet numbers, and ACKs of them.  A set is the first |count|
+ * entries of an array of |room|, each a run of numbers, sorted, none empty,
+ * none touching the next.  A set of no entries is empty.  Whether the entries
+ * are such runs is looked at with each call. */
 
 /*
  * Puts the numbers from |start| to below |end| into the set; an empty or
@@ -1122,6 +1157,11 @@ QUIC_WIRE_API int quic_wire_ack_write(uint64_t delay,
                                       const quic_wire_range *runs, size_t count,
                                       const uint64_t *counts, uint8_t *dest,
                                       size_t destlen, size_t *written);
+
+/* ---- Texts */
+
+/* What an answer below 0 says, in English; of others "ok". */
+extern const char *quic_wire_strerror(int answer);
 
 /* The name of a type as it stands on the wire, or NULL. */
 extern const char *quic_wire_type_name(uint64_t type);

@@ -15,7 +15,7 @@ use crate::frame::Entry;
 use core::mem::MaybeUninit;
 
 #[cfg(not(target_pointer_width = "64"))]
-compile_error!("the library quic_wire has places of 64 bits");
+compile_error!("quic_wire is for machines whose pointers and lengths have 64 bits");
 
 /// Room for bytes, initialised or not.
 pub type Room = [MaybeUninit<u8>];

@@ -1,0 +1,108 @@
+/* What the files of abuse share: the check, random numbers, blocks, and the
+ * parts that main.c calls.  A part without arguments is gone through once. */
+#ifndef ABUSE_H
+#define ABUSE_H
+
+#include <stddef.h>
+#include <stdint.h>
+#include <stdio.h>
+#include <stdlib.h>
+#include <string.h>
+
+#include "quic_wire.h"
+
+#define WANT(x)                                                                \
+  do {                                                                         \
+    if (!(x)) {                                                                \
+      fprintf(stderr, "%s:%d: not so: %s\n", __FILE__, __LINE__, #x);          \
+      exit(1);                                                                 \
+    }                                                                          \
+  } while (0)
+#define INVALID QUIC_WIRE_ERR_INVALID_ARGUMENT
+
+/* A random number. */
+extern uint64_t any(void);
+
+/* A number near some bound. */
+extern uint64_t edge(void);
+
+/* A small place, or one that is none. */
+extern size_t place(void);
+
+/* Random bytes. */
+extern void any_bytes(uint8_t *bytes, size_t len);
+
+/* A block of just so many bytes, so that a sanitizer or valgrind sees each byte
+ * that is read or written past it. */
+extern uint8_t *block(size_t len);
+
+/* The least length of a number of variable length. */
+extern size_t varint_len(uint64_t n);
+
+/* frames.c: frames that are read. */
+extern void frames_nulls(void);
+extern void read_rubbish(const uint8_t *payload, size_t len);
+extern void fill_rubbish(const uint8_t *payload, size_t len);
+extern void first_rubbish(const uint8_t *payload, size_t len);
+extern int strict_any(const uint8_t *bytes, size_t len);
+
+/* fronts.c: frames at the front of what is left. */
+extern void fronts_nulls(void);
+extern void front_rubbish(const uint8_t *payload, size_t len);
+
+/* acks.c: the ranges of ACKs. */
+extern void acks_nulls(void);
+extern void ranges_rubbish(const uint8_t *payload, size_t len,
+                           quic_wire_frame *frame);
+extern void fill_ranges_rubbish(const uint8_t *payload, size_t len);
+extern void front_ranges(const uint8_t *payload, size_t len,
+                         const quic_wire_frame *frame,
+                         const quic_wire_gap *gaps, size_t room,
+                         quic_wire_frame *entry);
+extern void gaps_written(const uint8_t *payload, size_t len,
+                         const quic_wire_frame *frame,
+                         const quic_wire_gap *gaps);
+
+/* written.c: frames that are written. */
+extern void written_nulls(void);
+extern void without_data(void);
+extern void write_rubbish(const uint8_t *data, size_t len);
+extern void head_rubbish(void);
+
+/* canonical.c: the shortest form of payloads. */
+extern void canonical_nulls(void);
+extern int canonical_any(const uint8_t *payload, size_t len);
+
+/* heads.c: heads of packets, and their protection. */
+extern void heads_nulls(void);
+extern void long_lengths(void);
+extern void packet_rubbish(uint8_t *datagram, size_t len);
+extern void protect_rubbish(uint8_t *datagram, size_t len);
+extern void place_any(uint8_t *packet, size_t len);
+
+/* heads_written.c: heads of packets that are written. */
+extern void heads_written_nulls(void);
+extern int head_written(void);
+
+/* negotiation.c: version negotiations. */
+extern void negotiation_nulls(void);
+extern void negotiation_any(void);
+
+/* numbers.c: numbers of variable length, and of packets. */
+extern void numbers_nulls(void);
+extern void varint_any(void);
+extern void number_len_any(void);
+extern void number_expand_any(void);
+
+/* parameters.c: transport parameters. */
+extern void params_nulls(void);
+extern void params_with(void);
+extern int params_written(uint32_t side);
+extern void params_any(const uint8_t *list, size_t len);
+
+/* sets.c: sets of packet numbers, and ACKs of them. */
+extern void sets_nulls(void);
+extern void sets(void);
+extern void set_rubbish(void);
+
+#endif /* ABUSE_H */

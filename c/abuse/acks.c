@@ -1,0 +1,153 @@
+/* The ranges of ACKs: by an iterator, many with one call, and as gap and
+ * length. */
+#include "abuse.h"
+
+static void ranges_nulls(void) {
+  quic_wire_frame frame;
+  quic_wire_ack_ranges ranges;
+  quic_wire_range range;
+  uint8_t byte = 1;
+  size_t n = 0;
+  memset(&frame, 0, sizeof frame);
+  memset(&ranges, 0, sizeof ranges);
+  WANT(quic_wire_ack_ranges_init(NULL, &byte, 1, &frame) == INVALID);
+  WANT(quic_wire_ack_ranges_init(&ranges, NULL, 1, &frame) == INVALID);
+  WANT(quic_wire_ack_ranges_init(&ranges, &byte, 1, NULL) == INVALID);
+  WANT(quic_wire_ack_ranges_init_unchecked(NULL, &byte, 1, &frame) == INVALID);
+  WANT(quic_wire_ack_ranges_init_unchecked(&ranges, NULL, 1, &frame) ==
+       INVALID);
+  WANT(quic_wire_ack_ranges_init_unchecked(&ranges, &byte, 1, NULL) == INVALID);
+  WANT(quic_wire_ack_ranges_next(NULL, &byte, 1, &range) == INVALID);
+  WANT(quic_wire_ack_ranges_next(&ranges, NULL, 1, &range) == INVALID);
+  WANT(quic_wire_ack_ranges_next(&ranges, &byte, 1, NULL) == INVALID);
+  WANT(quic_wire_ack_ranges_fill(NULL, &byte, 1, &range, 1, &n) == INVALID);
+  WANT(quic_wire_ack_ranges_fill(&ranges, NULL, 1, &range, 1, &n) == INVALID);
+  WANT(quic_wire_ack_ranges_fill(&ranges, &byte, 1, NULL, 1, &n) == INVALID);
+  WANT(quic_wire_ack_ranges_fill(&ranges, &byte, 1, &range, 1, NULL) ==
+       INVALID);
+  WANT(quic_wire_ack_ranges_fill(&ranges, &byte, 1, NULL, 0, &n) ==
+       QUIC_WIRE_ERR_NOBUF);
+}
+
+void acks_nulls(void) {
+  quic_wire_frame frame;
+  uint8_t out[8];
+  size_t n = 0;
+  memset(&frame, 0, sizeof frame);
+  frame.kind = QUIC_WIRE_CRYPTO;
+  ranges_nulls();
+  WANT(quic_wire_ack_gaps_write(NULL, NULL, 0, out, 8, &n) == INVALID);
+  WANT(quic_wire_ack_gaps_write(&frame, NULL, 1, out, 8, &n) == INVALID);
+  WANT(quic_wire_ack_gaps_write(&frame, NULL, 0, NULL, 8, &n) == INVALID);
+  WANT(quic_wire_ack_gaps_write(&frame, NULL, 0, out, 8, NULL) == INVALID);
+}
+
+/* The ranges of any words, and those of a frame between any places. */
+void ranges_rubbish(const uint8_t *payload, size_t len,
+                    quic_wire_frame *frame) {
+  quic_wire_ack_ranges ranges;
+  quic_wire_range range;
+  size_t k;
+  ranges.begin = place();
+  ranges.end = place();
+  ranges.largest = edge();
+  for (k = 0; k < 50 && quic_wire_ack_ranges_next(&ranges, payload, len,
+                                                  &range) == 1; k++)
+    WANT(range.start < range.end);
+  WANT(k < 50);
+  frame->begin = place();
+  frame->end = place();
+  quic_wire_ack_ranges_init(&ranges, payload, len, frame);
+  if (quic_wire_ack_ranges_init_unchecked(&ranges, payload, len, frame) == 0)
+    WANT(frame->begin <= ranges.begin && ranges.begin <= ranges.end &&
+         ranges.end <= frame->end && frame->end <= len);
+}
+
+/* The ranges of any words, many with one call, are those of single calls. */
+void fill_ranges_rubbish(const uint8_t *payload, size_t len) {
+  quic_wire_ack_ranges one, many;
+  quic_wire_range range, filled[6], before[6];
+  size_t room = 1 + any() % 5, count, k, calls;
+  int answer = 0;
+  one.begin = place();
+  one.end = place();
+  one.largest = edge();
+  many = one;
+  memset(before, 0xa5, sizeof before);
+  for (calls = 0; calls < 50; calls++) {
+    memcpy(filled, before, sizeof filled);
+    count = 77;
+    answer =
+        quic_wire_ack_ranges_fill(&many, payload, len, filled, room, &count);
+    if (answer != QUIC_WIRE_ITEM)
+      break;
+    WANT(0 < count && count <= room);
+    for (k = 0; k < count; k++) {
+      WANT(quic_wire_ack_ranges_next(&one, payload, len, &range) == 1);
+      WANT(!memcmp(&range, &filled[k], sizeof range));
+    }
+    WANT(!memcmp(&one, &many, sizeof one));
+    WANT(!memcmp(filled + count, before, (6 - count) * sizeof range));
+  }
+  WANT(calls < 50 && count == 77 && !memcmp(filled, before, sizeof filled));
+  WANT(quic_wire_ack_ranges_next(&one, payload, len, &range) == answer);
+  WANT(!memcmp(&one, &many, sizeof one));
+}
+
+/* The ranges of an ACK that was read at the front are those of its blocks, as
+ * gap and length; |entry| gets the words that single calls give of it. */
+void front_ranges(const uint8_t *payload, size_t len,
+                  const quic_wire_frame *frame, const quic_wire_gap *gaps,
+                  size_t room, quic_wire_frame *entry) {
+  quic_wire_ack_ranges left;
+  quic_wire_range range, above;
+  size_t k;
+  *entry = *frame;
+  entry->flags &= ~(uint32_t)QUIC_WIRE_FLAG_MORE;
+  entry->data = entry->end;
+  entry->datalen = 0;
+  WANT(quic_wire_ack_ranges_init(&left, payload, len, frame) == 0);
+  WANT(quic_wire_ack_ranges_next(&left, payload, len, &above) == 1);
+  WANT(above.end - above.start == frame->datalen + 1);
+  for (k = 0; k < frame->data; k++) {
+    WANT(quic_wire_ack_ranges_next(&left, payload, len, &range) == 1);
+    WANT(above.start - range.end == gaps[k].gap + 1);
+    WANT(range.end - range.start == gaps[k].len + 1);
+    above = range;
+  }
+  WANT((left.begin < left.end) == (frame->flags >= QUIC_WIRE_FLAG_MORE));
+  WANT(frame->data == room || left.begin == left.end);
+}
+
+/* An ACK that was read, |len| bytes of |payload|, is written by its gaps in its
+ * shortest form, where all of them were told; and not where it goes below 0. */
+void gaps_written(const uint8_t *payload, size_t len,
+                  const quic_wire_frame *frame, const quic_wire_gap *gaps) {
+  uint8_t out[128], shortest[128];
+  quic_wire_frame below = *frame;
+  quic_wire_canon canon;
+  size_t n = 0, room = sizeof out, k;
+  int answer;
+  memset(out, 0xa5, sizeof out);
+  below.datalen = (size_t)frame->ack.largest + 1;
+  WANT(quic_wire_ack_gaps_write(&below, gaps, frame->data, out, room, &n) ==
+       INVALID);
+  answer = quic_wire_ack_gaps_write(frame, gaps, frame->data, out, room, &n);
+  if (frame->flags & QUIC_WIRE_FLAG_MORE) {
+    WANT(answer == INVALID && n == 0);
+  } else {
+    WANT(quic_wire_canonical(payload, len, shortest, sizeof shortest, &canon) ==
+         0);
+    WANT(answer == 0 && n == canon.len && !memcmp(out, shortest, n));
+    memset(out, 0xa5, n);
+    room = any() % (canon.len + 1);
+    n = 0;
+    answer = quic_wire_ack_gaps_write(frame, gaps, frame->data, out, room, &n);
+    WANT(n == canon.len &&
+         answer == (room < n ? QUIC_WIRE_ERR_NOBUF : QUIC_WIRE_OK));
+    if (answer == 0)
+      memset(out, 0xa5, n);
+  }
+  for (k = 0; k < sizeof out; k++)
+    WANT(out[k] == 0xa5);
+}

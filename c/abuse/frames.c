@@ -1,0 +1,241 @@
+/* Frames that are read: by an iterator, one with each call or many, from the
+ * beginning and from any place, and by strict types. */
+#include "abuse.h"
+
+static void iterator_nulls(void) {
+  quic_wire_frames frames = {0, QUIC_WIRE_NO_TYPE, 0, 0};
+  quic_wire_frame frame;
+  uint8_t byte = 1;
+  memset(&frame, 0, sizeof frame);
+  WANT(quic_wire_frames_init(NULL, &byte, 1) == INVALID);
+  WANT(quic_wire_frames_init(&frames, NULL, 1) == INVALID);
+  WANT(quic_wire_frames_init(&frames, NULL, 0) == QUIC_WIRE_ERR_EMPTY);
+  WANT(quic_wire_frames_init_strict(NULL, &byte, 1) == INVALID);
+  WANT(quic_wire_frames_init_strict(&frames, NULL, 1) == INVALID);
+  WANT(quic_wire_frames_init_strict(&frames, NULL, 0) == QUIC_WIRE_ERR_EMPTY);
+  WANT(quic_wire_frames_next(NULL, &byte, 1, &frame) == INVALID);
+  WANT(quic_wire_frames_next(&frames, &byte, 1, NULL) == INVALID);
+  WANT(quic_wire_frames_next(&frames, NULL, 1, &frame) == INVALID);
+  WANT(quic_wire_frames_next(&frames, NULL, 0, &frame) == 0);
+}
+
+static void fill_nulls(void) {
+  quic_wire_frames frames = {0, QUIC_WIRE_NO_TYPE, 0, 0};
+  quic_wire_frame frame;
+  uint8_t byte = 1;
+  size_t n = 0;
+  memset(&frame, 0, sizeof frame);
+  WANT(quic_wire_frames_fill(NULL, &byte, 1, &frame, 1, &n) == INVALID);
+  WANT(quic_wire_frames_fill(&frames, NULL, 1, &frame, 1, &n) == INVALID);
+  WANT(quic_wire_frames_fill(&frames, &byte, 1, NULL, 1, &n) == INVALID);
+  WANT(quic_wire_frames_fill(&frames, &byte, 1, &frame, 1, NULL) == INVALID);
+  WANT(quic_wire_frames_fill(&frames, &byte, 1, NULL, 0, &n) ==
+       QUIC_WIRE_ERR_NOBUF);
+  WANT(quic_wire_frames_fill(&frames, NULL, 0, &frame, 1, &n) == 0);
+  WANT(n == 0 && frames.offset == 0);
+  WANT(quic_wire_frames_first(NULL, &byte, 1, &frame, 1, &n) == INVALID);
+  WANT(quic_wire_frames_first(&frames, NULL, 1, &frame, 1, &n) == INVALID);
+  WANT(quic_wire_frames_first(&frames, &byte, 1, NULL, 1, &n) == INVALID);
+  WANT(quic_wire_frames_first(&frames, &byte, 1, &frame, 1, NULL) == INVALID);
+  WANT(quic_wire_frames_first(&frames, &byte, 1, NULL, 0, &n) ==
+       QUIC_WIRE_ERR_NOBUF);
+  WANT(quic_wire_frames_first(&frames, NULL, 0, &frame, 1, &n) ==
+       QUIC_WIRE_ERR_EMPTY);
+  WANT(quic_wire_frames_first(&frames, NULL, 0, NULL, 0, &n) ==
+       QUIC_WIRE_ERR_EMPTY);
+  WANT(n == 0 && frames.offset == 0);
+}
+
+void frames_nulls(void) {
+  iterator_nulls();
+  fill_nulls();
+  WANT(quic_wire_error_type(NULL) == QUIC_WIRE_NO_TYPE &&
+       quic_wire_error_reason(NULL) == 0);
+  WANT(quic_wire_padding_count(NULL, 1, NULL) == 0 &&
+       !quic_wire_reset_token(NULL, 1, NULL) &&
+       !quic_wire_path_data(NULL, 1, NULL));
+}
+
+/* The eight bytes of a frame that was read, as its number says them. */
+static void path_bytes(const uint8_t *payload, size_t len,
+                       const quic_wire_frame *frame) {
+  const uint8_t *bytes = quic_wire_path_data(payload, len, frame);
+  uint64_t number = 0;
+  size_t k;
+  WANT(!bytes == (frame->kind != QUIC_WIRE_PATH_CHALLENGE &&
+                  frame->kind != QUIC_WIRE_PATH_RESPONSE));
+  for (k = 0; bytes && k < 8; k++)
+    number = number << 8 | bytes[k];
+  WANT(!bytes || number == frame->path.data);
+}
+
+/* Reads on from any place, with any last type; |frame| is left with any words. */
+static void read_on_rubbish(const uint8_t *payload, size_t len,
+                            quic_wire_frame *frame) {
+  quic_wire_frames frames;
+  const uint32_t strict = (uint32_t)(any() % 2 ? 0 : edge());
+  const uint8_t *token;
+  uint64_t type;
+  size_t k;
+  int answer = 0;
+  frames.offset = place();
+  frames.last_type = edge();
+  frames.ended = (uint32_t)(any() % 4 ? 0 : edge());
+  frames.strict = strict;
+  memset(frame, (int)(any() % 256), sizeof *frame);
+  for (k = 0; k < 50 && (answer = quic_wire_frames_next(&frames, payload, len,
+                                                        frame)) == 1; k++) {
+    WANT(frame->begin < frame->end && frame->end <= len);
+    WANT(frame->data <= frame->end &&
+         frame->datalen <= frame->end - frame->data);
+    WANT(quic_wire_varint_read(payload + frame->begin, len - frame->begin,
+                               &type) &&
+         frame->type == type && type == frames.last_type);
+    WANT(quic_wire_padding_count(payload, len, frame) ==
+         (frame->kind == QUIC_WIRE_PADDING));
+    token = quic_wire_reset_token(payload, len, frame);
+    WANT(frame->kind == QUIC_WIRE_NEW_CONNECTION_ID
+             ? token + 16 == payload + frame->end
+             : !token);
+    path_bytes(payload, len, frame);
+  }
+  WANT(answer != QUIC_WIRE_ERR_MALFORMED || frame->type == 0);
+  WANT(k < 50 && (answer == 0 || answer == INVALID ||
+                  answer == QUIC_WIRE_ERR_MALFORMED));
+  WANT(frames.strict == strict);
+}
+
+/* Reads on, and asks for what a frame of any words and the ranges of any words
+ * have in the payload. */
+void read_rubbish(const uint8_t *payload, size_t len) {
+  quic_wire_frame frame;
+  const uint8_t *token;
+  read_on_rubbish(payload, len, &frame);
+  frame.begin = place();
+  frame.end = place();
+  frame.data = place();
+  frame.datalen = place();
+  token = quic_wire_path_data(payload, len, &frame);
+  WANT(!token || (payload <= token && token + 8 <= payload + len));
+  WANT(quic_wire_padding_count(payload, len, &frame) <= len);
+  token = quic_wire_reset_token(payload, len, &frame);
+  WANT(!token || token + 16 <= payload + len);
+  ranges_rubbish(payload, len, &frame);
+}
+
+/* The next frame by single calls, with a run of PADDING as one, is |entry|. */
+static void next_is(quic_wire_frames *one, const uint8_t *payload, size_t len,
+                    const quic_wire_frame *entry) {
+  quic_wire_frame frame, more;
+  WANT(quic_wire_frames_next(one, payload, len, &frame) == 1);
+  while (frame.kind == QUIC_WIRE_PADDING && frame.end < entry->end) {
+    WANT(payload[frame.end] == 0);
+    WANT(quic_wire_frames_next(one, payload, len, &more) == 1);
+    WANT(more.kind == QUIC_WIRE_PADDING && more.begin == frame.end);
+    frame.end = frame.data = more.end;
+  }
+  WANT(frame.kind != QUIC_WIRE_PADDING || frame.end == len ||
+       payload[frame.end]);
+  WANT(!memcmp(&frame, entry, sizeof frame));
+}
+
+/* The frames from any place on, many with one call, are those of single calls,
+ * with runs of PADDING as one. */
+void fill_rubbish(const uint8_t *payload, size_t len) {
+  quic_wire_frames one, many;
+  quic_wire_frame frame, filled[6], before[6];
+  size_t room = 1 + any() % 5, count, k, calls;
+  int answer = 0;
+  one.offset = place();
+  one.last_type = edge();
+  one.ended = (uint32_t)(any() % 8 ? 0 : edge());
+  one.strict = (uint32_t)(any() % 2 ? 0 : edge());
+  many = one;
+  memset(before, 0xa5, sizeof before);
+  for (calls = 0; calls < 50; calls++) {
+    memcpy(filled, before, sizeof filled);
+    count = 77;
+    answer = quic_wire_frames_fill(&many, payload, len, filled, room, &count);
+    if (answer != QUIC_WIRE_ITEM)
+      break;
+    WANT(0 < count && count <= room);
+    for (k = 0; k < count; k++)
+      next_is(&one, payload, len, &filled[k]);
+    WANT(!memcmp(&one, &many, sizeof one));
+    WANT(!memcmp(filled + count, before, (6 - count) * sizeof frame));
+  }
+  WANT(calls < 50 && count == 77);
+  WANT(quic_wire_frames_next(&one, payload, len, &frame) == answer);
+  if (answer == QUIC_WIRE_ERR_MALFORMED) {
+    WANT(!memcmp(&frame, &filled[0], sizeof frame));
+    WANT(!memcmp(filled + 1, before, 5 * sizeof frame));
+  } else {
+    WANT(!memcmp(filled, before, sizeof filled));
+  }
+  WANT(!memcmp(&one, &many, sizeof one));
+}
+
+/* The first frames with one call are those of the two calls that begin and go
+ * on. */
+void first_rubbish(const uint8_t *payload, size_t len) {
+  quic_wire_frames one, both;
+  quic_wire_frame first[5], filled[5];
+  size_t room = any() % 6, count = 77, others = 77;
+  int answer;
+  memset(first, 0xa5, sizeof first);
+  memset(filled, 0xa5, sizeof filled);
+  memset(&one, 0x5a, sizeof one);
+  memset(&both, 0x5a, sizeof both);
+  answer = quic_wire_frames_init(&both, payload, len);
+  if (answer == QUIC_WIRE_OK) {
+    answer = quic_wire_frames_fill(&both, payload, len, filled, room, &others);
+    if (answer == QUIC_WIRE_ERR_NOBUF)
+      memset(&both, 0x5a, sizeof both);
+  }
+  WANT(answer != 0);
+  WANT(quic_wire_frames_first(&one, payload, len, first, room, &count) ==
+       answer);
+  WANT(!memcmp(&one, &both, sizeof one) && count == others);
+  WANT(!memcmp(first, filled, sizeof first));
+}
+
+/* Whether a type stands first that has more bytes than it needs. */
+static int has_long_type(const uint8_t *bytes, size_t len) {
+  size_t width = len ? (size_t)1 << (bytes[0] >> 6) : 1, k;
+  uint64_t type = len ? bytes[0] & 0x3f : 0;
+  for (k = 1; k < width && k < len; k++)
+    type = type << 8 | bytes[k];
+  return width <= len && varint_len(type) < width;
+}
+
+/* Strict reading of any bytes, in which 0x40 is put somewhere, gives what other
+ * reading gives, up to the first type that is too long.  Returns whether there
+ * is such a one. */
+int strict_any(const uint8_t *bytes, size_t len) {
+  size_t at = any() % 2 ? 0 : any() % (len + 1);
+  uint8_t *payload = block(len + 1);
+  quic_wire_frames strict, frames;
+  quic_wire_frame frame, other;
+  int answer = QUIC_WIRE_ITEM, is_long = 0;
+  memcpy(payload, bytes, at);
+  payload[at] = 0x40;
+  memcpy(payload + at + 1, bytes + at, len - at);
+  len++;
+  WANT(quic_wire_frames_init(&frames, payload, len) == 0);
+  WANT(quic_wire_frames_init_strict(&strict, payload, len) == 0);
+  while (answer == QUIC_WIRE_ITEM && !is_long) {
+    is_long = has_long_type(payload + strict.offset, len - strict.offset);
+    answer = quic_wire_frames_next(&strict, payload, len, &frame);
+    if (is_long) {
+      WANT(answer == QUIC_WIRE_ERR_MALFORMED);
+      WANT(quic_wire_error_reason(&frame) == QUIC_WIRE_REASON_LONG_TYPE);
+      WANT(frame.begin == frames.offset);
+    } else {
+      WANT(quic_wire_frames_next(&frames, payload, len, &other) == answer);
+      WANT(answer == 0 || !memcmp(&frame, &other, sizeof frame));
+    }
+  }
+  WANT(quic_wire_frames_next(&strict, payload, len, &frame) == 0);
+  free(payload);
+  return is_long;
+}

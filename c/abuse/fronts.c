@@ -1,0 +1,97 @@
+/* Frames that are read at the front of what is left, without an iterator, by
+ * quic_wire_frame_read. */
+#include "abuse.h"
+
+void fronts_nulls(void) {
+  quic_wire_frame frame;
+  uint8_t byte = 1;
+  memset(&frame, 0, sizeof frame);
+  WANT(quic_wire_frame_read(NULL, 1, 0, &frame, NULL, 0) == INVALID);
+  WANT(quic_wire_frame_read(&byte, 1, 0, NULL, NULL, 0) == INVALID);
+  WANT(quic_wire_frame_read(&byte, 1, 0, &frame, NULL, 1) == INVALID);
+  WANT(quic_wire_frame_read(NULL, 0, 0, &frame, NULL, 0) ==
+       QUIC_WIRE_ERR_EMPTY);
+}
+
+static int is_extension(const quic_wire_frame *frame) {
+  return frame->kind == QUIC_WIRE_ACK_FREQUENCY ||
+         frame->kind == QUIC_WIRE_IMMEDIATE_ACK;
+}
+
+/* A frame of |n| bytes that was read at |at| is the next one of an iterator; of
+ * an ACK the ranges too, of which |gaps| has as many as there was room for, and
+ * behind them what it had |before|. */
+static void front_is_next(const uint8_t *payload, size_t len, size_t at,
+                          size_t n, const quic_wire_frame *frame,
+                          const quic_wire_gap gaps[3],
+                          const quic_wire_gap before[3], size_t room,
+                          quic_wire_frames *frames) {
+  quic_wire_frame entry = *frame, want;
+  size_t count;
+  WANT(quic_wire_frames_fill(frames, payload, len, &want, 1, &count) == 1);
+  WANT(n > 0 && n == frame->end && frames->offset == at + frame->end);
+  count = 0;
+  if (frame->kind == QUIC_WIRE_ACK) {
+    front_ranges(payload + at, len - at, frame, gaps, room, &entry);
+    count = frame->data;
+    gaps_written(payload + at, n, frame, gaps);
+  }
+  WANT(count <= room && !memcmp(gaps + count, before + count,
+                                (3 - count) * sizeof *gaps));
+  entry.begin += at;
+  entry.end += at;
+  entry.data += at;
+  WANT(!memcmp(&entry, &want, sizeof entry));
+}
+
+/* What is no frame at |at| is none for an iterator either, but that of the
+ * extension which |how| leaves out. */
+static void front_refused(const uint8_t *payload, size_t len, size_t at,
+                          int how, const quic_wire_frame *frame,
+                          quic_wire_frames *frames) {
+  quic_wire_frame want;
+  if (quic_wire_frames_next(frames, payload, len, &want) == 1) {
+    WANT(how & QUIC_WIRE_READ_BASIC && is_extension(&want));
+    WANT(quic_wire_error_type(frame) == want.kind);
+    WANT(quic_wire_error_reason(frame) == QUIC_WIRE_REASON_INVALID_FRAME_ID);
+    return;
+  }
+  WANT(want.begin == at && frame->begin == 0);
+  WANT(quic_wire_error_reason(frame) == quic_wire_error_reason(&want));
+  WANT(quic_wire_error_type(frame) == quic_wire_error_type(&want) ||
+       quic_wire_error_type(frame) == QUIC_WIRE_NO_TYPE);
+}
+
+/* The frames of a payload, each read at the front of what is left, are those
+ * of an iterator over it. */
+void front_rubbish(const uint8_t *payload, size_t len) {
+  quic_wire_frames frames;
+  quic_wire_frame frame, want;
+  quic_wire_gap gaps[3], before[3];
+  size_t at = 0, room = any() % 3;
+  int how = (int)(any() % 4);
+  int64_t n;
+  int answer = how & QUIC_WIRE_READ_STRICT
+                   ? quic_wire_frames_init_strict(&frames, payload, len)
+                   : quic_wire_frames_init(&frames, payload, len);
+  memset(before, 0xa5, sizeof before);
+  do {
+    memcpy(gaps, before, sizeof gaps);
+    memset(&frame, 0xa5, sizeof frame);
+    n = quic_wire_frame_read(payload + at, len - at, how, &frame, gaps, room);
+    if (n < 0)
+      break;
+    WANT(!(how & QUIC_WIRE_READ_BASIC) || !is_extension(&frame));
+    front_is_next(payload, len, at, (size_t)n, &frame, gaps, before, room,
+                  &frames);
+    at += (size_t)n;
+  } while (1);
+  WANT(!memcmp(gaps, before, sizeof gaps));
+  if (n == QUIC_WIRE_ERR_EMPTY) {
+    WANT(at == len && (!len || !quic_wire_frames_next(&frames, payload, len,
+                                                      &want)));
+    return;
+  }
+  WANT(n == QUIC_WIRE_ERR_MALFORMED && answer == 0);
+  front_refused(payload, len, at, how, &frame, &frames);
+}

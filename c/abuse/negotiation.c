@@ -1,0 +1,124 @@
+/* Version negotiations. */
+#include "abuse.h"
+
+void negotiation_nulls(void) {
+  static const uint32_t one[] = {1};
+  quic_wire_head head;
+  uint8_t id[4] = {1, 2, 3, 4}, out[16] = {0};
+  size_t n = 77;
+  WANT(quic_wire_negotiation_read(NULL, 0, &head) == INVALID);
+  WANT(quic_wire_negotiation_read(out, 7, NULL) == INVALID);
+  WANT(quic_wire_negotiation_write(0, NULL, 1, id, 4, one, 1, out, 16, &n) ==
+       INVALID);
+  WANT(quic_wire_negotiation_write(0, id, 4, NULL, 1, one, 1, out, 16, &n) ==
+       INVALID);
+  WANT(quic_wire_negotiation_write(0, id, 4, id, 4, NULL, 1, out, 16, &n) ==
+       INVALID);
+  WANT(quic_wire_negotiation_write(0, id, 4, id, 4, one, 1, NULL, 16, &n) ==
+       INVALID);
+  WANT(quic_wire_negotiation_write(0, id, 4, id, 4, one, 1, out, 16, NULL) ==
+       INVALID);
+  WANT(n == 77);
+  WANT(quic_wire_negotiation_write(0, id, 4, id, 4, one, 1, NULL, 0, &n) ==
+           QUIC_WIRE_ERR_NOBUF &&
+       n == 19);
+  WANT(quic_wire_negotiation_write(0, NULL, 0, NULL, 0, NULL, 0, out, 16, &n) ==
+           0 &&
+       n == 7 && !memcmp(out, "\x80\0\0\0\0\0", 7));
+}
+
+/* A version negotiation is read where it is one by a plain model, whole, cut off
+ * behind so many bytes, and with a bit turned; its words are those that
+ * quic_wire_head_read tells where it tells any. */
+static void negotiation_read(uint8_t *packet, size_t len, size_t cut) {
+  static const uint32_t one[] = {1};
+  quic_wire_head head, same;
+  size_t i, dcidlen, scidlen;
+  int answer, is;
+  for (i = 0; i < 3; i++) {
+    const size_t whole = i == 1 ? cut : len;
+    if (i == 2 && len)
+      packet[any() % (any() % 2 ? 5 : len)] ^= (uint8_t)(1u << (any() % 8));
+    is = whole > 5 && packet[0] >= 0x80 && !memcmp(packet + 1, "\0\0\0", 4);
+    dcidlen = is ? packet[5] : 0;
+    is = is && whole > 6 + dcidlen;
+    scidlen = is ? packet[6 + dcidlen] : 0;
+    is = is && whole >= 7 + dcidlen + scidlen;
+    memset(&head, 0x5a, sizeof head);
+    same = head;
+    answer = quic_wire_negotiation_read(packet, whole, &head);
+    WANT(answer == (is ? 0 : QUIC_WIRE_ERR_MALFORMED));
+    if (!is) {
+      WANT(!memcmp(&head, &same, sizeof head));
+      continue;
+    }
+    WANT(head.kind == QUIC_WIRE_VERSION_NEGOTIATION && head.first == packet[0]);
+    WANT(head.dcidlen == dcidlen && head.scidlen == scidlen);
+    WANT(head.version == 0 && head.end == whole);
+    WANT(head.head_end == 7 + dcidlen + scidlen);
+    WANT(head.token == 0 && head.tokenlen == 0 && head.len == 0);
+    answer = quic_wire_head_read(packet, whole, 0, one, 1, &same);
+    if (dcidlen <= 20 && scidlen <= 20)
+      WANT(answer == 0 && !memcmp(&head, &same, sizeof head));
+    else
+      WANT(answer == QUIC_WIRE_PACKET_MALFORMED_CID);
+  }
+}
+
+/* A version negotiation as RFC 9000, section 17.2.1, draws it; its length. */
+static size_t model_negotiation(uint8_t first, uint8_t *const ids[2],
+                                const size_t lens[2], const uint32_t *versions,
+                                size_t n, uint8_t *model) {
+  size_t at = 0, i, k;
+  model[at++] = first | 0x80;
+  for (k = 0; k < 4; k++)
+    model[at++] = 0;
+  for (i = 0; i < 2; i++) {
+    model[at++] = (uint8_t)lens[i];
+    for (k = 0; k < lens[i]; k++)
+      model[at++] = ids[i][k];
+  }
+  for (k = 0; k < 4 * n; k++)
+    model[at++] = (uint8_t)(versions[k / 4] >> (24 - 8 * (k % 4)));
+  return at;
+}
+
+/* A version negotiation is written as RFC 9000, section 17.2.1, draws it, with
+ * ids of any length, and read back; any bytes are read as one just where that
+ * section has one, and as quic_wire_head_read tells of ids of at most 20. */
+void negotiation_any(void) {
+  const uint8_t first = (uint8_t)any();
+  const size_t most = any() % 3 ? 24 : 260, n = any() % 5;
+  size_t lens[2], room, want, written = 77, i, k;
+  uint8_t *ids[2], *dest, model[7 + 2 * 255 + 4 * 4];
+  uint32_t versions[4];
+  int answer;
+  for (i = 0; i < 2; i++) {
+    lens[i] = any() % most;
+    ids[i] = block(lens[i]);
+    any_bytes(ids[i], lens[i]);
+  }
+  for (k = 0; k < n; k++)
+    versions[k] = (uint32_t)any();
+  want = 7 + lens[0] + lens[1] + 4 * n;
+  room = any() % 3 ? want + any() % 8 : any() % (want + 1);
+  dest = block(room);
+  memset(dest, 0xa5, room);
+  answer = quic_wire_negotiation_write(first, ids[0], lens[0], ids[1], lens[1],
+                                       versions, n, dest, room, &written);
+  if (lens[0] > 255 || lens[1] > 255) {
+    WANT(answer == INVALID && written == 77);
+  } else if (room < want) {
+    WANT(answer == QUIC_WIRE_ERR_NOBUF && written == want);
+  } else {
+    WANT(answer == 0 && written == want);
+    WANT(model_negotiation(first, ids, lens, versions, n, model) == want &&
+         !memcmp(dest, model, want));
+    negotiation_read(dest, want, any() % (want + 1));
+  }
+  for (k = answer == 0 ? want : 0; k < room; k++)
+    WANT(dest[k] == 0xa5);
+  for (i = 0; i < 2; i++)
+    free(ids[i]);
+  free(dest);
+}

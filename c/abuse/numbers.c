@@ -1,0 +1,58 @@
+/* Numbers of variable length, and numbers of packets. */
+#include "abuse.h"
+
+void numbers_nulls(void) {
+  uint8_t id[4] = {1, 2, 3, 4};
+  uint64_t number = 77;
+  WANT(quic_wire_varint_read(NULL, 1, &number) == 0 &&
+       quic_wire_varint_read(id, 1, NULL) == 0);
+  WANT(quic_wire_varint_write(1, 0, NULL, 1) == 0);
+}
+
+/* Numbers of variable length: each that is written is read, in its least width
+ * by 0, and in no less. */
+void varint_any(void) {
+  const uint64_t n = edge();
+  const uint32_t width = (uint32_t)(any() % 9);
+  const size_t least = varint_len(n), room = any() % 10;
+  uint8_t dest[10];
+  uint64_t read = 0;
+  size_t len, want = width ? width : least;
+  if (n >> 62 || want < least || want > room || (want & (want - 1)))
+    want = 0;
+  len = quic_wire_varint_write(n, width, dest, room);
+  WANT(len == want);
+  if (len)
+    WANT(quic_wire_varint_read(dest, len, &read) == len && read == n &&
+         quic_wire_varint_read(dest, len - 1, &read) == 0);
+}
+
+/* The length of a number by a plain model, and that it is found again. */
+void number_len_any(void) {
+  uint64_t acked = any() % 2 ? edge() : any() >> 2;
+  uint64_t number = any() % 4 ? acked + any() % (1ull << (any() % 34)) : edge();
+  uint64_t twice = 2 * (number - acked);
+  int answer = quic_wire_number_len(number, acked);
+  if (number < acked || number - acked >= 1ull << 31)
+    WANT(answer == INVALID);
+  else
+    WANT(answer == (twice < 256 ? 1 : twice < 65536 ? 2 : twice < 16777216 ? 3 : 4));
+}
+
+/* Numbers of any words are expanded as RFC 9000, appendix A.3, has it, without
+ * its last bound. */
+void number_expand_any(void) {
+  const uint32_t len = (uint32_t)(any() % 6);
+  const uint64_t window = 1ull << (8 * len), half = window / 2;
+  const uint64_t expected = edge() >> (any() % 9 ? 2 : 0);
+  const uint64_t written = any() % 9 ? edge() % window : edge();
+  uint64_t number = UINT64_MAX;
+  if (len >= 1 && len <= 4 && written < window && expected >> 62 == 0) {
+    number = (expected & ~(window - 1)) | written;
+    if (number + half <= expected)
+      number += window;
+    else if (number > expected + half && number >= window)
+      number -= window;
+  }
+  WANT(quic_wire_number_expand(written, len, expected) == number);
+}

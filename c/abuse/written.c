@@ -1,0 +1,137 @@
+/* Frames that are written, whole or up to their data, and how long they are. */
+#include "abuse.h"
+
+void written_nulls(void) {
+  quic_wire_frame frame;
+  uint8_t out[8];
+  size_t n = 0;
+  memset(&frame, 0, sizeof frame);
+  WANT(quic_wire_frame_write(NULL, NULL, 0, 0, out, 8, &n) == INVALID);
+  WANT(quic_wire_frame_write(&frame, NULL, 0, 0, NULL, 8, &n) == INVALID);
+  WANT(quic_wire_frame_write(&frame, NULL, 0, 0, NULL, 0, &n) ==
+           QUIC_WIRE_ERR_NOBUF && n == 1);
+  WANT(quic_wire_frame_write(&frame, NULL, 0, 0, out, 8, NULL) == 0);
+  WANT(quic_wire_frame_len(NULL, NULL, 0, 0, &n) == INVALID);
+  WANT(quic_wire_frame_len(&frame, NULL, 0, 0, NULL) == INVALID);
+  frame.kind = QUIC_WIRE_CRYPTO;
+  frame.datalen = 1;
+  WANT(quic_wire_frame_write(&frame, NULL, 1, 0, out, 8, &n) == INVALID);
+  WANT(quic_wire_frame_len(&frame, NULL, 1, 0, &n) == INVALID);
+  frame.datalen = 0;
+  WANT(quic_wire_frame_head_write(NULL, 0, out, 8, &n) == INVALID);
+  WANT(quic_wire_frame_head_write(&frame, 0, NULL, 8, &n) == INVALID);
+  WANT(quic_wire_frame_head_write(&frame, 0, NULL, 0, &n) ==
+           QUIC_WIRE_ERR_NOBUF && n == 3);
+  WANT(quic_wire_frame_head_write(&frame, 0, out, 8, NULL) == 0);
+}
+
+/* What has no data is written as it was read, whatever |data| and its place in
+ * them are: a PING behind a MAX_DATA of five bytes, and the end of a stream. */
+void without_data(void) {
+  static const uint8_t payload[] = {0x10, 0x80, 0x01, 0x00, 0x00, 0x01,
+                                    0x0d, 0x04, 0x09};
+  static const size_t places[] = {6, 0, 3, SIZE_MAX};
+  quic_wire_frames frames;
+  quic_wire_frame frame;
+  uint8_t out[8] = {0};
+  size_t n = 0, k;
+  WANT(quic_wire_frames_init(&frames, payload, sizeof payload) == 0);
+  WANT(quic_wire_frames_next(&frames, payload, sizeof payload, &frame) == 1);
+  WANT(quic_wire_frames_next(&frames, payload, sizeof payload, &frame) == 1);
+  WANT(frame.kind == QUIC_WIRE_PING && frame.begin == 5 && frame.data == 6);
+  for (k = 0; k < sizeof places / sizeof *places; k++) {
+    frame.data = places[k];
+    WANT(quic_wire_frame_write(&frame, NULL, 0, 0, out, 8, &n) == 0);
+    WANT(n == 1 && out[0] == 0x01);
+    WANT(quic_wire_frame_write(&frame, NULL, 9, 0, out, 8, &n) == 0 && n == 1);
+    WANT(quic_wire_frame_write(&frame, payload, 2, 1, out, 8, &n) == 0);
+    WANT(n == 1 && out[0] == 0x01 && out[1] == 0);
+    WANT(quic_wire_frame_len(&frame, NULL, 0, 0, &n) == 0 && n == 1);
+  }
+  frame.datalen = 1;
+  WANT(quic_wire_frame_write(&frame, payload, 9, 0, out, 8, &n) == INVALID);
+  WANT(quic_wire_frame_write(&frame, NULL, 0, 0, out, 8, &n) == INVALID);
+  WANT(quic_wire_frames_next(&frames, payload, sizeof payload, &frame) == 1);
+  WANT(frame.kind == QUIC_WIRE_STREAM && frame.flags == QUIC_WIRE_FLAG_FIN);
+  WANT(quic_wire_frame_write(&frame, NULL, 0, 1, out, 8, &n) == 0 && n == 3);
+  WANT(!memcmp(out, payload + 6, 3));
+  frame.datalen = 1;
+  WANT(quic_wire_frame_write(&frame, NULL, 0, 1, out, 8, &n) == INVALID);
+}
+
+/* Writes a frame of any words, and reads it back where it was written. */
+void write_rubbish(const uint8_t *data, size_t len) {
+  size_t room = any() % 32, written = 0, k;
+  uint8_t *out = block(room), *before = block(room);
+  quic_wire_frame frame, again;
+  quic_wire_frames frames;
+  int answer;
+  memset(out, 0xa5, room);
+  memcpy(before, out, room);
+  memset(&frame, 0, sizeof frame);
+  frame.kind = (uint16_t)(any() % 5 ? any() % 0x32 : edge());
+  frame.type = (uint16_t)any();
+  frame.flags = (uint32_t)(any() % 3);
+  frame.data = place();
+  frame.datalen = place();
+  for (k = 0; k < 5; k++)
+    frame.numbers[k] = any() % 3 ? 0 : edge();
+  answer = quic_wire_frame_write(&frame, data, len, (int)(any() % 2), out, room,
+                                 &written);
+  if (answer == 0) {
+    WANT(written <= room);
+    WANT(!memcmp(out + written, before + written, room - written));
+    WANT(quic_wire_frames_init(&frames, out, written) == 0);
+    WANT(quic_wire_frames_next(&frames, out, written, &again) == 1);
+    WANT(again.kind == frame.kind && again.flags == frame.flags);
+    WANT(again.end == written && again.datalen == frame.datalen);
+    WANT(!memcmp(again.numbers, frame.numbers, sizeof frame.numbers));
+    WANT(!again.datalen ||
+         !memcmp(out + again.data, data + frame.data, again.datalen));
+  } else {
+    WANT(answer == QUIC_WIRE_ERR_NOBUF ? written > room : answer == INVALID);
+    WANT(!memcmp(out, before, room));
+  }
+  free(out);
+  free(before);
+}
+
+/* The head of a frame of any words is the front of what is written of it with
+ * data, and what can be written whole has the length that is told before. */
+void head_rubbish(void) {
+  static const uint16_t kinds[] = {QUIC_WIRE_CRYPTO, QUIC_WIRE_STREAM,
+                                   QUIC_WIRE_DATAGRAM};
+  static uint8_t data[70], whole[128];
+  uint8_t head[48];
+  size_t room = any() % 48, n = 77, all = 77, told = 77, k;
+  int last = (int)(any() % 2), answer, written;
+  quic_wire_frame frame;
+  memset(&frame, 0, sizeof frame);
+  frame.kind = any() % 16 ? kinds[any() % 3] : (uint16_t)(any() % 0x32);
+  frame.type = (uint16_t)any();
+  frame.flags = (uint32_t)(any() % 3);
+  frame.datalen = any() % 70;
+  for (k = 0; k < 5; k++)
+    frame.numbers[k] = any() % 3 ? 0 : edge();
+  memset(head, 0xa5, sizeof head);
+  answer = quic_wire_frame_head_write(&frame, last, head, room, &n);
+  written = quic_wire_frame_write(&frame, data, sizeof data, last, whole,
+                                  sizeof whole, &all);
+  WANT(quic_wire_frame_len(&frame, data, sizeof data, last, &told) == written);
+  WANT(told == all);
+  if (frame.kind != kinds[0] && frame.kind != kinds[1] &&
+      frame.kind != kinds[2]) {
+    WANT(answer == INVALID);
+  } else if (written != 0) {
+    WANT(written == INVALID && answer == INVALID && n == 77);
+  } else {
+    WANT(answer == (room < n ? QUIC_WIRE_ERR_NOBUF : 0));
+    WANT(n == all - frame.datalen);
+  }
+  for (k = answer == 0 ? n : 0; k < sizeof head; k++)
+    WANT(head[k] == 0xa5);
+  WANT(answer != 0 || !memcmp(head, whole, n));
+  frame.datalen = (size_t)edge();
+  answer = quic_wire_frame_head_write(&frame, last, head, sizeof head, &n);
+  WANT(answer == INVALID || (answer == 0 && n <= 25));
+}

@@ -14,15 +14,14 @@
 #include "initial_keys.h"
 #include "quic_wire.h"
 
-enum { MOST = 65535, ID = 20, FLOWS = 4096 };
+enum { MOST = 65535, FLOWS = 4096, ID = 20 }; /* no id of versions 1 and 2 is longer */
 
 static const uint32_t versions[] = {VERSION_1, VERSION_2};
 
 /* What is kept of a side, QUIC_WIRE_CLIENT or QUIC_WIRE_SERVER. */
 typedef struct side {
   endpoint end;
-  int has_id; /* a long head told how long its ids are */
-  uint8_t idlen;
+  uint8_t has_id, idlen; /* a long head told how long its ids are */
   uint64_t expected; /* the next number of its Initial packets */
 } side;
 
@@ -30,8 +29,7 @@ typedef struct side {
 typedef struct flow {
   struct flow *next;
   side sides[2];
-  int has_keys; /* Initial packets are opened by this id */
-  uint8_t idlen, id[ID];
+  uint8_t has_keys, idlen, id[ID]; /* the keys of Initial packets come from this id */
 } flow;
 
 /* A payload that was opened, and the first byte of its packet. */
@@ -49,13 +47,9 @@ static void check(int is_so, const char *what) {
   }
 }
 
-static uint32_t version_at(const uint8_t *at) {
-  return (uint32_t)two_bytes(at) << 16 | (uint32_t)two_bytes(at + 2);
-}
-
 /* Whether a datagram begins a flow of QUIC. */
 static int is_first(const datagram *d) {
-  const uint32_t version = d->len < 7 ? 0 : version_at(d->bytes + 1);
+  const uint32_t version = d->len < 7 ? 0 : four_bytes(d->bytes + 1);
   return d->len >= 7 && d->bytes[0] & QUIC_WIRE_LONG_FORM &&
          (version == VERSION_1 || version == VERSION_2 || version == 0 ||
           (version & 0x0f0f0f0f) == 0x0a0a0a0a);
@@ -113,25 +107,29 @@ static const char *open_by(const uint8_t *id, size_t idlen, unsigned from, uint6
   return NULL;
 }
 
+/* Takes the id of a packet for the one that the keys of its flow come from. */
+static void take_id(flow *f, const uint8_t *packet, const quic_wire_head *head) {
+  f->has_keys = 1;
+  f->idlen = head->dcidlen;
+  memcpy(f->id, quic_wire_dcid(packet, head), head->dcidlen);
+}
+
 /* Opens an Initial packet by the keys of its flow, or else by those of its own id:
  * then it is a client's first one, or its first one behind a Retry, and the keys
  * are the flow's from there on.  Returns NULL, or why it can't be opened. */
 static const char *open_initial(flow *f, unsigned *from, const uint8_t *packet,
                                 const quic_wire_head *head, opened *out) {
-  const uint8_t *id = quic_wire_dcid(packet, head);
-  const char *why = "the client's first Initial packet is missing";
+  const char *why = "no first Initial packet of the client";
   if (f->has_keys)
     why = open_by(f->id, f->idlen, *from, f->sides[*from].expected, packet, head, out);
-  if (why && head->dcidlen <= ID &&
-      !open_by(id, head->dcidlen, QUIC_WIRE_CLIENT, 0, packet, head, out)) {
+  if (why && !open_by(quic_wire_dcid(packet, head), head->dcidlen, QUIC_WIRE_CLIENT, 0, packet,
+                      head, out)) {
     const side client = f->sides[*from];
     f->sides[QUIC_WIRE_SERVER] = f->sides[!*from];
     f->sides[QUIC_WIRE_CLIENT] = client;
     f->sides[QUIC_WIRE_CLIENT].expected = f->sides[QUIC_WIRE_SERVER].expected = 0;
     *from = QUIC_WIRE_CLIENT;
-    f->has_keys = 1;
-    f->idlen = head->dcidlen;
-    memcpy(f->id, id, head->dcidlen);
+    take_id(f, packet, head);
     why = NULL;
   }
   if (!why && out->number >= f->sides[*from].expected && (out->number + 1) >> 62 == 0)
@@ -200,10 +198,10 @@ static void print_frames(const uint8_t *payload, size_t len) {
   while (answer >= 0 && (answer = quic_wire_frames_fill(&frames, payload, len, &frame, 1,
                                                         &count)) == QUIC_WIRE_ITEM)
     print_frame(payload, len, &frame);
-  if (answer == QUIC_WIRE_ERR_MALFORMED)
-    printf("  : %s\n", quic_wire_reason_text(quic_wire_error_reason(&frame)));
-  else if (answer != QUIC_WIRE_OK)
-    printf("  : %s\n", quic_wire_strerror(answer));
+  if (answer != QUIC_WIRE_OK)
+    printf("  : %s\n", answer == QUIC_WIRE_ERR_MALFORMED
+                           ? quic_wire_reason_text(quic_wire_error_reason(&frame))
+                           : quic_wire_strerror(answer));
 }
 
 /* The versions that a version negotiation offers.  Returns whether all are whole. */
@@ -211,7 +209,7 @@ static int print_versions(const uint8_t *packet, const quic_wire_head *head) {
   uint32_t i = head->head_end;
   printf(" versions");
   for (; head->end - i >= 4; i += 4)
-    printf(" %08" PRIx32, version_at(packet + i));
+    printf(" %08" PRIx32, four_bytes(packet + i));
   return i == head->end;
 }
 
@@ -276,6 +274,8 @@ static void print_datagram(const datagram *d, flow *f, unsigned from) {
       f->sides[from].has_id = 1;
       f->sides[from].idlen = head.scidlen;
     }
+    if (head.kind == QUIC_WIRE_INITIAL && from == QUIC_WIRE_CLIENT && !f->has_keys)
+      take_id(f, packet, &head); /* a packet that is cut off has it too */
   }
   if (d->lost)
     printf("%lu %c rest: %zu bytes are missing\n", d->frame, "cs"[from], d->lost);

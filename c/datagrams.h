@@ -28,6 +28,10 @@ static void check(int is_so, const char *what);
 
 static size_t two_bytes(const uint8_t *at) { return (size_t)(at[0] << 8 | at[1]); }
 
+static uint32_t four_bytes(const uint8_t *at) {
+  return (uint32_t)two_bytes(at) << 16 | (uint32_t)two_bytes(at + 2);
+}
+
 /* What stands before the IP packet in each kind of capture: |len| bytes, with an
  * EtherType at |type|, or none where that is |len|. */
 typedef struct link_head {

@@ -5,99 +5,20 @@
  * A.2. */
 #define _POSIX_C_SOURCE 200809L
 #include <inttypes.h>
-#include <openssl/evp.h>
-#include <openssl/hmac.h>
 #include <stdio.h>
 #include <stdlib.h>
 #include <string.h>
 
+#include "initial_keys.h"
 #include "quic_wire.h"
 
-enum { TAG = 16, SAMPLE = 16, MOST = 65527 };
-
-typedef struct keys {
-  uint8_t key[16], iv[12], hp[16];
-} keys;
+enum { MOST = 65527 };
 
 static void check(int is_so, const char *what) {
   if (!is_so) {
     fprintf(stderr, "initial: %s\n", what);
     exit(1);
   }
-}
-
-static void hmac(const uint8_t *key, size_t keylen, const uint8_t *bytes,
-                 size_t len, uint8_t out[32]) {
-  check(HMAC(EVP_sha256(), key, (int)keylen, bytes, len, out, NULL) != NULL,
-        "no HMAC");
-}
-
-/* HKDF-Expand-Label of TLS 1.3 with no context, for at most 32 bytes. */
-static void expand(const uint8_t secret[32], const char *label, uint8_t *out,
-                   size_t len) {
-  uint8_t info[64] = {0, (uint8_t)len}, block[32];
-  const size_t labellen = strlen(label);
-  info[2] = (uint8_t)(6 + labellen);
-  memcpy(info + 3, "tls13 ", 6);
-  memcpy(info + 9, label, labellen);
-  info[10 + labellen] = 1; /* behind the length of no context: the first block */
-  hmac(secret, 32, info, 11 + labellen, block);
-  memcpy(out, block, len);
-}
-
-/* The keys of a client's Initial packets (RFC 9001, section 5.2). */
-static keys client_keys(const uint8_t *dcid, size_t dcidlen) {
-  static const uint8_t salt[] = {0x38, 0x76, 0x2c, 0xf7, 0xf5, 0x59, 0x34,
-                                 0xb3, 0x4d, 0x17, 0x9a, 0xe6, 0xa4, 0xc8,
-                                 0x0c, 0xad, 0xcc, 0xbb, 0x7f, 0x0a};
-  uint8_t initial[32], client[32];
-  keys k;
-  hmac(salt, sizeof salt, dcid, dcidlen, initial);
-  expand(initial, "client in", client, 32);
-  expand(client, "quic key", k.key, 16);
-  expand(client, "quic iv", k.iv, 12);
-  expand(client, "quic hp", k.hp, 16);
-  return k;
-}
-
-/* The first five bytes of a block that is encrypted: a header's mask. */
-static void make_mask(const keys *k, const uint8_t *sample, uint8_t mask[5]) {
-  EVP_CIPHER_CTX *aes = EVP_CIPHER_CTX_new();
-  uint8_t block[32];
-  int len = 0;
-  check(aes && EVP_EncryptInit_ex(aes, EVP_aes_128_ecb(), NULL, k->hp, NULL) &&
-            EVP_EncryptUpdate(aes, block, &len, sample, SAMPLE),
-        "no AES");
-  EVP_CIPHER_CTX_free(aes);
-  memcpy(mask, block, 5);
-}
-
-/* Seals |len| bytes behind a header of |headlen| in their place, and puts the
- * tag behind them; or opens them, of which the tag is then the last.  Returns
- * whether the tag is right. */
-static int crypt_payload(const keys *k, int seal, uint64_t number,
-                         const uint8_t *head, size_t headlen, uint8_t *payload,
-                         size_t len) {
-  EVP_CIPHER_CTX *gcm = EVP_CIPHER_CTX_new();
-  uint8_t nonce[12], end[TAG];
-  int n = 0, is_right, i;
-  memcpy(nonce, k->iv, 12);
-  for (i = 0; i < 8; i++)
-    nonce[11 - i] ^= (uint8_t)(number >> (8 * i));
-  if (!seal)
-    len -= TAG;
-  check(gcm &&
-            EVP_CipherInit_ex(gcm, EVP_aes_128_gcm(), NULL, k->key, nonce, seal) &&
-            EVP_CipherUpdate(gcm, NULL, &n, head, (int)headlen) &&
-            EVP_CipherUpdate(gcm, payload, &n, payload, (int)len),
-        "no AES-GCM");
-  if (!seal)
-    EVP_CIPHER_CTX_ctrl(gcm, EVP_CTRL_GCM_SET_TAG, TAG, payload + len);
-  is_right = EVP_CipherFinal_ex(gcm, end, &n) == 1;
-  if (seal)
-    EVP_CIPHER_CTX_ctrl(gcm, EVP_CTRL_GCM_GET_TAG, TAG, payload + len);
-  EVP_CIPHER_CTX_free(gcm);
-  return is_right;
 }
 
 /* Opens a packet in its place.  Returns where its payload begins, and its number
@@ -117,7 +38,7 @@ static size_t open_packet(const keys *k, uint8_t *packet,
   begin = head->head_end + (size_t)numberlen;
   check(head->end - begin >= TAG &&
             crypt_payload(k, 0, *number, packet, begin, packet + begin,
-                          head->end - begin),
+                          head->end - begin, packet + begin),
         "the tag is wrong");
   return begin;
 }
@@ -136,7 +57,8 @@ static size_t seal_packet(const keys *k, const quic_wire_said *said,
   check(headlen > 0 && end <= room, "no room");
   memcpy(packet + begin, payload, len);
   check(quic_wire_set_len(packet, end, place, said->lengthlen) == 0, "too long");
-  crypt_payload(k, 1, said->number, packet, begin, packet + begin, len);
+  crypt_payload(k, 1, said->number, packet, begin, packet + begin, len,
+                packet + begin);
   check(quic_wire_sample(packet, end, place, SAMPLE) != NULL, "too short");
   make_mask(k, quic_wire_sample(packet, end, place, SAMPLE), mask);
   check(quic_wire_protect(packet, end, place, mask) > 0, "not protected");
@@ -167,7 +89,7 @@ static size_t read_hex(FILE *file, uint8_t *out, size_t room) {
 }
 
 int main(void) {
-  static const uint32_t versions[] = {1};
+  static const uint32_t versions[] = {VERSION_1};
   static uint8_t packet[MOST], given[MOST], again[MOST];
   quic_wire_said said = {QUIC_WIRE_INITIAL, 0, 0, 2, 1, 0};
   quic_wire_head head;
@@ -182,7 +104,7 @@ int main(void) {
         "no Initial packet of a client's first datagram");
   memcpy(given, packet, len);
   dcid = quic_wire_dcid(given, &head);
-  k = client_keys(dcid, head.dcidlen);
+  k = initial_keys(VERSION_1, QUIC_WIRE_CLIENT, dcid, head.dcidlen);
 
   begin = open_packet(&k, packet, &head, &said.number);
   said.numberlen = (uint8_t)(begin - head.head_end);

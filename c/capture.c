@@ -1,0 +1,300 @@
+/* capture FILE: prints the QUIC packets of a capture file, a line each, and the
+ * frames of Initial packets, which anyone can open: their keys come from an id
+ * that the client sends (RFC 9001, section 5.2).  datagrams.h says which captures
+ * are read.  A datagram is QUIC's if it begins with a long head of version 1 or 2,
+ * of version 0 (a version negotiation) or of a reserved one (RFC 9000, section
+ * 15), or if one of its flow did.  What can't be read is told behind a colon. */
+#define _DEFAULT_SOURCE
+#include <inttypes.h>
+#include <stdio.h>
+#include <stdlib.h>
+#include <string.h>
+
+#include "datagrams.h"
+#include "initial_keys.h"
+#include "quic_wire.h"
+
+enum { MOST = 65535, FLOWS = 4096, ID = 20 }; /* no id of versions 1 and 2 is longer */
+
+static const uint32_t versions[] = {VERSION_1, VERSION_2};
+
+/* What is kept of a side, QUIC_WIRE_CLIENT or QUIC_WIRE_SERVER. */
+typedef struct side {
+  endpoint end;
+  uint8_t has_id, idlen; /* a long head told how long its ids are */
+  uint64_t expected; /* the next number of its Initial packets */
+} side;
+
+/* The datagrams between two endpoints. */
+typedef struct flow {
+  struct flow *next;
+  side sides[2];
+  uint8_t has_keys, idlen, id[ID]; /* the keys of Initial packets come from this id */
+} flow;
+
+/* A payload that was opened, and the first byte of its packet. */
+typedef struct opened {
+  uint64_t number;
+  size_t len;
+  uint8_t first, payload[MOST];
+} opened;
+
+static void check(int is_so, const char *what) {
+  if (!is_so) {
+    fflush(stdout);
+    fprintf(stderr, "capture: %s\n", what);
+    exit(1);
+  }
+}
+
+/* Whether a datagram begins a flow of QUIC. */
+static int is_first(const datagram *d) {
+  const uint32_t version = d->len < 7 ? 0 : four_bytes(d->bytes + 1);
+  return d->len >= 7 && d->bytes[0] & QUIC_WIRE_LONG_FORM &&
+         (version == VERSION_1 || version == VERSION_2 || version == 0 ||
+          (version & 0x0f0f0f0f) == 0x0a0a0a0a);
+}
+
+/* The flow of a datagram, a new one if it begins one, and which side sent it: the
+ * client, if it is the first.  NULL if it isn't QUIC's. */
+static flow *flow_of(const datagram *d, unsigned *from) {
+  static flow *flows[FLOWS];
+  uint32_t sum = 0, i;
+  flow **first, *f;
+  for (i = 0; i < sizeof(endpoint); i++)
+    sum = sum * 31 + ((const uint8_t *)&d->from)[i] + ((const uint8_t *)&d->to)[i];
+  first = &flows[sum % FLOWS];
+  for (f = *first; f; f = f->next)
+    for (*from = 0; *from < 2; ++*from)
+      if (!memcmp(&f->sides[*from].end, &d->from, sizeof(endpoint)) &&
+          !memcmp(&f->sides[!*from].end, &d->to, sizeof(endpoint)))
+        return f;
+  if (!is_first(d))
+    return NULL;
+  f = calloc(1, sizeof *f);
+  check(f != NULL, "out of memory");
+  *from = QUIC_WIRE_CLIENT;
+  f->sides[QUIC_WIRE_CLIENT].end = d->from;
+  f->sides[QUIC_WIRE_SERVER].end = d->to;
+  f->next = *first;
+  return *first = f;
+}
+
+/* Opens an Initial packet of a side by the keys of an id.  Returns NULL, or why it
+ * can't be opened. */
+static const char *open_by(const uint8_t *id, size_t idlen, unsigned from, uint64_t expected,
+                           const uint8_t *packet, const quic_wire_head *head, opened *out) {
+  static uint8_t bare[MOST];
+  const keys k = initial_keys(head->version, from, id, idlen);
+  const uint8_t *sample = quic_wire_sample(packet, head->end, head->head_end, SAMPLE);
+  uint8_t mask[5];
+  size_t begin;
+  int numberlen;
+  if (!sample)
+    return "too short for a sample";
+  make_mask(&k, sample, mask);
+  numberlen = quic_wire_unprotect_head(packet, head->end, head->head_end, mask, expected, bare,
+                                       sizeof bare, &out->number);
+  if (numberlen < 0)
+    return quic_wire_strerror(numberlen);
+  begin = head->head_end + (size_t)numberlen;
+  if (out->number >> 62 || head->end - begin < TAG ||
+      !crypt_payload(&k, 0, out->number, bare, begin, packet + begin, head->end - begin,
+                     out->payload))
+    return "the tag is wrong";
+  out->first = bare[0];
+  out->len = head->end - begin - TAG;
+  return NULL;
+}
+
+/* Takes the id of a packet for the one that the keys of its flow come from. */
+static void take_id(flow *f, const uint8_t *packet, const quic_wire_head *head) {
+  f->has_keys = 1;
+  f->idlen = head->dcidlen;
+  memcpy(f->id, quic_wire_dcid(packet, head), head->dcidlen);
+}
+
+/* Opens an Initial packet by the keys of its flow, or else by those of its own id:
+ * then it is a client's first one, or its first one behind a Retry, and the keys
+ * are the flow's from there on.  Returns NULL, or why it can't be opened. */
+static const char *open_initial(flow *f, unsigned *from, const uint8_t *packet,
+                                const quic_wire_head *head, opened *out) {
+  const char *why = "no first Initial packet of the client";
+  if (f->has_keys)
+    why = open_by(f->id, f->idlen, *from, f->sides[*from].expected, packet, head, out);
+  if (why && !open_by(quic_wire_dcid(packet, head), head->dcidlen, QUIC_WIRE_CLIENT, 0, packet,
+                      head, out)) {
+    const side client = f->sides[*from];
+    f->sides[QUIC_WIRE_SERVER] = f->sides[!*from];
+    f->sides[QUIC_WIRE_CLIENT] = client;
+    f->sides[QUIC_WIRE_CLIENT].expected = f->sides[QUIC_WIRE_SERVER].expected = 0;
+    *from = QUIC_WIRE_CLIENT;
+    take_id(f, packet, head);
+    why = NULL;
+  }
+  if (!why && out->number >= f->sides[*from].expected && (out->number + 1) >> 62 == 0)
+    f->sides[*from].expected = out->number + 1;
+  return why;
+}
+
+static void print_id(const char *name, const uint8_t *id, size_t len) {
+  printf(" %s %s", name, len ? "" : "-");
+  while (len--)
+    printf("%02x", *id++);
+}
+
+/* A packet's line up to its number. */
+static void print_head(const datagram *d, unsigned from, const uint8_t *packet,
+                       const quic_wire_head *head) {
+  static const char *const kinds[] = {"initial", "0rtt", "handshake", "retry", "short",
+                                      "version-negotiation", "unknown"};
+  printf("%lu %c %s", d->frame, "cs"[from], kinds[head->kind]);
+  if (head->kind != QUIC_WIRE_1RTT)
+    printf(" version %08" PRIx32, head->version);
+  print_id("dst", quic_wire_dcid(packet, head), head->dcidlen);
+  if (head->kind != QUIC_WIRE_1RTT)
+    print_id("src", quic_wire_scid(packet, head), head->scidlen);
+}
+
+/* The ranges of an ACK, from its greatest number down, and its counts. */
+static void print_ack(const uint8_t *payload, size_t len, const quic_wire_frame *frame) {
+  const quic_wire_ack *ack = &frame->ack;
+  quic_wire_ack_ranges ranges;
+  quic_wire_range range;
+  int answer = quic_wire_ack_ranges_init(&ranges, payload, len, frame);
+  printf(" largest %" PRIu64 " delay %" PRIu64 " ranges", ack->largest, ack->delay);
+  while (answer >= 0 &&
+         (answer = quic_wire_ack_ranges_next(&ranges, payload, len, &range)) == QUIC_WIRE_ITEM)
+    printf(" %" PRIu64 "..%" PRIu64, range.start, range.end - 1);
+  if (frame->flags & QUIC_WIRE_FLAG_ECN)
+    printf(" ect0 %" PRIu64 " ect1 %" PRIu64 " ce %" PRIu64, ack->ect0, ack->ect1, ack->ce);
+}
+
+/* The line of a frame of an Initial packet (RFC 9000, section 12.4). */
+static void print_frame(const uint8_t *payload, size_t len, const quic_wire_frame *frame) {
+  printf("  %s", quic_wire_type_name(frame->type));
+  switch (frame->kind) {
+  case QUIC_WIRE_PADDING: printf(" %zu", quic_wire_padding_count(payload, len, frame)); break;
+  case QUIC_WIRE_PING: break;
+  case QUIC_WIRE_ACK: print_ack(payload, len, frame); break;
+  case QUIC_WIRE_CRYPTO:
+    printf(" offset %" PRIu64 " length %zu", frame->crypto.offset, frame->datalen);
+    break;
+  case QUIC_WIRE_CONNECTION_CLOSE:
+    printf(" error %" PRIx64 " frame %" PRIx64 " reason %zu", frame->close.error_code,
+           frame->close.frame_type, frame->datalen);
+    break;
+  default: printf(": not allowed in an Initial packet");
+  }
+  putchar('\n');
+}
+
+/* The lines of a payload's frames, of which a run of PADDING is one. */
+static void print_frames(const uint8_t *payload, size_t len) {
+  quic_wire_frames frames;
+  quic_wire_frame frame;
+  size_t count;
+  int answer = quic_wire_frames_init(&frames, payload, len);
+  while (answer >= 0 && (answer = quic_wire_frames_fill(&frames, payload, len, &frame, 1,
+                                                        &count)) == QUIC_WIRE_ITEM)
+    print_frame(payload, len, &frame);
+  if (answer != QUIC_WIRE_OK)
+    printf("  : %s\n", answer == QUIC_WIRE_ERR_MALFORMED
+                           ? quic_wire_reason_text(quic_wire_error_reason(&frame))
+                           : quic_wire_strerror(answer));
+}
+
+/* The versions that a version negotiation offers.  Returns whether all are whole. */
+static int print_versions(const uint8_t *packet, const quic_wire_head *head) {
+  uint32_t i = head->head_end;
+  printf(" versions");
+  for (; head->end - i >= 4; i += 4)
+    printf(" %08" PRIx32, four_bytes(packet + i));
+  return i == head->end;
+}
+
+/* The lines of a packet; |why| is what is wrong with its head, or NULL. */
+static void print_packet(const datagram *d, flow *f, unsigned *from, const uint8_t *packet,
+                         const quic_wire_head *head, const char *why) {
+  static opened o;
+  const int is_tried = !why && head->kind == QUIC_WIRE_INITIAL;
+  const int is_open = is_tried && !(why = open_initial(f, from, packet, head, &o));
+  print_head(d, *from, packet, head);
+  if (is_open)
+    printf(" number %" PRIu64, o.number);
+  printf(" length %" PRIu32, head->end);
+  if (head->kind == QUIC_WIRE_VERSION_NEGOTIATION && !print_versions(packet, head))
+    why = "the last version is cut off";
+  if (is_open && o.first & QUIC_WIRE_RESERVED_LONG)
+    why = "reserved bits are set";
+  printf("%s%s\n", why ? ": " : "", why ? why : "");
+  if (is_open)
+    print_frames(o.payload, o.len);
+}
+
+/* Reads the head that |len| bytes begin with, where ids of short heads have |cidlen|
+ * bytes, or it isn't known how many (-1).  Returns whether there is one, and through
+ * |why| what is wrong with it, or why there is none. */
+static int read_head(const uint8_t *packet, size_t len, int cidlen, quic_wire_head *head,
+                     const char **why) {
+  int answer = quic_wire_negotiation_read(packet, len, head);
+  *why = "the length of its id isn't known";
+  if (!(packet[0] & QUIC_WIRE_LONG_FORM) && cidlen < 0)
+    return 0;
+  if (answer != QUIC_WIRE_OK)
+    answer = quic_wire_head_read(packet, len, cidlen < 0 ? 0 : (uint32_t)cidlen, versions, 2, head);
+  *why = answer ? quic_wire_packet_reason_text((uint32_t)answer) : NULL;
+  if (answer == QUIC_WIRE_PACKET_UNSUPPORTED_VERSION)
+    head->end = (uint32_t)len; /* where such a packet ends only its version says */
+  return !answer || answer == QUIC_WIRE_PACKET_UNSUPPORTED_VERSION ||
+         answer == QUIC_WIRE_PACKET_LENGTH_BEYOND_END;
+}
+
+/* The packets of a datagram, which have one id (RFC 9000, section 12.2). */
+static void print_datagram(const datagram *d, flow *f, unsigned from) {
+  const uint8_t *packet = d->bytes, *const end = d->bytes + d->len, *id = NULL;
+  int idlen = f->sides[!from].has_id ? f->sides[!from].idlen : -1;
+  quic_wire_head head;
+  const char *why;
+  for (; packet < end; packet += head.end) {
+    int is_one = read_head(packet, (size_t)(end - packet), idlen, &head, &why);
+    if (is_one && id &&
+        (head.dcidlen != idlen || memcmp(quic_wire_dcid(packet, &head), id, head.dcidlen))) {
+      is_one = 0;
+      why = "no packet with the id of the first one";
+    }
+    if (!is_one) {
+      printf("%lu %c rest length %td: %s\n", d->frame, "cs"[from], end - packet, why);
+      break;
+    }
+    print_packet(d, f, &from, packet, &head, why);
+    id = quic_wire_dcid(packet, &head);
+    idlen = head.dcidlen;
+    if (head.kind <= QUIC_WIRE_RETRY) { /* a long head, which tells its sender's id */
+      f->sides[from].has_id = 1;
+      f->sides[from].idlen = head.scidlen;
+    }
+    if (head.kind == QUIC_WIRE_INITIAL && from == QUIC_WIRE_CLIENT && !f->has_keys)
+      take_id(f, packet, &head); /* a packet that is cut off has it too */
+  }
+  if (d->lost)
+    printf("%lu %c rest: %zu bytes are missing\n", d->frame, "cs"[from], d->lost);
+}
+
+int main(int argc, char **argv) {
+  unsigned from;
+  capture c;
+  datagram d;
+  flow *f;
+  if (argc != 2) {
+    fputs("usage: capture FILE\n", stderr);
+    return 2;
+  }
+  check(quic_wire_check_linked() == 0, "another library is linked");
+  c = open_capture(argv[1]);
+  while (next_datagram(&c, &d))
+    if ((f = flow_of(&d, &from)) != NULL)
+      print_datagram(&d, f, from);
+  check(fflush(stdout) == 0, "nothing can be printed");
+  return 0;
+}

@@ -1,11 +1,10 @@
 // count WORK ROUNDS [FILE [KIND]]: one kind of work, so many rounds over a file of lines in hexadecimal. Prints how
 // many items there were in a round, and a sum. WORK: frames, canonical (of payloads; with KIND c of their canonical
 // forms); ngtcp2 (with KIND w of those payloads alone that are frames to their end without PADDING, for ngtcp2 too
-// where there is one, and the items are frames); copy, decode, cut, copy-once, cut-once (of datagrams, copied by an
-// extension or at once; KIND s, i or h: those that begin with a short, Initial or Handshake head); read, write (of
-// lists of parameters); number, number0, expand, expand0 (0: without the work); initial, handshake, short; ranges (of
-// the ACKs of payloads), encode, in_range (of their frames); set KIND NAME N, two WORK NAME NAME N, ack NAME N (of
-// sets, below).
+// where there is one, and the items are frames); copy, decode, cut (of datagrams; KIND s, i or h: those that begin with
+// a short, Initial or Handshake head); read, write (of lists of parameters); number, number0, expand, expand0 (0:
+// without the work); initial, handshake, short; ranges (of the ACKs of payloads), encode, in_range (of their frames);
+// set KIND NAME N, two WORK NAME NAME N, ack NAME N (of sets, below).
 #include "work.h"
 
 // Work on sets: WORK ROUNDS and what else it takes. Answers a sum, and counts the items.
@@ -58,8 +57,6 @@ int main(int argc, char **argv) {
     else if (!strcmp(work, "copy")) sum = over(count_copy, rounds);
     else if (!strcmp(work, "decode")) sum = over(count_decode, rounds);
     else if (!strcmp(work, "cut")) sum = over(count_cut, rounds);
-    else if (!strcmp(work, "copy-once")) sum = over(count_copy_once, rounds);
-    else if (!strcmp(work, "cut-once")) sum = over(count_cut_once, rounds);
     else if (!strcmp(work, "read")) sum = over(count_params_read, rounds);
     else if (!strcmp(work, "write"))
         for (size_t i = 0; i < items_len; i++) sum += count_params_write(items[i], sizes[i], rounds);

@@ -29,9 +29,9 @@ static u64 sets(int argc, char **argv, u32 rounds) {
 
 static u64 of_a_file(const char *work, u32 rounds) {
     u64 sum = 0;
-    if (!strncmp(work, "copy", 4)) return over(quinn_count_copy, rounds);
+    if (!strcmp(work, "copy")) return over(quinn_count_copy, rounds);
     if (!strcmp(work, "decode")) return over(quinn_count_decode, rounds);
-    if (!strncmp(work, "cut", 3)) return over(quinn_count_cut, rounds);
+    if (!strcmp(work, "cut")) return over(quinn_count_cut, rounds);
     if (!strcmp(work, "read")) return over(quinn_count_params_read, rounds);
     if (!strcmp(work, "write"))
         for (size_t i = 0; i < items_len; i++) sum += quinn_count_params_write(items[i], sizes[i], rounds);

@@ -17,8 +17,6 @@ u64 canonical_into(const uint8_t *, size_t, uint8_t *, size_t);
 u64 count_copy(const uint8_t *, size_t);
 u64 count_decode(const uint8_t *, size_t);
 u64 count_cut(const uint8_t *, size_t);
-u64 count_copy_once(const uint8_t *, size_t);
-u64 count_cut_once(const uint8_t *, size_t);
 u64 count_params_read(const uint8_t *, size_t);
 u64 count_params_write(const uint8_t *, size_t, u32);
 u64 count_number(u64, u64, u32);

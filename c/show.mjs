@@ -60,7 +60,7 @@ function frames(bytes, strict) {
     const lines = [];
     while ((answer = wire.quic_wire_frames_next(state, payload, length, out)) === ITEM) {
         const [begin, end] = [view.getBigUint64(at.out + 8, true), view.getBigUint64(at.out + 16, true)];
-        lines.push(`${begin}..${end} ${typeName(BigInt(view.getUint32(at.out, true)))}`);
+        lines.push(`${begin}..${end} ${typeName(BigInt(view.getUint16(at.out, true)))}`);
     }
     if (answer !== OK) lines.push(invalid(unsigned(wire.quic_wire_error_type(out)), wire.quic_wire_error_reason(out)));
     return lines;

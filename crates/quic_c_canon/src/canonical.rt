@@ -11,7 +11,7 @@ ghost use Rattle.quic_c_canon.specs.Answers.{type_word, reason_word, GivesLeast,
 use crate::words::CanonicalWords;
 use quic_canon::laws::one_least;
 use quic_frames::frame::{Frame, FrameType, InvalidFrame, Iter};
-use quic_frames::laws::{least_spelling, one_reading, read_back};
+use quic_frames::laws::{least_spelling, one_reading, read_back, read_from_a_place};
 
 // The word of a type.
 fn type_word(ty: Option<FrameType>) -> u64
@@ -53,6 +53,7 @@ fn begin(payload: &[u8]) -> Result<Iter<'_>, ()>
     ensures frames { IfOk result (λ it. GivesFrames false payload.now it) }
     ensures broken { IfOk result (λ it. GivesBroken false payload.now it) }
 {
+    read_from_a_place();
     if payload.is_empty() {
         return Err(());
     }
@@ -87,7 +88,8 @@ fn shortest_len(payload: &[u8]) -> Result<usize, InvalidFrame>
         total += len;
         // Behind one byte, which PADDING has, all PADDING is passed at once.
         if stop - start == 1 {
-            total += iter.pass_padding();
+            let count = iter.pass_padding();
+            total += count;
         }
         start = iter.offset();
     }

@@ -1,5 +1,5 @@
 //! Laws of payloads, which no single call carries. The functions do nothing.
-ghost use Rattle.std.specs.Prelude.{◌≡◌, ◌≢◌, ◌<◌, ◌≤◌, ◌^◌, ◌++◌, ℕ, List, [], ◌∷◌, None, Some, Option, Bool, true, false, if◌then◌else◌, map, length};
+ghost use Rattle.std.specs.Prelude.{◌≡◌, ◌≢◌, ◌<◌, ◌≤◌, ◌^◌, ◌++◌, ℕ, List, [], ◌∷◌, None, Some, Option, Bool, Err, true, false, if◌then◌else◌, drop, map, length};
 ghost use Rattle.std.specs.declared.ops.Range.{Range};
 ghost use Rattle.quic_base.specs.Number.{AreBytes};
 ghost use Rattle.quic_ranges.specs.Runs.{IsMaximalRuns, IsGreatest, member};
@@ -14,6 +14,7 @@ ghost use Rattle.quic_frame_parts.specs.Payload.{Meaning, Found, IsFrame, AreFra
 ghost use Rattle.quic_frame_parts.specs.Reading.{Broken, IsBlocks, invalid, items_of, ranges_of, reason_text};
 ghost use Rattle.quic_errors.specs.Codes.{long_type_reason};
 ghost use Rattle.quic_frames.specs.Placed.{Placed, ArePlaced, IsPlacedBroken, whole};
+ghost use Rattle.quic_frames.specs.Walk.{given, left, resumed, unplaced};
 ghost use Rattle.quic_frame_parts.specs.Sets.{ranges_in, greatest_in, is_in, ack_of};
 ghost use Rattle.quic_frame_parts.specs.Shortest.{shortest_frame, stream_head};
 ghost use Rattle.quic_frame_parts.specs.declared.frame.Stream.{Stream};
@@ -72,6 +73,20 @@ pub fn items_in_place()
     ensures broken { (strict : Bool) (frames : List Placed) (bytes : List ℕ) (type : Option ℕ) (reason : Fault)
         → AreBytes bytes → IsPlacedBroken strict frames bytes type reason
         → items_of strict 0 None bytes ≡ map whole frames ++ Broken (invalid type reason) ∷ [] }
+{}
+
+/// An iterator that `Iter::resume` gives at a place still gives what the bytes from there on are, whatever stands
+/// before them: just their frames, or those before what is none, and then what is told of that.
+pub fn read_from_a_place()
+    ensures either { (strict : Bool) (payload : List ℕ) (offset : ℕ) (last : Option ℕ) → AreBytes payload
+        → IsEither strict last (drop offset payload) }
+    ensures frames { (strict : Bool) (payload : List ℕ) (offset : ℕ) (last : Option ℕ) (found : List Found)
+        → AreFrames strict found (drop offset payload)
+        → map unplaced (left (resumed payload offset last strict)) ≡ map given found }
+    ensures broken { (strict : Bool) (payload : List ℕ) (offset : ℕ) (last : Option ℕ) (found : List Found)
+        (type : Option ℕ) (reason : Fault) → AreBytes payload
+        → IsBroken strict last found (drop offset payload) type reason
+        → map unplaced (left (resumed payload offset last strict)) ≡ map given found ++ Err (invalid type reason) ∷ [] }
 {}
 
 /// The blocks of an ACK stand for one list of ranges, and no two of these touch.

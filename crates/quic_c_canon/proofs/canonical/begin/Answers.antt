@@ -1,19 +1,19 @@
 use Rattle.std.specs.Prelude.{None, false, map}
 use Rattle.std.proofs.Common.{ap, ◌∙◌, arith}
 use Rattle.std.proofs.lemmas.Grind.{common_steps}
-use Rattle.quic_frames.proofs.Items.{is_either, frames_are_items, broken_are_items}
 use Rattle.quic_frames.specs.Walk.{left, unplaced}
 use Rattle.quic_frames.specs.Way.{Way}
 use Rattle.quic_c_canon.proofs.canonical.begin.Goals as goal
 
 pub returns-clause-either : goal.returns-clause-either
-returns-clause-either c = is_either false None c.args.payload.now (λ i. (c.type_inv.payload i).fits)
+returns-clause-either c = c.read_from_a_place.ensures.either false c.args.payload.now 0 None (λ i. (c.type_inv.payload i).fits)
 
 pub returns-clause-frames : goal.returns-clause-frames
-returns-clause-frames c = λ found s. ap (λ (w : Way). map unplaced (left w)) c.in-Some.ensures.way ∙ frames_are_items false found 0 None c.args.payload.now s
+returns-clause-frames c = λ found s. ap (λ (w : Way). map unplaced (left w)) c.in-Some.ensures.way ∙ c.read_from_a_place.ensures.frames false c.args.payload.now 0 None found s
 
 pub returns-clause-broken : goal.returns-clause-broken
-returns-clause-broken c = λ found type reason s. ap (λ (w : Way). map unplaced (left w)) c.in-Some.ensures.way ∙ broken_are_items false found 0 None c.args.payload.now type reason (λ i. (c.type_inv.payload i).fits) s
+returns-clause-broken c = λ found type reason s.
+    ap (λ (w : Way). map unplaced (left w)) c.in-Some.ensures.way ∙ c.read_from_a_place.ensures.broken false c.args.payload.now 0 None found type reason (λ i. (c.type_inv.payload i).fits) s
 
 pub returns-then-is_empty-clause-either : goal.returns-then-is_empty-clause-either
 returns-then-is_empty-clause-either c = grind (arith, common_steps)

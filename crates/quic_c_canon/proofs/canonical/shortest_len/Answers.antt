@@ -31,7 +31,7 @@ loop-item-preserved c =
     let one = c.least_spelling.ensures.least in
     let w = len_on c.args.payload.now c.loop-item.total c.loop-item.start c.offset-stop.result c.frame_len-len.result c.loop-item.iter c.next.new.self c.in-Ok-item.frame begins one c.loop-item.invariant f c.offset-stop.ensures.value c.frame_len-len.ensures in
     elim c.if-stop-start-eq1.branch [
-      | then-stop-start-eq1 v ↦ len_as _ _ _ _ _ _ _ (len_passed _ _ _ v.pass_padding-total.result _ v.pass_padding-total.new.self begins one w v.pass_padding-total.ensures) v.total-is v.iter-is c.offset-start.ensures.value
+      | then-stop-start-eq1 v ↦ len_as _ _ _ _ _ _ _ (len_passed _ _ _ v.pass_padding-count.result _ v.pass_padding-count.new.self begins one w v.pass_padding-count.ensures) v.total-is v.iter-is c.offset-start.ensures.value
       | else-stop-start-eq1 v ↦ len_as _ _ _ _ _ _ _ w v.total-is v.iter-is c.offset-start.ensures.value
     ]
 
@@ -39,7 +39,7 @@ pub loop-item-smaller : goal.loop-item-smaller
 loop-item-smaller c =
     let f = finds_ok c.loop-item.iter c.next.new.self c.in-Some.item c.in-Ok-item.frame c.in-Ok-item.is c.in-Some.ensures.steps in
     elim c.if-stop-start-eq1.branch [
-      | then-stop-start-eq1 v ↦ padding_goes_on_as v.pass_padding-total.result c.loop-item.iter c.next.new.self v.pass_padding-total.new.self c.if-stop-start-eq1.iter c.in-Ok-item.frame f v.pass_padding-total.ensures v.iter-is
+      | then-stop-start-eq1 v ↦ padding_goes_on_as v.pass_padding-count.result c.loop-item.iter c.next.new.self v.pass_padding-count.new.self c.if-stop-start-eq1.iter c.in-Ok-item.frame f v.pass_padding-count.ensures v.iter-is
       | else-stop-start-eq1 v ↦ frame_goes_on c.loop-item.iter c.next.new.self c.if-stop-start-eq1.iter c.in-Ok-item.frame f v.iter-is
     ]
 
@@ -58,5 +58,5 @@ overflow_add-total-then-stop-start-eq1 c =
     let f = finds_ok c.loop-item.iter c.next.new.self c.in-Some.item c.in-Ok-item.frame c.in-Ok-item.is c.in-Some.ensures.steps in
     let w = len_on c.args.payload.now c.loop-item.total c.loop-item.start c.offset-stop.result c.frame_len-len.result c.loop-item.iter c.next.new.self c.in-Ok-item.frame
     (c.one_reading.ensures.begins_none false) c.least_spelling.ensures.least c.loop-item.invariant f c.offset-stop.ensures.value c.frame_len-len.ensures in
-    let passed = len_passed _ _ _ c.pass_padding-total.result _ c.pass_padding-total.new.self (c.one_reading.ensures.begins_none false) c.least_spelling.ensures.least w c.pass_padding-total.ensures in
+    let passed = len_passed _ _ _ c.pass_padding-count.result _ c.pass_padding-count.new.self (c.one_reading.ensures.begins_none false) c.least_spelling.ensures.least w c.pass_padding-count.ensures in
     omega (arith, passed.low, passed.walks.within)

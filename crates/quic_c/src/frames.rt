@@ -1,11 +1,11 @@
 //! The frames of a payload, one with each call.
-ghost use Rattle.std.specs.Prelude.{◌≡◌, ◌<◌, ◌^◌, ◌-◌, ◌↔◌, ◌⊎◌, ℕ, [], ◌∷◌, pos, negsuc, length, codes, true, false, not, ◌==◌, None};
+ghost use Rattle.std.specs.Prelude.{◌≡◌, ◌<◌, ◌^◌, ◌-◌, ◌↔◌, ◌⊎◌, ℕ, [], ◌∷◌, pos, negsuc, length, codes, IsTrue, true, false, None};
 ghost use Rattle.quic_frames.specs.declared.frame.Frame.{Frame};
 ghost use Rattle.quic_frame_parts.specs.Reading.{Invalid, Broken, invalid};
 ghost use Rattle.quic_frames.specs.Way.{Way};
-ghost use Rattle.quic_frames.specs.Walk.{left, first_of, Finds};
-ghost use Rattle.quic_c.specs.Shown.{way_of, at_front, type_in, type_word, shown, shown_invalid};
-ghost use Rattle.quic_c.specs.Answers.{GivesFrame, GivesInvalid, reason_in};
+ghost use Rattle.quic_frames.specs.Walk.{left, first_of, invalid_of, Finds};
+ghost use Rattle.quic_c.specs.Shown.{way_of, at_front, is_strict, is_basic, kind_of, type_in, type_word, shown, shown_invalid, IsExtension};
+ghost use Rattle.quic_c.specs.Answers.{GivesFrame, GivesInvalid, reason_in, unknown_told};
 
 use crate::show::show;
 use crate::words::{FrameWords, FramesWords};
@@ -57,13 +57,40 @@ fn reason_in(reason: &str) -> u32
     }
 }
 
-// Begins at the front of a payload, by the word for strict reading.
+// Whether a type counts in its shortest spelling alone, by the caller's word.
 #[inline(always)]
-fn begin(frames: &mut FramesWords, payload: &[u8], strict: u32) -> i32
+pub(crate) fn is_strict(how: u32) -> bool
+    ensures { result ≡ is_strict how }
+{
+    !(how == 0 || how == 2)
+}
+
+// Whether a frame of this kind is one of the extension for ACK frequency, where these are of unknown types.
+#[inline(always)]
+pub(crate) fn is_unknown(basic: bool, kind: u16) -> bool
+    ensures { IsTrue result ↔ (basic ≡ true) × IsExtension kind }
+{
+    basic && (kind == 0xaf || kind == 0x1f)
+}
+
+// What is told of a frame of this kind where its type is unknown.
+#[inline(never)]
+pub(crate) fn unknown(kind: u16) -> InvalidFrame
+    ensures { invalid_of result ≡ unknown_told kind }
+{
+    InvalidFrame {
+        ty: Some(FrameType::of(u64::from(kind))),
+        reason: "invalid frame ID",
+    }
+}
+
+// Begins at the front of a payload, by the word for how it is read.
+#[inline(always)]
+fn begin(frames: &mut FramesWords, payload: &[u8], how: u32) -> i32
     ensures answers { (result ≡ pos 0) ⊎ (result ≡ negsuc 1) }
     ensures empty { (result ≡ negsuc 1) ↔ (payload.now ≡ []) }
-    ensures front { result ≡ pos 0 → frames.new ≡ at_front strict }
-    ensures first { result ≡ pos 0 → way_of frames.new payload.now ≡ first_of (not (strict == 0)) payload.now }
+    ensures front { result ≡ pos 0 → frames.new ≡ at_front how }
+    ensures first { result ≡ pos 0 → way_of frames.new payload.now ≡ first_of (is_strict how) payload.now }
     ensures refused { result ≡ negsuc 1 → frames.new ≡ frames.old }
 {
     if payload.is_empty() {
@@ -73,7 +100,7 @@ fn begin(frames: &mut FramesWords, payload: &[u8], strict: u32) -> i32
         offset: 0,
         last_type: u64::MAX,
         ended: 0,
-        strict,
+        how,
     };
     0
 }
@@ -120,6 +147,23 @@ pub(crate) fn show_invalid(begin: usize, invalid: &InvalidFrame) -> FrameWords
     }
 }
 
+// Tells, once, what stands at a place and isn't given.
+#[inline(always)]
+fn refuse(
+    begin: usize,
+    invalid: &InvalidFrame,
+    frames: &mut FramesWords,
+    out: &mut FrameWords,
+) -> i32
+    ensures answer { result ≡ negsuc 2 }
+    ensures over { frames.new ≡ record frames.old { ended = 1 } }
+    ensures words { out.new ≡ shown_invalid begin (type_word invalid.now.ty) (reason_in invalid.now.reason.now) }
+{
+    frames.ended = 1;
+    *out = show_invalid(begin, invalid);
+    -3
+}
+
 // The next frame of an iterator that stands where the words say. There is a copy for what begins with 0, PADDING, so
 // that the words of a run's many frames are stored by themselves.
 #[inline(always)]
@@ -140,21 +184,21 @@ fn give_next<const COPY: usize>(
         Some(Ok(frame)) => {
             let (end, ty) = (iter.offset(), type_read(iter));
             *out = show(begin, end, ty as u16, &frame);
+            if is_unknown(frames.how > 1, out.kind) {
+                return refuse(begin, &unknown(out.kind), frames, out);
+            }
             frames.offset = end;
             frames.last_type = ty;
             1
         }
-        Some(Err(invalid)) => {
-            frames.ended = 1;
-            *out = show_invalid(begin, &invalid);
-            -3
-        }
+        Some(Err(invalid)) => refuse(begin, &invalid, frames, out),
     }
 }
 
 /// The next frame (RFC 9000, section 19). It answers 1 with the frame; 0 where none is left, and nothing changes; -3,
-/// once, with the type and the reason that are told of something that is no frame; -1 just where the place lies
-/// outside the payload, and nothing changes.
+/// once, with the type and the reason that are told of something that is no frame, or of a frame of the extension for
+/// ACK frequency where `how` says that these are of unknown types; -1 just where the place lies outside the payload, and
+/// nothing changes.
 #[unsafe(no_mangle)]
 pub extern "C" fn quic_wire_frames_next_(
     frames: &mut FramesWords,
@@ -170,12 +214,8 @@ pub extern "C" fn quic_wire_frames_next_(
     ensures refused { result ≡ negsuc 0 → (frames.new ≡ frames.old) × (out.new ≡ out.old) }
 {
     let begin = frames.offset;
-    let Some(mut iter) = Iter::resume(
-        payload,
-        begin,
-        type_in(frames.last_type),
-        frames.strict != 0,
-    ) else {
+    let strict = is_strict(frames.how);
+    let Some(mut iter) = Iter::resume(payload, begin, type_in(frames.last_type), strict) else {
         return -1;
     };
     if frames.ended != 0 {

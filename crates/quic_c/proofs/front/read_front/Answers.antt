@@ -2,8 +2,7 @@ use Rattle.std.proofs.Common.{inl, inr, true, pos, to_z, w64, ◌≡◌, [], ◌
 use Rattle.quic_frame_parts.specs.Reading.{Broken}
 use Rattle.quic_frames.proofs.Items.{all_read}
 use Rattle.quic_frames.specs.Walk.{invalid_of, left, first_of, Advances, Finds}
-use Rattle.quic_c.specs.Shown.{kind_of}
-use Rattle.quic_c.specs.Front.{IsExtension}
+use Rattle.quic_c.specs.Shown.{kind_of, IsExtension}
 use Rattle.quic_c.proofs.Types.{reads_front}
 use Rattle.quic_c.proofs.front.read_front.Goals as goal
 
@@ -17,7 +16,7 @@ pub returns-in-Some-Err-clause-invalid : goal.returns-in-Some-Err-clause-invalid
 returns-in-Some-Err-clause-invalid g c =
     let s = subst (λ f. Advances c.in-Some.iter (Some f) c.next.new.self) c.in-Some-Err.field-0-is c.in-Some-Err.ensures.steps in
     let first : left (first_of c.args.strict c.args.payload.now) ≡ Broken (invalid_of c.in-Some-Err.invalid) ∷ [] = rw c.in-Some.ensures.way at s.0 in
-    λ _. inl (record { told = invalid_of c.in-Some-Err.invalid; first = first; is = c.show_invalid.ensures })
+    λ _. record { told = invalid_of c.in-Some-Err.invalid; first = inl first; is = c.show_invalid-2.ensures }
 
 pub returns-else-is_unknown-clause-answers : goal.returns-else-is_unknown-clause-answers
 returns-else-is_unknown-clause-answers g c =

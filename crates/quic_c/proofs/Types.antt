@@ -79,12 +79,9 @@ gives_frame old new payload out here next frame type finds known is_here is_next
     let f = found_between here next (way_of old payload) (way_of new payload) frame finds (sym is_here) (sym is_next) in
     record { frame = frame; finds = f.0; known = known; words = words ∙ ap (λ (n : ℕ). shown old.offset new.offset n frame) (begins ∙ ap (λ (x : Found). x.type) (sym f.1)) }
 
--- whether a frame is one of the extension where these are of unknown types, by a test of its kind
-pub is_left_out : (basic test : Bool) (kind : ℕ) (frame : Frame) → kind ≡ kind_of frame → IsTrue test ↔ (basic ≡ true) × IsExtension kind → test ≡ true → (basic ≡ true) × IsExtension (kind_of frame)
-is_left_out basic test kind frame is tests e = let t = tests.0 e in (t.0, subst IsExtension is t.1)
-
-pub is_kept : (basic test : Bool) (kind : ℕ) (frame : Frame) → kind ≡ kind_of frame → IsTrue test ↔ (basic ≡ true) × IsExtension kind → test ≡ false → (basic ≡ true) × IsExtension (kind_of frame) → ⊥
-is_kept basic test kind frame is tests e x = false≢true (sym e ∙ tests.1 (x.0, subst IsExtension (sym is) x.1))
+-- where a test says that a frame isn't one of the extension where these are of unknown types
+pub is_kept : (basic test : Bool) (frame : Frame) → IsTrue test ↔ (basic ≡ true) × IsExtension (kind_of frame) → test ≡ false → (basic ≡ true) × IsExtension (kind_of frame) → ⊥
+is_kept basic test frame tests e x = false≢true (sym e ∙ tests.1 x)
 
 -- a frame of the extension is refused where these are of unknown types
 pub unknown_refused : (basic : Bool) (here next : Way) (frame : Frame) (told : Invalid) → Finds here frame next → (basic ≡ true) × IsExtension (kind_of frame) → told ≡ unknown_told (kind_of frame) → IsRefused basic here told

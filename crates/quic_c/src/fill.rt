@@ -37,24 +37,23 @@ fn fill<const COPY: usize>(
 {
     let mut count = 0;
     let mut end = iter.offset();
-    let mut last = iter.last_type();
     while count < out.len() {
+        let last = iter.last_type();
         match iter.next() {
             Some(Ok(frame)) => {
-                let parts = parts_of(&frame);
-                if is_unknown(basic, parts.kind) {
+                if is_unknown(basic, &frame) {
                     if count == 0 {
-                        return Err(unknown(parts.kind));
+                        return Err(unknown(parts_of(&frame).kind));
                     }
                     return Ok(Filled { count, end, last });
                 }
                 let ty = type_read(iter);
+                let parts = parts_of(&frame);
                 if parts.kind == 0 {
                     iter.pass_padding();
                 }
                 let begin = end;
                 end = iter.offset();
-                last = iter.last_type();
                 out[count] = show_parts(begin, end, ty as u16, parts);
                 count += 1;
             }
@@ -67,6 +66,7 @@ fn fill<const COPY: usize>(
             None => return Ok(Filled { count, end, last }),
         }
     }
+    let last = iter.last_type();
     Ok(Filled { count, end, last })
 }
 

@@ -7,9 +7,9 @@ ghost use Rattle.quic_frames.specs.Walk.{left, first_of, invalid_of, Finds};
 ghost use Rattle.quic_c.specs.Shown.{way_of, at_front, is_strict, is_basic, kind_of, type_in, type_word, shown, shown_invalid, IsExtension};
 ghost use Rattle.quic_c.specs.Answers.{GivesFrame, GivesInvalid, reason_in, unknown_told};
 
-use crate::show::show;
+use crate::show::{parts_of, show};
 use crate::words::{FrameWords, FramesWords};
-use quic_frames::frame::{FrameType, InvalidFrame, Iter};
+use quic_frames::frame::{Frame, FrameType, InvalidFrame, Iter};
 
 // The type in a word.
 pub(crate) fn type_in(word: u64) -> Option<FrameType>
@@ -65,12 +65,16 @@ pub(crate) fn is_strict(how: u32) -> bool
     !(how == 0 || how == 2)
 }
 
-// Whether a frame of this kind is one of the extension for ACK frequency, where these are of unknown types.
+// Whether the frame is one of the extension for ACK frequency, where these are of unknown types.
 #[inline(always)]
-pub(crate) fn is_unknown(basic: bool, kind: u16) -> bool
-    ensures { IsTrue result ↔ (basic ≡ true) × IsExtension kind }
+pub(crate) fn is_unknown(basic: bool, frame: &Frame<'_>) -> bool
+    ensures { IsTrue result ↔ (basic ≡ true) × IsExtension (kind_of frame.now) }
 {
-    basic && (kind == 0xaf || kind == 0x1f)
+    match frame {
+        Frame::AckFrequency(_) => basic,
+        Frame::ImmediateAck => basic,
+        _ => false,
+    }
 }
 
 // What is told of a frame of this kind where its type is unknown.
@@ -169,10 +173,12 @@ fn refuse(
 #[inline(always)]
 fn give_next<const COPY: usize>(
     iter: &mut Iter<'_>,
+    basic: bool,
     frames: &mut FramesWords,
     out: &mut FrameWords,
 ) -> i32
-    requires { way_of frames.old iter.old.payload ≡ iter.old }
+    requires way { way_of frames.old iter.old.payload ≡ iter.old }
+    requires basic { basic ≡ is_basic frames.old.how }
     ensures answers { (result ≡ pos 1) ⊎ (result ≡ pos 0) ⊎ (result ≡ negsuc 2) }
     ensures frame { result ≡ pos 1 → GivesFrame frames.old iter.old.payload frames.new out.new }
     ensures end { result ≡ pos 0 → (left iter.old ≡ []) × (frames.new ≡ frames.old) × (out.new ≡ out.old) }
@@ -182,17 +188,63 @@ fn give_next<const COPY: usize>(
     match iter.next() {
         None => 0,
         Some(Ok(frame)) => {
+            if is_unknown(basic, &frame) {
+                return refuse(begin, &unknown(parts_of(&frame).kind), frames, out);
+            }
             let (end, ty) = (iter.offset(), type_read(iter));
             *out = show(begin, end, ty as u16, &frame);
-            if is_unknown(frames.how > 1, out.kind) {
-                return refuse(begin, &unknown(out.kind), frames, out);
-            }
             frames.offset = end;
             frames.last_type = ty;
             1
         }
         Some(Err(invalid)) => refuse(begin, &invalid, frames, out),
     }
+}
+
+// The next frame where the words stand.
+#[inline(always)]
+fn next_on(
+    frames: &mut FramesWords,
+    payload: &[u8],
+    basic: bool,
+    out: &mut FrameWords,
+) -> i32
+    requires { basic ≡ is_basic frames.old.how }
+    ensures answers { (result ≡ pos 1) ⊎ (result ≡ pos 0) ⊎ (result ≡ negsuc 2) ⊎ (result ≡ negsuc 0) }
+    ensures frame { result ≡ pos 1 → GivesFrame frames.old payload.now frames.new out.new }
+    ensures end { result ≡ pos 0
+        → (left (way_of frames.old payload.now) ≡ []) × (frames.new ≡ frames.old) × (out.new ≡ out.old) }
+    ensures invalid { result ≡ negsuc 2 → GivesInvalid frames.old payload.now frames.new out.new }
+    ensures outside { (result ≡ negsuc 0) ↔ (length payload.now < frames.old.offset) }
+    ensures refused { result ≡ negsuc 0 → (frames.new ≡ frames.old) × (out.new ≡ out.old) }
+{
+    let begin = frames.offset;
+    let strict = is_strict(frames.how);
+    let Some(mut iter) = Iter::resume(payload, begin, type_in(frames.last_type), strict) else {
+        return -1;
+    };
+    if frames.ended != 0 {
+        return 0;
+    }
+    match payload[begin..].first() {
+        Some(0) => give_next::<0>(&mut iter, basic, frames, out),
+        _ => give_next::<1>(&mut iter, basic, frames, out),
+    }
+}
+
+// That where the frames of the extension for ACK frequency are of unknown types, by a call.
+#[inline(never)]
+fn next_basic(frames: &mut FramesWords, payload: &[u8], out: &mut FrameWords) -> i32
+    requires { is_basic frames.old.how ≡ true }
+    ensures answers { (result ≡ pos 1) ⊎ (result ≡ pos 0) ⊎ (result ≡ negsuc 2) ⊎ (result ≡ negsuc 0) }
+    ensures frame { result ≡ pos 1 → GivesFrame frames.old payload.now frames.new out.new }
+    ensures end { result ≡ pos 0
+        → (left (way_of frames.old payload.now) ≡ []) × (frames.new ≡ frames.old) × (out.new ≡ out.old) }
+    ensures invalid { result ≡ negsuc 2 → GivesInvalid frames.old payload.now frames.new out.new }
+    ensures outside { (result ≡ negsuc 0) ↔ (length payload.now < frames.old.offset) }
+    ensures refused { result ≡ negsuc 0 → (frames.new ≡ frames.old) × (out.new ≡ out.old) }
+{
+    next_on(frames, payload, true, out)
 }
 
 /// The next frame (RFC 9000, section 19). It answers 1 with the frame; 0 where none is left, and nothing changes; -3,
@@ -213,16 +265,8 @@ pub extern "C" fn quic_wire_frames_next_(
     ensures outside { (result ≡ negsuc 0) ↔ (length payload.now < frames.old.offset) }
     ensures refused { result ≡ negsuc 0 → (frames.new ≡ frames.old) × (out.new ≡ out.old) }
 {
-    let begin = frames.offset;
-    let strict = is_strict(frames.how);
-    let Some(mut iter) = Iter::resume(payload, begin, type_in(frames.last_type), strict) else {
-        return -1;
-    };
-    if frames.ended != 0 {
-        return 0;
+    if frames.how > 1 {
+        return next_basic(frames, payload, out);
     }
-    match payload[begin..].first() {
-        Some(0) => give_next::<0>(&mut iter, frames, out),
-        _ => give_next::<1>(&mut iter, frames, out),
-    }
+    next_on(frames, payload, false, out)
 }

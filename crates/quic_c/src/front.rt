@@ -145,9 +145,8 @@ fn read_front<const COPY: usize>(
     match iter.next() {
         None => -2,
         Some(Ok(frame)) => {
-            let kind = parts_of(&frame).kind;
-            if is_unknown(basic, kind) {
-                *out = show_invalid(0, &unknown(kind));
+            if is_unknown(basic, &frame) {
+                *out = show_invalid(0, &unknown(parts_of(&frame).kind));
                 return -3;
             }
             let ty = type_read(&iter);

@@ -1,5 +1,6 @@
-use Rattle.std.proofs.Common.{arith, rules, refl, ap, ◌≡◌, ◌<◌, ◌∙◌, length, set, List}
+use Rattle.std.proofs.Common.{arith, rules, refl, sym, subst, ap, Bool, ◌≡◌, ◌<◌, ◌∙◌, length, set, List}
 use Rattle.std.proofs.lemmas.List.{drop-set}
+use Rattle.quic_frames.specs.Way.{Way}
 use Rattle.quic_frames.specs.Walk.{invalid_of}
 use Rattle.quic_c.specs.declared.words.FrameWords.{FrameWords}
 use Rattle.quic_c.specs.Shown.{is_basic, way_of}
@@ -16,7 +17,8 @@ returns-in-Err-clause-invalid g c =
     let ended = c.if-frames-ne0.false in
     let strict = c.is_strict-strict.ensures in
     let way : way_of c.args.frames.now c.args.payload.now ≡ c.in-Some.iter = search rules in
-    let it : IsRefused (is_basic c.args.frames.now.how) (way_of c.args.frames.now c.args.payload.now) (invalid_of c.in-Err.invalid) = rw (← c.requires, way) here in
+    let it : IsRefused (is_basic c.args.frames.now.how) (way_of c.args.frames.now c.args.payload.now) (invalid_of c.in-Err.invalid) =
+    subst (λ (b : Bool). IsRefused b (way_of c.args.frames.now c.args.payload.now) (invalid_of c.in-Err.invalid)) c.requires (subst (λ (w : Way). IsRefused c.args.basic w (invalid_of c.in-Err.invalid)) (sym way) here) in
     let some : 0 < length c.args.out.now = search rules in
     let told = c.show_invalid.result in
     λ _. record {

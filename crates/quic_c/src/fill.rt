@@ -5,9 +5,7 @@ ghost use Rattle.quic_c.specs.Shown.{way_of, at_front, is_basic};
 ghost use Rattle.quic_c.specs.Answers.{IsRefused};
 ghost use Rattle.quic_c.specs.Filling.{Fills, TellsInvalid, further};
 
-use crate::frames::{
-    is_strict, is_unknown, show_invalid, type_in, type_read, type_word, unknown,
-};
+use crate::frames::{is_strict, is_unknown, show_invalid, type_in, type_read, type_word, unknown};
 use crate::show::{parts_of, show_parts};
 use crate::words::{FrameWords, FramesWords};
 use quic_frames::frame::{FrameType, InvalidFrame, Iter};

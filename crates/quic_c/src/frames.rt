@@ -203,12 +203,7 @@ fn give_next<const COPY: usize>(
 
 // The next frame where the words stand.
 #[inline(always)]
-fn next_on(
-    frames: &mut FramesWords,
-    payload: &[u8],
-    basic: bool,
-    out: &mut FrameWords,
-) -> i32
+fn next_on(frames: &mut FramesWords, payload: &[u8], basic: bool, out: &mut FrameWords) -> i32
     requires { basic ≡ is_basic frames.old.how }
     ensures answers { (result ≡ pos 1) ⊎ (result ≡ pos 0) ⊎ (result ≡ negsuc 2) ⊎ (result ≡ negsuc 0) }
     ensures frame { result ≡ pos 1 → GivesFrame frames.old payload.now frames.new out.new }

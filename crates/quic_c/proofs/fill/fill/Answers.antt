@@ -4,7 +4,6 @@ use Rattle.quic_c.specs.Shown.{kind_of, shown, IsExtension}
 use Rattle.quic_c.specs.Answers.{IsRefused, unknown_told}
 use Rattle.quic_c.proofs.Filling.{filling_ends, filling_goes_on}
 use Rattle.quic_c.proofs.Types.{is_kept, unknown_refused}
-use Rattle.std.proofs.lemmas.Grind.{common_steps}
 use Rattle.quic_c.proofs.fill.fill.Goals as goal
 use Rattle.quic_c.proofs.fill.fill.Goals.{then-parts-eq0, else-parts-eq0}
 

@@ -186,9 +186,15 @@ extern "C" {
 #define QUIC_WIRE_FLAG_MORE 4 /* ACK: of quic_wire_frame_read, which had no
                                  room for all ranges */
 
-/* How quic_wire_frame_read reads: one of these, both by |, or 0. */
-#define QUIC_WIRE_READ_STRICT 1
-#define QUIC_WIRE_READ_BASIC 2
+/* How frames are read, by an iterator and by quic_wire_frame_read: one of these,
+ * both by |, or 0. */
+#define QUIC_WIRE_READ_STRICT 1 /* a type that isn't in its shortest encoding is
+                                   no frame (RFC 9000, section 12.4) */
+#define QUIC_WIRE_READ_BASIC 2  /* ACK_FREQUENCY and IMMEDIATE_ACK are frames of
+                                   an unknown type, as they are where their
+                                   extension wasn't negotiated, but that one
+                                   which is broken within its fields is told
+                                   for that */
 
 /* No type: the word in place of one. */
 #define QUIC_WIRE_NO_TYPE UINT64_MAX
@@ -205,8 +211,8 @@ typedef struct quic_wire_frames {
   size_t offset;      /* the end of the last whole frame, in bytes */
   uint64_t last_type; /* its type as it stands there, or QUIC_WIRE_NO_TYPE */
   uint32_t ended;     /* not 0 once something was no frame */
-  uint32_t strict;    /* not 0: a type in another spelling than its shortest is
-                         no frame */
+  uint32_t how;       /* QUIC_WIRE_READ_STRICT, QUIC_WIRE_READ_BASIC, both by |,
+                         or 0: a caller may set it at any time */
 } quic_wire_frames;
 
 /* What the kinds of frames say in numbers: the fields of a frame's union. */
@@ -465,7 +471,7 @@ QUIC_WIRE_ASSERT(sizeof(quic_wire_frames) == 24, "64-bit words");
 QUIC_WIRE_ASSERT(offsetof(quic_wire_frames, offset) == 0, "64-bit words");
 QUIC_WIRE_ASSERT(offsetof(quic_wire_frames, last_type) == 8, "64-bit words");
 QUIC_WIRE_ASSERT(offsetof(quic_wire_frames, ended) == 16, "no room");
-QUIC_WIRE_ASSERT(offsetof(quic_wire_frames, strict) == 20, "no room");
+QUIC_WIRE_ASSERT(offsetof(quic_wire_frames, how) == 20, "no room");
 QUIC_WIRE_ASSERT(sizeof(quic_wire_frame) == 80, "64-bit words");
 QUIC_WIRE_ASSERT(offsetof(quic_wire_frame, type) == 2, "no room");
 QUIC_WIRE_ASSERT(offsetof(quic_wire_frame, flags) == 4, "no room");
@@ -528,17 +534,18 @@ static inline int quic_wire_check_linked(void) {
 /* ---- Frames, read */
 
 /*
- * Begins at the front of a |payload| of |payloadlen| bytes.  Returns 0, or
- * QUIC_WIRE_ERR_EMPTY, QUIC_WIRE_ERR_INVALID_ARGUMENT.
+ * Begins at the front of a |payload| of |payloadlen| bytes, with 0 in
+ * |frames->how|.  Returns 0, or QUIC_WIRE_ERR_EMPTY,
+ * QUIC_WIRE_ERR_INVALID_ARGUMENT.
  */
 QUIC_WIRE_API int quic_wire_frames_init(quic_wire_frames *frames,
                                         const uint8_t *payload,
                                         size_t payloadlen);
 
 /*
- * The same, where a type that isn't in its shortest encoding is no frame
- * (RFC 9000, section 12.4): it is told with QUIC_WIRE_REASON_LONG_TYPE.  Other
- * fields may have any width.
+ * The same with QUIC_WIRE_READ_STRICT: a type that isn't in its shortest
+ * encoding is told with QUIC_WIRE_REASON_LONG_TYPE.  Other fields may have any
+ * width.
  */
 QUIC_WIRE_API int quic_wire_frames_init_strict(quic_wire_frames *frames,
                                                const uint8_t *payload,
@@ -548,8 +555,9 @@ QUIC_WIRE_API int quic_wire_frames_init_strict(quic_wire_frames *frames,
  * Reads the next frame.  |payload| is the one that |frames| began with.
  *
  * Returns QUIC_WIRE_ITEM and the frame; 0 where none is left;
- * QUIC_WIRE_ERR_MALFORMED, once, where something is no frame, and then 0: what
- * is told of it is in |frame| (quic_wire_error_type, quic_wire_error_reason).
+ * QUIC_WIRE_ERR_MALFORMED, once, where something is no frame, or one that
+ * QUIC_WIRE_READ_BASIC leaves out, and then 0: what is told of it is in |frame|
+ * (quic_wire_error_type, quic_wire_error_reason).
  * QUIC_WIRE_ERR_INVALID_ARGUMENT for NULL, or where |frames->offset| is above
  * |payloadlen|.  |frame| changes only with QUIC_WIRE_ITEM and
  * QUIC_WIRE_ERR_MALFORMED.
@@ -566,11 +574,12 @@ QUIC_WIRE_API int quic_wire_frames_next(quic_wire_frames *frames,
  *
  * Returns QUIC_WIRE_ITEM, and in |*count| how many entries were filled, one at
  * least; 0 where no frame is left; QUIC_WIRE_ERR_MALFORMED, once, where what
- * stands next is no frame, and then 0: what is told of it is in |out[0]|
- * (quic_wire_error_type, quic_wire_error_reason); QUIC_WIRE_ERR_NOBUF where
+ * stands next is no frame, or one that QUIC_WIRE_READ_BASIC leaves out, and then
+ * 0: what is told of it is in |out[0]| (quic_wire_error_type,
+ * quic_wire_error_reason); QUIC_WIRE_ERR_NOBUF where
  * |room| is 0.  QUIC_WIRE_ERR_INVALID_ARGUMENT for NULL, or where
- * |frames->offset| is above |payloadlen|.  Frames that stand before something
- * that is none are given first, and the next call tells of it.  Entries behind
+ * |frames->offset| is above |payloadlen|.  Frames that stand before what
+ * isn't given are given first, and the next call tells of it.  Entries behind
  * those that were filled stay, and |*count| changes only with QUIC_WIRE_ITEM.
  * Once |frames->offset| is |payloadlen| nothing is left, and no call is needed
  * to learn that.
@@ -603,11 +612,8 @@ QUIC_WIRE_API int quic_wire_frames_first(quic_wire_frames *frames,
  * Reads the frame at the front of what is left of a payload, with no iterator:
  * the caller goes on behind it by what is returned, until nothing is left.
  * |frame|'s places count from |payload|.  A PADDING frame and the bytes of 0
- * behind it are one frame.  |how| is 0 or of these: with QUIC_WIRE_READ_STRICT a
- * type that isn't in its shortest encoding is no frame (RFC 9000, section 12.4);
- * with QUIC_WIRE_READ_BASIC ACK_FREQUENCY and IMMEDIATE_ACK are frames of an
- * unknown type, as they are where their extension wasn't negotiated, but that
- * one which is broken within its fields is told for that.
+ * behind it are one frame.  |how| is 0, QUIC_WIRE_READ_STRICT,
+ * QUIC_WIRE_READ_BASIC, or both by |.
  *
  * Of an ACK |frame->datalen| is its first range, less one, the ranges below it
  * are written to the |room| entries of |gaps| as they stand, and |frame->data|
@@ -616,7 +622,8 @@ QUIC_WIRE_API int quic_wire_frames_first(quic_wire_frames *frames,
  *
  * Returns where the frame ends, which is above 0; QUIC_WIRE_ERR_EMPTY where
  * nothing is left; QUIC_WIRE_ERR_MALFORMED, and what is told of it in |frame|,
- * where what stands at the front is no frame (its type is QUIC_WIRE_NO_TYPE if
+ * where what stands at the front is no frame, or one that QUIC_WIRE_READ_BASIC
+ * leaves out (its type is QUIC_WIRE_NO_TYPE if
  * it is cut off within that); QUIC_WIRE_ERR_INVALID_ARGUMENT for NULL.
  */
 QUIC_WIRE_API int64_t quic_wire_frame_read(const uint8_t *payload,

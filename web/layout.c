@@ -14,7 +14,7 @@ static void frames(void) {
   FIELD(frames, offset);
   FIELD(frames, last_type);
   FIELD(frames, ended);
-  FIELD(frames, strict);
+  FIELD(frames, how);
   STRUCT(frame);
   FIELD(frame, kind);
   FIELD(frame, type);

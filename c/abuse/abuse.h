@@ -46,6 +46,15 @@ extern void fill_rubbish(const uint8_t *payload, size_t len);
 extern void first_rubbish(const uint8_t *payload, size_t len);
 extern int strict_any(const uint8_t *bytes, size_t len);
 
+/* The next frame by single calls, with a run of PADDING as one, is |entry|. */
+extern void next_is(quic_wire_frames *one, const uint8_t *payload, size_t len,
+                    const quic_wire_frame *entry);
+
+/* extension.c: the frames that a way of reading leaves out. */
+extern int is_extension(const quic_wire_frame *frame);
+extern void extension_examples(void);
+extern int extension_any(const uint8_t *bytes, size_t len);
+
 /* fronts.c: frames at the front of what is left. */
 extern void fronts_nulls(void);
 extern void front_rubbish(const uint8_t *payload, size_t len);

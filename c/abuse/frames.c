@@ -69,11 +69,16 @@ static void path_bytes(const uint8_t *payload, size_t len,
   WANT(!bytes || number == frame->path.data);
 }
 
+/* A way of reading, or any word. */
+static uint32_t any_how(void) {
+  return (uint32_t)(any() % 4 ? any() % 4 : edge());
+}
+
 /* Reads on from any place, with any last type; |frame| is left with any words. */
 static void read_on_rubbish(const uint8_t *payload, size_t len,
                             quic_wire_frame *frame) {
   quic_wire_frames frames;
-  const uint32_t strict = (uint32_t)(any() % 2 ? 0 : edge());
+  const uint32_t how = any_how();
   const uint8_t *token;
   uint64_t type;
   size_t k;
@@ -81,11 +86,12 @@ static void read_on_rubbish(const uint8_t *payload, size_t len,
   frames.offset = place();
   frames.last_type = edge();
   frames.ended = (uint32_t)(any() % 4 ? 0 : edge());
-  frames.strict = strict;
+  frames.how = how;
   memset(frame, (int)(any() % 256), sizeof *frame);
   for (k = 0; k < 50 && (answer = quic_wire_frames_next(&frames, payload, len,
                                                         frame)) == 1; k++) {
     WANT(frame->begin < frame->end && frame->end <= len);
+    WANT(how < QUIC_WIRE_READ_BASIC || !is_extension(frame));
     WANT(frame->data <= frame->end &&
          frame->datalen <= frame->end - frame->data);
     WANT(quic_wire_varint_read(payload + frame->begin, len - frame->begin,
@@ -102,7 +108,7 @@ static void read_on_rubbish(const uint8_t *payload, size_t len,
   WANT(answer != QUIC_WIRE_ERR_MALFORMED || frame->type == 0);
   WANT(k < 50 && (answer == 0 || answer == INVALID ||
                   answer == QUIC_WIRE_ERR_MALFORMED));
-  WANT(frames.strict == strict);
+  WANT(frames.how == how);
 }
 
 /* Reads on, and asks for what a frame of any words and the ranges of any words
@@ -123,9 +129,8 @@ void read_rubbish(const uint8_t *payload, size_t len) {
   ranges_rubbish(payload, len, &frame);
 }
 
-/* The next frame by single calls, with a run of PADDING as one, is |entry|. */
-static void next_is(quic_wire_frames *one, const uint8_t *payload, size_t len,
-                    const quic_wire_frame *entry) {
+void next_is(quic_wire_frames *one, const uint8_t *payload, size_t len,
+             const quic_wire_frame *entry) {
   quic_wire_frame frame, more;
   WANT(quic_wire_frames_next(one, payload, len, &frame) == 1);
   while (frame.kind == QUIC_WIRE_PADDING && frame.end < entry->end) {
@@ -149,7 +154,7 @@ void fill_rubbish(const uint8_t *payload, size_t len) {
   one.offset = place();
   one.last_type = edge();
   one.ended = (uint32_t)(any() % 8 ? 0 : edge());
-  one.strict = (uint32_t)(any() % 2 ? 0 : edge());
+  one.how = any_how();
   many = one;
   memset(before, 0xa5, sizeof before);
   for (calls = 0; calls < 50; calls++) {

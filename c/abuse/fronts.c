@@ -13,11 +13,6 @@ void fronts_nulls(void) {
        QUIC_WIRE_ERR_EMPTY);
 }
 
-static int is_extension(const quic_wire_frame *frame) {
-  return frame->kind == QUIC_WIRE_ACK_FREQUENCY ||
-         frame->kind == QUIC_WIRE_IMMEDIATE_ACK;
-}
-
 /* A frame of |n| bytes that was read at |at| is the next one of an iterator; of
  * an ACK the ranges too, of which |gaps| has as many as there was room for, and
  * behind them what it had |before|. */
@@ -44,18 +39,13 @@ static void front_is_next(const uint8_t *payload, size_t len, size_t at,
   WANT(!memcmp(&entry, &want, sizeof entry));
 }
 
-/* What is no frame at |at| is none for an iterator either, but that of the
- * extension which |how| leaves out. */
+/* What is no frame at |at| is none for an iterator either. */
 static void front_refused(const uint8_t *payload, size_t len, size_t at,
-                          int how, const quic_wire_frame *frame,
+                          const quic_wire_frame *frame,
                           quic_wire_frames *frames) {
   quic_wire_frame want;
-  if (quic_wire_frames_next(frames, payload, len, &want) == 1) {
-    WANT(how & QUIC_WIRE_READ_BASIC && is_extension(&want));
-    WANT(quic_wire_error_type(frame) == want.kind);
-    WANT(quic_wire_error_reason(frame) == QUIC_WIRE_REASON_INVALID_FRAME_ID);
-    return;
-  }
+  WANT(quic_wire_frames_next(frames, payload, len, &want) ==
+       QUIC_WIRE_ERR_MALFORMED);
   WANT(want.begin == at && frame->begin == 0);
   WANT(quic_wire_error_reason(frame) == quic_wire_error_reason(&want));
   WANT(quic_wire_error_type(frame) == quic_wire_error_type(&want) ||
@@ -71,9 +61,8 @@ void front_rubbish(const uint8_t *payload, size_t len) {
   size_t at = 0, room = any() % 3;
   int how = (int)(any() % 4);
   int64_t n;
-  int answer = how & QUIC_WIRE_READ_STRICT
-                   ? quic_wire_frames_init_strict(&frames, payload, len)
-                   : quic_wire_frames_init(&frames, payload, len);
+  int answer = quic_wire_frames_init(&frames, payload, len);
+  frames.how = (uint32_t)how;
   memset(before, 0xa5, sizeof before);
   do {
     memcpy(gaps, before, sizeof gaps);
@@ -93,5 +82,5 @@ void front_rubbish(const uint8_t *payload, size_t len) {
     return;
   }
   WANT(n == QUIC_WIRE_ERR_MALFORMED && answer == 0);
-  front_refused(payload, len, at, how, &frame, &frames);
+  front_refused(payload, len, at, &frame, &frames);
 }

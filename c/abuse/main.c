@@ -43,6 +43,7 @@ size_t varint_len(uint64_t n) {
 static void nulls(void) {
   frames_nulls();
   fronts_nulls();
+  extension_examples();
   acks_nulls();
   written_nulls();
   without_data();
@@ -58,7 +59,7 @@ static void nulls(void) {
 }
 
 static void rubbish(int rounds) {
-  int i, said = 0, heads = 0, forms = 0, longs = 0;
+  int i, said = 0, heads = 0, forms = 0, longs = 0, extensions = 0;
   for (i = 0; i < rounds; i++) {
     size_t len = any() % 40, k;
     uint8_t *bytes = block(len);
@@ -76,6 +77,7 @@ static void rubbish(int rounds) {
     heads += head_written();
     forms += canonical_any(bytes, len);
     longs += strict_any(bytes, len);
+    extensions += extension_any(bytes, len);
     number_len_any();
     number_expand_any();
     negotiation_any();
@@ -90,7 +92,7 @@ static void rubbish(int rounds) {
     free(bytes);
   }
   WANT(said > rounds / 20 && heads > rounds / 3 && forms > rounds / 50);
-  WANT(longs > rounds / 5);
+  WANT(longs > rounds / 5 && extensions > rounds / 5);
 }
 
 int main(int argc, char **argv) {

@@ -1,5 +1,5 @@
 -- Entries that are filled one after the other.
-use Rattle.std.proofs.Common.{◌≡◌, ℕ, ◌+◌, ◌<◌, ◌≤◌, List, [], ◌∷◌, ◌++◌, length, take, drop, set, Option, refl, sym, ap, subst, ◌∙◌, inl, inr, arith}
+use Rattle.std.proofs.Common.{◌≡◌, ℕ, ◌+◌, ◌<◌, ◌≤◌, Bool, true, List, [], ◌∷◌, ◌++◌, length, take, drop, set, Option, refl, sym, ap, subst, ◌∙◌, inl, inr, arith}
 use Rattle.std.specs.Prelude.{◌⊎◌, zero, suc}
 use Rattle.std.proofs.lemmas.List.{take_more_set, drop-set-lt}
 use Rattle.std.proofs.Math.ListN.{length-set}
@@ -9,7 +9,9 @@ use Rattle.quic_frames.specs.Way.{Way}
 use Rattle.quic_frames.specs.Walk.{Finds}
 use Rattle.quic_frames.specs.Padding.{PassesPadding, behind}
 use Rattle.quic_c.specs.declared.words.FrameWords.{FrameWords}
-use Rattle.quic_c.specs.Shown.{kind_of, shown}
+use Rattle.quic_c.specs.Shown.{kind_of, shown, IsExtension}
+use Rattle.quic_c.specs.Answers.{IsRefused}
+use Rattle.quic_frame_parts.specs.Reading.{Invalid}
 use Rattle.quic_c.specs.Filling.{GivesEntry, Shows, HasNoFrame, Fills, further}
 
 -- one entry more
@@ -41,16 +43,16 @@ passed_payload old new count p = ap (λ (w : Way). w.payload) (passed_further ol
 -- ---- the loop
 
 -- So many entries are filled, from a place up to one that ends there.
-pub record Filling (old : Way) (before : List FrameWords) (here : Way) (after : List FrameWords) (count end : ℕ) : Type 0 where
+pub record Filling (basic : Bool) (old : Way) (before : List FrameWords) (here : Way) (after : List FrameWords) (count end : ℕ) : Type 0 where
   pub few : count ≤ length after
   pub all : length after ≡ length before
   pub place : here.offset ≡ end
   pub comes : here ≡ further old here.offset here.last
-  pub shows : Shows GivesEntry old (take count after) here
+  pub shows : Shows (GivesEntry basic) old (take count after) here
   pub kept : drop count after ≡ drop count before
 
-pub filling_begins : (old : Way) (before : List FrameWords) (end : ℕ) → end ≡ old.offset → Filling old before old before 0 end
-filling_begins old before end e = record { few = omega arith; all = refl; place = sym e; comes = refl; shows = refl; kept = refl }
+pub filling_begins : (basic : Bool) (old : Way) (before : List FrameWords) (end : ℕ) → end ≡ old.offset → Filling basic old before old before 0 end
+filling_begins basic old before end e = record { few = omega arith; all = refl; place = sym e; comes = refl; shows = refl; kept = refl }
 
 pub kinds : (n : ℕ) → (n ≡ 0) ⊎ (0 < n)
 kinds zero = inl refl
@@ -63,34 +65,41 @@ next_further here next new frame f run one =
       | inr is ↦ subst (λ (w : Way). IsFurther here w) (sym (one is)) (found_further here next frame f)
     ]
 
-pub filling_goes_on : (old : Way) (before : List FrameWords) (here : Way) (after : List FrameWords) (count end : ℕ) (next new : Way) (frame : Frame) (entry : FrameWords) (stop type : ℕ)
-    → Filling old before here after count end → count < length after → (finds : Finds here frame next) → (kind_of frame ≡ 0 → (more : ℕ) × PassesPadding next more new) → (0 < kind_of frame → new ≡ next)
-    → stop ≡ new.offset → type ≡ finds.found.type → entry ≡ shown end stop type frame → Filling old before new (set after count entry) (count + 1) stop
-filling_goes_on old before here after count end next new frame entry stop type s room f run one e begins words =
+pub filling_goes_on : (basic : Bool) (old : Way) (before : List FrameWords) (here : Way) (after : List FrameWords) (count end : ℕ) (next new : Way) (frame : Frame) (entry : FrameWords) (stop type : ℕ)
+    → Filling basic old before here after count end → count < length after → (finds : Finds here frame next) → ((basic ≡ true) × IsExtension (kind_of frame) → ⊥) → (kind_of frame ≡ 0 → (more : ℕ) × PassesPadding next more new) → (0 < kind_of frame → new ≡ next)
+    → stop ≡ new.offset → type ≡ finds.found.type → entry ≡ shown end stop type frame → Filling basic old before new (set after count entry) (count + 1) stop
+filling_goes_on basic old before here after count end next new frame entry stop type s room f known run one e begins words =
     let same_words : entry ≡ shown here.offset new.offset f.found.type frame =
     words ∙ ap (λ (n : ℕ). shown n stop type frame) (sym s.place) ∙ ap (λ (n : ℕ). shown here.offset n type frame) e ∙ ap (λ (n : ℕ). shown here.offset new.offset n frame) begins in
-    let gives : GivesEntry here entry new = record { frame = frame; next = next; finds = f; run = run; one = one; words = same_words } in
+    let gives : GivesEntry basic here entry new = record { frame = frame; next = next; finds = f; known = known; run = run; one = one; words = same_words } in
     let front : take (count + 1) (set after count entry) ≡ take count after ++ entry ∷ [] = take_more_set after count entry room in
     record {
       few = simp length-set (omega arith);
       all = simp length-set s.all;
       place = sym e;
       comes = further_on old here new s.comes (next_further here next new frame f run one);
-      shows = rw front (shows-append GivesEntry old (take count after) here entry new s.shows gives);
+      shows = rw front (shows-append (GivesEntry basic) old (take count after) here entry new s.shows gives);
       kept = drop-set-lt (count + 1) after count entry (omega arith) ∙ drop_more_same after before count s.kept;
     }
 
 -- where it ends
-pub filling_ends : (old : Way) (before : List FrameWords) (here : Way) (after : List FrameWords) (count end : ℕ) (last : Option ℕ) → Filling old before here after count end → last ≡ here.last
-    → (count ≡ length before) ⊎ HasNoFrame here → Fills old before (further old end last) after count
-filling_ends old before here after count end last s e full =
+pub filling_ends : (basic : Bool) (old : Way) (before : List FrameWords) (here : Way) (after : List FrameWords) (count end : ℕ) (last : Option ℕ) → Filling basic old before here after count end → last ≡ here.last
+    → (count ≡ length before) ⊎ HasNoFrame basic here → Fills basic old before (further old end last) after count
+filling_ends basic old before here after count end last s e full =
     let is : here ≡ further old end last = s.comes ∙ ap (λ (n : ℕ). further old n here.last) s.place ∙ ap (further old end) (sym e) in
-    let fills : Fills old before here after count = record { few = rw (← s.all) s.few; shows = s.shows; kept = s.kept; full = full } in
-    subst (λ (w : Way). Fills old before w after count) is fills
+    let fills : Fills basic old before here after count = record { few = rw (← s.all) s.few; shows = s.shows; kept = s.kept; full = full } in
+    subst (λ (w : Way). Fills basic old before w after count) is fills
 
 -- where nothing was filled
-pub filling_none : (old : Way) (before : List FrameWords) (here : Way) (after : List FrameWords) (count end : ℕ) → Filling old before here after count end → count ≡ 0 → (old ≡ here) × (after ≡ before)
-filling_none old before here after count end s none =
-    let shows : Shows GivesEntry old (take 0 after) here = rw none at s.shows in
+pub filling_none : (basic : Bool) (old : Way) (before : List FrameWords) (here : Way) (after : List FrameWords) (count end : ℕ) → Filling basic old before here after count end → count ≡ 0 → (old ≡ here) × (after ≡ before)
+filling_none basic old before here after count end s none =
+    let shows : Shows (GivesEntry basic) old (take 0 after) here = rw none at s.shows in
     let kept : drop 0 after ≡ drop 0 before = rw none at s.kept in
     (shows, kept)
+
+-- where it stops in front of what isn't given, which is told if no entry was filled
+pub filling_stops : (basic : Bool) (old : Way) (before : List FrameWords) (here : Way) (after : List FrameWords) (count end : ℕ) (told : Invalid) → Filling basic old before here after count end
+    → IsRefused basic here told → count ≡ 0 → IsRefused basic old told × (after ≡ before)
+filling_stops basic old before here after count end told s refused none =
+    let n = filling_none basic old before here after count end s none in
+    (subst (λ (w : Way). IsRefused basic w told) (sym n.0) refused, n.1)

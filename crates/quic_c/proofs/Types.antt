@@ -1,9 +1,11 @@
 -- The types of frames that were read.
 use Rattle.std.proofs.Common.{◌≡◌, ℕ, ◌<◌, ◌^◌, Bool, true, false, List, [], ◌∷◌, Option, Some, refl, sym, ap, subst, ◌∙◌, inl, inr, arith}
-use Rattle.std.specs.Prelude.{◌⊎◌, ◌==◌, ◌&&◌, nat_lt}
+use Rattle.std.specs.Prelude.{◌⊎◌, ◌↔◌, ◌==◌, ◌&&◌, nat_lt, IsTrue}
 use Rattle.std.specs.Map.{lookup}
+use Rattle.std.proofs.lemmas.Bool.{false≢true}
 use Rattle.std.proofs.lemmas.Bool.Decides.{nat_tests}
 use Rattle.quic_frame_parts.specs.Payload.{Found}
+use Rattle.quic_frame_parts.specs.Reading.{Invalid}
 use Rattle.quic_frame_parts.specs.Table.{Row, rows, row_of}
 use Rattle.quic_frames.specs.declared.frame.Frame.{Frame}
 use Rattle.quic_frames.specs.Way.{Way}
@@ -12,10 +14,10 @@ use Rattle.quic_frames.specs.Walk.{first_of, Finds}
 use Rattle.quic_c.specs.declared.words.FrameWords.{FrameWords}
 use Rattle.quic_c.specs.declared.words.FramesWords.{FramesWords}
 use Rattle.quic_c.specs.declared.words.GapWords.{GapWords}
-use Rattle.quic_c.specs.Shown.{kind_of, shown, type_in, way_of}
-use Rattle.quic_c.specs.Answers.{GivesFrame}
+use Rattle.quic_c.specs.Shown.{is_basic, kind_of, shown, type_in, way_of, IsExtension}
+use Rattle.quic_c.specs.Answers.{GivesFrame, IsRefused, unknown_told}
 use Rattle.quic_c.specs.Filling.{further}
-use Rattle.quic_c.specs.Front.{IsExtension, ReadsFront, ShowsFront}
+use Rattle.quic_c.specs.Front.{ReadsFront, ShowsFront}
 
 all_fit : List (ℕ × Row) → Bool
 all_fit [] = true
@@ -72,10 +74,18 @@ found_between here next old new frame finds p q =
     subst (λ (w : Way). (f : Finds w frame new) × (f.found ≡ finds.found)) p (subst (λ (w : Way). (f : Finds here frame w) × (f.found ≡ finds.found)) q (finds, refl))
 
 pub gives_frame : (old new : FramesWords) (payload : List ℕ) (out : FrameWords) (here next : Way) (frame : Frame) (type : ℕ) (finds : Finds here frame next)
-    → way_of old payload ≡ here → way_of new payload ≡ next → type ≡ finds.found.type → out ≡ shown old.offset new.offset type frame → GivesFrame old payload new out
-gives_frame old new payload out here next frame type finds is_here is_next begins words =
+    → ((is_basic old.how ≡ true) × IsExtension (kind_of frame) → ⊥) → way_of old payload ≡ here → way_of new payload ≡ next → type ≡ finds.found.type → out ≡ shown old.offset new.offset type frame → GivesFrame old payload new out
+gives_frame old new payload out here next frame type finds known is_here is_next begins words =
     let f = found_between here next (way_of old payload) (way_of new payload) frame finds (sym is_here) (sym is_next) in
-    record { frame = frame; finds = f.0; words = words ∙ ap (λ (n : ℕ). shown old.offset new.offset n frame) (begins ∙ ap (λ (x : Found). x.type) (sym f.1)) }
+    record { frame = frame; finds = f.0; known = known; words = words ∙ ap (λ (n : ℕ). shown old.offset new.offset n frame) (begins ∙ ap (λ (x : Found). x.type) (sym f.1)) }
+
+-- where a test says that a frame isn't one of the extension where these are of unknown types
+pub is_kept : (basic test : Bool) (frame : Frame) → IsTrue test ↔ (basic ≡ true) × IsExtension (kind_of frame) → test ≡ false → (basic ≡ true) × IsExtension (kind_of frame) → ⊥
+is_kept basic test frame tests e x = false≢true (sym e ∙ tests.1 x)
+
+-- a frame of the extension is refused where these are of unknown types
+pub unknown_refused : (basic : Bool) (here next : Way) (frame : Frame) (told : Invalid) → Finds here frame next → (basic ≡ true) × IsExtension (kind_of frame) → told ≡ unknown_told (kind_of frame) → IsRefused basic here told
+unknown_refused basic here next frame told finds is tells = inr (is.0, record { frame = frame; next = next; finds = finds; extension = is.1; is = tells })
 
 pub reads_front : (strict basic : Bool) (payload : List ℕ) (before : List GapWords) (stop : ℕ) (words : FrameWords) (after : List GapWords) (frame : Frame) (next rest : Way) (type : ℕ)
     → (finds : Finds (first_of strict payload) frame next) → ((basic ≡ true) × IsExtension (kind_of frame) → ⊥) → (kind_of frame ≡ 0 → (more : ℕ) × PassesPadding next more rest) → (0 < kind_of frame → rest ≡ next)

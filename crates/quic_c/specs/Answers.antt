@@ -1,33 +1,52 @@
 -- What the calls answer.
-use Rattle.std.specs.Prelude.{◌≡◌, ◌==◌, ℕ, ◌+◌, ◌<◌, ◌≤◌, ◌^◌, ◌⊎◌, slice_range, Result, Ok, Err, IsErr, length, List, [], ◌∷◌, codes, if◌then◌else◌}
+use Rattle.std.specs.Prelude.{◌≡◌, ◌==◌, ℕ, ◌+◌, ◌<◌, ◌≤◌, ◌^◌, ◌⊎◌, slice_range, Result, Ok, Err, IsErr, length, List, [], ◌∷◌, Bool, true, Some, codes, if◌then◌else◌}
 use Rattle.std.specs.Cmp.Lexicographic.{pointwise}
 use Rattle.std.specs.Prelude.{nat_eq}
 use Rattle.quic_frames.specs.declared.frame.Frame.{Frame}
 use Rattle.quic_frame_parts.specs.declared.frame.fault.Fault.{Fault}
 use Rattle.quic_frame_parts.specs.AckPlace.{ack_at}
 use Rattle.quic_frame_parts.specs.declared.frame.fault.Fault.TheVariants.{InvalidFrameId}
-use Rattle.quic_frame_parts.specs.Reading.{◌>>=◌, varint_at, Invalid, Broken, IsBlocks, blocks_left, ranges_of, first_range_at}
+use Rattle.quic_frame_parts.specs.Reading.{◌>>=◌, varint_at, Invalid, invalid, Broken, IsBlocks, blocks_left, ranges_of, first_range_at}
+use Rattle.quic_frames.specs.Way.{Way}
 use Rattle.quic_frames.specs.Walk.{left, Finds}
 use Rattle.quic_c.specs.declared.words.FramesWords.{FramesWords}
 use Rattle.quic_c.specs.declared.words.FrameWords.{FrameWords}
 use Rattle.quic_c.specs.declared.words.RangeWords.{RangeWords}
 use Rattle.quic_c.specs.declared.words.RangesWords.{RangesWords}
-use Rattle.quic_c.specs.Shown.{way_of, type_word, shown, shown_invalid}
+use Rattle.quic_c.specs.Shown.{way_of, type_word, shown, shown_invalid, kind_of, is_basic, IsExtension}
 
 -- the number of a reason: 1 unexpected end, 2 invalid frame ID, 3 malformed, 4 frame type not in shortest form
 abbrev pub reason_in : List ℕ → ℕ
 reason_in reason = if pointwise nat_eq reason (codes "unexpected end") then 1 else if pointwise nat_eq reason (codes "invalid frame ID") then 2 else if pointwise nat_eq reason (codes "frame type not in shortest form") then 4 else 3
 
--- A frame was found where the words stand, and its words were given.
+-- what is told of a frame of a kind whose type is unknown
+abbrev pub unknown_told : ℕ → Invalid
+unknown_told kind = invalid (Some kind) InvalidFrameId
+
+-- A frame of the extension for ACK frequency stands there, and is told as one of an unknown type.
+pub record IsUnknown (way : Way) (told : Invalid) : Type 0 where
+  pub frame : Frame
+  pub next : Way
+  pub finds : Finds way frame next
+  pub extension : IsExtension (kind_of frame)
+  pub is : told ≡ unknown_told (kind_of frame)
+
+-- What stands there isn't given, and this is told of it: it is no frame, or a frame of that extension where these are
+-- of unknown types.
+abbrev pub IsRefused : Bool → Way → Invalid → Type 0
+IsRefused basic way told = (left way ≡ Broken told ∷ []) ⊎ (basic ≡ true) × IsUnknown way told
+
+-- A frame was found where the words stand, and its words were given: one of that extension only where these are known.
 pub record GivesFrame (old : FramesWords) (payload : List ℕ) (new : FramesWords) (out : FrameWords) : Type 0 where
   pub frame : Frame
   pub finds : Finds (way_of old payload) frame (way_of new payload)
+  pub known : (is_basic old.how ≡ true) × IsExtension (kind_of frame) → ⊥
   pub words : out ≡ shown old.offset new.offset finds.found.type frame
 
--- No frame stands there, and that is told; nothing is left.
+-- What stands there isn't given, and that is told; nothing is left.
 pub record GivesInvalid (old : FramesWords) (payload : List ℕ) (new : FramesWords) (out : FrameWords) : Type 0 where
   pub told : Invalid
-  pub first : left (way_of old payload) ≡ Broken told ∷ []
+  pub first : IsRefused (is_basic old.how) (way_of old payload) told
   pub over : new ≡ record old { ended = 1 }
   pub words : out ≡ shown_invalid old.offset (type_word told.type) (reason_in told.reason)
 

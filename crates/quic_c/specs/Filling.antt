@@ -1,23 +1,24 @@
 -- Frames into a caller's array, many with one call (RFC 9000, section 19).
-use Rattle.std.specs.Prelude.{◌≡◌, ℕ, ◌<◌, ◌≤◌, ◌⊎◌, List, [], ◌∷◌, length, take, drop, Option}
+use Rattle.std.specs.Prelude.{◌≡◌, ℕ, ◌<◌, ◌≤◌, ◌⊎◌, List, [], ◌∷◌, length, take, drop, Bool, true, Option}
 use Rattle.quic_frames.specs.declared.frame.Frame.{Frame}
-use Rattle.quic_frame_parts.specs.Reading.{Invalid, Broken}
+use Rattle.quic_frame_parts.specs.Reading.{Invalid}
 use Rattle.quic_frames.specs.Way.{Way}
 use Rattle.quic_frames.specs.Walk.{left, Finds}
 use Rattle.quic_frames.specs.Padding.{PassesPadding}
 use Rattle.quic_c.specs.declared.words.FramesWords.{FramesWords}
 use Rattle.quic_c.specs.declared.words.FrameWords.{FrameWords}
-use Rattle.quic_c.specs.Shown.{kind_of, shown}
+use Rattle.quic_c.specs.Shown.{kind_of, shown, IsExtension}
 use Rattle.quic_c.specs.declared.words.RangeWords.{RangeWords}
 use Rattle.quic_c.specs.declared.words.RangesWords.{RangesWords}
-use Rattle.quic_c.specs.Answers.{GivesInvalid, GivesRange, NamesNone}
+use Rattle.quic_c.specs.Answers.{GivesInvalid, GivesRange, IsRefused, NamesNone}
 
--- One entry shows a frame; one of PADDING (RFC 9000, section 19.1) shows also the PADDING that follows, a frame with
--- each byte.
-pub record GivesEntry (old : Way) (entry : FrameWords) (new : Way) : Type 0 where
+-- One entry shows a frame, one of the extension for ACK frequency only where these are known; one of PADDING (RFC 9000,
+-- section 19.1) shows also the PADDING that follows, a frame with each byte.
+pub record GivesEntry (basic : Bool) (old : Way) (entry : FrameWords) (new : Way) : Type 0 where
   pub frame : Frame
   pub next : Way
   pub finds : Finds old frame next
+  pub known : (basic ≡ true) × IsExtension (kind_of frame) → ⊥
   pub run : kind_of frame ≡ 0 → (more : ℕ) × PassesPadding next more new
   pub one : 0 < kind_of frame → new ≡ next
   pub words : entry ≡ shown old.offset new.offset finds.found.type frame
@@ -27,18 +28,18 @@ abbrev pub Shows : {P E : Type 0} → (P → E → P → Type 0) → P → List 
 Shows step old [] new = old ≡ new
 Shows {P = P} step old (entry ∷ entries) new = (next : P) × step old entry next × Shows step next entries new
 
--- Nothing is left, or what stands next is no frame.
-abbrev pub HasNoFrame : Way → Type 0
-HasNoFrame way = (left way ≡ []) ⊎ ((told : Invalid) × (left way ≡ Broken told ∷ []))
+-- Nothing is left, or what stands next isn't given.
+abbrev pub HasNoFrame : Bool → Way → Type 0
+HasNoFrame basic way = (left way ≡ []) ⊎ ((told : Invalid) × IsRefused basic way told)
 
 -- So many entries were filled, and those behind them kept; more were not, for want of room or of a frame.
-pub record Fills (old : Way) (before : List FrameWords) (new : Way) (after : List FrameWords) (count : ℕ) : Type 0 where
+pub record Fills (basic : Bool) (old : Way) (before : List FrameWords) (new : Way) (after : List FrameWords) (count : ℕ) : Type 0 where
   pub few : count ≤ length before
-  pub shows : Shows GivesEntry old (take count after) new
+  pub shows : Shows (GivesEntry basic) old (take count after) new
   pub kept : drop count after ≡ drop count before
-  pub full : (count ≡ length before) ⊎ HasNoFrame new
+  pub full : (count ≡ length before) ⊎ HasNoFrame basic new
 
--- No frame stands there: the first entry tells that, and the others were kept.
+-- What stands there isn't given: the first entry tells that, and the others were kept.
 pub record TellsInvalid (old : FramesWords) (payload : List ℕ) (before : List FrameWords) (new : FramesWords) (after : List FrameWords) : Type 0 where
   pub entry : FrameWords
   pub invalid : GivesInvalid old payload new entry

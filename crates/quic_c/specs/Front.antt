@@ -1,5 +1,5 @@
 -- The frame at the front of a payload, and the ranges of an ACK as gap and length.
-use Rattle.std.specs.Prelude.{◌≡◌, ℕ, ◌+◌, ◌-◌, ◌<◌, ◌≤◌, ◌⊎◌, ◌==◌, ◌||◌, not, true, List, [], ◌∷◌, length, take, drop, nat_lt, Bool, Option, None, Some, if◌then◌else◌}
+use Rattle.std.specs.Prelude.{◌≡◌, ℕ, ◌+◌, ◌-◌, ◌<◌, ◌≤◌, true, List, [], ◌∷◌, length, take, drop, nat_lt, Bool, Option, None, Some, if◌then◌else◌}
 use Rattle.quic_frames.specs.declared.frame.Frame.{Frame}
 use Rattle.quic_frames.specs.declared.frame.Frame.TheVariants as frames
 use Rattle.quic_frame_parts.specs.declared.frame.ack.Ack.{Ack}
@@ -7,11 +7,11 @@ use Rattle.quic_frame_parts.specs.Acks.{ranges_acked}
 use Rattle.quic_frame_parts.specs.Reading.{Invalid, Item, Whole, Broken}
 use Rattle.quic_frames.specs.Way.{Way}
 use Rattle.quic_frames.specs.Padding.{PassesPadding}
-use Rattle.quic_frames.specs.Walk.{left, first_of, Finds}
+use Rattle.quic_frames.specs.Walk.{first_of, Finds}
 use Rattle.quic_c.specs.declared.words.FrameWords.{FrameWords}
 use Rattle.quic_c.specs.declared.words.GapWords.{GapWords}
-use Rattle.quic_c.specs.Answers.{reason_in}
-use Rattle.quic_c.specs.Shown.{kind_of, shown, shown_invalid, type_word, counts_flag}
+use Rattle.quic_c.specs.Answers.{IsRefused, reason_in}
+use Rattle.quic_c.specs.Shown.{kind_of, shown, shown_invalid, type_word, counts_flag, IsExtension}
 
 -- a range, by its least and its greatest number, below one with the least number low: the numbers between the two,
 -- less one, and its numbers, less one (RFC 9000, section 19.3.1)
@@ -52,10 +52,6 @@ abbrev pub ShowsFront : ℕ → ℕ → Frame → List GapWords → FrameWords �
 ShowsFront stop type (frames.Ack a) before words after = ShowsAck stop type a before words after
 ShowsFront stop type frame before words after = (words ≡ shown 0 stop type frame) × (after ≡ before)
 
--- ACK_FREQUENCY and IMMEDIATE_ACK, whose types are unknown where the extension for ACK frequency wasn't negotiated
-abbrev pub IsExtension : ℕ → Type 0
-IsExtension kind = (kind ≡ 0xaf) ⊎ (kind ≡ 0x1f)
-
 -- The frame at the front is told, as the iterator over the payload gives it, and where just the frames of RFC 9000 and
 -- DATAGRAM count it is one of these. One of PADDING (RFC 9000, section 19.1) stands also for the PADDING that follows, a
 -- frame with each byte. What is left begins where it ends.
@@ -70,27 +66,11 @@ pub record ReadsFront (strict basic : Bool) (payload : List ℕ) (before : List 
   pub ends : stop ≡ rest.offset
   pub shows : ShowsFront stop finds.found.type frame before words after
 
--- No frame stands at the front, and that is told.
-pub record TellsNone (strict : Bool) (payload : List ℕ) (words : FrameWords) : Type 0 where
+-- No frame stands at the front, or just one of that extension where only those count, and that is told.
+pub record TellsNone (strict basic : Bool) (payload : List ℕ) (words : FrameWords) : Type 0 where
   pub told : Invalid
-  pub first : left (first_of strict payload) ≡ Broken told ∷ []
+  pub first : IsRefused basic (first_of strict payload) told
   pub is : words ≡ shown_invalid 0 (type_word told.type) (reason_in told.reason)
-
--- A frame of that extension stands at the front, and is told as one of an unknown type.
-pub record TellsUnknown (strict : Bool) (payload : List ℕ) (words : FrameWords) : Type 0 where
-  pub frame : Frame
-  pub next : Way
-  pub finds : Finds (first_of strict payload) frame next
-  pub unknown : IsExtension (kind_of frame)
-  pub is : words ≡ shown_invalid 0 (kind_of frame) 2
-
--- by a word: 1, and 3 and more, whether a type counts in its shortest spelling alone
-abbrev pub is_strict : ℕ → Bool
-is_strict how = not (how == 0 || how == 2)
-
--- 2 and more, whether the frames of the extension are unknown
-abbrev pub is_basic : ℕ → Bool
-is_basic how = nat_lt 1 how
 
 -- ---- reading on behind a frame
 

@@ -1,11 +1,11 @@
 //! The frames of a payload, as many with one call as the caller has room for.
-ghost use Rattle.std.specs.Prelude.{◌≡◌, ◌<◌, ◌≤◌, ◌↔◌, ◌⊎◌, [], false, ◌∷◌, pos, negsuc, length, IfOk, IfErr};
-ghost use Rattle.quic_frame_parts.specs.Reading.{Broken};
+ghost use Rattle.std.specs.Prelude.{◌≡◌, ◌<◌, ◌≤◌, ◌↔◌, ◌⊎◌, [], true, false, pos, negsuc, length, IfOk, IfErr};
 ghost use Rattle.quic_frames.specs.Walk.{left, first_of, invalid_of};
-ghost use Rattle.quic_c.specs.Shown.{way_of, at_front};
+ghost use Rattle.quic_c.specs.Shown.{way_of, at_front, is_basic};
+ghost use Rattle.quic_c.specs.Answers.{IsRefused};
 ghost use Rattle.quic_c.specs.Filling.{Fills, TellsInvalid, further};
 
-use crate::frames::{show_invalid, type_in, type_read, type_word};
+use crate::frames::{is_strict, is_unknown, show_invalid, type_in, type_read, type_word, unknown};
 use crate::show::{parts_of, show_parts};
 use crate::words::{FrameWords, FramesWords};
 use quic_frames::frame::{FrameType, InvalidFrame, Iter};
@@ -21,22 +21,30 @@ struct Filled {
     last: Option<FrameType>,
 }
 
-// Fills entries with what stands next. Where that is no frame, it is told if none was filled. There is a copy for
+// Fills entries with what stands next. Where that isn't given, it is told if none was filled. There is a copy for
 // each caller, so that each goes into its own.
 #[inline(always)]
 fn fill<const COPY: usize>(
     iter: &mut Iter<'_>,
+    basic: bool,
     out: &mut [FrameWords],
 ) -> Result<Filled, InvalidFrame>
-    ensures filled { IfOk result (λ f. Fills iter.old out.old (further iter.old f.end f.last) out.new f.count) }
+    ensures filled { IfOk result (λ f. Fills basic iter.old out.old (further iter.old f.end f.last) out.new f.count) }
     ensures none { IfOk result (λ f. f.count ≡ 0 → 0 < length out.old → left iter.old ≡ []) }
-    ensures invalid { IfErr result (λ i. (left iter.old ≡ Broken (invalid_of i) ∷ []) × (out.new ≡ out.old)) }
+    ensures invalid { IfErr result (λ i. IsRefused basic iter.old (invalid_of i) × (out.new ≡ out.old)) }
 {
     let mut count = 0;
     let mut end = iter.offset();
     while count < out.len() {
+        let last = iter.last_type();
         match iter.next() {
             Some(Ok(frame)) => {
+                if is_unknown(basic, &frame) {
+                    if count == 0 {
+                        return Err(unknown(parts_of(&frame).kind));
+                    }
+                    return Ok(Filled { count, end, last });
+                }
                 let ty = type_read(iter);
                 let parts = parts_of(&frame);
                 if parts.kind == 0 {
@@ -51,35 +59,29 @@ fn fill<const COPY: usize>(
                 if count == 0 {
                     return Err(invalid);
                 }
-                let last = iter.last_type();
                 return Ok(Filled { count, end, last });
             }
-            None => {
-                let last = iter.last_type();
-                return Ok(Filled { count, end, last });
-            }
+            None => return Ok(Filled { count, end, last }),
         }
     }
     let last = iter.last_type();
     Ok(Filled { count, end, last })
 }
 
-/// The next frames (RFC 9000, section 19), as many as there is room for in `out`; a run of PADDING, a frame with each
-/// byte, is one entry. It answers 1 with how many entries were filled, one at least; 0 where no frame is left; -3,
-/// once, with the type and the reason in the first entry, where what stands next is no frame; -4 just where `out` has
-/// no entry and the place lies in the payload; -1 just where the place lies outside it. `count` changes with 1 alone,
-/// and nothing changes with 0, -4 and -1.
-#[unsafe(no_mangle)]
-pub extern "C" fn quic_wire_frames_fill_(
+// Fills entries with what stands next where the words say.
+#[inline(always)]
+fn fill_on<const COPY: usize>(
     frames: &mut FramesWords,
     payload: &[u8],
+    basic: bool,
     out: &mut [FrameWords],
     count: &mut usize,
 ) -> i32
+    requires { basic ≡ is_basic frames.old.how }
     ensures answers { (result ≡ pos 1) ⊎ (result ≡ pos 0) ⊎ (result ≡ negsuc 2) ⊎ (result ≡ negsuc 3)
         ⊎ (result ≡ negsuc 0) }
     ensures frames { result ≡ pos 1
-        → (0 < count.new) × Fills (way_of frames.old payload.now) out.old (way_of frames.new payload.now) out.new count.new }
+        → (0 < count.new) × Fills (is_basic frames.old.how) (way_of frames.old payload.now) out.old (way_of frames.new payload.now) out.new count.new }
     ensures end { result ≡ pos 0 → left (way_of frames.old payload.now) ≡ [] }
     ensures invalid { result ≡ negsuc 2 → TellsInvalid frames.old payload.now out.old frames.new out.new }
     ensures room { (result ≡ negsuc 3) ↔ ((frames.old.offset ≤ length payload.now) × (out.old ≡ [])) }
@@ -88,12 +90,8 @@ pub extern "C" fn quic_wire_frames_fill_(
     ensures counted { (result ≡ pos 1) ⊎ (count.new ≡ count.old) }
 {
     let begin = frames.offset;
-    let Some(mut iter) = Iter::resume(
-        payload,
-        begin,
-        type_in(frames.last_type),
-        frames.strict != 0,
-    ) else {
+    let strict = is_strict(frames.how);
+    let Some(mut iter) = Iter::resume(payload, begin, type_in(frames.last_type), strict) else {
         return -1;
     };
     if out.is_empty() {
@@ -102,7 +100,7 @@ pub extern "C" fn quic_wire_frames_fill_(
     if frames.ended != 0 {
         return 0;
     }
-    match fill::<1>(&mut iter, out) {
+    match fill::<COPY>(&mut iter, basic, out) {
         Ok(filled) => {
             if filled.count == 0 {
                 return 0;
@@ -120,6 +118,59 @@ pub extern "C" fn quic_wire_frames_fill_(
     }
 }
 
+// Those where the frames of the extension for ACK frequency are of unknown types, by a call.
+#[inline(never)]
+fn fill_basic(
+    frames: &mut FramesWords,
+    payload: &[u8],
+    out: &mut [FrameWords],
+    count: &mut usize,
+) -> i32
+    requires { is_basic frames.old.how ≡ true }
+    ensures answers { (result ≡ pos 1) ⊎ (result ≡ pos 0) ⊎ (result ≡ negsuc 2) ⊎ (result ≡ negsuc 3)
+        ⊎ (result ≡ negsuc 0) }
+    ensures frames { result ≡ pos 1
+        → (0 < count.new) × Fills (is_basic frames.old.how) (way_of frames.old payload.now) out.old (way_of frames.new payload.now) out.new count.new }
+    ensures end { result ≡ pos 0 → left (way_of frames.old payload.now) ≡ [] }
+    ensures invalid { result ≡ negsuc 2 → TellsInvalid frames.old payload.now out.old frames.new out.new }
+    ensures room { (result ≡ negsuc 3) ↔ ((frames.old.offset ≤ length payload.now) × (out.old ≡ [])) }
+    ensures outside { (result ≡ negsuc 0) ↔ (length payload.now < frames.old.offset) }
+    ensures same { (result ≡ pos 1) ⊎ (result ≡ negsuc 2) ⊎ ((frames.new ≡ frames.old) × (out.new ≡ out.old)) }
+    ensures counted { (result ≡ pos 1) ⊎ (count.new ≡ count.old) }
+{
+    fill_on::<2>(frames, payload, true, out, count)
+}
+
+/// The next frames (RFC 9000, section 19), as many as there is room for in `out`; a run of PADDING, a frame with each
+/// byte, is one entry. It answers 1 with how many entries were filled, one at least; 0 where no frame is left; -3,
+/// once, with the type and the reason in the first entry, where what stands next is no frame, or a frame of the
+/// extension for ACK frequency where `how` says that these are of unknown types; -4 just where `out` has no entry and
+/// the place lies in the payload; -1 just where the place lies outside it. `count` changes with 1 alone, and nothing
+/// changes with 0, -4 and -1.
+#[unsafe(no_mangle)]
+pub extern "C" fn quic_wire_frames_fill_(
+    frames: &mut FramesWords,
+    payload: &[u8],
+    out: &mut [FrameWords],
+    count: &mut usize,
+) -> i32
+    ensures answers { (result ≡ pos 1) ⊎ (result ≡ pos 0) ⊎ (result ≡ negsuc 2) ⊎ (result ≡ negsuc 3)
+        ⊎ (result ≡ negsuc 0) }
+    ensures frames { result ≡ pos 1
+        → (0 < count.new) × Fills (is_basic frames.old.how) (way_of frames.old payload.now) out.old (way_of frames.new payload.now) out.new count.new }
+    ensures end { result ≡ pos 0 → left (way_of frames.old payload.now) ≡ [] }
+    ensures invalid { result ≡ negsuc 2 → TellsInvalid frames.old payload.now out.old frames.new out.new }
+    ensures room { (result ≡ negsuc 3) ↔ ((frames.old.offset ≤ length payload.now) × (out.old ≡ [])) }
+    ensures outside { (result ≡ negsuc 0) ↔ (length payload.now < frames.old.offset) }
+    ensures same { (result ≡ pos 1) ⊎ (result ≡ negsuc 2) ⊎ ((frames.new ≡ frames.old) × (out.new ≡ out.old)) }
+    ensures counted { (result ≡ pos 1) ⊎ (count.new ≡ count.old) }
+{
+    if frames.how > 1 {
+        return fill_basic(frames, payload, out, count);
+    }
+    fill_on::<1>(frames, payload, false, out, count)
+}
+
 /// Begins at the front of a payload and reads its first frames (RFC 9000, section 19), as `quic_wire_frames_init_`
 /// and then `quic_wire_frames_fill_` do. It answers 1 with how many entries were filled, one at least; -2 just where
 /// the payload is empty, which is refused with PROTOCOL_VIOLATION (section 12.4); -3, with the type and the reason in
@@ -134,7 +185,7 @@ pub extern "C" fn quic_wire_frames_first_(
 ) -> i32
     ensures answers { (result ≡ pos 1) ⊎ (result ≡ negsuc 1) ⊎ (result ≡ negsuc 2) ⊎ (result ≡ negsuc 3) }
     ensures frames { result ≡ pos 1
-        → (0 < count.new) × Fills (first_of false payload.now) out.old (way_of frames.new payload.now) out.new count.new }
+        → (0 < count.new) × Fills false (first_of false payload.now) out.old (way_of frames.new payload.now) out.new count.new }
     ensures empty { (result ≡ negsuc 1) ↔ (payload.now ≡ []) }
     ensures invalid { result ≡ negsuc 2 → TellsInvalid (at_front 0) payload.now out.old frames.new out.new }
     ensures room { (result ≡ negsuc 3) ↔ ((0 < length payload.now) × (out.old ≡ [])) }
@@ -150,13 +201,13 @@ pub extern "C" fn quic_wire_frames_first_(
     if out.is_empty() {
         return -4;
     }
-    match fill::<0>(&mut iter, out) {
+    match fill::<0>(&mut iter, false, out) {
         Ok(filled) => {
             *frames = FramesWords {
                 offset: filled.end,
                 last_type: type_word(filled.last),
                 ended: 0,
-                strict: 0,
+                how: 0,
             };
             *count = filled.count;
             1
@@ -166,7 +217,7 @@ pub extern "C" fn quic_wire_frames_first_(
                 offset: 0,
                 last_type: u64::MAX,
                 ended: 1,
-                strict: 0,
+                how: 0,
             };
             out[0] = show_invalid(0, &invalid);
             -3

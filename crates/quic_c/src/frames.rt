@@ -1,15 +1,15 @@
 //! The frames of a payload, one with each call.
-ghost use Rattle.std.specs.Prelude.{◌≡◌, ◌<◌, ◌^◌, ◌-◌, ◌↔◌, ◌⊎◌, ℕ, [], ◌∷◌, pos, negsuc, length, codes, true, false, not, ◌==◌, None};
+ghost use Rattle.std.specs.Prelude.{◌≡◌, ◌<◌, ◌^◌, ◌-◌, ◌↔◌, ◌⊎◌, ℕ, [], ◌∷◌, pos, negsuc, length, codes, IsTrue, true, false, None};
 ghost use Rattle.quic_frames.specs.declared.frame.Frame.{Frame};
 ghost use Rattle.quic_frame_parts.specs.Reading.{Invalid, Broken, invalid};
 ghost use Rattle.quic_frames.specs.Way.{Way};
-ghost use Rattle.quic_frames.specs.Walk.{left, first_of, Finds};
-ghost use Rattle.quic_c.specs.Shown.{way_of, at_front, type_in, type_word, shown, shown_invalid};
-ghost use Rattle.quic_c.specs.Answers.{GivesFrame, GivesInvalid, reason_in};
+ghost use Rattle.quic_frames.specs.Walk.{left, first_of, invalid_of, Finds};
+ghost use Rattle.quic_c.specs.Shown.{way_of, at_front, is_strict, is_basic, kind_of, type_in, type_word, shown, shown_invalid, IsExtension};
+ghost use Rattle.quic_c.specs.Answers.{GivesFrame, GivesInvalid, reason_in, unknown_told};
 
-use crate::show::show;
+use crate::show::{parts_of, show};
 use crate::words::{FrameWords, FramesWords};
-use quic_frames::frame::{FrameType, InvalidFrame, Iter};
+use quic_frames::frame::{Frame, FrameType, InvalidFrame, Iter};
 
 // The type in a word.
 pub(crate) fn type_in(word: u64) -> Option<FrameType>
@@ -57,13 +57,44 @@ fn reason_in(reason: &str) -> u32
     }
 }
 
-// Begins at the front of a payload, by the word for strict reading.
+// Whether a type counts in its shortest spelling alone, by the caller's word.
 #[inline(always)]
-fn begin(frames: &mut FramesWords, payload: &[u8], strict: u32) -> i32
+pub(crate) fn is_strict(how: u32) -> bool
+    ensures { result ≡ is_strict how }
+{
+    !(how == 0 || how == 2)
+}
+
+// Whether the frame is one of the extension for ACK frequency, where these are of unknown types.
+#[inline(always)]
+pub(crate) fn is_unknown(basic: bool, frame: &Frame<'_>) -> bool
+    ensures { IsTrue result ↔ (basic ≡ true) × IsExtension (kind_of frame.now) }
+{
+    match frame {
+        Frame::AckFrequency(_) => basic,
+        Frame::ImmediateAck => basic,
+        _ => false,
+    }
+}
+
+// What is told of a frame of this kind where its type is unknown.
+#[inline(never)]
+pub(crate) fn unknown(kind: u16) -> InvalidFrame
+    ensures { invalid_of result ≡ unknown_told kind }
+{
+    InvalidFrame {
+        ty: Some(FrameType::of(u64::from(kind))),
+        reason: "invalid frame ID",
+    }
+}
+
+// Begins at the front of a payload, by the word for how it is read.
+#[inline(always)]
+fn begin(frames: &mut FramesWords, payload: &[u8], how: u32) -> i32
     ensures answers { (result ≡ pos 0) ⊎ (result ≡ negsuc 1) }
     ensures empty { (result ≡ negsuc 1) ↔ (payload.now ≡ []) }
-    ensures front { result ≡ pos 0 → frames.new ≡ at_front strict }
-    ensures first { result ≡ pos 0 → way_of frames.new payload.now ≡ first_of (not (strict == 0)) payload.now }
+    ensures front { result ≡ pos 0 → frames.new ≡ at_front how }
+    ensures first { result ≡ pos 0 → way_of frames.new payload.now ≡ first_of (is_strict how) payload.now }
     ensures refused { result ≡ negsuc 1 → frames.new ≡ frames.old }
 {
     if payload.is_empty() {
@@ -73,7 +104,7 @@ fn begin(frames: &mut FramesWords, payload: &[u8], strict: u32) -> i32
         offset: 0,
         last_type: u64::MAX,
         ended: 0,
-        strict,
+        how,
     };
     0
 }
@@ -120,15 +151,34 @@ pub(crate) fn show_invalid(begin: usize, invalid: &InvalidFrame) -> FrameWords
     }
 }
 
+// Tells, once, what stands at a place and isn't given.
+#[inline(always)]
+fn refuse(
+    begin: usize,
+    invalid: &InvalidFrame,
+    frames: &mut FramesWords,
+    out: &mut FrameWords,
+) -> i32
+    ensures answer { result ≡ negsuc 2 }
+    ensures over { frames.new ≡ record frames.old { ended = 1 } }
+    ensures words { out.new ≡ shown_invalid begin (type_word invalid.now.ty) (reason_in invalid.now.reason.now) }
+{
+    frames.ended = 1;
+    *out = show_invalid(begin, invalid);
+    -3
+}
+
 // The next frame of an iterator that stands where the words say. There is a copy for what begins with 0, PADDING, so
 // that the words of a run's many frames are stored by themselves.
 #[inline(always)]
 fn give_next<const COPY: usize>(
     iter: &mut Iter<'_>,
+    basic: bool,
     frames: &mut FramesWords,
     out: &mut FrameWords,
 ) -> i32
-    requires { way_of frames.old iter.old.payload ≡ iter.old }
+    requires way { way_of frames.old iter.old.payload ≡ iter.old }
+    requires basic { basic ≡ is_basic frames.old.how }
     ensures answers { (result ≡ pos 1) ⊎ (result ≡ pos 0) ⊎ (result ≡ negsuc 2) }
     ensures frame { result ≡ pos 1 → GivesFrame frames.old iter.old.payload frames.new out.new }
     ensures end { result ≡ pos 0 → (left iter.old ≡ []) × (frames.new ≡ frames.old) × (out.new ≡ out.old) }
@@ -138,23 +188,64 @@ fn give_next<const COPY: usize>(
     match iter.next() {
         None => 0,
         Some(Ok(frame)) => {
+            if is_unknown(basic, &frame) {
+                return refuse(begin, &unknown(parts_of(&frame).kind), frames, out);
+            }
             let (end, ty) = (iter.offset(), type_read(iter));
             *out = show(begin, end, ty as u16, &frame);
             frames.offset = end;
             frames.last_type = ty;
             1
         }
-        Some(Err(invalid)) => {
-            frames.ended = 1;
-            *out = show_invalid(begin, &invalid);
-            -3
-        }
+        Some(Err(invalid)) => refuse(begin, &invalid, frames, out),
     }
 }
 
+// The next frame where the words stand.
+#[inline(always)]
+fn next_on(frames: &mut FramesWords, payload: &[u8], basic: bool, out: &mut FrameWords) -> i32
+    requires { basic ≡ is_basic frames.old.how }
+    ensures answers { (result ≡ pos 1) ⊎ (result ≡ pos 0) ⊎ (result ≡ negsuc 2) ⊎ (result ≡ negsuc 0) }
+    ensures frame { result ≡ pos 1 → GivesFrame frames.old payload.now frames.new out.new }
+    ensures end { result ≡ pos 0
+        → (left (way_of frames.old payload.now) ≡ []) × (frames.new ≡ frames.old) × (out.new ≡ out.old) }
+    ensures invalid { result ≡ negsuc 2 → GivesInvalid frames.old payload.now frames.new out.new }
+    ensures outside { (result ≡ negsuc 0) ↔ (length payload.now < frames.old.offset) }
+    ensures refused { result ≡ negsuc 0 → (frames.new ≡ frames.old) × (out.new ≡ out.old) }
+{
+    let begin = frames.offset;
+    let strict = is_strict(frames.how);
+    let Some(mut iter) = Iter::resume(payload, begin, type_in(frames.last_type), strict) else {
+        return -1;
+    };
+    if frames.ended != 0 {
+        return 0;
+    }
+    match payload[begin..].first() {
+        Some(0) => give_next::<0>(&mut iter, basic, frames, out),
+        _ => give_next::<1>(&mut iter, basic, frames, out),
+    }
+}
+
+// That where the frames of the extension for ACK frequency are of unknown types, by a call.
+#[inline(never)]
+fn next_basic(frames: &mut FramesWords, payload: &[u8], out: &mut FrameWords) -> i32
+    requires { is_basic frames.old.how ≡ true }
+    ensures answers { (result ≡ pos 1) ⊎ (result ≡ pos 0) ⊎ (result ≡ negsuc 2) ⊎ (result ≡ negsuc 0) }
+    ensures frame { result ≡ pos 1 → GivesFrame frames.old payload.now frames.new out.new }
+    ensures end { result ≡ pos 0
+        → (left (way_of frames.old payload.now) ≡ []) × (frames.new ≡ frames.old) × (out.new ≡ out.old) }
+    ensures invalid { result ≡ negsuc 2 → GivesInvalid frames.old payload.now frames.new out.new }
+    ensures outside { (result ≡ negsuc 0) ↔ (length payload.now < frames.old.offset) }
+    ensures refused { result ≡ negsuc 0 → (frames.new ≡ frames.old) × (out.new ≡ out.old) }
+{
+    next_on(frames, payload, true, out)
+}
+
 /// The next frame (RFC 9000, section 19). It answers 1 with the frame; 0 where none is left, and nothing changes; -3,
-/// once, with the type and the reason that are told of something that is no frame; -1 just where the place lies
-/// outside the payload, and nothing changes.
+/// once, with the type and the reason that are told of something that is no frame, or of a frame of the extension for
+/// ACK frequency where `how` says that these are of unknown types; -1 just where the place lies outside the payload, and
+/// nothing changes.
 #[unsafe(no_mangle)]
 pub extern "C" fn quic_wire_frames_next_(
     frames: &mut FramesWords,
@@ -169,20 +260,8 @@ pub extern "C" fn quic_wire_frames_next_(
     ensures outside { (result ≡ negsuc 0) ↔ (length payload.now < frames.old.offset) }
     ensures refused { result ≡ negsuc 0 → (frames.new ≡ frames.old) × (out.new ≡ out.old) }
 {
-    let begin = frames.offset;
-    let Some(mut iter) = Iter::resume(
-        payload,
-        begin,
-        type_in(frames.last_type),
-        frames.strict != 0,
-    ) else {
-        return -1;
-    };
-    if frames.ended != 0 {
-        return 0;
+    if frames.how > 1 {
+        return next_basic(frames, payload, out);
     }
-    match payload[begin..].first() {
-        Some(0) => give_next::<0>(&mut iter, frames, out),
-        _ => give_next::<1>(&mut iter, frames, out),
-    }
+    next_on(frames, payload, false, out)
 }

@@ -5,10 +5,10 @@ ghost use Rattle.quic_frame_parts.specs.Reading.{Gives, varint_at};
 ghost use Rattle.quic_frames.specs.declared.frame.Frame.TheVariants as frames;
 ghost use Rattle.quic_frames.specs.Padding.{PassesPadding};
 ghost use Rattle.quic_frames.specs.Walk.{left, first_of, resumed};
-ghost use Rattle.quic_c.specs.Shown.{kind_of, shown, shown_invalid};
-ghost use Rattle.quic_c.specs.Front.{FillsGaps, ShowsAck, ShowsFront, IsExtension, ReadsFront, TellsNone, TellsUnknown, is_strict, is_basic, behind, told_behind};
+ghost use Rattle.quic_c.specs.Shown.{kind_of, shown, is_strict, is_basic};
+ghost use Rattle.quic_c.specs.Front.{FillsGaps, ShowsAck, ShowsFront, ReadsFront, TellsNone, behind, told_behind};
 
-use crate::frames::{show_invalid, type_read};
+use crate::frames::{is_strict, is_unknown, show_invalid, type_read, unknown};
 use crate::show::{parts_of, show};
 use crate::words::{FrameWords, GapWords};
 use quic_base::coding::are_bytes;
@@ -120,44 +120,6 @@ fn pass_run(iter: &mut Iter<'_>, frame: &Frame<'_>) -> usize
     iter.offset()
 }
 
-// Whether the frame is one of the extension for ACK frequency, where these are unknown.
-#[inline(always)]
-fn is_unknown(basic: bool, frame: &Frame<'_>) -> bool
-    ensures { IsTrue result ↔ (basic ≡ true) × IsExtension (kind_of frame.now) }
-{
-    match frame {
-        Frame::AckFrequency(_) => basic,
-        Frame::ImmediateAck => basic,
-        _ => false,
-    }
-}
-
-// Whether a type counts in its shortest spelling alone, and whether the extension is unknown, by the caller's word.
-#[inline(always)]
-fn ways(how: u32) -> (bool, bool)
-    ensures strict { result.0 ≡ is_strict how }
-    ensures basic { result.1 ≡ is_basic how }
-{
-    (!(how == 0 || how == 2), how > 1)
-}
-
-// What is told of such a frame where its type is unknown.
-#[inline(never)]
-fn show_unknown(kind: u16) -> FrameWords
-    ensures { result ≡ shown_invalid 0 kind 2 }
-{
-    FrameWords {
-        kind: u16::MAX,
-        ty: 0,
-        flags: 2,
-        begin: 0,
-        end: 0,
-        data_offset: 0,
-        data_len: 0,
-        numbers: [u64::from(kind), 0, 0, 0, 0],
-    }
-}
-
 // Reads the frame at the front. There is a copy for each kind of first byte, so that what it can't be isn't looked at.
 #[inline(always)]
 fn read_front<const COPY: usize>(
@@ -170,8 +132,7 @@ fn read_front<const COPY: usize>(
     ensures answers { (result ≡ negsuc 1) ⊎ (result ≡ negsuc 2)
         ⊎ ((end : ℕ) × (result ≡ pos end) × ReadsFront strict basic payload.now gaps.old end out.new gaps.new) }
     ensures empty { (result ≡ negsuc 1) ↔ (payload.now ≡ []) }
-    ensures invalid { result ≡ negsuc 2 → TellsNone strict payload.now out.new
-        ⊎ (basic ≡ true) × TellsUnknown strict payload.now out.new }
+    ensures invalid { result ≡ negsuc 2 → TellsNone strict basic payload.now out.new }
     ensures same { (result ≡ negsuc 1) → out.new ≡ out.old }
     ensures gaps { (result ≡ negsuc 1) ⊎ (result ≡ negsuc 2) → gaps.new ≡ gaps.old }
 {
@@ -185,7 +146,7 @@ fn read_front<const COPY: usize>(
         None => -2,
         Some(Ok(frame)) => {
             if is_unknown(basic, &frame) {
-                *out = show_unknown(parts_of(&frame).kind);
+                *out = show_invalid(0, &unknown(parts_of(&frame).kind));
                 return -3;
             }
             let ty = type_read(&iter);
@@ -212,8 +173,7 @@ fn read_ack(
     ensures answers { (result ≡ negsuc 1) ⊎ (result ≡ negsuc 2)
         ⊎ ((end : ℕ) × (result ≡ pos end) × ReadsFront strict basic payload.now gaps.old end out.new gaps.new) }
     ensures empty { (result ≡ negsuc 1) ↔ (payload.now ≡ []) }
-    ensures invalid { result ≡ negsuc 2 → TellsNone strict payload.now out.new
-        ⊎ (basic ≡ true) × TellsUnknown strict payload.now out.new }
+    ensures invalid { result ≡ negsuc 2 → TellsNone strict basic payload.now out.new }
     ensures same { (result ≡ negsuc 1) → out.new ≡ out.old }
     ensures gaps { (result ≡ negsuc 1) ⊎ (result ≡ negsuc 2) → gaps.new ≡ gaps.old }
 {
@@ -241,15 +201,14 @@ pub extern "C" fn quic_wire_frame_read_(
     ensures answers { (result ≡ negsuc 1) ⊎ (result ≡ negsuc 2)
         ⊎ ((end : ℕ) × (result ≡ pos end) × ReadsFront (is_strict how) (is_basic how) payload.now gaps.old end out.new gaps.new) }
     ensures empty { (result ≡ negsuc 1) ↔ (payload.now ≡ []) }
-    ensures invalid { result ≡ negsuc 2 → TellsNone (is_strict how) payload.now out.new
-        ⊎ (is_basic how ≡ true) × TellsUnknown (is_strict how) payload.now out.new }
+    ensures invalid { result ≡ negsuc 2 → TellsNone (is_strict how) (is_basic how) payload.now out.new }
     ensures same { (result ≡ negsuc 1) → out.new ≡ out.old }
     ensures gaps { (result ≡ negsuc 1) ⊎ (result ≡ negsuc 2) → gaps.new ≡ gaps.old }
 {
     if payload.is_empty() {
         return -2;
     }
-    let (strict, basic) = ways(how);
+    let (strict, basic) = (is_strict(how), how > 1);
     if payload[0] & 0xf8 == 0x08 {
         return read_front::<2>(payload, strict, basic, out, gaps);
     }

@@ -1,7 +1,7 @@
 //! A payload read frame by frame.
 use super::{
     invalid_by, Ack, AckFrequency, ApplicationClose, Close, ConnectionClose, Crypto, Datagram, Dir, EmptyPayload,
-    Frame, FrameType, InvalidFrame, NewConnectionId, NewToken, Reason, ResetStream, StopSending, Stream, StreamId,
+    Frame, FrameType, InvalidFrame, NewConnectionId, NewToken, ResetStream, StopSending, Stream, StreamId,
 };
 use crate::sys;
 use crate::text::Short;
@@ -12,7 +12,7 @@ use core::mem::MaybeUninit;
 use core::ops::Range;
 
 /// The frames of a payload, and then one [`InvalidFrame`] where something is none. A run of PADDING is a frame for each
-/// type, mostly a byte. It is 48 bytes; [`Iter::fill`] reads many frames with one call.
+/// type, mostly a byte. It is 40 bytes; [`Iter::fill`] reads many frames with one call.
 ///
 /// ```
 /// use quic_wire::frame::{Frame, Iter};
@@ -24,10 +24,8 @@ use core::ops::Range;
 #[derive(Clone)]
 pub struct Iter<'a> {
     payload: &'a [u8],
-    // The end of the last whole frame, and its type.
+    // The end of the last whole frame, its type, and how the next is read.
     state: sys::Frames,
-    // Whether ACK_FREQUENCY and IMMEDIATE_ACK are unknown types.
-    basic: bool,
 }
 
 impl<'a> Iter<'a> {
@@ -72,8 +70,8 @@ impl<'a> Iter<'a> {
         if payload.is_empty() {
             return Err(EmptyPayload);
         }
-        let state = sys::Frames { offset: 0, last_type: u64::MAX, ended: 0, strict: u32::from(strict) };
-        Ok(Iter { payload, state, basic: false })
+        let state = sys::Frames { offset: 0, last_type: u64::MAX, ended: 0, how: how(strict) };
+        Ok(Iter { payload, state })
     }
 
     /// The same frames, but that ACK_FREQUENCY and IMMEDIATE_ACK are of unknown types, as they are where the ACK
@@ -91,8 +89,9 @@ impl<'a> Iter<'a> {
     /// # Ok::<(), quic_wire::Error>(())
     /// ```
     #[inline]
-    pub fn without_ack_frequency(self) -> Self {
-        Iter { basic: true, ..self }
+    pub fn without_ack_frequency(mut self) -> Self {
+        self.state.how |= sys::READ_BASIC;
+        self
     }
 
     /// Goes on at a place in a payload, behind a frame of the type `last_type`: for an owner of the payload that can't
@@ -113,8 +112,8 @@ impl<'a> Iter<'a> {
     #[inline]
     pub fn resume(payload: &'a [u8], offset: usize, last_type: Option<FrameType>, strict: bool) -> Option<Self> {
         let last_type = last_type.map_or(u64::MAX, u64::from);
-        let state = sys::Frames { offset, last_type, ended: 0, strict: u32::from(strict) };
-        (offset <= payload.len()).then_some(Iter { payload, state, basic: false })
+        let state = sys::Frames { offset, last_type, ended: 0, how: how(strict) };
+        (offset <= payload.len()).then_some(Iter { payload, state })
     }
 
     /// The end of the last whole frame in the payload, in bytes.
@@ -180,50 +179,11 @@ impl<'a> Iter<'a> {
     #[inline]
     pub fn fill<'r>(&mut self, entries: &'r mut [Entry]) -> Option<Result<Batch<'a, 'r>, InvalidFrame>> {
         assert!(!entries.is_empty(), "frames are read into one entry at least");
-        let first = *self.payload.get(self.state.offset)?;
-        if let Some(invalid) = self.refused(first) {
-            return Some(Err(invalid));
-        }
+        self.payload.get(self.state.offset)?;
         let mut count = 0;
         match sys::frames_fill(&mut self.state, self.payload, entries, &mut count) {
-            sys::ITEM => {
-                let read = &entries[..count];
-                let known = if self.basic { self.known(read) } else { read };
-                Some(Ok(Batch { payload: self.payload, entries: known.iter() }))
-            }
+            sys::ITEM => Some(Ok(Batch { payload: self.payload, entries: entries[..count].iter() })),
             sys::MALFORMED => Some(Err(invalid_of(entries[0].get()))),
-            _ => None,
-        }
-    }
-
-    // Those that stand before one of the extension, which is what is left then.
-    fn known<'r>(&mut self, read: &'r [Entry]) -> &'r [Entry] {
-        let (known, rest) = read.split_at(read.iter().take_while(|entry| !is_extension(entry.get())).count());
-        if let (Some(last), Some(next)) = (known.last(), rest.first()) {
-            self.state.offset = next.get().begin;
-            self.state.last_type = last.get().ty.into();
-        }
-        known
-    }
-
-    // Ends in front of a frame of the extension that begins with this byte, where it is unknown.
-    #[inline(always)]
-    fn refused(&mut self, first: u8) -> Option<InvalidFrame> {
-        if self.basic && matches!(first, 0x1f | 0x40..) {
-            self.refused_extension()
-        } else {
-            None
-        }
-    }
-
-    #[cold]
-    fn refused_extension(&mut self) -> Option<InvalidFrame> {
-        let (mut state, mut room) = (self.state, MaybeUninit::uninit());
-        match sys::frames_next(&mut state, self.payload, &mut room) {
-            (sys::ITEM, Some(frame)) if is_extension(frame) => {
-                self.state.ended = 1;
-                Some(InvalidFrame { ty: FrameType::new(frame.kind.into()), reason: Reason::InvalidFrameId })
-            }
             _ => None,
         }
     }
@@ -242,9 +202,6 @@ impl<'a> Iterator for Iter<'a> {
             self.state.last_type = 0x00;
             return Some(Ok(Frame::Padding));
         }
-        if let Some(invalid) = self.refused(first) {
-            return Some(Err(invalid));
-        }
         let mut room = MaybeUninit::uninit();
         match sys::frames_next(&mut self.state, self.payload, &mut room) {
             (sys::ITEM, Some(frame)) => Some(Ok(frame_of(self.payload, frame))),
@@ -261,8 +218,8 @@ impl fmt::Debug for Iter<'_> {
         f.debug_struct("Iter")
             .field("offset", &self.offset())
             .field("last_type", &self.last_type())
-            .field("strict", &(self.state.strict != 0))
-            .field("ack_frequency", &!self.basic)
+            .field("strict", &(self.state.how & sys::READ_STRICT != 0))
+            .field("ack_frequency", &(self.state.how & sys::READ_BASIC == 0))
             .field("rest", &Short(self.rest()))
             .finish()
     }
@@ -339,10 +296,14 @@ impl fmt::Debug for Batch<'_, '_> {
     }
 }
 
-// Whether the frame is one of the ACK frequency extension.
+// The word for how frames are read.
 #[inline]
-fn is_extension(frame: &sys::Frame) -> bool {
-    matches!(frame.kind, 0x1f | 0xaf)
+fn how(strict: bool) -> u32 {
+    if strict {
+        sys::READ_STRICT
+    } else {
+        0
+    }
 }
 
 fn invalid_of(told: &sys::Frame) -> InvalidFrame {

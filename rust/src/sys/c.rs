@@ -3,7 +3,7 @@ use super::words::{Canon, Frame, Frames, Head, Param, Params, Range, Ranges, Sai
 
 extern "C" {
     /// An archive of another version lacks it, so that it isn't linked.
-    pub static quic_wire_abi_3: u8;
+    pub static quic_wire_abi_4: u8;
 
     pub fn quic_wire_frames_fill_(
         frames: *mut Frames,

@@ -51,6 +51,9 @@ pub fn copied<'r>(bytes: &[u8], out: &'r mut Room) -> (Filled, &'r mut [u8]) {
     (Filled(bytes.len()), unsafe { core::slice::from_raw_parts_mut(front.as_mut_ptr().cast(), front.len()) })
 }
 
+pub const READ_STRICT: u32 = 1;
+pub const READ_BASIC: u32 = 2;
+
 pub const OK: i32 = 0;
 pub const ITEM: i32 = 1;
 pub const CHANGED: i32 = 1;
@@ -65,7 +68,7 @@ struct Linked(#[allow(dead_code)] *const u8);
 unsafe impl Sync for Linked {}
 
 #[used]
-static LINKED: Linked = Linked(&raw const c::quic_wire_abi_3);
+static LINKED: Linked = Linked(&raw const c::quic_wire_abi_4);
 
 // What a writer answers: the bytes at the front of its room, or its answer and how many it asks for.
 fn wrote(answer: i32, written: usize) -> Result<Filled, (i32, usize)> {

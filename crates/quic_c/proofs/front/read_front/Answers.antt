@@ -1,10 +1,10 @@
-use Rattle.std.proofs.Common.{inl, inr, true, pos, to_z, w64, ◌≡◌, [], ◌∷◌, None, Some, subst, rules}
+use Rattle.std.proofs.Common.{ap, ◌∙◌, inl, inr, true, pos, to_z, w64, ◌≡◌, [], ◌∷◌, None, Some, subst, rules}
 use Rattle.quic_frame_parts.specs.Reading.{Broken}
 use Rattle.quic_frames.proofs.Items.{all_read}
 use Rattle.quic_frames.specs.Walk.{invalid_of, left, first_of, Advances, Finds}
-use Rattle.quic_c.specs.Shown.{kind_of}
-use Rattle.quic_c.specs.Front.{IsExtension}
-use Rattle.quic_c.proofs.Types.{reads_front}
+use Rattle.quic_c.specs.Shown.{kind_of, IsExtension}
+use Rattle.quic_c.specs.Answers.{unknown_told}
+use Rattle.quic_c.proofs.Types.{reads_front, unknown_refused}
 use Rattle.quic_c.proofs.front.read_front.Goals as goal
 
 pub returns-in-None-clause-empty : goal.returns-in-None-clause-empty
@@ -17,7 +17,7 @@ pub returns-in-Some-Err-clause-invalid : goal.returns-in-Some-Err-clause-invalid
 returns-in-Some-Err-clause-invalid g c =
     let s = subst (λ f. Advances c.in-Some.iter (Some f) c.next.new.self) c.in-Some-Err.field-0-is c.in-Some-Err.ensures.steps in
     let first : left (first_of c.args.strict c.args.payload.now) ≡ Broken (invalid_of c.in-Some-Err.invalid) ∷ [] = rw c.in-Some.ensures.way at s.0 in
-    λ _. inl (record { told = invalid_of c.in-Some-Err.invalid; first = first; is = c.show_invalid.ensures })
+    λ _. record { told = invalid_of c.in-Some-Err.invalid; first = inl first; is = c.show_invalid-in-Some-Err.ensures }
 
 pub returns-else-is_unknown-clause-answers : goal.returns-else-is_unknown-clause-answers
 returns-else-is_unknown-clause-answers g c =
@@ -33,3 +33,16 @@ returns-else-is_unknown-clause-answers g c =
     c.type_read-ty.result finds known ends.run ends.one ends.end begins c.show_front.ensures in
     let same : to_z w64 c.pass_run-end.result ≡ pos c.pass_run-end.result = search rules in
     inr (inr (c.pass_run-end.result, same, reads))
+
+pub returns-then-is_unknown-clause-invalid : goal.returns-then-is_unknown-clause-invalid
+returns-then-is_unknown-clause-invalid g c =
+    let frame = c.in-Some-Ok.frame in
+    let told = invalid_of c.unknown.result in
+    let steps : Finds c.in-Some.iter frame c.next.new.self = subst (λ f. Advances c.in-Some.iter (Some f) c.next.new.self) c.in-Some-Ok.field-0-is c.in-Some-Ok.ensures.steps in
+    let finds : Finds (first_of c.args.strict c.args.payload.now) frame c.next.new.self = subst (λ w. Finds w frame c.next.new.self) c.in-Some.ensures.way steps in
+    let tells : told ≡ unknown_told (kind_of frame) = c.unknown.ensures ∙ ap (λ p. unknown_told p.kind) c.parts_of.ensures in
+    λ _. record {
+      told = told;
+      first = unknown_refused c.args.basic (first_of c.args.strict c.args.payload.now) c.next.new.self frame told finds (c.is_unknown.ensures.0 c.if-is_unknown.true) tells;
+      is = c.show_invalid.ensures;
+    }

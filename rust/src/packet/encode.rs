@@ -121,6 +121,7 @@ impl PartialEncode {
     /// # Errors
     ///
     /// Where what follows from the number on is 2^14 bytes or more, or the header isn't all in the bytes.
+    #[inline]
     pub fn set_len(&self, packet: &mut [u8]) -> Result<(), WriteError> {
         if self.length == 0 {
             return Ok(());
@@ -149,6 +150,7 @@ impl PartialEncode {
     /// # Panics
     ///
     /// Where its number isn't in it.
+    #[inline]
     pub fn place(&self, packet: &[u8]) -> PacketPlace {
         PacketPlace::new(0..packet.len(), self.number)
     }
@@ -228,13 +230,17 @@ impl Header<'_> {
         let Header::Short { spin, key_phase, dst_cid, number } = *self else {
             return self.long(fixed)?.encode(out);
         };
-        check(&[dst_cid], Some(number), 1)?;
+        if number.len.wrapping_sub(1) > 3 {
+            return Err(unwritable(&[dst_cid], Some(number), 1));
+        }
         let bits = (u8::from(spin) << 5) | (u8::from(key_phase) << 2);
         let first = (0x40 | bits | (number.len as u8 - 1)) ^ fixed;
         let place = 1 + dst_cid.len();
+        // The library looks at the id and the number by itself.
         out.put(|room| match sys::short_write(first, number.number, dst_cid, room) {
             Ok(filled) => Ok((filled, PartialEncode { header_len: place + number.len, number: place, length: 0 })),
-            Err(answer) => Err(refused(answer, place + number.len)),
+            Err(answer) if answer == i64::from(sys::NO_ROOM) => Err(WriteError::NoRoom(place + number.len)),
+            Err(_) => Err(unwritable(&[dst_cid], Some(number), 1)),
         })
     }
 
@@ -303,6 +309,12 @@ fn check(ids: &[&[u8]], number: Option<PacketNumber>, version: u32) -> Result<()
         _ => return Ok(()),
     };
     Err(WriteError::OutOfRange(what))
+}
+
+// Why nobody does.
+#[cold]
+fn unwritable(ids: &[&[u8]], number: Option<PacketNumber>, version: u32) -> WriteError {
+    check(ids, number, version).err().unwrap_or(WriteError::OutOfRange("no such header"))
 }
 
 #[cold]

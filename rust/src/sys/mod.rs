@@ -233,7 +233,8 @@ pub fn negotiation_write(
     wrote(answer, written)
 }
 
-#[inline]
+// What `PacketNumber::new` finds out by itself is held against it.
+#[cfg(test)]
 pub fn number_len(number: u64, largest_acked: u64) -> i32 {
     // SAFETY: numbers alone go in and out, and any serve.
     unsafe { c::quic_wire_number_len_(number, largest_acked) }

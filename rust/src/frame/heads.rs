@@ -83,8 +83,7 @@ impl StreamMeta {
         })
     }
 
-    // Writes the head without a call where there is room for any. Of the rest the library says what is wrong.
-    #[inline]
+    // Writes the head without a call of the library where there is room for any. Of the rest that says what is wrong.
     fn lay(&self, length: bool, room: &mut Room) -> Option<Filled> {
         let Range { start, end } = self.offsets;
         let len = end.checked_sub(start)?;
@@ -93,9 +92,16 @@ impl StreamMeta {
         }
         let ty = 0x08 | u8::from(start != 0) << 2 | u8::from(length) << 1 | u8::from(self.fin);
         let mut filled = sys::laid([ty], room)?;
-        let numbers = [Some(self.id.0), (start != 0).then_some(start), length.then_some(len)];
-        for number in numbers.into_iter().flatten() {
+        let mut lay = |number| {
             filled = filled.then(varint::lay(number, room.get_mut(filled.len()..)?)?);
+            Some(())
+        };
+        lay(self.id.0)?;
+        if start != 0 {
+            lay(start)?;
+        }
+        if length {
+            lay(len)?;
         }
         Some(filled)
     }

@@ -228,7 +228,7 @@ impl Header<'_> {
     ) -> Result<PartialEncode, WriteError> {
         let fixed = if clear_fixed_bit { 0x40 } else { 0 };
         let Header::Short { spin, key_phase, dst_cid, number } = *self else {
-            return self.long(fixed)?.encode(out);
+            return self.encode_long(fixed, out);
         };
         if number.len.wrapping_sub(1) > 3 {
             return Err(unwritable(&[dst_cid], Some(number), 1));
@@ -242,6 +242,12 @@ impl Header<'_> {
             Err(answer) if answer == i64::from(sys::NO_ROOM) => Err(WriteError::NoRoom(place + number.len)),
             Err(_) => Err(unwritable(&[dst_cid], Some(number), 1)),
         })
+    }
+
+    // Apart, so that a short header is written in line with little code.
+    #[inline(never)]
+    fn encode_long<B: Buffer + ?Sized>(&self, fixed: u8, out: &mut B) -> Result<PartialEncode, WriteError> {
+        self.long(fixed)?.encode(out)
     }
 
     // The words of a long header, which are sound.

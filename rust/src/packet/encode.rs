@@ -123,9 +123,15 @@ impl PartialEncode {
     /// Where what follows from the number on is 2^14 bytes or more, or the header isn't all in the bytes.
     #[inline]
     pub fn set_len(&self, packet: &mut [u8]) -> Result<(), WriteError> {
-        if self.length == 0 {
-            return Ok(());
+        match self.length {
+            0 => Ok(()),
+            _ => self.lay_len(packet),
         }
+    }
+
+    // Apart, since most headers have none.
+    #[inline(never)]
+    fn lay_len(&self, packet: &mut [u8]) -> Result<(), WriteError> {
         let len = packet.len().checked_sub(self.number).filter(|_| self.header_len <= packet.len());
         let len = len.ok_or(WriteError::OutOfRange("the header is longer than its packet"))?;
         let place = &mut packet[self.number - self.length..self.number];
@@ -201,7 +207,8 @@ impl Header<'_> {
     /// Where nobody would read it: ids of more than 20 bytes, a number of 2^62 or more or not in one to four bytes, a
     /// long header of version 0; where `random` lacks 0x40, which [`Packets`](super::Packets) asks for unless packets
     /// are greased; or where there is too little room.
-    #[inline]
+    // In line always, where the kind of the header is known.
+    #[inline(always)]
     pub fn encode<B: Buffer + ?Sized>(&self, out: &mut B) -> Result<PartialEncode, WriteError> {
         self.encode_with(false, out)
     }
@@ -220,7 +227,7 @@ impl Header<'_> {
     /// # Errors
     ///
     /// As [`Header::encode`], but that `random` may be any.
-    #[inline]
+    #[inline(always)]
     pub fn encode_with<B: Buffer + ?Sized>(
         &self,
         clear_fixed_bit: bool,

@@ -123,9 +123,10 @@ impl PartialEncode {
     /// Where what follows from the number on is 2^14 bytes or more, or the header isn't all in the bytes.
     #[inline]
     pub fn set_len(&self, packet: &mut [u8]) -> Result<(), WriteError> {
-        match self.length {
-            0 => Ok(()),
-            _ => self.lay_len(packet),
+        if self.length == 0 {
+            Ok(())
+        } else {
+            self.lay_len(packet)
         }
     }
 

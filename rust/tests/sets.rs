@@ -166,4 +166,6 @@ fn a_set_grows() {
     assert_eq!(Ack::encode(0, copy.runs(), None, &mut out), Ok(11));
     set.clear();
     assert!(set.is_empty() && set == GrowingRangeSet::<0>::default());
+    // Two runs, and where they stand.
+    assert_eq!(size_of_val(&set), 40);
 }

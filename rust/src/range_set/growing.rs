@@ -3,7 +3,7 @@ use super::ends::{insert_at_end, remove_at_front, AtEnd};
 use super::{insert, remove, Error, Iter, Run};
 use alloc::vec::Vec;
 use core::ops::Range;
-use core::{fmt, hash, mem};
+use core::{fmt, hash};
 
 /// A set of packet numbers in any number of runs, of which up to `N` stand in the set itself and more in memory that it
 /// takes. Who keeps a set that a peer makes bounds it, by [`GrowingRangeSet::pop_min`] or as an
@@ -366,6 +366,3 @@ impl<'s, const N: usize> IntoIterator for &'s GrowingRangeSet<N> {
         self.iter()
     }
 }
-
-// Two runs in the set itself take no more than this, beside what tells where they stand.
-const _: () = assert!(mem::size_of::<GrowingRangeSet<2>>() == 40);

@@ -80,12 +80,17 @@ impl Buffer for alloc::vec::Vec<u8> {}
 impl Put for alloc::vec::Vec<u8> {
     #[inline]
     fn put<T>(&mut self, mut write: impl FnMut(&mut Room) -> Result<(Filled, T), WriteError>) -> Result<T, WriteError> {
-        let mut answer = write(self.spare_capacity_mut());
-        if let Err(WriteError::NoRoom(needed)) = answer {
-            self.reserve(needed);
-            answer = write(self.spare_capacity_mut());
-        }
-        let (filled, told) = answer?;
+        // The call stands here once, so that it goes in line with little code.
+        let mut is_grown = false;
+        let (filled, told) = loop {
+            match write(self.spare_capacity_mut()) {
+                Err(WriteError::NoRoom(needed)) if !is_grown => {
+                    self.reserve(needed);
+                    is_grown = true;
+                }
+                answer => break answer?,
+            }
+        };
         let len = self.len() + filled.len();
         assert!(len <= self.capacity(), "more was written than there was room");
         // SAFETY: `filled` was made by calls that were given the front of the spare capacity, so these bytes are

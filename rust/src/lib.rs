@@ -5,7 +5,8 @@
 //!
 //! A library reads and writes them whose contracts are proved: what is read is what the RFC's grammar says of the
 //! bytes, and no input reads outside them or ends the process. This crate gives it types, in the names of
-//! `quinn-proto`, that borrow from the caller's bytes. It keeps nothing and takes no memory; ciphers are the caller's.
+//! `quinn-proto`, that borrow from the caller's bytes. It keeps nothing, and takes no memory but for a `Vec` or a set
+//! that grows; ciphers are the caller's.
 //!
 //! ```
 //! use quic_wire::frame::{Frame, Iter};
@@ -20,8 +21,8 @@
 //!
 //! # Features
 //!
-//! The crate is `no_std`. `alloc` lets a `Vec` be written to ([`Buffer`]); `std`, the default, builds the program
-//! `quic-wire` as well.
+//! The crate is `no_std`. `alloc` lets a `Vec` be written to ([`Buffer`]) and a set grow
+//! (`range_set::GrowingRangeSet`); `std`, the default, builds the program `quic-wire` as well.
 //!
 //! # What is read otherwise than RFC 9000 has it
 //!

@@ -1,7 +1,8 @@
 //! Sets of packet numbers: sorted runs, none empty, none touching the next.
 //!
-//! An [`ArrayRangeSet`] owns room for a bounded number of them. The functions of this module work on an array of the
-//! caller's, of which the first runs are the set. Neither takes memory.
+//! An [`ArrayRangeSet`] owns room for a bounded number of them, and with the feature `alloc` a `GrowingRangeSet` for
+//! any. The functions of this module work on an array of the caller's, of which the first runs are the set. But for
+//! what grows nothing takes memory.
 //!
 //! ```
 //! use quic_wire::range_set::ArrayRangeSet;
@@ -12,10 +13,18 @@
 //! assert_eq!(set.iter().collect::<Vec<_>>(), [3..9]);
 //! assert!(set.contains(8) && !set.contains(9));
 //! ```
+mod ends;
+#[cfg(feature = "alloc")]
+mod growing;
+
+#[cfg(feature = "alloc")]
+pub use growing::GrowingRangeSet;
+
 use crate::sys;
 use core::iter::FusedIterator;
 use core::ops::Range;
 use core::{fmt, slice};
+use ends::{insert_at_end, remove_at_front, AtEnd};
 
 /// A run of packet numbers.
 pub use crate::sys::Range as Run;
@@ -154,8 +163,19 @@ impl<const N: usize> ArrayRangeSet<N> {
     /// # Errors
     ///
     /// Where there is no room for one run more; then nothing changes.
+    #[inline]
     pub fn insert(&mut self, range: Range<u64>) -> Result<bool, Error> {
-        insert(&mut self.runs, &mut self.count, range)
+        match insert_at_end(&mut self.runs[..self.count], &range) {
+            Some(AtEnd::Kept) => Ok(false),
+            Some(AtEnd::Extended) => Ok(true),
+            Some(AtEnd::Behind) => {
+                let place = self.runs.get_mut(self.count).ok_or(Error::NoRoom)?;
+                *place = Run { start: range.start, end: range.end };
+                self.count += 1;
+                Ok(true)
+            }
+            None => insert(&mut self.runs, &mut self.count, range),
+        }
     }
 
     /// Puts one number below 2^64 - 1 into the set, and answers whether it wasn't there.
@@ -172,6 +192,7 @@ impl<const N: usize> ArrayRangeSet<N> {
     /// # Errors
     ///
     /// As [`ArrayRangeSet::insert`].
+    #[inline]
     pub fn insert_one(&mut self, number: u64) -> Result<bool, Error> {
         self.insert(number..number.saturating_add(1))
     }
@@ -217,8 +238,12 @@ impl<const N: usize> ArrayRangeSet<N> {
     /// # Errors
     ///
     /// Where a run falls in two and there is no room for it; then nothing changes.
+    #[inline]
     pub fn remove(&mut self, range: Range<u64>) -> Result<bool, Error> {
-        remove(&mut self.runs, &mut self.count, range)
+        match remove_at_front(&mut self.runs[..self.count], &range) {
+            Some(changes) => Ok(changes),
+            None => remove(&mut self.runs, &mut self.count, range),
+        }
     }
 
     /// Takes all numbers of another set out of this one.

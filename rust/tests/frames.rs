@@ -183,6 +183,20 @@ fn heads_are_refused_whole() {
     );
 }
 
+/// What RFC 9000, section 19.8, has a receiver refuse ("cannot exceed 2^62-1") is the connection's to judge where a
+/// frame is read or written whole; a head alone isn't written for it.
+#[test]
+fn data_that_end_at_2_62_have_no_head() {
+    let (id, offset) = (StreamId(0), (1 << 62) - 2);
+    let whole = |data| Frame::Stream(Stream { id, offset, fin: false, data });
+    is_read_back(whole(&[1]));
+    is_read_back(whole(&[1, 2]));
+    let head = |end| StreamMeta { id, offsets: offset..end, fin: false }.encode(true, &mut [0; 32]);
+    let refused = WriteError::OutOfRange("data end at 2^62 or behind it");
+    assert_eq!((head(offset + 1), head(offset + 2)), (Ok(11), Err(refused)));
+    assert_eq!(CryptoMeta { offsets: offset..offset + 2 }.encode(&mut [0; 32]), Err(refused));
+}
+
 #[test]
 fn frames_are_written_at_the_end_of_a_buffer() {
     let frame = Frame::MaxData(80);

@@ -138,6 +138,62 @@ fn a_packet_is_sealed_and_opened() {
     assert_eq!(packet, before);
 }
 
+/// What RFC 9001, section 5.4.1, has a cipher do: mask the first byte, and the bytes of the number that it tells.
+fn masked(mask: [u8; 5], first: &mut u8, number: &mut [u8; 4], taken_off: bool) {
+    let before = *first;
+    *first ^= mask[0] & if before < 0x80 { 0x1f } else { 0x0f };
+    let len = 1 + usize::from(if taken_off { *first } else { before } & 3);
+    number.iter_mut().zip(&mask[1..]).take(len).for_each(|(byte, mask)| *byte ^= mask);
+}
+
+#[test]
+fn a_cipher_masks_by_itself_as_by_the_mask_that_it_gives() {
+    let (mask, sample) = ([0x5a, 1, 2, 3, 4], [0x77; 16]);
+    for first in 0..=255 {
+        let mut packet = [7; 40];
+        packet[0] = first;
+        packet[24..].copy_from_slice(&sample);
+        let place = PacketPlace::new(0..40, 20);
+        let mut by_mask = packet;
+        place.protect(&mut by_mask, &mask).unwrap();
+        let mut by_itself = packet;
+        let put_on = |of: &[u8], first: &mut u8, number: &mut [u8; 4]| {
+            assert_eq!(of, sample);
+            masked(mask, first, number, false);
+        };
+        place.protect_by(&mut by_itself, 16, put_on).unwrap();
+        assert_eq!(by_itself, by_mask, "protection put on a first byte of {first:x}");
+        let take_off = |of: &[u8], first: &mut u8, number: &mut [u8; 4]| {
+            assert_eq!(of, sample);
+            masked(mask, first, number, true);
+        };
+        let opened = place.unprotect_by(&mut by_itself, 16, take_off, 0x707);
+        assert_eq!(opened, place.unprotect(&mut by_mask, &mask, 0x707), "taken off {first:x}");
+        assert_eq!((by_itself, by_mask), (packet, packet));
+    }
+}
+
+#[test]
+fn a_cipher_is_asked_for_a_whole_sample_alone() {
+    let mut packet = [7; 40];
+    let mut refused = |place: PacketPlace, sample_len, expected| {
+        let asked = |_: &[u8], _: &mut u8, _: &mut [u8; 4]| panic!("asked");
+        let protected = place.protect_by(&mut packet, sample_len, asked);
+        let opened = place.unprotect_by(&mut packet, sample_len, asked, expected).unwrap_err();
+        (protected, opened)
+    };
+    let (short, not_there) = (UnprotectError::TooShort, UnprotectError::NotThere);
+    for (place, sample_len) in [(PacketPlace::new(0..40, 20), 17), (PacketPlace::new(3..40, 38), 0)] {
+        assert_eq!(refused(place, sample_len, 0), (Err(short), short));
+    }
+    assert_eq!(refused(PacketPlace::new(0..40, 20), usize::MAX, 0), (Err(short), short));
+    // A number can't begin with the first byte.
+    assert_eq!(refused(PacketPlace::new(3..40, 3), 16, 0), (Err(short), short));
+    assert_eq!(refused(PacketPlace::new(0..41, 20), 16, 0), (Err(not_there), not_there));
+    let opened = PacketPlace::new(0..40, 20).unprotect_by(&mut packet, 16, |_, _, _| panic!("asked"), 1 << 62);
+    assert_eq!(opened, Err(UnprotectError::Expected));
+}
+
 #[test]
 fn a_length_that_does_not_fit_is_refused() {
     let header = Header::Long { ty: LongType::ZeroRtt, dst_cid: ID, src_cid: ID, number: number(1), version: 1 };

@@ -1,8 +1,9 @@
 //! Sets of packet numbers, and ACKs of them.
 #![cfg(feature = "alloc")]
 use quic_wire::frame::{Ack, EcnCounts, Frame, Iter, WriteError};
-use quic_wire::range_set::{self, ArrayRangeSet, Error, Run};
+use quic_wire::range_set::{self, ArrayRangeSet, Error, GrowingRangeSet, Run};
 use std::collections::BTreeSet;
+use std::ops::Range;
 
 #[test]
 fn a_set_is_acknowledged() {
@@ -83,4 +84,88 @@ fn sets_are_sets() {
     });
     half.subtract(&odd).unwrap();
     assert!(half.elts().eq(model.iter().copied().filter(|n| n % 2 == 0)));
+}
+
+// The runs of the numbers below 8 whose bits are set.
+fn runs_of(bits: u8) -> Vec<Run> {
+    let mut runs: Vec<Run> = vec![];
+    for number in (0..8).filter(|number| bits >> number & 1 == 1) {
+        match runs.last_mut() {
+            Some(run) if run.end == number => run.end += 1,
+            _ => runs.push(Run { start: number, end: number + 1 }),
+        }
+    }
+    runs
+}
+
+// What the library makes of an array with this set.
+fn asked(set: &[Run], room: usize, change: impl Fn(&mut [Run], &mut usize) -> Result<bool, Error>) -> Changed {
+    let (mut runs, mut count) = ([Run::default(); 5], set.len());
+    runs[..count].copy_from_slice(set);
+    let answer = change(&mut runs[..room], &mut count);
+    (answer, runs[..count].to_vec())
+}
+
+type Changed = (Result<bool, Error>, Vec<Run>);
+
+fn array<const N: usize>(set: &[Run], change: impl Fn(&mut ArrayRangeSet<N>) -> Result<bool, Error>) -> Changed {
+    let mut of = ArrayRangeSet::new();
+    set.iter().for_each(|run| assert_eq!(of.insert(run.start..run.end), Ok(true)));
+    assert_eq!(of.runs(), set);
+    (change(&mut of), of.runs().to_vec())
+}
+
+fn growing<const N: usize>(set: &[Run], change: impl Fn(&mut GrowingRangeSet<N>) -> bool) -> Changed {
+    let mut of = GrowingRangeSet::new();
+    set.iter().for_each(|run| assert!(of.insert(run.start..run.end)));
+    assert_eq!(of.runs(), set);
+    (Ok(change(&mut of)), of.runs().to_vec())
+}
+
+/// Every set of numbers below 8, and every range of them: both types do without a call what the call does.
+#[test]
+fn sets_change_as_the_library_changes_them() {
+    let ranges = || (0..9).flat_map(|start| (0..10).map(move |end| Range { start, end }));
+    for set in (0..=255).map(runs_of) {
+        for x in ranges() {
+            let told = |what| format!("{what} {x:?} of {set:?}");
+            let insert = |room| asked(&set, room, |runs, count| range_set::insert(runs, count, x.clone()));
+            assert_eq!(array::<4>(&set, |set| set.insert(x.clone())), insert(4), "{}", told("insert"));
+            assert_eq!(growing::<0>(&set, |set| set.insert(x.clone())), insert(5), "{}", told("insert"));
+            assert_eq!(growing::<2>(&set, |set| set.insert(x.clone())), insert(5), "{}", told("insert"));
+            let remove = |room| asked(&set, room, |runs, count| range_set::remove(runs, count, x.clone()));
+            assert_eq!(array::<4>(&set, |set| set.remove(x.clone())), remove(4), "{}", told("remove"));
+            assert_eq!(growing::<0>(&set, |set| set.remove(x.clone())), remove(5), "{}", told("remove"));
+            assert_eq!(growing::<2>(&set, |set| set.remove(x.clone())), remove(5), "{}", told("remove"));
+        }
+    }
+}
+
+#[test]
+fn a_set_grows() {
+    let mut set = GrowingRangeSet::<2>::new();
+    assert_eq!((set.min(), set.max(), set.pop_min(), set.contains(0)), (None, None, None, false));
+    for number in (0..100).rev() {
+        assert!(set.insert_one(3 * number) && !set.insert_one(3 * number));
+    }
+    assert_eq!(
+        (set.len(), set.min(), set.max(), set.contains(6), set.contains(7)),
+        (100, Some(0), Some(297), true, false)
+    );
+    assert_eq!(set, set.clone());
+    let mut middle = GrowingRangeSet::<0>::new();
+    middle.insert(1..296);
+    set.subtract(&middle);
+    assert_eq!((format!("{set:?}"), set.clone()), ("{0..1, 297..298}".into(), set.clone()));
+    assert_eq!(set.elts().rev().collect::<Vec<_>>(), [297, 0]);
+    assert_eq!((set.pop_min(), set.peek_min()), (Some(0..1), Some(297..298)));
+    // What is left stands in the copy itself, and both go on.
+    let mut copy = set.clone();
+    assert!(copy.insert(5..7) && copy.insert(1..2) && set.insert(1..2) && set.insert(5..7) && copy == set);
+    let mut out = vec![];
+    assert_eq!(Ack::encode(0, copy.runs(), None, &mut out), Ok(11));
+    set.clear();
+    assert!(set.is_empty() && set == GrowingRangeSet::<0>::default());
+    // Two runs, and where they stand.
+    assert_eq!(size_of_val(&set), 40);
 }

@@ -121,10 +121,18 @@ impl PartialEncode {
     /// # Errors
     ///
     /// Where what follows from the number on is 2^14 bytes or more, or the header isn't all in the bytes.
+    #[inline]
     pub fn set_len(&self, packet: &mut [u8]) -> Result<(), WriteError> {
         if self.length == 0 {
-            return Ok(());
+            Ok(())
+        } else {
+            self.lay_len(packet)
         }
+    }
+
+    // Apart, since most headers have none.
+    #[inline(never)]
+    fn lay_len(&self, packet: &mut [u8]) -> Result<(), WriteError> {
         let len = packet.len().checked_sub(self.number).filter(|_| self.header_len <= packet.len());
         let len = len.ok_or(WriteError::OutOfRange("the header is longer than its packet"))?;
         let place = &mut packet[self.number - self.length..self.number];
@@ -149,6 +157,7 @@ impl PartialEncode {
     /// # Panics
     ///
     /// Where its number isn't in it.
+    #[inline]
     pub fn place(&self, packet: &[u8]) -> PacketPlace {
         PacketPlace::new(0..packet.len(), self.number)
     }
@@ -199,7 +208,8 @@ impl Header<'_> {
     /// Where nobody would read it: ids of more than 20 bytes, a number of 2^62 or more or not in one to four bytes, a
     /// long header of version 0; where `random` lacks 0x40, which [`Packets`](super::Packets) asks for unless packets
     /// are greased; or where there is too little room.
-    #[inline]
+    // In line always, where the kind of the header is known.
+    #[inline(always)]
     pub fn encode<B: Buffer + ?Sized>(&self, out: &mut B) -> Result<PartialEncode, WriteError> {
         self.encode_with(false, out)
     }
@@ -218,7 +228,7 @@ impl Header<'_> {
     /// # Errors
     ///
     /// As [`Header::encode`], but that `random` may be any.
-    #[inline]
+    #[inline(always)]
     pub fn encode_with<B: Buffer + ?Sized>(
         &self,
         clear_fixed_bit: bool,
@@ -226,16 +236,26 @@ impl Header<'_> {
     ) -> Result<PartialEncode, WriteError> {
         let fixed = if clear_fixed_bit { 0x40 } else { 0 };
         let Header::Short { spin, key_phase, dst_cid, number } = *self else {
-            return self.long(fixed)?.encode(out);
+            return self.encode_long(fixed, out);
         };
-        check(&[dst_cid], Some(number), 1)?;
+        if number.len.wrapping_sub(1) > 3 {
+            return Err(unwritable(&[dst_cid], Some(number), 1));
+        }
         let bits = (u8::from(spin) << 5) | (u8::from(key_phase) << 2);
         let first = (0x40 | bits | (number.len as u8 - 1)) ^ fixed;
         let place = 1 + dst_cid.len();
+        // The library looks at the id and the number by itself.
         out.put(|room| match sys::short_write(first, number.number, dst_cid, room) {
             Ok(filled) => Ok((filled, PartialEncode { header_len: place + number.len, number: place, length: 0 })),
-            Err(answer) => Err(refused(answer, place + number.len)),
+            Err(answer) if answer == i64::from(sys::NO_ROOM) => Err(WriteError::NoRoom(place + number.len)),
+            Err(_) => Err(unwritable(&[dst_cid], Some(number), 1)),
         })
+    }
+
+    // Apart, so that a short header is written in line with little code.
+    #[inline(never)]
+    fn encode_long<B: Buffer + ?Sized>(&self, fixed: u8, out: &mut B) -> Result<PartialEncode, WriteError> {
+        self.long(fixed)?.encode(out)
     }
 
     // The words of a long header, which are sound.
@@ -303,6 +323,12 @@ fn check(ids: &[&[u8]], number: Option<PacketNumber>, version: u32) -> Result<()
         _ => return Ok(()),
     };
     Err(WriteError::OutOfRange(what))
+}
+
+// Why nobody does.
+#[cold]
+fn unwritable(ids: &[&[u8]], number: Option<PacketNumber>, version: u32) -> WriteError {
+    check(ids, number, version).err().unwrap_or(WriteError::OutOfRange("no such header"))
 }
 
 #[cold]

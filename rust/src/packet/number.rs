@@ -28,8 +28,16 @@ impl PacketNumber {
     /// assert_eq!(PacketNumber::new(300, 301), None);
     /// ```
     #[inline]
-    pub fn new(number: u64, largest_acked: u64) -> Option<Self> {
-        let len = usize::try_from(sys::number_len(number, largest_acked)).ok()?;
+    pub const fn new(number: u64, largest_acked: u64) -> Option<Self> {
+        let Some(distance) = number.checked_sub(largest_acked) else { return None };
+        // As `quic_wire_number_len_` answers, which the test below asks.
+        let len = match distance {
+            0..=0x7f => 1,
+            0x80..=0x7fff => 2,
+            0x8000..=0x7f_ffff => 3,
+            0x80_0000..=0x7fff_ffff => 4,
+            _ => return None,
+        };
         Some(PacketNumber { number, len })
     }
 
@@ -62,5 +70,29 @@ impl PacketNumber {
     pub fn expand(written: u64, len: usize, expected: u64) -> Option<u64> {
         let number = sys::number_expand(written, u32::try_from(len).ok()?, expected);
         (number != u64::MAX).then_some(number)
+    }
+}
+
+#[cfg(test)]
+mod tests {
+    use super::*;
+
+    #[test]
+    fn a_number_is_as_long_as_the_library_says() {
+        let distances = [0, 0x7f, 0x80, 0xff, 0x7fff, 0x8000, 0x7f_ffff, 0x80_0000, 0x7fff_ffff, 0x8000_0000, 1 << 61];
+        for distance in distances.map(|distance: u64| [distance.saturating_sub(1), distance, distance + 1]).concat() {
+            for largest_acked in [0, 1, 0xff, 0xabe8_b3c1, (1 << 62) - 1, u64::MAX / 2] {
+                let number = largest_acked + distance;
+                let told = sys::number_len(number, largest_acked);
+                let len = PacketNumber::new(number, largest_acked).map_or(-1, |number| number.len as i32);
+                assert_eq!(len, told, "of {number}, {largest_acked} acknowledged");
+                if distance != 0 {
+                    assert_eq!(
+                        (PacketNumber::new(largest_acked, number), sys::number_len(largest_acked, number)),
+                        (None, -1)
+                    );
+                }
+            }
+        }
     }
 }

@@ -113,8 +113,39 @@ impl<'a> PacketMut<'a> {
         expected: u64,
     ) -> Result<Packet<'a>, UnprotectError> {
         let opened = self.head.place(0).unprotect_with(self.packet, sample_len, mask, expected)?;
+        Ok(self.opened(opened))
+    }
+
+    /// The same by a cipher that takes its mask off itself and gives none away, as that of `rustls` does: see
+    /// [`PacketPlace::unprotect_by`](super::PacketPlace::unprotect_by).
+    ///
+    /// ```
+    /// use quic_wire::packet::PacketsMut;
+    /// let mut datagram = [0x40, 7, 0, 1, 2, 3, 4, 5, 6];
+    /// let packet = PacketsMut::new(&mut datagram, 1, &[1], false).next().unwrap()?;
+    /// let packet = packet.open_by(3, |sample, _first, number| number[0] ^= sample[0], 0)?;
+    /// assert_eq!((packet.number(), packet.header_data), (4, &[0x40, 7, 4][..]));
+    /// # Ok::<(), quic_wire::Error>(())
+    /// ```
+    ///
+    /// # Errors
+    ///
+    /// As [`PacketMut::open_with`].
+    #[inline]
+    pub fn open_by(
+        self,
+        sample_len: usize,
+        take_off: impl FnOnce(&[u8], &mut u8, &mut [u8; 4]),
+        expected: u64,
+    ) -> Result<Packet<'a>, UnprotectError> {
+        let opened = self.head.place(0).unprotect_by(self.packet, sample_len, take_off, expected)?;
+        Ok(self.opened(opened))
+    }
+
+    #[inline]
+    fn opened(self, opened: Opened) -> Packet<'a> {
         let (header_data, payload) = self.packet.split_at_mut(opened.payload);
-        Ok(Packet { head: self.head, opened, header_data, payload })
+        Packet { head: self.head, opened, header_data, payload }
     }
 }
 

@@ -233,6 +233,58 @@ impl PacketPlace {
         self.unprotect(datagram, &mask, expected)
     }
 
+    // The sample of so many bytes, the first byte, and four bytes from the number's place on, each apart.
+    #[inline]
+    fn parts<'p>(&self, packet: &'p mut [u8], sample_len: usize) -> Option<(&'p [u8], &'p mut u8, &'p mut [u8; 4])> {
+        let (head, behind) = packet.split_at_mut_checked(self.place() + 4)?;
+        let (first, head) = head.split_first_mut()?;
+        Some((behind.get(..sample_len)?, first, head.last_chunk_mut()?))
+    }
+
+    /// The same by a cipher that takes its mask off itself and gives none away, as that of `rustls` does. It is handed
+    /// the sample of so many bytes, the first byte and four bytes from the number's place on, of which it changes the
+    /// number's.
+    ///
+    /// ```
+    /// use quic_wire::packet::PacketPlace;
+    /// # struct Key;
+    /// # impl Key {
+    /// #     fn decrypt_in_place(&self, _sample: &[u8], _first: &mut u8, number: &mut [u8]) { number[0] ^= 5 }
+    /// # }
+    /// # let key = Key;
+    /// let mut datagram = [0x40, 7, 0, 1, 2, 3, 4, 5];
+    /// let place = PacketPlace::new(0..8, 2);
+    /// let opened = place.unprotect_by(
+    ///     &mut datagram,
+    ///     2,
+    ///     |sample, first, number| key.decrypt_in_place(sample, first, number),
+    ///     0,
+    /// )?;
+    /// assert_eq!((opened.number, opened.payload, datagram[2]), (5, 3, 5));
+    /// # Ok::<(), quic_wire::Error>(())
+    /// ```
+    ///
+    /// # Errors
+    ///
+    /// As [`PacketPlace::unprotect`]. The cipher isn't asked then.
+    #[inline]
+    pub fn unprotect_by(
+        &self,
+        datagram: &mut [u8],
+        sample_len: usize,
+        take_off: impl FnOnce(&[u8], &mut u8, &mut [u8; 4]),
+        expected: u64,
+    ) -> Result<Opened, UnprotectError> {
+        let packet = datagram.get_mut(self.range()).ok_or(UnprotectError::NotThere)?;
+        if expected > varint::MAX {
+            return Err(UnprotectError::Expected);
+        }
+        let (sample, first, number) = self.parts(packet, sample_len).ok_or(UnprotectError::TooShort)?;
+        take_off(sample, first, number);
+        // By a mask of zeros what stands there now is read.
+        self.open(packet, &[0; 5], expected)
+    }
+
     /// The same of a datagram that stays as it is: its header is written to `head` without its protection, with four
     /// bytes from the number's place on, of which `number_len` are the number's.
     ///
@@ -290,6 +342,39 @@ impl PacketPlace {
         if sys::protect(packet, self.place(), mask) < 0 {
             return Err(UnprotectError::TooShort);
         }
+        Ok(())
+    }
+
+    /// The same by a cipher that puts its mask on itself and gives none away, as that of `rustls` does. It is handed
+    /// what [`PacketPlace::unprotect_by`] hands on.
+    ///
+    /// ```
+    /// use quic_wire::packet::PacketPlace;
+    /// # struct Key;
+    /// # impl Key {
+    /// #     fn encrypt_in_place(&self, _sample: &[u8], _first: &mut u8, number: &mut [u8]) { number[0] ^= 5 }
+    /// # }
+    /// # let key = Key;
+    /// let mut packet = [0x40, 7, 5, 1, 2, 3, 4, 5];
+    /// let place = PacketPlace::new(0..8, 2);
+    /// place.protect_by(&mut packet, 2, |sample, first, number| key.encrypt_in_place(sample, first, number))?;
+    /// assert_eq!(packet[..4], [0x40, 7, 0, 1]);
+    /// # Ok::<(), quic_wire::Error>(())
+    /// ```
+    ///
+    /// # Errors
+    ///
+    /// Where the packet is too short, or isn't in the datagram. The cipher isn't asked then.
+    #[inline]
+    pub fn protect_by(
+        &self,
+        datagram: &mut [u8],
+        sample_len: usize,
+        put_on: impl FnOnce(&[u8], &mut u8, &mut [u8; 4]),
+    ) -> Result<(), UnprotectError> {
+        let packet = datagram.get_mut(self.range()).ok_or(UnprotectError::NotThere)?;
+        let (sample, first, number) = self.parts(packet, sample_len).ok_or(UnprotectError::TooShort)?;
+        put_on(sample, first, number);
         Ok(())
     }
 }

@@ -51,6 +51,13 @@ pub fn copied<'r>(bytes: &[u8], out: &'r mut Room) -> (Filled, &'r mut [u8]) {
     (Filled(bytes.len()), unsafe { core::slice::from_raw_parts_mut(front.as_mut_ptr().cast(), front.len()) })
 }
 
+/// Writes bytes to the front of the room, if it has as many.
+#[inline]
+pub fn laid<const N: usize>(bytes: [u8; N], out: &mut Room) -> Option<Filled> {
+    *out.first_chunk_mut()? = bytes.map(MaybeUninit::new);
+    Some(Filled(N))
+}
+
 pub const READ_STRICT: u32 = 1;
 pub const READ_BASIC: u32 = 2;
 
@@ -236,7 +243,8 @@ pub fn negotiation_write(
     wrote(answer, written)
 }
 
-#[inline]
+// What `PacketNumber::new` finds out by itself is held against it.
+#[cfg(test)]
 pub fn number_len(number: u64, largest_acked: u64) -> i32 {
     // SAFETY: numbers alone go in and out, and any serve.
     unsafe { c::quic_wire_number_len_(number, largest_acked) }

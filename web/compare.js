@@ -1,5 +1,5 @@
-// What differs between the bytes of two readings. They are compared item by item, so that a change in one of them
-// doesn't reach the others, and byte by byte in what is left.
+// What differs between the bytes of two readings: as few bytes as can be, where these are not too many. Else equal
+// items are looked for first, so that a change in one of them doesn't reach the others, and bytes between these.
 
 // More changes than that in one run are not looked for: all of its bytes count as changed then.
 const MOST_CHANGES = 400;
@@ -70,7 +70,7 @@ export class Comparison {
       for (let item = 0; item < left.count; item += 1) {
         this.compareBytes(left.begin(item), left.end(item), right.begin(item), right.end(item));
       }
-    } else {
+    } else if (!this.compareBytes(0, left.bytes.length, 0, right.bytes.length)) {
       this.compareItems();
     }
     this.count = this.leftDiffers.reduce((sum, one) => sum + one, 0);
@@ -113,6 +113,7 @@ export class Comparison {
     }
   }
 
+  // Compares bytes, and returns false where there are too many changes.
   compareBytes(left, leftEnd, right, rightEnd) {
     const isSame = (a, b) => this.left.bytes[left + a] === this.right.bytes[right + b];
     let [lefts, rights] = [leftEnd - left, rightEnd - right];
@@ -122,10 +123,11 @@ export class Comparison {
     }
     this.match(leftEnd - end, rightEnd - end, end);
     [lefts, rights] = [lefts - end, rights - end];
-    const pairs = lefts > 0 && rights > 0 ? samePlaces(lefts, rights, isSame) : null;
+    const pairs = lefts > 0 && rights > 0 ? samePlaces(lefts, rights, isSame) : [];
     for (const [a, b] of pairs ?? []) {
       this.match(left + a, right + b, 1);
     }
+    return pairs !== null;
   }
 
   // The item on the right that has a byte of the left one, or -1.

@@ -274,8 +274,8 @@ export class Library {
     };
   }
 
-  // Takes the protection off a copy of the head of a packet, by a mask of five bytes: the first byte as it was, how many
-  // bytes the packet number has, and the number as it is written. Null where the packet is too short.
+  // Takes the protection off a copy of the head of a packet, by a mask of five bytes: the first byte as it was, how
+  // many bytes the packet number has, and the number as it is written. Null where the packet is too short.
   unprotect({ begin, end, number }, mask) {
     const place = number - begin;
     const head = aligned(this.input + this.length);

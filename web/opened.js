@@ -161,9 +161,10 @@ export class Opened {
     this.payload = this.readPayload(bytes);
     const { error, bad } = this.payload;
     const what = `${count(bad, "frame")} in ${count(bytes.length, "byte")}`;
-    this.boxes.title.textContent = `Payload of ${packetName(packet.kind)}, ${packet.begin}..${packet.end}: ${what}${
-      error ? `, error at byte ${error.place}: ${error.reason}${error.type === null ? "" : ` in ${typeName(error.type)}`}`
-        : ""}`;
+    const type = (error?.type ?? null) === null ? "" : ` in ${typeName(error.type)}`;
+    const wrong = error ? `, error at byte ${error.place}: ${error.reason}${type}` : "";
+    const packetText = `${packetName(packet.kind)}, ${packet.begin}..${packet.end}`;
+    this.boxes.title.textContent = `Payload of ${packetText}: ${what}${wrong}`;
     this.views.show(this.payload, this.columns);
   }
 

@@ -283,7 +283,8 @@ class Page {
     copy.addEventListener("click", () => this.copyShortest(copy, canonical.bytes));
     const size = `${count(canonical.bytes.length, "byte")}, ${fewer} fewer, with the same frames in the same order. `;
     byId("shortest-note").replaceChildren(size, copy);
-    this.shortest.show(readBytes(this.besideLibrary, canonical.bytes, { mode: "frames", strict: false }), columns(), true);
+    const shortest = readBytes(this.besideLibrary, canonical.bytes, { mode: "frames", strict: false });
+    this.shortest.show(shortest, columns(), true);
   }
 
   // What quic-show prints, if that is opened.

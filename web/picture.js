@@ -75,7 +75,8 @@ function rowOf(reading, colors, begin, end, top, differs) {
     parts.push(tag("rect", {
       x: x(place), y: top + 2, width: PIXELS.byte - (isLast ? 2 : 0), height: PIXELS.row - 4, fill: ground,
     }));
-    parts.push(tag("text", { ...text, x: x(place) + PIXELS.byte / 2 - 1, fill: digits }, hexOfByte(reading.bytes[place])));
+    const center = x(place) + PIXELS.byte / 2 - 1;
+    parts.push(tag("text", { ...text, x: center, fill: digits }, hexOfByte(reading.bytes[place])));
     const isFault = classesAt(reading, place).endsWith(" fault");
     if (isFault || (differs && differs[place])) {
       const dashes = isFault ? { "stroke-dasharray": "3 2" } : {};
@@ -132,9 +133,9 @@ export function pictureOf(reading, box, columns, title, differs) {
     parts.push(rowOf(reading, colors, at * columns, end, top + at * row, differs));
   }
   parts.push(legendOf(kinds, colors, columns, top + rows * row + gap));
-  const font = { "font-family": "ui-monospace, Menlo, Consolas, 'DejaVu Sans Mono', monospace", "font-size": PIXELS.text };
   return tag("svg", {
-    xmlns: "http://www.w3.org/2000/svg", viewBox: `0 0 ${width} ${height}`, width, height, role: "img", ...font,
+    xmlns: "http://www.w3.org/2000/svg", viewBox: `0 0 ${width} ${height}`, width, height, role: "img",
+    "font-family": "ui-monospace, Menlo, Consolas, 'DejaVu Sans Mono', monospace", "font-size": PIXELS.text,
   }, parts.join("\n"));
 }
 

@@ -43,7 +43,11 @@ export class Opened {
     this.boxes = boxes;
     this.on = on;
     this.payload = null;
-    this.views = new Views(boxes.grid, boxes.outline, (spot) => on.lit(this.payload, spot));
+    this.views = new Views(boxes.grid, boxes.outline, (spot) => {
+      if (this.payload) {
+        on.lit(this.payload, spot);
+      }
+    });
   }
 
   // |saved| has of some packets, by their index, the texts of the mask and of the payload.

@@ -43,30 +43,27 @@ def states(browser, address):
     yield "another input"
 
 
-def least_contrast(browser, what, least):
-    for text, ratio in browser.run(CONTRAST):
-        if ratio < 4.5:
-            raise Failed(f"a contrast of {ratio:.2f}, {what}: {text!r}")
-        least = min(least, ratio)
-    return least
-
-
 def contrast(browser, address):
-    """The least contrast of a text with what is behind it, in every state."""
+    """The least contrast of a text with what is behind it, in every state, and how many states there are."""
     least = 100
     count = 0
+
+    def look(what, selectors):
+        nonlocal least, count
+        for selector, text, ratio in browser.run(CONTRAST, selectors):
+            if ratio < 4.5:
+                raise Failed(f"a contrast of {ratio:.2f}, {what} {selector}: {text!r}")
+            least = min(least, ratio)
+            count += 1
+
     for state in states(browser, address):
         browser.run("document.getElementById('text').open = true;")
-        least = least_contrast(browser, state, least)
-        for selector in CLICKED:
-            browser.run(POINT, selector)
-            least = least_contrast(browser, f"{state}, {selector} chosen", least)
+        look(state, ["", *CLICKED])
         for selector in HOVERED:
             place = browser.run(CENTER_OF, selector)
             if place:
                 browser.point(*place)
-                least = least_contrast(browser, f"{state}, the pointer on {selector}", least)
-        count += 1
+                look(f"{state}, the pointer on {selector}", [""])
     return least, count
 
 

@@ -47,7 +47,8 @@ def opened(browser, address):
         names = browser.run("return [...document.querySelectorAll('#plain-outline .item .name')]"
                             ".map((one) => one.textContent)")
         same(names, inner, f"the payload of {datagram}")
-        link = browser.until("return location.hash.includes('open=0.') && location.href", "a link that opens")
+        wanted = f"hex={datagram}&open=0.{mask.replace(' ', '')}.{payload}"
+        link = browser.until("return location.hash.endsWith(arguments[0]) && location.href", "a link that opens", wanted)
         browser.send("navigate", {"url": "about:blank"})
         browser.go(link)
         same(dict(browser.run(LINES, "#outline")), found, f"the link {link}")

@@ -5,7 +5,7 @@ import { readText, toHex } from "./bytes.js";
 import { packetName, RETRY, typeName, VERSION_NEGOTIATION } from "./names.js";
 import { readBytes } from "./reading.js";
 import { element } from "./rows.js";
-import { Views } from "./views.js";
+import { spotIn, Views } from "./views.js";
 import { count } from "./walk.js";
 
 const MASK_LENGTH = 5;
@@ -167,27 +167,26 @@ export class Opened {
     const what = `${count(bad, "frame")} in ${count(bytes.length, "byte")}`;
     const type = (error?.type ?? null) === null ? "" : ` in ${typeName(error.type)}`;
     const wrong = error ? `, error at byte ${error.place}: ${error.reason}${type}` : "";
-    const packetText = `${packetName(packet.kind)}, ${packet.begin}..${packet.end}`;
-    this.boxes.title.textContent = `Payload of ${packetText}: ${what}${wrong}`;
+    this.boxes.title.textContent = `Payload of ${packetName(packet.kind)}, ${packet.begin}..${packet.end}`;
+    this.boxes.note.textContent = `${what}${wrong}.`;
     this.views.show(this.payload, this.columns);
   }
 
-  // Follows a spot of the datagram: the payload of its packet, and the frame that stands under it.
+  // Follows a spot of the datagram: the payload of its packet where that is chosen, and the frame that stands under it.
   follow(spot, line) {
-    if (!spot?.isActive || !this.notes[spot.item]?.fields[1].value) {
-      return;
-    }
-    if (this.viewed !== spot.item) {
+    if (spot.isActive && this.viewed !== spot.item && this.notes[spot.item]?.fields[1].value) {
       this.view(spot.item);
     }
-    if (line?.inner !== undefined && line.inner < this.payload.count) {
-      this.views.outline.reveal(line.inner, -1);
-      const [begin, end] = [this.payload.begin(line.inner), this.payload.end(line.inner)];
-      const lit = { item: line.inner, field: -1, begin, end, place: begin, label: line.name, isActive: false };
-      this.views.grid.reveal(begin);
-      this.views.grid.light(lit);
-      this.views.outline.light(lit);
-      this.on.lit(this.payload, lit);
+    if (this.viewed !== spot.item || line?.inner === undefined || line.inner >= this.payload.count) {
+      return;
     }
+    const frame = spotIn(this.payload, line.inner, -1);
+    if (spot.isActive) {
+      this.views.outline.reveal(line.inner, -1);
+      this.views.grid.reveal(frame.place);
+    }
+    this.views.grid.light(frame);
+    this.views.outline.light(frame);
+    this.on.lit(this.payload, frame);
   }
 }

@@ -70,7 +70,7 @@ class Page {
     });
     const boxes = {
       details: byId("open"), packets: byId("open-packets"), views: byId("plain"), title: byId("plain-title"),
-      grid: byId("plain-grid"), outline: byId("plain-outline"),
+      note: byId("plain-note"), grid: byId("plain-grid"), outline: byId("plain-outline"),
     };
     this.opened = new Opened(payloadLibrary, boxes, {
       lit: (reading, spot) => inspect(inspector, reading, spot), changed: () => this.openedChanged(),
@@ -300,7 +300,7 @@ class Page {
     this.shortest.light(spot);
     this.other.light(spot);
     inspect(byId("inspector"), this.reading, spot);
-    if (spot && spot.isActive) {
+    if (spot && this.reading.unit === "packet") {
       this.opened.follow(spot, spot.field < 0 ? null : linesOf(this.reading.item(spot.item))[spot.field]);
     }
   }

@@ -5,7 +5,7 @@ import { hexOfByte } from "./bytes.js";
 
 const PIXELS = { row: 26, byte: 26, offset: 64, margin: 16, text: 13, legend: 22, gap: 18 };
 const MOST_BYTES = 4096;
-const LEGEND_WIDTH = 160;
+const LEGEND_WIDTH = 232;
 
 // A colour of the style sheet as three numbers, which every viewer of pictures knows.
 function plainColor(context, color) {

@@ -7,6 +7,7 @@ import argparse
 import http.server
 import os
 import shutil
+import subprocess
 import sys
 import threading
 
@@ -72,6 +73,7 @@ def pages(browser, host, words):
     silent(browser, "a file")
     print(f"  from a file: {browser.run(STATUS)}")
     browser.go(address)
+    says_its_commit(browser, words.top)
     print(f"  {inputs.ways_to_write(browser)} ways to write bytes, and texts that are none")
     print(f"  {inputs.several(browser, address)} texts of several inputs")
     print(f"  {inputs.choices(browser, address)} choices that quic-show lacks, and the strip of an ACK")
@@ -82,6 +84,14 @@ def pages(browser, host, words):
     print(f"  {structs.layout(browser, host, words.layout_lines)} lines of the structs' layout; the call of CALLING.md")
     structs.worked_call(browser, words.top)
     silent(browser, "all of these")
+
+
+def says_its_commit(browser, top):
+    """The page says of which commit it is, as far as the repository has one."""
+    done = subprocess.run(["git", "-C", top, "rev-parse", "HEAD"], capture_output=True, text=True, check=False)
+    said = browser.run("return document.getElementById('built').textContent")
+    if done.returncode == 0 and done.stdout.strip() not in said:
+        raise Failed(f"the page says of itself: {said}")
 
 
 def features(browser, host):

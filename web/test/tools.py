@@ -215,7 +215,8 @@ SEND = """const [host] = arguments; window.refused = [];
     const script = document.createElement("script"); script.src = `${host}/sent-by-script`;
     document.body.append(script);
     const form = document.createElement("form"); form.action = `${host}/sent-by-form`; form.method = "post";
-    document.body.append(form); form.submit();
+    document.body.append(form);
+    try { form.submit(); } catch { /* refused */ }
     fetch(`${host}/sent-by-fetch`, { method: "POST", body: "00" }).catch(() => {});
     try { navigator.sendBeacon(`${host}/sent-by-beacon`, "00"); } catch { /* refused */ }
     try { new WebSocket(`${host.replace("http", "ws")}/sent-by-socket`); } catch { /* refused */ }"""

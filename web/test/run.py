@@ -108,14 +108,17 @@ def features(browser, host):
 
 def times(browser, host):
     """How long large inputs take, in Chromium also on a machine that is six times slower."""
+    address = f"{host}/index.html"
     for size, bound in ((65536, 1000), (1 << 20, 10000)):
-        took, what = sizes.shown(browser, f"{host}/index.html", size, bound)
-        print(f"  {size} bytes: at most {took:.0f} ms ({what})", flush=True)
+        took, what = sizes.shown(browser, address, size, bound)
+        listed = sizes.listed(browser, address, size, bound)
+        print(f"  {size} bytes: at most {took:.0f} ms ({what}), a log in {listed:.0f} ms", flush=True)
     if isinstance(browser, Chromium):
         browser.slow(6)
-        took, what = sizes.shown(browser, f"{host}/index.html", 65536, 2000)
+        took, what = sizes.shown(browser, address, 65536, 2000)
+        listed = sizes.listed(browser, address, 65536, 2000)
         browser.slow(1)
-        print(f"  65536 bytes, six times slower: at most {took:.0f} ms ({what})", flush=True)
+        print(f"  six times slower, 65536 bytes: at most {took:.0f} ms ({what}), a log in {listed:.0f} ms", flush=True)
 
 
 def appearances(browser, host):

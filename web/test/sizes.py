@@ -3,7 +3,7 @@ import random
 import re
 
 from browser import CONTROL, END, RIGHT, Failed
-from common import ACTIVE, STATUS, same, set_form
+from common import ACTIVE, BYTES, STATUS, same, set_form
 
 # How often a large input is tried before it is too slow.
 TRIES = 3
@@ -72,3 +72,17 @@ def shown(browser, address, size, bound):
         if f"..{len(data)}" not in browser.run(ACTIVE)["label"]:
             raise Failed(f"the last line of {what}: {browser.run(ACTIVE)['label']}")
     return longest
+
+
+def listed(browser, address, size, bound):
+    """A log of about so many bytes is a list within so many milliseconds, and its end is reached."""
+    chance = random.Random(size)
+    payloads = [b"\x0a\x04\x28" + chance.randbytes(40) for _ in range(size // 43)]
+    text = "\n".join(f"10:00:{at % 60:02} sent {payload.hex()}" for at, payload in enumerate(payloads))
+    took = timed(browser, address, {"mode": "frames"}, text, bound)
+    if took > bound:
+        raise Failed(f"a log of {size} bytes took {took:.0f} ms")
+    browser.run("document.getElementById('list').focus()")
+    browser.keys(END)
+    same(browser.run(BYTES), payloads[-1].hex(), "the last input of a log")
+    return took

@@ -6,8 +6,15 @@ const SEPARATORS = /0x|\\x|[\s:,;{}()[\]"']+/gi;
 // Its lines may end anywhere, but no blank stands in one.
 const BASE64 = /^(?:[A-Za-z0-9+/_-]+\s*\n)*[A-Za-z0-9+/_-]+={0,2}$/;
 
-// A line of a dump: its offset, a colon or blanks, and the rest.
+// A line of a dump: its offset, a colon or blanks, and the rest; and as od prints it, with one blank between them.
 const DUMP_LINE = /^\s*(?:0x)?([0-9a-f]{4,16})(:\s+|\s{2,})(.*)$/i;
+const OD_LINE = /^\s*([0-9a-f]{6,16}) ((?:[0-9a-f]{2} )*[0-9a-f]{2})\s*(?:>.*<)?$/i;
+// The line that says where a dump ends, and the one that stands for lines like the one before.
+const END_LINE = /^\s*([0-9a-f]{4,16})\s*$/i;
+const LIKE_BEFORE = /^\s*\*\s*$/;
+
+// So many bytes may a line of a dump stand for that says: as before.
+const MAX_FILLED = 1 << 20;
 
 const DIGIT = new Int8Array(128).fill(-1);
 for (let value = 0; value < 16; value += 1) {
@@ -50,27 +57,96 @@ function dumpDigits(separator, rest) {
   return /^(?:[0-9a-f]{2}(?:\s{1,2}|$))*$/i.test(column) ? column.replace(/\s+/g, "") : "?";
 }
 
-// The digits of a dump, or null where the text is none: each line begins with the offset of its first byte.
-function digitsOfDump(text) {
-  const lines = text.split(/\r?\n/).filter((line) => line.trim() !== "");
-  const parts = [];
-  let first = null;
-  let count = 0;
-  for (const line of lines) {
-    const match = DUMP_LINE.exec(line) ?? /^\s*([0-9a-f]{4,16})()()\s*$/i.exec(line);
-    if (!match) {
-      return null;
-    }
-    const offset = parseInt(match[1], 16);
-    first ??= offset;
-    const digits = dumpDigits(match[2], match[3]);
-    if (offset - first !== count || digits.length % 2 || !HEX_DIGITS.test(digits)) {
-      return null;
-    }
-    parts.push(digits);
-    count += digits.length / 2;
+// What a line of a dump says: its offset and its digits, which the last line lacks.
+function dumpLine(line, base) {
+  const od = OD_LINE.exec(line);
+  if (od) {
+    return { offset: parseInt(od[1], base), digits: od[2].replace(/ /g, ""), isOd: true };
   }
-  return count > 0 ? parts.join("") : null;
+  const match = DUMP_LINE.exec(line);
+  if (match) {
+    return { offset: parseInt(match[1], base), digits: dumpDigits(match[2], match[3]), isOd: false };
+  }
+  const end = END_LINE.exec(line);
+  return end && { offset: parseInt(end[1], base), digits: "", isOd: false };
+}
+
+// A dump, line by line.
+class Dump {
+  constructor(offset, line) {
+    this.offset = offset;
+    this.line = line;
+    this.digits = "";
+    this.before = "";
+    this.isOd = false;
+    this.isEnded = false;
+  }
+
+  get next() {
+    return this.offset + this.digits.length / 2;
+  }
+
+  // Repeats the line before as far as |offset|. Returns whether that is a whole number of times.
+  fill(offset) {
+    const missing = 2 * (offset - this.next);
+    const times = missing / this.before.length;
+    if (!Number.isInteger(times) || times < 0 || missing > 2 * MAX_FILLED) {
+      return false;
+    }
+    this.digits += this.before.repeat(times);
+    return true;
+  }
+
+  add({ digits, isOd }) {
+    this.digits += digits;
+    this.before = digits;
+    this.isOd ||= isOd;
+    this.isEnded = digits === "";
+  }
+
+  // A dump of od ends with a line that says how long it is; without it digits may be meant.
+  get isWhole() {
+    return this.digits !== "" && (!this.isOd || this.isEnded);
+  }
+}
+
+// The dumps in a text whose offsets have this base, or null where a line belongs to none. The next one begins where
+// offsets begin with 0 again, or, behind an empty line, with any offset but the one that would go on.
+function dumpsWithBase(lines, base) {
+  const dumps = [];
+  let isBehindBlank = false;
+  let isLikeBefore = false;
+  for (const [at, text] of lines.entries()) {
+    const last = dumps[dumps.length - 1];
+    if (text.trim() === "" || (last && LIKE_BEFORE.test(text))) {
+      isBehindBlank ||= text.trim() === "";
+      isLikeBefore ||= text.trim() !== "";
+      continue;
+    }
+    const line = dumpLine(text, base);
+    if (!line || Number.isNaN(line.offset) || line.digits.length % 2 || !HEX_DIGITS.test(line.digits)) {
+      return null;
+    }
+    const goesOn = last && !last.isEnded && (isLikeBefore ? last.fill(line.offset) : last.next === line.offset);
+    if (!goesOn && (line.digits === "" || (last && line.offset !== 0 && !isBehindBlank))) {
+      return null;
+    }
+    if (!goesOn) {
+      dumps.push(new Dump(line.offset, at + 1));
+    }
+    dumps[dumps.length - 1].add(line);
+    isBehindBlank = false;
+    isLikeBefore = false;
+  }
+  return !isLikeBefore && dumps.length > 0 && dumps.every((dump) => dump.isWhole) ? dumps : null;
+}
+
+// The dumps in a text: of each its bytes, and the line where it begins. Null where a line belongs to none. od counts
+// offsets in octal digits.
+export function readDumps(text) {
+  const lines = text.split(/\r?\n/);
+  const dumps = dumpsWithBase(lines, 16) ?? dumpsWithBase(lines, 8);
+  return dumps && dumps.map(({ digits, line }) => ({ bytes: fromHex(digits), form: "a dump", fault: null, line }));
 }
 
 export function fromBase64(text) {
@@ -99,9 +175,10 @@ export function readText(text) {
   const digits = text.replace(SEPARATORS, "");
   const isHex = HEX_DIGITS.test(digits);
   if (/[\n:]|\s{2}/.test(text) && digits !== "") {
-    const dump = digitsOfDump(text);
-    if (dump !== null) {
-      return { bytes: fromHex(dump), form: "a dump", fault: null };
+    const dumps = readDumps(text);
+    if (dumps?.length === 1) {
+      const [{ bytes, form }] = dumps;
+      return { bytes, form, fault: null };
     }
   }
   if (isHex && digits.length % 2 === 0) {

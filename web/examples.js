@@ -21,6 +21,30 @@ export const EXAMPLES = [
       + "5157080d8bf54958790db6de545df78d9218cf0df8b83460ccf760bf19f5",
   },
   {
+    name: "a packet to open",
+    mode: "datagram",
+    // RFC 9001, appendix A.3: the server's Initial packet, the mask of its header, its payload.
+    text: "cf000000010008f067a5502a4262b5004075c0d95a482cd0991cd25b0aac406a5816b6394100f37a1c69797554780bb38cc5a99f5ede"
+      + "4cf73c3ec2493a1839b3dbcba3f6ea46c5b7684df3548e7ddeb9c3bf9c73cc3f3bded74b562bfb19fb84022f8ef4cdd93795d77d06ed"
+      + "bb7aaf2f58891850abbdca3d20398c276456cbc42158407dd074ee",
+    opened: {
+      0: {
+        mask: "2ec0d8356a",
+        plain: "02000000000600405a020000560303eefce7f7b37ba1d1632e96677825ddf73988cfc79825df566dc5430b9a045a1200"
+          + "130100002e00330024001d00209d3c940d89690b84d08a60993c144eca684d1081287c834d5311bcf32bb9da1a002b00020304",
+      },
+    },
+  },
+  {
+    name: "a log",
+    mode: "frames",
+    text: "10:00:00.031 sent 1-RTT number=7 payload=024064190203010a0502\n"
+      + "10:00:00.054 received 1-RTT number=4 payload=0a040c68656c6c6f2c20776f726c64\n"
+      + "10:00:00.054 the stream is read\n"
+      + "10:00:00.071 sent 1-RTT number=8 payload=1104800100001a0102030405060708\n"
+      + "10:00:00.090 received 1-RTT number=5 payload=1c0a000862616420627965",
+  },
+  {
     name: "a server’s transport parameters",
     mode: "params",
     text: "00088394c8f03e515708010480007530030245c00404800c00000504800400000604800400000704800400000802"

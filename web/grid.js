@@ -11,6 +11,8 @@ export class Grid {
     this.reading = null;
     this.columns = 16;
     this.spot = null;
+    // Whether the byte at a place differs from the one beside it, where two inputs are compared.
+    this.differs = null;
     this.rows = new Rows(box, (index) => this.line(index));
     box.addEventListener("pointerover", (event) => on.hover(this.placeOf(event.target)));
     box.addEventListener("pointerleave", () => on.hover(-1));
@@ -18,10 +20,11 @@ export class Grid {
     box.addEventListener("keydown", (event) => this.key(event));
   }
 
-  show(reading, columns) {
+  show(reading, columns, differs = null) {
     this.reading = reading;
     this.columns = columns;
     this.spot = null;
+    this.differs = differs;
     this.box.removeAttribute("aria-activedescendant");
     const lines = Math.ceil(reading.bytes.length / columns);
     this.box.setAttribute("aria-rowcount", lines);
@@ -63,10 +66,23 @@ export class Grid {
     cell.id = `${this.box.id}-${place}`;
     cell.dataset.place = place;
     const index = reading.indexAt(place);
+    cell.classList.toggle("differs", this.isOther(place));
     if (index >= 0) {
       this.paint(cell, place, reading.item(index));
     }
     return cell;
+  }
+
+  isOther(place) {
+    return this.differs !== null && this.differs[place] === 1;
+  }
+
+  // Marks what differs from another input, or nothing.
+  compare(differs) {
+    this.differs = differs;
+    for (const cell of this.box.querySelectorAll(".byte")) {
+      cell.classList.toggle("differs", this.isOther(Number(cell.dataset.place)));
+    }
   }
 
   paint(cell, place, item) {
@@ -110,7 +126,8 @@ export class Grid {
       this.box.removeAttribute("aria-activedescendant");
       return;
     }
-    cell.setAttribute("aria-label", `byte ${spot.place}, ${cell.textContent}, ${spot.label}`);
+    const other = this.isOther(spot.place) ? ", differs" : "";
+    cell.setAttribute("aria-label", `byte ${spot.place}, ${cell.textContent}, ${spot.label}${other}`);
     this.box.setAttribute("aria-activedescendant", cell.id);
   }
 

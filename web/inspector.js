@@ -1,7 +1,9 @@
-// The line that says what is lit: the field and its value in full, of which item, and where.
+// The line that says what is lit: the field and its value in full, of which item, where, and which section of an RFC
+// describes it.
 
 import { linesOf } from "./outline.js";
 import { rangesText } from "./reading.js";
+import { sectionOf } from "./rfc.js";
 import { element } from "./rows.js";
 import { bytesText } from "./walk.js";
 
@@ -26,6 +28,16 @@ function valueOf(field, bytes) {
   return field.value;
 }
 
+// A link that is followed by a click alone, and tells the server of the RFC nothing of this page.
+function sectionLink(unit, item, field) {
+  const { text, address } = sectionOf(unit, item, field);
+  const link = element("a", "section", text);
+  link.href = address;
+  link.target = "_blank";
+  link.rel = "noreferrer";
+  return link;
+}
+
 export function inspect(box, reading, spot) {
   box.hidden = spot === null;
   if (spot === null) {
@@ -33,17 +45,13 @@ export function inspect(box, reading, spot) {
   }
   const item = reading.item(spot.item);
   const field = spot.field < 0 ? null : linesOf(item)[spot.field];
+  const shown = field ?? item;
+  const value = field ? valueOf(field, reading.bytes) : item.summary;
   box.className = `inspector tone ${item.tone}`;
-  if (field) {
-    box.replaceChildren(
-      element("strong", "", field.name), element("span", "value", valueOf(field, reading.bytes)),
-      ...(field.note ? [element("span", "of", field.note)] : []), element("span", "of", `of ${item.name}`),
-      element("span", "place", placeText(field.begin, field.end)),
-    );
-  } else {
-    box.replaceChildren(
-      element("strong", "", item.name), element("span", "value", item.summary),
-      element("span", "place", placeText(item.begin, item.end)),
-    );
-  }
+  box.replaceChildren(
+    element("strong", "", shown.name), element("span", "value", value),
+    ...(field?.note ? [element("span", "of", field.note)] : []),
+    ...(field ? [element("span", "of", `of ${item.name}`)] : []),
+    element("span", "place", placeText(shown.begin, shown.end)), sectionLink(reading.unit, item, field),
+  );
 }

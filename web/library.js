@@ -41,10 +41,11 @@ export class Words {
 }
 
 export class Library {
-  // |module| is the module's bytes. Nothing is imported by it.
-  static async load(module) {
-    const { instance } = await WebAssembly.instantiate(module, {});
-    return new Library(instance.exports);
+  // So many libraries of one module, whose bytes are |module|, each with a memory of its own. Nothing is imported.
+  static async load(module, count) {
+    const compiled = await WebAssembly.compile(module);
+    const instances = Array.from({ length: count }, () => WebAssembly.instantiate(compiled, {}));
+    return (await Promise.all(instances)).map(({ exports }) => new Library(exports));
   }
 
   constructor(calls) {
@@ -269,8 +270,28 @@ export class Library {
     return {
       kind: word("kind"), version: word("version"), reason, begin: offset, end: offset + word("end"),
       dcid, dcidlen: word("dcidlen"), scid: dcid + word("dcidlen") + 1, scidlen: word("scidlen"),
-      token: offset + word("token"), tokenlen: word("tokenlen"),
+      token: offset + word("token"), tokenlen: word("tokenlen"), number: offset + word("head_end"),
     };
+  }
+
+  // Takes the protection off a copy of the head of a packet, by a mask of five bytes: the first byte as it was, how
+  // many bytes the packet number has, and the number as it is written. Null where the packet is too short.
+  unprotect({ begin, end, number }, mask) {
+    const place = number - begin;
+    const head = aligned(this.input + this.length);
+    const given = head + aligned(place + 4);
+    this.reserve(given + 16);
+    const memory = new Uint8Array(this.memory.buffer);
+    memory.set(mask, given);
+    const answer = this.calls.quic_wire_unprotect_head(
+      this.at(this.input + begin), this.at(end - begin), this.at(place), this.at(given), 0n, this.at(head),
+      this.at(place + 4), this.at(this.count),
+    );
+    if (answer < OK) {
+      return null;
+    }
+    const written = new DataView(this.memory.buffer).getBigUint64(this.count, true);
+    return { first: memory[head], numberLength: answer, number: written };
   }
 
   // What a side reads in the first |length| bytes of a list: a copy of the struct, or why the list is refused.

@@ -1,14 +1,20 @@
-// The part of the page's link behind #: the choices, and the input.
+// The part of the page's link behind #: the choices, and the inputs.
 
-import { toHex } from "./bytes.js";
+import { readText, toHex } from "./bytes.js";
 import { VERSIONS } from "./names.js";
 
 // Longer inputs are left out of the link.
-export const MAX_LINKED = 65536;
+const MAX_LINKED = 65536;
+const MAX_ID_LENGTH = 20;
 
 export const DEFAULT_STATE = {
   mode: "frames", strict: false, idLength: 8, side: "client", versions: VERSIONS, grease: false, text: "",
+  // How lines are taken, which of the inputs is shown, whether another one stands beside it and which, and of packets,
+  // by their index, what they are opened by.
+  lines: "auto", at: 0, compare: false, other: "", opened: {},
 };
+// Between the digits of two inputs, and of what a packet is opened by.
+const BETWEEN = ".";
 
 // The versions in a list of hexadecimal numbers, or null.
 export function versionsOf(text) {
@@ -23,11 +29,8 @@ export function versionsText(versions) {
   return versions.map((version) => version.toString(16)).join(" ");
 }
 
-// The fragment of a state, without its #. The |bytes| of its text stand in it as digits; a text that is none, for which
-// |bytes| is null, as it is.
-export function fragmentOf(state, bytes) {
-  const words = new URLSearchParams();
-  words.set("read", state.mode);
+// The choices that aren't the default.
+function choiceWords(words, state) {
   if (state.mode === "frames" && state.strict) {
     words.set("strict", "1");
   }
@@ -43,13 +46,56 @@ export function fragmentOf(state, bytes) {
   if (state.mode === "params") {
     words.set("side", state.side);
   }
-  if (bytes === null) {
-    words.set("text", state.text.slice(0, MAX_LINKED));
-  } else if (bytes.length <= MAX_LINKED) {
-    words.set("hex", toHex(bytes));
+}
+
+// What stands beside the input, and what packets are opened by.
+function furtherWords(words, { mode, compare, other, opened }) {
+  if (compare) {
+    words.set("with", toHex(readText(other).bytes ?? []));
   }
+  for (const [index, { mask, plain }] of mode === "datagram" ? Object.entries(opened) : []) {
+    const digits = [mask, plain].map((text) => toHex(readText(text).bytes ?? []));
+    words.append("open", [index, ...digits].join(BETWEEN));
+  }
+}
+
+// The fragment of a state, without its #. The bytes of the inputs stand in it as digits; a text of which a part is no
+// bytes, as it is.
+export function fragmentOf(state, entries) {
+  const words = new URLSearchParams();
+  words.set("read", state.mode);
+  choiceWords(words, state);
+  if (entries.some(({ bytes }) => bytes === null)) {
+    words.set("text", state.text.slice(0, MAX_LINKED));
+    if (state.lines !== "auto") {
+      words.set("lines", state.lines);
+    }
+  } else if (isLinked(entries)) {
+    words.set("hex", entries.map(({ bytes }) => toHex(bytes)).join(BETWEEN));
+  }
+  if (state.at > 0 && entries.length > 1) {
+    words.set("at", state.at);
+  }
+  furtherWords(words, state);
   return words.toString();
 }
+
+// Whether inputs are few enough bytes for a link.
+export function isLinked(entries) {
+  return entries.reduce((sum, { bytes }) => sum + (bytes?.length ?? 0), 0) <= MAX_LINKED;
+}
+
+function openedOf(words) {
+  const opened = {};
+  for (const [index, mask = "", plain = ""] of words.getAll("open").map((word) => word.split(BETWEEN))) {
+    opened[Number(index) || 0] = { mask, plain };
+  }
+  return opened;
+}
+
+const within = (number, most, otherwise) => (
+  Number.isInteger(number) && number >= 0 && number <= most ? number : otherwise
+);
 
 // The state that a fragment says; what it lacks, or says wrongly, is the default.
 export function stateOf(fragment) {
@@ -61,9 +107,14 @@ export function stateOf(fragment) {
   state.strict = words.get("strict") === "1";
   state.grease = words.get("grease") === "1";
   state.side = words.get("side") === "server" ? "server" : "client";
-  const ids = Number(words.get("ids") ?? DEFAULT_STATE.idLength);
-  state.idLength = Number.isInteger(ids) && ids >= 0 && ids <= 20 ? ids : DEFAULT_STATE.idLength;
+  state.idLength = within(Number(words.get("ids") ?? NaN), MAX_ID_LENGTH, DEFAULT_STATE.idLength);
   state.versions = (words.has("versions") && versionsOf(words.get("versions"))) || VERSIONS;
-  state.text = words.get("hex") ?? words.get("text") ?? "";
+  const inputs = words.get("hex")?.split(BETWEEN);
+  state.text = inputs?.join("\n") ?? words.get("text") ?? "";
+  state.lines = inputs?.length > 1 ? "each" : ["one", "each"].find((one) => one === words.get("lines")) ?? "auto";
+  state.at = within(Number(words.get("at") ?? NaN), Number.MAX_SAFE_INTEGER, 0);
+  state.compare = words.has("with");
+  state.other = words.get("with") ?? "";
+  state.opened = openedOf(words);
   return state;
 }

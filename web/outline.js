@@ -7,12 +7,13 @@ import { stripOf } from "./strip.js";
 const OPEN_ITEMS = 200;
 const OPEN_LINES = 64;
 
-// The lines under an item: its fields, and the ranges of an ACK.
+// The lines under an item: its fields, the ranges of an ACK, the frames of an opened packet.
 export function linesOf(item) {
-  if (!item.ranges) {
+  if (!item.ranges && !item.inner) {
     return item.fields;
   }
-  item.lines ??= [...item.fields, { name: "Ranges", begin: item.begin, end: item.end, ranges: item.ranges }];
+  const ranges = item.ranges ? [{ name: "Ranges", begin: item.begin, end: item.end, ranges: item.ranges }] : [];
+  item.lines ??= [...item.fields, ...ranges, ...(item.inner ?? [])];
   return item.lines;
 }
 
@@ -100,13 +101,18 @@ export class Outline {
 
   // Opens or closes an item.
   toggle(item) {
-    const { scrollTop } = this.box;
     const at = this.lastOpen((index) => index <= item);
     if (this.open[at] === item) {
       this.open.splice(at, 1);
     } else {
       this.open.splice(at + 1, 0, item);
     }
+    this.refresh();
+  }
+
+  // Draws the lines anew, since what is open or what an item says has changed.
+  refresh() {
+    const { scrollTop } = this.box;
     this.layOut();
     this.rows.setCount(this.lines);
     this.box.scrollTop = scrollTop;
@@ -161,7 +167,9 @@ export class Outline {
     if (field.note) {
       line.append(element("span", "note", field.note));
     }
-    line.append(element("span", "place", `${field.begin}..${field.end}`));
+    const isInner = field.inner !== undefined;
+    line.classList.toggle("inner", isInner);
+    line.append(element("span", "place", isInner ? `payload ${field.place}` : `${field.begin}..${field.end}`));
     return line;
   }
 

@@ -116,6 +116,25 @@ export function packetFields(bytes, begin, end, kind, choices) {
   return walk;
 }
 
+// The fields of a packet whose head has no protection left: |head| has the first byte and the packet number.
+export function openedFields(fields, { begin, end, number, kind }, head) {
+  const { first, numberLength } = head;
+  const low = `Packet Number Length ${numberLength} (${bits(first, 2)})`;
+  const reserved = (shift) => `Reserved Bits ${bits(first >> shift, 2)}`;
+  const value = kind === SHORT
+    ? `Header Form 0, Fixed Bit ${(first >> 6) & 1}, Spin Bit ${(first >> 5) & 1}, ${reserved(3)}, `
+      + `Key Phase ${(first >> 2) & 1}, ${low}`
+    : `Header Form 1, Fixed Bit ${(first >> 6) & 1}, Long Packet Type ${(first >> 4) & 3} ${packetName(kind)}, `
+      + `${reserved(2)}, ${low}`;
+  const behind = number + numberLength;
+  return [
+    { ...fields[0], value, note: `0x${first.toString(16)}, unprotected` },
+    ...fields.slice(1).filter((field) => field.end <= number && field.begin > begin),
+    { name: "Packet Number", begin: number, end: behind, value: `${head.number}`, note: "as it is written" },
+    { name: "Packet Payload, protected", begin: behind, end, value: count(end - behind, "byte"), opaque: true },
+  ];
+}
+
 // What a packet says, in a few words, by the library's words of it.
 export function packetSummary(packet) {
   const bytes = count(packet.end - packet.begin, "byte");

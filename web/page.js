@@ -1,25 +1,32 @@
 // The page: it reads the form, has the bytes read, and shows what they are.
 
-import { fromBase64, readText, toHex } from "./bytes.js";
+import { Beside } from "./beside.js";
+import { fromBase64, toHex } from "./bytes.js";
+import { readEntries } from "./entries.js";
 import { EXAMPLES } from "./examples.js";
-import { Grid } from "./grid.js";
+import { Form } from "./form.js";
 import { inspect } from "./inspector.js";
 import { Library } from "./library.js";
-import { DEFAULT_STATE, fragmentOf, MAX_LINKED, stateOf, versionsOf, versionsText } from "./link.js";
-import { typeName, VERSIONS } from "./names.js";
-import { linesOf, Outline } from "./outline.js";
+import { DEFAULT_STATE, fragmentOf, isLinked, stateOf } from "./link.js";
+import { EntryList } from "./list.js";
+import { Opened } from "./opened.js";
+import { linesOf } from "./outline.js";
+import { pictureOf, saveText } from "./picture.js";
+import { printInto } from "./printed.js";
 import { readBytes } from "./reading.js";
 import { element } from "./rows.js";
-import { canonicalLine, command, textOf } from "./text.js";
+import { showStatus, summaryOf } from "./status.js";
+import { Views } from "./views.js";
 import { count } from "./walk.js";
 
 // In milliseconds.
 const LINK_DELAY = 300;
 const SAID_FOR = 3000;
-const PRINTED_LINES = 5000;
+const NOT_COPIED = "It is the page’s address";
 
 const byId = (id) => document.getElementById(id);
 const narrow = window.matchMedia("(max-width: 60rem)");
+const columns = () => (narrow.matches ? 8 : 16);
 
 // Whether a text could be put on the clipboard, which a page of a server without TLS may not.
 async function copied(text) {
@@ -48,76 +55,67 @@ async function moduleBytes() {
 }
 
 class Page {
-  constructor(library, second) {
+  // Each reading that is shown has a library of its own, since it asks for items when they are drawn.
+  constructor([library, besideLibrary, listLibrary, payloadLibrary]) {
     this.library = library;
-    this.second = second;
-    this.form = byId("form");
+    this.besideLibrary = besideLibrary;
+    this.form = new Form(byId("form"), byId("other-input"));
     this.reading = null;
-    this.shortest = null;
-    // What was chosen, and what is under the pointer.
-    this.active = null;
-    this.hovered = null;
-    this.grid = new Grid(byId("grid"), {
-      hover: (place) => this.hover(this.spotAt(place)),
-      select: (place) => this.select(this.spotAt(place), "grid"),
-      enter: () => byId("outline").focus(),
+    const inspector = byId("inspector");
+    this.views = new Views(byId("grid"), byId("outline"), (spot) => this.lit(spot));
+    this.shortest = new Beside(byId("shortest-grid"), this.views, inspector);
+    this.other = new Beside(byId("other-grid"), this.views, inspector);
+    this.list = new EntryList(byId("list"), {
+      summary: (bytes) => summaryOf(readBytes(listLibrary, bytes, this.chosen)), select: (at) => this.choose(at),
     });
-    this.outline = new Outline(byId("outline"), {
-      hover: (item, field) => this.hover(this.spotOf(item, field)),
-      select: (item, field) => this.select(this.spotOf(item, field), "outline"),
-      enter: () => byId("grid").focus(),
-    });
-    this.shortestGrid = new Grid(byId("shortest-grid"), {
-      hover: (place) => this.hoverShortest(place), select: (place) => this.selectShortest(place), enter: () => {},
-    });
-  }
-
-  // ---- the form
-
-  get state() {
-    const { elements } = this.form;
-    return {
-      mode: elements.mode.value, strict: elements.strict.checked, idLength: Number(elements.idLength.value),
-      side: elements.side.value, versions: versionsOf(elements.versions.value) ?? VERSIONS,
-      grease: elements.grease.checked, text: elements.input.value,
+    const boxes = {
+      details: byId("open"), packets: byId("open-packets"), views: byId("plain"), title: byId("plain-title"),
+      note: byId("plain-note"), grid: byId("plain-grid"), outline: byId("plain-outline"),
     };
-  }
-
-  set state(state) {
-    const { elements } = this.form;
-    elements.mode.value = state.mode;
-    elements.strict.checked = state.strict;
-    elements.idLength.value = state.idLength;
-    elements.side.value = state.side;
-    elements.versions.value = versionsText(state.versions);
-    elements.grease.checked = state.grease;
-    elements.input.value = state.text;
+    this.opened = new Opened(payloadLibrary, boxes, {
+      lit: (reading, spot) => inspect(inspector, reading, spot), changed: () => this.openedChanged(),
+    });
   }
 
   start() {
-    this.form.addEventListener("input", () => this.update());
-    this.form.addEventListener("submit", (event) => event.preventDefault());
-    byId("clear").addEventListener("click", () => this.take({ ...this.state, text: "" }));
+    const form = byId("form");
+    form.addEventListener("input", (event) => this.input(event.target));
+    form.addEventListener("submit", (event) => event.preventDefault());
+    byId("other-input").addEventListener("input", () => this.update());
+    byId("clear").addEventListener("click", () => this.take({ ...this.form.state, text: "", ...NOTHING_FURTHER }));
     byId("link").addEventListener("click", () => this.copyLink());
+    byId("save").addEventListener("click", () => this.save());
     byId("text").addEventListener("toggle", () => this.print());
     narrow.addEventListener("change", () => this.show());
     window.addEventListener("hashchange", () => this.follow());
-    for (const { name, mode, text } of EXAMPLES) {
+    for (const { name, ...example } of EXAMPLES) {
       const button = element("button", "plain", name);
       button.type = "button";
-      button.addEventListener("click", () => this.take({ ...this.state, mode, text }));
+      button.addEventListener("click", () => this.take({ ...this.form.state, ...NOTHING_FURTHER, ...example }));
       byId("examples").append(button);
     }
     const { mode, text } = EXAMPLES[0];
     // What stands behind # in the page's address, as far as the page knows.
     this.fragment = window.location.hash.slice(1);
-    this.state = this.fragment ? stateOf(this.fragment) : { ...DEFAULT_STATE, mode, text };
+    this.form.state = this.fragment ? stateOf(this.fragment) : { ...DEFAULT_STATE, mode, text };
     this.update();
     document.documentElement.dataset.state = "ready";
   }
 
+  // ---- the form
+
+  input(target) {
+    if (target.name === "input") {
+      this.form.forget();
+    } else if (target.name === "joined") {
+      this.form.forget();
+      this.form.lines = target.checked ? "one" : "each";
+    }
+    this.update();
+  }
+
   take(state) {
-    this.state = state;
+    this.form.state = state;
     this.update();
     byId("input").scrollTop = 0;
   }
@@ -134,44 +132,58 @@ class Page {
   // ---- reading
 
   update() {
-    const { state } = this;
-    for (const choices of document.querySelectorAll(".choices")) {
-      choices.hidden = choices.dataset.mode !== state.mode;
-    }
-    const { elements } = this.form;
-    elements.versions.setAttribute("aria-invalid", versionsOf(elements.versions.value) === null);
+    const { state } = this.form;
     const isLength = Number.isInteger(state.idLength) && state.idLength >= 0 && state.idLength <= 20;
-    const read = readText(state.text);
-    elements.input.setAttribute("aria-invalid", read.bytes === null);
-    this.writtenAs = read.form;
     this.chosen = isLength ? state : { ...state, idLength: DEFAULT_STATE.idLength };
-    this.reading = read.bytes && readBytes(this.library, read.bytes, this.chosen);
-    this.later(state);
-    this.fault = read.fault;
+    this.found = readEntries(state.text, state.lines);
+    this.form.at = Math.min(state.at, this.found.entries.length - 1);
+    byId("entries").hidden = this.found.entries.length < 2;
+    this.list.show(byId("entries").hidden ? [] : this.found.entries, this.form.at);
+    this.read();
+  }
+
+  // Reads the input that was chosen.
+  read() {
+    const { bytes, fault } = this.found.entries[this.form.at];
+    this.form.mark(!fault, this.found);
+    this.reading = bytes && readBytes(this.library, bytes, this.chosen);
+    this.later();
     this.show();
   }
 
-  // Writes the link once nothing has changed for a while.
-  later(state) {
-    clearTimeout(this.timer);
-    this.timer = setTimeout(() => this.writeLink(state), LINK_DELAY);
+  // Shows another one of the inputs.
+  choose(at) {
+    this.form.at = at;
+    this.form.opened = {};
+    this.read();
   }
 
-  writeLink(state) {
+  openedChanged() {
+    this.views.outline.refresh();
+    this.views.light();
+    this.later();
+  }
+
+  // Writes the link once nothing has changed for a while.
+  later() {
+    clearTimeout(this.timer);
+    this.timer = setTimeout(() => this.writeLink(), LINK_DELAY);
+  }
+
+  writeLink() {
     clearTimeout(this.timer);
     if (window.location.hash.slice(1) !== this.fragment) {
       // Another link was just opened, and is going to be followed.
       return;
     }
-    this.fragment = fragmentOf(state, this.reading && this.reading.bytes);
+    this.fragment = fragmentOf(this.form.state, this.found.entries);
     window.history.replaceState(null, "", `#${this.fragment}`);
   }
 
   async copyLink() {
-    this.writeLink(this.state);
-    const isWhole = !this.reading || this.reading.bytes.length <= MAX_LINKED;
-    const said = isWhole ? "Copied" : "Copied, without the bytes: they are too many";
-    sayOn(byId("link"), (await copied(window.location.href)) ? said : "It is the page’s address");
+    this.writeLink();
+    const said = isLinked(this.found.entries) ? "Copied" : "Copied, without the bytes: they are too many";
+    sayOn(byId("link"), (await copied(window.location.href)) ? said : NOT_COPIED);
   }
 
   async copyShortest(button, bytes) {
@@ -183,75 +195,77 @@ class Page {
     }
   }
 
+  save() {
+    const { text } = summaryOf(this.reading);
+    const title = `${text[0].toUpperCase()}${text.slice(1)}.`;
+    const { box, differs } = this.views.grid;
+    saveText(pictureOf(this.reading, box, columns(), title, differs), "image/svg+xml", "quic-bytes.svg");
+  }
+
   // ---- showing
 
   show() {
     const { reading } = this;
-    this.active = null;
-    this.hovered = null;
     byId("views").hidden = reading === null || reading.bytes.length === 0;
     byId("keys").hidden = byId("views").hidden;
     byId("text").hidden = reading === null;
-    this.showStatus();
+    showStatus(byId("status"), reading, this.found, this.form.at, (place) => this.goTo(place));
     if (reading) {
       byId("items-title").textContent = { frame: "Frames", packet: "Packets", parameter: "Parameters" }[reading.unit];
-      this.grid.show(reading, narrow.matches ? 8 : 16);
-      this.outline.show(reading);
+      this.views.show(reading, columns());
     }
-    this.showShortest();
+    this.showBeside();
+    this.opened.show(reading?.unit === "packet" ? reading : null, columns(), this.form.opened);
+    if (reading?.unit === "packet") {
+      this.views.outline.refresh();
+    }
     this.print();
-    this.light();
-  }
-
-  showStatus() {
-    const status = byId("status");
-    const { reading, fault } = this;
-    status.className = `status ${fault || reading.error ? "bad" : "good"}`;
-    if (fault) {
-      status.replaceChildren(element("strong", "", "No bytes"), `: ${fault}.`);
-      return;
-    }
-    const bytes = count(reading.bytes.length, "byte");
-    const items = count(Math.min(reading.bad, reading.whole), reading.unit);
-    const from = reading.bytes.length > 0 ? `, read as ${this.writtenAs}` : "";
-    if (!reading.error) {
-      status.replaceChildren(`${items} in ${bytes}${from}.`);
-      return;
-    }
-    const before = ` ${items} before it, in ${bytes}${from}. `;
-    status.replaceChildren(...this.errorText(reading.error), before, ...this.errorButton(reading.error));
-  }
-
-  errorText({ place, reason, type, version, code, section }) {
-    const what = (type ?? null) === null ? "" : ` in ${typeName(type)}`;
-    const which = (version ?? null) === null ? "" : ` ${version.toString(16)}`;
-    const text = [element("strong", "", `Error at byte ${place}: ${reason}${which}${what}.`)];
-    text.push(code ? ` ${code}, ${section}. ` : ` ${section[0].toUpperCase()}${section.slice(1)}. `);
-    return text;
-  }
-
-  errorButton({ place }) {
-    if (this.reading.bytes.length === 0) {
-      return [];
-    }
-    const button = element("button", "plain", "Show it");
-    button.type = "button";
-    button.addEventListener("click", () => this.goTo(place));
-    return [button];
+    this.views.light();
   }
 
   goTo(place) {
-    const { bad } = this.reading;
-    const at = this.spotAt(Math.min(place, this.reading.bytes.length - 1));
-    const field = bad < this.reading.count ? this.reading.item(bad).fields.findIndex((one) => one.fault) : -1;
-    this.select(field >= 0 ? this.spotOf(bad, field) : at, null);
+    const { bad, count: items, bytes } = this.reading;
+    const field = bad < items ? this.reading.item(bad).fields.findIndex((one) => one.fault) : -1;
+    const { views } = this;
+    views.select(field >= 0 ? views.spotOf(bad, field) : views.spotAt(Math.min(place, bytes.length - 1)));
     byId("grid").focus({ preventScroll: true });
     byId("views").scrollIntoView({ block: "nearest" });
   }
 
+  // The other input, if one is to stand beside the bytes; else their shortest form.
+  showBeside() {
+    const { reading } = this;
+    const isOther = this.form.state.compare && reading !== null;
+    this.shortest.clear();
+    this.other.clear();
+    byId("other").hidden = !isOther;
+    byId("views").classList.toggle("compared", isOther);
+    if (isOther) {
+      byId("shortest").hidden = true;
+      this.showOther();
+    } else {
+      this.showShortest();
+    }
+  }
+
+  showOther() {
+    const [{ bytes, fault }] = readEntries(this.form.state.other, "one").entries;
+    byId("other-input").setAttribute("aria-invalid", Boolean(fault));
+    const isShown = bytes !== null && bytes.length > 0 && this.reading.bytes.length > 0;
+    byId("other-grid").hidden = !isShown;
+    if (!isShown) {
+      byId("other-note").textContent = fault ? `No bytes: ${fault}.` : "Paste another input of the same kind.";
+      return;
+    }
+    const reading = readBytes(this.besideLibrary, bytes, this.chosen);
+    this.other.show(reading, columns(), false);
+    const { count: here, rightCount: there } = this.other.comparison;
+    byId("other-note").textContent = `${summaryOf(reading).text}. ${here + there === 0 ? "The same bytes."
+      : `${count(here, "byte")} of the first and ${there} of this one differ.`}`;
+  }
+
   showShortest() {
     const { reading } = this;
-    this.shortest = null;
     const section = byId("shortest");
     const canonical = reading?.unit === "frame" ? reading.canonical() : { bytes: null };
     section.hidden = canonical.bytes === null;
@@ -269,117 +283,34 @@ class Page {
     copy.addEventListener("click", () => this.copyShortest(copy, canonical.bytes));
     const size = `${count(canonical.bytes.length, "byte")}, ${fewer} fewer, with the same frames in the same order. `;
     byId("shortest-note").replaceChildren(size, copy);
-    this.shortest = readBytes(this.second, canonical.bytes, { mode: "frames", strict: false });
-    this.shortestGrid.show(this.shortest, narrow.matches ? 8 : 16);
+    const shortest = readBytes(this.besideLibrary, canonical.bytes, { mode: "frames", strict: false });
+    this.shortest.show(shortest, columns(), true);
   }
 
   // What quic-show prints, if that is opened.
   print() {
-    const box = byId("printed");
-    box.replaceChildren();
-    if (!byId("text").open || !this.reading) {
-      return;
-    }
-    const { lines, isCut } = textOf(this.reading, PRINTED_LINES);
-    this.printBlock(box, command(this.chosen), lines.join("\n"), isCut);
-    if (this.reading.unit === "frame") {
-      this.printBlock(box, "canon", canonicalLine(this.reading.canonical()), false);
+    byId("printed").replaceChildren();
+    if (byId("text").open && this.reading) {
+      printInto(byId("printed"), this.reading, this.chosen);
     }
   }
 
-  printBlock(box, words, text, isCut) {
-    const title = element("p", "printed-title");
-    title.append(element("code", "", `quic-show ${words}`));
-    const isOwn = this.chosen.mode === "datagram"
-      && (this.chosen.grease || versionsText(this.chosen.versions) !== versionsText(VERSIONS));
-    if (isOwn) {
-      title.append(" with the versions and the fixed bit as chosen here, for which it has no words");
-    }
-    const block = element("pre", "", text);
-    block.dataset.command = words;
-    box.append(title, block);
-    if (isCut) {
-      box.append(element("p", "printed-title", `The first ${PRINTED_LINES} lines.`));
-    }
-  }
-
-  // ---- pointing
-
-  spotAt(place) {
-    const index = this.reading.indexAt(place);
-    if (index < 0) {
-      return null;
-    }
-    return this.spotOf(index, this.reading.fieldAt(this.reading.item(index), place), place);
-  }
-
-  spotOf(index, field, place) {
-    if (index < 0) {
-      return null;
-    }
-    const item = this.reading.item(index);
-    const line = field < 0 ? item : linesOf(item)[field];
-    const at = Math.min(place ?? line.begin, this.reading.bytes.length - 1);
-    const label = field < 0 ? item.name : `${line.name} of ${item.name}`;
-    return { item: index, field, begin: line.begin, end: line.end, place: at, label, isActive: false };
-  }
-
-  hover(spot) {
-    this.hovered = spot;
-    this.light();
-  }
-
-  // Chooses a spot, and shows it in the view that it was not chosen in.
-  select(spot, from) {
-    this.active = spot && { ...spot, isActive: true };
-    this.hovered = null;
-    if (spot) {
-      this.grid.spot = this.active;
-      this.outline.spot = this.active;
-      this.grid.reveal(spot.place);
-      this.outline.reveal(spot.item, spot.field);
-    }
-    this.light(from);
-  }
-
-  light() {
-    const spot = this.hovered ?? this.active;
-    this.grid.light(spot);
-    this.outline.light(spot);
-    this.lightShortest(spot);
-    inspect(byId("inspector"), this.reading, this.reading && spot);
-  }
-
-  // In the shortest form the frame with the same index is lit.
-  lightShortest(spot) {
-    if (!this.shortest) {
-      return;
-    }
-    if (spot && spot.item < this.shortest.count) {
-      this.shortestGrid.light({ ...spot, begin: 0, end: 0, isActive: false });
-    } else {
-      this.shortestGrid.light(null);
-    }
-  }
-
-  hoverShortest(place) {
-    const item = this.shortest ? this.shortest.indexAt(place) : -1;
-    this.hover(item >= 0 && item < this.reading.count ? this.spotOf(item, -1) : null);
-  }
-
-  selectShortest(place) {
-    const item = this.shortest.indexAt(place);
-    if (item >= 0 && item < this.reading.count) {
-      this.select(this.spotOf(item, -1), null);
+  // Says what is lit in the views, and lights it in what stands beside them.
+  lit(spot) {
+    this.shortest.light(spot);
+    this.other.light(spot);
+    inspect(byId("inspector"), this.reading, spot);
+    if (spot && this.reading.unit === "packet") {
+      this.opened.follow(spot, spot.field < 0 ? null : linesOf(this.reading.item(spot.item))[spot.field]);
     }
   }
 }
 
+const NOTHING_FURTHER = { lines: "auto", at: 0, compare: false, other: "", opened: {} };
+
 async function begin() {
   try {
-    const bytes = await moduleBytes();
-    const [library, second] = await Promise.all([Library.load(bytes), Library.load(bytes)]);
-    new Page(library, second).start();
+    new Page(await Library.load(await moduleBytes(), 4)).start();
   } catch (error) {
     const status = byId("status");
     status.className = "status bad";

@@ -9,7 +9,7 @@ import {
   packetName, packetTone, PADDING, parameterOf, PARAMS_MALFORMED, PARAMS_REASONS, REASON_END, REASON_LONG_TYPE,
   REASON_TYPE, typeName,
 } from "./names.js";
-import { packetAgrees, packetFields, packetSummary } from "./packet-fields.js";
+import { openedFields, packetAgrees, packetFields, packetSummary } from "./packet-fields.js";
 import { nextEntry, parameterFields, parameterSummary } from "./parameter-fields.js";
 import { count } from "./walk.js";
 
@@ -150,9 +150,9 @@ class FramesReading extends Reading {
 
   make(index) {
     if (index === this.bad) {
-      const { walk, type, fault } = this.walkRest();
+      const { walk, type, kind: found, fault } = this.walkRest();
       const name = type === null ? "no frame" : `${typeName(type)}, no frame`;
-      return this.broken(name, this.error.reason, walk, fault);
+      return { kind: found, ...this.broken(name, this.error.reason, walk, fault) };
     }
     const begin = this.begin(index);
     const kind = this.kinds[index];
@@ -160,13 +160,13 @@ class FramesReading extends Reading {
     const tone = frameTone(kind);
     if (kind === PADDING) {
       const { frames, fields } = paddingRun(this.bytes, begin, this.end(index));
-      return { name, tone, summary: count(frames, "frame"), fields, agrees: true };
+      return { kind, name, tone, summary: count(frames, "frame"), fields, agrees: true };
     }
     const frame = this.library.frameAt(begin, this.choices.strict);
     const ranges = kind === ACK ? this.library.rangesAt(begin, this.choices.strict) : null;
     const found = frameFields(this.bytes, begin, frame.end);
     const summary = frameSummary(frame, ranges && rangesText(ranges, 20));
-    return { name, tone, summary, fields: found.walk.fields, ranges, agrees: agrees(frame, found) };
+    return { kind, name, tone, summary, fields: found.walk.fields, ranges, agrees: agrees(frame, found) };
   }
 
   // The shortest payload with the same meaning, or why there is none.
@@ -185,6 +185,14 @@ class DatagramReading extends Reading {
     this.kinds = kinds;
     this.refusal = refusal;
     this.error = refusal && this.describe(refusal);
+    // Of each packet that was opened its mask, and the lines of its frames.
+    this.openings = new Map();
+  }
+
+  // Opens a packet by the mask of its head, or closes it where that is null; |inner| are lines for its frames.
+  open(index, mask, inner) {
+    this.openings.set(index, { mask, inner });
+    this.kept.delete(index);
   }
 
   describe(refusal) {
@@ -208,13 +216,28 @@ class DatagramReading extends Reading {
   make(index) {
     if (index === this.bad) {
       const { walk, fault } = this.walkRest();
-      return this.broken("no packet", this.error.reason, walk, fault);
+      return { kind: null, ...this.broken("no packet", this.error.reason, walk, fault) };
     }
     const packet = this.packet(index);
-    const walk = packetFields(this.bytes, packet.begin, packet.end, packet.kind, this.choices);
+    const { kind, version } = packet;
+    const walk = packetFields(this.bytes, packet.begin, packet.end, kind, this.choices);
+    const item = {
+      kind, version, name: packetName(kind), tone: packetTone(kind), summary: packetSummary(packet),
+      fields: walk.fields, agrees: packetAgrees(packet, walk),
+    };
+    const opening = this.openings.get(index);
+    return opening ? { ...item, ...this.opened(item, packet, opening) } : item;
+  }
+
+  // What an opened packet has otherwise: the fields of its head, and the frames of its payload.
+  opened({ fields }, packet, { mask, inner }) {
+    const head = mask && this.library.unprotect(packet, mask);
+    if (!head) {
+      return {};
+    }
+    const begin = packet.number + head.numberLength;
     return {
-      name: packetName(packet.kind), tone: packetTone(packet.kind), summary: packetSummary(packet), fields: walk.fields,
-      agrees: packetAgrees(packet, walk),
+      fields: openedFields(fields, packet, head), inner: inner.map((line) => ({ ...line, begin, end: packet.end })),
     };
   }
 
@@ -304,11 +327,11 @@ class ParamsReading extends Reading {
     if (index === this.bad) {
       const fault = this.faultOf(walk);
       const summary = this.error.reason + (walk.missing ? "" : `: ${parameterSummary(walk, id)}`);
-      return this.broken(name, summary, walk, fault, this.end(index));
+      return { kind: id, ...this.broken(name, summary, walk, fault, this.end(index)) };
     }
     const { tone } = parameterOf(id);
     const summary = parameterSummary(walk, id);
-    return { name, tone, summary, fields: walk.fields, agrees: this.agrees(walk, id, index) };
+    return { kind: id, name, tone, summary, fields: walk.fields, agrees: this.agrees(walk, id, index) };
   }
 
   // Whether a number in the list is the record's. A min_ack_delay may stand in it again, and then the last one counts.

@@ -52,6 +52,19 @@ class Browser:
         actions += [{"type": "keyUp", "value": key} for key in held]
         self.send("act", {"actions": [{"type": "key", "id": "keyboard", "actions": actions}]})
 
+    def saved(self, name):
+        """The text of a file that the page has saved, which is deleted."""
+        path = os.path.join(self.profile, "saved", name)
+        end = time.monotonic() + PATIENCE
+        while time.monotonic() < end:
+            if os.path.exists(path) and os.path.getsize(path) > 0 and not os.path.exists(f"{path}.part"):
+                with open(path, encoding="utf-8") as file:
+                    text = file.read()
+                os.remove(path)
+                return text
+            time.sleep(0.05)
+        raise Failed(f"not saved: {name}")
+
     def point(self, x, y, click=False):
         """Moves the pointer to a place of the window."""
         actions = [{"type": "pointerMove", "duration": 0, "x": int(x), "y": int(y), "origin": "viewport"}]
@@ -94,6 +107,7 @@ class Chromium(Browser):
                   "timeouts": {"script": 600000}}
         session = self.http("POST", "/session", {"capabilities": {"alwaysMatch": wanted}})
         self.session = f"/session/{session['sessionId']}"
+        self.devtools("Browser.setDownloadBehavior", behavior="allow", downloadPath=f"{self.profile}/saved")
         self.version = session["capabilities"]["browserVersion"]
 
     def http(self, method, path, body=None):
@@ -117,19 +131,33 @@ class Chromium(Browser):
 
     def picture(self, path, width, height, scheme):
         """The window as it looks at a size, light or dark."""
-        self.shape(width, height, scheme)
+        self.shape(width, height)
+        self.media(**{"prefers-color-scheme": scheme})
         with open(path, "wb") as file:
             file.write(base64.b64decode(self.http("GET", f"{self.session}/screenshot")))
 
-    def shape(self, width, height, scheme):
+    def shape(self, width, height):
         is_phone = width < 600
         self.devtools("Emulation.setDeviceMetricsOverride", width=width, height=height, mobile=is_phone,
                       deviceScaleFactor=2 if is_phone else 1)
-        self.devtools("Emulation.setEmulatedMedia", features=[{"name": "prefers-color-scheme", "value": scheme}])
+
+    def media(self, **features):
+        """What the system is said to prefer: prefers-color-scheme, forced-colors, prefers-reduced-motion."""
+        self.devtools("Emulation.setEmulatedMedia",
+                      features=[{"name": name, "value": value} for name, value in features.items()])
+
+    def zoom(self, factor):
+        """As a window of 1280 by 1024 pixels looks where the page is zoomed."""
+        self.devtools("Emulation.setDeviceMetricsOverride", width=1280 // factor, height=1024 // factor, mobile=False,
+                      deviceScaleFactor=factor)
+
+    def slow(self, factor):
+        """As on a machine that is so many times slower."""
+        self.devtools("Emulation.setCPUThrottlingRate", rate=factor)
 
     def unshape(self):
         self.devtools("Emulation.clearDeviceMetricsOverride")
-        self.devtools("Emulation.setEmulatedMedia", features=[])
+        self.media()
 
     def close(self):
         with contextlib.suppress(Exception):
@@ -143,13 +171,28 @@ class Firefox(Browser):
     """Firefox, by the commands that its own port takes (Marionette)."""
 
     name = "Firefox"
+    PREFERENCES = [
+        ("marionette.port", "0"), ("datareporting.policy.dataSubmissionEnabled", "false"),
+        ("browser.download.folderList", "2"), ("browser.download.alwaysOpenPanel", "false"),
+        ("browser.helperApps.neverAsk.saveToDisk", '"image/svg+xml"'),
+        ("browser.download.always_ask_before_handling_new_types", "false"),
+    ]
+    # What the preferences of Firefox call what a system prefers.
+    MEDIA = {
+        ("prefers-color-scheme", "light"): ("layout.css.prefers-color-scheme.content-override", 1),
+        ("prefers-color-scheme", "dark"): ("layout.css.prefers-color-scheme.content-override", 0),
+        ("forced-colors", "active"): ("browser.display.document_color_use", 2),
+        ("prefers-reduced-motion", "reduce"): ("ui.prefersReducedMotion", 1),
+    }
     COMMANDS = {"navigate": "WebDriver:Navigate", "run": "WebDriver:ExecuteScript", "act": "WebDriver:PerformActions"}
 
     def __init__(self):
         self.profile = tempfile.mkdtemp()
         with open(f"{self.profile}/user.js", "w") as file:
-            for name, value in (("marionette.port", "0"), ("datareporting.policy.dataSubmissionEnabled", "false")):
+            for name, value in self.PREFERENCES:
                 file.write(f'user_pref("{name}", {value});\n')
+            file.write(f'user_pref("browser.download.dir", "{self.profile}/saved");\n')
+        os.mkdir(f"{self.profile}/saved")
         words = ["firefox-esr", "--headless", "--marionette", "--remote-allow-system-access", "--no-remote",
                  "--profile", self.profile]
         quiet = {"stdout": subprocess.DEVNULL, "stderr": subprocess.DEVNULL}
@@ -199,15 +242,33 @@ class Firefox(Browser):
         value = self.command(self.COMMANDS[command], body)
         return value["value"] if isinstance(value, dict) and "value" in value else value
 
+    def inside(self, script, *arguments):
+        """Runs a script in the browser itself."""
+        self.command("Marionette:SetContext", {"value": "chrome"})
+        value = self.command("WebDriver:ExecuteScript", {"script": script, "args": list(arguments)})["value"]
+        self.command("Marionette:SetContext", {"value": "content"})
+        return value
+
     def errors(self):
         """What the console was told of the page since the last call."""
-        self.command("Marionette:SetContext", {"value": "chrome"})
-        script = """const said = Services.console.getMessageArray().filter(
+        return self.inside("""const said = Services.console.getMessageArray().filter(
             (one) => one instanceof Ci.nsIScriptError && /index\\.html/.test(one.sourceName)).map(String);
-            Services.console.reset(); return said;"""
-        said = self.command("WebDriver:ExecuteScript", {"script": script, "args": []})["value"]
-        self.command("Marionette:SetContext", {"value": "content"})
-        return said
+            Services.console.reset(); return said;""")
+
+    def media(self, **features):
+        """What the system is said to prefer: prefers-color-scheme, forced-colors, prefers-reduced-motion."""
+        for name, _ in self.MEDIA.values():
+            self.inside("Services.prefs.clearUserPref(arguments[0]);", name)
+        for feature in features.items():
+            self.inside("Services.prefs.setIntPref(...arguments);", *self.MEDIA[feature])
+
+    def zoom(self, factor):
+        """Zooms the page."""
+        self.inside("window.gBrowser.selectedBrowser.fullZoom = arguments[0];", factor)
+
+    def unshape(self):
+        self.zoom(1)
+        self.media()
 
     def close(self):
         with contextlib.suppress(Exception):

@@ -1,18 +1,29 @@
-// Run in the page by the tests: each text that can be seen, with its contrast (WCAG 2.2, section 1.4.3).
+// Run in the page by the tests: the least contrast of a text that can be seen (WCAG 2.2, section 1.4.3), with one
+// element chosen after the other.
+const [selectors] = arguments;
 const context = document.createElement("canvas").getContext("2d", { willReadFrequently: true });
 
 // A colour of the style sheet over another one, as three numbers up to 255.
+const known = new Map();
 function over(color, below) {
-  context.fillStyle = `rgb(${below.join(" ")})`;
-  context.fillRect(0, 0, 1, 1);
-  context.fillStyle = color;
-  context.fillRect(0, 0, 1, 1);
-  return [...context.getImageData(0, 0, 1, 1).data.slice(0, 3)];
+  const both = `${color} over ${below}`;
+  if (!known.has(both)) {
+    context.fillStyle = `rgb(${below.join(" ")})`;
+    context.fillRect(0, 0, 1, 1);
+    context.fillStyle = color;
+    context.fillRect(0, 0, 1, 1);
+    known.set(both, [...context.getImageData(0, 0, 1, 1).data.slice(0, 3)]);
+  }
+  return known.get(both);
 }
 
+const grounds = new Map();
 function groundOf(element) {
-  const below = element.parentElement ? groundOf(element.parentElement) : [255, 255, 255];
-  return over(getComputedStyle(element).backgroundColor, below);
+  if (!grounds.has(element)) {
+    const below = element.parentElement ? groundOf(element.parentElement) : [255, 255, 255];
+    grounds.set(element, over(getComputedStyle(element).backgroundColor, below));
+  }
+  return grounds.get(element);
 }
 
 function luminance(color) {
@@ -23,15 +34,28 @@ function luminance(color) {
   return 0.2126 * red + 0.7152 * green + 0.0722 * blue;
 }
 
-const found = [];
-const texts = document.createTreeWalker(document.body, NodeFilter.SHOW_TEXT);
-while (texts.nextNode()) {
-  const element = texts.currentNode.parentElement;
-  const isSeen = element.checkVisibility({ visibilityProperty: true }) && !element.closest("script, svg");
-  if (isSeen && texts.currentNode.textContent.trim() !== "") {
-    const ground = groundOf(element);
-    const [a, b] = [luminance(ground), luminance(over(getComputedStyle(element).color, ground))];
-    found.push([texts.currentNode.textContent.trim(), (Math.max(a, b) + 0.05) / (Math.min(a, b) + 0.05)]);
+// The text that can be seen whose contrast is the least.
+function least() {
+  let worst = ["", 100];
+  const texts = document.createTreeWalker(document.body, NodeFilter.SHOW_TEXT);
+  grounds.clear();
+  while (texts.nextNode()) {
+    const element = texts.currentNode.parentElement;
+    const text = texts.currentNode.textContent.trim();
+    if (text !== "" && element.checkVisibility({ visibilityProperty: true }) && !element.closest("script, svg")) {
+      const ground = groundOf(element);
+      const [a, b] = [luminance(ground), luminance(over(getComputedStyle(element).color, ground))];
+      const ratio = (Math.max(a, b) + 0.05) / (Math.min(a, b) + 0.05);
+      worst = ratio < worst[1] ? [text, ratio] : worst;
+    }
   }
+  return worst;
 }
-return found;
+
+// As the page is, or with an element chosen, one after the other.
+return selectors.map((selector) => {
+  if (selector !== "") {
+    document.querySelector(selector)?.click();
+  }
+  return [selector, ...least()];
+});

@@ -7,12 +7,20 @@ import argparse
 import http.server
 import os
 import shutil
+import subprocess
 import sys
 import threading
 
+import agree
+import inputs
 import lists
-import tests
+import looks
+import sizes
+import structs
+import tools
+import use
 from browser import Chromium, Failed, Firefox
+from common import STATUS
 
 PICTURES = [
     ("web-payload.png", 1280, 1180, "light", "", "#grid [data-place='12']"),
@@ -25,6 +33,16 @@ class Server(http.server.SimpleHTTPRequestHandler):
     """The page at /, and the files of web/ at /web/."""
 
     top = site = None
+    # What was asked for.
+    asked = []
+
+    def send_head(self):
+        self.asked.append(self.path)
+        return super().send_head()
+
+    def do_POST(self):
+        self.asked.append(self.path)
+        self.send_error(405)
 
     def translate_path(self, path):
         path = path.split("?")[0].split("#")[0]
@@ -53,36 +71,79 @@ def pages(browser, host, words):
     address = f"{host}/index.html"
     browser.go(f"file://{words.site}/index.html")
     silent(browser, "a file")
-    print(f"  from a file: {browser.run('return document.getElementById(`status`).textContent')}")
+    print(f"  from a file: {browser.run(STATUS)}")
     browser.go(address)
-    print(f"  {tests.ways_to_write(browser)} ways to write bytes, and texts that are none")
-    print(f"  {tests.choices(browser, address)} choices that quic-show lacks, and the strip of an ACK")
-    tests.keyboard(browser, address)
-    tests.pointer(browser, address)
-    print(f"  keyboard and pointer; {tests.links(browser, address)} links")
-    for size, bound in ((65536, 1000), (1 << 20, 10000)):
-        took, what = tests.sizes(browser, address, size, bound)
-        print(f"  {size} bytes: at most {took:.0f} ms ({what})")
-    print(f"  {tests.layout(browser, host, words.layout_lines)} lines of the structs' layout; the call of CALLING.md")
-    tests.worked_call(browser, words.top)
+    says_its_commit(browser, words.top)
+    print(f"  {inputs.ways_to_write(browser)} ways to write bytes, and texts that are none")
+    print(f"  {inputs.several(browser, address)} texts of several inputs")
+    print(f"  {inputs.choices(browser, address)} choices that quic-show lacks, and the strip of an ACK")
+    use.keyboard(browser, address)
+    use.all_by_keyboard(browser, address)
+    use.pointer(browser, address)
+    print(f"  keyboard and pointer; {inputs.links(browser, address)} links")
+    print(f"  {structs.layout(browser, host, words.layout_lines)} lines of the structs' layout; the call of CALLING.md")
+    structs.worked_call(browser, words.top)
     silent(browser, "all of these")
 
 
-def looks(browser, host):
-    """Contrasts in both schemes, and names: Chromium alone tells these."""
+def says_its_commit(browser, top):
+    """The page says of which commit it is, as far as the repository has one."""
+    done = subprocess.run(["git", "-C", top, "rev-parse", "HEAD"], capture_output=True, text=True, check=False)
+    said = browser.run("return document.getElementById('built').textContent")
+    if done.returncode == 0 and done.stdout.strip() not in said:
+        raise Failed(f"the page says of itself: {said}")
+
+
+def features(browser, host):
+    """What the page does beyond reading one input."""
+    address = f"{host}/index.html"
+    print(f"  {tools.opened(browser, address)} packets of RFC 9001 are opened")
+    print(f"  {tools.compared(browser, address)} pairs of inputs are compared")
+    tools.picture(browser, address)
+    print(f"  a picture is saved; {tools.sections(browser, address)} lines have links to their sections")
+    silent(browser, "these features")
+    print(f"  {tools.sends_nothing(browser, address, host, Server.asked)} ways to send are refused")
+    browser.errors()
+
+
+def times(browser, host):
+    """How long large inputs take, in Chromium also on a machine that is six times slower."""
+    address = f"{host}/index.html"
+    for size, bound in ((65536, 1000), (1 << 20, 10000)):
+        took, what = sizes.shown(browser, address, size, bound)
+        listed = sizes.listed(browser, address, size, bound)
+        print(f"  {size} bytes: at most {took:.0f} ms ({what}), a log in {listed:.0f} ms", flush=True)
+    if isinstance(browser, Chromium):
+        browser.slow(6)
+        took, what = sizes.shown(browser, address, 65536, 2000)
+        listed = sizes.listed(browser, address, 65536, 2000)
+        browser.slow(1)
+        print(f"  six times slower, 65536 bytes: at most {took:.0f} ms ({what}), a log in {listed:.0f} ms", flush=True)
+
+
+def appearances(browser, host):
+    """Contrasts in both schemes, zoom, what the system prefers; widths and a screen reader's tree in Chromium."""
+    address = f"{host}/index.html"
     for scheme in ("light", "dark"):
-        browser.shape(1280, 1000, scheme)
-        print(f"  {scheme}: a contrast of {tests.contrast(browser, host + '/index.html'):.1f} or more")
-    tests.widths(browser, f"{host}/index.html")
-    browser.unshape()
-    browser.go(f"{host}/index.html#read=frames&hex=0205190002")
-    tests.names(browser)
-    print("  each control has a name; nothing is wider than a window of 320 pixels")
+        browser.media(**{"prefers-color-scheme": scheme})
+        least, count = looks.contrast(browser, address)
+        print(f"  {scheme}: a contrast of {least:.1f} or more in {count} states", flush=True)
+    looks.zoom(browser, address)
+    looks.forced_colors(browser, address)
+    looks.motion(browser, address)
+    print("  zoom, forced colours, reduced motion")
+    if isinstance(browser, Chromium):
+        looks.widths(browser, address)
+        browser.unshape()
+        looks.names(browser, address)
+        print("  each control has a name; nothing is wider than a window of 320 pixels")
+    silent(browser, "these looks")
 
 
 def take_pictures(browser, host, folder):
     for name, width, height, scheme, example, target in PICTURES:
-        browser.shape(width, height, scheme)
+        browser.shape(width, height)
+        browser.media(**{"prefers-color-scheme": scheme})
         browser.go(f"{host}/index.html")
         if example:
             browser.run("document.querySelectorAll('#examples button')[arguments[0]].click()", example)
@@ -96,7 +157,7 @@ def take_pictures(browser, host, folder):
 def all_lists(browser, host, program, groups):
     browser.go(f"{host}/index.html")
     for what, tried in groups:
-        count = tests.all_agree(browser, program, tried)
+        count = agree.all_agree(browser, program, tried)
         print(f"  {what}: {count} lines are shown as quic-show prints them", flush=True)
     silent(browser, "the lists")
 
@@ -106,11 +167,12 @@ def try_browser(kind, words, host, groups):
     try:
         print(f"{browser.name} {browser.version}", flush=True)
         pages(browser, host, words)
+        features(browser, host)
+        appearances(browser, host)
+        times(browser, host)
         all_lists(browser, host, words.quic_show, groups)
-        if kind is Chromium:
-            looks(browser, host)
-            if words.pictures:
-                take_pictures(browser, host, words.pictures)
+        if kind is Chromium and words.pictures:
+            take_pictures(browser, host, words.pictures)
     finally:
         browser.close()
 

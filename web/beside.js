@@ -1,0 +1,80 @@
+// What stands beside the bytes: their shortest form, or another input. What differs is marked in both grids.
+
+import { Comparison } from "./compare.js";
+import { Grid } from "./grid.js";
+import { inspect } from "./inspector.js";
+import { spotIn } from "./views.js";
+
+export class Beside {
+  // |views| has what it stands beside.
+  constructor(gridBox, views, inspector) {
+    this.views = views;
+    this.inspector = inspector;
+    this.reading = null;
+    // Whether what is lit was chosen here.
+    this.isOwn = false;
+    this.grid = new Grid(gridBox, {
+      hover: (place) => this.point(place, false), select: (place) => this.point(place, true),
+      enter: () => this.views.grid.box.focus(),
+    });
+  }
+
+  // Shows a reading. |isPaired| says that its items are those of the other one, by their index.
+  show(reading, columns, isPaired) {
+    this.reading = reading;
+    this.isPaired = isPaired;
+    this.comparison = new Comparison(this.views.reading, reading, isPaired);
+    this.grid.show(reading, columns, this.comparison.rightDiffers);
+    this.views.grid.compare(this.comparison.leftDiffers);
+  }
+
+  clear() {
+    this.reading = null;
+    this.views.grid.compare(null);
+  }
+
+  // Lights what stands beside a spot of the views.
+  light(spot) {
+    if (!this.reading || this.isOwn) {
+      return;
+    }
+    const item = spot === null ? -1 : this.isPaired ? spot.item : this.comparison.itemBeside(spot.item);
+    if (item < 0 || item >= this.reading.count) {
+      this.grid.light(null);
+      return;
+    }
+    const [begin, end] = spot.field < 0 ? [0, 0] : this.comparison.rangeBeside(spot.begin, spot.end);
+    this.grid.light({ item, begin, end, place: -1, isActive: false });
+  }
+
+  // Lights, and with |isActive| chooses, a byte here and what it stands beside.
+  point(place, isActive) {
+    const item = this.reading ? this.reading.indexAt(place) : -1;
+    if (item < 0) {
+      this.views.hover(null);
+      return;
+    }
+    const field = this.reading.fieldAt(this.reading.item(item), place);
+    const spot = { ...spotIn(this.reading, item, field, place), isActive };
+    const beside = this.spotBeside(place, item);
+    this.isOwn = true;
+    if (isActive) {
+      this.grid.spot = spot;
+      this.grid.reveal(place);
+      this.views.select(beside);
+    } else {
+      this.views.hover(beside);
+    }
+    this.isOwn = false;
+    this.grid.light(spot);
+    inspect(this.inspector, this.reading, spot);
+  }
+
+  spotBeside(place, item) {
+    const at = this.comparison.placeBeside(place);
+    if (at >= 0) {
+      return this.views.spotAt(at);
+    }
+    return this.isPaired ? this.views.spotOf(item, -1) : null;
+  }
+}

@@ -1,0 +1,154 @@
+// What differs between the bytes of two readings: as few bytes as can be, where these are not too many. Else equal
+// items are looked for first, so that a change in one of them doesn't reach the others, and bytes between these.
+
+// More changes than that in one run are not looked for: all of its bytes count as changed then.
+const MOST_CHANGES = 400;
+const MIDDLE = MOST_CHANGES + 1;
+
+// The diagonal from which the way of so many changes came to this one (Myers, "An O(ND) difference algorithm").
+// |reach| says how far a way comes on a diagonal with one change less.
+function cameFrom(reach, diagonal, changes) {
+  const isDown = diagonal === -changes
+    || (diagonal !== changes && reach(diagonal - 1) < reach(diagonal + 1));
+  return isDown ? diagonal + 1 : diagonal - 1;
+}
+
+// The pairs of equal places on the shortest way from |left| entries to |right| entries, or null where it has more
+// changes than are looked for. |isSame| compares two places.
+function samePlaces(left, right, isSame) {
+  const far = new Int32Array(2 * MIDDLE + 1).fill(-1);
+  const reach = (diagonal) => far[MIDDLE + diagonal];
+  const before = [];
+  far[MIDDLE + 1] = 0;
+  const most = Math.min(MOST_CHANGES, left + right);
+  for (let changes = 0; changes <= most; changes += 1) {
+    before.push(far.slice(MIDDLE - changes - 1, MIDDLE + changes + 2));
+    for (let diagonal = -changes; diagonal <= changes; diagonal += 2) {
+      const from = cameFrom(reach, diagonal, changes);
+      let x = from > diagonal ? reach(from) : reach(from) + 1;
+      while (x < left && x - diagonal < right && isSame(x, x - diagonal)) {
+        x += 1;
+      }
+      far[MIDDLE + diagonal] = x;
+      if (x >= left && x - diagonal >= right) {
+        return wayBack(before, left, right);
+      }
+    }
+  }
+  return null;
+}
+
+// The pairs on the way that led to the end: |before| has how far ways came with each number of changes.
+function wayBack(before, left, right) {
+  const pairs = [];
+  let x = left;
+  let y = right;
+  for (let changes = before.length - 1; changes >= 0; changes -= 1) {
+    const reach = (diagonal) => before[changes][diagonal + changes + 1];
+    const from = cameFrom(reach, x - y, changes);
+    const [startX, startY] = [reach(from), reach(from) - from];
+    while (x > startX && y > startY && x > 0) {
+      x -= 1;
+      y -= 1;
+      pairs.push([x, y]);
+    }
+    [x, y] = [startX, startY];
+  }
+  return pairs.reverse();
+}
+
+export class Comparison {
+  // Where |isPaired|, each item is compared with the one of the same index, as in a shortest form.
+  constructor(left, right, isPaired) {
+    this.left = left;
+    this.right = right;
+    // Of each byte whether it differs, and where the left ones stand on the right.
+    this.leftDiffers = new Uint8Array(left.bytes.length).fill(1);
+    this.rightDiffers = new Uint8Array(right.bytes.length).fill(1);
+    this.places = new Int32Array(left.bytes.length).fill(-1);
+    if (isPaired && left.count === right.count) {
+      for (let item = 0; item < left.count; item += 1) {
+        this.compareBytes(left.begin(item), left.end(item), right.begin(item), right.end(item));
+      }
+    } else if (!this.compareBytes(0, left.bytes.length, 0, right.bytes.length)) {
+      this.compareItems();
+    }
+    this.count = this.leftDiffers.reduce((sum, one) => sum + one, 0);
+    this.rightCount = this.rightDiffers.reduce((sum, one) => sum + one, 0);
+  }
+
+  // Items that are the same on both sides, and in the gaps between them bytes.
+  compareItems() {
+    const { left, right } = this;
+    const pairs = samePlaces(left.count, right.count, (a, b) => this.isSameItem(a, b)) ?? [];
+    let [fromLeft, fromRight] = [0, 0];
+    for (const [a, b] of pairs) {
+      this.compareBytes(fromLeft, left.begin(a), fromRight, right.begin(b));
+      this.match(left.begin(a), right.begin(b), left.end(a) - left.begin(a));
+      [fromLeft, fromRight] = [left.end(a), right.end(b)];
+    }
+    this.compareBytes(fromLeft, left.bytes.length, fromRight, right.bytes.length);
+  }
+
+  isSameItem(a, b) {
+    const { left, right } = this;
+    const length = left.end(a) - left.begin(a);
+    if (right.end(b) - right.begin(b) !== length) {
+      return false;
+    }
+    for (let place = 0; place < length; place += 1) {
+      if (left.bytes[left.begin(a) + place] !== right.bytes[right.begin(b) + place]) {
+        return false;
+      }
+    }
+    return true;
+  }
+
+  // So many bytes are the same from here on.
+  match(left, right, length) {
+    for (let place = 0; place < length; place += 1) {
+      this.leftDiffers[left + place] = 0;
+      this.rightDiffers[right + place] = 0;
+      this.places[left + place] = right + place;
+    }
+  }
+
+  // Compares bytes, and returns false where there are too many changes.
+  compareBytes(left, leftEnd, right, rightEnd) {
+    const isSame = (a, b) => this.left.bytes[left + a] === this.right.bytes[right + b];
+    let [lefts, rights] = [leftEnd - left, rightEnd - right];
+    let end = 0;
+    while (end < lefts && end < rights && isSame(lefts - 1 - end, rights - 1 - end)) {
+      end += 1;
+    }
+    this.match(leftEnd - end, rightEnd - end, end);
+    [lefts, rights] = [lefts - end, rights - end];
+    const pairs = lefts > 0 && rights > 0 ? samePlaces(lefts, rights, isSame) : [];
+    for (const [a, b] of pairs ?? []) {
+      this.match(left + a, right + b, 1);
+    }
+    return pairs !== null;
+  }
+
+  // The item on the right that has a byte of the left one, or -1.
+  itemBeside(item) {
+    for (let place = this.left.begin(item); place < this.left.end(item); place += 1) {
+      if (this.places[place] >= 0) {
+        return this.right.indexAt(this.places[place]);
+      }
+    }
+    return -1;
+  }
+
+  // Where bytes of the left stand on the right, as far as the first and the last of them do.
+  rangeBeside(begin, end) {
+    const first = this.places[begin] ?? -1;
+    const last = this.places[end - 1] ?? -1;
+    return first < 0 || last < 0 ? [0, 0] : [first, last + 1];
+  }
+
+  // The byte on the left that stands at |place| on the right, or -1.
+  placeBeside(place) {
+    return this.rightDiffers[place] ? -1 : this.places.indexOf(place);
+  }
+}

@@ -1,0 +1,97 @@
+// The inputs that a text holds, where it holds several: a list of which one is chosen, by the pointer or by keys.
+
+import { toHex } from "./bytes.js";
+import { element, Rows } from "./rows.js";
+
+const SHOWN_DIGITS = 64;
+
+export class EntryList {
+  // |on| has summary(entry), which says what an input is and whether it has an error, and select(index).
+  constructor(box, on) {
+    this.box = box;
+    this.on = on;
+    this.entries = [];
+    this.at = 0;
+    this.summaries = new Map();
+    this.rows = new Rows(box, (index) => this.line(index));
+    box.addEventListener("click", (event) => this.click(event));
+    box.addEventListener("keydown", (event) => this.key(event));
+  }
+
+  show(entries, at) {
+    this.entries = entries;
+    this.at = at;
+    this.summaries.clear();
+    this.rows.setCount(entries.length);
+    this.rows.reveal(at);
+    this.mark();
+  }
+
+  line(index) {
+    const { bytes, fault, line } = this.entries[index];
+    if (!this.summaries.has(index)) {
+      this.summaries.set(index, fault ? { text: fault, isBad: true } : this.on.summary(bytes));
+    }
+    const { text, isBad } = this.summaries.get(index);
+    const option = element("div", "line entry");
+    option.id = `${this.box.id}-${index}`;
+    option.dataset.index = index;
+    option.setAttribute("role", "option");
+    option.setAttribute("aria-setsize", this.entries.length);
+    option.setAttribute("aria-posinset", index + 1);
+    option.classList.toggle("bad", isBad);
+    option.append(
+      element("span", "number", `${index + 1}`), element("span", "digits", digitsOf(bytes)),
+      element("span", "value", text), element("span", "place", `line ${line}`),
+    );
+    this.markLine(option, index);
+    return option;
+  }
+
+  markLine(option, index) {
+    option.classList.toggle("chosen", index === this.at);
+    option.setAttribute("aria-selected", index === this.at);
+  }
+
+  mark() {
+    for (const option of this.box.querySelectorAll(".entry")) {
+      this.markLine(option, Number(option.dataset.index));
+    }
+    this.box.setAttribute("aria-activedescendant", `${this.box.id}-${this.at}`);
+  }
+
+  choose(index) {
+    const to = Math.max(0, Math.min(this.entries.length - 1, index));
+    if (to !== this.at) {
+      this.at = to;
+      this.rows.reveal(to);
+      this.mark();
+      this.on.select(to);
+    }
+  }
+
+  click(event) {
+    const option = event.target.closest?.(".entry");
+    if (option) {
+      this.choose(Number(option.dataset.index));
+    }
+  }
+
+  key(event) {
+    const { at } = this;
+    const steps = {
+      ArrowDown: at + 1, ArrowUp: at - 1, Home: 0, End: this.entries.length - 1, PageDown: at + this.rows.page,
+      PageUp: at - this.rows.page,
+    };
+    if (event.key in steps && !event.altKey && !event.metaKey) {
+      event.preventDefault();
+      this.choose(steps[event.key]);
+    }
+  }
+}
+
+// The first bytes of an input.
+function digitsOf(bytes) {
+  const digits = bytes ? toHex(bytes.subarray(0, SHOWN_DIGITS / 2)) : "";
+  return bytes && bytes.length > SHOWN_DIGITS / 2 ? `${digits}…` : digits;
+}

@@ -1,0 +1,192 @@
+// Packets of a datagram that are opened by what the caller pastes: the mask of the head, and the plain payload. The
+// page has no keys and no ciphers.
+
+import { readText, toHex } from "./bytes.js";
+import { packetName, RETRY, typeName, VERSION_NEGOTIATION } from "./names.js";
+import { readBytes } from "./reading.js";
+import { element } from "./rows.js";
+import { spotIn, Views } from "./views.js";
+import { count } from "./walk.js";
+
+const MASK_LENGTH = 5;
+const SAMPLE_LENGTH = 16;
+const TAG = 16;
+// So many packets of a datagram can be opened, and so many frames of each are listed under it.
+const MOST_PACKETS = 16;
+const LISTED_FRAMES = 60;
+
+// The bytes of a text of this length, or of any, and what is wrong with it.
+function bytesIn(text, length) {
+  const { bytes, fault } = readText(text);
+  if (bytes === null || text.trim() === "") {
+    return { bytes: null, fault };
+  }
+  const isWrong = length !== undefined && bytes.length !== length;
+  return { bytes: isWrong ? null : bytes, fault: isWrong ? `${bytes.length} of ${length} bytes` : null };
+}
+
+function input(tag, name, label, value) {
+  const box = element("label", "", `${label} `);
+  const field = element(tag);
+  field.dataset.name = name;
+  field.value = value;
+  field.spellcheck = false;
+  field.autocapitalize = "off";
+  box.append(field);
+  return { box, field };
+}
+
+export class Opened {
+  // |on| has lit(reading, spot), for what is lit in the payload, and changed(), for packets that say more now.
+  constructor(library, boxes, on) {
+    this.library = library;
+    this.boxes = boxes;
+    this.on = on;
+    this.payload = null;
+    this.views = new Views(boxes.grid, boxes.outline, (spot) => {
+      if (this.payload) {
+        on.lit(this.payload, spot);
+      }
+    });
+  }
+
+  // |saved| has of some packets, by their index, the texts of the mask and of the payload.
+  show(reading, columns, saved) {
+    this.reading = reading;
+    this.columns = columns;
+    this.saved = saved;
+    this.notes = [];
+    this.viewed = -1;
+    const packets = [];
+    for (let index = 0; reading && index < reading.whole && packets.length < MOST_PACKETS; index += 1) {
+      const packet = reading.packet(index);
+      if (packet.kind !== RETRY && packet.kind !== VERSION_NEGOTIATION) {
+        packets.push(packet);
+      }
+    }
+    this.boxes.details.hidden = packets.length === 0;
+    this.boxes.packets.replaceChildren(...packets.map((packet) => this.form(packet, reading.indexAt(packet.begin))));
+    this.boxes.details.open ||= packets.length > 0 && Object.keys(saved).length > 0;
+    for (const index of Object.keys(saved).map(Number).filter((one) => this.notes[one])) {
+      this.open(index);
+    }
+    this.view(this.viewed);
+  }
+
+  // What is asked of one packet.
+  form(packet, index) {
+    const { mask, plain } = this.saved[index] ?? { mask: "", plain: "" };
+    const form = element("fieldset", "packet");
+    const fields = [input("input", "mask", "Mask, 5 bytes", mask), input("textarea", "plain", "Plain payload", plain)];
+    fields[1].field.rows = 2;
+    const note = element("p", "packet-note");
+    note.id = `packet-note-${index}`;
+    for (const { field } of fields) {
+      field.setAttribute("aria-describedby", note.id);
+    }
+    form.append(element("legend", "", `${packetName(packet.kind)}, ${packet.begin}..${packet.end}`),
+      ...fields.map(({ box }) => box), note);
+    this.notes[index] = { note, packet, fields: fields.map(({ field }) => field) };
+    this.say(index, []);
+    form.addEventListener("input", () => {
+      this.saved[index] = { mask: fields[0].field.value, plain: fields[1].field.value };
+      this.open(index);
+      this.view(this.viewed);
+      this.on.changed();
+    });
+    return form;
+  }
+
+  // Says of which bytes the mask is made, and what is wrong.
+  say(index, faults) {
+    const { note, packet } = this.notes[index];
+    const begin = packet.number + 4;
+    const sample = this.reading.bytes.subarray(begin, Math.min(begin + SAMPLE_LENGTH, packet.end));
+    const isShort = sample.length < SAMPLE_LENGTH;
+    note.replaceChildren(...faults.map((fault) => element("strong", "fault", `${fault}. `)), isShort
+      ? "The packet is too short for a sample." : "The mask is what the cipher of the head makes of the sample ",
+    ...(isShort ? [] : [element("code", "", toHex(sample)), `, bytes ${begin} to ${begin + SAMPLE_LENGTH - 1}.`]));
+  }
+
+  // Reads what was pasted for a packet.
+  open(index) {
+    const { packet, fields } = this.notes[index];
+    const mask = bytesIn(fields[0].value, MASK_LENGTH);
+    const plain = bytesIn(fields[1].value);
+    const head = mask.bytes && this.reading.library.unprotect(packet, mask.bytes);
+    const faults = [];
+    fields[0].setAttribute("aria-invalid", Boolean(mask.fault));
+    fields[1].setAttribute("aria-invalid", Boolean(plain.fault));
+    if (mask.fault) {
+      faults.push(`Mask: ${mask.fault}`);
+    }
+    if (plain.fault) {
+      faults.push(`Payload: ${plain.fault}`);
+    }
+    if (head && plain.bytes) {
+      const room = packet.end - packet.number - head.numberLength - TAG;
+      const isOff = plain.bytes.length !== room;
+      faults.push(...(isOff ? [`The payload of this packet has ${count(Math.max(0, room), "byte")}, and here are ${
+        plain.bytes.length}`] : []));
+    }
+    this.reading.open(index, head ? mask.bytes : null, head && plain.bytes ? this.framesOf(plain.bytes) : []);
+    this.viewed = plain.bytes ? index : -1;
+    this.say(index, faults);
+  }
+
+  // The frames of a payload as lines under its packet.
+  framesOf(bytes) {
+    const payload = this.readPayload(bytes);
+    const shown = Math.min(payload.count, LISTED_FRAMES);
+    const lines = Array.from({ length: shown }, (_, inner) => {
+      const { name, summary, begin, end } = payload.item(inner);
+      return { name, value: summary, inner, place: `${begin}..${end}` };
+    });
+    if (shown < payload.count) {
+      lines.push({ name: `${payload.count - shown} more`, value: "", inner: shown, place: "" });
+    }
+    return lines;
+  }
+
+  readPayload(bytes) {
+    return readBytes(this.library, bytes, { mode: "frames", strict: false });
+  }
+
+  // Shows the payload of a packet, or none.
+  view(index) {
+    const bytes = index < 0 ? null : bytesIn(this.notes[index].fields[1].value).bytes;
+    this.viewed = bytes ? index : -1;
+    this.boxes.views.hidden = bytes === null;
+    if (bytes === null) {
+      this.payload = null;
+      return;
+    }
+    const { packet } = this.notes[index];
+    this.payload = this.readPayload(bytes);
+    const { error, bad } = this.payload;
+    const what = `${count(bad, "frame")} in ${count(bytes.length, "byte")}`;
+    const type = (error?.type ?? null) === null ? "" : ` in ${typeName(error.type)}`;
+    const wrong = error ? `, error at byte ${error.place}: ${error.reason}${type}` : "";
+    this.boxes.title.textContent = `Payload of ${packetName(packet.kind)}, ${packet.begin}..${packet.end}`;
+    this.boxes.note.textContent = `${what}${wrong}.`;
+    this.views.show(this.payload, this.columns);
+  }
+
+  // Follows a spot of the datagram: the payload of its packet where that is chosen, and the frame that stands under it.
+  follow(spot, line) {
+    if (spot.isActive && this.viewed !== spot.item && this.notes[spot.item]?.fields[1].value) {
+      this.view(spot.item);
+    }
+    if (this.viewed !== spot.item || line?.inner === undefined || line.inner >= this.payload.count) {
+      return;
+    }
+    const frame = spotIn(this.payload, line.inner, -1);
+    if (spot.isActive) {
+      this.views.outline.reveal(line.inner, -1);
+      this.views.grid.reveal(frame.place);
+    }
+    this.views.grid.light(frame);
+    this.views.outline.light(frame);
+    this.on.lit(this.payload, frame);
+  }
+}

@@ -1,0 +1,37 @@
+// The panel with what quic-show prints of the same bytes.
+
+import { versionsText } from "./link.js";
+import { VERSIONS } from "./names.js";
+import { element } from "./rows.js";
+import { canonicalLine, command, textOf } from "./text.js";
+
+const PRINTED_LINES = 5000;
+
+function printBlock(box, chosen, words, text, isCut) {
+  const title = element("p", "printed-title");
+  title.append(element("code", "", `quic-show ${words}`));
+  const isOwn = chosen.mode === "datagram"
+    && (chosen.grease || versionsText(chosen.versions) !== versionsText(VERSIONS));
+  if (isOwn) {
+    title.append(" with the versions and the fixed bit as chosen here, for which it has no words");
+  }
+  const block = element("pre", "", text);
+  block.dataset.command = words;
+  block.tabIndex = 0;
+  block.setAttribute("role", "group");
+  block.setAttribute("aria-label", `what quic-show ${words} prints`);
+  box.append(title, block);
+  if (isCut) {
+    box.append(element("p", "printed-title", `The first ${PRINTED_LINES} lines.`));
+  }
+}
+
+// Prints a reading into a box, by the choices that it was read with.
+export function printInto(box, reading, chosen) {
+  box.replaceChildren();
+  const { lines, isCut } = textOf(reading, PRINTED_LINES);
+  printBlock(box, chosen, command(chosen), lines.join("\n"), isCut);
+  if (reading.unit === "frame") {
+    printBlock(box, chosen, "canon", canonicalLine(reading.canonical()), false);
+  }
+}

@@ -1,0 +1,57 @@
+// The line that says how reading ended.
+
+import { typeName } from "./names.js";
+import { element } from "./rows.js";
+import { count } from "./walk.js";
+
+function errorText({ place, reason, type, version, code, section }) {
+  const what = (type ?? null) === null ? "" : ` in ${typeName(type)}`;
+  const which = (version ?? null) === null ? "" : ` ${version.toString(16)}`;
+  const text = [element("strong", "", `Error at byte ${place}: ${reason}${which}${what}.`)];
+  text.push(code ? ` ${code}, ${section}. ` : ` ${section[0].toUpperCase()}${section.slice(1)}. `);
+  return text;
+}
+
+// What a reading is, in a few words, and whether there is an error.
+export function summaryOf(reading) {
+  const { error, bad, whole, unit } = reading;
+  const items = count(Math.min(bad, whole), unit);
+  if (!error) {
+    return { text: `${items} in ${count(reading.bytes.length, "byte")}`, isBad: false };
+  }
+  const what = (error.type ?? null) === null ? "" : ` in ${typeName(error.type)}`;
+  return { text: `error at byte ${error.place}: ${error.reason}${what}`, isBad: true };
+}
+
+// Which of several inputs is shown, if there are several.
+function whichText({ entries, left }, at) {
+  const without = left > 0 ? ` ${count(left, "line")} without bytes ${left === 1 ? "is" : "are"} left out.` : "";
+  return entries.length > 1 ? ` Input ${at + 1} of ${entries.length}.${without}` : without;
+}
+
+// |reading| is null where the chosen input is no bytes; |go| goes to a place.
+export function showStatus(box, reading, found, at, go) {
+  const { fault, form } = found.entries[at];
+  box.className = `status ${fault || reading.error ? "bad" : "good"}`;
+  const which = whichText(found, at);
+  if (fault) {
+    box.replaceChildren(element("strong", "", "No bytes"), `: ${fault}.${which}`);
+    return;
+  }
+  const bytes = count(reading.bytes.length, "byte");
+  const from = reading.bytes.length > 0 ? `, read as ${form}` : "";
+  const items = count(Math.min(reading.bad, reading.whole), reading.unit);
+  if (!reading.error) {
+    box.replaceChildren(`${items} in ${bytes}${from}.${which}`);
+    return;
+  }
+  const before = ` ${items} before it, in ${bytes}${from}.${which} `;
+  const parts = [...errorText(reading.error), before];
+  if (reading.bytes.length > 0) {
+    const button = element("button", "plain", "Show it");
+    button.type = "button";
+    button.addEventListener("click", () => go(reading.error.place));
+    parts.push(button);
+  }
+  box.replaceChildren(...parts);
+}

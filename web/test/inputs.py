@@ -1,0 +1,189 @@
+"""What can be pasted, what is chosen of it, and links."""
+from browser import DOWN, END, HOME, UP, Failed
+from common import BYTES, SET_INPUT, STATUS, same, set_form, turn
+
+WRITTEN = [
+    "40000a000161", "40 00 0a 00 01 61", "40:00:0a:00:01:61", "0x40, 0x00, 0x0a, 0x00, 0x01, 0x61", "40000A00\n0161",
+    "\\x40\\x00\\x0a\\x00\\x01\\x61", "0x40000a000161", "QAAKAAFh", "QAAK\nAAFh",
+    "00000000: 4000 0a00 0161                           @....a", "0000   40 00 0a 00 01 61   @....a",
+    "00000000  40 00 0a 00 01 61                                 |@....a|\n00000006",
+    "\t0x0000:  4000 0a00 0161                           @....a", "{ 0x40, 0x00, 0x0a,\n  0x00, 0x01, 0x61 };",
+    "00000010: 4000 0a00  @...\n00000014: 0161       .a", "0000000 40 00 0a 00 01 61\n0000006",
+    "0000000 40 00 0a 00 01 61  >@....a<\n0000006", "12:00:01 received 6 bytes: 40 00 0a 00 01 61",
+    '{"time":12,"name":"packet_received","raw":{"length":6,"data":"40000a000161"}}',
+]
+FAULTY = {
+    "4": "an odd number of digits: 1", "4000 0a0": "an odd number of digits: 7",
+    "40 0g": "neither hexadecimal nor base64: “g” is character 5",
+    "Łą": "neither hexadecimal nor base64: “Ł” is character 1",
+}
+
+
+def ways_to_write(browser):
+    set_form(browser, {"mode": "frames", "strict": False}, "")
+    for text in WRITTEN:
+        browser.run(SET_INPUT, text)
+        same(browser.run(BYTES), "40000a000161", f"the bytes of {text!r}")
+    for text, fault in FAULTY.items():
+        browser.run(SET_INPUT, text)
+        same(browser.run(STATUS), f"No bytes: {fault}.", repr(text))
+        same(browser.run("return document.getElementById('input').getAttribute('aria-invalid')"), "true", repr(text))
+    return len(WRITTEN) + len(FAULTY)
+
+
+# ---- several inputs in one text
+
+# A text, the inputs in it with the lines where they begin, and how many lines have none.
+SEVERAL = [
+    ("01\n4001\n02406419020301", [("01", 1), ("4001", 2), ("02406419020301", 3)], 0),
+    ("0101\n\n4000\n0161\n\n1e", [("0101", 1), ("40000161", 3), ("1e", 6)], 0),
+    ("00000000: 4000 0a00  @...\n00000004: 0161       .a\n\n00000000: 1e01       ..",
+     [("40000a000161", 1), ("1e01", 4)], 0),
+    ("00000000  40 00 0a                                          |@..|\n00000003\n"
+     "00000000  01 1e                                             |..|\n00000002", [("40000a", 1), ("011e", 3)], 0),
+    ("0000000 40 00 0a\n0000003\n0000000 01 1e\n0000002", [("40000a", 1), ("011e", 3)], 0),
+    ("10:00 sent 0x40000a00\nand nothing\n10:01 received \"01010101\"", [("40000a00", 1), ("01010101", 3)], 1),
+]
+# A dump of 50 bytes as od -A d and hexdump -C leave out rows like the one before.
+SAME_ROWS = "00000000  00 00 00 00 00 00 00 00  00 00 00 00 00 00 00 00  |................|\n*\n" \
+    "00000030  01 01                                             |..|\n00000032"
+ENTRIES = """return [...document.querySelectorAll("#list .entry")].map((entry) => [
+    entry.querySelector(".digits").textContent, entry.querySelector(".value").textContent,
+    entry.querySelector(".place").textContent]);"""
+CHOSEN = """const list = document.getElementById("list");
+    const at = document.getElementById(list.getAttribute("aria-activedescendant"));
+    return [Number(at.getAttribute("aria-posinset")), at.getAttribute("aria-selected"),
+      document.querySelectorAll("#list [aria-selected=true]").length];"""
+
+
+def several(browser, address):
+    """A text of several inputs is a list, from which one is chosen by keys and by the pointer."""
+    browser.go(f"{address}#read=frames&hex=01")
+    for text, inputs, left in SEVERAL:
+        browser.run(SET_INPUT, text)
+        found = [(digits, line) for digits, _, line in browser.run(ENTRIES)]
+        same(found, [(digits, f"line {line}") for digits, line in inputs], f"the inputs of {text!r}")
+        for at, (digits, _) in enumerate(inputs):
+            browser.run("document.querySelectorAll('#list .entry')[arguments[0]].click()", at)
+            same(browser.run(BYTES), digits, f"input {at + 1} of {text!r}")
+            said = f"Input {at + 1} of {len(inputs)}." + (" 1 line without bytes is left out." if left else "")
+            if not browser.run(STATUS).replace(" Show it", "").strip().endswith(said):
+                raise Failed(f"{text!r}: {browser.run(STATUS)!r} and not {said!r}")
+    browser.run(SET_INPUT, SAME_ROWS)
+    same(browser.run(BYTES), "00" * 48 + "0101", "a dump with rows like the one before")
+    by_keys(browser)
+    taken_both_ways(browser)
+    return len(SEVERAL) + 1
+
+
+def by_keys(browser):
+    browser.run(SET_INPUT, "\n".join(["01", "40", "1e0101"] + ["0101"] * 40 + ["01"]))
+    browser.run("document.getElementById('list').focus()")
+    same(browser.run(ENTRIES)[:3], [["01", "1 frame in 1 byte", "line 1"],
+                                    ["40", "error at byte 0: unexpected end", "line 2"],
+                                    ["1e0101", "3 frames in 3 bytes", "line 3"]], "what the list says")
+    for keys, at, digits in (([DOWN], 2, "40"), ([DOWN], 3, "1e0101"), ([END], 44, "01"), ([DOWN], 44, "01"),
+                             ([UP], 43, "0101"), ([HOME], 1, "01")):
+        browser.keys(*keys)
+        same(browser.run(CHOSEN), [at, "true", 1], "what is chosen in the list")
+        same(browser.run(BYTES), digits, f"input {at}")
+
+
+def taken_both_ways(browser):
+    """Lines that may belong together: the page guesses, and takes the other way where it is told to."""
+    for text, digits, is_one in (("40000A00\n0161", "40000a000161", True), ("01\n4001", "01", False)):
+        browser.run(SET_INPUT, text)
+        shown = "const box = document.getElementById('form').elements.joined; " \
+            "return [!box.parentElement.hidden, box.checked, document.getElementById('entries').hidden]"
+        same(browser.run(shown), [True, is_one, is_one], f"the lines of {text!r}")
+        same(browser.run(BYTES), digits, f"the bytes of {text!r}")
+        turn(browser, "joined", not is_one)
+        same(browser.run(shown), [True, not is_one, not is_one], f"the lines of {text!r} the other way")
+    same(browser.run(BYTES), "014001", "lines that belong together")
+    browser.run(SET_INPUT, "40000a000161")
+    same(browser.run(shown), [False, True, True], "one line")
+
+
+# ---- choices for which quic-show has no words, and the strip of an ACK
+
+CHOICES = [
+    ({"mode": "datagram", "versions": "1", "grease": False}, "c31a2a3a4a0000", "unsupported version 1a2a3a4a"),
+    ({"mode": "datagram", "versions": "0x1A2A3A4A, 1", "grease": False}, "c31a2a3a4a00000000", "1 packet in 9 bytes"),
+    ({"mode": "datagram", "idLength": 1, "grease": False}, "000102", "fixed bit unset"),
+    ({"mode": "datagram", "idLength": 1, "grease": True}, "000102", "1 packet in 3 bytes"),
+    ({"mode": "datagram", "idLength": 4, "grease": True}, "000102", "packet too small"),
+]
+STRIP = "return document.querySelector('#outline svg').getAttribute('aria-label')"
+
+
+def choices(browser, address):
+    """Versions, the fixed bit and lengths of ids count; the strip says what it draws."""
+    browser.go(f"{address}#read=datagram")
+    for form, text, said in CHOICES:
+        set_form(browser, form, text)
+        status = browser.run(STATUS)
+        if said not in status:
+            raise Failed(f"{form} {text}: {status!r}")
+    set_form(browser, {"mode": "frames"}, "02406419020301" "0a0502")
+    same(browser.run(STRIP), "18 of 26 packets, in 3 ranges", "the strip")
+    return len(CHOICES)
+
+
+# ---- links
+
+STATES = [
+    ({"mode": "frames", "strict": True}, "40000a000161"), ({"mode": "frames", "strict": False}, ""),
+    ({"mode": "datagram", "idLength": 4, "grease": True, "versions": "1 6b3343cf"}, "4001020304ffff"),
+    ({"mode": "datagram", "idLength": 20, "grease": False, "versions": "1a2a3a4a"}, "c31a2a3a4a0000"),
+    ({"mode": "params", "side": "server"}, "01 04 80 00 75 30"), ({"mode": "frames"}, "no bytes & more #?"),
+    ({"mode": "frames"}, "01\n4001\n1e0101"), ({"mode": "frames"}, "10:00 sent 0x40000a00\n10:01 sent 0x01010101"),
+    ({"mode": "frames"}, "40000a00\n0161"), ({"mode": "datagram", "compare": True, "idLength": 0}, "4001020304"),
+]
+SHOWN = """const { elements } = document.getElementById("form"); document.getElementById("text").open = true;
+    return [elements.mode.value, elements.mode.value !== "frames" || elements.strict.checked, elements.idLength.value,
+      elements.versions.value, elements.mode.value !== "datagram" || elements.grease.checked, elements.side.value,
+      elements.compare.checked, document.querySelectorAll("#list .entry").length,
+      document.getElementById("status").textContent.replace(/, read as.*/, "")];"""
+
+
+def links(browser, address):
+    """A link that the page writes shows the same in a page that opens it, and in one that is open."""
+    for form, text in STATES:
+        browser.go(f"{address}#read=frames&hex=01")
+        set_form(browser, form, text)
+        before = browser.run(SHOWN)
+        begun = "#read=frames&hex=01"
+        link = browser.until("return location.hash !== arguments[0] && location.href", "the link", begun)
+        browser.send("navigate", {"url": "about:blank"})
+        browser.go(link)
+        same(browser.run(SHOWN), before, f"the link {link}")
+        browser.run("window.location.hash = '#read=frames&hex=02'")
+        browser.until("return document.getElementById('status').textContent.startsWith('Error')", "another link")
+        browser.run("window.location.hash = arguments[0]", link.split("#")[1])
+        browser.until("return JSON.stringify((() => {" + SHOWN + "})()) === arguments[0]", f"the link {link}",
+                      browser.run("return JSON.stringify(arguments[0])", before))
+    further_links(browser, address)
+    copied_link(browser, address)
+    return len(STATES) + 1
+
+
+def further_links(browser, address):
+    """A link holds which input is shown, and the one beside it."""
+    browser.go(f"{address}#read=frames&hex=01.4001.1e0101&at=2&with=1e01")
+    same(browser.run(BYTES), "1e0101", "the input of a link")
+    same(browser.run("return document.getElementById('other-input').value"), "1e01", "the other input of a link")
+    browser.run("document.querySelectorAll('#list .entry')[1].click()")
+    browser.until("return location.hash === '#read=frames&hex=01.4001.1e0101&at=1&with=1e01'", "the link of a list")
+
+
+def copied_link(browser, address):
+    """The button writes the link at once, and says where bytes are too many for it."""
+    for size, said in ((65536, "Copied"), (65537, "Copied, without the bytes: they are too many")):
+        browser.go(f"{address}#read=frames&hex=01")
+        browser.run(SET_INPUT, "01" * size)
+        browser.run("document.getElementById('link').click()")
+        same(len(browser.run("return location.hash")) > 2 * 65536, size == 65536, f"a link of {size} bytes")
+        text = browser.until("const { textContent } = document.getElementById('link');"
+                             "return textContent !== 'Copy link' && textContent", "what the button says")
+        if text not in (said, "It is the page’s address"):
+            raise Failed(f"the button says {text!r}")

@@ -200,7 +200,8 @@ ngtcp2_ssize ngtcp2_pkt_decode_frame(NG_BESIDE(ngtcp2_frame_decoder *room)
         NG_BESIDE((ngtcp2_frame_decoder *)(ROOM)) (ngtcp2_frame *)dest,        \
         payload, payloadlen);                                                  \
   }
-#define READER(NAME) READER_OF(NAME, ngtcp2_##NAME, NULL)
+#define READER(NAME)                                                           \
+  READER_OF(NAME, ngtcp2_##NAME, &(ngtcp2_frame_decoder){{{0}}})
 READER_OF(stream, ngtcp2_stream, dest->data)
 READER_OF(ack, ngtcp2_ack, dest->ranges)
 READER(padding)

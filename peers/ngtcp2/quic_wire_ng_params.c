@@ -26,6 +26,15 @@ static void address_of(ngtcp2_preferred_addr *dest, const quic_wire_params *w) {
   memcpy(dest->stateless_reset_token, w->preferred_token, 16);
 }
 
+static uint64_t timeout_of(uint64_t milliseconds) {
+#if QUIC_WIRE_NG_1_24 /* what is too long doesn't begin anew */
+  if (milliseconds > UINT64_MAX / NGTCP2_MILLISECONDS) {
+    milliseconds = UINT64_MAX;
+  }
+#endif
+  return milliseconds * NGTCP2_MILLISECONDS;
+}
+
 static void params_of(ngtcp2_transport_params *dest,
                       const quic_wire_params *w) {
   dest->initial_max_stream_data_bidi_local =
@@ -36,7 +45,7 @@ static void params_of(ngtcp2_transport_params *dest,
   dest->initial_max_data = w->initial_max_data;
   dest->initial_max_streams_bidi = w->initial_max_streams_bidi;
   dest->initial_max_streams_uni = w->initial_max_streams_uni;
-  dest->max_idle_timeout = w->max_idle_timeout * NGTCP2_MILLISECONDS;
+  dest->max_idle_timeout = timeout_of(w->max_idle_timeout);
   dest->max_udp_payload_size = w->max_udp_payload_size;
   dest->active_connection_id_limit = w->active_connection_id_limit;
   dest->ack_delay_exponent = w->ack_delay_exponent;

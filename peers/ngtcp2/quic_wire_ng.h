@@ -1,15 +1,13 @@
 /*
- * What ngtcp2 0.12.1 calls of quic_wire that its own headers don't declare.
+ * What ngtcp2 calls of quic_wire that its own headers don't declare.
  */
 #ifndef QUIC_WIRE_NG_H
 #define QUIC_WIRE_NG_H
 
 #include <string.h>
 
-#include <ngtcp2/ngtcp2.h>
-
-#include "ngtcp2_pkt.h"
 #include "quic_wire.h"
+#include "quic_wire_ng_releases.h"
 
 /* The number that is expected next after the greatest that came, or -1: behind
  * the last number there is none, and late ones still come. */

@@ -5,7 +5,6 @@
 #include <string.h>
 
 #include "ngtcp2_cid.h"
-#include "ngtcp2_conv.h"
 #include "quic_wire_ng.h"
 
 /* ---- Read */
@@ -30,6 +29,29 @@ static void data_of(ngtcp2_vec *data, size_t *cnt, const quic_wire_frame *f,
   *cnt = f->datalen != 0;
   data->len = f->datalen;
   data->base = f->datalen ? (uint8_t *)payload + f->data : NULL;
+}
+
+static void crypto_of(NG_BESIDE(ngtcp2_frame_decoder *room)
+                          quic_wire_ng_crypto *dest,
+                      const quic_wire_frame *f, const uint8_t *payload) {
+#if QUIC_WIRE_NG_1 /* a STREAM without its own fields */
+  dest->flags = 0;
+  dest->fin = 0;
+  dest->stream_id = 0;
+#endif
+  dest->offset = f->crypto.offset;
+  data_of(NG_PLACE(dest->data, &room->buf.data), &dest->datacnt, f, payload);
+}
+
+static void datagram_of(NG_BESIDE(ngtcp2_frame_decoder *room)
+                            ngtcp2_datagram *dest,
+                        const quic_wire_frame *f, const uint8_t *payload) {
+#if QUIC_WIRE_NG_1_24
+  data_of(dest->data = &room->buf.data, &dest->datacnt, f, payload);
+#else
+  data_of(dest->rdata, &dest->datacnt, f, payload);
+  dest->data = f->datalen ? dest->rdata : NULL;
+#endif
 }
 
 /* What |f|, a frame without data that was read of |payload|, is to ngtcp2. */
@@ -78,7 +100,7 @@ static int numbers_of(ngtcp2_frame *dest, const quic_wire_frame *f,
     return 0;
   case QUIC_WIRE_PATH_CHALLENGE:
   case QUIC_WIRE_PATH_RESPONSE:
-    memcpy(dest->path_challenge.data, payload + f->end - 8, 8);
+    memcpy(&dest->path_challenge.data, payload + f->end - 8, 8);
     return 0;
   default: /* none: IMMEDIATE_ACK and ACK_FREQUENCY are unknown types here */
     return NGTCP2_ERR_FRAME_ENCODING;
@@ -94,19 +116,21 @@ static int numbers_of(ngtcp2_frame *dest, const quic_wire_frame *f,
 #endif
 
 /* What |f|, read of |payload|, is to ngtcp2. */
-OUT_OF_LINE static int frame_of(ngtcp2_frame *dest, const quic_wire_frame *f,
+OUT_OF_LINE static int frame_of(NG_BESIDE(ngtcp2_frame_decoder *room)
+                                    ngtcp2_frame *dest,
+                                const quic_wire_frame *f,
                                 const uint8_t *payload) {
-  dest->type = (uint8_t)f->type;
+  dest->ping.type = (uint8_t)f->type; /* where all kinds have it */
   switch (f->kind) {
   case QUIC_WIRE_ACK:
+    (void)NG_PLACE(dest->ack.ranges, room->buf.ack_ranges);
     return ack_of(&dest->ack, f);
   case QUIC_WIRE_CRYPTO:
-    dest->crypto.offset = f->crypto.offset;
-    data_of(dest->crypto.data, &dest->crypto.datacnt, f, payload);
+    crypto_of(NG_BESIDE(room) (quic_wire_ng_crypto *)dest, f, payload);
     return 0;
   case QUIC_WIRE_NEW_TOKEN:
-    dest->new_token.token.len = f->datalen;
-    dest->new_token.token.base = (uint8_t *)payload + f->data;
+    NG_TOKENLEN(&dest->new_token) = f->datalen;
+    NG_TOKEN(&dest->new_token) = (uint8_t *)payload + f->data;
     return 0;
   case QUIC_WIRE_NEW_CONNECTION_ID:
     dest->new_connection_id.seq = f->new_connection_id.sequence;
@@ -114,7 +138,7 @@ OUT_OF_LINE static int frame_of(ngtcp2_frame *dest, const quic_wire_frame *f,
         f->new_connection_id.retire_prior_to;
     ngtcp2_cid_init(&dest->new_connection_id.cid, payload + f->data,
                     f->datalen);
-    memcpy(dest->new_connection_id.stateless_reset_token,
+    memcpy(NG_RESET_TOKEN(&dest->new_connection_id),
            payload + f->data + f->datalen, NGTCP2_STATELESS_RESET_TOKENLEN);
     return 0;
   case QUIC_WIRE_CONNECTION_CLOSE:
@@ -126,16 +150,22 @@ OUT_OF_LINE static int frame_of(ngtcp2_frame *dest, const quic_wire_frame *f,
         f->datalen ? (uint8_t *)payload + f->data : NULL;
     return 0;
   case QUIC_WIRE_DATAGRAM:
-    data_of(dest->datagram.rdata, &dest->datagram.datacnt, f, payload);
-    dest->datagram.data = f->datalen ? dest->datagram.rdata : NULL;
+    datagram_of(NG_BESIDE(room) &dest->datagram, f, payload);
     return 0;
   default:
     return numbers_of(dest, f, payload);
   }
 }
 
-ngtcp2_ssize ngtcp2_pkt_decode_frame(ngtcp2_frame *dest, const uint8_t *payload,
+ngtcp2_ssize ngtcp2_pkt_decode_frame(NG_BESIDE(ngtcp2_frame_decoder *room)
+                                         ngtcp2_frame *dest,
+                                     const uint8_t *payload,
                                      size_t payloadlen) {
+#if QUIC_WIRE_NG_1_24
+  ngtcp2_ack_range *ranges = room->buf.ack_ranges;
+#else
+  ngtcp2_ack_range *ranges = dest->ack.ranges;
+#endif
   quic_wire_frame f;
   int rv;
 
@@ -143,7 +173,7 @@ ngtcp2_ssize ngtcp2_pkt_decode_frame(ngtcp2_frame *dest, const uint8_t *payload,
    * ranges of an ACK are gap and length, which are written where they go. */
   if (quic_wire_frame_read(payload, payloadlen,
                            QUIC_WIRE_READ_STRICT | QUIC_WIRE_READ_BASIC, &f,
-                           (quic_wire_gap *)dest->ack.ranges,
+                           (quic_wire_gap *)ranges,
                            NGTCP2_MAX_ACK_RANGES) < 0) {
     return NGTCP2_ERR_FRAME_ENCODING;
   }
@@ -153,21 +183,27 @@ ngtcp2_ssize ngtcp2_pkt_decode_frame(ngtcp2_frame *dest, const uint8_t *payload,
     dest->stream.fin = (uint8_t)f.flags;
     dest->stream.stream_id = (int64_t)f.stream.stream_id;
     dest->stream.offset = f.stream.offset;
-    data_of(dest->stream.data, &dest->stream.datacnt, &f, payload);
+    data_of(NG_PLACE(dest->stream.data, &room->buf.data), &dest->stream.datacnt,
+            &f, payload);
     return (ngtcp2_ssize)f.end;
   }
-  rv = frame_of(dest, &f, payload);
+  rv = frame_of(NG_BESIDE(room) dest, &f, payload);
   return rv ? rv : (ngtcp2_ssize)f.end;
 }
 
-/* The readers of one kind each, which ngtcp2's tests call. */
-#define READER(NAME)                                                           \
+/* The readers of one kind each, which ngtcp2's tests call.  A decoder is a union
+ * of what may stand beside a frame, so the place of either is one. */
+#define READER_OF(NAME, TYPE, ROOM)                                            \
   ngtcp2_ssize ngtcp2_pkt_decode_##NAME##_frame(                               \
-      ngtcp2_##NAME *dest, const uint8_t *payload, size_t payloadlen) {        \
-    return ngtcp2_pkt_decode_frame((ngtcp2_frame *)dest, payload, payloadlen); \
+      TYPE *dest, const uint8_t *payload, size_t payloadlen) {                 \
+    return ngtcp2_pkt_decode_frame(                                            \
+        NG_BESIDE((ngtcp2_frame_decoder *)(ROOM)) (ngtcp2_frame *)dest,        \
+        payload, payloadlen);                                                  \
   }
-READER(stream)
-READER(ack)
+#define READER(NAME)                                                           \
+  READER_OF(NAME, ngtcp2_##NAME, &(ngtcp2_frame_decoder){{{0}}})
+READER_OF(stream, ngtcp2_stream, dest->data)
+READER_OF(ack, ngtcp2_ack, dest->ranges)
 READER(padding)
 READER(reset_stream)
 READER(connection_close)
@@ -182,11 +218,11 @@ READER(new_connection_id)
 READER(stop_sending)
 READER(path_challenge)
 READER(path_response)
-READER(crypto)
+READER_OF(crypto, quic_wire_ng_crypto, dest->data)
 READER(new_token)
 READER(retire_connection_id)
 READER(handshake_done)
-READER(datagram)
+READER_OF(datagram, ngtcp2_datagram, dest->data)
 
 /* ---- Written */
 
@@ -227,33 +263,33 @@ WRITER(stop_sending, QUIC_WIRE_STOP_SENDING, (uint64_t)fr->stream_id,
 WRITER(max_data, QUIC_WIRE_MAX_DATA, 0, fr->max_data, 0)
 WRITER(max_stream_data, QUIC_WIRE_MAX_STREAM_DATA, (uint64_t)fr->stream_id,
        fr->max_stream_data, 0)
-WRITER(max_streams, fr->type, 0, fr->max_streams, 0)
+WRITER(max_streams, (uint16_t)fr->type, 0, fr->max_streams, 0)
 WRITER(data_blocked, QUIC_WIRE_DATA_BLOCKED, 0, fr->offset, 0)
 WRITER(stream_data_blocked, QUIC_WIRE_STREAM_DATA_BLOCKED,
        (uint64_t)fr->stream_id, fr->offset, 0)
-WRITER(streams_blocked, fr->type, 0, fr->max_streams, 0)
+WRITER(streams_blocked, (uint16_t)fr->type, 0, fr->max_streams, 0)
 WRITER(retire_connection_id, QUIC_WIRE_RETIRE_CONNECTION_ID, fr->seq, 0, 0)
 
-static uint64_t path_number(const uint8_t *data) {
+static uint64_t path_number(const void *data) {
   uint64_t number;
-  ngtcp2_get_uint64(&number, data);
+  ngtcp2_get_uint64be(&number, data);
   return number;
 }
-WRITER(path_challenge, QUIC_WIRE_PATH_CHALLENGE, path_number(fr->data), 0, 0)
-WRITER(path_response, QUIC_WIRE_PATH_RESPONSE, path_number(fr->data), 0, 0)
+WRITER(path_challenge, QUIC_WIRE_PATH_CHALLENGE, path_number(&fr->data), 0, 0)
+WRITER(path_response, QUIC_WIRE_PATH_RESPONSE, path_number(&fr->data), 0, 0)
 
 ngtcp2_ssize
 ngtcp2_pkt_encode_connection_close_frame(uint8_t *out, size_t outlen,
                                          const ngtcp2_connection_close *fr) {
-  return put(out, outlen, fr->type, fr->error_code,
+  return put(out, outlen, (uint16_t)fr->type, fr->error_code,
              fr->type == NGTCP2_FRAME_CONNECTION_CLOSE ? fr->frame_type : 0, 0,
              fr->reason, fr->reasonlen, 0);
 }
 
 ngtcp2_ssize ngtcp2_pkt_encode_new_token_frame(uint8_t *out, size_t outlen,
                                                const ngtcp2_new_token *fr) {
-  return put(out, outlen, QUIC_WIRE_NEW_TOKEN, 0, 0, 0, fr->token.base,
-             fr->token.len, 0);
+  return put(out, outlen, QUIC_WIRE_NEW_TOKEN, 0, 0, 0, NG_TOKEN(fr),
+             NG_TOKENLEN(fr), 0);
 }
 
 ngtcp2_ssize
@@ -263,15 +299,14 @@ ngtcp2_pkt_encode_new_connection_id_frame(uint8_t *out, size_t outlen,
   size_t len = fr->cid.datalen;
 
   memcpy(data, fr->cid.data, len);
-  memcpy(data + len, fr->stateless_reset_token,
-         NGTCP2_STATELESS_RESET_TOKENLEN);
+  memcpy(data + len, NG_RESET_TOKEN(fr), NGTCP2_STATELESS_RESET_TOKENLEN);
   return put(out, outlen, QUIC_WIRE_NEW_CONNECTION_ID, fr->seq,
              fr->retire_prior_to, 0, data, len,
              NGTCP2_STATELESS_RESET_TOKENLEN);
 }
 
 ngtcp2_ssize ngtcp2_pkt_encode_ack_frame(uint8_t *out, size_t outlen,
-                                         ngtcp2_ack *fr) {
+                                         quic_wire_ng_ack_written *fr) {
   const quic_wire_frame f = {
       .kind = QUIC_WIRE_ACK,
       .flags = fr->type == NGTCP2_FRAME_ACK_ECN ? QUIC_WIRE_FLAG_ECN : 0,

@@ -7,16 +7,21 @@
 #include "ngtcp2_cid.h"
 #include "quic_wire_ng.h"
 
-/* Those of version 1's form that ngtcp2 takes: version 1 and the drafts. */
+/* What ngtcp2 takes: versions 1 and 2 by now; by 0.12.1 version 1 and its
+ * drafts, which have its form, and a draft of version 2. */
+#if QUIC_WIRE_NG_1
+static const uint32_t versions[] = {NGTCP2_PROTO_VER_V1, NGTCP2_PROTO_VER_V2};
+#else
 static const uint32_t versions[] = {NGTCP2_PROTO_VER_V1, 0xff00001du,
                                     0xff00001eu, 0xff00001fu, 0xff000020u};
+#endif
 
 /* ---- Read */
 
+#if !QUIC_WIRE_NG_1
 /*
- * A draft of version 2, which ngtcp2 has, is no version to the library: of its
- * heads it tells the ids.  Reads what follows them; 0, or -1 where they end
- * within it.
+ * A draft of version 2 is no version to the library: of its heads it tells the
+ * ids.  Reads what follows them; 0, or -1 where they end within it.
  */
 static int read_draft(quic_wire_head *h, const uint8_t *pkt, size_t pktlen) {
   static const uint8_t kinds[] = {QUIC_WIRE_RETRY, QUIC_WIRE_INITIAL,
@@ -47,6 +52,7 @@ static int read_draft(quic_wire_head *h, const uint8_t *pkt, size_t pktlen) {
   h->head_end = (uint32_t)at;
   return 0;
 }
+#endif
 
 ngtcp2_ssize ngtcp2_pkt_decode_hd_long(ngtcp2_pkt_hd *dest, const uint8_t *pkt,
                                        size_t pktlen) {
@@ -54,12 +60,15 @@ ngtcp2_ssize ngtcp2_pkt_decode_hd_long(ngtcp2_pkt_hd *dest, const uint8_t *pkt,
       NGTCP2_PKT_INITIAL, NGTCP2_PKT_0RTT, NGTCP2_PKT_HANDSHAKE,
       NGTCP2_PKT_RETRY,   NGTCP2_PKT_1RTT, NGTCP2_PKT_VERSION_NEGOTIATION};
   quic_wire_head h;
-  int answer = quic_wire_head_read(pkt, pktlen, 0, versions, 5, &h);
+  int answer = quic_wire_head_read(
+      pkt, pktlen, 0, versions, sizeof(versions) / sizeof(versions[0]), &h);
 
+#if !QUIC_WIRE_NG_1
   if (answer == QUIC_WIRE_PACKET_UNSUPPORTED_VERSION &&
       h.version == NGTCP2_PROTO_VER_V2_DRAFT) {
     answer = read_draft(&h, pkt, pktlen);
   }
+#endif
   /* ngtcp2 looks itself at whether a packet is cut off. */
   if ((answer != 0 && answer != QUIC_WIRE_PACKET_LENGTH_BEYOND_END) ||
       h.kind == QUIC_WIRE_1RTT) {
@@ -78,8 +87,8 @@ ngtcp2_ssize ngtcp2_pkt_decode_hd_long(ngtcp2_pkt_hd *dest, const uint8_t *pkt,
   dest->version = h.version;
   dest->pkt_num = 0;
   dest->pkt_numlen = 0;
-  dest->token.base = h.tokenlen ? (uint8_t *)pkt + h.token : NULL;
-  dest->token.len = h.tokenlen;
+  NG_TOKEN(dest) = h.tokenlen ? (uint8_t *)pkt + h.token : NULL;
+  NG_TOKENLEN(dest) = h.tokenlen;
   dest->len = (size_t)h.len;
   return (ngtcp2_ssize)h.head_end;
 }
@@ -100,8 +109,8 @@ ngtcp2_ssize ngtcp2_pkt_decode_hd_short(ngtcp2_pkt_hd *dest, const uint8_t *pkt,
   dest->len = 0;
   dest->pkt_num = 0;
   dest->pkt_numlen = 0;
-  dest->token.base = NULL;
-  dest->token.len = 0;
+  NG_TOKEN(dest) = NULL;
+  NG_TOKENLEN(dest) = 0;
   return (ngtcp2_ssize)end;
 }
 
@@ -184,16 +193,18 @@ ngtcp2_ssize ngtcp2_pkt_encode_hd_long(uint8_t *out, size_t outlen,
   quic_wire_said said = said_of(hd, kind_of(hd->type));
   int64_t n = quic_wire_head_write(&said, hd->dcid.data, hd->dcid.datalen,
                                    hd->scid.data, hd->scid.datalen,
-                                   hd->token.base, hd->token.len, out, outlen);
+                                   NG_TOKEN(hd), NG_TOKENLEN(hd), out, outlen);
   if (n < 0) {
     return n == QUIC_WIRE_ERR_NOBUF ? NGTCP2_ERR_NOBUF
                                     : NGTCP2_ERR_INVALID_ARGUMENT;
   }
+#if !QUIC_WIRE_NG_1
   if (hd->version == NGTCP2_PROTO_VER_V2_DRAFT) {
     /* Of version 2's form, which the library gives to version 2 alone. */
     out[0] = (uint8_t)((out[0] & ~NGTCP2_LONG_TYPE_MASK) |
                        ngtcp2_pkt_versioned_type(hd->version, hd->type) << 4);
   }
+#endif
   if (hd->len) { /* known already; else ngtcp2_ppe_final sets it */
     quic_wire_varint_write(hd->len, NGTCP2_PKT_LENGTHLEN,
                            out + n - hd->pkt_numlen - NGTCP2_PKT_LENGTHLEN,
@@ -218,9 +229,11 @@ ngtcp2_ssize ngtcp2_pkt_write_version_negotiation(
     uint8_t *dest, size_t destlen, uint8_t unused_random, const uint8_t *dcid,
     size_t dcidlen, const uint8_t *scid, size_t scidlen, const uint32_t *sv,
     size_t nsv) {
+  uint8_t fixed = QUIC_WIRE_NG_1 ? QUIC_WIRE_FIXED_BIT : 0;
   size_t n;
-  int answer = quic_wire_negotiation_write(unused_random, dcid, dcidlen, scid,
-                                           scidlen, sv, nsv, dest, destlen, &n);
+  int answer = quic_wire_negotiation_write(unused_random | fixed, dcid, dcidlen,
+                                           scid, scidlen, sv, nsv, dest,
+                                           destlen, &n);
   if (answer != 0) {
     return answer == QUIC_WIRE_ERR_NOBUF ? NGTCP2_ERR_NOBUF
                                          : NGTCP2_ERR_INVALID_ARGUMENT;
@@ -230,8 +243,10 @@ ngtcp2_ssize ngtcp2_pkt_write_version_negotiation(
 
 /* ---- Packet numbers */
 
+/* |n| is the length of what is written: bits, by now bytes. */
 int64_t ngtcp2_pkt_adjust_pkt_num(int64_t max_pkt_num, int64_t pkt_num,
                                   size_t n) {
-  return (int64_t)quic_wire_number_expand((uint64_t)pkt_num, (uint32_t)(n / 8),
+  uint32_t len = (uint32_t)(QUIC_WIRE_NG_1 ? n : n / 8);
+  return (int64_t)quic_wire_number_expand((uint64_t)pkt_num, len,
                                           quic_wire_ng_expected(max_pkt_num));
 }

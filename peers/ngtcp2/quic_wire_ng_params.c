@@ -4,8 +4,6 @@
 #include <string.h>
 
 #include "ngtcp2_cid.h"
-#include "ngtcp2_conv.h"
-#include "ngtcp2_crypto.h"
 #include "ngtcp2_net.h"
 #include "quic_wire_ng.h"
 
@@ -28,6 +26,15 @@ static void address_of(ngtcp2_preferred_addr *dest, const quic_wire_params *w) {
   memcpy(dest->stateless_reset_token, w->preferred_token, 16);
 }
 
+static uint64_t timeout_of(uint64_t milliseconds) {
+#if QUIC_WIRE_NG_1_24 /* what is too long doesn't begin anew */
+  if (milliseconds > UINT64_MAX / NGTCP2_MILLISECONDS) {
+    milliseconds = UINT64_MAX;
+  }
+#endif
+  return milliseconds * NGTCP2_MILLISECONDS;
+}
+
 static void params_of(ngtcp2_transport_params *dest,
                       const quic_wire_params *w) {
   dest->initial_max_stream_data_bidi_local =
@@ -38,7 +45,7 @@ static void params_of(ngtcp2_transport_params *dest,
   dest->initial_max_data = w->initial_max_data;
   dest->initial_max_streams_bidi = w->initial_max_streams_bidi;
   dest->initial_max_streams_uni = w->initial_max_streams_uni;
-  dest->max_idle_timeout = w->max_idle_timeout * NGTCP2_MILLISECONDS;
+  dest->max_idle_timeout = timeout_of(w->max_idle_timeout);
   dest->max_udp_payload_size = w->max_udp_payload_size;
   dest->active_connection_id_limit = w->active_connection_id_limit;
   dest->ack_delay_exponent = w->ack_delay_exponent;
@@ -54,10 +61,14 @@ static void params_of(ngtcp2_transport_params *dest,
                   w->initial_src_cidlen);
   ngtcp2_cid_init(&dest->original_dcid, w->original_dst_cid,
                   w->original_dst_cidlen);
-  dest->preferred_address_present = HAS(PREFERRED_ADDRESS);
+  dest->preferred_addr_present = HAS(PREFERRED_ADDRESS);
   if (HAS(PREFERRED_ADDRESS)) {
-    address_of(&dest->preferred_address, w);
+    address_of(&dest->preferred_addr, w);
   }
+#if QUIC_WIRE_NG_1
+  dest->initial_scid_present = HAS(INITIAL_SRC_CID);
+  dest->original_dcid_present = HAS(ORIGINAL_DST_CID);
+#endif
 }
 
 /* version_information (RFC 9368), of which quic_wire_params has nothing. */
@@ -70,41 +81,34 @@ static int versions_of(ngtcp2_transport_params *dest, const uint8_t *value,
     return NGTCP2_ERR_MALFORMED_TRANSPORT_PARAM;
   }
   for (i = 0; i < len; i += 4) {
-    ngtcp2_get_uint32(&version, value + i);
+    ngtcp2_get_uint32be(&version, value + i);
     if (version == 0) {
       return NGTCP2_ERR_MALFORMED_TRANSPORT_PARAM;
     }
   }
-  ngtcp2_get_uint32(&dest->version_info.chosen_version, value);
+  ngtcp2_get_uint32be(&dest->version_info.chosen_version, value);
   if (len > 4) {
-    dest->version_info.other_versions = (uint8_t *)value + 4;
-    dest->version_info.other_versionslen = len - 4;
+    dest->version_info.available_versions = (uint8_t *)value + 4;
+    dest->version_info.available_versionslen = len - 4;
   }
   dest->version_info_present = 1;
   return 0;
 }
 
-int ngtcp2_decode_transport_params_versioned(
-    int transport_params_version, ngtcp2_transport_params *params,
-    ngtcp2_transport_params_type exttype, const uint8_t *data, size_t datalen) {
-  quic_wire_params w;
-  int client = exttype == NGTCP2_TRANSPORT_PARAMS_TYPE_ENCRYPTED_EXTENSIONS;
+/* What |side| reads; |w| says what is there. */
+static int read_params(ngtcp2_transport_params *params, quic_wire_params *w,
+                       uint32_t side, const uint8_t *data, size_t datalen) {
   quic_wire_param entry;
   size_t at = 0;
   int rv;
-  (void)transport_params_version;
 
-  if (datalen == 0) {
-    return NGTCP2_ERR_REQUIRED_TRANSPORT_PARAM;
-  }
   memset(params, 0, sizeof(*params));
-  if (quic_wire_params_read(client ? QUIC_WIRE_CLIENT : QUIC_WIRE_SERVER, data,
-                            datalen, &w) != 0) {
+  if (quic_wire_params_read(side, data, datalen, w) != 0) {
     return NGTCP2_ERR_MALFORMED_TRANSPORT_PARAM;
   }
-  params_of(params, &w);
+  params_of(params, w);
   while (quic_wire_param_read(data + at, datalen - at, &entry) == 0) {
-    if (entry.id == NGTCP2_TRANSPORT_PARAM_VERSION_INFORMATION_DRAFT) {
+    if (entry.id == NGTCP2_TRANSPORT_PARAM_VERSION_INFORMATION) {
       rv = versions_of(params, data + at + entry.value, entry.valuelen);
       if (rv != 0) {
         return rv;
@@ -112,12 +116,45 @@ int ngtcp2_decode_transport_params_versioned(
     }
     at += entry.value + entry.valuelen;
   }
+  return 0;
+}
+
+#if QUIC_WIRE_NG_1
+/* Whose parameters they are isn't told, and what a client may not send is looked
+ * at by who asks: so they are read as a server's, which may have all. */
+int ngtcp2_transport_params_decode_versioned(int transport_params_version,
+                                             ngtcp2_transport_params *dest,
+                                             const uint8_t *data,
+                                             size_t datalen) {
+  quic_wire_params w;
+  (void)transport_params_version; /* there is one */
+
+  return read_params(dest, &w, QUIC_WIRE_CLIENT, data, datalen);
+}
+#else
+int ngtcp2_decode_transport_params_versioned(
+    int transport_params_version, ngtcp2_transport_params *params,
+    ngtcp2_transport_params_type exttype, const uint8_t *data, size_t datalen) {
+  quic_wire_params w;
+  int client = exttype == NGTCP2_TRANSPORT_PARAMS_TYPE_ENCRYPTED_EXTENSIONS;
+  int rv;
+  (void)transport_params_version;
+
+  if (datalen == 0) {
+    return NGTCP2_ERR_REQUIRED_TRANSPORT_PARAM;
+  }
+  rv = read_params(params, &w, client ? QUIC_WIRE_CLIENT : QUIC_WIRE_SERVER,
+                   data, datalen);
+  if (rv != 0) {
+    return rv;
+  }
   if (!(w.present & QUIC_WIRE_HAS_INITIAL_SRC_CID) ||
       (client && !(w.present & QUIC_WIRE_HAS_ORIGINAL_DST_CID))) {
     return NGTCP2_ERR_REQUIRED_TRANSPORT_PARAM;
   }
   return 0;
 }
+#endif
 
 /* ---- Written */
 
@@ -144,8 +181,10 @@ static void address_to(quic_wire_params *w, const ngtcp2_preferred_addr *a) {
 
 /* What a server alone sends. */
 static void server_to(quic_wire_params *w, const ngtcp2_transport_params *p) {
-  w->present |= QUIC_WIRE_HAS_ORIGINAL_DST_CID;
-  cid_to(&w->original_dst_cidlen, w->original_dst_cid, &p->original_dcid);
+  if (NG_HAS_CID(p, original_dcid)) {
+    w->present |= QUIC_WIRE_HAS_ORIGINAL_DST_CID;
+    cid_to(&w->original_dst_cidlen, w->original_dst_cid, &p->original_dcid);
+  }
   if (p->stateless_reset_token_present) {
     w->present |= QUIC_WIRE_HAS_STATELESS_RESET_TOKEN;
     memcpy(w->stateless_reset_token, p->stateless_reset_token, 16);
@@ -154,15 +193,17 @@ static void server_to(quic_wire_params *w, const ngtcp2_transport_params *p) {
     w->present |= QUIC_WIRE_HAS_RETRY_SRC_CID;
     cid_to(&w->retry_src_cidlen, w->retry_src_cid, &p->retry_scid);
   }
-  if (p->preferred_address_present) {
-    address_to(w, &p->preferred_address);
+  if (p->preferred_addr_present) {
+    address_to(w, &p->preferred_addr);
   }
 }
 
 static void params_to(quic_wire_params *w, const ngtcp2_transport_params *p) {
   memset(w, 0, sizeof(*w));
-  w->present = QUIC_WIRE_HAS_INITIAL_SRC_CID;
-  cid_to(&w->initial_src_cidlen, w->initial_src_cid, &p->initial_scid);
+  if (NG_HAS_CID(p, initial_scid)) {
+    w->present |= QUIC_WIRE_HAS_INITIAL_SRC_CID;
+    cid_to(&w->initial_src_cidlen, w->initial_src_cid, &p->initial_scid);
+  }
   w->max_idle_timeout = p->max_idle_timeout / NGTCP2_MILLISECONDS;
   w->max_udp_payload_size = p->max_udp_payload_size;
   w->initial_max_data = p->initial_max_data;
@@ -192,40 +233,34 @@ static void params_to(quic_wire_params *w, const ngtcp2_transport_params *p) {
 /* Writes version_information up to its other versions, which lie elsewhere, or
  * nothing where there is none; how many bytes. */
 static size_t put_versions(uint8_t out[64], const ngtcp2_transport_params *p) {
-  size_t len = 4 + p->version_info.other_versionslen, at;
+  size_t len = 4 + p->version_info.available_versionslen, at;
 
   if (!p->version_info_present) {
     return 0;
   }
-  at = quic_wire_varint_write(NGTCP2_TRANSPORT_PARAM_VERSION_INFORMATION_DRAFT,
-                              0, out, 64);
+  at = quic_wire_varint_write(NGTCP2_TRANSPORT_PARAM_VERSION_INFORMATION, 0,
+                              out, 64);
   at += quic_wire_varint_write(len, 0, out + at, 64 - at);
   ngtcp2_put_uint32be(out + at, p->version_info.chosen_version);
   return at + 4;
 }
 
-ngtcp2_ssize ngtcp2_encode_transport_params_versioned(
-    uint8_t *dest, size_t destlen, ngtcp2_transport_params_type exttype,
-    int transport_params_version, const ngtcp2_transport_params *params) {
+/* Writes what |side| sends. */
+static ngtcp2_ssize write_params(uint8_t *dest, size_t destlen, uint32_t side,
+                                 const ngtcp2_transport_params *params) {
   quic_wire_params w;
   uint8_t front[64]; /* of version_information, but for the other versions */
   size_t frontlen = put_versions(front, params);
-  size_t otherlen = frontlen ? params->version_info.other_versionslen : 0;
+  size_t otherlen = frontlen ? params->version_info.available_versionslen : 0;
   size_t more = frontlen + otherlen, written = 0;
-  int server = exttype == NGTCP2_TRANSPORT_PARAMS_TYPE_ENCRYPTED_EXTENSIONS;
   int rv;
-  (void)transport_params_version;
 
-  if (!server && exttype != NGTCP2_TRANSPORT_PARAMS_TYPE_CLIENT_HELLO) {
-    return NGTCP2_ERR_INVALID_ARGUMENT;
-  }
   params_to(&w, params);
-  if (server) {
+  if (side == QUIC_WIRE_SERVER) {
     server_to(&w, params);
   }
-  rv = quic_wire_params_write(server ? QUIC_WIRE_SERVER : QUIC_WIRE_CLIENT, &w,
-                              dest, destlen < more ? 0 : destlen - more,
-                              &written);
+  rv = quic_wire_params_write(side, &w, dest,
+                              destlen < more ? 0 : destlen - more, &written);
   if (rv == QUIC_WIRE_ERR_INVALID_ARGUMENT) {
     return NGTCP2_ERR_INVALID_ARGUMENT;
   }
@@ -237,8 +272,34 @@ ngtcp2_ssize ngtcp2_encode_transport_params_versioned(
   }
   memcpy(dest + written, front, frontlen);
   if (otherlen) {
-    memcpy(dest + written + frontlen, params->version_info.other_versions,
+    memcpy(dest + written + frontlen, params->version_info.available_versions,
            otherlen);
   }
   return (ngtcp2_ssize)(written + more);
 }
+
+#if QUIC_WIRE_NG_1
+/* Whose they are isn't told: a server may send all. */
+ngtcp2_ssize ngtcp2_transport_params_encode_versioned(
+    uint8_t *dest, size_t destlen, int transport_params_version,
+    const ngtcp2_transport_params *params) {
+  (void)transport_params_version; /* there is one */
+
+  return write_params(dest, destlen, QUIC_WIRE_SERVER, params);
+}
+#else
+ngtcp2_ssize ngtcp2_encode_transport_params_versioned(
+    uint8_t *dest, size_t destlen, ngtcp2_transport_params_type exttype,
+    int transport_params_version, const ngtcp2_transport_params *params) {
+  (void)transport_params_version;
+
+  switch (exttype) {
+  case NGTCP2_TRANSPORT_PARAMS_TYPE_CLIENT_HELLO:
+    return write_params(dest, destlen, QUIC_WIRE_CLIENT, params);
+  case NGTCP2_TRANSPORT_PARAMS_TYPE_ENCRYPTED_EXTENSIONS:
+    return write_params(dest, destlen, QUIC_WIRE_SERVER, params);
+  default:
+    return NGTCP2_ERR_INVALID_ARGUMENT;
+  }
+}
+#endif

@@ -7,7 +7,7 @@
 #include <stdlib.h>
 #include <string.h>
 
-#include "ngtcp2_pkt.h"
+#include "quic_wire_ng_releases.h"
 
 static char line[1 << 20];
 static uint8_t bytes[1 << 19];
@@ -42,6 +42,11 @@ static void show_ack(const ngtcp2_ack *ack) {
   }
 }
 
+static void show_crypto(const quic_wire_ng_crypto *f) {
+  printf(" %lu", f->offset);
+  data(f->data, f->datacnt);
+}
+
 static void show_close(const ngtcp2_connection_close *close) {
   printf(" %lu %lu reason %zu", close->error_code, close->frame_type,
          close->reasonlen);
@@ -51,7 +56,7 @@ static void show_close(const ngtcp2_connection_close *close) {
 }
 
 static void show_frame(const ngtcp2_frame *f) {
-  switch (f->type) {
+  switch (f->ping.type) {
   case NGTCP2_FRAME_PADDING:
     printf(" %zu", f->padding.len);
     return;
@@ -65,11 +70,11 @@ static void show_frame(const ngtcp2_frame *f) {
     data(f->stream.data, f->stream.datacnt);
     return;
   case NGTCP2_FRAME_CRYPTO:
-    printf(" %lu", f->crypto.offset);
-    data(f->crypto.data, f->crypto.datacnt);
+    show_crypto((const quic_wire_ng_crypto *)f);
     return;
   case NGTCP2_FRAME_NEW_TOKEN:
-    data(&f->new_token.token, 1);
+    printf(" data %zu+%zu", (size_t)(NG_TOKEN(&f->new_token) - bytes),
+           (size_t)NG_TOKENLEN(&f->new_token));
     return;
   case NGTCP2_FRAME_RESET_STREAM:
     printf(" %ld %lu %lu", (long)f->reset_stream.stream_id,
@@ -97,11 +102,11 @@ static void show_frame(const ngtcp2_frame *f) {
     printf(" %lu %lu", f->new_connection_id.seq,
            f->new_connection_id.retire_prior_to);
     id("id", &f->new_connection_id.cid);
-    hex("token", f->new_connection_id.stateless_reset_token, 16);
+    hex("token", NG_RESET_TOKEN(&f->new_connection_id), 16);
     return;
   case NGTCP2_FRAME_PATH_CHALLENGE:
   case NGTCP2_FRAME_PATH_RESPONSE:
-    hex("data", f->path_challenge.data, 8);
+    hex("data", (const uint8_t *)&f->path_challenge.data, 8);
     return;
   case NGTCP2_FRAME_CONNECTION_CLOSE:
   case NGTCP2_FRAME_CONNECTION_CLOSE_APP:
@@ -116,6 +121,14 @@ static void show_frame(const ngtcp2_frame *f) {
   }
 }
 
+static int is_valid(const ngtcp2_ack *ack) {
+#if QUIC_WIRE_NG_1
+  return ngtcp2_pkt_validate_ack(ack, 0) == 0;
+#else
+  return ngtcp2_pkt_validate_ack((ngtcp2_ack *)ack) == 0;
+#endif
+}
+
 /* An ACK counts as read once it was seen to be valid: ngtcp2 looks at that when
  * it uses the frame. */
 static void show_frames(size_t len) {
@@ -124,18 +137,22 @@ static void show_frames(size_t len) {
     uint8_t room[sizeof(ngtcp2_frame) +
                  NGTCP2_MAX_ACK_RANGES * sizeof(ngtcp2_ack_range)];
   } u;
+#if QUIC_WIRE_NG_1_24
+  ngtcp2_frame_decoder beside;
+#endif
   ngtcp2_ssize n;
   size_t at = 0;
 
   while (at < len) {
     memset(&u, 0, sizeof(u));
-    n = ngtcp2_pkt_decode_frame(&u.frame, bytes + at, len - at);
-    if (n < 0 || ((u.frame.type & 0xfe) == NGTCP2_FRAME_ACK &&
-                  ngtcp2_pkt_validate_ack(&u.frame.ack) != 0)) {
+    n = ngtcp2_pkt_decode_frame(NG_BESIDE(&beside) &u.frame, bytes + at,
+                                len - at);
+    if (n < 0 || ((u.frame.ping.type & 0xfe) == NGTCP2_FRAME_ACK &&
+                  !is_valid(&u.frame.ack))) {
       printf("refused");
       return;
     }
-    printf("%zu..%zu %02x", at, at + (size_t)n, u.frame.type);
+    printf("%zu..%zu %02x", at, at + (size_t)n, (unsigned)u.frame.ping.type);
     show_frame(&u.frame);
     printf("; ");
     at += (size_t)n;
@@ -167,7 +184,7 @@ static void show_datagram(size_t len, size_t cidlen) {
       return;
     }
     printf("; %zd type %02x flags %02x %08x len %zu token %zu", n, hd.type,
-           hd.flags, hd.version, hd.len, hd.token.len);
+           hd.flags, hd.version, hd.len, NG_TOKENLEN(&hd));
     id("dst", &hd.dcid);
     id("src", &hd.scid);
     printf("; ");
@@ -178,17 +195,30 @@ static void show_datagram(size_t len, size_t cidlen) {
   }
 }
 
-static void show_params(size_t len, int is_client) {
-  static ngtcp2_transport_params p;
-  int rv;
-
-  memset(&p, 0, sizeof(p));
-  rv = ngtcp2_decode_transport_params(
-      &p,
+/* Reads parameters as a client or as a server does: of 1.x whoever sets those
+ * of its peer looks at what a client may not send. */
+static int read_params(ngtcp2_transport_params *p, size_t len, int is_client) {
+#if QUIC_WIRE_NG_1
+  int rv = ngtcp2_transport_params_decode(p, bytes, len);
+  return rv == 0 && !is_client &&
+                 (p->original_dcid_present || p->retry_scid_present ||
+                  p->stateless_reset_token_present || p->preferred_addr_present)
+             ? NGTCP2_ERR_TRANSPORT_PARAM
+             : rv;
+#else
+  return ngtcp2_decode_transport_params(
+      p,
       is_client ? NGTCP2_TRANSPORT_PARAMS_TYPE_ENCRYPTED_EXTENSIONS
                 : NGTCP2_TRANSPORT_PARAMS_TYPE_CLIENT_HELLO,
       bytes, len);
-  if (rv != 0) {
+#endif
+}
+
+static void show_params(size_t len, int is_client) {
+  static ngtcp2_transport_params p;
+
+  memset(&p, 0, sizeof(p));
+  if (read_params(&p, len, is_client) != 0) {
     printf("refused");
     return;
   }
@@ -206,9 +236,9 @@ static void show_params(size_t len, int is_client) {
   if (p.stateless_reset_token_present) {
     hex("token", p.stateless_reset_token, 16);
   }
-  if (p.preferred_address_present) {
-    id("preferred", &p.preferred_address.cid);
-    hex("token", p.preferred_address.stateless_reset_token, 16);
+  if (p.preferred_addr_present) {
+    id("preferred", &p.preferred_addr.cid);
+    hex("token", p.preferred_addr.stateless_reset_token, 16);
   }
 }
 

@@ -169,7 +169,7 @@ fn refuse(
 }
 
 // The next frame of an iterator that stands where the words say. There is a copy for what begins with 0, PADDING, so
-// that the words of a run's many frames are stored by themselves.
+// that the words of a run's many frames are stored by themselves; and each caller has its own, so that each goes into it.
 #[inline(always)]
 fn give_next<const COPY: usize>(
     iter: &mut Iter<'_>,
@@ -201,9 +201,14 @@ fn give_next<const COPY: usize>(
     }
 }
 
-// The next frame where the words stand.
+// The next frame where the words stand, by a copy for PADDING and one for others.
 #[inline(always)]
-fn next_on(frames: &mut FramesWords, payload: &[u8], basic: bool, out: &mut FrameWords) -> i32
+fn next_on<const PADDING: usize, const OTHER: usize>(
+    frames: &mut FramesWords,
+    payload: &[u8],
+    basic: bool,
+    out: &mut FrameWords,
+) -> i32
     requires { basic ≡ is_basic frames.old.how }
     ensures answers { (result ≡ pos 1) ⊎ (result ≡ pos 0) ⊎ (result ≡ negsuc 2) ⊎ (result ≡ negsuc 0) }
     ensures frame { result ≡ pos 1 → GivesFrame frames.old payload.now frames.new out.new }
@@ -222,8 +227,8 @@ fn next_on(frames: &mut FramesWords, payload: &[u8], basic: bool, out: &mut Fram
         return 0;
     }
     match payload[begin..].first() {
-        Some(0) => give_next::<0>(&mut iter, basic, frames, out),
-        _ => give_next::<1>(&mut iter, basic, frames, out),
+        Some(0) => give_next::<PADDING>(&mut iter, basic, frames, out),
+        _ => give_next::<OTHER>(&mut iter, basic, frames, out),
     }
 }
 
@@ -239,7 +244,7 @@ fn next_basic(frames: &mut FramesWords, payload: &[u8], out: &mut FrameWords) ->
     ensures outside { (result ≡ negsuc 0) ↔ (length payload.now < frames.old.offset) }
     ensures refused { result ≡ negsuc 0 → (frames.new ≡ frames.old) × (out.new ≡ out.old) }
 {
-    next_on(frames, payload, true, out)
+    next_on::<2, 3>(frames, payload, true, out)
 }
 
 /// The next frame (RFC 9000, section 19). It answers 1 with the frame; 0 where none is left, and nothing changes; -3,
@@ -263,5 +268,5 @@ pub extern "C" fn quic_wire_frames_next_(
     if frames.how > 1 {
         return next_basic(frames, payload, out);
     }
-    next_on(frames, payload, false, out)
+    next_on::<0, 1>(frames, payload, false, out)
 }

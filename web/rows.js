@@ -30,7 +30,7 @@ export class Rows {
     this.sizer.append(this.layer);
     box.classList.add("rows");
     box.append(this.sizer);
-    box.addEventListener("scroll", () => this.refresh(false), { passive: true });
+    box.addEventListener("scroll", () => this.refreshSoon(), { passive: true });
     new ResizeObserver(() => this.refresh(false)).observe(box);
   }
 
@@ -58,6 +58,15 @@ export class Rows {
     const whole = this.count * this.height;
     const view = this.box.clientHeight;
     return whole <= MAX_HEIGHT ? 1 / this.height : (this.count - view / this.height) / (MAX_HEIGHT - view);
+  }
+
+  // Draws before the next picture, once however often the box scrolls until then. Rows that move while a scroll is told
+  // would be behind it where a browser scrolls by itself, and Firefox says so in its console.
+  refreshSoon() {
+    this.frame ??= requestAnimationFrame(() => {
+      this.frame = null;
+      this.refresh(false);
+    });
   }
 
   refresh(isAnew) {

@@ -8,8 +8,7 @@
 //! assert_eq!(varint::len(1025), Some(2));
 //! ```
 use crate::buffer::Buffer;
-use crate::sys::{self, Filled, Room};
-use crate::WriteError;
+use crate::{sys, WriteError};
 
 /// The greatest number, 2^62 - 1.
 pub const MAX: u64 = (1 << 62) - 1;
@@ -90,37 +89,4 @@ pub fn write_in<B: Buffer + ?Sized>(value: u64, width: usize, out: &mut B) -> Re
             None => Err(WriteError::OutOfRange("a number has no encoding of this width")),
         }
     })
-}
-
-/// Writes a number in its shortest encoding without a call, for heads that are a few of them. What it writes is held
-/// against what the library writes. `None` where it is above [`MAX`], or there is too little room.
-#[inline]
-pub(crate) fn lay(value: u64, room: &mut Room) -> Option<Filled> {
-    match value {
-        0..=0x3f => sys::laid([value as u8], room),
-        0x40..=0x3fff => sys::laid((value as u16 | 1 << 14).to_be_bytes(), room),
-        0x4000..=0x3fff_ffff => sys::laid((value as u32 | 2 << 30).to_be_bytes(), room),
-        0x4000_0000..=MAX => sys::laid((value | 3 << 62).to_be_bytes(), room),
-        _ => None,
-    }
-}
-
-#[cfg(test)]
-mod tests {
-    use super::*;
-    use crate::buffer::sealed::Put;
-
-    #[test]
-    fn a_number_is_laid_as_the_library_writes_it() {
-        let ends = [1, 0x40, 0x4000, 0x4000_0000, 1 << 62, u64::MAX].map(|end: u64| [end - 1, end, end / 2 + 9]);
-        for value in ends.concat() {
-            for room in 0..10 {
-                let (mut laid, mut written) = ([0x55; 10], [0x55; 10]);
-                let by_call = write(value, &mut written[..room]).ok();
-                let len = laid[..room]
-                    .put(|room| lay(value, room).map(|filled| (filled, filled.len())).ok_or(WriteError::NoRoom(0)));
-                assert_eq!((len.ok(), laid), (by_call, written), "{value} in {room} bytes");
-            }
-        }
-    }
 }

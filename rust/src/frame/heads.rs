@@ -6,9 +6,6 @@ use crate::sys::{self, Filled, Room};
 use crate::{varint, WriteError};
 use core::ops::Range;
 
-// The most bytes that the head of a STREAM has: its type and three numbers.
-const MOST: usize = 1 + 3 * 8;
-
 /// A STREAM without its data (RFC 9000, section 19.8).
 ///
 /// ```
@@ -77,33 +74,8 @@ impl StreamMeta {
     /// Where the range is reversed, its end or the stream's number is 2^62 or more, or there is too little room.
     #[inline]
     pub fn encode<B: Buffer + ?Sized>(&self, length: bool, out: &mut B) -> Result<usize, WriteError> {
-        out.put(|room| match self.lay(length, room) {
-            Some(filled) => Ok((filled, filled.len())),
-            None => write(&self.head()?, length, room),
-        })
-    }
-
-    // Writes the head without a call of the library where there is room for any. Of the rest that says what is wrong.
-    fn lay(&self, length: bool, room: &mut Room) -> Option<Filled> {
-        let Range { start, end } = self.offsets;
-        let len = end.checked_sub(start)?;
-        if room.len() < MOST || end > varint::MAX || self.id.0 > varint::MAX {
-            return None;
-        }
-        let ty = 0x08 | u8::from(start != 0) << 2 | u8::from(length) << 1 | u8::from(self.fin);
-        let mut filled = sys::laid([ty], room)?;
-        let mut lay = |number| {
-            filled = filled.then(varint::lay(number, room.get_mut(filled.len()..)?)?);
-            Some(())
-        };
-        lay(self.id.0)?;
-        if start != 0 {
-            lay(start)?;
-        }
-        if length {
-            lay(len)?;
-        }
-        Some(filled)
+        let head = self.head()?;
+        out.put(|room| write(&head, length, room))
     }
 
     /// How many bytes the frame has without its data.
@@ -238,37 +210,5 @@ fn len_of(head: &sys::Frame, length: bool) -> Result<usize, WriteError> {
     match write(head, length, &mut []) {
         Err(WriteError::NoRoom(needed)) => Ok(needed),
         answer => answer.map(|(_, len)| len),
-    }
-}
-
-#[cfg(test)]
-mod tests {
-    use super::*;
-    use crate::buffer::sealed::Put;
-    use core::mem::MaybeUninit;
-
-    // Numbers about the ends of each width, and what can't be written.
-    const NUMBERS: [u64; 12] =
-        [0, 1, 0x3f, 0x40, 0x3fff, 0x4000, 0x3fff_ffff, 0x4000_0000, (1 << 62) - 2, (1 << 62) - 1, 1 << 62, u64::MAX];
-
-    #[test]
-    fn a_stream_s_head_is_laid_as_the_library_writes_it() {
-        for id in NUMBERS {
-            for (start, end) in NUMBERS.iter().flat_map(|start| NUMBERS.map(|end| (*start, end))) {
-                for (length, fin) in [(false, false), (false, true), (true, false), (true, true)] {
-                    let meta = StreamMeta { id: StreamId(id), offsets: start..end, fin };
-                    let (mut laid, mut written) = ([0x55; 32], [0x55; 32]);
-                    let by_call = meta.head().and_then(|head| written.put(|room| write(&head, length, room)));
-                    assert_eq!((meta.encode(length, &mut laid), laid), (by_call, written), "{meta:?}, {length}");
-                }
-            }
-        }
-    }
-
-    #[test]
-    fn a_stream_s_head_is_laid_only_where_there_is_room_for_any() {
-        let meta = StreamMeta { id: StreamId(1 << 60), offsets: 1 << 60..1 << 61, fin: true };
-        assert_eq!(meta.lay(true, &mut [MaybeUninit::uninit(); MOST]).map(Filled::len), Some(MOST));
-        assert!(meta.lay(false, &mut [MaybeUninit::uninit(); MOST - 1]).is_none());
     }
 }

@@ -51,13 +51,6 @@ pub fn copied<'r>(bytes: &[u8], out: &'r mut Room) -> (Filled, &'r mut [u8]) {
     (Filled(bytes.len()), unsafe { core::slice::from_raw_parts_mut(front.as_mut_ptr().cast(), front.len()) })
 }
 
-/// Writes bytes to the front of the room, if it has as many.
-#[inline]
-pub fn laid<const N: usize>(bytes: [u8; N], out: &mut Room) -> Option<Filled> {
-    *out.first_chunk_mut()? = bytes.map(MaybeUninit::new);
-    Some(Filled(N))
-}
-
 pub const READ_STRICT: u32 = 1;
 pub const READ_BASIC: u32 = 2;
 

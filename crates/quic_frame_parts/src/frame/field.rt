@@ -195,9 +195,8 @@ fn pass_short(count: u64, low: u64, bytes: &[u8]) -> (u64, u64, &[u8])
 }
 
 // The least number of the range at the front, below a range that begins at `low`, and how many bytes it takes: sixteen
-// hold its two numbers, whatever their widths. `None` where both numbers have one byte, as more ranges behind it may
-// have, and where they are more than `low`. The widths are told by branches: where all have one width, the next number's
-// place is foretold.
+// hold its two numbers, whatever their widths. `None` where both numbers have one byte, as those behind them may have,
+// and where they are more than `low`. Widths are told by branches: in a run of one width the next place is foretold.
 #[inline(always)]
 fn wide_front(low: u64, front: &[u8; 16]) -> Option<(u64, usize)>
     ensures within { IfSome result (λ x. x.1 ≤ 16) }
@@ -220,8 +219,8 @@ fn wide_front(low: u64, front: &[u8; 16]) -> Option<(u64, usize)>
     Some((low - all, 16 - rest.len()))
 }
 
-// Passes ranges of which a number is longer than one byte, one after the other, up to one of two short numbers: how many
-// are left to read, and so on, as `pass_short`. The last three, and those in the last fifteen bytes, are left too.
+// Passes ranges of which a number is longer than one byte, one after the other, up to one of two short numbers: how
+// many are left to read, and so on, as `pass_short`. The last three, and those in the last fifteen bytes, are left too.
 #[inline(always)]
 fn pass_wide(count: u64, low: u64, bytes: &[u8]) -> (u64, u64, &[u8])
     ensures fewer { result.0 ≤ count }
@@ -244,8 +243,8 @@ fn pass_wide(count: u64, low: u64, bytes: &[u8]) -> (u64, u64, &[u8])
     (left, low, rest)
 }
 
-// What follows so many ranges below `low`: short ones are passed at once, then wide ones in a row, and what ended both is
-// read by itself. Each range takes bytes, so a count beyond those ends soon.
+// What follows so many ranges below `low`: short ones are passed at once, then wide ones in a row, and what ended both
+// is read by itself. Each range takes bytes, so a count beyond those ends soon.
 fn each_below(count: u64, low: u64, bytes: &[u8]) -> Result<&[u8], Fault>
     ensures { Gives (λ x. x.now) result (below_at count low bytes.now) }
 {

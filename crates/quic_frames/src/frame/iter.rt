@@ -200,7 +200,7 @@ impl<'a> Iterator for Iter<'a> {
         if self.is_broken || rest.is_empty() {
             return None;
         }
-        // A run of PADDING is a frame for each byte, so that is looked for first, and passed without a look at what is left.
+        // A run of PADDING is a frame for each byte, so that is looked for first: the place moves on by one.
         if is_padding(rest) {
             self.last = Some(FrameType::PADDING);
             self.offset += 1;

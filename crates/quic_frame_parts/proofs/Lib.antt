@@ -14,4 +14,5 @@ pub mod FirstRanges
 pub mod AckPlaces
 mod ShortBlocks
 mod ShortRanges
+mod WideRanges
 pub mod Putting

@@ -17,6 +17,7 @@ use Rattle.quic_frames.specs.Found.{found_as, HasItsBlocksBehind}
 use Rattle.quic_frames.specs.InRange.{IsToldApart}
 use Rattle.quic_frames.specs.Way.{Way}
 use Rattle.quic_frames.specs.Walk.{left, bytes_of_value, last_bytes, Stands, StandsAsRead, Finds}
+use Rattle.quic_frames.proofs.Finding.{found_padding}
 use Rattle.quic_frames.proofs.Frames.{TakesFound, found_takes}
 use Rattle.quic_frames.proofs.Items.{frame_some, nothing, items_found, items_broken, no_items, all_read}
 
@@ -231,6 +232,19 @@ finds_here strict payload offset last b old ty frame rest apart blocks v f le so
     let here = finds strict payload offset last ty frame rest (apart, subst (λ (l : List ℕ). HasItsBlocksBehind ty frame l rest) cut blocks) (subst AreBytes cut fits) le (some_bytes payload offset some) (ap (found_at strict last) (sym cut) ∙ e) in
     subst (λ (o : Way). Finds o frame (walk strict payload (length payload - length rest) (Some ty) b)) (is_not_broken strict payload offset last b old v f)
     (subst (λ (c : Bool). Finds (at_place strict payload offset last) frame (walk strict payload (length payload - length rest) (Some ty) c)) (sym f) here)
+
+-- a byte of PADDING, the same
+pub padding_here : (strict : Bool) (payload : List ℕ) (offset : ℕ) (last : Option ℕ) (b : Bool) (old : Way) → walk strict payload offset last b ≡ old → b ≡ false → offset ≤ length payload
+    → eqb (length (take (length payload - offset) (drop offset payload))) 0 ≡ false → AreBytes (take (length payload - offset) (drop offset payload))
+    → take (length payload - offset) (drop offset payload) ≡ 0 ∷ drop 1 (take (length payload - offset) (drop offset payload)) → Finds old frames.Padding (walk strict payload (offset + 1) (Some 0) b)
+padding_here strict payload offset last b old v f le some fits front =
+    let bytes = take (length payload - offset) (drop offset payload) in
+    let rest = drop 1 bytes in
+    let size : length bytes ≡ length payload - offset = ap length (rest_is payload offset) ∙ length-drop offset payload in
+    let one = ap length front in
+    let less = some_bytes payload offset some in
+    let place : length payload - length rest ≡ offset + 1 = omega (arith, size, one, le, less) in
+    subst (λ (n : ℕ). Finds old frames.Padding (walk strict payload n (Some 0) b)) place (finds_here strict payload offset last b old 0 frames.Padding rest tt tt v f le some fits (found_padding strict last bytes rest front))
 
 pub breaks_here : (strict : Bool) (payload : List ℕ) (offset : ℕ) (last : Option ℕ) (b : Bool) (old : Way) (i : Invalid) → walk strict payload offset last b ≡ old → b ≡ false
     → eqb (length (take (length payload - offset) (drop offset payload))) 0 ≡ false → found_at strict last (take (length payload - offset) (drop offset payload)) ≡ Err i

@@ -194,8 +194,57 @@ fn pass_short(count: u64, low: u64, bytes: &[u8]) -> (u64, u64, &[u8])
     (left, low, rest)
 }
 
-// What follows so many ranges below `low`: short ones are passed at once, others are read one by one. Each of them
-// takes bytes, so a count beyond those ends soon.
+// The least number of the range at the front, below a range that begins at `low`, and how many bytes it takes: sixteen
+// hold its two numbers, whatever their widths. `None` where both numbers have one byte, as those behind them may have,
+// and where they are more than `low`. Widths are told by branches: in a run of one width the next place is foretold.
+#[inline(always)]
+fn wide_front(low: u64, front: &[u8; 16]) -> Option<(u64, usize)>
+    ensures within { IfSome result (λ x. x.1 ≤ 16) }
+    ensures read { IfSome result (λ x. (count : ℕ) (rest : List ℕ) → 0 < count
+        → below_at count low (front.now ++ rest) ≡ below_at (count - 1) x.0 (drop x.1 front.now ++ rest)) }
+{
+    if (front[0] < 64) & (front[1] < 64) {
+        return None;
+    }
+    let Ok((between, rest)) = near_varint(front) else {
+        return None;
+    };
+    let Ok((length, rest)) = near_varint(rest) else {
+        return None;
+    };
+    let all = between + 2 + length;
+    if all > low {
+        return None;
+    }
+    Some((low - all, 16 - rest.len()))
+}
+
+// Passes ranges of which a number is longer than one byte, one after the other, up to one of two short numbers: how
+// many are left to read, and so on, as `pass_short`. The last three, and those in the last fifteen bytes, are left too.
+#[inline(always)]
+fn pass_wide(count: u64, low: u64, bytes: &[u8]) -> (u64, u64, &[u8])
+    ensures fewer { result.0 ≤ count }
+    ensures same { below_at result.0 result.1 result.2.now ≡ below_at count low bytes.now }
+{
+    let mut left = count;
+    let mut low = low;
+    let mut rest = bytes;
+    while left >= 4 {
+        let Some(front) = rest.first_chunk::<16>() else {
+            break;
+        };
+        let Some((least, taken)) = wide_front(low, front) else {
+            break;
+        };
+        left -= 1;
+        low = least;
+        rest = &rest[taken..];
+    }
+    (left, low, rest)
+}
+
+// What follows so many ranges below `low`: short ones are passed at once, then wide ones in a row, and what ended both
+// is read by itself. Each range takes bytes, so a count beyond those ends soon.
 fn each_below(count: u64, low: u64, bytes: &[u8]) -> Result<&[u8], Fault>
     ensures { Gives (λ x. x.now) result (below_at count low bytes.now) }
 {
@@ -204,6 +253,7 @@ fn each_below(count: u64, low: u64, bytes: &[u8]) -> Result<&[u8], Fault>
     let mut rest = bytes;
     loop {
         let (others, reached, behind) = pass_short(left, low, rest);
+        let (others, reached, behind) = pass_wide(others, reached, behind);
         if others == 0 {
             return Ok(behind);
         }

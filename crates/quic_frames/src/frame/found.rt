@@ -31,16 +31,6 @@ pub(super) fn read_found(
     ensures gives { GivesFound bytes.now result (found_at strict before bytes.now) }
     ensures bytes { AreBytes bytes.now }
 {
-    // A run of PADDING is a frame for each byte, so that is looked for first.
-    if let Some((first, rest)) = bytes.split_first() {
-        if *first == 0 {
-            return Ok(FirstFrame {
-                ty: FrameType::PADDING,
-                frame: Frame::Padding,
-                rest,
-            });
-        }
-    }
     let Ok((number, rest)) = field::short_varint(bytes) else {
         return Err(InvalidFrame {
             ty: before,

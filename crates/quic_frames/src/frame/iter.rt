@@ -1,5 +1,5 @@
 //! The frames of a payload, one after the other.
-ghost use Rattle.std.specs.Prelude.{◌≡◌, ◌<◌, ◌≤◌, ◌↔◌, ℕ, [], None, IfErr, IfOk, IfSome, IsErr, IsNone, codes, true, false, length, slice_index};
+ghost use Rattle.std.specs.Prelude.{◌≡◌, ◌<◌, ◌≤◌, ◌↔◌, ℕ, [], ◌∷◌, None, IfErr, IfOk, IfSome, IsErr, IsNone, IsTrue, codes, true, false, drop, length, slice_index};
 ghost use Rattle.quic_base.specs.Number.{AreBytes};
 ghost use Rattle.quic_errors.specs.Codes.{IsError, protocol_violation};
 ghost use Rattle.quic_frame_parts.specs.Payload.{IsEither};
@@ -148,6 +148,18 @@ impl<'a> Iter<'a> {
     }
 }
 
+// Whether a byte of PADDING stands at the front.
+#[inline(always)]
+fn is_padding(bytes: &[u8]) -> bool
+    ensures front { IsTrue result → bytes.now ≡ 0 ∷ drop 1 bytes.now }
+    ensures bytes { AreBytes bytes.now }
+{
+    match bytes.first() {
+        Some(first) => *first == 0,
+        None => false,
+    }
+}
+
 // How many bytes of 0 stand at the front: eight at a time, and then one by one.
 #[inline(always)]
 fn zeros(bytes: &[u8]) -> usize
@@ -187,6 +199,12 @@ impl<'a> Iterator for Iter<'a> {
         let rest = &self.payload[self.offset..];
         if self.is_broken || rest.is_empty() {
             return None;
+        }
+        // A run of PADDING is a frame for each byte, so that is looked for first: the place moves on by one.
+        if is_padding(rest) {
+            self.last = Some(FrameType::PADDING);
+            self.offset += 1;
+            return Some(Ok(Frame::Padding));
         }
         match read_found(self.strict, self.last, rest) {
             Ok(first) => {

@@ -1,9 +1,9 @@
-use Rattle.std.proofs.Common.{arith, rules, sym, ap, ◌≡◌, ◌+◌, ◌∙◌, ◌∷◌, length}
+use Rattle.std.proofs.Common.{arith, rules, sym, ap, ◌≡◌, ◌+◌, ◌∙◌, length}
 use Rattle.std.proofs.lemmas.List.{length-append}
 use Rattle.quic_base.specs.Number.{AreBytes}
 use Rattle.quic_frame_parts.proofs.Varints.{varint_takes}
 use Rattle.quic_frames.specs.Meaning.{meaning_of}
-use Rattle.quic_frames.proofs.Finding.{behind_type, found_whole, found_none, found_cut, found_long, found_padding}
+use Rattle.quic_frames.proofs.Finding.{behind_type, found_whole, found_none, found_cut, found_long}
 use Rattle.std.proofs.lemmas.Grind.{common_steps}
 use Rattle.quic_frames.proofs.frame.found.read_found.Goals as goal
 
@@ -14,9 +14,9 @@ overflow_sub-bytes c =
     let total : length c.args.bytes.now ≡ length taken.front + length c.in-Ok.rest.now = ap length taken.split ∙ length-append taken.front c.in-Ok.rest.now in
     omega (arith, total)
 
-pub returns-in_default-short_varint-clause-gives : goal.returns-in_default-short_varint-clause-gives
-returns-in_default-short_varint-clause-gives c =
-    rw c.reason.ensures (found_cut c.args.strict c.args.before c.args.bytes.now _ c.in_default-short_varint.ensures.gives)
+pub returns-in_default-clause-gives : goal.returns-in_default-clause-gives
+returns-in_default-clause-gives c =
+    rw c.reason.ensures (found_cut c.args.strict c.args.before c.args.bytes.now _ c.in_default.ensures.gives)
 
 pub returns-in-Ok-read_frame-clause-gives : goal.returns-in-Ok-read_frame-clause-gives
 returns-in-Ok-read_frame-clause-gives c =
@@ -33,11 +33,6 @@ returns-in-Err-clause-gives c =
 pub returns-then-is_long-clause-gives : goal.returns-then-is_long-clause-gives
 returns-then-is_long-clause-gives c =
     rw c.reason-then-is_long.ensures (found_long c.args.strict c.args.before c.of-ty.result c.args.bytes.now c.in-Ok.rest.now (search rules) (sym c.is_long.ensures ∙ c.if-is_long.true))
-
-pub returns-then-first-eq0-clause-gives : goal.returns-then-first-eq0-clause-gives
-returns-then-first-eq0-clause-gives c =
-    let front : c.args.bytes.now ≡ 0 ∷ c.in-Some.rest.now = search rules in
-    (found_padding c.args.strict c.args.before c.args.bytes.now c.in-Some.rest.now front, tt, tt)
 
 pub returns-in-Err-clause-bytes : goal.returns-in-Err-clause-bytes
 returns-in-Err-clause-bytes c = grind (arith, common_steps)

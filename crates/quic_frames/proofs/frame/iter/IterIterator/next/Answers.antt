@@ -1,7 +1,7 @@
 use Rattle.std.proofs.Common.{refl, sym, ap, ◌∙◌, length, rules}
 use Rattle.quic_frames.specs.Walk.{invalid_of}
 use Rattle.quic_frames.specs.Found.{found_as}
-use Rattle.quic_frames.proofs.Places.{finds_here, breaks_here, is_broken_here, is_over_here, fewer_left}
+use Rattle.quic_frames.proofs.Places.{finds_here, padding_here, breaks_here, is_broken_here, is_over_here, fewer_left}
 use Rattle.quic_frames.proofs.frame.iter.IterIterator.next.Goals as goal
 use Rattle.quic_frames.proofs.frame.iter.IterIterator.next.Goals.{then-self-via-then-self, then-self-via-else-self+then-is_empty}
 
@@ -12,6 +12,17 @@ returns-then-self-clause-steps c =
       | then-self-via-then-self w ↦ (is_broken_here self.strict self.payload.now self.offset self.last self.is_broken _ c.self.view_is w.if-self.true, refl)
       | then-self-via-else-self+then-is_empty w ↦ (is_over_here self.strict self.payload.now self.offset self.last self.is_broken _ c.self.view_is w.if-self.false (sym w.is_empty.ensures ∙ w.if-is_empty.true), refl)
     ]
+
+pub returns-then-is_padding-clause-steps : goal.returns-then-is_padding-clause-steps
+returns-then-is_padding-clause-steps c =
+    let self = c.self.inside in
+    padding_here self.strict self.payload.now self.offset self.last self.is_broken _ c.self.view_is c.if-self.false c.self.invariant (sym c.is_empty.ensures ∙ c.if-is_empty.false)
+    c.is_padding.ensures.bytes (c.is_padding.ensures.front c.if-is_padding.true)
+
+pub returns-then-is_padding-clause-goes : goal.returns-then-is_padding-clause-goes
+returns-then-is_padding-clause-goes c =
+    let fewer = ap length (returns-then-is_padding-clause-steps c).first in
+    search rules
 
 pub overflow_sub-self : goal.overflow_sub-self
 overflow_sub-self c =

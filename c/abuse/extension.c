@@ -10,14 +10,14 @@ int next_by(int basic, quic_wire_frames *frames, const uint8_t *payload,
 
 int fill_by(int basic, quic_wire_frames *frames, const uint8_t *payload,
             size_t len, quic_wire_frame *out, size_t room, size_t *count) {
-  return (basic ? quic_wire_frames_fill_basic
-                : quic_wire_frames_fill)(frames, payload, len, out, room, count);
+  return (basic ? quic_wire_frames_fill_basic : quic_wire_frames_fill)(
+      frames, payload, len, out, room, count);
 }
 
 int64_t read_by(int basic, const uint8_t *payload, size_t len, int strict,
                 quic_wire_frame *frame, quic_wire_gap *gaps, size_t room) {
-  return (basic ? quic_wire_frame_read_basic
-                : quic_wire_frame_read)(payload, len, strict, frame, gaps, room);
+  return (basic ? quic_wire_frame_read_basic : quic_wire_frame_read)(
+      payload, len, strict, frame, gaps, room);
 }
 
 int is_extension(const quic_wire_frame *frame) {

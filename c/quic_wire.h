@@ -186,16 +186,6 @@ extern "C" {
 #define QUIC_WIRE_FLAG_MORE 4 /* ACK: of quic_wire_frame_read, which had no
                                  room for all ranges */
 
-/* How frames are read, by an iterator and by quic_wire_frame_read: one of these,
- * both by |, or 0. */
-#define QUIC_WIRE_READ_STRICT 1 /* a type that isn't in its shortest encoding is
-                                   no frame (RFC 9000, section 12.4) */
-#define QUIC_WIRE_READ_BASIC 2  /* ACK_FREQUENCY and IMMEDIATE_ACK are frames of
-                                   an unknown type, as they are where their
-                                   extension wasn't negotiated, but that one
-                                   which is broken within its fields is told
-                                   for that */
-
 /* No type: the word in place of one. */
 #define QUIC_WIRE_NO_TYPE UINT64_MAX
 
@@ -211,8 +201,8 @@ typedef struct quic_wire_frames {
   size_t offset;      /* the end of the last whole frame, in bytes */
   uint64_t last_type; /* its type as it stands there, or QUIC_WIRE_NO_TYPE */
   uint32_t ended;     /* not 0 once something was no frame */
-  uint32_t how;       /* QUIC_WIRE_READ_STRICT, QUIC_WIRE_READ_BASIC, both by |,
-                         or 0: a caller may set it at any time */
+  uint32_t strict;    /* not 0: a type that isn't in its shortest encoding is no
+                         frame (RFC 9000, section 12.4) */
 } quic_wire_frames;
 
 /* What the kinds of frames say in numbers: the fields of a frame's union. */
@@ -471,7 +461,7 @@ QUIC_WIRE_ASSERT(sizeof(quic_wire_frames) == 24, "64-bit words");
 QUIC_WIRE_ASSERT(offsetof(quic_wire_frames, offset) == 0, "64-bit words");
 QUIC_WIRE_ASSERT(offsetof(quic_wire_frames, last_type) == 8, "64-bit words");
 QUIC_WIRE_ASSERT(offsetof(quic_wire_frames, ended) == 16, "no room");
-QUIC_WIRE_ASSERT(offsetof(quic_wire_frames, how) == 20, "no room");
+QUIC_WIRE_ASSERT(offsetof(quic_wire_frames, strict) == 20, "no room");
 QUIC_WIRE_ASSERT(sizeof(quic_wire_frame) == 80, "64-bit words");
 QUIC_WIRE_ASSERT(offsetof(quic_wire_frame, type) == 2, "no room");
 QUIC_WIRE_ASSERT(offsetof(quic_wire_frame, flags) == 4, "no room");
@@ -535,7 +525,7 @@ static inline int quic_wire_check_linked(void) {
 
 /*
  * Begins at the front of a |payload| of |payloadlen| bytes, with 0 in
- * |frames->how|.  Returns 0, or QUIC_WIRE_ERR_EMPTY,
+ * |frames->strict|.  Returns 0, or QUIC_WIRE_ERR_EMPTY,
  * QUIC_WIRE_ERR_INVALID_ARGUMENT.
  */
 QUIC_WIRE_API int quic_wire_frames_init(quic_wire_frames *frames,
@@ -543,7 +533,7 @@ QUIC_WIRE_API int quic_wire_frames_init(quic_wire_frames *frames,
                                         size_t payloadlen);
 
 /*
- * The same with QUIC_WIRE_READ_STRICT: a type that isn't in its shortest
+ * The same with 1 in |frames->strict|: a type that isn't in its shortest
  * encoding is told with QUIC_WIRE_REASON_LONG_TYPE.  Other fields may have any
  * width.
  */
@@ -555,9 +545,8 @@ QUIC_WIRE_API int quic_wire_frames_init_strict(quic_wire_frames *frames,
  * Reads the next frame.  |payload| is the one that |frames| began with.
  *
  * Returns QUIC_WIRE_ITEM and the frame; 0 where none is left;
- * QUIC_WIRE_ERR_MALFORMED, once, where something is no frame, or one that
- * QUIC_WIRE_READ_BASIC leaves out, and then 0: what is told of it is in |frame|
- * (quic_wire_error_type, quic_wire_error_reason).
+ * QUIC_WIRE_ERR_MALFORMED, once, where something is no frame, and then 0: what
+ * is told of it is in |frame| (quic_wire_error_type, quic_wire_error_reason).
  * QUIC_WIRE_ERR_INVALID_ARGUMENT for NULL, or where |frames->offset| is above
  * |payloadlen|.  |frame| changes only with QUIC_WIRE_ITEM and
  * QUIC_WIRE_ERR_MALFORMED.
@@ -568,26 +557,44 @@ QUIC_WIRE_API int quic_wire_frames_next(quic_wire_frames *frames,
                                         quic_wire_frame *frame);
 
 /*
+ * The same where the ACK frequency extension wasn't negotiated: an ACK_FREQUENCY
+ * or IMMEDIATE_ACK is told as a frame of an unknown type, with
+ * QUIC_WIRE_REASON_INVALID_FRAME_ID, but one that is broken within its fields
+ * for that.  A caller may change between the two at any time.
+ */
+QUIC_WIRE_API int quic_wire_frames_next_basic(quic_wire_frames *frames,
+                                              const uint8_t *payload,
+                                              size_t payloadlen,
+                                              quic_wire_frame *frame);
+
+/*
  * Reads the next frames, as many as the |room| entries of |out| hold, with one
  * call.  |payload| is the one that |frames| began with.  A PADDING frame and
  * all the zero bytes behind it are one entry: quic_wire_padding_count.
  *
  * Returns QUIC_WIRE_ITEM, and in |*count| how many entries were filled, one at
  * least; 0 where no frame is left; QUIC_WIRE_ERR_MALFORMED, once, where what
- * stands next is no frame, or one that QUIC_WIRE_READ_BASIC leaves out, and then
- * 0: what is told of it is in |out[0]| (quic_wire_error_type,
- * quic_wire_error_reason); QUIC_WIRE_ERR_NOBUF where
+ * stands next is no frame, and then 0: what is told of it is in |out[0]|
+ * (quic_wire_error_type, quic_wire_error_reason); QUIC_WIRE_ERR_NOBUF where
  * |room| is 0.  QUIC_WIRE_ERR_INVALID_ARGUMENT for NULL, or where
- * |frames->offset| is above |payloadlen|.  Frames that stand before what
- * isn't given are given first, and the next call tells of it.  Entries behind
- * those that were filled stay, and |*count| changes only with QUIC_WIRE_ITEM.
- * Once |frames->offset| is |payloadlen| nothing is left, and no call is needed
- * to learn that.
+ * |frames->offset| is above |payloadlen|.  Frames that stand before what is no
+ * frame are given first, and the next call tells of it.  Entries behind those
+ * that were filled stay, and |*count| changes only with QUIC_WIRE_ITEM.  Once
+ * |frames->offset| is |payloadlen| nothing is left, and no call is needed to
+ * learn that.
  */
 QUIC_WIRE_API int quic_wire_frames_fill(quic_wire_frames *frames,
                                         const uint8_t *payload,
                                         size_t payloadlen, quic_wire_frame *out,
                                         size_t room, size_t *count);
+
+/* The same without the ACK frequency extension, as quic_wire_frames_next_basic
+ * reads. */
+QUIC_WIRE_API int quic_wire_frames_fill_basic(quic_wire_frames *frames,
+                                              const uint8_t *payload,
+                                              size_t payloadlen,
+                                              quic_wire_frame *out, size_t room,
+                                              size_t *count);
 
 /*
  * Begins at the front of a |payload| and reads its first frames, as many as the
@@ -612,8 +619,8 @@ QUIC_WIRE_API int quic_wire_frames_first(quic_wire_frames *frames,
  * Reads the frame at the front of what is left of a payload, with no iterator:
  * the caller goes on behind it by what is returned, until nothing is left.
  * |frame|'s places count from |payload|.  A PADDING frame and the bytes of 0
- * behind it are one frame.  |how| is 0, QUIC_WIRE_READ_STRICT,
- * QUIC_WIRE_READ_BASIC, or both by |.
+ * behind it are one frame.  Where |strict| is not 0, a type that isn't in its
+ * shortest encoding is no frame (RFC 9000, section 12.4).
  *
  * Of an ACK |frame->datalen| is its first range, less one, the ranges below it
  * are written to the |room| entries of |gaps| as they stand, and |frame->data|
@@ -622,14 +629,21 @@ QUIC_WIRE_API int quic_wire_frames_first(quic_wire_frames *frames,
  *
  * Returns where the frame ends, which is above 0; QUIC_WIRE_ERR_EMPTY where
  * nothing is left; QUIC_WIRE_ERR_MALFORMED, and what is told of it in |frame|,
- * where what stands at the front is no frame, or one that QUIC_WIRE_READ_BASIC
- * leaves out (its type is QUIC_WIRE_NO_TYPE if
+ * where what stands at the front is no frame (its type is QUIC_WIRE_NO_TYPE if
  * it is cut off within that); QUIC_WIRE_ERR_INVALID_ARGUMENT for NULL.
  */
 QUIC_WIRE_API int64_t quic_wire_frame_read(const uint8_t *payload,
-                                           size_t payloadlen, int how,
+                                           size_t payloadlen, int strict,
                                            quic_wire_frame *frame,
                                            quic_wire_gap *gaps, size_t room);
+
+/* The same without the ACK frequency extension, as quic_wire_frames_next_basic
+ * reads. */
+QUIC_WIRE_API int64_t quic_wire_frame_read_basic(const uint8_t *payload,
+                                                 size_t payloadlen, int strict,
+                                                 quic_wire_frame *frame,
+                                                 quic_wire_gap *gaps,
+                                                 size_t room);
 
 /* How many PADDING frames an entry of quic_wire_frames_fill stands for that was
  * read of this payload: one whose type may be encoded in up to 8 bytes, and

@@ -14,7 +14,7 @@ static void frames(void) {
   FIELD(frames, offset);
   FIELD(frames, last_type);
   FIELD(frames, ended);
-  FIELD(frames, how);
+  FIELD(frames, strict);
   STRUCT(frame);
   FIELD(frame, kind);
   FIELD(frame, type);

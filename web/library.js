@@ -102,7 +102,7 @@ export class Library {
     this.frames.set("offset", offset);
     this.frames.set("last_type", NO_TYPE);
     this.frames.set("ended", 0);
-    this.frames.set("how", strict ? 1 : 0);
+    this.frames.set("strict", strict ? 1 : 0);
   }
 
   // Where all frames begin, then where the last one ends; their kinds; and what ended them, or null. PADDING frames

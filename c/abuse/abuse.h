@@ -46,12 +46,26 @@ extern void fill_rubbish(const uint8_t *payload, size_t len);
 extern void first_rubbish(const uint8_t *payload, size_t len);
 extern int strict_any(const uint8_t *bytes, size_t len);
 
-/* The next frame by single calls, with a run of PADDING as one, is |entry|. */
-extern void next_is(quic_wire_frames *one, const uint8_t *payload, size_t len,
-                    const quic_wire_frame *entry);
+/* A word for strict reading. */
+extern uint32_t any_strict(void);
 
-/* extension.c: the frames that a way of reading leaves out. */
+/* The next frame by single calls, with a run of PADDING as one, is |entry|. */
+extern void next_is(int basic, quic_wire_frames *one, const uint8_t *payload,
+                    size_t len, const quic_wire_frame *entry);
+
+/* extension.c: the calls that read, with |basic| those that leave out the frames
+ * of the extension. */
+extern int next_by(int basic, quic_wire_frames *frames, const uint8_t *payload,
+                   size_t len, quic_wire_frame *frame);
+extern int fill_by(int basic, quic_wire_frames *frames, const uint8_t *payload,
+                   size_t len, quic_wire_frame *out, size_t room,
+                   size_t *count);
+extern int64_t read_by(int basic, const uint8_t *payload, size_t len, int strict,
+                       quic_wire_frame *frame, quic_wire_gap *gaps,
+                       size_t room);
+
 extern int is_extension(const quic_wire_frame *frame);
+extern void extension_nulls(void);
 extern void extension_examples(void);
 extern int extension_any(const uint8_t *bytes, size_t len);
 

@@ -69,29 +69,32 @@ static void path_bytes(const uint8_t *payload, size_t len,
   WANT(!bytes || number == frame->path.data);
 }
 
-/* A way of reading, or any word. */
-static uint32_t any_how(void) {
+uint32_t any_strict(void) {
   return (uint32_t)(any() % 4 ? any() % 4 : edge());
 }
 
-/* Reads on from any place, with any last type; |frame| is left with any words. */
+/* Reads on from any place, with any last type, by either call in turn; |frame|
+ * is left with any words. */
 static void read_on_rubbish(const uint8_t *payload, size_t len,
                             quic_wire_frame *frame) {
   quic_wire_frames frames;
-  const uint32_t how = any_how();
+  const uint32_t strict = any_strict();
   const uint8_t *token;
   uint64_t type;
   size_t k;
-  int answer = 0;
+  int answer = 0, basic = 0;
   frames.offset = place();
   frames.last_type = edge();
   frames.ended = (uint32_t)(any() % 4 ? 0 : edge());
-  frames.how = how;
+  frames.strict = strict;
   memset(frame, (int)(any() % 256), sizeof *frame);
-  for (k = 0; k < 50 && (answer = quic_wire_frames_next(&frames, payload, len,
-                                                        frame)) == 1; k++) {
+  for (k = 0; k < 50; k++) {
+    basic = (int)(any() % 2);
+    answer = next_by(basic, &frames, payload, len, frame);
+    if (answer != QUIC_WIRE_ITEM)
+      break;
     WANT(frame->begin < frame->end && frame->end <= len);
-    WANT(how < QUIC_WIRE_READ_BASIC || !is_extension(frame));
+    WANT(!basic || !is_extension(frame));
     WANT(frame->data <= frame->end &&
          frame->datalen <= frame->end - frame->data);
     WANT(quic_wire_varint_read(payload + frame->begin, len - frame->begin,
@@ -108,7 +111,7 @@ static void read_on_rubbish(const uint8_t *payload, size_t len,
   WANT(answer != QUIC_WIRE_ERR_MALFORMED || frame->type == 0);
   WANT(k < 50 && (answer == 0 || answer == INVALID ||
                   answer == QUIC_WIRE_ERR_MALFORMED));
-  WANT(frames.how == how);
+  WANT(frames.strict == strict);
 }
 
 /* Reads on, and asks for what a frame of any words and the ranges of any words
@@ -129,13 +132,13 @@ void read_rubbish(const uint8_t *payload, size_t len) {
   ranges_rubbish(payload, len, &frame);
 }
 
-void next_is(quic_wire_frames *one, const uint8_t *payload, size_t len,
-             const quic_wire_frame *entry) {
+void next_is(int basic, quic_wire_frames *one, const uint8_t *payload,
+             size_t len, const quic_wire_frame *entry) {
   quic_wire_frame frame, more;
-  WANT(quic_wire_frames_next(one, payload, len, &frame) == 1);
+  WANT(next_by(basic, one, payload, len, &frame) == 1);
   while (frame.kind == QUIC_WIRE_PADDING && frame.end < entry->end) {
     WANT(payload[frame.end] == 0);
-    WANT(quic_wire_frames_next(one, payload, len, &more) == 1);
+    WANT(next_by(basic, one, payload, len, &more) == 1);
     WANT(more.kind == QUIC_WIRE_PADDING && more.begin == frame.end);
     frame.end = frame.data = more.end;
   }
@@ -150,27 +153,28 @@ void fill_rubbish(const uint8_t *payload, size_t len) {
   quic_wire_frames one, many;
   quic_wire_frame frame, filled[6], before[6];
   size_t room = 1 + any() % 5, count, k, calls;
-  int answer = 0;
+  int answer = 0, basic = 0;
   one.offset = place();
   one.last_type = edge();
   one.ended = (uint32_t)(any() % 8 ? 0 : edge());
-  one.how = any_how();
+  one.strict = any_strict();
   many = one;
   memset(before, 0xa5, sizeof before);
   for (calls = 0; calls < 50; calls++) {
     memcpy(filled, before, sizeof filled);
     count = 77;
-    answer = quic_wire_frames_fill(&many, payload, len, filled, room, &count);
+    basic = (int)(any() % 2);
+    answer = fill_by(basic, &many, payload, len, filled, room, &count);
     if (answer != QUIC_WIRE_ITEM)
       break;
     WANT(0 < count && count <= room);
     for (k = 0; k < count; k++)
-      next_is(&one, payload, len, &filled[k]);
+      next_is(basic, &one, payload, len, &filled[k]);
     WANT(!memcmp(&one, &many, sizeof one));
     WANT(!memcmp(filled + count, before, (6 - count) * sizeof frame));
   }
   WANT(calls < 50 && count == 77);
-  WANT(quic_wire_frames_next(&one, payload, len, &frame) == answer);
+  WANT(next_by(basic, &one, payload, len, &frame) == answer);
   if (answer == QUIC_WIRE_ERR_MALFORMED) {
     WANT(!memcmp(&frame, &filled[0], sizeof frame));
     WANT(!memcmp(filled + 1, before, 5 * sizeof frame));
@@ -228,6 +232,8 @@ int strict_any(const uint8_t *bytes, size_t len) {
   len++;
   WANT(quic_wire_frames_init(&frames, payload, len) == 0);
   WANT(quic_wire_frames_init_strict(&strict, payload, len) == 0);
+  if (any() % 2)
+    strict.strict = (uint32_t)any() | 2; /* any word but 0 */
   while (answer == QUIC_WIRE_ITEM && !is_long) {
     is_long = has_long_type(payload + strict.offset, len - strict.offset);
     answer = quic_wire_frames_next(&strict, payload, len, &frame);

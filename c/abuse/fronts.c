@@ -16,14 +16,14 @@ void fronts_nulls(void) {
 /* A frame of |n| bytes that was read at |at| is the next one of an iterator; of
  * an ACK the ranges too, of which |gaps| has as many as there was room for, and
  * behind them what it had |before|. */
-static void front_is_next(const uint8_t *payload, size_t len, size_t at,
-                          size_t n, const quic_wire_frame *frame,
+static void front_is_next(int basic, const uint8_t *payload, size_t len,
+                          size_t at, size_t n, const quic_wire_frame *frame,
                           const quic_wire_gap gaps[3],
                           const quic_wire_gap before[3], size_t room,
                           quic_wire_frames *frames) {
   quic_wire_frame entry = *frame, want;
   size_t count;
-  WANT(quic_wire_frames_fill(frames, payload, len, &want, 1, &count) == 1);
+  WANT(fill_by(basic, frames, payload, len, &want, 1, &count) == 1);
   WANT(n > 0 && n == frame->end && frames->offset == at + frame->end);
   count = 0;
   if (frame->kind == QUIC_WIRE_ACK) {
@@ -40,12 +40,11 @@ static void front_is_next(const uint8_t *payload, size_t len, size_t at,
 }
 
 /* What is no frame at |at| is none for an iterator either. */
-static void front_refused(const uint8_t *payload, size_t len, size_t at,
-                          const quic_wire_frame *frame,
+static void front_refused(int basic, const uint8_t *payload, size_t len,
+                          size_t at, const quic_wire_frame *frame,
                           quic_wire_frames *frames) {
   quic_wire_frame want;
-  WANT(quic_wire_frames_next(frames, payload, len, &want) ==
-       QUIC_WIRE_ERR_MALFORMED);
+  WANT(next_by(basic, frames, payload, len, &want) == QUIC_WIRE_ERR_MALFORMED);
   WANT(want.begin == at && frame->begin == 0);
   WANT(quic_wire_error_reason(frame) == quic_wire_error_reason(&want));
   WANT(quic_wire_error_type(frame) == quic_wire_error_type(&want) ||
@@ -59,28 +58,27 @@ void front_rubbish(const uint8_t *payload, size_t len) {
   quic_wire_frame frame, want;
   quic_wire_gap gaps[3], before[3];
   size_t at = 0, room = any() % 3;
-  int how = (int)(any() % 4);
+  int strict = (int)any_strict(), basic = (int)(any() % 2);
   int64_t n;
   int answer = quic_wire_frames_init(&frames, payload, len);
-  frames.how = (uint32_t)how;
+  frames.strict = (uint32_t)strict;
   memset(before, 0xa5, sizeof before);
   do {
     memcpy(gaps, before, sizeof gaps);
     memset(&frame, 0xa5, sizeof frame);
-    n = quic_wire_frame_read(payload + at, len - at, how, &frame, gaps, room);
+    n = read_by(basic, payload + at, len - at, strict, &frame, gaps, room);
     if (n < 0)
       break;
-    WANT(!(how & QUIC_WIRE_READ_BASIC) || !is_extension(&frame));
-    front_is_next(payload, len, at, (size_t)n, &frame, gaps, before, room,
-                  &frames);
+    WANT(!basic || !is_extension(&frame));
+    front_is_next(basic, payload, len, at, (size_t)n, &frame, gaps, before,
+                  room, &frames);
     at += (size_t)n;
   } while (1);
   WANT(!memcmp(gaps, before, sizeof gaps));
   if (n == QUIC_WIRE_ERR_EMPTY) {
-    WANT(at == len && (!len || !quic_wire_frames_next(&frames, payload, len,
-                                                      &want)));
+    WANT(at == len && (!len || !next_by(basic, &frames, payload, len, &want)));
     return;
   }
   WANT(n == QUIC_WIRE_ERR_MALFORMED && answer == 0);
-  front_refused(payload, len, at, &frame, &frames);
+  front_refused(basic, payload, len, at, &frame, &frames);
 }

@@ -43,6 +43,7 @@ size_t varint_len(uint64_t n) {
 static void nulls(void) {
   frames_nulls();
   fronts_nulls();
+  extension_nulls();
   extension_examples();
   acks_nulls();
   written_nulls();

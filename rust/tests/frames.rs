@@ -25,7 +25,7 @@ fn frames_borrow_the_payload() {
 
 #[test]
 fn an_iterator_is_small_and_told_apart_by_what_it_gives() {
-    assert!(size_of::<Iter<'_>>() == 40, "{}", size_of::<Iter<'_>>());
+    assert!(size_of::<Iter<'_>>() == 48, "{}", size_of::<Iter<'_>>());
     // Two PADDING in three bytes, one in eight, two more, and a PING.
     let payload = [0x40, 0x00, 0x00, 0xc0, 0, 0, 0, 0, 0, 0, 0, 0, 0, 0x01];
     let mut frames = Iter::new(&payload).unwrap();

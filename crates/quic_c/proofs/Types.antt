@@ -14,7 +14,7 @@ use Rattle.quic_frames.specs.Walk.{first_of, Finds}
 use Rattle.quic_c.specs.declared.words.FrameWords.{FrameWords}
 use Rattle.quic_c.specs.declared.words.FramesWords.{FramesWords}
 use Rattle.quic_c.specs.declared.words.GapWords.{GapWords}
-use Rattle.quic_c.specs.Shown.{is_basic, kind_of, shown, type_in, way_of, IsExtension}
+use Rattle.quic_c.specs.Shown.{kind_of, shown, type_in, way_of, IsExtension}
 use Rattle.quic_c.specs.Answers.{GivesFrame, IsRefused, unknown_told}
 use Rattle.quic_c.specs.Filling.{further}
 use Rattle.quic_c.specs.Front.{ReadsFront, ShowsFront}
@@ -73,9 +73,9 @@ found_between : (here next old new : Way) (frame : Frame) (finds : Finds here fr
 found_between here next old new frame finds p q =
     subst (λ (w : Way). (f : Finds w frame new) × (f.found ≡ finds.found)) p (subst (λ (w : Way). (f : Finds here frame w) × (f.found ≡ finds.found)) q (finds, refl))
 
-pub gives_frame : (old new : FramesWords) (payload : List ℕ) (out : FrameWords) (here next : Way) (frame : Frame) (type : ℕ) (finds : Finds here frame next)
-    → ((is_basic old.how ≡ true) × IsExtension (kind_of frame) → ⊥) → way_of old payload ≡ here → way_of new payload ≡ next → type ≡ finds.found.type → out ≡ shown old.offset new.offset type frame → GivesFrame old payload new out
-gives_frame old new payload out here next frame type finds known is_here is_next begins words =
+pub gives_frame : (basic : Bool) (old new : FramesWords) (payload : List ℕ) (out : FrameWords) (here next : Way) (frame : Frame) (type : ℕ) (finds : Finds here frame next)
+    → ((basic ≡ true) × IsExtension (kind_of frame) → ⊥) → way_of old payload ≡ here → way_of new payload ≡ next → type ≡ finds.found.type → out ≡ shown old.offset new.offset type frame → GivesFrame basic old payload new out
+gives_frame basic old new payload out here next frame type finds known is_here is_next begins words =
     let f = found_between here next (way_of old payload) (way_of new payload) frame finds (sym is_here) (sym is_next) in
     record { frame = frame; finds = f.0; known = known; words = words ∙ ap (λ (n : ℕ). shown old.offset new.offset n frame) (begins ∙ ap (λ (x : Found). x.type) (sym f.1)) }
 

@@ -1,5 +1,5 @@
 -- What the calls answer.
-use Rattle.std.specs.Prelude.{◌≡◌, ◌==◌, ℕ, ◌+◌, ◌<◌, ◌≤◌, ◌^◌, ◌⊎◌, slice_range, Result, Ok, Err, IsErr, length, List, [], ◌∷◌, Bool, true, Some, codes, if◌then◌else◌}
+use Rattle.std.specs.Prelude.{◌≡◌, ◌==◌, ℕ, ◌+◌, ◌<◌, ◌≤◌, ◌^◌, ◌⊎◌, ◌↔◌, ℤ, pos, negsuc, slice_range, Result, Ok, Err, IsErr, length, List, [], ◌∷◌, Bool, true, Some, codes, if◌then◌else◌}
 use Rattle.std.specs.Cmp.Lexicographic.{pointwise}
 use Rattle.std.specs.Prelude.{nat_eq}
 use Rattle.quic_frames.specs.declared.frame.Frame.{Frame}
@@ -13,7 +13,7 @@ use Rattle.quic_c.specs.declared.words.FramesWords.{FramesWords}
 use Rattle.quic_c.specs.declared.words.FrameWords.{FrameWords}
 use Rattle.quic_c.specs.declared.words.RangeWords.{RangeWords}
 use Rattle.quic_c.specs.declared.words.RangesWords.{RangesWords}
-use Rattle.quic_c.specs.Shown.{way_of, type_word, shown, shown_invalid, kind_of, is_basic, IsExtension}
+use Rattle.quic_c.specs.Shown.{way_of, type_word, shown, shown_invalid, kind_of, IsExtension}
 
 -- the number of a reason: 1 unexpected end, 2 invalid frame ID, 3 malformed, 4 frame type not in shortest form
 abbrev pub reason_in : List ℕ → ℕ
@@ -37,18 +37,28 @@ abbrev pub IsRefused : Bool → Way → Invalid → Type 0
 IsRefused basic way told = (left way ≡ Broken told ∷ []) ⊎ (basic ≡ true) × IsUnknown way told
 
 -- A frame was found where the words stand, and its words were given: one of that extension only where these are known.
-pub record GivesFrame (old : FramesWords) (payload : List ℕ) (new : FramesWords) (out : FrameWords) : Type 0 where
+pub record GivesFrame (basic : Bool) (old : FramesWords) (payload : List ℕ) (new : FramesWords) (out : FrameWords) : Type 0 where
   pub frame : Frame
   pub finds : Finds (way_of old payload) frame (way_of new payload)
-  pub known : (is_basic old.how ≡ true) × IsExtension (kind_of frame) → ⊥
+  pub known : (basic ≡ true) × IsExtension (kind_of frame) → ⊥
   pub words : out ≡ shown old.offset new.offset finds.found.type frame
 
 -- What stands there isn't given, and that is told; nothing is left.
-pub record GivesInvalid (old : FramesWords) (payload : List ℕ) (new : FramesWords) (out : FrameWords) : Type 0 where
+pub record GivesInvalid (basic : Bool) (old : FramesWords) (payload : List ℕ) (new : FramesWords) (out : FrameWords) : Type 0 where
   pub told : Invalid
-  pub first : IsRefused (is_basic old.how) (way_of old payload) told
+  pub first : IsRefused basic (way_of old payload) told
   pub over : new ≡ record old { ended = 1 }
   pub words : out ≡ shown_invalid old.offset (type_word told.type) (reason_in told.reason)
+
+-- What a call for the next frame answers and leaves: 1 with the frame; 0 where none is left; -3 with what is told of
+-- something that isn't given; -1 just where the place lies outside the payload.
+pub record AnswersNext (basic : Bool) (old : FramesWords) (payload : List ℕ) (before : FrameWords) (answer : ℤ) (new : FramesWords) (after : FrameWords) : Type 0 where
+  pub answers : (answer ≡ pos 1) ⊎ (answer ≡ pos 0) ⊎ (answer ≡ negsuc 2) ⊎ (answer ≡ negsuc 0)
+  pub frame : answer ≡ pos 1 → GivesFrame basic old payload new after
+  pub end : answer ≡ pos 0 → left (way_of old payload) ≡ []
+  pub invalid : answer ≡ negsuc 2 → GivesInvalid basic old payload new after
+  pub outside : (answer ≡ negsuc 0) ↔ (length payload < old.offset)
+  pub same : (answer ≡ pos 1) ⊎ (answer ≡ negsuc 2) ⊎ ((new ≡ old) × (after ≡ before))
 
 -- the bytes between two places
 abbrev pub blocks_in : RangesWords → List ℕ → List ℕ

@@ -1,5 +1,5 @@
 -- Frames into a caller's array, many with one call (RFC 9000, section 19).
-use Rattle.std.specs.Prelude.{◌≡◌, ℕ, ◌<◌, ◌≤◌, ◌⊎◌, List, [], ◌∷◌, length, take, drop, Bool, true, Option}
+use Rattle.std.specs.Prelude.{◌≡◌, ℕ, ◌<◌, ◌≤◌, ◌⊎◌, ◌↔◌, ℤ, pos, negsuc, List, [], ◌∷◌, length, take, drop, Bool, true, Option}
 use Rattle.quic_frames.specs.declared.frame.Frame.{Frame}
 use Rattle.quic_frame_parts.specs.Reading.{Invalid}
 use Rattle.quic_frames.specs.Way.{Way}
@@ -7,7 +7,7 @@ use Rattle.quic_frames.specs.Walk.{left, Finds}
 use Rattle.quic_frames.specs.Padding.{PassesPadding}
 use Rattle.quic_c.specs.declared.words.FramesWords.{FramesWords}
 use Rattle.quic_c.specs.declared.words.FrameWords.{FrameWords}
-use Rattle.quic_c.specs.Shown.{kind_of, shown, IsExtension}
+use Rattle.quic_c.specs.Shown.{way_of, kind_of, shown, IsExtension}
 use Rattle.quic_c.specs.declared.words.RangeWords.{RangeWords}
 use Rattle.quic_c.specs.declared.words.RangesWords.{RangesWords}
 use Rattle.quic_c.specs.Answers.{GivesInvalid, GivesRange, IsRefused, NamesNone}
@@ -40,10 +40,23 @@ pub record Fills (basic : Bool) (old : Way) (before : List FrameWords) (new : Wa
   pub full : (count ≡ length before) ⊎ HasNoFrame basic new
 
 -- What stands there isn't given: the first entry tells that, and the others were kept.
-pub record TellsInvalid (old : FramesWords) (payload : List ℕ) (before : List FrameWords) (new : FramesWords) (after : List FrameWords) : Type 0 where
+pub record TellsInvalid (basic : Bool) (old : FramesWords) (payload : List ℕ) (before : List FrameWords) (new : FramesWords) (after : List FrameWords) : Type 0 where
   pub entry : FrameWords
-  pub invalid : GivesInvalid old payload new entry
+  pub invalid : GivesInvalid basic old payload new entry
   pub entries : after ≡ entry ∷ drop 1 before
+
+-- What a call for the next frames answers and leaves: 1 with how many entries were filled, one at least; 0 where no
+-- frame is left; -3 with what is told of something that isn't given; -4 just where there is no entry and the place lies
+-- in the payload; -1 just where it lies outside.
+pub record AnswersFill (basic : Bool) (old : FramesWords) (payload : List ℕ) (before : List FrameWords) (count_before : ℕ) (answer : ℤ) (new : FramesWords) (after : List FrameWords) (count : ℕ) : Type 0 where
+  pub answers : (answer ≡ pos 1) ⊎ (answer ≡ pos 0) ⊎ (answer ≡ negsuc 2) ⊎ (answer ≡ negsuc 3) ⊎ (answer ≡ negsuc 0)
+  pub frames : answer ≡ pos 1 → (0 < count) × Fills basic (way_of old payload) before (way_of new payload) after count
+  pub end : answer ≡ pos 0 → left (way_of old payload) ≡ []
+  pub invalid : answer ≡ negsuc 2 → TellsInvalid basic old payload before new after
+  pub room : (answer ≡ negsuc 3) ↔ ((old.offset ≤ length payload) × (before ≡ []))
+  pub outside : (answer ≡ negsuc 0) ↔ (length payload < old.offset)
+  pub same : (answer ≡ pos 1) ⊎ (answer ≡ negsuc 2) ⊎ ((new ≡ old) × (after ≡ before))
+  pub counted : (answer ≡ pos 1) ⊎ (count ≡ count_before)
 
 -- an iterator further on over the same payload
 abbrev pub further : Way → ℕ → Option ℕ → Way

@@ -1,5 +1,5 @@
 -- The frame at the front of a payload, and the ranges of an ACK as gap and length.
-use Rattle.std.specs.Prelude.{◌≡◌, ℕ, ◌+◌, ◌-◌, ◌<◌, ◌≤◌, true, List, [], ◌∷◌, length, take, drop, nat_lt, Bool, Option, None, Some, if◌then◌else◌}
+use Rattle.std.specs.Prelude.{◌≡◌, ℕ, ◌+◌, ◌-◌, ◌<◌, ◌≤◌, ◌⊎◌, ◌↔◌, ℤ, pos, negsuc, true, List, [], ◌∷◌, length, take, drop, nat_lt, Bool, Option, None, Some, if◌then◌else◌}
 use Rattle.quic_frames.specs.declared.frame.Frame.{Frame}
 use Rattle.quic_frames.specs.declared.frame.Frame.TheVariants as frames
 use Rattle.quic_frame_parts.specs.declared.frame.ack.Ack.{Ack}
@@ -71,6 +71,15 @@ pub record TellsNone (strict basic : Bool) (payload : List ℕ) (words : FrameWo
   pub told : Invalid
   pub first : IsRefused basic (first_of strict payload) told
   pub is : words ≡ shown_invalid 0 (type_word told.type) (reason_in told.reason)
+
+-- What a call for the frame at the front answers and leaves: where it ends, with its words; -2 just where there is no
+-- byte; -3 with what is told of something that isn't given.
+pub record AnswersRead (strict basic : Bool) (payload : List ℕ) (before : FrameWords) (room : List GapWords) (answer : ℤ) (after : FrameWords) (gaps : List GapWords) : Type 0 where
+  pub answers : (answer ≡ negsuc 1) ⊎ (answer ≡ negsuc 2) ⊎ ((stop : ℕ) × (answer ≡ pos stop) × ReadsFront strict basic payload room stop after gaps)
+  pub empty : (answer ≡ negsuc 1) ↔ (payload ≡ [])
+  pub invalid : answer ≡ negsuc 2 → TellsNone strict basic payload after
+  pub same : answer ≡ negsuc 1 → after ≡ before
+  pub kept : (answer ≡ negsuc 1) ⊎ (answer ≡ negsuc 2) → gaps ≡ room
 
 -- ---- reading on behind a frame
 

@@ -1,5 +1,5 @@
 -- What C sees of frames and of the way over a payload.
-use Rattle.std.specs.Prelude.{◌≡◌, ℕ, ◌+◌, ◌-◌, ◌^◌, ◌⊎◌, List, [], ◌∷◌, length, nat_lt, Bool, Option, Some, None, not, ◌==◌, ◌||◌, if◌then◌else◌}
+use Rattle.std.specs.Prelude.{◌≡◌, ℕ, ◌+◌, ◌-◌, ◌^◌, ◌⊎◌, List, [], ◌∷◌, length, nat_lt, Bool, Option, Some, None, not, ◌==◌, if◌then◌else◌}
 use Rattle.quic_base.specs.Ids.{dir_number}
 use Rattle.quic_errors.specs.Types.{type_or_zero}
 use Rattle.quic_frames.specs.declared.frame.Frame.{Frame}
@@ -15,17 +15,13 @@ abbrev pub type_word : Option ℕ → ℕ
 type_word None = 2 ^ 64 - 1
 type_word (Some n) = n
 
--- by the word for how a payload is read: 1, and 3 and more, whether a type counts in its shortest spelling alone
+-- whether a type counts in its shortest spelling alone, by the word for that: any but 0 says so
 abbrev pub is_strict : ℕ → Bool
-is_strict how = not (how == 0 || how == 2)
-
--- 2 and more, whether the frames of the extension for ACK frequency are of unknown types
-abbrev pub is_basic : ℕ → Bool
-is_basic how = nat_lt 1 how
+is_strict strict = not (strict == 0)
 
 -- the words at the front of a payload, with that word
 abbrev pub at_front : ℕ → FramesWords
-at_front how = record { offset = 0; last_type = 2 ^ 64 - 1; ended = 0; how = how }
+at_front strict = record { offset = 0; last_type = 2 ^ 64 - 1; ended = 0; strict = strict }
 
 -- a type in a word: every word from 2^62 on stands for none
 abbrev pub type_in : ℕ → Option ℕ
@@ -33,7 +29,7 @@ type_in n = if nat_lt n (2 ^ 62) then Some n else None
 
 -- how far an iterator has come over a payload, by the words that are kept of it
 abbrev pub way_of : FramesWords → List ℕ → Way
-way_of f payload = record { strict = is_strict f.how; payload = payload; offset = f.offset; last = type_in f.last_type; is_broken = not (f.ended == 0) }
+way_of f payload = record { strict = is_strict f.strict; payload = payload; offset = f.offset; last = type_in f.last_type; is_broken = not (f.ended == 0) }
 
 -- the kind of a frame: its type, 8 for every STREAM, 2 for every ACK and 0x30 for every DATAGRAM
 abbrev pub kind_of : Frame → ℕ

@@ -32,7 +32,7 @@ fn lay_bytes(dest: &mut [u8], at: usize, one: u8, other: u8) -> usize
 // Lays a number in its shortest spelling over the bytes at a place, and answers where it ends.
 #[inline(always)]
 #[tactic(auto, unfolding(quic_base::specs::Varint::short, quic_base::specs::Varint::size, quic_base::specs::Number::bytes_of))]
-fn lay(dest: &mut [u8], at: usize, n: u64) -> usize
+pub(crate) fn lay(dest: &mut [u8], at: usize, n: u64) -> usize
     requires numeric { n < 2 ^ 62 }
     requires room { at + length (short n) ≤ length dest.old }
     ensures lays { Lays (short n) at dest.old result dest.new }

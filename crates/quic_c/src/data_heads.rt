@@ -1,5 +1,6 @@
 //! The heads of STREAM, CRYPTO and DATAGRAM frames, whose data the caller puts behind them.
-ghost use Rattle.std.specs.Prelude.{◌≡◌, ◌⊎◌, ◌↔◌, ◌<◌, ◌^◌, ◌++◌, List, ℕ, Bool, pos, negsuc, length, IsTrue, IfSome};
+ghost use Rattle.std.specs.Prelude.{◌≡◌, ◌⊎◌, ◌↔◌, ◌<◌, ◌≤◌, ◌^◌, ◌++◌, List, ℕ, Bool, pos, negsuc, length, IsTrue, IfSome};
+ghost use Rattle.quic_frame_parts.specs.Numbers.{AreNumeric, all_short};
 ghost use Rattle.quic_frame_parts.specs.Putting.{Puts};
 ghost use Rattle.quic_frame_parts.specs.Shortest.{shortest_frame, stream_head};
 ghost use Rattle.quic_frames.specs.declared.frame.Frame.{Frame};
@@ -9,6 +10,7 @@ ghost use Rattle.quic_c.specs.Shown.{data_of};
 ghost use Rattle.quic_c.specs.Written.{CanWrite, flag_of};
 ghost use Rattle.quic_c.specs.declared.words.FrameWords.{FrameWords};
 
+use crate::ack_gaps::lay;
 use crate::words::FrameWords;
 use quic_errors::frame_type::FrameType;
 use quic_frame_parts::frame::put;
@@ -31,6 +33,24 @@ fn has_head(words: &FrameWords, last: bool) -> bool
     }
 }
 
+// Puts at most five numbers in their shortest spellings at the front. Where there is room for five of the longest they
+// are laid there one by one; else they are put together first, and the room is looked at then.
+#[inline(always)]
+fn put_numbers(dest: &mut [u8], numbers: &[u64]) -> Result<usize, usize>
+    requires few { length numbers.now ≤ 5 }
+    requires numeric { AreNumeric numbers.now }
+    ensures { Puts result (all_short numbers.now) dest.old dest.new }
+{
+    if dest.len() < 40 {
+        return put::numbers(dest, numbers);
+    }
+    let mut at = 0;
+    for number in numbers {
+        at = lay(dest, at, *number);
+    }
+    Ok(at)
+}
+
 // Lays the head of a STREAM at the front, with the length of its data where that is given.
 fn put_stream(
     id: u64,
@@ -46,10 +66,10 @@ fn put_stream(
 {
     let ty = FrameType::of_stream(offset != 0, fin).into_inner();
     match (offset, counted) {
-        (0, None) => put::numbers(dest, &[ty, id]),
-        (0, Some(length)) => put::numbers(dest, &[ty + 2, id, length]),
-        (_, None) => put::numbers(dest, &[ty, id, offset]),
-        (_, Some(length)) => put::numbers(dest, &[ty + 2, id, offset, length]),
+        (0, None) => put_numbers(dest, &[ty, id]),
+        (0, Some(length)) => put_numbers(dest, &[ty + 2, id, length]),
+        (_, None) => put_numbers(dest, &[ty, id, offset]),
+        (_, Some(length)) => put_numbers(dest, &[ty + 2, id, offset, length]),
     }
 }
 
@@ -61,10 +81,10 @@ fn put_head(words: &FrameWords, last: bool, dest: &mut [u8]) -> Result<usize, us
     let len = words.data_len as u64;
     let [id, offset, ..] = words.numbers;
     match words.kind {
-        0x06 => put::numbers(dest, &[0x06, offset, len]),
+        0x06 => put_numbers(dest, &[0x06, offset, len]),
         0x08 => put_stream(id, offset, words.flags == 1, (!last).then_some(len), dest),
-        _ if last => put::numbers(dest, &[0x30]),
-        _ => put::numbers(dest, &[0x31, len]),
+        _ if last => put_numbers(dest, &[0x30]),
+        _ => put_numbers(dest, &[0x31, len]),
     }
 }
 

@@ -1,11 +1,11 @@
 //! The frames of a payload, as many with one call as the caller has room for.
 ghost use Rattle.std.specs.Prelude.{◌≡◌, ◌<◌, ◌≤◌, ◌↔◌, ◌⊎◌, [], true, false, pos, negsuc, length, IfOk, IfErr};
 ghost use Rattle.quic_frames.specs.Walk.{left, first_of, invalid_of};
-ghost use Rattle.quic_c.specs.Shown.{way_of, at_front, is_basic};
+ghost use Rattle.quic_c.specs.Shown.{way_of, at_front};
 ghost use Rattle.quic_c.specs.Answers.{IsRefused};
-ghost use Rattle.quic_c.specs.Filling.{Fills, TellsInvalid, further};
+ghost use Rattle.quic_c.specs.Filling.{AnswersFill, Fills, TellsInvalid, further};
 
-use crate::frames::{is_strict, is_unknown, show_invalid, type_in, type_read, type_word, unknown};
+use crate::frames::{is_unknown, show_invalid, type_in, type_read, type_word, unknown};
 use crate::show::{parts_of, show_parts};
 use crate::words::{FrameWords, FramesWords};
 use quic_frames::frame::{FrameType, InvalidFrame, Iter};
@@ -77,20 +77,10 @@ fn fill_on<const COPY: usize>(
     out: &mut [FrameWords],
     count: &mut usize,
 ) -> i32
-    requires { basic ≡ is_basic frames.old.how }
-    ensures answers { (result ≡ pos 1) ⊎ (result ≡ pos 0) ⊎ (result ≡ negsuc 2) ⊎ (result ≡ negsuc 3)
-        ⊎ (result ≡ negsuc 0) }
-    ensures frames { result ≡ pos 1
-        → (0 < count.new) × Fills (is_basic frames.old.how) (way_of frames.old payload.now) out.old (way_of frames.new payload.now) out.new count.new }
-    ensures end { result ≡ pos 0 → left (way_of frames.old payload.now) ≡ [] }
-    ensures invalid { result ≡ negsuc 2 → TellsInvalid frames.old payload.now out.old frames.new out.new }
-    ensures room { (result ≡ negsuc 3) ↔ ((frames.old.offset ≤ length payload.now) × (out.old ≡ [])) }
-    ensures outside { (result ≡ negsuc 0) ↔ (length payload.now < frames.old.offset) }
-    ensures same { (result ≡ pos 1) ⊎ (result ≡ negsuc 2) ⊎ ((frames.new ≡ frames.old) × (out.new ≡ out.old)) }
-    ensures counted { (result ≡ pos 1) ⊎ (count.new ≡ count.old) }
+    ensures { AnswersFill basic frames.old payload.now out.old count.old result frames.new out.new count.new }
 {
     let begin = frames.offset;
-    let strict = is_strict(frames.how);
+    let strict = frames.strict != 0;
     let Some(mut iter) = Iter::resume(payload, begin, type_in(frames.last_type), strict) else {
         return -1;
     };
@@ -118,35 +108,11 @@ fn fill_on<const COPY: usize>(
     }
 }
 
-// Those where the frames of the extension for ACK frequency are of unknown types, by a call.
-#[inline(never)]
-fn fill_basic(
-    frames: &mut FramesWords,
-    payload: &[u8],
-    out: &mut [FrameWords],
-    count: &mut usize,
-) -> i32
-    requires { is_basic frames.old.how ≡ true }
-    ensures answers { (result ≡ pos 1) ⊎ (result ≡ pos 0) ⊎ (result ≡ negsuc 2) ⊎ (result ≡ negsuc 3)
-        ⊎ (result ≡ negsuc 0) }
-    ensures frames { result ≡ pos 1
-        → (0 < count.new) × Fills (is_basic frames.old.how) (way_of frames.old payload.now) out.old (way_of frames.new payload.now) out.new count.new }
-    ensures end { result ≡ pos 0 → left (way_of frames.old payload.now) ≡ [] }
-    ensures invalid { result ≡ negsuc 2 → TellsInvalid frames.old payload.now out.old frames.new out.new }
-    ensures room { (result ≡ negsuc 3) ↔ ((frames.old.offset ≤ length payload.now) × (out.old ≡ [])) }
-    ensures outside { (result ≡ negsuc 0) ↔ (length payload.now < frames.old.offset) }
-    ensures same { (result ≡ pos 1) ⊎ (result ≡ negsuc 2) ⊎ ((frames.new ≡ frames.old) × (out.new ≡ out.old)) }
-    ensures counted { (result ≡ pos 1) ⊎ (count.new ≡ count.old) }
-{
-    fill_on::<2>(frames, payload, true, out, count)
-}
-
 /// The next frames (RFC 9000, section 19), as many as there is room for in `out`; a run of PADDING, a frame with each
 /// byte, is one entry. It answers 1 with how many entries were filled, one at least; 0 where no frame is left; -3,
-/// once, with the type and the reason in the first entry, where what stands next is no frame, or a frame of the
-/// extension for ACK frequency where `how` says that these are of unknown types; -4 just where `out` has no entry and
-/// the place lies in the payload; -1 just where the place lies outside it. `count` changes with 1 alone, and nothing
-/// changes with 0, -4 and -1.
+/// once, with the type and the reason in the first entry, where what stands next is no frame; -4 just where `out` has
+/// no entry and the place lies in the payload; -1 just where the place lies outside it. `count` changes with 1 alone,
+/// and nothing changes with 0, -4 and -1.
 #[unsafe(no_mangle)]
 pub extern "C" fn quic_wire_frames_fill_(
     frames: &mut FramesWords,
@@ -154,21 +120,22 @@ pub extern "C" fn quic_wire_frames_fill_(
     out: &mut [FrameWords],
     count: &mut usize,
 ) -> i32
-    ensures answers { (result ≡ pos 1) ⊎ (result ≡ pos 0) ⊎ (result ≡ negsuc 2) ⊎ (result ≡ negsuc 3)
-        ⊎ (result ≡ negsuc 0) }
-    ensures frames { result ≡ pos 1
-        → (0 < count.new) × Fills (is_basic frames.old.how) (way_of frames.old payload.now) out.old (way_of frames.new payload.now) out.new count.new }
-    ensures end { result ≡ pos 0 → left (way_of frames.old payload.now) ≡ [] }
-    ensures invalid { result ≡ negsuc 2 → TellsInvalid frames.old payload.now out.old frames.new out.new }
-    ensures room { (result ≡ negsuc 3) ↔ ((frames.old.offset ≤ length payload.now) × (out.old ≡ [])) }
-    ensures outside { (result ≡ negsuc 0) ↔ (length payload.now < frames.old.offset) }
-    ensures same { (result ≡ pos 1) ⊎ (result ≡ negsuc 2) ⊎ ((frames.new ≡ frames.old) × (out.new ≡ out.old)) }
-    ensures counted { (result ≡ pos 1) ⊎ (count.new ≡ count.old) }
+    ensures answers { AnswersFill false frames.old payload.now out.old count.old result frames.new out.new count.new }
 {
-    if frames.how > 1 {
-        return fill_basic(frames, payload, out, count);
-    }
     fill_on::<1>(frames, payload, false, out, count)
+}
+
+/// The same, where a frame of the extension for ACK frequency is one of an unknown type: -3 is told of it.
+#[unsafe(no_mangle)]
+pub extern "C" fn quic_wire_frames_fill_basic_(
+    frames: &mut FramesWords,
+    payload: &[u8],
+    out: &mut [FrameWords],
+    count: &mut usize,
+) -> i32
+    ensures answers { AnswersFill true frames.old payload.now out.old count.old result frames.new out.new count.new }
+{
+    fill_on::<2>(frames, payload, true, out, count)
 }
 
 /// Begins at the front of a payload and reads its first frames (RFC 9000, section 19), as `quic_wire_frames_init_`
@@ -187,7 +154,7 @@ pub extern "C" fn quic_wire_frames_first_(
     ensures frames { result ≡ pos 1
         → (0 < count.new) × Fills false (first_of false payload.now) out.old (way_of frames.new payload.now) out.new count.new }
     ensures empty { (result ≡ negsuc 1) ↔ (payload.now ≡ []) }
-    ensures invalid { result ≡ negsuc 2 → TellsInvalid (at_front 0) payload.now out.old frames.new out.new }
+    ensures invalid { result ≡ negsuc 2 → TellsInvalid false (at_front 0) payload.now out.old frames.new out.new }
     ensures room { (result ≡ negsuc 3) ↔ ((0 < length payload.now) × (out.old ≡ [])) }
     ensures same { (result ≡ pos 1) ⊎ (result ≡ negsuc 2) ⊎ ((frames.new ≡ frames.old) × (out.new ≡ out.old)) }
     ensures counted { (result ≡ pos 1) ⊎ (count.new ≡ count.old) }
@@ -207,7 +174,7 @@ pub extern "C" fn quic_wire_frames_first_(
                 offset: filled.end,
                 last_type: type_word(filled.last),
                 ended: 0,
-                how: 0,
+                strict: 0,
             };
             *count = filled.count;
             1
@@ -217,7 +184,7 @@ pub extern "C" fn quic_wire_frames_first_(
                 offset: 0,
                 last_type: u64::MAX,
                 ended: 1,
-                how: 0,
+                strict: 0,
             };
             out[0] = show_invalid(0, &invalid);
             -3

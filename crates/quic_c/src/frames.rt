@@ -1,11 +1,11 @@
 //! The frames of a payload, one with each call.
-ghost use Rattle.std.specs.Prelude.{◌≡◌, ◌<◌, ◌^◌, ◌-◌, ◌↔◌, ◌⊎◌, ℕ, [], ◌∷◌, pos, negsuc, length, codes, IsTrue, true, false, None};
+ghost use Rattle.std.specs.Prelude.{◌≡◌, ◌<◌, ◌≤◌, ◌^◌, ◌-◌, ◌↔◌, ◌⊎◌, ℕ, [], ◌∷◌, pos, negsuc, length, codes, IsTrue, true, false, None};
 ghost use Rattle.quic_frames.specs.declared.frame.Frame.{Frame};
 ghost use Rattle.quic_frame_parts.specs.Reading.{Invalid, Broken, invalid};
 ghost use Rattle.quic_frames.specs.Way.{Way};
-ghost use Rattle.quic_frames.specs.Walk.{left, first_of, invalid_of, Finds};
-ghost use Rattle.quic_c.specs.Shown.{way_of, at_front, is_strict, is_basic, kind_of, type_in, type_word, shown, shown_invalid, IsExtension};
-ghost use Rattle.quic_c.specs.Answers.{GivesFrame, GivesInvalid, reason_in, unknown_told};
+ghost use Rattle.quic_frames.specs.Walk.{first_of, invalid_of, Finds};
+ghost use Rattle.quic_c.specs.Shown.{way_of, at_front, is_strict, kind_of, type_in, type_word, shown, shown_invalid, IsExtension};
+ghost use Rattle.quic_c.specs.Answers.{AnswersNext, reason_in, unknown_told};
 
 use crate::show::{parts_of, show};
 use crate::words::{FrameWords, FramesWords};
@@ -57,14 +57,6 @@ fn reason_in(reason: &str) -> u32
     }
 }
 
-// Whether a type counts in its shortest spelling alone, by the caller's word.
-#[inline(always)]
-pub(crate) fn is_strict(how: u32) -> bool
-    ensures { result ≡ is_strict how }
-{
-    !(how == 0 || how == 2)
-}
-
 // Whether the frame is one of the extension for ACK frequency, where these are of unknown types.
 #[inline(always)]
 pub(crate) fn is_unknown(basic: bool, frame: &Frame<'_>) -> bool
@@ -88,13 +80,13 @@ pub(crate) fn unknown(kind: u16) -> InvalidFrame
     }
 }
 
-// Begins at the front of a payload, by the word for how it is read.
+// Begins at the front of a payload, by the word for strict reading.
 #[inline(always)]
-fn begin(frames: &mut FramesWords, payload: &[u8], how: u32) -> i32
+fn begin(frames: &mut FramesWords, payload: &[u8], strict: u32) -> i32
     ensures answers { (result ≡ pos 0) ⊎ (result ≡ negsuc 1) }
     ensures empty { (result ≡ negsuc 1) ↔ (payload.now ≡ []) }
-    ensures front { result ≡ pos 0 → frames.new ≡ at_front how }
-    ensures first { result ≡ pos 0 → way_of frames.new payload.now ≡ first_of (is_strict how) payload.now }
+    ensures front { result ≡ pos 0 → frames.new ≡ at_front strict }
+    ensures first { result ≡ pos 0 → way_of frames.new payload.now ≡ first_of (is_strict strict) payload.now }
     ensures refused { result ≡ negsuc 1 → frames.new ≡ frames.old }
 {
     if payload.is_empty() {
@@ -104,7 +96,7 @@ fn begin(frames: &mut FramesWords, payload: &[u8], how: u32) -> i32
         offset: 0,
         last_type: u64::MAX,
         ended: 0,
-        how,
+        strict,
     };
     0
 }
@@ -169,7 +161,8 @@ fn refuse(
 }
 
 // The next frame of an iterator that stands where the words say. There is a copy for what begins with 0, PADDING, so
-// that the words of a run's many frames are stored by themselves; and each caller has its own, so that each goes into it.
+// that the words of a run's many frames are stored by themselves; and each caller has its own, so that each goes into
+// it.
 #[inline(always)]
 fn give_next<const COPY: usize>(
     iter: &mut Iter<'_>,
@@ -178,11 +171,8 @@ fn give_next<const COPY: usize>(
     out: &mut FrameWords,
 ) -> i32
     requires way { way_of frames.old iter.old.payload ≡ iter.old }
-    requires basic { basic ≡ is_basic frames.old.how }
-    ensures answers { (result ≡ pos 1) ⊎ (result ≡ pos 0) ⊎ (result ≡ negsuc 2) }
-    ensures frame { result ≡ pos 1 → GivesFrame frames.old iter.old.payload frames.new out.new }
-    ensures end { result ≡ pos 0 → (left iter.old ≡ []) × (frames.new ≡ frames.old) × (out.new ≡ out.old) }
-    ensures invalid { result ≡ negsuc 2 → GivesInvalid frames.old iter.old.payload frames.new out.new }
+    requires within { frames.old.offset ≤ length iter.old.payload }
+    ensures { AnswersNext basic frames.old iter.old.payload out.old result frames.new out.new }
 {
     let begin = frames.offset;
     match iter.next() {
@@ -209,17 +199,10 @@ fn next_on<const PADDING: usize, const OTHER: usize>(
     basic: bool,
     out: &mut FrameWords,
 ) -> i32
-    requires { basic ≡ is_basic frames.old.how }
-    ensures answers { (result ≡ pos 1) ⊎ (result ≡ pos 0) ⊎ (result ≡ negsuc 2) ⊎ (result ≡ negsuc 0) }
-    ensures frame { result ≡ pos 1 → GivesFrame frames.old payload.now frames.new out.new }
-    ensures end { result ≡ pos 0
-        → (left (way_of frames.old payload.now) ≡ []) × (frames.new ≡ frames.old) × (out.new ≡ out.old) }
-    ensures invalid { result ≡ negsuc 2 → GivesInvalid frames.old payload.now frames.new out.new }
-    ensures outside { (result ≡ negsuc 0) ↔ (length payload.now < frames.old.offset) }
-    ensures refused { result ≡ negsuc 0 → (frames.new ≡ frames.old) × (out.new ≡ out.old) }
+    ensures { AnswersNext basic frames.old payload.now out.old result frames.new out.new }
 {
     let begin = frames.offset;
-    let strict = is_strict(frames.how);
+    let strict = frames.strict != 0;
     let Some(mut iter) = Iter::resume(payload, begin, type_in(frames.last_type), strict) else {
         return -1;
     };
@@ -232,41 +215,28 @@ fn next_on<const PADDING: usize, const OTHER: usize>(
     }
 }
 
-// That where the frames of the extension for ACK frequency are of unknown types, by a call.
-#[inline(never)]
-fn next_basic(frames: &mut FramesWords, payload: &[u8], out: &mut FrameWords) -> i32
-    requires { is_basic frames.old.how ≡ true }
-    ensures answers { (result ≡ pos 1) ⊎ (result ≡ pos 0) ⊎ (result ≡ negsuc 2) ⊎ (result ≡ negsuc 0) }
-    ensures frame { result ≡ pos 1 → GivesFrame frames.old payload.now frames.new out.new }
-    ensures end { result ≡ pos 0
-        → (left (way_of frames.old payload.now) ≡ []) × (frames.new ≡ frames.old) × (out.new ≡ out.old) }
-    ensures invalid { result ≡ negsuc 2 → GivesInvalid frames.old payload.now frames.new out.new }
-    ensures outside { (result ≡ negsuc 0) ↔ (length payload.now < frames.old.offset) }
-    ensures refused { result ≡ negsuc 0 → (frames.new ≡ frames.old) × (out.new ≡ out.old) }
-{
-    next_on::<2, 3>(frames, payload, true, out)
-}
-
 /// The next frame (RFC 9000, section 19). It answers 1 with the frame; 0 where none is left, and nothing changes; -3,
-/// once, with the type and the reason that are told of something that is no frame, or of a frame of the extension for
-/// ACK frequency where `how` says that these are of unknown types; -1 just where the place lies outside the payload, and
-/// nothing changes.
+/// once, with the type and the reason that are told of something that is no frame; -1 just where the place lies
+/// outside the payload, and nothing changes.
 #[unsafe(no_mangle)]
 pub extern "C" fn quic_wire_frames_next_(
     frames: &mut FramesWords,
     payload: &[u8],
     out: &mut FrameWords,
 ) -> i32
-    ensures answers { (result ≡ pos 1) ⊎ (result ≡ pos 0) ⊎ (result ≡ negsuc 2) ⊎ (result ≡ negsuc 0) }
-    ensures frame { result ≡ pos 1 → GivesFrame frames.old payload.now frames.new out.new }
-    ensures end { result ≡ pos 0
-        → (left (way_of frames.old payload.now) ≡ []) × (frames.new ≡ frames.old) × (out.new ≡ out.old) }
-    ensures invalid { result ≡ negsuc 2 → GivesInvalid frames.old payload.now frames.new out.new }
-    ensures outside { (result ≡ negsuc 0) ↔ (length payload.now < frames.old.offset) }
-    ensures refused { result ≡ negsuc 0 → (frames.new ≡ frames.old) × (out.new ≡ out.old) }
+    ensures answers { AnswersNext false frames.old payload.now out.old result frames.new out.new }
 {
-    if frames.how > 1 {
-        return next_basic(frames, payload, out);
-    }
     next_on::<0, 1>(frames, payload, false, out)
+}
+
+/// The same, where a frame of the extension for ACK frequency is one of an unknown type: -3 is told of it.
+#[unsafe(no_mangle)]
+pub extern "C" fn quic_wire_frames_next_basic_(
+    frames: &mut FramesWords,
+    payload: &[u8],
+    out: &mut FrameWords,
+) -> i32
+    ensures answers { AnswersNext true frames.old payload.now out.old result frames.new out.new }
+{
+    next_on::<2, 3>(frames, payload, true, out)
 }

@@ -1,14 +1,14 @@
 //! The frame at the front of what is left of a payload, and with an ACK its first ranges as they stand.
-ghost use Rattle.std.specs.Prelude.{◌≡◌, ◌↔◌, ◌⊎◌, ◌<◌, ◌≤◌, ℕ, List, [], Bool, Option, drop, map, IsTrue, pos, negsuc, length, true, if◌then◌else◌};
+ghost use Rattle.std.specs.Prelude.{◌≡◌, ◌↔◌, ◌⊎◌, ◌<◌, ◌≤◌, ℕ, List, [], Bool, Option, drop, map, IsTrue, length, true, false, if◌then◌else◌};
 ghost use Rattle.quic_frame_parts.specs.Field.{AreBelow};
 ghost use Rattle.quic_frame_parts.specs.Reading.{Gives, varint_at};
 ghost use Rattle.quic_frames.specs.declared.frame.Frame.TheVariants as frames;
 ghost use Rattle.quic_frames.specs.Padding.{PassesPadding};
 ghost use Rattle.quic_frames.specs.Walk.{left, first_of, resumed};
-ghost use Rattle.quic_c.specs.Shown.{kind_of, shown, is_strict, is_basic};
-ghost use Rattle.quic_c.specs.Front.{FillsGaps, ShowsAck, ShowsFront, ReadsFront, TellsNone, behind, told_behind};
+ghost use Rattle.quic_c.specs.Shown.{kind_of, shown, is_strict};
+ghost use Rattle.quic_c.specs.Front.{AnswersRead, FillsGaps, ShowsAck, ShowsFront, behind, told_behind};
 
-use crate::frames::{is_strict, is_unknown, show_invalid, type_read, unknown};
+use crate::frames::{is_unknown, show_invalid, type_read, unknown};
 use crate::show::{parts_of, show};
 use crate::words::{FrameWords, GapWords};
 use quic_base::coding::are_bytes;
@@ -129,12 +129,7 @@ fn read_front<const COPY: usize>(
     out: &mut FrameWords,
     gaps: &mut [GapWords],
 ) -> i64
-    ensures answers { (result ≡ negsuc 1) ⊎ (result ≡ negsuc 2)
-        ⊎ ((end : ℕ) × (result ≡ pos end) × ReadsFront strict basic payload.now gaps.old end out.new gaps.new) }
-    ensures empty { (result ≡ negsuc 1) ↔ (payload.now ≡ []) }
-    ensures invalid { result ≡ negsuc 2 → TellsNone strict basic payload.now out.new }
-    ensures same { (result ≡ negsuc 1) → out.new ≡ out.old }
-    ensures gaps { (result ≡ negsuc 1) ⊎ (result ≡ negsuc 2) → gaps.new ≡ gaps.old }
+    ensures { AnswersRead strict basic payload.now out.old gaps.old result out.new gaps.new }
 {
     if payload.is_empty() {
         return -2;
@@ -170,12 +165,7 @@ fn read_ack(
     out: &mut FrameWords,
     gaps: &mut [GapWords],
 ) -> i64
-    ensures answers { (result ≡ negsuc 1) ⊎ (result ≡ negsuc 2)
-        ⊎ ((end : ℕ) × (result ≡ pos end) × ReadsFront strict basic payload.now gaps.old end out.new gaps.new) }
-    ensures empty { (result ≡ negsuc 1) ↔ (payload.now ≡ []) }
-    ensures invalid { result ≡ negsuc 2 → TellsNone strict basic payload.now out.new }
-    ensures same { (result ≡ negsuc 1) → out.new ≡ out.old }
-    ensures gaps { (result ≡ negsuc 1) ⊎ (result ≡ negsuc 2) → gaps.new ≡ gaps.old }
+    ensures { AnswersRead strict basic payload.now out.old gaps.old result out.new gaps.new }
 {
     if !payload.is_empty() && payload[0] & 0xfe == 0x02 {
         return read_front::<0>(payload, strict, basic, out, gaps);
@@ -183,36 +173,56 @@ fn read_ack(
     read_front::<1>(payload, strict, basic, out, gaps)
 }
 
-/// Reads the frame at the front of what is left of a payload (RFC 9000, section 19), where a type in another spelling
-/// than its shortest is no frame if `how` is 1 or from 3 on (section 12.4), and ACK_FREQUENCY and IMMEDIATE_ACK are
-/// unknown types if it is from 2 on. It answers where the frame ends, with its words, whose places count from this
-/// front; a run of PADDING, a frame with each byte, is one. Of an ACK they tell the first range, less one, as the
-/// length of its data, and the ranges below it are filled into `gaps` as they stand, as many as there is room for: how
-/// many is told as the offset of its data, and `flags` has 4 where there are more. It answers -2 just where nothing is
-/// left; -3 with the type and the reason in `out` where no frame stands at the front. `out` doesn't change with -2, and
-/// `gaps` for an ACK alone.
-#[unsafe(no_mangle)]
-pub extern "C" fn quic_wire_frame_read_(
+// Reads the frame at the front, STREAM by a copy for the caller.
+#[inline(always)]
+fn read_by<const STREAM: usize>(
     payload: &[u8],
-    how: u32,
+    strict: bool,
+    basic: bool,
     out: &mut FrameWords,
     gaps: &mut [GapWords],
 ) -> i64
-    ensures answers { (result ≡ negsuc 1) ⊎ (result ≡ negsuc 2)
-        ⊎ ((end : ℕ) × (result ≡ pos end) × ReadsFront (is_strict how) (is_basic how) payload.now gaps.old end out.new gaps.new) }
-    ensures empty { (result ≡ negsuc 1) ↔ (payload.now ≡ []) }
-    ensures invalid { result ≡ negsuc 2 → TellsNone (is_strict how) (is_basic how) payload.now out.new }
-    ensures same { (result ≡ negsuc 1) → out.new ≡ out.old }
-    ensures gaps { (result ≡ negsuc 1) ⊎ (result ≡ negsuc 2) → gaps.new ≡ gaps.old }
+    ensures { AnswersRead strict basic payload.now out.old gaps.old result out.new gaps.new }
 {
     if payload.is_empty() {
         return -2;
     }
-    let (strict, basic) = (is_strict(how), how > 1);
     if payload[0] & 0xf8 == 0x08 {
-        return read_front::<2>(payload, strict, basic, out, gaps);
+        return read_front::<STREAM>(payload, strict, basic, out, gaps);
     }
     read_ack(payload, strict, basic, out, gaps)
+}
+
+/// Reads the frame at the front of what is left of a payload (RFC 9000, section 19), where a type in another spelling
+/// than its shortest is no frame if `strict` isn't 0 (section 12.4). It answers where the frame ends, with its words,
+/// whose places count from this front; a run of PADDING, a frame with each byte, is one. Of an ACK they tell the first
+/// range, less one, as the length of its data, and the ranges below it are filled into `gaps` as they stand, as many as
+/// there is room for: how many is told as the offset of its data, and `flags` has 4 where there are more. It answers -2
+/// just where nothing is left; -3 with the type and the reason in `out` where no frame stands at the front. `out`
+/// doesn't change with -2, and `gaps` for an ACK alone.
+#[unsafe(no_mangle)]
+pub extern "C" fn quic_wire_frame_read_(
+    payload: &[u8],
+    strict: u32,
+    out: &mut FrameWords,
+    gaps: &mut [GapWords],
+) -> i64
+    ensures answers { AnswersRead (is_strict strict) false payload.now out.old gaps.old result out.new gaps.new }
+{
+    read_by::<2>(payload, strict != 0, false, out, gaps)
+}
+
+/// The same, where a frame of the extension for ACK frequency is one of an unknown type: -3 is told of it.
+#[unsafe(no_mangle)]
+pub extern "C" fn quic_wire_frame_read_basic_(
+    payload: &[u8],
+    strict: u32,
+    out: &mut FrameWords,
+    gaps: &mut [GapWords],
+) -> i64
+    ensures answers { AnswersRead (is_strict strict) true payload.now out.old gaps.old result out.new gaps.new }
+{
+    read_by::<3>(payload, strict != 0, true, out, gaps)
 }
 
 /// A payload is read frame by frame, each at the front of what is left: what an iterator gives from a place on is

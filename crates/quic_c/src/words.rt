@@ -10,9 +10,8 @@ pub struct FramesWords {
     pub last_type: u64,
     /// 0 until something was no frame.
     pub ended: u32,
-    /// 1, and 3 and more: a type in another spelling than its shortest is no frame. 2 and more: ACK_FREQUENCY and
-    /// IMMEDIATE_ACK are unknown types.
-    pub how: u32,
+    /// Not 0: a type in another spelling than its shortest is no frame.
+    pub strict: u32,
 }
 
 /// A frame.

@@ -12,7 +12,7 @@ use core::mem::MaybeUninit;
 use core::ops::Range;
 
 /// The frames of a payload, and then one [`InvalidFrame`] where something is none. A run of PADDING is a frame for each
-/// type, mostly a byte. It is 40 bytes; [`Iter::fill`] reads many frames with one call.
+/// type, mostly a byte. It is 48 bytes; [`Iter::fill`] reads many frames with one call.
 ///
 /// ```
 /// use quic_wire::frame::{Frame, Iter};
@@ -24,8 +24,10 @@ use core::ops::Range;
 #[derive(Clone)]
 pub struct Iter<'a> {
     payload: &'a [u8],
-    // The end of the last whole frame, its type, and how the next is read.
+    // The end of the last whole frame, and its type.
     state: sys::Frames,
+    // Whether ACK_FREQUENCY and IMMEDIATE_ACK are of unknown types.
+    basic: bool,
 }
 
 impl<'a> Iter<'a> {
@@ -70,8 +72,8 @@ impl<'a> Iter<'a> {
         if payload.is_empty() {
             return Err(EmptyPayload);
         }
-        let state = sys::Frames { offset: 0, last_type: u64::MAX, ended: 0, how: how(strict) };
-        Ok(Iter { payload, state })
+        let state = sys::Frames { offset: 0, last_type: u64::MAX, ended: 0, strict: u32::from(strict) };
+        Ok(Iter { payload, state, basic: false })
     }
 
     /// The same frames, but that ACK_FREQUENCY and IMMEDIATE_ACK are of unknown types, as they are where the ACK
@@ -89,9 +91,8 @@ impl<'a> Iter<'a> {
     /// # Ok::<(), quic_wire::Error>(())
     /// ```
     #[inline]
-    pub fn without_ack_frequency(mut self) -> Self {
-        self.state.how |= sys::READ_BASIC;
-        self
+    pub fn without_ack_frequency(self) -> Self {
+        Iter { basic: true, ..self }
     }
 
     /// Goes on at a place in a payload, behind a frame of the type `last_type`: for an owner of the payload that can't
@@ -112,8 +113,8 @@ impl<'a> Iter<'a> {
     #[inline]
     pub fn resume(payload: &'a [u8], offset: usize, last_type: Option<FrameType>, strict: bool) -> Option<Self> {
         let last_type = last_type.map_or(u64::MAX, u64::from);
-        let state = sys::Frames { offset, last_type, ended: 0, how: how(strict) };
-        (offset <= payload.len()).then_some(Iter { payload, state })
+        let state = sys::Frames { offset, last_type, ended: 0, strict: u32::from(strict) };
+        (offset <= payload.len()).then_some(Iter { payload, state, basic: false })
     }
 
     /// The end of the last whole frame in the payload, in bytes.
@@ -181,7 +182,7 @@ impl<'a> Iter<'a> {
         assert!(!entries.is_empty(), "frames are read into one entry at least");
         self.payload.get(self.state.offset)?;
         let mut count = 0;
-        match sys::frames_fill(&mut self.state, self.payload, entries, &mut count) {
+        match sys::frames_fill(&mut self.state, self.payload, self.basic, entries, &mut count) {
             sys::ITEM => Some(Ok(Batch { payload: self.payload, entries: entries[..count].iter() })),
             sys::MALFORMED => Some(Err(invalid_of(entries[0].get()))),
             _ => None,
@@ -203,7 +204,7 @@ impl<'a> Iterator for Iter<'a> {
             return Some(Ok(Frame::Padding));
         }
         let mut room = MaybeUninit::uninit();
-        match sys::frames_next(&mut self.state, self.payload, &mut room) {
+        match sys::frames_next(&mut self.state, self.payload, self.basic, &mut room) {
             (sys::ITEM, Some(frame)) => Some(Ok(frame_of(self.payload, frame))),
             (_, Some(told)) => Some(Err(invalid_of(told))),
             (_, None) => None,
@@ -218,8 +219,8 @@ impl fmt::Debug for Iter<'_> {
         f.debug_struct("Iter")
             .field("offset", &self.offset())
             .field("last_type", &self.last_type())
-            .field("strict", &(self.state.how & sys::READ_STRICT != 0))
-            .field("ack_frequency", &(self.state.how & sys::READ_BASIC == 0))
+            .field("strict", &(self.state.strict != 0))
+            .field("ack_frequency", &!self.basic)
             .field("rest", &Short(self.rest()))
             .finish()
     }
@@ -293,16 +294,6 @@ impl FusedIterator for Batch<'_, '_> {}
 impl fmt::Debug for Batch<'_, '_> {
     fn fmt(&self, f: &mut fmt::Formatter<'_>) -> fmt::Result {
         f.debug_list().entries(self.clone()).finish()
-    }
-}
-
-// The word for how frames are read.
-#[inline]
-fn how(strict: bool) -> u32 {
-    if strict {
-        sys::READ_STRICT
-    } else {
-        0
     }
 }
 

@@ -3,7 +3,7 @@ use super::words::{Canon, Frame, Frames, Head, Param, Params, Range, Ranges, Sai
 
 extern "C" {
     /// An archive of another version lacks it, so that it isn't linked.
-    pub static quic_wire_abi_4: u8;
+    pub static quic_wire_abi_5: u8;
 
     pub fn quic_wire_frames_fill_(
         frames: *mut Frames,
@@ -13,7 +13,16 @@ extern "C" {
         room: usize,
         count: *mut usize,
     ) -> i32;
+    pub fn quic_wire_frames_fill_basic_(
+        frames: *mut Frames,
+        payload: *const u8,
+        len: usize,
+        out: *mut Frame,
+        room: usize,
+        count: *mut usize,
+    ) -> i32;
     pub fn quic_wire_frames_next_(frames: *mut Frames, payload: *const u8, len: usize, out: *mut Frame) -> i32;
+    pub fn quic_wire_frames_next_basic_(frames: *mut Frames, payload: *const u8, len: usize, out: *mut Frame) -> i32;
     pub fn quic_wire_ack_ranges_init_unchecked_(
         ranges: *mut Ranges,
         payload: *const u8,

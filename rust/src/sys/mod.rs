@@ -51,9 +51,6 @@ pub fn copied<'r>(bytes: &[u8], out: &'r mut Room) -> (Filled, &'r mut [u8]) {
     (Filled(bytes.len()), unsafe { core::slice::from_raw_parts_mut(front.as_mut_ptr().cast(), front.len()) })
 }
 
-pub const READ_STRICT: u32 = 1;
-pub const READ_BASIC: u32 = 2;
-
 pub const OK: i32 = 0;
 pub const ITEM: i32 = 1;
 pub const CHANGED: i32 = 1;
@@ -68,7 +65,7 @@ struct Linked(#[allow(dead_code)] *const u8);
 unsafe impl Sync for Linked {}
 
 #[used]
-static LINKED: Linked = Linked(&raw const c::quic_wire_abi_4);
+static LINKED: Linked = Linked(&raw const c::quic_wire_abi_5);
 
 // What a writer answers: the bytes at the front of its room, or its answer and how many it asks for.
 fn wrote(answer: i32, written: usize) -> Result<Filled, (i32, usize)> {
@@ -79,27 +76,43 @@ fn wrote(answer: i32, written: usize) -> Result<Filled, (i32, usize)> {
     }
 }
 
-/// Reads frames into entries, of which `count` are then filled.
+/// Reads frames into entries, of which `count` are then filled; with `basic` ACK_FREQUENCY and IMMEDIATE_ACK are of
+/// unknown types.
 #[inline]
-pub fn frames_fill(frames: &mut Frames, payload: &[u8], out: &mut [Entry], count: &mut usize) -> i32 {
-    let (entries, room) = (out.as_mut_ptr().cast::<Frame>(), out.len());
+pub fn frames_fill(frames: &mut Frames, payload: &[u8], basic: bool, out: &mut [Entry], count: &mut usize) -> i32 {
+    let (bytes, len, entries, room) = (payload.as_ptr(), payload.len(), out.as_mut_ptr().cast::<Frame>(), out.len());
     // SAFETY: `payload` and `out` each give their own pointer and length, and an `Entry` is a `Frame` (`transparent`),
     // of which any words are valid; `out`, `frames` and `count` are borrowed alone, so nothing overlaps them. Any words
     // in `frames` serve. The library looks at no other memory and keeps no pointer.
-    unsafe { c::quic_wire_frames_fill_(frames, payload.as_ptr(), payload.len(), entries, room, count) }
+    unsafe {
+        if basic {
+            c::quic_wire_frames_fill_basic_(frames, bytes, len, entries, room, count)
+        } else {
+            c::quic_wire_frames_fill_(frames, bytes, len, entries, room, count)
+        }
+    }
 }
 
-/// Reads one frame into its room: `ITEM` with it, `MALFORMED` with what is told of it, or 0.
+/// Reads one frame into its room: `ITEM` with it, `MALFORMED` with what is told of it, or 0. With `basic`
+/// ACK_FREQUENCY and IMMEDIATE_ACK are of unknown types.
 #[inline]
 pub fn frames_next<'r>(
     frames: &mut Frames,
     payload: &[u8],
+    basic: bool,
     room: &'r mut MaybeUninit<Frame>,
 ) -> (i32, Option<&'r Frame>) {
+    let (bytes, len, out) = (payload.as_ptr(), payload.len(), room.as_mut_ptr());
     // SAFETY: `payload` gives its own pointer and length, and `room` is that of one frame, which the library writes and
     // doesn't read; `frames` and `room` are borrowed alone. Any words in `frames` serve. It looks at no other memory
     // and keeps no pointer.
-    let answer = unsafe { c::quic_wire_frames_next_(frames, payload.as_ptr(), payload.len(), room.as_mut_ptr()) };
+    let answer = unsafe {
+        if basic {
+            c::quic_wire_frames_next_basic_(frames, bytes, len, out)
+        } else {
+            c::quic_wire_frames_next_(frames, bytes, len, out)
+        }
+    };
     if answer == ITEM || answer == MALFORMED {
         // SAFETY: with these two answers the library has written all words of the frame, of which any are valid.
         (answer, Some(unsafe { room.assume_init_ref() }))

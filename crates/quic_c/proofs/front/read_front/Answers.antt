@@ -1,48 +1,66 @@
-use Rattle.std.proofs.Common.{ap, ◌∙◌, inl, inr, true, pos, to_z, w64, ◌≡◌, [], ◌∷◌, None, Some, subst, rules}
+use Rattle.std.proofs.Common.{ap, ◌∙◌, inl, inr, refl, pos, to_z, w64, ◌≡◌, [], ◌∷◌, None, Some, subst, rules}
 use Rattle.quic_frame_parts.specs.Reading.{Broken}
 use Rattle.quic_frames.proofs.Items.{all_read}
 use Rattle.quic_frames.specs.Walk.{invalid_of, left, first_of, Advances, Finds}
-use Rattle.quic_c.specs.Shown.{kind_of, IsExtension}
+use Rattle.quic_c.specs.Shown.{kind_of}
 use Rattle.quic_c.specs.Answers.{unknown_told}
-use Rattle.quic_c.proofs.Types.{reads_front, unknown_refused}
+use Rattle.quic_c.specs.Front.{TellsNone}
+use Rattle.quic_c.proofs.Types.{is_kept, reads_front, unknown_refused}
 use Rattle.quic_c.proofs.front.read_front.Goals as goal
 
-pub returns-in-None-clause-empty : goal.returns-in-None-clause-empty
-returns-in-None-clause-empty g c =
+pub returns-in-None : goal.returns-in-None
+returns-in-None g c =
     let over : left (first_of c.args.strict c.args.payload.now) ≡ [] = rw c.in-Some.ensures.way at c.in-None.ensures.steps.0 in
     let nothing : c.args.payload.now ≡ [] = all_read c.args.strict 0 None c.args.payload.now (λ i. (c.type_inv.payload i).fits) over in
     search rules
 
-pub returns-in-Some-Err-clause-invalid : goal.returns-in-Some-Err-clause-invalid
-returns-in-Some-Err-clause-invalid g c =
+pub returns-in-Some-Err : goal.returns-in-Some-Err
+returns-in-Some-Err g c =
     let s = subst (λ f. Advances c.in-Some.iter (Some f) c.next.new.self) c.in-Some-Err.field-0-is c.in-Some-Err.ensures.steps in
     let first : left (first_of c.args.strict c.args.payload.now) ≡ Broken (invalid_of c.in-Some-Err.invalid) ∷ [] = rw c.in-Some.ensures.way at s.0 in
-    λ _. record { told = invalid_of c.in-Some-Err.invalid; first = inl first; is = c.show_invalid-in-Some-Err.ensures }
+    let tells : TellsNone c.args.strict c.args.basic c.args.payload.now c.show_invalid-in-Some-Err.result = record { told = invalid_of c.in-Some-Err.invalid; first = inl first; is = c.show_invalid-in-Some-Err.ensures } in
+    record {
+      answers = inr (inl refl);
+      empty = search rules;
+      invalid = λ _. tells;
+      same = search rules;
+      kept = λ _. refl;
+    }
 
-pub returns-else-is_unknown-clause-answers : goal.returns-else-is_unknown-clause-answers
-returns-else-is_unknown-clause-answers g c =
+pub returns-else-is_unknown : goal.returns-else-is_unknown
+returns-else-is_unknown g c =
     let frame = c.in-Some-Ok.frame in
     let here : c.in-Some.iter ≡ first_of c.args.strict c.args.payload.now = c.in-Some.ensures.way in
     let steps : Finds c.in-Some.iter frame c.next.new.self = subst (λ f. Advances c.in-Some.iter (Some f) c.next.new.self) c.in-Some-Ok.field-0-is c.in-Some-Ok.ensures.steps in
     let finds : Finds (first_of c.args.strict c.args.payload.now) frame c.next.new.self = subst (λ w. Finds w frame c.next.new.self) here steps in
     let begins = c.type_read-ty.ensures.value (first_of c.args.strict c.args.payload.now) frame finds in
-    let known : (c.args.basic ≡ true) × IsExtension (kind_of frame) → ⊥ = search rules in
+    let known = is_kept c.args.basic _ frame c.is_unknown.ensures c.if-is_unknown.false in
     let ends = c.pass_run-end.ensures in
     let reads =
     reads_front c.args.strict c.args.basic c.args.payload.now c.args.gaps.now c.pass_run-end.result c.show_front.result c.show_front.new.gaps frame c.next.new.self c.pass_run-end.new.iter
     c.type_read-ty.result finds known ends.run ends.one ends.end begins c.show_front.ensures in
-    let same : to_z w64 c.pass_run-end.result ≡ pos c.pass_run-end.result = search rules in
-    inr (inr (c.pass_run-end.result, same, reads))
+    let is : to_z w64 c.pass_run-end.result ≡ pos c.pass_run-end.result = search rules in
+    record {
+      answers = inr (inr (c.pass_run-end.result, is, reads));
+      empty = search rules;
+      invalid = search rules;
+      same = search rules;
+      kept = search rules;
+    }
 
-pub returns-then-is_unknown-clause-invalid : goal.returns-then-is_unknown-clause-invalid
-returns-then-is_unknown-clause-invalid g c =
+pub returns-then-is_unknown : goal.returns-then-is_unknown
+returns-then-is_unknown g c =
     let frame = c.in-Some-Ok.frame in
     let told = invalid_of c.unknown.result in
     let steps : Finds c.in-Some.iter frame c.next.new.self = subst (λ f. Advances c.in-Some.iter (Some f) c.next.new.self) c.in-Some-Ok.field-0-is c.in-Some-Ok.ensures.steps in
     let finds : Finds (first_of c.args.strict c.args.payload.now) frame c.next.new.self = subst (λ w. Finds w frame c.next.new.self) c.in-Some.ensures.way steps in
-    let tells : told ≡ unknown_told (kind_of frame) = c.unknown.ensures ∙ ap (λ p. unknown_told p.kind) c.parts_of.ensures in
-    λ _. record {
-      told = told;
-      first = unknown_refused c.args.basic (first_of c.args.strict c.args.payload.now) c.next.new.self frame told finds (c.is_unknown.ensures.0 c.if-is_unknown.true) tells;
-      is = c.show_invalid.ensures;
+    let says : told ≡ unknown_told (kind_of frame) = c.unknown.ensures ∙ ap (λ p. unknown_told p.kind) c.parts_of.ensures in
+    let first = unknown_refused c.args.basic (first_of c.args.strict c.args.payload.now) c.next.new.self frame told finds (c.is_unknown.ensures.0 c.if-is_unknown.true) says in
+    let tells : TellsNone c.args.strict c.args.basic c.args.payload.now c.show_invalid.result = record { told = told; first = first; is = c.show_invalid.ensures } in
+    record {
+      answers = inr (inl refl);
+      empty = search rules;
+      invalid = λ _. tells;
+      same = search rules;
+      kept = λ _. refl;
     }

@@ -377,14 +377,19 @@ ngtcp2_ssize ngtcp2_pkt_encode_datagram_frame(uint8_t *out, size_t outlen,
 
 ngtcp2_ssize ngtcp2_pkt_encode_ack_frame(uint8_t *out, size_t outlen,
                                          quic_wire_ng_ack_written *fr) {
-  const quic_wire_frame f = {
-      .kind = QUIC_WIRE_ACK,
-      .flags = fr->type == NGTCP2_FRAME_ACK_ECN ? QUIC_WIRE_FLAG_ECN : 0,
-      .datalen = fr->first_ack_range,
-      .numbers = {(uint64_t)fr->largest_ack, fr->ack_delay, fr->ecn.ect0,
-                  fr->ecn.ect1, fr->ecn.ce}};
+  quic_wire_frame f;
   size_t n = 0;
-  int rv = quic_wire_ack_gaps_write(&f, (const quic_wire_gap *)fr->ranges,
-                                    fr->rangecnt, out, outlen, &n);
+  int rv;
+
+  f.kind = QUIC_WIRE_ACK;
+  f.flags = fr->type == NGTCP2_FRAME_ACK_ECN ? QUIC_WIRE_FLAG_ECN : 0;
+  f.datalen = fr->first_ack_range;
+  f.ack.largest = (uint64_t)fr->largest_ack;
+  f.ack.delay = fr->ack_delay;
+  f.ack.ect0 = fr->ecn.ect0;
+  f.ack.ect1 = fr->ecn.ect1;
+  f.ack.ce = fr->ecn.ce;
+  rv = quic_wire_ack_gaps_write(&f, (const quic_wire_gap *)fr->ranges,
+                                fr->rangecnt, out, outlen, &n);
   return written(rv, n);
 }

@@ -306,8 +306,7 @@ ngtcp2_pkt_encode_new_connection_id_frame(uint8_t *out, size_t outlen,
 }
 
 /* Writes |f| with the |cnt| pieces of |data| behind it, the last bytes of a
- * payload where |last| isn't 0.  The head gets the room that the data leave, so
- * nothing is written where they don't fit. */
+ * payload where |last| isn't 0. */
 static inline ngtcp2_ssize put_pieces(uint8_t *out, size_t outlen,
                                       quic_wire_frame *f, int last,
                                       const ngtcp2_vec *data, size_t cnt) {
@@ -319,13 +318,13 @@ static inline ngtcp2_ssize put_pieces(uint8_t *out, size_t outlen,
   for (piece = data; piece != end; ++piece) {
     len += piece->len;
   }
-  if (outlen < len) {
-    return NGTCP2_ERR_NOBUF;
-  }
   f->datalen = len;
-  rv = quic_wire_frame_head_write(f, last, out, outlen - len, &n);
+  rv = quic_wire_frame_head_write(f, last, out, outlen, &n);
   if (rv != QUIC_WIRE_OK) {
     return written(rv, n);
+  }
+  if (outlen - n < len) {
+    return NGTCP2_ERR_NOBUF;
   }
   p = out + n;
   for (piece = data; piece != end; ++piece) {

@@ -305,8 +305,7 @@ ngtcp2_pkt_encode_new_connection_id_frame(uint8_t *out, size_t outlen,
 }
 
 /* Writes |f| with the |cnt| pieces of |data| behind it, the last bytes of a
- * payload where |last| isn't 0.  The head gets the room that the data leave, so
- * nothing is written where they don't fit. */
+ * payload where |last| isn't 0. */
 static inline ngtcp2_ssize put_pieces(uint8_t *out, size_t outlen,
                                       quic_wire_frame *f, int last,
                                       const ngtcp2_vec *data, size_t cnt) {
@@ -318,13 +317,13 @@ static inline ngtcp2_ssize put_pieces(uint8_t *out, size_t outlen,
   for (piece = data; piece != end; ++piece) {
     len += piece->len;
   }
-  if (outlen < len) {
-    return NGTCP2_ERR_NOBUF;
-  }
   f->datalen = len;
-  rv = quic_wire_frame_head_write(f, last, out, outlen - len, &n);
+  rv = quic_wire_frame_head_write(f, last, out, outlen, &n);
   if (rv != QUIC_WIRE_OK) {
     return written(rv, n);
+  }
+  if (outlen - n < len) {
+    return NGTCP2_ERR_NOBUF;
   }
   p = out + n;
   for (piece = data; piece != end; ++piece) {
@@ -376,14 +375,19 @@ ngtcp2_ssize ngtcp2_pkt_encode_datagram_frame(uint8_t *out, size_t outlen,
 
 ngtcp2_ssize ngtcp2_pkt_encode_ack_frame(uint8_t *out, size_t outlen,
                                          quic_wire_ng_ack_written *fr) {
-  const quic_wire_frame f = {
-      .kind = QUIC_WIRE_ACK,
-      .flags = fr->type == NGTCP2_FRAME_ACK_ECN ? QUIC_WIRE_FLAG_ECN : 0,
-      .datalen = fr->first_ack_range,
-      .numbers = {(uint64_t)fr->largest_ack, fr->ack_delay, fr->ecn.ect0,
-                  fr->ecn.ect1, fr->ecn.ce}};
+  quic_wire_frame f;
   size_t n = 0;
-  int rv = quic_wire_ack_gaps_write(&f, (const quic_wire_gap *)fr->ranges,
-                                    fr->rangecnt, out, outlen, &n);
+  int rv;
+
+  f.kind = QUIC_WIRE_ACK;
+  f.flags = fr->type == NGTCP2_FRAME_ACK_ECN ? QUIC_WIRE_FLAG_ECN : 0;
+  f.datalen = fr->first_ack_range;
+  f.ack.largest = (uint64_t)fr->largest_ack;
+  f.ack.delay = fr->ack_delay;
+  f.ack.ect0 = fr->ecn.ect0;
+  f.ack.ect1 = fr->ecn.ect1;
+  f.ack.ce = fr->ecn.ce;
+  rv = quic_wire_ack_gaps_write(&f, (const quic_wire_gap *)fr->ranges,
+                                fr->rangecnt, out, outlen, &n);
   return written(rv, n);
 }

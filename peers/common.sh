@@ -41,6 +41,27 @@ debian_lists() {
 # callgrind FILE COMMAND..: a command, its instructions counted to a file.
 callgrind() { valgrind -q --tool=callgrind --callgrind-out-file="$1" "${@:2}"; }
 
+# spent COMMAND..: how many milliseconds of processor time a command takes with all that it starts.
+spent() {
+    local TIMEFORMAT='%U %S' both
+    both=$({ time "$@" >/dev/null 2>&1; } 2>&1)
+    awk '{printf "%d", ($1 + $2) * 1000 + 0.5}' <<<"$both"
+}
+
+# timed WHAT COMMAND..: a row of the least processor time of `COMMAND own` and `COMMAND over`, ten times each in turn.
+timed() {
+    local what=$1 round v ms
+    local -A least=()
+    shift
+    for round in {1..10}; do
+        for v in own over; do
+            ms=$(spent "$@" "$v")
+            [ "$round" != 1 ] && [ "$ms" -ge "${least[$v]}" ] || least[$v]=$ms
+        done
+    done
+    row "$what" "${least[own]}" "${least[over]}"
+}
+
 # parts TITLE UNIT PARTS OWN OVER: rows of what each part of a program takes, by two profiles (count.py).
 parts() {
     python3 "$here/count.py" "$@" | while IFS=$'\t' read -r what own over; do row "$what" "$own" "$over"; done

@@ -151,7 +151,7 @@ impl<'a> Iter<'a> {
 // Whether a byte of PADDING stands at the front.
 #[inline(always)]
 fn is_padding(bytes: &[u8]) -> bool
-    ensures front { IsTrue result → bytes.now ≡ 0 ∷ drop 1 bytes.now }
+    ensures front { IsTrue result ↔ (bytes.now ≡ 0 ∷ drop 1 bytes.now) }
     ensures bytes { AreBytes bytes.now }
 {
     match bytes.first() {

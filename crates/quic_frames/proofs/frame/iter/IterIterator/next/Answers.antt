@@ -17,7 +17,7 @@ pub returns-then-is_padding-clause-steps : goal.returns-then-is_padding-clause-s
 returns-then-is_padding-clause-steps c =
     let self = c.self.inside in
     padding_here self.strict self.payload.now self.offset self.last self.is_broken _ c.self.view_is c.if-self.false c.self.invariant (sym c.is_empty.ensures ∙ c.if-is_empty.false)
-    c.is_padding.ensures.bytes (c.is_padding.ensures.front c.if-is_padding.true)
+    c.is_padding.ensures.bytes (c.is_padding.ensures.front.0 c.if-is_padding.true)
 
 pub returns-then-is_padding-clause-goes : goal.returns-then-is_padding-clause-goes
 returns-then-is_padding-clause-goes c =

@@ -1,10 +1,10 @@
 /*
- * ngtcp2's readers of frames, and its writers of those whose data stand in one
- * piece, over quic_wire.h.
+ * ngtcp2's readers and writers of frames, over quic_wire.h.
  */
 #include <string.h>
 
 #include "ngtcp2_cid.h"
+#include "ngtcp2_str.h"
 #include "quic_wire_ng.h"
 
 /* ---- Read */
@@ -302,6 +302,76 @@ ngtcp2_pkt_encode_new_connection_id_frame(uint8_t *out, size_t outlen,
   return put(out, outlen, QUIC_WIRE_NEW_CONNECTION_ID, fr->seq,
              fr->retire_prior_to, 0, data, len,
              NGTCP2_STATELESS_RESET_TOKENLEN);
+}
+
+/* Writes |f| with the |cnt| pieces of |data| behind it, the last bytes of a
+ * payload where |last| isn't 0.  The head gets the room that the data leave, so
+ * nothing is written where they don't fit. */
+static inline ngtcp2_ssize put_pieces(uint8_t *out, size_t outlen,
+                                      quic_wire_frame *f, int last,
+                                      const ngtcp2_vec *data, size_t cnt) {
+  const ngtcp2_vec *end = data + cnt, *piece;
+  size_t len = 0, n = 0;
+  uint8_t *p;
+  int rv;
+
+  for (piece = data; piece != end; ++piece) {
+    len += piece->len;
+  }
+  if (outlen < len) {
+    return NGTCP2_ERR_NOBUF;
+  }
+  f->datalen = len;
+  rv = quic_wire_frame_head_write(f, last, out, outlen - len, &n);
+  if (rv != QUIC_WIRE_OK) {
+    return written(rv, n);
+  }
+  p = out + n;
+  for (piece = data; piece != end; ++piece) {
+    p = piece->len ? ngtcp2_cpymem(p, piece->base, piece->len) : p;
+  }
+  return p - out;
+}
+
+/* What is looked at of a frame whose head alone is written. */
+static inline void head_of(quic_wire_frame *f, uint16_t kind, uint32_t flags,
+                           uint64_t id, uint64_t offset) {
+  f->kind = kind;
+  f->flags = flags;
+  f->numbers[0] = id;
+  f->numbers[1] = offset;
+  f->numbers[2] = f->numbers[3] = f->numbers[4] = 0;
+}
+
+ngtcp2_ssize ngtcp2_pkt_encode_stream_frame(uint8_t *out, size_t outlen,
+                                            ngtcp2_stream *fr) {
+  quic_wire_frame f;
+  ngtcp2_ssize n;
+
+  head_of(&f, QUIC_WIRE_STREAM, fr->fin ? QUIC_WIRE_FLAG_FIN : 0,
+          (uint64_t)fr->stream_id, fr->offset);
+  n = put_pieces(out, outlen, &f, 0, fr->data, fr->datacnt);
+  if (n > 0) {
+    fr->flags = out[0] & 0x7;
+  }
+  return n;
+}
+
+ngtcp2_ssize ngtcp2_pkt_encode_crypto_frame(uint8_t *out, size_t outlen,
+                                            const quic_wire_ng_crypto *fr) {
+  quic_wire_frame f;
+
+  head_of(&f, QUIC_WIRE_CRYPTO, 0, 0, fr->offset);
+  return put_pieces(out, outlen, &f, 0, fr->data, fr->datacnt);
+}
+
+ngtcp2_ssize ngtcp2_pkt_encode_datagram_frame(uint8_t *out, size_t outlen,
+                                              const ngtcp2_datagram *fr) {
+  quic_wire_frame f;
+
+  head_of(&f, QUIC_WIRE_DATAGRAM, 0, 0, 0);
+  return put_pieces(out, outlen, &f, fr->type == NGTCP2_FRAME_DATAGRAM,
+                    fr->data, fr->datacnt);
 }
 
 ngtcp2_ssize ngtcp2_pkt_encode_ack_frame(uint8_t *out, size_t outlen,

@@ -55,26 +55,28 @@ static void show_close(const ngtcp2_connection_close *close) {
   }
 }
 
-static void show_frame(const ngtcp2_frame *f) {
+static void show_stream(const ngtcp2_stream *f) {
+  printf(" %ld %lu flags %d fin %d", (long)f->stream_id, f->offset, f->flags,
+         f->fin);
+  data(f->data, f->datacnt);
+}
+
+static void show_new_token(const ngtcp2_new_token *f) {
+  printf(" data %zu+%zu", (size_t)(NG_TOKEN(f) - bytes),
+         (size_t)NG_TOKENLEN(f));
+}
+
+static void show_new_id(const ngtcp2_new_connection_id *f) {
+  printf(" %lu %lu", f->seq, f->retire_prior_to);
+  id("id", &f->cid);
+  hex("token", NG_RESET_TOKEN(f), 16);
+}
+
+/* Shows a frame of nothing but numbers, and nothing of another. */
+static void show_numbers(const ngtcp2_frame *f) {
   switch (f->ping.type) {
   case NGTCP2_FRAME_PADDING:
     printf(" %zu", f->padding.len);
-    return;
-  case NGTCP2_FRAME_ACK:
-  case NGTCP2_FRAME_ACK_ECN:
-    show_ack(&f->ack);
-    return;
-  case NGTCP2_FRAME_STREAM:
-    printf(" %ld %lu flags %d fin %d", (long)f->stream.stream_id,
-           f->stream.offset, f->stream.flags, f->stream.fin);
-    data(f->stream.data, f->stream.datacnt);
-    return;
-  case NGTCP2_FRAME_CRYPTO:
-    show_crypto((const quic_wire_ng_crypto *)f);
-    return;
-  case NGTCP2_FRAME_NEW_TOKEN:
-    printf(" data %zu+%zu", (size_t)(NG_TOKEN(&f->new_token) - bytes),
-           (size_t)NG_TOKENLEN(&f->new_token));
     return;
   case NGTCP2_FRAME_RESET_STREAM:
     printf(" %ld %lu %lu", (long)f->reset_stream.stream_id,
@@ -98,11 +100,28 @@ static void show_frame(const ngtcp2_frame *f) {
   case NGTCP2_FRAME_RETIRE_CONNECTION_ID:
     printf(" %lu", f->max_data.max_data);
     return;
+  default:
+    return;
+  }
+}
+
+static void show_frame(const ngtcp2_frame *f) {
+  switch (f->ping.type) {
+  case NGTCP2_FRAME_ACK:
+  case NGTCP2_FRAME_ACK_ECN:
+    show_ack(&f->ack);
+    return;
+  case NGTCP2_FRAME_STREAM:
+    show_stream(&f->stream);
+    return;
+  case NGTCP2_FRAME_CRYPTO:
+    show_crypto((const quic_wire_ng_crypto *)f);
+    return;
+  case NGTCP2_FRAME_NEW_TOKEN:
+    show_new_token(&f->new_token);
+    return;
   case NGTCP2_FRAME_NEW_CONNECTION_ID:
-    printf(" %lu %lu", f->new_connection_id.seq,
-           f->new_connection_id.retire_prior_to);
-    id("id", &f->new_connection_id.cid);
-    hex("token", NG_RESET_TOKEN(&f->new_connection_id), 16);
+    show_new_id(&f->new_connection_id);
     return;
   case NGTCP2_FRAME_PATH_CHALLENGE:
   case NGTCP2_FRAME_PATH_RESPONSE:
@@ -117,7 +136,7 @@ static void show_frame(const ngtcp2_frame *f) {
     data(f->datagram.data, f->datagram.datacnt);
     return;
   default:
-    return;
+    show_numbers(f);
   }
 }
 

@@ -59,6 +59,36 @@ fn dir(x: theirs::Dir) -> Dir {
     }
 }
 
+#[inline]
+fn reset(x: theirs::ResetStream) -> frame::ResetStream {
+    frame::ResetStream { id: id(x.id), error_code: var(x.error_code), final_offset: var(x.final_offset) }
+}
+
+#[inline]
+fn new_id(x: theirs::NewConnectionId<'_>) -> frame::NewConnectionId {
+    frame::NewConnectionId {
+        sequence: x.sequence,
+        retire_prior_to: x.retire_prior_to,
+        id: ConnectionId::new(x.id),
+        reset_token: (*x.reset_token).into(),
+    }
+}
+
+#[inline]
+fn close(payload: &Bytes, x: theirs::Close<'_>) -> frame::Close {
+    match x {
+        theirs::Close::Connection(x) => frame::Close::Connection(frame::ConnectionClose {
+            error_code: TransportErrorCode::of(x.error_code.into()),
+            frame_type: x.frame_type.map(|t| Type(t.into())),
+            reason: payload.slice_ref(x.reason),
+        }),
+        theirs::Close::Application(x) => frame::Close::Application(frame::ApplicationClose {
+            error_code: var(x.error_code),
+            reason: payload.slice_ref(x.reason),
+        }),
+    }
+}
+
 /// The frame with its data counted in `payload`, which it was read of.
 #[inline]
 pub(crate) fn owned<'a>(payload: &Bytes, frame: Frame<'a>) -> frame::Frame<'a> {
@@ -67,11 +97,7 @@ pub(crate) fn owned<'a>(payload: &Bytes, frame: Frame<'a>) -> frame::Frame<'a> {
         Frame::Padding => Ours::Padding,
         Frame::Ping => Ours::Ping,
         Frame::Ack(ack) => Ours::Ack(ack),
-        Frame::ResetStream(x) => Ours::ResetStream(frame::ResetStream {
-            id: id(x.id),
-            error_code: var(x.error_code),
-            final_offset: var(x.final_offset),
-        }),
+        Frame::ResetStream(x) => Ours::ResetStream(reset(x)),
         Frame::StopSending(x) => {
             Ours::StopSending(frame::StopSending { id: id(x.id), error_code: var(x.error_code) })
         }
@@ -91,28 +117,11 @@ pub(crate) fn owned<'a>(payload: &Bytes, frame: Frame<'a>) -> frame::Frame<'a> {
         Frame::DataBlocked { offset } => Ours::DataBlocked { offset },
         Frame::StreamDataBlocked { id: x, offset } => Ours::StreamDataBlocked { id: id(x), offset },
         Frame::StreamsBlocked { dir: x, limit } => Ours::StreamsBlocked { dir: dir(x), limit },
-        Frame::NewConnectionId(x) => Ours::NewConnectionId(frame::NewConnectionId {
-            sequence: x.sequence,
-            retire_prior_to: x.retire_prior_to,
-            id: ConnectionId::new(x.id),
-            reset_token: (*x.reset_token).into(),
-        }),
+        Frame::NewConnectionId(x) => Ours::NewConnectionId(new_id(x)),
         Frame::RetireConnectionId { sequence } => Ours::RetireConnectionId { sequence },
         Frame::PathChallenge(x) => Ours::PathChallenge(x),
         Frame::PathResponse(x) => Ours::PathResponse(x),
-        Frame::Close(theirs::Close::Connection(x)) => {
-            Ours::Close(frame::Close::Connection(frame::ConnectionClose {
-                error_code: TransportErrorCode::of(x.error_code.into()),
-                frame_type: x.frame_type.map(|t| Type(t.into())),
-                reason: payload.slice_ref(x.reason),
-            }))
-        }
-        Frame::Close(theirs::Close::Application(x)) => {
-            Ours::Close(frame::Close::Application(frame::ApplicationClose {
-                error_code: var(x.error_code),
-                reason: payload.slice_ref(x.reason),
-            }))
-        }
+        Frame::Close(x) => Ours::Close(close(payload, x)),
         Frame::Datagram(x) => Ours::Datagram(frame::Datagram { data: payload.slice_ref(x.data) }),
         Frame::HandshakeDone => Ours::HandshakeDone,
         // Of an extension that this version of quinn doesn't know: `Iter::new` reads without it.

@@ -28,10 +28,9 @@ def stored(top):
     """The lists of the repository, each with a command."""
     data = f"{top}/crates/quic_replay/data"
     payloads = read_lines(f"{data}/payloads.in")
-    canonical = read_lines(f"{data}/canonical.in")
     datagrams = read_lines(f"{data}/datagrams.in")
     params = read_lines(f"{data}/params.in")
-    lists = {"frames": payloads + canonical, "strict": payloads + canonical}
+    lists = {"frames": payloads, "strict": payloads}
     for length in (0, 8, 20):
         lists[f"datagram {length}"] = datagrams
     for side in ("client", "server"):

@@ -7,17 +7,14 @@
 //! which has no version 2. Those on `params.in`, as a client and as a
 //! server gets them, come from the Rust crate. Those on `payloads.in`, in their shortest form and with types in
 //! their shortest form alone, come from a plain model, which agrees with the Rust crate on all that it reads.
-//! `canonical.in` holds each payload in its shortest form that stands among these answers: it must come out as it
-//! is, and be read without an error where types count in their shortest form alone.
 #![tactic(auto)]
 
 use quic_text::{FromRead, Mode, ToWrite, mode_of, run};
 use std::fs::File;
-use std::io;
 use std::process::ExitCode;
 
 // The words of a mode, and the file that holds its lines.
-const LISTS: [(&[&str], &str); 8] = [
+const LISTS: [(&[&str], &str); 7] = [
     (&["datagram", "0"], "datagrams.in"),
     (&["datagram", "8"], "datagrams.in"),
     (&["datagram", "20"], "datagrams.in"),
@@ -25,7 +22,6 @@ const LISTS: [(&[&str], &str); 8] = [
     (&["params", "server"], "params.in"),
     (&["canon"], "payloads.in"),
     (&["strict"], "payloads.in"),
-    (&["canon"], "canonical.in"),
 ];
 
 fn main(rt: HostRuntime) -> ExitCode {
@@ -36,9 +32,6 @@ fn main(rt: HostRuntime) -> ExitCode {
         if !replayed(&rt, mode, file) {
             return ExitCode::from(3);
         }
-    }
-    if !is_read_strictly(&rt, "canonical.in") {
-        return ExitCode::from(1);
     }
     ExitCode::from(0)
 }
@@ -51,14 +44,4 @@ fn replayed(rt: &HostRuntime, mode: Mode, file: &str) -> bool {
     let mut source = FromRead::new(lines);
     let mut sink = ToWrite::new(rt.stdout());
     run(rt.alloc(), mode, &mut source, &mut sink).is_ok()
-}
-
-// Whether `strict` prints no `error` line of a file's lines.
-fn is_read_strictly(rt: &HostRuntime, file: &str) -> bool {
-    let Ok(lines) = File::open(rt, file) else {
-        return false;
-    };
-    let mut source = FromRead::new(lines);
-    let mut sink = ToWrite::new(io::sink());
-    run(rt.alloc(), Mode::Strict, &mut source, &mut sink) == Ok(true)
 }

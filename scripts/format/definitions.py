@@ -1,0 +1,96 @@
+"""Definitions of crates/*/specs as they stand there, and the figures that are made of them."""
+import functools
+import os
+import re
+import sys
+
+TOP = os.path.dirname(os.path.dirname(os.path.dirname(os.path.realpath(__file__))))
+
+
+def fail(what, text):
+    sys.exit(f"format-page: {what} reads otherwise than scripts/format knows:\n  {text}")
+
+
+@functools.cache
+def source(file):
+    """A definition's file without its comments."""
+    with open(os.path.join(TOP, "crates", file + ".antt"), encoding="utf-8") as it:
+        return re.sub(r" *--[^\n]*", "", it.read())
+
+
+@functools.cache
+def clauses(file, name):
+    """The clauses of a definition: for what stands left of `=`, what stands right of it, each in one line."""
+    found = re.findall(rf"^{name}((?: [^=\n]+)?) =((?:[ \n] *\S.*)(?:\n +.*)*)", source(file), re.M)
+    return {left.strip(): " ".join(right.split()) for left, right in found}
+
+
+def only(file, name):
+    """The arguments and the right side of a definition that has one clause."""
+    found = list(clauses(file, name).items())
+    if len(found) != 1:
+        fail(f"{name} in crates/{file}.antt", f"it has {len(found)} clauses")
+    left, right = found[0]
+    return left.split(), right
+
+
+@functools.cache
+def fields_of(file, record):
+    """The fields of a record, or the constructors of a type, each with its type in one line."""
+    body = re.search(rf"^pub (?:record|data) {record}\b.* where((?:\n  .*)+)", source(file), re.M)
+    found = re.findall(r"\n  (?:pub )?(\w+) : (.*(?:\n   +.*)*)", body[1] if body else "")
+    return {name: " ".join(text.split()) for name, text in found}
+
+
+def matched(template, text):
+    """What a text has in place of the holes of a template that it otherwise is: `<name>` is a word, `<name..>` any
+    text. Nothing where it isn't the template."""
+    seen = set()
+
+    def hole(found):
+        name, more = found.groups()
+        group = f"(?P={name})" if name in seen else f"(?P<{name}>{'.+' if more else '[^ ()]+'})"
+        seen.add(name)
+        return group
+
+    found = re.fullmatch(re.sub(r"<(\w+)(\\\.\\\.)?>", hole, re.escape(template)), text)
+    return found and {name: int(it, 0) if it[0].isdigit() else it for name, it in found.groupdict().items()}
+
+
+def said(file, name, left, template):
+    """The same of a clause of a definition, or of a field of a record, which must be the template."""
+    text = {**clauses(file, name), **fields_of(file, name)}.get(left, "(nothing)")
+    found = matched(template, text)
+    if found is None:
+        fail(f"{name} {left} in crates/{file}.antt", text)
+    return found
+
+
+def listed(text, what):
+    """The items of a list that is written out."""
+    *items, end = text.split(" ∷ ")
+    if end != "[]":
+        fail(what, text)
+    return items
+
+
+def log_of(number, what):
+    """How many bits tell so many values apart, which are a power of two."""
+    if number & (number - 1):
+        fail(what, f"{number} is no power of two")
+    return number.bit_length() - 1
+
+
+def figure(title, lines):
+    return [f"    {title} {{", *(f"      {line}," for line in lines), "    }", ""]
+
+
+def beneath(rows, file, notes=()):
+    """What a figure is made from, and what it can't say."""
+    names = ", ".join(f"`{row}`" for row in rows)
+    return [" ".join([f"From {names}, crates/{file}.antt.", *notes]), ""]
+
+
+def table(head, rows):
+    lines = [f"| {' | '.join(row)} |" for row in [head, *rows]]
+    return [lines[0], "|" + "---|" * len(head), *lines[1:], ""]

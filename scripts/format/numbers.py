@@ -1,0 +1,55 @@
+"""Numbers (RFC 9000, section 16), stream ids (2.1) and error codes (20.1)."""
+import re
+
+from format.definitions import clauses, said, source, table
+
+VARINT = "quic_base/specs/Varint"
+IDS = "quic_base/specs/Ids"
+CODES = "quic_errors/specs/Codes"
+
+
+def varints():
+    """The widths of numbers."""
+    said(VARINT, "Spells", "width", "length b ≡ 2 ^ tag")
+    less = said(VARINT, "Spells", "fits", "v < 2 ^ (8 * 2 ^ tag - <bits>)")["bits"]
+    said(VARINT, "Spells", "value", f"num b ≡ tag * 2 ^ (8 * 2 ^ tag - {less}) + v")
+    said(VARINT, "short", "v", (
+        "if nat_lt v (2 ^ 6) then v ∷ [] else if nat_lt v (2 ^ 14) then bytes_of 2 (2 ^ 14 + v) else if nat_lt v"
+        " (2 ^ 30) then bytes_of 4 (2 * 2 ^ 30 + v) else bytes_of 8 (3 * 2 ^ 62 + v)"))
+    for tag in range(said(VARINT, "Spells", "tag_fits", "tag < <count>")["count"]):
+        width = 2 ** tag
+        yield f"{tag:02b}", str(width), str(8 * width - less), f"0-{2 ** (8 * width - less) - 1}"
+
+
+def streams():
+    """The low bits of stream ids."""
+    said(IDS, "stream_number", "side dir index", "4 * index + 2 * dir_number dir + side_number side")
+    said(IDS, "initiator_of", "n", "if n % 2 == 0 then Client else Server")
+    said(IDS, "dir_of", "n", "if n / 2 % 2 == 0 then Bi else Uni")
+    words = {"Bi": "Bidirectional", "Uni": "Unidirectional"}
+    for direction, high in clauses(IDS, "dir_number").items():
+        for side, low in clauses(IDS, "side_number").items():
+            yield f"{2 * int(high) + int(low):#04x}", f"{side}-Initiated, {words[direction]}"
+
+
+def codes():
+    """The numbers of errors by their names."""
+    for name in re.findall(r"^abbrev pub (\w+) : ℕ\n", source(CODES), re.M):
+        yield f"{said(CODES, name, '', '<number>')['number']:#04x}", name.upper(), f"`{name}`"
+    alerts = said(CODES, "other_text", "code", "if nat_le <least> code && nat_le code <most> then <texts..>")
+    yield f"{alerts['least']:#06x}-{alerts['most']:#06x}", "CRYPTO_ERROR", "`other_text`"
+
+
+def page():
+    yield from ["## Numbers", ""]
+    yield (
+        f"A number (i) is spelled in one of these widths (RFC 9000, 16; `Spells`, crates/{VARINT}.antt), at its"
+        " shortest in the first that has it (`short`):")
+    yield ""
+    yield from table(["2MSB", "Length", "Usable Bits", "Range"], varints())
+    yield f"Stream IDs (RFC 9000, 2.1; `stream_number`, crates/{IDS}.antt) say by their low two bits:"
+    yield ""
+    yield from table(["Bits", "Stream Type"], streams())
+    yield f"Error codes (RFC 9000, 20.1; crates/{CODES}.antt) are:"
+    yield ""
+    yield from table(["Value", "Code", "word"], codes())

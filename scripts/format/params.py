@@ -1,0 +1,155 @@
+"""The table of transport parameters (RFC 9000, section 18), from crates/quic_params/specs."""
+import re
+
+from format.definitions import beneath, clauses, fail, fields_of, figure, listed, matched, said, table
+
+LONG_ID = "quic_base/specs/ConnectionId"
+TABLE = "quic_params/specs/Table"
+VALUE = "quic_params/specs/Value"
+ADDRESS = "quic_params/specs/Address"
+ENTRY = "quic_params/specs/Entry"
+RECORD = "quic_params/specs/Record"
+MEANING = "quic_params/specs/Meaning"
+RESERVED = "quic_params/specs/Reserved"
+
+# The RFC's names of what is named otherwise, and sections of other documents than RFC 9000, 18.2.
+NAMES = {"ReservedTransportParameter": "reserved", "MinAckDelayDraft07": "min_ack_delay"}
+SECTIONS = {
+    "ReservedTransportParameter": "18.1", "MaxDatagramFrameSize": "RFC 9221, 3", "GreaseQuicBit": "RFC 9287, 3",
+    "MinAckDelayDraft07": "ACK frequency draft, 3",
+}
+# What a value is by its kind, from the clause of IsSpelled of a kind with such a value.
+KINDS = {
+    "(n < 2 ^ 62) × (b ≡ short n)": lambda: "(i), shortest alone",
+    "Spells n b": lambda: "(i)",
+    "b ≡ []": lambda: "(0)",
+    "(b ≡ t) × (length t ≡ <width>)": lambda width: f"({8 * width})",
+    "(b ≡ id) × (length id ≤ <most>)": lambda most: f"(0..{8 * most})",
+    "IsAddress a b": lambda: "Preferred Address",
+}
+# What a side takes, from a field of IsValid: the parameter that is spoken of, and what it must be.
+BOUNDS = {
+    "p.<name> ≤ <most>": lambda most: f"at most {most}",
+    "p.<name> ≤ 2 ^ <most>": lambda most: f"at most 2^{most}",
+    "p.<name> < 2 ^ <most>": lambda most: f"below 2^{most}",
+    "<least> ≤ p.<name>": lambda least: f"at least {least}",
+    "IfSome p.<name> (λ d. d ≤ <unit> * p.<other>)": lambda unit, other: f"at most {unit} times {other}",
+    "IfSome p.<name> (λ a. a.connection_id ≢ [])": lambda: "Connection ID nonempty",
+    "side ≡ <side> → p.<name> ≡ None": lambda side: f"absent from a {'client' if side == 'Server' else 'server'}",
+}
+
+
+def identifiers():
+    """The parameters by their number: place in the table, kind, whether once."""
+    for name, text in clauses(TABLE, "row").items():
+        found = matched("<how> <index> <number> <kind..>", text)
+        if not found or found["how"] not in ("single", "repeated"):
+            fail(f"row {name} in crates/{TABLE}.antt", text)
+        if listed(clauses(TABLE, "ids")[""], "ids")[found["index"]:][:1] != [name]:
+            fail(f"row {name} in crates/{TABLE}.antt", f"{text}: not its place in ids")
+        yield name, found["index"], found["number"], found["kind"].strip("()"), found["how"] == "single"
+
+
+def fields():
+    """The fields of a record, at their places in the table."""
+    slots = listed(clauses(RECORD, "slots")["p"], f"slots in crates/{RECORD}.antt")
+    return [(re.findall(r"\bp\.(\w+)", slot) or [""])[0] for slot in slots]
+
+
+def value_of(kind):
+    """What a value of a kind is, and its default."""
+    head, _, default = kind.partition(" ")
+    if head == "K.Skipped":
+        said(ENTRY, "IsKnown", "counts", "(row id).kind ≢ K.Skipped")
+        return "(..)", ""
+    spelled = {re.search(r"[KV_][.\w]*", left)[0]: text for left, text in clauses(VALUE, "IsSpelled").items()}
+    for template, words in KINDS.items():
+        found = matched(template, spelled.get(head, ""))
+        if found is not None:
+            said(VALUE, "default_of", "(K.Integer d)", "Some (V.Number d)")
+            return words(**found), default
+    return fail(f"IsSpelled {head} in crates/{VALUE}.antt", spelled.get(head, ""))
+
+
+def bounds():
+    """What must be so of each field of a record."""
+    told = {}
+    for name, text in fields_of(MEANING, "IsValid").items():
+        for template, words in BOUNDS.items():
+            found = matched(template, text)
+            if found is not None:
+                told.setdefault(found.pop("name"), []).append(words(**found))
+                break
+        else:
+            fail(f"{name} of IsValid in crates/{MEANING}.antt", text)
+    return told
+
+
+def snake(name):
+    return re.sub(r"(?<=[a-z])(?=[A-Z])", "_", name).lower()
+
+
+def rows():
+    """The table of parameters, in the order of their numbers."""
+    told, held = bounds(), fields()
+    for name, index, number, kind, once in sorted(identifiers(), key=lambda it: it[2]):
+        value, default = value_of(kind)
+        must = ", ".join(told.pop(held[index], []))
+        rfc = NAMES.get(name, snake(name))
+        yield [f"{number:#04x}", rfc, value, default, must, "" if once else "yes", SECTIONS.get(name, "18.2"),
+               f"`{name}`"]
+    if told:
+        fail(f"IsValid in crates/{MEANING}.antt", f"of no parameter: {', '.join(told)}")
+
+
+def address():
+    """The figure of a preferred address."""
+    said(ADDRESS, "AreFields", "whole", "b ≡ v4 ++ v6 ++ id ++ a.stateless_reset_token")
+    lines, absent = [], []
+    for version, flow in ((4, ""), (6, " × (v6_flowinfo s ≡ 0) × (v6_scope_id s ≡ 0)")):
+        none = said(ADDRESS, f"IsV{version}", "None b", "b ≡ replicate <width> 0")["width"]
+        found = said(ADDRESS, f"IsV{version}", "(Some s) b", (
+            f"(b ≢ replicate {none} 0) × (ip port : List ℕ) × (b ≡ ip ++ port) × IsOctets <ip> (ipv{version}_octets"
+            f" (v{version}_ip s)) ip × IsNumber <port> (v{version}_port s) port{flow}"))
+        lines += [f"IPv{version} Address ({8 * found['ip']})", f"IPv{version} Port ({8 * found['port']})"]
+        absent.append(none)
+    said(LONG_ID, "IsLongId", "value", "b ≡ long_id id")
+    said(LONG_ID, "long_id", "id", "length id ∷ id")
+    most = said(LONG_ID, "IsLongId", "short", "length id ≤ <most>")["most"]
+    token = said(ADDRESS, "AreFields", "is_token", "length a.stateless_reset_token ≡ <width>")["width"]
+    said(ADDRESS, "IsAddress", "a b", "AreFields a b × Never (IsNowhere a)")
+    yield from figure("Preferred Address", [
+        *lines, "Connection ID Length (8)", f"Connection ID (0..{8 * most})", f"Stateless Reset Token ({8 * token})"])
+    yield from beneath(["AreFields"], ADDRESS, [
+        f"An address and its port that are {absent[0]} or {absent[1]} zeros are absent (`IsV4`, `IsV6`); one of the"
+        " two is there (`IsAddress`). There is no flow label and no scope (`IsV6`)."])
+
+
+def page():
+    """Lists of parameters, and each parameter."""
+    said(ENTRY, "IsEntry", "number bytes", "Follows (Spells number) (Follows (Spells (length bytes)) (Is bytes))")
+    said(ENTRY, "AreEntries", "(e ∷ es) b", "Follows (AreEntries es) (IsEntry e.number e.bytes) b")
+    said(ENTRY, "IsRepeat", "id before", "((row id).once ≡ true) × IsGiven id before")
+    said(ENTRY, "Accepts", "Passed", (
+        "((id : TransportParameterId) → Never (IsKnown id e.number)) → after ≡ before → Accepts before e after"))
+    said(ENTRY, "Accepts", "Taken", (
+        "(id : TransportParameterId) (value : Value) → IsKnown id e.number → Never (IsRepeat id before) → IsSpelled"
+        " (row id).kind value e.bytes → after ≡ record { id = id; value = value } ∷ before → Accepts before e after"))
+    said(ENTRY, "IsKnown", "number_is", "(row id).number ≡ number")
+    free = said(RESERVED, "IsReserved", "number", "number % <step> ≡ <first>")
+    yield from ["## Transport parameters", "", "### Lists (RFC 9000, 18)", ""]
+    yield from figure("Transport Parameters", ["Transport Parameter (..) ..."])
+    yield from figure("Transport Parameter", [
+        "Transport Parameter ID (i)", "Transport Parameter Length (i)", "Transport Parameter Value (..)"])
+    yield from beneath(["AreEntries", "IsEntry"], ENTRY, [
+        "Entries whose number is in no row are passed (`Accepts`). An entry that stands twice is refused, but where the"
+        " table says that it may (`IsRepeat`)."])
+    yield from ["### Parameters (RFC 9000, 18.2)", ""]
+    yield from table(["ID", "RFC's name", "value", "default", "must be", "may stand twice", "section", "row"], rows())
+    yield (
+        f"From `row`, crates/{TABLE}.antt; values from `IsSpelled`, crates/{VALUE}.antt; what they must be from"
+        f" `IsValid`, crates/{MEANING}.antt, by the names of `slots`, crates/{RECORD}.antt. Without a default what"
+        f" isn't there is absent (`default_of`). Values (..) are passed; numbers {free['step']} * N + {free['first']}"
+        f" are reserved (`IsReserved`, crates/{RESERVED}.antt).")
+    yield from ["", "### The value of preferred_address (RFC 9000, 18.2)", ""]
+    yield from address()

@@ -50,8 +50,9 @@ pub record GivesInvalid (basic : Bool) (old : FramesWords) (payload : List ℕ) 
   pub over : new ≡ record old { ended = 1 }
   pub words : out ≡ shown_invalid old.offset (type_word told.type) (reason_in told.reason)
 
--- What a call for the next frame answers and leaves: 1 with the frame; 0 where none is left; -3 with what is told of
--- something that isn't given; -1 just where the place lies outside the payload.
+-- What a call for the next frame answers and leaves, where frames of that extension are of unknown types if `basic` is
+-- true: 1 with the frame; 0 where none is left; -3 with what is told of something that isn't given; -1 just where the
+-- place lies outside the payload. Nothing changes with 0 and -1.
 pub record AnswersNext (basic : Bool) (old : FramesWords) (payload : List ℕ) (before : FrameWords) (answer : ℤ) (new : FramesWords) (after : FrameWords) : Type 0 where
   pub answers : (answer ≡ pos 1) ⊎ (answer ≡ pos 0) ⊎ (answer ≡ negsuc 2) ⊎ (answer ≡ negsuc 0)
   pub frame : answer ≡ pos 1 → GivesFrame basic old payload new after

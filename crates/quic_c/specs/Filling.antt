@@ -45,9 +45,10 @@ pub record TellsInvalid (basic : Bool) (old : FramesWords) (payload : List ℕ) 
   pub invalid : GivesInvalid basic old payload new entry
   pub entries : after ≡ entry ∷ drop 1 before
 
--- What a call for the next frames answers and leaves: 1 with how many entries were filled, one at least; 0 where no
--- frame is left; -3 with what is told of something that isn't given; -4 just where there is no entry and the place lies
--- in the payload; -1 just where it lies outside.
+-- What a call for the next frames answers and leaves, where frames of that extension are of unknown types if `basic` is
+-- true: 1 with how many entries were filled, one at least; 0 where no frame is left; -3 with what is told of something
+-- that isn't given; -4 just where there is no entry and the place lies in the payload; -1 just where it lies outside.
+-- Nothing changes with 0, -4 and -1, and the count with 1 alone.
 pub record AnswersFill (basic : Bool) (old : FramesWords) (payload : List ℕ) (before : List FrameWords) (count_before : ℕ) (answer : ℤ) (new : FramesWords) (after : List FrameWords) (count : ℕ) : Type 0 where
   pub answers : (answer ≡ pos 1) ⊎ (answer ≡ pos 0) ⊎ (answer ≡ negsuc 2) ⊎ (answer ≡ negsuc 3) ⊎ (answer ≡ negsuc 0)
   pub frames : answer ≡ pos 1 → (0 < count) × Fills basic (way_of old payload) before (way_of new payload) after count

@@ -73,7 +73,7 @@ pub record TellsNone (strict basic : Bool) (payload : List ℕ) (words : FrameWo
   pub is : words ≡ shown_invalid 0 (type_word told.type) (reason_in told.reason)
 
 -- What a call for the frame at the front answers and leaves: where it ends, with its words; -2 just where there is no
--- byte; -3 with what is told of something that isn't given.
+-- byte, and nothing changes; -3 with what is told of something that isn't given, and no entry changes.
 pub record AnswersRead (strict basic : Bool) (payload : List ℕ) (before : FrameWords) (room : List GapWords) (answer : ℤ) (after : FrameWords) (gaps : List GapWords) : Type 0 where
   pub answers : (answer ≡ negsuc 1) ⊎ (answer ≡ negsuc 2) ⊎ ((stop : ℕ) × (answer ≡ pos stop) × ReadsFront strict basic payload room stop after gaps)
   pub empty : (answer ≡ negsuc 1) ↔ (payload ≡ [])

@@ -59,12 +59,12 @@ fn dir(x: theirs::Dir) -> Dir {
     }
 }
 
-#[inline]
+#[inline(always)]
 fn reset(x: theirs::ResetStream) -> frame::ResetStream {
     frame::ResetStream { id: id(x.id), error_code: var(x.error_code), final_offset: var(x.final_offset) }
 }
 
-#[inline]
+#[inline(always)]
 fn new_id(x: theirs::NewConnectionId<'_>) -> frame::NewConnectionId {
     frame::NewConnectionId {
         sequence: x.sequence,
@@ -74,7 +74,7 @@ fn new_id(x: theirs::NewConnectionId<'_>) -> frame::NewConnectionId {
     }
 }
 
-#[inline]
+#[inline(always)]
 fn close(payload: &Bytes, x: theirs::Close<'_>) -> frame::Close {
     match x {
         theirs::Close::Connection(x) => frame::Close::Connection(frame::ConnectionClose {
@@ -90,7 +90,7 @@ fn close(payload: &Bytes, x: theirs::Close<'_>) -> frame::Close {
 }
 
 /// The frame with its data counted in `payload`, which it was read of.
-#[inline]
+#[inline(always)]
 pub(crate) fn owned<'a>(payload: &Bytes, frame: Frame<'a>) -> frame::Frame<'a> {
     use frame::Frame as Ours;
     match frame {

@@ -1,7 +1,8 @@
 #!/usr/bin/env python3
 """Writes the hostile payloads of docs/SPEED.md, a line of hexadecimal each, into files of a folder, as scripts/bench
 takes them: ACKs of 10,000 ranges whose numbers have one width or several in any order, frames of 1,150 bytes with
-numbers of 8 bytes, and 64 KiB of PADDING. They are the same each time.
+numbers of 8 bytes, 64 KiB of PADDING, and 1,200 bytes of it behind a PING whose shortest form is shorter. They are the
+same each time.
 
 scripts/counting/hostile.py FOLDER
 """
@@ -44,6 +45,7 @@ def main():
     payloads = {f"ack-{name}": ack(of) for name, of in widths.items()}
     payloads["frames-8"] = frames()
     payloads["padding-64k"] = bytes(65536)
+    payloads["padding-changing"] = b"\x40\x01" + bytes(1200)
     for name, payload in payloads.items():
         (folder / f"{name}.hex").write_text(payload.hex() + "\n")
 

@@ -1,8 +1,12 @@
 /* SPDX-License-Identifier: MIT OR Apache-2.0 */
 /*
- * What the functions of quic_wire.h do: each looks at its pointers and calls the
- * proved library.  quic_wire.h includes it where QUIC_WIRE_INLINE is defined,
- * and the library's own quic_wire.c, which makes symbols of them.
+ * What the functions of quic_wire.h do: most look at their pointers and call the
+ * proved library.  Without a call are those that give a part of what was read,
+ * quic_wire_padding_count and quic_wire_head_len; quic_wire_unprotect_head
+ * copies first, and quic_wire_head_write chooses one of two calls.  c/abuse/
+ * holds these against the proved calls.  quic_wire.h includes this file where
+ * QUIC_WIRE_INLINE is defined, and so does the library's own quic_wire.c, which
+ * makes symbols of them.
  */
 #ifndef QUIC_WIRE_INLINE_H
 #define QUIC_WIRE_INLINE_H

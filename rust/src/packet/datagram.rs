@@ -156,6 +156,10 @@ impl<'a> PartialDecode<'a> {
     /// assert_eq!((packet.place().range(), packet.place().number()), (0..14, 12));
     /// # Ok::<(), quic_wire::Error>(())
     /// ```
+    ///
+    /// # Panics
+    ///
+    /// Where the packet ends at 4 GiB of its datagram or behind.
     pub fn place(&self) -> PacketPlace {
         self.head.place(self.begin)
     }

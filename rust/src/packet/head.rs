@@ -369,6 +369,10 @@ impl Head {
     /// assert_eq!(head.place(100).range(), 100..114);
     /// # Ok::<(), quic_wire::Error>(())
     /// ```
+    ///
+    /// # Panics
+    ///
+    /// Where the packet ends at 4 GiB of its datagram or behind.
     #[inline]
     pub fn place(&self, begin: usize) -> PacketPlace {
         let number = if self.is_protected() { self.head_end() } else { self.end() };

@@ -205,6 +205,13 @@ fn a_length_that_does_not_fit_is_refused() {
     let errors = [written.set_len(&mut packet[..most + 1]), written.set_len(&mut packet[..written.number])];
     let named = ["a packet is too long for its length", "the header is longer than its packet"];
     assert_eq!(errors, named.map(|what| Err(WriteError::OutOfRange(what))));
+    let before = packet.clone();
+    for number in 0..2 {
+        let mut moved = written;
+        moved.number = number;
+        let what = WriteError::OutOfRange("no length stands before this number");
+        assert_eq!((moved.set_len(&mut packet[..most]), &packet), (Err(what), &before));
+    }
     // A short header has none.
     let short = Header::Short { spin: false, key_phase: false, dst_cid: ID, number: number(1) };
     let written = short.encode(&mut packet[..]).unwrap();

@@ -133,12 +133,13 @@ impl PartialEncode {
     // Apart, since most headers have none.
     #[inline(never)]
     fn lay_len(&self, packet: &mut [u8]) -> Result<(), WriteError> {
-        let len = packet.len().checked_sub(self.number).filter(|_| self.header_len <= packet.len());
-        let len = len.ok_or(WriteError::OutOfRange("the header is longer than its packet"))?;
-        let place = &mut packet[self.number - self.length..self.number];
-        match varint::write_in(len as u64, self.length, place) {
-            Ok(_) => Ok(()),
-            Err(_) => Err(WriteError::OutOfRange("a packet is too long for its length")),
+        if packet.len() < self.number.max(self.header_len) {
+            return Err(WriteError::OutOfRange("the header is longer than its packet"));
+        }
+        match sys::set_len(packet, self.number, self.length as u32) {
+            sys::OK => Ok(()),
+            _ if self.number < self.length => Err(WriteError::OutOfRange("no length stands before this number")),
+            _ => Err(WriteError::OutOfRange("a packet is too long for its length")),
         }
     }
 

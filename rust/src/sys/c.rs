@@ -97,6 +97,7 @@ extern "C" {
         out_len: usize,
         written: *mut usize,
     ) -> i32;
+    pub fn quic_wire_set_len_(packet: *mut u8, len: usize, place: usize, length_len: u32) -> i32;
     #[cfg(test)]
     pub fn quic_wire_number_len_(number: u64, largest_acked: u64) -> i32;
     pub fn quic_wire_number_expand_(written: u64, len: u32, expected: u64) -> u64;

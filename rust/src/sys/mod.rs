@@ -249,6 +249,13 @@ pub fn negotiation_write(
     wrote(answer, written)
 }
 
+#[inline]
+pub fn set_len(packet: &mut [u8], place: usize, length_len: u32) -> i32 {
+    // SAFETY: `packet` gives its own pointer and length and is borrowed alone. A place outside the packet is refused.
+    // The library looks at no other memory and keeps no pointer.
+    unsafe { c::quic_wire_set_len_(packet.as_mut_ptr(), packet.len(), place, length_len) }
+}
+
 // What `PacketNumber::new` finds out by itself is held against it.
 #[cfg(test)]
 pub fn number_len(number: u64, largest_acked: u64) -> i32 {

@@ -7,6 +7,8 @@
 //! behind a C interface, so it may be given room that isn't initialised: it has no way to tell, and what it answers
 //! doesn't depend on what stood there.
 mod c;
+#[cfg(test)]
+mod c_alone;
 mod words;
 
 pub use words::{Canon, Frame, Frames, Head, Param, Params, Range, Ranges, Said};

@@ -178,16 +178,19 @@ impl Header<'_> {
     /// ```
     #[inline]
     pub fn encoded_len(&self) -> usize {
+        // Any length may stand in a `PacketNumber`, though only some are written.
         match *self {
             Header::Initial { dst_cid, src_cid, token, number, .. } => {
                 let size = varint::len(token.len() as u64).unwrap_or(8);
-                9 + dst_cid.len() + src_cid.len() + size + token.len() + number.len
+                (9 + dst_cid.len() + src_cid.len() + size + token.len()).wrapping_add(number.len)
             }
-            Header::Long { dst_cid, src_cid, number, .. } => 9 + dst_cid.len() + src_cid.len() + number.len,
+            Header::Long { dst_cid, src_cid, number, .. } => {
+                (9 + dst_cid.len() + src_cid.len()).wrapping_add(number.len)
+            }
             Header::Retry { dst_cid, src_cid, .. } | Header::VersionNegotiate { dst_cid, src_cid, .. } => {
                 7 + dst_cid.len() + src_cid.len()
             }
-            Header::Short { dst_cid, number, .. } => 1 + dst_cid.len() + number.len,
+            Header::Short { dst_cid, number, .. } => (1 + dst_cid.len()).wrapping_add(number.len),
         }
     }
 

@@ -264,7 +264,7 @@ fn a_close_names_a_frame_and_is_shortened() {
             assert_eq!(short, with(close, &reason[..len]));
             // It fits, and no byte more would.
             assert!(len_with(short.reason()) <= max_len);
-            assert!(reason.get(..=len).map_or(true, |longer| len_with(longer) > max_len), "{max_len} {len}");
+            assert!(reason.get(..=len).is_none_or(|longer| len_with(longer) > max_len), "{max_len} {len}");
         }
     }
     let mut out = vec![];

@@ -6,6 +6,7 @@ use quic_wire::packet::{
 };
 use quic_wire::transport_error::Code;
 use quic_wire::{Error, WriteError};
+use std::panic::{catch_unwind, AssertUnwindSafe};
 
 const ID: &[u8] = &[7; 8];
 
@@ -206,6 +207,35 @@ fn a_sample_is_there_where_a_head_is_opened() {
             assert_eq!(place.sample(&datagram, len), sample.ok_or(UnprotectError::TooShort));
         }
     }
+}
+
+/// The arguments of callers on which calls panic, as the README lists them.
+#[test]
+fn calls_panic_on_these_arguments() {
+    let packet = [0xc0, 0, 0, 0, 1, 1, 0xaa, 1, 0xbb, 1, 0x77, 2, 9, 9];
+    let head = Head::read(&packet, 20, &[1]).unwrap();
+    let number = PacketNumber { number: 9, len: 2 };
+    let written = Header::Short { spin: false, key_phase: false, dst_cid: ID, number }.encode(&mut [0; 11]).unwrap();
+    let mut frames = quic_wire::frame::Iter::new(&[1]).unwrap();
+    let calls: [&mut dyn FnMut(); 13] = [
+        &mut || _ = Packets::new(&packet, 21, &[1], false),
+        &mut || _ = PacketsMut::new(&mut [], 21, &[1], false),
+        &mut || _ = Head::read(&packet, 21, &[1]),
+        &mut || _ = Head::read(&[], usize::MAX, &[1]),
+        &mut || _ = head.dst_cid(&packet[..6]),
+        &mut || _ = head.src_cid(&packet[..8]),
+        &mut || _ = head.token(&packet[..10]),
+        &mut || _ = head.header(&packet[..8]),
+        &mut || _ = head.place((1 << 32) - 14),
+        &mut || _ = head.place(usize::MAX),
+        &mut || _ = PacketPlace::new(3..9, 2),
+        &mut || _ = PacketPlace::new(0..1 << 32, 2),
+        &mut || _ = written.place(&[0; 8]),
+    ];
+    let panics = |call: &mut dyn FnMut()| catch_unwind(AssertUnwindSafe(call)).is_err();
+    assert!(calls.into_iter().all(panics) && panics(&mut || _ = frames.fill(&mut [])));
+    assert_eq!(head.place((1 << 32) - 15).range().end, (1 << 32) - 1);
+    assert_eq!((head.header(&packet[..9]), written.place(&[0; 9]).number()), (head.header(&packet), 9));
 }
 
 #[test]

@@ -6,7 +6,8 @@
 //! A library reads and writes them whose contracts are proved: what is read is what the RFC's grammar says of the
 //! bytes, and no input reads outside them or ends the process. This crate gives it types, in the names of
 //! `quinn-proto`, that borrow from the caller's bytes. It keeps nothing, and takes no memory but for a `Vec` or a set
-//! that grows; ciphers are the caller's.
+//! that grows; ciphers are the caller's. A few calls panic on arguments of their caller, which their
+//! documents name, and none on what a peer sends.
 //!
 //! ```
 //! use quic_wire::frame::{Frame, Iter};

@@ -90,3 +90,18 @@ pub fn write_in<B: Buffer + ?Sized>(value: u64, width: usize, out: &mut B) -> Re
         }
     })
 }
+
+#[cfg(test)]
+mod tests {
+    use super::*;
+    use core::mem::MaybeUninit;
+
+    #[test]
+    fn a_number_is_as_long_as_the_library_writes_it() {
+        let about = |bit: u32| [(1_u64 << bit) - 1, 1 << bit, (1 << bit) + 1];
+        for value in (0..64).flat_map(about).chain([u64::MAX]) {
+            let written = sys::varint_write(value, 0, &mut [MaybeUninit::uninit(); 8]);
+            assert_eq!(written.map(|filled| filled.len()), len(value), "{value}");
+        }
+    }
+}

@@ -240,28 +240,37 @@ fn what_is_out_of_range_is_named() {
     assert_eq!(new(&id[..20], 4).encoded_len(false), Ok(40));
 }
 
+fn with<'a>(close: Close<'a>, reason: &'a [u8]) -> Close<'a> {
+    match close {
+        Close::Connection(close) => Close::Connection(ConnectionClose { reason, ..close }),
+        Close::Application(close) => Close::Application(ApplicationClose { reason, ..close }),
+    }
+}
+
 #[test]
 fn a_close_names_a_frame_and_is_shortened() {
-    let reason = [b'x'; 100];
+    let reason = [b'x'; 1 << 14];
     let frame_type = FrameType::try_from(0x0a).ok();
     let connection = ConnectionClose { error_code: Code::STREAM_LIMIT_ERROR, frame_type, reason: &reason };
     let application = ApplicationClose { error_code: 1 << 20, reason: &reason };
     for close in [Close::from(connection), Close::from(application)] {
-        for max_len in 0..120 {
+        let len_with = |reason| Frame::Close(with(close, reason)).encoded_len(true).unwrap();
+        for max_len in (0..120).chain((1 << 14) - 20..(1 << 14) + 20) {
             let Some(short) = close.shortened(max_len) else {
-                assert!(max_len < 7);
+                assert!(max_len < len_with(&[]));
                 continue;
             };
-            let len = Frame::Close(short).encoded_len(true).unwrap();
-            assert!(len <= max_len);
-            // No byte more would fit, or all are there; a longer length may take the byte that is left.
-            assert!(short.reason().len() == 100 || len + 1 >= max_len, "{max_len} {len}");
+            let len = short.reason().len();
+            assert_eq!(short, with(close, &reason[..len]));
+            // It fits, and no byte more would.
+            assert!(len_with(short.reason()) <= max_len);
+            assert!(reason.get(..=len).is_none_or(|longer| len_with(longer) > max_len), "{max_len} {len}");
         }
     }
     let mut out = vec![];
     Frame::Close(connection.into()).encode(true, &mut out).unwrap();
     assert_eq!(read(&out), [Frame::Close(connection.into())]);
-    assert_eq!(connection.to_string(), format!("STREAM_LIMIT_ERROR in STREAM: {}", "x".repeat(100)));
+    assert_eq!(connection.to_string(), format!("STREAM_LIMIT_ERROR in STREAM: {}", "x".repeat(reason.len())));
     assert_eq!(ApplicationClose { error_code: 5, reason: b"a\xffb" }.to_string(), "application error 5: a\u{fffd}b");
 }
 

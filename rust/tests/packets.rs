@@ -6,6 +6,7 @@ use quic_wire::packet::{
 };
 use quic_wire::transport_error::Code;
 use quic_wire::{Error, WriteError};
+use std::panic::{catch_unwind, AssertUnwindSafe};
 
 const ID: &[u8] = &[7; 8];
 
@@ -195,6 +196,60 @@ fn a_cipher_is_asked_for_a_whole_sample_alone() {
 }
 
 #[test]
+fn a_sample_is_there_where_a_head_is_opened() {
+    let datagram: [u8; 24] = std::array::from_fn(|i| i as u8);
+    for (end, number) in (2..24).flat_map(|end| (1..=end).map(move |number| (end, number))) {
+        let place = PacketPlace::new(0..end, number);
+        let opened = place.unprotect(&mut datagram.clone(), &[0; 5], 0);
+        assert_eq!(place.sample(&datagram, 0).map(|sample| sample.len()), opened.map(|_| 0), "{place:?}");
+        for len in 0..24 {
+            let sample = datagram[..end].get(number + 4..number + 4 + len);
+            assert_eq!(place.sample(&datagram, len), sample.ok_or(UnprotectError::TooShort));
+        }
+    }
+}
+
+/// The arguments of callers on which calls panic, as the README lists them.
+#[test]
+fn calls_panic_on_these_arguments() {
+    let packet = [0xc0, 0, 0, 0, 1, 1, 0xaa, 1, 0xbb, 1, 0x77, 2, 9, 9];
+    let head = Head::read(&packet, 20, &[1]).unwrap();
+    let number = PacketNumber { number: 9, len: 2 };
+    let written = Header::Short { spin: false, key_phase: false, dst_cid: ID, number }.encode(&mut [0; 11]).unwrap();
+    let mut frames = quic_wire::frame::Iter::new(&[1]).unwrap();
+    let calls: [&mut dyn FnMut(); 13] = [
+        &mut || _ = Packets::new(&packet, 21, &[1], false),
+        &mut || _ = PacketsMut::new(&mut [], 21, &[1], false),
+        &mut || _ = Head::read(&packet, 21, &[1]),
+        &mut || _ = Head::read(&[], usize::MAX, &[1]),
+        &mut || _ = head.dst_cid(&packet[..6]),
+        &mut || _ = head.src_cid(&packet[..8]),
+        &mut || _ = head.token(&packet[..10]),
+        &mut || _ = head.header(&packet[..8]),
+        &mut || _ = head.place((1 << 32) - 14),
+        &mut || _ = head.place(usize::MAX),
+        &mut || _ = PacketPlace::new(3..9, 2),
+        &mut || _ = PacketPlace::new(0..1 << 32, 2),
+        &mut || _ = written.place(&[0; 8]),
+    ];
+    let panics = |call: &mut dyn FnMut()| catch_unwind(AssertUnwindSafe(call)).is_err();
+    assert!(calls.into_iter().all(panics) && panics(&mut || _ = frames.fill(&mut [])));
+    assert_eq!(head.place((1 << 32) - 15).range().end, (1 << 32) - 1);
+    assert_eq!((head.header(&packet[..9]), written.place(&[0; 9]).number()), (head.header(&packet), 9));
+}
+
+#[test]
+fn a_truncated_number_is_what_is_written() {
+    for (len, shift) in (1..5).flat_map(|len| (2..64).map(move |shift| (len, shift))) {
+        let number = PacketNumber { number: 0x5555_5555_5555_5555 >> shift, len };
+        let mut out = [0; 5];
+        Header::Short { spin: false, key_phase: false, dst_cid: &[], number }.encode(&mut out).unwrap();
+        let written = out[1..=len].iter().fold(0, |number, byte| number << 8 | u64::from(*byte));
+        assert_eq!(number.truncated(), written);
+    }
+}
+
+#[test]
 fn a_length_that_does_not_fit_is_refused() {
     let header = Header::Long { ty: LongType::ZeroRtt, dst_cid: ID, src_cid: ID, number: number(1), version: 1 };
     let mut packet = vec![0; (1 << 14) + 100];
@@ -205,6 +260,13 @@ fn a_length_that_does_not_fit_is_refused() {
     let errors = [written.set_len(&mut packet[..most + 1]), written.set_len(&mut packet[..written.number])];
     let named = ["a packet is too long for its length", "the header is longer than its packet"];
     assert_eq!(errors, named.map(|what| Err(WriteError::OutOfRange(what))));
+    let before = packet.clone();
+    for number in 0..2 {
+        let mut moved = written;
+        moved.number = number;
+        let what = WriteError::OutOfRange("no length stands before this number");
+        assert_eq!((moved.set_len(&mut packet[..most]), &packet), (Err(what), &before));
+    }
     // A short header has none.
     let short = Header::Short { spin: false, key_phase: false, dst_cid: ID, number: number(1) };
     let written = short.encode(&mut packet[..]).unwrap();
@@ -220,13 +282,14 @@ fn headers_that_nobody_reads_are_refused() {
         (long(ID, number(1 << 62), 1), "a packet number is 2^62 or more"),
         (long(ID, PacketNumber { number: 1, len: 0 }, 1), "a packet number has 1 to 4 bytes"),
         (long(ID, PacketNumber { number: 1, len: 5 }, 1), "a packet number has 1 to 4 bytes"),
+        (long(ID, PacketNumber { number: 1, len: usize::MAX }, 1), "a packet number has 1 to 4 bytes"),
         (long(ID, number(1), 0), "a long header of version 0 is a version negotiation"),
         (negotiation, "a version negotiation without the fixed bit"),
     ];
     for (header, what) in refused {
         let mut out = vec![];
         assert_eq!(header.encode(&mut out), Err(WriteError::OutOfRange(what)));
-        assert!(out.is_empty());
+        assert!(out.is_empty() && header.encoded_len() < 50);
     }
     let mut out = vec![];
     negotiation.encode_with(true, &mut out).unwrap();
@@ -289,6 +352,15 @@ fn every_header_is_read_back() {
         assert_eq!((read.dst_cid(), read.data()), (ID, &packet[..]));
         let head = read.head();
         assert_eq!(head.head_end() + if head.is_protected() { 2 } else { 0 }, written.header_len);
+        let told = (head.src_cid(&packet), head.token(&packet), head.retry(&packet), head.versions(&packet).count());
+        let wanted = match header {
+            Header::Initial { token, .. } => (src_cid, token, None, 0),
+            Header::Long { .. } => (src_cid, &[][..], None, 0),
+            Header::Retry { .. } => (src_cid, &[][..], Some((&[0; 4][..], &[0; 16])), 0),
+            Header::Short { .. } => (&[][..], &[][..], None, 0),
+            Header::VersionNegotiate { .. } => (src_cid, &[][..], None, 5),
+        };
+        assert_eq!(told, wanted);
         assert!(!format!("{header:?} {read:?} {head:?}").contains("0808080808080808080808080808080808"));
     }
 }

@@ -127,6 +127,13 @@ fn growing<const N: usize>(set: &[Run], change: impl Fn(&mut GrowingRangeSet<N>)
 fn sets_change_as_the_library_changes_them() {
     let ranges = || (0..9).flat_map(|start| (0..10).map(move |end| Range { start, end }));
     for set in (0..=255).map(runs_of) {
+        if let Some(least) = set.first() {
+            let popped = asked(&set, 4, |runs, count| range_set::remove(runs, count, least.start..least.end));
+            let range = Some(least.start..least.end);
+            assert_eq!(array::<4>(&set, |set| Ok(set.pop_min() == range)), popped);
+            assert_eq!(growing::<0>(&set, |set| set.pop_min() == range), popped);
+            assert_eq!(growing::<2>(&set, |set| set.pop_min() == range), popped);
+        }
         for x in ranges() {
             let told = |what| format!("{what} {x:?} of {set:?}");
             let insert = |room| asked(&set, room, |runs, count| range_set::insert(runs, count, x.clone()));

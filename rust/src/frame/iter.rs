@@ -365,3 +365,21 @@ fn rare_frame_of<'a>(payload: &'a [u8], f: &sys::Frame, data: &'a [u8]) -> Frame
         kind => unreachable!("the library told of the kind {kind}"),
     }
 }
+
+#[cfg(test)]
+mod tests {
+    use super::*;
+
+    #[test]
+    fn padding_is_read_as_the_library_reads_it() {
+        for (behind, strict, basic) in (0..1024).map(|n| (n as u8, n & 256 != 0, n & 512 != 0)) {
+            let payload = [0x01, 0x00, behind];
+            let mut frames = Iter { basic, ..Iter::begin(&payload, strict).unwrap() };
+            assert_eq!(frames.next(), Some(Ok(Frame::Ping)));
+            let (mut state, mut room) = (frames.state, MaybeUninit::uninit());
+            let (answer, told) = sys::frames_next(&mut state, &payload, basic, &mut room);
+            assert_eq!((answer, told.map(|frame| frame_of(&payload, frame))), (sys::ITEM, Some(Frame::Padding)));
+            assert_eq!((frames.next(), frames.state), (Some(Ok(Frame::Padding)), state));
+        }
+    }
+}

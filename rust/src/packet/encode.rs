@@ -133,12 +133,13 @@ impl PartialEncode {
     // Apart, since most headers have none.
     #[inline(never)]
     fn lay_len(&self, packet: &mut [u8]) -> Result<(), WriteError> {
-        let len = packet.len().checked_sub(self.number).filter(|_| self.header_len <= packet.len());
-        let len = len.ok_or(WriteError::OutOfRange("the header is longer than its packet"))?;
-        let place = &mut packet[self.number - self.length..self.number];
-        match varint::write_in(len as u64, self.length, place) {
-            Ok(_) => Ok(()),
-            Err(_) => Err(WriteError::OutOfRange("a packet is too long for its length")),
+        if packet.len() < self.number.max(self.header_len) {
+            return Err(WriteError::OutOfRange("the header is longer than its packet"));
+        }
+        match sys::set_len(packet, self.number, self.length as u32) {
+            sys::OK => Ok(()),
+            _ if self.number < self.length => Err(WriteError::OutOfRange("no length stands before this number")),
+            _ => Err(WriteError::OutOfRange("a packet is too long for its length")),
         }
     }
 
@@ -177,16 +178,19 @@ impl Header<'_> {
     /// ```
     #[inline]
     pub fn encoded_len(&self) -> usize {
+        // Any length may stand in a `PacketNumber`, though only some are written.
         match *self {
             Header::Initial { dst_cid, src_cid, token, number, .. } => {
                 let size = varint::len(token.len() as u64).unwrap_or(8);
-                9 + dst_cid.len() + src_cid.len() + size + token.len() + number.len
+                (9 + dst_cid.len() + src_cid.len() + size + token.len()).wrapping_add(number.len)
             }
-            Header::Long { dst_cid, src_cid, number, .. } => 9 + dst_cid.len() + src_cid.len() + number.len,
+            Header::Long { dst_cid, src_cid, number, .. } => {
+                (9 + dst_cid.len() + src_cid.len()).wrapping_add(number.len)
+            }
             Header::Retry { dst_cid, src_cid, .. } | Header::VersionNegotiate { dst_cid, src_cid, .. } => {
                 7 + dst_cid.len() + src_cid.len()
             }
-            Header::Short { dst_cid, number, .. } => 1 + dst_cid.len() + number.len,
+            Header::Short { dst_cid, number, .. } => (1 + dst_cid.len()).wrapping_add(number.len),
         }
     }
 

@@ -236,6 +236,10 @@ impl Head {
     /// assert_eq!(head.dst_cid(&packet), [0xaa]);
     /// # Ok::<(), quic_wire::Error>(())
     /// ```
+    ///
+    /// # Panics
+    ///
+    /// Where the bytes end before it does: they aren't those that the header was read of.
     #[inline]
     pub fn dst_cid<'a>(&self, packet: &'a [u8]) -> &'a [u8] {
         let start = if self.is_short() { 1 } else { 6 };
@@ -251,6 +255,10 @@ impl Head {
     /// assert_eq!(head.src_cid(&packet), [0xbb]);
     /// # Ok::<(), quic_wire::Error>(())
     /// ```
+    ///
+    /// # Panics
+    ///
+    /// Where the bytes end before it does: they aren't those that the header was read of.
     #[inline]
     pub fn src_cid<'a>(&self, packet: &'a [u8]) -> &'a [u8] {
         let start = if self.is_short() { 1 } else { 7 + usize::from(self.0.dcidlen) };
@@ -281,6 +289,10 @@ impl Head {
     /// assert_eq!(head.token(&packet), [0x77]);
     /// # Ok::<(), quic_wire::Error>(())
     /// ```
+    ///
+    /// # Panics
+    ///
+    /// Where the bytes end before it does: they aren't those that the header was read of.
     #[inline]
     pub fn token<'a>(&self, packet: &'a [u8]) -> &'a [u8] {
         &packet[self.token_pos()]
@@ -372,7 +384,7 @@ impl Head {
     ///
     /// # Panics
     ///
-    /// Where the packet ends at 4 GiB of its datagram or behind.
+    /// Where the packet would end at 4 GiB or behind.
     #[inline]
     pub fn place(&self, begin: usize) -> PacketPlace {
         let number = if self.is_protected() { self.head_end() } else { self.end() };
@@ -388,6 +400,10 @@ impl Head {
     /// assert!(matches!(head.header(&packet), ProtectedHeader::Initial { len: 2, .. }));
     /// # Ok::<(), quic_wire::Error>(())
     /// ```
+    ///
+    /// # Panics
+    ///
+    /// Where the bytes end before its ids do: they aren't those that the header was read of.
     #[inline]
     pub fn header<'a>(&self, packet: &'a [u8]) -> ProtectedHeader<'a> {
         let (dst_cid, src_cid) = (self.dst_cid(packet), self.src_cid(packet));

@@ -166,7 +166,8 @@ impl fmt::Debug for PacketMut<'_> {
 /// # Ok::<(), quic_wire::Error>(())
 /// ```
 pub struct Packet<'a> {
-    /// The header with the number, which the AEAD authenticates.
+    /// The header with the number, which the AEAD authenticates. Where fewer bytes are put in its place, what reads the
+    /// header panics.
     pub header_data: &'a [u8],
     /// The payload with its tag, to be opened where it stands.
     pub payload: &'a mut [u8],

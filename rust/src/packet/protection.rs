@@ -122,7 +122,8 @@ impl PacketPlace {
     // Of a packet that begins at a place of its datagram, by places in it, which are its own and in their order.
     #[inline]
     pub(super) fn of(begin: usize, number: usize, end: usize) -> Self {
-        assert!(u32::try_from(begin + end).is_ok(), "a datagram is shorter than 4 GiB");
+        // Both are looked at, since the sum may go round.
+        assert!(u32::try_from(begin | begin.wrapping_add(end)).is_ok(), "a datagram is shorter than 4 GiB");
         PacketPlace { begin: begin as u32, number: (begin + number) as u32, end: (begin + end) as u32 }
     }
 

@@ -1,4 +1,6 @@
 //! The functions of `quic_wire.h` that the library has; those of the header that C alone needs look for NULL.
+#[cfg(test)]
+use super::words::Gap;
 use super::words::{Canon, Frame, Frames, Head, Param, Params, Range, Ranges, Said};
 
 extern "C" {
@@ -97,6 +99,7 @@ extern "C" {
         out_len: usize,
         written: *mut usize,
     ) -> i32;
+    pub fn quic_wire_set_len_(packet: *mut u8, len: usize, place: usize, length_len: u32) -> i32;
     #[cfg(test)]
     pub fn quic_wire_number_len_(number: u64, largest_acked: u64) -> i32;
     pub fn quic_wire_number_expand_(written: u64, len: u32, expected: u64) -> u64;
@@ -141,6 +144,54 @@ extern "C" {
         count: usize,
         counts: *const u64,
         counts_len: usize,
+        out: *mut u8,
+        out_len: usize,
+        written: *mut usize,
+    ) -> i32;
+}
+
+// Those that this crate has no use for, for `c_alone`.
+#[cfg(test)]
+extern "C" {
+    pub fn quic_wire_frames_init_(frames: *mut Frames, payload: *const u8, len: usize) -> i32;
+    pub fn quic_wire_frames_init_strict_(frames: *mut Frames, payload: *const u8, len: usize) -> i32;
+    pub fn quic_wire_frames_first_(
+        frames: *mut Frames,
+        payload: *const u8,
+        len: usize,
+        out: *mut Frame,
+        room: usize,
+        count: *mut usize,
+    ) -> i32;
+    pub fn quic_wire_frame_read_(
+        payload: *const u8,
+        len: usize,
+        strict: u32,
+        out: *mut Frame,
+        gaps: *mut Gap,
+        room: usize,
+    ) -> i64;
+    pub fn quic_wire_frame_read_basic_(
+        payload: *const u8,
+        len: usize,
+        strict: u32,
+        out: *mut Frame,
+        gaps: *mut Gap,
+        room: usize,
+    ) -> i64;
+    pub fn quic_wire_ack_ranges_init_(ranges: *mut Ranges, payload: *const u8, len: usize, frame: *const Frame) -> i32;
+    pub fn quic_wire_ack_ranges_fill_(
+        ranges: *mut Ranges,
+        payload: *const u8,
+        len: usize,
+        out: *mut Range,
+        room: usize,
+        count: *mut usize,
+    ) -> i32;
+    pub fn quic_wire_ack_gaps_write_(
+        ack: *const Frame,
+        gaps: *const Gap,
+        count: usize,
         out: *mut u8,
         out_len: usize,
         written: *mut usize,

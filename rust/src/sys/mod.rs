@@ -7,6 +7,8 @@
 //! behind a C interface, so it may be given room that isn't initialised: it has no way to tell, and what it answers
 //! doesn't depend on what stood there.
 mod c;
+#[cfg(test)]
+mod c_alone;
 mod words;
 
 pub use words::{Canon, Frame, Frames, Head, Param, Params, Range, Ranges, Said};
@@ -247,6 +249,13 @@ pub fn negotiation_write(
         c::quic_wire_negotiation_write_(first, dst, dst_len, src, src_len, named, count, to, room, &mut written)
     };
     wrote(answer, written)
+}
+
+#[inline]
+pub fn set_len(packet: &mut [u8], place: usize, length_len: u32) -> i32 {
+    // SAFETY: `packet` gives its own pointer and length and is borrowed alone. A place outside the packet is refused.
+    // The library looks at no other memory and keeps no pointer.
+    unsafe { c::quic_wire_set_len_(packet.as_mut_ptr(), packet.len(), place, length_len) }
 }
 
 // What `PacketNumber::new` finds out by itself is held against it.

@@ -41,6 +41,15 @@ pub struct Range {
     pub end: u64,
 }
 
+/// A range of an ACK below another one: how many numbers are between the two, and how many it has, both less one.
+#[cfg(test)]
+#[repr(C)]
+#[derive(Clone, Copy, Debug, PartialEq, Eq)]
+pub struct Gap {
+    pub gap: u64,
+    pub len: u64,
+}
+
 /// How far the ranges of an ACK have been read.
 #[repr(C)]
 #[derive(Clone, Copy, Debug, PartialEq, Eq, Hash)]
@@ -149,6 +158,8 @@ macro_rules! layout {
 layout!(Frames, 24, 8: offset 0 8, last_type 8 8, ended 16 4, strict 20 4,);
 layout!(Frame, 80, 8: kind 0 2, ty 2 2, flags 4 4, begin 8 8, end 16 8, data 24 8, datalen 32 8, numbers 40 40,);
 layout!(Range, 16, 8: start 0 8, end 8 8,);
+#[cfg(test)]
+layout!(Gap, 16, 8: gap 0 8, len 8 8,);
 layout!(Ranges, 24, 8: begin 0 8, end 8 8, largest 16 8,);
 layout!(Canon, 24, 8: len 0 8, last_type 8 8, reason 16 8,);
 layout!(Head, 32, 8: kind 0 1, first 1 1, dcidlen 2 1, scidlen 3 1, version 4 4, head_end 8 4, end 12 4, token 16 4,

@@ -1,0 +1,356 @@
+//! The calls that C alone needs, and `quic_wire_set_len_`, with random bytes and words: their answers are among those
+//! that `quic_wire.h` names, nothing changes but where it says so, and they agree with what this crate tells.
+extern crate std;
+
+use super::words::Gap;
+use super::{c, Entry, Frame, Frames, Range, Ranges, EMPTY, ITEM, MALFORMED, NO_ROOM, OK};
+use crate::frame::{Ack, FrameType, Iter};
+use crate::varint;
+use std::vec;
+use std::vec::Vec;
+
+const INVALID: i32 = -1;
+
+fn frames_init(frames: &mut Frames, payload: &[u8], strict: bool) -> i32 {
+    let init = if strict { c::quic_wire_frames_init_strict_ } else { c::quic_wire_frames_init_ };
+    // SAFETY: `payload` gives its own pointer and length; `frames` is borrowed alone. The library looks at no other
+    // memory and keeps no pointer.
+    unsafe { init(frames, payload.as_ptr(), payload.len()) }
+}
+
+fn frames_first(frames: &mut Frames, payload: &[u8], out: &mut [Frame], count: &mut usize) -> i32 {
+    let (bytes, len, entries, room) = (payload.as_ptr(), payload.len(), out.as_mut_ptr(), out.len());
+    // SAFETY: `payload` and `out` each give their own pointer and length; `frames`, `out` and `count` are borrowed
+    // alone. The library looks at no other memory and keeps no pointer.
+    unsafe { c::quic_wire_frames_first_(frames, bytes, len, entries, room, count) }
+}
+
+fn frame_read(payload: &[u8], strict: u32, basic: bool, out: &mut Frame, gaps: &mut [Gap]) -> i64 {
+    let (bytes, len, gaps, room) = (payload.as_ptr(), payload.len(), gaps.as_mut_ptr(), gaps.len());
+    // SAFETY: `payload` and `gaps` each give their own pointer and length; `out` and `gaps` are borrowed alone. The
+    // library looks at no other memory and keeps no pointer.
+    unsafe {
+        if basic {
+            c::quic_wire_frame_read_basic_(bytes, len, strict, out, gaps, room)
+        } else {
+            c::quic_wire_frame_read_(bytes, len, strict, out, gaps, room)
+        }
+    }
+}
+
+fn ack_ranges_init(ranges: &mut Ranges, payload: &[u8], frame: &Frame) -> i32 {
+    // SAFETY: `payload` gives its own pointer and length; `ranges` is borrowed alone. Any words in `frame` serve. The
+    // library looks at no other memory and keeps no pointer.
+    unsafe { c::quic_wire_ack_ranges_init_(ranges, payload.as_ptr(), payload.len(), frame) }
+}
+
+fn ack_ranges_fill(ranges: &mut Ranges, payload: &[u8], out: &mut [Range], count: &mut usize) -> i32 {
+    let (bytes, len, entries, room) = (payload.as_ptr(), payload.len(), out.as_mut_ptr(), out.len());
+    // SAFETY: `payload` and `out` each give their own pointer and length; `ranges`, `out` and `count` are borrowed
+    // alone. Any words in `ranges` serve. The library looks at no other memory and keeps no pointer.
+    unsafe { c::quic_wire_ack_ranges_fill_(ranges, bytes, len, entries, room, count) }
+}
+
+fn ack_gaps_write(ack: &Frame, gaps: &[Gap], out: &mut [u8], written: &mut usize) -> i32 {
+    let (gaps, count, to, room) = (gaps.as_ptr(), gaps.len(), out.as_mut_ptr(), out.len());
+    // SAFETY: `gaps` and `out` each give their own pointer and length; `out` and `written` are borrowed alone. Any
+    // words in `ack` serve. The library looks at no other memory and keeps no pointer.
+    unsafe { c::quic_wire_ack_gaps_write_(ack, gaps, count, to, room, written) }
+}
+
+// xorshift64*
+struct Random(u64);
+
+impl Random {
+    fn next(&mut self) -> u64 {
+        self.0 ^= self.0 >> 12;
+        self.0 ^= self.0 << 25;
+        self.0 ^= self.0 >> 27;
+        self.0.wrapping_mul(0x2545_f491_4f6c_dd1d)
+    }
+
+    fn below(&mut self, n: u64) -> usize {
+        (self.next() % n) as usize
+    }
+
+    // Numbers of each width.
+    fn number(&mut self) -> u64 {
+        self.next() >> [58, 50, 34, 2, 0][self.below(5)]
+    }
+
+    // A place in some bytes, or near their end, or anywhere.
+    fn place(&mut self) -> usize {
+        match self.below(9) {
+            0 => self.number() as usize,
+            _ => self.below(70),
+        }
+    }
+
+    // Types that there are, small numbers, rubbish, and ACKs.
+    fn payload(&mut self) -> Vec<u8> {
+        let (len, mut payload) = (self.below(60), vec![]);
+        while payload.len() < len {
+            match self.below(6) {
+                0 => payload.push(self.next() as u8),
+                1 => payload.push(self.below(0x32) as u8),
+                2 => payload.extend([0x40, self.below(0x32) as u8]),
+                3 => payload.extend(vec![self.below(4) as u8; self.below(9)]),
+                _ => self.ack(&mut payload),
+            }
+        }
+        payload
+    }
+
+    // Mostly an ACK, of up to five ranges.
+    fn ack(&mut self, payload: &mut Vec<u8>) {
+        let (ty, count) = (2 + self.below(2), self.below(5));
+        payload.extend([ty as u8, 0x40, 10 + self.below(60) as u8, self.below(64) as u8, count as u8]);
+        let small = 1 + 2 * count + if ty == 3 { 3 } else { 0 };
+        payload.extend((0..small).map(|_| self.below(8) as u8));
+    }
+
+    fn frame(&mut self) -> Frame {
+        let kind = [2, 2, 2, 2, self.next() as u16][self.below(5)];
+        let flags = [0, 2, 0, 2, self.number() as u32][self.below(5)];
+        let [begin, end, data] = [(); 3].map(|()| self.place());
+        let numbers = [(); 5].map(|()| self.number());
+        Frame { kind, ty: self.next() as u16, flags, begin, end, data, datalen: self.below(99), numbers }
+    }
+}
+
+fn rounds(one: impl Fn(&mut Random)) {
+    let mut random = Random(1 << 63 | 1);
+    (0..20_000).for_each(|_| one(&mut random));
+}
+
+const NO_GAP: Gap = Gap { gap: 0xa5, len: 0x5a };
+const NO_RANGE: Range = Range { start: 0xa5, end: 0x5a };
+
+/// `quic_wire_frames_init_` and `quic_wire_frames_init_strict_` begin at the front.
+#[test]
+fn an_iterator_begins_at_the_front_of_a_payload() {
+    rounds(|random| {
+        let (payload, strict) = (random.payload(), random.below(2) == 0);
+        let mut frames = Frames { offset: random.place(), last_type: random.number(), ended: 7, strict: 7 };
+        let begun = Frames { offset: 0, last_type: u64::MAX, ended: 0, strict: u32::from(strict) };
+        match frames_init(&mut frames, &payload, strict) {
+            OK => assert_eq!((frames, payload.is_empty()), (begun, false)),
+            answer => assert_eq!((answer, payload.len()), (EMPTY, 0)),
+        }
+    });
+}
+
+/// `quic_wire_frames_first_` reads what an iterator reads from the front.
+#[test]
+fn the_first_frames_are_those_of_an_iterator() {
+    rounds(|random| {
+        let (payload, room, rubbish) = (random.payload(), random.below(6), random.frame());
+        let before = Frames { offset: random.place(), last_type: random.number(), ended: 7, strict: 7 };
+        let (mut frames, mut out, mut count) = (before, [rubbish; 6], 77);
+        let answer = frames_first(&mut frames, &payload, &mut out[..room], &mut count);
+        if payload.is_empty() || room == 0 {
+            assert_eq!(answer, if payload.is_empty() { EMPTY } else { NO_ROOM });
+            assert_eq!((frames, out, count), (before, [rubbish; 6], 77));
+            return;
+        }
+        let (mut iter, mut entries) = (Iter::new(&payload).unwrap(), [Entry(rubbish); 6]);
+        let told = match iter.fill(&mut entries[..room]).unwrap() {
+            Ok(batch) => (ITEM, batch.len()),
+            Err(_) => (MALFORMED, 77),
+        };
+        assert_eq!(((answer, count), out), (told, entries.map(|entry| entry.0)));
+        assert_eq!((frames.offset, FrameType::new(frames.last_type)), (iter.offset(), iter.last_type()));
+        assert_eq!((frames.ended != 0, frames.strict), (answer == MALFORMED, 0));
+    });
+}
+
+/// `quic_wire_frame_read_` and `quic_wire_frame_read_basic_` read what an iterator over the rest reads.
+#[test]
+fn the_frame_at_the_front_is_that_of_an_iterator() {
+    rounds(|random| {
+        let (payload, mut at) = (random.payload(), 0);
+        let (strict, basic) = ([0, 1, random.next() as u32][random.below(3)], random.below(2) == 0);
+        while let Some(end) = front(random, &payload[at..], strict, basic) {
+            at += end;
+        }
+    });
+}
+
+// Where the frame at the front ends, if one is there.
+fn front(random: &mut Random, payload: &[u8], strict: u32, basic: bool) -> Option<usize> {
+    let (before, room) = (random.frame(), random.below(5));
+    let (mut frame, mut gaps) = (before, [NO_GAP; 5]);
+    let answer = frame_read(payload, strict, basic, &mut frame, &mut gaps[..room]);
+    let Ok(iter) = (if strict == 0 { Iter::new(payload) } else { Iter::strict(payload) }) else {
+        assert_eq!((answer, frame, gaps), (EMPTY.into(), before, [NO_GAP; 5]));
+        return None;
+    };
+    let (mut iter, mut entries) = (if basic { iter.without_ack_frequency() } else { iter }, [Entry::default()]);
+    let is_read = iter.fill(&mut entries).unwrap().is_ok();
+    let [Entry(told)] = entries;
+    if !is_read {
+        assert_eq!((answer, gaps), (MALFORMED.into(), [NO_GAP; 5]));
+        assert_eq!((frame.ty, frame.numbers[0], frame.flags), (0, told.numbers[0], told.flags));
+        return None;
+    }
+    assert_eq!((answer, frame.end), (iter.offset() as i64, iter.offset()));
+    if frame.kind == 2 {
+        ack_at_front(random, &payload[..frame.end], told, frame, gaps, room);
+    } else {
+        assert_eq!((frame, gaps), (told, [NO_GAP; 5]));
+    }
+    Some(frame.end)
+}
+
+// The ranges of an ACK are those of `Ack`, as gaps of which there is room for so many; and as ranges, some at a time.
+fn ack_at_front(random: &mut Random, bytes: &[u8], told: Frame, frame: Frame, gaps: [Gap; 5], room: usize) {
+    let ack = Ack::from_bytes(bytes).unwrap();
+    let ranges: Vec<_> = ack.iter().map(|range| Range { start: *range.start(), end: range.end() + 1 }).collect();
+    let gap = |two: &[Range]| Gap { gap: two[0].start - two[1].end - 1, len: two[1].end - two[1].start - 1 };
+    let all: Vec<_> = ranges.windows(2).map(gap).collect();
+    let count = all.len().min(room);
+    assert!(gaps[..count] == all[..count] && gaps[count..].iter().all(|gap| *gap == NO_GAP));
+    let flags = told.flags | if count < all.len() { 4 } else { 0 };
+    let datalen = (ranges[0].end - ranges[0].start - 1) as usize;
+    assert_eq!(frame, Frame { flags, data: count, datalen, ..told });
+
+    let mut shortest = [0; 200];
+    let len = crate::frame::Frame::Ack(ack).encode(false, &mut shortest).unwrap();
+    let wanted = (flags & 4 == 0).then(|| shortest[..len].to_vec());
+    let other = random.frame();
+    let frame = Frame { ty: other.ty, begin: other.begin, end: other.end, data: other.data, ..frame };
+    assert_eq!(written(random, &frame, &gaps[..count]), wanted);
+
+    let init = [ack_ranges_init, super::ack_ranges_init_unchecked][random.below(2)];
+    let mut state = Ranges { begin: 7, end: 7, largest: 7 };
+    assert_eq!(init(&mut state, bytes, &told), OK);
+    let mut filled = vec![];
+    while filled_from(random, &mut state, bytes, &mut filled) == ITEM {}
+    assert_eq!((filled, state.begin), (ranges, state.end));
+}
+
+// One call of `quic_wire_ack_ranges_fill_`, and its answer.
+fn filled_from(random: &mut Random, state: &mut Ranges, bytes: &[u8], filled: &mut Vec<Range>) -> i32 {
+    let (before, room) = (*state, 1 + random.below(4));
+    let (mut out, mut count) = ([NO_RANGE; 5], 77);
+    let answer = ack_ranges_fill(state, bytes, &mut out[..room], &mut count);
+    if answer == ITEM {
+        assert!(0 < count && count <= room);
+        filled.extend(&out[..count]);
+        assert!(out[count..].iter().all(|range| *range == NO_RANGE));
+    } else {
+        assert!(answer == OK || answer == INVALID, "{answer}");
+        assert_eq!((*state, out, count), (before, [NO_RANGE; 5], 77));
+    }
+    answer
+}
+
+/// `quic_wire_ack_ranges_init_` begins at each ACK, and changes nothing where it finds none.
+#[test]
+fn ranges_begin_at_an_ack() {
+    rounds(|random| {
+        let (mut payload, mut frame) = (vec![0; random.below(9)], random.frame());
+        frame.begin = payload.len();
+        random.ack(&mut payload);
+        if random.below(2) == 0 {
+            let damaged = random.below(payload.len() as u64);
+            payload[damaged] ^= 1 << random.below(8);
+        }
+        frame.end = [payload.len(), random.place()][random.below(2)];
+        let before = Ranges { begin: 7, end: 7, largest: 7 };
+        let (mut ranges, mut unchecked) = (before, before);
+        let answer = ack_ranges_init(&mut ranges, &payload, &frame);
+        if payload.get(frame.begin..frame.end).is_some_and(|bytes| Ack::from_bytes(bytes).is_ok()) {
+            let other = super::ack_ranges_init_unchecked(&mut unchecked, &payload, &frame);
+            assert_eq!((answer, other, ranges), (OK, OK, unchecked));
+        } else if answer == OK {
+            assert!(frame.begin < ranges.begin && ranges.begin < ranges.end && ranges.end <= frame.end);
+        } else {
+            assert_eq!((answer, ranges), (INVALID, before));
+        }
+    });
+}
+
+/// `quic_wire_ack_ranges_fill_` gives of any words what single calls give.
+#[test]
+fn ranges_are_filled_as_single_calls_give_them() {
+    rounds(|random| {
+        let payload = random.payload();
+        let before = Ranges { begin: random.place(), end: random.place(), largest: random.number() };
+        let (mut many, mut one, mut filled) = (before, before, vec![]);
+        let answer = loop {
+            let answer = filled_from(random, &mut many, &payload, &mut filled);
+            if answer != ITEM {
+                break answer;
+            }
+        };
+        let mut range = NO_RANGE;
+        for wanted in filled {
+            assert_eq!((super::ack_ranges_next(&mut one, &payload, &mut range), range), (ITEM, wanted));
+        }
+        assert_eq!((super::ack_ranges_next(&mut one, &payload, &mut range), one), (answer, many));
+        let (mut none, mut count) = (before, 77);
+        let answer = ack_ranges_fill(&mut none, &payload, &mut [], &mut count);
+        assert!([OK, INVALID, NO_ROOM].contains(&answer) && (none, count) == (before, 77));
+    });
+}
+
+// What `quic_wire_ack_gaps_write_` writes, in room that is enough; with less nothing changes.
+fn written(random: &mut Random, ack: &Frame, gaps: &[Gap]) -> Option<Vec<u8>> {
+    let (mut out, mut len) = ([0xa5; 200], 77);
+    match ack_gaps_write(ack, gaps, &mut out, &mut len) {
+        OK => {
+            assert!(out[len..].iter().all(|byte| *byte == 0xa5));
+            let (mut short, mut needed) = (vec![0xa5; random.below(len as u64)], 77);
+            assert_eq!((ack_gaps_write(ack, gaps, &mut short, &mut needed), needed), (NO_ROOM, len));
+            assert!(short.iter().all(|byte| *byte == 0xa5));
+            Some(out[..len].to_vec())
+        }
+        answer => {
+            assert_eq!((answer, len, out), (INVALID, 77, [0xa5; 200]));
+            None
+        }
+    }
+}
+
+/// `quic_wire_ack_gaps_write_` writes of any words an ACK that is read back, or says that they are none.
+#[test]
+fn an_ack_that_is_written_by_gaps_is_read_back() {
+    rounds(|random| {
+        let (mut ack, count) = (random.frame(), random.below(5));
+        let gap = |_| Gap { gap: random.number() % 99, len: random.number() >> [60, 60, 0][random.below(3)] };
+        let gaps: Vec<_> = (0..count).map(gap).collect();
+        ack.numbers[0] >>= [0, 1, 50][random.below(3)];
+        let given = if ack.flags == 2 { 5 } else { 2 };
+        let below = |least: u64, gap: &Gap| least.checked_sub(gap.gap)?.checked_sub(2)?.checked_sub(gap.len);
+        let is_ack = ack.kind == 2
+            && (ack.flags == 0 || ack.flags == 2)
+            && ack.numbers[..given].iter().all(|number| *number <= varint::MAX)
+            && ack.numbers[0].checked_sub(ack.datalen as u64).and_then(|l| gaps.iter().try_fold(l, below)).is_some();
+        let Some(bytes) = written(random, &ack, &gaps) else { return assert!(!is_ack) };
+        let (mut frame, mut read) = (random.frame(), [NO_GAP; 5]);
+        assert_eq!(frame_read(&bytes, 1, false, &mut frame, &mut read), bytes.len() as i64);
+        assert!(is_ack && read[..frame.data] == gaps);
+        assert_eq!((frame.kind, frame.flags, frame.datalen), (2, ack.flags, ack.datalen));
+        assert_eq!(frame.numbers[..given], ack.numbers[..given]);
+    });
+}
+
+/// `quic_wire_set_len_` sets the length where it fits, and changes nothing else.
+#[test]
+fn a_length_is_set_where_it_fits() {
+    let mut packet = vec![0xa5; (1 << 14) + 80];
+    let mut random = Random(1 << 63 | 1);
+    for _ in 0..20_000 {
+        let len = [random.below(80), (1 << 14) + random.below(80)][random.below(2)];
+        let (packet, place, width) = (&mut packet[..len], random.place(), random.below(6));
+        let fits = (width == 2 && len < place.saturating_add(1 << 14) || width == 4) && width <= place && place <= len;
+        assert_eq!(super::set_len(packet, place, width as u32), if fits { OK } else { INVALID });
+        if fits {
+            let set = &mut packet[place - width..place];
+            assert_eq!(varint::read(set), Some(((len - place) as u64, width)));
+            set.fill(0xa5);
+        }
+        assert!(packet.iter().all(|byte| *byte == 0xa5));
+    }
+}

@@ -70,7 +70,7 @@ FIGURES = {"ApplicationClose": "ConnectionClose"}
 
 # A field of a row, by its name in the row and in the RFC; what it is to be, where it has no bytes.
 Part = collections.namedtuple("Part", "name kind value")
-Frame = collections.namedtuple("Frame", "type row name parts")
+Frame = collections.namedtuple("Frame", "type name parts")
 
 
 def titled(name):
@@ -142,7 +142,7 @@ def frames():
             fail(f"{row} in crates/{TABLE}.antt", right)
         name = known.get(body[1], body[1])
         parts = [part_of(name, text, known) for text in listed(body[2] or body[3], row)]
-        yield Frame(int(entry[1], 0), f"{row} {name}" if body[1] in known else row, name, parts)
+        yield Frame(int(entry[1], 0), name, parts)
 
 
 def lines_of(part):
@@ -178,7 +178,7 @@ def merged(group):
     return lines, {line: some for line, some in have.items() if len(some) < len(group)}
 
 
-def ack_note():
+def ack_note(first):
     """What the numbers of an ACK's ranges say."""
     apart = said(FIELD, "AreBelow", "low (range ∷ ranges) bytes", (
         "(gap block others : List ℕ) × (bytes ≡ gap ++ (block ++ others)) × (range.0 ≤ range.1) × (range.1 + <apart>"
@@ -189,9 +189,9 @@ def ack_note():
         " × Spells (range.1 - range.0) block × AreBelow range.0 ranges others"))
     said(FIELD, "greatest_of", "(Number greatest ∷ values)", "greatest")
     return (
-        "ACK Range Count counts the ranges behind the first (`Blocks`), which ends at Largest Acknowledged; First ACK"
-        " Range and ACK Range Length are a range's greatest number less its least (`AreBlocks`), Gap the least of the"
-        f" range before, less {apart}, less the greatest of the next (`AreBelow`). None goes below 0.")
+        f"ACK Range Count counts the ranges behind the first (`Blocks`), which ends at {first}; First ACK Range and ACK"
+        " Range Length are a range's greatest number less its least (`AreBlocks`), Gap the least of the range before,"
+        f" less {apart}, less the greatest of the next (`AreBelow`). None goes below 0.")
 
 
 def unwritten(group):
@@ -222,7 +222,7 @@ def notes(group, optional):
     names = {("ECN Counts" if line in COUNTS else line.split(" (")[0]): some for line, some in optional.items()}
     for name, some in names.items():
         other = "".join(f", else {value} (`Unwritten`)" for value in unwritten(group).get(name, ()))
-        yield f"{name} is there {told_by(some, types)}{other}."
+        yield f"{name} stands {told_by(some, types)}{other}."
     yield from unwritten_notes(group, types)
     if "Rest" in parts:
         said(PAYLOAD, "AreFrames", "strict (found ∷ others) bytes", (
@@ -232,9 +232,9 @@ def notes(group, optional):
         said(TABLE, "has_rest", "(field ∷ fields)", "is_rest field || has_rest fields")
         said(FIELD, "is_rest", "Rest", "true")
         rest = {frame.type for frame in group if any(part.kind == "Rest" for part in frame.parts)}
-        yield f"{parts['Rest'].name} goes to the end (`Rest`) {told_by(rest, types)}; such a frame is the last."
+        yield f"{parts['Rest'].name} goes to the payload's end (`Rest`) {told_by(rest, types)}."
     if "Blocks" in parts:
-        yield ack_note()
+        yield ack_note(group[0].parts[0].name)
     if "Ordered" in parts:
         said(FIELD, "is_ordered", "(Number first ∷ Number second ∷ [])", "nat_le second first")
         at = [part.kind for part in group[0].parts].index("Ordered")
@@ -257,14 +257,13 @@ def meanings():
                     yield found[1], (word, [re.sub(r"^\((.*)\)$", r"\1", value) for value in values])
 
 
-def row_notes(group):
-    """The rows of frames, with what their values are in the code."""
+def meaning_notes(group):
+    """What the values of frames are in the code."""
     found = dict(meanings())
     for name in dict.fromkeys(frame.name for frame in group):
-        rows = quoted(dict.fromkeys(frame.row for frame in group if frame.name == name))
         word, values = found.get(name, ("", []))
-        told = f": {quoted(values)}" if word else ""
-        yield f"{rows}{told}." if word in ("", "meaning_of") else f"{rows}{told} (`{word}`)."
+        if word:
+            yield quoted(values) + ("." if word == "meaning_of" else f" (`{word}`).")
 
 
 def shouted(name):
@@ -283,7 +282,8 @@ def frame_figures(name, group):
         found += figure("ACK Range", ["Gap (i)", "ACK Range Length (i)"])
     if "[ECN Counts (..)]" in counts_as_one(lines):
         found += figure("ECN Counts", COUNTS)
-    return found + [" ".join([*row_notes(group), *notes(group, optional)]), ""]
+    told = " ".join([*meaning_notes(group), *notes(group, optional)])
+    return found + [told, ""] * bool(told)
 
 
 def beginning():
@@ -304,7 +304,7 @@ def beginning():
         f" (`IsFrame`, crates/{PAYLOAD}.antt; `IsField`, crates/{FIELD}.antt); a payload is frames to its end"
         " (`AreFrames`). Types without a row are none. What is `Unwritten` takes no bytes.",
         "",
-        f"Beneath a figure stands its row, of crates/{TABLE}.antt, behind the colon its values in the code, by"
+        f"Rows are those of crates/{TABLE}.antt (`rows`, by type). Beneath a figure stand the values in the code, by"
         " `meaning_of` or the word in brackets.",
         ""]
 

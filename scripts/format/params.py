@@ -35,7 +35,7 @@ BOUNDS = {
     "<least> ≤ p.<name>": lambda least: f"at least {least}",
     "IfSome p.<name> (λ d. d ≤ <unit> * p.<other>)": lambda unit, other: f"at most {unit} times {other}",
     "IfSome p.<name> (λ a. a.connection_id ≢ [])": lambda: "Connection ID nonempty",
-    "side ≡ <side> → p.<name> ≡ None": lambda side: f"of a {side.lower()} alone",
+    "side ≡ <side> → p.<name> ≡ None": lambda side: f"from a {side.lower()}",
 }
 
 
@@ -152,5 +152,5 @@ def page():
         f" (`default_of`). What must be, `IsValid` says, crates/{MEANING}.antt, of names of `slots`,"
         f" crates/{RECORD}.antt. Numbers {free['step']} * N + {free['first']} are reserved (`IsReserved`,"
         f" crates/{RESERVED}.antt).")
-    yield from ["", "### The value of preferred_address (18.2)", ""]
+    yield from ["", "### Preferred Address (18.2)", ""]
     yield from address()

@@ -94,7 +94,7 @@ def rows():
     told, held = bounds(), fields()
     for name, index, number, kind, once in sorted(identifiers(), key=lambda it: it[2]):
         value, default = value_of(kind)
-        must = ", ".join(told.pop(held[index], []) + ["may stand twice"] * (not once))
+        must = ", ".join(told.pop(held[index], []) + ["may repeat"] * (not once))
         section = f"({SECTIONS[name]})" if name in SECTIONS else ""
         yield [f"{number:#04x}", NAMES.get(name, snake(name)), value, default, f"{must} {section}".strip()]
     if told:
@@ -142,7 +142,7 @@ def page():
         "Transport Parameter ID (i)", "Transport Parameter Length (i)", "Transport Parameter Value (..)"])
     yield (
         f"`AreEntries`, `IsEntry`, crates/{ENTRY}.antt. Entries without a row are passed (`Accepts`), repeated ones"
-        " refused unless they may stand twice (`IsRepeat`).")
+        " refused unless they may (`IsRepeat`).")
     yield from ["", "### Parameters (18.2)", ""]
     yield from columns([["ID", "Name", "Value", "Default", "Must be"], *rows()])
     others = quoted(name for name in clauses(TABLE, "row") if name in NAMES)

@@ -85,12 +85,12 @@ def figure(title, lines):
     return [f"    {title} {{", *(f"      {line}," for line in lines), "    }", ""]
 
 
-def beneath(rows, file, notes=()):
-    """What a figure is made from, and what it can't say."""
-    names = ", ".join(f"`{row}`" for row in rows)
-    return [" ".join([f"From {names}, crates/{file}.antt.", *notes]), ""]
+def quoted(names):
+    return ", ".join(f"`{name}`" for name in names)
 
 
-def table(head, rows):
-    lines = [f"| {' | '.join(row)} |" for row in [head, *rows]]
-    return [lines[0], "|" + "---|" * len(head), *lines[1:], ""]
+def columns(rows):
+    """Rows of words as a figure, each column as wide as its longest word."""
+    rows = list(rows)
+    widths = [max(map(len, column)) for column in zip(*rows)]
+    return [*("    " + "  ".join(map(str.ljust, row, widths)).rstrip() for row in rows), ""]

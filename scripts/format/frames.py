@@ -2,7 +2,7 @@
 import collections
 import re
 
-from format.definitions import beneath, clauses, fail, figure, listed, matched, only, said, source
+from format.definitions import clauses, fail, figure, listed, matched, only, quoted, said, source
 
 IDS = "quic_base/specs/Ids"
 FIELD = "quic_frame_parts/specs/Field"
@@ -45,8 +45,8 @@ OWN_NAMES = {
     ("Stream", "offset_field"): "Offset",
     ("Stream", "data_field"): "Stream Data",
     ("Datagram", "data_field"): "Datagram Data",
-    ("MaxStreams", "Unwritten"): "The direction of the streams",
-    ("StreamsBlocked", "Unwritten"): "The direction of the streams",
+    ("MaxStreams", "Unwritten"): "Direction",
+    ("StreamsBlocked", "Unwritten"): "Direction",
 }
 NAMES = {
     "error_code": "Application Protocol Error Code",
@@ -70,7 +70,7 @@ FIGURES = {"ApplicationClose": "ConnectionClose"}
 
 # A field of a row, by its name in the row and in the RFC; what it is to be, where it has no bytes.
 Part = collections.namedtuple("Part", "name kind value")
-Frame = collections.namedtuple("Frame", "type row name parts")
+Frame = collections.namedtuple("Frame", "type name parts")
 
 
 def titled(name):
@@ -92,7 +92,7 @@ def told_by(some, types):
     for bit in (1, 2, 4) if len(types) > 2 else ():
         those = {number for number in types if number & bit}
         if some in (those, types - those):
-            return f"where bit {bit:#04x} of the type is {'set' if some == those else 'clear'}"
+            return f"{'with' if some == those else 'without'} type bit {bit:#04x}"
     return f"in type {several(some)}"
 
 
@@ -142,7 +142,7 @@ def frames():
             fail(f"{row} in crates/{TABLE}.antt", right)
         name = known.get(body[1], body[1])
         parts = [part_of(name, text, known) for text in listed(body[2] or body[3], row)]
-        yield Frame(int(entry[1], 0), f"{row} {name}" if body[1] in known else row, name, parts)
+        yield Frame(int(entry[1], 0), name, parts)
 
 
 def lines_of(part):
@@ -178,7 +178,7 @@ def merged(group):
     return lines, {line: some for line, some in have.items() if len(some) < len(group)}
 
 
-def ack_note():
+def ack_note(first):
     """What the numbers of an ACK's ranges say."""
     apart = said(FIELD, "AreBelow", "low (range ∷ ranges) bytes", (
         "(gap block others : List ℕ) × (bytes ≡ gap ++ (block ++ others)) × (range.0 ≤ range.1) × (range.1 + <apart>"
@@ -189,27 +189,30 @@ def ack_note():
         " × Spells (range.1 - range.0) block × AreBelow range.0 ranges others"))
     said(FIELD, "greatest_of", "(Number greatest ∷ values)", "greatest")
     return (
-        "ACK Range Count counts the ranges behind the first (`Blocks`). The first ends at the frame's first number;"
-        " First ACK Range and ACK Range Length are the greatest number of a range less its least (`AreBlocks`);"
-        f" Gap is the least number of the range before, less {apart}, less the greatest of the range behind it"
-        " (`AreBelow`). No range goes below 0.")
+        f"ACK Range Count counts the ranges behind the first (`Blocks`), which ends at {first}; First ACK Range and ACK"
+        " Range Length are a range's greatest number less its least (`AreBlocks`), Gap the least of the range before,"
+        f" less {apart}, less the greatest of the next (`AreBelow`). None goes below 0.")
 
 
-def unwritten_notes(group, types):
-    """What takes no bytes: its value for each type, or for those that leave it out."""
+def unwritten(group):
+    """What takes no bytes: for each of its values the types with it."""
     found = collections.defaultdict(lambda: collections.defaultdict(set))
     for frame in group:
         for part in frame.parts:
             if part.kind == "Unwritten":
                 found[part.name][part.value].add(frame.type)
-    for name, values in found.items():
+    return found
+
+
+def unwritten_notes(group, types):
+    """What takes no bytes in any type."""
+    for name, values in unwritten(group).items():
         if set().union(*values.values()) != types:
-            yield f"Where it isn't there, {name} is {', '.join(values)} (`Unwritten`)."
             continue
         told = {value: told_by(some, types) for value, some in values.items()}
-        first = [f"{value} {by}" for value, by in told.items() if not by.endswith("clear")]
-        others = [f"else {value}" for value, by in told.items() if by.endswith("clear")]
-        yield f"{name} takes no bytes (`Unwritten`): it is {', '.join(first + others)}."
+        first = [f"{value} {by}" for value, by in told.items() if not by.startswith("without")]
+        others = [f"else {value}" for value, by in told.items() if by.startswith("without")]
+        yield f"{name} (`Unwritten`) is {', '.join(first + others)}."
 
 
 def notes(group, optional):
@@ -218,7 +221,8 @@ def notes(group, optional):
     parts = {part.kind: part for frame in group for part in frame.parts}
     names = {("ECN Counts" if line in COUNTS else line.split(" (")[0]): some for line, some in optional.items()}
     for name, some in names.items():
-        yield f"{name} is there {told_by(some, types)}."
+        other = "".join(f", else {value} (`Unwritten`)" for value in unwritten(group).get(name, ()))
+        yield f"{name} stands {told_by(some, types)}{other}."
     yield from unwritten_notes(group, types)
     if "Rest" in parts:
         said(PAYLOAD, "AreFrames", "strict (found ∷ others) bytes", (
@@ -228,17 +232,14 @@ def notes(group, optional):
         said(TABLE, "has_rest", "(field ∷ fields)", "is_rest field || has_rest fields")
         said(FIELD, "is_rest", "Rest", "true")
         rest = {frame.type for frame in group if any(part.kind == "Rest" for part in frame.parts)}
-        yield f"{parts['Rest'].name} goes to the end (`Rest`) {told_by(rest, types)}, and such a frame is the last."
+        yield f"{parts['Rest'].name} goes to the payload's end (`Rest`) {told_by(rest, types)}."
     if "Blocks" in parts:
-        yield ack_note()
+        yield ack_note(group[0].parts[0].name)
     if "Ordered" in parts:
         said(FIELD, "is_ordered", "(Number first ∷ Number second ∷ [])", "nat_le second first")
         at = [part.kind for part in group[0].parts].index("Ordered")
         first, second = group[0].parts[at - 2:at]
         yield f"{second.name} is at most {first.name} (`Ordered`)."
-    if "Id" in parts:
-        least, most = map(int, re.findall(r"\d+", lines_of(parts["Id"])[1]))
-        yield f"Length is from {least // 8} to {most // 8} (`Id`)."
 
 
 def meanings():
@@ -256,12 +257,13 @@ def meanings():
                     yield found[1], (word, [re.sub(r"^\((.*)\)$", r"\1", value) for value in values])
 
 
-def meaning_note(group):
+def meaning_notes(group):
     """What the values of frames are in the code."""
+    found = dict(meanings())
     for name in dict.fromkeys(frame.name for frame in group):
-        if name in dict(meanings()):
-            word, values = dict(meanings())[name]
-            yield f"Its values (`{word}`): {', '.join(f'`{value}`' for value in values)}."
+        word, values = found.get(name, ("", []))
+        if word:
+            yield quoted(values) + ("." if word == "meaning_of" else f" (`{word}`).")
 
 
 def shouted(name):
@@ -274,14 +276,14 @@ def frame_figures(name, group):
     if not merged(group):
         return [line for frame in group for line in frame_figures(name, [frame])]
     lines, optional = merged(group)
-    rows = list(dict.fromkeys(frame.row for frame in group))
     said_types = several({frame.type for frame in group})
     found = figure(f"{shouted(name)} Frame", [f"Type (i) = {said_types}", *counts_as_one(lines)])
     if "ACK Range (..) ..." in lines:
         found += figure("ACK Range", ["Gap (i)", "ACK Range Length (i)"])
     if "[ECN Counts (..)]" in counts_as_one(lines):
         found += figure("ECN Counts", COUNTS)
-    return found + beneath(rows, TABLE, [*notes(group, optional), *meaning_note(group)])
+    told = " ".join([*meaning_notes(group), *notes(group, optional)])
+    return found + [told, ""] * bool(told)
 
 
 def beginning():
@@ -298,10 +300,12 @@ def beginning():
         " × AreFields fields (before ++ values) after back"))
     return [
         "## Frames", "",
-        f"A frame is its type, a number in any width or, where `strict`, in the shortest alone, and the fields of the"
-        f" type's row one after another (`IsFrame`, crates/{PAYLOAD}.antt); a payload is frames to its end"
-        f" (`AreFrames`). What a kind of field is, `IsField` says, crates/{FIELD}.antt. Types without a row are none."
-        " The values of a row are those of the code beside it, in their order.",
+        "A frame is its type, in any width or, where `strict`, the shortest, and its row's fields one after another"
+        f" (`IsFrame`, crates/{PAYLOAD}.antt; `IsField`, crates/{FIELD}.antt); a payload is frames to its end"
+        " (`AreFrames`). Types without a row are none. What is `Unwritten` takes no bytes.",
+        "",
+        f"Rows are those of crates/{TABLE}.antt (`rows`, by type). Beneath a figure stand the values in the code, by"
+        " `meaning_of` or the word in brackets.",
         ""]
 
 
@@ -313,6 +317,6 @@ def page():
         groups[FIGURES.get(frame.name, frame.name)].append(frame)
     for name, group in groups.items():
         section = SECTIONS.get(name) or fail(f"Name in crates/{TABLE}.antt", f"{name}, whose section isn't known")
-        yield f"### {shouted(name)} ({section if ' ' in section else f'RFC 9000, {section}'})"
+        yield f"### {shouted(name)} ({section})"
         yield ""
         yield from frame_figures(name, group)

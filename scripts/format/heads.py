@@ -1,7 +1,7 @@
 """The figures of packet headers (RFC 9000, section 17; RFC 8999), from crates/quic_heads/specs/Grammar.antt."""
 import collections
 
-from format.definitions import beneath, clauses, fail, figure, listed, log_of, matched, said
+from format.definitions import clauses, fail, figure, listed, log_of, matched, said
 
 NUMBER = "quic_base/specs/Number"
 LONG_ID = "quic_base/specs/ConnectionId"
@@ -173,26 +173,24 @@ def behind(head):
 
 
 def notes(head):
-    """What the figure of a header can't say."""
-    if head.type:
-        version = said(TYPES, "version_2", "", "<number>")["number"]
-        yield (f"Under version 2 ({version:#x}; RFC 9369, 3.2) Long Packet Type is {type_number(head, 'second')}"
-               " (`types_of`).")
+    """What the figure of a header can't say, beside what is so of all."""
     if head.title == "Version Negotiation":
-        yield "There is no type. What follows, the versions, is told as bytes (`Head`)."
+        yield "The versions, (..), are told as bytes."
     if head.title == "Retry":
-        yield "What follows, Retry Token and Retry Integrity Tag, is told as bytes (`Head`)."
+        yield "Retry Token and Retry Integrity Tag, (..), are told as bytes."
     if head.title == "1-RTT":
-        yield "Destination Connection ID has as many bytes as the parser of ids takes (`ShortId`)."
+        yield "Destination Connection ID is what the parser of ids takes (`ShortId`)."
+
+
+def checked(head):
+    """Stops where a header ends or is written otherwise than the paragraphs on all say."""
     if "Length" in row(head):
         said(GRAMMAR, "Cut", "context bytes h p q", (
             "(rest : List ℕ) × Head context (length bytes) bytes h rest × (p + length rest ≡ length bytes)"
             " × MatchOption (len_in h) (q ≡ length bytes) (λ len. q ≡ p + len) × (q ≤ length bytes)"))
-        yield "The packet ends as many bytes behind Length as that says (`Cut`)."
     front, whole = WRITTEN[head.title]
     said(WRITING, "head_front", head.written, front)
     said(WRITING, "head_with", f"len {head.written}", whole.replace("<front..>", f"head_front {head.written}"))
-    yield "Written in this order (`head_with`)" + (", Length in two bytes." if "Length" in row(head) else ".")
 
 
 def reading():
@@ -207,10 +205,13 @@ def reading():
     said(GRAMMAR, "Begins", "context field before values bytes rest", (
         "(front : List ℕ) × (bytes ≡ front ++ rest) × IsField context field before values front rest"))
     said(GRAMMAR, "token_length_of", "(version ∷ destination ∷ source ∷ Number count ∷ [])", "count")
+    version = said(TYPES, "version_2", "", "<number>")["number"]
+    types = ", ".join(f"{type_number(head, 'second')} {head.title}" for head in ALL if head.type)
     return (
-        "A header is its first byte and the fields of its row one after another (`Head`). The fixed bit of any header"
-        " may be clear where `context.grease` holds (RFC 9287; `is_fixed`). Another version than 0 is one of those that"
-        " are known (`Supported`).")
+        "A header is its first byte and its row's fields one after another (`Head`, `row_of`, `row_behind_ids`,"
+        f" `typed_row`, crates/{GRAMMAR}.antt); its packet ends as many bytes behind Length as that says (`Cut`). Any"
+        " fixed bit may be clear where `context.grease` holds (RFC 9287; `is_fixed`). Versions but 0 are known ones"
+        f" (`Supported`). Version 2 ({version:#x}; RFC 9369, 3.2) has the Long Packet Types {types} (`types_of`).")
 
 
 def protection():
@@ -219,11 +220,10 @@ def protection():
     said(KEYS, "is_short", "packet", "nat_lt (slice_index packet 0) 128")
     skipped = said(KEYS, "HasSample", "room", "at + <skipped> + sample_len ≤ length packet")["skipped"]
     return (
-        "Packet Number Length is one less than Packet Number has bytes (`number_len`). Whether Reserved Bits are 0,"
-        f" `reserved_zero` tells. The low {low['true']} bits of the first byte of a 1-RTT packet, the low"
-        f" {low['false']} of others, and the number are under header protection (`first_unit`, `Protects`; RFC 9001,"
-        f" 5.4), for which the packet goes on to a sample {skipped} bytes behind the number's place (`HasSample`,"
-        f" crates/{KEYS}.antt).")
+        "Packet Number has a byte more than Packet Number Length says (`number_len`); `reserved_zero` tells whether"
+        f" Reserved Bits are 0. The low {low['true']} bits of a 1-RTT packet's first byte, {low['false']} of others,"
+        " and the number are under header protection (`first_unit`, `Protects`; RFC 9001, 5.4), whose sample stands"
+        f" {skipped} bytes behind the number's place (`HasSample`, crates/{KEYS}.antt).")
 
 
 def packet_numbers():
@@ -233,9 +233,8 @@ def packet_numbers():
     said(CRYPTO, "IsInWindow", "below", "n ≤ expected + window / 2")
     said(CRYPTO, "window_of", "number", "2 ^ (8 * number_size number)")
     return (
-        "Packet Number is the low bytes of the packet's number, which is the one with these bytes in the window round"
-        " the expected number: greater than that less half the window, and greater by half the window at most (RFC"
-        f" 9000, 17.1, A.3; `IsInWindow`, crates/{CRYPTO}.antt).")
+        "It is the low bytes of the one number with these that is greater than the expected one less half the window,"
+        f" and at most half the window greater (17.1, A.3; `IsInWindow`, crates/{CRYPTO}.antt).")
 
 
 def writing():
@@ -249,8 +248,8 @@ def writing():
         "let at = header_len - pn_len in take (at - 2) bytes ++ (bytes_of 2 (2 ^ 14 + (length bytes - at)) ++ drop at"
         " bytes)"))
     return (
-        f"In what is written (`head_with`, crates/{WRITING}.antt) the fixed bit is set, and reserved and unused bits"
-        " are clear; the low seven of a version negotiation are given.")
+        f"Headers are written in this order (`head_with`, crates/{WRITING}.antt), Length in two bytes, the fixed bit"
+        " set, reserved and unused bits clear; the low seven of a version negotiation are given.")
 
 
 def any_version():
@@ -269,13 +268,14 @@ def any_version():
     yield ""
     lines = ["Header Form (1) = 1", "Version-Specific Bits (7)", f"Version ({8 * width})", *ids]
     yield from figure("Long Header Packet", [*lines, "Version-Specific Data (..)"])
-    yield from beneath(["AnyVersion"], PLACES, ["By it unknown versions are told (`IsUnknown`)."])
-    yield "### Version Negotiation of any version (RFC 8999, 6)"
-    yield ""
+    yield f"`AnyVersion`, crates/{PLACES}.antt; by it unknown versions are told (`IsUnknown`)."
+    yield from ["", "### Version Negotiation of any version (RFC 8999, 6)", ""]
     lines = ["Header Form (1) = 1", "Unused (7)", f"Version ({8 * width}) = {zero}", *ids]
     yield from figure("Version Negotiation Packet", [*lines, f"Supported Version ({8 * one}) ..."])
-    yield from beneath(["IsNegotiation", "negotiation_bytes"], NEGOTIATION, [
-        "What is read ends behind the ids; the versions are what is written (`version_bytes`)."])
+    yield (
+        f"`IsNegotiation`, `negotiation_bytes`, crates/{NEGOTIATION}.antt. What is read ends behind the ids; the"
+        " versions are what is written (`version_bytes`).")
+    yield ""
 
 
 def page():
@@ -285,11 +285,12 @@ def page():
         yield from ["", paragraph]
     yield ""
     for head in ALL:
-        yield f"### {head.title} (RFC 9000, {head.section})"
+        checked(head)
+        yield f"### {head.title} ({head.section})"
         yield ""
         zero = f" = {meant(head)['version']}" if "version" in meant(head) else ""
         fields = [line + zero * (field == "Version") for field in row(head) for line in lines_of(field)]
         yield from figure(f"{head.title} Packet", [*first_lines(head), *fields, *behind(head)])
-        rows = ["row_of"] + (["typed_row"] if head.type else ["row_behind_ids"] if head.title != "1-RTT" else [])
-        yield from beneath(rows, GRAMMAR, notes(head))
+        for note in notes(head):
+            yield from [note, ""]
     yield from any_version()

@@ -1,7 +1,7 @@
 """Numbers (RFC 9000, section 16), stream ids (2.1) and error codes (20.1)."""
 import re
 
-from format.definitions import clauses, said, source, table
+from format.definitions import clauses, columns, said, source
 
 VARINT = "quic_base/specs/Varint"
 IDS = "quic_base/specs/Ids"
@@ -35,21 +35,22 @@ def streams():
 def codes():
     """The numbers of errors by their names."""
     for name in re.findall(r"^abbrev pub (\w+) : ℕ\n", source(CODES), re.M):
-        yield f"{said(CODES, name, '', '<number>')['number']:#04x}", name.upper(), f"`{name}`"
+        yield f"{said(CODES, name, '', '<number>')['number']:#04x}", name.upper()
     alerts = said(CODES, "other_text", "code", "if nat_le <least> code && nat_le code <most> then <texts..>")
-    yield f"{alerts['least']:#06x}-{alerts['most']:#06x}", "CRYPTO_ERROR", "`other_text`"
+    yield f"{alerts['least']:#06x}-{alerts['most']:#06x}", "CRYPTO_ERROR"
 
 
 def page():
     yield from ["## Numbers", ""]
     yield (
-        f"A number (i) is spelled in one of these widths (RFC 9000, 16; `Spells`, crates/{VARINT}.antt), at its"
-        " shortest in the first that has it (`short`):")
+        f"A number (i) has one of these widths (16; `Spells`, crates/{VARINT}.antt), at its shortest the first that has"
+        " it (`short`):")
     yield ""
-    yield from table(["2MSB", "Length", "Usable Bits", "Range"], varints())
-    yield f"Stream IDs (RFC 9000, 2.1; `stream_number`, crates/{IDS}.antt) say by their low two bits:"
+    yield from columns([("2MSB", "Length", "Usable Bits", "Range"), *varints()])
+    yield f"The low two bits of stream IDs (2.1; `stream_number`, crates/{IDS}.antt):"
     yield ""
-    yield from table(["Bits", "Stream Type"], streams())
-    yield f"Error codes (RFC 9000, 20.1; crates/{CODES}.antt) are:"
+    yield from columns(streams())
+    yield (
+        f"Error codes (20.1; crates/{CODES}.antt, by their names in small letters, the last `other_text`):")
     yield ""
-    yield from table(["Value", "Code", "word"], codes())
+    yield from columns(codes())

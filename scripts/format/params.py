@@ -1,7 +1,7 @@
 """The table of transport parameters (RFC 9000, section 18), from crates/quic_params/specs."""
 import re
 
-from format.definitions import beneath, clauses, fail, fields_of, figure, listed, matched, said, table
+from format.definitions import clauses, columns, fail, fields_of, figure, listed, matched, quoted, said
 
 LONG_ID = "quic_base/specs/ConnectionId"
 TABLE = "quic_params/specs/Table"
@@ -20,8 +20,8 @@ SECTIONS = {
 }
 # What a value is by its kind, from the clause of IsSpelled of a kind with such a value.
 KINDS = {
-    "(n < 2 ^ 62) × (b ≡ short n)": lambda: "(i), shortest alone",
-    "Spells n b": lambda: "(i)",
+    "(n < 2 ^ 62) × (b ≡ short n)": lambda: "(i)",
+    "Spells n b": lambda: "(i), any width",
     "b ≡ []": lambda: "(0)",
     "(b ≡ t) × (length t ≡ <width>)": lambda width: f"({8 * width})",
     "(b ≡ id) × (length id ≤ <most>)": lambda most: f"(0..{8 * most})",
@@ -35,7 +35,7 @@ BOUNDS = {
     "<least> ≤ p.<name>": lambda least: f"at least {least}",
     "IfSome p.<name> (λ d. d ≤ <unit> * p.<other>)": lambda unit, other: f"at most {unit} times {other}",
     "IfSome p.<name> (λ a. a.connection_id ≢ [])": lambda: "Connection ID nonempty",
-    "side ≡ <side> → p.<name> ≡ None": lambda side: f"absent from a {'client' if side == 'Server' else 'server'}",
+    "side ≡ <side> → p.<name> ≡ None": lambda side: f"from a {side.lower()}",
 }
 
 
@@ -94,10 +94,9 @@ def rows():
     told, held = bounds(), fields()
     for name, index, number, kind, once in sorted(identifiers(), key=lambda it: it[2]):
         value, default = value_of(kind)
-        must = ", ".join(told.pop(held[index], []))
-        rfc = NAMES.get(name, snake(name))
-        yield [f"{number:#04x}", rfc, value, default, must, "" if once else "yes", SECTIONS.get(name, "18.2"),
-               f"`{name}`"]
+        must = ", ".join(told.pop(held[index], []) + ["may repeat"] * (not once))
+        section = f"({SECTIONS[name]})" if name in SECTIONS else ""
+        yield [f"{number:#04x}", NAMES.get(name, snake(name)), value, default, f"{must} {section}".strip()]
     if told:
         fail(f"IsValid in crates/{MEANING}.antt", f"of no parameter: {', '.join(told)}")
 
@@ -120,9 +119,9 @@ def address():
     said(ADDRESS, "IsAddress", "a b", "AreFields a b × Never (IsNowhere a)")
     yield from figure("Preferred Address", [
         *lines, "Connection ID Length (8)", f"Connection ID (0..{8 * most})", f"Stateless Reset Token ({8 * token})"])
-    yield from beneath(["AreFields"], ADDRESS, [
-        f"An address and its port that are {absent[0]} or {absent[1]} zeros are absent (`IsV4`, `IsV6`); one of the"
-        " two is there (`IsAddress`). There is no flow label and no scope (`IsV6`)."])
+    yield (
+        f"`AreFields`, crates/{ADDRESS}.antt. An address and its port that are {absent[0]} or {absent[1]} zeros are"
+        " absent (`IsV4`, `IsV6`), but not both (`IsAddress`). There is no flow label, no scope (`IsV6`).")
 
 
 def page():
@@ -137,19 +136,21 @@ def page():
         " (row id).kind value e.bytes → after ≡ record { id = id; value = value } ∷ before → Accepts before e after"))
     said(ENTRY, "IsKnown", "number_is", "(row id).number ≡ number")
     free = said(RESERVED, "IsReserved", "number", "number % <step> ≡ <first>")
-    yield from ["## Transport parameters", "", "### Lists (RFC 9000, 18)", ""]
+    yield from ["## Transport parameters", "", "### Lists (18)", ""]
     yield from figure("Transport Parameters", ["Transport Parameter (..) ..."])
     yield from figure("Transport Parameter", [
         "Transport Parameter ID (i)", "Transport Parameter Length (i)", "Transport Parameter Value (..)"])
-    yield from beneath(["AreEntries", "IsEntry"], ENTRY, [
-        "Entries whose number is in no row are passed (`Accepts`). An entry that stands twice is refused, but where the"
-        " table says that it may (`IsRepeat`)."])
-    yield from ["### Parameters (RFC 9000, 18.2)", ""]
-    yield from table(["ID", "RFC's name", "value", "default", "must be", "may stand twice", "section", "row"], rows())
     yield (
-        f"From `row`, crates/{TABLE}.antt; values from `IsSpelled`, crates/{VALUE}.antt; what they must be from"
-        f" `IsValid`, crates/{MEANING}.antt, by the names of `slots`, crates/{RECORD}.antt. Without a default what"
-        f" isn't there is absent (`default_of`). Values (..) are passed; numbers {free['step']} * N + {free['first']}"
-        f" are reserved (`IsReserved`, crates/{RESERVED}.antt).")
-    yield from ["", "### The value of preferred_address (RFC 9000, 18.2)", ""]
+        f"`AreEntries`, `IsEntry`, crates/{ENTRY}.antt. Entries without a row are passed (`Accepts`), repeated ones"
+        " refused unless they may (`IsRepeat`).")
+    yield from ["", "### Parameters (18.2)", ""]
+    yield from columns([["ID", "Name", "Value", "Default", "Must be"], *rows()])
+    others = quoted(name for name in clauses(TABLE, "row") if name in NAMES)
+    yield (
+        f"Rows (`row`, crates/{TABLE}.antt) have these names but {others}. Values (`IsSpelled`, crates/{VALUE}.antt)"
+        " (i) are in the shortest width unless in any; (..) are passed. Without a default what isn't there is absent"
+        f" (`default_of`). What must be, `IsValid` says, crates/{MEANING}.antt, of names of `slots`,"
+        f" crates/{RECORD}.antt. Numbers {free['step']} * N + {free['first']} are reserved (`IsReserved`,"
+        f" crates/{RESERVED}.antt).")
+    yield from ["", "### Preferred Address (18.2)", ""]
     yield from address()

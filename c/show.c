@@ -284,7 +284,7 @@ static int print_bytes_of_line(mode m, const uint8_t *bytes, size_t len) {
   }
 }
 
-/* Prints what a line spells.  Returns whether no error was printed. */
+/* Prints what a line encodes.  Returns whether no error was printed. */
 static int print_line(mode m, char *line, size_t len) {
   ptrdiff_t bytes;
   uint8_t *block = NULL;

@@ -103,7 +103,7 @@ void extension_examples(void) {
 }
 
 /* The bytes with a frame of the extension put in, maybe cut off or in a longer
- * spelling. */
+ * encoding. */
 static uint8_t *put_in(const uint8_t *bytes, size_t *len) {
   static const uint8_t frames[][8] = {{1, 0x1f},
                                       {2, 0x40, 0x1f},

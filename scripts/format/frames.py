@@ -13,10 +13,10 @@ MEANING = "quic_frames/specs/Meaning"
 
 # What a kind of field is, by the right side of its clause of IsField: its lines, of which NAME is the field's name and
 # LENGTH that of its length.
-VARINT_KIND = "(n : ℕ) × (values ≡ Number n ∷ []) × Spells n bytes"
+VARINT_KIND = "(n : ℕ) × (values ≡ Number n ∷ []) × Encodes n bytes"
 KINDS = {
     VARINT_KIND: lambda: ["NAME (i)"],
-    "(front back : List ℕ) × (values ≡ Bytes back ∷ []) × Spells (length back) front × (bytes ≡ front ++ back)":
+    "(front back : List ℕ) × (values ≡ Bytes back ∷ []) × Encodes (length back) front × (bytes ≡ front ++ back)":
         lambda: ["LENGTH (i)", "NAME (..)"],
     "(back : List ℕ) × (values ≡ Bytes back ∷ []) × (<below> < length back) × (length back ≤ <most>)"
     " × (bytes ≡ length back ∷ back)":
@@ -24,7 +24,7 @@ KINDS = {
     "(n : ℕ) × (values ≡ Number n ∷ []) × IsNumber <width> n bytes": lambda width: [f"NAME ({8 * width})"],
     "(values ≡ Bytes bytes ∷ []) × (length bytes ≡ <width>)": lambda width: [f"NAME ({8 * width})"],
     "(front back : List ℕ) × (range : ℕ × ℕ) × (ranges : List (ℕ × ℕ)) × (values ≡ Ranges (range ∷ ranges) ∷ [])"
-    " × (bytes ≡ front ++ back) × Spells (length ranges) front × AreBlocks (greatest_of before) (range ∷ ranges) back":
+    " × (bytes ≡ front ++ back) × Encodes (length ranges) front × AreBlocks (greatest_of before) (range ∷ ranges) back":
         lambda: ["ACK Range Count (i)", "First ACK Range (i)", "ACK Range (..) ..."],
     "values ≡ Bytes bytes ∷ []": lambda: ["NAME (..)"],
     "(values ≡ Number n ∷ []) × (bytes ≡ [])": lambda: [],
@@ -182,11 +182,11 @@ def ack_note(first):
     """What the numbers of an ACK's ranges say."""
     apart = said(FIELD, "AreBelow", "low (range ∷ ranges) bytes", (
         "(gap block others : List ℕ) × (bytes ≡ gap ++ (block ++ others)) × (range.0 ≤ range.1) × (range.1 + <apart>"
-        " ≤ low) × Spells (low - (range.1 + <apart>)) gap × Spells (range.1 - range.0) block × AreBelow range.0 ranges"
+        " ≤ low) × Encodes (low - (range.1 + <apart>)) gap × Encodes (range.1 - range.0) block × AreBelow range.0 ranges"
         " others"))["apart"]
     said(FIELD, "AreBlocks", "greatest (range ∷ ranges) bytes", (
         "(block others : List ℕ) × (bytes ≡ block ++ others) × (range.1 ≡ greatest) × (range.0 ≤ range.1)"
-        " × Spells (range.1 - range.0) block × AreBelow range.0 ranges others"))
+        " × Encodes (range.1 - range.0) block × AreBelow range.0 ranges others"))
     said(FIELD, "greatest_of", "(Number greatest ∷ values)", "greatest")
     return (
         f"ACK Range Count counts the ranges behind the first (`Blocks`), which ends at {first}; First ACK Range and ACK"
@@ -289,10 +289,10 @@ def frame_figures(name, group):
 def beginning():
     """What is so of all frames."""
     said(PAYLOAD, "IsFrame", "parts", "bytes ≡ type_bytes ++ field_bytes")
-    said(PAYLOAD, "IsFrame", "type_spelled", "IsType strict found.type type_bytes")
+    said(PAYLOAD, "IsFrame", "type_encoded", "IsType strict found.type type_bytes")
     said(PAYLOAD, "IsFrame", "in_table", "row_of found.type ≡ Some row")
     said(PAYLOAD, "IsFrame", "fields", "AreFields row.fields [] found.frame.values field_bytes")
-    said(PAYLOAD, "IsType", "spelled", "Spells t bytes")
+    said(PAYLOAD, "IsType", "encoded", "Encodes t bytes")
     said(PAYLOAD, "IsType", "shortest", "strict ≡ true → bytes ≡ short t")
     said(PAYLOAD, "AreFrames", "strict [] bytes", "bytes ≡ []")
     said(FIELD, "AreFields", "(field ∷ fields) before after bytes", (

@@ -10,13 +10,13 @@ CODES = "quic_errors/specs/Codes"
 
 def varints():
     """The widths of numbers."""
-    said(VARINT, "Spells", "width", "length b ≡ 2 ^ tag")
-    less = said(VARINT, "Spells", "fits", "v < 2 ^ (8 * 2 ^ tag - <bits>)")["bits"]
-    said(VARINT, "Spells", "value", f"num b ≡ tag * 2 ^ (8 * 2 ^ tag - {less}) + v")
+    said(VARINT, "Encodes", "width", "length b ≡ 2 ^ tag")
+    less = said(VARINT, "Encodes", "fits", "v < 2 ^ (8 * 2 ^ tag - <bits>)")["bits"]
+    said(VARINT, "Encodes", "value", f"num b ≡ tag * 2 ^ (8 * 2 ^ tag - {less}) + v")
     said(VARINT, "short", "v", (
         "if nat_lt v (2 ^ 6) then v ∷ [] else if nat_lt v (2 ^ 14) then bytes_of 2 (2 ^ 14 + v) else if nat_lt v"
         " (2 ^ 30) then bytes_of 4 (2 * 2 ^ 30 + v) else bytes_of 8 (3 * 2 ^ 62 + v)"))
-    for tag in range(said(VARINT, "Spells", "tag_fits", "tag < <count>")["count"]):
+    for tag in range(said(VARINT, "Encodes", "tag_fits", "tag < <count>")["count"]):
         width = 2 ** tag
         yield f"{tag:02b}", str(width), str(8 * width - less), f"0-{2 ** (8 * width - less) - 1}"
 
@@ -43,7 +43,7 @@ def codes():
 def page():
     yield from ["## Numbers", ""]
     yield (
-        f"A number (i) has one of these widths (16; `Spells`, crates/{VARINT}.antt), at its shortest the first that has"
+        f"A number (i) has one of these widths (16; `Encodes`, crates/{VARINT}.antt), at its shortest the first that has"
         " it (`short`):")
     yield ""
     yield from columns([("2MSB", "Length", "Usable Bits", "Range"), *varints()])

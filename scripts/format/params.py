@@ -18,10 +18,10 @@ SECTIONS = {
     "ReservedTransportParameter": "18.1", "MaxDatagramFrameSize": "RFC 9221, 3", "GreaseQuicBit": "RFC 9287, 3",
     "MinAckDelayDraft07": "ACK frequency draft, 3",
 }
-# What a value is by its kind, from the clause of IsSpelled of a kind with such a value.
+# What a value is by its kind, from the clause of IsEncoded of a kind with such a value.
 KINDS = {
     "(n < 2 ^ 62) × (b ≡ short n)": lambda: "(i)",
-    "Spells n b": lambda: "(i), any width",
+    "Encodes n b": lambda: "(i), any width",
     "b ≡ []": lambda: "(0)",
     "(b ≡ t) × (length t ≡ <width>)": lambda width: f"({8 * width})",
     "(b ≡ id) × (length id ≤ <most>)": lambda most: f"(0..{8 * most})",
@@ -62,13 +62,13 @@ def value_of(kind):
     if head == "K.Skipped":
         said(ENTRY, "IsKnown", "counts", "(row id).kind ≢ K.Skipped")
         return "(..)", ""
-    spelled = {re.search(r"[KV_][.\w]*", left)[0]: text for left, text in clauses(VALUE, "IsSpelled").items()}
+    encoded = {re.search(r"[KV_][.\w]*", left)[0]: text for left, text in clauses(VALUE, "IsEncoded").items()}
     for template, words in KINDS.items():
-        found = matched(template, spelled.get(head, ""))
+        found = matched(template, encoded.get(head, ""))
         if found is not None:
             said(VALUE, "default_of", "(K.Integer d)", "Some (V.Number d)")
             return words(**found), default
-    return fail(f"IsSpelled {head} in crates/{VALUE}.antt", spelled.get(head, ""))
+    return fail(f"IsEncoded {head} in crates/{VALUE}.antt", encoded.get(head, ""))
 
 
 def bounds():
@@ -126,13 +126,13 @@ def address():
 
 def page():
     """Lists of parameters, and each parameter."""
-    said(ENTRY, "IsEntry", "number bytes", "Follows (Spells number) (Follows (Spells (length bytes)) (Is bytes))")
+    said(ENTRY, "IsEntry", "number bytes", "Follows (Encodes number) (Follows (Encodes (length bytes)) (Is bytes))")
     said(ENTRY, "AreEntries", "(e ∷ es) b", "Follows (AreEntries es) (IsEntry e.number e.bytes) b")
     said(ENTRY, "IsRepeat", "id before", "((row id).once ≡ true) × IsGiven id before")
     said(ENTRY, "Accepts", "Passed", (
         "((id : TransportParameterId) → Never (IsKnown id e.number)) → after ≡ before → Accepts before e after"))
     said(ENTRY, "Accepts", "Taken", (
-        "(id : TransportParameterId) (value : Value) → IsKnown id e.number → Never (IsRepeat id before) → IsSpelled"
+        "(id : TransportParameterId) (value : Value) → IsKnown id e.number → Never (IsRepeat id before) → IsEncoded"
         " (row id).kind value e.bytes → after ≡ record { id = id; value = value } ∷ before → Accepts before e after"))
     said(ENTRY, "IsKnown", "number_is", "(row id).number ≡ number")
     free = said(RESERVED, "IsReserved", "number", "number % <step> ≡ <first>")
@@ -147,7 +147,7 @@ def page():
     yield from columns([["ID", "Name", "Value", "Default", "Must be"], *rows()])
     others = quoted(name for name in clauses(TABLE, "row") if name in NAMES)
     yield (
-        f"Rows (`row`, crates/{TABLE}.antt) have these names but {others}. Values (`IsSpelled`, crates/{VALUE}.antt)"
+        f"Rows (`row`, crates/{TABLE}.antt) have these names but {others}. Values (`IsEncoded`, crates/{VALUE}.antt)"
         " (i) are in the shortest width unless in any; (..) are passed. Without a default what isn't there is absent"
         f" (`default_of`). What must be, `IsValid` says, crates/{MEANING}.antt, of names of `slots`,"
         f" crates/{RECORD}.antt. Numbers {free['step']} * N + {free['first']} are reserved (`IsReserved`,"

@@ -1,5 +1,5 @@
 mod Numbers
-mod Spellings
+mod Encodings
 mod Codecs
 mod Readings
 mod Words

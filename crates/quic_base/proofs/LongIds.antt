@@ -52,7 +52,7 @@ takes_long old mid id new n e f l h a = record {
   is = record { bytes = a; short = rw l h; value = refl };
 }
 
--- an id has one spelling, and no spelling begins another
+-- an id has one encoding, and no encoding begins another
 pub long_id_unique : (id id' b c r s : List ℕ) → b ++ r ≡ c ++ s → IsLongId id b → IsLongId id' c → (id ≡ id') × (b ≡ c) × (r ≡ s)
 long_id_unique id id' b c r s e p q =
     let w : length id ∷ (id ++ r) ≡ length id' ∷ (id' ++ s) = ap (λ l. l ++ r) (sym p.value) ∙ e ∙ ap (λ l. l ++ s) q.value in

@@ -54,7 +54,7 @@ same_lead x y p m n hm hn e = sym (div-mul-add x p m hm) ∙ ap (λ z. z / p) e 
 same_rest : (x y p m n : ℕ) → m < p → n < p → x * p + m ≡ y * p + n → m ≡ n
 same_rest x y p m n hm hn e = sym (mod-mul-add x p m hm) ∙ ap (λ z. z % p) e ∙ mod-mul-add y p n hn
 
--- a number has one spelling in k bytes
+-- a number has one encoding in k bytes
 pub num_injective : (a b : List ℕ) → AreBytes a → AreBytes b → length a ≡ length b → num a ≡ num b → a ≡ b
 num_injective [] [] ha hb el en = refl
 num_injective [] (y ∷ ys) ha hb el en = absurd (omega arith)
@@ -125,7 +125,7 @@ pub same_back : (b c r s : List ℕ) → length b ≡ length c → b ++ r ≡ c 
 same_back b c r s l e =
     sym (drop-append_seam b r) ∙ ap (drop (length b)) e ∙ ap (λ n. drop n (c ++ s)) l ∙ drop-append_seam c s
 
--- a number is spelled by its bytes
+-- a number is encoded by its bytes
 pub is_number_1 : (n : ℕ) → n < 2 ^ 8 → IsNumber 1 n (bytes_of 1 n)
 is_number_1 n h = record { bytes = bytes_of_are_bytes 1 n; width = length-bytes_of 1 n; value = num-bytes_of_1 n h }
 
@@ -147,14 +147,14 @@ no_number k r few n b s e is =
     let l : length r ≡ length b + length s = ap length e ∙ length-append b s in
     omega (arith, is.width)
 
--- a number of k bytes has one spelling
+-- a number of k bytes has one encoding
 pub number_unique : (k m n : ℕ) (b c r s : List ℕ) → b ++ r ≡ c ++ s → IsNumber k m b → IsNumber k n c → (m ≡ n) × (b ≡ c) × (r ≡ s)
 number_unique k m n b c r s e p q =
     let l : length b ≡ length c = p.width ∙ sym q.width in
     let f : b ≡ c = same_front b c r s l e in
     (sym p.value ∙ ap num f ∙ q.value, f, same_back b c r s l e)
 
--- octets have one spelling
+-- octets have one encoding
 pub octets_unique : (k : ℕ) (o p b c r s : List ℕ) → b ++ r ≡ c ++ s → IsOctets k o b → IsOctets k p c → (o ≡ p) × (b ≡ c) × (r ≡ s)
 octets_unique k o p b c r s e x y =
     let l : length b ≡ length c = x.width ∙ sym y.width in
@@ -169,7 +169,7 @@ segments_of-octets_of (x ∷ xs) =
     let ih : segments_of (octets_of xs) ≡ xs = segments_of-octets_of xs in
     rw (e, ih) refl
 
--- an address has one spelling
+-- an address has one encoding
 pub ipv4_unique : (x y : Ipv4Addr) (b c r s : List ℕ) → b ++ r ≡ c ++ s → IsOctets 4 (ipv4_octets x) b → IsOctets 4 (ipv4_octets y) c → (x ≡ y) × (b ≡ c) × (r ≡ s)
 ipv4_unique x y b c r s e p q =
     let u = octets_unique 4 (ipv4_octets x) (ipv4_octets y) b c r s e p q in

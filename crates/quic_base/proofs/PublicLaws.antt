@@ -6,12 +6,12 @@ use Rattle.std.specs.declared.net.ipv6_addr.Ipv6Addr.{Ipv6Addr}
 use Rattle.quic_base.specs.Number.{AreBytes, num, IsNumber, IsOctets, bytes_of}
 use Rattle.quic_base.specs.Codec.{Takes, NoFront, IsBegun, Follows, IsPrefixFree}
 use Rattle.quic_base.specs.ConnectionId.{IsLongId}
-use Rattle.quic_base.specs.Varint.{Spells, size, short}
+use Rattle.quic_base.specs.Varint.{Encodes, size, short}
 use Rattle.quic_base.specs.Reading.{number_at}
 use Rattle.quic_base.proofs.Codecs as codecs
 use Rattle.quic_base.proofs.LongIds as long_ids
 use Rattle.quic_base.proofs.Numbers as numbers
-use Rattle.quic_base.proofs.Spellings as spellings
+use Rattle.quic_base.proofs.Encodings as encodings
 use Rattle.quic_base.proofs.Readings as readings
 
 -- the parts of a list of bytes are bytes
@@ -28,7 +28,7 @@ same_front = numbers.same_front
 pub same_back : (b c r s : List ℕ) → length b ≡ length c → b ++ r ≡ c ++ s → r ≡ s
 same_back = numbers.same_back
 
--- the number of two parts; a number of k bytes is below 256 to the k, and has one spelling in k bytes
+-- the number of two parts; a number of k bytes is below 256 to the k, and has one encoding in k bytes
 pub num-append : (a b : List ℕ) → num (a ++ b) ≡ num a * 256 ^ length b + num b
 num-append = numbers.num-append
 
@@ -38,7 +38,7 @@ num_below = numbers.num_below
 pub num_injective : (a b : List ℕ) → AreBytes a → AreBytes b → length a ≡ length b → num a ≡ num b → a ≡ b
 num_injective = numbers.num_injective
 
--- the bytes that are written of a number spell it
+-- the bytes that are written of a number encode it
 pub is_number_1 : (n : ℕ) → n < 2 ^ 8 → IsNumber 1 n (bytes_of 1 n)
 is_number_1 = numbers.is_number_1
 
@@ -54,7 +54,7 @@ is_number_8 = numbers.is_number_8
 pub length-bytes_of : (k n : ℕ) → length (bytes_of k n) ≡ k
 length-bytes_of = numbers.length-bytes_of
 
--- of fixed numbers, addresses and ids behind their length no spelling begins another
+-- of fixed numbers, addresses and ids behind their length no encoding begins another
 pub number_unique : (k : ℕ) → IsPrefixFree (IsNumber k)
 number_unique = numbers.number_unique
 
@@ -67,37 +67,37 @@ ipv6_unique = numbers.ipv6_unique
 pub long_id_unique : IsPrefixFree IsLongId
 long_id_unique = long_ids.long_id_unique
 
--- the shortest spelling is one, of the stated length
-pub short_spells : (v : ℕ) → v < 2 ^ 62 → Spells v (short v)
-short_spells = spellings.short_spells
+-- the shortest encoding is one, of the stated length
+pub shortest_encodes : (v : ℕ) → v < 2 ^ 62 → Encodes v (short v)
+shortest_encodes = encodings.shortest_encodes
 
 pub length-short : (v : ℕ) → length (short v) ≡ size v
-length-short = spellings.length-short
+length-short = encodings.length-short
 
--- no spelling begins another, and none spells two numbers
-pub spells_unique : (v u : ℕ) (b c r s : List ℕ) → b ++ r ≡ c ++ s → Spells v b → Spells u c → (v ≡ u) × (b ≡ c) × (r ≡ s)
-spells_unique = spellings.spells_unique
+-- no encoding begins another, and none encodes two numbers
+pub encodes_unique : (v u : ℕ) (b c r s : List ℕ) → b ++ r ≡ c ++ s → Encodes v b → Encodes u c → (v ≡ u) × (b ≡ c) × (r ≡ s)
+encodes_unique = encodings.encodes_unique
 
 -- the shortest is as short as any other, and alone in that
-pub short_least : (v : ℕ) (b : List ℕ) → Spells v b → (length (short v) ≤ length b) × (length b ≡ length (short v) → b ≡ short v)
-short_least = spellings.short_least
+pub short_least : (v : ℕ) (b : List ℕ) → Encodes v b → (length (short v) ≤ length b) × (length b ≡ length (short v) → b ≡ short v)
+short_least = encodings.short_least
 
--- what is spelled is below 2^62, and no spelling is empty
-pub spelled_bound : (v : ℕ) (b : List ℕ) → Spells v b → (v < 2 ^ 62) × (0 < length b)
-spelled_bound v b p = ((spellings.spelled_bound v b p).0, (spellings.lead v b p).0)
+-- what is encoded is below 2^62, and no encoding is empty
+pub encoded_bound : (v : ℕ) (b : List ℕ) → Encodes v b → (v < 2 ^ 62) × (0 < length b)
+encoded_bound v b p = ((encodings.encoded_bound v b p).0, (encodings.lead v b p).0)
 
--- what reading finds is spelled, and what is spelled is found
-pub number_taken : (bytes : List ℕ) (n : ℕ) (rest : List ℕ) → AreBytes bytes → number_at bytes ≡ Some (n, rest) → Takes (Spells n) bytes rest
+-- what reading finds is encoded, and what is encoded is found
+pub number_taken : (bytes : List ℕ) (n : ℕ) (rest : List ℕ) → AreBytes bytes → number_at bytes ≡ Some (n, rest) → Takes (Encodes n) bytes rest
 number_taken = readings.number_taken
 
-pub number_again : (n : ℕ) (front rest : List ℕ) → Spells n front → number_at (front ++ rest) ≡ Some (n, rest)
+pub number_again : (n : ℕ) (front rest : List ℕ) → Encodes n front → number_at (front ++ rest) ≡ Some (n, rest)
 number_again = readings.number_again
 
--- where reading finds none, no front is a spelling, and the other way round
-pub none_found : (bytes : List ℕ) → number_at bytes ≡ None → (v : ℕ) → NoFront (Spells v) bytes
+-- where reading finds none, no front is a encoding, and the other way round
+pub none_found : (bytes : List ℕ) → number_at bytes ≡ None → (v : ℕ) → NoFront (Encodes v) bytes
 none_found = readings.none_found
 
-pub no_number : (bytes : List ℕ) → AreBytes bytes → ((v : ℕ) → NoFront (Spells v) bytes) → number_at bytes ≡ None
+pub no_number : (bytes : List ℕ) → AreBytes bytes → ((v : ℕ) → NoFront (Encodes v) bytes) → number_at bytes ≡ None
 no_number = readings.no_number
 
 -- what two decoders take, one after another

@@ -1,11 +1,11 @@
--- A number that is read is spelled, and one that is spelled is read.
+-- A number that is read is encoded, and one that is encoded is read.
 use Rattle.std.proofs.Common.{◌≡◌, ℕ, zero, suc, ◌+◌, ◌-◌, ◌*◌, ◌/◌, ◌%◌, ◌^◌, ◌<◌, ◌≤◌, Bool, true, false, cond, ltb, List, [], ◌∷◌, ◌++◌, length, take, drop, Option, None, Some, refl, sym, ap, subst, ◌∙◌, arith}
 use Rattle.std.proofs.lemmas.Bool.{ltb-false, le-ltb}
 use Rattle.std.proofs.lemmas.Nat.{mul-add-lt}
 use Rattle.std.proofs.lemmas.List.{take_at, drop_at, take-append-drop, length-append, length-take}
 use Rattle.quic_base.specs.Number.{AreBytes, num}
 use Rattle.quic_base.specs.Codec.{Takes, NoFront}
-use Rattle.quic_base.specs.Varint.{Spells}
+use Rattle.quic_base.specs.Varint.{Encodes}
 use Rattle.quic_base.specs.Reading.{number_at}
 use Rattle.quic_base.proofs.Numbers.{num_below, cons_bytes, front_bytes}
 
@@ -21,8 +21,8 @@ width_of (suc (suc zero)) lt = record { one_more = refl; limit = refl }
 width_of (suc (suc (suc zero))) lt = record { one_more = refl; limit = refl }
 width_of (suc (suc (suc (suc n)))) lt = absurd (omega (arith, lt))
 
-spelled_by : (b more n : ℕ) (t : List ℕ) → b < 256 → AreBytes t → length t ≡ more → IsWidth (b / 64) more → n ≡ b % 64 * 256 ^ more + num t → Spells n (b ∷ t)
-spelled_by b more n t lt fits len w n-is =
+encoded_by : (b more n : ℕ) (t : List ℕ) → b < 256 → AreBytes t → length t ≡ more → IsWidth (b / 64) more → n ≡ b % 64 * 256 ^ more + num t → Encodes n (b ∷ t)
+encoded_by b more n t lt fits len w n-is =
     let small : num t < 256 ^ more = subst (λ (k : ℕ). num t < 256 ^ k) len (num_below t fits) in
     let low : b % 64 < 64 = omega arith in
     let b-is : b * 256 ^ more ≡ (b / 64 * 64 + b % 64) * 256 ^ more = ap (λ (x : ℕ). x * 256 ^ more) (omega arith) in
@@ -40,7 +40,7 @@ guard_some : {A : Type 0} (b : Bool) (x y : A) → cond b None (Some x) ≡ Some
 guard_some true x y e = absurd cc
 guard_some false x y e = (refl, cc)
 
-pub number_taken : (bytes : List ℕ) (n : ℕ) (rest : List ℕ) → AreBytes bytes → number_at bytes ≡ Some (n, rest) → Takes (Spells n) bytes rest
+pub number_taken : (bytes : List ℕ) (n : ℕ) (rest : List ℕ) → AreBytes bytes → number_at bytes ≡ Some (n, rest) → Takes (Encodes n) bytes rest
 unfolding number_at
 number_taken [] n rest fits e = absurd cc
 number_taken (b ∷ bs) n rest fits e =
@@ -57,7 +57,7 @@ number_taken (b ∷ bs) n rest fits e =
     record {
       front = b ∷ take more bs;
       split = ap (λ (t : List ℕ). b ∷ t) (sym whole ∙ ap (λ (t : List ℕ). take more bs ++ t) rest-is);
-      is = spelled_by b more n (take more bs) lt (front_bytes (take more bs) (drop more bs) tail_fits) len (width_of (b / 64) tag) (sym n-is);
+      is = encoded_by b more n (take more bs) lt (front_bytes (take more bs) (drop more bs) tail_fits) len (width_of (b / 64) tag) (sym n-is);
     }
 
 -- a number cut into its tag and its value
@@ -73,7 +73,7 @@ cut (suc (suc zero)) b s n lt small fits e = record { tag_is = omega (arith, sma
 cut (suc (suc (suc zero))) b s n lt small fits e = record { tag_is = omega (arith, small, fits, e); value = omega (arith, small, fits, e) }
 cut (suc (suc (suc (suc k)))) b s n lt small fits e = absurd (omega (arith, lt))
 
-pub number_again : (n : ℕ) (front rest : List ℕ) → Spells n front → number_at (front ++ rest) ≡ Some (n, rest)
+pub number_again : (n : ℕ) (front rest : List ℕ) → Encodes n front → number_at (front ++ rest) ≡ Some (n, rest)
 unfolding number_at
 number_again n [] rest v =
     let w = width_of v.tag v.tag_fits in
@@ -91,17 +91,17 @@ number_again n (b ∷ t) rest v =
     rw (c.tag_is, long, take_at t rest more len, drop_at t rest more len, c.value) refl
 
 -- what a decoder took is what reading finds
-pub taken_number : (n : ℕ) (bytes rest : List ℕ) → Takes (Spells n) bytes rest → number_at bytes ≡ Some (n, rest)
+pub taken_number : (n : ℕ) (bytes rest : List ℕ) → Takes (Encodes n) bytes rest → number_at bytes ≡ Some (n, rest)
 taken_number n bytes rest t = ap number_at t.split ∙ number_again n t.front rest t.is
 
-no_number_in : (bytes : List ℕ) (found : Option (ℕ × List ℕ)) → number_at bytes ≡ found → AreBytes bytes → ((v : ℕ) → NoFront (Spells v) bytes) → found ≡ None
+no_number_in : (bytes : List ℕ) (found : Option (ℕ × List ℕ)) → number_at bytes ≡ found → AreBytes bytes → ((v : ℕ) → NoFront (Encodes v) bytes) → found ≡ None
 no_number_in bytes None e fits none = refl
 no_number_in bytes (Some x) e fits none = let t = number_taken bytes x.0 x.1 fits e in absurd (none x.0 t.front x.1 t.split t.is)
 
 -- where no front is a number, reading finds none
-pub no_number : (bytes : List ℕ) → AreBytes bytes → ((v : ℕ) → NoFront (Spells v) bytes) → number_at bytes ≡ None
+pub no_number : (bytes : List ℕ) → AreBytes bytes → ((v : ℕ) → NoFront (Encodes v) bytes) → number_at bytes ≡ None
 no_number bytes fits none = no_number_in bytes (number_at bytes) refl fits none
 
 -- and where it finds none, no front is one
-pub none_found : (bytes : List ℕ) → number_at bytes ≡ None → (v : ℕ) → NoFront (Spells v) bytes
+pub none_found : (bytes : List ℕ) → number_at bytes ≡ None → (v : ℕ) → NoFront (Encodes v) bytes
 none_found bytes e v b s split p = absurd (let h = number_again v b s p in let g : number_at (b ++ s) ≡ None = ap number_at (sym split) ∙ e in cc)

@@ -8,7 +8,7 @@ use Rattle.std.specs.Int.{w64, from_be_bytes}
 use Rattle.quic_base.specs.Number.{AreBytes, num}
 use Rattle.quic_base.specs.Codec.{Takes}
 use Rattle.quic_base.specs.Reading.{number_at}
-use Rattle.quic_base.specs.Varint.{Spells}
+use Rattle.quic_base.specs.Varint.{Encodes}
 use Rattle.quic_base.proofs.Numbers.{same_front}
 use Rattle.quic_base.proofs.Readings.{number_taken}
 
@@ -74,15 +74,15 @@ width_is (suc (suc zero)) lt = (refl, omega arith)
 width_is (suc (suc (suc zero))) lt = (refl, omega arith)
 width_is (suc (suc (suc (suc t)))) lt = absurd (omega (arith, lt))
 
-front_of : (n width : ℕ) (bytes : List ℕ) → width ≤ length bytes → Takes (Spells n) bytes (drop width bytes) → Spells n (take width bytes)
+front_of : (n width : ℕ) (bytes : List ℕ) → width ≤ length bytes → Takes (Encodes n) bytes (drop width bytes) → Encodes n (take width bytes)
 front_of n width bytes le t =
     let whole : t.front ++ drop width bytes ≡ take width bytes ++ drop width bytes = sym t.split ∙ sym (take-append-drop width bytes) in
     let sizes : length bytes ≡ length t.front + length (drop width bytes) = ap length t.split ∙ length-append t.front (drop width bytes) in
     let len : length t.front ≡ length (take width bytes) = omega (arith, sizes, length-drop width bytes, length-take-le width bytes le, le) in
-    subst (Spells n) (same_front t.front (take width bytes) _ _ len whole) t.is
+    subst (Encodes n) (same_front t.front (take width bytes) _ _ len whole) t.is
 
 pub by_shifts : (word width : ℕ) (front : List ℕ) → length front ≡ 8 → AreBytes front → word ≡ from_be_bytes w64 front → width ≡ 1 * 2 ^ (word / 2 ^ 62) % 2 ^ 64
-    → Spells (bit_and word (2 ^ 62 - 1) / 2 ^ (64 - 8 * width)) (take width front) × (width ≤ 8)
+    → Encodes (bit_and word (2 ^ 62 - 1) / 2 ^ (64 - 8 * width)) (take width front) × (width ≤ 8)
 by_shifts word width front eight fits w e =
     let r = reads_word word front eight fits w in
     let k = width_is (word / 2 ^ 62) r.tag in
@@ -98,7 +98,7 @@ take_again (suc n) (suc m) [] le = refl
 take_again (suc n) (suc m) (x ∷ xs) le = ap (λ (l : List ℕ). x ∷ l) (take_again n m xs (omega arith))
 
 -- a number at the front of the first eight bytes of a slice
-pub takes_slice : (n width : ℕ) (bytes front : List ℕ) → front ≡ take 8 bytes → width ≤ 8 → Spells n (take width front) → Takes (Spells n) bytes (take (length bytes - width) (drop width bytes))
+pub takes_slice : (n width : ℕ) (bytes front : List ℕ) → front ≡ take 8 bytes → width ≤ 8 → Encodes n (take width front) → Takes (Encodes n) bytes (take (length bytes - width) (drop width bytes))
 takes_slice n width bytes front front-is le s =
     let same : take width front ≡ take width bytes = ap (take width) front-is ∙ take_again width 8 bytes le in
     record {

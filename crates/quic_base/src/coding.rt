@@ -3,7 +3,7 @@ ghost use Rattle.std.specs.Prelude.{◌≡◌, ◌<◌, ◌≤◌, ◌+◌, ◌^
 ghost use Rattle.std.specs.Net.Addr.{ipv4_octets, ipv6_octets};
 ghost use Rattle.quic_base.specs.Codec.{Takes, NoFront, IsBegun, KeepsRoom};
 ghost use Rattle.quic_base.specs.Number.{AreBytes, IsNumber, IsOctets, bytes_of};
-ghost use Rattle.quic_base.specs.Varint.{Spells, short};
+ghost use Rattle.quic_base.specs.Varint.{Encodes, short};
 
 use crate::varint::VarInt;
 use bytes::{Buf, BufMut};
@@ -34,29 +34,29 @@ impl From<AllocError> for NoRoom {
 /// What a decoder answers.
 pub type Result<T> = std::result::Result<T, UnexpectedEnd>;
 
-/// A value that bytes spell.
+/// A value that bytes encode.
 pub trait Codec: Sized {
-    // The bytes spell the value.
-    ghost spelled: { Self → List ℕ → Type 0 };
+    // The bytes encode the value.
+    ghost encoded: { Self → List ℕ → Type 0 };
 
-    // The spelling that is written.
+    // The encoding that is written.
     ghost encoding: { Self → List ℕ };
 
-    // What is left of bytes that begin with no whole spelling.
+    // What is left of bytes that begin with no whole encoding.
     ghost after_cut: { List ℕ → List ℕ } = { λ r. r };
 
-    /// Takes a spelling from the front of the buffer. Answers `UnexpectedEnd` exactly where no front
-    /// of what is left spells a value. It takes no memory.
+    /// Takes a encoding from the front of the buffer. Answers `UnexpectedEnd` exactly where no front
+    /// of what is left encodes a value. It takes no memory.
     fn decode<B: Buf>(buf: &mut B) -> Result<Self>
-        ensures ok { IfOk result (λ v. Takes (spelled v) (B.unread buf.old) (B.unread buf.new)) }
-        ensures cut { OnErr result ((v : Self) → NoFront (spelled v) (B.unread buf.old)) }
+        ensures ok { IfOk result (λ v. Takes (encoded v) (B.unread buf.old) (B.unread buf.new)) }
+        ensures cut { OnErr result ((v : Self) → NoFront (encoded v) (B.unread buf.old)) }
         ensures left { OnErr result (B.unread buf.new ≡ after_cut (B.unread buf.old)) }
         ensures kept { B.kept buf.new ≡ B.kept buf.old };
 
-    /// Appends the spelling. Answers `NoRoom` only where the buffer's spare room is less than that;
-    /// then what stood there stands, followed by a beginning of the spelling.
+    /// Appends the encoding. Answers `NoRoom` only where the buffer's spare room is less than that;
+    /// then what stood there stands, followed by a beginning of the encoding.
     fn encode<B: BufMut>(&self, buf: &mut B) -> std::result::Result<(), NoRoom>
-        ensures spelled { spelled self.now (encoding self.now) }
+        ensures encoded { encoded self.now (encoding self.now) }
         ensures ok { OnOk result (B.written buf.new ≡ B.written buf.old ++ encoding self.now) }
         ensures err { OnErr result
             (IsBegun (B.written buf.old) (encoding self.now) (B.written buf.new)) }
@@ -123,7 +123,7 @@ pub fn lay_array<const N: usize>(bytes: &mut [u8], at: usize, array: [u8; N]) ->
 
 /// One byte.
 impl Codec for u8 {
-    ghost spelled = { IsNumber 1 };
+    ghost encoded = { IsNumber 1 };
 
     ghost encoding = { bytes_of 1 };
 
@@ -139,7 +139,7 @@ impl Codec for u8 {
 
 /// Two bytes, the higher one first. Nothing is consumed on `UnexpectedEnd`.
 impl Codec for u16 {
-    ghost spelled = { IsNumber 2 };
+    ghost encoded = { IsNumber 2 };
 
     ghost encoding = { bytes_of 2 };
 
@@ -154,7 +154,7 @@ impl Codec for u16 {
 
 /// Four bytes, the highest one first. Nothing is consumed on `UnexpectedEnd`.
 impl Codec for u32 {
-    ghost spelled = { IsNumber 4 };
+    ghost encoded = { IsNumber 4 };
 
     ghost encoding = { bytes_of 4 };
 
@@ -169,7 +169,7 @@ impl Codec for u32 {
 
 /// Eight bytes, the highest one first. Nothing is consumed on `UnexpectedEnd`.
 impl Codec for u64 {
-    ghost spelled = { IsNumber 8 };
+    ghost encoded = { IsNumber 8 };
 
     ghost encoding = { bytes_of 8 };
 
@@ -184,7 +184,7 @@ impl Codec for u64 {
 
 /// The four octets, in the order in which an address is written.
 impl Codec for Ipv4Addr {
-    ghost spelled = { λ a. IsOctets 4 (ipv4_octets a) };
+    ghost encoded = { λ a. IsOctets 4 (ipv4_octets a) };
 
     ghost encoding = { ipv4_octets };
 
@@ -201,7 +201,7 @@ impl Codec for Ipv4Addr {
 
 /// The sixteen octets, in the order in which an address is written.
 impl Codec for Ipv6Addr {
-    ghost spelled = { λ a. IsOctets 16 (ipv6_octets a) };
+    ghost encoded = { λ a. IsOctets 16 (ipv6_octets a) };
 
     ghost encoding = { ipv6_octets };
 
@@ -223,8 +223,8 @@ pub trait BufExt: Buf {
     where
         Self: Sized,
         ensures ok { IfOk result
-            (λ v. Takes (T.spelled v) (Self.unread self.old) (Self.unread self.new)) }
-        ensures cut { OnErr result ((v : T) → NoFront (T.spelled v) (Self.unread self.old)) }
+            (λ v. Takes (T.encoded v) (Self.unread self.old) (Self.unread self.new)) }
+        ensures cut { OnErr result ((v : T) → NoFront (T.encoded v) (Self.unread self.old)) }
         ensures left { OnErr result (Self.unread self.new ≡ T.after_cut (Self.unread self.old)) }
         ensures kept { Self.kept self.new ≡ Self.kept self.old }
     {
@@ -236,9 +236,9 @@ pub trait BufExt: Buf {
     where
         Self: Sized,
         ensures ok { IfOk result
-            (λ v. Takes (Spells v) (Self.unread self.old) (Self.unread self.new)) }
+            (λ v. Takes (Encodes v) (Self.unread self.old) (Self.unread self.new)) }
         ensures bound { IfOk result (λ v. v < 2 ^ 62) }
-        ensures cut { OnErr result ((v : ℕ) → NoFront (Spells v) (Self.unread self.old)) }
+        ensures cut { OnErr result ((v : ℕ) → NoFront (Encodes v) (Self.unread self.old)) }
         ensures left { OnErr result (Self.unread self.new ≡ drop 1 (Self.unread self.old)) }
         ensures kept { Self.kept self.new ≡ Self.kept self.old }
     {
@@ -250,11 +250,11 @@ impl<B: Buf> BufExt for B {}
 
 /// Writes to any buffer by the type of the value.
 pub trait BufMutExt: BufMut {
-    /// Appends the spelling of `x`, as `T::encode` does.
+    /// Appends the encoding of `x`, as `T::encode` does.
     final fn write<T: Codec + Drop>(&mut self, x: T) -> std::result::Result<(), NoRoom>
     where
         Self: Sized,
-        ensures spelled { T.spelled x (T.encoding x) }
+        ensures encoded { T.encoded x (T.encoding x) }
         ensures ok { OnOk result (Self.written self.new ≡ Self.written self.old ++ T.encoding x) }
         ensures err { OnErr result
             (IsBegun (Self.written self.old) (T.encoding x) (Self.written self.new)) }
@@ -265,13 +265,13 @@ pub trait BufMutExt: BufMut {
         x.encode(self)
     }
 
-    /// Appends the shortest spelling of `x` as a varint (RFC 9000, section 16). The caller must ensure that
+    /// Appends the shortest encoding of `x` as a varint (RFC 9000, section 16). The caller must ensure that
     /// `x` is below 2^62.
     final fn write_var(&mut self, x: u64) -> std::result::Result<(), NoRoom>
     where
         Self: Sized,
         requires { x < 2 ^ 62 }
-        ensures spelled { Spells x (short x) }
+        ensures encoded { Encodes x (short x) }
         ensures ok { OnOk result (Self.written self.new ≡ Self.written self.old ++ short x) }
         ensures err { OnErr result
             (IsBegun (Self.written self.old) (short x) (Self.written self.new)) }

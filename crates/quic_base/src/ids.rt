@@ -3,7 +3,7 @@
 ghost use Rattle.std.specs.Prelude.{◌≡◌, ◌<◌, ◌^◌, ◌/◌, ◌%◌, ◌↔◌, List, ℕ, [], ◌∷◌, Some, drop, length, IsTrue, MatchOption};
 ghost use Rattle.std.specs.Array.Iter.{array_into_iter_items};
 ghost use Rattle.quic_base.specs.Ids.{side_number, dir_number, stream_number, other_side, dir_text, initiator_of, dir_of, stream_text, ecn_bits};
-ghost use Rattle.quic_base.specs.Varint.{Spells, short};
+ghost use Rattle.quic_base.specs.Varint.{Encodes, short};
 
 use crate::coding::{self, Codec, NoRoom};
 use crate::varint::VarInt;
@@ -223,9 +223,9 @@ impl From<StreamId> for u64 {
     }
 }
 
-/// A stream id is spelled as the varint of its number.
+/// A stream id is encoded as the varint of its number.
 impl Codec for StreamId {
-    ghost spelled = { Spells };
+    ghost encoded = { Encodes };
 
     ghost encoding = { short };
 

@@ -12,41 +12,41 @@ ghost use Rattle.quic_base.specs.ConnectionId.{IsLongId};
 ghost use Rattle.quic_base.specs.Ids.{stream_number, initiator_of, dir_of};
 ghost use Rattle.quic_base.specs.Number.{AreBytes, IsNumber, IsOctets};
 ghost use Rattle.quic_base.specs.Reading.{number_at};
-ghost use Rattle.quic_base.specs.Varint.{Spells, short, size};
+ghost use Rattle.quic_base.specs.Varint.{Encodes, short, size};
 ghost use Rattle.quic_base.specs.declared.ids.Dir.{Dir};
 ghost use Rattle.quic_base.specs.declared.ids.Side.{Side};
 
 use crate::ids::ConnectionId;
 use std::hash::Hash;
 
-/// Spellings of numbers below 2^62 (RFC 9000, section 16). That decoding the shortest one gives the
+/// Encodings of numbers below 2^62 (RFC 9000, section 16). That decoding the shortest one gives the
 /// number and leaves what follows is a clause of `VarInt::decode`.
-pub fn spellings()
-    // The shortest spelling is one, of the stated length.
-    ensures shortest { (v : ℕ) → v < 2 ^ 62 → Spells v (short v) }
+pub fn encodings()
+    // The shortest encoding is one, of the stated length.
+    ensures shortest { (v : ℕ) → v < 2 ^ 62 → Encodes v (short v) }
     ensures length { (v : ℕ) → length (short v) ≡ size v }
-    // No spelling begins another, and none spells two numbers.
-    ensures begins_none { (v u : ℕ) (b c r s : List ℕ) → b ++ r ≡ c ++ s → Spells v b → Spells u c
+    // No encoding begins another, and none encodes two numbers.
+    ensures begins_none { (v u : ℕ) (b c r s : List ℕ) → b ++ r ≡ c ++ s → Encodes v b → Encodes u c
         → (v ≡ u) × (b ≡ c) × (r ≡ s) }
-    // No spelling is shorter than the shortest, and no other one as short.
-    ensures least { (v : ℕ) (b : List ℕ) → Spells v b → length (short v) ≤ length b }
-    ensures alone { (v : ℕ) (b : List ℕ) → Spells v b → length b ≡ length (short v) → b ≡ short v }
-    // What can be spelled is below 2^62.
-    ensures bound { (v : ℕ) (b : List ℕ) → Spells v b → v < 2 ^ 62 }
+    // No encoding is shorter than the shortest, and no other one as short.
+    ensures least { (v : ℕ) (b : List ℕ) → Encodes v b → length (short v) ≤ length b }
+    ensures alone { (v : ℕ) (b : List ℕ) → Encodes v b → length b ≡ length (short v) → b ≡ short v }
+    // What can be encoded is below 2^62.
+    ensures bound { (v : ℕ) (b : List ℕ) → Encodes v b → v < 2 ^ 62 }
 {}
 
-/// Reading as a function, which the crates above compute with, agrees with the spellings.
+/// Reading as a function, which the crates above compute with, agrees with the encodings.
 pub fn readings()
     ensures taken { (bytes rest : List ℕ) (n : ℕ) → AreBytes bytes
-        → number_at bytes ≡ Some (n, rest) → Takes (Spells n) bytes rest }
-    ensures again { (n : ℕ) (front rest : List ℕ) → Spells n front
+        → number_at bytes ≡ Some (n, rest) → Takes (Encodes n) bytes rest }
+    ensures again { (n : ℕ) (front rest : List ℕ) → Encodes n front
         → number_at (front ++ rest) ≡ Some (n, rest) }
-    ensures none { (bytes : List ℕ) → number_at bytes ≡ None → (v : ℕ) → NoFront (Spells v) bytes }
+    ensures none { (bytes : List ℕ) → number_at bytes ≡ None → (v : ℕ) → NoFront (Encodes v) bytes }
 {}
 
-/// Of fixed numbers, addresses and ids behind their length no spelling begins another, and none spells
+/// Of fixed numbers, addresses and ids behind their length no encoding begins another, and none encodes
 /// two values.
-pub fn fixed_spellings()
+pub fn fixed_encodings()
     ensures numbers { (k : ℕ) → IsPrefixFree (IsNumber k) }
     ensures ipv4 { IsPrefixFree (λ (a : Ipv4Addr). IsOctets 4 (ipv4_octets a)) }
     ensures ipv6 { IsPrefixFree (λ (a : Ipv6Addr). IsOctets 16 (ipv6_octets a)) }

@@ -2,7 +2,7 @@
 ghost use Rattle.std.specs.Prelude.{◌≡◌, ◌+◌, ◌<◌, ◌≤◌, ◌^◌, ◌++◌, List, ℕ, Ok, Some, drop, take, length, IfOk, IfSome, MatchOption, OnErr, OnOk};
 ghost use Rattle.std.specs.Fmt.{decimal};
 ghost use Rattle.quic_base.specs.Codec.{Takes, NoFront, IsBegun, KeepsRoom};
-ghost use Rattle.quic_base.specs.Varint.{Spells, IsBounded, short, size};
+ghost use Rattle.quic_base.specs.Varint.{Encodes, IsBounded, short, size};
 
 use crate::coding::{self, Codec, NoRoom, UnexpectedEnd, first_byte, get_array};
 use bytes::{Buf, BufMut};
@@ -33,7 +33,7 @@ impl VarInt {
     /// The greatest value, 2^62 - 1.
     pub const MAX: VarInt = VarInt((1 << 62) - 1);
 
-    /// The length in bytes of the longest spelling.
+    /// The length in bytes of the longest encoding.
     pub const MAX_SIZE: usize = 8;
 
     /// The number `x`, which always fits.
@@ -70,7 +70,7 @@ impl VarInt {
         self.0
     }
 
-    /// The length in bytes of the shortest spelling: 1, 2, 4 or 8.
+    /// The length in bytes of the shortest encoding: 1, 2, 4 or 8.
     #[inline(always)]
     pub const fn size(self) -> usize
         ensures { result ≡ size self }
@@ -80,13 +80,13 @@ impl VarInt {
     }
 }
 
-// How many bytes the shortest spelling has of a number whose highest bit is this one, of those from 0 to 61.
+// How many bytes the shortest encoding has of a number whose highest bit is this one, of those from 0 to 61.
 const SIZES: [u8; 62] = [
     1, 1, 1, 1, 1, 1, 2, 2, 2, 2, 2, 2, 2, 2, 4, 4, 4, 4, 4, 4, 4, 4, 4, 4, 4, 4, 4, 4, 4, 4, 8, 8,
     8, 8, 8, 8, 8, 8, 8, 8, 8, 8, 8, 8, 8, 8, 8, 8, 8, 8, 8, 8, 8, 8, 8, 8, 8, 8, 8, 8, 8, 8,
 ];
 
-// The longest spelling has eight bytes (RFC 9000, section 16).
+// The longest encoding has eight bytes (RFC 9000, section 16).
 const _: () = prove!(VarInt::MAX_SIZE == 8);
 
 /// The default is 0.
@@ -178,13 +178,13 @@ impl fmt::Debug for VarInt {
     }
 }
 
-// The number that a varint at the front spells, in any width: one look at the first byte, and one
+// The number that a varint at the front encodes, in any width: one look at the first byte, and one
 // load of the whole width.
 #[inline(always)]
 fn read_number<B: Buf>(buf: &mut B) -> coding::Result<u64>
-    ensures ok { IfOk result (λ v. Takes (Spells v) (B.unread buf.old) (B.unread buf.new)) }
+    ensures ok { IfOk result (λ v. Takes (Encodes v) (B.unread buf.old) (B.unread buf.new)) }
     ensures bound { IfOk result (λ v. v < 2 ^ 62) }
-    ensures cut { OnErr result ((v : ℕ) → NoFront (Spells v) (B.unread buf.old)) }
+    ensures cut { OnErr result ((v : ℕ) → NoFront (Encodes v) (B.unread buf.old)) }
     ensures left { OnErr result (B.unread buf.new ≡ drop 1 (B.unread buf.old)) }
     ensures kept { B.kept buf.new ≡ B.kept buf.old }
 {
@@ -216,12 +216,12 @@ fn read_number<B: Buf>(buf: &mut B) -> coding::Result<u64>
     Err(UnexpectedEnd)
 }
 
-/// The number that a varint at the front of the bytes spells, in any width, and what follows it (RFC 9000, section
+/// The number that a varint at the front of the bytes encodes, in any width, and what follows it (RFC 9000, section
 /// 16). Answers `None` exactly where the bytes end before it does. It goes into its caller, so that no slice is kept
 /// in memory for it.
 #[inline(always)]
 pub fn split_var(bytes: &[u8]) -> Option<(u64, &[u8])>
-    ensures read { MatchOption result ((v : ℕ) → NoFront (Spells v) bytes.now) (λ x. Takes (Spells x.0) bytes.now x.1.now) }
+    ensures read { MatchOption result ((v : ℕ) → NoFront (Encodes v) bytes.now) (λ x. Takes (Encodes x.0) bytes.now x.1.now) }
     ensures bound { IfSome result (λ x. x.0 < 2 ^ 62) }
 {
     let mut rest = bytes;
@@ -231,11 +231,11 @@ pub fn split_var(bytes: &[u8]) -> Option<(u64, &[u8])>
     }
 }
 
-// The number at the front of eight bytes, and how many of them spell it. The two bits that tell its width shift the
+// The number at the front of eight bytes, and how many of them encode it. The two bits that tell its width shift the
 // whole word.
 #[inline(always)]
 fn number_of_word(front: &[u8; 8]) -> (u64, usize)
-    ensures spelled { Spells result.0 (take result.1 front.now) }
+    ensures encoded { Encodes result.0 (take result.1 front.now) }
     ensures width { result.1 ≤ 8 }
     ensures bound { result.0 < 2 ^ 62 }
 {
@@ -248,7 +248,7 @@ fn number_of_word(front: &[u8; 8]) -> (u64, usize)
 /// widths can't be foretold; where most have one width, `split_var` is faster.
 #[inline(always)]
 pub fn split_var_by_word(bytes: &[u8]) -> Option<(u64, &[u8])>
-    ensures read { MatchOption result ((v : ℕ) → NoFront (Spells v) bytes.now) (λ x. Takes (Spells x.0) bytes.now x.1.now) }
+    ensures read { MatchOption result ((v : ℕ) → NoFront (Encodes v) bytes.now) (λ x. Takes (Encodes x.0) bytes.now x.1.now) }
     ensures bound { IfSome result (λ x. x.0 < 2 ^ 62) }
 {
     let Some(front) = bytes.first_chunk::<8>() else {
@@ -261,15 +261,15 @@ pub fn split_var_by_word(bytes: &[u8]) -> Option<(u64, &[u8])>
 /// All four widths are read, the shortest is written. Where the first byte is there and others are
 /// missing, `decode` has consumed that one byte.
 impl Codec for VarInt {
-    ghost spelled = { Spells };
+    ghost encoded = { Encodes };
 
     ghost encoding = { short };
 
     ghost after_cut = { drop 1 };
 
     fn decode<B: Buf>(buf: &mut B) -> coding::Result<VarInt>
-        ensures ok { IfOk result (λ v. Takes (Spells v) (B.unread buf.old) (B.unread buf.new)) }
-        ensures cut { OnErr result ((v : ℕ) → NoFront (Spells v) (B.unread buf.old)) }
+        ensures ok { IfOk result (λ v. Takes (Encodes v) (B.unread buf.old) (B.unread buf.new)) }
+        ensures cut { OnErr result ((v : ℕ) → NoFront (Encodes v) (B.unread buf.old)) }
         ensures left { OnErr result (B.unread buf.new ≡ drop 1 (B.unread buf.old)) }
         ensures kept { B.kept buf.new ≡ B.kept buf.old }
         // What was written is read back, whatever follows it.
@@ -281,7 +281,7 @@ impl Codec for VarInt {
 
     fn encode<B: BufMut>(&self, buf: &mut B) -> Result<(), NoRoom>
         ensures bound { self.now < 2 ^ 62 }
-        ensures spelled { Spells self.now (short self.now) }
+        ensures encoded { Encodes self.now (short self.now) }
         ensures ok { OnOk result (B.written buf.new ≡ B.written buf.old ++ short self.now) }
         ensures err { OnErr result
             (IsBegun (B.written buf.old) (short self.now) (B.written buf.new)) }

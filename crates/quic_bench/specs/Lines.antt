@@ -8,7 +8,7 @@ use Rattle.quic_heads.specs.Refusal.{Refusal}
 use Rattle.quic_text.specs.Lines.{lines_of, without_return}
 use Rattle.quic_text.specs.Printed.{Printed, shown}
 
--- where all that was given since is one line that spells these bytes, these lines were printed
+-- where all that was given since is one line that encodes these bytes, these lines were printed
 abbrev pub Prints : List ℕ → List Printed → List ℕ → List ℕ → List ℕ → List ℕ → Type 0
 Prints bytes lines given given' taken taken' =
     (input line : List ℕ) → given' ≡ given ++ input → lines_of input ≡ line ∷ [] → decode_of (without_return line) ≡ Ok bytes

@@ -66,7 +66,7 @@ pub fn frames_printed<R: Source, W: Sink>(
     }
 }
 
-/// The same where a type counts in its shortest spelling alone.
+/// The same where a type counts in its shortest encoding alone.
 pub fn strict_printed<R: Source, W: Sink>(
     alloc: Global,
     source: &mut R,

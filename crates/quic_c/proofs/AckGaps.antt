@@ -9,7 +9,7 @@ use Rattle.quic_base.specs.Varint.{short, size}
 use Rattle.quic_base.proofs.PublicLaws.{length-short}
 use Rattle.quic_frame_parts.proofs.AckParts.{ack_parts}
 use Rattle.quic_frame_parts.proofs.Putting.{lays_more, lays_none}
-use Rattle.quic_frame_parts.proofs.Spelled.{all_short-append}
+use Rattle.quic_frame_parts.proofs.Encoded.{all_short-append}
 use Rattle.quic_frame_parts.specs.Putting.{Lays}
 use Rattle.quic_frame_parts.specs.Numbers.{AreNumeric, all_short}
 use Rattle.quic_frame_parts.specs.Sets.{ack_type, count_numbers}

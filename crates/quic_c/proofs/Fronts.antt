@@ -4,7 +4,7 @@ use Rattle.std.specs.Prelude.{slice_range}
 use Rattle.std.proofs.lemmas.List.{append-nil, take-append-drop}
 use Rattle.quic_base.specs.Number.{AreBytes}
 use Rattle.quic_base.specs.Codec.{Takes}
-use Rattle.quic_base.specs.Varint.{Spells}
+use Rattle.quic_base.specs.Varint.{Encodes}
 use Rattle.quic_base.proofs.PublicLaws.{back_bytes}
 use Rattle.quic_frame_parts.specs.AckPlace.{ack_at}
 use Rattle.quic_frame_parts.specs.declared.frame.fault.Fault.{Fault}
@@ -25,7 +25,7 @@ behind bytes n rest P fits e k =
     k t.front t.split (back_bytes t.front rest (subst AreBytes t.split fits))
 
 -- the type of an ACK without counts
-pub plain_type : (bytes rest : List ℕ) (ty : ℕ) → ty ≡ 2 → Takes (Spells ty) bytes rest → varint_at bytes ≡ Ok (2, rest)
+pub plain_type : (bytes rest : List ℕ) (ty : ℕ) → ty ≡ 2 → Takes (Encodes ty) bytes rest → varint_at bytes ≡ Ok (2, rest)
 plain_type bytes rest ty is takes = subst (λ (n : ℕ). varint_at bytes ≡ Ok (n, rest)) is (varint_read ty bytes rest takes)
 
 pub front_stands : (bytes a b c d : List ℕ) (ty largest delay count : ℕ) → AreBytes bytes → varint_at bytes ≡ Ok (ty, a) → varint_at a ≡ Ok (largest, b) → varint_at b ≡ Ok (delay, c)

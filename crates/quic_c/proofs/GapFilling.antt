@@ -39,19 +39,19 @@ pub record GapFilling (least : ℕ) (ranges : List (ℕ × ℕ)) (before : List 
   pub done : List (ℕ × ℕ)
   pub others : List (ℕ × ℕ)
   pub parts : ranges ≡ done ++ others
-  pub spelled : AreBelow (lowest least done) others left
+  pub encoded : AreBelow (lowest least done) others left
   pub counted : length done ≡ count
   pub filled : take count after ≡ gaps_below least done
   pub kept : drop count after ≡ drop count before
 
 pub gaps_begin : (least : ℕ) (ranges : List (ℕ × ℕ)) (blocks : List ℕ) (before : List GapWords) → AreBelow least ranges blocks → GapFilling least ranges before blocks before 0
-gaps_begin least ranges blocks before spelled = record {
+gaps_begin least ranges blocks before encoded = record {
   few = omega arith;
   all = refl;
   done = [];
   others = ranges;
   parts = refl;
-  spelled = spelled;
+  encoded = encoded;
   counted = refl;
   filled = refl;
   kept = refl;
@@ -66,7 +66,7 @@ pub record NextGap (low : ℕ) (others : List (ℕ × ℕ)) (left : List ℕ) : 
   pub rest : List ℕ
   pub gap : varint_at left ≡ Ok (low - (range.1 + 2), behind)
   pub len : varint_at behind ≡ Ok (range.1 - range.0, rest)
-  pub spelled : AreBelow range.0 ranges rest
+  pub encoded : AreBelow range.0 ranges rest
 
 pub next_gap : (low : ℕ) (others : List (ℕ × ℕ)) (left : List ℕ) → 0 < length left → AreBelow low others left → NextGap low others left
 next_gap low [] left some s = absurd (omega (arith, some, ap length s))
@@ -78,28 +78,28 @@ next_gap low (range ∷ ranges) left some s = record {
   rest = s.2;
   gap = ap varint_at s.3 ∙ varint_again (low - (range.1 + 2)) s.0 (s.1 ++ s.2) s.6;
   len = varint_again (range.1 - range.0) s.1 s.2 s.7;
-  spelled = s.8;
+  encoded = s.8;
 }
 
 pub gaps_go_on : (least : ℕ) (ranges : List (ℕ × ℕ)) (before : List GapWords) (left : List ℕ) (after : List GapWords) (count gap len : ℕ) (behind rest : List ℕ)
     → GapFilling least ranges before left after count → count < length after → 0 < length left → varint_at left ≡ Ok (gap, behind) → varint_at behind ≡ Ok (len, rest)
     → GapFilling least ranges before rest (set after count (record { gap = gap; len = len })) (count + 1)
 gaps_go_on least ranges before left after count gap len behind rest s room some one two =
-    let n = next_gap (lowest least s.done) s.others left some s.spelled in
+    let n = next_gap (lowest least s.done) s.others left some s.encoded in
     let first : ◌≡◌ {A = ℕ × List ℕ} (lowest least s.done - (n.range.1 + 2), n.behind) (gap, behind) = ok_is (lowest least s.done - (n.range.1 + 2), n.behind) (gap, behind) (sym n.gap ∙ one) in
     let again : varint_at n.behind ≡ Ok (len, rest) = ap varint_at (ap (λ (x : ℕ × List ℕ). x.1) first) ∙ two in
     let second : ◌≡◌ {A = ℕ × List ℕ} (n.range.1 - n.range.0, n.rest) (len, rest) = ok_is (n.range.1 - n.range.0, n.rest) (len, rest) (sym n.len ∙ again) in
     let entry : GapWords = record { gap = gap; len = len } in
     let is : gap_of (lowest least s.done) n.range ≡ entry = ap (λ (x : ℕ). record { gap = x; len = n.range.1 - n.range.0 }) (ap (λ (x : ℕ × List ℕ). x.0) first) ∙ ap (λ (x : ℕ). record { gap = gap; len = x }) (ap (λ (x : ℕ × List ℕ). x.0) second) in
     let front : take (count + 1) (set after count entry) ≡ take count after ++ entry ∷ [] = take_more_set after count entry room in
-    let below : AreBelow n.range.0 n.ranges rest = subst (AreBelow n.range.0 n.ranges) (ap (λ (x : ℕ × List ℕ). x.1) second) n.spelled in
+    let below : AreBelow n.range.0 n.ranges rest = subst (AreBelow n.range.0 n.ranges) (ap (λ (x : ℕ × List ℕ). x.1) second) n.encoded in
     record {
       few = simp length-set (omega arith);
       all = simp length-set s.all;
       done = s.done ++ n.range ∷ [];
       others = n.ranges;
       parts = s.parts ∙ ap (λ (l : List (ℕ × ℕ)). s.done ++ l) n.are ∙ sym (append_assoc s.done (n.range ∷ []) n.ranges);
-      spelled = subst (λ (k : ℕ). AreBelow k n.ranges rest) (sym (lowest-append least s.done n.range)) below;
+      encoded = subst (λ (k : ℕ). AreBelow k n.ranges rest) (sym (lowest-append least s.done n.range)) below;
       counted = length-append s.done (n.range ∷ []) ∙ ap (λ (k : ℕ). k + 1) s.counted;
       filled = front ∙ ap (λ (l : List GapWords). l ++ entry ∷ []) s.filled ∙ ap (λ (g : GapWords). gaps_below least s.done ++ g ∷ []) (sym is) ∙ sym (gaps-append least s.done n.range);
       kept = drop-set-lt (count + 1) after count entry (omega arith) ∙ drop_more_same after before count s.kept;
@@ -122,11 +122,11 @@ sizes least ranges before left after count s = ap length s.parts ∙ length-appe
 
 pub all_filled : (least : ℕ) (ranges : List (ℕ × ℕ)) (before : List GapWords) (left : List ℕ) (after : List GapWords) (count : ℕ) → GapFilling least ranges before left after count → length left ≡ 0 → count ≡ length ranges
 all_filled least ranges before left after count s none =
-    omega (arith, sizes least ranges before left after count s, none_left (lowest least s.done) s.others left s.spelled none)
+    omega (arith, sizes least ranges before left after count s, none_left (lowest least s.done) s.others left s.encoded none)
 
 pub some_unfilled : (least : ℕ) (ranges : List (ℕ × ℕ)) (before : List GapWords) (left : List ℕ) (after : List GapWords) (count : ℕ) → GapFilling least ranges before left after count → 0 < length left → count < length ranges
 some_unfilled least ranges before left after count s some =
-    omega (arith, sizes least ranges before left after count s, some_left (lowest least s.done) s.others left s.spelled some)
+    omega (arith, sizes least ranges before left after count s, some_left (lowest least s.done) s.others left s.encoded some)
 
 pub gaps_end : (least : ℕ) (ranges : List (ℕ × ℕ)) (before : List GapWords) (left : List ℕ) (after : List GapWords) (count : ℕ) → GapFilling least ranges before left after count
     → (count < length ranges → count ≡ length before) → FillsGaps least ranges before after count
@@ -144,13 +144,13 @@ gaps_end least ranges before left after count s full =
 pub gap_stands : (least : ℕ) (ranges : List (ℕ × ℕ)) (before : List GapWords) (left : List ℕ) (after : List GapWords) (count : ℕ) (e : Fault) → GapFilling least ranges before left after count → 0 < length left
     → varint_at left ≡ Err e → ⊥
 gap_stands least ranges before left after count e s some h =
-    let n = next_gap (lowest least s.done) s.others left some s.spelled in
+    let n = next_gap (lowest least s.done) s.others left some s.encoded in
     ok_is_not_err (sym n.gap ∙ h)
 
 pub len_stands : (least : ℕ) (ranges : List (ℕ × ℕ)) (before : List GapWords) (left : List ℕ) (after : List GapWords) (count gap : ℕ) (behind : List ℕ) (e : Fault) → GapFilling least ranges before left after count → 0 < length left
     → varint_at left ≡ Ok (gap, behind) → varint_at behind ≡ Err e → ⊥
 len_stands least ranges before left after count gap behind e s some one h =
-    let n = next_gap (lowest least s.done) s.others left some s.spelled in
+    let n = next_gap (lowest least s.done) s.others left some s.encoded in
     let first : ◌≡◌ {A = ℕ × List ℕ} (lowest least s.done - (n.range.1 + 2), n.behind) (gap, behind) = ok_is (lowest least s.done - (n.range.1 + 2), n.behind) (gap, behind) (sym n.gap ∙ one) in
     ok_is_not_err (sym n.len ∙ ap varint_at (ap (λ (x : ℕ × List ℕ). x.1) first) ∙ h)
 
@@ -186,7 +186,7 @@ pub record FirstGap (ack : Ack) (bytes : List ℕ) : Type 0 where
   pub ranges : ranges_acked ack ≡ (least, ack.largest) ∷ below
   pub within : least ≤ ack.largest
   pub len : varint_at bytes ≡ Ok (ack.largest - least, rest)
-  pub spelled : AreBelow least below rest
+  pub encoded : AreBelow least below rest
 
 pub first_gap : (ack : Ack) → AreBytes ack.additional.now → FirstGap ack ack.additional.now
 first_gap ack fits = by_ranges (ranges_acked ack) refl (acked ack.largest ack.additional.now fits ack.valid)
@@ -202,7 +202,7 @@ first_gap ack fits = by_ranges (ranges_acked ack) refl (acked ack.largest ack.ad
           ranges = e ∙ ap (λ (r : ℕ × ℕ). r ∷ below) is;
           within = omega (arith, s.3, s.4);
           len = ap varint_at s.2 ∙ varint_again (range.1 - range.0) s.0 s.1 s.5 ∙ ap (λ (n : ℕ). Ok (n - range.0, s.1)) s.3;
-          spelled = s.6;
+          encoded = s.6;
         }
 
 -- The same by the number that is read.
@@ -211,7 +211,7 @@ pub record FirstReads (ack : Ack) (n : ℕ) (rest : List ℕ) : Type 0 where
   pub below : List (ℕ × ℕ)
   pub ranges : ranges_acked ack ≡ (least, ack.largest) ∷ below
   pub first : least + n ≡ ack.largest
-  pub spelled : AreBelow least below rest
+  pub encoded : AreBelow least below rest
 
 pub first_reads : (ack : Ack) (bytes : List ℕ) (n : ℕ) (rest : List ℕ) → bytes ≡ ack.additional.now → AreBytes bytes → varint_at bytes ≡ Ok (n, rest) → FirstReads ack n rest
 first_reads ack bytes n rest e fits h =
@@ -223,7 +223,7 @@ first_reads ack bytes n rest e fits h =
       below = f.below;
       ranges = f.ranges;
       first = omega (arith, is, f.within);
-      spelled = subst (AreBelow f.least f.below) (ap (λ (x : ℕ × List ℕ). x.1) same) f.spelled;
+      encoded = subst (AreBelow f.least f.below) (ap (λ (x : ℕ × List ℕ). x.1) same) f.encoded;
     }
 
 pub first_stands : (ack : Ack) (bytes : List ℕ) (reason : Fault) → bytes ≡ ack.additional.now → AreBytes bytes → varint_at bytes ≡ Err reason → ⊥

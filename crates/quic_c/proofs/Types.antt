@@ -55,7 +55,7 @@ last_is old new frame finds t e = some_is (sym e ∙ ap (λ (w : Way). w.last) f
 -- and it is one of the table
 pub last_fits : (old new : Way) (frame : Frame) (finds : Finds old frame new) (t : ℕ) → new.last ≡ Some t → t < 2 ^ 16
 last_fits old new frame finds t e =
-    let small = row_fits finds.found.type finds.stands.spelled.row finds.stands.spelled.in_table in
+    let small = row_fits finds.found.type finds.stands.encoded.row finds.stands.encoded.in_table in
     omega (arith, small, last_is old new frame finds t e)
 
 -- ---- a frame's words, with its type

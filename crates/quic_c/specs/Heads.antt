@@ -37,7 +37,7 @@ pub record HasHead (words : FrameWords) (last : Bool) : Type 0 where
   pub offset : words.kind ≡ 0x30 → second_in words.numbers ≡ 0
   pub flags : words.flags ≡ 0 ⊎ (words.kind ≡ 0x08) × (words.flags ≡ 1)
 
--- its shortest spelling up to its data
+-- its shortest encoding up to its data
 abbrev pub head_by : (kind flags : ℕ) (numbers : List ℕ) (len : ℕ) (last : Bool) → List ℕ
 head_by kind flags numbers len last =
     if kind == 0x06 then all_short (0x06 ∷ second_in numbers ∷ len ∷ [])

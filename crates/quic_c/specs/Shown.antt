@@ -15,7 +15,7 @@ abbrev pub type_word : Option ℕ → ℕ
 type_word None = 2 ^ 64 - 1
 type_word (Some n) = n
 
--- whether a type counts in its shortest spelling alone, by the word for that: any but 0 says so
+-- whether a type counts in its shortest encoding alone, by the word for that: any but 0 says so
 abbrev pub is_strict : ℕ → Bool
 is_strict strict = not (strict == 0)
 

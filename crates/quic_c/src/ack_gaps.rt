@@ -29,7 +29,7 @@ fn lay_bytes(dest: &mut [u8], at: usize, one: u8, other: u8) -> usize
     lay_array(dest, at, [other])
 }
 
-// Lays a number in its shortest spelling over the bytes at a place, and answers where it ends.
+// Lays a number in its shortest encoding over the bytes at a place, and answers where it ends.
 #[inline(always)]
 #[tactic(auto, unfolding(quic_base::specs::Varint::short, quic_base::specs::Varint::size, quic_base::specs::Number::bytes_of))]
 pub(crate) fn lay(dest: &mut [u8], at: usize, n: u64) -> usize
@@ -232,7 +232,7 @@ fn write_counted(ack: &FrameWords, gaps: &[GapWords], out: &mut [u8], written: &
     0
 }
 
-/// Writes an ACK in its shortest spelling at the front of `out`, of words and gaps as `quic_wire_frame_read_` tells
+/// Writes an ACK in its shortest encoding at the front of `out`, of words and gaps as `quic_wire_frame_read_` tells
 /// them: the greatest number, the delay and with flag 2 the counts stand in the numbers, the first range, less one, in
 /// the place of the length of data, and the ranges below it, as gap and length, in `gaps`. Nothing else of the words
 /// is looked at but their kind and flags. It answers 0 with how many bytes were written, and what stood behind them

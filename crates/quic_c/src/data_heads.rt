@@ -33,7 +33,7 @@ fn has_head(words: &FrameWords, last: bool) -> bool
     }
 }
 
-// Puts at most five numbers in their shortest spellings at the front. Where there is room for five of the longest they
+// Puts at most five numbers in their shortest encodings at the front. Where there is room for five of the longest they
 // are laid there one by one; else they are put together first, and the room is looked at then.
 #[inline(always)]
 fn put_numbers(dest: &mut [u8], numbers: &[u64]) -> Result<usize, usize>
@@ -88,7 +88,7 @@ fn put_head(words: &FrameWords, last: bool, dest: &mut [u8]) -> Result<usize, us
     }
 }
 
-/// Writes the shortest spelling of a STREAM, CRYPTO or DATAGRAM up to its data at the front of `out`, the last frame
+/// Writes the shortest encoding of a STREAM, CRYPTO or DATAGRAM up to its data at the front of `out`, the last frame
 /// of its payload where `last` isn't 0 (RFC 9000, sections 19.6 and 19.8; RFC 9221, section 4). The words say how
 /// many bytes the data have; where these stand isn't looked at. It answers 0 with how many bytes were written, and
 /// what stood behind them stays; -4 with how many are needed where `out` has fewer; -1 where the words say no such

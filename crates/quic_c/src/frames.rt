@@ -114,7 +114,7 @@ pub extern "C" fn quic_wire_frames_init_(frames: &mut FramesWords, payload: &[u8
     begin(frames, payload, 0)
 }
 
-/// The same, where a type in another spelling than its shortest is no frame (RFC 9000, section 12.4). Other fields may
+/// The same, where a type in another encoding than its shortest is no frame (RFC 9000, section 12.4). Other fields may
 /// have any width.
 #[unsafe(no_mangle)]
 pub extern "C" fn quic_wire_frames_init_strict_(frames: &mut FramesWords, payload: &[u8]) -> i32

@@ -193,7 +193,7 @@ fn read_by<const STREAM: usize>(
     read_ack(payload, strict, basic, out, gaps)
 }
 
-/// Reads the frame at the front of what is left of a payload (RFC 9000, section 19), where a type in another spelling
+/// Reads the frame at the front of what is left of a payload (RFC 9000, section 19), where a type in another encoding
 /// than its shortest is no frame if `strict` isn't 0 (section 12.4). It answers where the frame ends, with its words,
 /// whose places count from this front; a run of PADDING, a frame with each byte, is one. Of an ACK they tell the first
 /// range, less one, as the length of its data, and the ranges below it are filled into `gaps` as they stand, as many as

@@ -10,7 +10,7 @@ pub struct FramesWords {
     pub last_type: u64,
     /// 0 until something was no frame.
     pub ended: u32,
-    /// Not 0: a type in another spelling than its shortest is no frame.
+    /// Not 0: a type in another encoding than its shortest is no frame.
     pub strict: u32,
 }
 

@@ -296,7 +296,7 @@ fn said<'a>(words: &FrameWords, data: &'a [u8], last: bool) -> Option<Frame<'a>>
     Some(frame)
 }
 
-/// Writes the shortest spelling of the frame that the words say, the last of its payload where `last` isn't 0, at
+/// Writes the shortest encoding of the frame that the words say, the last of its payload where `last` isn't 0, at
 /// the front of `out` (RFC 9000, section 19). Its data, of a NEW_CONNECTION_ID the id with the sixteen bytes of its
 /// token behind it, stand in `data` where the words say. Where the words say no data, as those of a kind without any,
 /// neither `data` nor that place is looked at; where the frame begins and ends never is. It answers 0 with how many
@@ -335,7 +335,7 @@ pub extern "C" fn quic_wire_frame_write_(
     }
 }
 
-/// Words say one frame at most: each that the same words and bytes say has the same meaning, and so the same spelling.
+/// Words say one frame at most: each that the same words and bytes say has the same meaning, and so the same encoding.
 /// So an answer that is right of some words and bytes is the only one.
 pub fn one_frame()
     ensures { (words : FrameWords) (bytes : List ℕ) (last : Bool) (one other : Frame) → CanWrite words bytes last one

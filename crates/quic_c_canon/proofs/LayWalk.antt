@@ -1,4 +1,4 @@
--- A walk over a payload that lays its frames in their shortest spellings, one behind the other.
+-- A walk over a payload that lays its frames in their shortest encodings, one behind the other.
 use Rattle.std.proofs.Common.{◌≡◌, ℕ, zero, suc, ◌+◌, ◌≤◌, eqb, false, List, [], ◌∷◌, ◌++◌, length, map, take, drop, Some, None, Result, Err, refl, sym, ap, ◌∙◌, subst, append_assoc, inl, inr, arith}
 use Rattle.std.specs.Prelude.{replicate}
 use Rattle.std.proofs.lemmas.List.{append-nil, length-append, length-take, length-drop, length-replicate, replicate-append-replicate, take-append-drop, drop-drop, drop_at, take_at}
@@ -21,7 +21,7 @@ use Rattle.quic_c_canon.proofs.PaddingBytes.{EachPads, padding_is}
 pub record Lays (payload old new : List ℕ) (at start : ℕ) (way : Way) (found : List Found) : Type 0 where
   pub rest : List Found
   pub left_are : map unplaced (left way) ≡ map given rest
-  pub spelled : AreFrames false rest (drop start payload)
+  pub encoded : AreFrames false rest (drop start payload)
   pub bytes : List ℕ
   pub parts : shortest_frames (map frame_in found) ≡ bytes ++ shortest_frames (map frame_in rest)
   pub at_is : at ≡ length bytes
@@ -41,7 +41,7 @@ lay_begins payload old way first e whole broken =
       lays = λ found s. record {
         rest = found;
         left_are = whole found s;
-        spelled = subst (λ (n : ℕ). AreFrames false found (drop n payload)) (sym here) s;
+        encoded = subst (λ (n : ℕ). AreFrames false found (drop n payload)) (sym here) s;
         bytes = [];
         parts = refl;
         at_is = refl;
@@ -68,7 +68,7 @@ lay_room payload old new at stop way next frame begins s room w f there =
     let last = eqb next.offset size in
     let l = w.lays s.0 s.1 in
     let fits = room s.0 s.1 in
-    let n = next_frame payload way.offset size way next frame l.rest begins refl w.walks f l.left_are l.spelled in
+    let n = next_frame payload way.offset size way next frame l.rest begins refl w.walks f l.left_are l.encoded in
     let is = ap length (shortest_next f.found l.rest n.more last n.rest_is n.last_is) ∙ length-append (shortest_frame last f.found.frame) (shortest_frames (map frame_in n.more)) in
     let all = ap length l.parts ∙ length-append l.bytes (shortest_frames (map frame_in l.rest)) in
     let here : length (shortest_frame (eqb stop size) (meaning_of frame)) ≡ length (shortest_frame last (meaning_of frame)) = ap (λ (k : ℕ). length (shortest_frame (eqb k size) (meaning_of frame))) there in
@@ -94,16 +94,16 @@ lay_on payload old new out at end stop way next frame begins w f there ends wrot
     record {
       walks = walk_on payload way.offset way next frame w.walks f;
       same_len = size_kept ∙ w.same_len;
-      lays = λ found spelled.
-          let l = w.lays found spelled in
-          let n = next_frame payload way.offset size way next frame l.rest begins refl w.walks f l.left_are l.spelled in
+      lays = λ found encoded.
+          let l = w.lays found encoded in
+          let n = next_frame payload way.offset size way next frame l.rest begins refl w.walks f l.left_are l.encoded in
           let here = shortest_frame last f.found.frame in
           let is : shortest_frame (eqb stop size) (meaning_of frame) ≡ here = ap (λ (k : ℕ). shortest_frame (eqb k size) (meaning_of frame)) there ∙ ap (shortest_frame last) (sym f.says) in
           let stops : end ≡ at + length here = ends ∙ ap (λ (x : List ℕ). at + length x) is in
           record {
             rest = n.more;
             left_are = n.left_are;
-            spelled = n.spelled;
+            encoded = n.encoded;
             bytes = l.bytes ++ here;
             parts = l.parts ∙ ap (λ (x : List ℕ). l.bytes ++ x) (shortest_next f.found l.rest n.more last n.rest_is n.last_is) ∙ sym (append_assoc l.bytes here (shortest_frames (map frame_in n.more)));
             at_is = omega (arith, stops, l.at_is, length-append l.bytes here);

@@ -1,4 +1,4 @@
--- A walk over a payload that sums up how many bytes its frames take in their shortest spellings.
+-- A walk over a payload that sums up how many bytes its frames take in their shortest encodings.
 use Rattle.std.proofs.Common.{◌≡◌, ◌≢◌, ℕ, zero, suc, ◌+◌, ◌≤◌, eqb, false, List, [], ◌∷◌, ◌++◌, length, map, drop, None, Err, refl, sym, ap, ◌∙◌, subst, inl, inr, arith}
 use Rattle.std.proofs.lemmas.List.{length-append}
 use Rattle.quic_frames.specs.declared.frame.Frame.{Frame}
@@ -19,7 +19,7 @@ use Rattle.quic_c_canon.proofs.PaddingBytes.{EachPads, padding_is}
 pub record Sums (payload : List ℕ) (total start : ℕ) (way : Way) (found : List Found) : Type 0 where
   pub rest : List Found
   pub left_are : map unplaced (left way) ≡ map given rest
-  pub spelled : AreFrames false rest (drop start payload)
+  pub encoded : AreFrames false rest (drop start payload)
   pub len : length (shortest_frames (map frame_in found)) ≡ total + length (shortest_frames (map frame_in rest))
 
 pub record LenWalk (payload : List ℕ) (total start : ℕ) (way : Way) : Type 0 where
@@ -31,7 +31,7 @@ pub len_begins : (payload : List ℕ) (way : Way) → way ≡ first_of false pay
 len_begins payload way first e whole broken = record {
   walks = walk_begins payload way first e whole broken;
   low = omega arith;
-  sums = λ found s. record { rest = found; left_are = whole found s; spelled = s; len = omega arith };
+  sums = λ found s. record { rest = found; left_are = whole found s; encoded = s; len = omega arith };
 }
 
 -- one more frame
@@ -47,14 +47,14 @@ len_on payload total start stop n way next frame begins one w f at counted =
     let on : LenWalk payload (total + n) next.offset next = record {
       walks = walk_on payload start way next frame w.walks f;
       low = omega (arith, w.low, there, small, some);
-      sums = λ found spelled.
-          let s = w.sums found spelled in
-          let more = next_frame payload start size way next frame s.rest begins refl w.walks f s.left_are s.spelled in
+      sums = λ found encoded.
+          let s = w.sums found encoded in
+          let more = next_frame payload start size way next frame s.rest begins refl w.walks f s.left_are s.encoded in
           let is = ap length (shortest_next f.found s.rest more.more last more.rest_is more.last_is) ∙ length-append (shortest_frame last f.found.frame) (shortest_frames (map frame_in more.more)) in
           record {
             rest = more.more;
             left_are = more.left_are;
-            spelled = more.spelled;
+            encoded = more.encoded;
             len = omega (arith, s.len, is, there, frame_length frame f.found last f.says);
           };
     } in
@@ -106,7 +106,7 @@ len_done payload total start way some (inl a) w none =
     record {
       some = some;
       found = a.0;
-      spelled = a.1;
+      encoded = a.1;
       len = omega (arith, s.len, ap (λ (l : List Found). length (shortest_frames (map frame_in l))) rest);
     }
 len_done payload total start way some (inr b) w none =

@@ -45,9 +45,9 @@ pub record TellsInvalid (payload : List ℕ) (old new : CanonicalWords) : Type 0
   pub of_it : IsToldOf payload told
   pub words : new ≡ record old { last_type = type_word told.type; reason = reason_word told.reason }
 
--- The payload has frames and nothing else, which take so many bytes in their shortest spellings.
+-- The payload has frames and nothing else, which take so many bytes in their shortest encodings.
 pub record HasLength (payload : List ℕ) (n : ℕ) : Type 0 where
   pub some : payload ≢ []
   pub found : List Found
-  pub spelled : AreFrames false found payload
+  pub encoded : AreFrames false found payload
   pub len : n ≡ length (shortest_frames (map frame_in found))

@@ -11,7 +11,7 @@ ghost use Rattle.quic_c_canon.specs.Answers.{type_word, reason_word, GivesLeast,
 use crate::words::CanonicalWords;
 use quic_canon::laws::one_least;
 use quic_frames::frame::{Frame, FrameType, InvalidFrame, Iter};
-use quic_frames::laws::{least_spelling, one_reading, read_back, read_from_a_place};
+use quic_frames::laws::{least_encoding, one_reading, read_back, read_from_a_place};
 
 // The word of a type.
 fn type_word(ty: Option<FrameType>) -> u64
@@ -34,7 +34,7 @@ fn reason_word(reason: &str) -> u64
     }
 }
 
-// How many bytes a frame takes in its shortest spelling, which are no more than it takes now.
+// How many bytes a frame takes in its shortest encoding, which are no more than it takes now.
 #[inline(always)]
 fn frame_len(frame: &Frame<'_>, last: bool, len: usize) -> usize
     requires stands { CanStand last frame.now }
@@ -63,14 +63,14 @@ fn begin(payload: &[u8]) -> Result<Iter<'_>, ()>
     Ok(iter)
 }
 
-// Reads all of a payload, and tells how many bytes its frames take in their shortest spellings.
+// Reads all of a payload, and tells how many bytes its frames take in their shortest encodings.
 fn shortest_len(payload: &[u8]) -> Result<usize, InvalidFrame>
     requires { payload.now ≢ [] }
     ensures ok { IfOk result (λ n. HasLength payload.now n) }
     ensures err { IfErr result (λ i. IsToldOf payload.now (invalid_of i)) }
 {
     one_reading();
-    least_spelling();
+    least_encoding();
     read_back();
     let Ok(mut iter) = begin(payload) else {
         unreachable!()
@@ -96,7 +96,7 @@ fn shortest_len(payload: &[u8]) -> Result<usize, InvalidFrame>
     Ok(total)
 }
 
-// Lays a frame in its shortest spelling at a place, and answers where it ends.
+// Lays a frame in its shortest encoding at a place, and answers where it ends.
 #[inline(always)]
 fn put(frame: &Frame<'_>, last: bool, dest: &mut [u8], at: usize) -> usize
     requires stands { CanStand last frame.now }
@@ -121,7 +121,7 @@ fn pad(count: usize, dest: &mut [u8], at: usize) -> usize
     end
 }
 
-// Lays the frames of a payload in their shortest spellings, for which there is room, at the front.
+// Lays the frames of a payload in their shortest encodings, for which there is room, at the front.
 fn lay(payload: &[u8], dest: &mut [u8])
     requires some { payload.now ≢ [] }
     requires whole { (found : List Found) × AreFrames false found payload.now }
@@ -157,7 +157,7 @@ fn write(payload: &[u8], len: usize, dest: &mut [u8])
         → dest.new ≡ shortest_frames (map frame_in found) ++ drop (length (shortest_frames (map frame_in found))) dest.old }
 {
     one_reading();
-    least_spelling();
+    least_encoding();
     if len == payload.len() {
         dest[..len].copy_from_slice(payload);
     } else {

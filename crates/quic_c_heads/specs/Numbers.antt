@@ -6,8 +6,8 @@ abbrev pub least_width : ℕ → ℕ
 least_width v = if nat_lt v (2 ^ 6) then 1 else if nat_lt v (2 ^ 14) then 2 else if nat_lt v (2 ^ 30) then 4 else 8
 
 -- a number in a width: the two highest bits are the tag
-abbrev pub spelling : ℕ → ℕ → List ℕ
-spelling width v =
+abbrev pub encoding : ℕ → ℕ → List ℕ
+encoding width v =
     if width == 1 then v ∷ [] else if width == 2 then bytes_of 2 (2 ^ 14 + v)
     else if width == 4 then bytes_of 4 (2 * 2 ^ 30 + v) else bytes_of 8 (3 * 2 ^ 62 + v)
 
@@ -15,8 +15,8 @@ spelling width v =
 abbrev pub IsWidth : ℕ → Type 0
 IsWidth n = (n ≡ 1) ⊎ (n ≡ 2) ⊎ (n ≡ 4) ⊎ (n ≡ 8)
 
--- A number is spelled in n bytes, if as many are asked for as these or the fewest by 0, and there is that room.
-pub record CanSpell (value width room n : ℕ) : Type 0 where
+-- A number is encoded in n bytes, if as many are asked for as these or the fewest by 0, and there is that room.
+pub record CanEncode (value width room n : ℕ) : Type 0 where
   pub numeric : value < 2 ^ 62
   pub asked : (width ≡ 0) × (n ≡ least_width value) ⊎ (0 < width) × (n ≡ width)
   pub known : IsWidth n

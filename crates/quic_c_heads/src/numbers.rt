@@ -1,9 +1,9 @@
 //! Numbers of variable length, and packet numbers.
 ghost use Rattle.std.specs.Prelude.{◌≡◌, ◌+◌, ◌-◌, ◌*◌, ◌%◌, ◌^◌, ◌<◌, ◌≤◌, ◌⊎◌, ◌↔◌, ◌++◌, ℕ, List, length, take, drop, pos, negsuc};
 ghost use Rattle.quic_base.specs.Codec.{NoFront, Takes};
-ghost use Rattle.quic_base.specs.Varint.{Spells};
+ghost use Rattle.quic_base.specs.Varint.{Encodes};
 ghost use Rattle.quic_crypto.specs.PacketNumbers.{Expands, SizeFor};
-ghost use Rattle.quic_c_heads.specs.Numbers.{least_width, spelling, CanExpand, CanSpell, IsWidth};
+ghost use Rattle.quic_c_heads.specs.Numbers.{least_width, encoding, CanExpand, CanEncode, IsWidth};
 
 use quic_base::coding::lay_array;
 use quic_base::varint::split_var;
@@ -13,9 +13,9 @@ use quic_crypto::packet_number::PacketNumber;
 /// they end within it, and then `value` stays.
 #[unsafe(no_mangle)]
 pub extern "C" fn quic_wire_varint_read_(bytes: &[u8], value: &mut u64) -> usize
-    ensures read { 0 < result → Takes (Spells value.new) bytes.now (drop result bytes.now) }
+    ensures read { 0 < result → Takes (Encodes value.new) bytes.now (drop result bytes.now) }
     ensures within { result ≤ length bytes.now }
-    ensures none { result ≡ 0 → ((v : ℕ) → NoFront (Spells v) bytes.now) × (value.new ≡ value.old) }
+    ensures none { result ≡ 0 → ((v : ℕ) → NoFront (Encodes v) bytes.now) × (value.new ≡ value.old) }
 {
     match split_var(bytes) {
         Some((number, rest)) => {
@@ -26,7 +26,7 @@ pub extern "C" fn quic_wire_varint_read_(bytes: &[u8], value: &mut u64) -> usize
     }
 }
 
-// The least width in which a number is spelled.
+// The least width in which a number is encoded.
 #[inline(always)]
 fn least_width(value: u64) -> usize
     ensures { result ≡ least_width value }
@@ -45,11 +45,11 @@ fn least_width(value: u64) -> usize
 // Lays a number in a width that it fits.
 #[inline(always)]
 #[tactic(auto, unfolding(quic_base::specs::Number::bytes_of))]
-fn lay_spelling(value: u64, width: usize, dest: &mut [u8]) -> usize
+fn lay_encoding(value: u64, width: usize, dest: &mut [u8]) -> usize
     requires numeric { value < 2 ^ 62 }
     requires room { width ≤ length dest.old }
     requires fits { least_width value ≤ width }
-    ensures wrote { (result ≡ 0) ⊎ ((result ≡ width) × IsWidth width × (take result dest.new ≡ spelling width value)) }
+    ensures wrote { (result ≡ 0) ⊎ ((result ≡ width) × IsWidth width × (take result dest.new ≡ encoding width value)) }
     ensures back { drop result dest.new ≡ drop result dest.old }
     ensures none { result ≡ 0 → IsWidth width → ⊥ }
     ensures same { (0 < result) ⊎ (dest.new ≡ dest.old) }
@@ -69,9 +69,9 @@ fn lay_spelling(value: u64, width: usize, dest: &mut [u8]) -> usize
 #[unsafe(no_mangle)]
 pub extern "C" fn quic_wire_varint_write_(value: u64, width: u32, dest: &mut [u8]) -> usize
     ensures wrote { (result ≡ 0)
-        ⊎ (Spells value (spelling result value) × (dest.new ≡ spelling result value ++ drop result dest.old)) }
-    ensures width { (result ≡ 0) ⊎ CanSpell value width (length dest.old) result }
-    ensures none { result ≡ 0 → (n : ℕ) → CanSpell value width (length dest.old) n → ⊥ }
+        ⊎ (Encodes value (encoding result value) × (dest.new ≡ encoding result value ++ drop result dest.old)) }
+    ensures width { (result ≡ 0) ⊎ CanEncode value width (length dest.old) result }
+    ensures none { result ≡ 0 → (n : ℕ) → CanEncode value width (length dest.old) n → ⊥ }
     ensures same { (0 < result) ⊎ (dest.new ≡ dest.old) }
 {
     let least = least_width(value);
@@ -79,7 +79,7 @@ pub extern "C" fn quic_wire_varint_write_(value: u64, width: u32, dest: &mut [u8
     if value >= 1 << 62 || width < least || dest.len() < width {
         return 0;
     }
-    lay_spelling(value, width, dest)
+    lay_encoding(value, width, dest)
 }
 
 /// How many bytes of the number of a packet are written whose receiver has acknowledged `largest_acked`, as quinn-proto

@@ -4,7 +4,7 @@ use Rattle.std.specs.Prelude.{MatchOption, Option, None, Some, is_some}
 use Rattle.std.proofs.lemmas.Bool.{false≢true}
 use Rattle.std.proofs.lemmas.List.{length-drop}
 use Rattle.quic_base.specs.Codec.{Takes}
-use Rattle.quic_base.proofs.PublicLaws.{spelled_bound}
+use Rattle.quic_base.proofs.PublicLaws.{encoded_bound}
 use Rattle.quic_params.specs.Never.{Never}
 use Rattle.quic_params.specs.declared.parameter.TransportParameterId.{TransportParameterId}
 use Rattle.quic_params.specs.Entry.{Entry, IsEntry, IsCut, IsKnown}
@@ -78,7 +78,7 @@ counted_none list = record { back = λ es h o. (es, h, o, omega arith); on = λ 
 
 -- an entry that was taken can be written
 other_taken : (n : ℕ) (x b r : List ℕ) → Takes (IsEntry n x) b r → ((id : TransportParameterId) → Never (IsKnown id n)) → IsOther (taken n x)
-other_taken n x b r t u = record { numeric = (spelled_bound n t.is.front t.is.first).0; short = (spelled_bound (length x) t.is.second.front t.is.second.first).0; unknown = u }
+other_taken n x b r t u = record { numeric = (encoded_bound n t.is.front t.is.first).0; short = (encoded_bound (length x) t.is.second.front t.is.second.first).0; unknown = u }
 
 others_of : (es others : List Entry) (first : Entry) → es ≡ first ∷ others → AreOthers es → AreOthers (first ∷ others)
 others_of es others first e h = subst AreOthers e h

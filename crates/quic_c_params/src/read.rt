@@ -36,7 +36,7 @@ fn reason_of(error: Error) -> u32
 /// value of its kind, or a repeat; 2 an illegal value. It answers -1 just where `side` is above 1, and nothing
 /// changes.
 ///
-/// An integer with a default in a longer spelling than its shortest is no value of its kind, though RFC 9000, section
+/// An integer with a default in a longer encoding than its shortest is no value of its kind, though RFC 9000, section
 /// 16, allows it; `max_datagram_frame_size` and `min_ack_delay` are taken in any.
 #[unsafe(no_mangle)]
 pub extern "C" fn quic_wire_params_read_(side: u32, bytes: &[u8], out: &mut ParamsWords) -> i32

@@ -19,7 +19,7 @@ use Rattle.quic_c_sets.specs.Acks.{SaysAck, counts_in}
 use Rattle.quic_c_sets.specs.Sets.{IsSet, first_runs, range_of, runs_of}
 use Rattle.quic_c_sets.proofs.Placing.{many, nowhere}
 
--- ---- numbers with spellings
+-- ---- numbers with encodings
 
 pub numeric_more : (ns : List ℕ) (i : ℕ) → i < length ns → get_or ns i 0 < 2 ^ 62 → AreNumeric (take i ns) → AreNumeric (take (suc i) ns)
 numeric_more [] i lt small h = absurd (omega (arith, lt))

@@ -23,7 +23,7 @@ two_power (suc (suc (suc (suc t)))) lt = absurd (omega (arith, lt))
 
 pub not_empty : (found : Found) (bytes : List ℕ) → IsFrame false found bytes → bytes ≢ []
 not_empty found bytes f none =
-    let s = f.type_spelled.spelled in
+    let s = f.type_encoded.encoded in
     absurd (omega (arith, ap length (sym f.parts ∙ none), length-append f.type_bytes f.field_bytes, s.width, two_power s.tag s.tag_fits))
 
 -- What an encoder wrote into an empty buffer is its content.

@@ -1,12 +1,12 @@
 -- Three numbers in a row: two varints and one of eight bytes.
 use Rattle.std.specs.Prelude.{ℕ, List, ◌++◌}
 use Rattle.quic_base.specs.Number.{IsNumber, bytes_of}
-use Rattle.quic_base.specs.Varint.{Spells, short}
+use Rattle.quic_base.specs.Varint.{Encodes, short}
 use Rattle.quic_base.specs.Codec.{Follows}
 
--- a spelling of each
-abbrev pub SpellsReset : ℕ → ℕ → ℕ → List ℕ → Type 0
-SpellsReset id code offset = Follows (Spells id) (Follows (Spells code) (IsNumber 8 offset))
+-- a encoding of each
+abbrev pub EncodesReset : ℕ → ℕ → ℕ → List ℕ → Type 0
+EncodesReset id code offset = Follows (Encodes id) (Follows (Encodes code) (IsNumber 8 offset))
 
 -- the one that is written
 abbrev pub reset_bytes : ℕ → ℕ → ℕ → List ℕ

@@ -2,8 +2,8 @@
 //! over `Buf` and `BufMut` learn from the codecs.
 ghost use Rattle.std.specs.Prelude.{◌≡◌, ◌<◌, ◌^◌, ◌++◌, List, ℕ, Ok, length, IfOk, OnErr, OnOk};
 ghost use Rattle.quic_base.specs.Codec.{Takes, NoFront, Follows, IsBegun, KeepsRoom};
-ghost use Rattle.quic_base.specs.Varint.{Spells, short};
-ghost use Rattle.quic_callers.specs.Reset.{SpellsReset, reset_bytes};
+ghost use Rattle.quic_base.specs.Varint.{Encodes, short};
+ghost use Rattle.quic_callers.specs.Reset.{EncodesReset, reset_bytes};
 
 use bytes::{Buf, BufMut};
 use quic_base::coding::{BufExt, BufMutExt, Codec, NoRoom, Result};
@@ -22,13 +22,13 @@ pub struct Reset {
 }
 
 /// Takes a message from the front of any buffer. Answers `UnexpectedEnd` exactly where no front of
-/// what is left spells one.
+/// what is left encodes one.
 #[tactic(auto, using(quic_base::proofs::PublicLaws::in_turn))]
 pub fn read_reset<B: Buf>(buf: &mut B) -> Result<Reset>
-    ensures ok { IfOk result (λ r. Takes (SpellsReset r.id r.code r.final_offset)
+    ensures ok { IfOk result (λ r. Takes (EncodesReset r.id r.code r.final_offset)
         (B.unread buf.old) (B.unread buf.new)) }
     ensures cut { OnErr result ((id code offset : ℕ) →
-        NoFront (SpellsReset id code offset) (B.unread buf.old)) }
+        NoFront (EncodesReset id code offset) (B.unread buf.old)) }
     ensures kept { B.kept buf.new ≡ B.kept buf.old }
 {
     let id = buf.get()?;
@@ -61,7 +61,7 @@ pub fn write_reset<B: BufMut>(reset: &Reset, buf: &mut B) -> std::result::Result
 
 /// The number of the varint at the front of a slice, and what follows it.
 pub fn first_number(bytes: &[u8]) -> Result<(u64, &[u8])>
-    ensures { IfOk result (λ r. Takes (Spells r.0) bytes.now r.1.now) }
+    ensures { IfOk result (λ r. Takes (Encodes r.0) bytes.now r.1.now) }
 {
     let mut rest = bytes;
     let n = rest.get_var()?;
@@ -71,7 +71,7 @@ pub fn first_number(bytes: &[u8]) -> Result<(u64, &[u8])>
 /// Two values of any type that has a codec, by its bound alone.
 #[tactic(auto, using(quic_base::proofs::PublicLaws::in_turn))]
 pub fn read_two<T: Codec + Drop, B: Buf>(buf: &mut B) -> Result<(T, T)>
-    ensures ok { IfOk result (λ r. Takes (Follows (T.spelled r.0) (T.spelled r.1))
+    ensures ok { IfOk result (λ r. Takes (Follows (T.encoded r.0) (T.encoded r.1))
         (B.unread buf.old) (B.unread buf.new)) }
     ensures kept { B.kept buf.new ≡ B.kept buf.old }
 {
@@ -81,7 +81,7 @@ pub fn read_two<T: Codec + Drop, B: Buf>(buf: &mut B) -> Result<(T, T)>
 }
 
 /// A number that was written as a varint is read back, whatever follows it. The caller must ensure that it
-/// is below 2^62, and that its shortest spelling stands in front.
+/// is below 2^62, and that its shortest encoding stands in front.
 pub fn read_back(bytes: &[u8], n: u64, rest: &[u8]) -> Result<u64>
     requires small { n < 2 ^ 62 }
     requires stands { bytes.now ≡ short n ++ rest.now }

@@ -30,11 +30,11 @@ pub fn written_and_read<'a>(frame: &Frame<'_>, out: &'a mut Vec<u8>) -> Result<F
     }
 }
 
-/// The ranges of an ACK's blocks below its largest number, as they come: they are those that the blocks spell, and
+/// The ranges of an ACK's blocks below its largest number, as they come: they are those that the blocks encode, and
 /// no two of them touch; or why the bytes are no blocks. The largest number must be below 2^62.
 pub fn ranges_of_blocks(largest: u64, blocks: &[u8]) -> Result<AckIter<'_>, AckError>
     requires { largest < 2 ^ 62 }
-    ensures spelled { IfOk result (λ iter. (ranges : List (ℕ × ℕ)) → AreBlocks largest ranges blocks.now
+    ensures encoded { IfOk result (λ iter. (ranges : List (ℕ × ℕ)) → AreBlocks largest ranges blocks.now
         → ranges_left iter ≡ ranges) }
     ensures apart { IfOk result (λ iter. AreApart (ranges_left iter)) }
     ensures refused { IfErr result (λ e. AreNoBlocks largest blocks.now (fault_of e)) }

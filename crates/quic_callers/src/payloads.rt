@@ -77,7 +77,7 @@ fn is_final(reason: &str) -> bool
     reason != "unexpected end"
 }
 
-/// Appends a STREAM as a sender of data does: its head, and then the data. That is its shortest spelling, as the last
+/// Appends a STREAM as a sender of data does: its head, and then the data. That is its shortest encoding, as the last
 /// frame of its payload or as one that others follow. The caller must ensure that its offset is below 2^62, and the
 /// length of its data where that is written.
 pub fn write_stream(stream: &Stream<'_>, last: bool, out: &mut Vec<u8>) -> Result<(), NoRoom>

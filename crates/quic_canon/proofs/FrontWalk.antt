@@ -1,4 +1,4 @@
--- A walk that finds the frames at the front of a payload that are in their shortest spellings.
+-- A walk that finds the frames at the front of a payload that are in their shortest encodings.
 use Rattle.std.proofs.Common.{◌≡◌, ◌≢◌, ℕ, ◌-◌, ◌<◌, ◌≤◌, eqb, Bool, true, false, List, [], ◌∷◌, ◌++◌, length, map, take, drop, Option, None, Err, refl, sym, ap, subst, ◌∙◌, append_assoc, inl, inr, arith}
 use Rattle.std.specs.Prelude.{◌⊎◌, slice_range}
 use Rattle.std.proofs.lemmas.List.{length-append, length-drop}
@@ -15,7 +15,7 @@ use Rattle.quic_canon.proofs.LeastPayloads.{Shortest}
 use Rattle.quic_canon.proofs.Cuts.{take_on}
 use Rattle.quic_canon.proofs.Steps.{BeginsNone, OneShortest, Walks, here, given_on, walk_on, next_frame, at_most, span_of, Tested, shortest_there, longer_there, shortest_next, walk_begins}
 
--- The first n bytes are in their shortest spelling, and either all frames so far are, or the next one isn't.
+-- The first n bytes are in their shortest encoding, and either all frames so far are, or the next one isn't.
 pub record InFront (payload : List ℕ) (n : ℕ) (way : Way) (found : List Found) : Type 0 where
   pub others : List Found
   pub cut : IsCut payload n found others
@@ -46,7 +46,7 @@ front_walk_begins payload way first e whole broken = record {
   in_front = λ found s. front_begins payload way found first (whole found s) s;
 }
 
--- the frames that are left where all before are in their shortest spellings
+-- the frames that are left where all before are in their shortest encodings
 all_so_far : (payload : List ℕ) (n : ℕ) (way : Way) (found : List Found) → (f : InFront payload n way found) → n ≡ way.offset → f.rest ≡ f.others
 all_so_far payload n way found f e = is f.state
   where
@@ -54,7 +54,7 @@ all_so_far payload n way found f e = is f.state
     is (inl a) = a.1
     is (inr a) = let lt = a.0 in absurd (omega (arith, lt, e))
 
--- one more frame in its shortest spelling
+-- one more frame in its shortest encoding
 pub front_grows : (payload : List ℕ) (start size : ℕ) (old new : Way) (frame : Frame) (b : Bool) → BeginsNone → OneShortest → size ≡ length payload → FrontWalk payload start start old → Finds old frame new → Tested b frame start new.offset size → b ≡ true
     → FrontWalk payload new.offset new.offset new
 front_grows payload start size old new frame b begins one len w f tested e =
@@ -65,14 +65,14 @@ front_grows payload start size old new frame b begins one len w f tested e =
     record {
       walks = walk_on payload start old new frame w.walks f;
       before = omega arith;
-      in_front = λ found spelled.
-          let a = w.in_front found spelled in
+      in_front = λ found encoded.
+          let a = w.in_front found encoded in
           let rest = all_so_far payload start old found a (sym w.walks.start_is) in
           let n = next_frame payload start size old new frame a.others begins len w.walks f (a.left_are ∙ ap (map given) rest) a.cut.back in
           record {
             others = n.more;
             cut = record {
-              back = n.spelled;
+              back = n.encoded;
               parts = a.cut.parts ∙ ap (λ (l : List ℕ). take start payload ++ l) (shortest_next f.found a.others n.more (eqb stop size) n.rest_is n.last_is ∙ ap (λ (l : List ℕ). l ++ shortest_frames (map frame_in n.more)) (sym is))
                   ∙ sym (append_assoc (take start payload) (slice_range payload start stop) (shortest_frames (map frame_in n.more)))
                   ∙ ap (λ (l : List ℕ). l ++ shortest_frames (map frame_in n.more)) (take_on payload start stop (omega (arith, some)) s.within);
@@ -96,12 +96,12 @@ front_ends payload start size old new frame b begins one all len w f tested e =
     record {
       walks = walk_on payload start old new frame w.walks f;
       before = omega (arith, some);
-      in_front = λ found spelled.
-          let a = w.in_front found spelled in
+      in_front = λ found encoded.
+          let a = w.in_front found encoded in
           let rest = all_so_far payload start old found a (sym w.walks.start_is) in
           let n = next_frame payload start size old new frame a.others begins len w.walks f (a.left_are ∙ ap (map given) rest) a.cut.back in
           let is = ap length (shortest_next f.found a.others n.more (eqb stop size) n.rest_is n.last_is) ∙ length-append (shortest_frame (eqb stop size) f.found.frame) (shortest_frames (map frame_in n.more)) in
-          let fewer = at_most (drop stop payload) (shortest_frames (map frame_in n.more)) (all n.more (drop stop payload) n.spelled) in
+          let fewer = at_most (drop stop payload) (shortest_frames (map frame_in n.more)) (all n.more (drop stop payload) n.encoded) in
           record {
             others = a.others;
             cut = a.cut;
@@ -120,8 +120,8 @@ front_stays payload front start old new frame differs w f =
     record {
       walks = walk_on payload start old new frame w.walks f;
       before = omega (arith, some, before);
-      in_front = λ found spelled.
-          let a = w.in_front found spelled in
+      in_front = λ found encoded.
+          let a = w.in_front found encoded in
           let g = given_on f.found (map unplaced (left new)) a.rest (sym h.first ∙ a.left_are) in
           record {
             others = a.others;
@@ -149,7 +149,7 @@ front_done payload front start way some (inl a) w none =
     record {
       some = some;
       found = a.0;
-      spelled = a.1;
+      encoded = a.1;
       others = f.others;
       cut = f.cut;
       shorter = λ lt. shorter (w.walks.start_is ∙ at) f.others f.rest lt f.state;

@@ -1,4 +1,4 @@
--- The least payload of one whose front is in its shortest spelling.
+-- The least payload of one whose front is in its shortest encoding.
 use Rattle.std.proofs.Common.{◌≡◌, ◌≢◌, ℕ, ◌<◌, ◌≤◌, eqb, true, false, List, [], ◌∷◌, ◌++◌, length, map, take, drop, Option, None, refl, sym, ap, subst, ◌∙◌, append_assoc, inl, inr, arith}
 use Rattle.std.specs.Prelude.{◌⊎◌}
 use Rattle.std.proofs.lemmas.Bool.Decides.{nat_tests}
@@ -22,7 +22,7 @@ abbrev pub HasLeast : Type 0
 HasLeast = (found : List Found) (payload : List ℕ) → payload ≢ [] → AreFrames false found payload → IsLeast (shortest_frames (map frame_in found)) payload
 
 pub front_least : (payload : List ℕ) (n : ℕ) → HasLeast → (f : IsFront payload n) → IsLeast (take n payload ++ shortest_frames (map frame_in f.others)) payload
-front_least payload n has f = subst (λ (l : List ℕ). IsLeast l payload) f.cut.parts (has f.found payload f.some f.spelled)
+front_least payload n has f = subst (λ (l : List ℕ). IsLeast l payload) f.cut.parts (has f.found payload f.some f.encoded)
 
 drop_end : (payload : List ℕ) (n : ℕ) → length payload ≤ n → drop n payload ≡ []
 drop_end payload n le = nothing (drop n payload) (omega (arith, length-drop n payload, le))

@@ -1,7 +1,7 @@
 -- The least payload of each meaning.
 use Rattle.std.proofs.Common.{◌≡◌, ◌≢◌, ℕ, Bool, true, false, List, [], ◌∷◌, ◌++◌, length, map, Option, None, refl, sym, ap, subst, ◌∙◌, inl, inr, arith}
 use Rattle.quic_base.specs.Number.{AreBytes}
-use Rattle.quic_base.proofs.PublicLaws.{spelled_bound}
+use Rattle.quic_base.proofs.PublicLaws.{encoded_bound}
 use Rattle.quic_frame_parts.specs.declared.frame.fault.Fault.{Fault}
 use Rattle.quic_frame_parts.specs.Payload.{Meaning, Found, IsFrame, AreFrames, IsBroken}
 use Rattle.quic_frames.specs.Least.{AreOrExceed, frame_in, all_written, shortest_frames}
@@ -16,8 +16,8 @@ OneReading = (some others : List Found) (bytes : List ℕ) → AreFrames false s
 abbrev pub Shortest : Type 0
 Shortest = (found : List Found) (bytes : List ℕ) → AreFrames false found bytes → AreOrExceed bytes (shortest_frames (map frame_in found))
 
-abbrev pub Spelled : Type 0
-Spelled = (strict : Bool) (found : List Found) (bytes : List ℕ) → AreFrames false found bytes → AreFrames strict (all_written (map frame_in found)) (shortest_frames (map frame_in found))
+abbrev pub Encoded : Type 0
+Encoded = (strict : Bool) (found : List Found) (bytes : List ℕ) → AreFrames false found bytes → AreFrames strict (all_written (map frame_in found)) (shortest_frames (map frame_in found))
 
 abbrev pub Written : Type 0
 Written = (frames : List Meaning) → map frame_in (all_written frames) ≡ frames
@@ -28,17 +28,17 @@ Written = (frames : List Meaning) → map frame_in (all_written frames) ≡ fram
 along : (payload other : List ℕ) (found : List Found) → OneReading → IsSame payload other → AreFrames false found other
     → (frames : List Found) × AreFrames false frames payload × (map frame_in frames ≡ map frame_in found)
 along payload other found one s f =
-    let are = one s.others found other s.other_spelled f in
-    let same = frames_same s.frames s.others payload other s.spelled s.other_spelled s.same in
-    (s.frames, s.spelled, same ∙ ap (map frame_in) are)
+    let are = one s.others found other s.other_encoded f in
+    let same = frames_same s.frames s.others payload other s.encoded s.other_encoded s.same in
+    (s.frames, s.encoded, same ∙ ap (map frame_in) are)
 
 make_same : (payload other : List ℕ) (frames others : List Found) → payload ≢ [] → AreFrames false frames payload → AreFrames false others other → map frame_in frames ≡ map frame_in others → IsSame payload other
 make_same payload other frames others some s t e = record {
   some = some;
   frames = frames;
-  spelled = s;
+  encoded = s;
   others = others;
-  other_spelled = t;
+  other_encoded = t;
   same = subst (λ (l : List Meaning). AreSameFrames (map frame_in frames) l) e (frames_themselves (map frame_in frames));
 }
 
@@ -48,7 +48,7 @@ front_nil (b ∷ front) back e = absurd cc
 
 pub no_frame : (found : Found) (bytes : List ℕ) → IsFrame false found bytes → bytes ≢ []
 no_frame found bytes f none =
-    let some = (spelled_bound found.type f.type_bytes f.type_spelled.spelled).1 in
+    let some = (encoded_bound found.type f.type_bytes f.type_encoded.encoded).1 in
     absurd (omega (arith, some, ap length (front_nil f.type_bytes f.field_bytes (sym f.parts ∙ none))))
 
 filled : (frames others : List Found) (payload other : List ℕ) → payload ≢ [] → AreFrames false frames payload → AreFrames false others other → AreSameFrames (map frame_in frames) (map frame_in others) → other ≢ []
@@ -57,34 +57,34 @@ filled (f ∷ frames) [] payload other some s t same none = absurd same
 filled (f ∷ frames) (g ∷ others) payload other some s t same none = no_frame g t.0 t.3 (front_nil t.0 t.1 (sym t.2 ∙ none))
 
 pub other_some : (payload other : List ℕ) → IsSame payload other → other ≢ []
-other_some payload other s = filled s.frames s.others payload other s.some s.spelled s.other_spelled s.same
+other_some payload other s = filled s.frames s.others payload other s.some s.encoded s.other_encoded s.same
 
 flip : (payload other : List ℕ) → IsSame payload other → IsSame other payload
 flip payload other s =
-    make_same other payload s.others s.frames (other_some payload other s) s.other_spelled s.spelled (sym (frames_same s.frames s.others payload other s.spelled s.other_spelled s.same))
+    make_same other payload s.others s.frames (other_some payload other s) s.other_encoded s.encoded (sym (frames_same s.frames s.others payload other s.encoded s.other_encoded s.same))
 
 join : (first second third : List ℕ) → OneReading → IsSame first second → IsSame second third → IsSame first third
 join first second third one s t =
-    let a = along first second t.frames one s t.spelled in
-    make_same first third a.0 t.others s.some a.1 t.other_spelled (a.2 ∙ frames_same t.frames t.others second third t.spelled t.other_spelled t.same)
+    let a = along first second t.frames one s t.encoded in
+    make_same first third a.0 t.others s.some a.1 t.other_encoded (a.2 ∙ frames_same t.frames t.others second third t.encoded t.other_encoded t.same)
 
 -- ---- the least payload
 
-spelled_some : (frames : List Found) (payload : List ℕ) → payload ≢ [] → AreFrames false frames payload → map frame_in frames ≢ []
-spelled_some [] payload some s e = some s
-spelled_some (f ∷ frames) payload some s e = cc
+encoded_some : (frames : List Found) (payload : List ℕ) → payload ≢ [] → AreFrames false frames payload → map frame_in frames ≢ []
+encoded_some [] payload some s e = some s
+encoded_some (f ∷ frames) payload some s e = cc
 
-some_spelled : (frames : List Found) (payload : List ℕ) → map frame_in frames ≢ [] → AreFrames false frames payload → payload ≢ []
-some_spelled [] payload some s none = some refl
-some_spelled (f ∷ frames) payload some s none = no_frame f s.0 s.3 (front_nil s.0 s.1 (sym s.2 ∙ none))
+some_encoded : (frames : List Found) (payload : List ℕ) → map frame_in frames ≢ [] → AreFrames false frames payload → payload ≢ []
+some_encoded [] payload some s none = some refl
+some_encoded (f ∷ frames) payload some s none = no_frame f s.0 s.3 (front_nil s.0 s.1 (sym s.2 ∙ none))
 
-pub has_least : (found : List Found) (payload : List ℕ) → OneReading → Shortest → Spelled → Written → payload ≢ [] → AreFrames false found payload → IsLeast (shortest_frames (map frame_in found)) payload
-has_least found payload one shortest spelled written some s =
+pub has_least : (found : List Found) (payload : List ℕ) → OneReading → Shortest → Encoded → Written → payload ≢ [] → AreFrames false found payload → IsLeast (shortest_frames (map frame_in found)) payload
+has_least found payload one shortest encoded written some s =
     let frames = map frame_in found in
     let least = shortest_frames frames in
-    let here = spelled false found payload s in
+    let here = encoded false found payload s in
     let are = written frames in
-    let least_some : least ≢ [] = some_spelled (all_written frames) least (λ none. spelled_some found payload some s (sym are ∙ none)) here in
+    let least_some : least ≢ [] = some_encoded (all_written frames) least (λ none. encoded_some found payload some s (sym are ∙ none)) here in
     record {
       same = make_same least payload (all_written frames) found least_some here s are;
       no_other = λ other t.
@@ -118,20 +118,20 @@ pub least_of_least : (payload least : List ℕ) → OneReading → IsLeast least
 least_of_least payload least one l = least_along least payload least one l (flip least payload l.same)
 
 -- Its types are in their least widths.
-pub least_is_strict : (payload least : List ℕ) → OneReading → Shortest → Spelled → Written → IsLeast least payload → (found : List Found) × AreFrames true found least × AreFrames false found least
-least_is_strict payload least one shortest spelled written l =
+pub least_is_strict : (payload least : List ℕ) → OneReading → Shortest → Encoded → Written → IsLeast least payload → (found : List Found) × AreFrames true found least × AreFrames false found least
+least_is_strict payload least one shortest encoded written l =
     let s = l.same in
     let found = s.others in
     let frames = map frame_in found in
     let some = other_some least payload s in
-    let is : shortest_frames frames ≡ least = one_least (shortest_frames frames) least payload (has_least found payload one shortest spelled written some s.other_spelled) l in (
+    let is : shortest_frames frames ≡ least = one_least (shortest_frames frames) least payload (has_least found payload one shortest encoded written some s.other_encoded) l in (
       all_written frames,
-      subst (AreFrames true (all_written frames)) is (spelled true found payload s.other_spelled),
-      subst (AreFrames false (all_written frames)) is (spelled false found payload s.other_spelled),
+      subst (AreFrames true (all_written frames)) is (encoded true found payload s.other_encoded),
+      subst (AreFrames false (all_written frames)) is (encoded false found payload s.other_encoded),
     )
 
 -- a payload with an error has none
 pub broken_has_none : (found : List Found) (least payload : List ℕ) (type : Option ℕ) (reason : Fault)
     → ((some others : List Found) (bytes : List ℕ) (type : Option ℕ) (reason : Fault) → AreBytes bytes → AreFrames false some bytes → IsBroken false None others bytes type reason → ⊥)
     → AreBytes payload → IsBroken false None found payload type reason → IsLeast least payload → ⊥
-broken_has_none found least payload type reason never_both fits b l = never_both l.same.others found payload type reason fits l.same.other_spelled b
+broken_has_none found least payload type reason never_both fits b l = never_both l.same.others found payload type reason fits l.same.other_encoded b

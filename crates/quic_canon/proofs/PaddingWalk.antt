@@ -18,7 +18,7 @@ EachPads count old = (k : ℕ) → k < count → Finds (behind k old) frames.Pad
 behind_at : (payload : List ℕ) (front start k : ℕ) (old : Way) → FrontWalk payload front start old → start + suc k ≡ (behind (suc k) old).offset
 behind_at payload front start k old w = let is = w.walks.start_is in omega (arith, is)
 
--- each is in its shortest spelling
+-- each is in its shortest encoding
 all_grow : (payload : List ℕ) (start count k : ℕ) (old : Way) → BeginsNone → OneShortest → FrontWalk payload start start old → EachPads count old → k ≤ count → FrontWalk payload (start + k) (start + k) (behind k old)
 all_grow payload start count zero old begins one w each le = subst (λ (n : ℕ). FrontWalk payload n n old) (omega arith) w
 all_grow payload start count (suc k) old begins one w each le =

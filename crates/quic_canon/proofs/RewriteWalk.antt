@@ -20,7 +20,7 @@ use Rattle.quic_canon.proofs.Steps.{BeginsNone, OneShortest, Walks, walk_on, nex
 pub record Rewrites (old new : Vec ℕ Global) (payload : List ℕ) (from start : ℕ) (way : Way) (found : List Found) : Type 0 where
   pub rest : List Found
   pub left_are : map unplaced (left way) ≡ map given rest
-  pub spelled : AreFrames false rest (drop start payload)
+  pub encoded : AreFrames false rest (drop start payload)
   pub bytes : List ℕ
   pub parts : shortest_frames (map frame_in found) ≡ bytes ++ shortest_frames (map frame_in rest)
   pub wrote : new.items ++ slice_range payload from start ≡ old.items ++ bytes
@@ -39,7 +39,7 @@ rewrite_walk_begins old payload way first e whole broken = record {
   rewrites = λ found s. record {
     rest = found;
     left_are = whole found s;
-    spelled = s;
+    encoded = s;
     bytes = [];
     parts = refl;
     wrote = ap (λ (l : List ℕ). old.items ++ l) (slice_none payload 0);
@@ -81,7 +81,7 @@ room_to_write old new mid payload from start stop way next frame begins all s w 
     let r = w.rewrites s.0 s.1 in
     let size = length payload in
     let last = eqb next.offset size in
-    let n = next_frame payload start size way next frame r.rest begins refl w.walks f r.left_are r.spelled in
+    let n = next_frame payload start size way next frame r.rest begins refl w.walks f r.left_are r.encoded in
     let is = ap length (shortest_next f.found r.rest n.more last n.rest_is n.last_is) ∙ length-append (shortest_frame last f.found.frame) (shortest_frames (map frame_in n.more)) in
     let same = frame_length frame f.found last f.says ∙ refl in
     let here : length (shortest_frame (eqb stop size) (meaning_of frame)) ≡ length (shortest_frame last (meaning_of frame)) = ap (λ (k : ℕ). length (shortest_frame (eqb k size) (meaning_of frame))) at in
@@ -106,16 +106,16 @@ rewrite_keeps old new payload from start stop way next frame b begins one w f at
     let kept : RewriteWalk old new payload from end next = record {
       walks = walk_on payload start way next frame w.walks f;
       capacity = w.capacity;
-      rewrites = λ found spelled.
-          let r = w.rewrites found spelled in
+      rewrites = λ found encoded.
+          let r = w.rewrites found encoded in
           let within = r.within in
-          let n = next_frame payload start size way next frame r.rest begins refl w.walks f r.left_are r.spelled in
+          let n = next_frame payload start size way next frame r.rest begins refl w.walks f r.left_are r.encoded in
           let here = shortest_frame last f.found.frame in
           let others = shortest_frames (map frame_in n.more) in
           record {
             rest = n.more;
             left_are = n.left_are;
-            spelled = n.spelled;
+            encoded = n.encoded;
             bytes = r.bytes ++ here;
             parts = r.parts ∙ ap (λ (l : List ℕ). r.bytes ++ l) (shortest_next f.found r.rest n.more last n.rest_is n.last_is) ∙ sym (append_assoc r.bytes here others);
             wrote = ap (λ (l : List ℕ). new.items ++ l) (sym (slice_on payload from start end within (omega (arith, some)) s.within)) ∙ sym (append_assoc new.items (slice_range payload from start) (slice_range payload start end))
@@ -136,16 +136,16 @@ rewrite_writes old new mid out payload from start stop way next frame begins w f
     let written : RewriteWalk old out payload end end next = record {
       walks = walk_on payload start way next frame w.walks f;
       capacity = omega (arith, w.capacity, capacity, capacity');
-      rewrites = λ found spelled.
-          let r = w.rewrites found spelled in
-          let n = next_frame payload start size way next frame r.rest begins refl w.walks f r.left_are r.spelled in
+      rewrites = λ found encoded.
+          let r = w.rewrites found encoded in
+          let n = next_frame payload start size way next frame r.rest begins refl w.walks f r.left_are r.encoded in
           let here = shortest_frame last f.found.frame in
           let others = shortest_frames (map frame_in n.more) in
           let is : shortest_frame (eqb stop size) (meaning_of frame) ≡ here = ap (λ (k : ℕ). shortest_frame (eqb k size) (meaning_of frame)) at ∙ ap (shortest_frame last) (sym f.says) in
           record {
             rest = n.more;
             left_are = n.left_are;
-            spelled = n.spelled;
+            encoded = n.encoded;
             bytes = r.bytes ++ here;
             parts = r.parts ∙ ap (λ (l : List ℕ). r.bytes ++ l) (shortest_next f.found r.rest n.more last n.rest_is n.last_is) ∙ sym (append_assoc r.bytes here others);
             wrote = ap (λ (l : List ℕ). out.items ++ l) (slice_none payload end) ∙ append-nil out.items ∙ wrote ∙ ap (λ (l : List ℕ). mid.items ++ l) is

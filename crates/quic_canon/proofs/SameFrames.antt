@@ -192,9 +192,9 @@ ack_fields fields values bytes s =
       top = b.7.3 ∙ ap (λ (l : List Value). greatest_of (l ++ two.0)) one_is;
     }
 
--- ---- frames that are spelled
+-- ---- frames that are encoded
 
--- what is known of a frame that is spelled
+-- what is known of a frame that is encoded
 record IsKnown (frame : Meaning) : Type 0 where
   down : AreDown frame.values
   acks : is_ack frame.name ≡ true → IsAckOf frame.values

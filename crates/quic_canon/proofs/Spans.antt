@@ -1,4 +1,4 @@
--- The shortest spelling of a frame has a byte at least.
+-- The shortest encoding of a frame has a byte at least.
 use Rattle.std.proofs.Common.{◌≡◌, ℕ, ◌<◌, ◌≤◌, eqb, Bool, true, false, length, arith}
 use Rattle.std.specs.Prelude.{if◌then◌else◌, nat_lt, ◌^◌}
 use Rattle.std.proofs.lemmas.Bool.Decides.{nat_tests}

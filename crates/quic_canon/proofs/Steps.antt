@@ -39,7 +39,7 @@ at_end m n e = grind (arith, nat_tests)
 
 pub can_stand : (old new : Way) (frame : Frame) (size : ℕ) → Exact → old.strict ≡ false → size ≡ length old.payload → Finds old frame new → CanStand (eqb new.offset size) frame
 can_stand old new frame size exact any len f =
-    let s = subst (λ (x : Found). IsFrame false x (slice_range old.payload old.offset new.offset)) (meaning_is frame f.found f.says) (subst (λ (b : Bool). IsFrame b f.found (slice_range old.payload old.offset new.offset)) any f.stands.spelled) in
+    let s = subst (λ (x : Found). IsFrame false x (slice_range old.payload old.offset new.offset)) (meaning_is frame f.found f.says) (subst (λ (b : Bool). IsFrame b f.found (slice_range old.payload old.offset new.offset)) any f.stands.encoded) in
     exact (eqb new.offset size) f.found.type frame (slice_range old.payload old.offset new.offset) f.told_apart s (λ opens. at_end new.offset size (f.ends opens ∙ sym len))
 
 -- ---- what is left of a payload
@@ -56,7 +56,7 @@ pub record Walks (payload : List ℕ) (start : ℕ) (way : Way) : Type 0 where
       → (rest : List Found) × (map unplaced (left way) ≡ map given rest ++ Err (invalid type reason) ∷ [])
   pub done : left way ≡ [] → start ≡ length payload
 
--- One frame has one spelling at the front of bytes.
+-- One frame has one encoding at the front of bytes.
 front_is : (f : Found) (a b c d : List ℕ) → BeginsNone → a ++ b ≡ c ++ d → IsFrame false f a → IsFrame false f c → (is_open f.type ≡ true → b ≡ []) → (is_open f.type ≡ true → d ≡ []) → a ≡ c
 front_is f a b c d begins e one other opens opens' =
     elim (cases_bool (is_open f.type)) [
@@ -128,7 +128,7 @@ pub record Next (payload : List ℕ) (start stop size : ℕ) (new : Way) (found 
   pub more : List Found
   pub rest_is : rest ≡ found ∷ more
   pub left_are : map unplaced (left new) ≡ map given more
-  pub spelled : AreFrames false more (drop stop payload)
+  pub encoded : AreFrames false more (drop stop payload)
   pub last_is : is_end (map frame_in more) ≡ eqb stop size
 
 pub from_test : (m n : ℕ) → eqb m n ≡ true → m ≡ n
@@ -144,13 +144,13 @@ next_frame payload start size old new frame rest begins len w f are s =
     let some = h.stands.some in
     let cut = cut_there payload start stop (omega (arith, some)) in
     let front : t.0 ≡ slice_range payload start stop =
-    front_is f.found t.0 t.1 (slice_range payload start stop) (drop stop payload) begins (sym t.2 ∙ cut) t.3 h.stands.spelled t.4 (λ e. drop_end payload stop (h.opens e)) in
+    front_is f.found t.0 t.1 (slice_range payload start stop) (drop stop payload) begins (sym t.2 ∙ cut) t.3 h.stands.encoded t.4 (λ e. drop_end payload stop (h.opens e)) in
     let back : t.1 ≡ drop stop payload = same_back t.0 (slice_range payload start stop) t.1 (drop stop payload) (ap length front) (sym t.2 ∙ cut) in
     record {
       more = g.0;
       rest_is = g.1;
       left_are = g.2;
-      spelled = subst (AreFrames false g.0) back t.5;
+      encoded = subst (AreFrames false g.0) back t.5;
       last_is = end_if g.0 new (eqb stop size) g.2 (λ e. at_end stop size (h.done.0 e ∙ sym len)) (λ e. h.done.1 (from_test stop size e ∙ len));
     }
   where
@@ -161,9 +161,9 @@ next_frame payload start size old new frame rest begins len w f are s =
         nothing [] le = refl
         nothing (x ∷ l) le = absurd (omega (arith, le))
 
--- ---- the frames at the front that are in their shortest spellings
+-- ---- the frames at the front that are in their shortest encodings
 
--- a span of the length of the shortest spelling is that
+-- a span of the length of the shortest encoding is that
 span_is : (last : Bool) (found : Found) (bytes : List ℕ) → OneShortest → IsFrame false found bytes → (is_open found.type ≡ true → last ≡ true) → length (shortest_frame last found.frame) ≡ length bytes → bytes ≡ shortest_frame last found.frame
 span_is last found bytes one f opens len = is (one last found bytes f opens)
   where
@@ -187,7 +187,7 @@ pub record Span (payload : List ℕ) (start stop size : ℕ) (found : Found) : T
   pub some : start < stop
   pub within : stop ≤ length payload
   pub len : length (slice_range payload start stop) ≡ stop - start
-  pub spelled : IsFrame false found (slice_range payload start stop)
+  pub encoded : IsFrame false found (slice_range payload start stop)
   pub last : is_open found.type ≡ true → eqb stop size ≡ true
 
 pub span_of : (payload : List ℕ) (start size : ℕ) (old new : Way) (frame : Frame) → size ≡ length payload → Walks payload start old → (f : Finds old frame new) → Span payload start new.offset size f.found
@@ -198,7 +198,7 @@ span_of payload start size old new frame len w f =
       some = some;
       within = h.stands.within;
       len = length-slice_range payload start new.offset (omega (arith, some)) h.stands.within;
-      spelled = h.stands.spelled;
+      encoded = h.stands.encoded;
       last = λ e. at_end new.offset size (h.opens e ∙ sym len);
     }
 
@@ -215,14 +215,14 @@ shortest_there payload start size old new frame b one len w f tested e =
     let s = span_of payload start size old new frame len w f in
     let last = eqb new.offset size in
     let same = from_test (length (shortest_frame last (meaning_of frame))) (new.offset - start) (sym tested ∙ e) in
-    span_is last f.found (slice_range payload start new.offset) one s.spelled s.last (sym (frame_length frame f.found last f.says) ∙ same ∙ sym s.len)
+    span_is last f.found (slice_range payload start new.offset) one s.encoded s.last (sym (frame_length frame f.found last f.says) ∙ same ∙ sym s.len)
 
 pub longer_there : (payload : List ℕ) (start size : ℕ) (old new : Way) (frame : Frame) (b : Bool) → OneShortest → size ≡ length payload → Walks payload start old → (f : Finds old frame new) → Tested b frame start new.offset size → b ≡ false
     → length (shortest_frame (eqb new.offset size) f.found.frame) < new.offset - start
 longer_there payload start size old new frame b one len w f tested e =
     let s = span_of payload start size old new frame len w f in
     let last = eqb new.offset size in
-    let lt = span_exceeds last f.found (slice_range payload start new.offset) one s.spelled s.last
+    let lt = span_exceeds last f.found (slice_range payload start new.offset) one s.encoded s.last
     (λ h. true_is_not_false (sym (at_end (length (shortest_frame last (meaning_of frame))) (new.offset - start) (frame_length frame f.found last f.says ∙ h ∙ s.len)) ∙ sym tested ∙ e)) in
     omega (arith, lt, s.len)
   where
@@ -275,5 +275,5 @@ pub small_at : (payload : List ℕ) (start stop : ℕ) (old new : Way) (frame : 
 small_at payload start stop old new frame one w f at =
     let s = span_of payload start (length payload) old new frame refl w f in
     let last = eqb new.offset (length payload) in
-    let le = at_most (slice_range payload start new.offset) (shortest_frame last f.found.frame) (one last f.found (slice_range payload start new.offset) s.spelled s.last) in
+    let le = at_most (slice_range payload start new.offset) (shortest_frame last f.found.frame) (one last f.found (slice_range payload start new.offset) s.encoded s.last) in
     subst (λ (n : ℕ). length (shortest_frame (eqb n (length payload)) (meaning_of frame)) ≤ n - start) (sym at) (omega (arith, le, frame_length frame f.found last f.says, s.len))

@@ -1,7 +1,7 @@
 -- What is written of frames.
 use Rattle.std.specs.Prelude.{◌≡◌, ◌≢◌, ℕ, ◌<◌, List, [], ◌∷◌, length, map, Bool}
 use Rattle.std.proofs.Common.{inl, inr, sym, ap, arith, refl, length-append}
-use Rattle.quic_base.proofs.PublicLaws.{spelled_bound}
+use Rattle.quic_base.proofs.PublicLaws.{encoded_bound}
 use Rattle.quic_frame_parts.specs.Payload.{Found, IsFrame, AreFrames}
 use Rattle.quic_frames.specs.declared.frame.Frame.{Frame}
 use Rattle.quic_frames.specs.Least.{AreOrExceed, frame_in}
@@ -16,7 +16,7 @@ as_short some others (inr longer) (inr shorter) = absurd (omega arith)
 -- a frame takes a byte
 frame_some : (strict : Bool) (found : Found) (bytes : List ℕ) → IsFrame strict found bytes → 0 < length bytes
 frame_some strict found bytes frame =
-    omega (arith, ap length frame.parts, length-append frame.type_bytes frame.field_bytes, (spelled_bound found.type frame.type_bytes frame.type_spelled.spelled).1)
+    omega (arith, ap length frame.parts, length-append frame.type_bytes frame.field_bytes, (encoded_bound found.type frame.type_bytes frame.type_encoded.encoded).1)
 
 found_some : (strict : Bool) (found : List Found) (frames : List Frame) (bytes : List ℕ) → AreFrames strict found bytes → map frame_in found ≡ map meaning_of frames → length bytes ≡ 0 → frames ≡ []
 found_some strict [] [] bytes are same none = refl

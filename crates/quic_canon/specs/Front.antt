@@ -1,4 +1,4 @@
--- The frames at the front of a payload that are in their shortest spellings already.
+-- The frames at the front of a payload that are in their shortest encodings already.
 use Rattle.std.specs.Prelude.{◌≡◌, ◌≢◌, ℕ, ◌-◌, ◌<◌, ◌≤◌, List, [], ◌++◌, length, map, take, drop, false}
 use Rattle.quic_frame_parts.specs.Payload.{Found, AreFrames}
 use Rattle.quic_frames.specs.Least.{frame_in, shortest_frames}
@@ -9,12 +9,12 @@ pub record IsCut (payload : List ℕ) (n : ℕ) (found others : List Found) : Ty
   pub parts : shortest_frames (map frame_in found) ≡ take n payload ++ shortest_frames (map frame_in others)
   pub within : n ≤ length payload
 
--- The bytes are a payload, whose first frame that isn't in its shortest spelling, if there is one, begins after n
+-- The bytes are a payload, whose first frame that isn't in its shortest encoding, if there is one, begins after n
 -- bytes.
 pub record IsFront (payload : List ℕ) (n : ℕ) : Type 0 where
   pub some : payload ≢ []
   pub found : List Found
-  pub spelled : AreFrames false found payload
+  pub encoded : AreFrames false found payload
   pub others : List Found
   pub cut : IsCut payload n found others
   pub shorter : n < length payload → length (shortest_frames (map frame_in others)) < length payload - n

@@ -37,7 +37,7 @@ AreSameFrames frames others = ⊥
 pub record IsSame (payload other : List ℕ) : Type 0 where
   pub some : payload ≢ []
   pub frames : List Found
-  pub spelled : AreFrames false frames payload
+  pub encoded : AreFrames false frames payload
   pub others : List Found
-  pub other_spelled : AreFrames false others other
+  pub other_encoded : AreFrames false others other
   pub same : AreSameFrames (map frame_in frames) (map frame_in others)

@@ -12,7 +12,7 @@ ghost use Rattle.quic_canon.specs.Refusal.{IsRefused, IsWrong, AppendsLeast};
 
 use crate::laws::one_least;
 use quic_frames::frame::{Frame, InvalidFrame, Iter};
-use quic_frames::laws::{least_spelling, one_reading, read_back};
+use quic_frames::laws::{least_encoding, one_reading, read_back};
 use std::alloc::{AllocError, Global};
 use thiserror::Error;
 
@@ -30,13 +30,13 @@ pub enum CanonError {
     OutOfMemory,
 }
 
-// Reads all of a payload, and tells how many bytes at its front are frames in their shortest spellings.
+// Reads all of a payload, and tells how many bytes at its front are frames in their shortest encodings.
 fn shortest_front(payload: &[u8]) -> Result<usize, CanonError>
     ensures ok { IfOk result (λ n. IsFront payload.now n) }
     ensures err { IfErr result (λ e. IsWrong payload.now e) }
 {
     one_reading();
-    least_spelling();
+    least_encoding();
     read_back();
     let Ok(mut iter) = Iter::new(payload) else {
         return Err(CanonError::Empty);
@@ -67,7 +67,7 @@ fn shortest_front(payload: &[u8]) -> Result<usize, CanonError>
     Ok(front)
 }
 
-// The frame takes this many bytes in its shortest spelling, which has no more. One byte always is that, as
+// The frame takes this many bytes in its shortest encoding, which has no more. One byte always is that, as
 // for each byte of padding.
 #[inline(always)]
 #[tactic(auto, using(crate::proofs::Spans::one_byte))]
@@ -90,7 +90,7 @@ fn copy(bytes: &[u8], out: &mut Vec<u8>)
     };
 }
 
-// Appends the shortest spelling of a frame, for which there is room.
+// Appends the shortest encoding of a frame, for which there is room.
 fn write(frame: &Frame<'_>, last: bool, out: &mut Vec<u8>)
     requires stands { CanStand last frame.now }
     requires room { vec_len out.old + length (shortest_frame last (meaning_of frame.now)) ≤ vec_capacity out.old }
@@ -102,7 +102,7 @@ fn write(frame: &Frame<'_>, last: bool, out: &mut Vec<u8>)
     };
 }
 
-// Appends the frames of a payload in their shortest spellings, for which there is room. Spans that are
+// Appends the frames of a payload in their shortest encodings, for which there is room. Spans that are
 // shortest already are copied as they stand, as many at once as there are.
 fn rewrite(payload: &[u8], out: &mut Vec<u8>)
     requires some { payload.now ≢ [] }
@@ -112,7 +112,7 @@ fn rewrite(payload: &[u8], out: &mut Vec<u8>)
         → out.new.items ≡ out.old.items ++ shortest_frames (map frame_in found) }
 {
     one_reading();
-    least_spelling();
+    least_encoding();
     read_back();
     let Ok(mut iter) = Iter::new(payload) else {
         unreachable!()

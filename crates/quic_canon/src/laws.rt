@@ -11,7 +11,7 @@ ghost use Rattle.quic_frame_parts.specs.declared.frame.fault.Fault.{Fault};
 ghost use Rattle.quic_canon.specs.Same.{AreSameFrames, IsSame};
 ghost use Rattle.quic_canon.specs.Least.{IsLeast};
 
-use quic_frames::laws::{least_spelling, one_reading};
+use quic_frames::laws::{least_encoding, one_reading};
 
 /// An ACK has one list of ranges: lists of ranges that never touch, with the same numbers in them, are one.
 pub fn one_list_of_a_set()
@@ -43,7 +43,7 @@ pub fn one_least()
         → (found : List Found) × AreFrames true found least × AreFrames false found least }
 {
     one_reading();
-    least_spelling();
+    least_encoding();
 }
 
 /// What is written of frames is its own canonical payload: `canonical` appends just that of it, and `canonical_of`
@@ -53,5 +53,5 @@ pub fn written_is_least()
         → IsLeast payload payload }
 {
     one_least();
-    least_spelling();
+    least_encoding();
 }

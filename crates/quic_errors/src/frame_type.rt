@@ -1,6 +1,6 @@
 //! The types of frames, and their names.
 ghost use Rattle.std.specs.Prelude.{◌≡◌, ◌≢◌, ◌+◌, ◌<◌, ◌^◌, ℕ, None, Some, drop, MatchOption, if◌then◌else◌};
-ghost use Rattle.quic_base.specs.Varint.{Spells, short};
+ghost use Rattle.quic_base.specs.Varint.{Encodes, short};
 ghost use Rattle.quic_errors.specs.Names.{name_of, own_name, shared_name};
 
 use bytes::{Buf, BufMut};
@@ -180,9 +180,9 @@ impl FrameType {
 // No frame that is read is named by it: an ACK with counts is named ACK.
 const _: () = prove!(FrameType::ACK_ECN.0 == 0x03);
 
-/// A type is spelled as the varint of its number.
+/// A type is encoded as the varint of its number.
 impl Codec for FrameType {
-    ghost spelled = { Spells };
+    ghost encoded = { Encodes };
 
     ghost encoding = { short };
 

@@ -10,7 +10,7 @@ use std::fmt;
 pub struct InvalidFrame {
     /// The last type that was read, the broken frame's own included; `None` if none was.
     pub ty: Option<FrameType>,
-    /// `unexpected end`, `invalid frame ID` or `malformed`; where types count in their shortest spelling
+    /// `unexpected end`, `invalid frame ID` or `malformed`; where types count in their shortest encoding
     /// alone, also `frame type not in shortest form`.
     pub reason: &'static str,
 }

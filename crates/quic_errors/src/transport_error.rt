@@ -4,7 +4,7 @@ ghost use Rattle.std.specs.Cmp.Lexicographic.{pointwise};
 ghost use Rattle.std.specs.Ordering.{on};
 ghost use Rattle.std.proofs.Common.{rules};
 ghost use Rattle.std.specs.Cmp.Rules.{comparing};
-ghost use Rattle.quic_base.specs.Varint.{Spells, short};
+ghost use Rattle.quic_base.specs.Varint.{Encodes, short};
 
 use crate::frame_type::FrameType;
 use bytes::{Buf, BufMut};
@@ -165,9 +165,9 @@ impl From<Code> for u64 {
     }
 }
 
-/// A code is spelled as the varint of its number.
+/// A code is encoded as the varint of its number.
 impl Codec for Code {
-    ghost spelled = { Spells };
+    ghost encoded = { Encodes };
 
     ghost encoding = { short };
 

@@ -3,7 +3,7 @@ use Rattle.std.proofs.Common.{◌≡◌, ℕ, ◌+◌, ◌-◌, ◌≤◌, List,
 use Rattle.std.proofs.lemmas.List.{append-nil, length-append, length-take, take-append-drop, take_at}
 use Rattle.quic_base.specs.Number.{AreBytes}
 use Rattle.quic_base.proofs.PublicLaws.{back_bytes}
-use Rattle.quic_base.specs.Varint.{Spells}
+use Rattle.quic_base.specs.Varint.{Encodes}
 use Rattle.quic_frame_parts.specs.declared.frame.ack.Ack.{Ack}
 use Rattle.quic_frame_parts.specs.AckPlace.{BlocksStand, ReadsBlocks}
 use Rattle.quic_frame_parts.specs.Acks.{parts_of, ranges_acked}
@@ -68,6 +68,6 @@ stand_in_frame type ack bytes behind front left fits e r cut =
         l.front ++ (d.front ++ b.count_bytes),
         refl,
         t.is,
-        (l.front, d.front ++ b.count_bytes, refl, l.is, (d.front, b.count_bytes, refl, d.is, (b.count_bytes, [], sym (append-nil b.count_bytes), subst (λ (n : ℕ). Spells n b.count_bytes) count b.count, refl))),
+        (l.front, d.front ++ b.count_bytes, refl, l.is, (d.front, b.count_bytes, refl, d.is, (b.count_bytes, [], sym (append-nil b.count_bytes), subst (λ (n : ℕ). Encodes n b.count_bytes) count b.count, refl))),
       );
     }

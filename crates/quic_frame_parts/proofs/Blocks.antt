@@ -1,11 +1,11 @@
--- The ranges of an ACK: what is read is spelled, and what is spelled is read.
+-- The ranges of an ACK: what is read is encoded, and what is encoded is read.
 use Rattle.std.proofs.Common.{◌≡◌, ℕ, zero, suc, ◌+◌, ◌-◌, ◌<◌, ◌≤◌, Bool, true, false, cond, ltb, eqb, List, [], ◌∷◌, ◌++◌, length, take, drop, Result, Ok, Err, refl, sym, ap, subst, ◌∙◌, append_assoc, inl, inr, arith}
 use Rattle.std.specs.Prelude.{◌⊎◌}
 use Rattle.std.proofs.lemmas.Bool.{ltb-false, le-ltb, cases_lt}
 use Rattle.std.proofs.lemmas.Bool.Decides.{nat_tests}
 use Rattle.std.proofs.lemmas.List.{take_at, drop_at, length-append, append-nil}
 use Rattle.quic_base.specs.Number.{AreBytes}
-use Rattle.quic_base.specs.Varint.{Spells}
+use Rattle.quic_base.specs.Varint.{Encodes}
 use Rattle.quic_base.proofs.PublicLaws.{back_bytes}
 use Rattle.quic_frame_parts.specs.declared.frame.fault.Fault.{Fault}
 use Rattle.quic_frame_parts.specs.declared.frame.fault.Fault.TheVariants.{Malformed, UnexpectedEnd}
@@ -19,7 +19,7 @@ use Rattle.quic_frame_parts.proofs.Varints.{varint_takes, varint_again, varint_f
 pub record TakesOne (bytes left : List ℕ) (n : ℕ) : Type 0 where
   pub front : List ℕ
   pub parts : bytes ≡ front ++ left
-  pub spelled : Spells n front
+  pub encoded : Encodes n front
   pub left_fits : AreBytes left
 
 pub block_takes : (greatest : ℕ) (bytes : List ℕ) (x : ℕ × List ℕ) → AreBytes bytes → block_at greatest bytes ≡ Ok x → (x.0 ≤ greatest) × TakesOne bytes x.1 (greatest - x.0)
@@ -31,9 +31,9 @@ block_takes greatest bytes x fits e =
     let t = varint_takes bytes a.0.0 a.0.1 fits a.1 in
     let back : a.0.0 ≡ greatest - (greatest - a.0.0) = omega arith in
     subst (λ (y : ℕ × List ℕ). (y.0 ≤ greatest) × TakesOne bytes y.1 (greatest - y.0)) g.1
-    (omega arith, record { front = t.front; parts = t.split; spelled = subst (λ (k : ℕ). Spells k t.front) back t.is; left_fits = back_bytes t.front a.0.1 (subst AreBytes t.split fits) })
+    (omega arith, record { front = t.front; parts = t.split; encoded = subst (λ (k : ℕ). Encodes k t.front) back t.is; left_fits = back_bytes t.front a.0.1 (subst AreBytes t.split fits) })
 
-block_again : (greatest low : ℕ) (front left : List ℕ) → low ≤ greatest → Spells (greatest - low) front → block_at greatest (front ++ left) ≡ Ok (low, left)
+block_again : (greatest low : ℕ) (front left : List ℕ) → low ≤ greatest → Encodes (greatest - low) front → block_at greatest (front ++ left) ≡ Ok (low, left)
 unfolding block_at
 block_again greatest low front left le v =
     let small : ltb greatest (greatest - low) ≡ false = le-ltb _ _ (omega arith) in
@@ -49,9 +49,9 @@ gap_takes low bytes x fits e =
     let t = varint_takes bytes a.0.0 a.0.1 fits a.1 in
     let back : a.0.0 ≡ low - ((low - (a.0.0 + 2)) + 2) = omega arith in
     subst (λ (y : ℕ × List ℕ). (y.0 + 2 ≤ low) × TakesOne bytes y.1 (low - (y.0 + 2))) g.1
-    (omega arith, record { front = t.front; parts = t.split; spelled = subst (λ (k : ℕ). Spells k t.front) back t.is; left_fits = back_bytes t.front a.0.1 (subst AreBytes t.split fits) })
+    (omega arith, record { front = t.front; parts = t.split; encoded = subst (λ (k : ℕ). Encodes k t.front) back t.is; left_fits = back_bytes t.front a.0.1 (subst AreBytes t.split fits) })
 
-gap_again : (low high : ℕ) (front left : List ℕ) → high + 2 ≤ low → Spells (low - (high + 2)) front → gap_at low (front ++ left) ≡ Ok (high, left)
+gap_again : (low high : ℕ) (front left : List ℕ) → high + 2 ≤ low → Encodes (low - (high + 2)) front → gap_at low (front ++ left) ≡ Ok (high, left)
 unfolding gap_at
 gap_again low high front left le v =
     let small : ltb low ((low - (high + 2)) + 2) ≡ false = le-ltb _ _ (omega arith) in
@@ -80,7 +80,7 @@ below_takes (suc count) low bytes left fits e =
       parts = g.1.parts ∙ ap (λ (l : List ℕ). g.1.front ++ l) (h.1.parts ∙ ap (λ (l : List ℕ). h.1.front ++ l) t.parts ∙ sym (append_assoc h.1.front t.front left))
           ∙ sym (append_assoc g.1.front (h.1.front ++ t.front) left);
       len = ap suc t.len;
-      below = (g.1.front, h.1.front, t.front, refl, h.0, g.0, g.1.spelled, h.1.spelled, t.below);
+      below = (g.1.front, h.1.front, t.front, refl, h.0, g.0, g.1.encoded, h.1.encoded, t.below);
     }
 
 below_again : (ranges : List (ℕ × ℕ)) (low : ℕ) (front left : List ℕ) → AreBelow low ranges front → below_at (length ranges) low (front ++ left) ≡ Ok left
@@ -94,7 +94,7 @@ below_again (range ∷ ranges) low front left s =
     let others = below_again ranges range.0 s.2 left s.8 in
     ap (below_at (length (range ∷ ranges)) low) regrouped ∙ rw (one, two) others
 
--- the ranges that the bytes spell are those that are read
+-- the ranges that the bytes encode are those that are read
 below_are : (ranges : List (ℕ × ℕ)) (n low : ℕ) (bytes : List ℕ) → length bytes ≤ n → AreBelow low ranges bytes → ranges_below n low bytes ≡ ranges
 unfolding ranges_below range_at
 below_are [] zero low bytes le s = refl
@@ -117,7 +117,7 @@ below_are (range ∷ ranges) n low bytes le s =
 pub ranges_are : (greatest : ℕ) (range : ℕ × ℕ) (ranges : List (ℕ × ℕ)) (bytes : List ℕ) → AreBlocks greatest (range ∷ ranges) bytes → ranges_of greatest bytes ≡ range ∷ ranges
 unfolding ranges_of
 ranges_are greatest range ranges bytes s =
-    let v : Spells (greatest - range.0) s.0 = subst (λ (k : ℕ). Spells (k - range.0) s.0) s.3 s.5 in
+    let v : Encodes (greatest - range.0) s.0 = subst (λ (k : ℕ). Encodes (k - range.0) s.0) s.3 s.5 in
     let le : range.0 ≤ greatest = subst (λ (k : ℕ). range.0 ≤ k) s.3 s.4 in
     let one = ap (block_at greatest) s.2 ∙ block_again greatest range.0 s.0 s.1 le v in
     let others = below_are ranges (length s.1) range.0 s.1 (omega arith) s.6 in
@@ -128,7 +128,7 @@ pub record TakesBlocks (greatest : ℕ) (bytes back left : List ℕ) : Type 0 wh
   pub parts : bytes ≡ (count_bytes ++ back) ++ left
   pub range : ℕ × ℕ
   pub ranges : List (ℕ × ℕ)
-  pub count : Spells (length ranges) count_bytes
+  pub count : Encodes (length ranges) count_bytes
   pub blocks : AreBlocks greatest (range ∷ ranges) back
 
 pub record TakesRanges (count greatest : ℕ) (bytes left : List ℕ) : Type 0 where
@@ -151,7 +151,7 @@ ranges_take count greatest bytes left fits e =
       range = (b.0.0, greatest);
       ranges = t.ranges;
       len = t.len;
-      blocks = (h.1.front, t.front, refl, refl, h.0, h.1.spelled, t.below);
+      blocks = (h.1.front, t.front, refl, refl, h.0, h.1.encoded, t.below);
     }
 
 pub ranges_shorter : (count greatest : ℕ) (bytes left : List ℕ) → AreBytes bytes → after_blocks count greatest bytes ≡ Ok left → length left ≤ length bytes
@@ -163,7 +163,7 @@ ranges_again : (greatest : ℕ) (range : ℕ × ℕ) (ranges : List (ℕ × ℕ)
 unfolding after_blocks
 ranges_again greatest range ranges front left s =
     let regrouped : front ++ left ≡ s.0 ++ (s.1 ++ left) = ap (λ (l : List ℕ). l ++ left) s.2 ∙ append_assoc s.0 s.1 left in
-    let v : Spells (greatest - range.0) s.0 = subst (λ (k : ℕ). Spells (k - range.0) s.0) s.3 s.5 in
+    let v : Encodes (greatest - range.0) s.0 = subst (λ (k : ℕ). Encodes (k - range.0) s.0) s.3 s.5 in
     let le : range.0 ≤ greatest = subst (λ (k : ℕ). range.0 ≤ k) s.3 s.4 in
     let one = block_again greatest range.0 s.0 (s.1 ++ left) le v in
     let others = below_again ranges range.0 s.1 left s.6 in
@@ -191,11 +191,11 @@ blocks_take greatest bytes back left fits e =
       parts = t.split ∙ ap (λ (l : List ℕ). t.front ++ l) r.parts ∙ sym (append_assoc t.front r.front b.0);
       range = r.range;
       ranges = r.ranges;
-      count = subst (λ (k : ℕ). Spells k t.front) (sym r.len) t.is;
+      count = subst (λ (k : ℕ). Encodes k t.front) (sym r.len) t.is;
       blocks = r.blocks;
     })
 
-pub blocks_again : (greatest : ℕ) (range : ℕ × ℕ) (ranges : List (ℕ × ℕ)) (front back left : List ℕ) → Spells (length ranges) front → AreBlocks greatest (range ∷ ranges) back
+pub blocks_again : (greatest : ℕ) (range : ℕ × ℕ) (ranges : List (ℕ × ℕ)) (front back left : List ℕ) → Encodes (length ranges) front → AreBlocks greatest (range ∷ ranges) back
     → blocks_at greatest ((front ++ back) ++ left) ≡ Ok (back, left)
 unfolding blocks_at
 blocks_again greatest range ranges front back left v s =
@@ -211,7 +211,7 @@ blocks_valid greatest bytes back left fits e =
     let count : length (ranges_of greatest back) - 1 ≡ length t.ranges = omega (arith, ap length are) in
     ap (λ (n : ℕ). after_blocks n greatest back) count ∙ ap (after_blocks (length t.ranges) greatest) (sym (append-nil back)) ∙ again
 
--- what is spelled is read, with its ranges
+-- what is encoded is read, with its ranges
 pub read_again : (greatest : ℕ) (ranges : List (ℕ × ℕ)) (bytes : List ℕ) → AreBlocks greatest ranges bytes → IsBlocks greatest bytes × (ranges_of greatest bytes ≡ ranges)
 read_again greatest [] bytes s = absurd s
 read_again greatest (range ∷ ranges) bytes s =
@@ -220,7 +220,7 @@ read_again greatest (range ∷ ranges) bytes s =
     let count : length (ranges_of greatest bytes) - 1 ≡ length ranges = omega (arith, ap length are) in
     (ap (λ (n : ℕ). after_blocks n greatest bytes) count ∙ ap (after_blocks (length ranges) greatest) (sym (append-nil bytes)) ∙ again, are)
 
--- what valid blocks spell
+-- what valid blocks encode
 pub record Blocks (greatest : ℕ) (bytes : List ℕ) : Type 0 where
   pub range : ℕ × ℕ
   pub ranges : List (ℕ × ℕ)
@@ -379,12 +379,12 @@ gap_reason low bytes e h =
 pub block_shorter : (greatest : ℕ) (bytes : List ℕ) (x : ℕ × List ℕ) → AreBytes bytes → block_at greatest bytes ≡ Ok x → length x.1 < length bytes
 block_shorter greatest bytes x fits e =
     let t = (block_takes greatest bytes x fits e).1 in
-    omega (arith, ap length t.parts, length-append t.front x.1, varint_some (greatest - x.0) t.front t.spelled)
+    omega (arith, ap length t.parts, length-append t.front x.1, varint_some (greatest - x.0) t.front t.encoded)
 
 pub gap_shorter : (low : ℕ) (bytes : List ℕ) (x : ℕ × List ℕ) → AreBytes bytes → gap_at low bytes ≡ Ok x → length x.1 < length bytes
 gap_shorter low bytes x fits e =
     let t = (gap_takes low bytes x fits e).1 in
-    omega (arith, ap length t.parts, length-append t.front x.1, varint_some (low - (x.0 + 2)) t.front t.spelled)
+    omega (arith, ap length t.parts, length-append t.front x.1, varint_some (low - (x.0 + 2)) t.front t.encoded)
 
 pub block_left : (greatest : ℕ) (bytes : List ℕ) (x : ℕ × List ℕ) → AreBytes bytes → block_at greatest bytes ≡ Ok x → AreBytes x.1
 block_left greatest bytes x fits e = (block_takes greatest bytes x fits e).1.left_fits
@@ -502,7 +502,7 @@ block_stops greatest low high bytes rest after_gap e fits c some g b = stops_her
 no_first : (greatest : ℕ) (ranges : List (ℕ × ℕ)) (bytes : List ℕ) (e : Fault) → block_at greatest bytes ≡ Err e → AreBlocks greatest ranges bytes → ⊥
 no_first greatest [] bytes e h s = s
 no_first greatest (range ∷ ranges) bytes e h s =
-    let v : Spells (greatest - range.0) s.0 = subst (λ (k : ℕ). Spells (k - range.0) s.0) s.3 s.5 in
+    let v : Encodes (greatest - range.0) s.0 = subst (λ (k : ℕ). Encodes (k - range.0) s.0) s.3 s.5 in
     let le : range.0 ≤ greatest = subst (λ (k : ℕ). range.0 ≤ k) s.3 s.4 in
     ok_is_not_err (sym (block_again greatest range.0 s.0 s.1 le v) ∙ ap (block_at greatest) (sym s.2) ∙ h)
 
@@ -524,7 +524,7 @@ pub data FirstOf (greatest : ℕ) (bytes : List ℕ) (least : ℕ) (rest : List 
 first_in : (greatest : ℕ) (range : ℕ × ℕ) (ranges : List (ℕ × ℕ)) (bytes : List ℕ) (least : ℕ) (rest : List ℕ) → AreBytes bytes → AreBlocks greatest (range ∷ ranges) bytes → block_at greatest bytes ≡ Ok (least, rest)
     → FirstOf greatest bytes least rest
 first_in greatest range [] bytes least rest fits s e =
-    let v : Spells (greatest - range.0) s.0 = subst (λ (k : ℕ). Spells (k - range.0) s.0) s.3 s.5 in
+    let v : Encodes (greatest - range.0) s.0 = subst (λ (k : ℕ). Encodes (k - range.0) s.0) s.3 s.5 in
     let le : range.0 ≤ greatest = subst (λ (k : ℕ). range.0 ≤ k) s.3 s.4 in
     let here : (range.0, s.1) ≡ (least, rest) = ok_is (range.0, s.1) (least, rest) (sym (block_again greatest range.0 s.0 s.1 le v) ∙ ap (block_at greatest) (sym s.2) ∙ e) in
     let low_is : range.0 ≡ least = ap (λ (p : ℕ × List ℕ). p.0) here in
@@ -533,7 +533,7 @@ first_in greatest range [] bytes least rest fits s e =
     let bounds : (range.0, range.1) ≡ (least, greatest) = ap (λ (p : ℕ). (p, range.1)) low_is ∙ ap (λ (q : ℕ). (least, q)) s.3 in
     Last (sym rest_is ∙ s.6) (ranges ∙ ap (λ (r : ℕ × ℕ). r ∷ []) bounds)
 first_in greatest range (next ∷ ranges) bytes least rest fits s e =
-    let v : Spells (greatest - range.0) s.0 = subst (λ (k : ℕ). Spells (k - range.0) s.0) s.3 s.5 in
+    let v : Encodes (greatest - range.0) s.0 = subst (λ (k : ℕ). Encodes (k - range.0) s.0) s.3 s.5 in
     let le : range.0 ≤ greatest = subst (λ (k : ℕ). range.0 ≤ k) s.3 s.4 in
     let here : (range.0, s.1) ≡ (least, rest) = ok_is (range.0, s.1) (least, rest) (sym (block_again greatest range.0 s.0 s.1 le v) ∙ ap (block_at greatest) (sym s.2) ∙ e) in
     let low_is : range.0 ≡ least = ap (λ (p : ℕ × List ℕ). p.0) here in

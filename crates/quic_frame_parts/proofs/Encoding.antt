@@ -1,4 +1,4 @@
--- The shortest spellings of frames, cut where their encoders cut them.
+-- The shortest encodings of frames, cut where their encoders cut them.
 use Rattle.std.proofs.Common.{◌≡◌, ℕ, Bool, true, false, List, [], ◌∷◌, ◌++◌, length, refl, sym, ap, ◌∙◌, append_assoc, ◌+◌, ◌-◌, max, ◌≤◌, take, min, arith}
 use Rattle.std.proofs.lemmas.Bool.Decides.{nat_tests}
 use Rattle.std.proofs.lemmas.List.{append-nil, length-append, take_min, length-take}

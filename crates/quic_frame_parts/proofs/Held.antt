@@ -1,4 +1,4 @@
--- An ACK that is held, whose numbers are spelled in any widths.
+-- An ACK that is held, whose numbers are encoded in any widths.
 use Rattle.std.proofs.Common.{◌≡◌, ℕ, ◌+◌, ◌-◌, ◌*◌, ◌/◌, ◌≤◌, Bool, List, [], ◌∷◌, ◌++◌, length, refl, sym, ap, subst, ◌∙◌, append_assoc, arith}
 use Rattle.std.specs.Prelude.{Option}
 use Rattle.std.proofs.lemmas.List.{length-append, append-nil}
@@ -11,7 +11,7 @@ use Rattle.quic_frame_parts.specs.Field.{AreBelow, AreBlocks}
 use Rattle.quic_frame_parts.specs.Parts.{ack_meaning}
 use Rattle.quic_frame_parts.specs.Sets.{IsAckInRange, ack_type, count_numbers, head_numbers}
 use Rattle.quic_frame_parts.specs.Shortest.{shortest_below, shortest_frame}
-use Rattle.quic_frame_parts.specs.Numbers.{AreNumeric, AreSpelled, all_short}
+use Rattle.quic_frame_parts.specs.Numbers.{AreNumeric, AreEncoded, all_short}
 use Rattle.quic_frame_parts.proofs.AckParts.{ack_parts, small_type}
 use Rattle.quic_frame_parts.proofs.Apart.{blocks_apart}
 use Rattle.quic_frame_parts.proofs.Blocks.{blocks_of}
@@ -25,12 +25,12 @@ below_numbers low (range ∷ ranges) = (low - (range.1 + 2)) ∷ (range.1 - rang
 abbrev block_numbers : ℕ × ℕ → List (ℕ × ℕ) → List ℕ
 block_numbers range ranges = (range.1 - range.0) ∷ below_numbers range.0 ranges
 
-below_spelled : (low : ℕ) (ranges : List (ℕ × ℕ)) (bytes : List ℕ) → AreBelow low ranges bytes → AreSpelled (below_numbers low ranges) bytes
-below_spelled low [] bytes s = s
-below_spelled low (range ∷ ranges) bytes s = (s.0, s.1 ++ s.2, s.3, s.6, (s.1, s.2, refl, s.7, below_spelled range.0 ranges s.2 s.8))
+below_encoded : (low : ℕ) (ranges : List (ℕ × ℕ)) (bytes : List ℕ) → AreBelow low ranges bytes → AreEncoded (below_numbers low ranges) bytes
+below_encoded low [] bytes s = s
+below_encoded low (range ∷ ranges) bytes s = (s.0, s.1 ++ s.2, s.3, s.6, (s.1, s.2, refl, s.7, below_encoded range.0 ranges s.2 s.8))
 
-blocks_spelled : (greatest : ℕ) (range : ℕ × ℕ) (ranges : List (ℕ × ℕ)) (bytes : List ℕ) → AreBlocks greatest (range ∷ ranges) bytes → AreSpelled (block_numbers range ranges) bytes
-blocks_spelled greatest range ranges bytes s = (s.0, s.1, s.2, s.5, below_spelled range.0 ranges s.1 s.6)
+blocks_encoded : (greatest : ℕ) (range : ℕ × ℕ) (ranges : List (ℕ × ℕ)) (bytes : List ℕ) → AreBlocks greatest (range ∷ ranges) bytes → AreEncoded (block_numbers range ranges) bytes
+blocks_encoded greatest range ranges bytes s = (s.0, s.1, s.2, s.5, below_encoded range.0 ranges s.1 s.6)
 
 below_count : (low : ℕ) (ranges : List (ℕ × ℕ)) → length (below_numbers low ranges) ≡ 2 * length ranges
 below_count low [] = refl
@@ -48,7 +48,7 @@ moved (m ∷ ns) n below rest =
 
 pub record HeldParts (a : Ack) : Type 0 where
   pub numbers : List ℕ
-  pub spelled : AreSpelled numbers a.additional.now
+  pub encoded : AreEncoded numbers a.additional.now
   pub many : length numbers / 2 ≡ length (ranges_acked a) - 1
   pub numeric : AreNumeric (head_numbers a)
   pub parts : (last : Bool) → shortest_frame last (ack_meaning a) ≡ all_short (head_numbers a) ++ (all_short numbers ++ all_short (count_numbers a.ecn))
@@ -64,7 +64,7 @@ held_parts a fits q =
     let numbers = block_numbers b.range b.ranges in
     record {
       numbers = numbers;
-      spelled = blocks_spelled a.largest b.range b.ranges a.additional.now b.blocks;
+      encoded = blocks_encoded a.largest b.range b.ranges a.additional.now b.blocks;
       many = omega (arith, count, below_count b.range.0 b.ranges);
       numeric = (small_type a.ecn, (q.0.0, (q.0.1.0, (omega (arith, count, few, ends, ordered, q.0.0), tt))));
       parts = λ last.
@@ -73,8 +73,8 @@ held_parts a fits q =
     }
 
 -- how many ranges are below the first, by how many numbers were counted
-pub held_many : (a : Ack) (h : HeldParts a) (spelled : List ℕ) (count : ℕ) → spelled ≡ a.additional.now → ((ns : List ℕ) → AreSpelled ns spelled → count ≡ length ns) → count / 2 ≡ length (ranges_acked a) - 1
-held_many a h spelled count is counted = ap (λ (n : ℕ). n / 2) (counted h.numbers (subst (AreSpelled h.numbers) (sym is) h.spelled)) ∙ h.many
+pub held_many : (a : Ack) (h : HeldParts a) (encoded : List ℕ) (count : ℕ) → encoded ≡ a.additional.now → ((ns : List ℕ) → AreEncoded ns encoded → count ≡ length ns) → count / 2 ≡ length (ranges_acked a) - 1
+held_many a h encoded count is counted = ap (λ (n : ℕ). n / 2) (counted h.numbers (subst (AreEncoded h.numbers) (sym is) h.encoded)) ∙ h.many
 
 -- the same of a head and counts that were computed
 pub held_whole : (a : Ack) (h : HeldParts a) (last : Bool) (head : List ℕ) (counts : Option EcnCounts) → head ≡ head_numbers a → counts ≡ a.ecn

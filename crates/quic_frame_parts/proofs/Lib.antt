@@ -6,7 +6,7 @@ pub mod Apart
 pub mod Numbers
 pub mod Encoding
 pub mod StreamParts
-pub mod Spelled
+pub mod Encoded
 pub mod Sets
 pub mod AckParts
 pub mod Held

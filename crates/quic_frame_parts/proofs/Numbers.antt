@@ -1,4 +1,4 @@
--- Numbers in their shortest spellings, one after the other.
+-- Numbers in their shortest encodings, one after the other.
 use Rattle.std.proofs.Common.{◌≡◌, ℕ, zero, suc, ◌+◌, ◌<◌, ◌≤◌, ◌^◌, List, [], ◌∷◌, ◌++◌, length, take, drop, get_or, refl, sym, ap, ◌∙◌, append_assoc, arith}
 use Rattle.std.proofs.lemmas.List.{length-append, append-nil}
 use Rattle.quic_base.specs.Varint.{short, size}

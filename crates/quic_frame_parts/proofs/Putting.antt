@@ -3,10 +3,10 @@ use Rattle.std.proofs.Common.{◌≡◌, ℕ, ◌+◌, ◌<◌, ◌≤◌, List,
 use Rattle.std.proofs.lemmas.List.{length-append, length-take, append-nil, take-append-drop, drop-drop}
 use Rattle.quic_base.specs.Number.{AreBytes}
 use Rattle.quic_base.specs.Varint.{short}
-use Rattle.quic_frame_parts.specs.Numbers.{AreSpelled, all_short}
+use Rattle.quic_frame_parts.specs.Numbers.{AreEncoded, all_short}
 use Rattle.quic_frame_parts.specs.Putting.{Lays, Puts, Shortens}
 use Rattle.quic_frame_parts.specs.Reading.{varint_at}
-use Rattle.quic_frame_parts.proofs.Spelled.{ReadSome, all_short-append, all_short-last, next_number}
+use Rattle.quic_frame_parts.proofs.Encoded.{ReadSome, all_short-append, all_short-last, next_number}
 
 further : (a b : ℕ) (l m : List ℕ) → drop a l ≡ drop a m → drop (a + b) l ≡ drop (a + b) m
 further a b l m e = sym (drop-drop b a l) ∙ ap (drop b) e ∙ drop-drop b a m
@@ -76,12 +76,12 @@ laid_one n at place end old one new x ns so_far =
     subst (λ (l : List ℕ). Lays l at old end new) (sym (all_short-last ns n)) (lays_more (all_short ns) (short n) old one new at place end so_far x)
 
 -- the next number has room
-pub room_for_one : (spelled rest after old one : List ℕ) (n len at place : ℕ) → AreBytes rest → (s : Shortens spelled len) → ((ns : List ℕ) → AreSpelled ns spelled → ReadSome (LaidThem at old place one) rest ns)
+pub room_for_one : (encoded rest after old one : List ℕ) (n len at place : ℕ) → AreBytes rest → (s : Shortens encoded len) → ((ns : List ℕ) → AreEncoded ns encoded → ReadSome (LaidThem at old place one) rest ns)
     → varint_at rest ≡ Ok (n, after) → place + length (short n) ≤ at + len
-room_for_one spelled rest after old one n len at place fits s read e =
-    let r = read s.numbers s.spells in
+room_for_one encoded rest after old one n len at place fits s read e =
+    let r = read s.numbers s.encodes in
     let next = next_number r.left rest n after fits r.numbers e in
     let parts : all_short s.numbers ≡ all_short r.before ++ (short n ++ all_short next.others) = ap all_short (r.are ∙ ap (λ (l : List ℕ). r.before ++ l) next.are) ∙ all_short-append r.before (n ∷ next.others) in
-    let long = s.long s.numbers s.spells in
+    let long = s.long s.numbers s.encodes in
     let so_far = r.holds.count in
     omega (arith, long, so_far, ap length parts, length-append (all_short r.before) (short n ++ all_short next.others), length-append (short n) (all_short next.others))

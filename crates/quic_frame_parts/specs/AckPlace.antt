@@ -2,7 +2,7 @@
 use Rattle.std.specs.Prelude.{◌≡◌, ◌≤◌, ℕ, ◌-◌, List, [], ◌∷◌, ◌++◌, length, Result, Ok, Err, ◌==◌, ◌||◌, if◌then◌else◌}
 use Rattle.quic_frame_parts.specs.declared.frame.ack.Ack.{Ack}
 use Rattle.quic_frame_parts.specs.Acks.{AckParts, parts_of, ranges_acked}
-use Rattle.quic_frame_parts.specs.Numbers.{AreSpelled}
+use Rattle.quic_frame_parts.specs.Numbers.{AreEncoded}
 use Rattle.quic_frame_parts.specs.declared.frame.fault.Fault.{Fault}
 use Rattle.quic_frame_parts.specs.declared.frame.fault.Fault.TheVariants.{InvalidFrameId}
 use Rattle.quic_frame_parts.specs.Reading.{◌>>=◌, varint_at, blocks_at}
@@ -13,7 +13,7 @@ pub record BlocksStand (type : ℕ) (ack : Ack) (bytes : List ℕ) : Type 0 wher
   pub head : List ℕ
   pub back : List ℕ
   pub parts : bytes ≡ head ++ ((parts_of ack).additional ++ back)
-  pub numbers : AreSpelled (type ∷ (parts_of ack).largest ∷ (parts_of ack).delay ∷ (length (ranges_acked ack) - 1) ∷ []) head
+  pub numbers : AreEncoded (type ∷ (parts_of ack).largest ∷ (parts_of ack).delay ∷ (length (ranges_acked ack) - 1) ∷ []) head
 
 -- ---- as readers find them
 

@@ -1,9 +1,9 @@
--- What stands between the bytes of a frame: kinds of fields, and the bytes that spell each (RFC 9000, sections 16 and
+-- What stands between the bytes of a frame: kinds of fields, and the bytes that encode each (RFC 9000, sections 16 and
 -- 19).
 use Rattle.std.specs.Prelude.{◌≡◌, ⊤, ℕ, zero, suc, ◌+◌, ◌-◌, ◌≤◌, ◌<◌, List, [], ◌∷◌, ◌++◌, length, nat_lt, nat_le, ◌==◌, ◌||◌, Bool, true, false, if◌then◌else◌, ◌⊎◌}
 use Rattle.quic_base.specs.Codec.{NoFront}
 use Rattle.quic_base.specs.Number.{IsNumber}
-use Rattle.quic_base.specs.Varint.{Spells}
+use Rattle.quic_base.specs.Varint.{Encodes}
 use Rattle.quic_frame_parts.specs.declared.frame.fault.Fault.{Fault}
 use Rattle.quic_frame_parts.specs.declared.frame.fault.Fault.TheVariants.{UnexpectedEnd, Malformed}
 
@@ -47,20 +47,20 @@ abbrev pub greatest_of : List Value → ℕ
 greatest_of (Number greatest ∷ values) = greatest
 greatest_of _ = 0
 
--- Bytes that spell ranges below a range with the least number low: for each the numbers between it and the range above,
+-- Bytes that encode ranges below a range with the least number low: for each the numbers between it and the range above,
 -- less one, and its numbers, less one (RFC 9000, section 19.3.1).
 abbrev pub AreBelow : ℕ → List (ℕ × ℕ) → List ℕ → Type 0
 AreBelow low [] bytes = bytes ≡ []
 AreBelow low (range ∷ ranges) bytes =
     (gap block others : List ℕ) × (bytes ≡ gap ++ (block ++ others)) × (range.0 ≤ range.1) × (range.1 + 2 ≤ low)
-    × Spells (low - (range.1 + 2)) gap × Spells (range.1 - range.0) block × AreBelow range.0 ranges others
+    × Encodes (low - (range.1 + 2)) gap × Encodes (range.1 - range.0) block × AreBelow range.0 ranges others
 
 -- the same, for the range that the greatest number ends and ranges below it
 abbrev pub AreBlocks : ℕ → List (ℕ × ℕ) → List ℕ → Type 0
 AreBlocks greatest [] bytes = ⊥
 AreBlocks greatest (range ∷ ranges) bytes =
     (block others : List ℕ) × (bytes ≡ block ++ others) × (range.1 ≡ greatest) × (range.0 ≤ range.1)
-    × Spells (range.1 - range.0) block × AreBelow range.0 ranges others
+    × Encodes (range.1 - range.0) block × AreBelow range.0 ranges others
 
 -- Each range stands below the one before it, and a number of neither is between them.
 abbrev pub AreApart : List (ℕ × ℕ) → Type 0
@@ -68,27 +68,27 @@ AreApart [] = ⊤
 AreApart (range ∷ []) = range.0 ≤ range.1
 AreApart (range ∷ below ∷ ranges) = (range.0 ≤ range.1) × (below.1 + 2 ≤ range.0) × AreApart (below ∷ ranges)
 
--- After fields with the values before, the bytes spell a field of this kind with these values.
+-- After fields with the values before, the bytes encode a field of this kind with these values.
 abbrev pub IsField : Field → List Value → List Value → List ℕ → Type 0
-IsField Varint before values bytes = (n : ℕ) × (values ≡ Number n ∷ []) × Spells n bytes
-IsField Counted before values bytes = (front back : List ℕ) × (values ≡ Bytes back ∷ []) × Spells (length back) front × (bytes ≡ front ++ back)
+IsField Varint before values bytes = (n : ℕ) × (values ≡ Number n ∷ []) × Encodes n bytes
+IsField Counted before values bytes = (front back : List ℕ) × (values ≡ Bytes back ∷ []) × Encodes (length back) front × (bytes ≡ front ++ back)
 IsField Id before values bytes = (back : List ℕ) × (values ≡ Bytes back ∷ []) × (0 < length back) × (length back ≤ 20) × (bytes ≡ length back ∷ back)
 IsField Eight before values bytes = (n : ℕ) × (values ≡ Number n ∷ []) × IsNumber 8 n bytes
 IsField Sixteen before values bytes = (values ≡ Bytes bytes ∷ []) × (length bytes ≡ 16)
 IsField Blocks before values bytes =
     (front back : List ℕ) × (range : ℕ × ℕ) × (ranges : List (ℕ × ℕ)) × (values ≡ Ranges (range ∷ ranges) ∷ []) × (bytes ≡ front ++ back)
-    × Spells (length ranges) front × AreBlocks (greatest_of before) (range ∷ ranges) back
+    × Encodes (length ranges) front × AreBlocks (greatest_of before) (range ∷ ranges) back
 IsField Rest before values bytes = values ≡ Bytes bytes ∷ []
 IsField (Unwritten n) before values bytes = (values ≡ Number n ∷ []) × (bytes ≡ [])
 IsField Ordered before values bytes = (values ≡ []) × (bytes ≡ []) × (is_ordered before ≡ true)
 
 -- no front of the bytes is a number
 abbrev pub LacksNumber : List ℕ → Type 0
-LacksNumber bytes = (n : ℕ) → NoFront (Spells n) bytes
+LacksNumber bytes = (n : ℕ) → NoFront (Encodes n) bytes
 
 -- A number stands first, and the rest is as P says.
 abbrev pub Begins : List ℕ → (ℕ → List ℕ → Type 0) → Type 0
-Begins bytes P = (n : ℕ) × (front back : List ℕ) × (bytes ≡ front ++ back) × Spells n front × P n back
+Begins bytes P = (n : ℕ) × (front back : List ℕ) × (bytes ≡ front ++ back) × Encodes n front × P n back
 
 -- A number can't be read: it is cut off, or one by which a bound would be negative, or what comes after it can't be
 -- read.
@@ -124,18 +124,18 @@ abbrev pub IsReason : Field → List Value → List ℕ → Fault → Type 0
 IsReason Blocks before bytes reason = BlocksStop (greatest_of before) bytes reason
 IsReason field before bytes reason = reason ≡ reason_of field bytes
 
--- No front of the bytes spells such a field.
+-- No front of the bytes encodes such a field.
 pub record Stops (field : Field) (before : List Value) (bytes : List ℕ) (reason : Fault) : Type 0 where
   pub no_front : (values : List Value) (front back : List ℕ) → bytes ≡ front ++ back → IsField field before values front → ⊥
   pub why : IsReason field before bytes reason
 
--- The bytes spell fields of these kinds, one after the other, by which the values grow from before to after.
+-- The bytes encode fields of these kinds, one after the other, by which the values grow from before to after.
 abbrev pub AreFields : List Field → List Value → List Value → List ℕ → Type 0
 AreFields [] before after bytes = (after ≡ before) × (bytes ≡ [])
 AreFields (field ∷ fields) before after bytes =
     (values : List Value) × (front back : List ℕ) × (bytes ≡ front ++ back) × IsField field before values front × AreFields fields (before ++ values) after back
 
--- The first fields are spelled, and the next one stops.
+-- The first fields are encoded, and the next one stops.
 abbrev pub StopsWithin : List Field → List Value → List ℕ → Fault → Type 0
 StopsWithin [] before bytes reason = ⊥
 StopsWithin (field ∷ fields) before bytes reason =

@@ -1,18 +1,18 @@
 -- Numbers as varints, one after the other.
 use Rattle.std.specs.Prelude.{◌≡◌, ⊤, ℕ, ◌<◌, ◌^◌, List, [], ◌∷◌, ◌++◌}
-use Rattle.quic_base.specs.Varint.{Spells, short}
+use Rattle.quic_base.specs.Varint.{Encodes, short}
 
--- numbers in their shortest spellings
+-- numbers in their shortest encodings
 abbrev pub all_short : List ℕ → List ℕ
 all_short [] = []
 all_short (n ∷ ns) = short n ++ all_short ns
 
--- numbers that have a spelling
+-- numbers that have a encoding
 abbrev pub AreNumeric : List ℕ → Type 0
 AreNumeric [] = ⊤
 AreNumeric (n ∷ ns) = (n < 2 ^ 62) × AreNumeric ns
 
--- The bytes spell these numbers, one after the other, in any widths.
-abbrev pub AreSpelled : List ℕ → List ℕ → Type 0
-AreSpelled [] bytes = bytes ≡ []
-AreSpelled (n ∷ ns) bytes = (front back : List ℕ) × (bytes ≡ front ++ back) × Spells n front × AreSpelled ns back
+-- The bytes encode these numbers, one after the other, in any widths.
+abbrev pub AreEncoded : List ℕ → List ℕ → Type 0
+AreEncoded [] bytes = bytes ≡ []
+AreEncoded (n ∷ ns) bytes = (front back : List ℕ) × (bytes ≡ front ++ back) × Encodes n front × AreEncoded ns back

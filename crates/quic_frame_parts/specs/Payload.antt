@@ -1,7 +1,7 @@
 -- What a payload means (RFC 9000, section 12.4). The first argument of the relations says whether a type counts in its
--- shortest spelling alone.
+-- shortest encoding alone.
 use Rattle.std.specs.Prelude.{◌≡◌, ◌≢◌, ℕ, List, [], ◌∷◌, ◌++◌, Option, Some, None, Bool, true, false, ◌⊎◌}
-use Rattle.quic_base.specs.Varint.{Spells, short}
+use Rattle.quic_base.specs.Varint.{Encodes, short}
 use Rattle.quic_frame_parts.specs.declared.frame.fault.Fault.{Fault}
 use Rattle.quic_frame_parts.specs.declared.frame.fault.Fault.TheVariants.{UnexpectedEnd, InvalidFrameId, LongType}
 use Rattle.quic_frame_parts.specs.Field.{Value, AreFields, StopsWithin, LacksNumber}
@@ -17,17 +17,17 @@ pub record Found : Type 0 where
   pub type : ℕ
   pub frame : Meaning
 
--- The bytes spell a type, where it is strict in no other width than the least.
+-- The bytes encode a type, where it is strict in no other width than the least.
 pub record IsType (strict : Bool) (t : ℕ) (bytes : List ℕ) : Type 0 where
-  pub spelled : Spells t bytes
+  pub encoded : Encodes t bytes
   pub shortest : strict ≡ true → bytes ≡ short t
 
--- The bytes spell the frame: its type, and then each field of the type's row.
+-- The bytes encode the frame: its type, and then each field of the type's row.
 pub record IsFrame (strict : Bool) (found : Found) (bytes : List ℕ) : Type 0 where
   pub type_bytes : List ℕ
   pub field_bytes : List ℕ
   pub parts : bytes ≡ type_bytes ++ field_bytes
-  pub type_spelled : IsType strict found.type type_bytes
+  pub type_encoded : IsType strict found.type type_bytes
   pub row : Row
   pub in_table : row_of found.type ≡ Some row
   pub name : found.frame.name ≡ row.name
@@ -53,7 +53,7 @@ pub record BeginsWithType (strict : Bool) (bytes : List ℕ) (t : ℕ) (P : List
   pub front : List ℕ
   pub back : List ℕ
   pub parts : bytes ≡ front ++ back
-  pub spelled : IsType strict t front
+  pub encoded : IsType strict t front
   pub then : P back
 
 -- No frame begins here: no type can be read,
@@ -67,7 +67,7 @@ pub record HasLongType (strict : Bool) (bytes : List ℕ) (t : ℕ) : Type 0 whe
   pub front : List ℕ
   pub back : List ℕ
   pub parts : bytes ≡ front ++ back
-  pub spelled : Spells t front
+  pub encoded : Encodes t front
   pub long : front ≢ short t
 
 -- or the type has no row,

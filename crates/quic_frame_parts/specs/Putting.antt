@@ -1,7 +1,7 @@
 -- What an encoder does to the front of a slice.
 use Rattle.std.specs.Prelude.{◌≡◌, ℕ, ◌+◌, ◌<◌, List, ◌++◌, length, take, drop, Result, IfOk, OnErr, IfErr}
 use Rattle.quic_base.specs.Codec.{IsBegun, KeepsRoom}
-use Rattle.quic_frame_parts.specs.Numbers.{AreSpelled, all_short}
+use Rattle.quic_frame_parts.specs.Numbers.{AreEncoded, all_short}
 
 -- The bytes stand at the front, with what stood behind them, and are counted; or there is less room than that, how
 -- much they need is told, and nothing changes.
@@ -20,11 +20,11 @@ pub record Lays (bytes : List ℕ) (at : ℕ) (old : List ℕ) (end : ℕ) (new 
 
 -- ---- No public clause cites what follows.
 
--- The bytes spell numbers, and the shortest spellings of these have so many bytes.
-pub record Shortens (spelled : List ℕ) (len : ℕ) : Type 0 where
+-- The bytes encode numbers, and the shortest encodings of these have so many bytes.
+pub record Shortens (encoded : List ℕ) (len : ℕ) : Type 0 where
   pub numbers : List ℕ
-  pub spells : AreSpelled numbers spelled
-  pub long : (ns : List ℕ) → AreSpelled ns spelled → len ≡ length (all_short ns)
+  pub encodes : AreEncoded numbers encoded
+  pub long : (ns : List ℕ) → AreEncoded ns encoded → len ≡ length (all_short ns)
 
 -- A beginning of what is held, the front of a chunk up to a place, was appended, and what is left of it stands at the
 -- front of the chunk, up to the answer; or there was less room than that.

@@ -33,12 +33,12 @@ is_in (range ∷ ranges) n = (nat_le range.0 n && nat_le n range.1) || is_in ran
 abbrev pub ack_of : ℕ → List (Range ℕ) → Option EcnCounts → Meaning
 ack_of delay runs counts = frame_of Ack (Number (greatest_in (ranges_in runs)) ∷ Number delay ∷ Ranges (ranges_in runs) ∷ counts_of counts)
 
--- counts that have spellings
+-- counts that have encodings
 abbrev pub AreCounts : Option EcnCounts → Type 0
 AreCounts None = ⊤
 AreCounts (Some e) = AreNumeric (e.ect0 ∷ e.ect1 ∷ e.ce ∷ [])
 
--- the greatest number, the delay and the counts of an ACK have spellings
+-- the greatest number, the delay and the counts of an ACK have encodings
 abbrev pub IsAckInRange : held.Ack → Type 0
 IsAckInRange a = AreNumeric (a.largest ∷ a.delay ∷ []) × AreCounts a.ecn
 

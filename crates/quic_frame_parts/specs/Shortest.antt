@@ -1,4 +1,4 @@
--- The shortest spelling of a frame at its place.
+-- The shortest encoding of a frame at its place.
 use Rattle.std.specs.Prelude.{ℕ, ◌+◌, ◌-◌, List, [], ◌∷◌, ◌++◌, ◌==◌, length, take, max, Option, Some, None, Bool, if◌then◌else◌}
 use Rattle.quic_base.specs.Number.{bytes_of}
 use Rattle.quic_base.specs.Varint.{short, size}

@@ -106,7 +106,7 @@ pub struct AckFrequency {
 }
 
 impl Crypto<'_> {
-    /// As many bytes, besides those of its data, as the frame's shortest spelling has at most.
+    /// As many bytes, besides those of its data, as the frame's shortest encoding has at most.
     pub const SIZE_BOUND: usize = 1 + 8 + 8;
 }
 

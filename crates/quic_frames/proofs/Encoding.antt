@@ -1,4 +1,4 @@
--- The shortest spellings of whole frames. Those of the parts that frames hold are passed on.
+-- The shortest encodings of whole frames. Those of the parts that frames hold are passed on.
 use Rattle.std.proofs.Common.{◌≡◌, ℕ, Bool, true, false, List, [], ◌∷◌, ◌++◌, length, ap, ◌∙◌, append_assoc, ◌+◌, ◌<◌, ◌≤◌, arith, eqb, refl}
 use Rattle.std.proofs.lemmas.Bool.Decides.{nat_tests}
 use Rattle.std.specs.Prelude.{if◌then◌else◌}

@@ -1,11 +1,11 @@
--- A field that is read is spelled, and one that is spelled is read.
+-- A field that is read is encoded, and one that is encoded is read.
 use Rattle.std.proofs.Common.{◌≡◌, ℕ, ◌<◌, ◌≤◌, Bool, true, false, cond, ltb, eqb, List, [], ◌∷◌, ◌++◌, length, take, drop, Result, Ok, Err, refl, sym, ap, subst, ◌∙◌, append_assoc, inl, inr, arith}
 use Rattle.std.specs.Prelude.{◌||◌, ◌&&◌, not}
 use Rattle.std.proofs.lemmas.Bool.{ltb-false, le-ltb}
 use Rattle.std.proofs.lemmas.List.{take_at, drop_at, take-append-drop, length-append, length-take, append-nil}
 use Rattle.quic_base.specs.Codec.{Takes}
 use Rattle.quic_base.specs.Number.{AreBytes, IsNumber, num}
-use Rattle.quic_base.specs.Varint.{Spells}
+use Rattle.quic_base.specs.Varint.{Encodes}
 use Rattle.quic_base.proofs.PublicLaws.{front_bytes, back_bytes}
 use Rattle.quic_frame_parts.specs.declared.frame.fault.Fault.{Fault}
 use Rattle.quic_frame_parts.specs.declared.frame.fault.Fault.TheVariants.{UnexpectedEnd, Malformed}
@@ -64,7 +64,7 @@ field_takes Counted before bytes x fits e =
     (record {
       front = t.front ++ a.0.0;
       split = t.split ∙ ap (λ (l : List ℕ). t.front ++ l) u.parts ∙ sym (append_assoc t.front a.0.0 a.0.1);
-      is = (t.front, a.0.0, refl, subst (λ (n : ℕ). Spells n t.front) (sym u.len) t.is, refl);
+      is = (t.front, a.0.0, refl, subst (λ (n : ℕ). Encodes n t.front) (sym u.len) t.is, refl);
     })
 field_takes Id before [] x fits e = absurd cc
 field_takes Id before (n ∷ bytes) x fits e =
@@ -82,8 +82,8 @@ field_takes Eight before bytes x fits e =
     let a = bind_ok (eight_at bytes) of_number x e in
     let b = bind_ok (bytes_at 8 bytes) (λ n. Ok (num n.0, n.1)) a.0 a.1 in
     let u = bytes_take 8 bytes b.0.0 b.0.1 b.1 in
-    let spelled : IsNumber 8 (num b.0.0) b.0.0 = record { bytes = front_bytes b.0.0 b.0.1 (subst AreBytes u.parts fits); width = u.len; value = refl } in
-    let here : Takes (IsField Eight before (Number (num b.0.0) ∷ [])) bytes b.0.1 = record { front = b.0.0; split = u.parts; is = (num b.0.0, refl, spelled) } in
+    let encoded : IsNumber 8 (num b.0.0) b.0.0 = record { bytes = front_bytes b.0.0 b.0.1 (subst AreBytes u.parts fits); width = u.len; value = refl } in
+    let here : Takes (IsField Eight before (Number (num b.0.0) ∷ [])) bytes b.0.1 = record { front = b.0.0; split = u.parts; is = (num b.0.0, refl, encoded) } in
     let same : (num b.0.0, b.0.1) ≡ a.0 = ok_is (num b.0.0, b.0.1) a.0 b.2 in
     subst (λ (y : List Value × List ℕ). Takes (IsField Eight before y.0) bytes y.1) (ok_is (Number a.0.0 ∷ [], a.0.1) x a.2)
     (subst (λ (y : ℕ × List ℕ). Takes (IsField Eight before (Number y.0 ∷ [])) bytes y.1) same here)
@@ -205,7 +205,7 @@ stops_again field before bytes e fits s =
 pub record TakesAll (fields : List Field) (before after : List Value) (bytes left : List ℕ) : Type 0 where
   pub front : List ℕ
   pub parts : bytes ≡ front ++ left
-  pub spelled : AreFields fields before after front
+  pub encoded : AreFields fields before after front
   pub opens : has_rest fields ≡ true → left ≡ []
 
 rest_takes_all : (field : Field) (before : List Value) (bytes : List ℕ) (x : List Value × List ℕ) → field_at field before bytes ≡ Ok x → is_rest field ≡ true → x.1 ≡ []
@@ -226,7 +226,7 @@ nothing_left false c bytes front left parts p q opens = q opens
 pub fields_take : (fields : List Field) (before : List Value) (bytes : List ℕ) (x : List Value × List ℕ) → AreBytes bytes → fields_at fields before bytes ≡ Ok x → TakesAll fields before x.0 bytes x.1
 fields_take [] before bytes x fits e =
     subst (λ (y : List Value × List ℕ). TakesAll [] before y.0 bytes y.1) (ok_is (before, bytes) x e)
-    (record { front = []; parts = refl; spelled = (refl, refl); opens = λ h. absurd cc })
+    (record { front = []; parts = refl; encoded = (refl, refl); opens = λ h. absurd cc })
 fields_take (field ∷ fields) before bytes x fits e =
     let a = bind_ok (field_at field before bytes) (λ y. fields_at fields (before ++ y.0) y.1) x e in
     let t = field_takes field before bytes a.0 fits a.1 in
@@ -234,7 +234,7 @@ fields_take (field ∷ fields) before bytes x fits e =
     record {
       front = t.front ++ u.front;
       parts = t.split ∙ ap (λ (l : List ℕ). t.front ++ l) u.parts ∙ sym (append_assoc t.front u.front x.1);
-      spelled = (a.0.0, t.front, u.front, refl, t.is, u.spelled);
+      encoded = (a.0.0, t.front, u.front, refl, t.is, u.encoded);
       opens = nothing_left (is_rest field) (has_rest fields) a.0.1 u.front x.1 u.parts (rest_takes_all field before bytes a.0 a.1) u.opens;
     }
 

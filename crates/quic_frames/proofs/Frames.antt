@@ -1,10 +1,10 @@
--- Frames that are read are spelled, and those that are spelled are read.
+-- Frames that are read are encoded, and those that are encoded are read.
 use Rattle.std.proofs.Common.{◌≡◌, ◌≢◌, ℕ, ◌-◌, Bool, true, false, cond, eqb, List, [], ◌++◌, length, Option, Some, None, Result, Ok, Err, refl, sym, ap, subst, ◌∙◌, append_assoc, inl, inr, arith, eq-eqb}
 use Rattle.std.specs.Prelude.{◌⊎◌, not}
 use Rattle.std.proofs.lemmas.List.{length-append}
 use Rattle.std.proofs.lemmas.Bool.Decides.{nat_tests}
 use Rattle.quic_base.specs.Number.{AreBytes}
-use Rattle.quic_base.specs.Varint.{Spells, short, size}
+use Rattle.quic_base.specs.Varint.{Encodes, short, size}
 use Rattle.quic_base.proofs.PublicLaws.{back_bytes, length-short, short_least}
 use Rattle.quic_frame_parts.specs.declared.frame.fault.Fault.{Fault}
 use Rattle.quic_frame_parts.specs.declared.frame.fault.Fault.TheVariants.{InvalidFrameId, LongType}
@@ -37,11 +37,11 @@ not_false : (b : Bool) → (b ≡ true → ⊥) → not b ≡ true
 not_false true e = absurd (e refl)
 not_false false e = refl
 
-is_type : (strict : Bool) (t : ℕ) (front : List ℕ) → Spells t front → is_long_type strict t (length front) ≡ false → IsType strict t front
-is_type false t front s e = record { spelled = s; shortest = λ h. absurd (true_is_not_false (sym h)) }
+is_type : (strict : Bool) (t : ℕ) (front : List ℕ) → Encodes t front → is_long_type strict t (length front) ≡ false → IsType strict t front
+is_type false t front s e = record { encoded = s; shortest = λ h. absurd (true_is_not_false (sym h)) }
 is_type true t front s e =
     let same : length front ≡ size t = same_size (length front) (size t) (test_off (eqb (length front) (size t)) e) in
-    record { spelled = s; shortest = λ _. (short_least t front s).1 (same ∙ sym (length-short t)) }
+    record { encoded = s; shortest = λ _. (short_least t front s).1 (same ∙ sym (length-short t)) }
 
 is_not_long : (strict : Bool) (t : ℕ) (front : List ℕ) → IsType strict t front → is_long_type strict t (length front) ≡ false
 is_not_long false t front s = refl
@@ -53,7 +53,7 @@ record IsLong (strict : Bool) (t : ℕ) (front : List ℕ) : Type 0 where
   counts : strict ≡ true
   long : front ≢ short t
 
-is_long : (strict : Bool) (t : ℕ) (front : List ℕ) → Spells t front → is_long_type strict t (length front) ≡ true → IsLong strict t front
+is_long : (strict : Bool) (t : ℕ) (front : List ℕ) → Encodes t front → is_long_type strict t (length front) ≡ true → IsLong strict t front
 is_long false t front s e = absurd cc
 is_long true t front s e = record {
   counts = refl;
@@ -62,7 +62,7 @@ is_long true t front s e = record {
       true_is_not_false (sym (eq-eqb (length front) (size t) same) ∙ test_on (eqb (length front) (size t)) e);
 }
 
-is_long_again : (strict : Bool) (t : ℕ) (front : List ℕ) → Spells t front → IsLong strict t front → is_long_type strict t (length front) ≡ true
+is_long_again : (strict : Bool) (t : ℕ) (front : List ℕ) → Encodes t front → IsLong strict t front → is_long_type strict t (length front) ≡ true
 is_long_again false t front s l = absurd (true_is_not_false (sym l.counts))
 is_long_again true t front s l =
     not_false (eqb (length front) (size t)) (λ h. l.long ((short_least t front s).1 (same_size (length front) (size t) h ∙ sym (length-short t))))
@@ -152,11 +152,11 @@ found_takes strict before bytes x fits e =
         type_bytes = t.front;
         field_bytes = u.fields.front;
         parts = refl;
-        type_spelled = is_type strict a.0.0 t.front t.is short_enough;
+        type_encoded = is_type strict a.0.0 t.front t.is short_enough;
         row = c.0;
         in_table = c.1;
         name = u.name;
-        fields = u.fields.spelled;
+        fields = u.fields.encoded;
       };
       opens = λ h. u.fields.opens (sym (ap is_open_row c.1) ∙ h);
     })
@@ -165,7 +165,7 @@ found_takes strict before bytes x fits e =
 type_again : (strict : Bool) (before : Option ℕ) (t : ℕ) (front back : List ℕ) → IsType strict t front → found_at strict before (front ++ back) ≡ after_type t (frame_at t back)
 unfolding found_at
 type_again strict before t front back s =
-    let one = varint_again t front back s.spelled in
+    let one = varint_again t front back s.encoded in
     let wide : is_long_type strict t (length (front ++ back) - length back) ≡ false =
     ap (is_long_type strict t) (front_width (front ++ back) front back refl) ∙ is_not_long strict t front s in
     rw (one, wide) refl
@@ -174,7 +174,7 @@ pub found_again : (strict : Bool) (before : Option ℕ) (found : Found) (front b
 unfolding frame_at row_at
 found_again strict before found front back frame closed =
     let regrouped : front ++ back ≡ frame.type_bytes ++ (frame.field_bytes ++ back) = ap (λ (l : List ℕ). l ++ back) frame.parts ∙ append_assoc frame.type_bytes frame.field_bytes back in
-    let one = type_again strict before found.type frame.type_bytes (frame.field_bytes ++ back) frame.type_spelled in
+    let one = type_again strict before found.type frame.type_bytes (frame.field_bytes ++ back) frame.type_encoded in
     let row_closed : has_rest frame.row.fields ≡ true → back ≡ [] = λ h. closed (ap is_open_row frame.in_table ∙ h) in
     let two = fields_again frame.row.fields [] found.frame.values frame.field_bytes back (row_is_well found.type frame.row frame.in_table) row_closed frame.fields in
     ap (found_at strict before) regrouped ∙ one ∙ rw (frame.in_table, two, ← frame.name) refl
@@ -207,17 +207,17 @@ found_fails strict before bytes i fits some e =
                   type = Some a.0.0;
                   reason = LongType;
                   is_told = w.1;
-                  no_frame = inr (inl (a.0.0, record { counts = l.counts; front = t.front; back = a.0.1; parts = t.split; spelled = t.is; long = l.long }, refl, refl));
+                  no_frame = inr (inl (a.0.0, record { counts = l.counts; front = t.front; back = a.0.1; parts = t.split; encoded = t.is; long = l.long }, refl, refl));
                 }
             | inr w ↦
-                let spelled = is_type strict a.0.0 t.front t.is (wide ∙ w.0) in
+                let encoded = is_type strict a.0.0 t.front t.is (wide ∙ w.0) in
                 let b = after_type_err a.0.0 (frame_at a.0.0 a.0.1) i w.1 in
                 elim (in_row_err (row_of a.0.0) a.0.1 b.0 b.1) [
                   | inl c ↦ record {
                     type = Some a.0.0;
                     reason = b.0;
                     is_told = b.2;
-                    no_frame = inr (inr (inl (a.0.0, record { front = t.front; back = a.0.1; parts = t.split; spelled = spelled; then = c.0 }, refl, c.1)));
+                    no_frame = inr (inr (inl (a.0.0, record { front = t.front; back = a.0.1; parts = t.split; encoded = encoded; then = c.0 }, refl, c.1)));
                   }
                   | inr c ↦
                       let failed = mapped_err (fields_at c.0.fields [] a.0.1) (λ y. (record { name = c.0.name; values = y.0 }, y.1)) b.0 c.2 in
@@ -226,7 +226,7 @@ found_fails strict before bytes i fits some e =
                         type = Some a.0.0;
                         reason = b.0;
                         is_told = b.2;
-                        no_frame = inr (inr (inr (a.0.0, record { front = t.front; back = a.0.1; parts = t.split; spelled = spelled; then = (c.0, c.1, stops) }, refl)));
+                        no_frame = inr (inr (inr (a.0.0, record { front = t.front; back = a.0.1; parts = t.split; encoded = encoded; then = (c.0, c.1, stops) }, refl)));
                       }
                 ]
           ]
@@ -240,17 +240,17 @@ no_frame_again strict before bytes type reason fits (inl a) =
     rw (failed.1, why, a.1, a.2) refl
 no_frame_again strict before bytes type reason fits (inr (inl a)) =
     let u = a.1 in
-    let one = varint_again a.0 u.front u.back u.spelled in
+    let one = varint_again a.0 u.front u.back u.encoded in
     let wide : is_long_type strict a.0 (length (u.front ++ u.back) - length u.back) ≡ true =
-    ap (is_long_type strict a.0) (front_width (u.front ++ u.back) u.front u.back refl) ∙ is_long_again strict a.0 u.front u.spelled (record { counts = u.counts; long = u.long }) in
+    ap (is_long_type strict a.0) (front_width (u.front ++ u.back) u.front u.back refl) ∙ is_long_again strict a.0 u.front u.encoded (record { counts = u.counts; long = u.long }) in
     rw (u.parts, one, wide, a.2, a.3) refl
 no_frame_again strict before bytes type reason fits (inr (inr (inl a))) =
     let u = a.1 in
-    let one = ap (found_at strict before) u.parts ∙ type_again strict before a.0 u.front u.back u.spelled in
+    let one = ap (found_at strict before) u.parts ∙ type_again strict before a.0 u.front u.back u.encoded in
     one ∙ rw (u.then, a.2, a.3) refl
 no_frame_again strict before bytes type reason fits (inr (inr (inr a))) =
     let u = a.1 in
-    let one = ap (found_at strict before) u.parts ∙ type_again strict before a.0 u.front u.back u.spelled in
+    let one = ap (found_at strict before) u.parts ∙ type_again strict before a.0 u.front u.back u.encoded in
     let back_fits = back_bytes u.front u.back (subst AreBytes u.parts fits) in
     let two = fields_stop_again u.then.0.fields [] u.back reason back_fits (row_is_well a.0 u.then.0 u.then.1) u.then.2 in
     one ∙ rw (u.then.1, two, a.2) refl

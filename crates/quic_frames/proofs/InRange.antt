@@ -1,4 +1,4 @@
--- What is spelled can be written.
+-- What is encoded can be written.
 use Rattle.std.proofs.Common.{◌≡◌, ℕ, ◌^◌, ◌<◌, ◌≤◌, Bool, true, false, List, [], ◌∷◌, length, Option, Some, None, refl, ap, arith}
 use Rattle.std.specs.Prelude.{nat_le}
 use Rattle.std.proofs.lemmas.Bool.Decides.{nat_tests}
@@ -76,6 +76,6 @@ can_stand last frames.ImmediateAck z f = closed_frame refl tt
 can_stand last (frames.Datagram d) z f = record { in_range = tt; counted = datagram_limit last d.bytes.now f }
 can_stand last (frames.AckFrequency g) z f = closed_frame refl tt
 
--- A frame that is spelled where it may stand can be written there.
-pub spelled_can_stand : (last : Bool) (t : ℕ) (frame : Frame) (bytes : List ℕ) → IsToldApart frame → IsFrame false (record { type = t; frame = meaning_of frame }) bytes → (is_open t ≡ true → last ≡ true) → CanStand last frame
-spelled_can_stand last t frame bytes z f closed = can_stand last frame z (frame_least last (record { type = t; frame = meaning_of frame }) bytes f closed).fits
+-- A frame that is encoded where it may stand can be written there.
+pub encoded_can_stand : (last : Bool) (t : ℕ) (frame : Frame) (bytes : List ℕ) → IsToldApart frame → IsFrame false (record { type = t; frame = meaning_of frame }) bytes → (is_open t ≡ true → last ≡ true) → CanStand last frame
+encoded_can_stand last t frame bytes z f closed = can_stand last frame z (frame_least last (record { type = t; frame = meaning_of frame }) bytes f closed).fits

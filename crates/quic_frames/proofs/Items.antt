@@ -17,7 +17,7 @@ Told = Result Found Invalid
 
 pub frame_some : (strict : Bool) (found : Found) (bytes : List ℕ) → IsFrame strict found bytes → 0 < length bytes
 frame_some strict found bytes frame =
-    let some = varint_some found.type frame.type_bytes frame.type_spelled.spelled in
+    let some = varint_some found.type frame.type_bytes frame.type_encoded.encoded in
     omega (arith, ap length frame.parts, length-append frame.type_bytes frame.field_bytes)
 
 pub is_some_bytes : (bytes : List ℕ) → 0 < length bytes → bytes ≢ []
@@ -122,12 +122,12 @@ frames_give strict (p ∷ ps) (suc n) start before bytes le s =
 
 begins_some : (strict : Bool) (bytes : List ℕ) (t : ℕ) (P : List ℕ → Type 0) → BeginsWithType strict bytes t P → bytes ≢ []
 begins_some strict bytes t P u =
-    let some = varint_some t u.front u.spelled.spelled in is_some_bytes bytes (omega (arith, some, ap length u.parts, length-append u.front u.back))
+    let some = varint_some t u.front u.encoded.encoded in is_some_bytes bytes (omega (arith, some, ap length u.parts, length-append u.front u.back))
 
 pub no_frame_some : (strict : Bool) (before : Option ℕ) (bytes : List ℕ) (type : Option ℕ) (reason : Fault) → IsNoFrame strict before bytes type reason → bytes ≢ []
 no_frame_some strict before bytes type reason (inl a) = a.0.some
 no_frame_some strict before bytes type reason (inr (inl a)) =
-    let some = varint_some a.0 a.1.front a.1.spelled in is_some_bytes bytes (omega (arith, some, ap length a.1.parts, length-append a.1.front a.1.back))
+    let some = varint_some a.0 a.1.front a.1.encoded in is_some_bytes bytes (omega (arith, some, ap length a.1.parts, length-append a.1.front a.1.back))
 no_frame_some strict before bytes type reason (inr (inr (inl a))) = begins_some strict bytes a.0 _ a.1
 no_frame_some strict before bytes type reason (inr (inr (inr a))) = begins_some strict bytes a.0 _ a.1
 
@@ -299,7 +299,7 @@ frame_relaxed strict found bytes f = record {
   type_bytes = f.type_bytes;
   field_bytes = f.field_bytes;
   parts = f.parts;
-  type_spelled = record { spelled = f.type_spelled.spelled; shortest = λ e. absurd (true_is_not_false (sym e)) };
+  type_encoded = record { encoded = f.type_encoded.encoded; shortest = λ e. absurd (true_is_not_false (sym e)) };
   row = f.row;
   in_table = f.in_table;
   name = f.name;

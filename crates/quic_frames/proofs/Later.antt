@@ -78,7 +78,7 @@ begins_on strict bytes more t P Q fits lasts u =
       front = u.front;
       back = u.back ++ more;
       parts = parts;
-      spelled = u.spelled;
+      encoded = u.encoded;
       then = lasts u.back (back_bytes u.front (u.back ++ more) (subst AreBytes parts fits)) u.then;
     }
 
@@ -86,7 +86,7 @@ no_frame_lasts : (strict : Bool) (before : Option ℕ) (bytes more : List ℕ) (
 no_frame_lasts strict before bytes more type reason fits known (inl a) = absurd (known a.2)
 no_frame_lasts strict before bytes more type reason fits known (inr (inl a)) =
     let u = a.1 in
-    inr (inl (a.0, record { counts = u.counts; front = u.front; back = u.back ++ more; parts = ap (λ (l : List ℕ). l ++ more) u.parts ∙ append_assoc u.front u.back more; spelled = u.spelled; long = u.long }, a.2, a.3))
+    inr (inl (a.0, record { counts = u.counts; front = u.front; back = u.back ++ more; parts = ap (λ (l : List ℕ). l ++ more) u.parts ∙ append_assoc u.front u.back more; encoded = u.encoded; long = u.long }, a.2, a.3))
 no_frame_lasts strict before bytes more type reason fits known (inr (inr (inl a))) =
     inr (inr (inl (a.0, begins_on strict bytes more a.0 _ _ fits (λ back bounds none. none) a.1, a.2, a.3)))
 no_frame_lasts strict before bytes more type reason fits known (inr (inr (inr a))) =

@@ -1,11 +1,11 @@
--- The values that a field can spell, and the shortest of the spellings.
+-- The values that a field can encode, and the shortest of the encodings.
 use Rattle.std.proofs.Common.{◌≡◌, ℕ, ◌+◌, ◌-◌, ◌*◌, ◌^◌, ◌<◌, ◌≤◌, true, List, [], ◌∷◌, ◌++◌, length, refl, sym, ap, subst, ◌∙◌, append_assoc, inl, inr, arith}
 use Rattle.std.specs.Prelude.{⊤}
 use Rattle.std.proofs.lemmas.Bool.{cases_lt}
 use Rattle.std.proofs.lemmas.List.{length-append, append-nil}
 use Rattle.quic_base.specs.Number.{IsNumber, num, bytes_of}
-use Rattle.quic_base.specs.Varint.{Spells, short}
-use Rattle.quic_base.proofs.PublicLaws.{short_spells, short_least, spelled_bound, is_number_8, num_injective, num_below}
+use Rattle.quic_base.specs.Varint.{Encodes, short}
+use Rattle.quic_base.proofs.PublicLaws.{shortest_encodes, short_least, encoded_bound, is_number_8, num_injective, num_below}
 use Rattle.quic_frame_parts.specs.Field.{Value, Number, Bytes, Ranges, Field, Varint, Counted, Id, Eight, Sixteen, Blocks, Rest, Unwritten, Ordered, is_ordered, greatest_of, AreBelow, AreBlocks, AreApart, IsField, AreFields}
 use Rattle.quic_frame_parts.specs.Shortest.{shortest_below, shortest_of, values_after, shortest_fields}
 use Rattle.quic_frames.specs.Least.{AreOrExceed}
@@ -24,18 +24,18 @@ at_most bytes least (inr lt) = omega (arith, lt)
 
 -- ---- numbers
 
--- A number's spelling is the shortest one, or longer.
-pub number_least : (n : ℕ) (bytes : List ℕ) → Spells n bytes → Spells n (short n) × AreOrExceed bytes (short n)
+-- A number's encoding is the shortest one, or longer.
+pub number_least : (n : ℕ) (bytes : List ℕ) → Encodes n bytes → Encodes n (short n) × AreOrExceed bytes (short n)
 number_least n bytes s =
     let l = short_least n bytes s in (
-      short_spells n (spelled_bound n bytes s).0,
+      shortest_encodes n (encoded_bound n bytes s).0,
       elim (cases_lt (length (short n)) (length bytes)) [
         | inl lt ↦ inr lt
         | inr le ↦ inl (l.1 (omega (arith, l.0, le)))
       ],
     )
 
--- a number of eight bytes has no other spelling
+-- a number of eight bytes has no other encoding
 eight_bound : (n : ℕ) (bytes : List ℕ) → IsNumber 8 n bytes → n < 2 ^ 64
 eight_bound n bytes s =
     let below : num bytes < 256 ^ 8 = subst (λ (k : ℕ). num bytes < 256 ^ k) s.width (num_below bytes s.bytes) in
@@ -48,7 +48,7 @@ eight_once n bytes s =
 
 -- ---- ranges
 
--- Of ranges below a range with the least number low, each number on the wire has a spelling.
+-- Of ranges below a range with the least number low, each number on the wire has a encoding.
 abbrev pub FitBelow : ℕ → List (ℕ × ℕ) → Type 0
 FitBelow low [] = ⊤
 FitBelow low (range ∷ ranges) =
@@ -76,24 +76,24 @@ below_fit range (below ∷ ranges) lt a =
     let small : below.1 < 2 ^ 62 = omega (arith, lt, a.0, a.1) in
     (first, a.1, omega (arith, lt, a.0), omega (arith, small), below_fit below ranges small a.2)
 
--- ranges that never touch, from a number that has a spelling
+-- ranges that never touch, from a number that has a encoding
 pub blocks_fit : (range : ℕ × ℕ) (ranges : List (ℕ × ℕ)) → range.1 < 2 ^ 62 → AreApart (range ∷ ranges) → FitBlocks range.1 (range ∷ ranges)
 blocks_fit range ranges lt a =
     let first = apart_first range ranges a in
     (omega (arith, apart_few range ranges a, first, lt), refl, first, omega (arith, lt), below_fit range ranges lt a)
 
-below_spelled : (low : ℕ) (ranges : List (ℕ × ℕ)) → FitBelow low ranges → AreBelow low ranges (shortest_below low ranges)
-below_spelled low [] f = refl
-below_spelled low (range ∷ ranges) f = (
+below_encoded : (low : ℕ) (ranges : List (ℕ × ℕ)) → FitBelow low ranges → AreBelow low ranges (shortest_below low ranges)
+below_encoded low [] f = refl
+below_encoded low (range ∷ ranges) f = (
   short (low - (range.1 + 2)),
   short (range.1 - range.0),
   shortest_below range.0 ranges,
   refl,
   f.0,
   f.1,
-  short_spells (low - (range.1 + 2)) f.2,
-  short_spells (range.1 - range.0) f.3,
-  below_spelled range.0 ranges f.4,
+  shortest_encodes (low - (range.1 + 2)) f.2,
+  shortest_encodes (range.1 - range.0) f.3,
+  below_encoded range.0 ranges f.4,
 )
 
 below_least : (low : ℕ) (ranges : List (ℕ × ℕ)) (bytes : List ℕ) → AreBelow low ranges bytes → FitBelow low ranges × AreOrExceed bytes (shortest_below low ranges)
@@ -105,7 +105,7 @@ below_least low (range ∷ ranges) bytes s =
     let short_gap = short (low - (range.1 + 2)) in
     let short_block = short (range.1 - range.0) in
     let short_others = shortest_below range.0 ranges in (
-      (s.4, s.5, (spelled_bound (low - (range.1 + 2)) s.0 s.6).0, (spelled_bound (range.1 - range.0) s.1 s.7).0, others.0),
+      (s.4, s.5, (encoded_bound (low - (range.1 + 2)) s.0 s.6).0, (encoded_bound (range.1 - range.0) s.1 s.7).0, others.0),
       subst (λ (l : List ℕ). AreOrExceed l (short_gap ++ (short_block ++ short_others))) (sym s.3)
           (both_least short_gap (short_block ++ short_others) s.0 (s.1 ++ s.2) gap.1 (both_least short_block short_others s.1 s.2 block.1 others.1)),
     )
@@ -131,44 +131,44 @@ AllFit (Ordered ∷ fields) before values = (is_ordered before ≡ true) × AllF
 AllFit (field ∷ fields) before [] = ⊥
 AllFit (field ∷ fields) before (value ∷ values) = Fits field before value × AllFit fields (before ++ value ∷ []) values
 
--- the shortest spelling of a field is one
-pub value_spelled : (field : Field) (before : List Value) (value : Value) (others : List Value) → Fits field before value
+-- the shortest encoding of a field is one
+pub value_encoded : (field : Field) (before : List Value) (value : Value) (others : List Value) → Fits field before value
     → IsField field before (value ∷ []) (shortest_of field (value ∷ others)) × (values_after field (value ∷ others) ≡ others)
-value_spelled Varint before (Number n) others f = ((n, refl, short_spells n f), refl)
-value_spelled Counted before (Bytes bytes) others f = ((short (length bytes), bytes, refl, short_spells (length bytes) f, refl), refl)
-value_spelled Id before (Bytes bytes) others f = ((bytes, refl, f.0, f.1, refl), refl)
-value_spelled Eight before (Number n) others f = ((n, refl, is_number_8 n f), refl)
-value_spelled Sixteen before (Bytes bytes) others f = ((refl, f), refl)
-value_spelled Blocks before (Ranges (range ∷ ranges)) others f =
+value_encoded Varint before (Number n) others f = ((n, refl, shortest_encodes n f), refl)
+value_encoded Counted before (Bytes bytes) others f = ((short (length bytes), bytes, refl, shortest_encodes (length bytes) f, refl), refl)
+value_encoded Id before (Bytes bytes) others f = ((bytes, refl, f.0, f.1, refl), refl)
+value_encoded Eight before (Number n) others f = ((n, refl, is_number_8 n f), refl)
+value_encoded Sixteen before (Bytes bytes) others f = ((refl, f), refl)
+value_encoded Blocks before (Ranges (range ∷ ranges)) others f =
     let block = short (range.1 - range.0) in
     let below = shortest_below range.0 ranges in
-    let spelled : AreBlocks (greatest_of before) (range ∷ ranges) (block ++ below) = (block, below, refl, f.1, f.2, short_spells (range.1 - range.0) f.3, below_spelled range.0 ranges f.4) in
-    ((short (length ranges), block ++ below, range, ranges, refl, refl, short_spells (length ranges) f.0, spelled), refl)
-value_spelled Rest before (Bytes bytes) others f = (refl, refl)
-value_spelled (Unwritten n) before (Number m) others f = ((ap (λ (k : ℕ). Number k ∷ []) f, refl), refl)
-value_spelled field before value others f = absurd f
+    let encoded : AreBlocks (greatest_of before) (range ∷ ranges) (block ++ below) = (block, below, refl, f.1, f.2, shortest_encodes (range.1 - range.0) f.3, below_encoded range.0 ranges f.4) in
+    ((short (length ranges), block ++ below, range, ranges, refl, refl, shortest_encodes (length ranges) f.0, encoded), refl)
+value_encoded Rest before (Bytes bytes) others f = (refl, refl)
+value_encoded (Unwritten n) before (Number m) others f = ((ap (λ (k : ℕ). Number k ∷ []) f, refl), refl)
+value_encoded field before value others f = absurd f
 
-spelled_then : (field : Field) (fields : List Field) (before : List Value) (value : Value) (values : List Value) → Fits field before value
+encoded_then : (field : Field) (fields : List Field) (before : List Value) (value : Value) (values : List Value) → Fits field before value
     → AreFields fields (before ++ value ∷ []) ((before ++ value ∷ []) ++ values) (shortest_fields fields values)
     → AreFields (field ∷ fields) before (before ++ value ∷ values) (shortest_of field (value ∷ values) ++ shortest_fields fields (values_after field (value ∷ values)))
-spelled_then field fields before value values f s =
-    let one = value_spelled field before value values f in
+encoded_then field fields before value values f s =
+    let one = value_encoded field before value values f in
     let others : AreFields fields (before ++ value ∷ []) (before ++ value ∷ values) (shortest_fields fields (values_after field (value ∷ values))) =
     subst (λ (after : List Value). AreFields fields (before ++ value ∷ []) after (shortest_fields fields (values_after field (value ∷ values)))) (append_assoc before (value ∷ []) values)
     (subst (λ (left : List Value). AreFields fields (before ++ value ∷ []) ((before ++ value ∷ []) ++ values) (shortest_fields fields left)) (sym one.1) s) in
     (value ∷ [], shortest_of field (value ∷ values), shortest_fields fields (values_after field (value ∷ values)), refl, one.0, others)
 
--- The shortest spellings of fields with values that fit are spellings.
-pub fields_spelled : (fields : List Field) (before values : List Value) → AllFit fields before values → AreFields fields before (before ++ values) (shortest_fields fields values)
-fields_spelled [] before values f = (ap (λ (l : List Value). before ++ l) f ∙ append-nil before, refl)
-fields_spelled (Ordered ∷ fields) before values f =
+-- The shortest encodings of fields with values that fit are encodings.
+pub fields_encoded : (fields : List Field) (before values : List Value) → AllFit fields before values → AreFields fields before (before ++ values) (shortest_fields fields values)
+fields_encoded [] before values f = (ap (λ (l : List Value). before ++ l) f ∙ append-nil before, refl)
+fields_encoded (Ordered ∷ fields) before values f =
     let others : AreFields fields (before ++ []) (before ++ values) (shortest_fields fields values) =
-    subst (λ (l : List Value). AreFields fields l (before ++ values) (shortest_fields fields values)) (sym (append-nil before)) (fields_spelled fields before values f.1) in
+    subst (λ (l : List Value). AreFields fields l (before ++ values) (shortest_fields fields values)) (sym (append-nil before)) (fields_encoded fields before values f.1) in
     ([], [], shortest_fields fields values, refl, (refl, refl, f.0), others)
-fields_spelled (field ∷ fields) before [] f = absurd f
-fields_spelled (field ∷ fields) before (value ∷ values) f = spelled_then field fields before value values f.0 (fields_spelled fields (before ++ value ∷ []) values f.1)
+fields_encoded (field ∷ fields) before [] f = absurd f
+fields_encoded (field ∷ fields) before (value ∷ values) f = encoded_then field fields before value values f.0 (fields_encoded fields (before ++ value ∷ []) values f.1)
 
--- what a field that is spelled has: its values fit before others that do, and no spelling is shorter than the shortest
+-- what a field that is encoded has: its values fit before others that do, and no encoding is shorter than the shortest
 pub record LeastField (field : Field) (before values others : List Value) (bytes : List ℕ) : Type 0 where
   pub fits : (fields : List Field) → AllFit fields (before ++ values) others → AllFit (field ∷ fields) before (values ++ others)
   pub least : AreOrExceed bytes (shortest_of field (values ++ others))
@@ -178,12 +178,12 @@ pub field_least : (field : Field) (before values others : List Value) (bytes : L
 field_least Varint before values others bytes s =
     let a = number_least s.0 bytes s.2 in
     subst (λ (v : List Value). LeastField Varint before v others bytes) (sym s.1)
-    (record { fits = λ fields f. ((spelled_bound s.0 bytes s.2).0, f); least = a.1; others_left = refl })
+    (record { fits = λ fields f. ((encoded_bound s.0 bytes s.2).0, f); least = a.1; others_left = refl })
 field_least Counted before values others bytes s =
     let a = number_least (length s.1) s.0 s.3 in
     subst (λ (v : List Value). LeastField Counted before v others bytes) (sym s.2)
     (record {
-      fits = λ fields f. ((spelled_bound (length s.1) s.0 s.3).0, f);
+      fits = λ fields f. ((encoded_bound (length s.1) s.0 s.3).0, f);
       least = subst (λ (l : List ℕ). AreOrExceed l (short (length s.1) ++ s.1)) (sym s.4) (both_least (short (length s.1)) s.1 s.0 s.1 a.1 (inl refl));
       others_left = refl;
     })
@@ -209,7 +209,7 @@ field_least Blocks before values others bytes s =
     let short_below = shortest_below range.0 ranges in
     subst (λ (v : List Value). LeastField Blocks before v others bytes) (sym s.4)
     (record {
-      fits = λ fields f. (((spelled_bound (length ranges) s.0 s.6).0, b.3, b.4, (spelled_bound (range.1 - range.0) b.0 b.5).0, below.0), f);
+      fits = λ fields f. (((encoded_bound (length ranges) s.0 s.6).0, b.3, b.4, (encoded_bound (range.1 - range.0) b.0 b.5).0, below.0), f);
       least = subst (λ (l : List ℕ). AreOrExceed l (short_count ++ (short_block ++ short_below))) (sym (s.5 ∙ ap (λ (l : List ℕ). s.0 ++ l) b.2))
           (both_least short_count (short_block ++ short_below) s.0 (b.0 ++ b.1) count.1 (both_least short_block short_below b.0 b.1 block.1 below.1));
       others_left = refl;

@@ -1,11 +1,11 @@
--- The shortest spelling of each frame at its place: it is one, and no other is as short.
+-- The shortest encoding of each frame at its place: it is one, and no other is as short.
 use Rattle.std.proofs.Common.{◌≡◌, ℕ, ◌+◌, ◌^◌, ◌<◌, ◌≤◌, Bool, true, false, eqb, cond, List, [], ◌∷◌, ◌++◌, length, Option, Some, refl, sym, ap, subst, ◌∙◌, inl, inr, arith}
 use Rattle.std.specs.Prelude.{⊤, ◌⊎◌, not}
 use Rattle.std.specs.Map.{lookup}
 use Rattle.std.proofs.lemmas.List.{length-append, append-nil}
 use Rattle.std.proofs.lemmas.Bool.Decides.{nat_tests}
-use Rattle.quic_base.specs.Varint.{Spells, short, size}
-use Rattle.quic_base.proofs.PublicLaws.{short_spells, length-short, spelled_bound}
+use Rattle.quic_base.specs.Varint.{Encodes, short, size}
+use Rattle.quic_base.proofs.PublicLaws.{shortest_encodes, length-short, encoded_bound}
 use Rattle.quic_base.specs.declared.ids.Dir.{Dir}
 use Rattle.quic_base.specs.declared.ids.Dir.TheVariants.{Bi, Uni}
 use Rattle.quic_base.specs.Ids.{dir_number}
@@ -17,7 +17,7 @@ use Rattle.quic_frame_parts.specs.Shortest.{shortest_fields, shortest_row, writt
 use Rattle.quic_frames.specs.Least.{AreOrExceed, as_written}
 use Rattle.quic_frame_parts.proofs.Steps.{true_is_not_false}
 use Rattle.quic_frame_parts.proofs.Varints.{varint_some}
-use Rattle.quic_frames.proofs.LeastFields.{both_least, at_most, number_least, AllFit, fields_spelled, fields_least}
+use Rattle.quic_frames.proofs.LeastFields.{both_least, at_most, number_least, AllFit, fields_encoded, fields_least}
 
 -- The type has a row of the frame's name, and the frame's values fit its fields. A frame that takes all that is left
 -- is the last.
@@ -29,17 +29,17 @@ pub record FitsRow (last : Bool) (t : ℕ) (frame : Meaning) : Type 0 where
   pub name : frame.name ≡ row.name
   pub fields : AllFit row.fields [] frame.values
 
--- A frame that fits the row of the type by which it is written is spelled by its shortest spelling.
-pub frame_spelled : (strict last : Bool) (frame : Meaning) → FitsRow last (written_type last frame.name frame.values) frame → IsFrame strict (as_written last frame) (shortest_frame last frame)
+-- A frame that fits the row of the type by which it is written is encoded by its shortest encoding.
+pub frame_encoded : (strict last : Bool) (frame : Meaning) → FitsRow last (written_type last frame.name frame.values) frame → IsFrame strict (as_written last frame) (shortest_frame last frame)
 unfolding shortest_frame
-frame_spelled strict last frame f =
+frame_encoded strict last frame f =
     let t = written_type last frame.name frame.values in
-    let fields = fields_spelled f.row.fields [] frame.values f.fields in
+    let fields = fields_encoded f.row.fields [] frame.values f.fields in
     record {
       type_bytes = short t;
       field_bytes = shortest_row (row_of t) frame.values;
       parts = refl;
-      type_spelled = record { spelled = short_spells t f.small; shortest = λ _. refl };
+      type_encoded = record { encoded = shortest_encodes t f.small; shortest = λ _. refl };
       row = f.row;
       in_table = f.in_table;
       name = f.name;
@@ -72,7 +72,7 @@ pub record LeastFrame (last : Bool) (frame : Meaning) (bytes : List ℕ) : Type 
 
 -- bytes of a frame of this type, which is the last where it takes all that is left
 record Stands (last : Bool) (t : ℕ) (r : Row) (values : List Value) (type_bytes field_bytes : List ℕ) : Type 0 where
-  type_spelled : Spells t type_bytes
+  type_encoded : Encodes t type_bytes
   in_table : row_of t ≡ Some r
   fields : AreFields r.fields [] values field_bytes
   closed : is_open t ≡ true → last ≡ true
@@ -86,14 +86,14 @@ same_type : (last : Bool) (t : ℕ) (r : Row) (values : List Value) (type_bytes 
 unfolding shortest_frame
 same_type last t r values type_bytes field_bytes s e =
     let a = fields_least r.fields [] values field_bytes s.fields in
-    let n = number_least t type_bytes s.type_spelled in
+    let n = number_least t type_bytes s.type_encoded in
     let least : AreOrExceed field_bytes (shortest_fields r.fields values) = subst (λ (v : List Value). AreOrExceed field_bytes (shortest_fields r.fields v)) (sym a.grown) a.least in
     let fits : AllFit r.fields [] values = subst (AllFit r.fields []) (sym a.grown) a.fits in
     let whole : shortest_frame last (frame_of r.name values) ≡ short t ++ shortest_fields r.fields values =
     ap (λ (u : ℕ). short u ++ shortest_row (row_of u) values) e ∙ ap (λ (o : Option Row). short t ++ shortest_row o values) s.in_table in
     record {
       fits = subst (λ (u : ℕ). FitsRow last u (frame_of r.name values)) (sym e)
-          (record { small = (spelled_bound t type_bytes s.type_spelled).0; closed = s.closed; row = r; in_table = s.in_table; name = refl; fields = fits });
+          (record { small = (encoded_bound t type_bytes s.type_encoded).0; closed = s.closed; row = r; in_table = s.in_table; name = refl; fields = fits });
       least = subst (AreOrExceed (type_bytes ++ field_bytes)) (sym whole) (both_least (short t) (shortest_fields r.fields values) type_bytes field_bytes n.1 least);
     }
 
@@ -124,11 +124,11 @@ other_type last t r values type_bytes field_bytes e h fields some lt =
 
 abbrev IsOffset : Bool → ℕ → List ℕ → Type 0
 IsOffset true offset bytes = (offset ≡ 0) × (bytes ≡ [])
-IsOffset false offset bytes = Spells offset bytes
+IsOffset false offset bytes = Encodes offset bytes
 
 abbrev IsContent : Bool → List ℕ → List ℕ → Type 0
 IsContent true content bytes = bytes ≡ content
-IsContent false content bytes = (front : List ℕ) × Spells (length content) front × (bytes ≡ front ++ content)
+IsContent false content bytes = (front : List ℕ) × Encodes (length content) front × (bytes ≡ front ++ content)
 
 offset_stands : (at_start : Bool) (before values : List Value) (bytes : List ℕ) → IsField (offset_field (not at_start)) before values bytes → (offset : ℕ) × (values ≡ Number offset ∷ []) × IsOffset at_start offset bytes
 offset_stands true before values bytes s = (0, s.0, (refl, s.1))
@@ -149,12 +149,12 @@ record Better (stood : Bool) (written : Bool) (least bytes : List ℕ) : Type 0 
   no_longer : length least ≤ length bytes
   shorter : (stood ≡ written) ⊎ (length least < length bytes)
 
-short_enough : (n : ℕ) (bytes : List ℕ) → Spells n bytes → length (short n) ≤ length bytes
+short_enough : (n : ℕ) (bytes : List ℕ) → Encodes n bytes → length (short n) ≤ length bytes
 short_enough n bytes s = at_most bytes (short n) (number_least n bytes s).1
 
 better_offset : (at_start : Bool) (offset : ℕ) (bytes : List ℕ) → IsOffset at_start offset bytes → (offset < 2 ^ 62) × Better at_start (eqb offset 0) (least_offset (eqb offset 0) offset) bytes
 better_offset true offset bytes s = (omega (arith, s.0), subst (λ (k : ℕ). Better true (eqb k 0) (least_offset (eqb k 0) k) bytes) (sym s.0) (record { no_longer = omega arith; shorter = inl refl }))
-better_offset false offset bytes s = ((spelled_bound offset bytes s).0, by_test (eqb offset 0))
+better_offset false offset bytes s = ((encoded_bound offset bytes s).0, by_test (eqb offset 0))
   where
     by_test : (b : Bool) → Better false b (least_offset b offset) bytes
     by_test true = record { no_longer = omega arith; shorter = inr (varint_some offset bytes s) }
@@ -170,7 +170,7 @@ better_content false true content bytes closed s =
 better_content false false content bytes closed s =
     let le = short_enough (length content) s.0 s.1 in
     let sizes = ap length s.2 ∙ length-append s.0 content in (
-      λ e. (spelled_bound (length content) s.0 s.1).0,
+      λ e. (encoded_bound (length content) s.0 s.1).0,
       record { no_longer = omega (arith, le, sizes, length-append (short (length content)) content); shorter = inl refl },
     )
 
@@ -203,7 +203,7 @@ record StreamParts (at_start end fin : Bool) (values : List Value) (bytes : List
   content_bytes : List ℕ
   are : values ≡ stream_values fin id offset content
   parts : bytes ≡ id_bytes ++ (offset_bytes ++ content_bytes)
-  id_is : Spells id id_bytes
+  id_is : Encodes id id_bytes
   offset_is : IsOffset at_start offset offset_bytes
   content_is : IsContent end content content_bytes
 
@@ -279,14 +279,14 @@ stream_least at_start end fin last values type_bytes field_bytes s =
     let row = stream_row (not start) (not last) fin in
     let type_is : written_type last Stream values ≡ stream_type start last fin = ap (written_type last Stream) p.are in
     let fields : AllFit row.fields [] values =
-    subst (AllFit row.fields []) (sym p.are) (stream_fits start last fin p.id p.offset p.content refl (spelled_bound p.id p.id_bytes p.id_is).0 o.0 d.0) in
+    subst (AllFit row.fields []) (sym p.are) (stream_fits start last fin p.id p.offset p.content refl (encoded_bound p.id p.id_bytes p.id_is).0 o.0 d.0) in
     let sizes : length (shortest_fields row.fields values) ≡ length (short p.id) + (length (least_offset start p.offset) + length (least_content last p.content)) =
     ap (λ (v : List Value). length (shortest_fields row.fields v)) p.are ∙ ap length (stream_bytes start last fin p.id p.offset p.content)
     ∙ lengths (short p.id) (least_offset start p.offset) (least_content last p.content) in
     let stood : length field_bytes ≡ length p.id_bytes + (length p.offset_bytes + length p.content_bytes) = ap length p.parts ∙ lengths p.id_bytes p.offset_bytes p.content_bytes in
     let id_le = short_enough p.id p.id_bytes p.id_is in
     let other : length (shortest_fields row.fields values) < length field_bytes → LeastFrame last (frame_of Stream values) (type_bytes ++ field_bytes) =
-    λ lt. other_type last (stream_type start last fin) row values type_bytes field_bytes type_is (stream_type_is start last fin) fields (varint_some (stream_type at_start end fin) type_bytes s.type_spelled) lt in
+    λ lt. other_type last (stream_type start last fin) row values type_bytes field_bytes type_is (stream_type_is start last fin) fields (varint_some (stream_type at_start end fin) type_bytes s.type_encoded) lt in
     elim o.1.shorter [
       | inr lt ↦ other (omega (arith, sizes, stood, id_le, lt, d.1.no_longer))
       | inl same ↦ elim d.1.shorter [
@@ -338,7 +338,7 @@ datagram_least end last values type_bytes field_bytes s =
     ap (λ (v : List Value). length (shortest_fields row.fields v)) are ∙ ap length (datagram_bytes last content) in
     elim d.1.shorter [
       | inr lt ↦ other_type last (datagram_type last) row values type_bytes field_bytes refl (datagram_type_is last) fields
-          (varint_some (datagram_type end) type_bytes s.type_spelled) (omega (arith, sizes, stood, lt))
+          (varint_some (datagram_type end) type_bytes s.type_encoded) (omega (arith, sizes, stood, lt))
       | inl same ↦ same_type last (datagram_type end) (datagram_row (not end)) values type_bytes field_bytes s (ap datagram_type (sym same))
     ]
 
@@ -387,7 +387,7 @@ pub frame_least : (last : Bool) (found : Found) (bytes : List ℕ) → IsFrame f
 frame_least last found bytes f closed =
     let least = found_row IsLeastRow found.type f.row rows each_least f.in_table in
     let stands : Stands last found.type f.row found.frame.values f.type_bytes f.field_bytes =
-    record { type_spelled = f.type_spelled.spelled; in_table = f.in_table; fields = f.fields; closed = closed } in
+    record { type_encoded = f.type_encoded.encoded; in_table = f.in_table; fields = f.fields; closed = closed } in
     let frame_is : frame_of f.row.name found.frame.values ≡ found.frame = ap (λ (n : Name). frame_of n found.frame.values) (sym f.name) in
     subst (λ (l : List ℕ). LeastFrame last found.frame l) (sym f.parts)
     (subst (λ (m : Meaning). LeastFrame last m (f.type_bytes ++ f.field_bytes)) frame_is (least last found.frame.values f.type_bytes f.field_bytes stands))

@@ -1,4 +1,4 @@
--- Frames one after the other: the shortest of their spellings.
+-- Frames one after the other: the shortest of their encodings.
 use Rattle.std.proofs.Common.{◌≡◌, ℕ, Bool, true, false, List, [], ◌∷◌, ◌++◌, length, map, refl, sym, ap, subst, inl, arith}
 use Rattle.std.specs.Prelude.{⊤}
 use Rattle.std.proofs.lemmas.List.{length-append}
@@ -7,7 +7,7 @@ use Rattle.quic_frame_parts.specs.Shortest.{written_type, shortest_frame}
 use Rattle.quic_frames.specs.Least.{AreOrExceed, is_end, shortest_frames, frame_in, all_written}
 use Rattle.quic_frames.proofs.Items.{frame_some}
 use Rattle.quic_frames.proofs.LeastFields.{both_least}
-use Rattle.quic_frames.proofs.LeastFrames.{FitsRow, frame_spelled, frame_least}
+use Rattle.quic_frames.proofs.LeastFrames.{FitsRow, frame_encoded, frame_least}
 
 -- Each frame fits the row of its type at its place.
 abbrev pub FitRows : List Meaning → Type 0
@@ -18,17 +18,17 @@ nothing_after : (frames : List Meaning) → is_end frames ≡ true → shortest_
 nothing_after [] e = refl
 nothing_after (frame ∷ frames) e = absurd cc
 
--- Such frames are spelled by their shortest spellings.
-pub frames_spelled : (strict : Bool) (frames : List Meaning) → FitRows frames → AreFrames strict (all_written frames) (shortest_frames frames)
-frames_spelled strict [] f = refl
-frames_spelled strict (frame ∷ frames) f =
+-- Such frames are encoded by their shortest encodings.
+pub frames_encoded : (strict : Bool) (frames : List Meaning) → FitRows frames → AreFrames strict (all_written frames) (shortest_frames frames)
+frames_encoded strict [] f = refl
+frames_encoded strict (frame ∷ frames) f =
     let last = is_end frames in (
       shortest_frame last frame,
       shortest_frames frames,
       refl,
-      frame_spelled strict last frame f.0,
+      frame_encoded strict last frame f.0,
       (λ opens. nothing_after frames (f.0.closed opens)),
-      frames_spelled strict frames f.1,
+      frames_encoded strict frames f.1,
     )
 
 pub frames_written : (frames : List Meaning) → map frame_in (all_written frames) ≡ frames
@@ -44,7 +44,7 @@ pub record LeastFrames (frames : List Meaning) (bytes : List ℕ) : Type 0 where
   pub fit : FitRows frames
   pub least : AreOrExceed bytes (shortest_frames frames)
 
--- Frames that are spelled fit their rows, and no other spelling is as short as the shortest.
+-- Frames that are encoded fit their rows, and no other encoding is as short as the shortest.
 pub frames_least : (found : List Found) (bytes : List ℕ) → AreFrames false found bytes → LeastFrames (map frame_in found) bytes
 frames_least [] bytes s = record { fit = tt; least = inl s }
 frames_least (found ∷ others) bytes s =

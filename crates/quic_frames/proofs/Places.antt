@@ -118,7 +118,7 @@ cut_stands strict payload offset stop found rest c =
     record {
       some = c.some;
       within = c.within;
-      spelled = subst (λ (l : List ℕ). IsFrame strict found l) (sym here) c.frame;
+      encoded = subst (λ (l : List ℕ). IsFrame strict found l) (sym here) c.frame;
       borrowed = λ bytes e.
           elim (all_end_in c.frame.row.fields [] found.frame.values c.frame.field_bytes bytes c.frame.fields e) [
             | inl none ↦ absurd (let h = none.0 in cc)

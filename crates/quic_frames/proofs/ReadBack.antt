@@ -30,8 +30,8 @@ use Rattle.quic_frames.specs.InRange.{InRange, IsTyped, AreTyped, CanStand, CanF
 use Rattle.quic_frame_parts.proofs.Steps.{true_is_not_false}
 use Rattle.quic_frame_parts.proofs.Apart.{acked_apart}
 use Rattle.quic_frames.proofs.LeastFields.{FitBlocks, AllFit, blocks_fit}
-use Rattle.quic_frames.proofs.LeastFrames.{FitsRow, frame_spelled, stream_row_fits, datagram_row_fits}
-use Rattle.quic_frames.proofs.LeastPayloads.{FitRows, frames_spelled}
+use Rattle.quic_frames.proofs.LeastFrames.{FitsRow, frame_encoded, stream_row_fits, datagram_row_fits}
+use Rattle.quic_frames.proofs.LeastPayloads.{FitRows, frames_encoded}
 
 -- a frame whose type is that of a row
 of_row : {last : Bool} {t : ℕ} {r : Row} {values : List Value} → t < 2 ^ 62 → is_open t ≡ false → row_of t ≡ Some r → AllFit r.fields [] values → FitsRow last t (frame_of r.name values)
@@ -97,7 +97,7 @@ frame_fits last (frames.AckFrequency f) t c = of_row (omega arith) refl refl (t.
 
 -- What is written of a frame is read back as this frame.
 pub frame_read_back : (strict last : Bool) (frame : Frame) → IsTyped frame → CanStand last frame → IsFrame strict (as_written last (meaning_of frame)) (shortest_frame last (meaning_of frame))
-frame_read_back strict last frame t c = frame_spelled strict last (meaning_of frame) (frame_fits last frame t c)
+frame_read_back strict last frame t c = frame_encoded strict last (meaning_of frame) (frame_fits last frame t c)
 
 end_of_map : (fs : List Frame) → is_end fs ≡ is_end (map meaning_of fs)
 end_of_map [] = refl
@@ -108,7 +108,7 @@ frames_fit [] t c = tt
 frames_fit (frame ∷ fs) t c = (frame_fits (is_end (map meaning_of fs)) frame t.0 (subst (λ (last : Bool). CanStand last frame) (end_of_map fs) c.0), frames_fit fs t.1 c.1)
 
 pub frames_read_back : (strict : Bool) (fs : List Frame) → AreTyped fs → CanFollow fs → AreFrames strict (all_written (map meaning_of fs)) (shortest_frames (map meaning_of fs))
-frames_read_back strict fs t c = frames_spelled strict (map meaning_of fs) (frames_fit fs t c)
+frames_read_back strict fs t c = frames_encoded strict (map meaning_of fs) (frames_fit fs t c)
 
 -- An ACK of a set is read back as that.
 ranges_of_set : (ranges : List (ℕ × ℕ)) → ranges ≢ [] → greatest_in ranges < 2 ^ 62 → AreApart ranges → FitBlocks (greatest_in ranges) ranges
@@ -125,5 +125,5 @@ set_read_back strict last delay runs counts maximal some members late e =
     let ranges = ranges_in runs in
     let greatest = is_greatest runs some maximal in
     let high = members (greatest_in ranges) greatest.present in
-    frame_spelled strict last (ack_of delay runs counts)
+    frame_encoded strict last (ack_of delay runs counts)
     (ack_row_fits last (greatest_in ranges) delay ranges counts high late (ranges_of_set ranges (some_ranges runs some) high (are_apart runs maximal)) e)

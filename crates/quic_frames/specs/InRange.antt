@@ -14,7 +14,7 @@ abbrev pub IsToldApart : Frame → Type 0
 IsToldApart (frames.Close (closes.Connection c)) = c.frame_type ≢ Some 0
 IsToldApart frame = ⊤
 
--- The frame has a spelling, by which it is read as it is: numbers of any width are below 2^62, an id has 1 to 20
+-- The frame has a encoding, by which it is read as it is: numbers of any width are below 2^62, an id has 1 to 20
 -- bytes, and what is retired comes before it; type 0 isn't told from no type (RFC 9000, sections 16, 19.15 and
 -- 19.19). Numbers whose type holds the bound are not named.
 abbrev pub InRange : Frame → Type 0

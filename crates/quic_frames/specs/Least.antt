@@ -1,4 +1,4 @@
--- The least of the spellings of frames.
+-- The least of the encodings of frames.
 use Rattle.std.specs.Prelude.{◌≡◌, ◌⊎◌, ℕ, ◌<◌, List, [], ◌∷◌, ◌++◌, length, Bool, true, false}
 use Rattle.quic_frame_parts.specs.Payload.{Meaning, Found}
 use Rattle.quic_frame_parts.specs.Shortest.{written_type, shortest_frame}

@@ -19,7 +19,7 @@ abbrev pub whole : Placed → Item
 whole p = Whole p.start p.stop p.found
 
 -- The bytes that begin at start are these frames, one after another, an open one last only; it is said whether a type
--- counts in its shortest spelling alone.
+-- counts in its shortest encoding alone.
 abbrev pub ArePlaced : Bool → ℕ → List Placed → List ℕ → Type 0
 ArePlaced strict start [] bytes = bytes ≡ []
 ArePlaced strict start (p ∷ ps) bytes =

@@ -59,7 +59,7 @@ last_bytes before (value ∷ values) = last_bytes (bytes_of_value value) values
 pub record Stands (strict : Bool) (payload : List ℕ) (start stop : ℕ) (found : Found) : Type 0 where
   pub some : start < stop
   pub within : stop ≤ length payload
-  pub spelled : IsFrame strict found (slice_range payload start stop)
+  pub encoded : IsFrame strict found (slice_range payload start stop)
   pub borrowed : (bytes : List ℕ) → last_bytes None found.frame.values ≡ Some bytes → slice_range payload (stop - length bytes) stop ≡ bytes
 
 -- The bytes of an ACK's blocks are those that stand in the bytes of its frame, which has this type.

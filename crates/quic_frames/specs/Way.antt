@@ -1,7 +1,7 @@
 -- What a clause sees of an iterator over a payload.
 use Rattle.std.specs.Prelude.{ℕ, List, Option, Bool}
 
--- whether a type counts in its shortest spelling alone, the payload, the end of the last whole frame, the last type
+-- whether a type counts in its shortest encoding alone, the payload, the end of the last whole frame, the last type
 -- that was read, and whether something was no frame
 pub record Way : Type 0 where
   pub strict : Bool

@@ -8,6 +8,6 @@ use Rattle.quic_frames.specs.declared.frame.Frame.{Frame}
 -- A payload that means these frames, and is the least one that does.
 pub record IsPayload (frames : List Frame) (payload : List ℕ) : Type 0 where
   pub found : List Found
-  pub spelled : AreFrames false found payload
+  pub encoded : AreFrames false found payload
   pub means : map frame_in found ≡ map meaning_of frames
   pub least : (others : List Found) (bytes : List ℕ) → AreFrames false others bytes → map frame_in others ≡ map meaning_of frames → AreOrExceed bytes payload

@@ -29,7 +29,7 @@ ghost use Rattle.quic_frame_parts.specs.declared.frame.fault.Fault.TheVariants.{
 use crate::frame::RETIRE_CONNECTION_ID_SIZE_BOUND;
 
 /// A payload has one reading: it is frames, or frames and then something that is none, and never both.
-/// That holds where types count in any spelling, and where they count in their shortest alone.
+/// That holds where types count in any encoding, and where they count in their shortest alone.
 pub fn one_reading()
     ensures either { (strict : Bool) (bytes : List ℕ) → AreBytes bytes → IsEither strict None bytes }
     ensures one { (strict : Bool) (some others : List Found) (bytes : List ℕ)
@@ -59,7 +59,7 @@ pub fn lasting()
         → IsBroken strict None others bytes type reason → reason ≡ UnexpectedEnd }
 {}
 
-/// What is told of a type in another spelling than its shortest is told of nothing else.
+/// What is told of a type in another encoding than its shortest is told of nothing else.
 pub fn reasons()
     ensures long { reason_text LongType ≡ long_type_reason }
     ensures others { (reason : Fault) → reason ≢ LongType → reason_text reason ≢ long_type_reason }
@@ -97,14 +97,14 @@ pub fn one_list_of_ranges()
         → AreBlocks greatest ranges bytes → AreApart ranges }
 {}
 
-/// The ranges of each ACK are those that its blocks spell (RFC 9000, section 19.3.1). What is said to be read as
-/// blocks spells the ranges that are read, and what spells ranges is read so.
-pub fn ranges_spelled()
+/// The ranges of each ACK are those that its blocks encode (RFC 9000, section 19.3.1). What is said to be read as
+/// blocks encodes the ranges that are read, and what encodes ranges is read so.
+pub fn ranges_encoded()
     ensures held { (ack : Ack) → AreBytes (parts_of ack).additional
         → AreBlocks (parts_of ack).largest (ranges_acked ack) (parts_of ack).additional }
     ensures read { (greatest : ℕ) (bytes : List ℕ) → AreBytes bytes → IsBlocks greatest bytes
         → AreBlocks greatest (ranges_of greatest bytes) bytes }
-    ensures spelled { (greatest : ℕ) (ranges : List (ℕ × ℕ)) (bytes : List ℕ) → AreBlocks greatest ranges bytes
+    ensures encoded { (greatest : ℕ) (ranges : List (ℕ × ℕ)) (bytes : List ℕ) → AreBlocks greatest ranges bytes
         → IsBlocks greatest bytes × (ranges_of greatest bytes ≡ ranges) }
 {}
 
@@ -116,7 +116,7 @@ pub fn set_acknowledged()
     ensures greatest { (runs : List (Range ℕ)) → runs ≢ [] → IsMaximalRuns runs
         → IsGreatest runs (greatest_in (ranges_in runs)) }
     // What is written of it is such an ACK,
-    ensures spelled { (strict last : Bool) (delay : ℕ) (runs : List (Range ℕ)) (counts : Option EcnCounts)
+    ensures encoded { (strict last : Bool) (delay : ℕ) (runs : List (Range ℕ)) (counts : Option EcnCounts)
         → IsMaximalRuns runs → runs ≢ [] → ((n : ℕ) → member runs n ≡ true → n < 2 ^ 62)
         → delay < 2 ^ 62 → AreCounts counts
         → IsFrame strict (as_written last (ack_of delay runs counts)) (shortest_frame last (ack_of delay runs counts)) }
@@ -126,18 +126,18 @@ pub fn set_acknowledged()
         → (ranges_acked ack ≡ ranges_in runs) × ((parts_of ack).delay ≡ delay) × ((parts_of ack).ecn ≡ counts) }
 {}
 
-/// Of all spellings of a frame at its place, and of all payloads of the same frames, the shortest is one,
+/// Of all encodings of a frame at its place, and of all payloads of the same frames, the shortest is one,
 /// and any other is longer. Its types are in their least widths, and an open frame stands last only.
-pub fn least_spelling()
+pub fn least_encoding()
     ensures least { (last : Bool) (found : Found) (bytes : List ℕ) → IsFrame false found bytes
         → (is_open found.type ≡ true → last ≡ true) → AreOrExceed bytes (shortest_frame last found.frame) }
-    ensures spelled { (strict last : Bool) (found : Found) (bytes : List ℕ) → IsFrame false found bytes
+    ensures encoded { (strict last : Bool) (found : Found) (bytes : List ℕ) → IsFrame false found bytes
         → (is_open found.type ≡ true → last ≡ true)
         → IsFrame strict (as_written last found.frame) (shortest_frame last found.frame)
         × (is_open (as_written last found.frame).type ≡ true → last ≡ true) }
     ensures all_least { (found : List Found) (bytes : List ℕ) → AreFrames false found bytes
         → AreOrExceed bytes (shortest_frames (map frame_in found)) }
-    ensures all_spelled { (strict : Bool) (found : List Found) (bytes : List ℕ) → AreFrames false found bytes
+    ensures all_encoded { (strict : Bool) (found : List Found) (bytes : List ℕ) → AreFrames false found bytes
         → AreFrames strict (all_written (map frame_in found)) (shortest_frames (map frame_in found)) }
     ensures same { (frames : List Meaning) → map frame_in (all_written frames) ≡ frames }
 {}
@@ -151,12 +151,12 @@ pub fn read_back()
     ensures all { (strict : Bool) (fs : List Frame) → AreTyped fs → CanFollow fs
         → AreFrames strict (all_written (map meaning_of fs)) (shortest_frames (map meaning_of fs))
         × (map frame_in (all_written (map meaning_of fs)) ≡ map meaning_of fs) }
-    // What is asked of a frame that is written holds of each frame that is spelled.
+    // What is asked of a frame that is written holds of each frame that is encoded.
     ensures exact { (last : Bool) (t : ℕ) (frame : Frame) (bytes : List ℕ) → IsToldApart frame
         → IsFrame false (found_as t frame) bytes → (is_open t ≡ true → last ≡ true) → CanStand last frame }
 {}
 
-/// The head that `StreamMeta::encode` appends, and then the data, are the shortest spelling of the STREAM: of the
+/// The head that `StreamMeta::encode` appends, and then the data, are the shortest encoding of the STREAM: of the
 /// last frame of its payload where the length of the data isn't written, else of a frame that others follow.
 pub fn stream_head_and_data()
     ensures { (last : Bool) (s : Stream)

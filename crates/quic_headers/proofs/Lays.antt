@@ -8,7 +8,7 @@ use Rattle.quic_base.specs.Number.{bytes_of}
 use Rattle.quic_base.specs.Varint.{short, size}
 use Rattle.quic_headers.specs.Laying.{length_in, with_len}
 
--- a number below 64 is spelled by itself
+-- a number below 64 is encoded by itself
 pub short_small : (n : ℕ) → n < 64 → short n ≡ n ∷ []
 unfolding short
 short_small n h = grind (arith, nat_tests)

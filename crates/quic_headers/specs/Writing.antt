@@ -45,7 +45,7 @@ head_with len (header.VersionNegotiate random src dst) = head_front (header.Vers
 abbrev pub header_bytes : Header → List ℕ
 header_bytes h = head_with no_length h
 
--- what is asked of a head that is written: a token whose length has a spelling, and a number that takes no more bytes
+-- what is asked of a head that is written: a token whose length has a encoding, and a number that takes no more bytes
 -- than it says
 abbrev pub IsWritable : Header → Type 0
 IsWritable (header.Initial h) = (length h.token < 2 ^ 62) × IsInRange h.number

@@ -208,7 +208,7 @@ fn lay_some<const SHORT: bool>(out: &mut [u8], at: usize, bytes: &[u8]) -> usize
     }
 }
 
-// Lays a number of 2^6 or more in its shortest spelling, and answers where it ends.
+// Lays a number of 2^6 or more in its shortest encoding, and answers where it ends.
 #[inline(always)]
 #[tactic(auto, unfolding(quic_base::specs::Varint::short, quic_base::specs::Varint::size, quic_base::specs::Number::bytes_of))]
 fn lay_var(out: &mut [u8], at: usize, n: u64) -> usize
@@ -404,7 +404,7 @@ impl<I: LaidId> HeaderRef<'_, I> {
     }
 }
 
-// How many bytes the shortest spelling of a number takes.
+// How many bytes the shortest encoding of a number takes.
 #[inline(always)]
 #[tactic(auto, unfolding(quic_base::specs::Varint::size))]
 fn var_len(n: u64) -> usize

@@ -82,15 +82,15 @@ record Moves (context : Context) (fields : List Field) (before : List Value) (wh
 typed_moves : (context : Context) (whole first len version : ℕ) (dst src left rest : List ℕ) (values : List Value) (h : ProtectedHeader) → IsHead whole first values h → len_in h ≡ Some len
     → (ty : LongHeaderType) → AreFields context (typed_row ty) (id_values version dst src) values left rest → Moves context (typed_row ty) (id_values version dst src) whole first left rest h
 typed_moves context whole first len version dst src left rest values h is has kind.Retry (said, same) = absurd (no_ids whole first len version dst src values h is has said)
-typed_moves context whole first len version dst src left rest values h is has (kind.Standard ty) (v, back, (f, split, (n, is1, spelled)), (said, same)) =
+typed_moves context whole first len version dst src left rest values h is has (kind.Standard ty) (v, back, (f, split, (n, is1, encoded)), (said, same)) =
     let all : values ≡ Number version ∷ Bytes dst ∷ Bytes src ∷ Number n ∷ [] = said ∙ ap (λ (xs : List Value). id_values version dst src ++ xs) is1 in
     record {
       front = f;
       split = split ∙ ap (λ (xs : List ℕ). f ++ xs) same;
-      moved = λ other whole' sum. (values, (v, other, (f, refl, (n, is1, spelled)), (said, refl)), kept whole whole' first version n len dst src values h is has all);
+      moved = λ other whole' sum. (values, (v, other, (f, refl, (n, is1, encoded)), (said, refl)), kept whole whole' first version n len dst src values h is has all);
     }
 typed_moves context whole first len version dst src left rest values h is has kind.Initial
-    (v1, t1, (f1, split1, (count, is1, spelled1)), (v2, t2, (token, split2, (is2, width)), (v3, t3, (f3, split3, (n, is3, spelled3)), (said, same)))) =
+    (v1, t1, (f1, split1, (count, is1, encoded1)), (v2, t2, (token, split2, (is2, width)), (v3, t3, (f3, split3, (n, is3, encoded3)), (said, same)))) =
     let base : List Value = id_values version dst src in
     let all : values ≡ six version dst src count (length t2) n =
     said ∙ (let eq : ((base ++ v1) ++ v2) ++ v3 ≡ ((base ++ Number count ∷ []) ++ Number (length t2) ∷ []) ++ Number n ∷ [] = rw (is1, is2, is3) in eq) in
@@ -105,12 +105,12 @@ typed_moves context whole first len version dst src left rest values h is has ki
         (
           v1,
           token ++ (f3 ++ other),
-          (f1, tail other, (count, is1, spelled1)),
+          (f1, tail other, (count, is1, encoded1)),
           (
             Number (length (f3 ++ other)) ∷ [],
             f3 ++ other,
             (token, refl, (refl, width)),
-            (v3, other, (f3, refl, (n, is3, spelled3)), (ap (λ (xs : List Value). ((base ++ xs) ++ Number (length (f3 ++ other)) ∷ []) ++ Number n ∷ []) (sym is1) ∙ ap (λ (xs : List Value). ((base ++ v1) ++ Number (length (f3 ++ other)) ∷ []) ++ xs) (sym is3), refl)),
+            (v3, other, (f3, refl, (n, is3, encoded3)), (ap (λ (xs : List Value). ((base ++ xs) ++ Number (length (f3 ++ other)) ∷ []) ++ Number n ∷ []) (sym is1) ∙ ap (λ (xs : List Value). ((base ++ v1) ++ Number (length (f3 ++ other)) ∷ []) ++ xs) (sym is3), refl)),
           ),
         ),
         shifted whole whole' first version count (length t2) (length (f3 ++ other)) n len dst src values h is has all

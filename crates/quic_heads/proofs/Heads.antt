@@ -126,12 +126,12 @@ typed_is : (context : Context) (whole first version : ℕ) (dst src left rest : 
 typed_is context whole first version dst src left rest values room some kind.Retry is (said, same) =
     subst (λ (xs : List Value). IsHead whole first xs (made whole first xs)) (sym said)
     (subst (IsHead whole first (id_values version dst src)) (sym (otherwise (nat_eq version 0) _ _ (head.Retry dst src version) (grind (arith, nat_tests)) refl)) (some, is, refl))
-typed_is context whole first version dst src left rest values room some (kind.Standard ty) is (v, back, (f, split, (len, is1, spelled)), (said, same)) =
+typed_is context whole first version dst src left rest values room some (kind.Standard ty) is (v, back, (f, split, (len, is1, encoded)), (said, same)) =
     let all : values ≡ Number version ∷ Bytes dst ∷ Bytes src ∷ Number len ∷ [] = said ∙ ap (λ (xs : List Value). id_values version dst src ++ xs) is1 in
     subst (λ (xs : List Value). IsHead whole first xs (made whole first xs)) (sym all)
     (subst (IsHead whole first (Number version ∷ Bytes dst ∷ Bytes src ∷ Number len ∷ [])) (ap (λ (k : LongHeaderType). long_made k dst src len version) (sym is)) (is, refl))
 typed_is context whole first version dst src left rest values room some kind.Initial is
-    (v1, t1, (f1, split1, (count, is1, spelled1)), (v2, t2, (token, split2, (is2, width)), (v3, t3, (f3, split3, (len, is3, spelled3)), (said, same)))) =
+    (v1, t1, (f1, split1, (count, is1, encoded1)), (v2, t2, (token, split2, (is2, width)), (v3, t3, (f3, split3, (len, is3, encoded3)), (said, same)))) =
     let base : List Value = id_values version dst src in
     let all : values ≡ Number version ∷ Bytes dst ∷ Bytes src ∷ Number count ∷ Number (length t2) ∷ Number len ∷ [] =
     said ∙ (let eq : ((base ++ v1) ++ v2) ++ v3 ≡ ((base ++ Number count ∷ []) ++ Number (length t2) ∷ []) ++ Number len ∷ [] = rw (is1, is2, is3) in eq) in

@@ -3,7 +3,7 @@ use Rattle.std.specs.Prelude.{◌≡◌, ◌≢◌, ℕ, ◌+◌, ◌/◌, ◌%�
 use Rattle.std.proofs.Common.{sym, ap, ◌∙◌, arith, refl, cond, subst, append_assoc}
 use Rattle.std.proofs.lemmas.Bool.Decides.{nat_tests}
 use Rattle.quic_base.specs.Number.{bytes_of, num}
-use Rattle.quic_base.specs.Varint.{Spells}
+use Rattle.quic_base.specs.Varint.{Encodes}
 use Rattle.quic_base.specs.ConnectionId.{long_id}
 use Rattle.quic_base.proofs.PublicLaws as law
 use Rattle.quic_heads.specs.declared.protected.ProtectedHeader.{ProtectedHeader}
@@ -80,24 +80,24 @@ typed_made context whole bytes first version dst src left rest values h ty start
 -- ---- each head
 
 pub long_head : (context : Context) (whole : ℕ) (bytes : List ℕ) (first version : ℕ) (dst src text rest : List ℕ) (ty : LongType) (len : ℕ)
-    → LongStart context bytes first version dst src (text ++ rest) → IsKnown context version → long_type version first ≡ kind.Standard ty → Spells len text
+    → LongStart context bytes first version dst src (text ++ rest) → IsKnown context version → long_type version first ≡ kind.Standard ty → Encodes len text
     → Head context whole bytes (head.Long ty dst src len version) rest
-long_head context whole bytes first version dst src text rest ty len start known type spelled =
+long_head context whole bytes first version dst src text rest ty len start known type encoded =
     typed_made context whole bytes first version dst src (text ++ rest) rest (Number version ∷ Bytes dst ∷ Bytes src ∷ Number len ∷ []) (head.Long ty dst src len version) (kind.Standard ty) start known type
-    (Number len ∷ [], rest, (text, refl, (len, refl, spelled)), (refl, refl)) (type, refl)
+    (Number len ∷ [], rest, (text, refl, (len, refl, encoded)), (refl, refl)) (type, refl)
 
 pub initial_head : (context : Context) (whole : ℕ) (bytes : List ℕ) (first : ℕ) (count token text rest : List ℕ) (h : ProtectedInitialHeader)
     → LongStart context bytes first h.version h.dst_cid h.src_cid (count ++ (token ++ (text ++ rest))) → IsKnown context h.version → long_type h.version first ≡ kind.Initial
-    → Spells (length token) count → Spells h.len text → h.token_pos.end + length (text ++ rest) ≡ whole → h.token_pos.start + length token ≡ h.token_pos.end
+    → Encodes (length token) count → Encodes h.len text → h.token_pos.end + length (text ++ rest) ≡ whole → h.token_pos.start + length token ≡ h.token_pos.end
     → Head context whole bytes (head.Initial h) rest
-initial_head context whole bytes first count token text rest h start known type counted spelled stop from =
+initial_head context whole bytes first count token text rest h start known type counted encoded stop from =
     let left : ℕ = length (text ++ rest) in
     typed_made context whole bytes first h.version h.dst_cid h.src_cid (count ++ (token ++ (text ++ rest))) rest
     (Number h.version ∷ Bytes h.dst_cid ∷ Bytes h.src_cid ∷ Number (length token) ∷ Number left ∷ Number h.len ∷ []) (head.Initial h) kind.Initial start known type (
       Number (length token) ∷ [],
       token ++ (text ++ rest),
       (count, refl, (length token, refl, counted)),
-      (Number left ∷ [], text ++ rest, (token, refl, (refl, refl)), (Number h.len ∷ [], rest, (text, refl, (h.len, refl, spelled)), (refl, refl))),
+      (Number left ∷ [], text ++ rest, (token, refl, (refl, refl)), (Number h.len ∷ [], rest, (text, refl, (h.len, refl, encoded)), (refl, refl))),
     ) (length token, left, from, stop, refl)
 
 pub retry_head : (context : Context) (whole : ℕ) (bytes : List ℕ) (first version : ℕ) (dst src rest : List ℕ)

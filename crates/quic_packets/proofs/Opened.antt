@@ -71,14 +71,14 @@ number_known number written first front body at at_is size valid found =
     middle (first ∷ front) (number_bytes written) body at (at + number_size number) at_is (omega (arith, number_length written)) in
     number_same number written same (sym found.text.value ∙ ap num text ∙ num_back written valid)
 
-number_spelled : (number : PacketNumber) → IsInRange number → NumberAt number (number_bytes number)
+number_encoded : (number : PacketNumber) → IsInRange number → NumberAt number (number_bytes number)
 unfolding bytes_of
-number_spelled (U8 x) h = law.is_number_1 x h
-number_spelled (U16 x) h = law.is_number_2 x h
-number_spelled (U24 x) h =
+number_encoded (U8 x) h = law.is_number_1 x h
+number_encoded (U16 x) h = law.is_number_2 x h
+number_encoded (U24 x) h =
     let four = law.is_number_4 x (omega (arith, h)) in
     record { bytes = law.back_bytes (x / 256 ^ 3 % 256 ∷ []) (bytes_of 3 x) four.bytes; width = law.length-bytes_of 3 x; value = is_number_3 x h }
-number_spelled (U32 x) h = law.is_number_4 x h
+number_encoded (U32 x) h = law.is_number_4 x h
 
 -- the number that was written stands in a packet
 pub number_there : (number : PacketNumber) (first : ℕ) (front body : List ℕ) (at : ℕ) → at ≡ length (first ∷ front) → first % 4 + 1 ≡ number_size number → IsInRange number
@@ -89,7 +89,7 @@ number_there number first front body at at_is size valid =
     record {
       size = sym size;
       within = omega (arith, length-append (first ∷ front) (number_bytes number ++ body), length-append (number_bytes number) body, number_length number);
-      text = subst (NumberAt number) (sym text) (number_spelled number valid);
+      text = subst (NumberAt number) (sym text) (number_encoded number valid);
     }
 
 -- two ways to cut a list at one place

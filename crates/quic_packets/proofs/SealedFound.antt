@@ -33,7 +33,7 @@ use Rattle.quic_packets.specs.Pairs.{KeyPair}
 use Rattle.quic_packets.specs.Sealing.{Sealed, plain_packet, sealed_head, protected_len}
 use Rattle.quic_packets.specs.Opening.{IsReadBack}
 use Rattle.quic_packets.proofs.Sealings.{long_length, front_length, head_length, size_within, middle}
-use Rattle.quic_packets.proofs.Parts.{length_spelled}
+use Rattle.quic_packets.proofs.Parts.{length_encoded}
 use Rattle.quic_packets.proofs.Opened.{Lawful, Shape, shape, front_bytes, number_known, number_there}
 
 -- what there is to know of a sealed packet before its payload is opened
@@ -164,7 +164,7 @@ long_sealed seal key laws context ty dst src number version n payload packet res
         head.Long ty dst src count version,
         (
           behind ++ rest,
-          long_head context (length (packet ++ rest)) (packet ++ rest) b version dst src len (behind ++ rest) ty count start read.1 byte.is (length_spelled count (sealed.short refl)),
+          long_head context (length (packet ++ rest)) (packet ++ rest) b version dst src len (behind ++ rest) ty count start read.1 byte.is (length_encoded count (sealed.short refl)),
           omega (arith, length-append behind rest, length-append packet rest),
           omega arith,
           omega (arith, length-append packet rest),
@@ -246,7 +246,7 @@ initial_sealed seal key laws context i n payload packet rest sealed read =
         (
           behind ++ rest,
           initial_head context (length (packet ++ rest)) (packet ++ rest) b var token len (behind ++ rest) found start read.1 byte.is
-              (law.short_spells (length token) sealed.writable.0) (length_spelled count (sealed.short refl))
+              (law.shortest_encodes (length token) sealed.writable.0) (length_encoded count (sealed.short refl))
               (omega (arith, ap length whole, length-append (b ∷ tail) (var ++ (token ++ after)), length-append var (token ++ after), length-append token after, top)) refl,
           omega (arith, length-append behind rest, length-append packet rest),
           omega arith,

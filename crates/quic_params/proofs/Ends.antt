@@ -2,7 +2,7 @@
 use Rattle.std.proofs.Common.{◌≡◌, ℕ, ◌<◌, ◌≤◌, Bool, true, false, List, [], ◌++◌, length, take, drop, get_or, refl, sym, ◌∙◌, ap, inl, arith, append_assoc, subst, inr}
 use Rattle.std.proofs.lemmas.List.{take-append-drop, length-take, drop-append-le, append_cancel_right}
 use Rattle.quic_base.specs.Codec.{Takes, Follows}
-use Rattle.quic_base.specs.Varint.{Spells}
+use Rattle.quic_base.specs.Varint.{Encodes}
 use Rattle.quic_params.specs.Never.{Never}
 use Rattle.quic_params.specs.declared.error.Error.{Error}
 use Rattle.quic_params.specs.declared.error.Error.TheVariants.{Malformed}
@@ -39,7 +39,7 @@ pub cut_left : (before : List Given) (old new : List ℕ) (error : Error) → Is
 cut_left before old new error cut is end = within_cut cut is end
 
 -- at an entry that is refused, whose head was read, and so many bytes of its value
-entry_left : (before : List Given) (old mid new : List ℕ) (n len count : ℕ) (error : Error) → Takes (Follows (Spells n) (Spells len)) old mid → len ≤ length mid
+entry_left : (before : List Given) (old mid new : List ℕ) (n len count : ℕ) (error : Error) → Takes (Follows (Encodes n) (Encodes len)) old mid → len ≤ length mid
     → Refuses before (at n (take len mid)) error → count ≤ len → new ≡ drop count mid → StopsAt before old error new
 entry_left before old mid new n len count error t le r within e =
     let w = entry_taken old mid n len t le in
@@ -47,14 +47,14 @@ entry_left before old mid new n len count error t le r within e =
     append_assoc t.front (take len mid) (drop len mid) ∙ ap (λ l. t.front ++ l) (take-append-drop len mid) ∙ sym t.split ∙ w.split in
     let whole : t.front ++ take len mid ≡ w.front = append_cancel_right (t.front ++ take len mid) w.front (drop len mid) parts in
     let value : IsEnd (drop count (take len mid)) (take len mid) = end_dropped count (take len mid) (drop count (take len mid)) refl in
-    within_entry (record { entry = at n (take len mid); front = w.front; rest = drop len mid; whole = w.split; spelled = w.is; refused = r })
+    within_entry (record { entry = at n (take len mid); front = w.front; rest = drop len mid; whole = w.split; encoded = w.is; refused = r })
     (drop count (take len mid))
     (t.front ++ value.0, sym whole ∙ ap (λ l. t.front ++ l) value.1 ∙ sym (append_assoc t.front value.0 (drop count (take len mid))))
     (e ∙ drop_within count len mid within le)
 
 -- at a repeat, whose row is known by an equation
 pub repeat_left : (p : TransportParameters) (seen : List Bool) (before : List Given) (old mid : List ℕ) (n len : ℕ) (i : TransportParameterId) (w : Row) → w ≡ row i
-    → Takes (Follows (Spells n) (Spells len)) old mid → len ≤ length mid → IsKnown i n → w.once ≡ true → get_or seen w.index false ≡ true → Holds p seen before
+    → Takes (Follows (Encodes n) (Encodes len)) old mid → len ≤ length mid → IsKnown i n → w.once ≡ true → get_or seen w.index false ≡ true → Holds p seen before
     → StopsAt before old Malformed mid
 repeat_left p seen before old mid n len i w e t le k once seen_it h =
     let again : (row i).once ≡ true = sym (ap (λ r. r.once) e) ∙ once in
@@ -63,7 +63,7 @@ repeat_left p seen before old mid n len i w e t le k once seen_it h =
 
 -- at a value that is none
 pub value_left : (p : TransportParameters) (seen : List Bool) (before : List Given) (old mid new : List ℕ) (n len count : ℕ) (i : TransportParameterId) (error : Error) (w : Row) → w ≡ row i
-    → Takes (Follows (Spells n) (Spells len)) old mid → len ≤ length mid → IsKnown i n → Never ((w.once ≡ true) × (get_or seen w.index false ≡ true))
+    → Takes (Follows (Encodes n) (Encodes len)) old mid → len ≤ length mid → IsKnown i n → Never ((w.once ≡ true) × (get_or seen w.index false ≡ true))
     → IsNoValue w.kind (take len mid) error → Holds p seen before → count ≤ len → new ≡ drop count mid → StopsAt before old error new
 value_left p seen before old mid new n len count i error w e t le k once bad h within rest =
     let once_there : Never (((row i).once ≡ true) × (get_or seen (row i).index false ≡ true)) = subst (λ (r : Row). Never ((r.once ≡ true) × (get_or seen r.index false ≡ true))) e once in

@@ -21,7 +21,7 @@ use Rattle.quic_params.specs.Order.{IsOrder, id_at, order_of}
 use Rattle.quic_params.specs.Range.{IsTyped, IsTypedAs, IsTypedAddress, IsFree, slot}
 use Rattle.quic_params.specs.Reserved.{Reserved}
 use Rattle.quic_params.specs.Table.{row}
-use Rattle.quic_params.specs.Writing.{spelling, entry, piece, is_written, grease_bytes, of_kind, written, written_for, v4_bytes, v6_bytes}
+use Rattle.quic_params.specs.Writing.{encoding, entry, piece, is_written, grease_bytes, of_kind, written, written_for, v4_bytes, v6_bytes}
 use Rattle.quic_params.proofs.Hosts.{octets_long}
 use Rattle.quic_params.proofs.Sizes.{size_below}
 
@@ -37,7 +37,7 @@ v6_below None t = omega arith
 v6_below (Some s) t =
     omega (arith, length-append (ipv6_octets (v6_ip s)) (bytes_of 2 (v6_port s)), length-bytes_of 2 (v6_port s), octets_long (ipv6_segments (v6_ip s)), t.0.0)
 
-address_below : (a : PreferredAddress) → IsTypedAddress a → length (spelling (V.Address a)) ≤ 61
+address_below : (a : PreferredAddress) → IsTypedAddress a → length (encoding (V.Address a)) ≤ 61
 address_below a t =
     let tail = long_id a.connection_id ++ a.stateless_reset_token in
     omega (
@@ -51,7 +51,7 @@ address_below a t =
       t.token,
     )
 
-value_below : (k : Kind) (v : Value) → IsTypedAs k v → length (spelling v) ≤ 61
+value_below : (k : Kind) (v : Value) → IsTypedAs k v → length (encoding v) ≤ 61
 value_below k (V.Number n) t = omega (arith, short_below n)
 value_below k V.Flag t = omega arith
 value_below K.Token (V.Token x) t = omega (arith, t)
@@ -68,7 +68,7 @@ either false l le = omega arith
 
 piece_below : (id : TransportParameterId) (o : Option Value) → IfSome o (IsTypedAs (row id).kind) → length (piece id o) ≤ 77
 piece_below id None t = omega arith
-piece_below id (Some v) t = either (is_written (row id).kind v) (entry (row id).number (spelling v)) (entry_below (row id).number (spelling v) (value_below (row id).kind v t))
+piece_below id (Some v) t = either (is_written (row id).kind v) (entry (row id).number (encoding v)) (entry_below (row id).number (encoding v) (value_below (row id).kind v t))
 
 grease_below : (g : Option Reserved) → IfSome g IsFree → length (grease_bytes g) ≤ 77
 grease_below None t = omega arith

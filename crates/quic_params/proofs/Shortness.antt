@@ -1,4 +1,4 @@
--- The shortest spelling of a number by its width, which is 2 to the power of a tag.
+-- The shortest encoding of a number by its width, which is 2 to the power of a tag.
 use Rattle.std.proofs.Common.{◌≡◌, ◌≢◌, ℕ, zero, suc, ◌+◌, ◌-◌, ◌*◌, ◌^◌, ◌<◌, ◌≤◌, inl, inr, List, [], ◌++◌, length, length-append, refl, sym, ◌∙◌, ap, subst, arith}
 use Rattle.std.specs.Prelude.{Option, Some, None, MatchOption}
 use Rattle.std.proofs.lemmas.Bool.{cases_lt}
@@ -7,15 +7,15 @@ use Rattle.std.proofs.lemmas.List.{append-nil}
 use Rattle.std.proofs.Math.Pow.{pow-lt}
 use Rattle.quic_base.specs.Codec.{Takes, NoFront}
 use Rattle.quic_base.specs.Number.{IsNumber, num}
-use Rattle.quic_base.specs.Varint.{Spells, short, size}
-use Rattle.quic_base.proofs.PublicLaws.{short_spells, length-short, spelled_bound}
+use Rattle.quic_base.specs.Varint.{Encodes, short, size}
+use Rattle.quic_base.proofs.PublicLaws.{shortest_encodes, length-short, encoded_bound}
 use Rattle.quic_params.proofs.Values.{empty_of_length, is_short}
 
 -- the bits of a number of this width
 abbrev pub bits : ℕ → ℕ
 bits t = 8 * 2 ^ t - 2
 
--- the least number that has no shorter spelling
+-- the least number that has no shorter encoding
 abbrev pub least : ℕ → ℕ
 least zero = 0
 least (suc t) = 2 ^ bits t
@@ -52,20 +52,20 @@ whole k x b r t l =
     let none : length r ≡ 0 = omega (arith, t.is.width) in
     subst (IsNumber k x) (sym (t.split ∙ ap (λ s. t.front ++ s) (empty_of_length r none) ∙ append-nil t.front)) t.is
 
--- they are the shortest spelling of a number that has no shorter one
+-- they are the shortest encoding of a number that has no shorter one
 pub shortest_is : (t x n : ℕ) (b r : List ℕ) → t < 4 → Takes (IsNumber (2 ^ t) x) b r → length b ≡ 2 ^ t → x ≡ t * 2 ^ bits t + n → least t ≤ n → n < 2 ^ bits t
     → (n < 2 ^ 62) × (b ≡ short n)
 shortest_is t x n b r lt taken l e low high =
     let i = whole (2 ^ t) x b r taken l in
-    let s : Spells n b = record { tag = t; tag_fits = lt; bytes = i.bytes; width = i.width; fits = high; value = i.value ∙ e } in
-    ((spelled_bound n b s).0, is_short n b s (size_of t n lt low high ∙ sym l))
+    let s : Encodes n b = record { tag = t; tag_fits = lt; bytes = i.bytes; width = i.width; fits = high; value = i.value ∙ e } in
+    ((encoded_bound n b s).0, is_short n b s (size_of t n lt low high ∙ sym l))
 
 -- and of no other
 pub shortest_was : (t x n : ℕ) (b r : List ℕ) → t < 4 → Takes (IsNumber (2 ^ t) x) b r → length b ≡ 2 ^ t → n < 2 ^ 62 → b ≡ short n
     → (x ≡ t * 2 ^ bits t + n) × (least t ≤ n) × (n < 2 ^ bits t)
 shortest_was t x n b r lt taken l small e =
     let i = whole (2 ^ t) x b r taken l in
-    let s : Spells n b = subst (Spells n) (sym e) (short_spells n small) in
+    let s : Encodes n b = subst (Encodes n) (sym e) (shortest_encodes n small) in
     let tag : s.tag ≡ t = same_power s.tag t (sym s.width ∙ l) in
     let value : num b ≡ t * 2 ^ bits t + n = subst (λ k. num b ≡ k * 2 ^ bits k + n) tag s.value in
     let size_is : size n ≡ 2 ^ t = sym (length-short n) ∙ sym (ap length e) ∙ l in
@@ -74,15 +74,15 @@ shortest_was t x n b r lt taken l small e =
 -- bytes that are too few for their own number are none
 pub never_cut : (t n : ℕ) (b : List ℕ) → length b ≡ 2 ^ t → ((x : ℕ) → NoFront (IsNumber (2 ^ t) x) b) → n < 2 ^ 62 → b ≢ short n
 never_cut t n b l cut small e =
-    let s : Spells n b = subst (Spells n) (sym e) (short_spells n small) in
+    let s : Encodes n b = subst (Encodes n) (sym e) (shortest_encodes n small) in
     cut (num b) b [] (sym (append-nil b)) (record { bytes = s.bytes; width = l; value = refl })
 
--- no spelling has another width
+-- no encoding has another width
 pub never_width : (n : ℕ) (b : List ℕ) → length b ≢ 1 → length b ≢ 2 → length b ≢ 4 → length b ≢ 8 → b ≢ short n
 unfolding size
 never_width n b a1 a2 a4 a8 e = let l : length b ≡ size n = ap length e ∙ length-short n in grind (arith, nat_tests)
 
--- what is told of a spelling's number tells it of the bytes
+-- what is told of a encoding's number tells it of the bytes
 pub by_width : (t x y : ℕ) (b r : List ℕ) (result : Option ℕ) → t < 4 → Takes (IsNumber (2 ^ t) x) b r → length b ≡ 2 ^ t → y ≡ x
     → MatchOption result ((n : ℕ) → y ≡ t * 2 ^ bits t + n → least t ≤ n → 2 ^ bits t ≤ n) (λ n. (y ≡ t * 2 ^ bits t + n) × (least t ≤ n) × (n < 2 ^ bits t))
     → MatchOption result ((n : ℕ) → n < 2 ^ 62 → b ≢ short n) (λ n. (n < 2 ^ 62) × (b ≡ short n))

@@ -27,7 +27,7 @@ fn read<T: Codec + Drop>(bytes: &[u8]) -> Result<T, Fail> {
     Ok(T::decode(&mut left)?)
 }
 
-// What is read from the shortest spelling of a number, as codes and types of frames are.
+// What is read from the shortest encoding of a number, as codes and types of frames are.
 pub(crate) fn numbered<T: Codec + Drop>(alloc: Global, word: &str) -> Result<T, Fail> {
     let number = varint(word)?;
     let mut bytes = Vec::new(alloc);

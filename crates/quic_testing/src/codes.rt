@@ -8,7 +8,7 @@ use std::alloc::Global;
 use std::test::Fail;
 
 // The shortest bytes of a number.
-fn spelled(alloc: Global, number: u64) -> Result<Vec<u8>, Fail> {
+fn encoded(alloc: Global, number: u64) -> Result<Vec<u8>, Fail> {
     let mut bytes = Vec::new(alloc);
     bytes.write(VarInt::from_u64(number)?)?;
     Ok(bytes)
@@ -16,14 +16,14 @@ fn spelled(alloc: Global, number: u64) -> Result<Vec<u8>, Fail> {
 
 /// The code with this number, below 2^62.
 pub fn code_of(alloc: Global, number: u64) -> Result<Code, Fail> {
-    let bytes = spelled(alloc, number)?;
+    let bytes = encoded(alloc, number)?;
     let mut left = bytes.as_slice();
     Ok(Code::decode(&mut left)?)
 }
 
 /// The type of frames with this number, below 2^62.
 pub fn type_of(alloc: Global, number: u64) -> Result<FrameType, Fail> {
-    let bytes = spelled(alloc, number)?;
+    let bytes = encoded(alloc, number)?;
     let mut left = bytes.as_slice();
     Ok(FrameType::decode(&mut left)?)
 }

@@ -54,8 +54,8 @@ least_printed payload least has l =
     let s = l.same in
     let found = s.others in
     let some = other_some least payload s in
-    let same = one_least (shortest_frames (map frame_in found)) least payload (has found payload some s.other_spelled) l in
-    canon_some payload some ∙ ap (λ (r : Result (List Meaning) Invalid). canon_line r ∷ []) (frames_in_all found (items_of false 0 None payload) (frames_are_items false found 0 None payload s.other_spelled))
+    let same = one_least (shortest_frames (map frame_in found)) least payload (has found payload some s.other_encoded) l in
+    canon_some payload some ∙ ap (λ (r : Result (List Meaning) Invalid). canon_line r ∷ []) (frames_in_all found (items_of false 0 None payload) (frames_are_items false found 0 None payload s.other_encoded))
     ∙ ap (λ (bytes : List ℕ). let ls : List Printed = Plain (encode_lower bytes) ∷ [] in ls) same
 
 -- the line of what is none

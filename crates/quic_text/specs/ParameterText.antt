@@ -7,7 +7,7 @@ use Rattle.quic_base.specs.declared.ids.Side.{Side}
 use Rattle.quic_params.specs.Answer.{answer_at}
 use Rattle.quic_params.specs.Errors.{text_of}
 use Rattle.quic_params.specs.Table.{ids}
-use Rattle.quic_params.specs.Writing.{spelling, value_written}
+use Rattle.quic_params.specs.Writing.{encoding, value_written}
 use Rattle.quic_params.specs.declared.error.Error as params
 use Rattle.quic_params.specs.declared.parameter.TransportParameterId.{TransportParameterId}
 use Rattle.quic_params.specs.declared.parameter.TransportParameterId.TheVariants.{MaxIdleTimeout, MaxUdpPayloadSize, InitialMaxData, InitialMaxStreamDataBidiLocal, InitialMaxStreamDataBidiRemote, InitialMaxStreamDataUni, InitialMaxStreamsBidi, InitialMaxStreamsUni, AckDelayExponent, MaxAckDelay, ActiveConnectionIdLimit, ReservedTransportParameter, StatelessResetToken, DisableActiveMigration, MaxDatagramFrameSize, PreferredAddress, OriginalDestinationConnectionId, InitialSourceConnectionId, RetrySourceConnectionId, GreaseQuicBit, MinAckDelayDraft07}
@@ -51,7 +51,7 @@ value_text (V.Number n) = decimal n
 value_text V.Flag = codes "true"
 value_text (V.Token token) = digits_of token
 value_text (V.Id id) = digits_of id
-value_text (V.Address a) = digits_of (spelling (V.Address a))
+value_text (V.Address a) = digits_of (encoding (V.Address a))
 
 -- `NAME VALUE`, where there is a value
 abbrev pub value_lines : TransportParameterId → Option Value → List Printed

@@ -13,7 +13,7 @@ use Rattle.quic_text.specs.DatagramText.{datagram_lines}
 use Rattle.quic_text.specs.IdLens.{count}
 use Rattle.quic_text.specs.ParameterText.{parameter_lines}
 
--- what is printed for the bytes that a line spells
+-- what is printed for the bytes that a line encodes
 abbrev pub payload_lines : Mode → List ℕ → List Printed
 payload_lines Frames payload = frame_lines false payload
 payload_lines Strict payload = frame_lines true payload
@@ -21,7 +21,7 @@ payload_lines Canon payload = canon_lines payload
 payload_lines (Datagram len) payload = datagram_lines (count len) payload
 payload_lines (Params side) payload = parameter_lines side payload
 
--- the same, if the line spells any bytes
+-- the same, if the line encodes any bytes
 abbrev pub decoded_lines : Mode → Result (List ℕ) FromHexError → List Printed
 decoded_lines mode (Ok payload) = payload_lines mode payload
 decoded_lines mode (Err e) = Error (codes "not hexadecimal") ∷ []

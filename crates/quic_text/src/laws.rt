@@ -47,7 +47,7 @@ pub fn frames_printed()
         → payload_lines Mode.Frames bytes ≡ map (λ p. item_line (frames.whole p)) some ++ item_line (Broken (invalid type reason)) ∷ [] }
 {}
 
-/// `strict` prints the same where a type counts in its shortest spelling alone.
+/// `strict` prints the same where a type counts in its shortest encoding alone.
 pub fn strict_printed()
     ensures frames { (some : List frames.Placed) (bytes : List ℕ) → bytes ≢ [] → frames.ArePlaced true 0 some bytes
         → payload_lines Mode.Strict bytes ≡ map (λ p. item_line (frames.whole p)) some }

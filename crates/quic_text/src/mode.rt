@@ -11,7 +11,7 @@ use quic_base::ids::Side;
 pub enum Mode {
     /// The frames of a payload.
     Frames,
-    /// The same, where a type counts in its shortest spelling alone.
+    /// The same, where a type counts in its shortest encoding alone.
     Strict,
     /// The shortest payload of the same frames.
     Canon,

@@ -48,7 +48,7 @@ pub(crate) fn print_line<W: Sink>(
     }
 }
 
-// The bytes that a line spells, if it spells any. They are put in place of what the vector holds.
+// The bytes that a line encodes, if it encodes any. They are put in place of what the vector holds.
 fn decoded<'a>(line: &[u8], bytes: &'a mut Vec<u8>) -> Result<Option<&'a [u8]>, AllocError>
     ensures some { IfOk result (λ payload. IfSome payload (λ bytes. decode_of line.now ≡ Ok bytes.now)) }
     ensures none { IfOk result (λ payload. payload ≡ None → IsErr (decode_of line.now)) }

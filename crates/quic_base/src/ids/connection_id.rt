@@ -102,7 +102,7 @@ impl ConnectionId {
     /// the buffer's spare room is less than that; then what stood there stands, followed by a
     /// beginning of these bytes.
     pub fn encode_long<B: BufMut>(&self, buf: &mut B) -> Result<(), NoRoom>
-        ensures spelled { IsLongId self.now (long_id self.now) }
+        ensures encoded { IsLongId self.now (long_id self.now) }
         ensures ok { OnOk result (B.written buf.new ≡ B.written buf.old ++ long_id self.now) }
         ensures err { OnErr result
             (IsBegun (B.written buf.old) (long_id self.now) (B.written buf.new)) }

@@ -11,7 +11,7 @@ use quic_base::ids::EcnCodepoint;
 use std::ops::{AddAssign, RangeInclusive};
 use thiserror::Error;
 
-/// An acknowledgement. Its blocks are a slice of the payload, and spell ranges below the greatest number.
+/// An acknowledgement. Its blocks are a slice of the payload, and encode ranges below the greatest number.
 #[derive(Clone, Copy, Debug, PartialEq, Eq)]
 pub struct Ack<'a> {
     largest: u64,
@@ -63,7 +63,7 @@ impl<'a> Ack<'a> {
         }
     }
 
-    /// The same where the blocks are known to spell ranges below the greatest number.
+    /// The same where the blocks are known to encode ranges below the greatest number.
     #[tactic(auto, using(crate::proofs::Blocks::read_again))]
     pub fn of_blocks(largest: u64, delay: u64, blocks: &'a [u8], ecn: Option<EcnCounts>) -> Self
         requires { (ranges : List (ℕ × ℕ)) × AreBlocks largest ranges blocks.now }
@@ -105,12 +105,12 @@ impl<'a> Ack<'a> {
         self.ecn
     }
 
-    /// The ranges of acknowledged numbers, the greatest first: those that the blocks spell below the greatest
+    /// The ranges of acknowledged numbers, the greatest first: those that the blocks encode below the greatest
     /// number (RFC 9000, section 19.3.1). It takes no memory.
     #[tactic(auto, using(crate::proofs::Blocks::acked))]
     pub fn iter(&self) -> AckIter<'a>
         ensures ranges { ranges_left result ≡ ranges_acked self.now }
-        ensures spelled { AreBlocks (parts_of self.now).largest (ranges_left result) (parts_of self.now).additional }
+        ensures encoded { AreBlocks (parts_of self.now).largest (ranges_left result) (parts_of self.now).additional }
     {
         are_bytes(self.additional);
         AckIter {

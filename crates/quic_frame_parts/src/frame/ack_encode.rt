@@ -188,7 +188,7 @@ pub(super) fn head_of(ack: &Ack<'_>, numbers: u64) -> [u64; 4]
     [type_of(ack.ecn()), ack.largest(), ack.delay(), numbers / 2]
 }
 
-/// Appends an acknowledgement that is held, whose numbers may have been spelled in any widths, as
+/// Appends an acknowledgement that is held, whose numbers may have been encoded in any widths, as
 /// `Ack::encode` appends that of a set. It takes no memory.
 pub fn encode_ack<B: BufMut>(ack: &Ack<'_>, out: &mut B) -> Result<(), NoRoom>
     requires { IsAckInRange ack.now }

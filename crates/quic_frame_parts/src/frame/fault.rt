@@ -10,7 +10,7 @@ pub enum Fault {
     InvalidFrameId,
     /// A field has a value that it may not have.
     Malformed,
-    /// The type is not in its shortest spelling, where only that counts.
+    /// The type is not in its shortest encoding, where only that counts.
     LongType,
 }
 

@@ -271,7 +271,7 @@ fn each_below(count: u64, low: u64, bytes: &[u8]) -> Result<&[u8], Fault>
 pub fn blocks(greatest: u64, bytes: &[u8]) -> Result<(&[u8], &[u8]), Fault>
     ensures gives { Gives (λ x. (x.0.now, x.1.now)) result (blocks_at greatest bytes.now) }
     ensures valid { IfOk result (λ x. IsBlocks greatest x.0.now) }
-    ensures spelled { IfOk result (λ x. (ranges : List (ℕ × ℕ)) × AreBlocks greatest ranges x.0.now) }
+    ensures encoded { IfOk result (λ x. (ranges : List (ℕ × ℕ)) × AreBlocks greatest ranges x.0.now) }
 {
     let (count, bytes) = small_varint(bytes)?;
     let (low, rest) = block(greatest, bytes)?;

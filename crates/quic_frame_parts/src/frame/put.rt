@@ -1,6 +1,6 @@
 //! Numbers and bytes, laid at the front of a slice.
 ghost use Rattle.std.specs.Prelude.{◌≡◌, ◌<◌, ◌≤◌, ◌+◌, ◌^◌, ◌++◌, ℕ, List, Bool, length, take, drop, IfSome};
-ghost use Rattle.quic_frame_parts.specs.Numbers.{AreNumeric, AreSpelled, all_short};
+ghost use Rattle.quic_frame_parts.specs.Numbers.{AreNumeric, AreEncoded, all_short};
 ghost use Rattle.quic_frame_parts.specs.Parts.{ack_meaning};
 ghost use Rattle.quic_frame_parts.specs.Putting.{Lays, Puts, Shortens};
 ghost use Rattle.quic_frame_parts.specs.Sets.{AreCounts, IsAckInRange, count_numbers};
@@ -10,7 +10,7 @@ use super::ack_encode::head_of;
 use super::write::{HEAD_ROOM, count_and_len, lay_number, lay_numbers};
 use super::{Ack, EcnCounts, FrameType, Stream, field};
 
-/// Lays at most five numbers in their shortest spellings at the front of the slice, and answers how many bytes they
+/// Lays at most five numbers in their shortest encodings at the front of the slice, and answers how many bytes they
 /// have. Where the slice has fewer, and only there, it is as it was, and the error is how many are needed. The room is
 /// looked at once.
 #[inline(always)]
@@ -53,7 +53,7 @@ pub fn numbers_and_two(
     three(dest, &numbers[..len], middle, end)
 }
 
-/// Lays at most five numbers in their shortest spellings over the bytes at a place, and answers where they end.
+/// Lays at most five numbers in their shortest encodings over the bytes at a place, and answers where they end.
 #[inline(always)]
 pub fn numbers_at(dest: &mut [u8], at: usize, numbers: &[u64]) -> usize
     requires few { length numbers.now ≤ 5 }
@@ -141,8 +141,8 @@ pub fn stream(dest: &mut [u8], stream: &Stream<'_>, counted: Option<u64>) -> Res
     }
 }
 
-/// Lays an acknowledgement that is held, whose numbers may have been spelled in any widths, in its shortest spelling,
-/// in the same way. Blocks that are in their shortest spelling are copied.
+/// Lays an acknowledgement that is held, whose numbers may have been encoded in any widths, in its shortest encoding,
+/// in the same way. Blocks that are in their shortest encoding are copied.
 pub fn ack(dest: &mut [u8], ack: &Ack<'_>) -> Result<usize, usize>
     requires { IsAckInRange ack.now }
     ensures { (last : Bool) → Puts result (shortest_frame last (ack_meaning ack.now)) dest.old dest.new }
@@ -173,30 +173,30 @@ fn lay_counts(counts: &mut [u8; HEAD_ROOM], ecn: Option<EcnCounts>) -> usize
     }
 }
 
-// Lays the numbers that the bytes spell, in their shortest spellings of so many bytes, over those at a place, and
+// Lays the numbers that the bytes encode, in their shortest encodings of so many bytes, over those at a place, and
 // answers where they end.
-fn lay_shortened(dest: &mut [u8], at: usize, spelled: &[u8], len: usize) -> usize
-    requires shortens { Shortens spelled.now len }
+fn lay_shortened(dest: &mut [u8], at: usize, encoded: &[u8], len: usize) -> usize
+    requires shortens { Shortens encoded.now len }
     requires room { at + len ≤ length dest.old }
-    ensures lays { (ns : List ℕ) → AreSpelled ns spelled.now → Lays (all_short ns) at dest.old result dest.new }
+    ensures lays { (ns : List ℕ) → AreEncoded ns encoded.now → Lays (all_short ns) at dest.old result dest.new }
     ensures len { length dest.new ≡ length dest.old }
 {
-    if len == spelled.len() {
-        lay_bytes(dest, at, spelled)
+    if len == encoded.len() {
+        lay_bytes(dest, at, encoded)
     } else {
-        lay_each(dest, at, spelled, len)
+        lay_each(dest, at, encoded, len)
     }
 }
 
 // The same, one number after the other.
-fn lay_each(dest: &mut [u8], at: usize, spelled: &[u8], len: usize) -> usize
-    requires shortens { Shortens spelled.now len }
+fn lay_each(dest: &mut [u8], at: usize, encoded: &[u8], len: usize) -> usize
+    requires shortens { Shortens encoded.now len }
     requires room { at + len ≤ length dest.old }
-    ensures lays { (ns : List ℕ) → AreSpelled ns spelled.now → Lays (all_short ns) at dest.old result dest.new }
+    ensures lays { (ns : List ℕ) → AreEncoded ns encoded.now → Lays (all_short ns) at dest.old result dest.new }
     ensures len { length dest.new ≡ length dest.old }
 {
     let mut at = at;
-    let mut rest = spelled;
+    let mut rest = encoded;
     while let Ok((number, after)) = field::varint(rest) {
         let mut short = [0; 8];
         let end = lay_number(&mut short, 0, number);

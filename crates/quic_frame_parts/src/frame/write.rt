@@ -4,7 +4,7 @@ ghost use Rattle.quic_base.specs.ConnectionId.{long_id};
 ghost use Rattle.quic_base.specs.Varint.{short, size};
 ghost use Rattle.quic_base.specs.Number.{AreBytes};
 ghost use Rattle.quic_base.specs.Writing.{Writes};
-ghost use Rattle.quic_frame_parts.specs.Numbers.{AreNumeric, AreSpelled, all_short};
+ghost use Rattle.quic_frame_parts.specs.Numbers.{AreNumeric, AreEncoded, all_short};
 
 use super::field;
 use bytes::BufMut;
@@ -15,7 +15,7 @@ use quic_base::varint::VarInt;
 // How many bytes the array has that numbers are laid into: five of them, each by a store of eight bytes at most.
 pub(super) const HEAD_ROOM: usize = 40;
 
-// Lays a number in its shortest spelling at a place, and answers where it ends.
+// Lays a number in its shortest encoding at a place, and answers where it ends.
 #[inline(always)]
 #[tactic(auto, unfolding(quic_base::specs::Varint::short, quic_base::specs::Varint::size, quic_base::specs::Number::bytes_of))]
 pub(super) fn lay_number(head: &mut [u8], at: usize, n: u64) -> usize
@@ -53,7 +53,7 @@ pub(super) fn lay_numbers(head: &mut [u8], numbers: &[u64]) -> usize
     at
 }
 
-/// Appends at most five numbers in their shortest spellings, which are put together first, so that the room is
+/// Appends at most five numbers in their shortest encodings, which are put together first, so that the room is
 /// looked at once. Answers `NoRoom` only where the spare room is less than those; then what stood there stands,
 /// followed by a beginning of them.
 #[inline(always)]
@@ -95,7 +95,7 @@ pub fn id_and_bytes<B: BufMut>(out: &mut B, id: &ConnectionId, tail: &[u8]) -> R
     bytes(out, tail)
 }
 
-/// The length of the shortest spelling of a number.
+/// The length of the shortest encoding of a number.
 #[inline(always)]
 #[tactic(auto, using(crate::proofs::Encoding::size_small))]
 pub fn size_of(n: u64) -> usize
@@ -106,26 +106,26 @@ pub fn size_of(n: u64) -> usize
     VarInt::from_u64_unchecked(n).size()
 }
 
-/// Appends the numbers that the bytes spell, in their shortest spellings, in the same way. The caller must know how
+/// Appends the numbers that the bytes encode, in their shortest encodings, in the same way. The caller must know how
 /// many bytes these have: where the bytes are as many, they are the shortest, and go as they are.
-pub fn shortened<B: BufMut>(out: &mut B, spelled: &[u8], len: u64) -> Result<(), NoRoom>
-    requires { (ns : List ℕ) → AreSpelled ns spelled.now → len ≡ length (all_short ns) }
-    ensures { (ns : List ℕ) → AreSpelled ns spelled.now
+pub fn shortened<B: BufMut>(out: &mut B, encoded: &[u8], len: u64) -> Result<(), NoRoom>
+    requires { (ns : List ℕ) → AreEncoded ns encoded.now → len ≡ length (all_short ns) }
+    ensures { (ns : List ℕ) → AreEncoded ns encoded.now
         → Writes result (all_short ns) (B.written out.old) (B.spare out.old) (B.written out.new) (B.spare out.new) }
 {
-    if len == spelled.len() as u64 {
-        bytes(out, spelled)
+    if len == encoded.len() as u64 {
+        bytes(out, encoded)
     } else {
-        each_shortened(out, spelled)
+        each_shortened(out, encoded)
     }
 }
 
 // Appends the numbers one by one.
-fn each_shortened<B: BufMut>(out: &mut B, spelled: &[u8]) -> Result<(), NoRoom>
-    ensures { (ns : List ℕ) → AreSpelled ns spelled.now
+fn each_shortened<B: BufMut>(out: &mut B, encoded: &[u8]) -> Result<(), NoRoom>
+    ensures { (ns : List ℕ) → AreEncoded ns encoded.now
         → Writes result (all_short ns) (B.written out.old) (B.spare out.old) (B.written out.new) (B.spare out.new) }
 {
-    let mut rest = spelled;
+    let mut rest = encoded;
     while let Ok((number, after)) = field::varint(rest) {
         out.write_var(number)?;
         rest = after;
@@ -146,16 +146,16 @@ fn ones(bytes: &[u8]) -> usize
     n
 }
 
-/// How many numbers the bytes spell, and how many bytes `shortened` appends of them.
-pub fn count_and_len(spelled: &[u8]) -> (u64, u64)
-    ensures count { (ns : List ℕ) → AreSpelled ns spelled.now → result.0 ≡ length ns }
-    ensures len { (ns : List ℕ) → AreSpelled ns spelled.now → result.1 ≡ length (all_short ns) }
-    ensures small { result.1 ≤ length spelled.now }
-    ensures bytes { AreBytes spelled.now }
+/// How many numbers the bytes encode, and how many bytes `shortened` appends of them.
+pub fn count_and_len(encoded: &[u8]) -> (u64, u64)
+    ensures count { (ns : List ℕ) → AreEncoded ns encoded.now → result.0 ≡ length ns }
+    ensures len { (ns : List ℕ) → AreEncoded ns encoded.now → result.1 ≡ length (all_short ns) }
+    ensures small { result.1 ≤ length encoded.now }
+    ensures bytes { AreBytes encoded.now }
 {
     let mut count = 0;
     let mut len = 0;
-    let mut rest = spelled;
+    let mut rest = encoded;
     loop {
         let n = ones(rest);
         let Ok((number, after)) = field::varint(&rest[n..]) else {

@@ -20,7 +20,7 @@ pub(super) struct FirstFrame<'a> {
     pub rest: &'a [u8],
 }
 
-/// The frame at the front of bytes, where it is told whether a type counts in its shortest spelling alone,
+/// The frame at the front of bytes, where it is told whether a type counts in its shortest encoding alone,
 /// and the last type before them.
 #[inline(always)]
 pub(super) fn read_found(
@@ -54,7 +54,7 @@ pub(super) fn read_found(
     }
 }
 
-// A type of so many bytes is in another spelling than the shortest, where only that counts.
+// A type of so many bytes is in another encoding than the shortest, where only that counts.
 fn is_long(strict: bool, ty: FrameType, width: usize) -> bool
     ensures { result ≡ is_long_type strict ty width }
 {

@@ -11,7 +11,7 @@ use super::{Frame, FrameType, InvalidFrame};
 use crate::transport_error::Error;
 use std::marker::Model;
 
-/// Reads a payload frame by frame. Contracts see whether a type counts in its shortest spelling alone, the
+/// Reads a payload frame by frame. Contracts see whether a type counts in its shortest encoding alone, the
 /// payload, the end of the last whole frame, the last type that was read, and whether something was no frame.
 #[derive(Drop)]
 pub struct Iter<'a> {
@@ -55,7 +55,7 @@ impl<'a> Iter<'a> {
         Iter::begin(payload, false)
     }
 
-    /// The same, where a type in another spelling than its shortest is no frame (RFC 9000, section 12.4):
+    /// The same, where a type in another encoding than its shortest is no frame (RFC 9000, section 12.4):
     /// that is told as soon as the type is read. Other fields may have any width.
     pub fn strict(payload: &'a [u8]) -> Result<Self, Error>
         ensures empty { IsErr result ↔ (payload.now ≡ []) }

@@ -15,7 +15,7 @@ use quic_frame_parts::frame::encode::type_or_zero;
 use quic_frame_parts::frame::put;
 
 impl Frame<'_> {
-    /// Lays the shortest spelling of the frame, which is the last of its payload or not, at the front of the slice,
+    /// Lays the shortest encoding of the frame, which is the last of its payload or not, at the front of the slice,
     /// and answers how many bytes it has; these are the bytes that `encode` appends, and what stands behind them
     /// stays. Where the slice has fewer, and only there, it is as it was, and the error is how many bytes are needed.
     /// The caller must ensure that the frame is in range, and that data whose length is written are below 2^62 bytes.
@@ -105,7 +105,7 @@ fn put_close(close: &Close<'_>, dest: &mut [u8]) -> Result<usize, usize>
     }
 }
 
-// A NEW_CONNECTION_ID. The length of its id is below 64, so its byte is that number's shortest spelling.
+// A NEW_CONNECTION_ID. The length of its id is below 64, so its byte is that number's shortest encoding.
 fn put_new_id(new: &NewConnectionId, dest: &mut [u8]) -> Result<usize, usize>
     requires { InRange (frames.NewConnectionId new.now) }
     ensures { (last : Bool) → Puts result (shortest_frame last (new_id_meaning new.now)) dest.old dest.new }

@@ -14,7 +14,7 @@ use quic_base::ids::{ConnectionId, MAX_CID_SIZE, RESET_TOKEN_SIZE, ResetToken};
 
 /// A frame whose length has a bound, but for its data or reason.
 pub trait FrameStruct {
-    /// As many bytes, besides those of its data or reason, as the frame's shortest spelling has at most
+    /// As many bytes, besides those of its data or reason, as the frame's shortest encoding has at most
     /// where the length of the data is written.
     const SIZE_BOUND: usize;
 

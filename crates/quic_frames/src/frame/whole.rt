@@ -22,10 +22,10 @@ use quic_frame_parts::frame::stream_meta::encode_head;
 use quic_frame_parts::frame::write;
 
 impl Frame<'_> {
-    /// Appends the shortest spelling of the frame, which is the last of its payload or not: no offset 0
+    /// Appends the shortest encoding of the frame, which is the last of its payload or not: no offset 0
     /// of a STREAM, and no length of a STREAM or DATAGRAM where it is the last. Answers `NoRoom` only
     /// where the spare room is less than that; then what stood there stands, followed by a beginning of
-    /// the spelling. It takes no memory of its own. The caller must ensure that the frame is in range, and that
+    /// the encoding. It takes no memory of its own. The caller must ensure that the frame is in range, and that
     /// data whose length is written are below 2^62 bytes.
     #[tactic(auto, unfolding(quic_frame_parts::specs::Shortest::shortest_frame))]
     pub fn encode<B: BufMut>(&self, last: bool, out: &mut B) -> Result<(), NoRoom>

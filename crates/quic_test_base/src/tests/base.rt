@@ -55,7 +55,7 @@ fn hash_of(id: &ConnectionId) -> u64 {
     state.finish()
 }
 
-// Worked rows: each number with its shortest spelling.
+// Worked rows: each number with its shortest encoding.
 const SHORTEST: &[(u64, &[u8])] = &[
     (63, b"\x3f"),
     (64, b"\x40\x40"),
@@ -70,7 +70,7 @@ fn is_got(bytes: &[u8], n: u64) -> bool {
     left.get_var() == Ok(n) && left.is_empty()
 }
 
-fn is_spelled(alloc: Global, n: u64, bytes: &[u8]) -> bool {
+fn is_encoded(alloc: Global, n: u64, bytes: &[u8]) -> bool {
     let Some(number) = VarInt::from_u64(n).ok() else {
         return false;
     };
@@ -78,15 +78,15 @@ fn is_spelled(alloc: Global, n: u64, bytes: &[u8]) -> bool {
 }
 
 #[test]
-fn shortest_spellings(rt: HostRuntime) -> Result<(), Fail> {
+fn shortest_encodings(rt: HostRuntime) -> Result<(), Fail> {
     let mut checks = Checks::new(rt.alloc());
     for &(n, bytes) in SHORTEST {
-        checks.holds_at(n, is_spelled(rt.alloc(), n, bytes));
+        checks.holds_at(n, is_encoded(rt.alloc(), n, bytes));
     }
     checks.verdict()
 }
 
-// Worked rows: spellings that are no shortest ones, and others.
+// Worked rows: encodings that are no shortest ones, and others.
 const WIDTHS: &[(&[u8], u64)] = &[
     (b"\x25", 37),
     (b"\x40\x25", 37),
@@ -514,7 +514,7 @@ fn is_cut_at_its_limit(alloc: Global) -> bool {
     answer == Err(NoRoom) && out.as_slice() == b"\x04\x40\x40".as_slice()
 }
 
-// A refusal by room leaves a beginning of the spelling behind what stood there.
+// A refusal by room leaves a beginning of the encoding behind what stood there.
 #[test]
 fn refusals_by_room(rt: HostRuntime) -> Result<(), Fail> {
     let mut checks = Checks::new(rt.alloc());

@@ -7,7 +7,7 @@ use quic_testing::Checks;
 use std::alloc::Global;
 use std::test::Fail;
 
-// Frames in their shortest spellings, which are the same at each place: one of each kind but STREAM and
+// Frames in their shortest encodings, which are the same at each place: one of each kind but STREAM and
 // DATAGRAM, and numbers of each width.
 const SHORTEST: &str = "\
 00
@@ -50,7 +50,7 @@ const SHORTEST: &str = "\
 40af2a148000c35001";
 
 // What is read, and what is written of it before other frames and as the last: STREAM and DATAGRAM, and
-// spellings that are no shortest ones.
+// encodings that are no shortest ones.
 const OTHERS: &str = "\
 0f0410026162 0f0410026162 0d04106162
 0d0440106162 0f0410026162 0d04106162
@@ -213,8 +213,8 @@ fn comes_back(alloc: Global, payload: &str) -> bool {
 
 // The three words of a line.
 fn words(line: &str) -> Option<(&str, &str, &str)> {
-    let (payload, spellings) = line.split_once(" ")?;
-    let (counted, open) = spellings.split_once(" ")?;
+    let (payload, encodings) = line.split_once(" ")?;
+    let (counted, open) = encodings.split_once(" ")?;
     Some((payload, counted, open))
 }
 
@@ -225,7 +225,7 @@ fn line_is_rewritten(alloc: Global, line: &str) -> bool {
     is_rewritten(alloc, payload, counted, open)
 }
 
-// An acknowledgement shows its blocks as they are spelled.
+// An acknowledgement shows its blocks as they are encoded.
 fn line_comes_back(alloc: Global, line: &str) -> bool {
     let Some((payload, counted, open)) = words(line) else {
         return false;

@@ -18,7 +18,7 @@ use quic_frames::transport_error::Error;
 use std::alloc::AllocError;
 
 // A line for each frame, and one for what is none, where it is told whether a type counts in its shortest
-// spelling alone.
+// encoding alone.
 pub(super) fn print_frames<W: Sink>(
     strict: bool,
     payload: &[u8],

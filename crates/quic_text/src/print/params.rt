@@ -4,7 +4,7 @@ ghost use Rattle.std.specs.String.{string_bytes};
 ghost use Rattle.std.specs.List.{flat_map, list_all};
 ghost use Rattle.quic_base.specs.Number.{AreBytes};
 ghost use Rattle.quic_params.specs.Answer.{answer_at};
-ghost use Rattle.quic_params.specs.Writing.{spelling, value_written};
+ghost use Rattle.quic_params.specs.Writing.{encoding, value_written};
 ghost use Rattle.quic_params.specs.declared.value.Value.TheVariants as values;
 ghost use Rattle.quic_text.specs.Printed.{shown, is_plain};
 ghost use Rattle.quic_text.specs.ParameterText.{digits_of, name_of, value_text, value_lines, record_lines, parameter_lines};
@@ -131,7 +131,7 @@ fn print_address(
     text: &mut String,
 ) -> Result<(), AllocError>
     ensures { OnOk result (string_bytes text.new ≡ string_bytes text.old
-        ++ (digits_of (spelling (values.Address address.now)) ++ codes "\n")) }
+        ++ (digits_of (encoding (values.Address address.now)) ++ codes "\n")) }
 {
     let mut bytes = Vec::new(alloc);
     if address.encode(&mut bytes).is_err() {

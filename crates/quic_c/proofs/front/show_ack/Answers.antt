@@ -10,13 +10,13 @@ unreachable-requires c = first_stands c.args.ack.now c.additional-blocks.result.
 pub fill_gaps-count-requires : goal.fill_gaps-count-requires
 fill_gaps-count-requires c =
     let f = first_reads c.args.ack.now c.additional-blocks.result.now c.in-Ok.first c.in-Ok.below.now c.additional-blocks.ensures c.are_bytes.ensures c.in-Ok.ensures in
-    (f.least, f.below, f.spelled)
+    (f.least, f.below, f.encoded)
 
 pub returns : goal.returns
 returns c =
     let f = first_reads c.args.ack.now c.additional-blocks.result.now c.in-Ok.first c.in-Ok.below.now c.additional-blocks.ensures c.are_bytes.ensures c.in-Ok.ensures in
-    let filled = c.fill_gaps-count.ensures.fills f.least f.below f.spelled in
-    let whole = c.fill_gaps-count.ensures.whole f.least f.below f.spelled in
+    let filled = c.fill_gaps-count.ensures.fills f.least f.below f.encoded in
+    let whole = c.fill_gaps-count.ensures.whole f.least f.below f.encoded in
     let count = c.fill_gaps-count.result.0 in
     let more = more_is count f.below c.fill_gaps-count.result.1 c.more_flag.result filled.one_each whole c.more_flag.ensures.value in
     let flags : c.args.words.flags ≡ counts_flag c.args.ack.now.ecn = ap (λ (w : FrameWords). w.flags) c.requires in

@@ -22,13 +22,13 @@ frame_len-len-requires-clause-stands c =
 pub frame_len-len-requires-clause-small : goal.frame_len-len-requires-clause-small
 frame_len-len-requires-clause-small c =
     let f = finds_ok c.loop-item.iter c.next.new.self c.in-Some.item c.in-Ok-item.frame c.in-Ok-item.is c.in-Some.ensures.steps in
-    small_at c.args.payload.now c.loop-item.start c.offset-stop.result c.loop-item.iter c.next.new.self c.in-Ok-item.frame c.least_spelling.ensures.least c.loop-item.invariant.walks f c.offset-stop.ensures.value
+    small_at c.args.payload.now c.loop-item.start c.offset-stop.result c.loop-item.iter c.next.new.self c.in-Ok-item.frame c.least_encoding.ensures.least c.loop-item.invariant.walks f c.offset-stop.ensures.value
 
 pub loop-item-preserved : goal.loop-item-preserved
 loop-item-preserved c =
     let f = finds_ok c.loop-item.iter c.next.new.self c.in-Some.item c.in-Ok-item.frame c.in-Ok-item.is c.in-Some.ensures.steps in
     let begins = c.one_reading.ensures.begins_none false in
-    let one = c.least_spelling.ensures.least in
+    let one = c.least_encoding.ensures.least in
     let w = len_on c.args.payload.now c.loop-item.total c.loop-item.start c.offset-stop.result c.frame_len-len.result c.loop-item.iter c.next.new.self c.in-Ok-item.frame begins one c.loop-item.invariant f c.offset-stop.ensures.value c.frame_len-len.ensures in
     elim c.if-stop-start-eq1.branch [
       | then-stop-start-eq1 v ↦ len_as _ _ _ _ _ _ _ (len_passed _ _ _ v.pass_padding-count.result _ v.pass_padding-count.new.self begins one w v.pass_padding-count.ensures) v.total-is v.iter-is c.offset-start.ensures.value
@@ -50,13 +50,13 @@ returns-clause-ok c =
 pub overflow_add-total : goal.overflow_add-total
 overflow_add-total c =
     let f = finds_ok c.loop-item.iter c.next.new.self c.in-Some.item c.in-Ok-item.frame c.in-Ok-item.is c.in-Some.ensures.steps in
-    let small = small_at c.args.payload.now c.loop-item.start c.offset-stop.result c.loop-item.iter c.next.new.self c.in-Ok-item.frame c.least_spelling.ensures.least c.loop-item.invariant.walks f c.offset-stop.ensures.value in
+    let small = small_at c.args.payload.now c.loop-item.start c.offset-stop.result c.loop-item.iter c.next.new.self c.in-Ok-item.frame c.least_encoding.ensures.least c.loop-item.invariant.walks f c.offset-stop.ensures.value in
     omega (arith, small, c.frame_len-len.ensures, c.loop-item.invariant.low, c.loop-item.invariant.walks.within)
 
 pub overflow_add-total-then-stop-start-eq1 : goal.overflow_add-total-then-stop-start-eq1
 overflow_add-total-then-stop-start-eq1 c =
     let f = finds_ok c.loop-item.iter c.next.new.self c.in-Some.item c.in-Ok-item.frame c.in-Ok-item.is c.in-Some.ensures.steps in
     let w = len_on c.args.payload.now c.loop-item.total c.loop-item.start c.offset-stop.result c.frame_len-len.result c.loop-item.iter c.next.new.self c.in-Ok-item.frame
-    (c.one_reading.ensures.begins_none false) c.least_spelling.ensures.least c.loop-item.invariant f c.offset-stop.ensures.value c.frame_len-len.ensures in
-    let passed = len_passed _ _ _ c.pass_padding-count.result _ c.pass_padding-count.new.self (c.one_reading.ensures.begins_none false) c.least_spelling.ensures.least w c.pass_padding-count.ensures in
+    (c.one_reading.ensures.begins_none false) c.least_encoding.ensures.least c.loop-item.invariant f c.offset-stop.ensures.value c.frame_len-len.ensures in
+    let passed = len_passed _ _ _ c.pass_padding-count.result _ c.pass_padding-count.new.self (c.one_reading.ensures.begins_none false) c.least_encoding.ensures.least w c.pass_padding-count.ensures in
     omega (arith, passed.low, passed.walks.within)

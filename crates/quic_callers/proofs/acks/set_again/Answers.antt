@@ -14,16 +14,16 @@ use Rattle.quic_callers.proofs.acks.set_again.Goals as goal
 pub unreachable-requires : goal.unreachable-requires
 unreachable-requires c =
     let m = ack_of c.args.delay c.args.set.now None in
-    let spelled = c.set_acknowledged.ensures.spelled false true c.args.delay c.args.set.now None c.iter-runs.ensures.maximal c.requires.some c.requires.members c.requires.delay tt in
+    let encoded = c.set_acknowledged.ensures.encoded false true c.args.delay c.args.set.now None c.iter-runs.ensures.maximal c.requires.some c.requires.members c.requires.delay tt in
     let content = content_is c.encode.result c.in_ok-encode.field-0 _ _ _ (shortest_frame true m) c.deref.ensures.value (c.encode.ensures true).ok c.in_ok-encode.was c.requires.empty in
-    not_empty (as_written true m) (shortest_frame true m) spelled (sym content ∙ c.in_default.ensures.empty.0 refl)
+    not_empty (as_written true m) (shortest_frame true m) encoded (sym content ∙ c.in_default.ensures.empty.0 refl)
 
 pub unreachable-requires-in-None : goal.unreachable-requires-in-None
 unreachable-requires-in-None c =
     let m = ack_of c.args.delay c.args.set.now None in
-    let spelled = c.set_acknowledged.ensures.spelled false true c.args.delay c.args.set.now None c.iter-runs.ensures.maximal c.requires.some c.requires.members c.requires.delay tt in
+    let encoded = c.set_acknowledged.ensures.encoded false true c.args.delay c.args.set.now None c.iter-runs.ensures.maximal c.requires.some c.requires.members c.requires.delay tt in
     let content = content_is c.encode.result c.in_ok-encode.field-0 _ _ _ (shortest_frame true m) c.deref.ensures.value (c.encode.ensures true).ok c.in_ok-encode.was c.requires.empty in
-    let one = one_left (as_written true m) (shortest_frame true m) _ c.in-Ok.frames spelled content c.in-Ok.ensures.frames in
+    let one = one_left (as_written true m) (shortest_frame true m) _ c.in-Ok.frames encoded content c.in-Ok.ensures.frames in
     let first = gives_it (as_written true m) c.in-Ok.frames c.next.new.self c.next.result one c.next.ensures.steps in
     let given = first.1 in
     cc
@@ -31,9 +31,9 @@ unreachable-requires-in-None c =
 pub unreachable-requires-in-Some-Err : goal.unreachable-requires-in-Some-Err
 unreachable-requires-in-Some-Err c =
     let m = ack_of c.args.delay c.args.set.now None in
-    let spelled = c.set_acknowledged.ensures.spelled false true c.args.delay c.args.set.now None c.iter-runs.ensures.maximal c.requires.some c.requires.members c.requires.delay tt in
+    let encoded = c.set_acknowledged.ensures.encoded false true c.args.delay c.args.set.now None c.iter-runs.ensures.maximal c.requires.some c.requires.members c.requires.delay tt in
     let content = content_is c.encode.result c.in_ok-encode.field-0 _ _ _ (shortest_frame true m) c.deref.ensures.value (c.encode.ensures true).ok c.in_ok-encode.was c.requires.empty in
-    let one = one_left (as_written true m) (shortest_frame true m) _ c.in-Ok.frames spelled content c.in-Ok.ensures.frames in
+    let one = one_left (as_written true m) (shortest_frame true m) _ c.in-Ok.frames encoded content c.in-Ok.ensures.frames in
     let first = gives_it (as_written true m) c.in-Ok.frames c.next.new.self c.next.result one c.next.ensures.steps in
     let given = first.1 in
     cc
@@ -41,9 +41,9 @@ unreachable-requires-in-Some-Err c =
 pub unreachable-requires-in_default-frame : goal.unreachable-requires-in_default-frame
 unreachable-requires-in_default-frame c =
     let m = ack_of c.args.delay c.args.set.now None in
-    let spelled = c.set_acknowledged.ensures.spelled false true c.args.delay c.args.set.now None c.iter-runs.ensures.maximal c.requires.some c.requires.members c.requires.delay tt in
+    let encoded = c.set_acknowledged.ensures.encoded false true c.args.delay c.args.set.now None c.iter-runs.ensures.maximal c.requires.some c.requires.members c.requires.delay tt in
     let content = content_is c.encode.result c.in_ok-encode.field-0 _ _ _ (shortest_frame true m) c.deref.ensures.value (c.encode.ensures true).ok c.in_ok-encode.was c.requires.empty in
-    let one = one_left (as_written true m) (shortest_frame true m) _ c.in-Ok.frames spelled content c.in-Ok.ensures.frames in
+    let one = one_left (as_written true m) (shortest_frame true m) _ c.in-Ok.frames encoded content c.in-Ok.ensures.frames in
     let first = gives_it (as_written true m) c.in-Ok.frames c.next.new.self c.next.result one c.next.ensures.steps in
     let given = first.1 in
     let same : c.in-Some-Ok.frame ≡ first.0 = cc in
@@ -52,9 +52,9 @@ unreachable-requires-in_default-frame c =
 pub loop-range-init : goal.loop-range-init
 loop-range-init c =
     let m = ack_of c.args.delay c.args.set.now None in
-    let spelled = c.set_acknowledged.ensures.spelled false true c.args.delay c.args.set.now None c.iter-runs.ensures.maximal c.requires.some c.requires.members c.requires.delay tt in
+    let encoded = c.set_acknowledged.ensures.encoded false true c.args.delay c.args.set.now None c.iter-runs.ensures.maximal c.requires.some c.requires.members c.requires.delay tt in
     let content = content_is c.encode.result c.in_ok-encode.field-0 _ _ _ (shortest_frame true m) c.deref.ensures.value (c.encode.ensures true).ok c.in_ok-encode.was c.requires.empty in
-    let one = one_left (as_written true m) (shortest_frame true m) _ c.in-Ok.frames spelled content c.in-Ok.ensures.frames in
+    let one = one_left (as_written true m) (shortest_frame true m) _ c.in-Ok.frames encoded content c.in-Ok.ensures.frames in
     let first = gives_it (as_written true m) c.in-Ok.frames c.next.new.self c.next.result one c.next.ensures.steps in
     let given = first.1 in
     let same : frames.Ack c.in-Ack.ack ≡ first.0 = cc in
@@ -79,9 +79,9 @@ loop-range-preserved c =
 pub returns : goal.returns
 returns c =
     let m = ack_of c.args.delay c.args.set.now None in
-    let spelled = c.set_acknowledged.ensures.spelled false true c.args.delay c.args.set.now None c.iter-runs.ensures.maximal c.requires.some c.requires.members c.requires.delay tt in
+    let encoded = c.set_acknowledged.ensures.encoded false true c.args.delay c.args.set.now None c.iter-runs.ensures.maximal c.requires.some c.requires.members c.requires.delay tt in
     let content = content_is c.encode.result c.in_ok-encode.field-0 _ _ _ (shortest_frame true m) c.deref.ensures.value (c.encode.ensures true).ok c.in_ok-encode.was c.requires.empty in
-    let one = one_left (as_written true m) (shortest_frame true m) _ c.in-Ok.frames spelled content c.in-Ok.ensures.frames in
+    let one = one_left (as_written true m) (shortest_frame true m) _ c.in-Ok.frames encoded content c.in-Ok.ensures.frames in
     let first = gives_it (as_written true m) c.in-Ok.frames c.next.new.self c.next.result one c.next.ensures.steps in
     let given = first.1 in
     let same : frames.Ack c.in-Ack.ack ≡ first.0 = cc in

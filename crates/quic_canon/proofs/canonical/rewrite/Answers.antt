@@ -21,7 +21,7 @@ is_shortest-requires-clause-stands c =
 pub is_shortest-requires-clause-small : goal.is_shortest-requires-clause-small
 is_shortest-requires-clause-small c =
     let f = finds_ok c.loop-item.iter c.next.new.self c.in-Some.item c.in-Ok-item.frame c.in-Ok-item.is c.in-Some.ensures.steps in
-    small_at c.args.payload.now c.loop-item.start c.offset-stop.result c.loop-item.iter c.next.new.self c.in-Ok-item.frame c.least_spelling.ensures.least c.loop-item.invariant.walks f c.offset-stop.ensures.value
+    small_at c.args.payload.now c.loop-item.start c.offset-stop.result c.loop-item.iter c.next.new.self c.in-Ok-item.frame c.least_encoding.ensures.least c.loop-item.invariant.walks f c.offset-stop.ensures.value
 
 pub write-requires-clause-stands : goal.write-requires-clause-stands
 write-requires-clause-stands c =
@@ -30,19 +30,19 @@ write-requires-clause-stands c =
 
 pub copy-requires : goal.copy-requires
 copy-requires c =
-    room_to_copy c.args.out.now c.loop-item.out c.args.payload.now c.loop-item.from c.loop-item.start c.loop-item.iter c.least_spelling.ensures.all_least c.requires.whole c.loop-item.invariant c.requires.room
+    room_to_copy c.args.out.now c.loop-item.out c.args.payload.now c.loop-item.from c.loop-item.start c.loop-item.iter c.least_encoding.ensures.all_least c.requires.whole c.loop-item.invariant c.requires.room
 
 pub write-requires-clause-room : goal.write-requires-clause-room
 write-requires-clause-room c =
     let f = finds_ok c.loop-item.iter c.next.new.self c.in-Some.item c.in-Ok-item.frame c.in-Ok-item.is c.in-Some.ensures.steps in
     room_to_write c.args.out.now c.loop-item.out c.copy.new.out c.args.payload.now c.loop-item.from c.loop-item.start c.offset-stop.result c.loop-item.iter c.next.new.self c.in-Ok-item.frame
-    (c.one_reading.ensures.begins_none false) c.least_spelling.ensures.all_least c.requires.whole c.loop-item.invariant c.requires.room f c.offset-stop.ensures.value c.copy.ensures.items c.copy.ensures.capacity
+    (c.one_reading.ensures.begins_none false) c.least_encoding.ensures.all_least c.requires.whole c.loop-item.invariant c.requires.room f c.offset-stop.ensures.value c.copy.ensures.items c.copy.ensures.capacity
 
 pub loop-item-preserved : goal.loop-item-preserved
 loop-item-preserved c =
     let f = finds_ok c.loop-item.iter c.next.new.self c.in-Some.item c.in-Ok-item.frame c.in-Ok-item.is c.in-Some.ensures.steps in
     let begins = c.one_reading.ensures.begins_none false in
-    let one = c.least_spelling.ensures.least in
+    let one = c.least_encoding.ensures.least in
     let w : RewriteWalk c.args.out.now c.if-not-is_shortest.out c.args.payload.now c.if-not-is_shortest.from c.offset-stop.result c.next.new.self = elim c.if-not-is_shortest.branch [
       | then-not-is_shortest w ↦ walk_as _ _ _ _ _ _ _ _ w.out-is w.from-is
           (rewrite_writes c.args.out.now c.loop-item.out w.copy.new.out w.write.new.out c.args.payload.now c.loop-item.from c.loop-item.start c.offset-stop.result c.loop-item.iter c.next.new.self c.in-Ok-item.frame
@@ -68,7 +68,7 @@ loop-item-smaller c =
 
 pub copy-requires-2 : goal.copy-requires-2
 copy-requires-2 c =
-    room_to_end c.args.out.now c.loop-item.out c.args.payload.now c.loop-item.from c.loop-item.start c.loop-item.iter c.least_spelling.ensures.all_least c.requires.whole c.loop-item.invariant c.in_default-next.ensures.steps.0 c.requires.room
+    room_to_end c.args.out.now c.loop-item.out c.args.payload.now c.loop-item.from c.loop-item.start c.loop-item.iter c.least_encoding.ensures.all_least c.requires.whole c.loop-item.invariant c.in_default-next.ensures.steps.0 c.requires.room
 
 pub returns : goal.returns
 returns c =

@@ -27,7 +27,7 @@ is_shortest-requires-clause-stands c =
 pub is_shortest-requires-clause-small : goal.is_shortest-requires-clause-small
 is_shortest-requires-clause-small c =
     let f = finds_ok c.loop-item.iter c.next.new.self c.in-Some.item c.in-Ok-item.frame c.in-Ok-item.is c.in-Some.ensures.steps in
-    small_at c.args.payload.now c.loop-item.start c.offset-stop.result c.loop-item.iter c.next.new.self c.in-Ok-item.frame c.least_spelling.ensures.least c.loop-item.invariant.walks f c.offset-stop.ensures.value
+    small_at c.args.payload.now c.loop-item.start c.offset-stop.result c.loop-item.iter c.next.new.self c.in-Ok-item.frame c.least_encoding.ensures.least c.loop-item.invariant.walks f c.offset-stop.ensures.value
 
 pub loop-item-preserved-then-front-stop : goal.loop-item-preserved-then-front-stop
 loop-item-preserved-then-front-stop c =
@@ -36,17 +36,17 @@ loop-item-preserved-then-front-stop c =
       | then-front-start+then-is_shortest w ↦
           front_is c.args.payload.now _ _ c.offset-stop.result c.next.new.self w.front-is
           (grows_to c.args.payload.now c.loop-item.front c.loop-item.start c.offset-stop.result c.loop-item.iter c.next.new.self c.in-Ok-item.frame w.is_shortest.result
-          (c.one_reading.ensures.begins_none false) c.least_spelling.ensures.least w.if-front-start.true c.loop-item.invariant f c.offset-stop.ensures.value w.is_shortest.ensures w.if-is_shortest.true)
+          (c.one_reading.ensures.begins_none false) c.least_encoding.ensures.least w.if-front-start.true c.loop-item.invariant f c.offset-stop.ensures.value w.is_shortest.ensures w.if-is_shortest.true)
       | else-front-start w ↦ front_is c.args.payload.now _ _ c.offset-stop.result c.next.new.self w.front-is (elim w.else-front-start.branch [
         | else-front-start-via-then-front-start+else-is_shortest v ↦
             ends_at c.args.payload.now c.loop-item.front c.loop-item.start c.offset-stop.result c.loop-item.iter c.next.new.self c.in-Ok-item.frame v.is_shortest.result
-            (c.one_reading.ensures.begins_none false) c.least_spelling.ensures.least c.least_spelling.ensures.all_least v.if-front-start.true c.loop-item.invariant f c.offset-stop.ensures.value v.is_shortest.ensures v.if-is_shortest.false
+            (c.one_reading.ensures.begins_none false) c.least_encoding.ensures.least c.least_encoding.ensures.all_least v.if-front-start.true c.loop-item.invariant f c.offset-stop.ensures.value v.is_shortest.ensures v.if-is_shortest.false
         | else-front-start-via-else-front-start v ↦
             stays_at c.args.payload.now c.loop-item.front c.loop-item.start c.offset-stop.result c.loop-item.iter c.next.new.self c.in-Ok-item.frame v.if-front-start.false c.loop-item.invariant f c.offset-stop.ensures.value
       ])
     ] in
     padding_grows c.args.payload.now c.if-front-start.front c.offset-stop.result c.offset-start.result c.pass_padding.result c.next.new.self c.pass_padding.new.self
-    (c.one_reading.ensures.begins_none false) c.least_spelling.ensures.least c.if-front-stop.true w c.pass_padding.ensures c.offset-start.ensures.value
+    (c.one_reading.ensures.begins_none false) c.least_encoding.ensures.least c.if-front-stop.true w c.pass_padding.ensures c.offset-start.ensures.value
 
 pub loop-item-preserved-else-front-stop : goal.loop-item-preserved-else-front-stop
 loop-item-preserved-else-front-stop c =
@@ -55,11 +55,11 @@ loop-item-preserved-else-front-stop c =
       | then-front-start+then-is_shortest w ↦
           front_is c.args.payload.now _ _ c.offset-stop.result c.next.new.self w.front-is
           (grows_to c.args.payload.now c.loop-item.front c.loop-item.start c.offset-stop.result c.loop-item.iter c.next.new.self c.in-Ok-item.frame w.is_shortest.result
-          (c.one_reading.ensures.begins_none false) c.least_spelling.ensures.least w.if-front-start.true c.loop-item.invariant f c.offset-stop.ensures.value w.is_shortest.ensures w.if-is_shortest.true)
+          (c.one_reading.ensures.begins_none false) c.least_encoding.ensures.least w.if-front-start.true c.loop-item.invariant f c.offset-stop.ensures.value w.is_shortest.ensures w.if-is_shortest.true)
       | else-front-start w ↦ front_is c.args.payload.now _ _ c.offset-stop.result c.next.new.self w.front-is (elim w.else-front-start.branch [
         | else-front-start-via-then-front-start+else-is_shortest v ↦
             ends_at c.args.payload.now c.loop-item.front c.loop-item.start c.offset-stop.result c.loop-item.iter c.next.new.self c.in-Ok-item.frame v.is_shortest.result
-            (c.one_reading.ensures.begins_none false) c.least_spelling.ensures.least c.least_spelling.ensures.all_least v.if-front-start.true c.loop-item.invariant f c.offset-stop.ensures.value v.is_shortest.ensures v.if-is_shortest.false
+            (c.one_reading.ensures.begins_none false) c.least_encoding.ensures.least c.least_encoding.ensures.all_least v.if-front-start.true c.loop-item.invariant f c.offset-stop.ensures.value v.is_shortest.ensures v.if-is_shortest.false
         | else-front-start-via-else-front-start v ↦
             stays_at c.args.payload.now c.loop-item.front c.loop-item.start c.offset-stop.result c.loop-item.iter c.next.new.self c.in-Ok-item.frame v.if-front-start.false c.loop-item.invariant f c.offset-stop.ensures.value
       ])
@@ -73,11 +73,11 @@ loop-item-preserved c =
       | then-front-start+then-is_shortest w ↦
           front_is c.args.payload.now _ _ c.offset-stop.result c.next.new.self w.front-is
           (grows_to c.args.payload.now c.loop-item.front c.loop-item.start c.offset-stop.result c.loop-item.iter c.next.new.self c.in-Ok-item.frame w.is_shortest.result
-          (c.one_reading.ensures.begins_none false) c.least_spelling.ensures.least w.if-front-start.true c.loop-item.invariant f c.offset-stop.ensures.value w.is_shortest.ensures w.if-is_shortest.true)
+          (c.one_reading.ensures.begins_none false) c.least_encoding.ensures.least w.if-front-start.true c.loop-item.invariant f c.offset-stop.ensures.value w.is_shortest.ensures w.if-is_shortest.true)
       | else-front-start w ↦ front_is c.args.payload.now _ _ c.offset-stop.result c.next.new.self w.front-is (elim w.else-front-start.branch [
         | else-front-start-via-then-front-start+else-is_shortest v ↦
             ends_at c.args.payload.now c.loop-item.front c.loop-item.start c.offset-stop.result c.loop-item.iter c.next.new.self c.in-Ok-item.frame v.is_shortest.result
-            (c.one_reading.ensures.begins_none false) c.least_spelling.ensures.least c.least_spelling.ensures.all_least v.if-front-start.true c.loop-item.invariant f c.offset-stop.ensures.value v.is_shortest.ensures v.if-is_shortest.false
+            (c.one_reading.ensures.begins_none false) c.least_encoding.ensures.least c.least_encoding.ensures.all_least v.if-front-start.true c.loop-item.invariant f c.offset-stop.ensures.value v.is_shortest.ensures v.if-is_shortest.false
         | else-front-start-via-else-front-start v ↦
             stays_at c.args.payload.now c.loop-item.front c.loop-item.start c.offset-stop.result c.loop-item.iter c.next.new.self c.in-Ok-item.frame v.if-front-start.false c.loop-item.invariant f c.offset-stop.ensures.value
       ])

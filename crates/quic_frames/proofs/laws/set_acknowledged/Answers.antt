@@ -15,5 +15,5 @@ returns-clause-greatest c = is_greatest
 pub returns-clause-read : goal.returns-clause-read
 returns-clause-read c ack delay runs counts e = same_ack _ _ _ _ _ _ _ _ e
 
-pub returns-clause-spelled : goal.returns-clause-spelled
-returns-clause-spelled c = set_read_back
+pub returns-clause-encoded : goal.returns-clause-encoded
+returns-clause-encoded c = set_read_back

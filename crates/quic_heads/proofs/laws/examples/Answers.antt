@@ -18,7 +18,7 @@ returns-clause-initial c = λ context rest known.
     initial_head context (18 + length rest) (0xc0 ∷ 0x00 ∷ 0x00 ∷ 0x00 ∷ 0x01 ∷ 0x08 ∷ (dst ++ (0x00 ∷ 0x00 ∷ 0x44 ∷ 0x9e ∷ rest))) 0xc0 (0x00 ∷ []) [] (0x44 ∷ 0x9e ∷ []) rest
     (record { dst_cid = dst; src_cid = []; token_pos = record { start = 16; end = 16 }; len = 1182; version = 1 })
     (record { long = omega arith; fixed = fixed_set context 0xc0 refl; range = omega arith; dst_len = omega arith; src_len = omega arith; text = refl })
-    (one_zero, known) refl (law.short_spells 0 (omega arith)) (law.short_spells 1182 (omega arith)) (omega arith) refl
+    (one_zero, known) refl (law.shortest_encodes 0 (omega arith)) (law.shortest_encodes 1182 (omega arith)) (omega arith) refl
 
 pub returns-clause-no_token : goal.returns-clause-no_token
 unfolding short bytes_of
@@ -43,7 +43,7 @@ returns-clause-no_token c = λ context known. inr (
           inr (
             Number 5 ∷ [],
             0xaa ∷ [],
-            (0x05 ∷ [], refl, (5, refl, law.short_spells 5 (omega arith))),
+            (0x05 ∷ [], refl, (5, refl, law.shortest_encodes 5 (omega arith))),
             inl (record { none = λ values rest (front, split, (said, width)). omega (arith, width, ap length split, length-append front rest); why = refl }),
           ),
         ),

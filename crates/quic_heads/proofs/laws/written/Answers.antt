@@ -61,7 +61,7 @@ apart : (front len number rest : List ℕ) → (front ++ (len ++ number)) ++ res
 apart front len number rest = append_assoc front (len ++ number) rest ∙ ap (λ (xs : List ℕ). front ++ xs) (append_assoc len number rest)
 
 pub returns-clause-initial : goal.returns-clause-initial
-returns-clause-initial c = λ context whole start n h len rest range known dst_len src_len token_fits spelled place.
+returns-clause-initial c = λ context whole start n h len rest range known dst_len src_len token_fits encoded place.
     let size : ℕ = number_size h.number in
     let bounds = size_bounds h.number in
     let first : ℕ = long_first h.version kind.Initial size in
@@ -75,10 +75,10 @@ returns-clause-initial c = λ context whole start n h len rest range known dst_l
     initial_head context whole (((front ++ (count ++ h.token)) ++ (len ++ number_bytes h.number)) ++ rest) first count h.token len behind
     (record { dst_cid = h.dst_cid; src_cid = h.src_cid; token_pos = record { start = start; end = start + length h.token }; len = n; version = h.version })
     (record { long = byte.long; fixed = fixed_set context first byte.fixed; range = range; dst_len = dst_len; src_len = src_len; text = text })
-    known byte.is (law.short_spells (length h.token) token_fits) spelled place refl
+    known byte.is (law.shortest_encodes (length h.token) token_fits) encoded place refl
 
 pub returns-clause-long : goal.returns-clause-long
-returns-clause-long c = λ context whole n version ty dst src len rest number range known dst_len src_len spelled.
+returns-clause-long c = λ context whole n version ty dst src len rest number range known dst_len src_len encoded.
     let size : ℕ = number_size number in
     let bounds = size_bounds number in
     let first : ℕ = long_first version (kind.Standard ty) size in
@@ -86,7 +86,7 @@ returns-clause-long c = λ context whole n version ty dst src len rest number ra
     let front : List ℕ = long_front first version dst src in
     long_head context whole ((front ++ (len ++ number_bytes number)) ++ rest) first version dst src len (number_bytes number ++ rest) ty n
     (record { long = byte.long; fixed = fixed_set context first byte.fixed; range = range; dst_len = dst_len; src_len = src_len; text = apart front len (number_bytes number) rest })
-    known byte.is spelled
+    known byte.is encoded
 
 pub returns-clause-retry : goal.returns-clause-retry
 returns-clause-retry c = λ context whole version dst src rest range known dst_len src_len.

@@ -1,13 +1,13 @@
 use Rattle.std.proofs.Common.{refl}
-use Rattle.quic_params.specs.Writing.{spelling}
+use Rattle.quic_params.specs.Writing.{encoding}
 use Rattle.quic_params.specs.declared.value.Value.TheVariants as V
 use Rattle.quic_params.proofs.Written.{refused_first, then_last, entry_is}
 use Rattle.quic_params.proofs.writing.write_address_entry.Goals as goal
 
 pub returns-in_err-write_head : goal.returns-in_err-write_head
 returns-in_err-write_head g c =
-    refused_first _ c.write_head.result _ _ _ _ _ _ _ _ _ (entry_is c.args.number _ (spelling (V.Address c.args.address.now)) _ c.encoded_len.ensures.value refl) c.write_head.ensures c.in_err-write_head.was c.from_residual.ensures.1
+    refused_first _ c.write_head.result _ _ _ _ _ _ _ _ _ (entry_is c.args.number _ (encoding (V.Address c.args.address.now)) _ c.encoded_len.ensures.value refl) c.write_head.ensures c.in_err-write_head.was c.from_residual.ensures.1
 
 pub returns : goal.returns
 returns g c =
-    then_last c.write_head.result c.encode.result _ _ _ _ _ _ _ _ _ (entry_is c.args.number _ (spelling (V.Address c.args.address.now)) _ c.encoded_len.ensures.value refl) c.write_head.ensures c.in_ok-write_head.was c.encode.ensures
+    then_last c.write_head.result c.encode.result _ _ _ _ _ _ _ _ _ (entry_is c.args.number _ (encoding (V.Address c.args.address.now)) _ c.encoded_len.ensures.value refl) c.write_head.ensures c.in_ok-write_head.was c.encode.ensures

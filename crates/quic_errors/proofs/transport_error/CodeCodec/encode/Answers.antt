@@ -1,7 +1,7 @@
 use Rattle.quic_errors.proofs.transport_error.CodeCodec.encode.Goals as goal
 
-pub returns-clause-spelled : goal.returns-clause-spelled
-returns-clause-spelled g c = rw (c.from_u64_unchecked.ensures, c.self.view_is) at c.encode.ensures.spelled
+pub returns-clause-encoded : goal.returns-clause-encoded
+returns-clause-encoded g c = rw (c.from_u64_unchecked.ensures, c.self.view_is) at c.encode.ensures.encoded
 
 pub returns-clause-ok : goal.returns-clause-ok
 returns-clause-ok g c = rw (c.from_u64_unchecked.ensures, c.self.view_is) at c.encode.ensures.ok

@@ -1,6 +1,6 @@
 use Rattle.std.proofs.Common.{◌∙◌, sym, subst}
 use Rattle.quic_base.specs.Number.{AreBytes}
-use Rattle.quic_frame_parts.specs.Numbers.{AreNumeric, AreSpelled}
+use Rattle.quic_frame_parts.specs.Numbers.{AreNumeric, AreEncoded}
 use Rattle.quic_frame_parts.proofs.Held.{held_parts, held_many, held_length}
 use Rattle.quic_frame_parts.proofs.frame.ack_encode.ack_len.Goals as goal
 
@@ -18,5 +18,5 @@ pub returns : goal.returns
 returns c last =
     let a = c.args.ack.now in
     let h = held_parts a (subst AreBytes c.additional.ensures c.count_and_len-numbers.ensures.bytes) c.requires in
-    let blocks = c.count_and_len-numbers.ensures.len h.numbers (subst (AreSpelled h.numbers) (sym c.additional.ensures) h.spelled) in
+    let blocks = c.count_and_len-numbers.ensures.len h.numbers (subst (AreEncoded h.numbers) (sym c.additional.ensures) h.encoded) in
     held_length a h last c.head_of.result c.ecn.result _ _ _ c.head_of.ensures c.ecn.ensures c.numbers_len-head.ensures.value (c.from.ensures ∙ blocks) c.counts_len.ensures.value

@@ -21,9 +21,9 @@ returns-clause-valid c =
     let e : blocks_at c.args.greatest c.args.bytes.now ≡ Ok (c.split_at.result.0.now, c.split_at.result.1.now) = search rules in
     blocks_valid c.args.greatest c.args.bytes.now _ _ (λ i. (c.type_inv.bytes i).fits) e
 
-pub returns-clause-spelled : goal.returns-clause-spelled
+pub returns-clause-encoded : goal.returns-clause-encoded
 unfolding blocks_at after_blocks
-returns-clause-spelled c =
+returns-clause-encoded c =
     let e : blocks_at c.args.greatest c.args.bytes.now ≡ Ok (c.split_at.result.0.now, c.split_at.result.1.now) = search rules in
     let t = blocks_take c.args.greatest c.args.bytes.now _ _ (λ i. (c.type_inv.bytes i).fits) e in
     (t.range ∷ t.ranges, t.blocks)

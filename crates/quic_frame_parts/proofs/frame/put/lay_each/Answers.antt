@@ -1,5 +1,5 @@
 use Rattle.std.proofs.Common.{arith}
-use Rattle.quic_frame_parts.proofs.Spelled.{after_shorter, after_fits, read_more, read_all}
+use Rattle.quic_frame_parts.proofs.Encoded.{after_shorter, after_fits, read_more, read_all}
 use Rattle.quic_frame_parts.proofs.Putting.{LaidThem, laid_one, room_for_one}
 use Rattle.std.proofs.lemmas.Grind.{common_steps}
 use Rattle.quic_frame_parts.proofs.frame.put.lay_each.Goals as goal
@@ -7,7 +7,7 @@ use Rattle.quic_frame_parts.proofs.frame.put.lay_each.Goals as goal
 pub lay_bytes-at-requires : goal.lay_bytes-at-requires
 lay_bytes-at-requires c =
     let i = c.loop-number.invariant in
-    let room = room_for_one c.args.spelled.now c.loop-number.rest.now c.in-Ok.after.now c.args.dest.now c.loop-number.dest c.in-Ok.number c.args.len c.args.at c.loop-number.at i.fits c.requires.shortens i.read c.in-Ok.ensures.gives in
+    let room = room_for_one c.args.encoded.now c.loop-number.rest.now c.in-Ok.after.now c.args.dest.now c.loop-number.dest c.in-Ok.number c.args.len c.args.at c.loop-number.at i.fits c.requires.shortens i.read c.in-Ok.ensures.gives in
     rw c.lay_number-end.ensures.front (omega (arith, room, c.requires.room))
 
 pub loop-number-smaller : goal.loop-number-smaller

@@ -1,11 +1,11 @@
 use Rattle.std.proofs.Common.{◌≡◌, ℕ, List, length, subst, arith}
 use Rattle.quic_frame_parts.specs.Numbers.{all_short}
 use Rattle.quic_frame_parts.specs.Putting.{Lays}
-use Rattle.quic_frame_parts.proofs.Spelled.{short_already}
+use Rattle.quic_frame_parts.proofs.Encoded.{short_already}
 use Rattle.quic_frame_parts.proofs.frame.put.lay_shortened.Goals as goal
 
-pub returns-then-len-spelled-clause-lays : goal.returns-then-len-spelled-clause-lays
-returns-then-len-spelled-clause-lays c ns s =
-    let same : length c.args.spelled.now ≡ length (all_short ns) = omega (arith, c.if-len-spelled.true, c.requires.shortens.long ns s) in
+pub returns-then-len-encoded-clause-lays : goal.returns-then-len-encoded-clause-lays
+returns-then-len-encoded-clause-lays c ns s =
+    let same : length c.args.encoded.now ≡ length (all_short ns) = omega (arith, c.if-len-encoded.true, c.requires.shortens.long ns s) in
     let e = c.lay_bytes.ensures in
-    subst (λ (bytes : List ℕ). Lays bytes c.args.at c.args.dest.now c.lay_bytes.result c.lay_bytes.new.dest) ((short_already ns c.args.spelled.now s).1 same) (record { count = e.end; front = e.front; back = e.back })
+    subst (λ (bytes : List ℕ). Lays bytes c.args.at c.args.dest.now c.lay_bytes.result c.lay_bytes.new.dest) ((short_already ns c.args.encoded.now s).1 same) (record { count = e.end; front = e.front; back = e.back })

@@ -1,6 +1,6 @@
 use Rattle.std.proofs.Common.{◌+◌, drop, refl, arith}
 use Rattle.std.proofs.lemmas.List.{length-drop}
-use Rattle.quic_frame_parts.proofs.Spelled.{AreCounted, read_all, after_shorter, after_fits, after_least, drop_fits, read_behind, ones_counted, more_counted}
+use Rattle.quic_frame_parts.proofs.Encoded.{AreCounted, read_all, after_shorter, after_fits, after_least, drop_fits, read_behind, ones_counted, more_counted}
 use Rattle.quic_frame_parts.proofs.frame.write.count_and_len.Goals as goal
 
 pub returns-in_default-clause-count : goal.returns-in_default-clause-count

@@ -1,14 +1,14 @@
 use Rattle.std.proofs.Common.{ℕ, List, ◌≤◌, ◌+◌, length}
 use Rattle.quic_base.specs.Number.{AreBytes}
-use Rattle.quic_frame_parts.specs.Numbers.{AreSpelled}
-use Rattle.quic_frame_parts.proofs.Spelled.{ReadSome, AreCounted}
+use Rattle.quic_frame_parts.specs.Numbers.{AreEncoded}
+use Rattle.quic_frame_parts.proofs.Encoded.{ReadSome, AreCounted}
 use Rattle.quic_frame_parts.proofs.frame.write.count_and_len.Given as goal
 
 abbrev pub invariant-loop-number : goal.invariant-loop-number
 invariant-loop-number l = record {
-  read : (ns : List ℕ) → AreSpelled ns l.spelled → ReadSome (AreCounted l.count l.len) l.rest ns;
-  few : l.count + length l.rest ≤ length l.spelled;
-  small : l.len + length l.rest ≤ length l.spelled;
+  read : (ns : List ℕ) → AreEncoded ns l.encoded → ReadSome (AreCounted l.count l.len) l.rest ns;
+  few : l.count + length l.rest ≤ length l.encoded;
+  small : l.len + length l.rest ≤ length l.encoded;
   fits : AreBytes l.rest;
 }
 

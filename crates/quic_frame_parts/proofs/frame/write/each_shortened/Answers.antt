@@ -1,6 +1,6 @@
 use Rattle.std.proofs.Common.{arith}
 use Rattle.std.proofs.lemmas.Result.{err_from_is_err_and}
-use Rattle.quic_frame_parts.proofs.Spelled.{after_shorter, after_fits, read_more, read_all, wrote_one, wrote_them, refused_one}
+use Rattle.quic_frame_parts.proofs.Encoded.{after_shorter, after_fits, read_more, read_all, wrote_one, wrote_them, refused_one}
 use Rattle.std.proofs.lemmas.Grind.{common_steps}
 use Rattle.quic_frame_parts.proofs.frame.write.each_shortened.Goals as goal
 

@@ -1,5 +1,5 @@
 use Rattle.std.proofs.Common.{arith}
-use Rattle.quic_frame_parts.proofs.Spelled.{longer_at}
+use Rattle.quic_frame_parts.proofs.Encoded.{longer_at}
 use Rattle.quic_frame_parts.proofs.Numbers.{numeric_at}
 use Rattle.std.proofs.lemmas.Grind.{common_steps}
 use Rattle.quic_frame_parts.proofs.frame.write.numbers_len.Goals as goal

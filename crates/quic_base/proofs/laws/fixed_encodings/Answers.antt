@@ -1,5 +1,5 @@
 use Rattle.quic_base.proofs.PublicLaws.{number_unique, ipv4_unique, ipv6_unique, long_id_unique}
-use Rattle.quic_base.proofs.laws.fixed_spellings.Goals as goal
+use Rattle.quic_base.proofs.laws.fixed_encodings.Goals as goal
 
 pub returns-clause-numbers : goal.returns-clause-numbers
 returns-clause-numbers c = number_unique

@@ -1,5 +1,5 @@
 use Rattle.quic_frame_parts.proofs.Blocks.{acked, read_again}
-use Rattle.quic_frames.proofs.laws.ranges_spelled.Goals as goal
+use Rattle.quic_frames.proofs.laws.ranges_encoded.Goals as goal
 
 pub returns-clause-held : goal.returns-clause-held
 returns-clause-held c = λ ack fits. acked ack.largest ack.additional.now fits ack.valid
@@ -7,5 +7,5 @@ returns-clause-held c = λ ack fits. acked ack.largest ack.additional.now fits a
 pub returns-clause-read : goal.returns-clause-read
 returns-clause-read c = λ greatest bytes fits valid. acked greatest bytes fits valid
 
-pub returns-clause-spelled : goal.returns-clause-spelled
-returns-clause-spelled c = λ greatest ranges bytes s. read_again greatest ranges bytes s
+pub returns-clause-encoded : goal.returns-clause-encoded
+returns-clause-encoded c = λ greatest ranges bytes s. read_again greatest ranges bytes s

@@ -1,15 +1,15 @@
--- Numbers that bytes spell, read one after the other.
+-- Numbers that bytes encode, read one after the other.
 use Rattle.std.proofs.Common.{◌≡◌, ℕ, zero, suc, ◌+◌, ◌-◌, ◌<◌, ◌≤◌, List, [], ◌∷◌, ◌++◌, length, take, drop, get_or, Result, Ok, Err, refl, sym, ap, subst, ◌∙◌, append_assoc, arith}
 use Rattle.std.specs.Prelude.{slice_range}
 use Rattle.std.proofs.lemmas.Bool.Decides.{nat_tests}
 use Rattle.std.proofs.lemmas.List.{length-append, length-drop, append-nil, take-append-drop}
 use Rattle.quic_base.specs.Number.{AreBytes}
-use Rattle.quic_base.specs.Varint.{Spells, short, size}
-use Rattle.quic_base.proofs.PublicLaws.{back_bytes, length-short, short_least, short_spells}
+use Rattle.quic_base.specs.Varint.{Encodes, short, size}
+use Rattle.quic_base.proofs.PublicLaws.{back_bytes, length-short, short_least, shortest_encodes}
 use Rattle.quic_frame_parts.specs.declared.frame.fault.Fault.{Fault}
 use Rattle.quic_frame_parts.specs.Reading.{varint_at}
 use Rattle.quic_base.specs.Writing.{Writes}
-use Rattle.quic_frame_parts.specs.Numbers.{AreSpelled, all_short}
+use Rattle.quic_frame_parts.specs.Numbers.{AreEncoded, all_short}
 use Rattle.quic_frame_parts.proofs.Steps.{ok_is, ok_is_not_err}
 use Rattle.quic_frame_parts.proofs.Varints.{varint_takes, varint_again, varint_some}
 use Rattle.quic_base.proofs.Encoders.{Wrote, wrote_more, writes_within}
@@ -33,31 +33,31 @@ read_behind k rest r e = ap varint_at (sym (take_whole (drop k rest) (length res
 pub record NextNumber (ns : List ℕ) (n : ℕ) (after : List ℕ) : Type 0 where
   pub others : List ℕ
   pub are : ns ≡ n ∷ others
-  pub numbers : AreSpelled others after
+  pub numbers : AreEncoded others after
 
-pub next_number : (ns bytes : List ℕ) (n : ℕ) (after : List ℕ) → AreBytes bytes → AreSpelled ns bytes → varint_at bytes ≡ Ok (n, after) → NextNumber ns n after
+pub next_number : (ns bytes : List ℕ) (n : ℕ) (after : List ℕ) → AreBytes bytes → AreEncoded ns bytes → varint_at bytes ≡ Ok (n, after) → NextNumber ns n after
 next_number [] bytes n after fits s e = absurd (omega (arith, after_shorter bytes n after fits e, ap length s))
 next_number (k ∷ ns) bytes n after fits s e =
     let pair : (k, s.1) ≡ (n, after) = ok_is (k, s.1) (n, after) (sym (varint_again k s.0 s.1 s.3) ∙ ap varint_at (sym s.2) ∙ e) in
     record {
       others = ns;
       are = ap (λ (p : ℕ × List ℕ). p.0 ∷ ns) pair;
-      numbers = subst (λ (p : ℕ × List ℕ). AreSpelled ns p.1) pair s.4;
+      numbers = subst (λ (p : ℕ × List ℕ). AreEncoded ns p.1) pair s.4;
     }
 
-no_number : (ns bytes : List ℕ) (f : Fault) → AreSpelled ns bytes → varint_at bytes ≡ Err f → ns ≡ []
+no_number : (ns bytes : List ℕ) (f : Fault) → AreEncoded ns bytes → varint_at bytes ≡ Err f → ns ≡ []
 no_number [] bytes f s e = refl
 no_number (k ∷ ns) bytes f s e = absurd (ok_is_not_err (sym (varint_again k s.0 s.1 s.3) ∙ ap varint_at (sym s.2) ∙ e))
 
--- Some of the numbers were read, of which P holds; the rest spells the others.
+-- Some of the numbers were read, of which P holds; the rest encodes the others.
 pub record ReadSome (P : List ℕ → Type 0) (rest ns : List ℕ) : Type 0 where
   pub before : List ℕ
   pub left : List ℕ
   pub are : ns ≡ before ++ left
-  pub numbers : AreSpelled left rest
+  pub numbers : AreEncoded left rest
   pub holds : P before
 
-pub read_none : (P : List ℕ → Type 0) (bytes ns : List ℕ) → P [] → AreSpelled ns bytes → ReadSome P bytes ns
+pub read_none : (P : List ℕ → Type 0) (bytes ns : List ℕ) → P [] → AreEncoded ns bytes → ReadSome P bytes ns
 read_none P bytes ns p s = record { before = []; left = ns; are = refl; numbers = s; holds = p }
 
 pub read_more : (P Q : List ℕ → Type 0) (rest ns : List ℕ) (n : ℕ) (after : List ℕ) → AreBytes rest → ReadSome P rest ns → varint_at rest ≡ Ok (n, after) → ((before : List ℕ) → P before → Q (before ++ n ∷ [])) → ReadSome Q after ns
@@ -86,7 +86,7 @@ all_short-append (n ∷ some) others = ap (λ (l : List ℕ). short n ++ l) (all
 pub all_short-last : (ns : List ℕ) (n : ℕ) → all_short (ns ++ n ∷ []) ≡ all_short ns ++ short n
 all_short-last ns n = all_short-append ns (n ∷ []) ∙ ap (λ (l : List ℕ). all_short ns ++ l) (append-nil (short n))
 
--- how many they are, and how long their shortest spellings
+-- how many they are, and how long their shortest encodings
 pub record AreCounted (count total : ℕ) (ns : List ℕ) : Type 0 where
   pub many : count ≡ length ns
   pub long : total ≡ length (all_short ns)
@@ -119,7 +119,7 @@ unfolding short
 one_short n lt = grind (arith, nat_tests)
 
 one_at : (n : ℕ) (rest : List ℕ) → n < 64 → varint_at (n ∷ rest) ≡ Ok (n, rest)
-one_at n rest lt = varint_again n (n ∷ []) rest (subst (Spells n) (one_short n lt) (short_spells n (omega (arith, lt))))
+one_at n rest lt = varint_again n (n ∷ []) rest (subst (Encodes n) (one_short n lt) (shortest_encodes n (omega (arith, lt))))
 
 pub ones_counted : (k : ℕ) (rest : List ℕ) (count total count' total' : ℕ) (ns : List ℕ) → AreBytes rest → k ≤ length rest → ((i : ℕ) → i < k → get_or rest i 0 < 64) → count' ≡ count + k → total' ≡ total + k
     → ReadSome (AreCounted count total) rest ns → ReadSome (AreCounted count' total') (drop k rest) ns
@@ -136,7 +136,7 @@ pub more_counted : (rest : List ℕ) (count total n more count' total' : ℕ) (a
 more_counted rest count total n more count' total' after ns fits e more_is c t r =
     read_more (AreCounted count total) (AreCounted count' total') rest ns n after fits r e (one_counted count total n more count' total' more_is c t)
 
--- the shortest spelling is no longer than the one that was read
+-- the shortest encoding is no longer than the one that was read
 pub after_least : (rest : List ℕ) (n : ℕ) (after : List ℕ) → AreBytes rest → varint_at rest ≡ Ok (n, after) → size n + length after ≤ length rest
 after_least rest n after fits e =
     let t = varint_takes rest n after fits e in
@@ -148,8 +148,8 @@ longer_at ns i total more lt more_is e =
     let parts : all_short (take (i + 1) ns) ≡ all_short (take i ns) ++ short (get_or ns i 0) = ap (λ (k : ℕ). all_short (take k ns)) next ∙ all_short-at ns i lt in
     omega (arith, e, more_is, ap length parts, length-append (all_short (take i ns)) (short (get_or ns i 0)), length-short (get_or ns i 0))
 
--- bytes that are as long as the shortest spellings are these
-pub short_already : (ns bytes : List ℕ) → AreSpelled ns bytes → (length (all_short ns) ≤ length bytes) × (length bytes ≡ length (all_short ns) → bytes ≡ all_short ns)
+-- bytes that are as long as the shortest encodings are these
+pub short_already : (ns bytes : List ℕ) → AreEncoded ns bytes → (length (all_short ns) ≤ length bytes) × (length bytes ≡ length (all_short ns) → bytes ≡ all_short ns)
 short_already [] bytes s = (omega (arith, ap length s), λ _. s)
 short_already (n ∷ ns) bytes s =
     let first = short_least n s.0 s.3 in

@@ -39,14 +39,14 @@ OWN_NAMES = {
     ("DataBlocked", "Varint"): "Maximum Data",
     ("StreamsBlocked", "Varint"): "Maximum Streams",
     ("RetireConnectionId", "Varint"): "Sequence Number",
-    ("PathChallenge", "Eight"): "Data",
-    ("PathResponse", "Eight"): "Data",
-    ("Stream", "Unwritten"): "FIN",
+    ("PathChallenge", "Uint64"): "Data",
+    ("PathResponse", "Uint64"): "Data",
+    ("Stream", "Implied"): "FIN",
     ("Stream", "offset_field"): "Offset",
     ("Stream", "data_field"): "Stream Data",
     ("Datagram", "data_field"): "Datagram Data",
-    ("MaxStreams", "Unwritten"): "Direction",
-    ("StreamsBlocked", "Unwritten"): "Direction",
+    ("MaxStreams", "Implied"): "Direction",
+    ("StreamsBlocked", "Implied"): "Direction",
 }
 NAMES = {
     "error_code": "Application Protocol Error Code",
@@ -199,7 +199,7 @@ def unwritten(group):
     found = collections.defaultdict(lambda: collections.defaultdict(set))
     for frame in group:
         for part in frame.parts:
-            if part.kind == "Unwritten":
+            if part.kind == "Implied":
                 found[part.name][part.value].add(frame.type)
     return found
 
@@ -212,7 +212,7 @@ def unwritten_notes(group, types):
         told = {value: told_by(some, types) for value, some in values.items()}
         first = [f"{value} {by}" for value, by in told.items() if not by.startswith("without")]
         others = [f"else {value}" for value, by in told.items() if by.startswith("without")]
-        yield f"{name} (`Unwritten`) is {', '.join(first + others)}."
+        yield f"{name} (`Implied`) is {', '.join(first + others)}."
 
 
 def notes(group, optional):
@@ -221,7 +221,7 @@ def notes(group, optional):
     parts = {part.kind: part for frame in group for part in frame.parts}
     names = {("ECN Counts" if line in COUNTS else line.split(" (")[0]): some for line, some in optional.items()}
     for name, some in names.items():
-        other = "".join(f", else {value} (`Unwritten`)" for value in unwritten(group).get(name, ()))
+        other = "".join(f", else {value} (`Implied`)" for value in unwritten(group).get(name, ()))
         yield f"{name} stands {told_by(some, types)}{other}."
     yield from unwritten_notes(group, types)
     if "Rest" in parts:
@@ -302,7 +302,7 @@ def beginning():
         "## Frames", "",
         "A frame is its type, in any width or, where `strict`, the shortest, and its row's fields one after another"
         f" (`IsFrame`, crates/{PAYLOAD}.antt; `IsField`, crates/{FIELD}.antt); a payload is frames to its end"
-        " (`AreFrames`). Types without a row are none. What is `Unwritten` takes no bytes.",
+        " (`AreFrames`). Types without a row are none. What is `Implied` takes no bytes.",
         "",
         f"Rows are those of crates/{TABLE}.antt (`rows`, by type). Beneath a figure stand the values in the code, by"
         " `meaning_of` or the word in brackets.",

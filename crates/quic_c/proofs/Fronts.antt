@@ -9,7 +9,7 @@ use Rattle.quic_base.proofs.PublicLaws.{back_bytes}
 use Rattle.quic_frame_parts.specs.AckPlace.{ack_at}
 use Rattle.quic_frame_parts.specs.declared.frame.fault.Fault.{Fault}
 use Rattle.quic_frame_parts.specs.declared.frame.fault.Fault.TheVariants.{UnexpectedEnd}
-use Rattle.quic_frame_parts.specs.Field.{LacksNumber}
+use Rattle.quic_frame_parts.specs.Field.{NoNumber}
 use Rattle.quic_frame_parts.specs.Reading.{◌>>=◌, varint_at, after_blocks, blocks_at}
 use Rattle.quic_frame_parts.proofs.Steps.{bind_ok, ok_is}
 use Rattle.quic_frame_parts.proofs.Varints.{varint_takes, varint_read, varint_cut}
@@ -92,14 +92,14 @@ is_err : (r : Result (ℕ × List ℕ) Fault) → r ≡ Err UnexpectedEnd → Is
 is_err (Ok x) h = absurd cc
 is_err (Err d) h = refl
 
-pub lacks_largest : (bytes a : List ℕ) → AreBytes bytes → varint_at bytes ≡ Ok (2, a) → LacksNumber a → IsErr (ack_front_at bytes)
+pub lacks_largest : (bytes a : List ℕ) → AreBytes bytes → varint_at bytes ≡ Ok (2, a) → NoNumber a → IsErr (ack_front_at bytes)
 lacks_largest bytes a fits one cut = behind bytes 2 a _ fits one (λ f e fits1. is_err (ack_front_at bytes) (no_largest bytes a one (varint_cut a fits1 cut)))
 
-pub lacks_delay : (bytes a b : List ℕ) (largest : ℕ) → AreBytes bytes → varint_at bytes ≡ Ok (2, a) → varint_at a ≡ Ok (largest, b) → LacksNumber b → IsErr (ack_front_at bytes)
+pub lacks_delay : (bytes a b : List ℕ) (largest : ℕ) → AreBytes bytes → varint_at bytes ≡ Ok (2, a) → varint_at a ≡ Ok (largest, b) → NoNumber b → IsErr (ack_front_at bytes)
 lacks_delay bytes a b largest fits one two cut =
     behind bytes 2 a _ fits one (λ f e fits1. behind a largest b _ fits1 two (λ g h fits2. is_err (ack_front_at bytes) (no_delay bytes a b largest one two (varint_cut b fits2 cut))))
 
-pub lacks_count : (bytes a b c : List ℕ) (largest delay : ℕ) → AreBytes bytes → varint_at bytes ≡ Ok (2, a) → varint_at a ≡ Ok (largest, b) → varint_at b ≡ Ok (delay, c) → LacksNumber c → IsErr (ack_front_at bytes)
+pub lacks_count : (bytes a b c : List ℕ) (largest delay : ℕ) → AreBytes bytes → varint_at bytes ≡ Ok (2, a) → varint_at a ≡ Ok (largest, b) → varint_at b ≡ Ok (delay, c) → NoNumber c → IsErr (ack_front_at bytes)
 lacks_count bytes a b c largest delay fits one two three cut =
     behind bytes 2 a _ fits one (λ f e fits1. behind a largest b _ fits1 two (λ g h fits2. behind b delay c _ fits2 three (λ i j fits3. is_err (ack_front_at bytes) (no_count bytes a b c largest delay one two three (varint_cut c fits3 cut)))))
 

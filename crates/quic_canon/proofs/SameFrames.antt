@@ -41,11 +41,11 @@ field_down : (field : Field) (before values : List Value) (bytes : List ℕ) →
 field_down kinds.Varint before values bytes s = one_down (Number s.0) values s.1 tt
 field_down kinds.Counted before values bytes s = one_down (Bytes s.1) values s.2 tt
 field_down kinds.Id before values bytes s = one_down (Bytes s.0) values s.1 tt
-field_down kinds.Eight before values bytes s = one_down (Number s.0) values s.1 tt
-field_down kinds.Sixteen before values bytes s = one_down (Bytes bytes) values s.0 tt
+field_down kinds.Uint64 before values bytes s = one_down (Number s.0) values s.1 tt
+field_down kinds.Bytes16 before values bytes s = one_down (Bytes bytes) values s.0 tt
 field_down kinds.Blocks before values bytes s = one_down (Ranges (s.2 ∷ s.3)) values s.4 (blocks_apart _ (s.2 ∷ s.3) s.1 s.7)
 field_down kinds.Rest before values bytes s = one_down (Bytes bytes) values s tt
-field_down (kinds.Unwritten n) before values bytes s = one_down (Number n) values s.0 tt
+field_down (kinds.Implied n) before values bytes s = one_down (Number n) values s.0 tt
 field_down kinds.Ordered before values bytes s = subst AreDown (sym s.0) tt
 
 fields_down : (fields : List Field) (before after : List Value) (bytes : List ℕ) → AreDown before → AreFields fields before after bytes → AreDown after
@@ -144,22 +144,22 @@ varint_is : (field : Field) → is_varint field ≡ true → field ≡ kinds.Var
 varint_is kinds.Varint e = refl
 varint_is kinds.Counted e = absurd cc
 varint_is kinds.Id e = absurd cc
-varint_is kinds.Eight e = absurd cc
-varint_is kinds.Sixteen e = absurd cc
+varint_is kinds.Uint64 e = absurd cc
+varint_is kinds.Bytes16 e = absurd cc
 varint_is kinds.Blocks e = absurd cc
 varint_is kinds.Rest e = absurd cc
-varint_is (kinds.Unwritten n) e = absurd cc
+varint_is (kinds.Implied n) e = absurd cc
 varint_is kinds.Ordered e = absurd cc
 
 blocks_is : (field : Field) → is_blocks field ≡ true → field ≡ kinds.Blocks
 blocks_is kinds.Varint e = absurd cc
 blocks_is kinds.Counted e = absurd cc
 blocks_is kinds.Id e = absurd cc
-blocks_is kinds.Eight e = absurd cc
-blocks_is kinds.Sixteen e = absurd cc
+blocks_is kinds.Uint64 e = absurd cc
+blocks_is kinds.Bytes16 e = absurd cc
 blocks_is kinds.Blocks e = refl
 blocks_is kinds.Rest e = absurd cc
-blocks_is (kinds.Unwritten n) e = absurd cc
+blocks_is (kinds.Implied n) e = absurd cc
 blocks_is kinds.Ordered e = absurd cc
 
 acks_are : (fields : List Field) → are_acks fields ≡ true → (more : List Field) × (fields ≡ kinds.Varint ∷ kinds.Varint ∷ kinds.Blocks ∷ more)

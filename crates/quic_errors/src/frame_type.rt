@@ -81,7 +81,7 @@ impl FrameType {
     /// A connection id is used no more (RFC 9000, section 19.16).
     pub const RETIRE_CONNECTION_ID: FrameType = FrameType(0x19);
 
-    /// Eight bytes that the peer must send back (RFC 9000, section 19.17).
+    /// Uint64 bytes that the peer must send back (RFC 9000, section 19.17).
     pub const PATH_CHALLENGE: FrameType = FrameType(0x1a);
 
     /// The eight bytes of a challenge (RFC 9000, section 19.18).

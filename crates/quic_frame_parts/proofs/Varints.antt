@@ -7,7 +7,7 @@ use Rattle.quic_base.specs.Reading.{number_at}
 use Rattle.quic_base.proofs.PublicLaws.{number_taken, number_again, no_number, encoded_bound}
 use Rattle.quic_frame_parts.specs.declared.frame.fault.Fault.{Fault}
 use Rattle.quic_frame_parts.specs.declared.frame.fault.Fault.TheVariants.{UnexpectedEnd}
-use Rattle.quic_frame_parts.specs.Field.{LacksNumber}
+use Rattle.quic_frame_parts.specs.Field.{NoNumber}
 use Rattle.quic_frame_parts.specs.Reading.{or_end, varint_at}
 
 or_end_ok : (found : Option (ℕ × List ℕ)) (x : ℕ × List ℕ) → or_end found ≡ Ok x → found ≡ Some x
@@ -37,7 +37,7 @@ varint_some n bytes s = (encoded_bound n bytes s).1
 pub varint_read : (n : ℕ) (bytes rest : List ℕ) → Takes (Encodes n) bytes rest → varint_at bytes ≡ Ok (n, rest)
 varint_read n bytes rest t = ap varint_at t.split ∙ varint_again n t.front rest t.is
 
-pub varint_cut : (bytes : List ℕ) → AreBytes bytes → LacksNumber bytes → varint_at bytes ≡ Err UnexpectedEnd
+pub varint_cut : (bytes : List ℕ) → AreBytes bytes → NoNumber bytes → varint_at bytes ≡ Err UnexpectedEnd
 unfolding varint_at
 varint_cut bytes fits none = ap or_end (no_number bytes fits none)
 

@@ -21,15 +21,15 @@ pub data Field : Type 0 where
   -- a byte n from 1 to 20, and n bytes
   Id : Field
   -- a number of eight bytes
-  Eight : Field
+  Uint64 : Field
   -- sixteen bytes
-  Sixteen : Field
+  Bytes16 : Field
   -- the ranges of an ACK whose greatest number is the first number before: their count less one, and their blocks
   Blocks : Field
   -- all that is left
   Rest : Field
   -- no bytes: the number is given
-  Unwritten : ℕ → Field
+  Implied : ℕ → Field
   -- no bytes and no value: of the two numbers before, the second is at most the first
   Ordered : Field
 
@@ -73,18 +73,18 @@ abbrev pub IsField : Field → List Value → List Value → List ℕ → Type 0
 IsField Varint before values bytes = (n : ℕ) × (values ≡ Number n ∷ []) × Encodes n bytes
 IsField Counted before values bytes = (front back : List ℕ) × (values ≡ Bytes back ∷ []) × Encodes (length back) front × (bytes ≡ front ++ back)
 IsField Id before values bytes = (back : List ℕ) × (values ≡ Bytes back ∷ []) × (0 < length back) × (length back ≤ 20) × (bytes ≡ length back ∷ back)
-IsField Eight before values bytes = (n : ℕ) × (values ≡ Number n ∷ []) × IsNumber 8 n bytes
-IsField Sixteen before values bytes = (values ≡ Bytes bytes ∷ []) × (length bytes ≡ 16)
+IsField Uint64 before values bytes = (n : ℕ) × (values ≡ Number n ∷ []) × IsNumber 8 n bytes
+IsField Bytes16 before values bytes = (values ≡ Bytes bytes ∷ []) × (length bytes ≡ 16)
 IsField Blocks before values bytes =
     (front back : List ℕ) × (range : ℕ × ℕ) × (ranges : List (ℕ × ℕ)) × (values ≡ Ranges (range ∷ ranges) ∷ []) × (bytes ≡ front ++ back)
     × Encodes (length ranges) front × AreBlocks (greatest_of before) (range ∷ ranges) back
 IsField Rest before values bytes = values ≡ Bytes bytes ∷ []
-IsField (Unwritten n) before values bytes = (values ≡ Number n ∷ []) × (bytes ≡ [])
+IsField (Implied n) before values bytes = (values ≡ Number n ∷ []) × (bytes ≡ [])
 IsField Ordered before values bytes = (values ≡ []) × (bytes ≡ []) × (is_ordered before ≡ true)
 
 -- no front of the bytes is a number
-abbrev pub LacksNumber : List ℕ → Type 0
-LacksNumber bytes = (n : ℕ) → NoFront (Encodes n) bytes
+abbrev pub NoNumber : List ℕ → Type 0
+NoNumber bytes = (n : ℕ) → NoFront (Encodes n) bytes
 
 -- A number stands first, and the rest is as P says.
 abbrev pub Begins : List ℕ → (ℕ → List ℕ → Type 0) → Type 0
@@ -94,7 +94,7 @@ Begins bytes P = (n : ℕ) × (front back : List ℕ) × (bytes ≡ front ++ bac
 -- read.
 abbrev pub NumberStops : List ℕ → Fault → (ℕ → Bool) → (ℕ → List ℕ → Type 0) → Type 0
 NumberStops bytes reason is_large After =
-    (LacksNumber bytes × (reason ≡ UnexpectedEnd))
+    (NoNumber bytes × (reason ≡ UnexpectedEnd))
     ⊎ Begins bytes (λ n rest. (is_large n ≡ true) × (reason ≡ Malformed))
     ⊎ Begins bytes (λ n rest. (is_large n ≡ false) × After n rest)
 

@@ -4,7 +4,7 @@ use Rattle.std.specs.Prelude.{◌≡◌, ◌≢◌, ℕ, List, [], ◌∷◌, �
 use Rattle.quic_base.specs.Varint.{Encodes, short}
 use Rattle.quic_frame_parts.specs.declared.frame.fault.Fault.{Fault}
 use Rattle.quic_frame_parts.specs.declared.frame.fault.Fault.TheVariants.{UnexpectedEnd, InvalidFrameId, LongType}
-use Rattle.quic_frame_parts.specs.Field.{Value, AreFields, StopsWithin, LacksNumber}
+use Rattle.quic_frame_parts.specs.Field.{Value, AreFields, StopsWithin, NoNumber}
 use Rattle.quic_frame_parts.specs.Table.{Name, Row, row_of, is_open}
 
 -- a frame: its name, and its values in the order of the wire
@@ -59,7 +59,7 @@ pub record BeginsWithType (strict : Bool) (bytes : List ℕ) (t : ℕ) (P : List
 -- No frame begins here: no type can be read,
 pub record LacksType (bytes : List ℕ) : Type 0 where
   pub some : bytes ≢ []
-  pub no_front : LacksNumber bytes
+  pub no_front : NoNumber bytes
 
 -- or one in another width than the least, where that counts,
 pub record HasLongType (strict : Bool) (bytes : List ℕ) (t : ℕ) : Type 0 where

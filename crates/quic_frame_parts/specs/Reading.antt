@@ -5,7 +5,7 @@ use Rattle.quic_base.specs.Varint.{size}
 use Rattle.quic_base.specs.Reading.{number_at}
 use Rattle.quic_frame_parts.specs.declared.frame.fault.Fault.{Fault}
 use Rattle.quic_frame_parts.specs.declared.frame.fault.Fault.TheVariants.{UnexpectedEnd, InvalidFrameId, Malformed, LongType}
-use Rattle.quic_frame_parts.specs.Field.{Value, Number, Bytes, Ranges, Field, Varint, Counted, Id, Eight, Sixteen, Blocks, Rest, Unwritten, Ordered, is_ordered, greatest_of}
+use Rattle.quic_frame_parts.specs.Field.{Value, Number, Bytes, Ranges, Field, Varint, Counted, Id, Uint64, Bytes16, Blocks, Rest, Implied, Ordered, is_ordered, greatest_of}
 use Rattle.quic_frame_parts.specs.Table.{Row, row_of}
 use Rattle.quic_frame_parts.specs.Payload.{Meaning, Found}
 
@@ -134,11 +134,11 @@ abbrev pub field_at : Field → List Value → List ℕ → Result (List Value �
 field_at Varint before bytes = varint_at bytes >>= of_number
 field_at Counted before bytes = counted_at bytes >>= of_bytes
 field_at Id before bytes = id_at bytes >>= of_bytes
-field_at Eight before bytes = eight_at bytes >>= of_number
-field_at Sixteen before bytes = bytes_at 16 bytes >>= of_bytes
+field_at Uint64 before bytes = eight_at bytes >>= of_number
+field_at Bytes16 before bytes = bytes_at 16 bytes >>= of_bytes
 field_at Blocks before bytes = blocks_at (greatest_of before) bytes >>= of_ranges (greatest_of before)
 field_at Rest before bytes = Ok (Bytes bytes ∷ [], [])
-field_at (Unwritten n) before bytes = Ok (Number n ∷ [], bytes)
+field_at (Implied n) before bytes = Ok (Number n ∷ [], bytes)
 field_at Ordered before bytes = if is_ordered before then Ok ([], bytes) else Err Malformed
 
 -- the fields in a row

@@ -2,7 +2,7 @@
 use Rattle.std.specs.Prelude.{ℕ, ◌+◌, ◌-◌, List, [], ◌∷◌, ◌++◌, ◌==◌, length, take, max, Option, Some, None, Bool, if◌then◌else◌}
 use Rattle.quic_base.specs.Number.{bytes_of}
 use Rattle.quic_base.specs.Varint.{short, size}
-use Rattle.quic_frame_parts.specs.Field.{Value, Number, Bytes, Ranges, Field, Varint, Counted, Id, Eight, Sixteen, Blocks, Rest, Ordered}
+use Rattle.quic_frame_parts.specs.Field.{Value, Number, Bytes, Ranges, Field, Varint, Counted, Id, Uint64, Bytes16, Blocks, Rest, Ordered}
 use Rattle.quic_frame_parts.specs.Table.{Name, Ack, Stream, Datagram, Row, row_of}
 use Rattle.quic_frame_parts.specs.Payload.{Meaning}
 use Rattle.quic_frame_parts.specs.Parts.{flag, named_type, connection_close, application_close}
@@ -24,8 +24,8 @@ abbrev pub shortest_of : Field → List Value → List ℕ
 shortest_of Varint (Number n ∷ values) = short n
 shortest_of Counted (Bytes bytes ∷ values) = short (length bytes) ++ bytes
 shortest_of Id (Bytes bytes ∷ values) = length bytes ∷ bytes
-shortest_of Eight (Number n ∷ values) = bytes_of 8 n
-shortest_of Sixteen (Bytes bytes ∷ values) = bytes
+shortest_of Uint64 (Number n ∷ values) = bytes_of 8 n
+shortest_of Bytes16 (Bytes bytes ∷ values) = bytes
 shortest_of Blocks (Ranges ranges ∷ values) = shortest_blocks ranges
 shortest_of Rest (Bytes bytes ∷ values) = bytes
 shortest_of field values = []

@@ -5,7 +5,7 @@ use Rattle.std.specs.Map.{lookup}
 use Rattle.quic_base.specs.declared.ids.Dir.{Dir}
 use Rattle.quic_base.specs.declared.ids.Dir.TheVariants.{Bi, Uni}
 use Rattle.quic_base.specs.Ids.{dir_number}
-use Rattle.quic_frame_parts.specs.Field.{Field, Varint, Counted, Id, Eight, Sixteen, Blocks, Rest, Unwritten, Ordered, is_rest}
+use Rattle.quic_frame_parts.specs.Field.{Field, Varint, Counted, Id, Uint64, Bytes16, Blocks, Rest, Implied, Ordered, is_rest}
 
 pub data Name : Type 0 where
   Padding : Name
@@ -91,7 +91,7 @@ abbrev pub connection_id : Field
 connection_id = Id
 
 abbrev pub stateless_reset_token : Field
-stateless_reset_token = Sixteen
+stateless_reset_token = Bytes16
 
 abbrev pub frame_type : Field
 frame_type = Varint
@@ -129,14 +129,14 @@ abbrev pub new_token_row : Row
 new_token_row = row NewToken (token ∷ [])
 
 abbrev pub offset_field : Bool → Field
-offset_field is_written = if is_written then Varint else Unwritten 0
+offset_field is_written = if is_written then Varint else Implied 0
 
 abbrev pub data_field : Bool → Field
 data_field is_counted = if is_counted then Counted else Rest
 
 -- a STREAM by the low three bits of its type; first whether it ends the stream, then its id, offset and data
 abbrev pub stream_row : Bool → Bool → Bool → Row
-stream_row has_offset has_length fin = row Stream (Unwritten (if fin then 1 else 0) ∷ stream_id ∷ offset_field has_offset ∷ data_field has_length ∷ [])
+stream_row has_offset has_length fin = row Stream (Implied (if fin then 1 else 0) ∷ stream_id ∷ offset_field has_offset ∷ data_field has_length ∷ [])
 
 abbrev pub max_stream_data_row : Row
 max_stream_data_row = row MaxStreamData (stream_id ∷ maximum_stream_data ∷ [])
@@ -146,10 +146,10 @@ stream_data_blocked_row = row StreamDataBlocked (stream_id ∷ maximum_stream_da
 
 -- first the direction, then the count
 abbrev pub max_streams_row : Dir → Row
-max_streams_row dir = row MaxStreams (Unwritten (dir_number dir) ∷ Varint ∷ [])
+max_streams_row dir = row MaxStreams (Implied (dir_number dir) ∷ Varint ∷ [])
 
 abbrev pub streams_blocked_row : Dir → Row
-streams_blocked_row dir = row StreamsBlocked (Unwritten (dir_number dir) ∷ Varint ∷ [])
+streams_blocked_row dir = row StreamsBlocked (Implied (dir_number dir) ∷ Varint ∷ [])
 
 -- the sequence number, the one before which ids are retired, which is at most that, the id, the token
 abbrev pub new_connection_id_row : Row
@@ -175,7 +175,7 @@ number_row name = row name (Varint ∷ [])
 
 -- a frame of eight bytes
 abbrev pub path_row : Name → Row
-path_row name = row name (Eight ∷ [])
+path_row name = row name (Uint64 ∷ [])
 
 abbrev pub empty_row : Name → Row
 empty_row name = row name []

@@ -9,7 +9,7 @@ use Rattle.quic_base.specs.Varint.{Encodes}
 use Rattle.quic_base.proofs.PublicLaws.{front_bytes, back_bytes}
 use Rattle.quic_frame_parts.specs.declared.frame.fault.Fault.{Fault}
 use Rattle.quic_frame_parts.specs.declared.frame.fault.Fault.TheVariants.{UnexpectedEnd, Malformed}
-use Rattle.quic_frame_parts.specs.Field.{Value, is_rest, Number, Bytes, Ranges, Field, Varint, Counted, Id, Eight, Sixteen, Blocks, Rest, Unwritten, Ordered, is_ordered, greatest_of, IsField, AreFields, Stops, StopsWithin, IsReason}
+use Rattle.quic_frame_parts.specs.Field.{Value, is_rest, Number, Bytes, Ranges, Field, Varint, Counted, Id, Uint64, Bytes16, Blocks, Rest, Implied, Ordered, is_ordered, greatest_of, IsField, AreFields, Stops, StopsWithin, IsReason}
 use Rattle.quic_frame_parts.specs.Table.{has_rest}
 use Rattle.quic_frame_parts.specs.Reading.{◌>>=◌, varint_at, bytes_at, counted_at, id_at, eight_at, blocks_at, of_number, of_bytes, of_ranges, ranges_of, field_at, fields_at}
 use Rattle.quic_frame_parts.proofs.Steps.{bind_ok, bind_err, mapped_err, err_of, only_fault, only_fault_else, true_is_not_false, ok_is_not_err, append_is_nil, guard_ok, ok_is}
@@ -78,19 +78,19 @@ field_takes Id before (n ∷ bytes) x fits e =
       split = ap (λ (l : List ℕ). n ∷ l) u.parts;
       is = (a.0.0, refl, omega (arith, u.len, r.0), omega (arith, u.len, r.1), ap (λ (k : ℕ). k ∷ a.0.0) (sym u.len));
     })
-field_takes Eight before bytes x fits e =
+field_takes Uint64 before bytes x fits e =
     let a = bind_ok (eight_at bytes) of_number x e in
     let b = bind_ok (bytes_at 8 bytes) (λ n. Ok (num n.0, n.1)) a.0 a.1 in
     let u = bytes_take 8 bytes b.0.0 b.0.1 b.1 in
     let encoded : IsNumber 8 (num b.0.0) b.0.0 = record { bytes = front_bytes b.0.0 b.0.1 (subst AreBytes u.parts fits); width = u.len; value = refl } in
-    let here : Takes (IsField Eight before (Number (num b.0.0) ∷ [])) bytes b.0.1 = record { front = b.0.0; split = u.parts; is = (num b.0.0, refl, encoded) } in
+    let here : Takes (IsField Uint64 before (Number (num b.0.0) ∷ [])) bytes b.0.1 = record { front = b.0.0; split = u.parts; is = (num b.0.0, refl, encoded) } in
     let same : (num b.0.0, b.0.1) ≡ a.0 = ok_is (num b.0.0, b.0.1) a.0 b.2 in
-    subst (λ (y : List Value × List ℕ). Takes (IsField Eight before y.0) bytes y.1) (ok_is (Number a.0.0 ∷ [], a.0.1) x a.2)
-    (subst (λ (y : ℕ × List ℕ). Takes (IsField Eight before (Number y.0 ∷ [])) bytes y.1) same here)
-field_takes Sixteen before bytes x fits e =
+    subst (λ (y : List Value × List ℕ). Takes (IsField Uint64 before y.0) bytes y.1) (ok_is (Number a.0.0 ∷ [], a.0.1) x a.2)
+    (subst (λ (y : ℕ × List ℕ). Takes (IsField Uint64 before (Number y.0 ∷ [])) bytes y.1) same here)
+field_takes Bytes16 before bytes x fits e =
     let a = bind_ok (bytes_at 16 bytes) of_bytes x e in
     let u = bytes_take 16 bytes a.0.0 a.0.1 a.1 in
-    subst (λ (y : List Value × List ℕ). Takes (IsField Sixteen before y.0) bytes y.1) (ok_is (Bytes a.0.0 ∷ [], a.0.1) x a.2)
+    subst (λ (y : List Value × List ℕ). Takes (IsField Bytes16 before y.0) bytes y.1) (ok_is (Bytes a.0.0 ∷ [], a.0.1) x a.2)
     (record { front = a.0.0; split = u.parts; is = (refl, u.len) })
 field_takes Blocks before bytes x fits e =
     let greatest = greatest_of before in
@@ -106,8 +106,8 @@ field_takes Blocks before bytes x fits e =
 field_takes Rest before bytes x fits e =
     subst (λ (y : List Value × List ℕ). Takes (IsField Rest before y.0) bytes y.1) (ok_is (Bytes bytes ∷ [], []) x e)
     (record { front = bytes; split = sym (append-nil bytes); is = refl })
-field_takes (Unwritten n) before bytes x fits e =
-    subst (λ (y : List Value × List ℕ). Takes (IsField (Unwritten n) before y.0) bytes y.1) (ok_is (Number n ∷ [], bytes) x e)
+field_takes (Implied n) before bytes x fits e =
+    subst (λ (y : List Value × List ℕ). Takes (IsField (Implied n) before y.0) bytes y.1) (ok_is (Number n ∷ [], bytes) x e)
     (record { front = []; split = refl; is = (refl, refl) })
 field_takes Ordered before bytes x fits e =
     let g = condition (is_ordered before) Malformed ([], bytes) x e in
@@ -126,15 +126,15 @@ field_again Counted before values front left closed s =
     rw (regrouped, varint_again (length s.1) s.0 (s.1 ++ left) s.3, bytes_again (length s.1) s.1 left refl, s.2) refl
 field_again Id before values front left closed s =
     rw (s.4, is_in_range (length s.0) s.2 s.3, bytes_again (length s.0) s.0 left refl, s.1) refl
-field_again Eight before values front left closed s = rw (bytes_again 8 front left s.2.width, s.1, s.2.value) refl
-field_again Sixteen before values front left closed s = rw (bytes_again 16 front left s.1, s.0) refl
+field_again Uint64 before values front left closed s = rw (bytes_again 8 front left s.2.width, s.1, s.2.value) refl
+field_again Bytes16 before values front left closed s = rw (bytes_again 16 front left s.1, s.0) refl
 field_again Blocks before values front left closed s =
     let greatest = greatest_of before in
     let are : ranges_of greatest s.1 ≡ s.2 ∷ s.3 = ranges_are greatest s.2 s.3 s.1 s.7 in
     rw (s.5, s.4) (ap (λ r. r >>= of_ranges greatest) (blocks_again greatest s.2 s.3 s.0 s.1 left s.6 s.7)
     ∙ ap (λ (r : List (ℕ × ℕ)). ranged r left) are)
 field_again Rest before values front left closed s = rw (closed refl, append-nil front, s) refl
-field_again (Unwritten n) before values front left closed s = rw (s.0, s.1) refl
+field_again (Implied n) before values front left closed s = rw (s.0, s.1) refl
 field_again Ordered before values front left closed s = rw (s.2, s.0, s.1) refl
 
 -- ---- what can't be read
@@ -165,11 +165,11 @@ field_fails Varint before bytes e h fits = (varint_fails bytes e (mapped_err (va
 field_fails Counted before bytes e h fits = (counted_fails bytes e (mapped_err (counted_at bytes) (λ x. (Bytes x.0 ∷ [], x.1)) e h), refl)
 field_fails Id before [] e h fits = (cc, refl)
 field_fails Id before (n ∷ bytes) e h fits = (id_fails (eqb n 0 || ltb 20 n) n bytes e (mapped_err (id_at (n ∷ bytes)) (λ x. (Bytes x.0 ∷ [], x.1)) e h), refl)
-field_fails Eight before bytes e h fits = (eight_fails bytes e (mapped_err (eight_at bytes) (λ x. (Number x.0 ∷ [], x.1)) e h), refl)
-field_fails Sixteen before bytes e h fits = (bytes_fail 16 bytes e (mapped_err (bytes_at 16 bytes) (λ x. (Bytes x.0 ∷ [], x.1)) e h), refl)
+field_fails Uint64 before bytes e h fits = (eight_fails bytes e (mapped_err (eight_at bytes) (λ x. (Number x.0 ∷ [], x.1)) e h), refl)
+field_fails Bytes16 before bytes e h fits = (bytes_fail 16 bytes e (mapped_err (bytes_at 16 bytes) (λ x. (Bytes x.0 ∷ [], x.1)) e h), refl)
 field_fails Blocks before bytes e h fits = (blocks_fail (greatest_of before) bytes e fits (mapped_err (blocks_at (greatest_of before) bytes) (λ x. (Ranges (ranges_of (greatest_of before) x.0) ∷ [], x.1)) e h), refl)
 field_fails Rest before bytes e h fits = absurd cc
-field_fails (Unwritten n) before bytes e h fits = absurd cc
+field_fails (Implied n) before bytes e h fits = absurd cc
 field_fails Ordered before bytes e h fits = (only_fault_else (is_ordered before) Malformed e _ h, refl)
 
 pub field_stops : (field : Field) (before : List Value) (bytes : List ℕ) (e : Fault) → AreBytes bytes → field_at field before bytes ≡ Err e → Stops field before bytes e
@@ -188,10 +188,10 @@ same_reason Blocks before bytes d e fits p q = blocks_reason (greatest_of before
 same_reason Varint before bytes d e fits p q = p ∙ sym q
 same_reason Counted before bytes d e fits p q = p ∙ sym q
 same_reason Id before bytes d e fits p q = p ∙ sym q
-same_reason Eight before bytes d e fits p q = p ∙ sym q
-same_reason Sixteen before bytes d e fits p q = p ∙ sym q
+same_reason Uint64 before bytes d e fits p q = p ∙ sym q
+same_reason Bytes16 before bytes d e fits p q = p ∙ sym q
 same_reason Rest before bytes d e fits p q = p ∙ sym q
-same_reason (Unwritten n) before bytes d e fits p q = p ∙ sym q
+same_reason (Implied n) before bytes d e fits p q = p ∙ sym q
 same_reason Ordered before bytes d e fits p q = p ∙ sym q
 
 pub stops_again : (field : Field) (before : List Value) (bytes : List ℕ) (e : Fault) → AreBytes bytes → Stops field before bytes e → field_at field before bytes ≡ Err e
@@ -214,9 +214,9 @@ rest_takes_all Blocks before bytes x e opens = absurd cc
 rest_takes_all Varint before bytes x e opens = absurd cc
 rest_takes_all Counted before bytes x e opens = absurd cc
 rest_takes_all Id before bytes x e opens = absurd cc
-rest_takes_all Eight before bytes x e opens = absurd cc
-rest_takes_all Sixteen before bytes x e opens = absurd cc
-rest_takes_all (Unwritten n) before bytes x e opens = absurd cc
+rest_takes_all Uint64 before bytes x e opens = absurd cc
+rest_takes_all Bytes16 before bytes x e opens = absurd cc
+rest_takes_all (Implied n) before bytes x e opens = absurd cc
 rest_takes_all Ordered before bytes x e opens = absurd cc
 
 nothing_left : (b c : Bool) (bytes front left : List ℕ) → bytes ≡ front ++ left → (b ≡ true → bytes ≡ []) → (c ≡ true → left ≡ []) → (b || c) ≡ true → left ≡ []

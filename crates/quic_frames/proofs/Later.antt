@@ -6,7 +6,7 @@ use Rattle.quic_base.specs.Number.{AreBytes}
 use Rattle.quic_base.proofs.PublicLaws.{front_bytes, back_bytes}
 use Rattle.quic_frame_parts.specs.declared.frame.fault.Fault.{Fault}
 use Rattle.quic_frame_parts.specs.declared.frame.fault.Fault.TheVariants.{UnexpectedEnd, InvalidFrameId, Malformed, LongType}
-use Rattle.quic_frame_parts.specs.Field.{Value, Field, Varint, Counted, Id, Eight, Sixteen, Blocks, Rest, Unwritten, Ordered, is_ordered, greatest_of, NumberStops, BelowStops, BlocksStop, StopsWithin}
+use Rattle.quic_frame_parts.specs.Field.{Value, Field, Varint, Counted, Id, Uint64, Bytes16, Blocks, Rest, Implied, Ordered, is_ordered, greatest_of, NumberStops, BelowStops, BlocksStop, StopsWithin}
 use Rattle.quic_frame_parts.specs.Table.{is_open}
 use Rattle.quic_frame_parts.specs.Payload.{Found, AreFrames, AreClosed, last_type, BeginsWithType, IsNoFrame, IsBroken}
 use Rattle.quic_frame_parts.specs.Reading.{id_at, field_at, found_at, of_ranges, ◌>>=◌, Item, Whole, items_of}
@@ -52,13 +52,13 @@ field_lasts Id before [] more e fits known h = absurd (known (field_fails Id bef
 field_lasts Id before (n ∷ bytes) more e fits known h =
     let t = tested_last (eqb n 0 || ltb 20 n) e (field_fails Id before (n ∷ bytes) e h (front_bytes (n ∷ bytes) more fits)).0 known in
     rw (t.0, t.1) refl
-field_lasts Eight before bytes more e fits known h = absurd (known (field_fails Eight before bytes e h (front_bytes bytes more fits)).0)
-field_lasts Sixteen before bytes more e fits known h = absurd (known (field_fails Sixteen before bytes e h (front_bytes bytes more fits)).0)
+field_lasts Uint64 before bytes more e fits known h = absurd (known (field_fails Uint64 before bytes e h (front_bytes bytes more fits)).0)
+field_lasts Bytes16 before bytes more e fits known h = absurd (known (field_fails Bytes16 before bytes e h (front_bytes bytes more fits)).0)
 field_lasts Blocks before bytes more e fits known h =
     let s = (field_fails Blocks before bytes e h (front_bytes bytes more fits)).0 in
     ap (λ r. r >>= of_ranges (greatest_of before)) (blocks_stop (greatest_of before) (bytes ++ more) e fits (blocks_last (greatest_of before) bytes more e known s))
 field_lasts Rest before bytes more e fits known h = absurd cc
-field_lasts (Unwritten n) before bytes more e fits known h = absurd cc
+field_lasts (Implied n) before bytes more e fits known h = absurd cc
 field_lasts Ordered before bytes more e fits known h = ordered_last (is_ordered before) bytes more e h
 
 fields_last : (fields : List Field) (before : List Value) (bytes more : List ℕ) (e : Fault) → AreBytes (bytes ++ more) → e ≢ UnexpectedEnd → StopsWithin fields before bytes e → StopsWithin fields before (bytes ++ more) e

@@ -6,7 +6,7 @@ use Rattle.std.proofs.lemmas.List.{length-append, append-nil}
 use Rattle.quic_base.specs.Number.{IsNumber, num, bytes_of}
 use Rattle.quic_base.specs.Varint.{Encodes, short}
 use Rattle.quic_base.proofs.PublicLaws.{shortest_encodes, short_least, encoded_bound, is_number_8, num_injective, num_below}
-use Rattle.quic_frame_parts.specs.Field.{Value, Number, Bytes, Ranges, Field, Varint, Counted, Id, Eight, Sixteen, Blocks, Rest, Unwritten, Ordered, is_ordered, greatest_of, AreBelow, AreBlocks, AreApart, IsField, AreFields}
+use Rattle.quic_frame_parts.specs.Field.{Value, Number, Bytes, Ranges, Field, Varint, Counted, Id, Uint64, Bytes16, Blocks, Rest, Implied, Ordered, is_ordered, greatest_of, AreBelow, AreBlocks, AreApart, IsField, AreFields}
 use Rattle.quic_frame_parts.specs.Shortest.{shortest_below, shortest_of, values_after, shortest_fields}
 use Rattle.quic_frames.specs.Least.{AreOrExceed}
 
@@ -117,11 +117,11 @@ abbrev pub Fits : Field → List Value → Value → Type 0
 Fits Varint before (Number n) = n < 2 ^ 62
 Fits Counted before (Bytes bytes) = length bytes < 2 ^ 62
 Fits Id before (Bytes bytes) = (0 < length bytes) × (length bytes ≤ 20)
-Fits Eight before (Number n) = n < 2 ^ 64
-Fits Sixteen before (Bytes bytes) = length bytes ≡ 16
+Fits Uint64 before (Number n) = n < 2 ^ 64
+Fits Bytes16 before (Bytes bytes) = length bytes ≡ 16
 Fits Blocks before (Ranges ranges) = FitBlocks (greatest_of before) ranges
 Fits Rest before (Bytes bytes) = ⊤
-Fits (Unwritten n) before (Number m) = m ≡ n
+Fits (Implied n) before (Number m) = m ≡ n
 Fits field before value = ⊥
 
 -- The same of fields one after the other.
@@ -137,15 +137,15 @@ pub value_encoded : (field : Field) (before : List Value) (value : Value) (other
 value_encoded Varint before (Number n) others f = ((n, refl, shortest_encodes n f), refl)
 value_encoded Counted before (Bytes bytes) others f = ((short (length bytes), bytes, refl, shortest_encodes (length bytes) f, refl), refl)
 value_encoded Id before (Bytes bytes) others f = ((bytes, refl, f.0, f.1, refl), refl)
-value_encoded Eight before (Number n) others f = ((n, refl, is_number_8 n f), refl)
-value_encoded Sixteen before (Bytes bytes) others f = ((refl, f), refl)
+value_encoded Uint64 before (Number n) others f = ((n, refl, is_number_8 n f), refl)
+value_encoded Bytes16 before (Bytes bytes) others f = ((refl, f), refl)
 value_encoded Blocks before (Ranges (range ∷ ranges)) others f =
     let block = short (range.1 - range.0) in
     let below = shortest_below range.0 ranges in
     let encoded : AreBlocks (greatest_of before) (range ∷ ranges) (block ++ below) = (block, below, refl, f.1, f.2, shortest_encodes (range.1 - range.0) f.3, below_encoded range.0 ranges f.4) in
     ((short (length ranges), block ++ below, range, ranges, refl, refl, shortest_encodes (length ranges) f.0, encoded), refl)
 value_encoded Rest before (Bytes bytes) others f = (refl, refl)
-value_encoded (Unwritten n) before (Number m) others f = ((ap (λ (k : ℕ). Number k ∷ []) f, refl), refl)
+value_encoded (Implied n) before (Number m) others f = ((ap (λ (k : ℕ). Number k ∷ []) f, refl), refl)
 value_encoded field before value others f = absurd f
 
 encoded_then : (field : Field) (fields : List Field) (before : List Value) (value : Value) (values : List Value) → Fits field before value
@@ -190,12 +190,12 @@ field_least Counted before values others bytes s =
 field_least Id before values others bytes s =
     subst (λ (v : List Value). LeastField Id before v others bytes) (sym s.1)
     (record { fits = λ fields f. ((s.2, s.3), f); least = inl s.4; others_left = refl })
-field_least Eight before values others bytes s =
+field_least Uint64 before values others bytes s =
     let below : s.0 < 2 ^ 64 = eight_bound s.0 bytes s.2 in
-    subst (λ (v : List Value). LeastField Eight before v others bytes) (sym s.1)
+    subst (λ (v : List Value). LeastField Uint64 before v others bytes) (sym s.1)
     (record { fits = λ fields f. (below, f); least = inl (eight_once s.0 bytes s.2); others_left = refl })
-field_least Sixteen before values others bytes s =
-    subst (λ (v : List Value). LeastField Sixteen before v others bytes) (sym s.0)
+field_least Bytes16 before values others bytes s =
+    subst (λ (v : List Value). LeastField Bytes16 before v others bytes) (sym s.0)
     (record { fits = λ fields f. (s.1, f); least = inl refl; others_left = refl })
 field_least Blocks before values others bytes s =
     let b = s.7 in
@@ -217,8 +217,8 @@ field_least Blocks before values others bytes s =
 field_least Rest before values others bytes s =
     subst (λ (v : List Value). LeastField Rest before v others bytes) (sym s)
     (record { fits = λ fields f. (tt, f); least = inl refl; others_left = refl })
-field_least (Unwritten n) before values others bytes s =
-    subst (λ (v : List Value). LeastField (Unwritten n) before v others bytes) (sym s.0)
+field_least (Implied n) before values others bytes s =
+    subst (λ (v : List Value). LeastField (Implied n) before v others bytes) (sym s.0)
     (record { fits = λ fields f. (refl, f); least = inl s.1; others_left = refl })
 field_least Ordered before values others bytes s =
     subst (λ (v : List Value). LeastField Ordered before v others bytes) (sym s.0)

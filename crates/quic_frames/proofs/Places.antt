@@ -37,11 +37,11 @@ field_adds : (field : Field) (before values : List Value) (bytes : List ℕ) →
 field_adds kinds.Varint before values bytes s = adds_other (Number s.0) refl s.1
 field_adds kinds.Counted before values bytes s = adds_bytes s.0 s.1 s.2 s.4
 field_adds kinds.Id before values bytes s = adds_bytes (length s.0 ∷ []) s.0 s.1 s.4
-field_adds kinds.Eight before values bytes s = adds_other (Number s.0) refl s.1
-field_adds kinds.Sixteen before values bytes s = adds_bytes [] bytes s.0 refl
+field_adds kinds.Uint64 before values bytes s = adds_other (Number s.0) refl s.1
+field_adds kinds.Bytes16 before values bytes s = adds_bytes [] bytes s.0 refl
 field_adds kinds.Blocks before values bytes s = adds_other (Ranges (s.2 ∷ s.3)) refl s.4
 field_adds kinds.Rest before values bytes s = adds_bytes [] bytes s refl
-field_adds (kinds.Unwritten n) before values bytes s = adds_other (Number n) refl s.0
+field_adds (kinds.Implied n) before values bytes s = adds_other (Number n) refl s.0
 field_adds kinds.Ordered before values bytes s = adds_none s.0 s.1
 
 abbrev EndsIn : List Value → List ℕ → List ℕ → Type 0

@@ -1,14 +1,14 @@
-"""The figures of frames (RFC 9000, section 19), from the table of crates/quic_frame_parts/specs/Table.antt."""
+"""The figures of frames (RFC 9000, section 19), from the table of crates/quic_frame_fields/specs/Table.antt."""
 import collections
 import re
 
 from format.definitions import clauses, fail, figure, listed, matched, only, quoted, said, source
 
 IDS = "quic_base/specs/Ids"
-FIELD = "quic_frame_parts/specs/Field"
-TABLE = "quic_frame_parts/specs/Table"
-PAYLOAD = "quic_frame_parts/specs/Payload"
-PARTS = "quic_frame_parts/specs/Parts"
+FIELD = "quic_frame_fields/specs/Field"
+TABLE = "quic_frame_fields/specs/Table"
+PAYLOAD = "quic_frame_fields/specs/Payload"
+PARTS = "quic_frame_fields/specs/Parts"
 MEANING = "quic_frames/specs/Meaning"
 
 # What a kind of field is, by the right side of its clause of IsField: its lines, of which NAME is the field's name and

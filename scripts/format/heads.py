@@ -1,4 +1,4 @@
-"""The figures of packet headers (RFC 9000, section 17; RFC 8999), from crates/quic_heads/specs/Grammar.antt."""
+"""The figures of packet headers (RFC 9000, section 17; RFC 8999), from crates/quic_header_decode/specs/Grammar.antt."""
 import collections
 
 from format.definitions import clauses, fail, figure, listed, log_of, matched, said
@@ -7,15 +7,15 @@ NUMBER = "quic_base/specs/Number"
 LONG_ID = "quic_base/specs/ConnectionId"
 CRYPTO = "quic_crypto/specs/PacketNumbers"
 KEYS = "quic_crypto/specs/Keys"
-TYPES = "quic_headers/specs/Types"
-QUERIES = "quic_headers/specs/Queries"
-STARTS = "quic_headers/specs/Starts"
-WRITING = "quic_headers/specs/Writing"
-GRAMMAR = "quic_heads/specs/Grammar"
-HEADS = "quic_heads/specs/Headers"
-FINISH = "quic_heads/specs/Finish"
-PLACES = "quic_heads/specs/Places"
-NEGOTIATION = "quic_c_heads/specs/Negotiation"
+TYPES = "quic_header_encode/specs/Types"
+QUERIES = "quic_header_encode/specs/Queries"
+STARTS = "quic_header_encode/specs/Starts"
+WRITING = "quic_header_encode/specs/Writing"
+GRAMMAR = "quic_header_decode/specs/Grammar"
+HEADS = "quic_header_decode/specs/Headers"
+FINISH = "quic_header_decode/specs/Finish"
+PLACES = "quic_header_decode/specs/Places"
+NEGOTIATION = "quic_c_headers/specs/Negotiation"
 
 # A header: its section in RFC 9000, its name in ProtectedHeader and in Header with what they hold, its type.
 Head = collections.namedtuple("Head", "title section read written type")

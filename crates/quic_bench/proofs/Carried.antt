@@ -2,7 +2,7 @@
 use Rattle.std.specs.Prelude.{◌≡◌, ℕ, ◌<◌, List, [], ◌++◌, length, Option, Some, None}
 use Rattle.std.proofs.Common.{sym, ap, subst, ◌∙◌, arith, append-nil}
 use Rattle.bytes.specs.Filled.{Filled}
-use Rattle.quic_heads.specs.Reading.{IsRest}
+use Rattle.quic_header_decode.specs.Reading.{IsRest}
 use Rattle.quic_packets.specs.Opening.{IsBack}
 use Rattle.quic_frames.specs.Written.{IsPayload}
 use Rattle.quic_packets.specs.declared.opening.Opened.{Opened}

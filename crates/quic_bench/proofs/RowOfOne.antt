@@ -11,7 +11,7 @@ use Rattle.quic_canon.specs.declared.canonical.CanonBytes.TheVariants.{Same, Rew
 use Rattle.quic_base.specs.declared.ids.SpaceId.{SpaceId}
 use Rattle.quic_frames.specs.Written.{IsPayload}
 use Rattle.quic_frames.specs.declared.frame.Frame.{Frame}
-use Rattle.quic_headers.specs.declared.header.Header.{Header}
+use Rattle.quic_header_encode.specs.declared.header.Header.{Header}
 use Rattle.quic_packets.specs.declared.opening.Opened.{Opened}
 use Rattle.quic_packets.specs.Pairs.{KeyPair}
 use Rattle.quic_packets.specs.Rows.{AreBack}

@@ -2,9 +2,9 @@
 use Rattle.std.specs.Prelude.{◌≡◌, ℕ, List, [], ◌∷◌, ◌++◌, Option, Ok}
 use Rattle.std.specs.List.{flat_map}
 use Rattle.hex.specs.Hex.{decode_of}
-use Rattle.quic_heads.specs.Datagram.{Placed, ArePackets}
-use Rattle.quic_heads.specs.Reading.{Context}
-use Rattle.quic_heads.specs.Refusal.{Refusal}
+use Rattle.quic_header_decode.specs.Datagram.{Placed, ArePackets}
+use Rattle.quic_header_decode.specs.Reading.{Context}
+use Rattle.quic_header_decode.specs.Refusal.{Refusal}
 use Rattle.quic_text.specs.Lines.{lines_of, without_return}
 use Rattle.quic_text.specs.Printed.{Printed, shown}
 

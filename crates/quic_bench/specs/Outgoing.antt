@@ -2,9 +2,9 @@
 use Rattle.std.specs.Prelude.{◌≡◌, ℕ, ◌<◌, ◌^◌, ◌⊎◌, IsTrue, List, ◌++◌, length, Some}
 use Rattle.quic_base.specs.declared.ids.SpaceId.{SpaceId}
 use Rattle.quic_frames.specs.InRange.{CanFollow}
-use Rattle.quic_headers.specs.Queries.{space_in}
-use Rattle.quic_headers.specs.Writing.{IsWritable, has_number}
-use Rattle.quic_heads.specs.Reading.{Context}
+use Rattle.quic_header_encode.specs.Queries.{space_in}
+use Rattle.quic_header_encode.specs.Writing.{IsWritable, has_number}
+use Rattle.quic_header_decode.specs.Reading.{Context}
 use Rattle.quic_packets.specs.declared.opening.OpenError.TheVariants as error
 use Rattle.quic_packets.specs.declared.opening.Opened.{Opened}
 use Rattle.quic_packets.specs.declared.seal.SealError.{SealError}

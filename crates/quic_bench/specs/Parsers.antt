@@ -2,7 +2,7 @@
 use Rattle.std.specs.Prelude.{◌≡◌, ◌≢◌, ℕ, ◌+◌, ◌≤◌, List, [], ◌∷◌, length, take, Result, Ok, Err, MatchResult, nat_lt, ◌==◌, ◌||◌, if◌then◌else◌, codes}
 use Rattle.std.proofs.Common.{cond, Bool, true, false, arith, refl}
 use Rattle.std.proofs.lemmas.Bool.Decides.{nat_tests}
-use Rattle.quic_heads.specs.Refusal.{Refusal, Invalid, NoMemory}
+use Rattle.quic_header_decode.specs.Refusal.{Refusal, Invalid, NoMemory}
 
 -- an answer takes bytes that are there, and want of memory is no refusal
 abbrev pub IsLawful : List ℕ → Result (List ℕ × ℕ) Refusal → Type 0

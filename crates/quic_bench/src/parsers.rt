@@ -1,12 +1,12 @@
 //! Parsers of connection ids as endpoints may bring them.
 ghost use Rattle.std.specs.Prelude.{false, true};
-ghost use Rattle.quic_heads.specs.Parsers.{fixed_parsed, fixed_lawful};
+ghost use Rattle.quic_header_decode.specs.Parsers.{fixed_parsed, fixed_lawful};
 ghost use Rattle.quic_bench.specs.Parsers.{none_parsed, none_lawful, self_sized_parsed, self_sized_lawful};
 
 use quic_base::coding::Cursor;
 use quic_base::ids::ConnectionId;
-use quic_heads::decode_error::PacketDecodeError;
-use quic_heads::parser::ConnectionIdParser;
+use quic_header_decode::decode_error::PacketDecodeError;
+use quic_header_decode::parser::ConnectionIdParser;
 
 /// Ids of no bytes, as an endpoint has that knows its peers by their addresses.
 #[derive(Clone, Copy, Debug)]

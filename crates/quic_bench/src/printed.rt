@@ -4,11 +4,11 @@ ghost use Rattle.std.specs.Prelude.{◌≡◌, ◌≢◌, ◌++◌, ◌∷◌, [
 ghost use Rattle.hex.specs.Hex.{encode_lower};
 ghost use Rattle.quic_base.specs.Number.{AreBytes};
 ghost use Rattle.quic_canon.specs.Least.{IsLeast};
-ghost use Rattle.quic_frame_parts.specs.Reading.{Broken, invalid};
-ghost use Rattle.quic_frame_parts.specs.declared.frame.fault.Fault.{Fault};
+ghost use Rattle.quic_frame_fields.specs.Reading.{Broken, invalid};
+ghost use Rattle.quic_frame_fields.specs.declared.frame.fault.Fault.{Fault};
 ghost use Rattle.quic_frames.specs.Placed as frames;
-ghost use Rattle.quic_heads.specs.Datagram.{Placed, ArePackets};
-ghost use Rattle.quic_heads.specs.Refusal.{Refusal};
+ghost use Rattle.quic_header_decode.specs.Datagram.{Placed, ArePackets};
+ghost use Rattle.quic_header_decode.specs.Refusal.{Refusal};
 ghost use Rattle.quic_params.specs.Meaning.{IsAnswer};
 ghost use Rattle.quic_params.specs.declared.error.Error.{Error};
 ghost use Rattle.quic_params.specs.declared.record.TransportParameters.{TransportParameters};
@@ -20,7 +20,7 @@ ghost use Rattle.quic_text.specs.Printed.{Plain};
 ghost use Rattle.quic_bench.specs.Lines.{Prints, IsOneRow};
 
 use quic_base::ids::Side;
-use quic_heads::laws::one_row_of_packets;
+use quic_header_decode::laws::one_row_of_packets;
 use quic_text::{IdLen, Mode, RunError, Sink, Source, laws, run};
 use std::alloc::Global;
 

@@ -12,7 +12,7 @@ use quic_canon::canonical::{CanonError, canonical_of};
 use quic_canon::laws::{one_least, written_is_least};
 use quic_crypto::crypto::{HeaderKey, PacketKey};
 use quic_frames::frame::Frame;
-use quic_heads::parser::ConnectionIdParser;
+use quic_header_decode::parser::ConnectionIdParser;
 use quic_packets::keys::{Expected, SpaceKeys};
 use quic_packets::laws::one_packet;
 use quic_packets::opening::{Opened, open_datagram};

@@ -1,7 +1,7 @@
 //! Two packets in one datagram that are sealed and opened again: what callers learn from the contracts of both, for
 //! every lawful pair of keys and every lawful parser of ids.
 ghost use Rattle.std.specs.Prelude.{◌⊎◌, false, List, [], ℕ, IfErr, IfOk};
-ghost use Rattle.quic_headers.specs.Queries.{space_in};
+ghost use Rattle.quic_header_encode.specs.Queries.{space_in};
 ghost use Rattle.quic_packets.specs.Opening.{read_by, AreExpected};
 ghost use Rattle.quic_packets.specs.Sealing.{IsAppended, SealedFrames};
 ghost use Rattle.quic_packets.specs.Spaces.{expected_in};
@@ -10,8 +10,8 @@ ghost use Rattle.quic_bench.specs.Outgoing.{AreSealed, CanBeSealed, Carries, IsF
 use bytes::BytesMut;
 use quic_crypto::crypto::{HeaderKey, PacketKey};
 use quic_frames::frame::Frame;
-use quic_headers::header::Header;
-use quic_heads::parser::ConnectionIdParser;
+use quic_header_encode::header::Header;
+use quic_header_decode::parser::ConnectionIdParser;
 use quic_packets::keys::{Expected, SpaceKeys};
 use quic_packets::laws;
 use quic_packets::opening::{OpenError, Opened, open_packet};

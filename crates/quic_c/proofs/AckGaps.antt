@@ -7,13 +7,13 @@ use Rattle.std.proofs.lemmas.List.{append-nil, at_drop_more, drop-drop, drop_all
 use Rattle.std.proofs.lemmas.Nat.{le_or_l, le_or_r, or_lt}
 use Rattle.quic_base.specs.Varint.{short, size}
 use Rattle.quic_base.proofs.PublicLaws.{length-short}
-use Rattle.quic_frame_parts.proofs.AckParts.{ack_parts}
-use Rattle.quic_frame_parts.proofs.Putting.{lays_more, lays_none}
-use Rattle.quic_frame_parts.proofs.Encoded.{all_short-append}
-use Rattle.quic_frame_parts.specs.Putting.{Lays}
-use Rattle.quic_frame_parts.specs.Numbers.{AreNumeric, all_short}
-use Rattle.quic_frame_parts.specs.Sets.{ack_type, count_numbers}
-use Rattle.quic_frame_parts.specs.Shortest.{shortest_below, shortest_frame}
+use Rattle.quic_frame_fields.proofs.AckParts.{ack_parts}
+use Rattle.quic_frame_fields.proofs.Putting.{lays_more, lays_none}
+use Rattle.quic_frame_fields.proofs.Encoded.{all_short-append}
+use Rattle.quic_frame_fields.specs.Putting.{Lays}
+use Rattle.quic_frame_fields.specs.Numbers.{AreNumeric, all_short}
+use Rattle.quic_frame_fields.specs.Sets.{ack_type, count_numbers}
+use Rattle.quic_frame_fields.specs.Shortest.{shortest_below, shortest_frame}
 use Rattle.quic_c.specs.declared.words.FrameWords.{FrameWords}
 use Rattle.quic_c.specs.declared.words.GapWords.{GapWords}
 use Rattle.quic_c.specs.AckGaps.{ack_bytes, ack_said, behind_type, counts_list, counts_said, delay_in, front_numbers, gap_numbers, greatest_in, AreUnder, Fit, IsAck, SaysAck}

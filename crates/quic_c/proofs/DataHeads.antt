@@ -2,14 +2,14 @@
 use Rattle.std.proofs.Common.{◌≡◌, ℕ, ◌<◌, ◌^◌, List, [], ◌∷◌, ◌++◌, length, Bool, true, false, None, Some, refl, sym, ap, subst, ◌∙◌, inl, inr, arith}
 use Rattle.std.specs.Prelude.{◌==◌, ◌||◌, ◌⊎◌, if◌then◌else◌}
 use Rattle.quic_base.specs.declared.ids.Dir.TheVariants as dirs
-use Rattle.quic_frame_parts.specs.declared.frame.close.Close.TheVariants as closes
-use Rattle.quic_frame_parts.specs.Numbers.{AreNumeric}
-use Rattle.quic_frame_parts.specs.Shortest.{shortest_frame, stream_head}
-use Rattle.quic_frame_parts.proofs.Encoding.{crypto_parts, datagram_counted, datagram_open}
-use Rattle.quic_frame_parts.proofs.StreamParts.{stream_parts}
+use Rattle.quic_frame_fields.specs.declared.frame.close.Close.TheVariants as closes
+use Rattle.quic_frame_fields.specs.Numbers.{AreNumeric}
+use Rattle.quic_frame_fields.specs.Shortest.{shortest_frame, stream_head}
+use Rattle.quic_frame_fields.proofs.Encoding.{crypto_parts, datagram_counted, datagram_open}
+use Rattle.quic_frame_fields.proofs.StreamParts.{stream_parts}
 use Rattle.quic_frames.specs.declared.frame.Frame.{Frame}
 use Rattle.quic_frames.specs.declared.frame.Frame.TheVariants as frames
-use Rattle.quic_frame_parts.specs.declared.frame.Datagram.{Datagram}
+use Rattle.quic_frame_fields.specs.declared.frame.Datagram.{Datagram}
 use Rattle.quic_frames.specs.Meaning.{meaning_of}
 use Rattle.quic_c.specs.declared.words.FrameWords.{FrameWords}
 use Rattle.quic_c.specs.Shown.{data_of}

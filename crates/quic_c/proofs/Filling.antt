@@ -11,7 +11,7 @@ use Rattle.quic_frames.specs.Padding.{PassesPadding, behind}
 use Rattle.quic_c.specs.declared.words.FrameWords.{FrameWords}
 use Rattle.quic_c.specs.Shown.{kind_of, shown, IsExtension}
 use Rattle.quic_c.specs.Answers.{IsRefused}
-use Rattle.quic_frame_parts.specs.Reading.{Invalid}
+use Rattle.quic_frame_fields.specs.Reading.{Invalid}
 use Rattle.quic_c.specs.Filling.{GivesEntry, Shows, HasNoFrame, Fills, further}
 
 -- one entry more

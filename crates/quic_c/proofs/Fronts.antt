@@ -6,14 +6,14 @@ use Rattle.quic_base.specs.Number.{AreBytes}
 use Rattle.quic_base.specs.Codec.{Takes}
 use Rattle.quic_base.specs.Varint.{Encodes}
 use Rattle.quic_base.proofs.PublicLaws.{back_bytes}
-use Rattle.quic_frame_parts.specs.AckPlace.{ack_at}
-use Rattle.quic_frame_parts.specs.declared.frame.fault.Fault.{Fault}
-use Rattle.quic_frame_parts.specs.declared.frame.fault.Fault.TheVariants.{UnexpectedEnd}
-use Rattle.quic_frame_parts.specs.Field.{NoNumber}
-use Rattle.quic_frame_parts.specs.Reading.{◌>>=◌, varint_at, after_blocks, blocks_at}
-use Rattle.quic_frame_parts.proofs.Steps.{bind_ok, ok_is}
-use Rattle.quic_frame_parts.proofs.Varints.{varint_takes, varint_read, varint_cut}
-use Rattle.quic_frame_parts.proofs.Blocks.{blocks_valid}
+use Rattle.quic_frame_fields.specs.AckPlace.{ack_at}
+use Rattle.quic_frame_fields.specs.declared.frame.fault.Fault.{Fault}
+use Rattle.quic_frame_fields.specs.declared.frame.fault.Fault.TheVariants.{UnexpectedEnd}
+use Rattle.quic_frame_fields.specs.Field.{NoNumber}
+use Rattle.quic_frame_fields.specs.Reading.{◌>>=◌, varint_at, after_blocks, blocks_at}
+use Rattle.quic_frame_fields.proofs.Steps.{bind_ok, ok_is}
+use Rattle.quic_frame_fields.proofs.Varints.{varint_takes, varint_read, varint_cut}
+use Rattle.quic_frame_fields.proofs.Blocks.{blocks_valid}
 use Rattle.quic_c.specs.declared.words.FrameWords.{FrameWords}
 use Rattle.quic_c.specs.Answers.{GivesFront, GivesPlace, IsWholeAck, ack_front_at, frame_in}
 use Rattle.quic_c.proofs.Places.{at_place, place_given, stands_in}

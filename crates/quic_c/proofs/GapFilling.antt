@@ -6,15 +6,15 @@ use Rattle.std.proofs.Math.ListN.{length-set}
 use Rattle.std.proofs.lemmas.Grind.{drop_more_same}
 use Rattle.std.proofs.lemmas.Bool.Decides.{nat_tests}
 use Rattle.quic_base.specs.Number.{AreBytes}
-use Rattle.quic_frame_parts.specs.declared.frame.fault.Fault.{Fault}
-use Rattle.quic_frame_parts.specs.Field.{AreBelow, AreBlocks}
-use Rattle.quic_frame_parts.specs.Reading.{varint_at}
-use Rattle.quic_frame_parts.proofs.Steps.{ok_is, ok_is_not_err}
-use Rattle.quic_frame_parts.specs.declared.frame.ack.Ack.{Ack}
-use Rattle.quic_frame_parts.specs.declared.frame.ack.EcnCounts.{EcnCounts}
-use Rattle.quic_frame_parts.specs.Acks.{ranges_acked}
-use Rattle.quic_frame_parts.proofs.Blocks.{acked}
-use Rattle.quic_frame_parts.proofs.Varints.{varint_again, varint_some}
+use Rattle.quic_frame_fields.specs.declared.frame.fault.Fault.{Fault}
+use Rattle.quic_frame_fields.specs.Field.{AreBelow, AreBlocks}
+use Rattle.quic_frame_fields.specs.Reading.{varint_at}
+use Rattle.quic_frame_fields.proofs.Steps.{ok_is, ok_is_not_err}
+use Rattle.quic_frame_fields.specs.declared.frame.ack.Ack.{Ack}
+use Rattle.quic_frame_fields.specs.declared.frame.ack.EcnCounts.{EcnCounts}
+use Rattle.quic_frame_fields.specs.Acks.{ranges_acked}
+use Rattle.quic_frame_fields.proofs.Blocks.{acked}
+use Rattle.quic_frame_fields.proofs.Varints.{varint_again, varint_some}
 use Rattle.quic_c.specs.declared.words.GapWords.{GapWords}
 use Rattle.quic_c.specs.Front.{gap_of, gaps_below, FillsGaps, more_flag}
 use Rattle.quic_c.specs.Shown.{counts_flag}

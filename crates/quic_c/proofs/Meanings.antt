@@ -2,10 +2,10 @@
 use Rattle.std.proofs.Common.{◌≡◌, ℕ, List, [], ◌∷◌, take, drop, Bool, refl, sym, ap, ◌∙◌}
 use Rattle.std.specs.Prelude.{◌==◌, if◌then◌else◌}
 use Rattle.quic_base.specs.declared.ids.Dir.TheVariants as dirs
-use Rattle.quic_frame_parts.specs.declared.frame.close.Close.TheVariants as closes
-use Rattle.quic_frame_parts.specs.Field.{Number, Bytes}
-use Rattle.quic_frame_parts.specs.Table as names
-use Rattle.quic_frame_parts.specs.Payload.{Meaning}
+use Rattle.quic_frame_fields.specs.declared.frame.close.Close.TheVariants as closes
+use Rattle.quic_frame_fields.specs.Field.{Number, Bytes}
+use Rattle.quic_frame_fields.specs.Table as names
+use Rattle.quic_frame_fields.specs.Payload.{Meaning}
 use Rattle.quic_frames.specs.declared.frame.Frame.{Frame}
 use Rattle.quic_frames.specs.declared.frame.Frame.TheVariants as frames
 use Rattle.quic_frames.specs.InRange.{IsNoAck}

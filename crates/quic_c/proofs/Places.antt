@@ -2,12 +2,12 @@
 use Rattle.std.proofs.Common.{◌≡◌, ℕ, ◌+◌, ◌-◌, ◌≤◌, ◌<◌, ◌^◌, List, [], ◌∷◌, ◌++◌, length, take, drop, Ok, refl, sym, ap, ◌∙◌, arith}
 use Rattle.std.proofs.lemmas.List.{length-take-le, length-drop, length-append, drop-take, drop-drop, drop_at, take-take, take_at}
 use Rattle.std.specs.Prelude.{slice_range}
-use Rattle.quic_frame_parts.specs.Reading.{first_range_at, ranges_of, blocks_left, IsBlocks}
+use Rattle.quic_frame_fields.specs.Reading.{first_range_at, ranges_of, blocks_left, IsBlocks}
 use Rattle.quic_c.specs.declared.words.RangeWords.{RangeWords}
 use Rattle.quic_c.specs.declared.words.RangesWords.{RangesWords}
 use Rattle.quic_c.specs.declared.words.FrameWords.{FrameWords}
 use Rattle.quic_c.specs.Answers.{GivesRange, GivesPlace, frame_in}
-use Rattle.quic_frame_parts.specs.AckPlace.{ack_at}
+use Rattle.quic_frame_fields.specs.AckPlace.{ack_at}
 
 pub length-part : (bytes : List ℕ) (start stop : ℕ) → stop ≤ length bytes → length (slice_range bytes start stop) ≡ stop - start
 length-part bytes start stop le =

@@ -1,10 +1,10 @@
 -- What an iterator gives from a place on.
 use Rattle.std.proofs.Common.{◌≡◌, ℕ, zero, suc, ◌+◌, ◌-◌, Bool, true, false, List, [], ◌∷◌, length, map, drop, Option, None, Some, Result, Ok, Err, refl, ap, ◌∙◌, arith}
 use Rattle.std.specs.Prelude.{if◌then◌else◌}
-use Rattle.quic_frame_parts.specs.declared.frame.fault.Fault.{Fault}
-use Rattle.quic_frame_parts.specs.declared.frame.fault.Fault.TheVariants.{LongType}
-use Rattle.quic_frame_parts.specs.Payload.{Meaning, Found}
-use Rattle.quic_frame_parts.specs.Reading.{Invalid, invalid, Item, Whole, varint_at, frame_at, found_at, at_type, after_type, is_long_type, items_after, items_from, items_of}
+use Rattle.quic_frame_fields.specs.declared.frame.fault.Fault.{Fault}
+use Rattle.quic_frame_fields.specs.declared.frame.fault.Fault.TheVariants.{LongType}
+use Rattle.quic_frame_fields.specs.Payload.{Meaning, Found}
+use Rattle.quic_frame_fields.specs.Reading.{Invalid, invalid, Item, Whole, varint_at, frame_at, found_at, at_type, after_type, is_long_type, items_after, items_from, items_of}
 use Rattle.quic_frames.specs.Walk.{left, first_of, resumed}
 use Rattle.quic_c.specs.Front.{behind, told_behind}
 

@@ -4,9 +4,9 @@ use Rattle.std.specs.Prelude.{◌⊎◌, ◌↔◌, ◌==◌, ◌&&◌, nat_lt, 
 use Rattle.std.specs.Map.{lookup}
 use Rattle.std.proofs.lemmas.Bool.{false≢true}
 use Rattle.std.proofs.lemmas.Bool.Decides.{nat_tests}
-use Rattle.quic_frame_parts.specs.Payload.{Found}
-use Rattle.quic_frame_parts.specs.Reading.{Invalid}
-use Rattle.quic_frame_parts.specs.Table.{Row, rows, row_of}
+use Rattle.quic_frame_fields.specs.Payload.{Found}
+use Rattle.quic_frame_fields.specs.Reading.{Invalid}
+use Rattle.quic_frame_fields.specs.Table.{Row, rows, row_of}
 use Rattle.quic_frames.specs.declared.frame.Frame.{Frame}
 use Rattle.quic_frames.specs.Way.{Way}
 use Rattle.quic_frames.specs.Padding.{PassesPadding}

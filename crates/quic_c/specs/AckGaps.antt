@@ -1,11 +1,11 @@
 -- ACKs that words say by gap and length (RFC 9000, section 19.3).
 use Rattle.std.specs.Prelude.{◌≡◌, ⊤, ℕ, ◌+◌, ◌-◌, ◌<◌, ◌≤◌, ◌^◌, ◌⊎◌, List, [], ◌∷◌, ◌++◌, length, slice_index, Option, Some, None, ◌==◌, if◌then◌else◌}
-use Rattle.quic_frame_parts.specs.declared.frame.ack.EcnCounts.{EcnCounts}
-use Rattle.quic_frame_parts.specs.Field.{Number, Ranges}
-use Rattle.quic_frame_parts.specs.Numbers.{AreNumeric, all_short}
-use Rattle.quic_frame_parts.specs.Parts.{counts_of, frame_of}
-use Rattle.quic_frame_parts.specs.Payload.{Meaning}
-use Rattle.quic_frame_parts.specs.Table.{Ack}
+use Rattle.quic_frame_fields.specs.declared.frame.ack.EcnCounts.{EcnCounts}
+use Rattle.quic_frame_fields.specs.Field.{Number, Ranges}
+use Rattle.quic_frame_fields.specs.Numbers.{AreNumeric, all_short}
+use Rattle.quic_frame_fields.specs.Parts.{counts_of, frame_of}
+use Rattle.quic_frame_fields.specs.Payload.{Meaning}
+use Rattle.quic_frame_fields.specs.Table.{Ack}
 use Rattle.quic_c.specs.declared.words.FrameWords.{FrameWords}
 use Rattle.quic_c.specs.declared.words.GapWords.{GapWords}
 use Rattle.quic_c.specs.Front.{gaps_below}

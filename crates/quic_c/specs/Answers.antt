@@ -3,10 +3,10 @@ use Rattle.std.specs.Prelude.{◌≡◌, ◌==◌, ℕ, ◌+◌, ◌<◌, ◌≤
 use Rattle.std.specs.Cmp.Lexicographic.{pointwise}
 use Rattle.std.specs.Prelude.{nat_eq}
 use Rattle.quic_frames.specs.declared.frame.Frame.{Frame}
-use Rattle.quic_frame_parts.specs.declared.frame.fault.Fault.{Fault}
-use Rattle.quic_frame_parts.specs.AckPlace.{ack_at}
-use Rattle.quic_frame_parts.specs.declared.frame.fault.Fault.TheVariants.{InvalidFrameId}
-use Rattle.quic_frame_parts.specs.Reading.{◌>>=◌, varint_at, Invalid, invalid, Broken, IsBlocks, blocks_left, ranges_of, first_range_at}
+use Rattle.quic_frame_fields.specs.declared.frame.fault.Fault.{Fault}
+use Rattle.quic_frame_fields.specs.AckPlace.{ack_at}
+use Rattle.quic_frame_fields.specs.declared.frame.fault.Fault.TheVariants.{InvalidFrameId}
+use Rattle.quic_frame_fields.specs.Reading.{◌>>=◌, varint_at, Invalid, invalid, Broken, IsBlocks, blocks_left, ranges_of, first_range_at}
 use Rattle.quic_frames.specs.Way.{Way}
 use Rattle.quic_frames.specs.Walk.{left, Finds}
 use Rattle.quic_c.specs.declared.words.FramesWords.{FramesWords}

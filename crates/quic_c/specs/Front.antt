@@ -2,9 +2,9 @@
 use Rattle.std.specs.Prelude.{◌≡◌, ℕ, ◌+◌, ◌-◌, ◌<◌, ◌≤◌, ◌⊎◌, ◌↔◌, ℤ, pos, negsuc, true, List, [], ◌∷◌, length, take, drop, nat_lt, Bool, Option, None, Some, if◌then◌else◌}
 use Rattle.quic_frames.specs.declared.frame.Frame.{Frame}
 use Rattle.quic_frames.specs.declared.frame.Frame.TheVariants as frames
-use Rattle.quic_frame_parts.specs.declared.frame.ack.Ack.{Ack}
-use Rattle.quic_frame_parts.specs.Acks.{ranges_acked}
-use Rattle.quic_frame_parts.specs.Reading.{Invalid, Item, Whole, Broken}
+use Rattle.quic_frame_fields.specs.declared.frame.ack.Ack.{Ack}
+use Rattle.quic_frame_fields.specs.Acks.{ranges_acked}
+use Rattle.quic_frame_fields.specs.Reading.{Invalid, Item, Whole, Broken}
 use Rattle.quic_frames.specs.Way.{Way}
 use Rattle.quic_frames.specs.Padding.{PassesPadding}
 use Rattle.quic_frames.specs.Walk.{first_of, Finds}

@@ -1,7 +1,7 @@
 -- The bytes of a frame up to its data.
 use Rattle.std.specs.Prelude.{◌≡◌, ℕ, ◌<◌, ◌^◌, ◌==◌, ◌⊎◌, List, [], ◌∷◌, ◌++◌, length, drop, Bool, false, None, Some, if◌then◌else◌}
-use Rattle.quic_frame_parts.specs.Numbers.{AreNumeric, all_short}
-use Rattle.quic_frame_parts.specs.Shortest.{stream_head}
+use Rattle.quic_frame_fields.specs.Numbers.{AreNumeric, all_short}
+use Rattle.quic_frame_fields.specs.Shortest.{stream_head}
 use Rattle.quic_c.specs.declared.words.FrameWords.{FrameWords}
 
 -- CRYPTO, STREAM and DATAGRAM

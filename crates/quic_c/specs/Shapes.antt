@@ -1,7 +1,7 @@
 -- Which words a kind of frame has.
 use Rattle.std.specs.Prelude.{◌≡◌, ℕ, ◌+◌, ◌<◌, ◌≤◌, ◌^◌, ◌==◌, ◌&&◌, ◌||◌, ◌⊎◌, List, [], ◌∷◌, length, take, drop, Bool, true, false, Option, None, Some, if◌then◌else◌}
 use Rattle.std.specs.Map.{lookup}
-use Rattle.quic_frame_parts.specs.Numbers.{AreNumeric}
+use Rattle.quic_frame_fields.specs.Numbers.{AreNumeric}
 use Rattle.quic_frames.specs.declared.frame.Frame.{Frame}
 use Rattle.quic_frames.specs.InRange.{IsNoAck, InRange}
 use Rattle.quic_c.specs.declared.words.FrameWords.{FrameWords}

@@ -4,8 +4,8 @@ use Rattle.quic_base.specs.Ids.{dir_number}
 use Rattle.quic_errors.specs.Types.{type_or_zero}
 use Rattle.quic_frames.specs.declared.frame.Frame.{Frame}
 use Rattle.quic_frames.specs.declared.frame.Frame.TheVariants as frames
-use Rattle.quic_frame_parts.specs.declared.frame.close.Close.TheVariants as closes
-use Rattle.quic_frame_parts.specs.declared.frame.ack.EcnCounts.{EcnCounts}
+use Rattle.quic_frame_fields.specs.declared.frame.close.Close.TheVariants as closes
+use Rattle.quic_frame_fields.specs.declared.frame.ack.EcnCounts.{EcnCounts}
 use Rattle.quic_frames.specs.Way.{Way}
 use Rattle.quic_c.specs.declared.words.FramesWords.{FramesWords}
 use Rattle.quic_c.specs.declared.words.FrameWords.{FrameWords}

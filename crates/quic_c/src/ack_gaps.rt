@@ -1,14 +1,14 @@
 //! ACKs written by gap and length, as they stand on the wire (RFC 9000, section 19.3).
 ghost use Rattle.std.specs.Prelude.{◌≡◌, ◌⊎◌, ◌↔◌, ◌+◌, ◌*◌, ◌<◌, ◌≤◌, ◌^◌, ◌++◌, ◌∷◌, ℕ, List, [], Bool, Ok, Err, IsTrue, length, pos, negsuc, ◌==◌, if◌then◌else◌};
 ghost use Rattle.quic_base.specs.Varint.{short};
-ghost use Rattle.quic_frame_parts.specs.Numbers.{AreNumeric, all_short};
-ghost use Rattle.quic_frame_parts.specs.Putting.{Lays, Puts};
-ghost use Rattle.quic_frame_parts.specs.Shortest.{shortest_frame};
+ghost use Rattle.quic_frame_fields.specs.Numbers.{AreNumeric, all_short};
+ghost use Rattle.quic_frame_fields.specs.Putting.{Lays, Puts};
+ghost use Rattle.quic_frame_fields.specs.Shortest.{shortest_frame};
 ghost use Rattle.quic_c.specs.AckGaps.{ack_bytes, ack_said, behind_type, counts_list, delay_in, gap_numbers, greatest_in, Fit, IsAck, SaysAck};
 
 use crate::words::{FrameWords, GapWords};
 use quic_base::coding::lay_array;
-use quic_frame_parts::frame::write::{numbers_len, size_of};
+use quic_frame_fields::frame::write::{numbers_len, size_of};
 
 // The type, which tells whether there are counts.
 #[inline(always)]

@@ -68,7 +68,7 @@ pub extern "C" fn quic_wire_ack_ranges_init_unchecked_(
 
 // The greatest number of an ACK without counts, and what follows the count of its ranges.
 #[inline(always)]
-#[tactic(auto, unfolding(crate::specs::Answers::ack_front_at), using(quic_frame_parts::proofs::Varints::slices))]
+#[tactic(auto, unfolding(crate::specs::Answers::ack_front_at), using(quic_frame_fields::proofs::Varints::slices))]
 fn split_front(bytes: &[u8]) -> Option<(u64, &[u8])>
     ensures none { IsNone result → IsErr (ack_front_at bytes.now) }
     ensures gives { IfSome result (λ x. ack_front_at bytes.now ≡ Ok (x.0, x.1.now)) }

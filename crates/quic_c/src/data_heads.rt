@@ -1,8 +1,8 @@
 //! The heads of STREAM, CRYPTO and DATAGRAM frames, whose data the caller puts behind them.
 ghost use Rattle.std.specs.Prelude.{◌≡◌, ◌⊎◌, ◌↔◌, ◌<◌, ◌≤◌, ◌^◌, ◌++◌, List, ℕ, Bool, pos, negsuc, length, IsTrue, IfSome};
-ghost use Rattle.quic_frame_parts.specs.Numbers.{AreNumeric, all_short};
-ghost use Rattle.quic_frame_parts.specs.Putting.{Puts};
-ghost use Rattle.quic_frame_parts.specs.Shortest.{shortest_frame, stream_head};
+ghost use Rattle.quic_frame_fields.specs.Numbers.{AreNumeric, all_short};
+ghost use Rattle.quic_frame_fields.specs.Putting.{Puts};
+ghost use Rattle.quic_frame_fields.specs.Shortest.{shortest_frame, stream_head};
 ghost use Rattle.quic_frames.specs.declared.frame.Frame.{Frame};
 ghost use Rattle.quic_frames.specs.Meaning.{meaning_of};
 ghost use Rattle.quic_c.specs.Heads.{IsHeaded, HasHead, WroteHead, HeadNeedsMore, head_bytes};
@@ -13,7 +13,7 @@ ghost use Rattle.quic_c.specs.declared.words.FrameWords.{FrameWords};
 use crate::ack_gaps::lay;
 use crate::words::FrameWords;
 use quic_errors::frame_type::FrameType;
-use quic_frame_parts::frame::put;
+use quic_frame_fields::frame::put;
 
 // Whether the words say a frame that has a head.
 fn has_head(words: &FrameWords, last: bool) -> bool

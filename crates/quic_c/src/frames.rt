@@ -1,7 +1,7 @@
 //! The frames of a payload, one with each call.
 ghost use Rattle.std.specs.Prelude.{◌≡◌, ◌<◌, ◌≤◌, ◌^◌, ◌-◌, ◌↔◌, ◌⊎◌, ℕ, [], ◌∷◌, pos, negsuc, length, codes, IsTrue, true, false, None};
 ghost use Rattle.quic_frames.specs.declared.frame.Frame.{Frame};
-ghost use Rattle.quic_frame_parts.specs.Reading.{Invalid, Broken, invalid};
+ghost use Rattle.quic_frame_fields.specs.Reading.{Invalid, Broken, invalid};
 ghost use Rattle.quic_frames.specs.Way.{Way};
 ghost use Rattle.quic_frames.specs.Walk.{first_of, invalid_of, Finds};
 ghost use Rattle.quic_c.specs.Shown.{way_of, at_front, is_strict, kind_of, type_in, type_word, shown, shown_invalid, IsExtension};

@@ -1,7 +1,7 @@
 //! The frame at the front of what is left of a payload, and with an ACK its first ranges as they stand.
 ghost use Rattle.std.specs.Prelude.{◌≡◌, ◌↔◌, ◌⊎◌, ◌<◌, ◌≤◌, ℕ, List, [], Bool, Option, drop, map, IsTrue, length, true, false, if◌then◌else◌};
-ghost use Rattle.quic_frame_parts.specs.Field.{AreBelow};
-ghost use Rattle.quic_frame_parts.specs.Reading.{Gives, varint_at};
+ghost use Rattle.quic_frame_fields.specs.Field.{AreBelow};
+ghost use Rattle.quic_frame_fields.specs.Reading.{Gives, varint_at};
 ghost use Rattle.quic_frames.specs.declared.frame.Frame.TheVariants as frames;
 ghost use Rattle.quic_frames.specs.Padding.{PassesPadding};
 ghost use Rattle.quic_frames.specs.Walk.{left, first_of, resumed};
@@ -13,13 +13,13 @@ use crate::show::{parts_of, show};
 use crate::words::{FrameWords, GapWords};
 use quic_base::coding::are_bytes;
 use quic_base::varint::split_var;
-use quic_frame_parts::frame::fault::Fault;
+use quic_frame_fields::frame::fault::Fault;
 use quic_frames::frame::{Ack, Frame, Iter};
 
 // A number of any width and what follows it, made for numbers of which most have one byte, and read where the call
 // stands.
 #[inline(always)]
-#[tactic(auto, using(quic_frame_parts::proofs::Gaps::one_at, quic_frame_parts::proofs::Varints::slices))]
+#[tactic(auto, using(quic_frame_fields::proofs::Gaps::one_at, quic_frame_fields::proofs::Varints::slices))]
 fn number(bytes: &[u8]) -> Result<(u64, &[u8]), Fault>
     ensures { Gives (λ x. (x.0, x.1.now)) result (varint_at bytes.now) }
 {

@@ -1,10 +1,10 @@
 //! Frames, written from words into the caller's bytes.
 ghost use Rattle.std.specs.Prelude.{◌≡◌, ◌<◌, ◌≤◌, ◌^◌, ◌⊎◌, ◌↔◌, ℕ, Bool, List, [], ◌∷◌, pos, negsuc, length, false, IsTrue, IfSome, IsNone, None};
-ghost use Rattle.quic_frame_parts.specs.Numbers.{AreNumeric};
+ghost use Rattle.quic_frame_fields.specs.Numbers.{AreNumeric};
 ghost use Rattle.quic_frames.specs.declared.frame.Frame.{Frame};
 ghost use Rattle.quic_frames.specs.declared.frame.Frame.TheVariants as frames;
 ghost use Rattle.quic_frames.specs.Meaning.{meaning_of};
-ghost use Rattle.quic_frame_parts.specs.declared.frame.close.Close.TheVariants as closes;
+ghost use Rattle.quic_frame_fields.specs.declared.frame.close.Close.TheVariants as closes;
 ghost use Rattle.quic_c.specs.Shapes.{IsSound, Fills, HasPieces, IsShown, LacksData, LacksPieces, shape_of, token_room};
 ghost use Rattle.quic_c.specs.Written.{CanWrite, SaysNone, Wrote, NeedsMore, IsAnswer, flag_of};
 ghost use Rattle.quic_c.specs.declared.words.FrameWords.{FrameWords};

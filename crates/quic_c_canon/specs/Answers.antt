@@ -1,9 +1,9 @@
 -- What the call answers that writes the shortest payload of a meaning.
 use Rattle.std.specs.Prelude.{◌≡◌, ◌≢◌, ℕ, ◌-◌, ◌<◌, ◌^◌, List, [], ◌++◌, length, map, drop, Option, None, Some, false, codes, nat_eq, if◌then◌else◌}
 use Rattle.std.specs.Cmp.Lexicographic.{pointwise}
-use Rattle.quic_frame_parts.specs.declared.frame.fault.Fault.{Fault}
-use Rattle.quic_frame_parts.specs.Payload.{Found, AreFrames, IsBroken}
-use Rattle.quic_frame_parts.specs.Reading.{Invalid, invalid}
+use Rattle.quic_frame_fields.specs.declared.frame.fault.Fault.{Fault}
+use Rattle.quic_frame_fields.specs.Payload.{Found, AreFrames, IsBroken}
+use Rattle.quic_frame_fields.specs.Reading.{Invalid, invalid}
 use Rattle.quic_frames.specs.Least.{frame_in, shortest_frames}
 use Rattle.quic_canon.specs.Least.{IsLeast}
 use Rattle.quic_c_canon.specs.declared.words.CanonicalWords.{CanonicalWords}

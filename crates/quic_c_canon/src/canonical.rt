@@ -1,7 +1,7 @@
 //! The shortest payload of each meaning, written into the caller's bytes.
 ghost use Rattle.std.specs.Prelude.{◌≡◌, ◌≢◌, ◌+◌, ◌<◌, ◌≤◌, ◌⊎◌, ◌↔◌, ◌++◌, [], List, pos, negsuc, length, map, take, drop, replicate, IfOk, IfErr, IsErr, None, false};
-ghost use Rattle.quic_frame_parts.specs.Payload.{Found, AreFrames, IsEither};
-ghost use Rattle.quic_frame_parts.specs.Shortest.{shortest_frame};
+ghost use Rattle.quic_frame_fields.specs.Payload.{Found, AreFrames, IsEither};
+ghost use Rattle.quic_frame_fields.specs.Shortest.{shortest_frame};
 ghost use Rattle.quic_frames.specs.InRange.{CanStand};
 ghost use Rattle.quic_frames.specs.Least.{frame_in, shortest_frames};
 ghost use Rattle.quic_frames.specs.Meaning.{meaning_of};

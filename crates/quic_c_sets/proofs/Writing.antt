@@ -7,13 +7,13 @@ use Rattle.quic_base.specs.Varint.{short, size}
 use Rattle.quic_base.proofs.PublicLaws.{length-short}
 use Rattle.quic_ranges.specs.Runs.{IsMaximalRuns, member}
 use Rattle.quic_ranges.proofs.RunsLemmas.{IsGreatest-last}
-use Rattle.quic_frame_parts.specs.Numbers.{AreNumeric, all_short}
-use Rattle.quic_frame_parts.specs.Putting.{Lays}
-use Rattle.quic_frame_parts.specs.Sets.{ack_of, ack_type, count_numbers, ranges_in}
-use Rattle.quic_frame_parts.specs.Shortest.{shortest_below, shortest_frame}
-use Rattle.quic_frame_parts.proofs.AckParts.{SetParts, run_numbers, set_parts}
-use Rattle.quic_frame_parts.proofs.Putting.{lays_more}
-use Rattle.quic_frame_parts.proofs.Sets.{has_below, ranges_in-last}
+use Rattle.quic_frame_fields.specs.Numbers.{AreNumeric, all_short}
+use Rattle.quic_frame_fields.specs.Putting.{Lays}
+use Rattle.quic_frame_fields.specs.Sets.{ack_of, ack_type, count_numbers, ranges_in}
+use Rattle.quic_frame_fields.specs.Shortest.{shortest_below, shortest_frame}
+use Rattle.quic_frame_fields.proofs.AckParts.{SetParts, run_numbers, set_parts}
+use Rattle.quic_frame_fields.proofs.Putting.{lays_more}
+use Rattle.quic_frame_fields.proofs.Sets.{has_below, ranges_in-last}
 use Rattle.quic_c_sets.specs.declared.words.RunWords.{RunWords}
 use Rattle.quic_c_sets.specs.Acks.{SaysAck, counts_in}
 use Rattle.quic_c_sets.specs.Sets.{IsSet, first_runs, range_of, runs_of}

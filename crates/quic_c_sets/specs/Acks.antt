@@ -1,8 +1,8 @@
 -- ACKs of the sets that words say (RFC 9000, section 19.3).
 use Rattle.std.specs.Prelude.{◌≡◌, ℕ, ◌<◌, ◌^◌, ◌⊎◌, true, List, [], ◌∷◌, length, Option, Some, None}
 use Rattle.quic_ranges.specs.Runs.{member}
-use Rattle.quic_frame_parts.specs.declared.frame.ack.EcnCounts.{EcnCounts}
-use Rattle.quic_frame_parts.specs.Numbers.{AreNumeric}
+use Rattle.quic_frame_fields.specs.declared.frame.ack.EcnCounts.{EcnCounts}
+use Rattle.quic_frame_fields.specs.Numbers.{AreNumeric}
 use Rattle.quic_c_sets.specs.declared.words.RunWords.{RunWords}
 use Rattle.quic_c_sets.specs.Sets.{IsSet, first_runs}
 

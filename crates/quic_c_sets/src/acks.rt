@@ -1,17 +1,17 @@
 //! ACKs of sets, written into the caller's bytes (RFC 9000, section 19.3).
 ghost use Rattle.std.specs.Prelude.{◌≡◌, ◌<◌, ◌≤◌, ◌+◌, ◌^◌, ◌∷◌, ◌++◌, ◌⊎◌, ◌↔◌, [], Bool, Ok, Err, pos, negsuc, length, IsTrue};
 ghost use Rattle.quic_ranges.specs.Runs.{IsMaximalRuns};
-ghost use Rattle.quic_frame_parts.specs.Numbers.{AreNumeric};
-ghost use Rattle.quic_frame_parts.specs.Putting.{Lays, Puts};
-ghost use Rattle.quic_frame_parts.specs.Sets.{ack_of, ack_type, ranges_in};
-ghost use Rattle.quic_frame_parts.specs.Shortest.{shortest_below, shortest_frame};
+ghost use Rattle.quic_frame_fields.specs.Numbers.{AreNumeric};
+ghost use Rattle.quic_frame_fields.specs.Putting.{Lays, Puts};
+ghost use Rattle.quic_frame_fields.specs.Sets.{ack_of, ack_type, ranges_in};
+ghost use Rattle.quic_frame_fields.specs.Shortest.{shortest_below, shortest_frame};
 ghost use Rattle.quic_c_sets.specs.Acks.{SaysAck, counts_in};
 ghost use Rattle.quic_c_sets.specs.Sets.{first_runs, range_of, runs_of};
 
 use crate::places::is_set;
 use crate::words::RunWords;
-use quic_frame_parts::frame::put::numbers_at;
-use quic_frame_parts::frame::write::{numbers_len, size_of};
+use quic_frame_fields::frame::put::numbers_at;
+use quic_frame_fields::frame::write::{numbers_len, size_of};
 
 // Whether each number has a encoding.
 fn are_numeric(numbers: &[u64]) -> bool

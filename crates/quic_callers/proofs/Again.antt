@@ -3,8 +3,8 @@ use Rattle.std.proofs.Common.{◌≡◌, ℕ, ◌+◌, ◌≤◌, ◌<◌, ◌^�
 use Rattle.std.specs.Prelude.{◌&&◌, ◌||◌, nat_le, nat_lt}
 use Rattle.std.specs.declared.ops.Range.{Range}
 use Rattle.std.proofs.lemmas.Bool.Decides.{nat_tests}
-use Rattle.quic_frame_parts.specs.Field.{AreApart}
-use Rattle.quic_frame_parts.specs.Sets.{is_in}
+use Rattle.quic_frame_fields.specs.Field.{AreApart}
+use Rattle.quic_frame_fields.specs.Sets.{is_in}
 use Rattle.quic_ranges.specs.Runs.{member, in_union, IsMaximalRuns, IsRunsOf}
 
 -- What is in the new set and what is left of the ranges make up the set; the ranges that are left are apart.

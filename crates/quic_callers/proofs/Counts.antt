@@ -3,9 +3,9 @@ use Rattle.std.proofs.Common.{◌≡◌, ℕ, ◌+◌, ◌-◌, ◌^◌, min, No
 use Rattle.std.proofs.lemmas.List.Sums.{sum_by_push}
 use Rattle.quic_callers.specs.Data.{data_len, stream_len, streams_len}
 use Rattle.quic_callers.proofs.Walks.{IsOnTheWay, on_the_way_first, on_the_way_next, those_frames}
-use Rattle.quic_frame_parts.specs.Payload.{Meaning, Found, AreFrames, IsEither}
-use Rattle.quic_frame_parts.specs.declared.frame.close.Close.TheVariants as closes
-use Rattle.quic_frame_parts.specs.declared.frame.Stream.{Stream}
+use Rattle.quic_frame_fields.specs.Payload.{Meaning, Found, AreFrames, IsEither}
+use Rattle.quic_frame_fields.specs.declared.frame.close.Close.TheVariants as closes
+use Rattle.quic_frame_fields.specs.declared.frame.Stream.{Stream}
 use Rattle.quic_frames.specs.declared.frame.Frame.{Frame}
 use Rattle.quic_frames.specs.declared.frame.Frame.TheVariants as frames
 use Rattle.quic_frames.specs.Meaning.{meaning_of}

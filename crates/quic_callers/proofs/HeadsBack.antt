@@ -1,12 +1,12 @@
 -- Heads that are written and read again.
 use Rattle.std.specs.Prelude.{◌≡◌, ℕ, ◌+◌, ◌/◌, ◌%◌, ◌<◌, ◌≤◌, ◌⊎◌, ◌||◌, Bool, true, false, nat_eq, IsTrue, List, ◌++◌, length, Option, None, Result, Ok, Err, IsErrOf, MatchOption}
 use Rattle.std.proofs.Common.{sym, ap, ◌∙◌, arith, refl, subst, inl, inr, length-append}
-use Rattle.quic_heads.specs.declared.decode_error.PacketDecodeError.{PacketDecodeError}
-use Rattle.quic_heads.specs.declared.decode_error.PacketDecodeError.TheVariants as error
-use Rattle.quic_heads.specs.declared.protected.ProtectedHeader.{ProtectedHeader}
-use Rattle.quic_heads.specs.Grammar.{Head, Cut, CutAnswer}
-use Rattle.quic_heads.specs.Reading.{Context, len_in}
-use Rattle.quic_heads.specs.Refusal.{Refusal, Refuses}
+use Rattle.quic_header_decode.specs.declared.decode_error.PacketDecodeError.{PacketDecodeError}
+use Rattle.quic_header_decode.specs.declared.decode_error.PacketDecodeError.TheVariants as error
+use Rattle.quic_header_decode.specs.declared.protected.ProtectedHeader.{ProtectedHeader}
+use Rattle.quic_header_decode.specs.Grammar.{Head, Cut, CutAnswer}
+use Rattle.quic_header_decode.specs.Reading.{Context, len_in}
+use Rattle.quic_header_decode.specs.Refusal.{Refusal, Refuses}
 
 -- a head without a length, and all that follows, are one packet
 pub alone : (context : Context) (bytes front rest : List ℕ) (h : ProtectedHeader) → bytes ≡ front ++ rest → Head context (length bytes) bytes h rest → len_in h ≡ None

@@ -4,12 +4,12 @@ use Rattle.std.specs.Prelude.{OnOk}
 use Rattle.std.proofs.lemmas.List.{append-nil, length-append}
 use Rattle.quic_frames.specs.declared.frame.Frame.{Frame}
 use Rattle.quic_frames.specs.declared.frame.Frame.TheVariants as frames
-use Rattle.quic_frame_parts.specs.declared.frame.close.Close.TheVariants as closes
-use Rattle.quic_frame_parts.specs.declared.frame.ack.Ack.{Ack}
-use Rattle.quic_frame_parts.specs.Table as names
+use Rattle.quic_frame_fields.specs.declared.frame.close.Close.TheVariants as closes
+use Rattle.quic_frame_fields.specs.declared.frame.ack.Ack.{Ack}
+use Rattle.quic_frame_fields.specs.Table as names
 use Rattle.quic_errors.specs.declared.invalid_frame.InvalidFrame.{InvalidFrame}
-use Rattle.quic_frame_parts.specs.Payload.{Found, IsFrame, AreFrames}
-use Rattle.quic_frame_parts.specs.Reading.{Whole, Invalid}
+use Rattle.quic_frame_fields.specs.Payload.{Found, IsFrame, AreFrames}
+use Rattle.quic_frame_fields.specs.Reading.{Whole, Invalid}
 use Rattle.quic_frames.specs.Meaning.{meaning_of}
 use Rattle.quic_frames.specs.Way.{Way}
 use Rattle.quic_frames.specs.Walk.{left, unplaced, given, Advances}

@@ -7,10 +7,10 @@ use Rattle.quic_callers.specs.Told.{IsTold, MayGoOn}
 use Rattle.quic_errors.specs.Codes.{IsErrorOf}
 use Rattle.quic_errors.specs.declared.transport_error.Error.{Error}
 use Rattle.quic_errors.specs.declared.invalid_frame.InvalidFrame.{InvalidFrame}
-use Rattle.quic_frame_parts.specs.Payload.{Found, AreFrames, IsBroken, IsEither}
-use Rattle.quic_frame_parts.specs.Reading.{Invalid, invalid, reason_text, Broken}
-use Rattle.quic_frame_parts.specs.declared.frame.fault.Fault.{Fault}
-use Rattle.quic_frame_parts.specs.declared.frame.fault.Fault.TheVariants.{UnexpectedEnd, InvalidFrameId, Malformed, LongType}
+use Rattle.quic_frame_fields.specs.Payload.{Found, AreFrames, IsBroken, IsEither}
+use Rattle.quic_frame_fields.specs.Reading.{Invalid, invalid, reason_text, Broken}
+use Rattle.quic_frame_fields.specs.declared.frame.fault.Fault.{Fault}
+use Rattle.quic_frame_fields.specs.declared.frame.fault.Fault.TheVariants.{UnexpectedEnd, InvalidFrameId, Malformed, LongType}
 use Rattle.quic_frames.specs.declared.frame.Frame.{Frame}
 use Rattle.quic_frames.specs.Walk.{left, unplaced, given, first_of, invalid_of, GivesFrames, GivesBroken, Finds}
 use Rattle.quic_frames.specs.Way.{Way}

@@ -1,9 +1,9 @@
 -- The data that frames carry.
 use Rattle.std.specs.Prelude.{ℕ, List, length, Option, Some, None}
 use Rattle.std.specs.List.{sum_by}
-use Rattle.quic_frame_parts.specs.Field.{Value}
-use Rattle.quic_frame_parts.specs.Payload.{Found}
-use Rattle.quic_frame_parts.specs.Table.{Name, Stream}
+use Rattle.quic_frame_fields.specs.Field.{Value}
+use Rattle.quic_frame_fields.specs.Payload.{Found}
+use Rattle.quic_frame_fields.specs.Table.{Name, Stream}
 use Rattle.quic_frames.specs.Walk.{last_bytes}
 
 abbrev pub bytes_len : Option (List ℕ) → ℕ

@@ -2,10 +2,10 @@
 use Rattle.std.specs.Prelude.{◌≡◌, ◌⊎◌, ℕ, List, [], Option, None, false, codes}
 use Rattle.quic_errors.specs.Codes.{IsError, IsErrorOf, protocol_violation}
 use Rattle.quic_errors.specs.declared.transport_error.Error.{Error}
-use Rattle.quic_frame_parts.specs.Payload.{Found, AreFrames, IsBroken}
-use Rattle.quic_frame_parts.specs.Reading.{reason_text}
-use Rattle.quic_frame_parts.specs.declared.frame.fault.Fault.{Fault}
-use Rattle.quic_frame_parts.specs.declared.frame.fault.Fault.TheVariants.{UnexpectedEnd}
+use Rattle.quic_frame_fields.specs.Payload.{Found, AreFrames, IsBroken}
+use Rattle.quic_frame_fields.specs.Reading.{reason_text}
+use Rattle.quic_frame_fields.specs.declared.frame.fault.Fault.{Fault}
+use Rattle.quic_frame_fields.specs.declared.frame.fault.Fault.TheVariants.{UnexpectedEnd}
 
 -- The payload has no frame, or it is frames and then something that isn't one, and the error tells its type and its
 -- reason.

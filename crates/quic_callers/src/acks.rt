@@ -1,8 +1,8 @@
 //! Acknowledgements: what loss recovery does with their ranges.
 ghost use Rattle.std.specs.Prelude.{◌≡◌, ◌≢◌, ◌≤◌, ◌<◌, ◌^◌, ℕ, [], true, sum, IfOk, MatchOption};
 ghost use Rattle.quic_callers.specs.Acked.{numbers_in};
-ghost use Rattle.quic_frame_parts.specs.Acks.{ranges_acked};
-ghost use Rattle.quic_frame_parts.specs.Sets.{is_in};
+ghost use Rattle.quic_frame_fields.specs.Acks.{ranges_acked};
+ghost use Rattle.quic_frame_fields.specs.Sets.{is_in};
 ghost use Rattle.quic_ranges.specs.Runs.{member};
 
 use quic_base::coding::NoRoom;

@@ -1,8 +1,8 @@
 //! Frames that are written and read again: what callers learn from the contracts of both.
 ghost use Rattle.std.specs.Prelude.{◌≡◌, ◌<◌, ◌^◌, true, ℕ, List, IfErr, IfOk, []};
-ghost use Rattle.quic_frame_parts.specs.Acks.{fault_of, ranges_left};
-ghost use Rattle.quic_frame_parts.specs.Field.{AreApart, AreBlocks};
-ghost use Rattle.quic_frame_parts.specs.Refusal.{AreNoBlocks};
+ghost use Rattle.quic_frame_fields.specs.Acks.{fault_of, ranges_left};
+ghost use Rattle.quic_frame_fields.specs.Field.{AreApart, AreBlocks};
+ghost use Rattle.quic_frame_fields.specs.Refusal.{AreNoBlocks};
 ghost use Rattle.quic_frames.specs.InRange.{CanStand};
 ghost use Rattle.quic_frames.specs.Meaning.{meaning_of};
 

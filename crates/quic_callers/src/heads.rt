@@ -1,19 +1,19 @@
 //! Heads that are written and read again, and datagrams that are cut twice: what callers learn from the contracts of
 //! both and from the laws of heads, for every lawful parser of ids.
 ghost use Rattle.std.specs.Prelude.{◌≡◌, ◌≢◌, ◌++◌, ◌<◌, ◌≤◌, ◌⊎◌, List, ℕ, true, IsTrue, IfErr, IfOk, IfSome, MatchResult, None, Contains, length};
-ghost use Rattle.quic_headers.specs.Writing.{IsWritable, header_bytes};
-ghost use Rattle.quic_heads.specs.declared.protected.ProtectedHeader.{ProtectedHeader};
-ghost use Rattle.quic_heads.specs.Grammar.{Cut, Head};
-ghost use Rattle.quic_heads.specs.Reading.{len_in};
+ghost use Rattle.quic_header_encode.specs.Writing.{IsWritable, header_bytes};
+ghost use Rattle.quic_header_decode.specs.declared.protected.ProtectedHeader.{ProtectedHeader};
+ghost use Rattle.quic_header_decode.specs.Grammar.{Cut, Head};
+ghost use Rattle.quic_header_decode.specs.Reading.{len_in};
 
 use bytes::BytesMut;
 use quic_base::coding::are_bytes;
 use quic_base::ids::ConnectionId;
-use quic_headers::header::Header;
-use quic_heads::cut::PartialDecode;
-use quic_heads::decode_error::PacketDecodeError;
-use quic_heads::laws;
-use quic_heads::parser::ConnectionIdParser;
+use quic_header_encode::header::Header;
+use quic_header_decode::cut::PartialDecode;
+use quic_header_decode::decode_error::PacketDecodeError;
+use quic_header_decode::laws;
+use quic_header_decode::parser::ConnectionIdParser;
 use std::alloc::Global;
 
 // Cuts a packet whose head says no length, and that so ends with the datagram.

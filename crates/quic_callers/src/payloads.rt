@@ -3,8 +3,8 @@ ghost use Rattle.std.specs.Prelude.{◌≡◌, ◌≢◌, ◌<◌, ◌^◌, ◌-
 ghost use Rattle.quic_base.specs.Number.{AreBytes};
 ghost use Rattle.quic_callers.specs.Data.{streams_len};
 ghost use Rattle.quic_callers.specs.Told.{IsTold, MayGoOn};
-ghost use Rattle.quic_frame_parts.specs.Payload.{Found, AreFrames};
-ghost use Rattle.quic_frame_parts.specs.Shortest.{shortest_frame};
+ghost use Rattle.quic_frame_fields.specs.Payload.{Found, AreFrames};
+ghost use Rattle.quic_frame_fields.specs.Shortest.{shortest_frame};
 ghost use Rattle.quic_frames.specs.Meaning.{meaning_of};
 ghost use Rattle.quic_frames.specs.declared.frame.Frame.TheVariants as frames;
 

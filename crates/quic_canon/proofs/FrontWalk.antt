@@ -3,10 +3,10 @@ use Rattle.std.proofs.Common.{◌≡◌, ◌≢◌, ℕ, ◌-◌, ◌<◌, ◌�
 use Rattle.std.specs.Prelude.{◌⊎◌, slice_range}
 use Rattle.std.proofs.lemmas.List.{length-append, length-drop}
 use Rattle.quic_frames.specs.declared.frame.Frame.{Frame}
-use Rattle.quic_frame_parts.specs.declared.frame.fault.Fault.{Fault}
-use Rattle.quic_frame_parts.specs.Payload.{Found, AreFrames, IsBroken, IsEither}
-use Rattle.quic_frame_parts.specs.Reading.{Invalid, invalid, Broken}
-use Rattle.quic_frame_parts.specs.Shortest.{shortest_frame}
+use Rattle.quic_frame_fields.specs.declared.frame.fault.Fault.{Fault}
+use Rattle.quic_frame_fields.specs.Payload.{Found, AreFrames, IsBroken, IsEither}
+use Rattle.quic_frame_fields.specs.Reading.{Invalid, invalid, Broken}
+use Rattle.quic_frame_fields.specs.Shortest.{shortest_frame}
 use Rattle.quic_frames.specs.Least.{frame_in, shortest_frames}
 use Rattle.quic_frames.specs.Way.{Way}
 use Rattle.quic_frames.specs.Walk.{GivesFrames, GivesBroken, left, first_of, unplaced, given, Finds}

@@ -3,10 +3,10 @@ use Rattle.std.proofs.Common.{◌≡◌, ℕ, ◌≤◌, eqb, Bool, true, false,
 use Rattle.std.specs.Prelude.{⊤, ◌⊎◌, ◌||◌, ◌&&◌, not, if◌then◌else◌}
 use Rattle.std.specs.Map.{lookup}
 use Rattle.std.proofs.lemmas.List.{append-nil}
-use Rattle.quic_frame_parts.specs.Field.{Value, Number, Bytes, Ranges, Field, AreApart, AreBelow, AreBlocks, IsField, AreFields, greatest_of}
-use Rattle.quic_frame_parts.specs.Field as kinds
-use Rattle.quic_frame_parts.specs.Table.{Name, Row, rows, row_of}
-use Rattle.quic_frame_parts.specs.Payload.{Meaning, Found, IsFrame, AreFrames}
+use Rattle.quic_frame_fields.specs.Field.{Value, Number, Bytes, Ranges, Field, AreApart, AreBelow, AreBlocks, IsField, AreFields, greatest_of}
+use Rattle.quic_frame_fields.specs.Field as kinds
+use Rattle.quic_frame_fields.specs.Table.{Name, Row, rows, row_of}
+use Rattle.quic_frame_fields.specs.Payload.{Meaning, Found, IsFrame, AreFrames}
 use Rattle.quic_frames.specs.Least.{frame_in}
 use Rattle.quic_canon.specs.Same.{IsSameValue, AreSameValues, is_ack, told_values, IsSameFrame, AreSameFrames}
 use Rattle.quic_canon.proofs.SameSets.{one_list_of_set}

@@ -2,8 +2,8 @@
 use Rattle.std.proofs.Common.{◌≡◌, ℕ, ◌+◌, ◌-◌, ◌<◌, ◌≤◌, leb, Bool, true, false, List, [], ◌∷◌, refl, sym, ap, ◌∙◌, inl, inr, arith}
 use Rattle.std.specs.Prelude.{◌||◌, ◌&&◌, ◌⊎◌}
 use Rattle.std.proofs.lemmas.Bool.Decides.{nat_tests}
-use Rattle.quic_frame_parts.specs.Field.{AreApart}
-use Rattle.quic_frame_parts.specs.Sets.{is_in}
+use Rattle.quic_frame_fields.specs.Field.{AreApart}
+use Rattle.quic_frame_fields.specs.Sets.{is_in}
 
 abbrev is_within : ℕ × ℕ → ℕ → Bool
 is_within range n = leb range.0 n && leb n range.1

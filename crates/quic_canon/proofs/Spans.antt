@@ -5,9 +5,9 @@ use Rattle.std.proofs.lemmas.Bool.Decides.{nat_tests}
 use Rattle.std.proofs.lemmas.List.{length-append}
 use Rattle.quic_base.specs.Varint.{size, short}
 use Rattle.quic_base.proofs.PublicLaws.{length-short}
-use Rattle.quic_frame_parts.specs.Table.{row_of}
-use Rattle.quic_frame_parts.specs.Payload.{Meaning}
-use Rattle.quic_frame_parts.specs.Shortest.{written_type, shortest_row, shortest_frame}
+use Rattle.quic_frame_fields.specs.Table.{row_of}
+use Rattle.quic_frame_fields.specs.Payload.{Meaning}
+use Rattle.quic_frame_fields.specs.Shortest.{written_type, shortest_row, shortest_frame}
 
 some_if : (a b c : Bool) → 0 < (if a then 1 else if b then 2 else if c then 4 else 8)
 some_if true b c = omega arith

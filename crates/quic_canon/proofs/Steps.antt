@@ -5,14 +5,14 @@ use Rattle.std.proofs.lemmas.Bool.Decides.{nat_tests}
 use Rattle.std.proofs.lemmas.List.{append-nil, length-drop}
 use Rattle.quic_base.proofs.PublicLaws.{same_back}
 use Rattle.quic_frames.specs.declared.frame.Frame.{Frame}
-use Rattle.quic_frame_parts.specs.declared.frame.fault.Fault.{Fault}
-use Rattle.quic_frame_parts.specs.Table.{is_open}
-use Rattle.quic_frame_parts.specs.Payload.{Meaning, Found, IsFrame, AreFrames, IsBroken, IsEither}
-use Rattle.quic_frame_parts.specs.Reading.{Invalid, invalid, Item, Broken}
+use Rattle.quic_frame_fields.specs.declared.frame.fault.Fault.{Fault}
+use Rattle.quic_frame_fields.specs.Table.{is_open}
+use Rattle.quic_frame_fields.specs.Payload.{Meaning, Found, IsFrame, AreFrames, IsBroken, IsEither}
+use Rattle.quic_frame_fields.specs.Reading.{Invalid, invalid, Item, Broken}
 use Rattle.quic_frames.specs.Meaning.{meaning_of}
 use Rattle.quic_frames.specs.InRange.{IsToldApart, CanStand}
 use Rattle.quic_frames.specs.Found.{found_as}
-use Rattle.quic_frame_parts.specs.Shortest.{shortest_frame}
+use Rattle.quic_frame_fields.specs.Shortest.{shortest_frame}
 use Rattle.quic_frames.specs.Least.{AreOrExceed, is_end, frame_in, shortest_frames}
 use Rattle.quic_frames.specs.Way.{Way}
 use Rattle.quic_frames.specs.Walk.{GivesFrames, GivesBroken, invalid_of, left, first_of, unplaced, given, Stands, Finds, Advances}

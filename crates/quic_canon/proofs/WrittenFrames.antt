@@ -2,7 +2,7 @@
 use Rattle.std.specs.Prelude.{◌≡◌, ◌≢◌, ℕ, ◌<◌, List, [], ◌∷◌, length, map, Bool}
 use Rattle.std.proofs.Common.{inl, inr, sym, ap, arith, refl, length-append}
 use Rattle.quic_base.proofs.PublicLaws.{encoded_bound}
-use Rattle.quic_frame_parts.specs.Payload.{Found, IsFrame, AreFrames}
+use Rattle.quic_frame_fields.specs.Payload.{Found, IsFrame, AreFrames}
 use Rattle.quic_frames.specs.declared.frame.Frame.{Frame}
 use Rattle.quic_frames.specs.Least.{AreOrExceed, frame_in}
 use Rattle.quic_frames.specs.Meaning.{meaning_of}

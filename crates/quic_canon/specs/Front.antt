@@ -1,6 +1,6 @@
 -- The frames at the front of a payload that are in their shortest encodings already.
 use Rattle.std.specs.Prelude.{◌≡◌, ◌≢◌, ℕ, ◌-◌, ◌<◌, ◌≤◌, List, [], ◌++◌, length, map, take, drop, false}
-use Rattle.quic_frame_parts.specs.Payload.{Found, AreFrames}
+use Rattle.quic_frame_fields.specs.Payload.{Found, AreFrames}
 use Rattle.quic_frames.specs.Least.{frame_in, shortest_frames}
 
 -- The first n bytes are also the first of the shortest payload of these frames, and the others are of these.

@@ -1,8 +1,8 @@
 -- What is told where there is no canonical payload.
 use Rattle.std.specs.Prelude.{◌≡◌, ◌≢◌, ℕ, List, [], ◌++◌, ◌⊎◌, Option, None, false}
-use Rattle.quic_frame_parts.specs.declared.frame.fault.Fault.{Fault}
-use Rattle.quic_frame_parts.specs.Payload.{Found, AreFrames, IsBroken}
-use Rattle.quic_frame_parts.specs.Reading.{invalid}
+use Rattle.quic_frame_fields.specs.declared.frame.fault.Fault.{Fault}
+use Rattle.quic_frame_fields.specs.Payload.{Found, AreFrames, IsBroken}
+use Rattle.quic_frame_fields.specs.Reading.{invalid}
 use Rattle.quic_frames.specs.Walk.{invalid_of}
 use Rattle.quic_canon.specs.declared.canonical.CanonError.{CanonError}
 use Rattle.quic_canon.specs.declared.canonical.CanonError.TheVariants.{Empty, Invalid, OutOfMemory}

@@ -1,9 +1,9 @@
 -- Payloads that mean the same: equal frames in equal order, ACKs by their delays, their counts and the numbers in them.
 use Rattle.std.specs.Prelude.{◌≡◌, ◌≢◌, ⊤, ℕ, List, [], ◌∷◌, drop, map, Bool, true, false, if◌then◌else◌}
-use Rattle.quic_frame_parts.specs.Field.{Value, Ranges}
-use Rattle.quic_frame_parts.specs.Table.{Name, Ack}
-use Rattle.quic_frame_parts.specs.Payload.{Meaning, Found, AreFrames}
-use Rattle.quic_frame_parts.specs.Sets.{is_in}
+use Rattle.quic_frame_fields.specs.Field.{Value, Ranges}
+use Rattle.quic_frame_fields.specs.Table.{Name, Ack}
+use Rattle.quic_frame_fields.specs.Payload.{Meaning, Found, AreFrames}
+use Rattle.quic_frame_fields.specs.Sets.{is_in}
 use Rattle.quic_frames.specs.Least.{frame_in}
 
 -- ranges are told by the numbers in them, other values by themselves

@@ -3,8 +3,8 @@ ghost use Rattle.std.specs.Prelude.{◌≡◌, ◌≢◌, ◌+◌, ◌-◌, ◌<
 ghost use Rattle.quic_frames.specs.InRange.{CanStand};
 ghost use Rattle.quic_frames.specs.Least.{frame_in, shortest_frames};
 ghost use Rattle.quic_frames.specs.Meaning.{meaning_of};
-ghost use Rattle.quic_frame_parts.specs.Payload.{Found, AreFrames};
-ghost use Rattle.quic_frame_parts.specs.Shortest.{shortest_frame};
+ghost use Rattle.quic_frame_fields.specs.Payload.{Found, AreFrames};
+ghost use Rattle.quic_frame_fields.specs.Shortest.{shortest_frame};
 ghost use Rattle.quic_canon.specs.Bytes.{GivesLeast};
 ghost use Rattle.quic_canon.specs.Front.{IsFront};
 ghost use Rattle.quic_canon.specs.Least.{IsLeast};

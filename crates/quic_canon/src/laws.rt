@@ -1,13 +1,13 @@
 //! Laws of canonical payloads, which no single call carries. The functions do nothing.
 ghost use Rattle.std.specs.Prelude.{◌≡◌, ◌≢◌, ◌<◌, ◌↔◌, ℕ, List, [], length, map, Option, None, true, false};
 ghost use Rattle.quic_base.specs.Number.{AreBytes};
-ghost use Rattle.quic_frame_parts.specs.Field.{AreApart};
+ghost use Rattle.quic_frame_fields.specs.Field.{AreApart};
 ghost use Rattle.quic_frames.specs.Least.{frame_in, shortest_frames};
 ghost use Rattle.quic_frames.specs.Written.{IsPayload};
 ghost use Rattle.quic_frames.specs.declared.frame.Frame.{Frame};
-ghost use Rattle.quic_frame_parts.specs.Payload.{Found, AreFrames, IsBroken};
-ghost use Rattle.quic_frame_parts.specs.Sets.{is_in};
-ghost use Rattle.quic_frame_parts.specs.declared.frame.fault.Fault.{Fault};
+ghost use Rattle.quic_frame_fields.specs.Payload.{Found, AreFrames, IsBroken};
+ghost use Rattle.quic_frame_fields.specs.Sets.{is_in};
+ghost use Rattle.quic_frame_fields.specs.declared.frame.fault.Fault.{Fault};
 ghost use Rattle.quic_canon.specs.Same.{AreSameFrames, IsSame};
 ghost use Rattle.quic_canon.specs.Least.{IsLeast};
 

@@ -5,8 +5,8 @@ use Rattle.std.proofs.lemmas.List.{take_at, drop_at, take-append-drop, length-ap
 use Rattle.quic_base.specs.Number.{AreBytes, IsNumber, num}
 use Rattle.quic_base.specs.Codec.{Takes, NoFront}
 use Rattle.quic_base.proofs.PublicLaws.{front_bytes}
-use Rattle.quic_frame_parts.specs.declared.frame.fault.Fault.TheVariants.{UnexpectedEnd}
-use Rattle.quic_frame_parts.specs.Reading.{bytes_at, eight_at}
+use Rattle.quic_frame_fields.specs.declared.frame.fault.Fault.TheVariants.{UnexpectedEnd}
+use Rattle.quic_frame_fields.specs.Reading.{bytes_at, eight_at}
 
 eight_again : (n : ℕ) (front rest : List ℕ) → IsNumber 8 n front → eight_at (front ++ rest) ≡ Ok (n, rest)
 unfolding eight_at bytes_at

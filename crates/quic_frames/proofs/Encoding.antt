@@ -8,13 +8,13 @@ use Rattle.quic_base.specs.declared.ids.Dir.{Dir}
 use Rattle.quic_base.specs.declared.ids.Dir.TheVariants.{Bi, Uni}
 use Rattle.quic_base.specs.Number.{bytes_of}
 use Rattle.quic_base.specs.Varint.{short, size}
-use Rattle.quic_frame_parts.specs.Field.{Number, Bytes}
-use Rattle.quic_frame_parts.specs.Table.{Crypto, NewToken, NewConnectionId, ConnectionClose, ApplicationClose, Datagram, PathChallenge, PathResponse, Stream, MaxStreams, StreamsBlocked}
-use Rattle.quic_frame_parts.specs.Parts.{frame_of, flag}
-use Rattle.quic_frame_parts.specs.Shortest.{shortest_frame}
-use Rattle.quic_frame_parts.specs.Numbers.{all_short}
-use Rattle.quic_frame_parts.proofs.Encoding as parts
-use Rattle.quic_frame_parts.proofs.StreamParts as streams
+use Rattle.quic_frame_fields.specs.Field.{Number, Bytes}
+use Rattle.quic_frame_fields.specs.Table.{Crypto, NewToken, NewConnectionId, ConnectionClose, ApplicationClose, Datagram, PathChallenge, PathResponse, Stream, MaxStreams, StreamsBlocked}
+use Rattle.quic_frame_fields.specs.Parts.{frame_of, flag}
+use Rattle.quic_frame_fields.specs.Shortest.{shortest_frame}
+use Rattle.quic_frame_fields.specs.Numbers.{all_short}
+use Rattle.quic_frame_fields.proofs.Encoding as parts
+use Rattle.quic_frame_fields.proofs.StreamParts as streams
 
 pub crypto_parts : (last : Bool) (offset : ℕ) (bytes : List ℕ) → shortest_frame last (frame_of Crypto (Number offset ∷ Bytes bytes ∷ [])) ≡ all_short (0x06 ∷ offset ∷ length bytes ∷ []) ++ bytes
 crypto_parts = parts.crypto_parts

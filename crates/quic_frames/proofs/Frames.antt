@@ -6,13 +6,13 @@ use Rattle.std.proofs.lemmas.Bool.Decides.{nat_tests}
 use Rattle.quic_base.specs.Number.{AreBytes}
 use Rattle.quic_base.specs.Varint.{Encodes, short, size}
 use Rattle.quic_base.proofs.PublicLaws.{back_bytes, length-short, short_least}
-use Rattle.quic_frame_parts.specs.declared.frame.fault.Fault.{Fault}
-use Rattle.quic_frame_parts.specs.declared.frame.fault.Fault.TheVariants.{InvalidFrameId, LongType}
-use Rattle.quic_frame_parts.specs.Table.{Row, row_of, has_rest, is_open, is_open_row}
-use Rattle.quic_frame_parts.specs.Payload.{Meaning, Found, IsType, IsFrame, LacksType, IsNoFrame}
-use Rattle.quic_frame_parts.specs.Reading.{varint_at, fields_at, row_at, in_row, frame_at, Invalid, invalid, after_type, is_long_type, at_type, found_at}
-use Rattle.quic_frame_parts.proofs.Steps.{bind_ok, mapped_err, err_of, ok_is, true_is_not_false}
-use Rattle.quic_frame_parts.proofs.Varints.{varint_takes, varint_again, varint_fails}
+use Rattle.quic_frame_fields.specs.declared.frame.fault.Fault.{Fault}
+use Rattle.quic_frame_fields.specs.declared.frame.fault.Fault.TheVariants.{InvalidFrameId, LongType}
+use Rattle.quic_frame_fields.specs.Table.{Row, row_of, has_rest, is_open, is_open_row}
+use Rattle.quic_frame_fields.specs.Payload.{Meaning, Found, IsType, IsFrame, LacksType, IsNoFrame}
+use Rattle.quic_frame_fields.specs.Reading.{varint_at, fields_at, row_at, in_row, frame_at, Invalid, invalid, after_type, is_long_type, at_type, found_at}
+use Rattle.quic_frame_fields.proofs.Steps.{bind_ok, mapped_err, err_of, ok_is, true_is_not_false}
+use Rattle.quic_frame_fields.proofs.Varints.{varint_takes, varint_again, varint_fails}
 use Rattle.quic_frames.proofs.Fields.{TakesAll, fields_take, fields_again, fields_stop, fields_stop_again}
 use Rattle.quic_frames.proofs.Rows.{row_is_well}
 

@@ -7,19 +7,19 @@ use Rattle.quic_base.specs.declared.ids.Dir.TheVariants.{Bi, Uni}
 use Rattle.quic_base.specs.Ids.{dir_number}
 use Rattle.quic_frames.specs.declared.frame.Frame.{Frame}
 use Rattle.quic_frames.specs.declared.frame.Frame.TheVariants as frames
-use Rattle.quic_frame_parts.specs.declared.frame.close.Close.TheVariants as closes
-use Rattle.quic_frame_parts.specs.declared.frame.ack.Ack.{Ack}
-use Rattle.quic_frame_parts.specs.declared.frame.ack.EcnCounts.{EcnCounts}
-use Rattle.quic_frame_parts.specs.Field.{Number, Ranges}
-use Rattle.quic_frame_parts.specs.Table as table
-use Rattle.quic_frame_parts.specs.Table.{Row, row_of, is_open, stream_row, datagram_row}
-use Rattle.quic_frame_parts.specs.Acks.{ranges_acked}
-use Rattle.quic_frame_parts.specs.Payload.{IsFrame}
-use Rattle.quic_frame_parts.specs.Parts.{frame_of, counts_of}
+use Rattle.quic_frame_fields.specs.declared.frame.close.Close.TheVariants as closes
+use Rattle.quic_frame_fields.specs.declared.frame.ack.Ack.{Ack}
+use Rattle.quic_frame_fields.specs.declared.frame.ack.EcnCounts.{EcnCounts}
+use Rattle.quic_frame_fields.specs.Field.{Number, Ranges}
+use Rattle.quic_frame_fields.specs.Table as table
+use Rattle.quic_frame_fields.specs.Table.{Row, row_of, is_open, stream_row, datagram_row}
+use Rattle.quic_frame_fields.specs.Acks.{ranges_acked}
+use Rattle.quic_frame_fields.specs.Payload.{IsFrame}
+use Rattle.quic_frame_fields.specs.Parts.{frame_of, counts_of}
 use Rattle.quic_frames.specs.Meaning.{meaning_of}
-use Rattle.quic_frame_parts.specs.Shortest.{written_type}
-use Rattle.quic_frame_parts.specs.Numbers.{AreNumeric}
-use Rattle.quic_frame_parts.specs.Sets.{AreCounts}
+use Rattle.quic_frame_fields.specs.Shortest.{written_type}
+use Rattle.quic_frame_fields.specs.Numbers.{AreNumeric}
+use Rattle.quic_frame_fields.specs.Sets.{AreCounts}
 use Rattle.quic_frames.specs.InRange.{IsToldApart, InRange, open_data, CanStand}
 use Rattle.quic_frames.proofs.LeastFrames.{FitsRow, in_row, stream_limits, datagram_limit, frame_least}
 

@@ -3,13 +3,13 @@ use Rattle.std.proofs.Common.{◌≡◌, ◌≢◌, ℕ, zero, suc, ◌+◌, ◌
 use Rattle.std.proofs.lemmas.List.{append-nil, length-append}
 use Rattle.quic_base.specs.Number.{AreBytes}
 use Rattle.quic_base.proofs.PublicLaws.{back_bytes}
-use Rattle.quic_frame_parts.specs.declared.frame.fault.Fault.{Fault}
-use Rattle.quic_frame_parts.specs.Table.{is_open}
-use Rattle.quic_frame_parts.specs.Payload.{Found, IsFrame, AreFrames, last_type, BeginsWithType, IsNoFrame, IsBroken, IsEither}
-use Rattle.quic_frame_parts.specs.Reading.{Invalid, invalid, found_at, Item, Whole, Broken, items_after, items_from, items_of}
+use Rattle.quic_frame_fields.specs.declared.frame.fault.Fault.{Fault}
+use Rattle.quic_frame_fields.specs.Table.{is_open}
+use Rattle.quic_frame_fields.specs.Payload.{Found, IsFrame, AreFrames, last_type, BeginsWithType, IsNoFrame, IsBroken, IsEither}
+use Rattle.quic_frame_fields.specs.Reading.{Invalid, invalid, found_at, Item, Whole, Broken, items_after, items_from, items_of}
 use Rattle.quic_frames.specs.Walk.{unplaced, given}
-use Rattle.quic_frame_parts.proofs.Steps.{true_is_not_false}
-use Rattle.quic_frame_parts.proofs.Varints.{varint_some}
+use Rattle.quic_frame_fields.proofs.Steps.{true_is_not_false}
+use Rattle.quic_frame_fields.proofs.Varints.{varint_some}
 use Rattle.quic_frames.proofs.Frames.{found_takes, found_again, found_fails, no_frame_again}
 
 abbrev Told : Type 0

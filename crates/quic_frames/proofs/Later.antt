@@ -4,14 +4,14 @@ use Rattle.std.specs.Prelude.{◌||◌}
 use Rattle.std.proofs.lemmas.List.{length-append}
 use Rattle.quic_base.specs.Number.{AreBytes}
 use Rattle.quic_base.proofs.PublicLaws.{front_bytes, back_bytes}
-use Rattle.quic_frame_parts.specs.declared.frame.fault.Fault.{Fault}
-use Rattle.quic_frame_parts.specs.declared.frame.fault.Fault.TheVariants.{UnexpectedEnd, InvalidFrameId, Malformed, LongType}
-use Rattle.quic_frame_parts.specs.Field.{Value, Field, Varint, Counted, Id, Uint64, Bytes16, Blocks, Rest, Implied, Ordered, is_ordered, greatest_of, NumberStops, BelowStops, BlocksStop, StopsWithin}
-use Rattle.quic_frame_parts.specs.Table.{is_open}
-use Rattle.quic_frame_parts.specs.Payload.{Found, AreFrames, AreClosed, last_type, BeginsWithType, IsNoFrame, IsBroken}
-use Rattle.quic_frame_parts.specs.Reading.{id_at, field_at, found_at, of_ranges, ◌>>=◌, Item, Whole, items_of}
-use Rattle.quic_frame_parts.proofs.Steps.{true_is_not_false}
-use Rattle.quic_frame_parts.proofs.Blocks.{blocks_stop}
+use Rattle.quic_frame_fields.specs.declared.frame.fault.Fault.{Fault}
+use Rattle.quic_frame_fields.specs.declared.frame.fault.Fault.TheVariants.{UnexpectedEnd, InvalidFrameId, Malformed, LongType}
+use Rattle.quic_frame_fields.specs.Field.{Value, Field, Varint, Counted, Id, Uint64, Bytes16, Blocks, Rest, Implied, Ordered, is_ordered, greatest_of, NumberStops, BelowStops, BlocksStop, StopsWithin}
+use Rattle.quic_frame_fields.specs.Table.{is_open}
+use Rattle.quic_frame_fields.specs.Payload.{Found, AreFrames, AreClosed, last_type, BeginsWithType, IsNoFrame, IsBroken}
+use Rattle.quic_frame_fields.specs.Reading.{id_at, field_at, found_at, of_ranges, ◌>>=◌, Item, Whole, items_of}
+use Rattle.quic_frame_fields.proofs.Steps.{true_is_not_false}
+use Rattle.quic_frame_fields.proofs.Blocks.{blocks_stop}
 use Rattle.quic_frames.proofs.Fields.{field_fails, field_stops, stops_again}
 use Rattle.quic_frames.proofs.Frames.{found_again}
 use Rattle.quic_frames.proofs.Items.{frame_some, items_found, no_items, never_both}

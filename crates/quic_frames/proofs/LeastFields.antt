@@ -6,8 +6,8 @@ use Rattle.std.proofs.lemmas.List.{length-append, append-nil}
 use Rattle.quic_base.specs.Number.{IsNumber, num, bytes_of}
 use Rattle.quic_base.specs.Varint.{Encodes, short}
 use Rattle.quic_base.proofs.PublicLaws.{shortest_encodes, short_least, encoded_bound, is_number_8, num_injective, num_below}
-use Rattle.quic_frame_parts.specs.Field.{Value, Number, Bytes, Ranges, Field, Varint, Counted, Id, Uint64, Bytes16, Blocks, Rest, Implied, Ordered, is_ordered, greatest_of, AreBelow, AreBlocks, AreApart, IsField, AreFields}
-use Rattle.quic_frame_parts.specs.Shortest.{shortest_below, shortest_of, values_after, shortest_fields}
+use Rattle.quic_frame_fields.specs.Field.{Value, Number, Bytes, Ranges, Field, Varint, Counted, Id, Uint64, Bytes16, Blocks, Rest, Implied, Ordered, is_ordered, greatest_of, AreBelow, AreBlocks, AreApart, IsField, AreFields}
+use Rattle.quic_frame_fields.specs.Shortest.{shortest_below, shortest_of, values_after, shortest_fields}
 use Rattle.quic_frames.specs.Least.{AreOrExceed}
 
 -- ---- bytes one after the other

@@ -9,14 +9,14 @@ use Rattle.quic_base.proofs.PublicLaws.{shortest_encodes, length-short, encoded_
 use Rattle.quic_base.specs.declared.ids.Dir.{Dir}
 use Rattle.quic_base.specs.declared.ids.Dir.TheVariants.{Bi, Uni}
 use Rattle.quic_base.specs.Ids.{dir_number}
-use Rattle.quic_frame_parts.specs.Field.{Value, Number, Bytes, IsField, AreFields}
-use Rattle.quic_frame_parts.specs.Table.{Name, Ack, Stream, Datagram, MaxStreams, StreamsBlocked, Row, rows, row_of, is_open, offset_field, data_field, stream_row, datagram_row, max_streams_row, streams_blocked_row, ack_row, ack_ecn_row}
-use Rattle.quic_frame_parts.specs.Payload.{Meaning, Found, IsFrame}
-use Rattle.quic_frame_parts.specs.Parts.{frame_of, flag}
-use Rattle.quic_frame_parts.specs.Shortest.{shortest_fields, shortest_row, written_type, shortest_frame}
+use Rattle.quic_frame_fields.specs.Field.{Value, Number, Bytes, IsField, AreFields}
+use Rattle.quic_frame_fields.specs.Table.{Name, Ack, Stream, Datagram, MaxStreams, StreamsBlocked, Row, rows, row_of, is_open, offset_field, data_field, stream_row, datagram_row, max_streams_row, streams_blocked_row, ack_row, ack_ecn_row}
+use Rattle.quic_frame_fields.specs.Payload.{Meaning, Found, IsFrame}
+use Rattle.quic_frame_fields.specs.Parts.{frame_of, flag}
+use Rattle.quic_frame_fields.specs.Shortest.{shortest_fields, shortest_row, written_type, shortest_frame}
 use Rattle.quic_frames.specs.Least.{AreOrExceed, as_written}
-use Rattle.quic_frame_parts.proofs.Steps.{true_is_not_false}
-use Rattle.quic_frame_parts.proofs.Varints.{varint_some}
+use Rattle.quic_frame_fields.proofs.Steps.{true_is_not_false}
+use Rattle.quic_frame_fields.proofs.Varints.{varint_some}
 use Rattle.quic_frames.proofs.LeastFields.{both_least, at_most, number_least, AllFit, fields_encoded, fields_least}
 
 -- The type has a row of the frame's name, and the frame's values fit its fields. A frame that takes all that is left

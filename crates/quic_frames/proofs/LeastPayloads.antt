@@ -2,8 +2,8 @@
 use Rattle.std.proofs.Common.{◌≡◌, ℕ, Bool, true, false, List, [], ◌∷◌, ◌++◌, length, map, refl, sym, ap, subst, inl, arith}
 use Rattle.std.specs.Prelude.{⊤}
 use Rattle.std.proofs.lemmas.List.{length-append}
-use Rattle.quic_frame_parts.specs.Payload.{Meaning, Found, AreFrames}
-use Rattle.quic_frame_parts.specs.Shortest.{written_type, shortest_frame}
+use Rattle.quic_frame_fields.specs.Payload.{Meaning, Found, AreFrames}
+use Rattle.quic_frame_fields.specs.Shortest.{written_type, shortest_frame}
 use Rattle.quic_frames.specs.Least.{AreOrExceed, is_end, shortest_frames, frame_in, all_written}
 use Rattle.quic_frames.proofs.Items.{frame_some}
 use Rattle.quic_frames.proofs.LeastFields.{both_least}

@@ -6,12 +6,12 @@ use Rattle.std.proofs.lemmas.Bool.Decides.{nat_tests}
 use Rattle.quic_base.specs.Number.{AreBytes}
 use Rattle.quic_base.proofs.PublicLaws.{back_bytes}
 use Rattle.quic_frames.specs.declared.frame.Frame.{Frame}
-use Rattle.quic_frame_parts.specs.Field.{Value, Number, Bytes, Ranges, Field, IsField, AreFields}
-use Rattle.quic_frame_parts.specs.Field as kinds
-use Rattle.quic_frame_parts.specs.Table.{is_open}
-use Rattle.quic_frame_parts.specs.Payload.{Found, IsFrame}
-use Rattle.quic_frame_parts.specs.Reading.{Invalid, found_at, Whole, Broken, items_of}
-use Rattle.quic_frame_parts.proofs.AckPlaces.{stand_in_frame}
+use Rattle.quic_frame_fields.specs.Field.{Value, Number, Bytes, Ranges, Field, IsField, AreFields}
+use Rattle.quic_frame_fields.specs.Field as kinds
+use Rattle.quic_frame_fields.specs.Table.{is_open}
+use Rattle.quic_frame_fields.specs.Payload.{Found, IsFrame}
+use Rattle.quic_frame_fields.specs.Reading.{Invalid, found_at, Whole, Broken, items_of}
+use Rattle.quic_frame_fields.proofs.AckPlaces.{stand_in_frame}
 use Rattle.quic_frames.specs.declared.frame.Frame.TheVariants as frames
 use Rattle.quic_frames.specs.Found.{found_as, HasItsBlocksBehind}
 use Rattle.quic_frames.specs.InRange.{IsToldApart}

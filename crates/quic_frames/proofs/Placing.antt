@@ -3,11 +3,11 @@ use Rattle.std.proofs.Common.{◌≡◌, ℕ, zero, suc, ◌+◌, ◌<◌, ◌�
 use Rattle.std.proofs.lemmas.List.{length-append}
 use Rattle.quic_base.specs.Number.{AreBytes}
 use Rattle.quic_base.proofs.PublicLaws.{back_bytes}
-use Rattle.quic_frame_parts.specs.declared.frame.fault.Fault.{Fault}
-use Rattle.quic_frame_parts.specs.Payload.{AreClosed, IsNoFrame, last_type}
-use Rattle.quic_frame_parts.specs.Reading.{Item, Whole, Broken, invalid, found_at, items_from, items_of}
+use Rattle.quic_frame_fields.specs.declared.frame.fault.Fault.{Fault}
+use Rattle.quic_frame_fields.specs.Payload.{AreClosed, IsNoFrame, last_type}
+use Rattle.quic_frame_fields.specs.Reading.{Item, Whole, Broken, invalid, found_at, items_from, items_of}
 use Rattle.quic_frames.specs.Placed.{Placed, ArePlaced, IsPlacedBroken, found_in, whole}
-use Rattle.quic_frame_parts.proofs.Steps.{true_is_not_false}
+use Rattle.quic_frame_fields.proofs.Steps.{true_is_not_false}
 use Rattle.quic_frames.proofs.Frames.{found_again, no_frame_again}
 use Rattle.quic_frames.proofs.Items.{end_of, frame_some, is_some_bytes, items_ok, items_none, no_frame_some, stops_at}
 

@@ -8,27 +8,27 @@ use Rattle.quic_base.specs.declared.ids.Dir.TheVariants.{Bi, Uni}
 use Rattle.quic_base.specs.Ids.{dir_number}
 use Rattle.quic_frames.specs.declared.frame.Frame.{Frame}
 use Rattle.quic_frames.specs.declared.frame.Frame.TheVariants as frames
-use Rattle.quic_frame_parts.specs.declared.frame.close.Close.{Close}
-use Rattle.quic_frame_parts.specs.declared.frame.close.Close.TheVariants as closes
-use Rattle.quic_frame_parts.specs.declared.frame.ack.Ack.{Ack}
-use Rattle.quic_frame_parts.specs.declared.frame.ack.EcnCounts.{EcnCounts}
-use Rattle.quic_frame_parts.specs.Field.{Value, Number, Ranges, AreApart}
-use Rattle.quic_frame_parts.specs.Table as table
-use Rattle.quic_frame_parts.specs.Table.{Name, Row, row_of, is_open}
-use Rattle.quic_frame_parts.specs.Acks.{ranges_acked}
-use Rattle.quic_frame_parts.specs.Parts.{frame_of, counts_of}
+use Rattle.quic_frame_fields.specs.declared.frame.close.Close.{Close}
+use Rattle.quic_frame_fields.specs.declared.frame.close.Close.TheVariants as closes
+use Rattle.quic_frame_fields.specs.declared.frame.ack.Ack.{Ack}
+use Rattle.quic_frame_fields.specs.declared.frame.ack.EcnCounts.{EcnCounts}
+use Rattle.quic_frame_fields.specs.Field.{Value, Number, Ranges, AreApart}
+use Rattle.quic_frame_fields.specs.Table as table
+use Rattle.quic_frame_fields.specs.Table.{Name, Row, row_of, is_open}
+use Rattle.quic_frame_fields.specs.Acks.{ranges_acked}
+use Rattle.quic_frame_fields.specs.Parts.{frame_of, counts_of}
 use Rattle.quic_frames.specs.Meaning.{meaning_of}
-use Rattle.quic_frame_parts.specs.Payload.{IsFrame, AreFrames}
-use Rattle.quic_frame_parts.specs.Shortest.{written_type, shortest_frame}
+use Rattle.quic_frame_fields.specs.Payload.{IsFrame, AreFrames}
+use Rattle.quic_frame_fields.specs.Shortest.{written_type, shortest_frame}
 use Rattle.quic_frames.specs.Least.{is_end, shortest_frames, as_written, all_written}
 use Rattle.std.specs.declared.ops.Range.{Range}
 use Rattle.quic_ranges.specs.Runs.{IsMaximalRuns, member}
-use Rattle.quic_frame_parts.specs.Sets.{ends_of, ranges_in, greatest_in, ack_of}
-use Rattle.quic_frame_parts.proofs.Sets.{are_apart, is_greatest}
-use Rattle.quic_frame_parts.specs.Sets.{AreCounts}
+use Rattle.quic_frame_fields.specs.Sets.{ends_of, ranges_in, greatest_in, ack_of}
+use Rattle.quic_frame_fields.proofs.Sets.{are_apart, is_greatest}
+use Rattle.quic_frame_fields.specs.Sets.{AreCounts}
 use Rattle.quic_frames.specs.InRange.{InRange, IsTyped, AreTyped, CanStand, CanFollow}
-use Rattle.quic_frame_parts.proofs.Steps.{true_is_not_false}
-use Rattle.quic_frame_parts.proofs.Apart.{acked_apart}
+use Rattle.quic_frame_fields.proofs.Steps.{true_is_not_false}
+use Rattle.quic_frame_fields.proofs.Apart.{acked_apart}
 use Rattle.quic_frames.proofs.LeastFields.{FitBlocks, AllFit, blocks_fit}
 use Rattle.quic_frames.proofs.LeastFrames.{FitsRow, frame_encoded, stream_row_fits, datagram_row_fits}
 use Rattle.quic_frames.proofs.LeastPayloads.{FitRows, frames_encoded}

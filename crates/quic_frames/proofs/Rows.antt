@@ -2,7 +2,7 @@
 use Rattle.std.proofs.Common.{◌≡◌, ℕ, zero, suc, ◌+◌, ◌-◌, ◌<◌, ◌≤◌, eqb, bit_and, Bool, true, false, List, [], ◌∷◌, Some, refl, subst, inl, inr, arith}
 use Rattle.std.specs.Prelude.{not, ◌&&◌, ◌⊎◌}
 use Rattle.std.specs.Map.{lookup}
-use Rattle.quic_frame_parts.specs.Table.{Row, rows, row_of, stream_row}
+use Rattle.quic_frame_fields.specs.Table.{Row, rows, row_of, stream_row}
 use Rattle.quic_frames.proofs.Fields.{is_well}
 
 cases_bool : (b : Bool) → (b ≡ true) ⊎ (b ≡ false)

@@ -4,13 +4,13 @@ use Rattle.std.specs.Prelude.{if◌then◌else◌}
 use Rattle.std.proofs.lemmas.List.{length-append}
 use Rattle.quic_base.specs.Varint.{short, size}
 use Rattle.quic_base.proofs.PublicLaws.{length-short}
-use Rattle.quic_frame_parts.specs.Field.{Number, Bytes}
-use Rattle.quic_frame_parts.specs.Table.{ResetStream, StopSending, Crypto, Stream, NewConnectionId, RetireConnectionId, ConnectionClose, ApplicationClose, Datagram}
-use Rattle.quic_frame_parts.specs.Parts.{frame_of, flag}
-use Rattle.quic_frame_parts.specs.Shortest.{shortest_frame}
-use Rattle.quic_frame_parts.specs.Numbers.{all_short}
-use Rattle.quic_frame_parts.proofs.Encoding.{size_small, connection_close_parts, application_close_parts, crypto_parts, datagram_counted, id_parts}
-use Rattle.quic_frame_parts.proofs.StreamParts.{stream_length}
+use Rattle.quic_frame_fields.specs.Field.{Number, Bytes}
+use Rattle.quic_frame_fields.specs.Table.{ResetStream, StopSending, Crypto, Stream, NewConnectionId, RetireConnectionId, ConnectionClose, ApplicationClose, Datagram}
+use Rattle.quic_frame_fields.specs.Parts.{frame_of, flag}
+use Rattle.quic_frame_fields.specs.Shortest.{shortest_frame}
+use Rattle.quic_frame_fields.specs.Numbers.{all_short}
+use Rattle.quic_frame_fields.proofs.Encoding.{size_small, connection_close_parts, application_close_parts, crypto_parts, datagram_counted, id_parts}
+use Rattle.quic_frame_fields.proofs.StreamParts.{stream_length}
 
 -- numbers after a type of one byte
 numbers_bound : (ns : List ℕ) → length (all_short ns) ≤ 8 * length ns

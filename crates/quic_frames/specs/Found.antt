@@ -4,11 +4,11 @@ use Rattle.quic_frames.specs.declared.frame.Frame.{Frame}
 use Rattle.quic_frames.specs.declared.frame.Frame.TheVariants as frames
 use Rattle.quic_frames.specs.declared.frame.found.FirstFrame.{FirstFrame}
 use Rattle.quic_errors.specs.declared.invalid_frame.InvalidFrame.{InvalidFrame}
-use Rattle.quic_frame_parts.specs.declared.frame.fault.Fault.{Fault}
-use Rattle.quic_frame_parts.specs.AckPlace.{ReadsBlocks}
-use Rattle.quic_frame_parts.specs.Acks.{parts_of}
-use Rattle.quic_frame_parts.specs.Payload.{Meaning, Found}
-use Rattle.quic_frame_parts.specs.Reading.{Invalid, Gives, varint_at}
+use Rattle.quic_frame_fields.specs.declared.frame.fault.Fault.{Fault}
+use Rattle.quic_frame_fields.specs.AckPlace.{ReadsBlocks}
+use Rattle.quic_frame_fields.specs.Acks.{parts_of}
+use Rattle.quic_frame_fields.specs.Payload.{Meaning, Found}
+use Rattle.quic_frame_fields.specs.Reading.{Invalid, Gives, varint_at}
 use Rattle.quic_frames.specs.Meaning.{meaning_of}
 use Rattle.quic_frames.specs.InRange.{IsToldApart}
 use Rattle.quic_frames.specs.Walk.{invalid_of}

@@ -2,11 +2,11 @@
 use Rattle.std.specs.Prelude.{◌≡◌, ◌≢◌, ⊤, ℕ, ◌<◌, ◌≤◌, ◌^◌, List, [], ◌∷◌, length, Some, Bool, false}
 use Rattle.quic_frames.specs.declared.frame.Frame.{Frame}
 use Rattle.quic_frames.specs.declared.frame.Frame.TheVariants as frames
-use Rattle.quic_frame_parts.specs.declared.frame.close.Close.TheVariants as closes
+use Rattle.quic_frame_fields.specs.declared.frame.close.Close.TheVariants as closes
 use Rattle.quic_errors.specs.Types.{type_or_zero}
-use Rattle.quic_frame_parts.specs.Numbers.{AreNumeric}
-pub use Rattle.quic_frame_parts.specs.Sets.{AreCounts}
-use Rattle.quic_frame_parts.specs.Sets.{IsAckInRange}
+use Rattle.quic_frame_fields.specs.Numbers.{AreNumeric}
+pub use Rattle.quic_frame_fields.specs.Sets.{AreCounts}
+use Rattle.quic_frame_fields.specs.Sets.{IsAckInRange}
 use Rattle.quic_frames.specs.Least.{is_end}
 
 -- a close whose type isn't given as 0, which is read as no type

@@ -1,7 +1,7 @@
 -- The least of the encodings of frames.
 use Rattle.std.specs.Prelude.{◌≡◌, ◌⊎◌, ℕ, ◌<◌, List, [], ◌∷◌, ◌++◌, length, Bool, true, false}
-use Rattle.quic_frame_parts.specs.Payload.{Meaning, Found}
-use Rattle.quic_frame_parts.specs.Shortest.{written_type, shortest_frame}
+use Rattle.quic_frame_fields.specs.Payload.{Meaning, Found}
+use Rattle.quic_frame_fields.specs.Shortest.{written_type, shortest_frame}
 
 -- The bytes are these, or more.
 abbrev pub AreOrExceed : List ℕ → List ℕ → Type 0

@@ -3,11 +3,11 @@ use Rattle.std.specs.Prelude.{ℕ, [], ◌∷◌, Bool, true, false}
 use Rattle.quic_base.specs.Ids.{dir_number}
 use Rattle.quic_frames.specs.declared.frame.Frame.{Frame}
 use Rattle.quic_frames.specs.declared.frame.Frame.TheVariants as frames
-use Rattle.quic_frame_parts.specs.Field.{Number}
-use Rattle.quic_frame_parts.specs.Table.{Name, Padding, Ping, Ack, MaxData, MaxStreamData, MaxStreams, DataBlocked, StreamDataBlocked, StreamsBlocked, RetireConnectionId, PathChallenge, PathResponse, ConnectionClose, ApplicationClose, HandshakeDone, ImmediateAck}
-use Rattle.quic_frame_parts.specs.Payload.{Meaning}
-pub use Rattle.quic_frame_parts.specs.Parts.{frame_of, flag, counts_of, connection_close, application_close, close_meaning, first_number, named_type}
-use Rattle.quic_frame_parts.specs.Parts.{ack_meaning, reset_meaning, stop_meaning, crypto_meaning, token_meaning, stream_meaning, new_id_meaning, datagram_meaning, frequency_meaning}
+use Rattle.quic_frame_fields.specs.Field.{Number}
+use Rattle.quic_frame_fields.specs.Table.{Name, Padding, Ping, Ack, MaxData, MaxStreamData, MaxStreams, DataBlocked, StreamDataBlocked, StreamsBlocked, RetireConnectionId, PathChallenge, PathResponse, ConnectionClose, ApplicationClose, HandshakeDone, ImmediateAck}
+use Rattle.quic_frame_fields.specs.Payload.{Meaning}
+pub use Rattle.quic_frame_fields.specs.Parts.{frame_of, flag, counts_of, connection_close, application_close, close_meaning, first_number, named_type}
+use Rattle.quic_frame_fields.specs.Parts.{ack_meaning, reset_meaning, stop_meaning, crypto_meaning, token_meaning, stream_meaning, new_id_meaning, datagram_meaning, frequency_meaning}
 
 -- what a frame says
 abbrev pub meaning_of : Frame → Meaning

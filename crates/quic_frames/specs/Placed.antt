@@ -1,9 +1,9 @@
 -- Frames at their places in a payload.
 use Rattle.std.specs.Prelude.{◌≡◌, ℕ, ◌+◌, List, [], ◌∷◌, ◌++◌, Option, None, Bool, true, length, map}
-use Rattle.quic_frame_parts.specs.declared.frame.fault.Fault.{Fault}
-use Rattle.quic_frame_parts.specs.Payload.{Found, IsFrame, AreClosed, IsNoFrame, last_type}
-use Rattle.quic_frame_parts.specs.Reading.{Item, Whole}
-use Rattle.quic_frame_parts.specs.Table.{is_open}
+use Rattle.quic_frame_fields.specs.declared.frame.fault.Fault.{Fault}
+use Rattle.quic_frame_fields.specs.Payload.{Found, IsFrame, AreClosed, IsNoFrame, last_type}
+use Rattle.quic_frame_fields.specs.Reading.{Item, Whole}
+use Rattle.quic_frame_fields.specs.Table.{is_open}
 
 -- a frame, and where it begins and ends
 pub record Placed : Type 0 where

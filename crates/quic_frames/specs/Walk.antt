@@ -3,12 +3,12 @@ use Rattle.std.specs.Prelude.{◌≡◌, ⊤, ◌↔◌, ℕ, ◌-◌, ◌<◌, 
 use Rattle.quic_frames.specs.declared.frame.Frame.{Frame}
 use Rattle.quic_frames.specs.declared.frame.Frame.TheVariants as frames
 use Rattle.quic_errors.specs.declared.invalid_frame.InvalidFrame.{InvalidFrame}
-use Rattle.quic_frame_parts.specs.AckPlace.{BlocksStand}
-use Rattle.quic_frame_parts.specs.Field.{Value, Number, Bytes, Ranges}
-use Rattle.quic_frame_parts.specs.Table.{is_open}
-use Rattle.quic_frame_parts.specs.declared.frame.fault.Fault.{Fault}
-use Rattle.quic_frame_parts.specs.Payload.{Found, IsFrame, AreFrames, IsBroken}
-use Rattle.quic_frame_parts.specs.Reading.{Item, Whole, Broken, Invalid, invalid, items_of}
+use Rattle.quic_frame_fields.specs.AckPlace.{BlocksStand}
+use Rattle.quic_frame_fields.specs.Field.{Value, Number, Bytes, Ranges}
+use Rattle.quic_frame_fields.specs.Table.{is_open}
+use Rattle.quic_frame_fields.specs.declared.frame.fault.Fault.{Fault}
+use Rattle.quic_frame_fields.specs.Payload.{Found, IsFrame, AreFrames, IsBroken}
+use Rattle.quic_frame_fields.specs.Reading.{Item, Whole, Broken, Invalid, invalid, items_of}
 use Rattle.quic_frames.specs.Meaning.{meaning_of}
 use Rattle.quic_frames.specs.InRange.{IsToldApart}
 use Rattle.quic_frames.specs.Way.{Way}

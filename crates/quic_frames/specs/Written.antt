@@ -1,6 +1,6 @@
 -- What is written of frames.
 use Rattle.std.specs.Prelude.{◌≡◌, ℕ, List, map, false}
-use Rattle.quic_frame_parts.specs.Payload.{Found, AreFrames}
+use Rattle.quic_frame_fields.specs.Payload.{Found, AreFrames}
 use Rattle.quic_frames.specs.Least.{AreOrExceed, frame_in}
 use Rattle.quic_frames.specs.Meaning.{meaning_of}
 use Rattle.quic_frames.specs.declared.frame.Frame.{Frame}

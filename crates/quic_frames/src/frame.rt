@@ -17,7 +17,7 @@ mod whole;
 pub use iter::Iter;
 pub use quic_errors::frame_type::FrameType;
 pub use quic_errors::invalid_frame::InvalidFrame;
-pub use quic_frame_parts::frame::{
+pub use quic_frame_fields::frame::{
     Ack, AckError, AckFrequency, AckIter, ApplicationClose, Close, ConnectionClose, Crypto,
     Datagram, EcnCounts, NewConnectionId, NewToken, ResetStream, StopSending, Stream, StreamMeta,
     StreamMetaVec, split_ack, split_first_range,

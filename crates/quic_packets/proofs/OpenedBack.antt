@@ -5,18 +5,18 @@ use Rattle.quic_base.specs.declared.ids.SpaceId.{SpaceId}
 use Rattle.quic_base.proofs.PublicLaws as law
 use Rattle.quic_base.specs.Number.{AreBytes, bytes_of}
 use Rattle.bytes.specs.Filled.{Filled}
-use Rattle.quic_heads.specs.declared.protected.ProtectedHeader.{ProtectedHeader}
-use Rattle.quic_headers.specs.declared.header.Header.{Header}
-use Rattle.quic_headers.specs.declared.header.Header.TheVariants as header
+use Rattle.quic_header_decode.specs.declared.protected.ProtectedHeader.{ProtectedHeader}
+use Rattle.quic_header_encode.specs.declared.header.Header.{Header}
+use Rattle.quic_header_encode.specs.declared.header.Header.TheVariants as header
 use Rattle.quic_packets.specs.declared.opening.OpenError.{OpenError}
 use Rattle.quic_packets.specs.declared.opening.OpenError.TheVariants as error
-use Rattle.quic_heads.specs.Refusal.{Refusal, refusal_of}
-use Rattle.quic_heads.specs.Grammar.{Cut, Uncut}
-use Rattle.quic_heads.specs.Reading.{Context, IsRest}
-use Rattle.quic_heads.specs.Headers.{IsOpenedBy}
-use Rattle.quic_heads.specs.Queries.{space_of}
-use Rattle.quic_headers.specs.Queries.{space_in}
-use Rattle.quic_headers.specs.Writing.{header_size, size_in}
+use Rattle.quic_header_decode.specs.Refusal.{Refusal, refusal_of}
+use Rattle.quic_header_decode.specs.Grammar.{Cut, Uncut}
+use Rattle.quic_header_decode.specs.Reading.{Context, IsRest}
+use Rattle.quic_header_decode.specs.Headers.{IsOpenedBy}
+use Rattle.quic_header_decode.specs.Queries.{space_of}
+use Rattle.quic_header_encode.specs.Queries.{space_in}
+use Rattle.quic_header_encode.specs.Writing.{header_size, size_in}
 use Rattle.quic_packets.specs.Pairs.{IsLawful, KeyPair}
 use Rattle.quic_packets.specs.Sealing.{Sealed, plain_packet, sealed_head, protected_len}
 use Rattle.quic_packets.specs.Opening.{Opens, IsBack, IsReadBack, ExpandsIn, Unlocked, KeyGives, KeyRefuses, PartGives, PartRefuses, PacketGives, PacketRefuses}
@@ -24,8 +24,8 @@ use Rattle.quic_packets.proofs.Sealings.{head_length}
 use Rattle.quic_packets.proofs.Parts.{expands_same}
 use Rattle.quic_packets.proofs.Opened.{Lawful, front_bytes, cut_same}
 use Rattle.quic_packets.proofs.SealedFound.{Found, sealed_found, read_numbered}
-use Rattle.quic_heads.proofs.CutAnswers.{cut_positive, cut_again, uncut_again}
-use Rattle.quic_heads.proofs.Steps.{take_front, drop_front}
+use Rattle.quic_header_decode.proofs.CutAnswers.{cut_positive, cut_again, uncut_again}
+use Rattle.quic_header_decode.proofs.Steps.{take_front, drop_front}
 
 expands_in_same : (h : Header) (expected m n : ℕ) → ExpandsIn h expected m → ExpandsIn h expected n → m ≡ n
 expands_in_same (header.Initial i) expected m n a b = expands_same i.number expected m n a b

@@ -3,10 +3,10 @@ use Rattle.std.specs.Prelude.{Bool, ◌≡◌, ℕ, ◌<◌, List, [], ◌∷◌
 use Rattle.std.proofs.Common.{sym, ap, ◌∙◌, arith, refl, subst, append_assoc, append-nil}
 use Rattle.bytes.specs.Filled.{Filled}
 use Rattle.quic_base.specs.declared.ids.SpaceId.{SpaceId}
-use Rattle.quic_headers.specs.Queries.{space_in}
-use Rattle.quic_headers.specs.declared.header.Header.{Header}
+use Rattle.quic_header_encode.specs.Queries.{space_in}
+use Rattle.quic_header_encode.specs.declared.header.Header.{Header}
 use Rattle.quic_packets.specs.declared.opening.Opened.{Opened}
-use Rattle.quic_heads.specs.Reading.{Context}
+use Rattle.quic_header_decode.specs.Reading.{Context}
 use Rattle.quic_packets.specs.Pairs.{KeyPair}
 use Rattle.quic_packets.specs.Sealing.{IsAppended, Sealed}
 use Rattle.quic_packets.specs.Opening.{PacketRefuses, IsReadBack, ExpandsIn, IsBack}

@@ -10,25 +10,25 @@ use Rattle.quic_crypto.specs.Keys.{HasSample, first_unit}
 use Rattle.quic_crypto.specs.declared.packet_number.PacketNumber.{PacketNumber}
 use Rattle.quic_crypto.specs.declared.packet_number.PacketNumber.TheVariants.{U8, U16, U24, U32}
 use Rattle.quic_crypto.specs.PacketNumbers.{number_size, number_bytes}
-use Rattle.quic_heads.specs.declared.protected.ProtectedHeader.{ProtectedHeader}
-use Rattle.quic_heads.specs.declared.protected.ProtectedHeader.TheVariants as head
-use Rattle.quic_heads.specs.declared.protected.ProtectedInitialHeader.{ProtectedInitialHeader}
-use Rattle.quic_headers.specs.declared.long_type.LongHeaderType.{LongHeaderType}
-use Rattle.quic_headers.specs.declared.long_type.LongHeaderType.TheVariants as kind
-use Rattle.quic_headers.specs.declared.long_type.LongType.{LongType}
-use Rattle.quic_headers.specs.declared.long_type.LongType.TheVariants.{Handshake, ZeroRtt}
-use Rattle.quic_headers.specs.declared.header.Header.{Header}
-use Rattle.quic_headers.specs.declared.header.InitialHeader.{InitialHeader}
-use Rattle.quic_headers.specs.declared.header.Header.TheVariants as header
-use Rattle.quic_heads.specs.Grammar.{Cut}
-use Rattle.quic_heads.proofs.Made.{LongStart, fixed_set, long_head, initial_head, short_head}
-use Rattle.quic_heads.specs.Reading.{Context}
-use Rattle.quic_headers.specs.Types.{types_of, long_type, version_2, type_number, place_of}
-use Rattle.quic_heads.specs.Headers.{IsOpenedBy}
-use Rattle.quic_heads.specs.Queries.{space_of}
-use Rattle.quic_headers.specs.Queries.{space_in}
-use Rattle.quic_heads.specs.Finish.{IsNumberIn}
-use Rattle.quic_headers.specs.Writing.{header_size, long_first, bit, size_in, has_number}
+use Rattle.quic_header_decode.specs.declared.protected.ProtectedHeader.{ProtectedHeader}
+use Rattle.quic_header_decode.specs.declared.protected.ProtectedHeader.TheVariants as head
+use Rattle.quic_header_decode.specs.declared.protected.ProtectedInitialHeader.{ProtectedInitialHeader}
+use Rattle.quic_header_encode.specs.declared.long_type.LongHeaderType.{LongHeaderType}
+use Rattle.quic_header_encode.specs.declared.long_type.LongHeaderType.TheVariants as kind
+use Rattle.quic_header_encode.specs.declared.long_type.LongType.{LongType}
+use Rattle.quic_header_encode.specs.declared.long_type.LongType.TheVariants.{Handshake, ZeroRtt}
+use Rattle.quic_header_encode.specs.declared.header.Header.{Header}
+use Rattle.quic_header_encode.specs.declared.header.InitialHeader.{InitialHeader}
+use Rattle.quic_header_encode.specs.declared.header.Header.TheVariants as header
+use Rattle.quic_header_decode.specs.Grammar.{Cut}
+use Rattle.quic_header_decode.proofs.Made.{LongStart, fixed_set, long_head, initial_head, short_head}
+use Rattle.quic_header_decode.specs.Reading.{Context}
+use Rattle.quic_header_encode.specs.Types.{types_of, long_type, version_2, type_number, place_of}
+use Rattle.quic_header_decode.specs.Headers.{IsOpenedBy}
+use Rattle.quic_header_decode.specs.Queries.{space_of}
+use Rattle.quic_header_encode.specs.Queries.{space_in}
+use Rattle.quic_header_decode.specs.Finish.{IsNumberIn}
+use Rattle.quic_header_encode.specs.Writing.{header_size, long_first, bit, size_in, has_number}
 use Rattle.quic_packets.specs.Pairs.{KeyPair}
 use Rattle.quic_packets.specs.Sealing.{Sealed, plain_packet, sealed_head, protected_len}
 use Rattle.quic_packets.specs.Opening.{IsReadBack}

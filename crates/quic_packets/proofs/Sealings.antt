@@ -10,14 +10,14 @@ use Rattle.quic_base.specs.Number.{AreBytes, bytes_of}
 use Rattle.quic_crypto.specs.Keys.{payload_in}
 use Rattle.quic_crypto.specs.declared.packet_number.PacketNumber.{PacketNumber}
 use Rattle.quic_crypto.specs.PacketNumbers.{number_size, number_bytes, low_part}
-use Rattle.quic_headers.specs.declared.header.Header.{Header}
-use Rattle.quic_headers.specs.declared.header.Header.TheVariants as header
-use Rattle.quic_headers.specs.Starts.{long_front}
-use Rattle.quic_headers.specs.declared.long_type.LongHeaderType.TheVariants as kind
-use Rattle.quic_headers.specs.Writing.{long_first, head_front, head_with, header_bytes, header_size, no_length, place_in, size_in, has_length, has_number, with_length, sealed_packet}
+use Rattle.quic_header_encode.specs.declared.header.Header.{Header}
+use Rattle.quic_header_encode.specs.declared.header.Header.TheVariants as header
+use Rattle.quic_header_encode.specs.Starts.{long_front}
+use Rattle.quic_header_encode.specs.declared.long_type.LongHeaderType.TheVariants as kind
+use Rattle.quic_header_encode.specs.Writing.{long_first, head_front, head_with, header_bytes, header_size, no_length, place_in, size_in, has_length, has_number, with_length, sealed_packet}
 use Rattle.quic_packets.specs.Pairs.{KeyPair}
 use Rattle.quic_packets.specs.Sealing.{plain_packet, sealed_head, protected_len}
-use Rattle.quic_heads.proofs.Steps.{take_front, drop_front}
+use Rattle.quic_header_decode.proofs.Steps.{take_front, drop_front}
 
 pub place_is : (h : Header) → IsTrue (has_number h) → place_in h ≡ Some (size_in h, has_length h)
 place_is (header.Initial h) e = refl

@@ -2,12 +2,12 @@
 use Rattle.std.specs.Prelude.{◌≡◌, ◌≢◌, ℕ, ◌<◌, ◌⊎◌, Bool, IsTrue, List, length, Result, Ok, Err}
 use Rattle.std.proofs.Common.{sym, subst, refl, inl, inr}
 use Rattle.quic_base.specs.declared.ids.SpaceId.{SpaceId}
-use Rattle.quic_heads.specs.declared.protected.ProtectedHeader.{ProtectedHeader}
-use Rattle.quic_heads.specs.Refusal.{Refusal, Refuses, refusal_of, NoMemory}
-use Rattle.quic_heads.specs.declared.decode_error.PacketDecodeError.{PacketDecodeError}
-use Rattle.quic_heads.specs.declared.decode_error.PacketDecodeError.TheVariants as error
-use Rattle.quic_heads.specs.Grammar.{Cut, Uncut, CutAnswer}
-use Rattle.quic_heads.specs.Reading.{Context}
+use Rattle.quic_header_decode.specs.declared.protected.ProtectedHeader.{ProtectedHeader}
+use Rattle.quic_header_decode.specs.Refusal.{Refusal, Refuses, refusal_of, NoMemory}
+use Rattle.quic_header_decode.specs.declared.decode_error.PacketDecodeError.{PacketDecodeError}
+use Rattle.quic_header_decode.specs.declared.decode_error.PacketDecodeError.TheVariants as error
+use Rattle.quic_header_decode.specs.Grammar.{Cut, Uncut, CutAnswer}
+use Rattle.quic_header_decode.specs.Reading.{Context}
 use Rattle.quic_packets.specs.declared.opening.OpenError.{OpenError}
 use Rattle.quic_packets.specs.declared.opening.OpenError.TheVariants as refused
 use Rattle.quic_packets.specs.Pairs.{KeyPair}

@@ -2,20 +2,20 @@
 use Rattle.std.specs.Prelude.{◌≡◌, ◌≢◌, ℕ, ◌<◌, ◌≤◌, ◌⊎◌, Bool, true, IsTrue, List, ◌++◌, length, take, drop, Option, Some, None, [], ◌^◌, Result, Ok}
 use Rattle.quic_crypto.specs.Keys.{HasSample}
 use Rattle.quic_crypto.specs.PacketNumbers.{low_part, window_of, Expands, IsInRange}
-use Rattle.quic_heads.specs.declared.decode_error.PacketDecodeError.{PacketDecodeError}
-use Rattle.quic_heads.specs.declared.protected.ProtectedHeader.{ProtectedHeader}
-use Rattle.quic_headers.specs.declared.header.Header.{Header}
-use Rattle.quic_headers.specs.declared.header.Header.TheVariants as header
+use Rattle.quic_header_decode.specs.declared.decode_error.PacketDecodeError.{PacketDecodeError}
+use Rattle.quic_header_decode.specs.declared.protected.ProtectedHeader.{ProtectedHeader}
+use Rattle.quic_header_encode.specs.declared.header.Header.{Header}
+use Rattle.quic_header_encode.specs.declared.header.Header.TheVariants as header
 use Rattle.quic_packets.specs.declared.opening.OpenError.{OpenError}
 use Rattle.quic_packets.specs.declared.opening.OpenError.TheVariants as error
-use Rattle.quic_heads.specs.Refusal.{Refusal, refusal_of, NoMemory}
-use Rattle.quic_heads.specs.Finish.{sample_refusal}
-use Rattle.quic_heads.specs.Grammar.{Cut, Uncut, IsKnown}
-use Rattle.quic_heads.specs.Reading.{Context, IsRest}
+use Rattle.quic_header_decode.specs.Refusal.{Refusal, refusal_of, NoMemory}
+use Rattle.quic_header_decode.specs.Finish.{sample_refusal}
+use Rattle.quic_header_decode.specs.Grammar.{Cut, Uncut, IsKnown}
+use Rattle.quic_header_decode.specs.Reading.{Context, IsRest}
 use Rattle.bytes.specs.Filled.{Filled}
-use Rattle.quic_heads.specs.Headers.{IsOpenedBy, without_number}
-use Rattle.quic_heads.specs.Queries.{space_of}
-use Rattle.quic_headers.specs.Queries.{space_in}
+use Rattle.quic_header_decode.specs.Headers.{IsOpenedBy, without_number}
+use Rattle.quic_header_decode.specs.Queries.{space_of}
+use Rattle.quic_header_encode.specs.Queries.{space_in}
 use Rattle.quic_base.specs.declared.ids.SpaceId.{SpaceId}
 use Rattle.quic_packets.specs.declared.keys.Expected.{Expected}
 use Rattle.quic_packets.specs.Pairs.{KeyPair}

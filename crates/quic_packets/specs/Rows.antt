@@ -2,9 +2,9 @@
 use Rattle.std.specs.Prelude.{◌≡◌, ℕ, ◌+◌, ◌<◌, Bool, List, [], ◌∷◌, ◌++◌, length, Option, Some, None, Result, Ok, Err}
 use Rattle.bytes.specs.Filled.{Filled}
 use Rattle.quic_base.specs.declared.ids.SpaceId.{SpaceId}
-use Rattle.quic_headers.specs.declared.header.Header.{Header}
-use Rattle.quic_headers.specs.Queries.{space_in}
-use Rattle.quic_heads.specs.Reading.{Context}
+use Rattle.quic_header_encode.specs.declared.header.Header.{Header}
+use Rattle.quic_header_encode.specs.Queries.{space_in}
+use Rattle.quic_header_decode.specs.Reading.{Context}
 use Rattle.quic_packets.specs.declared.opening.Opened.{Opened}
 use Rattle.quic_packets.specs.declared.opening.OpenError.{OpenError}
 use Rattle.quic_packets.specs.declared.opening.OpenError.TheVariants.{OutOfMemory}

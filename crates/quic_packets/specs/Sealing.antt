@@ -6,12 +6,12 @@ use Rattle.quic_frames.specs.declared.frame.Frame.{Frame}
 use Rattle.quic_frames.specs.Meaning.{meaning_of}
 use Rattle.quic_frames.specs.Least.{shortest_frames}
 use Rattle.quic_frames.specs.Written.{IsPayload}
-use Rattle.quic_headers.specs.declared.header.Header.{Header}
-use Rattle.quic_headers.specs.declared.header.Header.TheVariants as header
+use Rattle.quic_header_encode.specs.declared.header.Header.{Header}
+use Rattle.quic_header_encode.specs.declared.header.Header.TheVariants as header
 use Rattle.quic_packets.specs.declared.seal.SealError.{SealError}
 use Rattle.quic_packets.specs.declared.seal.SealError.TheVariants as refusal
 use Rattle.quic_packets.specs.Pairs.{KeyPair}
-use Rattle.quic_headers.specs.Writing.{head_with, header_size, IsWritable, size_in, has_length}
+use Rattle.quic_header_encode.specs.Writing.{head_with, header_size, IsWritable, size_in, has_length}
 
 -- the number in the head is the low part of this one
 abbrev pub IsLowPart : Header → ℕ → Type 0

@@ -2,15 +2,15 @@
 ghost use Rattle.std.specs.Prelude.{◌≡◌, ◌++◌, List, ℕ, length};
 ghost use Rattle.quic_crypto.specs.PacketNumbers.{Expands, low_part, window_of};
 ghost use Rattle.quic_frames.specs.Written.{IsPayload};
-ghost use Rattle.quic_heads.specs.Reading.{Context};
+ghost use Rattle.quic_header_decode.specs.Reading.{Context};
 ghost use Rattle.quic_packets.specs.Opening.{ExpandsIn, IsReadBack, Opens};
 ghost use Rattle.quic_packets.specs.Pairs.{IsLawful, KeyPair};
 ghost use Rattle.quic_packets.specs.Sealing.{Sealed};
 
 use quic_crypto::packet_number::PacketNumber;
 use quic_frames::frame::Frame;
-use quic_headers::header::Header;
-pub use quic_heads::laws::{ends, one_answer, one_row_of_packets};
+use quic_header_encode::header::Header;
+pub use quic_header_decode::laws::{ends, one_answer, one_row_of_packets};
 
 /// Keys make one packet of a head, a number and a payload; frames have one least payload; and the number that is
 /// written stands for one number, by the one that is expected.

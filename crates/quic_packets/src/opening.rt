@@ -1,8 +1,8 @@
 //! Packets are opened (RFC 9001, sections 5.3 and 5.4).
 ghost use Rattle.std.specs.Prelude.{◌≡◌, ℕ, ◌<◌, ◌^◌, List, ◌++◌, length, IfOk, IfErr, IfSome, IsSome, MatchResult, IsTrue, false, None, Some};
-ghost use Rattle.quic_heads.specs.Headers.{is_protected};
-ghost use Rattle.quic_heads.specs.Queries.{space_of};
-ghost use Rattle.quic_headers.specs.Queries.{space_in};
+ghost use Rattle.quic_header_decode.specs.Headers.{is_protected};
+ghost use Rattle.quic_header_decode.specs.Queries.{space_of};
+ghost use Rattle.quic_header_encode.specs.Queries.{space_in};
 ghost use Rattle.quic_packets.specs.Opening.{read_by, AreExpected, IsReadBack, HasNumber, ExpandsIn, KeyGives, KeyRefuses, PacketRefuses, PartGives, PartRefuses, IsDecode};
 ghost use Rattle.quic_packets.specs.Rows.{Row, AreBack, Ends, Gives, GivesBack, IsFront, OpensBack, OpensNext, Steps, left_size};
 ghost use Rattle.quic_packets.specs.Sealing.{IsAppended, Sealed};
@@ -13,11 +13,11 @@ use crate::pairs::{PairOfKeys, PairsOfKeys};
 use bytes::{Bytes, BytesMut};
 use quic_base::coding::are_bytes;
 use quic_crypto::crypto::{HeaderKey, PacketKey};
-use quic_headers::header::Header;
-use quic_heads::cut::PartialDecode;
-use quic_heads::decode_error::PacketDecodeError;
-use quic_heads::packet::Packet;
-use quic_heads::parser::ConnectionIdParser;
+use quic_header_encode::header::Header;
+use quic_header_decode::cut::PartialDecode;
+use quic_header_decode::decode_error::PacketDecodeError;
+use quic_header_decode::packet::Packet;
+use quic_header_decode::parser::ConnectionIdParser;
 use thiserror::Error;
 
 /// Why a packet is not opened. The datagram is given up: nothing behind the packet is known then.

@@ -2,7 +2,7 @@
 ghost use Rattle.std.specs.Prelude.{◌⊎◌, IfNone, MatchOption, ◌≡◌, ◌≢◌, ℕ, ◌+◌, ◌-◌, ◌≤◌, ◌<◌, ◌^◌, ◌++◌, length, min, vec_len, vec_capacity, IfOk, IfErr, OnErr, IsTrue, IfSome, Some, take, drop, replicate};
 ghost use Rattle.quic_base.specs.Number.{AreBytes};
 ghost use Rattle.quic_frames.specs.InRange.{CanFollow};
-ghost use Rattle.quic_headers.specs.Writing.{header_size, header_bytes, place_in, IsWritable, has_number, finished, HasRoom};
+ghost use Rattle.quic_header_encode.specs.Writing.{header_size, header_bytes, place_in, IsWritable, has_number, finished, HasRoom};
 ghost use Rattle.quic_packets.specs.Sealing.{SealedFrames, IsAppended, SealRefused, IsLowPart, payload_of};
 
 use crate::keys::Keys;
@@ -10,8 +10,8 @@ use crate::pairs::PairOfKeys;
 use crate::payload::{is_payload, payload_len, put_frames};
 use quic_crypto::crypto::{HeaderKey, PacketKey};
 use quic_frames::frame::Frame;
-use quic_headers::encode::PartialEncode;
-use quic_headers::header::Header;
+use quic_header_encode::encode::PartialEncode;
+use quic_header_encode::header::Header;
 use thiserror::Error;
 
 /// Why a packet is not sealed. Where several of these hold, the first of them is told.

@@ -1,6 +1,6 @@
 //! Heads that are written, and packets that are finished with keys that protect nothing.
 ghost use Rattle.std.specs.Prelude.{IfOk};
-ghost use Rattle.quic_headers.specs.Writing.{IsWritable};
+ghost use Rattle.quic_header_encode.specs.Writing.{IsWritable};
 
 use crate::words::{bytes_of, id, number};
 use bytes::Bytes;

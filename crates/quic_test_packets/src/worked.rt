@@ -1,8 +1,8 @@
 //! Keys and heads of the worked rows.
 ghost use Rattle.std.specs.Prelude.{◌≡◌, ◌≤◌, ◌<◌, ◌^◌, ◌++◌, IsTrue, List, [], Ok, ℕ, length};
-ghost use Rattle.quic_headers.specs.Writing.{IsWritable, has_number};
-ghost use Rattle.quic_heads.specs.Grammar.{IsKnown};
-ghost use Rattle.quic_heads.specs.Reading.{Context};
+ghost use Rattle.quic_header_encode.specs.Writing.{IsWritable, has_number};
+ghost use Rattle.quic_header_decode.specs.Grammar.{IsKnown};
+ghost use Rattle.quic_header_decode.specs.Reading.{Context};
 ghost use Rattle.quic_packets.specs.Opening.{ExpandsIn, IsReadBack};
 ghost use Rattle.quic_packets.specs.Sealing.{IsLowPart};
 

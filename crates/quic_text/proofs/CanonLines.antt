@@ -4,9 +4,9 @@ use Rattle.std.specs.List.{flat_map, list_all}
 use Rattle.std.proofs.lemmas.List.{append-nil}
 use Rattle.hex.specs.Hex.{encode_lower, encode_with, lower_digits}
 use Rattle.quic_base.specs.Number.{AreBytes}
-use Rattle.quic_frame_parts.specs.declared.frame.fault.Fault.{Fault}
-use Rattle.quic_frame_parts.specs.Payload.{Meaning, Found, AreFrames, IsBroken}
-use Rattle.quic_frame_parts.specs.Reading.{Invalid, invalid, Item, Whole, Broken, items_of}
+use Rattle.quic_frame_fields.specs.declared.frame.fault.Fault.{Fault}
+use Rattle.quic_frame_fields.specs.Payload.{Meaning, Found, AreFrames, IsBroken}
+use Rattle.quic_frame_fields.specs.Reading.{Invalid, invalid, Item, Whole, Broken, items_of}
 use Rattle.quic_frames.specs.Least.{frame_in, shortest_frames}
 use Rattle.quic_frames.specs.Walk.{unplaced, given}
 use Rattle.quic_frames.proofs.Items.{frames_are_items, broken_are_items, broken_some}

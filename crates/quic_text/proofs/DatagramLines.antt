@@ -6,16 +6,16 @@ use Rattle.std.specs.Prelude.{option_map}
 use Rattle.std.specs.Fmt.{AppendsText, ◌++?◌, padded_integral, format_spec, digits, char_count}
 use Rattle.quic_base.specs.Number.{AreBytes}
 use Rattle.quic_base.proofs.PublicLaws.{back_bytes}
-use Rattle.quic_heads.specs.declared.decode_error.PacketDecodeError.{PacketDecodeError}
-use Rattle.quic_heads.specs.declared.decode_error.PacketDecodeError.TheVariants as error
-use Rattle.quic_heads.specs.declared.protected.ProtectedHeader.{ProtectedHeader}
-use Rattle.quic_heads.specs.Datagram.{Placed, ArePackets, last, more, refused}
-use Rattle.quic_heads.specs.Grammar.{Cut, Uncut, CutAnswer}
-use Rattle.quic_heads.specs.Reading.{Context}
-use Rattle.quic_heads.specs.Refusal.{Refusal, NoMemory, Refuses, refusal_of}
-use Rattle.quic_heads.proofs.Datagrams.{packets_again, some_packets}
-use Rattle.quic_heads.proofs.Steps.{match_ok}
-use Rattle.quic_heads.specs.Parsers.{fixed_parsed, fixed_lawful}
+use Rattle.quic_header_decode.specs.declared.decode_error.PacketDecodeError.{PacketDecodeError}
+use Rattle.quic_header_decode.specs.declared.decode_error.PacketDecodeError.TheVariants as error
+use Rattle.quic_header_decode.specs.declared.protected.ProtectedHeader.{ProtectedHeader}
+use Rattle.quic_header_decode.specs.Datagram.{Placed, ArePackets, last, more, refused}
+use Rattle.quic_header_decode.specs.Grammar.{Cut, Uncut, CutAnswer}
+use Rattle.quic_header_decode.specs.Reading.{Context}
+use Rattle.quic_header_decode.specs.Refusal.{Refusal, NoMemory, Refuses, refusal_of}
+use Rattle.quic_header_decode.proofs.Datagrams.{packets_again, some_packets}
+use Rattle.quic_header_decode.proofs.Steps.{match_ok}
+use Rattle.quic_header_decode.specs.Parsers.{fixed_parsed, fixed_lawful}
 use Rattle.quic_text.specs.Printed.{Printed, Error, shown, is_plain}
 use Rattle.quic_text.specs.DatagramText.{with_ids_of, eight_digits, packet_line, refusal_text, row_lines, datagram_lines}
 use Rattle.quic_text.specs.Whole.{AppendsAllBut, AppendsBeginning}

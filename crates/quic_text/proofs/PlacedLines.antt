@@ -1,8 +1,8 @@
 -- The lines of frames at their places, by the items that these are.
 use Rattle.std.proofs.Common.{◌≡◌, ◌≢◌, ℕ, Bool, List, [], ◌∷◌, ◌++◌, None, Option, map, refl, ap, ◌∙◌}
 use Rattle.quic_base.specs.Number.{AreBytes}
-use Rattle.quic_frame_parts.specs.declared.frame.fault.Fault.{Fault}
-use Rattle.quic_frame_parts.specs.Reading.{Item, Broken, invalid, items_of}
+use Rattle.quic_frame_fields.specs.declared.frame.fault.Fault.{Fault}
+use Rattle.quic_frame_fields.specs.Reading.{Item, Broken, invalid, items_of}
 use Rattle.quic_frames.specs.Placed.{Placed, ArePlaced, IsPlacedBroken, whole}
 use Rattle.quic_frames.proofs.Placing.{placed_items, broken_items}
 use Rattle.quic_text.specs.Printed.{Printed}

@@ -1,8 +1,8 @@
 -- What the program prints of a payload in its shortest form.
 use Rattle.std.specs.Prelude.{ℕ, false, List, [], ◌∷◌, None, Result, Ok, Err}
 use Rattle.hex.specs.Hex.{encode_lower}
-use Rattle.quic_frame_parts.specs.Payload.{Meaning}
-use Rattle.quic_frame_parts.specs.Reading.{Invalid, Item, Whole, Broken, items_of}
+use Rattle.quic_frame_fields.specs.Payload.{Meaning}
+use Rattle.quic_frame_fields.specs.Reading.{Invalid, Item, Whole, Broken, items_of}
 use Rattle.quic_frames.specs.Least.{shortest_frames}
 use Rattle.quic_text.specs.Printed.{Printed, Plain}
 use Rattle.quic_text.specs.FrameText.{item_line, empty_line}

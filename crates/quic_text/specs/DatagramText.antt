@@ -3,14 +3,14 @@ use Rattle.std.specs.Prelude.{ℕ, ◌-◌, false, List, [], ◌∷◌, ◌++◌
 use Rattle.std.specs.Fmt.{decimal, digits}
 use Rattle.quic_base.specs.ConnectionId.{id_text}
 use Rattle.quic_base.specs.declared.ids.TheConstants.{DEFAULT_SUPPORTED_VERSIONS}
-use Rattle.quic_headers.specs.declared.long_type.LongType.{LongType}
-use Rattle.quic_headers.specs.declared.long_type.LongType.TheVariants.{Handshake, ZeroRtt}
-use Rattle.quic_heads.specs.Datagram.{Placed, packets_in}
-use Rattle.quic_heads.specs.Parsers.{fixed_parsed}
-use Rattle.quic_heads.specs.Reading.{Context}
-use Rattle.quic_heads.specs.Refusal.{Refusal, Invalid, Unsupported, NoMemory}
-use Rattle.quic_heads.specs.declared.protected.ProtectedHeader.{ProtectedHeader}
-use Rattle.quic_heads.specs.declared.protected.ProtectedHeader.TheVariants as head
+use Rattle.quic_header_encode.specs.declared.long_type.LongType.{LongType}
+use Rattle.quic_header_encode.specs.declared.long_type.LongType.TheVariants.{Handshake, ZeroRtt}
+use Rattle.quic_header_decode.specs.Datagram.{Placed, packets_in}
+use Rattle.quic_header_decode.specs.Parsers.{fixed_parsed}
+use Rattle.quic_header_decode.specs.Reading.{Context}
+use Rattle.quic_header_decode.specs.Refusal.{Refusal, Invalid, Unsupported, NoMemory}
+use Rattle.quic_header_decode.specs.declared.protected.ProtectedHeader.{ProtectedHeader}
+use Rattle.quic_header_decode.specs.declared.protected.ProtectedHeader.TheVariants as head
 use Rattle.quic_text.specs.Printed.{Printed, Plain, Error}
 
 -- how datagrams are read: ids of short heads have that many bytes, the versions are the usual ones, and the fixed bit

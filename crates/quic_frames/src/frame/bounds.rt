@@ -2,7 +2,7 @@
 ghost use Rattle.quic_frames.specs.InRange.{IsTyped};
 
 use super::{Close, Frame};
-use quic_frame_parts::frame::encode::type_or_zero;
+use quic_frame_fields::frame::encode::type_or_zero;
 
 impl Frame<'_> {
     /// The bounds that the types of the frame's parts hold, as a fact of the frame. It does nothing.

@@ -1,18 +1,18 @@
 //! The other fields of frames, read from the front of a slice.
 ghost use Rattle.std.specs.Prelude.{◌≡◌, ◌<◌, ◌≤◌, ◌^◌, List, [], ◌∷◌, length, IfOk};
-ghost use Rattle.quic_frame_parts.specs.Reading.{Gives, varint_at, bytes_at, counted_at, id_at, eight_at, field_at};
-ghost use Rattle.quic_frame_parts.specs.Field.{Value, Number, Bytes};
-ghost use Rattle.quic_frame_parts.specs.Table.{offset_field, data_field};
+ghost use Rattle.quic_frame_fields.specs.Reading.{Gives, varint_at, bytes_at, counted_at, id_at, eight_at, field_at};
+ghost use Rattle.quic_frame_fields.specs.Field.{Value, Number, Bytes};
+ghost use Rattle.quic_frame_fields.specs.Table.{offset_field, data_field};
 
 use quic_base::coding::Codec;
 use quic_base::ids::{MAX_CID_SIZE, RESET_TOKEN_SIZE};
 use quic_base::varint::split_var_by_word;
-use quic_frame_parts::frame::fault::Fault;
-use quic_frame_parts::frame::field::varint;
+use quic_frame_fields::frame::fault::Fault;
+use quic_frame_fields::frame::field::varint;
 
 // The first `n` bytes, and what follows them.
 #[inline]
-#[tactic(auto, unfolding(quic_frame_parts::specs::Reading::bytes_at))]
+#[tactic(auto, unfolding(quic_frame_fields::specs::Reading::bytes_at))]
 fn bytes_of(n: u64, bytes: &[u8]) -> Result<(&[u8], &[u8]), Fault>
     ensures gives { Gives (λ x. (x.0.now, x.1.now)) result (bytes_at n bytes.now) }
     ensures len { IfOk result (λ x. length x.0.now ≡ n) }
@@ -26,7 +26,7 @@ fn bytes_of(n: u64, bytes: &[u8]) -> Result<(&[u8], &[u8]), Fault>
 /// A number of any width, and what follows it, made for numbers of which nearly all have one byte: such a one is read
 /// where the call stands.
 #[inline(always)]
-#[tactic(auto, using(quic_frame_parts::proofs::Gaps::one_at))]
+#[tactic(auto, using(quic_frame_fields::proofs::Gaps::one_at))]
 pub(super) fn short_varint(bytes: &[u8]) -> Result<(u64, &[u8]), Fault>
     ensures gives { Gives (λ x. (x.0, x.1.now)) result (varint_at bytes.now) }
     ensures bound { IfOk result (λ x. x.0 < 2 ^ 62) }
@@ -42,7 +42,7 @@ pub(super) fn short_varint(bytes: &[u8]) -> Result<(u64, &[u8]), Fault>
 
 /// A number of any width, read where the call stands, as those of a STREAM are, since most frames are STREAMs.
 #[inline(always)]
-#[tactic(auto, using(quic_frame_parts::proofs::Varints::slices))]
+#[tactic(auto, using(quic_frame_fields::proofs::Varints::slices))]
 pub(super) fn near_varint(bytes: &[u8]) -> Result<(u64, &[u8]), Fault>
     ensures gives { Gives (λ x. (x.0, x.1.now)) result (varint_at bytes.now) }
     ensures bound { IfOk result (λ x. x.0 < 2 ^ 62) }
@@ -55,7 +55,7 @@ pub(super) fn near_varint(bytes: &[u8]) -> Result<(u64, &[u8]), Fault>
 
 /// A number and that many bytes, and what follows them.
 #[inline]
-#[tactic(auto, unfolding(quic_frame_parts::specs::Reading::counted_at))]
+#[tactic(auto, unfolding(quic_frame_fields::specs::Reading::counted_at))]
 pub(super) fn counted(bytes: &[u8]) -> Result<(&[u8], &[u8]), Fault>
     ensures { Gives (λ x. (x.0.now, x.1.now)) result (counted_at bytes.now) }
 {
@@ -65,7 +65,7 @@ pub(super) fn counted(bytes: &[u8]) -> Result<(&[u8], &[u8]), Fault>
 
 // The same, read where the call stands.
 #[inline(always)]
-#[tactic(auto, unfolding(quic_frame_parts::specs::Reading::counted_at))]
+#[tactic(auto, unfolding(quic_frame_fields::specs::Reading::counted_at))]
 fn near_counted(bytes: &[u8]) -> Result<(&[u8], &[u8]), Fault>
     ensures { Gives (λ x. (x.0.now, x.1.now)) result (counted_at bytes.now) }
 {
@@ -113,7 +113,7 @@ pub(super) fn near_data(is_counted: bool, bytes: &[u8]) -> Result<(&[u8], &[u8])
 }
 
 /// The bytes of a connection id behind its length, which is from 1 to 20, and what follows them.
-#[tactic(auto, unfolding(quic_frame_parts::specs::Reading::id_at))]
+#[tactic(auto, unfolding(quic_frame_fields::specs::Reading::id_at))]
 pub(super) fn connection_id(bytes: &[u8]) -> Result<(&[u8], &[u8]), Fault>
     ensures gives { Gives (λ x. (x.0.now, x.1.now)) result (id_at bytes.now) }
     ensures short { IfOk result (λ x. length x.0.now ≤ 20) }

@@ -1,13 +1,13 @@
 //! The frame at the front of some bytes.
 ghost use Rattle.std.specs.Prelude.{◌≡◌};
 ghost use Rattle.quic_base.specs.Number.{AreBytes};
-ghost use Rattle.quic_frame_parts.specs.Reading.{found_at, is_long_type};
+ghost use Rattle.quic_frame_fields.specs.Reading.{found_at, is_long_type};
 ghost use Rattle.quic_frames.specs.Found.{GivesFound};
 
 use super::reading::read_frame;
 use super::{Frame, FrameType, InvalidFrame, field};
-use quic_frame_parts::frame::fault::Fault;
-use quic_frame_parts::frame::write;
+use quic_frame_fields::frame::fault::Fault;
+use quic_frame_fields::frame::write;
 
 /// The frame at the front of some bytes.
 #[derive(Drop)]

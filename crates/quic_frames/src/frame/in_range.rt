@@ -1,6 +1,6 @@
 //! Which frames can be written.
 ghost use Rattle.std.specs.Prelude.{◌<◌, ◌^◌, ◌↔◌, IsTrue};
-ghost use Rattle.quic_frame_parts.specs.Sets.{AreCounts};
+ghost use Rattle.quic_frame_fields.specs.Sets.{AreCounts};
 ghost use Rattle.quic_frames.specs.InRange.{InRange};
 ghost use Rattle.quic_frames.specs.declared.frame.Frame.TheVariants as frames;
 

@@ -2,7 +2,7 @@
 ghost use Rattle.std.specs.Prelude.{◌≡◌, ◌<◌, ◌≤◌, ◌↔◌, ℕ, [], ◌∷◌, None, IfErr, IfOk, IfSome, IsErr, IsNone, IsTrue, codes, true, false, drop, length, slice_index};
 ghost use Rattle.quic_base.specs.Number.{AreBytes};
 ghost use Rattle.quic_errors.specs.Codes.{IsError, protocol_violation};
-ghost use Rattle.quic_frame_parts.specs.Payload.{IsEither};
+ghost use Rattle.quic_frame_fields.specs.Payload.{IsEither};
 ghost use Rattle.quic_frames.specs.Padding.{PassesPadding};
 ghost use Rattle.quic_frames.specs.Walk.{left, first_of, resumed, GivesFrames, GivesBroken};
 

@@ -2,17 +2,17 @@
 ghost use Rattle.std.specs.Prelude.{◌≡◌, ◌≢◌, ◌<◌, ◌^◌, ◌++◌, Bool, length, drop, IfSome, IsNone};
 ghost use Rattle.quic_base.specs.Number.{bytes_of};
 ghost use Rattle.quic_base.specs.Varint.{short};
-ghost use Rattle.quic_frame_parts.specs.Parts.{close_meaning, new_id_meaning};
-ghost use Rattle.quic_frame_parts.specs.Putting.{Puts};
-ghost use Rattle.quic_frame_parts.specs.Shortest.{shortest_frame, close_reason};
+ghost use Rattle.quic_frame_fields.specs.Parts.{close_meaning, new_id_meaning};
+ghost use Rattle.quic_frame_fields.specs.Putting.{Puts};
+ghost use Rattle.quic_frame_fields.specs.Shortest.{shortest_frame, close_reason};
 ghost use Rattle.quic_frames.specs.InRange.{CanStand, InRange};
 ghost use Rattle.quic_frames.specs.Meaning.{meaning_of};
 ghost use Rattle.quic_frames.specs.declared.frame.Frame.TheVariants as frames;
 
 use super::whole::bit_of;
 use super::{Close, Datagram, Frame, NewConnectionId, Stream};
-use quic_frame_parts::frame::encode::type_or_zero;
-use quic_frame_parts::frame::put;
+use quic_frame_fields::frame::encode::type_or_zero;
+use quic_frame_fields::frame::put;
 
 impl Frame<'_> {
     /// Lays the shortest encoding of the frame, which is the last of its payload or not, at the front of the slice,
@@ -20,7 +20,7 @@ impl Frame<'_> {
     /// stays. Where the slice has fewer, and only there, it is as it was, and the error is how many bytes are needed.
     /// The caller must ensure that the frame is in range, and that data whose length is written are below 2^62 bytes.
     /// It takes no memory.
-    #[tactic(auto, unfolding(quic_frame_parts::specs::Shortest::shortest_frame))]
+    #[tactic(auto, unfolding(quic_frame_fields::specs::Shortest::shortest_frame))]
     pub fn encode_into(&self, last: bool, dest: &mut [u8]) -> Result<usize, usize>
         requires { CanStand last self.now }
         ensures { Puts result (shortest_frame last (meaning_of self.now)) dest.old dest.new }

@@ -1,11 +1,11 @@
 //! The fields of each type of frame.
 ghost use Rattle.std.specs.Prelude.{◌≡◌, ◌≤◌, Bool, IfOk, length, if◌then◌else◌};
-ghost use Rattle.quic_frame_parts.specs.Table as table;
+ghost use Rattle.quic_frame_fields.specs.Table as table;
 ghost use Rattle.quic_frames.specs.Found.{GivesFrame};
 ghost use Rattle.quic_frames.specs.InRange.{IsToldApart};
 ghost use Rattle.quic_frames.specs.Meaning.{meaning_of};
 ghost use Rattle.quic_frames.specs.declared.frame.Frame.TheVariants as frames;
-ghost use Rattle.quic_frame_parts.specs.Reading.{Gives, row_at, frame_at};
+ghost use Rattle.quic_frame_fields.specs.Reading.{Gives, row_at, frame_at};
 
 use super::{
     Ack, AckFrequency, ApplicationClose, Close, ConnectionClose, Crypto, Datagram, EcnCounts,
@@ -14,12 +14,12 @@ use super::{
 use crate::transport_error::Code;
 use quic_base::ids::{ConnectionId, Dir, ResetToken, StreamId};
 use quic_base::varint::VarInt;
-use quic_frame_parts::frame::fault::Fault;
-use quic_frame_parts::frame::field::{blocks, varint};
+use quic_frame_fields::frame::fault::Fault;
+use quic_frame_fields::frame::field::{blocks, varint};
 
 // An ACK, with counts or without. Both are read by one body, so that reading a frame stays small enough to go into
 // its callers.
-#[tactic(auto, unfolding(quic_frame_parts::specs::Reading::row_at))]
+#[tactic(auto, unfolding(quic_frame_fields::specs::Reading::row_at))]
 #[inline(always)]
 fn read_ack(has_counts: bool, bytes: &[u8]) -> Result<(Frame<'_>, &[u8]), Fault>
     ensures { GivesFrame (λ rest. rest.now) bytes.now result (row_at (if has_counts then table.ack_ecn_row else table.ack_row) bytes.now) }
@@ -41,7 +41,7 @@ fn read_ack(has_counts: bool, bytes: &[u8]) -> Result<(Frame<'_>, &[u8]), Fault>
 
 // The end of a stream by its sender. It is read by a call that gives no whole frame: so reading a frame stays small
 // enough to go into its callers, and no frame is made ready for the call to fill.
-#[tactic(auto, unfolding(quic_frame_parts::specs::Reading::row_at))]
+#[tactic(auto, unfolding(quic_frame_fields::specs::Reading::row_at))]
 #[inline(never)]
 fn reset_stream(bytes: &[u8]) -> Result<(ResetStream, &[u8]), Fault>
     ensures { Gives (λ x. (meaning_of (frames.ResetStream x.0), x.1.now)) result (row_at table.reset_stream_row bytes.now) }
@@ -68,7 +68,7 @@ fn read_reset_stream(bytes: &[u8]) -> Result<(Frame<'_>, &[u8]), Fault>
 }
 
 // The end of a stream by its receiver, read by a call for the same reasons.
-#[tactic(auto, unfolding(quic_frame_parts::specs::Reading::row_at))]
+#[tactic(auto, unfolding(quic_frame_fields::specs::Reading::row_at))]
 #[inline(never)]
 fn stop_sending(bytes: &[u8]) -> Result<(StopSending, &[u8]), Fault>
     ensures { Gives (λ x. (meaning_of (frames.StopSending x.0), x.1.now)) result (row_at table.stop_sending_row bytes.now) }
@@ -92,7 +92,7 @@ fn read_stop_sending(bytes: &[u8]) -> Result<(Frame<'_>, &[u8]), Fault>
     }
 }
 
-#[tactic(auto, unfolding(quic_frame_parts::specs::Reading::row_at))]
+#[tactic(auto, unfolding(quic_frame_fields::specs::Reading::row_at))]
 #[inline(always)]
 fn read_crypto(bytes: &[u8]) -> Result<(Frame<'_>, &[u8]), Fault>
     ensures { GivesFrame (λ rest. rest.now) bytes.now result (row_at table.crypto_row bytes.now) }
@@ -102,7 +102,7 @@ fn read_crypto(bytes: &[u8]) -> Result<(Frame<'_>, &[u8]), Fault>
     Ok((Frame::Crypto(Crypto { offset, bytes }), rest))
 }
 
-#[tactic(auto, unfolding(quic_frame_parts::specs::Reading::row_at))]
+#[tactic(auto, unfolding(quic_frame_fields::specs::Reading::row_at))]
 #[inline(always)]
 fn read_new_token(bytes: &[u8]) -> Result<(Frame<'_>, &[u8]), Fault>
     ensures { GivesFrame (λ rest. rest.now) bytes.now result (row_at table.new_token_row bytes.now) }
@@ -111,7 +111,7 @@ fn read_new_token(bytes: &[u8]) -> Result<(Frame<'_>, &[u8]), Fault>
     Ok((Frame::NewToken(NewToken { token }), rest))
 }
 
-#[tactic(auto, unfolding(quic_frame_parts::specs::Reading::row_at))]
+#[tactic(auto, unfolding(quic_frame_fields::specs::Reading::row_at))]
 #[inline(always)]
 fn read_stream(
     has_offset: bool,
@@ -135,7 +135,7 @@ fn read_stream(
 
 // The limits of a peer, and what tells that one of them was reached. All begin with a number, which is read by one
 // body and by a call, so that reading a frame stays small enough to go into its callers.
-#[tactic(auto, unfolding(quic_frame_parts::specs::Reading::frame_at, quic_frame_parts::specs::Reading::row_at))]
+#[tactic(auto, unfolding(quic_frame_fields::specs::Reading::frame_at, quic_frame_fields::specs::Reading::row_at))]
 #[inline(always)]
 fn read_limit(ty: u64, bytes: &[u8]) -> Result<(Frame<'_>, &[u8]), Fault>
     requires limit { (0x10 ≤ ty) × (ty ≤ 0x17) }
@@ -172,7 +172,7 @@ fn id_of(bytes: &[u8]) -> ConnectionId
 }
 
 // Another id, read by a call for the same reasons.
-#[tactic(auto, unfolding(quic_frame_parts::specs::Reading::row_at))]
+#[tactic(auto, unfolding(quic_frame_fields::specs::Reading::row_at))]
 #[inline(never)]
 fn new_connection_id(bytes: &[u8]) -> Result<(NewConnectionId, &[u8]), Fault>
     ensures { Gives (λ x. (meaning_of (frames.NewConnectionId x.0), x.1.now)) result (row_at table.new_connection_id_row bytes.now) }
@@ -203,7 +203,7 @@ fn read_new_connection_id(bytes: &[u8]) -> Result<(Frame<'_>, &[u8]), Fault>
     }
 }
 
-#[tactic(auto, unfolding(quic_frame_parts::specs::Reading::row_at))]
+#[tactic(auto, unfolding(quic_frame_fields::specs::Reading::row_at))]
 #[inline(always)]
 fn read_retire_connection_id(bytes: &[u8]) -> Result<(Frame<'_>, &[u8]), Fault>
     ensures { GivesFrame (λ rest. rest.now) bytes.now result (row_at (table.number_row table.RetireConnectionId) bytes.now) }
@@ -213,7 +213,7 @@ fn read_retire_connection_id(bytes: &[u8]) -> Result<(Frame<'_>, &[u8]), Fault>
 }
 
 // The eight bytes of a path, there or back.
-#[tactic(auto, unfolding(quic_frame_parts::specs::Reading::frame_at, quic_frame_parts::specs::Reading::row_at))]
+#[tactic(auto, unfolding(quic_frame_fields::specs::Reading::frame_at, quic_frame_fields::specs::Reading::row_at))]
 #[inline(always)]
 fn read_path(ty: u64, bytes: &[u8]) -> Result<(Frame<'_>, &[u8]), Fault>
     requires either { (0x1a ≤ ty) × (ty ≤ 0x1b) }
@@ -228,7 +228,7 @@ fn read_path(ty: u64, bytes: &[u8]) -> Result<(Frame<'_>, &[u8]), Fault>
 
 // A close by the transport or by the application: both begin with an error code and end with a reason phrase. It is
 // read by a call, so that reading a frame stays small enough to go into its callers.
-#[tactic(auto, unfolding(quic_frame_parts::specs::Reading::frame_at, quic_frame_parts::specs::Reading::row_at))]
+#[tactic(auto, unfolding(quic_frame_fields::specs::Reading::frame_at, quic_frame_fields::specs::Reading::row_at))]
 #[inline(never)]
 fn close(ty: u64, bytes: &[u8]) -> Result<(Close<'_>, &[u8]), Fault>
     requires either { (0x1c ≤ ty) × (ty ≤ 0x1d) }
@@ -265,7 +265,7 @@ fn read_close(ty: u64, bytes: &[u8]) -> Result<(Frame<'_>, &[u8]), Fault>
     }
 }
 
-#[tactic(auto, unfolding(quic_frame_parts::specs::Reading::row_at))]
+#[tactic(auto, unfolding(quic_frame_fields::specs::Reading::row_at))]
 #[inline(always)]
 fn read_datagram(has_length: bool, bytes: &[u8]) -> Result<(Frame<'_>, &[u8]), Fault>
     ensures { GivesFrame (λ rest. rest.now) bytes.now result (row_at (table.datagram_row has_length) bytes.now) }
@@ -275,7 +275,7 @@ fn read_datagram(has_length: bool, bytes: &[u8]) -> Result<(Frame<'_>, &[u8]), F
 }
 
 // How often acknowledgements are wanted, read by a call for the same reason.
-#[tactic(auto, unfolding(quic_frame_parts::specs::Reading::row_at))]
+#[tactic(auto, unfolding(quic_frame_fields::specs::Reading::row_at))]
 #[inline(never)]
 fn ack_frequency(bytes: &[u8]) -> Result<(AckFrequency, &[u8]), Fault>
     ensures { Gives (λ x. (meaning_of (frames.AckFrequency x.0), x.1.now)) result (row_at table.ack_frequency_row bytes.now) }
@@ -304,7 +304,7 @@ fn read_ack_frequency(bytes: &[u8]) -> Result<(Frame<'_>, &[u8]), Fault>
 }
 
 /// The frame of this type whose fields begin here, and what follows it.
-#[tactic(auto, unfolding(quic_frame_parts::specs::Reading::frame_at, quic_frame_parts::specs::Reading::row_at))]
+#[tactic(auto, unfolding(quic_frame_fields::specs::Reading::frame_at, quic_frame_fields::specs::Reading::row_at))]
 #[inline(always)]
 pub(super) fn read_frame(ty: u64, bytes: &[u8]) -> Result<(Frame<'_>, &[u8]), Fault>
     ensures { GivesFrame (λ rest. rest.now) bytes.now result (frame_at ty bytes.now) }

@@ -1,10 +1,10 @@
 //! How long frames are at most beside their data.
 ghost use Rattle.std.specs.Prelude.{◌≡◌, ◌≤◌, ◌+◌, ℕ, [], List, length, false};
 ghost use Rattle.quic_frames.specs.Meaning.{meaning_of};
-ghost use Rattle.quic_frame_parts.specs.Payload.{Meaning};
-ghost use Rattle.quic_frame_parts.specs.Shortest.{shortest_frame};
+ghost use Rattle.quic_frame_fields.specs.Payload.{Meaning};
+ghost use Rattle.quic_frame_fields.specs.Shortest.{shortest_frame};
 ghost use Rattle.quic_frames.specs.declared.frame.Frame.TheVariants as frames;
-ghost use Rattle.quic_frame_parts.specs.declared.frame.close.Close.TheVariants as closes;
+ghost use Rattle.quic_frame_fields.specs.declared.frame.close.Close.TheVariants as closes;
 
 use super::{
     ApplicationClose, ConnectionClose, Crypto, Datagram, NewConnectionId, ResetStream, StopSending,

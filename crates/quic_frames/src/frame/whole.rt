@@ -4,9 +4,9 @@ ghost use Rattle.quic_base.specs.Ids.{dir_number};
 ghost use Rattle.quic_base.specs.Number.{bytes_of};
 ghost use Rattle.quic_base.specs.Varint.{short, size};
 ghost use Rattle.quic_frames.specs.InRange.{CanStand, InRange};
-ghost use Rattle.quic_frame_parts.specs.Parts.{close_meaning};
+ghost use Rattle.quic_frame_fields.specs.Parts.{close_meaning};
 ghost use Rattle.quic_frames.specs.Meaning.{meaning_of};
-ghost use Rattle.quic_frame_parts.specs.Shortest.{shortest_frame, close_reason};
+ghost use Rattle.quic_frame_fields.specs.Shortest.{shortest_frame, close_reason};
 ghost use Rattle.quic_base.specs.Writing.{Writes};
 ghost use Rattle.quic_frames.specs.declared.frame.Frame.TheVariants as frames;
 
@@ -16,10 +16,10 @@ use super::{
 use bytes::BufMut;
 use quic_base::coding::NoRoom;
 use quic_base::ids::Dir;
-use quic_frame_parts::frame::ack_encode::{ack_len, encode_ack};
-use quic_frame_parts::frame::encode::type_or_zero;
-use quic_frame_parts::frame::stream_meta::encode_head;
-use quic_frame_parts::frame::write;
+use quic_frame_fields::frame::ack_encode::{ack_len, encode_ack};
+use quic_frame_fields::frame::encode::type_or_zero;
+use quic_frame_fields::frame::stream_meta::encode_head;
+use quic_frame_fields::frame::write;
 
 impl Frame<'_> {
     /// Appends the shortest encoding of the frame, which is the last of its payload or not: no offset 0
@@ -27,7 +27,7 @@ impl Frame<'_> {
     /// where the spare room is less than that; then what stood there stands, followed by a beginning of
     /// the encoding. It takes no memory of its own. The caller must ensure that the frame is in range, and that
     /// data whose length is written are below 2^62 bytes.
-    #[tactic(auto, unfolding(quic_frame_parts::specs::Shortest::shortest_frame))]
+    #[tactic(auto, unfolding(quic_frame_fields::specs::Shortest::shortest_frame))]
     pub fn encode<B: BufMut>(&self, last: bool, out: &mut B) -> Result<(), NoRoom>
         requires { CanStand last self.now }
         ensures { Writes result (shortest_frame last (meaning_of self.now))
@@ -70,7 +70,7 @@ impl Frame<'_> {
 
     /// How many bytes `encode` appends, which asks for the same. It takes no memory.
     #[inline(always)]
-    #[tactic(auto, unfolding(quic_frame_parts::specs::Shortest::shortest_frame), using(crate::proofs::Encoding::crypto_parts))]
+    #[tactic(auto, unfolding(quic_frame_fields::specs::Shortest::shortest_frame), using(crate::proofs::Encoding::crypto_parts))]
     pub fn encoded_len(&self, last: bool) -> u128
         requires { CanStand last self.now }
         ensures { result ≡ length (shortest_frame last (meaning_of self.now)) }

@@ -4,7 +4,7 @@ use quic_frames::frame::{
     Ack, AckError, EcnCounts, Frame, FrameType, InvalidFrame, Iter, split_first_range,
 };
 use quic_frames::transport_error::Error;
-use quic_testing::Checks;
+use quic_checks::Checks;
 use std::alloc::Global;
 use std::test::Fail;
 

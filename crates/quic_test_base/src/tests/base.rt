@@ -10,7 +10,7 @@ use quic_base::ids::{
 };
 use quic_base::varint::{VarInt, VarIntBoundsExceeded};
 use quic_callers::client::{Reset, first_number, read_back, read_reset, read_two, write_reset};
-use quic_testing::Checks;
+use quic_checks::Checks;
 use std::alloc::Global;
 use std::cmp::Ordering;
 use std::fmt::{Debug, Display};

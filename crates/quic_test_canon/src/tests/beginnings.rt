@@ -4,8 +4,8 @@ use super::lines::{CANON, STRICT};
 use quic_canon::canonical::{CanonError, canonical_of};
 use quic_frames::frame::{FrameType, Iter};
 use quic_frames::transport_error::Error;
-use quic_testing::Checks;
-use quic_testing::codes::type_of;
+use quic_checks::Checks;
+use quic_checks::codes::type_of;
 use std::alloc::Global;
 use std::test::Fail;
 

@@ -4,8 +4,8 @@ use quic_canon::canonical::{CanonError, canonical, canonical_of};
 use quic_canon::client::mean_the_same;
 use quic_errors::frame_type::FrameType;
 use quic_frames::frame::InvalidFrame;
-use quic_testing::Checks;
-use quic_testing::codes::type_of;
+use quic_checks::Checks;
+use quic_checks::codes::type_of;
 use std::alloc::Global;
 use std::test::Fail;
 

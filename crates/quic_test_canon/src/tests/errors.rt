@@ -2,7 +2,7 @@
 use quic_canon::canonical::CanonError;
 use quic_errors::frame_type::FrameType;
 use quic_frames::frame::InvalidFrame;
-use quic_testing::Checks;
+use quic_checks::Checks;
 use std::alloc::Global;
 use std::error::Error;
 use std::test::Fail;

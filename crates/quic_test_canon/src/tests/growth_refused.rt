@@ -3,7 +3,7 @@
 use quic_canon::canonical::{CanonBytes, CanonError, canonical, canonical_of};
 use quic_errors::frame_type::FrameType;
 use quic_frames::frame::InvalidFrame;
-use quic_testing::Checks;
+use quic_checks::Checks;
 use std::test::Fail;
 
 // A payload, and its shortest form.

@@ -1,6 +1,6 @@
 //! Lines of the modes `canon` and `strict`, through `run`.
 use quic_bench::FailAt;
-use quic_testing::Checks;
+use quic_checks::Checks;
 use quic_text::{Mode, mode_of, run, status};
 use std::test::Fail;
 

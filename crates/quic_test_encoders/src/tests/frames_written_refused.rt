@@ -13,7 +13,7 @@ use quic_frames::frame::{
 };
 use quic_frames::transport_error::Code;
 use quic_ranges::range_set::ArrayRangeSet;
-use quic_testing::Checks;
+use quic_checks::Checks;
 use std::alloc::Global;
 use std::test::Fail;
 

@@ -4,7 +4,7 @@ ghost use Rattle.std.specs.Prelude.{◌<◌, ◌^◌, length};
 use quic_base::ids::StreamId;
 use quic_base::varint::VarInt;
 use quic_frames::frame::{Datagram, Frame, Iter, Stream, StreamMeta, StreamMetaVec};
-use quic_testing::Checks;
+use quic_checks::Checks;
 use std::test::Fail;
 
 // Where the data begin and end, whether they are the last, whether their length is written, and the head.

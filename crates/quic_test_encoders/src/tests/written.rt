@@ -9,8 +9,8 @@ use quic_frames::frame::{
     NewConnectionId, NewToken, ResetStream, StopSending,
 };
 use quic_frames::transport_error::{Code, Error};
-use quic_testing::Checks;
-use quic_testing::codes::code_of;
+use quic_checks::Checks;
+use quic_checks::codes::code_of;
 use std::alloc::Global;
 use std::test::Fail;
 

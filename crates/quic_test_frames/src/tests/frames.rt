@@ -2,7 +2,7 @@
 use quic_base::coding::{Codec, NoRoom};
 use quic_frames::frame::{Frame, FrameType, Iter};
 use quic_frames::transport_error::{Code, Error, Reason};
-use quic_testing::Checks;
+use quic_checks::Checks;
 use std::alloc::Global;
 use std::test::Fail;
 

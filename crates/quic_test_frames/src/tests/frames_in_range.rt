@@ -7,7 +7,7 @@ use quic_frames::frame::{
     StopSending, Stream,
 };
 use quic_frames::transport_error::Code;
-use quic_testing::Checks;
+use quic_checks::Checks;
 use std::test::Fail;
 
 // The greatest number that can be written, and the next one.

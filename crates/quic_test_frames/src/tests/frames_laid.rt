@@ -3,7 +3,7 @@ ghost use Rattle.std.specs.Prelude.{◌<◌, ◌^◌, length, IsTrue};
 ghost use Rattle.quic_frames.specs.InRange.{open_data, CanStand};
 
 use quic_frames::frame::{Frame, Iter};
-use quic_testing::Checks;
+use quic_checks::Checks;
 use std::test::Fail;
 
 fn can_be_laid(frame: &Frame<'_>) -> bool

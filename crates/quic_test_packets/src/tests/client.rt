@@ -4,7 +4,7 @@ use quic_bench::parsers::NoIds;
 use quic_bench::two_packets::{Failure, Outgoing, sealed_and_opened};
 use quic_frames::frame::Frame;
 use quic_packets::packet::Opened;
-use quic_testing::Checks;
+use quic_checks::Checks;
 use std::alloc::Global;
 use std::test::Fail;
 

@@ -1,9 +1,9 @@
 //! Heads as they are written, into a vector with just their room and into one with more.
-ghost use Rattle.quic_headers.specs.Writing.{IsWritable};
+ghost use Rattle.quic_header_encode.specs.Writing.{IsWritable};
 
 use crate::worked::{handshake, initial, short};
 use quic_packets::packet::Header;
-use quic_testing::Checks;
+use quic_checks::Checks;
 use std::alloc::Global;
 use std::test::Fail;
 

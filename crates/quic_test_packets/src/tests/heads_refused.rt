@@ -1,13 +1,13 @@
 //! Heads and packet numbers written where memory is refused: each test holds whichever allocation fails, and where none
 //! does.
 ghost use Rattle.quic_crypto.specs.PacketNumbers.{IsInRange};
-ghost use Rattle.quic_headers.specs.Writing.{IsWritable};
+ghost use Rattle.quic_header_encode.specs.Writing.{IsWritable};
 
 use crate::worked::{handshake, initial, short};
 use quic_base::coding::NoRoom;
 use quic_base::ids::ConnectionId;
 use quic_packets::packet::{Header, PacketNumber};
-use quic_testing::Checks;
+use quic_checks::Checks;
 use std::alloc::Global;
 use std::test::Fail;
 

@@ -5,7 +5,7 @@ ghost use Rattle.quic_crypto.specs.PacketNumbers.{IsInRange};
 use bytes::BufMut;
 use quic_base::coding::NoRoom;
 use quic_packets::packet::PacketNumber;
-use quic_testing::Checks;
+use quic_checks::Checks;
 use std::alloc::Global;
 use std::test::Fail;
 

@@ -11,7 +11,7 @@ use quic_packets::packet::{
     Expected, Keys, Opened, PartialDecode, SealError, SpaceKeys, open_datagram, open_packet,
     seal_packet,
 };
-use quic_testing::Checks;
+use quic_checks::Checks;
 use std::alloc::Global;
 use std::test::Fail;
 

@@ -9,7 +9,7 @@ use quic_packets::packet::{
     FixedLengthConnectionIdParser, OpenError, Opened, SealError, SpaceKeys, open_datagram,
     open_packet, seal_packet,
 };
-use quic_testing::Checks;
+use quic_checks::Checks;
 use std::test::Fail;
 
 // A Handshake packet of 30 bytes with the frames PING, PADDING, PADDING, and a 1-RTT packet with the same.

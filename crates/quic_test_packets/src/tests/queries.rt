@@ -2,7 +2,7 @@
 use bytes::Bytes;
 use quic_base::ids::ConnectionId;
 use quic_packets::packet::{Header, InitialHeader, LongType, PacketNumber};
-use quic_testing::Checks;
+use quic_checks::Checks;
 use std::test::Fail;
 
 fn initial(number: PacketNumber) -> Header {

@@ -10,7 +10,7 @@ use quic_packets::packet::{
     FixedLengthConnectionIdParser, Header, LongType, OpenError, Opened, PacketDecodeError,
     PacketNumber, PartialDecode, VERSION_2, open_datagram, open_packet,
 };
-use quic_testing::Checks;
+use quic_checks::Checks;
 use std::alloc::Global;
 use std::test::Fail;
 

@@ -9,7 +9,7 @@ use quic_packets::packet::{
     Expected, FixedLengthConnectionIdParser, Header, InitialHeader, OpenError, Opened,
     PacketDecodeError, PacketNumber, SealError, VERSION_2, open_datagram, open_packet, seal_packet,
 };
-use quic_testing::Checks;
+use quic_checks::Checks;
 use std::alloc::Global;
 use std::test::Fail;
 

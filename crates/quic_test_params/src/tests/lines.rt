@@ -2,7 +2,7 @@
 use super::WHOLE;
 use quic_base::ids::Side;
 use quic_bench::FailAt;
-use quic_testing::Checks;
+use quic_checks::Checks;
 use quic_text::{Mode, mode_of, run, status};
 use std::test::Fail;
 

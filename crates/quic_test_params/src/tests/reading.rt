@@ -4,7 +4,7 @@ use super::{WHOLE, preferred, two_limits, whole};
 use quic_base::ids::{ConnectionId, Side};
 use quic_base::varint::VarInt;
 use quic_params::transport_parameters::{Error, TransportParameterId, TransportParameters, Value};
-use quic_testing::Checks;
+use quic_checks::Checks;
 use std::test::Fail;
 
 #[test]

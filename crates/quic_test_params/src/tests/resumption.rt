@@ -3,7 +3,7 @@ use super::whole;
 use quic_base::varint::VarInt;
 use quic_errors::transport_error::Code;
 use quic_params::transport_parameters::TransportParameters;
-use quic_testing::Checks;
+use quic_checks::Checks;
 use std::test::Fail;
 
 #[test]

@@ -7,7 +7,7 @@ use quic_errors::transport_error::Code;
 use quic_params::transport_parameters::{
     Error, ReservedTransportParameter, TransportParameterId, Value, WriteOrder,
 };
-use quic_testing::Checks;
+use quic_checks::Checks;
 use std::test::Fail;
 
 #[test]

@@ -5,7 +5,7 @@ use quic_callers::params::written_and_read;
 use quic_params::transport_parameters::{
     ReservedTransportParameter, TransportParameters, WriteOrder,
 };
-use quic_testing::Checks;
+use quic_checks::Checks;
 use std::alloc::Global;
 use std::test::Fail;
 

@@ -5,7 +5,7 @@ use quic_base::coding::NoRoom;
 use quic_params::transport_parameters::{
     ReservedTransportParameter, TransportParameters, WriteOrder,
 };
-use quic_testing::Checks;
+use quic_checks::Checks;
 use std::test::Fail;
 
 // Whether the whole is there, or a part of it where there was no room.

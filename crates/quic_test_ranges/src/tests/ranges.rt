@@ -6,7 +6,7 @@ use super::ranges_refused::{
 };
 use quic_base::coding::NoRoom;
 use quic_ranges::range_set::{ArrayRangeSet, RangeSet, Replace};
-use quic_testing::Checks;
+use quic_checks::Checks;
 use std::alloc::Global;
 use std::ops::Range;
 use std::test::Fail;

@@ -1,7 +1,7 @@
 //! Every beginning of the worked payloads' bytes is read, through `run`.
 use super::beginnings_answers::BEGINNINGS;
 use super::lines::is_row;
-use quic_testing::Checks;
+use quic_checks::Checks;
 use std::alloc::Global;
 use std::test::Fail;
 

@@ -1,6 +1,6 @@
 //! The engine over memory: pieces, ends and failures.
 use quic_bench::FailAt;
-use quic_testing::Checks;
+use quic_checks::Checks;
 use quic_text::{FromRead, Mode, RunError, ToWrite, mode_of, run, status};
 use std::alloc::Global;
 use std::io::{BufWriter, Cursor};

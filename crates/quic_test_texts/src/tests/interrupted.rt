@@ -1,7 +1,7 @@
 //! Readers and writers of std whose calls are interrupted once. Each error is a failure, that of an interrupted call
 //! too: the run ends there, and no call is made again.
 use quic_bench::FailAt;
-use quic_testing::Checks;
+use quic_checks::Checks;
 use quic_text::{FromRead, Mode, RunError, ToWrite, run};
 use std::alloc::Global;
 use std::io::{self, ErrorKind, Read, Write};

@@ -1,6 +1,6 @@
 //! Lines of the mode `frames`, through `run`.
 use quic_bench::FailAt;
-use quic_testing::Checks;
+use quic_checks::Checks;
 use quic_text::{Mode, run, status};
 use std::alloc::Global;
 use std::test::Fail;

@@ -3,7 +3,7 @@ use super::texts::{displays, error_with_text_displays};
 use quic_base::varint::VarInt;
 use quic_frames::frame::{ApplicationClose, ConnectionClose};
 use quic_frames::transport_error::Code;
-use quic_testing::Checks;
+use quic_checks::Checks;
 use std::alloc::Global;
 use std::test::Fail;
 

@@ -5,7 +5,7 @@ ghost use Rattle.std.specs.String.{string_bytes};
 ghost use Rattle.std.specs.List.{flat_map, list_all};
 ghost use Rattle.quic_text.specs.Printed.{Error, shown, is_plain};
 ghost use Rattle.quic_text.specs.DatagramText.{datagram_lines, head_text, id_or_dash, long_text, packet_line, eight_digits, refusal_text};
-ghost use Rattle.quic_heads.specs.Refusal.{NoMemory, refusal_of};
+ghost use Rattle.quic_header_decode.specs.Refusal.{NoMemory, refusal_of};
 ghost use Rattle.quic_text.specs.IdLens.{count};
 ghost use Rattle.quic_text.specs.Status.{is_write};
 ghost use Rattle.quic_text.specs.Whole.{AppendsAllBut, AppendsBeginning};
@@ -16,11 +16,11 @@ use crate::output::pass_on_pieces;
 use crate::transfer::Sink;
 use bytes::BytesMut;
 use quic_base::ids::{ConnectionId, DEFAULT_SUPPORTED_VERSIONS};
-use quic_headers::long_type::LongType;
-use quic_heads::cut::PartialDecode;
-use quic_heads::decode_error::PacketDecodeError;
-use quic_heads::parser::FixedLengthConnectionIdParser;
-use quic_heads::protected::ProtectedHeader;
+use quic_header_encode::long_type::LongType;
+use quic_header_decode::cut::PartialDecode;
+use quic_header_decode::decode_error::PacketDecodeError;
+use quic_header_decode::parser::FixedLengthConnectionIdParser;
+use quic_header_decode::protected::ProtectedHeader;
 use std::alloc::{AllocError, Global};
 
 // A line for each packet, and one for what is refused. Ids of short heads have the length given.

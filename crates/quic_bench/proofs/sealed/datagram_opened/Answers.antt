@@ -1,7 +1,7 @@
 -- By what is said of a row of packets, which is one.
 use Rattle.std.proofs.Common.{◌≡◌, ℕ, List, [], ◌∷◌, ◌++◌, false, subst, sym, ap, ◌∙◌, rules}
 use Rattle.quic_base.specs.declared.ids.SpaceId.{SpaceId}
-use Rattle.quic_heads.specs.Reading.{Context}
+use Rattle.quic_header_decode.specs.Reading.{Context}
 use Rattle.quic_packets.specs.Pairs.{KeyPair}
 use Rattle.quic_packets.specs.Rows.{Row, last}
 use Rattle.quic_packets.specs.Spaces.{keys_in, expected_in}

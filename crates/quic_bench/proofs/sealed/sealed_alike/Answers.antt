@@ -1,6 +1,6 @@
 -- By the law of one packet.
 use Rattle.std.proofs.Common.{◌≡◌, ◌∙◌, rules}
-use Rattle.quic_headers.specs.Queries.{space_in}
+use Rattle.quic_header_encode.specs.Queries.{space_in}
 use Rattle.quic_packets.specs.Pairs.{KeyPair}
 use Rattle.quic_packets.specs.Spaces.{keys_in}
 use Rattle.quic_bench.proofs.RowOfOne.{sealed_same, told_same}

@@ -2,8 +2,8 @@
 use Rattle.std.specs.Prelude.{◌<◌, false, [], ◌++◌, length}
 use Rattle.std.proofs.Common.{◌∙◌}
 use Rattle.quic_base.specs.declared.ids.SpaceId.{SpaceId}
-use Rattle.quic_headers.specs.Queries.{space_in}
-use Rattle.quic_heads.specs.Reading.{Context}
+use Rattle.quic_header_encode.specs.Queries.{space_in}
+use Rattle.quic_header_decode.specs.Reading.{Context}
 use Rattle.quic_packets.specs.Pairs.{KeyPair, IsLawful}
 use Rattle.quic_packets.specs.Spaces.{keys_in, expected_in}
 use Rattle.quic_bench.proofs.Carried.{carries, left_is, some_left}

@@ -1,7 +1,7 @@
 use Rattle.std.proofs.Common.{◌≡◌, ℕ, List, [], ◌∷◌, ◌++◌, ◌∙◌, ◌-◌, length, ap, subst, sym, inl, inr, arith}
-use Rattle.quic_frame_parts.proofs.Putting.{lays_none, puts_lays}
-use Rattle.quic_frame_parts.specs.Numbers.{all_short}
-use Rattle.quic_frame_parts.specs.Putting.{Lays}
+use Rattle.quic_frame_fields.proofs.Putting.{lays_none, puts_lays}
+use Rattle.quic_frame_fields.specs.Numbers.{all_short}
+use Rattle.quic_frame_fields.specs.Putting.{Lays}
 use Rattle.quic_c.specs.AckGaps.{ack_bytes, behind_type, counts_list, gap_numbers, greatest_in}
 use Rattle.quic_c.proofs.AckGaps.{first_byte, first_without, laid_ack, no_counts, numeric, room_of}
 use Rattle.quic_c.proofs.ack_gaps.lay_ack.Goals as goal

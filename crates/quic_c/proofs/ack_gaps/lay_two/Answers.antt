@@ -1,5 +1,5 @@
 use Rattle.std.proofs.Common.{List, ℕ, subst, sym, arith}
-use Rattle.quic_frame_parts.specs.Putting.{Lays}
+use Rattle.quic_frame_fields.specs.Putting.{Lays}
 use Rattle.quic_c.proofs.AckGaps.{both_small, few_two, laid_two, short_two}
 use Rattle.quic_c.proofs.ack_gaps.lay_two.Goals as goal
 

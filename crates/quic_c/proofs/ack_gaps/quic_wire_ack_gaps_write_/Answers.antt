@@ -1,6 +1,6 @@
 use Rattle.std.proofs.Common.{ℕ, List, ◌∙◌, inl, inr, refl, subst, sym, arith}
 use Rattle.std.specs.Prelude.{Ok, Err}
-use Rattle.quic_frame_parts.specs.Putting.{Puts}
+use Rattle.quic_frame_fields.specs.Putting.{Puts}
 use Rattle.quic_c.proofs.AckGaps.{is_of, longest, same_answer, says_of, whole}
 use Rattle.quic_c.proofs.ack_gaps.quic_wire_ack_gaps_write_.Goals as goal
 

@@ -1,5 +1,5 @@
 use Rattle.std.proofs.Common.{refl, arith}
-use Rattle.quic_frame_parts.proofs.Varints.{varint_read}
+use Rattle.quic_frame_fields.proofs.Varints.{varint_read}
 use Rattle.quic_c.specs.Answers.{ack_front_at}
 use Rattle.quic_c.proofs.Fronts.{plain_type, front_stands, whole_ack, lacks_largest, lacks_delay, lacks_count}
 use Rattle.quic_c.proofs.acks.split_front.Goals as goal

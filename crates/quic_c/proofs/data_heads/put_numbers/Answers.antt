@@ -1,10 +1,10 @@
 use Rattle.std.proofs.Common.{ℕ, List, add-one, ◌∙◌, get_or, take, arith}
 use Rattle.quic_base.specs.Varint.{short}
 use Rattle.quic_base.proofs.PublicLaws.{length-short}
-use Rattle.quic_frame_parts.specs.Numbers.{all_short}
-use Rattle.quic_frame_parts.proofs.Numbers.{all_short-at, numeric_at}
-use Rattle.quic_frame_parts.proofs.Putting.{lays_more}
-use Rattle.quic_frame_parts.proofs.Encoding.{size_small}
+use Rattle.quic_frame_fields.specs.Numbers.{all_short}
+use Rattle.quic_frame_fields.proofs.Numbers.{all_short-at, numeric_at}
+use Rattle.quic_frame_fields.proofs.Putting.{lays_more}
+use Rattle.quic_frame_fields.proofs.Encoding.{size_small}
 use Rattle.quic_c.proofs.data_heads.put_numbers.Goals as goal
 
 pub lay-at-requires-clause-numeric : goal.lay-at-requires-clause-numeric

@@ -1,6 +1,6 @@
 use Rattle.std.proofs.Common.{◌≡◌, ◌*◌, ◌≤◌, length, take}
-use Rattle.quic_frame_parts.specs.Numbers.{all_short}
-use Rattle.quic_frame_parts.specs.Putting.{Lays}
+use Rattle.quic_frame_fields.specs.Numbers.{all_short}
+use Rattle.quic_frame_fields.specs.Putting.{Lays}
 use Rattle.quic_c.proofs.data_heads.put_numbers.Given as goal
 
 abbrev pub invariant-loop-number : goal.invariant-loop-number

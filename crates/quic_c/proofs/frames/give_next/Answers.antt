@@ -1,6 +1,6 @@
 use Rattle.std.proofs.Common.{rules, arith, inl, inr, sym, subst, ap, refl, ◌∙◌, ◌≡◌, [], ◌∷◌, Some}
 use Rattle.std.proofs.lemmas.Grind.{common_steps}
-use Rattle.quic_frame_parts.specs.Reading.{Broken}
+use Rattle.quic_frame_fields.specs.Reading.{Broken}
 use Rattle.quic_frames.specs.Way.{Way}
 use Rattle.quic_frames.specs.Walk.{invalid_of, left, Advances, Finds}
 use Rattle.quic_c.specs.Answers.{GivesInvalid, IsRefused, unknown_told}

@@ -1,5 +1,5 @@
 use Rattle.std.proofs.Common.{ℕ, ◌-◌, List, length}
-use Rattle.quic_frame_parts.specs.Field.{AreBelow}
+use Rattle.quic_frame_fields.specs.Field.{AreBelow}
 use Rattle.quic_c.proofs.GapFilling.{GapFilling}
 use Rattle.quic_c.proofs.front.fill_gaps.Given as goal
 

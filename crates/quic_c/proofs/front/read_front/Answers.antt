@@ -1,5 +1,5 @@
 use Rattle.std.proofs.Common.{ap, ◌∙◌, inl, inr, refl, pos, to_z, w64, ◌≡◌, [], ◌∷◌, None, Some, subst, rules}
-use Rattle.quic_frame_parts.specs.Reading.{Broken}
+use Rattle.quic_frame_fields.specs.Reading.{Broken}
 use Rattle.quic_frames.proofs.Items.{all_read}
 use Rattle.quic_frames.specs.Walk.{invalid_of, left, first_of, Advances, Finds}
 use Rattle.quic_c.specs.Shown.{kind_of}

@@ -1,6 +1,6 @@
 use Rattle.std.proofs.Common.{add-one, arith}
 use Rattle.std.proofs.lemmas.Bool.{false≢true}
-use Rattle.quic_frame_parts.proofs.Numbers.{numeric_at}
+use Rattle.quic_frame_fields.proofs.Numbers.{numeric_at}
 use Rattle.quic_c_sets.proofs.Writing.{numeric_more}
 use Rattle.quic_c_sets.proofs.acks.are_numeric.Goals as goal
 

@@ -1,9 +1,9 @@
 use Rattle.std.proofs.Common.{ℕ, List, ◌++◌, ◌-◌, ◌∷◌, [], get_or, take, arith}
 use Rattle.std.proofs.lemmas.List.{length-append}
-use Rattle.quic_frame_parts.specs.Numbers.{all_short}
-use Rattle.quic_frame_parts.specs.Sets.{ranges_in}
-use Rattle.quic_frame_parts.specs.Shortest.{shortest_below}
-use Rattle.quic_frame_parts.proofs.Putting.{lays_more, puts_lays, puts_refused}
+use Rattle.quic_frame_fields.specs.Numbers.{all_short}
+use Rattle.quic_frame_fields.specs.Sets.{ranges_in}
+use Rattle.quic_frame_fields.specs.Shortest.{shortest_below}
+use Rattle.quic_frame_fields.proofs.Putting.{lays_more, puts_lays, puts_refused}
 use Rattle.quic_c_sets.specs.Sets.{runs_of}
 use Rattle.quic_c_sets.proofs.Placing.{nowhere}
 use Rattle.quic_c_sets.proofs.Writing.{ack_parts_of, last_small, last_some, whole_ack}

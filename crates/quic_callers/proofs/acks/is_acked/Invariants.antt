@@ -1,6 +1,6 @@
 use Rattle.std.proofs.Common.{◌≡◌}
-use Rattle.quic_frame_parts.specs.Acks.{ranges_acked, ranges_left}
-use Rattle.quic_frame_parts.specs.Sets.{is_in}
+use Rattle.quic_frame_fields.specs.Acks.{ranges_acked, ranges_left}
+use Rattle.quic_frame_fields.specs.Sets.{is_in}
 use Rattle.quic_callers.proofs.acks.is_acked.Given as goal
 
 -- the number is in the ranges that are left just where it is acknowledged

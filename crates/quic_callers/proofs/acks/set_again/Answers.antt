@@ -1,8 +1,8 @@
 use Rattle.std.proofs.Common.{◌≡◌, ℕ, false, true, None, refl, sym, ap, subst, ◌∙◌, arith}
-use Rattle.quic_frame_parts.specs.Acks.{ranges_left}
-use Rattle.quic_frame_parts.specs.Field.{AreApart}
-use Rattle.quic_frame_parts.specs.Sets.{ack_of, is_in, ranges_in}
-use Rattle.quic_frame_parts.specs.Shortest.{shortest_frame}
+use Rattle.quic_frame_fields.specs.Acks.{ranges_left}
+use Rattle.quic_frame_fields.specs.Field.{AreApart}
+use Rattle.quic_frame_fields.specs.Sets.{ack_of, is_in, ranges_in}
+use Rattle.quic_frame_fields.specs.Shortest.{shortest_frame}
 use Rattle.quic_frames.specs.Least.{as_written}
 use Rattle.quic_frames.specs.Meaning.{meaning_of}
 use Rattle.quic_frames.specs.declared.frame.Frame.TheVariants as frames

@@ -1,4 +1,4 @@
-use Rattle.quic_frame_parts.specs.Acks.{ranges_left}
+use Rattle.quic_frame_fields.specs.Acks.{ranges_left}
 use Rattle.quic_callers.proofs.Again.{IsUnderWay}
 use Rattle.quic_callers.proofs.acks.set_again.Given as goal
 

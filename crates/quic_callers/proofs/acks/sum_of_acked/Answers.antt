@@ -1,7 +1,7 @@
 use Rattle.std.proofs.Common.{sum, arith}
 use Rattle.quic_callers.specs.Acked.{numbers_in}
 use Rattle.quic_callers.proofs.Sums.{number_came, added}
-use Rattle.quic_frame_parts.specs.Acks.{ranges_acked, ranges_left}
+use Rattle.quic_frame_fields.specs.Acks.{ranges_acked, ranges_left}
 use Rattle.quic_callers.proofs.acks.sum_of_acked.Goals as goal
 
 pub loop-number-preserved : goal.loop-number-preserved

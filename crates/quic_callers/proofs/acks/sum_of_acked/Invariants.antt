@@ -1,7 +1,7 @@
 use Rattle.std.proofs.Common.{◌≡◌, ◌+◌, sum}
 use Rattle.quic_callers.specs.Acked.{numbers_in}
 use Rattle.quic_callers.proofs.Sums.{left_in}
-use Rattle.quic_frame_parts.specs.Acks.{ranges_acked, ranges_left}
+use Rattle.quic_frame_fields.specs.Acks.{ranges_acked, ranges_left}
 use Rattle.quic_callers.proofs.acks.sum_of_acked.Given as goal
 
 -- what is added and what is left are all numbers

@@ -2,7 +2,7 @@
 use Rattle.std.proofs.Common.{length, subst, ap, ◌∙◌, take, Ok}
 use Rattle.std.proofs.Math.Seq.{take-length}
 use Rattle.quic_base.specs.Number.{AreBytes}
-use Rattle.quic_heads.specs.Reading.{Context}
+use Rattle.quic_header_decode.specs.Reading.{Context}
 use Rattle.quic_callers.proofs.HeadsBack.{alone, as_told, is_alone, no_refusal, parsers_memory}
 use Rattle.quic_callers.proofs.heads.cut_alone.Goals as goal
 

@@ -1,8 +1,8 @@
 -- By the law of one answer.
 use Rattle.std.proofs.Common.{ℕ, List, sym, subst, eq-eqb}
 use Rattle.quic_base.specs.Number.{AreBytes}
-use Rattle.quic_heads.specs.Grammar.{Cut}
-use Rattle.quic_heads.specs.Reading.{Context}
+use Rattle.quic_header_decode.specs.Grammar.{Cut}
+use Rattle.quic_header_decode.specs.Reading.{Context}
 use Rattle.quic_callers.proofs.HeadsBack.{as_long}
 use Rattle.quic_callers.proofs.heads.cut_twice.Goals as goal
 

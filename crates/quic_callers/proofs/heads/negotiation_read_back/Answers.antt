@@ -1,11 +1,11 @@
 -- By the law of heads that were written.
 use Rattle.std.proofs.Common.{◌≤◌, ℕ, List, length, refl, subst, sym, ap, arith}
-use Rattle.quic_heads.specs.declared.protected.ProtectedHeader.{ProtectedHeader}
-use Rattle.quic_heads.specs.declared.protected.ProtectedHeader.TheVariants as head
-use Rattle.quic_headers.specs.Writing.{header_bytes}
-use Rattle.quic_headers.specs.declared.header.Header.TheVariants as header
-use Rattle.quic_heads.specs.Grammar.{Head}
-use Rattle.quic_heads.specs.Reading.{Context}
+use Rattle.quic_header_decode.specs.declared.protected.ProtectedHeader.{ProtectedHeader}
+use Rattle.quic_header_decode.specs.declared.protected.ProtectedHeader.TheVariants as head
+use Rattle.quic_header_encode.specs.Writing.{header_bytes}
+use Rattle.quic_header_encode.specs.declared.header.Header.TheVariants as header
+use Rattle.quic_header_decode.specs.Grammar.{Head}
+use Rattle.quic_header_decode.specs.Reading.{Context}
 use Rattle.quic_callers.proofs.HeadsBack.{fixed}
 use Rattle.quic_callers.proofs.heads.negotiation_read_back.Goals as goal
 

@@ -1,4 +1,4 @@
-use Rattle.quic_frame_parts.proofs.Apart.{one_list, blocks_apart}
+use Rattle.quic_frame_fields.proofs.Apart.{one_list, blocks_apart}
 use Rattle.quic_frames.proofs.laws.one_list_of_ranges.Goals as goal
 
 pub returns-clause-one : goal.returns-clause-one

@@ -1,4 +1,4 @@
-use Rattle.quic_frame_parts.proofs.Blocks.{acked, read_again}
+use Rattle.quic_frame_fields.proofs.Blocks.{acked, read_again}
 use Rattle.quic_frames.proofs.laws.ranges_encoded.Goals as goal
 
 pub returns-clause-held : goal.returns-clause-held

@@ -1,5 +1,5 @@
 use Rattle.std.specs.Prelude.{drop}
-use Rattle.quic_frame_parts.proofs.Encoded.{drop_fits}
+use Rattle.quic_frame_fields.proofs.Encoded.{drop_fits}
 use Rattle.quic_frames.proofs.Items.{is_either, frames_are_items, broken_are_items}
 use Rattle.quic_frames.proofs.laws.read_from_a_place.Goals as goal
 

@@ -1,5 +1,5 @@
-use Rattle.quic_frame_parts.proofs.Sets.{are_members, are_apart, is_greatest}
-use Rattle.quic_frame_parts.proofs.AckParts.{same_ack}
+use Rattle.quic_frame_fields.proofs.Sets.{are_members, are_apart, is_greatest}
+use Rattle.quic_frame_fields.proofs.AckParts.{same_ack}
 use Rattle.quic_frames.proofs.ReadBack.{set_read_back}
 use Rattle.quic_frames.proofs.laws.set_acknowledged.Goals as goal
 

@@ -1,4 +1,4 @@
-use Rattle.quic_frame_parts.proofs.StreamParts.{stream_parts}
+use Rattle.quic_frame_fields.proofs.StreamParts.{stream_parts}
 use Rattle.quic_frames.proofs.laws.stream_head_and_data.Goals as goal
 
 pub returns : goal.returns

@@ -2,10 +2,10 @@
 use Rattle.std.proofs.Common.{arith, ◌≡◌, ℕ, List, length, subst, inr}
 use Rattle.quic_packets.specs.Opening.{PartRefuses}
 use Rattle.quic_base.specs.declared.ids.SpaceId.{SpaceId}
-use Rattle.quic_heads.specs.Reading.{Context}
+use Rattle.quic_header_decode.specs.Reading.{Context}
 use Rattle.quic_packets.specs.Pairs.{KeyPair}
 use Rattle.quic_packets.specs.Spaces.{keys_in, expected_in}
-use Rattle.quic_heads.specs.declared.decode_error.PacketDecodeError.TheVariants as error
+use Rattle.quic_header_decode.specs.declared.decode_error.PacketDecodeError.TheVariants as error
 use Rattle.quic_packets.proofs.Uncuts.{uncut_refused, cut_given}
 use Rattle.std.proofs.lemmas.Grind.{common_steps}
 use Rattle.quic_packets.proofs.opening.open_first.Goals as goal

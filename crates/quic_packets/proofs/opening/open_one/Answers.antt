@@ -2,8 +2,8 @@
 use Rattle.std.proofs.Common.{ℕ, refl, subst}
 use Rattle.quic_base.specs.Number.{AreBytes}
 use Rattle.quic_base.specs.declared.ids.SpaceId.{SpaceId}
-use Rattle.quic_headers.specs.Queries.{space_in}
-use Rattle.quic_heads.specs.Reading.{Context}
+use Rattle.quic_header_encode.specs.Queries.{space_in}
+use Rattle.quic_header_decode.specs.Reading.{Context}
 use Rattle.quic_packets.specs.Pairs.{KeyPair}
 use Rattle.quic_packets.specs.Spaces.{keys_in, expected_in}
 use Rattle.quic_packets.proofs.Opened.{Lawful}

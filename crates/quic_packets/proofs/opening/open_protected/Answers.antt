@@ -1,6 +1,6 @@
 -- The number that was read is in range.
 use Rattle.std.proofs.Common.{Bool, length, ◌++◌, subst}
-use Rattle.quic_heads.specs.Headers.{IsOpenedBy}
+use Rattle.quic_header_decode.specs.Headers.{IsOpenedBy}
 use Rattle.quic_packets.proofs.Opened.{opened_number}
 use Rattle.quic_packets.proofs.opening.open_protected.Goals as goal
 

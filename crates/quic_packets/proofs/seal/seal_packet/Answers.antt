@@ -1,9 +1,9 @@
 -- What is written, and finished, is the sealed packet.
 use Rattle.std.proofs.Common.{rules, ◌≡◌, ℕ, ◌-◌, List, ◌++◌, length, sym, ap, ◌∙◌, arith, replicate, refl}
-use Rattle.quic_headers.specs.declared.header.Header.{Header}
+use Rattle.quic_header_encode.specs.declared.header.Header.{Header}
 use Rattle.quic_packets.specs.Pairs.{KeyPair}
 use Rattle.quic_packets.specs.Sealing.{plain_packet, payload_of}
-use Rattle.quic_headers.specs.Writing.{header_size, header_bytes, size_in}
+use Rattle.quic_header_encode.specs.Writing.{header_size, header_bytes, size_in}
 use Rattle.quic_packets.proofs.Sealings.{sealed_end}
 use Rattle.std.proofs.lemmas.Grind.{common_steps}
 use Rattle.quic_packets.proofs.seal.seal_packet.Goals as goal

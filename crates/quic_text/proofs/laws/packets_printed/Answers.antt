@@ -1,8 +1,8 @@
 -- By the one row of packets that reading finds.
 use Rattle.std.proofs.Common.{List, Option, ap}
-use Rattle.quic_heads.specs.Datagram.{Placed, packets_in}
-use Rattle.quic_heads.specs.Refusal.{Refusal}
-use Rattle.quic_heads.proofs.Datagrams.{packets_again, packets_found}
+use Rattle.quic_header_decode.specs.Datagram.{Placed, packets_in}
+use Rattle.quic_header_decode.specs.Refusal.{Refusal}
+use Rattle.quic_header_decode.proofs.Datagrams.{packets_again, packets_found}
 use Rattle.quic_text.specs.DatagramText.{with_ids_of, row_lines}
 use Rattle.quic_text.specs.IdLens.{count}
 use Rattle.quic_text.proofs.DatagramLines.{fixed_takes}

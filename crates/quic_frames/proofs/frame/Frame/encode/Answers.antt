@@ -1,4 +1,4 @@
-use Rattle.quic_frame_parts.specs.Shortest.{shortest_frame}
+use Rattle.quic_frame_fields.specs.Shortest.{shortest_frame}
 use Rattle.quic_frames.proofs.Encoding.{max_streams_parts, streams_blocked_parts, challenge_parts, response_parts}
 use Rattle.quic_frames.proofs.frame.Frame.encode.Goals as goal
 

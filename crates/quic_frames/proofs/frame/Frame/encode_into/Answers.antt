@@ -1,5 +1,5 @@
 use Rattle.std.proofs.Common.{arith}
-use Rattle.quic_frame_parts.specs.Shortest.{shortest_frame}
+use Rattle.quic_frame_fields.specs.Shortest.{shortest_frame}
 use Rattle.quic_frames.proofs.Encoding.{max_streams_parts, streams_blocked_parts, challenge_parts, response_parts, crypto_parts, token_parts}
 use Rattle.std.proofs.lemmas.Grind.{common_steps}
 use Rattle.quic_frames.proofs.frame.Frame.encode_into.Goals as goal

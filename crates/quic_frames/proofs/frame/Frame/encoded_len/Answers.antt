@@ -1,5 +1,5 @@
 use Rattle.std.proofs.Common.{sym}
-use Rattle.quic_frame_parts.specs.Shortest.{shortest_frame}
+use Rattle.quic_frame_fields.specs.Shortest.{shortest_frame}
 use Rattle.quic_frames.proofs.Encoding.{max_streams_parts, streams_blocked_parts, challenge_length, response_length}
 use Rattle.quic_frames.proofs.frame.Frame.encoded_len.Goals as goal
 

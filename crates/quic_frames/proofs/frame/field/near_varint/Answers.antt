@@ -1,5 +1,5 @@
 use Rattle.std.proofs.Common.{arith}
-use Rattle.quic_frame_parts.proofs.Varints.{slices}
+use Rattle.quic_frame_fields.proofs.Varints.{slices}
 use Rattle.quic_frames.proofs.frame.field.near_varint.Goals as goal
 
 pub returns-in-None-clause-gives : goal.returns-in-None-clause-gives

@@ -1,7 +1,7 @@
 use Rattle.std.proofs.Common.{arith, rules, sym, ap, ◌≡◌, ◌+◌, ◌∙◌, length}
 use Rattle.std.proofs.lemmas.List.{length-append}
 use Rattle.quic_base.specs.Number.{AreBytes}
-use Rattle.quic_frame_parts.proofs.Varints.{varint_takes}
+use Rattle.quic_frame_fields.proofs.Varints.{varint_takes}
 use Rattle.quic_frames.specs.Meaning.{meaning_of}
 use Rattle.quic_frames.proofs.Finding.{behind_type, found_whole, found_none, found_cut, found_long}
 use Rattle.std.proofs.lemmas.Grind.{common_steps}

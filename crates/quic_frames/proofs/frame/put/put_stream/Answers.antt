@@ -1,5 +1,5 @@
 use Rattle.std.proofs.Common.{sym}
-use Rattle.quic_frame_parts.proofs.StreamParts.{stream_parts_as}
+use Rattle.quic_frame_fields.proofs.StreamParts.{stream_parts_as}
 use Rattle.quic_frames.proofs.frame.put.put_stream.Goals as goal
 
 pub returns : goal.returns

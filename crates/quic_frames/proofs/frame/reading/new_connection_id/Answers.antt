@@ -1,6 +1,6 @@
 use Rattle.std.proofs.Common.{arith}
 use Rattle.std.proofs.lemmas.Grind.{common_steps}
-use Rattle.quic_frame_parts.specs.Reading.{row_at}
+use Rattle.quic_frame_fields.specs.Reading.{row_at}
 use Rattle.quic_frames.proofs.frame.reading.new_connection_id.Goals as goal
 
 pub returns-in_err-id : goal.returns-in_err-id

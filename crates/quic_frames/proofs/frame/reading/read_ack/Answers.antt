@@ -1,6 +1,6 @@
 use Rattle.std.proofs.Common.{◌≤◌, length, arith}
 use Rattle.std.proofs.lemmas.Grind.{common_steps}
-use Rattle.quic_frame_parts.specs.Reading.{row_at}
+use Rattle.quic_frame_fields.specs.Reading.{row_at}
 use Rattle.quic_frames.proofs.Finding.{varint_shorter, reads}
 use Rattle.quic_frames.proofs.frame.reading.read_ack.Goals as goal
 

@@ -1,5 +1,5 @@
 use Rattle.std.proofs.Common.{arith}
-use Rattle.quic_frame_parts.specs.Reading.{frame_at, row_at}
+use Rattle.quic_frame_fields.specs.Reading.{frame_at, row_at}
 use Rattle.std.proofs.lemmas.Grind.{common_steps}
 use Rattle.quic_frames.proofs.frame.reading.read_path.Goals as goal
 

@@ -1,8 +1,8 @@
 use Rattle.std.proofs.Common.{sym}
 use Rattle.std.proofs.lemmas.Result.{err_from_is_err_and}
-use Rattle.quic_frame_parts.specs.Shortest.{stream_head}
+use Rattle.quic_frame_fields.specs.Shortest.{stream_head}
 use Rattle.quic_base.proofs.Encoders.{wrote_first, writes_last, writes_begun}
-use Rattle.quic_frame_parts.proofs.StreamParts.{stream_parts_as}
+use Rattle.quic_frame_fields.proofs.StreamParts.{stream_parts_as}
 use Rattle.quic_frames.proofs.frame.whole.encode_stream.Goals as goal
 
 pub returns-in_err-encode_head : goal.returns-in_err-encode_head

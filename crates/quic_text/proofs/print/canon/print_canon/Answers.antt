@@ -1,7 +1,7 @@
 use Rattle.std.proofs.Common.{◌≡◌, ◌++◌, ℕ, List, [], ◌∷◌, refl, ap, sym, subst, ◌∙◌}
 use Rattle.std.specs.String.{string_bytes}
 use Rattle.hex.specs.Hex.{encode_lower}
-use Rattle.quic_frame_parts.specs.Reading.{Invalid, Broken}
+use Rattle.quic_frame_fields.specs.Reading.{Invalid, Broken}
 use Rattle.quic_frames.specs.Walk.{invalid_of}
 use Rattle.quic_canon.specs.Bytes.{canon_bytes}
 use Rattle.quic_text.specs.Printed.{Plain, shown}

@@ -5,8 +5,8 @@ use Rattle.std.specs.String.{string_bytes}
 use Rattle.std.specs.List.{flat_map}
 use Rattle.quic_text.specs.Printed.{shown}
 use Rattle.quic_base.specs.Number.{AreBytes}
-use Rattle.quic_heads.specs.Grammar.{Cut, Uncut}
-use Rattle.quic_heads.specs.Refusal.{refusal_of}
+use Rattle.quic_header_decode.specs.Grammar.{Cut, Uncut}
+use Rattle.quic_header_decode.specs.Refusal.{refusal_of}
 use Rattle.quic_text.specs.IdLens.{count}
 use Rattle.quic_text.specs.DatagramText.{with_ids_of, datagram_lines}
 use Rattle.quic_text.specs.Whole.{AppendsAllBut}

@@ -1,7 +1,7 @@
 -- A version negotiation has version 0.
 use Rattle.std.proofs.Common.{arith, ◌++◌, ap, sym, ◌∙◌}
 use Rattle.std.specs.String.{string_bytes}
-use Rattle.quic_heads.specs.declared.protected.ProtectedHeader.{ProtectedHeader}
+use Rattle.quic_header_decode.specs.declared.protected.ProtectedHeader.{ProtectedHeader}
 use Rattle.quic_text.specs.DatagramText.{head_text}
 use Rattle.std.proofs.lemmas.Grind.{common_steps}
 use Rattle.quic_text.proofs.print.datagram.print_head.Goals as goal

@@ -1,0 +1,315 @@
+-- The head that words say, and its bytes.
+use Rattle.std.proofs.Common.{◌≡◌, ℕ, ◌+◌, ◌-◌, ◌*◌, ◌/◌, ◌%◌, ◌<◌, ◌≤◌, ◌^◌, ◌⊎◌, Bool, false, List, [], ◌∷◌, ◌++◌, length, take, drop, replicate, IsTrue, refl, sym, ap, subst, ◌∙◌, inl, inr, arith, rules}
+use Rattle.std.specs.Prelude.{◌≢◌, bit_or, nat_eq}
+use Rattle.std.proofs.lemmas.Bool.{cases_eq}
+use Rattle.std.proofs.lemmas.List.{append-nil, length-take-le, take-append-drop}
+use Rattle.std.proofs.lemmas.Bool.Decides.{nat_tests}
+use Rattle.std.specs.Int.{byte_at}
+use Rattle.quic_base.specs.ConnectionId.{long_id}
+use Rattle.quic_base.specs.Number.{bytes_of}
+use Rattle.quic_crypto.specs.declared.packet_number.PacketNumber.{PacketNumber}
+use Rattle.quic_crypto.specs.PacketNumbers.{low_part, number_bytes, number_size, window_of, IsInRange}
+use Rattle.quic_header_encode.specs.declared.long_type.HeadKind.{HeadKind}
+use Rattle.quic_header_encode.specs.declared.long_type.HeadKind.TheVariants as kind
+use Rattle.quic_header_encode.specs.declared.header.Header.{Header}
+use Rattle.quic_header_encode.specs.Laying.{begun_by, has_bit, head_of, number_bits, says_length, token_by, type_bits}
+use Rattle.quic_header_encode.specs.Starts.{long_front}
+use Rattle.quic_header_encode.specs.Writing.{bit, head_with}
+use Rattle.quic_c_headers.specs.declared.words.SaidWords.{SaidWords}
+use Rattle.quic_c_headers.specs.Heads.{part_of, said_bytes, CanWrite}
+use Rattle.quic_c_headers.specs.Reading.{kind_word}
+use Rattle.quic_c_headers.specs.Shapes.{first_word, numbered_bytes, numbered_first, IsNumbered, IsShaped}
+use Rattle.quic_c_headers.specs.Written.{short_words}
+
+-- whether the fixed bit is cleared
+abbrev pub clear_by : HeadKind → ℕ → Bool
+clear_by kind.Initial flags = has_bit 64 flags
+clear_by kind.ZeroRtt flags = has_bit 64 flags
+clear_by kind.Handshake flags = has_bit 64 flags
+clear_by kind.Retry flags = has_bit 64 flags
+clear_by kind.Short flags = has_bit 64 flags
+clear_by kind.VersionNegotiate flags = false
+
+-- the head that they say
+abbrev pub head_said : HeadKind → SaidWords → List ℕ → List ℕ → List ℕ → Header
+head_said k words dst src token = head_of k words.flags words.version dst src token (part_of words.number_len words.number)
+
+bit_at : (x n : ℕ) → x < 2 → bit (nat_eq x 1) n ≡ n * x
+bit_at x n lt = grind (arith, nat_tests)
+
+-- the bits of flags
+clear_is : (f : ℕ) → bit (has_bit 64 f) 64 ≡ 64 * (f / 64 % 2)
+clear_is f = bit_at (f / 64 % 2) 64 (omega arith)
+
+spin_is : (f : ℕ) → bit (has_bit 32 f) 32 ≡ 32 * (f / 32 % 2)
+spin_is f = bit_at (f / 32 % 2) 32 (omega arith)
+
+phase_is : (f : ℕ) → bit (has_bit 4 f) 4 ≡ 4 * (f / 4 % 2)
+phase_is f = bit_at (f / 4 % 2) 4 (omega arith)
+
+-- the part of a number that is written
+abbrev Part : ℕ → ℕ → Type 0
+Part number len = (len ≡ number_size (part_of len number)) × (low_part (part_of len number) ≡ number % window_of (part_of len number)) × IsInRange (part_of len number)
+
+pub part_says : (len number : ℕ) → 1 ≤ len → len ≤ 4 → Part number len
+part_says len number some few = elim (cases_eq len 2) [
+  | inl e ↦ subst (Part number) (sym e) (refl, refl, omega arith)
+  | inr a ↦ elim (cases_eq len 3) [
+    | inl e ↦ subst (Part number) (sym e) (refl, refl, omega arith)
+    | inr b ↦ elim (cases_eq len 4) [
+      | inl e ↦ subst (Part number) (sym e) (refl, refl, omega arith)
+      | inr d ↦ (let e : 1 ≡ len = omega (arith, some, few, a, b, d) in subst (Part number) e (refl, refl, omega arith))
+    ]
+  ]
+]
+
+-- ---- that it can be written
+
+-- what is said of a number
+numbered : (words : SaidWords) → IsNumbered words → (words.kind ≤ 2) ⊎ (words.kind ≡ 4)
+    → (words.number < 2 ^ 62) × Part words.number words.number_len
+numbered words s kind =
+    let n = s.number kind in (n.2, part_says words.number_len words.number n.0 n.1)
+
+-- what is said of a sender's id
+source_said : (words : SaidWords) (dst src token from : List ℕ) → IsShaped words dst src token → (words.kind ≢ 4 → from ≡ src) → words.kind ≢ 4
+    → (src ≡ from) × (length src ≤ 20)
+source_said words dst src token from s source other = (sym (source other), s.parts.src_few other)
+
+pub can_said : (k : HeadKind) (words : SaidWords) (dst src token from own : List ℕ) → IsShaped words dst src token → kind_word k ≡ words.kind
+    → (words.kind ≢ 4 → from ≡ src) → (words.kind ≡ 0 → own ≡ token) → CanWrite words dst src token (clear_by k words.flags) (head_said k words dst from own)
+can_said kind.Initial words dst src token from own s e source mine =
+    let n = numbered words s.numbered (inl (omega (arith, e))) in
+    record {
+      says = record {
+        kind = sym e;
+        flags = refl;
+        version = (refl, s.named (omega (arith, e)));
+        number = (n.0, n.1.0, n.1.1);
+        len = s.numbered.len (omega (arith, e));
+        dst_is = refl;
+        src_is = source_said words dst src token from s source (λ z. omega (arith, e, z));
+        token_is = sym (mine (sym e));
+      };
+      dst_few = s.parts.dst_few;
+      writable = (subst (λ (t : List ℕ). length t < 2 ^ 62) (sym (mine (sym e))) (s.parts.token_short (sym e)), n.1.2);
+    }
+can_said kind.ZeroRtt words dst src token from own s e source mine =
+    let n = numbered words s.numbered (inl (omega (arith, e))) in
+    record {
+      says = record {
+        kind = sym e;
+        flags = refl;
+        version = (refl, s.named (omega (arith, e)));
+        number = (n.0, n.1.0, n.1.1);
+        len = s.numbered.len (omega (arith, e));
+        dst_is = refl;
+        src_is = source_said words dst src token from s source (λ z. omega (arith, e, z));
+        token_is = tt;
+      };
+      dst_few = s.parts.dst_few;
+      writable = n.1.2;
+    }
+can_said kind.Handshake words dst src token from own s e source mine =
+    let n = numbered words s.numbered (inl (omega (arith, e))) in
+    record {
+      says = record {
+        kind = sym e;
+        flags = refl;
+        version = (refl, s.named (omega (arith, e)));
+        number = (n.0, n.1.0, n.1.1);
+        len = s.numbered.len (omega (arith, e));
+        dst_is = refl;
+        src_is = source_said words dst src token from s source (λ z. omega (arith, e, z));
+        token_is = tt;
+      };
+      dst_few = s.parts.dst_few;
+      writable = n.1.2;
+    }
+can_said kind.Retry words dst src token from own s e source mine = record {
+  says = record {
+    kind = sym e;
+    flags = refl;
+    version = (refl, s.named (omega (arith, e)));
+    number = tt;
+    len = tt;
+    dst_is = refl;
+    src_is = source_said words dst src token from s source (λ z. omega (arith, e, z));
+    token_is = tt;
+  };
+  dst_few = s.parts.dst_few;
+  writable = tt;
+}
+can_said kind.Short words dst src token from own s e source mine =
+    let n = numbered words s.numbered (inr (sym e)) in
+    record {
+      says = record {
+        kind = sym e;
+        flags = (refl, refl, refl);
+        version = tt;
+        number = (n.0, n.1.0, n.1.1);
+        len = tt;
+        dst_is = refl;
+        src_is = tt;
+        token_is = tt;
+      };
+      dst_few = s.parts.dst_few;
+      writable = n.1.2;
+    }
+can_said kind.VersionNegotiate words dst src token from own s e source mine = record {
+  says = record {
+    kind = sym e;
+    flags = (refl, refl);
+    version = tt;
+    number = tt;
+    len = tt;
+    dst_is = refl;
+    src_is = source_said words dst src token from s source (λ z. omega (arith, e, z));
+    token_is = tt;
+  };
+  dst_few = s.parts.dst_few;
+  writable = tt;
+}
+
+-- ---- the bytes
+
+begun_same : (f g : ℕ) (h : ℕ → List ℕ) (a b : ℕ) → f ≡ g → a ≡ b → begun_by f (h a) ≡ begun_by g (h b)
+begun_same f g h a b e same = ap (λ (x : ℕ). begun_by x (h a)) e ∙ ap (λ (n : ℕ). begun_by g (h n)) same
+
+-- what is laid of them
+abbrev pub laid_said : HeadKind → ℕ → SaidWords → List ℕ → List ℕ → List ℕ → List ℕ
+laid_said k len words dst src token =
+    let number = part_of words.number_len words.number in
+    begun_by (first_word k words.flags + type_bits k words.version + number_bits k number)
+    (head_with (replicate len 0) (head_of k (first_word k words.flags) words.version dst src token number))
+
+pub laid_as : (k : HeadKind) (f len : ℕ) (words : SaidWords) (dst src token : List ℕ) (number : PacketNumber) → f ≡ first_word k words.flags
+    → number ≡ part_of words.number_len words.number
+    → begun_by (f + type_bits k words.version + number_bits k number) (head_with (replicate len 0) (head_of k f words.version dst src token number))
+    ≡ laid_said k len words dst src token
+laid_as k f len words dst src token number e is =
+    ap (λ (g : ℕ). begun_by (g + type_bits k words.version + number_bits k number) (head_with (replicate len 0) (head_of k g words.version dst src token number))) e
+    ∙ ap (λ (p : PacketNumber). begun_by (first_word k words.flags + type_bits k words.version + number_bits k p)
+    (head_with (replicate len 0) (head_of k (first_word k words.flags) words.version dst src token p))) is
+
+pub bytes_said : (k : HeadKind) (len : ℕ) (words : SaidWords) (dst src token : List ℕ) → IsNumbered words → kind_word k ≡ words.kind
+    → ((words.length_len ≡ 2) ⊎ (words.length_len ≡ 4) → len ≡ words.length_len)
+    → laid_said k len words dst src token ≡ said_bytes words.length_len (clear_by k words.flags) (head_said k words dst src token)
+bytes_said kind.Initial len words dst src token s e same =
+    begun_same _ _ (λ n. head_with (replicate n 0) (head_said kind.Initial words dst src token)) len words.length_len
+    (omega (arith, clear_is words.flags)) (same (s.len (omega (arith, e))))
+bytes_said kind.ZeroRtt len words dst src token s e same =
+    begun_same _ _ (λ n. head_with (replicate n 0) (head_said kind.ZeroRtt words dst src token)) len words.length_len
+    (omega (arith, clear_is words.flags)) (same (s.len (omega (arith, e))))
+bytes_said kind.Handshake len words dst src token s e same =
+    begun_same _ _ (λ n. head_with (replicate n 0) (head_said kind.Handshake words dst src token)) len words.length_len
+    (omega (arith, clear_is words.flags)) (same (s.len (omega (arith, e))))
+bytes_said kind.Retry len words dst src token s e same =
+    ap (λ (f : ℕ). begun_by f (head_with (replicate 0 0) (head_said kind.Retry words dst src token)))
+    (let g : first_word kind.Retry words.flags + type_bits kind.Retry words.version + 0 ≡ 192 + type_bits kind.Retry words.version - bit (has_bit 64 words.flags) 64 =
+    omega (arith, clear_is words.flags) in g)
+bytes_said kind.Short len words dst src token s e same =
+    let number : PacketNumber = part_of words.number_len words.number in
+    ap (λ (f : ℕ). f ∷ (dst ++ number_bytes number))
+    (let g : first_word kind.Short words.flags + 0 + (number_size number - 1)
+    ≡ 64 + bit (has_bit 32 words.flags) 32 + bit (has_bit 4 words.flags) 4 + (number_size number - 1) - bit (has_bit 64 words.flags) 64 =
+    omega (arith, clear_is words.flags, spin_is words.flags, phase_is words.flags) in g)
+bytes_said kind.VersionNegotiate len words dst src token s e same =
+    ap (λ (f : ℕ). begun_by f (head_with (replicate 0 0) (head_said kind.VersionNegotiate words dst src token)))
+    (let g : bit_or 128 (words.flags % 128) + 0 + 0 ≡ bit_or 128 (words.flags % 128) - 0 = omega arith in g)
+
+-- ---- what was written
+
+pub written : (n : ℕ) (old new bytes said : List ℕ) → n ≤ length new → take n new ≡ bytes → drop n new ≡ drop n old → bytes ≡ said
+    → (new ≡ said ++ drop n old) × (n ≡ length said)
+written n old new bytes said within front back same = (
+  sym (take-append-drop n new) ∙ ap (λ (xs : List ℕ). xs ++ drop n new) (front ∙ same) ∙ ap (λ (xs : List ℕ). said ++ xs) back,
+  sym (length-take-le n new within) ∙ ap length (front ∙ same),
+)
+
+-- ---- short heads by their first byte
+
+pub short_shaped : (first number : ℕ) (dst : List ℕ) → number < 2 ^ 62 → length dst ≤ 20 → IsShaped (short_words first number) dst [] []
+short_shaped first number dst small few = record {
+  known = omega arith;
+  numbered = record { number = λ _. (omega arith, omega arith, small); len = λ e. absurd (omega (arith, e)) };
+  named = λ e. absurd (omega (arith, e));
+  parts = record { dst_few = few; src_few = λ _. omega arith; token_short = λ _. omega arith };
+}
+
+pub short_can : (first number : ℕ) (dst : List ℕ) → number < 2 ^ 62 → length dst ≤ 20
+    → CanWrite (short_words first number) dst [] [] (clear_by kind.Short (short_words first number).flags) (head_said kind.Short (short_words first number) dst [] [])
+short_can first number dst small few =
+    can_said kind.Short (short_words first number) dst [] [] [] [] (short_shaped first number dst small few) refl (λ _. refl) (λ _. refl)
+
+low_bytes : (len number : ℕ) → 1 ≤ len → len ≤ 4 → number_bytes (part_of len number) ≡ bytes_of len number
+unfolding bytes_of
+low_bytes len number some few =
+    let P : ℕ → Type 0 = λ n. number_bytes (part_of n number) ≡ bytes_of n number in
+    elim (cases_eq len 2) [
+      | inl e ↦ subst P (sym e) (let a : byte_at 0 (number % 2 ^ 16) ≡ byte_at 0 number = omega arith in let b : byte_at 1 (number % 2 ^ 16) ≡ byte_at 1 number = omega arith in cc)
+      | inr x ↦ elim (cases_eq len 3) [
+        | inl e ↦ subst P (sym e) (let a : byte_at 0 (number % 2 ^ 24) ≡ byte_at 0 number = omega arith in let b : byte_at 1 (number % 2 ^ 24) ≡ byte_at 1 number = omega arith in
+            let d : byte_at 2 (number % 2 ^ 24) ≡ byte_at 2 number = omega arith in cc)
+        | inr y ↦ elim (cases_eq len 4) [
+          | inl e ↦ subst P (sym e) (let a : byte_at 0 (number % 2 ^ 32) ≡ byte_at 0 number = omega arith in let b : byte_at 1 (number % 2 ^ 32) ≡ byte_at 1 number = omega arith in
+              let d : byte_at 2 (number % 2 ^ 32) ≡ byte_at 2 number = omega arith in let f : byte_at 3 (number % 2 ^ 32) ≡ byte_at 3 number = omega arith in cc)
+          | inr z ↦ (let e : 1 ≡ len = omega (arith, some, few, x, y, z) in subst P e (let a : byte_at 0 (number % 2 ^ 8) ≡ byte_at 0 number = omega arith in cc))
+        ]
+      ]
+    ]
+
+-- what is laid of a short head is what its words say
+pub short_bytes : (first number : ℕ) (dst : List ℕ) → first < 128 → first / 8 % 4 ≡ 0 → number < 2 ^ 62 → length dst ≤ 20
+    → (first ∷ dst) ++ bytes_of (first % 4 + 1) number
+    ≡ said_bytes 0 (clear_by kind.Short (short_words first number).flags) (head_said kind.Short (short_words first number) dst [] [])
+short_bytes first number dst low clear small few =
+    let count : ℕ = first % 4 + 1 in
+    let words : SaidWords = short_words first number in
+    let part : PacketNumber = part_of count number in
+    let size : count ≡ number_size part = (part_says count number (omega arith) (omega arith)).0 in
+    let byte : first ≡ first_word kind.Short words.flags + 0 + (number_size part - 1) = omega (arith, low, size) in
+    ap (λ (xs : List ℕ). (first ∷ dst) ++ xs) (sym (low_bytes count number (omega arith) (omega arith)))
+    ∙ ap (λ (f : ℕ). f ∷ (dst ++ number_bytes part)) byte
+    ∙ bytes_said kind.Short 0 words dst [] [] (short_shaped first number dst small few).numbered refl (λ _. refl)
+
+-- ---- heads of packets with a number and a length
+
+pub with_length : (k : HeadKind) (words : SaidWords) → kind_word k ≡ words.kind → IsTrue (says_length k) → words.kind ≤ 2
+with_length kind.Initial words e has = omega (arith, e)
+with_length kind.ZeroRtt words e has = omega (arith, e)
+with_length kind.Handshake words e has = omega (arith, e)
+with_length kind.Retry words e has = absurd (search (rules, has))
+with_length kind.Short words e has = absurd (search (rules, has))
+with_length kind.VersionNegotiate words e has = absurd (search (rules, has))
+
+-- what is laid of one, field behind field, is what its words say
+pub numbered_said : (k : HeadKind) (words : SaidWords) (dst src token : List ℕ) → IsTrue (says_length k) → 1 ≤ words.number_len → words.number_len ≤ 4
+    → numbered_bytes k words dst src token ≡ laid_said k words.length_len words dst src token
+numbered_said kind.Initial words dst src token has some few =
+    let part : PacketNumber = part_of words.number_len words.number in
+    let size : words.number_len ≡ number_size part = (part_says words.number_len words.number some few).0 in
+    let own : List ℕ = token_by kind.Initial token in
+    let ids : List ℕ = bytes_of 4 words.version ++ (long_id dst ++ long_id src) in
+    ap (λ (xs : List ℕ). (long_front (numbered_first kind.Initial words) words.version dst src ++ own) ++ (replicate words.length_len 0 ++ xs))
+    (sym (low_bytes words.number_len words.number some few))
+    ∙ ap (λ (n : ℕ). (192 - 64 * (words.flags / 64 % 2) + type_bits kind.Initial words.version + (n - 1)) ∷ ((ids ++ own) ++ (replicate words.length_len 0 ++ number_bytes part))) size
+numbered_said kind.ZeroRtt words dst src token has some few =
+    let part : PacketNumber = part_of words.number_len words.number in
+    let size : words.number_len ≡ number_size part = (part_says words.number_len words.number some few).0 in
+    let front : List ℕ = long_front (numbered_first kind.ZeroRtt words) words.version dst src in
+    let ids : List ℕ = bytes_of 4 words.version ++ (long_id dst ++ long_id src) in
+    ap (λ (xs : List ℕ). xs ++ (replicate words.length_len 0 ++ bytes_of words.number_len words.number)) (append-nil front)
+    ∙ ap (λ (xs : List ℕ). front ++ (replicate words.length_len 0 ++ xs)) (sym (low_bytes words.number_len words.number some few))
+    ∙ ap (λ (n : ℕ). (192 - 64 * (words.flags / 64 % 2) + type_bits kind.ZeroRtt words.version + (n - 1)) ∷ (ids ++ (replicate words.length_len 0 ++ number_bytes part))) size
+numbered_said kind.Handshake words dst src token has some few =
+    let part : PacketNumber = part_of words.number_len words.number in
+    let size : words.number_len ≡ number_size part = (part_says words.number_len words.number some few).0 in
+    let front : List ℕ = long_front (numbered_first kind.Handshake words) words.version dst src in
+    let ids : List ℕ = bytes_of 4 words.version ++ (long_id dst ++ long_id src) in
+    ap (λ (xs : List ℕ). xs ++ (replicate words.length_len 0 ++ bytes_of words.number_len words.number)) (append-nil front)
+    ∙ ap (λ (xs : List ℕ). front ++ (replicate words.length_len 0 ++ xs)) (sym (low_bytes words.number_len words.number some few))
+    ∙ ap (λ (n : ℕ). (192 - 64 * (words.flags / 64 % 2) + type_bits kind.Handshake words.version + (n - 1)) ∷ (ids ++ (replicate words.length_len 0 ++ number_bytes part))) size
+numbered_said kind.Retry words dst src token has some few = absurd (search (rules, has))
+numbered_said kind.Short words dst src token has some few = absurd (search (rules, has))
+numbered_said kind.VersionNegotiate words dst src token has some few = absurd (search (rules, has))

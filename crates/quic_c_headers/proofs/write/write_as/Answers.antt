@@ -1,0 +1,103 @@
+-- What has the shape of no head says no head, and what has one's is laid as its bytes.
+use Rattle.std.proofs.Common.{◌≡◌, ◌+◌, ◌≤◌, ◌<◌, ◌∙◌, ℕ, List, length, IsTrue, ap, inl, inr, refl, arith, rules, to_z, w64}
+use Rattle.std.proofs.lemmas.Bool.{cases_lt}
+use Rattle.quic_crypto.specs.declared.packet_number.PacketNumber.{PacketNumber}
+use Rattle.std.specs.Prelude.{pos, take, drop}
+use Rattle.quic_header_encode.specs.Laying.{laid_size, number_bits, says_length, type_bits}
+use Rattle.quic_header_encode.proofs.Later.{laid_length}
+use Rattle.quic_c_headers.specs.Heads.{part_of, said_bytes}
+use Rattle.quic_c_headers.specs.Shapes.{first_word, IsShaped}
+use Rattle.quic_c_headers.proofs.Shaping.{shaped}
+use Rattle.quic_c_headers.proofs.Writing.{laid_as, bytes_said, can_said, clear_by, head_said, laid_said, numbered_said, with_length, written}
+use Rattle.quic_c_headers.proofs.write.write_as.Goals as goal
+
+pub returns-then-not-is_shaped-clause-refused : goal.returns-then-not-is_shaped-clause-refused
+returns-then-not-is_shaped-clause-refused c = λ _ clear head can.
+    let yes = c.is_shaped.ensures.1 (shaped c.args.said.now c.args.dst.now c.args.src.now c.args.token.now clear head can) in
+    search (rules, yes, c.if-not-is_shaped)
+
+pub returns-then-not-fits-clause-room : goal.returns-then-not-fits-clause-room
+returns-then-not-fits-clause-room c = λ _.
+    let words = c.args.said.now in
+    let k = c.args.kind in
+    let dst : List ℕ = c.args.dst.now in
+    let src : List ℕ = c.source_of-source.result.now in
+    let token : List ℕ = c.token_of-own.result.now in
+    let len : ℕ = c.laid_length_len.result in
+    let is : IsShaped words dst c.args.src.now c.args.token.now = search (rules, c.is_shaped.ensures, c.if-not-is_shaped) in
+    let number = c.written_part-number.result in
+    let small : length c.args.dest.now < laid_size k dst src token number len = elim (cases_lt (length c.args.dest.now) (laid_size k dst src token number len)) [
+      | inl less ↦ less
+      | inr fits ↦ absurd (let no = c.if-not-fits.ensures.1 fits in search (rules, no))
+    ] in
+    let part : PacketNumber = part_of words.number_len words.number in
+    let size : laid_size k dst src token number len ≡ laid_size k dst src token part len =
+    ap (λ (p : PacketNumber). laid_size k dst src token p len) c.written_part-number.ensures.value in
+    let whole : length (laid_said k len words dst src token) ≡ laid_size k dst src token part len =
+    laid_length k (first_word k words.flags + type_bits k words.version + number_bits k part) (first_word k words.flags) words.version dst src token part len in
+    let same : laid_said k len words dst src token ≡ said_bytes words.length_len (clear_by k words.flags) (head_said k words dst src token) =
+    bytes_said k len words dst src token is.numbered c.requires.kind c.laid_length_len.ensures.same in
+    record {
+      clear = clear_by k words.flags;
+      head = head_said k words dst src token;
+      can = can_said k words dst c.args.src.now c.args.token.now src token is c.requires.kind c.source_of-source.ensures.has c.token_of-own.ensures.has;
+      full = omega (arith, small, size, whole, ap length same);
+    }
+
+pub returns-then-has_len-clause-wrote : goal.returns-then-has_len-clause-wrote
+returns-then-has_len-clause-wrote c =
+    let words = c.args.said.now in
+    let k = c.args.kind in
+    let dst : List ℕ = c.args.dst.now in
+    let src : List ℕ = c.args.src.now in
+    let token : List ℕ = c.token_of-own.result.now in
+    let n : ℕ = c.lay_numbered.result in
+    let new : List ℕ = c.lay_numbered.new.dest in
+    let is : IsShaped words dst src c.args.token.now = search (rules, c.is_shaped.ensures, c.if-not-is_shaped) in
+    let has : IsTrue (says_length k) = search (rules, c.has_len.ensures, c.if-has_len) in
+    let number = is.numbered.number (inl (with_length k words c.requires.kind has)) in
+    let same = numbered_said k words dst src token has number.0 number.1 ∙ bytes_said k words.length_len words dst src token is.numbered c.requires.kind (λ _. refl) in
+    let within : n ≤ length new = search rules in
+    let all = written n c.args.dest.now new _ _ within c.lay_numbered.ensures.front c.lay_numbered.ensures.back same in
+    let count : to_z w64 n ≡ pos n = search rules in
+    inr (inr (
+      n,
+      count,
+      record {
+        clear = clear_by k words.flags;
+        head = head_said k words dst src token;
+        can = can_said k words dst src c.args.token.now src token is c.requires.kind (λ _. refl) c.token_of-own.ensures.has;
+        front = all.0;
+        count_is = all.1;
+      },
+    ))
+
+pub returns-else-has_len-clause-wrote : goal.returns-else-has_len-clause-wrote
+returns-else-has_len-clause-wrote c =
+    let words = c.args.said.now in
+    let k = c.args.kind in
+    let dst : List ℕ = c.args.dst.now in
+    let src : List ℕ = c.source_of-source.result.now in
+    let token : List ℕ = c.token_of-own.result.now in
+    let n : ℕ = c.lay.result in
+    let new : List ℕ = c.lay.new.out in
+    let is : IsShaped words dst c.args.src.now c.args.token.now = search (rules, c.is_shaped.ensures, c.if-not-is_shaped) in
+    let same : laid_said k c.laid_length_len.result words dst src token ≡ said_bytes words.length_len (clear_by k words.flags) (head_said k words dst src token) =
+    bytes_said k c.laid_length_len.result words dst src token is.numbered c.requires.kind c.laid_length_len.ensures.same in
+    let front : take n new ≡ laid_said k c.laid_length_len.result words dst src token = c.lay.ensures.front
+    ∙ laid_as k c.first_word.result c.laid_length_len.result words dst src token c.written_part-number.result c.first_word.ensures c.written_part-number.ensures.value in
+    let back : drop n new ≡ drop n c.args.dest.now = c.lay.ensures.back (record { dst = refl; src = refl }) in
+    let within : n ≤ length new = search rules in
+    let all = written n c.args.dest.now new _ _ within front back same in
+    let count : to_z w64 n ≡ pos n = search rules in
+    inr (inr (
+      n,
+      count,
+      record {
+        clear = clear_by k words.flags;
+        head = head_said k words dst src token;
+        can = can_said k words dst c.args.src.now c.args.token.now src token is c.requires.kind c.source_of-source.ensures.has c.token_of-own.ensures.has;
+        front = all.0;
+        count_is = all.1;
+      },
+    ))

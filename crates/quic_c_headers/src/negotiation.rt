@@ -1,0 +1,165 @@
+//! Version negotiation packets, whose ids may have up to 255 bytes (RFC 8999, section 6; RFC 9000, section 17.2.1).
+ghost use Rattle.std.specs.Prelude.{◌≡◌, ◌+◌, ◌*◌, ◌^◌, ◌<◌, ◌≤◌, ◌⊎◌, ◌↔◌, ◌++◌, ℕ, List, length, take, drop, pos, negsuc, IfSome, MatchOption};
+ghost use Rattle.quic_base.specs.ConnectionId.{long_id};
+ghost use Rattle.quic_c_headers.specs.Negotiation.{negotiation_bytes, negotiation_words, version_bytes, IsNegotiation};
+ghost use Rattle.quic_c_headers.specs.Reading.{Told};
+
+use crate::words::HeadWords;
+use crate::write::first_word;
+use quic_base::coding::{are_bytes, lay_array};
+use quic_header_encode::long_type::HeadKind;
+
+// The id that bytes begin with, behind its length, and what follows it.
+#[inline(always)]
+fn split_id(bytes: &[u8]) -> Option<(&[u8], &[u8])>
+    ensures read { MatchOption result ((id rest : List ℕ) → bytes.now ≡ long_id id ++ rest → ⊥)
+        (λ parts. bytes.now ≡ long_id parts.0.now ++ parts.1.now) }
+    ensures few { IfSome result (λ parts. length parts.0.now ≤ 255) }
+{
+    let (len, rest) = bytes.split_first()?;
+    rest.split_at_checked(usize::from(*len))
+}
+
+// The ids of the version negotiation that bytes begin with.
+#[inline(always)]
+fn ids_of(packet: &[u8]) -> Option<(&[u8], &[u8])>
+    ensures read { MatchOption result ((dst src rest : List ℕ) → IsNegotiation packet.now dst src rest → ⊥)
+        (λ ids. (rest : List ℕ) × IsNegotiation packet.now ids.0.now ids.1.now rest) }
+    ensures dst_few { IfSome result (λ ids. length ids.0.now ≤ 255) }
+    ensures src_few { IfSome result (λ ids. length ids.1.now ≤ 255) }
+{
+    let (first, behind) = packet.split_first()?;
+    let (version, behind) = behind.split_first_chunk::<4>()?;
+    are_bytes(version);
+    if *first < 0x80 || u32::from_be_bytes(*version) != 0 {
+        return None;
+    }
+    let (dst, behind) = split_id(behind)?;
+    let (src, _versions) = split_id(behind)?;
+    Some((dst, src))
+}
+
+/// Reads the head of the version negotiation that a packet begins with, whose ids have up to 255 bytes; the versions
+/// stand behind the head, up to the packet's end. It answers 0 with the head; -3 just where none begins there: the
+/// highest bit of the first byte is clear, the version isn't 0, or the bytes end within the ids; -1 just where there
+/// are 2^32 bytes or more. `head` changes with 0 alone. Where both ids have at most 20 bytes, it is what
+/// `quic_wire_head_read_` tells.
+#[unsafe(no_mangle)]
+pub extern "C" fn quic_wire_negotiation_read_(packet: &[u8], head: &mut HeadWords) -> i32
+    ensures answers { (result ≡ pos 0) ⊎ (result ≡ negsuc 2) ⊎ (result ≡ negsuc 0) }
+    ensures invalid { (result ≡ negsuc 0) ↔ (2 ^ 32 ≤ length packet.now) }
+    ensures read { result ≡ pos 0 → (dst src rest : List ℕ) × IsNegotiation packet.now dst src rest }
+    ensures told { result ≡ pos 0 → (dst src rest : List ℕ) → IsNegotiation packet.now dst src rest
+        → head.new ≡ negotiation_words packet.now dst src }
+    ensures none { result ≡ negsuc 2 → (dst src rest : List ℕ) → IsNegotiation packet.now dst src rest → ⊥ }
+    ensures same { (result ≡ pos 0) ⊎ (head.new ≡ head.old) }
+    // It is what is told of heads of all kinds.
+    ensures agrees { result ≡ pos 0 → head.new.dst_len ≤ 20 → head.new.src_len ≤ 20
+        → (id_len : ℕ) (versions : List ℕ) → Told id_len versions packet.now head.old 0 head.new }
+{
+    if packet.len() > u32::MAX as usize {
+        return -1;
+    }
+    let Some((dst, src)) = ids_of(packet) else {
+        return -3;
+    };
+    *head = HeadWords {
+        kind: 5,
+        first: packet[0],
+        dst_len: dst.len() as u8,
+        src_len: src.len() as u8,
+        version: 0,
+        head_end: (7 + dst.len() + src.len()) as u32,
+        end: packet.len() as u32,
+        token: 0,
+        token_len: 0,
+        len: 0,
+    };
+    0
+}
+
+// Lays an id behind its length, and answers where it ends.
+#[inline(always)]
+fn lay_id(dest: &mut [u8], at: usize, id: &[u8]) -> usize
+    requires few { length id.now ≤ 255 }
+    requires room { at + (1 + length id.now) ≤ length dest.old }
+    ensures end { result ≡ at + (1 + length id.now) }
+    ensures front { take result dest.new ≡ take at dest.old ++ long_id id.now }
+    ensures back { drop result dest.new ≡ drop result dest.old }
+    ensures len { length dest.new ≡ length dest.old }
+{
+    let at = lay_array(dest, at, [id.len() as u8]);
+    let end = at + id.len();
+    dest[at..end].copy_from_slice(id);
+    end
+}
+
+// Lays versions at a place, and answers where they end.
+#[inline(always)]
+#[tactic(auto, unfolding(quic_base::specs::Number::bytes_of))]
+fn lay_versions(dest: &mut [u8], at: usize, versions: &[u32]) -> usize
+    requires { at + 4 * length versions.now ≤ length dest.old }
+    ensures end { result ≡ at + 4 * length versions.now }
+    ensures front { take result dest.new ≡ take at dest.old ++ version_bytes versions.now }
+    ensures back { drop result dest.new ≡ drop result dest.old }
+    ensures len { length dest.new ≡ length dest.old }
+{
+    let mut at = at;
+    for version in versions {
+        at = lay_array(dest, at, version.to_be_bytes());
+    }
+    at
+}
+
+// Lays the packet at the front, and answers how many bytes it has.
+#[inline(always)]
+fn lay_packet(first: u8, dst: &[u8], src: &[u8], versions: &[u32], dest: &mut [u8]) -> usize
+    requires dst_few { length dst.now ≤ 255 }
+    requires src_few { length src.now ≤ 255 }
+    requires room { 7 + length dst.now + length src.now + 4 * length versions.now ≤ length dest.old }
+    ensures end { result ≡ 7 + length dst.now + length src.now + 4 * length versions.now }
+    ensures wrote { dest.new ≡ negotiation_bytes first dst.now src.now versions.now ++ drop result dest.old }
+{
+    let at = lay_array(dest, 0, [first_word(HeadKind::VersionNegotiate, first)]);
+    let at = lay_array(dest, at, [0; 4]);
+    let at = lay_id(dest, at, dst);
+    let at = lay_id(dest, at, src);
+    lay_versions(dest, at, versions)
+}
+
+/// Writes a version negotiation at the front of `dest`: the first byte, with its highest bit set, version 0, the ids
+/// of the receiver and of the sender, each behind its length, and the versions. It answers 0 with how many bytes were
+/// written, and what stood behind them stays; -4 with how many are needed where `dest` has fewer; -1 just where an id
+/// has more than 255 bytes. `dest` changes with 0 alone, and `written` not with -1.
+#[unsafe(no_mangle)]
+pub extern "C" fn quic_wire_negotiation_write_(
+    first: u8,
+    dst: &[u8],
+    src: &[u8],
+    versions: &[u32],
+    dest: &mut [u8],
+    written: &mut usize,
+) -> i32
+    ensures answers { (result ≡ pos 0) ⊎ (result ≡ negsuc 3) ⊎ (result ≡ negsuc 0) }
+    ensures invalid { (result ≡ negsuc 0) ↔ ((255 < length dst.now) ⊎ (255 < length src.now)) }
+    ensures wrote { result ≡ pos 0
+        → dest.new ≡ negotiation_bytes first dst.now src.now versions.now ++ drop written.new dest.old }
+    ensures count { (result ≡ negsuc 0) ⊎ (written.new ≡ length (negotiation_bytes first dst.now src.now versions.now)) }
+    ensures room { result ≡ negsuc 3 → length dest.old < length (negotiation_bytes first dst.now src.now versions.now) }
+    ensures same { (result ≡ pos 0) ⊎ (dest.new ≡ dest.old) }
+    ensures kept { result ≡ negsuc 0 → written.new ≡ written.old }
+    // It is read back.
+    ensures again { result ≡ pos 0
+        → IsNegotiation (take written.new dest.new) dst.now src.now (version_bytes versions.now) }
+{
+    if dst.len() > 255 || src.len() > 255 {
+        return -1;
+    }
+    let needed = 7 + dst.len() + src.len() + 4 * versions.len();
+    *written = needed;
+    if dest.len() < needed {
+        return -4;
+    }
+    lay_packet(first, dst, src, versions, dest);
+    0
+}

@@ -1,0 +1,122 @@
+//! Numbers of variable length, and packet numbers.
+ghost use Rattle.std.specs.Prelude.{◌≡◌, ◌+◌, ◌-◌, ◌*◌, ◌%◌, ◌^◌, ◌<◌, ◌≤◌, ◌⊎◌, ◌↔◌, ◌++◌, ℕ, List, length, take, drop, pos, negsuc};
+ghost use Rattle.quic_base.specs.Codec.{NoFront, Takes};
+ghost use Rattle.quic_base.specs.Varint.{Encodes};
+ghost use Rattle.quic_crypto.specs.PacketNumbers.{Expands, SizeFor};
+ghost use Rattle.quic_c_headers.specs.Numbers.{least_width, encoding, CanExpand, CanEncode, IsWidth};
+
+use quic_base::coding::lay_array;
+use quic_base::varint::split_var;
+use quic_crypto::packet_number::PacketNumber;
+
+/// Reads the number that bytes begin with (RFC 9000, section 16), and answers how many bytes it takes; 0 just where
+/// they end within it, and then `value` stays.
+#[unsafe(no_mangle)]
+pub extern "C" fn quic_wire_varint_read_(bytes: &[u8], value: &mut u64) -> usize
+    ensures read { 0 < result → Takes (Encodes value.new) bytes.now (drop result bytes.now) }
+    ensures within { result ≤ length bytes.now }
+    ensures none { result ≡ 0 → ((v : ℕ) → NoFront (Encodes v) bytes.now) × (value.new ≡ value.old) }
+{
+    match split_var(bytes) {
+        Some((number, rest)) => {
+            *value = number;
+            bytes.len() - rest.len()
+        }
+        None => 0,
+    }
+}
+
+// The least width in which a number is encoded.
+#[inline(always)]
+fn least_width(value: u64) -> usize
+    ensures { result ≡ least_width value }
+{
+    if value < 1 << 6 {
+        1
+    } else if value < 1 << 14 {
+        2
+    } else if value < 1 << 30 {
+        4
+    } else {
+        8
+    }
+}
+
+// Lays a number in a width that it fits.
+#[inline(always)]
+#[tactic(auto, unfolding(quic_base::specs::Number::bytes_of))]
+fn lay_encoding(value: u64, width: usize, dest: &mut [u8]) -> usize
+    requires numeric { value < 2 ^ 62 }
+    requires room { width ≤ length dest.old }
+    requires fits { least_width value ≤ width }
+    ensures wrote { (result ≡ 0) ⊎ ((result ≡ width) × IsWidth width × (take result dest.new ≡ encoding width value)) }
+    ensures back { drop result dest.new ≡ drop result dest.old }
+    ensures none { result ≡ 0 → IsWidth width → ⊥ }
+    ensures same { (0 < result) ⊎ (dest.new ≡ dest.old) }
+{
+    match width {
+        1 => lay_array(dest, 0, [value as u8]),
+        2 => lay_array(dest, 0, (value as u16 + (1 << 14)).to_be_bytes()),
+        4 => lay_array(dest, 0, (value as u32 + (2 << 30)).to_be_bytes()),
+        8 => lay_array(dest, 0, (value + (3 << 62)).to_be_bytes()),
+        _ => 0,
+    }
+}
+
+/// Writes a number at the front of `dest` in `width` bytes, 1, 2, 4 or 8, or in as few as it takes if that is 0 (RFC
+/// 9000, section 16), and answers how many; what stands behind them stays. It answers 0 just where there is no such
+/// width, the number doesn't fit in it, as from 2^62 on, or `dest` has fewer bytes; then nothing changes.
+#[unsafe(no_mangle)]
+pub extern "C" fn quic_wire_varint_write_(value: u64, width: u32, dest: &mut [u8]) -> usize
+    ensures wrote { (result ≡ 0)
+        ⊎ (Encodes value (encoding result value) × (dest.new ≡ encoding result value ++ drop result dest.old)) }
+    ensures width { (result ≡ 0) ⊎ CanEncode value width (length dest.old) result }
+    ensures none { result ≡ 0 → (n : ℕ) → CanEncode value width (length dest.old) n → ⊥ }
+    ensures same { (0 < result) ⊎ (dest.new ≡ dest.old) }
+{
+    let least = least_width(value);
+    let width = if width == 0 { least } else { width as usize };
+    if value >= 1 << 62 || width < least || dest.len() < width {
+        return 0;
+    }
+    lay_encoding(value, width, dest)
+}
+
+/// How many bytes of the number of a packet are written whose receiver has acknowledged `largest_acked`, as quinn-proto
+/// chooses them: 1 to 4 as twice the distance is below 2^8, 2^16, 2^24 or 2^32. Whoever expects a number from
+/// the acknowledged one to the one behind `number` finds `number` then (RFC 9000, appendix A.3). It answers -1 just
+/// where `largest_acked` is above `number`, or 2^31 or more below it.
+#[unsafe(no_mangle)]
+pub extern "C" fn quic_wire_number_len_(number: u64, largest_acked: u64) -> i32
+    ensures invalid { (result ≡ negsuc 0) ↔ ((number < largest_acked) ⊎ (largest_acked + 2 ^ 31 ≤ number)) }
+    ensures chosen { (result ≡ negsuc 0)
+        ⊎ ((size : ℕ) × (result ≡ pos size) × (1 ≤ size) × (size ≤ 4) × SizeFor (number - largest_acked) size
+        × ((expected m : ℕ) → largest_acked ≤ expected → expected ≤ number + 1
+        → Expands (number % 2 ^ (8 * size)) (2 ^ (8 * size)) expected m → m ≡ number)) }
+{
+    if number < largest_acked || number - largest_acked >= 1 << 31 {
+        return -1;
+    }
+    PacketNumber::new(number, largest_acked).len() as i32
+}
+
+/// The whole number of which the low `count` bytes are written, 1 to 4, by the one that is expected next (RFC 9000,
+/// appendix A.3); `u64::MAX` just where there are more or no such bytes, `low` takes more, or `expected` is 2^62 or
+/// more. As of `PacketNumber::expand`, the number may be 2^62 or more where appendix A.3 gives one below.
+#[unsafe(no_mangle)]
+pub extern "C" fn quic_wire_number_expand_(low: u64, count: u32, expected: u64) -> u64
+    ensures expanded { CanExpand low count expected
+        → Expands low (2 ^ (8 * count)) expected result × (result < 2 ^ 63) }
+    ensures none { (CanExpand low count expected → ⊥) → result ≡ 2 ^ 64 - 1 }
+{
+    if expected >= 1 << 62 {
+        return u64::MAX;
+    }
+    match count {
+        1 if low < 1 << 8 => PacketNumber::U8(low as u8).expand(expected),
+        2 if low < 1 << 16 => PacketNumber::U16(low as u16).expand(expected),
+        3 if low < 1 << 24 => PacketNumber::U24(low as u32).expand(expected),
+        4 if low < 1 << 32 => PacketNumber::U32(low as u32).expand(expected),
+        _ => u64::MAX,
+    }
+}

@@ -1,0 +1,143 @@
+//! Protection is put on heads and taken off, by masks that the caller makes (RFC 9001, section 5.4).
+ghost use Rattle.std.specs.Prelude.{◌≡◌, ◌⊎◌, ◌↔◌, ◌<◌, ◌≤◌, ◌+◌, ◌^◌, ℕ, pos, negsuc, length, slice_index, slice_set, IsTrue};
+ghost use Rattle.quic_crypto.specs.Keys.{number_len};
+ghost use Rattle.quic_crypto.specs.PacketNumbers.{number_size};
+ghost use Rattle.quic_header_encode.specs.Laying.{with_len, TakesLen};
+ghost use Rattle.quic_c_headers.specs.Protecting.{masked};
+ghost use Rattle.quic_c_headers.specs.Unprotecting.{unmasked_first, unmasked_at, unmasked, GivesNumber, HasNumber, StandsAt};
+
+use quic_crypto::packet_number::PacketNumber;
+use quic_header_encode::lay::set_len;
+
+// Puts a mask on the first byte: on five bits in a short head, on four in a long one.
+#[inline(always)]
+fn mask_first(packet: &mut [u8], mask: &[u8; 5]) -> u8
+    requires { 0 < length packet.old }
+    ensures first { result ≡ unmasked_first mask.now (slice_index packet.old 0) }
+    ensures put { packet.new ≡ slice_set packet.old 0 result }
+{
+    let bits = if packet[0] < 0x80 {
+        mask[0] % 32
+    } else {
+        mask[0] % 16
+    };
+    let first = packet[0] ^ bits;
+    packet[0] = first;
+    first
+}
+
+// Puts a mask on as many bytes from a place on as the number has.
+#[inline(always)]
+fn mask_number(packet: &mut [u8], at: usize, mask: &[u8; 5], count: usize)
+    requires inside { at + 4 ≤ length packet.old }
+    requires some { 1 ≤ count }
+    requires few { count ≤ 4 }
+    ensures put { packet.new ≡ unmasked_at at mask.now count packet.old }
+    ensures len { length packet.new ≡ length packet.old }
+{
+    packet[at] ^= mask[1];
+    if count >= 2 {
+        packet[at + 1] ^= mask[2];
+    }
+    if count >= 3 {
+        packet[at + 2] ^= mask[3];
+    }
+    if count >= 4 {
+        packet[at + 3] ^= mask[4];
+    }
+}
+
+// Takes the protection off the head of a packet whose number begins at a place, and answers the number that is written.
+#[inline(always)]
+fn unmask(packet: &mut [u8], at: usize, mask: &[u8; 5]) -> PacketNumber
+    requires { HasNumber at (length packet.old) }
+    ensures put { packet.new ≡ unmasked at mask.now packet.old }
+    ensures size { number_size result ≡ number_len (unmasked_first mask.now (slice_index packet.old 0)) }
+    ensures stands { StandsAt result at packet.new }
+{
+    let count = PacketNumber::decode_len(mask_first(packet, mask));
+    mask_number(packet, at, mask, count);
+    let mut rest = &packet[at..];
+    let Ok(written) = PacketNumber::decode(count, &mut rest) else {
+        unreachable!()
+    };
+    written
+}
+
+// Whether a number of up to four bytes can begin at a place behind the first byte.
+#[inline(always)]
+fn has_number(packet: &[u8], place: usize) -> bool
+    ensures { IsTrue result ↔ HasNumber place (length packet.now) }
+{
+    packet.len() >= 4 && place != 0 && place <= packet.len() - 4
+}
+
+/// Takes the protection off the head of a packet whose number begins at `place`, by the mask that the caller made of
+/// the sample (RFC 9001, section 5.4.1), and gives the number by the one that is `expected` next (RFC 9000, appendix
+/// A.3). It answers how many bytes the number has: the payload begins behind them. It answers -1 just where
+/// `expected` is 2^62 or more; -3 just where it isn't and the place is 0 or has fewer than four bytes behind it.
+/// Nothing changes then, and otherwise the low bits of the first byte, five in a short head and four in a long one,
+/// and the number's bytes.
+#[unsafe(no_mangle)]
+pub extern "C" fn quic_wire_unprotect_(
+    packet: &mut [u8],
+    place: usize,
+    mask: &[u8; 5],
+    expected: u64,
+    number: &mut u64,
+) -> i32
+    ensures opened { (result ≡ negsuc 2) ⊎ (result ≡ negsuc 0)
+        ⊎ ((count : ℕ) × (result ≡ pos count)
+        × GivesNumber place mask.now expected packet.old packet.new number.new count) }
+    ensures short { (result ≡ negsuc 2) ↔ ((expected < 2 ^ 62) × (HasNumber place (length packet.old) → ⊥)) }
+    ensures invalid { (result ≡ negsuc 0) ↔ (2 ^ 62 ≤ expected) }
+    ensures same { (result ≡ negsuc 2) ⊎ (result ≡ negsuc 0) → (packet.new ≡ packet.old) × (number.new ≡ number.old) }
+{
+    if expected >= 1 << 62 {
+        return -1;
+    }
+    if !has_number(packet, place) {
+        return -3;
+    }
+    let written = unmask(packet, place, mask);
+    *number = written.expand(expected);
+    written.len() as i32
+}
+
+/// Puts the protection on the head of a packet whose payload is sealed and whose number begins at `place`, by the
+/// mask that the caller made of the sample (RFC 9001, section 5.4.1), and answers how many bytes the number has. It
+/// answers -3 just where the place is 0 or has fewer than four bytes behind it, and then nothing changes. Taking
+/// protection off by the same mask gives the bytes that were there.
+#[unsafe(no_mangle)]
+pub extern "C" fn quic_wire_protect_(packet: &mut [u8], place: usize, mask: &[u8; 5]) -> i32
+    ensures answers { (result ≡ negsuc 2) ⊎ (result ≡ pos (number_len (slice_index packet.old 0))) }
+    ensures protected { (result ≡ negsuc 2) ⊎ (packet.new ≡ masked place mask.now packet.old) }
+    ensures back { (result ≡ negsuc 2) ⊎ (unmasked place mask.now packet.new ≡ packet.old) }
+    ensures short { (result ≡ negsuc 2) ↔ (HasNumber place (length packet.old) → ⊥) }
+    ensures same { result ≡ negsuc 2 → packet.new ≡ packet.old }
+{
+    if !has_number(packet, place) {
+        return -3;
+    }
+    let count = PacketNumber::decode_len(packet[0]);
+    mask_first(packet, mask);
+    mask_number(packet, place, mask, count);
+    count as i32
+}
+
+/// Sets the length in the head of a packet whose number begins at `place`, to how many bytes it has from there on:
+/// `length_len` bytes before the place, 2 or 4 (RFC 9000, section 17.2). It answers 0; -1 just where it is another
+/// count of them, there is no such place, or there are 2^14 or 2^30 bytes or more, and then nothing changes.
+#[unsafe(no_mangle)]
+pub extern "C" fn quic_wire_set_len_(packet: &mut [u8], place: usize, length_len: u32) -> i32
+    ensures answers { (result ≡ pos 0) ⊎ (result ≡ negsuc 0) }
+    ensures set { result ≡ pos 0 → packet.new ≡ with_len length_len place packet.old }
+    ensures taken { (result ≡ pos 0) ↔ TakesLen length_len place (length packet.old) }
+    ensures same { (result ≡ pos 0) ⊎ (packet.new ≡ packet.old) }
+{
+    if set_len(packet, place, length_len as usize) {
+        0
+    } else {
+        -1
+    }
+}

@@ -1,0 +1,290 @@
+//! Heads, written from words into the caller's bytes.
+ghost use Rattle.std.specs.Prelude.{◌≡◌, ◌≢◌, ◌+◌, ◌%◌, ◌^◌, ◌<◌, ◌≤◌, ◌⊎◌, ◌↔◌, ◌++◌, ℕ, [], IsTrue, length, take, drop, replicate, pos, negsuc};
+ghost use Rattle.quic_base.specs.Number.{bytes_of};
+ghost use Rattle.quic_crypto.specs.PacketNumbers.{IsInRange};
+ghost use Rattle.quic_header_encode.specs.Laying.{token_by, token_size, IsTyped};
+ghost use Rattle.quic_header_encode.specs.Starts.{long_front};
+ghost use Rattle.quic_c_headers.specs.Heads.{part_of};
+ghost use Rattle.quic_c_headers.specs.Reading.{kind_word};
+ghost use Rattle.quic_c_headers.specs.Shapes.{first_word, numbered_bytes, numbered_first, numbered_size, AreParts, IsNumbered, IsShaped};
+ghost use Rattle.quic_c_headers.specs.Written.{short_words, HasReserved, NeedsMore, SaysNone, Wrote};
+
+use crate::words::SaidWords;
+use quic_crypto::packet_number::PacketNumber;
+use quic_header_encode::fields::lay_low;
+use quic_header_encode::lay::{Exact, HeaderRef, lay_long_start, lay_no_length, lay_short, lay_token};
+use quic_header_encode::long_type::HeadKind;
+
+// Whether the number, the count of its bytes and that of the length's are those of a head of the kind.
+#[inline(always)]
+fn is_numbered(said: &SaidWords) -> bool
+    requires { said.now.kind ≤ 5 }
+    ensures { IsTrue result ↔ IsNumbered said.now }
+{
+    if said.kind == 3 || said.kind == 5 {
+        return true;
+    }
+    let fits = said.kind == 4 || said.length_len == 2 || said.length_len == 4;
+    0 < said.number_len && said.number_len <= 4 && said.number < 1 << 62 && fits
+}
+
+// Whether the ids and the token are those of a head of the kind.
+#[inline(always)]
+fn are_parts(kind: u8, dst: &[u8], src: &[u8], token: &[u8]) -> bool
+    ensures { IsTrue result ↔ AreParts kind dst.now src.now token.now }
+{
+    dst.len() <= 20 && (kind == 4 || src.len() <= 20) && (kind != 0 || token.len() < 1 << 62)
+}
+
+// Whether the words, the ids and the token are those of a head of the kind.
+#[inline(always)]
+fn is_shaped(said: &SaidWords, dst: &[u8], src: &[u8], token: &[u8]) -> bool
+    ensures { IsTrue result ↔ IsShaped said.now dst.now src.now token.now }
+{
+    said.kind <= 5
+        && (said.kind >= 4 || said.version != 0)
+        && is_numbered(said)
+        && are_parts(said.kind, dst, src, token)
+}
+
+// The sender's id, of heads that have one.
+#[inline(always)]
+fn source_of<'a>(kind: u8, src: &'a [u8]) -> &'a [u8]
+    ensures has { kind ≢ 4 → result.now ≡ src.now }
+    ensures none { kind ≡ 4 → result.now ≡ [] }
+{
+    if kind == 4 { &[] } else { src }
+}
+
+// The token, of heads that have one.
+#[inline(always)]
+fn token_of<'a>(kind: u8, token: &'a [u8]) -> &'a [u8]
+    ensures has { kind ≡ 0 → result.now ≡ token.now }
+    ensures none { kind ≢ 0 → result.now ≡ [] }
+{
+    if kind == 0 { token } else { &[] }
+}
+
+// The part of a number that is written in one to four bytes.
+#[inline(always)]
+fn written_part(number: u64, len: u8) -> PacketNumber
+    ensures value { result ≡ part_of len number }
+    ensures valid { IsInRange result }
+{
+    match len {
+        2 => PacketNumber::U16((number % (1 << 16)) as u16),
+        3 => PacketNumber::U24((number % (1 << 24)) as u32),
+        4 => PacketNumber::U32((number % (1 << 32)) as u32),
+        _ => PacketNumber::U8((number % (1 << 8)) as u8),
+    }
+}
+
+// What the first byte has beside its type and number.
+#[inline(always)]
+pub(crate) fn first_word(kind: HeadKind, flags: u8) -> u8
+    ensures { result ≡ first_word kind flags }
+{
+    let clear = 64 * (flags / 64 % 2);
+    match kind {
+        HeadKind::Short => 64 - clear + 32 * (flags / 32 % 2) + 4 * (flags / 4 % 2),
+        HeadKind::VersionNegotiate => 128 | (flags % 128),
+        _ => 192 - clear,
+    }
+}
+
+// How many bytes of length are laid, where the head says one.
+#[inline(always)]
+fn laid_length_len(said: &SaidWords) -> usize
+    ensures known { (result ≡ 2) ⊎ (result ≡ 4) }
+    ensures same { (said.now.length_len ≡ 2) ⊎ (said.now.length_len ≡ 4) → result ≡ said.now.length_len }
+{
+    if said.length_len == 4 { 4 } else { 2 }
+}
+
+/// Writes a short head of a first byte, whose lowest two bits say how many bytes of the number are written, at the
+/// front of `dest`, as `quic_wire_head_write_` does, and answers how many bytes it has. It answers -4 where `dest`
+/// has fewer; -1 just where no such head can be written: the first byte is above 0x7f or has a reserved bit, the id
+/// has more than 20 bytes, or the number is 2^62 or more. What stood behind the head stays, and all of it where
+/// nothing was written.
+#[unsafe(no_mangle)]
+pub extern "C" fn quic_wire_short_write_(
+    first: u32,
+    number: u64,
+    dst: &[u8],
+    dest: &mut [u8],
+) -> i32
+    ensures wrote { (result ≡ negsuc 3) ⊎ (result ≡ negsuc 0) ⊎ ((count : ℕ) × (result ≡ pos count)
+        × Wrote (short_words first number) dst.now [] [] dest.old dest.new count) }
+    ensures room { result ≡ negsuc 3 → NeedsMore (short_words first number) dst.now [] [] (length dest.old) }
+    ensures refused { result ≡ negsuc 0 → HasReserved first ⊎ SaysNone (short_words first number) dst.now [] [] }
+    ensures plain { (result ≡ negsuc 0) ⊎ (HasReserved first → ⊥) }
+    ensures same { (result ≡ negsuc 3) ⊎ (result ≡ negsuc 0) → dest.new ≡ dest.old }
+{
+    let count = (first % 4 + 1) as usize;
+    if first >= 128 || first / 8 % 4 != 0 || number >= 1 << 62 || dst.len() > 20 {
+        return -1;
+    }
+    if dest.len() < 1 + dst.len() + count {
+        return -4;
+    }
+    let at = lay_short(dest, first as u8, Exact(dst));
+    lay_low(dest, at, number, count) as i32
+}
+
+// Lays a long head up to its ids' end at the front.
+#[inline(always)]
+fn lay_front(kind: HeadKind, said: &SaidWords, dst: &[u8], src: &[u8], dest: &mut [u8]) -> usize
+    requires typed { IsTyped kind }
+    requires some { 1 ≤ said.now.number_len }
+    requires few { said.now.number_len ≤ 4 }
+    requires dst_few { length dst.now ≤ 20 }
+    requires src_few { length src.now ≤ 20 }
+    requires room { 7 + length dst.now + length src.now ≤ length dest.old }
+    ensures end { result ≡ 7 + length dst.now + length src.now }
+    ensures front { take result dest.new
+        ≡ long_front (numbered_first kind said.now) said.now.version dst.now src.now }
+    ensures back { drop result dest.new ≡ drop result dest.old }
+    ensures len { length dest.new ≡ length dest.old }
+{
+    let first = 192 - 64 * (said.flags / 64 % 2)
+        + kind.type_bits(said.version)
+        + (said.number_len - 1);
+    lay_long_start(dest, first, said.version, Exact(dst), Exact(src))
+}
+
+// Lays the token of an Initial head behind its length.
+#[inline(always)]
+fn lay_own_token(kind: HeadKind, dest: &mut [u8], at: usize, token: &[u8]) -> usize
+    requires numeric { length token.now < 2 ^ 62 }
+    requires room { at + token_size kind token.now ≤ length dest.old }
+    ensures end { result ≡ at + token_size kind token.now }
+    ensures front { take result dest.new ≡ take at dest.old ++ token_by kind token.now }
+    ensures back { drop result dest.new ≡ drop result dest.old }
+    ensures len { length dest.new ≡ length dest.old }
+{
+    match kind {
+        HeadKind::Initial => lay_token::<false>(dest, at, token),
+        _ => at,
+    }
+}
+
+// Lays a length, which is 0, and the number.
+#[inline(always)]
+fn lay_end(said: &SaidWords, dest: &mut [u8], at: usize) -> usize
+    requires known { (said.now.length_len ≡ 2) ⊎ (said.now.length_len ≡ 4) }
+    requires some { 1 ≤ said.now.number_len }
+    requires few { said.now.number_len ≤ 4 }
+    requires room { at + (said.now.length_len + said.now.number_len) ≤ length dest.old }
+    ensures end { result ≡ at + (said.now.length_len + said.now.number_len) }
+    ensures front { take result dest.new ≡ take at dest.old
+        ++ (replicate said.now.length_len 0 ++ bytes_of said.now.number_len said.now.number) }
+    ensures back { drop result dest.new ≡ drop result dest.old }
+    ensures len { length dest.new ≡ length dest.old }
+{
+    let at = lay_no_length(dest, at, said.length_len as usize);
+    lay_low(dest, at, said.number, said.number_len as usize)
+}
+
+// Lays the head of a packet with a number and a length at the front.
+#[inline(always)]
+fn lay_numbered(
+    kind: HeadKind,
+    said: &SaidWords,
+    dst: &[u8],
+    src: &[u8],
+    token: &[u8],
+    dest: &mut [u8],
+) -> usize
+    requires typed { IsTyped kind }
+    requires known { (said.now.length_len ≡ 2) ⊎ (said.now.length_len ≡ 4) }
+    requires some { 1 ≤ said.now.number_len }
+    requires few { said.now.number_len ≤ 4 }
+    requires dst_few { length dst.now ≤ 20 }
+    requires src_few { length src.now ≤ 20 }
+    requires numeric { length token.now < 2 ^ 62 }
+    requires room { numbered_size kind said.now dst.now src.now token.now ≤ length dest.old }
+    ensures end { result ≡ numbered_size kind said.now dst.now src.now token.now }
+    ensures front { take result dest.new ≡ numbered_bytes kind said.now dst.now src.now token.now }
+    ensures back { drop result dest.new ≡ drop result dest.old }
+    ensures len { length dest.new ≡ length dest.old }
+{
+    let at = lay_front(kind, said, dst, src, dest);
+    let at = lay_own_token(kind, dest, at, token);
+    lay_end(said, dest, at)
+}
+
+// Writes a head of a kind, as `quic_wire_head_write_` does.
+#[inline(always)]
+fn write_as(
+    kind: HeadKind,
+    said: &SaidWords,
+    dst: &[u8],
+    src: &[u8],
+    token: &[u8],
+    dest: &mut [u8],
+) -> i64
+    requires kind { kind_word kind ≡ said.now.kind }
+    ensures wrote { (result ≡ negsuc 3) ⊎ (result ≡ negsuc 0) ⊎ ((count : ℕ) × (result ≡ pos count)
+        × Wrote said.now dst.now src.now token.now dest.old dest.new count) }
+    ensures room { result ≡ negsuc 3 → NeedsMore said.now dst.now src.now token.now (length dest.old) }
+    ensures refused { result ≡ negsuc 0 → SaysNone said.now dst.now src.now token.now }
+    ensures same { (result ≡ negsuc 3) ⊎ (result ≡ negsuc 0) → dest.new ≡ dest.old }
+{
+    if !is_shaped(said, dst, src, token) {
+        return -1;
+    }
+    let number = written_part(said.number, said.number_len);
+    let source = source_of(said.kind, src);
+    let own = token_of(said.kind, token);
+    let head = HeaderRef {
+        kind,
+        first: first_word(kind, said.flags),
+        version: said.version,
+        dst_cid: Exact(dst),
+        src_cid: Exact(source),
+        token: own,
+        number: &number,
+        length_len: laid_length_len(said),
+    };
+    if !head.fits(dest.len()) {
+        return -4;
+    }
+    if kind.has_len() {
+        lay_numbered(kind, said, dst, src, own, dest) as i64
+    } else {
+        head.lay::<false>(dest) as i64
+    }
+}
+
+/// Writes the head that the words say with the ids of the receiver and of the sender and the token, with no
+/// protection on it, at the front of `dest` (RFC 9000, section 17), and answers how many bytes it has, at whose end
+/// the number stands. The length of an Initial, 0-RTT or Handshake packet is 0, until `quic_wire_set_len_`. What the
+/// kind lacks isn't looked at. What stood behind the head stays. It answers -4 where `dest` has fewer bytes; -1 just
+/// where they say no head that can be written: a kind above 5, an id of more than 20 bytes, a number of 2^62 or more
+/// or one that is written in no or more than four bytes, a length of other than 2 or 4 bytes, a token of 2^62 bytes,
+/// or version 0 in an Initial, 0-RTT, Handshake or Retry head, which would be a version negotiation (RFC 9000, section
+/// 17.2.1). Nothing changes then. A version negotiation is written with any low bits of its first byte.
+#[unsafe(no_mangle)]
+pub extern "C" fn quic_wire_head_write_(
+    said: &SaidWords,
+    dst: &[u8],
+    src: &[u8],
+    token: &[u8],
+    dest: &mut [u8],
+) -> i64
+    ensures wrote { (result ≡ negsuc 3) ⊎ (result ≡ negsuc 0) ⊎ ((count : ℕ) × (result ≡ pos count)
+        × Wrote said.now dst.now src.now token.now dest.old dest.new count) }
+    ensures room { result ≡ negsuc 3 → NeedsMore said.now dst.now src.now token.now (length dest.old) }
+    ensures refused { result ≡ negsuc 0 → SaysNone said.now dst.now src.now token.now }
+    ensures same { (result ≡ negsuc 3) ⊎ (result ≡ negsuc 0) → dest.new ≡ dest.old }
+{
+    match said.kind {
+        0 => write_as(HeadKind::Initial, said, dst, src, token, dest),
+        1 => write_as(HeadKind::ZeroRtt, said, dst, src, token, dest),
+        2 => write_as(HeadKind::Handshake, said, dst, src, token, dest),
+        3 => write_as(HeadKind::Retry, said, dst, src, token, dest),
+        4 => write_as(HeadKind::Short, said, dst, src, token, dest),
+        5 => write_as(HeadKind::VersionNegotiate, said, dst, src, token, dest),
+        _ => -1,
+    }
+}

@@ -1,0 +1,43 @@
+-- Where the blocks of an ACK stand in the bytes of its frame (RFC 9000, section 19.3).
+use Rattle.std.specs.Prelude.{◌≡◌, ◌≤◌, ℕ, ◌-◌, List, [], ◌∷◌, ◌++◌, length, Result, Ok, Err, ◌==◌, ◌||◌, if◌then◌else◌}
+use Rattle.quic_frame_fields.specs.declared.frame.ack.Ack.{Ack}
+use Rattle.quic_frame_fields.specs.Acks.{AckParts, parts_of, ranges_acked}
+use Rattle.quic_frame_fields.specs.Numbers.{AreEncoded}
+use Rattle.quic_frame_fields.specs.declared.frame.fault.Fault.{Fault}
+use Rattle.quic_frame_fields.specs.declared.frame.fault.Fault.TheVariants.{InvalidFrameId}
+use Rattle.quic_frame_fields.specs.Reading.{◌>>=◌, varint_at, blocks_at}
+
+-- The blocks of an ACK stand in the bytes of its frame: behind the type, the greatest number, the delay, and how many
+-- ranges are below the first.
+pub record BlocksStand (type : ℕ) (ack : Ack) (bytes : List ℕ) : Type 0 where
+  pub head : List ℕ
+  pub back : List ℕ
+  pub parts : bytes ≡ head ++ ((parts_of ack).additional ++ back)
+  pub numbers : AreEncoded (type ∷ (parts_of ack).largest ∷ (parts_of ack).delay ∷ (length (ranges_acked ack) - 1) ∷ []) head
+
+-- ---- as readers find them
+
+-- what follows the type: the greatest number, the delay, the blocks with their count
+abbrev pub behind_ack_type : List ℕ → Result (ℕ × List ℕ × List ℕ) Fault
+behind_ack_type bytes = do
+  largest ← varint_at bytes
+  delay ← varint_at largest.1
+  blocks ← blocks_at largest.0 delay.1
+  Ok (largest.0, blocks.0, blocks.1)
+
+-- the greatest number of an ACK, with counts or without, the bytes of its blocks, and what follows these
+unfoldable pub ack_at : List ℕ → Result (ℕ × List ℕ × List ℕ) Fault
+ack_at bytes = do
+  type ← varint_at bytes
+  if (type.0 == 2) || (type.0 == 3) then behind_ack_type type.1 else Err InvalidFrameId
+
+-- These are the greatest number, the delay and the blocks that the bytes behind a type begin with; no more is left of
+-- the bytes than follows the blocks.
+pub record ReadsBlocks (a : AckParts) (bytes left : List ℕ) : Type 0 where
+  pub behind_largest : List ℕ
+  pub behind_delay : List ℕ
+  pub behind_blocks : List ℕ
+  pub largest : varint_at bytes ≡ Ok (a.largest, behind_largest)
+  pub delay : varint_at behind_largest ≡ Ok (a.delay, behind_delay)
+  pub blocks : blocks_at a.largest behind_delay ≡ Ok (a.additional, behind_blocks)
+  pub fewer : length left ≤ length behind_blocks

@@ -1,0 +1,102 @@
+-- What a payload means (RFC 9000, section 12.4). The first argument of the relations says whether a type counts in its
+-- shortest encoding alone.
+use Rattle.std.specs.Prelude.{◌≡◌, ◌≢◌, ℕ, List, [], ◌∷◌, ◌++◌, Option, Some, None, Bool, true, false, ◌⊎◌}
+use Rattle.quic_base.specs.Varint.{Encodes, short}
+use Rattle.quic_frame_fields.specs.declared.frame.fault.Fault.{Fault}
+use Rattle.quic_frame_fields.specs.declared.frame.fault.Fault.TheVariants.{UnexpectedEnd, InvalidFrameId, LongType}
+use Rattle.quic_frame_fields.specs.Field.{Value, AreFields, StopsWithin, NoNumber}
+use Rattle.quic_frame_fields.specs.Table.{Name, Row, row_of, is_open}
+
+-- a frame: its name, and its values in the order of the wire
+pub record Meaning : Type 0 where
+  pub name : Name
+  pub values : List Value
+
+-- a frame as it stands: with the type that it has there
+pub record Found : Type 0 where
+  pub type : ℕ
+  pub frame : Meaning
+
+-- The bytes encode a type, where it is strict in no other width than the least.
+pub record IsType (strict : Bool) (t : ℕ) (bytes : List ℕ) : Type 0 where
+  pub encoded : Encodes t bytes
+  pub shortest : strict ≡ true → bytes ≡ short t
+
+-- The bytes encode the frame: its type, and then each field of the type's row.
+pub record IsFrame (strict : Bool) (found : Found) (bytes : List ℕ) : Type 0 where
+  pub type_bytes : List ℕ
+  pub field_bytes : List ℕ
+  pub parts : bytes ≡ type_bytes ++ field_bytes
+  pub type_encoded : IsType strict found.type type_bytes
+  pub row : Row
+  pub in_table : row_of found.type ≡ Some row
+  pub name : found.frame.name ≡ row.name
+  pub fields : AreFields row.fields [] found.frame.values field_bytes
+
+-- The bytes are these frames, an open one last only.
+abbrev pub AreFrames : Bool → List Found → List ℕ → Type 0
+AreFrames strict [] bytes = bytes ≡ []
+AreFrames strict (found ∷ others) bytes =
+    (front back : List ℕ) × (bytes ≡ front ++ back) × IsFrame strict found front × (is_open found.type ≡ true → back ≡ []) × AreFrames strict others back
+
+-- the last type, if there is one
+abbrev pub last_type : Option ℕ → List Found → Option ℕ
+last_type before [] = before
+last_type before (found ∷ others) = last_type (Some found.type) others
+
+abbrev pub AreClosed : List Found → Type 0
+AreClosed [] = Unit {0}
+AreClosed (found ∷ others) = (is_open found.type ≡ false) × AreClosed others
+
+-- A type stands first, and the rest is as P says.
+pub record BeginsWithType (strict : Bool) (bytes : List ℕ) (t : ℕ) (P : List ℕ → Type 0) : Type 0 where
+  pub front : List ℕ
+  pub back : List ℕ
+  pub parts : bytes ≡ front ++ back
+  pub encoded : IsType strict t front
+  pub then : P back
+
+-- No frame begins here: no type can be read,
+pub record LacksType (bytes : List ℕ) : Type 0 where
+  pub some : bytes ≢ []
+  pub no_front : NoNumber bytes
+
+-- or one in another width than the least, where that counts,
+pub record HasLongType (strict : Bool) (bytes : List ℕ) (t : ℕ) : Type 0 where
+  pub counts : strict ≡ true
+  pub front : List ℕ
+  pub back : List ℕ
+  pub parts : bytes ≡ front ++ back
+  pub encoded : Encodes t front
+  pub long : front ≢ short t
+
+-- or the type has no row,
+abbrev pub HasUnknownType : Bool → List ℕ → ℕ → Type 0
+HasUnknownType strict bytes t = BeginsWithType strict bytes t (λ back. row_of t ≡ None)
+
+-- or a field of the type's row can't be read.
+abbrev pub HasBrokenField : Bool → List ℕ → ℕ → Fault → Type 0
+HasBrokenField strict bytes t reason = BeginsWithType strict bytes t (λ back. (r : Row) × (row_of t ≡ Some r) × StopsWithin r.fields [] back reason)
+
+-- The type and the reason that are told of what can't be read, where the last type before was the one given.
+abbrev pub IsNoFrame : Bool → Option ℕ → List ℕ → Option ℕ → Fault → Type 0
+IsNoFrame strict before bytes type reason =
+    (LacksType bytes × (type ≡ before) × (reason ≡ UnexpectedEnd))
+    ⊎ ((t : ℕ) × HasLongType strict bytes t × (type ≡ Some t) × (reason ≡ LongType))
+    ⊎ ((t : ℕ) × HasUnknownType strict bytes t × (type ≡ Some t) × (reason ≡ InvalidFrameId))
+    ⊎ ((t : ℕ) × HasBrokenField strict bytes t reason × (type ≡ Some t))
+
+-- The bytes are these frames, and then something that isn't a frame.
+pub record IsBroken (strict : Bool) (before : Option ℕ) (found : List Found) (bytes : List ℕ) (type : Option ℕ) (reason : Fault) : Type 0 where
+  pub front : List ℕ
+  pub back : List ℕ
+  pub parts : bytes ≡ front ++ back
+  pub frames : AreFrames strict found front
+  pub closed : AreClosed found
+  pub no_frame : IsNoFrame strict (last_type before found) back type reason
+
+-- The bytes are frames, or frames and then something that isn't one.
+abbrev pub IsEither : Bool → Option ℕ → List ℕ → Type 0
+IsEither strict before bytes =
+    ((found : List Found) × AreFrames strict found bytes)
+    ⊎ ((found : List Found) × (type : Option ℕ) × (reason : Fault) × IsBroken strict before found bytes type reason)

@@ -1,0 +1,35 @@
+-- What an encoder does to the front of a slice.
+use Rattle.std.specs.Prelude.{◌≡◌, ℕ, ◌+◌, ◌<◌, List, ◌++◌, length, take, drop, Result, IfOk, OnErr, IfErr}
+use Rattle.quic_base.specs.Codec.{IsBegun, KeepsRoom}
+use Rattle.quic_frame_fields.specs.Numbers.{AreEncoded, all_short}
+
+-- The bytes stand at the front, with what stood behind them, and are counted; or there is less room than that, how
+-- much they need is told, and nothing changes.
+pub record Puts (result : Result ℕ ℕ) (bytes old new : List ℕ) : Type 0 where
+  pub count : IfOk result (λ n. n ≡ length bytes)
+  pub front : IfOk result (λ n. new ≡ bytes ++ drop n old)
+  pub needed : IfErr result (λ n. n ≡ length bytes)
+  pub full : OnErr result (length old < length bytes)
+  pub same : OnErr result (new ≡ old)
+
+-- The bytes stand from a place to where they end, with what stood before and behind them.
+pub record Lays (bytes : List ℕ) (at : ℕ) (old : List ℕ) (end : ℕ) (new : List ℕ) : Type 0 where
+  pub count : end ≡ at + length bytes
+  pub front : take end new ≡ take at old ++ bytes
+  pub back : drop end new ≡ drop end old
+
+-- ---- No public clause cites what follows.
+
+-- The bytes encode numbers, and the shortest encodings of these have so many bytes.
+pub record Shortens (encoded : List ℕ) (len : ℕ) : Type 0 where
+  pub numbers : List ℕ
+  pub encodes : AreEncoded numbers encoded
+  pub long : (ns : List ℕ) → AreEncoded ns encoded → len ≡ length (all_short ns)
+
+-- A beginning of what is held, the front of a chunk up to a place, was appended, and what is left of it stands at the
+-- front of the chunk, up to the answer; or there was less room than that.
+pub record Flushes {E : Type 0} (result : Result ℕ E) (at : ℕ) (chunk written : List ℕ) (spare : ℕ) (written' : List ℕ) (spare' : ℕ) : Type 0 where
+  pub begun : IsBegun written (take at chunk) written'
+  pub left : IfOk result (λ n. take n chunk ≡ begun.left)
+  pub full : OnErr result (spare < length (take at chunk))
+  pub room : KeepsRoom written spare written' spare'

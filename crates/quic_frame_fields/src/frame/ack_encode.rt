@@ -1,0 +1,213 @@
+//! Acknowledgements, written in their shortest form (RFC 9000, section 19.3).
+ghost use Rattle.std.specs.Prelude.{◌≡◌, ◌≢◌, ◌<◌, ◌≤◌, ◌+◌, ◌-◌, ◌/◌, ◌^◌, ◌∷◌, ◌++◌, [], ℕ, Bool, IfOk, true, length, take};
+ghost use Rattle.std.specs.Option.{option_copied};
+ghost use Rattle.quic_ranges.specs.Runs.{IsMaximalRuns, member};
+ghost use Rattle.quic_frame_fields.specs.Acks.{ranges_acked};
+ghost use Rattle.quic_frame_fields.specs.Parts.{ack_meaning};
+ghost use Rattle.quic_frame_fields.specs.Sets.{AreCounts, IsAckInRange, ranges_in, ack_of, ack_type, count_numbers, head_numbers};
+ghost use Rattle.quic_frame_fields.specs.Shortest.{shortest_frame, shortest_below};
+ghost use Rattle.quic_base.specs.Writing.{Writes};
+ghost use Rattle.quic_frame_fields.specs.Putting.{Flushes};
+ghost use Rattle.quic_frame_fields.specs.Numbers.{all_short};
+
+use super::ack::{Ack, EcnCounts};
+use super::write;
+use bytes::BufMut;
+use quic_base::coding::NoRoom;
+use quic_ranges::range_set::{ArrayRangeSet, Iter, RangeSet};
+use std::ops::Range;
+
+// How many bytes the array has in which numbers are put together, so that the room is looked at once for many.
+const CHUNK: usize = 64;
+
+impl Ack<'_> {
+    /// Appends an ACK of a set (RFC 9000, section 19.3). The caller must ensure that the set has a number, and
+    /// that its numbers, the delay and the counts are below 2^62. Answers `NoRoom` only where the spare
+    /// room is less than the frame; then what stood there stands, followed by a beginning of the frame.
+    /// It takes no memory.
+    pub fn encode<B: BufMut>(
+        delay: u64,
+        ranges: &ArrayRangeSet,
+        ecn: Option<&EcnCounts>,
+        out: &mut B,
+    ) -> Result<(), NoRoom>
+        requires some { ranges.now ≢ [] }
+        requires members { (n : ℕ) → member ranges.now n ≡ true → n < 2 ^ 62 }
+        requires delay { delay < 2 ^ 62 }
+        requires counts { AreCounts (option_copied ecn) }
+        ensures { (last : Bool)
+            → Writes result (shortest_frame last (ack_of delay ranges.now (option_copied ecn.entry)))
+            (B.written out.old) (B.spare out.old) (B.written out.new) (B.spare out.new) }
+    {
+        encode_runs(delay, ranges.iter(), ranges.len(), ecn.copied(), out)
+    }
+
+    /// Appends an ACK of a set that keeps its runs in a vector, with the conditions, the bytes and the refusal of
+    /// `Ack::encode`.
+    pub fn encode_from<B: BufMut>(
+        delay: u64,
+        set: &RangeSet,
+        ecn: Option<&EcnCounts>,
+        out: &mut B,
+    ) -> Result<(), NoRoom>
+        requires some { set.now ≢ [] }
+        requires members { (n : ℕ) → member set.now n ≡ true → n < 2 ^ 62 }
+        requires delay { delay < 2 ^ 62 }
+        requires counts { AreCounts (option_copied ecn) }
+        ensures { (last : Bool) → Writes result (shortest_frame last (ack_of delay set.now (option_copied ecn.entry)))
+            (B.written out.old) (B.spare out.old) (B.written out.new) (B.spare out.new) }
+    {
+        encode_runs(delay, set.iter(), set.len(), ecn.copied(), out)
+    }
+}
+
+// Appends an ACK of the runs of a set, of which there are `count`.
+fn encode_runs<B: BufMut>(
+    delay: u64,
+    runs: Iter<'_>,
+    count: usize,
+    ecn: Option<EcnCounts>,
+    out: &mut B,
+) -> Result<(), NoRoom>
+    requires maximal { IsMaximalRuns runs }
+    requires some { runs ≢ [] }
+    requires count { count ≡ length runs }
+    requires members { (n : ℕ) → member runs n ≡ true → n < 2 ^ 62 }
+    requires delay { delay < 2 ^ 62 }
+    requires counts { AreCounts ecn }
+    ensures { (last : Bool) → Writes result (shortest_frame last (ack_of delay runs.entry ecn))
+        (B.written out.old) (B.spare out.old) (B.written out.new) (B.spare out.new) }
+{
+    let mut runs = runs;
+    let Some(first) = runs.next_back() else {
+        unreachable!()
+    };
+    let greatest = first.end - 1;
+    let block = greatest - first.start;
+    let below = count as u64 - 1;
+    let mut chunk = [0; CHUNK];
+    let at = write::lay_numbers(&mut chunk, &[type_of(ecn), greatest, delay, below, block]);
+    encode_below(&mut chunk, at, first, runs, out)?;
+    encode_counts(ecn, out)
+}
+
+// The type of an ACK with these counts or with none.
+fn type_of(ecn: Option<EcnCounts>) -> u64
+    ensures { result ≡ ack_type ecn }
+{
+    if ecn.is_some() { 0x03 } else { 0x02 }
+}
+
+// Appends what is held where two numbers more may have no room behind it, and answers where these go.
+#[inline(always)]
+fn make_room<B: BufMut>(chunk: &[u8; CHUNK], at: usize, out: &mut B) -> Result<usize, NoRoom>
+    requires { at ≤ CHUNK }
+    ensures near { IfOk result (λ n. n + 16 ≤ CHUNK) }
+    ensures flushes { Flushes result at chunk.now
+        (B.written out.old) (B.spare out.old) (B.written out.new) (B.spare out.new) }
+{
+    if at <= CHUNK - 16 {
+        return Ok(at);
+    }
+    write::bytes(out, &chunk[..at])?;
+    Ok(0)
+}
+
+// Lays two numbers, one behind the other.
+#[inline(always)]
+fn lay_two(chunk: &mut [u8; CHUNK], at: usize, gap: u64, len: u64) -> usize
+    requires room { at + 16 ≤ CHUNK }
+    requires gap { gap < 2 ^ 62 }
+    requires len { len < 2 ^ 62 }
+    ensures near { result ≤ CHUNK }
+    ensures front { take result chunk.new ≡ take at chunk.old ++ all_short (gap ∷ len ∷ []) }
+{
+    let at = write::lay_number(chunk, at, gap);
+    write::lay_number(chunk, at, len)
+}
+
+// Appends what is held, the front of the chunk, and the runs below another one, the greatest first: for each the
+// numbers between it and the one above it, less one, and its numbers, less one. They are put together in the chunk.
+fn encode_below<B: BufMut>(
+    chunk: &mut [u8; CHUNK],
+    at: usize,
+    above: Range<u64>,
+    runs: Iter<'_>,
+    out: &mut B,
+) -> Result<(), NoRoom>
+    requires held { at ≤ CHUNK }
+    requires runs { IsMaximalRuns (runs ++ above ∷ []) }
+    requires bound { above.start < 2 ^ 62 }
+    ensures { Writes result (take at chunk.old ++ shortest_below above.start (ranges_in runs.entry))
+        (B.written out.old) (B.spare out.old) (B.written out.new) (B.spare out.new) }
+{
+    let mut at = at;
+    let mut above = above;
+    let mut runs = runs;
+    while let Some(run) = runs.next_back() {
+        at = make_room(chunk, at, out)?;
+        let gap = above.start - run.end - 1;
+        at = lay_two(chunk, at, gap, run.end - 1 - run.start);
+        above = run;
+    }
+    write::bytes(out, &chunk[..at])
+}
+
+// Appends the counts, where they are given.
+#[inline(always)]
+fn encode_counts<B: BufMut>(ecn: Option<EcnCounts>, out: &mut B) -> Result<(), NoRoom>
+    requires { AreCounts ecn }
+    ensures { Writes result (all_short (count_numbers ecn))
+        (B.written out.old) (B.spare out.old) (B.written out.new) (B.spare out.new) }
+{
+    match ecn {
+        None => Ok(()),
+        Some(counts) => counts.encode(out),
+    }
+}
+
+// How many bytes `encode_counts` appends.
+fn counts_len(ecn: Option<EcnCounts>) -> u128
+    requires { AreCounts ecn }
+    ensures value { result ≡ length (all_short (count_numbers ecn)) }
+    ensures small { result ≤ 24 }
+{
+    match ecn {
+        None => 0,
+        Some(counts) => write::numbers_len(&[counts.ect0, counts.ect1, counts.ce]),
+    }
+}
+
+// The numbers in front of the blocks: the type, the greatest number, the delay, and how many ranges are
+// below the first, where it is known how many numbers the blocks are.
+#[inline(always)]
+pub(super) fn head_of(ack: &Ack<'_>, numbers: u64) -> [u64; 4]
+    requires { numbers / 2 ≡ length (ranges_acked ack.now) - 1 }
+    ensures { result ≡ head_numbers ack.now }
+{
+    [type_of(ack.ecn()), ack.largest(), ack.delay(), numbers / 2]
+}
+
+/// Appends an acknowledgement that is held, whose numbers may have been encoded in any widths, as
+/// `Ack::encode` appends that of a set. It takes no memory.
+pub fn encode_ack<B: BufMut>(ack: &Ack<'_>, out: &mut B) -> Result<(), NoRoom>
+    requires { IsAckInRange ack.now }
+    ensures { (last : Bool) → Writes result (shortest_frame last (ack_meaning ack.now))
+        (B.written out.old) (B.spare out.old) (B.written out.new) (B.spare out.new) }
+{
+    let (numbers, blocks) = write::count_and_len(ack.additional());
+    write::numbers(out, &head_of(ack, numbers))?;
+    write::shortened(out, ack.additional(), blocks)?;
+    encode_counts(ack.ecn(), out)
+}
+
+/// How many bytes `encode_ack` appends.
+#[inline(always)]
+pub fn ack_len(ack: &Ack<'_>) -> u128
+    requires { IsAckInRange ack.now }
+    ensures { (last : Bool) → result ≡ length (shortest_frame last (ack_meaning ack.now)) }
+{
+    let (numbers, blocks) = write::count_and_len(ack.additional());
+    let head = write::numbers_len(&head_of(ack, numbers));
+    head + u128::from(blocks) + counts_len(ack.ecn())
+}

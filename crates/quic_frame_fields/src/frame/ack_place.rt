@@ -1,0 +1,43 @@
+//! Where the blocks of an ACK stand in the bytes of its frame (RFC 9000, section 19.3).
+ghost use Rattle.std.specs.Prelude.{◌≡◌, ◌<◌, ◌^◌, ◌++◌, List, ℕ, Ok, IfOk, IfSome, OnSome, IsNone, IsErr};
+ghost use Rattle.quic_frame_fields.specs.AckPlace.{ack_at};
+ghost use Rattle.quic_frame_fields.specs.Reading.{Gives, IsBlocks};
+
+use super::fault::Fault;
+use super::field::{blocks, varint};
+
+/// The greatest number of the ACK that the bytes begin with, the bytes of its blocks, and what follows these.
+/// `None` just where the type is another one, a number up to there is missing or cut off, or a block or a gap
+/// is too large. Counts aren't read. It takes no memory.
+pub fn split_ack(bytes: &[u8]) -> Option<(u64, &[u8], &[u8])>
+    ensures none { IsNone result → IsErr (ack_at bytes.now) }
+    ensures gives { IfSome result (λ x. ack_at bytes.now ≡ Ok (x.0, x.1.now, x.2.now)) }
+    ensures bound { IfSome result (λ x. x.0 < 2 ^ 62) }
+    ensures valid { IfSome result (λ x. IsBlocks x.0 x.1.now) }
+
+    // The blocks stand before what follows, at the end of the bytes.
+    ensures stand { IfSome result (λ x. (front : List ℕ) × (bytes.now ≡ front ++ (x.1.now ++ x.2.now))) }
+{
+    match read_ack(bytes) {
+        Ok((largest, blocks, rest)) => Some((largest, blocks, rest)),
+        Err(_) => None,
+    }
+}
+
+// The same, or why none is read.
+#[tactic(auto, unfolding(crate::specs::AckPlace::ack_at))]
+fn read_ack(bytes: &[u8]) -> Result<(u64, &[u8], &[u8]), Fault>
+    ensures gives { Gives (λ x. (x.0, x.1.now, x.2.now)) result (ack_at bytes.now) }
+    ensures bound { IfOk result (λ x. x.0 < 2 ^ 62) }
+    ensures valid { IfOk result (λ x. IsBlocks x.0 x.1.now) }
+    ensures stand { IfOk result (λ x. (front : List ℕ) × (bytes.now ≡ front ++ (x.1.now ++ x.2.now))) }
+{
+    let (ty, behind_type) = varint(bytes)?;
+    if ty != 2 && ty != 3 {
+        return Err(Fault::InvalidFrameId);
+    }
+    let (largest, behind_largest) = varint(behind_type)?;
+    let (_, behind_delay) = varint(behind_largest)?;
+    let (blocks, rest) = blocks(largest, behind_delay)?;
+    Ok((largest, blocks, rest))
+}

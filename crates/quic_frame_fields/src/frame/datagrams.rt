@@ -1,0 +1,43 @@
+//! DATAGRAM frames, written (RFC 9221, section 4).
+ghost use Rattle.std.specs.Prelude.{◌≡◌, ◌<◌, ◌≤◌, ◌+◌, ◌^◌, ◌++◌, length, not, true, IsOk, OnOk, OnErr, vec_len, vec_capacity};
+ghost use Rattle.quic_frame_fields.specs.Parts.{datagram_meaning};
+ghost use Rattle.quic_frame_fields.specs.Shortest.{shortest_frame};
+
+use super::{Datagram, write};
+use quic_base::coding::NoRoom;
+
+impl Datagram<'_> {
+    /// Appends the frame, with the length of its data where `with_length` is set; without it the frame has to
+    /// be the last of its payload. One growth of at most `size` bytes is made, and where that is
+    /// refused `out` is as it was. It can't be where there is spare room for the frame. The caller must ensure
+    /// that the data is below 2^62 bytes where its length is written.
+    #[tactic(auto, using(crate::proofs::Encoding::datagram_counted))]
+    pub fn encode(&self, with_length: bool, out: &mut Vec<u8>) -> Result<(), NoRoom>
+        requires { with_length ≡ true → length self.now.bytes.now < 2 ^ 62 }
+        ensures ok { OnOk result (out.new.items ≡ out.old.items ++ shortest_frame (not with_length) (datagram_meaning self.now)) }
+        ensures err { OnErr result (out.new.items ≡ out.old.items) }
+        ensures capacity { OnErr result (vec_capacity out.new ≡ vec_capacity out.old) }
+        ensures room { vec_len out.old + length (shortest_frame (not with_length) (datagram_meaning self.now)) ≤ vec_capacity out.old → IsOk result }
+    {
+        if with_length {
+            let head = [0x31, self.bytes.len() as u64];
+            write::append(out, &head, self.bytes)
+        } else {
+            write::append(out, &[0x30], self.bytes)
+        }
+    }
+
+    /// How many bytes `encode` appends. The caller must ensure that the data is below 2^62 bytes where its
+    /// length is written.
+    #[tactic(auto, using(crate::proofs::Encoding::datagram_counted_length, crate::proofs::Encoding::datagram_open_length))]
+    pub fn size(&self, with_length: bool) -> usize
+        requires { with_length ≡ true → length self.now.bytes.now < 2 ^ 62 }
+        ensures { result ≡ length (shortest_frame (not with_length) (datagram_meaning self.now)) }
+    {
+        if with_length {
+            write::numbers_len(&[0x31, self.bytes.len() as u64]) as usize + self.bytes.len()
+        } else {
+            write::numbers_len(&[0x30]) as usize + self.bytes.len()
+        }
+    }
+}

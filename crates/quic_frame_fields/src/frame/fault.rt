@@ -1,0 +1,31 @@
+//! Why a frame could not be read.
+ghost use Rattle.std.specs.Prelude.{◌≡◌};
+
+/// Why a frame could not be read.
+#[derive(Clone, Copy, Debug, PartialEq, Eq)]
+pub enum Fault {
+    /// A field, or the type, passes the end of the payload.
+    UnexpectedEnd,
+    /// No frame has this type.
+    InvalidFrameId,
+    /// A field has a value that it may not have.
+    Malformed,
+    /// The type is not in its shortest encoding, where only that counts.
+    LongType,
+}
+
+impl Fault {
+    ghost use Rattle.quic_frame_fields.specs.Reading.{reason_text};
+
+    /// The text of the reason.
+    pub fn reason(self) -> &'static str
+        ensures { result.now ≡ reason_text self }
+    {
+        match self {
+            Fault::UnexpectedEnd => "unexpected end",
+            Fault::InvalidFrameId => "invalid frame ID",
+            Fault::Malformed => "malformed",
+            Fault::LongType => "frame type not in shortest form",
+        }
+    }
+}

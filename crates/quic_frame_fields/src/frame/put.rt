@@ -1,0 +1,207 @@
+//! Numbers and bytes, laid at the front of a slice.
+ghost use Rattle.std.specs.Prelude.{◌≡◌, ◌<◌, ◌≤◌, ◌+◌, ◌^◌, ◌++◌, ℕ, List, Bool, length, take, drop, IfSome};
+ghost use Rattle.quic_frame_fields.specs.Numbers.{AreNumeric, AreEncoded, all_short};
+ghost use Rattle.quic_frame_fields.specs.Parts.{ack_meaning};
+ghost use Rattle.quic_frame_fields.specs.Putting.{Lays, Puts, Shortens};
+ghost use Rattle.quic_frame_fields.specs.Sets.{AreCounts, IsAckInRange, count_numbers};
+ghost use Rattle.quic_frame_fields.specs.Shortest.{shortest_frame, stream_head};
+
+use super::ack_encode::head_of;
+use super::write::{HEAD_ROOM, count_and_len, lay_number, lay_numbers};
+use super::{Ack, EcnCounts, FrameType, Stream, field};
+
+/// Lays at most five numbers in their shortest encodings at the front of the slice, and answers how many bytes they
+/// have. Where the slice has fewer, and only there, it is as it was, and the error is how many are needed. The room is
+/// looked at once.
+#[inline(always)]
+pub fn numbers(dest: &mut [u8], numbers: &[u64]) -> Result<usize, usize>
+    requires few { length numbers.now ≤ 5 }
+    requires numeric { AreNumeric numbers.now }
+    ensures { Puts result (all_short numbers.now) dest.old dest.new }
+{
+    let mut head = [0; HEAD_ROOM];
+    let len = lay_numbers(&mut head, numbers);
+    bytes(dest, &head[..len])
+}
+
+/// Lays numbers and then bytes, in the same way.
+#[inline(always)]
+pub fn numbers_and_bytes(dest: &mut [u8], head: &[u64], tail: &[u8]) -> Result<usize, usize>
+    requires few { length head.now ≤ 5 }
+    requires numeric { AreNumeric head.now }
+    ensures { Puts result (all_short head.now ++ tail.now) dest.old dest.new }
+{
+    let mut numbers = [0; HEAD_ROOM];
+    let len = lay_numbers(&mut numbers, head);
+    two(dest, &numbers[..len], tail)
+}
+
+/// Lays numbers, then bytes, and then at most 64 others, in the same way.
+pub fn numbers_and_two(
+    dest: &mut [u8],
+    head: &[u64],
+    middle: &[u8],
+    end: &[u8],
+) -> Result<usize, usize>
+    requires few { length head.now ≤ 5 }
+    requires numeric { AreNumeric head.now }
+    requires end { length end.now ≤ 64 }
+    ensures { Puts result (all_short head.now ++ (middle.now ++ end.now)) dest.old dest.new }
+{
+    let mut numbers = [0; HEAD_ROOM];
+    let len = lay_numbers(&mut numbers, head);
+    three(dest, &numbers[..len], middle, end)
+}
+
+/// Lays at most five numbers in their shortest encodings over the bytes at a place, and answers where they end.
+#[inline(always)]
+pub fn numbers_at(dest: &mut [u8], at: usize, numbers: &[u64]) -> usize
+    requires few { length numbers.now ≤ 5 }
+    requires numeric { AreNumeric numbers.now }
+    requires room { at + length (all_short numbers.now) ≤ length dest.old }
+    ensures lays { Lays (all_short numbers.now) at dest.old result dest.new }
+    ensures len { length dest.new ≡ length dest.old }
+{
+    let mut head = [0; HEAD_ROOM];
+    let len = lay_numbers(&mut head, numbers);
+    lay_bytes(dest, at, &head[..len])
+}
+
+// Lays bytes at the front.
+fn bytes(dest: &mut [u8], bytes: &[u8]) -> Result<usize, usize>
+    ensures { Puts result bytes.now dest.old dest.new }
+{
+    if dest.len() < bytes.len() {
+        return Err(bytes.len());
+    }
+    Ok(lay_bytes(dest, 0, bytes))
+}
+
+// Lays bytes at the front, and others behind them.
+fn two(dest: &mut [u8], front: &[u8], end: &[u8]) -> Result<usize, usize>
+    ensures { Puts result (front.now ++ end.now) dest.old dest.new }
+{
+    let needed = front.len() + end.len();
+    if dest.len() < needed {
+        return Err(needed);
+    }
+    let at = lay_bytes(dest, 0, front);
+    Ok(lay_bytes(dest, at, end))
+}
+
+// Lays bytes at the front, and others behind them, twice.
+fn three(dest: &mut [u8], front: &[u8], middle: &[u8], end: &[u8]) -> Result<usize, usize>
+    requires front { length front.now ≤ 64 }
+    requires end { length end.now ≤ 64 }
+    ensures { Puts result (front.now ++ (middle.now ++ end.now)) dest.old dest.new }
+{
+    let needed = front.len() + middle.len() + end.len();
+    if dest.len() < needed {
+        return Err(needed);
+    }
+    let at = lay_bytes(dest, 0, front);
+    let at = lay_bytes(dest, at, middle);
+    Ok(lay_bytes(dest, at, end))
+}
+
+// Lays bytes over those at a place, and answers where they end.
+#[inline(always)]
+fn lay_bytes(dest: &mut [u8], at: usize, bytes: &[u8]) -> usize
+    requires { at + length bytes.now ≤ length dest.old }
+    ensures end { result ≡ at + length bytes.now }
+    ensures front { take result dest.new ≡ take at dest.old ++ bytes.now }
+    ensures back { drop result dest.new ≡ drop result dest.old }
+    ensures len { length dest.new ≡ length dest.old }
+{
+    let end = at + bytes.len();
+    dest[at..end].copy_from_slice(bytes);
+    end
+}
+
+/// Lays a STREAM without its data, and then these, in the same way. Their length is written where it is given. The
+/// caller must ensure that the offset and the length are below 2^62.
+pub fn stream(dest: &mut [u8], stream: &Stream<'_>, counted: Option<u64>) -> Result<usize, usize>
+    requires offset { stream.now.offset < 2 ^ 62 }
+    requires counted { IfSome counted (λ n. n < 2 ^ 62) }
+    ensures { Puts result (stream_head stream.now.id stream.now.offset stream.now.fin counted ++ stream.now.bytes.now) dest.old dest.new }
+{
+    let Stream {
+        id,
+        offset,
+        fin,
+        bytes,
+    } = *stream;
+    let ty = FrameType::of_stream(offset != 0, fin).into_inner();
+    let id = u64::from(id);
+    match (offset, counted) {
+        (0, None) => numbers_and_bytes(dest, &[ty, id], bytes),
+        (0, Some(length)) => numbers_and_bytes(dest, &[ty + 2, id, length], bytes),
+        (_, None) => numbers_and_bytes(dest, &[ty, id, offset], bytes),
+        (_, Some(length)) => numbers_and_bytes(dest, &[ty + 2, id, offset, length], bytes),
+    }
+}
+
+/// Lays an acknowledgement that is held, whose numbers may have been encoded in any widths, in its shortest encoding,
+/// in the same way. Blocks that are in their shortest encoding are copied.
+pub fn ack(dest: &mut [u8], ack: &Ack<'_>) -> Result<usize, usize>
+    requires { IsAckInRange ack.now }
+    ensures { (last : Bool) → Puts result (shortest_frame last (ack_meaning ack.now)) dest.old dest.new }
+{
+    let (numbers, blocks) = count_and_len(ack.additional());
+    let mut head = [0; HEAD_ROOM];
+    let head_len = lay_numbers(&mut head, &head_of(ack, numbers));
+    let mut counts = [0; HEAD_ROOM];
+    let counts_len = lay_counts(&mut counts, ack.ecn());
+    let needed = head_len + blocks as usize + counts_len;
+    if dest.len() < needed {
+        return Err(needed);
+    }
+    let at = lay_bytes(dest, 0, &head[..head_len]);
+    let at = lay_shortened(dest, at, ack.additional(), blocks as usize);
+    Ok(lay_bytes(dest, at, &counts[..counts_len]))
+}
+
+// Lays the counts of an acknowledgement, where they are given, and answers where they end.
+fn lay_counts(counts: &mut [u8; HEAD_ROOM], ecn: Option<EcnCounts>) -> usize
+    requires { AreCounts ecn }
+    ensures within { result ≤ HEAD_ROOM }
+    ensures front { take result counts.new ≡ all_short (count_numbers ecn) }
+{
+    match ecn {
+        None => 0,
+        Some(ecn) => lay_numbers(counts, &[ecn.ect0, ecn.ect1, ecn.ce]),
+    }
+}
+
+// Lays the numbers that the bytes encode, in their shortest encodings of so many bytes, over those at a place, and
+// answers where they end.
+fn lay_shortened(dest: &mut [u8], at: usize, encoded: &[u8], len: usize) -> usize
+    requires shortens { Shortens encoded.now len }
+    requires room { at + len ≤ length dest.old }
+    ensures lays { (ns : List ℕ) → AreEncoded ns encoded.now → Lays (all_short ns) at dest.old result dest.new }
+    ensures len { length dest.new ≡ length dest.old }
+{
+    if len == encoded.len() {
+        lay_bytes(dest, at, encoded)
+    } else {
+        lay_each(dest, at, encoded, len)
+    }
+}
+
+// The same, one number after the other.
+fn lay_each(dest: &mut [u8], at: usize, encoded: &[u8], len: usize) -> usize
+    requires shortens { Shortens encoded.now len }
+    requires room { at + len ≤ length dest.old }
+    ensures lays { (ns : List ℕ) → AreEncoded ns encoded.now → Lays (all_short ns) at dest.old result dest.new }
+    ensures len { length dest.new ≡ length dest.old }
+{
+    let mut at = at;
+    let mut rest = encoded;
+    while let Ok((number, after)) = field::varint(rest) {
+        let mut short = [0; 8];
+        let end = lay_number(&mut short, 0, number);
+        at = lay_bytes(dest, at, &short[..end]);
+        rest = after;
+    }
+    at
+}

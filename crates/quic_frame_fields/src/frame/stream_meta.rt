@@ -1,0 +1,81 @@
+//! STREAM frames, whose data the writer appends by itself (RFC 9000, section 19.8).
+ghost use Rattle.std.specs.Prelude.{◌≡◌, ◌≤◌, ◌<◌, ◌-◌, ◌^◌, ◌++◌, ℕ, List, length, Some, None, IfSome, true, false, if◌then◌else◌};
+ghost use Rattle.quic_frame_fields.specs.Shortest.{shortest_frame, stream_head};
+ghost use Rattle.quic_base.specs.Writing.{Writes};
+
+use super::{FrameType, Stream, write};
+use bytes::BufMut;
+use quic_base::coding::NoRoom;
+use quic_base::ids::{Dir, Side, StreamId};
+use smallvec::SmallVec;
+use std::ops::Range;
+
+/// A STREAM without its data.
+#[derive(Clone, Debug, Drop)]
+pub struct StreamMeta {
+    /// The stream.
+    pub id: StreamId,
+    /// Where in the stream the data stand.
+    pub offsets: Range<u64>,
+    /// Whether the stream ends with them.
+    pub fin: bool,
+}
+
+/// Several of them, of which one is held without memory.
+pub type StreamMetaVec = SmallVec<StreamMeta, 1>;
+
+/// No data of the client's first stream of both directions.
+impl Default for StreamMeta {
+    ghost is_default = { λ meta. meta ≡ record { id = 0; offsets = record { start = 0; end = 0 }; fin = false } };
+
+    fn default() -> Self {
+        StreamMeta {
+            id: StreamId::new(Side::Client, Dir::Bi, 0),
+            offsets: 0..0,
+            fin: false,
+        }
+    }
+}
+
+impl StreamMeta {
+    /// Appends the frame up to its data, with the length of these where `with_length` is set. Answers `NoRoom`
+    /// only where the spare room is less than that; then what stood there stands, followed by a beginning
+    /// of it. The caller must ensure that the range isn't reversed, that it starts below 2^62, and that its
+    /// length is below 2^62 where it is written.
+    pub fn encode<B: BufMut>(&self, with_length: bool, out: &mut B) -> Result<(), NoRoom>
+        requires ordered { self.now.offsets.start ≤ self.now.offsets.end }
+        requires start { self.now.offsets.start < 2 ^ 62 }
+        requires counted { with_length ≡ true → self.now.offsets.end - self.now.offsets.start < 2 ^ 62 }
+        ensures { Writes result
+            (stream_head self.now.id self.now.offsets.start self.now.fin (if with_length then Some (self.now.offsets.end - self.now.offsets.start) else None))
+            (B.written out.old) (B.spare out.old) (B.written out.new) (B.spare out.new) }
+    {
+        let Range { start, end } = self.offsets;
+        let counted = with_length.then_some(end - start);
+        encode_head(out, self.id, start, self.fin, counted)
+    }
+}
+
+/// A STREAM up to its data, whose length is written where it is given. The caller must ensure that the numbers
+/// are below 2^62. Answers `NoRoom` as `StreamMeta::encode` does.
+pub fn encode_head<B: BufMut>(
+    out: &mut B,
+    id: StreamId,
+    offset: u64,
+    fin: bool,
+    counted: Option<u64>,
+) -> Result<(), NoRoom>
+    requires offset { offset < 2 ^ 62 }
+    requires counted { IfSome counted (λ n. n < 2 ^ 62) }
+    ensures { Writes result (stream_head id offset fin counted)
+        (B.written out.old) (B.spare out.old) (B.written out.new) (B.spare out.new) }
+{
+    let ty = FrameType::of_stream(offset != 0, fin).into_inner();
+    let id = u64::from(id);
+    match (offset, counted) {
+        (0, None) => write::numbers(out, &[ty, id]),
+        (0, Some(length)) => write::numbers(out, &[ty + 2, id, length]),
+        (_, None) => write::numbers(out, &[ty, id, offset]),
+        (_, Some(length)) => write::numbers(out, &[ty + 2, id, offset, length]),
+    }
+}

@@ -1,0 +1,211 @@
+//! Numbers and bytes, appended to a buffer.
+ghost use Rattle.std.specs.Prelude.{◌≡◌, ◌<◌, ◌≤◌, ◌+◌, ◌*◌, ◌^◌, ◌++◌, ℕ, List, take, length, get_or, IsOk, OnOk, OnErr, vec_len, vec_capacity};
+ghost use Rattle.quic_base.specs.ConnectionId.{long_id};
+ghost use Rattle.quic_base.specs.Varint.{short, size};
+ghost use Rattle.quic_base.specs.Number.{AreBytes};
+ghost use Rattle.quic_base.specs.Writing.{Writes};
+ghost use Rattle.quic_frame_fields.specs.Numbers.{AreNumeric, AreEncoded, all_short};
+
+use super::field;
+use bytes::BufMut;
+use quic_base::coding::{BufMutExt, NoRoom, lay_array};
+use quic_base::ids::ConnectionId;
+use quic_base::varint::VarInt;
+
+// How many bytes the array has that numbers are laid into: five of them, each by a store of eight bytes at most.
+pub(super) const HEAD_ROOM: usize = 40;
+
+// Lays a number in its shortest encoding at a place, and answers where it ends.
+#[inline(always)]
+#[tactic(auto, unfolding(quic_base::specs::Varint::short, quic_base::specs::Varint::size, quic_base::specs::Number::bytes_of))]
+pub(super) fn lay_number(head: &mut [u8], at: usize, n: u64) -> usize
+    requires numeric { n < 2 ^ 62 }
+    requires room { at + 8 ≤ length head.old }
+    ensures end { result ≡ at + length (short n) }
+    ensures near { result ≤ at + 8 }
+    ensures front { take result head.new ≡ take at head.old ++ short n }
+    ensures len { length head.new ≡ length head.old }
+{
+    if n < 1 << 6 {
+        lay_array(head, at, [n as u8])
+    } else if n < 1 << 14 {
+        lay_array(head, at, ((1 << 14) + n as u16).to_be_bytes())
+    } else if n < 1 << 30 {
+        lay_array(head, at, ((2 << 30) + n as u32).to_be_bytes())
+    } else {
+        lay_array(head, at, ((3 << 62) + n).to_be_bytes())
+    }
+}
+
+// Lays numbers, one behind the other, and answers where they end.
+#[inline(always)]
+pub(super) fn lay_numbers(head: &mut [u8], numbers: &[u64]) -> usize
+    requires room { 8 * length numbers.now ≤ length head.old }
+    requires numeric { AreNumeric numbers.now }
+    ensures within { result ≤ 8 * length numbers.now }
+    ensures front { take result head.new ≡ all_short numbers.now }
+    ensures len { length head.new ≡ length head.old }
+{
+    let mut at = 0;
+    for number in numbers {
+        at = lay_number(head, at, *number);
+    }
+    at
+}
+
+/// Appends at most five numbers in their shortest encodings, which are put together first, so that the room is
+/// looked at once. Answers `NoRoom` only where the spare room is less than those; then what stood there stands,
+/// followed by a beginning of them.
+#[inline(always)]
+pub fn numbers<B: BufMut>(out: &mut B, numbers: &[u64]) -> Result<(), NoRoom>
+    requires few { length numbers.now ≤ 5 }
+    requires numeric { AreNumeric numbers.now }
+    ensures { Writes result (all_short numbers.now) (B.written out.old) (B.spare out.old) (B.written out.new) (B.spare out.new) }
+{
+    let mut head = [0; HEAD_ROOM];
+    let len = lay_numbers(&mut head, numbers);
+    bytes(out, &head[..len])
+}
+
+/// Appends bytes, in the same way.
+pub fn bytes<B: BufMut>(out: &mut B, bytes: &[u8]) -> Result<(), NoRoom>
+    ensures { Writes result bytes.now (B.written out.old) (B.spare out.old) (B.written out.new) (B.spare out.new) }
+{
+    match out.put_slice(bytes) {
+        Ok(()) => Ok(()),
+        Err(_) => Err(NoRoom),
+    }
+}
+
+/// Appends numbers and then bytes, in the same way.
+pub fn numbers_and_bytes<B: BufMut>(out: &mut B, head: &[u64], tail: &[u8]) -> Result<(), NoRoom>
+    requires few { length head.now ≤ 5 }
+    requires numeric { AreNumeric head.now }
+    ensures { Writes result (all_short head.now ++ tail.now) (B.written out.old) (B.spare out.old) (B.written out.new) (B.spare out.new) }
+{
+    numbers(out, head)?;
+    bytes(out, tail)
+}
+
+/// Appends an id behind its length, and bytes, in the same way.
+pub fn id_and_bytes<B: BufMut>(out: &mut B, id: &ConnectionId, tail: &[u8]) -> Result<(), NoRoom>
+    ensures { Writes result (long_id id.now ++ tail.now) (B.written out.old) (B.spare out.old) (B.written out.new) (B.spare out.new) }
+{
+    id.encode_long(out)?;
+    bytes(out, tail)
+}
+
+/// The length of the shortest encoding of a number.
+#[inline(always)]
+#[tactic(auto, using(crate::proofs::Encoding::size_small))]
+pub fn size_of(n: u64) -> usize
+    requires { n < 2 ^ 62 }
+    ensures value { result ≡ size n }
+    ensures small { result ≤ 8 }
+{
+    VarInt::from_u64_unchecked(n).size()
+}
+
+/// Appends the numbers that the bytes encode, in their shortest encodings, in the same way. The caller must know how
+/// many bytes these have: where the bytes are as many, they are the shortest, and go as they are.
+pub fn shortened<B: BufMut>(out: &mut B, encoded: &[u8], len: u64) -> Result<(), NoRoom>
+    requires { (ns : List ℕ) → AreEncoded ns encoded.now → len ≡ length (all_short ns) }
+    ensures { (ns : List ℕ) → AreEncoded ns encoded.now
+        → Writes result (all_short ns) (B.written out.old) (B.spare out.old) (B.written out.new) (B.spare out.new) }
+{
+    if len == encoded.len() as u64 {
+        bytes(out, encoded)
+    } else {
+        each_shortened(out, encoded)
+    }
+}
+
+// Appends the numbers one by one.
+fn each_shortened<B: BufMut>(out: &mut B, encoded: &[u8]) -> Result<(), NoRoom>
+    ensures { (ns : List ℕ) → AreEncoded ns encoded.now
+        → Writes result (all_short ns) (B.written out.old) (B.spare out.old) (B.written out.new) (B.spare out.new) }
+{
+    let mut rest = encoded;
+    while let Ok((number, after)) = field::varint(rest) {
+        out.write_var(number)?;
+        rest = after;
+    }
+    Ok(())
+}
+
+// How many bytes at the front are below 64, and so a number of one byte each.
+fn ones(bytes: &[u8]) -> usize
+    ensures within { result ≤ length bytes.now }
+    ensures ones { (i : ℕ) → i < result → get_or bytes.now i 0 < 64 }
+    ensures most { result < length bytes.now → 64 ≤ get_or bytes.now result 0 }
+{
+    let mut n = 0;
+    while n < bytes.len() && bytes[n] < 64 {
+        n += 1;
+    }
+    n
+}
+
+/// How many numbers the bytes encode, and how many bytes `shortened` appends of them.
+pub fn count_and_len(encoded: &[u8]) -> (u64, u64)
+    ensures count { (ns : List ℕ) → AreEncoded ns encoded.now → result.0 ≡ length ns }
+    ensures len { (ns : List ℕ) → AreEncoded ns encoded.now → result.1 ≡ length (all_short ns) }
+    ensures small { result.1 ≤ length encoded.now }
+    ensures bytes { AreBytes encoded.now }
+{
+    let mut count = 0;
+    let mut len = 0;
+    let mut rest = encoded;
+    loop {
+        let n = ones(rest);
+        let Ok((number, after)) = field::varint(&rest[n..]) else {
+            return ((count + n) as u64, (len + n) as u64);
+        };
+        count += n + 1;
+        len += n + size_of(number);
+        rest = after;
+    }
+}
+
+/// How many bytes `numbers` appends.
+#[inline(always)]
+pub fn numbers_len(numbers: &[u64]) -> u128
+    requires { AreNumeric numbers.now }
+    ensures value { result ≡ length (all_short numbers.now) }
+    ensures small { result ≤ 8 * length numbers.now }
+{
+    let mut total = 0;
+    for number in numbers {
+        total += size_of(*number);
+    }
+    total as u128
+}
+
+/// How many bytes `numbers_and_bytes` appends.
+#[inline(always)]
+pub fn numbers_and_bytes_len(head: &[u64], tail: &[u8]) -> u128
+    requires few { length head.now ≤ 5 }
+    requires numeric { AreNumeric head.now }
+    ensures { result ≡ length (all_short head.now ++ tail.now) }
+{
+    numbers_len(head) + tail.len() as u128
+}
+
+/// Appends numbers and then bytes to a vector. One growth of at most these bytes is made, and where that
+/// is refused `out` is as it was; it can't be where there is spare room for them.
+pub fn append(out: &mut Vec<u8>, head: &[u64], tail: &[u8]) -> Result<(), NoRoom>
+    requires few { length head.now ≤ 5 }
+    requires numeric { AreNumeric head.now }
+    ensures ok { OnOk result (out.new.items ≡ out.old.items ++ (all_short head.now ++ tail.now)) }
+    ensures err { OnErr result (out.new.items ≡ out.old.items) }
+    ensures capacity { OnErr result (vec_capacity out.new ≡ vec_capacity out.old) }
+    ensures room { vec_len out.old + length (all_short head.now ++ tail.now) ≤ vec_capacity out.old → IsOk result }
+{
+    if out
+        .reserve(numbers_len(head) as usize + tail.len())
+        .is_err()
+    {
+        return Err(NoRoom);
+    }
+    numbers_and_bytes(out, head, tail)
+}

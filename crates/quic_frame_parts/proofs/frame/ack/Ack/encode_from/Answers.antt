@@ -1,4 +1,0 @@
-use Rattle.quic_frame_parts.proofs.frame.ack.Ack.encode_from.Goals as goal
-
-pub returns : goal.returns
-returns g c last = rw (← c.iter.ensures.runs, ← c.copied.ensures) (c.encode_runs.ensures last)

@@ -1,0 +1,126 @@
+-- Heads of parts that are put together.
+use Rattle.std.specs.Prelude.{◌≡◌, ◌≢◌, ℕ, ◌+◌, ◌/◌, ◌%◌, ◌<◌, ◌≤◌, ◌^◌, Bool, true, false, List, [], ◌∷◌, ◌++◌, length, take, Ok, nat_eq}
+use Rattle.std.proofs.Common.{sym, ap, ◌∙◌, arith, refl, cond, subst, append_assoc}
+use Rattle.std.proofs.lemmas.Bool.Decides.{nat_tests}
+use Rattle.quic_base.specs.Number.{bytes_of, num}
+use Rattle.quic_base.specs.Varint.{Encodes}
+use Rattle.quic_base.specs.ConnectionId.{long_id}
+use Rattle.quic_base.proofs.PublicLaws as law
+use Rattle.quic_header_decode.specs.declared.protected.ProtectedHeader.{ProtectedHeader}
+use Rattle.quic_header_decode.specs.declared.protected.ProtectedHeader.TheVariants as head
+use Rattle.quic_header_decode.specs.declared.protected.ProtectedInitialHeader.{ProtectedInitialHeader}
+use Rattle.quic_header_encode.specs.declared.long_type.LongHeaderType.{LongHeaderType}
+use Rattle.quic_header_encode.specs.declared.long_type.LongHeaderType.TheVariants as kind
+use Rattle.quic_header_encode.specs.declared.long_type.LongType.{LongType}
+use Rattle.quic_header_encode.specs.Starts.{long_front}
+use Rattle.quic_header_encode.specs.Types.{long_type}
+use Rattle.quic_header_decode.specs.Grammar.{has_bit, is_long, is_fixed, Field, Supported, ShortId, Value, Number, Bytes, typed_row, row_behind_ids, row_of, AreFields, IsHead, Head, IsKnown}
+use Rattle.quic_header_decode.specs.Reading.{Context}
+use Rattle.quic_header_decode.proofs.Rows.{or_right}
+use Rattle.quic_header_decode.proofs.Heads.{Ids, id_values, long_row, of_ids, version_is}
+
+-- the bytes are a long head's first byte, version and ids, and rest
+pub record LongStart (context : Context) (bytes : List ℕ) (first version : ℕ) (dst src rest : List ℕ) : Type 0 where
+  pub long : 128 ≤ first
+  pub fixed : is_fixed context first ≡ true
+  pub range : version < 2 ^ 32
+  pub dst_len : length dst ≤ 20
+  pub src_len : length src ≤ 20
+  pub text : bytes ≡ long_front first version dst src ++ rest
+
+pub fixed_set : (context : Context) (first : ℕ) → first / 64 % 2 ≡ 1 → is_fixed context first ≡ true
+fixed_set context first is = or_right context.grease (has_bit 0x40 first) (grind (arith, nat_tests))
+
+-- what stands behind the first byte
+abbrev behind : ℕ → List ℕ → List ℕ → List ℕ → List ℕ
+behind version dst src rest = bytes_of 4 version ++ (long_id dst ++ (long_id src ++ rest))
+
+-- a front and what follows it, part by part
+joined : (first version : ℕ) (dst src rest : List ℕ) → long_front first version dst src ++ rest ≡ first ∷ behind version dst src rest
+joined first version dst src rest =
+    append_assoc (first ∷ bytes_of 4 version) (long_id dst ++ long_id src) rest
+    ∙ ap (λ (xs : List ℕ). (first ∷ bytes_of 4 version) ++ xs) (append_assoc (long_id dst) (long_id src) rest)
+
+made : (context : Context) (whole : ℕ) (bytes : List ℕ) (first version : ℕ) (dst src left rest : List ℕ) (values : List Value) (h : ProtectedHeader)
+    → LongStart context bytes first version dst src left → AreFields context (row_behind_ids first version) (id_values version dst src) values left rest
+    → IsHead whole first values h → Head context whole bytes h rest
+made context whole bytes first version dst src left rest values h start others is =
+    let text : List ℕ = behind version dst src left in
+    let ids : Ids text version dst src left =
+    record { word = bytes_of 4 version; is_word = law.is_number_4 version start.range; dst_len = start.dst_len; src_len = start.src_len; text_is = refl } in
+    let above : 128 ≤ first = start.long in
+    let test : is_long first ≡ true = grind (arith, nat_tests) in
+    let row : row_of first (num (take 4 text)) ≡ long_row (row_behind_ids first version) =
+    ap (λ (n : ℕ). row_of first n) (version_is text version dst src left ids) ∙ ap (λ (b : Bool). cond b (long_row (row_behind_ids first version)) (ShortId ∷ [])) test in (
+      first,
+      text,
+      values,
+      start.text ∙ joined first version dst src left,
+      start.fixed,
+      subst (λ (fields : List Field). AreFields context fields [] values text rest) (sym row) (of_ids context (row_behind_ids first version) values text rest version dst src left ids others),
+      is,
+    )
+
+-- the row of a type, behind a version that is known
+typed : (context : Context) (first version : ℕ) (ty : LongHeaderType) → IsKnown context version → long_type version first ≡ ty → row_behind_ids first version ≡ Supported version ∷ typed_row ty
+typed context first version ty known is =
+    let other : version ≢ 0 = known.0 in
+    let test : nat_eq version 0 ≡ false = grind (arith, nat_tests) in
+    ap (λ (b : Bool). cond b [] (Supported version ∷ typed_row (long_type version first))) test ∙ ap (λ (k : LongHeaderType). Supported version ∷ typed_row k) is
+
+typed_made : (context : Context) (whole : ℕ) (bytes : List ℕ) (first version : ℕ) (dst src left rest : List ℕ) (values : List Value) (h : ProtectedHeader) (ty : LongHeaderType)
+    → LongStart context bytes first version dst src left → IsKnown context version → long_type version first ≡ ty
+    → AreFields context (typed_row ty) (id_values version dst src) values left rest → IsHead whole first values h → Head context whole bytes h rest
+typed_made context whole bytes first version dst src left rest values h ty start known type others is =
+    made context whole bytes first version dst src left rest values h start
+    (subst (λ (fields : List Field). AreFields context fields (id_values version dst src) values left rest) (sym (typed context first version ty known type))
+    ([], left, ([], refl, (refl, refl, known.1)), others))
+    is
+
+-- ---- each head
+
+pub long_head : (context : Context) (whole : ℕ) (bytes : List ℕ) (first version : ℕ) (dst src text rest : List ℕ) (ty : LongType) (len : ℕ)
+    → LongStart context bytes first version dst src (text ++ rest) → IsKnown context version → long_type version first ≡ kind.Standard ty → Encodes len text
+    → Head context whole bytes (head.Long ty dst src len version) rest
+long_head context whole bytes first version dst src text rest ty len start known type encoded =
+    typed_made context whole bytes first version dst src (text ++ rest) rest (Number version ∷ Bytes dst ∷ Bytes src ∷ Number len ∷ []) (head.Long ty dst src len version) (kind.Standard ty) start known type
+    (Number len ∷ [], rest, (text, refl, (len, refl, encoded)), (refl, refl)) (type, refl)
+
+pub initial_head : (context : Context) (whole : ℕ) (bytes : List ℕ) (first : ℕ) (count token text rest : List ℕ) (h : ProtectedInitialHeader)
+    → LongStart context bytes first h.version h.dst_cid h.src_cid (count ++ (token ++ (text ++ rest))) → IsKnown context h.version → long_type h.version first ≡ kind.Initial
+    → Encodes (length token) count → Encodes h.len text → h.token_pos.end + length (text ++ rest) ≡ whole → h.token_pos.start + length token ≡ h.token_pos.end
+    → Head context whole bytes (head.Initial h) rest
+initial_head context whole bytes first count token text rest h start known type counted encoded stop from =
+    let left : ℕ = length (text ++ rest) in
+    typed_made context whole bytes first h.version h.dst_cid h.src_cid (count ++ (token ++ (text ++ rest))) rest
+    (Number h.version ∷ Bytes h.dst_cid ∷ Bytes h.src_cid ∷ Number (length token) ∷ Number left ∷ Number h.len ∷ []) (head.Initial h) kind.Initial start known type (
+      Number (length token) ∷ [],
+      token ++ (text ++ rest),
+      (count, refl, (length token, refl, counted)),
+      (Number left ∷ [], text ++ rest, (token, refl, (refl, refl)), (Number h.len ∷ [], rest, (text, refl, (h.len, refl, encoded)), (refl, refl))),
+    ) (length token, left, from, stop, refl)
+
+pub retry_head : (context : Context) (whole : ℕ) (bytes : List ℕ) (first version : ℕ) (dst src rest : List ℕ)
+    → LongStart context bytes first version dst src rest → IsKnown context version → long_type version first ≡ kind.Retry → Head context whole bytes (head.Retry dst src version) rest
+retry_head context whole bytes first version dst src rest start known type =
+    typed_made context whole bytes first version dst src rest rest (id_values version dst src) (head.Retry dst src version) kind.Retry start known type (refl, refl) (known.0, type, refl)
+
+pub negotiation_head : (context : Context) (whole : ℕ) (bytes : List ℕ) (random : ℕ) (dst src rest : List ℕ)
+    → LongStart context bytes (128 + random) 0 dst src rest → Head context whole bytes (head.VersionNegotiate random dst src) rest
+negotiation_head context whole bytes random dst src rest start =
+    made context whole bytes (128 + random) 0 dst src rest rest (id_values 0 dst src) (head.VersionNegotiate random dst src) start (refl, refl) (refl, refl)
+
+pub short_head : (context : Context) (whole : ℕ) (bytes : List ℕ) (first : ℕ) (spin : Bool) (dst text rest : List ℕ) → first < 128 → is_fixed context first ≡ true
+    → bytes ≡ first ∷ (text ++ rest) → context.parsed (text ++ rest) ≡ Ok (dst, length text) → spin ≡ nat_eq (first / 32 % 2) 1 → Head context whole bytes (head.Short spin dst) rest
+short_head context whole bytes first spin dst text rest short fixed split parsed is =
+    let test : is_long first ≡ false = grind (arith, nat_tests) in
+    let row : row_of first (num (take 4 (text ++ rest))) ≡ ShortId ∷ [] =
+    ap (λ (b : Bool). cond b (long_row (row_behind_ids first (num (take 4 (text ++ rest))))) (ShortId ∷ [])) test in (
+      first,
+      text ++ rest,
+      Bytes dst ∷ [],
+      split,
+      fixed,
+      subst (λ (fields : List Field). AreFields context fields [] (Bytes dst ∷ []) (text ++ rest) rest) (sym row) (Bytes dst ∷ [], rest, (text, refl, (dst, refl, parsed)), (refl, refl)),
+      (test, is, refl),
+    )

@@ -1,0 +1,188 @@
+-- Which bytes are the head of a packet, and why others are none (RFC 9000, section 17).
+use Rattle.std.specs.Prelude.{◌≡◌, ◌≢◌, ℕ, ◌+◌, ◌/◌, ◌%◌, ◌<◌, ◌≤◌, ◌⊎◌, Bool, true, false, List, [], ◌∷◌, ◌++◌, length, take, Result, Some, Ok, Err, Contains, nat_le, ◌==◌, ◌||◌, if◌then◌else◌, MatchOption, codes}
+use Rattle.quic_base.specs.Number.{IsNumber, num}
+use Rattle.quic_base.specs.Varint.{Encodes}
+use Rattle.quic_base.specs.ConnectionId.{long_id}
+use Rattle.quic_header_encode.specs.Types.{long_type}
+use Rattle.quic_header_encode.specs.declared.long_type.LongHeaderType.{LongHeaderType}
+use Rattle.quic_header_encode.specs.declared.long_type.LongHeaderType.TheVariants as kind
+use Rattle.quic_header_decode.specs.declared.protected.ProtectedHeader.{ProtectedHeader}
+use Rattle.quic_header_decode.specs.declared.protected.ProtectedHeader.TheVariants as head
+use Rattle.quic_header_decode.specs.Refusal.{Refusal, Unsupported, Invalid}
+use Rattle.quic_header_decode.specs.Reading.{Context, len_in}
+
+-- ---- the first byte
+
+abbrev pub has_bit : ℕ → ℕ → Bool
+has_bit bit byte = (byte / bit % 2) == 1
+
+-- the header form, the highest bit, is set in long heads (section 17.2) and clear in short ones (section 17.3)
+abbrev pub is_long : ℕ → Bool
+is_long first = nat_le 0x80 first
+
+-- the fixed bit is set (sections 17.2 and 17.3), or may be clear (RFC 9287)
+abbrev pub is_fixed : Context → ℕ → Bool
+is_fixed context first = context.grease || has_bit 0x40 first
+
+-- ---- rows of fields
+
+pub data Field : Type 0 where
+  -- four bytes (section 17.2)
+  Version : Field
+  -- a byte n, at most 20, and n bytes (section 17.2)
+  DestinationId : Field
+  SourceId : Field
+  -- no bytes: this version is one of those that are known (section 6.1)
+  Supported : ℕ → Field
+  -- a number of any width, and that many bytes (section 17.2.2)
+  TokenLength : Field
+  Token : Field
+  -- a number of any width (section 17.2)
+  Length : Field
+  -- as many bytes as the parser of ids takes, since their length is not written (section 17.3.1)
+  ShortId : Field
+
+-- behind the ids: of Initial (section 17.2.2); of 0-RTT and Handshake (17.2.3, 17.2.4); of Retry (17.2.5)
+abbrev pub typed_row : LongHeaderType → List Field
+typed_row kind.Initial = TokenLength ∷ Token ∷ Length ∷ []
+typed_row (kind.Standard ty) = Length ∷ []
+typed_row kind.Retry = []
+
+-- and of a version negotiation, which has version 0 and no type (section 17.2.1)
+abbrev pub row_behind_ids : ℕ → ℕ → List Field
+row_behind_ids first version = if version == 0 then [] else Supported version ∷ typed_row (long_type version first)
+
+-- the version is what the four bytes behind the first one say (RFC 8999, section 5.1)
+abbrev pub row_of : ℕ → ℕ → List Field
+row_of first version =
+    if is_long first then Version ∷ DestinationId ∷ SourceId ∷ row_behind_ids first version else ShortId ∷ []
+
+-- ---- which bytes are a field, and why others are none
+
+pub data Value : Type 0 where
+  Number : ℕ → Value
+  Bytes : List ℕ → Value
+
+abbrev pub token_length_of : List Value → ℕ
+token_length_of (version ∷ destination ∷ source ∷ Number count ∷ []) = count
+token_length_of values = 0
+
+abbrev pub IsId : List Value → List ℕ → Type 0
+IsId values bytes = (id : List ℕ) × (values ≡ Bytes id ∷ []) × (length id ≤ 20) × (bytes ≡ long_id id)
+
+abbrev pub IsVarint : List Value → List ℕ → Type 0
+IsVarint values bytes = (n : ℕ) × (values ≡ Number n ∷ []) × Encodes n bytes
+
+-- Behind fields with the values before, and in front of rest, the bytes are a field of this kind, with these values.
+-- A token is told by how many bytes follow it.
+abbrev pub IsField : Context → Field → List Value → List Value → List ℕ → List ℕ → Type 0
+IsField context Version before values bytes rest = (n : ℕ) × (values ≡ Number n ∷ []) × IsNumber 4 n bytes
+IsField context DestinationId before values bytes rest = IsId values bytes
+IsField context SourceId before values bytes rest = IsId values bytes
+IsField context (Supported version) before values bytes rest =
+    (values ≡ []) × (bytes ≡ []) × Contains context.versions version
+IsField context TokenLength before values bytes rest = IsVarint values bytes
+IsField context Token before values bytes rest =
+    (values ≡ Number (length rest) ∷ []) × (length bytes ≡ token_length_of before)
+IsField context Length before values bytes rest = IsVarint values bytes
+IsField context ShortId before values bytes rest =
+    (id : List ℕ) × (values ≡ Bytes id ∷ []) × (context.parsed (bytes ++ rest) ≡ Ok (id, length bytes))
+
+-- What is told where no such field stands.
+abbrev pub refusal_at : Field → List Value → Refusal
+refusal_at DestinationId before = Invalid (codes "malformed cid")
+refusal_at SourceId before = Invalid (codes "malformed cid")
+refusal_at (Supported version) (number ∷ Bytes dst ∷ Bytes src ∷ []) = Unsupported src dst version
+refusal_at Token before = Invalid (codes "token out of bounds")
+refusal_at field before = Invalid (codes "unexpected end of packet")
+
+-- Of a short head's id it is what the parser says.
+abbrev pub IsRefusal : Context → Field → List Value → List ℕ → Refusal → Type 0
+IsRefusal context ShortId before bytes e = context.parsed bytes ≡ Err e
+IsRefusal context field before bytes e = e ≡ refusal_at field before
+
+-- ---- which bytes are a row, and why others are none
+
+-- The bytes are such a field, and then rest.
+abbrev pub Begins : Context → Field → List Value → List Value → List ℕ → List ℕ → Type 0
+Begins context field before values bytes rest =
+    (front : List ℕ) × (bytes ≡ front ++ rest) × IsField context field before values front rest
+
+-- The bytes are the fields of a row, and then rest; the values grow from before to after.
+abbrev pub AreFields : Context → List Field → List Value → List Value → List ℕ → List ℕ → Type 0
+AreFields context [] before after bytes rest = (after ≡ before) × (bytes ≡ rest)
+AreFields context (field ∷ fields) before after bytes rest =
+    (values : List Value) × (left : List ℕ) × Begins context field before values bytes left
+    × AreFields context fields (before ++ values) after left rest
+
+-- The bytes do not begin with such a field.
+pub record Stops (context : Context) (field : Field) (before : List Value) (bytes : List ℕ) (e : Refusal) : Type 0 where
+  pub none : (values : List Value) (rest : List ℕ) → Begins context field before values bytes rest → ⊥
+  pub why : IsRefusal context field before bytes e
+
+-- The first fields of a row are there, and the next one is not.
+abbrev pub StopsWithin : Context → List Field → List Value → List ℕ → Refusal → Type 0
+StopsWithin context [] before bytes e = ⊥
+StopsWithin context (field ∷ fields) before bytes e =
+    Stops context field before bytes e
+    ⊎ ((values : List Value) × (left : List ℕ) × Begins context field before values bytes left
+    × StopsWithin context fields (before ++ values) left e)
+
+-- ---- heads
+
+-- The head that a first byte and the values of its row say. The spin bit is 0x20 (section 17.3.1). Places are counted
+-- from the end of whole bytes.
+abbrev pub IsHead : ℕ → ℕ → List Value → ProtectedHeader → Type 0
+IsHead whole first values (head.Short spin dst) =
+    (is_long first ≡ false) × (spin ≡ has_bit 0x20 first) × (values ≡ Bytes dst ∷ [])
+IsHead whole first values (head.VersionNegotiate random dst src) =
+    (first ≡ 0x80 + random) × (values ≡ Number 0 ∷ Bytes dst ∷ Bytes src ∷ [])
+IsHead whole first values (head.Retry dst src version) =
+    (version ≢ 0) × (long_type version first ≡ kind.Retry) × (values ≡ Number version ∷ Bytes dst ∷ Bytes src ∷ [])
+IsHead whole first values (head.Long ty dst src len version) =
+    (long_type version first ≡ kind.Standard ty) × (values ≡ Number version ∷ Bytes dst ∷ Bytes src ∷ Number len ∷ [])
+IsHead whole first values (head.Initial h) =
+    (count left : ℕ) × (h.token_pos.start + count ≡ h.token_pos.end) × (h.token_pos.end + left ≡ whole)
+    × (values ≡ Number h.version ∷ Bytes h.dst_cid ∷ Bytes h.src_cid ∷ Number count ∷ Number left ∷ Number h.len ∷ [])
+
+-- The bytes begin with this head, and rest is left behind it.
+abbrev pub Head : Context → ℕ → List ℕ → ProtectedHeader → List ℕ → Type 0
+Head context whole bytes h rest =
+    (first : ℕ) × (text : List ℕ) × (values : List Value) × (bytes ≡ first ∷ text) × (is_fixed context first ≡ true)
+    × AreFields context (row_of first (num (take 4 text))) [] values text rest × IsHead whole first values h
+
+-- The bytes begin with no head, and this is the refusal: of the first byte, or of the first field that is not there.
+abbrev pub Refused : Context → List ℕ → Refusal → Type 0
+Refused context [] e = e ≡ Invalid (codes "unexpected end of packet")
+Refused context (first ∷ text) e =
+    ((is_fixed context first ≡ false) × (e ≡ Invalid (codes "fixed bit unset")))
+    ⊎ ((is_fixed context first ≡ true) × StopsWithin context (row_of first (num (take 4 text))) [] text e)
+
+-- a head and what is left behind it, or a refusal, is what the bytes begin with
+abbrev pub HeadAnswer : Context → ℕ → List ℕ → Result (ProtectedHeader × List ℕ) Refusal → Type 0
+HeadAnswer context whole bytes (Ok found) = Head context whole bytes found.0 found.1
+HeadAnswer context whole bytes (Err e) = Refused context bytes e
+
+-- a version whose heads are read further than their ids
+abbrev pub IsKnown : Context → ℕ → Type 0
+IsKnown context version = (version ≢ 0) × Contains context.versions version
+
+-- ---- packets
+
+-- a packet of q bytes begins the datagram, and its head ends at p
+abbrev pub Cut : Context → List ℕ → ProtectedHeader → ℕ → ℕ → Type 0
+Cut context bytes h p q =
+    (rest : List ℕ) × Head context (length bytes) bytes h rest × (p + length rest ≡ length bytes)
+    × MatchOption (len_in h) (q ≡ length bytes) (λ len. q ≡ p + len) × (q ≤ length bytes)
+
+-- No packet can be cut from the bytes, and this is the refusal: the head's, or that of a length beyond the end.
+pub data Uncut (context : Context) (bytes : List ℕ) : Refusal → Type 0 where
+  no_head : (e : Refusal) → Refused context bytes e → Uncut context bytes e
+  past_end : (h : ProtectedHeader) (rest : List ℕ) (len : ℕ) → Head context (length bytes) bytes h rest
+      → len_in h ≡ Some len → length rest < len
+      → Uncut context bytes (Invalid (codes "packet too short to contain payload length"))
+
+-- a head, where it ends and where its packet ends, or a refusal, is what the bytes begin with
+abbrev pub CutAnswer : Context → List ℕ → Result (ProtectedHeader × ℕ × ℕ) Refusal → Type 0
+CutAnswer context bytes (Ok cut) = Cut context bytes cut.0 cut.1 cut.2
+CutAnswer context bytes (Err e) = Uncut context bytes e

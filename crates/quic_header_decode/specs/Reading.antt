@@ -1,0 +1,125 @@
+-- How a head is read, step by step.
+use Rattle.quic_header_encode.specs.Types.{long_type}
+use Rattle.std.specs.Prelude.{◌≡◌, ℕ, ◌+◌, ◌-◌, ◌/◌, ◌%◌, ◌<◌, ◌≤◌, Bool, List, [], length, drop, Option, Some, None, Result, Ok, Err, nat_lt, nat_eq, not, ◌&&◌, ◌||◌, if◌then◌else◌, codes, unwrap_or}
+use Rattle.std.specs.List.{list_any}
+use Rattle.std.specs.Option.{ok_or}
+use Rattle.quic_header_decode.specs.declared.protected.ProtectedHeader.{ProtectedHeader}
+use Rattle.quic_header_decode.specs.declared.protected.ProtectedHeader.TheVariants as head
+use Rattle.quic_header_encode.specs.declared.long_type.LongHeaderType.{LongHeaderType}
+use Rattle.quic_header_encode.specs.declared.long_type.LongHeaderType.TheVariants as kind
+use Rattle.quic_header_decode.specs.Refusal.{Refusal, Unsupported, Invalid}
+use Rattle.quic_header_decode.specs.Fields.{byte_at, word_at, id_at, wide_id_at}
+use Rattle.quic_header_decode.specs.Parsers.{fixed_parsed}
+use Rattle.quic_base.specs.Reading.{number_at}
+use Rattle.bytes.specs.Filled.{Filled}
+
+infixl 10 ◌>>=◌
+abbrev pub ◌>>=◌ : {A B : Type 0} → Result A Refusal → (A → Result B Refusal) → Result B Refusal
+(Ok x) >>= f = f x
+(Err e) >>= f = Err e
+
+-- what heads are read by: the ids of short heads, the versions that are known, and whether the fixed bit may be clear
+pub record Context : Type 0 where
+  pub parsed : List ℕ → Result (List ℕ × ℕ) Refusal
+  pub versions : List ℕ
+  pub grease : Bool
+
+-- the ids of short heads are among the bytes that are there
+abbrev pub TakesWithin : Context → Type 0
+TakesWithin context = (text id : List ℕ) (count : ℕ) → context.parsed text ≡ Ok (id, count) → count ≤ length text
+
+abbrev pub at_end : Refusal
+at_end = Invalid (codes "unexpected end of packet")
+
+abbrev pub bad_id : Refusal
+bad_id = Invalid (codes "malformed cid")
+
+unfoldable pub typed_at : LongHeaderType → ℕ → List ℕ → List ℕ → ℕ → List ℕ → Result (ProtectedHeader × List ℕ) Refusal
+typed_at kind.Retry whole dst src version bytes = Ok (head.Retry dst src version, bytes)
+typed_at (kind.Standard ty) whole dst src version bytes = do
+  len ← ok_or (number_at bytes) at_end
+  Ok (head.Long ty dst src len.0 version, len.1)
+typed_at kind.Initial whole dst src version bytes = do
+  token ← ok_or (number_at bytes) at_end
+  if nat_lt (length token.1) token.0 then Err (Invalid (codes "token out of bounds")) else (ok_or (number_at (drop token.0 token.1)) at_end >>= λ len.
+      let start = whole - length token.1 in
+      Ok (head.Initial (record { dst_cid = dst; src_cid = src; token_pos = record { start = start; end = start + token.0 }; len = len.0; version = version }), len.1))
+
+unfoldable pub long_at : List ℕ → ℕ → ℕ → List ℕ → Result (ProtectedHeader × List ℕ) Refusal
+long_at versions whole first bytes = do
+  version ← ok_or (word_at bytes) at_end
+  dst ← ok_or (id_at version.1) bad_id
+  src ← ok_or (id_at dst.1) bad_id
+  if nat_eq version.0 0 then Ok (head.VersionNegotiate (first - 128) dst.0 src.0, src.1)
+      else (if not (list_any (λ known. nat_eq known version.0) versions) then Err (Unsupported src.0 dst.0 version.0)
+      else typed_at (long_type version.0 first) whole dst.0 src.0 version.0 src.1)
+
+-- a long head whose ids may be longer, where its version isn't known
+unfoldable pub wide_at : List ℕ → ℕ → ℕ → List ℕ → Result (ProtectedHeader × List ℕ) Refusal
+wide_at versions whole first bytes = do
+  version ← ok_or (word_at bytes) at_end
+  dst ← ok_or (wide_id_at version.1) bad_id
+  src ← ok_or (wide_id_at dst.1) bad_id
+  if not (nat_eq version.0 0) && not (list_any (λ known. nat_eq known version.0) versions) then Err (Unsupported src.0 dst.0 version.0)
+      else (if nat_lt 20 (length dst.0) || nat_lt 20 (length src.0) then Err bad_id
+      else (if nat_eq version.0 0 then Ok (head.VersionNegotiate (first - 128) dst.0 src.0, src.1)
+      else typed_at (long_type version.0 first) whole dst.0 src.0 version.0 src.1))
+
+unfoldable pub head_at : Context → ℕ → List ℕ → Result (ProtectedHeader × List ℕ) Refusal
+head_at context whole bytes = do
+  first ← ok_or (byte_at bytes) at_end
+  if not context.grease && nat_eq (first.0 / 64 % 2) 0 then Err (Invalid (codes "fixed bit unset"))
+      else (if nat_lt first.0 128
+      then (context.parsed first.1 >>= λ id. Ok (head.Short (nat_eq (first.0 / 32 % 2) 1) id.0, drop id.1 first.1))
+      else long_at context.versions whole first.0 first.1)
+
+-- a head whose fixed bit isn't looked at, with ids of so many bytes in short ones, and in long ones as many as stand
+-- there
+unfoldable pub wide_head_at : ℕ → List ℕ → ℕ → List ℕ → Result (ProtectedHeader × List ℕ) Refusal
+wide_head_at id_len versions whole bytes = do
+  first ← ok_or (byte_at bytes) at_end
+  if nat_lt first.0 128
+      then (fixed_parsed id_len first.1 >>= λ id. Ok (head.Short (nat_eq (first.0 / 32 % 2) 1) id.0, drop id.1 first.1))
+      else wide_at versions whole first.0 first.1
+
+-- the length that a head says
+abbrev pub len_in : ProtectedHeader → Option ℕ
+len_in (head.Initial h) = Some h.len
+len_in (head.Long ty dst src len version) = Some len
+len_in (head.Retry dst src version) = None
+len_in (head.Short spin dst) = None
+len_in (head.VersionNegotiate random dst src) = None
+
+-- a head, where it ends, and where its packet ends
+unfoldable pub cut_at : Context → List ℕ → Result (ProtectedHeader × ℕ × ℕ) Refusal
+cut_at context bytes = do
+  read ← head_at context (length bytes) bytes
+  let len = unwrap_or (len_in read.0) (length read.1) in
+      let place = length bytes - length read.1 in
+      if nat_lt (length read.1) len then Err (Invalid (codes "packet too short to contain payload length")) else Ok (read.0, place, place + len)
+
+-- what follows a packet, if anything does
+abbrev pub IsRest : Option Filled → List ℕ → Type 0
+IsRest None bytes = bytes ≡ []
+IsRest (Some rest) bytes = (rest.items ≡ bytes) × (0 < length bytes)
+
+-- where an Initial packet's token begins and ends
+abbrev pub token_start : ProtectedHeader → ℕ
+token_start (head.Initial h) = h.token_pos.start
+token_start (head.Long ty dst src len version) = 0
+token_start (head.Retry dst src version) = 0
+token_start (head.Short spin dst) = 0
+token_start (head.VersionNegotiate random dst src) = 0
+
+abbrev pub token_end : ProtectedHeader → ℕ
+token_end (head.Initial h) = h.token_pos.end
+token_end (head.Long ty dst src len version) = 0
+token_end (head.Retry dst src version) = 0
+token_end (head.Short spin dst) = 0
+token_end (head.VersionNegotiate random dst src) = 0
+
+-- a head that ends at this place takes its first byte, and its token lies in it
+pub record IsPlaced (h : ProtectedHeader) (at : ℕ) : Type 0 where
+  pub after_first : 0 < at
+  pub token_order : token_start h ≤ token_end h
+  pub token_within : token_end h ≤ at

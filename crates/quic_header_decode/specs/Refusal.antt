@@ -1,0 +1,29 @@
+-- Why a packet can't be read: an error without where its text lies in memory.
+use Rattle.std.specs.Prelude.{◌≡◌, ℕ, List, Result, Ok, Err}
+use Rattle.quic_header_decode.specs.declared.decode_error.PacketDecodeError.{PacketDecodeError}
+use Rattle.quic_header_decode.specs.declared.decode_error.PacketDecodeError.TheVariants as error
+
+pub data Refusal : Type 0 where
+  Unsupported : List ℕ → List ℕ → ℕ → Refusal
+  Invalid : List ℕ → Refusal
+  NoMemory : Refusal
+
+abbrev pub refusal_of : PacketDecodeError → Refusal
+refusal_of (error.UnsupportedVersion src dst version) = Unsupported src dst version
+refusal_of (error.InvalidHeader text) = Invalid text.now
+refusal_of error.OutOfMemory = NoMemory
+
+-- what a call answered is what there is to be read, or its refusal, unless memory ran out
+abbrev pub Refuses : {Y : Type 0} → PacketDecodeError → Result Y Refusal → Type 0
+Refuses (error.UnsupportedVersion src dst version) read = read ≡ Err (Unsupported src dst version)
+Refuses (error.InvalidHeader text) read = read ≡ Err (Invalid text.now)
+Refuses error.OutOfMemory read = Unit {0}
+
+abbrev pub Gives : {X Y : Type 0} → (X → Y) → Result X PacketDecodeError → Result Y Refusal → Type 0
+Gives view (Ok x) read = read ≡ Ok (view x)
+Gives view (Err e) read = Refuses e read
+
+-- Some answer is right, and each right answer was given.
+pub record Answers {Y : Type 0} (IsRight IsGiven : Result Y Refusal → Type 0) : Type 0 where
+  pub some : (answer : Result Y Refusal) × IsRight answer × IsGiven answer
+  pub each : (answer : Result Y Refusal) → IsRight answer → IsGiven answer

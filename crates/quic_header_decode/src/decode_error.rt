@@ -1,0 +1,39 @@
+//! Why no packet can be read from a datagram.
+ghost use Rattle.std.specs.Prelude.{◌≡◌};
+ghost use Rattle.quic_header_decode.specs.Reading.{at_end};
+ghost use Rattle.quic_header_decode.specs.Refusal.{refusal_of};
+
+use quic_base::coding::UnexpectedEnd;
+use quic_base::ids::ConnectionId;
+use thiserror::Error;
+
+/// Why no packet can be read from a datagram, or from what is left of it. Nothing behind the place can be
+/// read then either: the datagram is given up.
+#[derive(Clone, Copy, Debug, PartialEq, Eq, PartialOrd, Ord, Hash, Drop, Error)]
+pub enum PacketDecodeError {
+    /// The version of a long head is none of those that the endpoint speaks (RFC 9000, section 6.1).
+    #[error("unsupported version {version:x}")]
+    UnsupportedVersion {
+        /// The sender's id.
+        src_cid: ConnectionId,
+        /// The receiver's id.
+        dst_cid: ConnectionId,
+        /// The version.
+        version: u32,
+    },
+    /// The head or the packet is malformed, as the text says.
+    #[error("invalid header: {0}")]
+    InvalidHeader(&'static str),
+    /// Memory ran out.
+    #[error("out of memory")]
+    OutOfMemory,
+}
+
+/// Bytes that end within a field of a head.
+impl From<UnexpectedEnd> for PacketDecodeError {
+    ghost from_gives = { λ _ e. refusal_of e ≡ at_end };
+
+    fn from(_end: UnexpectedEnd) -> PacketDecodeError {
+        PacketDecodeError::InvalidHeader("unexpected end of packet")
+    }
+}

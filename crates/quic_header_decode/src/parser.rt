@@ -1,0 +1,84 @@
+//! Parsers of the connection ids of short heads, which say no length.
+ghost use Rattle.std.specs.Prelude.{◌≡◌, ℕ, ◌-◌, ◌≤◌, List, length, drop, Bool, IsTrue, false, Result, IfOk, IsErrOf, MatchResult, ◌≢◌};
+ghost use Rattle.quic_header_decode.specs.Refusal.{Refusal, NoMemory, Gives};
+
+use crate::decode_error::PacketDecodeError;
+use quic_base::coding::Cursor;
+use quic_base::ids::ConnectionId;
+
+/// Takes the connection id of a short head, which doesn't say the id's length. An endpoint knows its own
+/// ids, so it brings the parser.
+pub trait ConnectionIdParser {
+    ghost use Rattle.quic_base.specs.Cursor.{unread};
+
+    // What the bytes that are left begin with: an id and how many bytes it takes, or a refusal.
+    ghost parsed: { Self → List ℕ → Result (List ℕ × ℕ) Refusal };
+
+    // It takes memory, so that memory may run out.
+    ghost takes_memory: { Self → Bool };
+
+    /// Takes an id from the cursor's place. The cursor's bytes stay; after an error its place is open.
+    /// `OutOfMemory` may stand in place of every answer, if the parser takes memory.
+    fn parse(&self, buf: &mut Cursor) -> Result<ConnectionId, PacketDecodeError>
+        ensures bytes { buf.new.bytes ≡ buf.old.bytes }
+        ensures parsed { Gives (λ id. (id, length (unread buf.old) - length (unread buf.new))) result (parsed self.now (unread buf.old)) }
+        ensures within { IfOk result (λ id. unread buf.new ≡ drop (length (unread buf.old) - length (unread buf.new)) (unread buf.old)) }
+        ensures forward { IfOk result (λ _. buf.old.position ≤ buf.new.position) }
+        ensures memory { IsErrOf result PacketDecodeError.OutOfMemory → IsTrue (takes_memory self.now) };
+
+    // An id takes bytes that are there, and want of memory is no refusal of bytes.
+    ghost lawful: { (p : Self) (bytes : List ℕ) → MatchResult (parsed p bytes) (λ x. x.1 ≤ length bytes) (λ e. e ≢ NoMemory) };
+}
+
+/// A parser of ids that all have one length, of at most 20 bytes. Where fewer bytes are left it answers
+/// `InvalidHeader("packet too small")`. It takes no memory.
+#[derive(Clone, Copy, Debug)]
+pub struct FixedLengthConnectionIdParser {
+    expected_len: usize,
+    ghost in_range: { expected_len ≤ 20 },
+}
+
+impl FixedLengthConnectionIdParser {
+    ghost use Rattle.quic_header_decode.specs.Packet.{id_len};
+
+    /// A parser of ids of that many bytes. The caller must ensure that these are at most 20.
+    pub fn new(expected_len: usize) -> Self
+        requires { expected_len ≤ 20 }
+        ensures { id_len result ≡ expected_len }
+    {
+        FixedLengthConnectionIdParser { expected_len }
+    }
+
+    // How many bytes each id has.
+    #[inline]
+    pub(crate) fn expected_len(self) -> usize
+        ensures value { result ≡ id_len self }
+        ensures small { result ≤ 20 }
+    {
+        self.expected_len
+    }
+}
+
+impl ConnectionIdParser for FixedLengthConnectionIdParser {
+    ghost use Rattle.quic_header_decode.specs.Packet.{id_len};
+    ghost use Rattle.quic_header_decode.specs.Parsers.{fixed_parsed, fixed_lawful};
+
+    ghost parsed = { λ p bytes. fixed_parsed (id_len p) bytes };
+
+    ghost takes_memory = { λ _. false };
+
+    ghost lawful = { λ p bytes. fixed_lawful (id_len p) bytes };
+
+    /// Takes an id from the cursor's place. The cursor's bytes stay; after an error its place is open.
+    /// `OutOfMemory` may stand in place of every answer, if the parser takes memory.
+    #[inline]
+    fn parse(&self, buf: &mut Cursor) -> Result<ConnectionId, PacketDecodeError> {
+        let len = self.expected_len;
+        if buf.remaining() < len {
+            return Err(PacketDecodeError::InvalidHeader("packet too small"));
+        }
+        let id = ConnectionId::new(&buf.rest()[..len]);
+        buf.advance(len);
+        Ok(id)
+    }
+}

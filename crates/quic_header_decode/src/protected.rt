@@ -1,0 +1,273 @@
+//! Heads of packets as they are read before their protection is taken off (RFC 9000, section 17).
+ghost use Rattle.std.specs.Prelude.{◌≡◌, ◌<◌, ◌≤◌, length, IsTrue, Err, IfOk, IsErrOf, ◌≢◌, drop};
+ghost use Rattle.quic_header_decode.specs.Refusal.{Gives, Answers};
+ghost use Rattle.quic_header_decode.specs.Grammar.{HeadAnswer};
+ghost use Rattle.quic_header_decode.specs.Queries.{dst_of};
+ghost use Rattle.quic_header_decode.specs.Reading.{head_at, long_at, typed_at, len_in, IsPlaced};
+
+use crate::decode_error::PacketDecodeError;
+use crate::fields::{pass, read_id, read_var, read_word, remaining};
+use crate::parser::ConnectionIdParser;
+use quic_base::coding::Cursor;
+use quic_base::ids::ConnectionId;
+use quic_header_encode::long_type::{LongHeaderType, LongType};
+use std::ops::Range;
+
+/// What an Initial packet's head says before its protection is taken off (RFC 9000, section 17.2.2).
+#[derive(Clone, Debug, Drop)]
+pub struct ProtectedInitialHeader {
+    /// The receiver's id.
+    pub dst_cid: ConnectionId,
+    /// The sender's id.
+    pub src_cid: ConnectionId,
+    /// Where the token stands in the bytes of the cursor; after `PartialDecode::new`, in the packet.
+    pub token_pos: Range<usize>,
+    /// How many bytes the packet has behind its head, the number's bytes among them.
+    pub len: u64,
+    /// The version of QUIC.
+    pub version: u32,
+}
+
+/// What a packet's head says before its protection is taken off.
+#[derive(Clone, Debug, Drop)]
+pub enum ProtectedHeader {
+    /// The head of an Initial packet.
+    Initial(ProtectedInitialHeader),
+    /// The head of a Handshake or 0-RTT packet (RFC 9000, sections 17.2.3 and 17.2.4).
+    Long {
+        /// Which of the two.
+        ty: LongType,
+        /// The receiver's id.
+        dst_cid: ConnectionId,
+        /// The sender's id.
+        src_cid: ConnectionId,
+        /// How many bytes the packet has behind its head, the number's bytes among them.
+        len: u64,
+        /// The version of QUIC.
+        version: u32,
+    },
+    /// The head of a Retry packet (RFC 9000, section 17.2.5). What follows it is its token and tag.
+    Retry {
+        /// The receiver's id.
+        dst_cid: ConnectionId,
+        /// The sender's id.
+        src_cid: ConnectionId,
+        /// The version of QUIC.
+        version: u32,
+    },
+    /// The head of a 1-RTT packet (RFC 9000, section 17.3.1).
+    Short {
+        /// The bit for measuring round trips.
+        spin: bool,
+        /// The receiver's id.
+        dst_cid: ConnectionId,
+    },
+    /// The head of a version negotiation (RFC 9000, section 17.2.1). What follows it are the versions.
+    VersionNegotiate {
+        /// The first byte without its highest bit.
+        random: u8,
+        /// The receiver's id.
+        dst_cid: ConnectionId,
+        /// The sender's id.
+        src_cid: ConnectionId,
+    },
+}
+
+impl ProtectedHeader {
+    ghost use Rattle.quic_base.specs.Cursor.{unread};
+
+    /// Reads the head at the cursor's place, in the order of its fields: the first that can't be read is the
+    /// refusal. Afterwards the cursor stands at the head's end; after an error its place is open. Its bytes
+    /// stay. `versions` are those that are read further than their ids; with `grease` the fixed bit may be
+    /// clear (RFC 9287). `OutOfMemory` comes only of a parser that takes memory.
+    ///
+    /// Without `grease` every head whose fixed bit is clear is refused, as in quinn-proto, though clients ignore that
+    /// bit in a version negotiation (RFC 9000, section 17.2.1), and a version that isn't known may use it for anything
+    /// (RFC 8999, section 5.1).
+    #[inline(always)]
+    pub fn decode<P: ConnectionIdParser>(
+        buf: &mut Cursor,
+        parser: &P,
+        versions: &[u32],
+        grease: bool,
+    ) -> Result<Self, PacketDecodeError>
+        ensures bytes { buf.new.bytes ≡ buf.old.bytes }
+        ensures answer { Answers (HeadAnswer (record { parsed = P.parsed parser.now; versions = versions.now; grease = grease }) (length buf.old.bytes.items) (unread buf.old))
+            (λ answer. Gives (λ h. (h, unread buf.new)) result answer) }
+        ensures memory { IsErrOf result PacketDecodeError.OutOfMemory → IsTrue (P.takes_memory parser.now) }
+        ensures places { IfOk result (λ h. IsPlaced h buf.new.position) }
+    {
+        let _rest = buf.rest();
+        let _len = buf.remaining();
+        Self::decode_head(buf, parser, versions, grease)
+    }
+
+    // Short heads are read where this stands, long ones by a call.
+    #[inline(always)]
+    #[tactic(auto, unfolding(crate::specs::Reading::head_at))]
+    pub(crate) fn decode_head<P: ConnectionIdParser>(
+        buf: &mut Cursor,
+        parser: &P,
+        versions: &[u32],
+        grease: bool,
+    ) -> Result<Self, PacketDecodeError>
+        ensures bytes { buf.new.bytes ≡ buf.old.bytes }
+        ensures exact { Gives (λ h. (h, unread buf.new)) result
+            (head_at (record { parsed = P.parsed parser.now; versions = versions.now; grease = grease }) (length buf.old.bytes.items) (unread buf.old)) }
+        ensures memory { IsErrOf result PacketDecodeError.OutOfMemory → IsTrue (P.takes_memory parser.now) }
+        ensures places { IfOk result (λ h. IsPlaced h buf.new.position) }
+    {
+        let Some(first) = buf.rest().first() else {
+            return Err(PacketDecodeError::InvalidHeader("unexpected end of packet"));
+        };
+        let first = *first;
+        if !grease && first / 64 % 2 == 0 {
+            return Err(PacketDecodeError::InvalidHeader("fixed bit unset"));
+        }
+        buf.advance(1);
+        if first < 0x80 {
+            let spin = first / 32 % 2 == 1;
+            return match parser.parse(buf) {
+                Ok(dst_cid) => Ok(Self::Short { spin, dst_cid }),
+                Err(e) => Err(e),
+            };
+        }
+        Self::decode_long(buf, first, versions)
+    }
+
+    // Reads a long head behind its first byte at the cursor's place.
+    #[inline(always)]
+    fn decode_long(buf: &mut Cursor, first: u8, versions: &[u32]) -> Result<Self, PacketDecodeError>
+        requires long { 128 ≤ first }
+        ensures bytes { buf.new.bytes ≡ buf.old.bytes }
+        ensures exact { Gives (λ h. (h, unread buf.new)) result
+            (long_at versions.now (length buf.old.bytes.items) first (unread buf.old)) }
+        ensures memory { result ≢ Err PacketDecodeError.OutOfMemory }
+        ensures places { 0 < buf.old.position → IfOk result (λ h. IsPlaced h buf.new.position) }
+    {
+        let start = buf.position();
+        let mut place = start;
+        let head = Self::read_long(buf.get_ref().as_slice(), &mut place, first, versions);
+        buf.advance(place - start);
+        head
+    }
+
+    // Reads a long head behind its first byte, and moves the place behind what was read. It is one function, so that
+    // each head is put together once, and not once for each call that it goes through. Each kind returns by itself, and
+    // builds the sender's id itself, so that its words go from where they are read to their places in the answer.
+    #[inline(never)]
+    #[tactic(auto, unfolding(crate::specs::Reading::long_at, crate::specs::Reading::typed_at))]
+    fn read_long(
+        bytes: &[u8],
+        place: &mut usize,
+        first: u8,
+        versions: &[u32],
+    ) -> Result<Self, PacketDecodeError>
+        requires long { 128 ≤ first }
+        requires inside { place.old ≤ length bytes.now }
+        ensures forward { place.old ≤ place.new }
+        ensures within { place.new ≤ length bytes.now }
+        ensures exact { Gives (λ h. (h, drop place.new bytes.now)) result
+            (long_at versions.now (length bytes.now) first (drop place.old bytes.now)) }
+        ensures memory { result ≢ Err PacketDecodeError.OutOfMemory }
+        ensures places { 0 < place.old → IfOk result (λ h. IsPlaced h place.new) }
+    {
+        let mut at = *place;
+        let Some(version) = read_word(bytes, &mut at) else {
+            return Err(PacketDecodeError::InvalidHeader("unexpected end of packet"));
+        };
+        let Some(dst) = read_id(bytes, &mut at) else {
+            return Err(PacketDecodeError::InvalidHeader("malformed cid"));
+        };
+        let Some(src) = read_id(bytes, &mut at) else {
+            return Err(PacketDecodeError::InvalidHeader("malformed cid"));
+        };
+        let dst_cid = ConnectionId::new(dst);
+        if version == 0 {
+            *place = at;
+            return Ok(Self::VersionNegotiate {
+                random: first - 0x80,
+                dst_cid,
+                src_cid: ConnectionId::new(src),
+            });
+        }
+        if !versions.contains(&version) {
+            return Err(PacketDecodeError::UnsupportedVersion {
+                src_cid: ConnectionId::new(src),
+                dst_cid,
+                version,
+            });
+        }
+        match LongHeaderType::from_byte(first, version) {
+            LongHeaderType::Retry => {
+                *place = at;
+                return Ok(Self::Retry {
+                    dst_cid,
+                    src_cid: ConnectionId::new(src),
+                    version,
+                });
+            }
+            LongHeaderType::Standard(ty) => {
+                let Some(len) = read_var(bytes, &mut at) else {
+                    return Err(PacketDecodeError::InvalidHeader("unexpected end of packet"));
+                };
+                *place = at;
+                return Ok(Self::Long {
+                    ty,
+                    dst_cid,
+                    src_cid: ConnectionId::new(src),
+                    len,
+                    version,
+                });
+            }
+            LongHeaderType::Initial => {}
+        }
+        let Some(token_len) = read_var(bytes, &mut at) else {
+            return Err(PacketDecodeError::InvalidHeader("unexpected end of packet"));
+        };
+        let start = at;
+        if token_len > remaining(bytes, start) as u64 {
+            return Err(PacketDecodeError::InvalidHeader("token out of bounds"));
+        }
+        pass(bytes, &mut at, token_len as usize);
+        let end = at;
+        let Some(len) = read_var(bytes, &mut at) else {
+            return Err(PacketDecodeError::InvalidHeader("unexpected end of packet"));
+        };
+        *place = at;
+        Ok(Self::Initial(ProtectedInitialHeader {
+            dst_cid,
+            src_cid: ConnectionId::new(src),
+            token_pos: start..end,
+            len,
+            version,
+        }))
+    }
+}
+
+impl ProtectedHeader {
+    // The length that the head says.
+    #[inline]
+    pub(crate) fn payload_len(&self) -> Option<u64>
+        ensures { result ≡ len_in self.now }
+    {
+        match self {
+            Self::Initial(head) => Some(head.len),
+            Self::Long { len, .. } => Some(*len),
+            _ => None,
+        }
+    }
+
+    /// The receiver's id.
+    pub fn dst_cid(&self) -> &ConnectionId
+        ensures { result.now ≡ dst_of self.now }
+    {
+        match self {
+            Self::Initial(head) => &head.dst_cid,
+            Self::Long { dst_cid, .. } => dst_cid,
+            Self::Retry { dst_cid, .. } => dst_cid,
+            Self::Short { dst_cid, .. } => dst_cid,
+            Self::VersionNegotiate { dst_cid, .. } => dst_cid,
+        }
+    }
+}

@@ -1,0 +1,486 @@
+//! Heads are written, and packets finished (RFC 9000, section 17; RFC 9001, sections 5.3 and 5.4).
+ghost use Rattle.std.specs.Prelude.{◌≡◌, ◌+◌, ◌-◌, ◌≤◌, ◌<◌, ◌^◌, ◌++◌, length, vec_len, vec_capacity, IfOk, OnErr, OnOk, IfSome, IfNone, IsOk, IsTrue, ◌↔◌, ◌⊎◌, option_map, take, drop};
+ghost use Rattle.quic_base.specs.Number.{AreBytes, bytes_of};
+ghost use Rattle.quic_crypto.specs.PacketNumbers.{IsInRange};
+ghost use Rattle.quic_header_encode.specs.declared.header.Header.TheVariants as header;
+ghost use Rattle.quic_header_encode.specs.declared.long_type.LongHeaderType.TheVariants as kind;
+ghost use Rattle.quic_header_encode.specs.Laying.{kind_of, laid_bytes, laid_len, padded_id, padded_room, HasLayRoom, IsLayable, IsShortToken, Lays};
+ghost use Rattle.quic_header_encode.specs.Writing.{bit, header_size, place_in, header_bytes, IsWritable, size_in, has_length, finished, HasRoom};
+
+use crate::header::{Header, InitialHeader};
+use crate::lay::{Exact, HeaderRef, Padded};
+use crate::long_type::{HeadKind, LongType};
+use quic_base::coding::{NoRoom, are_bytes};
+use quic_base::ids::ConnectionId;
+use quic_crypto::crypto::{HeaderKey, PacketKey};
+use quic_crypto::packet_number::PacketNumber;
+
+/// Where a head was written: what `finish` has to know once the payload stands behind it.
+#[derive(Clone, Copy, Debug)]
+pub struct PartialEncode {
+    /// Where the head begins in its buffer.
+    pub start: usize,
+    /// How many bytes the head has.
+    pub header_len: usize,
+    /// How many bytes the number has, which stands at the head's end, and whether the head has a length, which
+    /// stands before the number; none for Retry and version negotiation.
+    pub pn: Option<(usize, bool)>,
+}
+
+// Appends bytes for which there is room.
+pub(crate) fn append(out: &mut Vec<u8>, bytes: &[u8])
+    requires { vec_len out.old + length bytes.now ≤ vec_capacity out.old }
+    ensures items { out.new.items ≡ out.old.items ++ bytes.now }
+    ensures len { vec_len out.new ≡ vec_len out.old + length bytes.now }
+    ensures capacity { vec_capacity out.old ≤ vec_capacity out.new }
+{
+    match out.extend_from_slice(bytes) {
+        Ok(()) => (),
+        Err(_) => unreachable!(),
+    }
+}
+
+// Over how many bytes a short head is laid, one that has no token, and an Initial one whose token has at most 32 bytes.
+const SHORT_ROOM: usize = 32;
+
+const LONG_ROOM: usize = 64;
+
+const INITIAL_ROOM: usize = 96;
+
+// What the first byte of a long head has beside its type and number.
+const LONG_FIRST: u8 = 0xc0;
+
+// What stands in place of a number where there is none.
+const NO_NUMBER: PacketNumber = PacketNumber::U8(0);
+
+// Whether a token is laid without a call: one of 16 to 32 bytes, or an empty one.
+#[inline(always)]
+fn is_laid_by_stores(token: &[u8]) -> bool
+    ensures { IsTrue result ↔ IsShortToken token.now }
+{
+    token.len() == 0 || token.len() >= 16 && token.len() <= 32
+}
+
+// Appends a head where there is spare room for the longest of its kind: zeros are appended, the head is laid over
+// them, and what is left of them goes. Answers whether there was room.
+#[inline(always)]
+fn put<const ROOM: usize>(head: HeaderRef<'_, Padded<'_>>, out: &mut Vec<u8>) -> bool
+    requires layable { IsLayable padded_id head }
+    requires room { IsShortToken head.token.now → HasLayRoom padded_id padded_room head ROOM }
+    ensures items { IsTrue result → out.new.items ≡ out.old.items ++ laid_bytes padded_id head.entry }
+    ensures len { IsTrue result → vec_len out.new ≡ vec_len out.old + laid_len padded_id head.entry }
+    ensures capacity { vec_capacity out.old ≤ vec_capacity out.new }
+    ensures same { IsTrue result ⊎ (out.new ≡ out.old) }
+{
+    if out.capacity() - out.len() < ROOM || !is_laid_by_stores(head.token) {
+        return false;
+    }
+    let begin = out.len();
+    append(out, &[0; ROOM]);
+    let len = head.lay::<true>(&mut out.as_mut_slice()[begin..]);
+    out.truncate(begin + len);
+    true
+}
+
+// An id that is laid with what makes it 20 bytes.
+#[inline(always)]
+fn padded(id: &ConnectionId) -> Padded<'_>
+    ensures same { padded_id result ≡ id.now }
+    ensures few { length (padded_id result) ≤ 20 }
+{
+    let _few = id.as_slice().len();
+    Padded(id)
+}
+
+// The kind of a Handshake or 0-RTT head.
+#[inline(always)]
+fn long_kind(ty: LongType) -> HeadKind
+    ensures { result ≡ kind_of (kind.Standard ty) }
+{
+    match ty {
+        LongType::ZeroRtt => HeadKind::ZeroRtt,
+        LongType::Handshake => HeadKind::Handshake,
+    }
+}
+
+// What the first byte of a short head has beside its number.
+#[inline(always)]
+fn short_first(spin: bool, key_phase: bool) -> u8
+    ensures value { result ≡ 64 + bit spin 32 + bit key_phase 4 }
+    ensures few { result ≤ 100 }
+{
+    let spin = if spin { 0x20 } else { 0 };
+    let key_phase = if key_phase { 0x04 } else { 0 };
+    0x40 + spin + key_phase
+}
+
+// The head of an Initial packet.
+#[inline(always)]
+fn initial_ref(initial: &InitialHeader) -> HeaderRef<'_, Padded<'_>>
+    requires { IsWritable (header.Initial initial.now) }
+    ensures lays { Lays padded_id result (header.Initial initial.now) }
+    ensures room { IsShortToken result.token.now → HasLayRoom padded_id padded_room result INITIAL_ROOM }
+{
+    HeaderRef {
+        kind: HeadKind::Initial,
+        first: LONG_FIRST,
+        version: initial.version,
+        dst_cid: padded(&initial.dst_cid),
+        src_cid: padded(&initial.src_cid),
+        token: initial.token.as_slice(),
+        number: &initial.number,
+        length_len: 2,
+    }
+}
+
+// The head of a Handshake or 0-RTT packet.
+#[inline(always)]
+fn long_ref<'a>(
+    ty: LongType,
+    version: u32,
+    dst: &'a ConnectionId,
+    src: &'a ConnectionId,
+    number: &'a PacketNumber,
+) -> HeaderRef<'a, Padded<'a>>
+    requires { IsInRange number.now }
+    ensures lays { Lays padded_id result (header.Long ty dst.now src.now number.now version) }
+    ensures room { HasLayRoom padded_id padded_room result LONG_ROOM }
+{
+    HeaderRef {
+        kind: long_kind(ty),
+        first: LONG_FIRST,
+        version,
+        dst_cid: padded(dst),
+        src_cid: padded(src),
+        token: &[],
+        number,
+        length_len: 2,
+    }
+}
+
+// The head of a 1-RTT packet.
+#[inline(always)]
+fn short_ref<'a>(
+    spin: bool,
+    key_phase: bool,
+    dst_cid: &'a ConnectionId,
+    number: &'a PacketNumber,
+) -> HeaderRef<'a, Padded<'a>>
+    requires { IsInRange number.now }
+    ensures lays { Lays padded_id result (header.Short spin key_phase dst_cid.now number.now) }
+    ensures room { HasLayRoom padded_id padded_room result SHORT_ROOM }
+{
+    HeaderRef {
+        kind: HeadKind::Short,
+        first: short_first(spin, key_phase),
+        version: 0,
+        dst_cid: padded(dst_cid),
+        src_cid: padded(dst_cid),
+        token: &[],
+        number,
+        length_len: 2,
+    }
+}
+
+impl Header {
+    // The same head, with ids and a token that stay where they are.
+    fn borrowed(&self) -> HeaderRef<'_, Padded<'_>>
+        requires { IsWritable self.now }
+        ensures { Lays padded_id result self.now }
+    {
+        match self {
+            Self::Initial(initial) => initial_ref(initial),
+            Self::Long {
+                ty,
+                dst_cid,
+                src_cid,
+                number,
+                version,
+            } => long_ref(*ty, *version, dst_cid, src_cid, number),
+            Self::Retry {
+                dst_cid,
+                src_cid,
+                version,
+            } => HeaderRef {
+                kind: HeadKind::Retry,
+                first: LONG_FIRST,
+                version: *version,
+                dst_cid: padded(dst_cid),
+                src_cid: padded(src_cid),
+                token: &[],
+                number: &NO_NUMBER,
+                length_len: 2,
+            },
+            Self::Short {
+                spin,
+                key_phase,
+                dst_cid,
+                number,
+            } => short_ref(*spin, *key_phase, dst_cid, number),
+            Self::VersionNegotiate {
+                random,
+                src_cid,
+                dst_cid,
+            } => HeaderRef {
+                kind: HeadKind::VersionNegotiate,
+                first: 0x80 | *random,
+                version: 0,
+                dst_cid: padded(dst_cid),
+                src_cid: padded(src_cid),
+                token: &[],
+                number: &NO_NUMBER,
+                length_len: 2,
+            },
+        }
+    }
+
+    /// How many bytes `encode` appends. The caller must meet what `encode` asks for.
+    pub fn encoded_len(&self) -> usize
+        requires { IsWritable self.now }
+        ensures value { result ≡ header_size self.now }
+    {
+        self.borrowed().encoded_len()
+    }
+
+    // Makes room for just the head, and lays it there.
+    #[inline(never)]
+    fn put_with_room(&self, out: &mut Vec<u8>) -> Result<(), NoRoom>
+        requires { IsWritable self.now }
+        ensures ok { OnOk result (out.new.items ≡ out.old.items ++ header_bytes self.now) }
+        ensures len { OnOk result (vec_len out.new ≡ vec_len out.old + header_size self.now) }
+        ensures capacity { vec_capacity out.old ≤ vec_capacity out.new }
+        ensures err { OnErr result (out.new.items ≡ out.old.items) }
+        ensures full { OnErr result (vec_capacity out.new < vec_len out.old + header_size self.now) }
+        ensures spare { vec_len out.old + header_size self.now ≤ vec_capacity out.old → IsOk result }
+    {
+        let head = self.borrowed();
+        let head = HeaderRef {
+            kind: head.kind,
+            first: head.first,
+            version: head.version,
+            dst_cid: Exact(head.dst_cid.0.as_slice()),
+            src_cid: Exact(head.src_cid.0.as_slice()),
+            token: head.token,
+            number: head.number,
+            length_len: head.length_len,
+        };
+        let len = head.encoded_len();
+        if out.reserve(len).is_err() {
+            return Err(NoRoom);
+        }
+        let begin = out.len();
+        match out.resize(begin + len, 0) {
+            Ok(()) => (),
+            Err(_) => unreachable!(),
+        }
+        head.lay::<false>(&mut out.as_mut_slice()[begin..]);
+        Ok(())
+    }
+
+    // Appends a short head.
+    #[inline(never)]
+    fn put_short(&self, out: &mut Vec<u8>) -> Result<(), NoRoom>
+        requires { IsWritable self.now }
+        ensures ok { OnOk result (out.new.items ≡ out.old.items ++ header_bytes self.now) }
+        ensures len { OnOk result (vec_len out.new ≡ vec_len out.old + header_size self.now) }
+        ensures capacity { vec_capacity out.old ≤ vec_capacity out.new }
+        ensures err { OnErr result (out.new.items ≡ out.old.items) }
+        ensures full { OnErr result (vec_capacity out.new < vec_len out.old + header_size self.now) }
+        ensures spare { vec_len out.old + header_size self.now ≤ vec_capacity out.old → IsOk result }
+    {
+        if let Self::Short {
+            spin,
+            key_phase,
+            dst_cid,
+            number,
+        } = self
+        {
+            if put::<SHORT_ROOM>(short_ref(*spin, *key_phase, dst_cid, number), out) {
+                return Ok(());
+            }
+        }
+        self.put_with_room(out)
+    }
+
+    // Appends an Initial head.
+    #[inline(never)]
+    fn put_initial(&self, out: &mut Vec<u8>) -> Result<(), NoRoom>
+        requires { IsWritable self.now }
+        ensures ok { OnOk result (out.new.items ≡ out.old.items ++ header_bytes self.now) }
+        ensures len { OnOk result (vec_len out.new ≡ vec_len out.old + header_size self.now) }
+        ensures capacity { vec_capacity out.old ≤ vec_capacity out.new }
+        ensures err { OnErr result (out.new.items ≡ out.old.items) }
+        ensures full { OnErr result (vec_capacity out.new < vec_len out.old + header_size self.now) }
+        ensures spare { vec_len out.old + header_size self.now ≤ vec_capacity out.old → IsOk result }
+    {
+        if let Self::Initial(initial) = self {
+            if put::<INITIAL_ROOM>(initial_ref(initial), out) {
+                return Ok(());
+            }
+        }
+        self.put_with_room(out)
+    }
+
+    // Appends a Handshake or 0-RTT head, or one without a number.
+    #[inline(never)]
+    fn put_long(&self, out: &mut Vec<u8>) -> Result<(), NoRoom>
+        requires { IsWritable self.now }
+        ensures ok { OnOk result (out.new.items ≡ out.old.items ++ header_bytes self.now) }
+        ensures len { OnOk result (vec_len out.new ≡ vec_len out.old + header_size self.now) }
+        ensures capacity { vec_capacity out.old ≤ vec_capacity out.new }
+        ensures err { OnErr result (out.new.items ≡ out.old.items) }
+        ensures full { OnErr result (vec_capacity out.new < vec_len out.old + header_size self.now) }
+        ensures spare { vec_len out.old + header_size self.now ≤ vec_capacity out.old → IsOk result }
+    {
+        if let Self::Long {
+            ty,
+            dst_cid,
+            src_cid,
+            number,
+            version,
+        } = self
+        {
+            if put::<LONG_ROOM>(long_ref(*ty, *version, dst_cid, src_cid, number), out) {
+                return Ok(());
+            }
+        }
+        self.put_with_room(out)
+    }
+
+    // Appends a head that isn't short. It is not inlined, so that for a short one its caller makes one comparison.
+    #[inline(never)]
+    fn put_other(&self, out: &mut Vec<u8>) -> Result<(), NoRoom>
+        requires { IsWritable self.now }
+        ensures ok { OnOk result (out.new.items ≡ out.old.items ++ header_bytes self.now) }
+        ensures len { OnOk result (vec_len out.new ≡ vec_len out.old + header_size self.now) }
+        ensures capacity { vec_capacity out.old ≤ vec_capacity out.new }
+        ensures err { OnErr result (out.new.items ≡ out.old.items) }
+        ensures full { OnErr result (vec_capacity out.new < vec_len out.old + header_size self.now) }
+        ensures spare { vec_len out.old + header_size self.now ≤ vec_capacity out.old → IsOk result }
+    {
+        match self {
+            Self::Initial(_) => self.put_initial(out),
+            _ => self.put_long(out),
+        }
+    }
+
+    /// How many bytes the number takes, and whether the head has a length; none for Retry and version
+    /// negotiation, which have neither.
+    #[inline]
+    pub fn number_place(&self) -> Option<(usize, bool)>
+        ensures { result ≡ place_in self.now }
+    {
+        match self {
+            Self::Initial(head) => Some((head.number.len(), true)),
+            Self::Long { number, .. } => Some((number.len(), true)),
+            Self::Short { number, .. } => Some((number.len(), false)),
+            Self::Retry { .. } => None,
+            Self::VersionNegotiate { .. } => None,
+        }
+    }
+
+    /// How many bytes the number takes, at most 4: none where there is no number.
+    pub fn number_size(&self) -> usize
+        ensures value { result ≡ size_in self.now }
+        ensures small { result ≤ 4 }
+    {
+        match self {
+            Self::Initial(head) => head.number.len(),
+            Self::Long { number, .. } => number.len(),
+            Self::Short { number, .. } => number.len(),
+            Self::Retry { .. } => 0,
+            Self::VersionNegotiate { .. } => 0,
+        }
+    }
+
+    /// Whether the head says the packet's length: just those of Initial, Handshake and 0-RTT packets do.
+    pub fn has_len(&self) -> bool
+        ensures { result ≡ has_length self.now }
+    {
+        match self {
+            Self::Initial(_) => true,
+            Self::Long { .. } => true,
+            Self::Short { .. } => false,
+            Self::Retry { .. } => false,
+            Self::VersionNegotiate { .. } => false,
+        }
+    }
+
+    /// Appends the head, and answers where it begins and ends. The two bytes of its length, where it has one, are
+    /// zeros, which `PartialEncode::finish` fills in. Answers `NoRoom` only where the spare room of `out` is less
+    /// than the head and there is no memory for more; then the bytes of `out` are as they were, and its room still is
+    /// less. The caller must give a token below 2^62 bytes, and that a `U24` is below 2^24.
+    #[inline]
+    pub fn encode(&self, out: &mut Vec<u8>) -> Result<PartialEncode, NoRoom>
+        requires { IsWritable self.now }
+        ensures ok { OnOk result (out.new.items ≡ out.old.items ++ header_bytes self.now) }
+        ensures places { IfOk result (λ x. (x.start ≡ vec_len out.old) × (x.header_len ≡ header_size self.now) × (x.pn ≡ place_in self.now)) }
+        ensures len { OnOk result (vec_len out.new ≡ vec_len out.old + header_size self.now) }
+        ensures capacity { vec_capacity out.old ≤ vec_capacity out.new }
+        ensures err { OnErr result (out.new.items ≡ out.old.items) }
+        ensures full { OnErr result (vec_capacity out.new < vec_len out.old + header_size self.now) }
+        ensures spare { vec_len out.old + header_size self.now ≤ vec_capacity out.old → IsOk result }
+    {
+        let start = out.len();
+        let put = if let Self::Short { .. } = self {
+            self.put_short(out)
+        } else {
+            self.put_other(out)
+        };
+        if put.is_err() {
+            return Err(NoRoom);
+        }
+        Ok(PartialEncode {
+            start,
+            header_len: out.len() - start,
+            pn: self.number_place(),
+        })
+    }
+}
+
+impl PartialEncode {
+    /// Finishes a packet, which is `buf`: fills in its length, where its head has one, seals its payload by the
+    /// number and key of `crypto`, if there is one, and protects the head by `header_key`. The payload's last
+    /// bytes are room for the tag. Retry and version negotiation stay as they are. The caller must ensure that the
+    /// packet has its head, the tag's room, and four bytes and the sample from its number's place on; and fewer
+    /// than 2^14 bytes from there on where the head has a length.
+    pub fn finish<H: HeaderKey, P: PacketKey>(
+        self,
+        buf: &mut [u8],
+        header_key: &H,
+        crypto: Option<(u64, &P)>,
+    )
+        requires room { IfSome self.pn (λ pn. HasRoom pn.0 pn.1 self.header_len (H.sample_len header_key.now) (length buf.old)) }
+        requires tag { IfSome self.pn (λ pn. IfSome crypto (λ c. self.header_len + P.tag_size c.1.now ≤ length buf.old)) }
+        ensures plain { IfNone self.pn (buf.new ≡ buf.old) }
+        ensures sealed { IfSome self.pn (λ pn. buf.new ≡ H.protected header_key.now (self.header_len - pn.0)
+            (finished pn self.header_len (option_map (λ c. (P.tag_size c.1.now, P.sealed c.1.now c.0)) crypto.entry) buf.old)) }
+        ensures bytes { IfSome self.pn (λ pn. AreBytes
+            (finished pn self.header_len (option_map (λ c. (P.tag_size c.1.now, P.sealed c.1.now c.0)) crypto.entry) buf.old)) }
+    {
+        let Some((pn_len, write_len)) = self.pn else {
+            return;
+        };
+        let pn_pos = self.header_len - pn_len;
+        if write_len {
+            write_length(buf, pn_pos);
+        }
+        if let Some((number, key)) = crypto {
+            key.encrypt(number, buf, self.header_len);
+        }
+        are_bytes(buf);
+        header_key.encrypt(pn_pos, buf);
+    }
+}
+
+// Writes the count of the bytes from a place on before that place.
+#[tactic(auto, unfolding(quic_base::specs::Number::bytes_of))]
+fn write_length(buf: &mut [u8], pn_pos: usize)
+    requires place { 2 ≤ pn_pos }
+    requires within { pn_pos ≤ length buf.old }
+    requires short { length buf.old - pn_pos < 2 ^ 14 }
+    ensures { buf.new ≡ take (pn_pos - 2) buf.old ++ (bytes_of 2 (2 ^ 14 + (length buf.old - pn_pos)) ++ drop pn_pos buf.old) }
+{
+    let len = (buf.len() - pn_pos) as u16 + (1 << 14);
+    buf[pn_pos - 2..pn_pos].copy_from_slice(&len.to_be_bytes());
+}

@@ -1,0 +1,175 @@
+//! Heads of packets as values (RFC 9000, section 17).
+ghost use Rattle.std.specs.Prelude.{◌≡◌, ◌↔◌, IsTrue};
+ghost use Rattle.quic_header_encode.specs.Queries.{space_in, dst_in, number_in, phase_in, IsShortHeader, IsEarly};
+ghost use Rattle.quic_header_encode.specs.Writing.{has_number};
+
+use crate::long_type::LongType;
+use bytes::Bytes;
+use quic_base::ids::{ConnectionId, SpaceId};
+use quic_crypto::packet_number::PacketNumber;
+
+/// What the head of an Initial packet says (RFC 9000, section 17.2.2).
+#[derive(Debug, Drop)]
+pub struct InitialHeader {
+    /// The receiver's id.
+    pub dst_cid: ConnectionId,
+    /// The sender's id.
+    pub src_cid: ConnectionId,
+    /// The token, below 2^62 bytes in a head that is written.
+    pub token: Bytes,
+    /// The packet's number as it is written.
+    pub number: PacketNumber,
+    /// The version of QUIC.
+    pub version: u32,
+}
+
+/// What a packet's head says, with no protection on it. The length of an Initial, Handshake or 0-RTT packet is
+/// not a part of it: `PartialEncode::finish` fills it in.
+#[derive(Debug, Drop)]
+pub enum Header {
+    /// The head of an Initial packet.
+    Initial(InitialHeader),
+    /// The head of a Handshake or 0-RTT packet (RFC 9000, sections 17.2.3 and 17.2.4).
+    Long {
+        /// Which of the two.
+        ty: LongType,
+        /// The receiver's id.
+        dst_cid: ConnectionId,
+        /// The sender's id.
+        src_cid: ConnectionId,
+        /// The packet's number as it is written.
+        number: PacketNumber,
+        /// The version of QUIC.
+        version: u32,
+    },
+    /// The head of a Retry packet (RFC 9000, section 17.2.5). What follows it is its token and tag.
+    Retry {
+        /// The receiver's id.
+        dst_cid: ConnectionId,
+        /// The sender's id.
+        src_cid: ConnectionId,
+        /// The version of QUIC.
+        version: u32,
+    },
+    /// The head of a 1-RTT packet (RFC 9000, section 17.3.1).
+    Short {
+        /// The bit for measuring round trips.
+        spin: bool,
+        /// The bit that changes with the keys.
+        key_phase: bool,
+        /// The receiver's id.
+        dst_cid: ConnectionId,
+        /// The packet's number as it is written.
+        number: PacketNumber,
+    },
+    /// The head of a version negotiation (RFC 9000, section 17.2.1). What follows it are the versions.
+    VersionNegotiate {
+        /// The first byte without its highest bit.
+        random: u8,
+        /// The sender's id.
+        src_cid: ConnectionId,
+        /// The receiver's id.
+        dst_cid: ConnectionId,
+    },
+}
+
+impl Header {
+    /// Whether the packet is protected: all but Retry and version negotiation.
+    pub fn is_protected(&self) -> bool
+        ensures { result ≡ has_number self.now }
+    {
+        match self {
+            Self::Initial(_) => true,
+            Self::Long { .. } => true,
+            Self::Retry { .. } => false,
+            Self::Short { .. } => true,
+            Self::VersionNegotiate { .. } => false,
+        }
+    }
+
+    /// The packet's number as it is written: none for Retry and version negotiation.
+    pub fn number(&self) -> Option<PacketNumber>
+        ensures { result ≡ number_in self.now }
+    {
+        match self {
+            Self::Initial(head) => Some(head.number),
+            Self::Long { number, .. } => Some(*number),
+            Self::Retry { .. } => None,
+            Self::Short { number, .. } => Some(*number),
+            Self::VersionNegotiate { .. } => None,
+        }
+    }
+
+    /// The space of the packet's number; Initial also for Retry and version negotiation, which have no number.
+    pub fn space(&self) -> SpaceId
+        ensures { result ≡ space_in self.now }
+    {
+        match self {
+            Self::Initial(_) => SpaceId::Initial,
+            Self::Long { ty, .. } => match ty {
+                LongType::Handshake => SpaceId::Handshake,
+                LongType::ZeroRtt => SpaceId::Data,
+            },
+            Self::Retry { .. } => SpaceId::Initial,
+            Self::Short { .. } => SpaceId::Data,
+            Self::VersionNegotiate { .. } => SpaceId::Initial,
+        }
+    }
+
+    /// The key phase of a short head; false for the others.
+    pub fn key_phase(&self) -> bool
+        ensures { result ≡ phase_in self.now }
+    {
+        match self {
+            Self::Short { key_phase, .. } => *key_phase,
+            _ => false,
+        }
+    }
+
+    /// The receiver's id.
+    pub fn dst_cid(&self) -> &ConnectionId
+        ensures { result.now ≡ dst_in self.now }
+    {
+        match self {
+            Self::Initial(head) => &head.dst_cid,
+            Self::Long { dst_cid, .. } => dst_cid,
+            Self::Retry { dst_cid, .. } => dst_cid,
+            Self::Short { dst_cid, .. } => dst_cid,
+            Self::VersionNegotiate { dst_cid, .. } => dst_cid,
+        }
+    }
+
+    /// Whether the packet has frames: just the protected ones have.
+    pub fn has_frames(&self) -> bool
+        ensures { result ≡ has_number self.now }
+    {
+        self.is_protected()
+    }
+
+    /// Whether the head is short.
+    pub fn is_short(&self) -> bool
+        ensures { IsTrue result ↔ IsShortHeader self.now }
+    {
+        matches!(self, Self::Short { .. })
+    }
+
+    /// Whether it is a 1-RTT packet: just those with a short head are.
+    pub fn is_1rtt(&self) -> bool
+        ensures { IsTrue result ↔ IsShortHeader self.now }
+    {
+        self.is_short()
+    }
+
+    /// Whether it is a 0-RTT packet, of early data.
+    pub fn is_0rtt(&self) -> bool
+        ensures { IsTrue result ↔ IsEarly self.now }
+    {
+        matches!(
+            self,
+            Self::Long {
+                ty: LongType::ZeroRtt,
+                ..
+            }
+        )
+    }
+}

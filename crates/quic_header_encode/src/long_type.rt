@@ -1,0 +1,172 @@
+//! The first bytes of heads, and the types of long heads (RFC 9000, section 17.2; RFC 9369, section 3.2).
+ghost use Rattle.std.specs.Prelude.{◌≡◌, ◌≤◌};
+ghost use Rattle.quic_header_encode.specs.Laying.{kind_of, says_length, says_number, type_bits, IsTyped};
+ghost use Rattle.quic_header_encode.specs.Types.{first_byte, long_type};
+
+/// The bit of a first byte that is set in long heads.
+pub const LONG_HEADER_FORM: u8 = 0x80;
+
+/// The bit of a first byte that is set in all heads, but for greased ones.
+pub const FIXED_BIT: u8 = 0x40;
+
+/// The bit of a short head's first byte that is for measuring round trips.
+pub const SPIN_BIT: u8 = 0x20;
+
+/// Version 2 of QUIC.
+pub const VERSION_2: u32 = 0x6b33_43cf;
+
+// Each by its value.
+const _: () = prove!(LONG_HEADER_FORM == 128 && FIXED_BIT == 64 && SPIN_BIT == 32);
+
+const _: () = prove!(VERSION_2 == 1_798_521_807);
+
+/// The kinds of heads.
+#[derive(Clone, Copy, Debug, PartialEq, Eq)]
+pub enum HeadKind {
+    /// Of an Initial packet (RFC 9000, section 17.2.2).
+    Initial,
+    /// Of a 0-RTT packet (RFC 9000, section 17.2.3).
+    ZeroRtt,
+    /// Of a Handshake packet (RFC 9000, section 17.2.4).
+    Handshake,
+    /// Of a Retry packet (RFC 9000, section 17.2.5).
+    Retry,
+    /// Of a 1-RTT packet (RFC 9000, section 17.3.1).
+    Short,
+    /// Of a version negotiation (RFC 9000, section 17.2.1).
+    VersionNegotiate,
+}
+
+impl HeadKind {
+    /// The kind of a long head of a version, by its first byte.
+    #[inline(always)]
+    pub fn of_long(first: u8, version: u32) -> HeadKind
+        ensures { result ≡ kind_of (long_type version first) }
+    {
+        let behind = if version == VERSION_2 { 3 } else { 0 };
+        match (first / 16 + behind) % 4 {
+            0 => HeadKind::Initial,
+            1 => HeadKind::ZeroRtt,
+            2 => HeadKind::Handshake,
+            _ => HeadKind::Retry,
+        }
+    }
+
+    /// The bits of a long head's first byte that say its type under a version. The caller must ensure that it says one.
+    #[inline(always)]
+    pub fn type_bits(self, version: u32) -> u8
+        requires { IsTyped self }
+        ensures value { result ≡ type_bits self version }
+        ensures few { result ≤ 48 }
+    {
+        let number = match self {
+            HeadKind::Initial => 0,
+            HeadKind::ZeroRtt => 1,
+            HeadKind::Handshake => 2,
+            _ => 3,
+        };
+        let before = if version == VERSION_2 { 1 } else { 0 };
+        (number + before) % 4 * 16
+    }
+
+    /// Whether the packet has a number.
+    #[inline(always)]
+    pub fn has_number(self) -> bool
+        ensures { result ≡ says_number self }
+    {
+        match self {
+            HeadKind::Retry => false,
+            HeadKind::VersionNegotiate => false,
+            _ => true,
+        }
+    }
+
+    /// Whether the head says a length.
+    #[inline(always)]
+    pub fn has_len(self) -> bool
+        ensures { result ≡ says_length self }
+    {
+        match self {
+            HeadKind::Initial => true,
+            HeadKind::ZeroRtt => true,
+            HeadKind::Handshake => true,
+            _ => false,
+        }
+    }
+}
+
+/// Long heads of one form.
+#[derive(Clone, Copy, Debug, PartialEq, Eq)]
+pub enum LongType {
+    /// Of the handshake.
+    Handshake,
+    /// Of early data.
+    ZeroRtt,
+}
+
+/// The types of long heads.
+#[derive(Clone, Copy, Debug, PartialEq, Eq)]
+pub enum LongHeaderType {
+    /// With a token.
+    Initial,
+    /// Without protection.
+    Retry,
+    /// Without a token.
+    Standard(LongType),
+}
+
+impl LongHeaderType {
+    /// The type that a long head's first byte says under a version.
+    #[inline]
+    pub fn from_byte(first: u8, version: u32) -> Self
+        ensures { result ≡ long_type version first }
+    {
+        // Initial first, by a test of its own: servers see it most, and a table of four ways takes longer.
+        if version != VERSION_2 && first % 64 < 16 {
+            return Self::Initial;
+        }
+        let number = first / 16 % 4;
+        if version == VERSION_2 {
+            return match number {
+                0 => Self::Retry,
+                1 => Self::Initial,
+                2 => Self::Standard(LongType::ZeroRtt),
+                _ => Self::Standard(LongType::Handshake),
+            };
+        }
+        match number {
+            1 => Self::Standard(LongType::ZeroRtt),
+            2 => Self::Standard(LongType::Handshake),
+            _ => Self::Retry,
+        }
+    }
+
+    /// The first byte of a long head under a version, but for its number's length.
+    pub fn byte(self, version: u32) -> u8
+        ensures { result ≡ first_byte version self }
+    {
+        if version == VERSION_2 {
+            return match self {
+                Self::Retry => 0xc0,
+                Self::Initial => 0xd0,
+                Self::Standard(LongType::ZeroRtt) => 0xe0,
+                Self::Standard(LongType::Handshake) => 0xf0,
+            };
+        }
+        match self {
+            Self::Initial => 0xc0,
+            Self::Standard(LongType::ZeroRtt) => 0xd0,
+            Self::Standard(LongType::Handshake) => 0xe0,
+            Self::Retry => 0xf0,
+        }
+    }
+}
+
+/// The first byte under version 1, but for the number's length.
+impl From<LongHeaderType> for u8 {
+    ghost from_gives = { λ ty first. first ≡ first_byte 1 ty };
+
+    fn from(ty: LongHeaderType) -> u8 {
+        ty.byte(1)
+    }
+}

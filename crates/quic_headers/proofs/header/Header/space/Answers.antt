@@ -1,5 +1,0 @@
-use Rattle.std.proofs.Common.{rules}
-use Rattle.quic_headers.proofs.header.Header.space.Goals as goal
-
-pub returns-in-ZeroRtt : goal.returns-in-ZeroRtt
-returns-in-ZeroRtt c = search rules

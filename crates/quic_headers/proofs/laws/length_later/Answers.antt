@@ -1,8 +1,0 @@
-use Rattle.quic_headers.proofs.Later.{finished_later, set_later}
-use Rattle.quic_headers.proofs.laws.length_later.Goals as goal
-
-pub returns-clause-finished : goal.returns-clause-finished
-returns-clause-finished c = finished_later
-
-pub returns-clause-set : goal.returns-clause-set
-returns-clause-set c = λ h first width body has known. set_later h first width body has

@@ -1,5 +1,0 @@
-use Rattle.std.proofs.Common.{rules}
-use Rattle.quic_headers.proofs.long_type.LongHeaderType.byte.Goals as goal
-
-pub returns-in-Retry : goal.returns-in-Retry
-returns-in-Retry c = search rules

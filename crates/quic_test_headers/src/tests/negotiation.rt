@@ -1,0 +1,110 @@
+//! Version negotiations, whose first byte has no fixed bit (RFC 9000, section 17.2.1), and every beginning of one.
+use bytes::BytesMut;
+use quic_bench::parsers::NoIds;
+use quic_packets::packet::{PacketDecodeError, PartialDecode, ProtectedHeader};
+use quic_checks::Checks;
+use std::alloc::Global;
+use std::test::Fail;
+
+// Why no packet begins here; no text where one does.
+fn refusal(alloc: Global, datagram: &[u8], grease: bool) -> Option<&'static str> {
+    let Ok(bytes) = BytesMut::copy_from_slice(alloc, datagram) else {
+        return Some("no memory for the datagram");
+    };
+    match PartialDecode::new(bytes, &NoIds, &[1], grease) {
+        Ok((_packet, _rest)) => None,
+        Err(PacketDecodeError::InvalidHeader(text)) => Some(text),
+        Err(_) => Some("another refusal"),
+    }
+}
+
+// Every beginning of a version negotiation without ids, and why it is none where the fixed bit may be clear.
+const BEGINNINGS: &[(&[u8], Option<&str>)] = &[
+    (b"", Some("unexpected end of packet")),
+    (b"\x80", Some("unexpected end of packet")),
+    (b"\x80\0", Some("unexpected end of packet")),
+    (b"\x80\0\0", Some("unexpected end of packet")),
+    (b"\x80\0\0\0", Some("unexpected end of packet")),
+    (b"\x80\0\0\0\0", Some("malformed cid")),
+    (b"\x80\0\0\0\0\0", Some("malformed cid")),
+    (b"\x80\0\0\0\0\0\0", None),
+];
+
+#[test]
+fn beginnings_where_the_fixed_bit_may_be_clear(rt: HostRuntime) -> Result<(), Fail> {
+    let mut checks = Checks::new(rt.alloc());
+    for &(begun, text) in BEGINNINGS {
+        checks.same_at(begun.len(), refusal(rt.alloc(), begun, true), text);
+    }
+    checks.verdict()
+}
+
+// The first byte says enough.
+#[test]
+fn beginnings_where_the_fixed_bit_is_fixed(rt: HostRuntime) -> Result<(), Fail> {
+    let mut checks = Checks::new(rt.alloc());
+    for &(begun, _) in BEGINNINGS {
+        let text = if begun.is_empty() {
+            "unexpected end of packet"
+        } else {
+            "fixed bit unset"
+        };
+        checks.same_at(begun.len(), refusal(rt.alloc(), begun, false), Some(text));
+    }
+    checks.verdict()
+}
+
+// Whether the head is one of a version negotiation with these random bits and ids.
+fn is_negotiation(head: &ProtectedHeader, bits: u8, dst: &[u8], src: &[u8]) -> bool {
+    let ProtectedHeader::VersionNegotiate {
+        random,
+        dst_cid,
+        src_cid,
+    } = head
+    else {
+        return false;
+    };
+    *random == bits && dst_cid.as_slice() == dst && src_cid.as_slice() == src
+}
+
+// Whether all of the datagram is such a packet.
+fn is_read(alloc: Global, row: &Row) -> bool {
+    let &(datagram, grease, bits, dst, src) = row;
+    let Ok(bytes) = BytesMut::copy_from_slice(alloc, datagram) else {
+        return false;
+    };
+    let Ok((packet, rest)) = PartialDecode::new(bytes, &NoIds, &[1], grease) else {
+        return false;
+    };
+    is_negotiation(packet.header(), bits, dst, src)
+        && packet.len() == datagram.len()
+        && packet.space().is_none()
+        && packet.has_long_header()
+        && rest.is_none()
+}
+
+// A datagram, whether the fixed bit may be clear, the random bits, and the receiver's and the sender's id.
+type Row = (&'static [u8], bool, u8, &'static [u8], &'static [u8]);
+
+const ROWS: &[Row] = &[
+    (b"\x80\0\0\0\0\0\0", true, 0x00, b"", b""),
+    (b"\xbf\0\0\0\0\x01\xaa\0", true, 0x3f, b"\xaa", b""),
+    (b"\xc0\0\0\0\0\0\x01\xbb", false, 0x40, b"", b"\xbb"),
+    (
+        b"\xff\0\0\0\0\x01\xaa\x01\xbb\0\0\0\x01",
+        false,
+        0x7f,
+        b"\xaa",
+        b"\xbb",
+    ),
+];
+
+// All bits of the first byte but the highest are random, the fixed bit among them.
+#[test]
+fn random_bits(rt: HostRuntime) -> Result<(), Fail> {
+    let mut checks = Checks::new(rt.alloc());
+    for row in ROWS {
+        checks.holds_at(format_args!("{row:?}"), is_read(rt.alloc(), row));
+    }
+    checks.verdict()
+}

@@ -1,0 +1,197 @@
+//! Places that `read_head` finds in the bytes of worked lines.
+use quic_header_decode::places::{HeadKind, ReadError, read_head};
+use quic_checks::Checks;
+use std::test::Fail;
+
+const VERSIONS: &[u32] = &[1, 0x6b33_43cf];
+
+// How many bytes ids of short heads have, a datagram, and of its first packet the kind, the ids, the version, the
+// token's place and the end.
+type Row = (
+    usize,
+    &'static [u8],
+    HeadKind,
+    &'static [u8],
+    &'static [u8],
+    u32,
+    (usize, usize),
+    usize,
+);
+
+const ROWS: &[Row] = &[
+    (
+        0,
+        b"\xc0\0\0\0\x01\x08\x06\xb8\x58\xec\x6f\x80\x45\x2b\0\x02\xaa\xbb\x40\x03\x01\x02\x03\x41",
+        HeadKind::Initial,
+        b"\x06\xb8\x58\xec\x6f\x80\x45\x2b",
+        b"",
+        1,
+        (16, 18),
+        23,
+    ),
+    (
+        0,
+        b"\xe0\0\0\0\x01\0\0\x02\xaa\xbb\x41",
+        HeadKind::Handshake,
+        b"",
+        b"",
+        1,
+        (0, 0),
+        10,
+    ),
+    (
+        0,
+        b"\xf0\0\0\0\x01\x01\xaa\0\xff\xff",
+        HeadKind::Retry,
+        b"\xaa",
+        b"",
+        1,
+        (0, 0),
+        10,
+    ),
+    (
+        0,
+        b"\xc0\0\0\0\0\x01\xaa\x01\xbb\0\0\0\x01",
+        HeadKind::VersionNegotiate,
+        b"\xaa",
+        b"\xbb",
+        0,
+        (0, 0),
+        13,
+    ),
+    (
+        0,
+        b"\xe0\x6b\x33\x43\xcf\0\0\x02\xaa\xbb",
+        HeadKind::ZeroRtt,
+        b"",
+        b"",
+        0x6b33_43cf,
+        (0, 0),
+        10,
+    ),
+    (
+        0,
+        b"\xc0\x6b\x33\x43\xcf\0\0\xff\xff",
+        HeadKind::Retry,
+        b"",
+        b"",
+        0x6b33_43cf,
+        (0, 0),
+        9,
+    ),
+    (
+        0,
+        b"\xd0\x6b\x33\x43\xcf\0\0\0\x40\x01\xff",
+        HeadKind::Initial,
+        b"",
+        b"",
+        0x6b33_43cf,
+        (8, 8),
+        11,
+    ),
+    (1, b"\x40\x05", HeadKind::Short, b"\x05", b"", 0, (0, 0), 2),
+];
+
+#[test]
+fn places(rt: HostRuntime) -> Result<(), Fail> {
+    let mut checks = Checks::new(rt.alloc());
+    for (id_len, datagram, kind, dst, src, version, token, end) in ROWS {
+        if *id_len > 20 {
+            continue;
+        }
+        match read_head(datagram, *id_len, VERSIONS) {
+            Ok(found) => {
+                checks.same_at(datagram.len(), found.kind, *kind);
+                let start = if *kind == HeadKind::Short { 1 } else { 6 };
+                let dst_cid = datagram.get(start..start + found.dst_len);
+                checks.same_at(datagram.len(), dst_cid, Some(*dst));
+                let behind = 7 + found.dst_len;
+                let src_cid = if *kind == HeadKind::Short {
+                    Some(*src)
+                } else {
+                    datagram.get(behind..behind + found.src_len)
+                };
+                checks.same_at(datagram.len(), src_cid, Some(*src));
+                checks.same_at(datagram.len(), found.version, *version);
+                let place = (found.token.start, found.token.end);
+                checks.same_at(datagram.len(), place, *token);
+                checks.same_at(datagram.len(), found.packet_end(datagram.len()), Some(*end));
+            }
+            Err(_error) => checks.holds(false),
+        }
+    }
+    checks.verdict()
+}
+
+// Packets whose bytes end before they do.
+const CUT_OFF: &[&[u8]] = &[
+    b"\xe0\0\0\0\x01\0\0\x02\xaa",
+    b"\xe0\0\0\0\x01\0\0\xff\xff\xff\xff\xff\xff\xff\xff",
+];
+
+#[test]
+fn cut_off(rt: HostRuntime) -> Result<(), Fail> {
+    let mut checks = Checks::new(rt.alloc());
+    for datagram in CUT_OFF {
+        match read_head(datagram, 0, VERSIONS) {
+            Ok(found) => checks.same_at(datagram.len(), found.packet_end(datagram.len()), None),
+            Err(_error) => checks.holds(false),
+        }
+    }
+    checks.verdict()
+}
+
+// Bytes that begin with no head, where ids of short heads have so many bytes, and why.
+const REFUSED: &[(usize, &[u8], ReadError)] = &[
+    (
+        0,
+        b"\xc0\0\0\0\x01\0\0\x05\x01",
+        ReadError::TokenOutOfBounds,
+    ),
+    (
+        0,
+        b"\xc0\0\0\0\x01\0\0\xff\xff\xff\xff\xff\xff\xff\xff",
+        ReadError::TokenOutOfBounds,
+    ),
+    (0, b"\xc0\0\0\0\x01\0\0", ReadError::UnexpectedEnd),
+    (0, b"\xc0\0\0", ReadError::UnexpectedEnd),
+    (0, b"", ReadError::UnexpectedEnd),
+    (0, b"\xc0\0\0\0\x01\x15", ReadError::MalformedCid),
+    (
+        0,
+        b"\xc0\0\0\0\x01\x15\0\x01\x02\x03\x04\x05\x06\x07\x08\x09\x0a\x0b\x0c\x0d\x0e\x0f\x10\x11\x12\x13\x14\0\0\0",
+        ReadError::MalformedCid,
+    ),
+    (
+        0,
+        b"\xc0\0\0\0\x0a\x15\0\x01\x02\x03\x04\x05\x06\x07\x08\x09\x0a\x0b\x0c\x0d\x0e\x0f\x10\x11\x12\x13\x14\x01\xbb",
+        ReadError::UnsupportedVersion {
+            version: 10,
+            dst_len: 21,
+            src_len: 1,
+        },
+    ),
+    (
+        0,
+        b"\x80\0\0\0\x0a\0\0",
+        ReadError::UnsupportedVersion {
+            version: 10,
+            dst_len: 0,
+            src_len: 0,
+        },
+    ),
+    (1, b"\x40", ReadError::SmallPacket),
+];
+
+#[test]
+fn refusals(rt: HostRuntime) -> Result<(), Fail> {
+    let mut checks = Checks::new(rt.alloc());
+    for (id_len, datagram, wanted) in REFUSED {
+        if *id_len > 20 {
+            continue;
+        }
+        let found = read_head(datagram, *id_len, VERSIONS);
+        checks.same_at(datagram.len(), found, Err(*wanted));
+    }
+    checks.verdict()
+}

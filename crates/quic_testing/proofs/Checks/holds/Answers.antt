@@ -1,5 +1,0 @@
-use Rattle.std.proofs.Common.{rules}
-use Rattle.quic_testing.proofs.Checks.holds.Goals as goal
-
-pub returns : goal.returns
-returns c = search rules

@@ -1,7 +1,7 @@
 /* capture FILE: prints the QUIC packets of a capture file, a line each, and the
  * frames of Initial packets, which anyone can open: their keys come from an id
  * that the client sends (RFC 9001, section 5.2).  datagrams.h says which captures
- * are read.  A datagram is QUIC's if it begins with a long head of version 1 or 2,
+ * are read.  A datagram is QUIC's if it begins with a long header of version 1 or 2,
  * of version 0 (a version negotiation) or of a reserved one (RFC 9000, section
  * 15), or if one of its flow did.  What can't be read is told behind a colon. */
 #define _DEFAULT_SOURCE
@@ -21,7 +21,7 @@ static const uint32_t versions[] = {VERSION_1, VERSION_2};
 /* What is kept of a side, QUIC_WIRE_CLIENT or QUIC_WIRE_SERVER. */
 typedef struct side {
   endpoint end;
-  uint8_t has_id, idlen; /* a long head told how long its ids are */
+  uint8_t has_id, idlen; /* a long header told how long its ids are */
   uint64_t expected; /* the next number of its Initial packets */
 } side;
 
@@ -83,21 +83,21 @@ static flow *flow_of(const datagram *d, unsigned *from) {
 /* Opens an Initial packet of a side by the keys of an id.  Returns NULL, or why it
  * can't be opened. */
 static const char *open_by(const uint8_t *id, size_t idlen, unsigned from, uint64_t expected,
-                           const uint8_t *packet, const quic_wire_head *head, opened *out) {
+                           const uint8_t *packet, const quic_wire_header *head, opened *out) {
   static uint8_t bare[MOST];
   const keys k = initial_keys(head->version, from, id, idlen);
-  const uint8_t *sample = quic_wire_sample(packet, head->end, head->head_end, SAMPLE);
+  const uint8_t *sample = quic_wire_sample(packet, head->end, head->header_end, SAMPLE);
   uint8_t mask[5];
   size_t begin;
   int numberlen;
   if (!sample)
     return "too short for a sample";
   make_mask(&k, sample, mask);
-  numberlen = quic_wire_unprotect_head(packet, head->end, head->head_end, mask, expected, bare,
+  numberlen = quic_wire_unprotect_header(packet, head->end, head->header_end, mask, expected, bare,
                                        sizeof bare, &out->number);
   if (numberlen < 0)
     return quic_wire_strerror(numberlen);
-  begin = head->head_end + (size_t)numberlen;
+  begin = head->header_end + (size_t)numberlen;
   if (out->number >> 62 || head->end - begin < TAG ||
       !crypt_payload(&k, 0, out->number, bare, begin, packet + begin, head->end - begin,
                      out->payload))
@@ -108,7 +108,7 @@ static const char *open_by(const uint8_t *id, size_t idlen, unsigned from, uint6
 }
 
 /* Takes the id of a packet for the one that the keys of its flow come from. */
-static void take_id(flow *f, const uint8_t *packet, const quic_wire_head *head) {
+static void take_id(flow *f, const uint8_t *packet, const quic_wire_header *head) {
   f->has_keys = 1;
   f->idlen = head->dcidlen;
   memcpy(f->id, quic_wire_dcid(packet, head), head->dcidlen);
@@ -118,7 +118,7 @@ static void take_id(flow *f, const uint8_t *packet, const quic_wire_head *head) 
  * then it is a client's first one, or its first one behind a Retry, and the keys
  * are the flow's from there on.  Returns NULL, or why it can't be opened. */
 static const char *open_initial(flow *f, unsigned *from, const uint8_t *packet,
-                                const quic_wire_head *head, opened *out) {
+                                const quic_wire_header *head, opened *out) {
   const char *why = "no first Initial packet of the client";
   if (f->has_keys)
     why = open_by(f->id, f->idlen, *from, f->sides[*from].expected, packet, head, out);
@@ -144,8 +144,8 @@ static void print_id(const char *name, const uint8_t *id, size_t len) {
 }
 
 /* A packet's line up to its number. */
-static void print_head(const datagram *d, unsigned from, const uint8_t *packet,
-                       const quic_wire_head *head) {
+static void print_header(const datagram *d, unsigned from, const uint8_t *packet,
+                       const quic_wire_header *head) {
   static const char *const kinds[] = {"initial", "0rtt", "handshake", "retry", "short",
                                       "version-negotiation", "unknown"};
   printf("%lu %c %s", d->frame, "cs"[from], kinds[head->kind]);
@@ -205,21 +205,21 @@ static void print_frames(const uint8_t *payload, size_t len) {
 }
 
 /* The versions that a version negotiation offers.  Returns whether all are whole. */
-static int print_versions(const uint8_t *packet, const quic_wire_head *head) {
-  uint32_t i = head->head_end;
+static int print_versions(const uint8_t *packet, const quic_wire_header *head) {
+  uint32_t i = head->header_end;
   printf(" versions");
   for (; head->end - i >= 4; i += 4)
     printf(" %08" PRIx32, four_bytes(packet + i));
   return i == head->end;
 }
 
-/* The lines of a packet; |why| is what is wrong with its head, or NULL. */
+/* The lines of a packet; |why| is what is wrong with its header, or NULL. */
 static void print_packet(const datagram *d, flow *f, unsigned *from, const uint8_t *packet,
-                         const quic_wire_head *head, const char *why) {
+                         const quic_wire_header *head, const char *why) {
   static opened o;
   const int is_tried = !why && head->kind == QUIC_WIRE_INITIAL;
   const int is_open = is_tried && !(why = open_initial(f, from, packet, head, &o));
-  print_head(d, *from, packet, head);
+  print_header(d, *from, packet, head);
   if (is_open)
     printf(" number %" PRIu64, o.number);
   printf(" length %" PRIu32, head->end);
@@ -232,17 +232,17 @@ static void print_packet(const datagram *d, flow *f, unsigned *from, const uint8
     print_frames(o.payload, o.len);
 }
 
-/* Reads the head that |len| bytes begin with, where ids of short heads have |cidlen|
+/* Reads the header that |len| bytes begin with, where ids of short headers have |cidlen|
  * bytes, or it isn't known how many (-1).  Returns whether there is one, and through
  * |why| what is wrong with it, or why there is none. */
-static int read_head(const uint8_t *packet, size_t len, int cidlen, quic_wire_head *head,
+static int read_header(const uint8_t *packet, size_t len, int cidlen, quic_wire_header *head,
                      const char **why) {
   int answer = quic_wire_negotiation_read(packet, len, head);
   *why = "the length of its id isn't known";
   if (!(packet[0] & QUIC_WIRE_LONG_FORM) && cidlen < 0)
     return 0;
   if (answer != QUIC_WIRE_OK)
-    answer = quic_wire_head_read(packet, len, cidlen < 0 ? 0 : (uint32_t)cidlen, versions, 2, head);
+    answer = quic_wire_header_read(packet, len, cidlen < 0 ? 0 : (uint32_t)cidlen, versions, 2, head);
   *why = answer ? quic_wire_packet_reason_text((uint32_t)answer) : NULL;
   if (answer == QUIC_WIRE_PACKET_UNSUPPORTED_VERSION)
     head->end = (uint32_t)len; /* where such a packet ends only its version says */
@@ -254,10 +254,10 @@ static int read_head(const uint8_t *packet, size_t len, int cidlen, quic_wire_he
 static void print_datagram(const datagram *d, flow *f, unsigned from) {
   const uint8_t *packet = d->bytes, *const end = d->bytes + d->len, *id = NULL;
   int idlen = f->sides[!from].has_id ? f->sides[!from].idlen : -1;
-  quic_wire_head head;
+  quic_wire_header head;
   const char *why;
   for (; packet < end; packet += head.end) {
-    int is_one = read_head(packet, (size_t)(end - packet), idlen, &head, &why);
+    int is_one = read_header(packet, (size_t)(end - packet), idlen, &head, &why);
     if (is_one && id &&
         (head.dcidlen != idlen || memcmp(quic_wire_dcid(packet, &head), id, head.dcidlen))) {
       is_one = 0;
@@ -270,7 +270,7 @@ static void print_datagram(const datagram *d, flow *f, unsigned from) {
     print_packet(d, f, &from, packet, &head, why);
     id = quic_wire_dcid(packet, &head);
     idlen = head.dcidlen;
-    if (head.kind <= QUIC_WIRE_RETRY) { /* a long head, which tells its sender's id */
+    if (head.kind <= QUIC_WIRE_RETRY) { /* a long header, which tells its sender's id */
       f->sides[from].has_id = 1;
       f->sides[from].idlen = head.scidlen;
     }

@@ -34,14 +34,14 @@ static uint32_t four_bytes(const uint8_t *at) {
 
 /* What stands before the IP packet in each kind of capture: |len| bytes, with an
  * EtherType at |type|, or none where that is |len|. */
-typedef struct link_head {
+typedef struct link_header {
   int link;
   size_t type, len;
-} link_head;
+} link_header;
 
-/* Goes past the head of the link and tags of VLANs.  Returns where the IP packet
+/* Goes past the header of the link and tags of VLANs.  Returns where the IP packet
  * begins, or |len| where none is there. */
-static size_t skip_link(const link_head *link, const uint8_t *bytes, size_t len) {
+static size_t skip_link(const link_header *link, const uint8_t *bytes, size_t len) {
   size_t type = link->type, end = link->len;
   if (type == end)
     return end < len ? end : len;
@@ -85,25 +85,25 @@ static int read_ip(const uint8_t *ip, size_t len, datagram *out) {
 /* A capture file that is read. */
 typedef struct capture {
   pcap_t *file;
-  link_head link;
+  link_header link;
   unsigned long frame; /* the number of the last packet, from 1 on */
 } capture;
 
 static capture open_capture(const char *name) {
-  static const link_head heads[] = {
+  static const link_header headers[] = {
       {DLT_EN10MB, 12, 14}, {DLT_LINUX_SLL, 14, 16}, {DLT_LINUX_SLL2, 0, 20},
       {DLT_NULL, 4, 4},     {DLT_LOOP, 4, 4},        {DLT_RAW, 0, 0},
       {DLT_IPV4, 0, 0},     {DLT_IPV6, 0, 0}};
-  const size_t count = sizeof heads / sizeof *heads;
+  const size_t count = sizeof headers / sizeof *headers;
   char why[PCAP_ERRBUF_SIZE];
   capture c = {0};
   size_t i = 0;
   c.file = pcap_open_offline(name, why);
   check(c.file != NULL, why);
-  while (i < count && heads[i].link != pcap_datalink(c.file))
+  while (i < count && headers[i].link != pcap_datalink(c.file))
     i++;
   check(i < count, "links of this kind aren't read");
-  c.link = heads[i];
+  c.link = headers[i];
   return c;
 }
 

@@ -24,18 +24,18 @@ static void check(int is_so, const char *what) {
 /* Opens a packet in its place.  Returns where its payload begins, and its number
  * through |number|. */
 static size_t open_packet(const keys *k, uint8_t *packet,
-                          const quic_wire_head *head, uint64_t *number) {
+                          const quic_wire_header *head, uint64_t *number) {
   const uint8_t *sample =
-      quic_wire_sample(packet, head->end, head->head_end, SAMPLE);
+      quic_wire_sample(packet, head->end, head->header_end, SAMPLE);
   uint8_t mask[5];
   size_t begin;
   int numberlen;
   check(sample != NULL, "too short for a sample");
   make_mask(k, sample, mask);
   numberlen =
-      quic_wire_unprotect(packet, head->end, head->head_end, mask, 0, number);
+      quic_wire_unprotect(packet, head->end, head->header_end, mask, 0, number);
   check(numberlen > 0, quic_wire_strerror(numberlen));
-  begin = head->head_end + (size_t)numberlen;
+  begin = head->header_end + (size_t)numberlen;
   check(head->end - begin >= TAG &&
             crypt_payload(k, 0, *number, packet, begin, packet + begin,
                           head->end - begin, packet + begin),
@@ -49,12 +49,12 @@ static size_t seal_packet(const keys *k, const quic_wire_said *said,
                           const uint8_t *dcid, size_t dcidlen,
                           const uint8_t *payload, size_t len, uint8_t *packet,
                           size_t room) {
-  const int64_t headlen = quic_wire_head_write(said, dcid, dcidlen, NULL, 0, NULL,
+  const int64_t headerlen = quic_wire_header_write(said, dcid, dcidlen, NULL, 0, NULL,
                                                0, packet, room);
-  const size_t begin = (size_t)headlen, end = begin + len + TAG;
+  const size_t begin = (size_t)headerlen, end = begin + len + TAG;
   const size_t place = begin - said->numberlen;
   uint8_t mask[5];
-  check(headlen > 0 && end <= room, "no room");
+  check(headerlen > 0 && end <= room, "no room");
   memcpy(packet + begin, payload, len);
   check(quic_wire_set_len(packet, end, place, said->lengthlen) == 0, "too long");
   crypt_payload(k, 1, said->number, packet, begin, packet + begin, len,
@@ -92,12 +92,12 @@ int main(void) {
   static const uint32_t versions[] = {VERSION_1};
   static uint8_t packet[MOST], given[MOST], again[MOST];
   quic_wire_said said = {QUIC_WIRE_INITIAL, 0, 0, 2, 1, 0};
-  quic_wire_head head;
+  quic_wire_header head;
   const uint8_t *dcid;
   const size_t len = read_hex(stdin, packet, sizeof packet);
   size_t begin, i;
   keys k;
-  int answer = quic_wire_head_read(packet, len, 0, versions, 1, &head);
+  int answer = quic_wire_header_read(packet, len, 0, versions, 1, &head);
   check(quic_wire_check_linked() == 0, "another library is linked");
   check(answer == 0, quic_wire_packet_reason_text((uint32_t)answer));
   check(head.kind == QUIC_WIRE_INITIAL && head.scidlen + head.tokenlen == 0,
@@ -107,7 +107,7 @@ int main(void) {
   k = initial_keys(VERSION_1, QUIC_WIRE_CLIENT, dcid, head.dcidlen);
 
   begin = open_packet(&k, packet, &head, &said.number);
-  said.numberlen = (uint8_t)(begin - head.head_end);
+  said.numberlen = (uint8_t)(begin - head.header_end);
   printf("initial, number %" PRIu64 ", id ", said.number);
   for (i = 0; i < head.dcidlen; i++)
     printf("%02x", dcid[i]);

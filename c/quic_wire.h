@@ -34,16 +34,16 @@
  * The packets of a datagram are opened so, where make_mask and open_payload are
  * the caller's cipher:
  *
- *   while (len != 0 && quic_wire_head_read(packet, len, cidlen, versions,
+ *   while (len != 0 && quic_wire_header_read(packet, len, cidlen, versions,
  *                                          nversions, &head) == 0) {
  *     const uint8_t *sample =
- *         quic_wire_sample(packet, head.end, head.head_end, 16);
+ *         quic_wire_sample(packet, head.end, head.header_end, 16);
  *     if (sample && head.kind != QUIC_WIRE_RETRY &&
  *         head.kind != QUIC_WIRE_VERSION_NEGOTIATION) {
  *       make_mask(mask, sample);
- *       numberlen = quic_wire_unprotect(packet, head.end, head.head_end, mask,
+ *       numberlen = quic_wire_unprotect(packet, head.end, head.header_end, mask,
  *                                       expected, &number);
- *       size_t begin = head.head_end + (size_t)numberlen;
+ *       size_t begin = head.header_end + (size_t)numberlen;
  *       open_payload(number, packet, begin, packet + begin, head.end - begin);
  *     }
  *     packet += head.end;
@@ -58,7 +58,7 @@
  *   said.number = number;
  *   said.numberlen = (uint8_t)quic_wire_number_len(number, largest_acked);
  *   said.lengthlen = 2;
- *   int64_t begin = quic_wire_head_write(&said, dcid, dcidlen, scid, scidlen,
+ *   int64_t begin = quic_wire_header_write(&said, dcid, dcidlen, scid, scidlen,
  *                                        NULL, 0, packet, room);
  *   size_t place = (size_t)begin - said.numberlen; // where the number stands
  *   quic_wire_frame_write(&frame, data, datalen, 1, packet + begin,
@@ -88,10 +88,10 @@
  *   The ranges of an ACK, read
  *   Frames, written
  *   Payloads in their shortest form
- *   Heads of packets, read
- *   The protection of heads
+ *   Headers of packets, read
+ *   The protection of headers
  *   Numbers of packets, and of variable length
- *   Heads of packets, written
+ *   Headers of packets, written
  *   Transport parameters, read and written
  *   Sets of packet numbers, and ACKs of them
  *   Texts
@@ -318,18 +318,18 @@ typedef struct quic_wire_canon {
 #define QUIC_WIRE_RETRY 3
 #define QUIC_WIRE_1RTT 4
 #define QUIC_WIRE_VERSION_NEGOTIATION 5
-#define QUIC_WIRE_UNKNOWN_VERSION 6 /* a long head of a version that is none
+#define QUIC_WIRE_UNKNOWN_VERSION 6 /* a long header of a version that is none
                                        of those given */
 
 /* Bits of a first byte. */
-#define QUIC_WIRE_LONG_FORM 0x80 /* set in all heads but those of 1-RTT */
+#define QUIC_WIRE_LONG_FORM 0x80 /* set in all headers but those of 1-RTT */
 #define QUIC_WIRE_FIXED_BIT 0x40 /* set, but where it is greased (RFC 9287) */
 #define QUIC_WIRE_SPIN_BIT 0x20  /* of 1-RTT */
 #define QUIC_WIRE_KEY_PHASE 0x04 /* of 1-RTT, under protection */
 #define QUIC_WIRE_RESERVED_1RTT 0x18 /* must be 0, under protection */
 #define QUIC_WIRE_RESERVED_LONG 0x0c /* of Initial, 0-RTT and Handshake */
 
-/* Why a head, or its packet, isn't whole.  That the fixed bit is unset is for
+/* Why a header, or its packet, isn't whole.  That the fixed bit is unset is for
  * callers to say: no function answers it. */
 #define QUIC_WIRE_PACKET_UNSUPPORTED_VERSION 1
 #define QUIC_WIRE_PACKET_UNEXPECTED_END 2
@@ -339,22 +339,22 @@ typedef struct quic_wire_canon {
 #define QUIC_WIRE_PACKET_TOKEN_OUT_OF_BOUNDS 6
 #define QUIC_WIRE_PACKET_LENGTH_BEYOND_END 7
 
-/* The head of a packet, with its protection still on.  Every place is one in
+/* The header of a packet, with its protection still on.  Every place is one in
  * the packet, in bytes from its front; what the kind lacks is 0. */
-typedef struct quic_wire_head {
+typedef struct quic_wire_header {
   uint8_t kind;    /* QUIC_WIRE_INITIAL and so on */
   uint8_t first;   /* the first byte as it stands */
   uint8_t dcidlen; /* the receiver's id: quic_wire_dcid */
   uint8_t scidlen; /* the sender's id: quic_wire_scid */
   uint32_t version;
-  uint32_t head_end; /* where the number begins, if the packet has one */
+  uint32_t header_end; /* where the number begins, if the packet has one */
   uint32_t end;      /* where the packet ends, or its bytes if it is cut off */
   uint32_t token, tokenlen; /* the token of an Initial packet */
   uint64_t len; /* how many bytes an Initial, Handshake or 0-RTT packet has
-                   from |head_end| on, as its head says */
-} quic_wire_head;
+                   from |header_end| on, as its header says */
+} quic_wire_header;
 
-/* What a head says that is written, beside its ids and its token.  What its
+/* What a header says that is written, beside its ids and its token.  What its
  * kind lacks isn't looked at. */
 typedef struct quic_wire_said {
   uint8_t kind;      /* QUIC_WIRE_INITIAL and so on */
@@ -475,9 +475,9 @@ QUIC_WIRE_ASSERT(sizeof(quic_wire_ack_ranges) == 24, "64-bit words");
 QUIC_WIRE_ASSERT(sizeof(quic_wire_canon) == 24, "64-bit words");
 QUIC_WIRE_ASSERT(offsetof(quic_wire_canon, last_type) == 8, "64-bit words");
 QUIC_WIRE_ASSERT(offsetof(quic_wire_canon, reason) == 16, "64-bit words");
-QUIC_WIRE_ASSERT(sizeof(quic_wire_head) == 32, "no room between the fields");
-QUIC_WIRE_ASSERT(offsetof(quic_wire_head, version) == 4, "no room");
-QUIC_WIRE_ASSERT(offsetof(quic_wire_head, len) == 24, "no room");
+QUIC_WIRE_ASSERT(sizeof(quic_wire_header) == 32, "no room between the fields");
+QUIC_WIRE_ASSERT(offsetof(quic_wire_header, version) == 4, "no room");
+QUIC_WIRE_ASSERT(offsetof(quic_wire_header, len) == 24, "no room");
 QUIC_WIRE_ASSERT(sizeof(quic_wire_said) == 16, "no room between the fields");
 QUIC_WIRE_ASSERT(sizeof(quic_wire_params) == 264, "no room between the fields");
 QUIC_WIRE_ASSERT(offsetof(quic_wire_params, max_idle_timeout) == 8, "no room");
@@ -501,7 +501,7 @@ QUIC_WIRE_ASSERT(offsetof(quic_wire_param, value) == 8, "64-bit words");
    (uint64_t)(sizeof(quic_wire_range) / 8) << 16 |                             \
    (uint64_t)(sizeof(quic_wire_ack_ranges) / 8) << 24 |                        \
    (uint64_t)(sizeof(quic_wire_canon) / 8) << 32 |                             \
-   (uint64_t)(sizeof(quic_wire_head) / 8) << 40 |                              \
+   (uint64_t)(sizeof(quic_wire_header) / 8) << 40 |                              \
    (uint64_t)(sizeof(quic_wire_said) / 8) << 48 |                              \
    (uint64_t)(sizeof(quic_wire_params) / 8) << 56)
 
@@ -753,7 +753,7 @@ QUIC_WIRE_API int quic_wire_frame_write(const quic_wire_frame *frame,
  * looked at.  Answers and |dest| are those of quic_wire_frame_write;
  * QUIC_WIRE_ERR_INVALID_ARGUMENT also for other kinds.
  */
-QUIC_WIRE_API int quic_wire_frame_head_write(const quic_wire_frame *frame,
+QUIC_WIRE_API int quic_wire_frame_header_write(const quic_wire_frame *frame,
                                              int last, uint8_t *dest,
                                              size_t destlen, size_t *written);
 
@@ -801,45 +801,45 @@ QUIC_WIRE_API int quic_wire_canonical(const uint8_t *payload, size_t payloadlen,
                                       uint8_t *dest, size_t destlen,
                                       quic_wire_canon *out);
 
-/* ---- Heads of packets, read */
+/* ---- Headers of packets, read */
 
 /*
- * Reads the head of the packet that |bytes| begin with, be it whole or cut off
- * behind its head.  Ids of short heads have |cidlen| bytes; |versions| are
+ * Reads the header of the packet that |bytes| begin with, be it whole or cut off
+ * behind its head.  Ids of short headers have |cidlen| bytes; |versions| are
  * those that are read further than their ids.  The fixed bit isn't looked at:
  * who doesn't take packets of RFC 9287 asks for it in |head->first|, but not of
  * a version negotiation, where clients ignore it (RFC 9000, section 17.2.1).
  *
- * Returns 0 and the head, whose packet ends at |head->end|, where the next one
- * of the datagram begins; QUIC_WIRE_PACKET_LENGTH_BEYOND_END and the head, of a
- * packet that is cut off; QUIC_WIRE_PACKET_UNSUPPORTED_VERSION and of the head
+ * Returns 0 and the header, whose packet ends at |head->end|, where the next one
+ * of the datagram begins; QUIC_WIRE_PACKET_LENGTH_BEYOND_END and the header, of a
+ * packet that is cut off; QUIC_WIRE_PACKET_UNSUPPORTED_VERSION and of the header
  * its kind, its version and its ids, which may have up to 255 bytes; another
- * reason where there is no head, or where a version negotiation has longer ids
+ * reason where there is no header, or where a version negotiation has longer ids
  * than 20 bytes, which quic_wire_negotiation_read tells;
  * QUIC_WIRE_ERR_INVALID_ARGUMENT for NULL, or where |cidlen| is above 20 or
  * there are 2^32 bytes or more.  |head| stays with the last two.
  */
-QUIC_WIRE_API int quic_wire_head_read(const uint8_t *bytes, size_t len,
+QUIC_WIRE_API int quic_wire_header_read(const uint8_t *bytes, size_t len,
                                       uint32_t cidlen, const uint32_t *versions,
-                                      size_t nversions, quic_wire_head *head);
+                                      size_t nversions, quic_wire_header *head);
 
 /*
- * Where the short head ends that |packet| begins with, whose id has |cidlen|
- * bytes: where the number begins.  It is what quic_wire_head_read tells of such
- * a packet, and the quickest way to it.  0 where no short head begins there, or
+ * Where the short header ends that |packet| begins with, whose id has |cidlen|
+ * bytes: where the number begins.  It is what quic_wire_header_read tells of such
+ * a packet, and the quickest way to it.  0 where no short header begins there, or
  * |cidlen| is above 20, and for NULL.  The fixed bit isn't looked at.
  */
 QUIC_WIRE_API size_t quic_wire_short_read(const uint8_t *packet,
                                           size_t packetlen, uint32_t cidlen);
 
 /*
- * Reads the head of the version negotiation that |packet| is (RFC 9000, section
+ * Reads the header of the version negotiation that |packet| is (RFC 9000, section
  * 17.2.1).  Its ids are those of the packet that it answers, which may be of any
  * version, so they have up to 255 bytes (RFC 8999, section 6).  It is what
- * quic_wire_head_read tells where both have at most 20, which refuses longer
+ * quic_wire_header_read tells where both have at most 20, which refuses longer
  * ones.  The seven low bits of the first byte aren't looked at.
  *
- * Returns 0 and the head, behind which the versions stand from |head->head_end|
+ * Returns 0 and the header, behind which the versions stand from |head->header_end|
  * to |head->end|, four bytes each, the highest first; QUIC_WIRE_ERR_MALFORMED
  * where none begins there: the highest bit of the first byte is clear, the
  * version isn't 0, or the bytes end within the ids;
@@ -848,19 +848,19 @@ QUIC_WIRE_API size_t quic_wire_short_read(const uint8_t *packet,
  */
 QUIC_WIRE_API int quic_wire_negotiation_read(const uint8_t *packet,
                                              size_t packetlen,
-                                             quic_wire_head *head);
+                                             quic_wire_header *head);
 
-/* Where the ids stand in a packet of this head, or NULL for NULL. */
+/* Where the ids stand in a packet of this header, or NULL for NULL. */
 QUIC_WIRE_API const uint8_t *quic_wire_dcid(const uint8_t *packet,
-                                            const quic_wire_head *head);
+                                            const quic_wire_header *head);
 QUIC_WIRE_API const uint8_t *quic_wire_scid(const uint8_t *packet,
-                                            const quic_wire_head *head);
+                                            const quic_wire_header *head);
 
-/* ---- The protection of heads */
+/* ---- The protection of headers */
 
 /*
  * The sample of |samplelen| bytes from which the caller makes the mask of the
- * head (RFC 9001, section 5.4.2), in a packet whose number begins at |number|,
+ * header (RFC 9001, section 5.4.2), in a packet whose number begins at |number|,
  * or NULL where the packet is too short.
  */
 QUIC_WIRE_API const uint8_t *quic_wire_sample(const uint8_t *packet,
@@ -868,7 +868,7 @@ QUIC_WIRE_API const uint8_t *quic_wire_sample(const uint8_t *packet,
                                               size_t samplelen);
 
 /*
- * Takes the protection off the head of a packet whose number begins at
+ * Takes the protection off the header of a packet whose number begins at
  * |place|, by a mask of five bytes (RFC 9001, section 5.4.1), and says its
  * number by the one that is |expected| next, as quic_wire_number_expand does;
  * with 0 it is what is written.  Returns how many bytes the number has, 1 to 4:
@@ -882,19 +882,19 @@ QUIC_WIRE_API int quic_wire_unprotect(uint8_t *packet, size_t packetlen,
                                       uint64_t expected, uint64_t *number);
 
 /*
- * The same of a packet that stays as it is: its head and the four bytes from
- * |place| on are copied to |head|, which has room for |headlen| bytes, and
+ * The same of a packet that stays as it is: its header and the four bytes from
+ * |place| on are copied to |head|, which has room for |headerlen| bytes, and
  * opened there.  QUIC_WIRE_ERR_NOBUF where that is less.  With an answer below
  * 0 |number| stays, and |head| may hold the copy.
  */
-QUIC_WIRE_API int quic_wire_unprotect_head(const uint8_t *packet,
+QUIC_WIRE_API int quic_wire_unprotect_header(const uint8_t *packet,
                                            size_t packetlen, size_t place,
                                            const uint8_t *mask,
                                            uint64_t expected, uint8_t *head,
-                                           size_t headlen, uint64_t *number);
+                                           size_t headerlen, uint64_t *number);
 
 /*
- * Puts the protection on the head of a packet whose payload is sealed and whose
+ * Puts the protection on the header of a packet whose payload is sealed and whose
  * number begins at |place|.  Returns how many bytes the number has;
  * QUIC_WIRE_ERR_MALFORMED where |place| is 0 or has fewer than four bytes from
  * it on; QUIC_WIRE_ERR_INVALID_ARGUMENT for NULL.  Nothing changes then.
@@ -931,26 +931,26 @@ QUIC_WIRE_API size_t quic_wire_varint_read(const uint8_t *bytes, size_t len,
 QUIC_WIRE_API size_t quic_wire_varint_write(uint64_t value, uint32_t width,
                                             uint8_t *dest, size_t destlen);
 
-/* ---- Heads of packets, written */
+/* ---- Headers of packets, written */
 
-/* How many bytes a head has whose token has |tokenlen|; 0 for NULL. */
-QUIC_WIRE_API size_t quic_wire_head_len(const quic_wire_said *said,
+/* How many bytes a header has whose token has |tokenlen|; 0 for NULL. */
+QUIC_WIRE_API size_t quic_wire_header_len(const quic_wire_said *said,
                                         size_t dcidlen, size_t scidlen,
                                         size_t tokenlen);
 
 /*
- * Writes the head of a packet at the front of |dest|, with no protection on it:
+ * Writes the header of a packet at the front of |dest|, with no protection on it:
  * what |said| says, with the receiver's id |dcid|, the sender's id |scid| and
  * the |token|.  The length that an Initial, 0-RTT or Handshake packet has is 0,
  * until quic_wire_set_len.
  *
  * Returns how many bytes were written, at whose end the number stands;
- * QUIC_WIRE_ERR_NOBUF where |destlen| is less than quic_wire_head_len;
- * QUIC_WIRE_ERR_INVALID_ARGUMENT for NULL, or where no such head can be
+ * QUIC_WIRE_ERR_NOBUF where |destlen| is less than quic_wire_header_len;
+ * QUIC_WIRE_ERR_INVALID_ARGUMENT for NULL, or where no such header can be
  * written: there is no such kind, an id is longer than 20 bytes, the number is
  * 2^62 or more or has not 1 to 4 bytes, the length has not 2 or 4, or an
  * Initial, 0-RTT, Handshake or Retry packet has version 0, which would be a
- * version negotiation (RFC 9000, section 17.2.1).  |dest| changes where a head
+ * version negotiation (RFC 9000, section 17.2.1).  |dest| changes where a header
  * was written alone.
  *
  * What is looked at, and nothing else, so that one |said| serves all kinds:
@@ -969,7 +969,7 @@ QUIC_WIRE_API size_t quic_wire_head_len(const quic_wire_said *said,
  * QUIC_WIRE_FIXED_BIT: RFC 9000, section 17.2.1, has that bit set where QUIC
  * may share its port (RFC 7983), and readers that ask for it refuse it.
  */
-QUIC_WIRE_API int64_t quic_wire_head_write(
+QUIC_WIRE_API int64_t quic_wire_header_write(
     const quic_wire_said *said, const uint8_t *dcid, size_t dcidlen,
     const uint8_t *scid, size_t scidlen, const uint8_t *token, size_t tokenlen,
     uint8_t *dest, size_t destlen);
@@ -995,7 +995,7 @@ QUIC_WIRE_API int quic_wire_negotiation_write(
     size_t destlen, size_t *written);
 
 /*
- * Sets the length in the head of a packet of |packetlen| bytes whose number
+ * Sets the length in the header of a packet of |packetlen| bytes whose number
  * begins at |place|, to what there is from there on.  |lengthlen| is that of
  * the head.  Returns 0, or QUIC_WIRE_ERR_INVALID_ARGUMENT where that is neither
  * 2 nor 4, has no place before |place| or can't hold the length; nothing

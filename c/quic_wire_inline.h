@@ -2,8 +2,8 @@
 /*
  * What the functions of quic_wire.h do: most look at their pointers and call the
  * proved library.  Without a call are those that give a part of what was read,
- * quic_wire_padding_count and quic_wire_head_len; quic_wire_unprotect_head
- * copies first, and quic_wire_head_write chooses one of two calls.  c/abuse/
+ * quic_wire_padding_count and quic_wire_header_len; quic_wire_unprotect_header
+ * copies first, and quic_wire_header_write chooses one of two calls.  c/abuse/
  * holds these against the proved calls.  quic_wire.h includes this file where
  * QUIC_WIRE_INLINE is defined, and so does the library's own quic_wire.c, which
  * makes symbols of them.
@@ -43,22 +43,22 @@ int32_t quic_wire_ack_ranges_fill_(quic_wire_ack_ranges *, const uint8_t *,
                                    size_t, quic_wire_range *, size_t, size_t *);
 int32_t quic_wire_frame_write_(const quic_wire_frame *, const uint8_t *,
                                size_t, uint32_t, uint8_t *, size_t, size_t *);
-int32_t quic_wire_frame_head_write_(const quic_wire_frame *, uint32_t,
+int32_t quic_wire_frame_header_write_(const quic_wire_frame *, uint32_t,
                                     uint8_t *, size_t, size_t *);
 int32_t quic_wire_ack_gaps_write_(const quic_wire_frame *, const quic_wire_gap *,
                                   size_t, uint8_t *, size_t, size_t *);
 int32_t quic_wire_canonical_(const uint8_t *, size_t, uint8_t *, size_t,
                              quic_wire_canon *);
-int32_t quic_wire_head_read_(const uint8_t *, size_t, uint32_t,
-                             const uint32_t *, size_t, quic_wire_head *);
+int32_t quic_wire_header_read_(const uint8_t *, size_t, uint32_t,
+                             const uint32_t *, size_t, quic_wire_header *);
 size_t quic_wire_short_read_(const uint8_t *, size_t, uint32_t);
-int32_t quic_wire_negotiation_read_(const uint8_t *, size_t, quic_wire_head *);
+int32_t quic_wire_negotiation_read_(const uint8_t *, size_t, quic_wire_header *);
 int32_t quic_wire_unprotect_(uint8_t *, size_t, size_t, const uint8_t *,
                              uint64_t, uint64_t *);
 int32_t quic_wire_protect_(uint8_t *, size_t, size_t, const uint8_t *);
 int32_t quic_wire_short_write_(uint32_t, uint64_t, const uint8_t *, size_t,
                                uint8_t *, size_t);
-int64_t quic_wire_head_write_(const quic_wire_said *, const uint8_t *, size_t,
+int64_t quic_wire_header_write_(const quic_wire_said *, const uint8_t *, size_t,
                               const uint8_t *, size_t, const uint8_t *, size_t,
                               uint8_t *, size_t);
 int32_t quic_wire_negotiation_write_(uint8_t, const uint8_t *, size_t,
@@ -315,7 +315,7 @@ QUIC_WIRE_API int quic_wire_frame_write(const quic_wire_frame *frame,
                                 written ? written : &unused);
 }
 
-QUIC_WIRE_API int quic_wire_frame_head_write(const quic_wire_frame *frame,
+QUIC_WIRE_API int quic_wire_frame_header_write(const quic_wire_frame *frame,
                                              int last, uint8_t *dest,
                                              size_t destlen, size_t *written) {
   size_t unused;
@@ -323,7 +323,7 @@ QUIC_WIRE_API int quic_wire_frame_head_write(const quic_wire_frame *frame,
     return QUIC_WIRE_ERR_INVALID_ARGUMENT;
   if (!dest)
     dest = (uint8_t *)quic_wire_nothing_();
-  return quic_wire_frame_head_write_(frame, last != 0, dest, destlen,
+  return quic_wire_frame_header_write_(frame, last != 0, dest, destlen,
                                      written ? written : &unused);
 }
 
@@ -362,13 +362,13 @@ QUIC_WIRE_API int quic_wire_canonical(const uint8_t *payload, size_t payloadlen,
   return quic_wire_canonical_(payload, payloadlen, dest, destlen, out);
 }
 
-QUIC_WIRE_API int quic_wire_head_read(const uint8_t *bytes, size_t len,
+QUIC_WIRE_API int quic_wire_header_read(const uint8_t *bytes, size_t len,
                                       uint32_t cidlen, const uint32_t *versions,
-                                      size_t nversions, quic_wire_head *head) {
+                                      size_t nversions, quic_wire_header *head) {
   static const uint32_t none = 0;
   if (!bytes || !head || (!versions && nversions))
     return QUIC_WIRE_ERR_INVALID_ARGUMENT;
-  return quic_wire_head_read_(bytes, len, cidlen, versions ? versions : &none,
+  return quic_wire_header_read_(bytes, len, cidlen, versions ? versions : &none,
                               nversions, head);
 }
 
@@ -379,21 +379,21 @@ QUIC_WIRE_API size_t quic_wire_short_read(const uint8_t *packet,
 
 QUIC_WIRE_API int quic_wire_negotiation_read(const uint8_t *packet,
                                              size_t packetlen,
-                                             quic_wire_head *head) {
+                                             quic_wire_header *head) {
   if (!packet || !head)
     return QUIC_WIRE_ERR_INVALID_ARGUMENT;
   return quic_wire_negotiation_read_(packet, packetlen, head);
 }
 
 QUIC_WIRE_API const uint8_t *quic_wire_dcid(const uint8_t *packet,
-                                            const quic_wire_head *head) {
+                                            const quic_wire_header *head) {
   return packet && head ? packet + (head->first & QUIC_WIRE_LONG_FORM ? 6 : 1)
                         : NULL;
 }
 
 QUIC_WIRE_API const uint8_t *quic_wire_scid(const uint8_t *packet,
-                                            const quic_wire_head *head) {
-  return packet && head ? packet + 7 + head->dcidlen : NULL; /* of a long head */
+                                            const quic_wire_header *head) {
+  return packet && head ? packet + 7 + head->dcidlen : NULL; /* of a long header */
 }
 
 QUIC_WIRE_API const uint8_t *quic_wire_sample(const uint8_t *packet,
@@ -413,16 +413,16 @@ QUIC_WIRE_API int quic_wire_unprotect(uint8_t *packet, size_t packetlen,
   return quic_wire_unprotect_(packet, packetlen, place, mask, expected, number);
 }
 
-QUIC_WIRE_API int quic_wire_unprotect_head(const uint8_t *packet,
+QUIC_WIRE_API int quic_wire_unprotect_header(const uint8_t *packet,
                                            size_t packetlen, size_t place,
                                            const uint8_t *mask,
                                            uint64_t expected, uint8_t *head,
-                                           size_t headlen, uint64_t *number) {
+                                           size_t headerlen, uint64_t *number) {
   if (!packet || !mask || !head || !number)
     return QUIC_WIRE_ERR_INVALID_ARGUMENT;
   if (packetlen < 4 || packetlen - 4 < place)
     return QUIC_WIRE_ERR_MALFORMED;
-  if (headlen < place + 4)
+  if (headerlen < place + 4)
     return QUIC_WIRE_ERR_NOBUF;
   memcpy(head, packet, place + 4);
   return quic_wire_unprotect_(head, place + 4, place, mask, expected, number);
@@ -456,7 +456,7 @@ QUIC_WIRE_API size_t quic_wire_varint_write(uint64_t value, uint32_t width,
   return dest ? quic_wire_varint_write_(value, width, dest, destlen) : 0;
 }
 
-QUIC_WIRE_API size_t quic_wire_head_len(const quic_wire_said *said,
+QUIC_WIRE_API size_t quic_wire_header_len(const quic_wire_said *said,
                                         size_t dcidlen, size_t scidlen,
                                         size_t tokenlen) {
   size_t front = 7 + dcidlen + scidlen, end;
@@ -474,7 +474,7 @@ QUIC_WIRE_API size_t quic_wire_head_len(const quic_wire_said *said,
   }
 }
 
-QUIC_WIRE_API int64_t quic_wire_head_write(
+QUIC_WIRE_API int64_t quic_wire_header_write(
     const quic_wire_said *said, const uint8_t *dcid, size_t dcidlen,
     const uint8_t *scid, size_t scidlen, const uint8_t *token, size_t tokenlen,
     uint8_t *dest, size_t destlen) {
@@ -494,7 +494,7 @@ QUIC_WIRE_API int64_t quic_wire_head_write(
     tokenlen = 0;
   if ((!scid && scidlen) || (!token && tokenlen))
     return QUIC_WIRE_ERR_INVALID_ARGUMENT;
-  return quic_wire_head_write_(said, dcid, dcidlen, scid ? scid : &none, scidlen,
+  return quic_wire_header_write_(said, dcid, dcidlen, scid ? scid : &none, scidlen,
                                token ? token : &none, tokenlen, dest, destlen);
 }
 

@@ -116,7 +116,7 @@ static void print_id(const uint8_t *datagram, size_t place, size_t len) {
 
 /* A packet that begins at |begin| of its datagram. */
 static void print_packet(const uint8_t *packet, size_t begin,
-                         const quic_wire_head *head) {
+                         const quic_wire_header *head) {
   static const char *const kinds[] = {"initial", "0rtt",  "handshake",
                                       "retry",   "short", "version-negotiation"};
   printf("%zu..%zu %s dst ", begin, begin + head->end, kinds[head->kind]);
@@ -133,15 +133,15 @@ static void print_packet(const uint8_t *packet, size_t begin,
 }
 
 /* Why no packet begins here, or 0 and its head. */
-static int read_head(const uint8_t *bytes, size_t len, uint32_t cidlen,
-                     quic_wire_head *head) {
+static int read_header(const uint8_t *bytes, size_t len, uint32_t cidlen,
+                     quic_wire_header *head) {
   static const uint32_t versions[] = {0x00000001, 0xff00001d, 0xff00001e,
                                       0xff00001f, 0xff000020, 0xff000021,
                                       0xff000022, 0x6b3343cf};
   int answer;
   if (len && !(bytes[0] & QUIC_WIRE_FIXED_BIT))
     return QUIC_WIRE_PACKET_FIXED_BIT_UNSET;
-  answer = quic_wire_head_read(bytes, len, cidlen, versions, 8, head);
+  answer = quic_wire_header_read(bytes, len, cidlen, versions, 8, head);
   if (answer == QUIC_WIRE_PACKET_UNSUPPORTED_VERSION &&
       (head->dcidlen > 20 || head->scidlen > 20))
     return QUIC_WIRE_PACKET_MALFORMED_CID;
@@ -150,12 +150,12 @@ static int read_head(const uint8_t *bytes, size_t len, uint32_t cidlen,
 
 static int print_packets(const uint8_t *datagram, size_t len, uint32_t cidlen) {
   static const uint8_t none = 0;
-  quic_wire_head head;
+  quic_wire_header head;
   size_t begin = 0;
   int answer;
   do {
     const uint8_t *packet = datagram ? datagram + begin : &none;
-    answer = read_head(packet, len - begin, cidlen, &head);
+    answer = read_header(packet, len - begin, cidlen, &head);
     if (answer == 0) {
       print_packet(packet, begin, &head);
       begin += head.end;

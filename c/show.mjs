@@ -76,7 +76,7 @@ function canon(bytes) {
     return [answer === OK ? hex(slice(dest, Number(len))) : invalid(lastType, Number(reason))];
 }
 
-// The line of a packet that begins at a place of its datagram, by its head at `at.out`.
+// The line of a packet that begins at a place of its datagram, by its header at `at.out`.
 function packet(view, begin) {
     const [kind, first, dcidLen, scidLen] = slice(at.out, 4);
     const [end, token, tokenLen] = [12, 16, 20].map((place) => view.getUint32(at.out + place, true));
@@ -93,12 +93,12 @@ function refused(reason, version) {
     return `error ${text(wire.quic_wire_packet_reason_text(reason))}${which}`;
 }
 
-// Why no packet begins at a place of the datagram, or 0, and its head is at `at.out`.
-function readHead(bytes, begin, idLen) {
+// Why no packet begins at a place of the datagram, or 0, and its header is at `at.out`.
+function readHeader(bytes, begin, idLen) {
     if (begin < bytes.length && !(bytes[begin] & 0x40)) return FIXED_BIT_UNSET;
     const [rest, versions, out] = [at.bytes + begin, at.versions, at.out].map(pointer);
     const [left, count] = [bytes.length - begin, VERSIONS.length].map(BigInt);
-    const answer = wire.quic_wire_head_read(rest, left, idLen, versions, count, out);
+    const answer = wire.quic_wire_header_read(rest, left, idLen, versions, count, out);
     const hasLongId = () => slice(at.out + 2, 2).some((length) => length > 20);
     return answer === UNSUPPORTED_VERSION && hasLongId() ? MALFORMED_CID : answer;
 }
@@ -109,7 +109,7 @@ function packets(bytes, idLen) {
     const lines = [];
     let begin = 0;
     do {
-        const answer = readHead(bytes, begin, idLen);
+        const answer = readHeader(bytes, begin, idLen);
         if (answer !== OK) return [...lines, refused(answer, view.getUint32(at.out + 4, true))];
         lines.push(packet(view, begin));
         begin += view.getUint32(at.out + 12, true);

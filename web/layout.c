@@ -37,14 +37,14 @@ static void frames(void) {
   FIELD(canon, reason);
 }
 
-static void heads(void) {
+static void headers(void) {
   STRUCT(head);
   FIELD(head, kind);
   FIELD(head, first);
   FIELD(head, dcidlen);
   FIELD(head, scidlen);
   FIELD(head, version);
-  FIELD(head, head_end);
+  FIELD(head, header_end);
   FIELD(head, end);
   FIELD(head, token);
   FIELD(head, tokenlen);
@@ -90,7 +90,7 @@ static void params_bytes(void) {
 int main(void) {
   _Static_assert(sizeof(void *) == 8 && sizeof(size_t) == 8, "64-bit words");
   frames();
-  heads();
+  headers();
   params();
   params_bytes();
   return 0;

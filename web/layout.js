@@ -17,7 +17,7 @@ export const LAYOUT = {
   head: {
     size: 32,
     fields: {
-      kind: [0, 1], first: [1, 1], dcidlen: [2, 1], scidlen: [3, 1], version: [4, 4], head_end: [8, 4], end: [12, 4],
+      kind: [0, 1], first: [1, 1], dcidlen: [2, 1], scidlen: [3, 1], version: [4, 4], header_end: [8, 4], end: [12, 4],
       token: [16, 4], tokenlen: [20, 4], len: [24, 8],
     },
   },

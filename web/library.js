@@ -220,7 +220,7 @@ export class Library {
     return BigInt(spoken.length);
   }
 
-  // Reads the head of the packet that begins at |offset|, and returns 0 or the reason why there is none. Two things the
+  // Reads the header of the packet that begins at |offset|, and returns 0 or the reason why there is none. Two things the
   // library leaves to its caller: without grease the fixed bit is looked at first (RFC 9000, section 17), and an id of
   // more than 20 bytes is refused in other versions too.
   cutPacket(offset, { idLength, versions, grease }) {
@@ -234,7 +234,7 @@ export class Library {
       this.at(this.head.place),
     );
     if (answer < OK) {
-      throw new Error(`quic_wire_head_read_ answered ${answer}`);
+      throw new Error(`quic_wire_header_read_ answered ${answer}`);
     }
     const hasLongId = () => this.head.number("dcidlen") > MAX_ID || this.head.number("scidlen") > MAX_ID;
     return answer === PACKET_UNSUPPORTED_VERSION && hasLongId() ? PACKET_MALFORMED_CID : answer;
@@ -274,7 +274,7 @@ export class Library {
     };
   }
 
-  // Takes the protection off a copy of the head of a packet, by a mask of five bytes: the first byte as it was, how
+  // Takes the protection off a copy of the header of a packet, by a mask of five bytes: the first byte as it was, how
   // many bytes the packet number has, and the number as it is written. Null where the packet is too short.
   unprotect({ begin, end, number }, mask) {
     const place = number - begin;
@@ -283,7 +283,7 @@ export class Library {
     this.reserve(given + 16);
     const memory = new Uint8Array(this.memory.buffer);
     memory.set(mask, given);
-    const answer = this.calls.quic_wire_unprotect_head(
+    const answer = this.calls.quic_wire_unprotect_header(
       this.at(this.input + begin), this.at(end - begin), this.at(place), this.at(given), 0n, this.at(head),
       this.at(place + 4), this.at(this.count),
     );

@@ -1,4 +1,4 @@
-// Packets of a datagram that are opened by what the caller pastes: the mask of the head, and the plain payload. The
+// Packets of a datagram that are opened by what the caller pastes: the mask of the header, and the plain payload. The
 // page has no keys and no ciphers.
 
 import { readText, toHex } from "./bytes.js";

@@ -116,7 +116,7 @@ export function packetFields(bytes, begin, end, kind, choices) {
   return walk;
 }
 
-// The fields of a packet whose head has no protection left: |head| has the first byte and the packet number.
+// The fields of a packet whose header has no protection left: |head| has the first byte and the packet number.
 export function openedFields(fields, { begin, end, number, kind }, head) {
   const { first, numberLength } = head;
   const low = `Packet Number Length ${numberLength} (${bits(first, 2)})`;

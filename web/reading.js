@@ -189,7 +189,7 @@ class DatagramReading extends Reading {
     this.openings = new Map();
   }
 
-  // Opens a packet by the mask of its head, or closes it where that is null; |inner| are lines for its frames.
+  // Opens a packet by the mask of its header, or closes it where that is null; |inner| are lines for its frames.
   open(index, mask, inner) {
     this.openings.set(index, { mask, inner });
     this.kept.delete(index);
@@ -229,7 +229,7 @@ class DatagramReading extends Reading {
     return opening ? { ...item, ...this.opened(item, packet, opening) } : item;
   }
 
-  // What an opened packet has otherwise: the fields of its head, and the frames of its payload.
+  // What an opened packet has otherwise: the fields of its header, and the frames of its payload.
   opened({ fields }, packet, { mask, inner }) {
     const head = mask && this.library.unprotect(packet, mask);
     if (!head) {

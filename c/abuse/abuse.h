@@ -90,22 +90,22 @@ extern void gaps_written(const uint8_t *payload, size_t len,
 extern void written_nulls(void);
 extern void without_data(void);
 extern void write_rubbish(const uint8_t *data, size_t len);
-extern void head_rubbish(void);
+extern void header_rubbish(void);
 
 /* canonical.c: the shortest form of payloads. */
 extern void canonical_nulls(void);
 extern int canonical_any(const uint8_t *payload, size_t len);
 
-/* heads.c: heads of packets, and their protection. */
-extern void heads_nulls(void);
+/* headers.c: headers of packets, and their protection. */
+extern void headers_nulls(void);
 extern void long_lengths(void);
 extern void packet_rubbish(uint8_t *datagram, size_t len);
 extern void protect_rubbish(uint8_t *datagram, size_t len);
 extern void place_any(uint8_t *packet, size_t len);
 
-/* heads_written.c: heads of packets that are written. */
-extern void heads_written_nulls(void);
-extern int head_written(void);
+/* headers_written.c: headers of packets that are written. */
+extern void headers_written_nulls(void);
+extern int header_written(void);
 
 /* negotiation.c: version negotiations. */
 extern void negotiation_nulls(void);

@@ -49,9 +49,9 @@ static void nulls(void) {
   written_nulls();
   without_data();
   canonical_nulls();
-  heads_nulls();
+  headers_nulls();
   long_lengths();
-  heads_written_nulls();
+  headers_written_nulls();
   negotiation_nulls();
   numbers_nulls();
   params_nulls();
@@ -60,7 +60,7 @@ static void nulls(void) {
 }
 
 static void rubbish(int rounds) {
-  int i, said = 0, heads = 0, forms = 0, longs = 0, extensions = 0;
+  int i, said = 0, headers = 0, forms = 0, longs = 0, extensions = 0;
   for (i = 0; i < rounds; i++) {
     size_t len = any() % 40, k;
     uint8_t *bytes = block(len);
@@ -72,10 +72,10 @@ static void rubbish(int rounds) {
     front_rubbish(bytes, len);
     fill_ranges_rubbish(bytes, len);
     write_rubbish(bytes, len);
-    head_rubbish();
+    header_rubbish();
     packet_rubbish(bytes, len);
     protect_rubbish(bytes, len);
-    heads += head_written();
+    headers += header_written();
     forms += canonical_any(bytes, len);
     longs += strict_any(bytes, len);
     extensions += extension_any(bytes, len);
@@ -92,7 +92,7 @@ static void rubbish(int rounds) {
       said += params_written((uint32_t)k);
     free(bytes);
   }
-  WANT(said > rounds / 20 && heads > rounds / 3 && forms > rounds / 50);
+  WANT(said > rounds / 20 && headers > rounds / 3 && forms > rounds / 50);
   WANT(longs > rounds / 5 && extensions > rounds / 5);
 }
 

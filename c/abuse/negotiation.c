@@ -3,7 +3,7 @@
 
 void negotiation_nulls(void) {
   static const uint32_t one[] = {1};
-  quic_wire_head head;
+  quic_wire_header head;
   uint8_t id[4] = {1, 2, 3, 4}, out[16] = {0};
   size_t n = 77;
   WANT(quic_wire_negotiation_read(NULL, 0, &head) == INVALID);
@@ -29,10 +29,10 @@ void negotiation_nulls(void) {
 
 /* A version negotiation is read where it is one by a plain model, whole, cut off
  * behind so many bytes, and with a bit turned; its words are those that
- * quic_wire_head_read tells where it tells any. */
+ * quic_wire_header_read tells where it tells any. */
 static void negotiation_read(uint8_t *packet, size_t len, size_t cut) {
   static const uint32_t one[] = {1};
-  quic_wire_head head, same;
+  quic_wire_header head, same;
   size_t i, dcidlen, scidlen;
   int answer, is;
   for (i = 0; i < 3; i++) {
@@ -55,9 +55,9 @@ static void negotiation_read(uint8_t *packet, size_t len, size_t cut) {
     WANT(head.kind == QUIC_WIRE_VERSION_NEGOTIATION && head.first == packet[0]);
     WANT(head.dcidlen == dcidlen && head.scidlen == scidlen);
     WANT(head.version == 0 && head.end == whole);
-    WANT(head.head_end == 7 + dcidlen + scidlen);
+    WANT(head.header_end == 7 + dcidlen + scidlen);
     WANT(head.token == 0 && head.tokenlen == 0 && head.len == 0);
-    answer = quic_wire_head_read(packet, whole, 0, one, 1, &same);
+    answer = quic_wire_header_read(packet, whole, 0, one, 1, &same);
     if (dcidlen <= 20 && scidlen <= 20)
       WANT(answer == 0 && !memcmp(&head, &same, sizeof head));
     else
@@ -85,7 +85,7 @@ static size_t model_negotiation(uint8_t first, uint8_t *const ids[2],
 
 /* A version negotiation is written as RFC 9000, section 17.2.1, draws it, with
  * ids of any length, and read back; any bytes are read as one just where that
- * section has one, and as quic_wire_head_read tells of ids of at most 20. */
+ * section has one, and as quic_wire_header_read tells of ids of at most 20. */
 void negotiation_any(void) {
   const uint8_t first = (uint8_t)any();
   const size_t most = any() % 3 ? 24 : 260, n = any() % 5;

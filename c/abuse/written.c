@@ -18,11 +18,11 @@ void written_nulls(void) {
   WANT(quic_wire_frame_write(&frame, NULL, 1, 0, out, 8, &n) == INVALID);
   WANT(quic_wire_frame_len(&frame, NULL, 1, 0, &n) == INVALID);
   frame.datalen = 0;
-  WANT(quic_wire_frame_head_write(NULL, 0, out, 8, &n) == INVALID);
-  WANT(quic_wire_frame_head_write(&frame, 0, NULL, 8, &n) == INVALID);
-  WANT(quic_wire_frame_head_write(&frame, 0, NULL, 0, &n) ==
+  WANT(quic_wire_frame_header_write(NULL, 0, out, 8, &n) == INVALID);
+  WANT(quic_wire_frame_header_write(&frame, 0, NULL, 8, &n) == INVALID);
+  WANT(quic_wire_frame_header_write(&frame, 0, NULL, 0, &n) ==
            QUIC_WIRE_ERR_NOBUF && n == 3);
-  WANT(quic_wire_frame_head_write(&frame, 0, out, 8, NULL) == 0);
+  WANT(quic_wire_frame_header_write(&frame, 0, out, 8, NULL) == 0);
 }
 
 /* What has no data is written as it was read, whatever |data| and its place in
@@ -96,9 +96,9 @@ void write_rubbish(const uint8_t *data, size_t len) {
   free(before);
 }
 
-/* The head of a frame of any words is the front of what is written of it with
+/* The header of a frame of any words is the front of what is written of it with
  * data, and what can be written whole has the length that is told before. */
-void head_rubbish(void) {
+void header_rubbish(void) {
   static const uint16_t kinds[] = {QUIC_WIRE_CRYPTO, QUIC_WIRE_STREAM,
                                    QUIC_WIRE_DATAGRAM};
   static uint8_t data[70], whole[128];
@@ -114,7 +114,7 @@ void head_rubbish(void) {
   for (k = 0; k < 5; k++)
     frame.numbers[k] = any() % 3 ? 0 : edge();
   memset(head, 0xa5, sizeof head);
-  answer = quic_wire_frame_head_write(&frame, last, head, room, &n);
+  answer = quic_wire_frame_header_write(&frame, last, head, room, &n);
   written = quic_wire_frame_write(&frame, data, sizeof data, last, whole,
                                   sizeof whole, &all);
   WANT(quic_wire_frame_len(&frame, data, sizeof data, last, &told) == written);
@@ -132,6 +132,6 @@ void head_rubbish(void) {
     WANT(head[k] == 0xa5);
   WANT(answer != 0 || !memcmp(head, whole, n));
   frame.datalen = (size_t)edge();
-  answer = quic_wire_frame_head_write(&frame, last, head, sizeof head, &n);
+  answer = quic_wire_frame_header_write(&frame, last, head, sizeof head, &n);
   WANT(answer == INVALID || (answer == 0 && n <= 25));
 }

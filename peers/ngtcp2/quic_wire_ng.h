@@ -16,8 +16,8 @@ static inline uint64_t quic_wire_ng_expected(int64_t largest) {
 }
 
 /*
- * Takes the protection off the head of |pkt|, whose packet number begins at
- * |place|: the head is copied to |head|, which has room for |place| + 4 bytes,
+ * Takes the protection off the header of |pkt|, whose packet number begins at
+ * |place|: the header is copied to |head|, which has room for |place| + 4 bytes,
  * and opened there by the mask that |hp_mask| makes.  |hd| gets the whole
  * number by |largest|, the greatest one that came (-1: none), its length and
  * the key phase.
@@ -42,7 +42,7 @@ quic_wire_ng_unprotect(ngtcp2_pkt_hd *hd, uint8_t *head, const uint8_t *pkt,
   if (hp_mask(mask, hp, hp_ctx, sample) != 0) {
     return NGTCP2_ERR_CALLBACK_FAILURE;
   }
-  /* What quic_wire_unprotect_head does; the sample stands behind the head. */
+  /* What quic_wire_unprotect_header does; the sample stands behind the head. */
   memcpy(head, pkt, place + 4);
   len = quic_wire_unprotect(head, place + 4, place, mask,
                             quic_wire_ng_expected(largest), &number);

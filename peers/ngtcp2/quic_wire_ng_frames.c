@@ -318,7 +318,7 @@ static inline ngtcp2_ssize put_pieces(uint8_t *out, size_t outlen,
     len += piece->len;
   }
   f->datalen = len;
-  rv = quic_wire_frame_head_write(f, last, out, outlen, &n);
+  rv = quic_wire_frame_header_write(f, last, out, outlen, &n);
   if (rv != QUIC_WIRE_OK) {
     return written(rv, n);
   }
@@ -332,8 +332,8 @@ static inline ngtcp2_ssize put_pieces(uint8_t *out, size_t outlen,
   return p - out;
 }
 
-/* What is looked at of a frame whose head alone is written. */
-static inline void head_of(quic_wire_frame *f, uint16_t kind, uint32_t flags,
+/* What is looked at of a frame whose header alone is written. */
+static inline void header_of(quic_wire_frame *f, uint16_t kind, uint32_t flags,
                            uint64_t id, uint64_t offset) {
   f->kind = kind;
   f->flags = flags;
@@ -347,7 +347,7 @@ ngtcp2_ssize ngtcp2_pkt_encode_stream_frame(uint8_t *out, size_t outlen,
   quic_wire_frame f;
   ngtcp2_ssize n;
 
-  head_of(&f, QUIC_WIRE_STREAM, fr->fin ? QUIC_WIRE_FLAG_FIN : 0,
+  header_of(&f, QUIC_WIRE_STREAM, fr->fin ? QUIC_WIRE_FLAG_FIN : 0,
           (uint64_t)fr->stream_id, fr->offset);
   n = put_pieces(out, outlen, &f, 0, fr->data, fr->datacnt);
   if (n > 0) {
@@ -360,7 +360,7 @@ ngtcp2_ssize ngtcp2_pkt_encode_crypto_frame(uint8_t *out, size_t outlen,
                                             const quic_wire_ng_crypto *fr) {
   quic_wire_frame f;
 
-  head_of(&f, QUIC_WIRE_CRYPTO, 0, 0, fr->offset);
+  header_of(&f, QUIC_WIRE_CRYPTO, 0, 0, fr->offset);
   return put_pieces(out, outlen, &f, 0, fr->data, fr->datacnt);
 }
 
@@ -368,7 +368,7 @@ ngtcp2_ssize ngtcp2_pkt_encode_datagram_frame(uint8_t *out, size_t outlen,
                                               const ngtcp2_datagram *fr) {
   quic_wire_frame f;
 
-  head_of(&f, QUIC_WIRE_DATAGRAM, 0, 0, 0);
+  header_of(&f, QUIC_WIRE_DATAGRAM, 0, 0, 0);
   return put_pieces(out, outlen, &f, fr->type == NGTCP2_FRAME_DATAGRAM,
                     fr->data, fr->datacnt);
 }

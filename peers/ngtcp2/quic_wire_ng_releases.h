@@ -18,7 +18,7 @@
 #include "ngtcp2_conv.h"
 #include "ngtcp2_pkt.h"
 
-/* The frame CRYPTO; an ACK that is written; the token of an Initial head and of
+/* The frame CRYPTO; an ACK that is written; the token of an Initial header and of
  * NEW_TOKEN. */
 #if QUIC_WIRE_NG_1
 typedef ngtcp2_stream quic_wire_ng_crypto;

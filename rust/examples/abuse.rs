@@ -3,7 +3,7 @@
 use quic_wire::canonical::canonical;
 use quic_wire::frame::{Ack, CryptoMeta, DatagramMeta, Entry, Frame, Iter, StreamMeta};
 use quic_wire::packet::{
-    Head, HeadError, Header, LongType, PacketNumber, PacketPlace, Packets, PacketsMut, VersionNegotiation,
+    HeaderPlaces, HeaderError, Header, LongType, PacketNumber, PacketPlace, Packets, PacketsMut, VersionNegotiation,
 };
 use quic_wire::range_set::ArrayRangeSet;
 use quic_wire::transport_parameters::{self, entries, TransportParameters};
@@ -134,7 +134,7 @@ fn written(payload: &[u8], all: &[(std::ops::Range<usize>, Frame<'_>)], is_broke
     }
 }
 
-fn heads(random: &mut Random) {
+fn frame_headers(random: &mut Random) {
     let data = vec![7; random.below(70) as usize];
     let (id, start, fin) = (StreamId(random.number()), random.number(), random.below(2) == 0);
     let offsets = start..start.saturating_add(data.len() as u64);
@@ -142,14 +142,14 @@ fn heads(random: &mut Random) {
     let crypto = Frame::Crypto(quic_wire::frame::Crypto { offset: start, data: &data });
     let datagram = Frame::Datagram(quic_wire::frame::Datagram { data: &data });
     let (meta, length) = (StreamMeta { id, offsets: offsets.clone(), fin }, random.below(2) == 0);
-    let mut heads = [vec![], vec![], vec![]];
-    let [one, two, three] = &mut heads;
+    let mut headers = [vec![], vec![], vec![]];
+    let [one, two, three] = &mut headers;
     let answers = [
         (meta.encode(length, one), stream),
         (CryptoMeta { offsets: offsets.clone() }.encode(two), crypto),
         (DatagramMeta { len: data.len() as u64 }.encode(length, three), datagram),
     ];
-    for ((answer, frame), head) in answers.into_iter().zip(heads) {
+    for ((answer, frame), head) in answers.into_iter().zip(headers) {
         let mut whole = vec![];
         let wanted = frame.encode(!length && !matches!(frame, Frame::Crypto(_)), &mut whole);
         match answer {
@@ -165,8 +165,8 @@ fn datagrams(random: &mut Random) {
     let sample_len = random.below(17) as usize;
     let mask = [(); 5].map(|()| random.next() as u8);
     let expected = random.number();
-    let short = Head::read(&datagram, cid_len, VERSIONS).ok().filter(Head::is_short).map(|head| head.head_end());
-    assert_eq!(Head::short_head_end(&datagram, cid_len), short);
+    let short = HeaderPlaces::read(&datagram, cid_len, VERSIONS).ok().filter(HeaderPlaces::is_short).map(|head| head.header_end());
+    assert_eq!(HeaderPlaces::short_header_end(&datagram, cid_len), short);
     let mut opened = datagram.clone();
     let mut cut = Packets::new(&datagram, cid_len, VERSIONS, grease);
     for packet in PacketsMut::new(&mut opened, cid_len, VERSIONS, grease) {
@@ -174,7 +174,7 @@ fn datagrams(random: &mut Random) {
         assert_eq!((packet.header(), packet.data()), (same.header(), same.data()));
         let (place, mut copy, mut head) = (same.place(), datagram.clone(), vec![]);
         let in_place = place.unprotect(&mut copy, &mask, expected);
-        let apart = place.unprotect_head(&datagram, &mask, expected, &mut head);
+        let apart = place.unprotect_header(&datagram, &mask, expected, &mut head);
         match in_place {
             Ok(told) => {
                 assert_eq!(apart, Ok(told));
@@ -231,13 +231,13 @@ fn headers(random: &mut Random) {
     let payload = random.bytes(90);
     packet.extend(&payload);
     written.set_len(&mut packet).unwrap();
-    let head = Head::read(&packet, dst.len(), VERSIONS).unwrap();
+    let head = HeaderPlaces::read(&packet, dst.len(), VERSIONS).unwrap();
     assert_eq!((head.dst_cid(&packet), head.end()), (dst_cid, packet.len()));
     let number_len = if head.is_protected() { number.len } else { 0 };
-    assert_eq!((head.head_end() + number_len, written.header_len), (written.header_len, packet.len() - payload.len()));
+    assert_eq!((head.header_end() + number_len, written.header_len), (written.header_len, packet.len() - payload.len()));
     for len in 0..packet.len() {
-        if let Err(HeadError::CutOff(cut)) = Head::read(&packet[..len], dst.len(), VERSIONS) {
-            assert_eq!((cut.dst_cid(&packet), cut.head_end(), cut.end()), (dst_cid, head.head_end(), len));
+        if let Err(HeaderError::CutOff(cut)) = HeaderPlaces::read(&packet[..len], dst.len(), VERSIONS) {
+            assert_eq!((cut.dst_cid(&packet), cut.header_end(), cut.end()), (dst_cid, head.header_end(), len));
         }
     }
 }
@@ -310,14 +310,14 @@ fn negotiations(random: &mut Random) {
         return;
     };
     assert_eq!((packet.len(), packet.len()), (len, answer.encoded_len()));
-    let head = Head::read_version_negotiation(&packet).unwrap();
+    let head = HeaderPlaces::read_version_negotiation(&packet).unwrap();
     assert_eq!((head.dst_cid(&packet), head.src_cid(&packet)), (dst_cid, src_cid));
     assert!(head.versions(&packet).eq(versions));
     let damaged = random.below(len as u64) as usize;
     packet[damaged] ^= 1 << random.below(8);
-    if let Some(head) = Head::read_version_negotiation(&packet) {
+    if let Some(head) = HeaderPlaces::read_version_negotiation(&packet) {
         let longest = head.dst_cid(&packet).len().max(head.src_cid(&packet).len());
-        assert_eq!(Head::read(&packet, 0, VERSIONS).ok(), (longest <= 20).then_some(head));
+        assert_eq!(HeaderPlaces::read(&packet, 0, VERSIONS).ok(), (longest <= 20).then_some(head));
     }
 }
 
@@ -327,7 +327,7 @@ fn main() {
     let mut random = Random(words.next().unwrap_or(1) | 1 << 63);
     for _ in 0..rounds {
         frames(&mut random);
-        heads(&mut random);
+        frame_headers(&mut random);
         datagrams(&mut random);
         headers(&mut random);
         negotiations(&mut random);

@@ -1,7 +1,7 @@
 //! What can go wrong, put together.
 use crate::canonical::CanonError;
 use crate::frame::{EmptyPayload, FrameType, InvalidFrame, Reason};
-use crate::packet::{HeadError, PacketDecodeError, UnprotectError};
+use crate::packet::{HeaderError, PacketDecodeError, UnprotectError};
 use crate::transport_error::Code;
 use crate::{range_set, transport_parameters};
 use core::fmt;
@@ -156,10 +156,10 @@ impl From<PacketDecodeError<'_>> for Error {
     }
 }
 
-impl From<HeadError> for Error {
-    fn from(error: HeadError) -> Error {
+impl From<HeaderError> for Error {
+    fn from(error: HeaderError) -> Error {
         match error {
-            HeadError::UnsupportedVersion(head) => Error::UnsupportedVersion(head.version()),
+            HeaderError::UnsupportedVersion(head) => Error::UnsupportedVersion(head.version()),
             _ => Error::Packet(error.reason()),
         }
     }

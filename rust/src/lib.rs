@@ -30,7 +30,7 @@
 //! A transport parameter that is an integer with a default is refused as malformed where its encoding is longer than
 //! its shortest, though section 16 allows it; `max_datagram_frame_size` and `min_ack_delay` are taken in any. A version
 //! negotiation whose bit 0x40 is clear is refused by [`packet::Packets`] and [`packet::PacketsMut`] unless packets are
-//! greased, though section 17.2.1 has clients ignore it; [`packet::Head::read`] doesn't look at the bit.
+//! greased, though section 17.2.1 has clients ignore it; [`packet::HeaderPlaces::read`] doesn't look at the bit.
 //! [`packet::PacketNumber::expand`] may give 2^62 or more near that, where appendix A.3 gives a number below. Whether
 //! data end below 2^62 and limits on streams are at most 2^60 isn't looked at: that is the connection's to judge.
 #![no_std]

@@ -126,20 +126,20 @@ fn an_ack_is_kept_and_written_again() {
 }
 
 #[test]
-fn heads_come_before_their_data() {
+fn headers_come_before_their_data() {
     for (start, fin, len) in [(0, false, 0), (0, true, 3), (1, false, 63), (1 << 14, true, 64), (1 << 30, false, 900)] {
         let data = vec![0xda; len as usize];
         let id = StreamId(start + 4);
         let offsets = start..start + len;
         let meta = StreamMeta { id, offsets: offsets.clone(), fin };
         let stream = Frame::Stream(Stream { id, offset: start, fin, data: &data });
-        let heads: [(Vec<u8>, Frame<'_>, bool); 4] = [
+        let headers: [(Vec<u8>, Frame<'_>, bool); 4] = [
             (written(|out| meta.encode(true, out)), stream, false),
             (written(|out| meta.encode(false, out)), stream, true),
             (written(|out| DatagramMeta { len }.encode(true, out)), Frame::Datagram(Datagram { data: &data }), false),
             (written(|out| DatagramMeta { len }.encode(false, out)), Frame::Datagram(Datagram { data: &data }), true),
         ];
-        for (head, frame, last) in heads {
+        for (head, frame, last) in headers {
             assert_eq!([&head[..], &data].concat(), written(|out| frame.encode(last, out)));
         }
         let crypto = Frame::Crypto(quic_wire::frame::Crypto { offset: start, data: &data });
@@ -158,7 +158,7 @@ fn written(write: impl Fn(&mut Vec<u8>) -> Result<usize, WriteError>) -> Vec<u8>
 }
 
 #[test]
-fn heads_are_refused_whole() {
+fn headers_are_refused_whole() {
     let meta = StreamMeta { id: StreamId(64), offsets: 5..70, fin: false };
     let len = meta.encoded_len(true).unwrap();
     for room in 0..len {
@@ -184,9 +184,9 @@ fn heads_are_refused_whole() {
 }
 
 /// What RFC 9000, section 19.8, has a receiver refuse ("cannot exceed 2^62-1") is the connection's to judge where a
-/// frame is read or written whole; a head alone isn't written for it.
+/// frame is read or written whole; a header alone isn't written for it.
 #[test]
-fn data_that_end_at_2_62_have_no_head() {
+fn data_that_end_at_2_62_have_no_header() {
     let (id, offset) = (StreamId(0), (1 << 62) - 2);
     let whole = |data| Frame::Stream(Stream { id, offset, fin: false, data });
     is_read_back(whole(&[1]));

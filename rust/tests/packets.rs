@@ -1,7 +1,7 @@
 //! Packets that are cut, opened, written and sealed.
 #![cfg(feature = "alloc")]
 use quic_wire::packet::{
-    Head, HeadError, Header, LongType, Opened, PacketDecodeError, PacketNumber, PacketPlace, Packets, PacketsMut,
+    HeaderPlaces, HeaderError, Header, LongType, Opened, PacketDecodeError, PacketNumber, PacketPlace, Packets, PacketsMut,
     ProtectedHeader, UnprotectError, VersionNegotiation, DEFAULT_SUPPORTED_VERSIONS,
 };
 use quic_wire::transport_error::Code;
@@ -43,20 +43,20 @@ fn a_packet_is_opened_where_it_stands() {
     let told = Opened { number: 300, number_len: 1, payload: 4, first: 0x40 };
 
     let mut head = vec![];
-    assert_eq!(place.unprotect_head(&datagram, &mask, 300, &mut head), Ok(told));
+    assert_eq!(place.unprotect_header(&datagram, &mask, 300, &mut head), Ok(told));
     assert_eq!((head.len(), &head[..4]), (7, &[0x40, 0xaa, 0xbb, 0x2c][..]));
-    let few = place.unprotect_head(&datagram, &mask, 300, &mut head[..6]);
+    let few = place.unprotect_header(&datagram, &mask, 300, &mut head[..6]);
     assert_eq!(few, Err(Error::Write(WriteError::NoRoom(7))));
-    let late = place.unprotect_head(&datagram, &mask, 1 << 62, &mut head[..]);
+    let late = place.unprotect_header(&datagram, &mask, 1 << 62, &mut head[..]);
     assert_eq!(late, Err(Error::Protection(UnprotectError::Expected)));
     let mut none = vec![];
-    let front = PacketPlace::new(0..11, 0).unprotect_head(&datagram, &mask, 300, &mut none);
+    let front = PacketPlace::new(0..11, 0).unprotect_header(&datagram, &mask, 300, &mut none);
     assert_eq!((front, none.len()), (Err(Error::Protection(UnprotectError::TooShort)), 0));
 
     let opened = place.unprotect_with(&mut datagram, 4, |sample| [0x1f, 5, 5, sample[1], 5], 300).unwrap();
     assert_eq!(opened, told);
     assert!(!opened.key_phase() && opened.reserved_bits_valid());
-    assert!(size_of::<PacketPlace>() == 12 && size_of::<Head>() == 32);
+    assert!(size_of::<PacketPlace>() == 12 && size_of::<HeaderPlaces>() == 32);
     assert_eq!(datagram, [0x40, 0xaa, 0xbb, 0x2c, 1, 2, 3, 4, 5, 6, 7]);
 }
 
@@ -104,7 +104,7 @@ fn a_retry_has_nothing_to_be_opened() {
     datagram.extend([9; 16]);
     let before = datagram.clone();
     let head = *Packets::new(&datagram, 0, &[1], false).next().unwrap().unwrap().head();
-    assert_eq!((head.is_protected(), head.head_end()), (false, 8));
+    assert_eq!((head.is_protected(), head.header_end()), (false, 8));
     assert_eq!(head.retry(&datagram), Some((&b"tok"[..], &[9; 16])));
     assert_eq!(head.place(0).unprotect(&mut datagram, &[0xff; 5], 0), Err(UnprotectError::TooShort));
     let packet = PacketsMut::new(&mut datagram, 0, &[1], false).next().unwrap().unwrap();
@@ -196,7 +196,7 @@ fn a_cipher_is_asked_for_a_whole_sample_alone() {
 }
 
 #[test]
-fn a_sample_is_there_where_a_head_is_opened() {
+fn a_sample_is_there_where_a_header_is_opened() {
     let datagram: [u8; 24] = std::array::from_fn(|i| i as u8);
     for (end, number) in (2..24).flat_map(|end| (1..=end).map(move |number| (end, number))) {
         let place = PacketPlace::new(0..end, number);
@@ -213,15 +213,15 @@ fn a_sample_is_there_where_a_head_is_opened() {
 #[test]
 fn calls_panic_on_these_arguments() {
     let packet = [0xc0, 0, 0, 0, 1, 1, 0xaa, 1, 0xbb, 1, 0x77, 2, 9, 9];
-    let head = Head::read(&packet, 20, &[1]).unwrap();
+    let head = HeaderPlaces::read(&packet, 20, &[1]).unwrap();
     let number = PacketNumber { number: 9, len: 2 };
     let written = Header::Short { spin: false, key_phase: false, dst_cid: ID, number }.encode(&mut [0; 11]).unwrap();
     let mut frames = quic_wire::frame::Iter::new(&[1]).unwrap();
     let calls: [&mut dyn FnMut(); 13] = [
         &mut || _ = Packets::new(&packet, 21, &[1], false),
         &mut || _ = PacketsMut::new(&mut [], 21, &[1], false),
-        &mut || _ = Head::read(&packet, 21, &[1]),
-        &mut || _ = Head::read(&[], usize::MAX, &[1]),
+        &mut || _ = HeaderPlaces::read(&packet, 21, &[1]),
+        &mut || _ = HeaderPlaces::read(&[], usize::MAX, &[1]),
         &mut || _ = head.dst_cid(&packet[..6]),
         &mut || _ = head.src_cid(&packet[..8]),
         &mut || _ = head.token(&packet[..10]),
@@ -313,13 +313,13 @@ fn a_version_negotiation_is_written_with_ids_of_any_length() {
     let short = bytes.len() - 1;
     assert_eq!(answer.encode(&mut room[..short]), Err(WriteError::NoRoom(bytes.len())));
     assert_eq!(room, [0xa5; 300]);
-    let head = Head::read_version_negotiation(&bytes).unwrap();
+    let head = HeaderPlaces::read_version_negotiation(&bytes).unwrap();
     assert_eq!(head.header(&bytes), ProtectedHeader::VersionNegotiate { random: 0x7f, dst_cid, src_cid });
-    assert_eq!((head.head_end(), head.end(), head.is_protected()), (7 + 255 + 21, bytes.len(), false));
+    assert_eq!((head.header_end(), head.end(), head.is_protected()), (7 + 255 + 21, bytes.len(), false));
     assert_eq!(head.versions(&bytes).collect::<Vec<_>>(), versions);
-    assert!((0..head.head_end()).all(|len| Head::read_version_negotiation(&bytes[..len]).is_none()));
+    assert!((0..head.header_end()).all(|len| HeaderPlaces::read_version_negotiation(&bytes[..len]).is_none()));
     let other = [0x80, 0, 0, 0, 1, 0, 0];
-    assert_eq!(Head::read_version_negotiation(&other), None);
+    assert_eq!(HeaderPlaces::read_version_negotiation(&other), None);
     let too_long = VersionNegotiation { src_cid: &[9; 256], ..answer };
     let what = WriteError::OutOfRange("a connection id has more than 255 bytes");
     assert_eq!(too_long.encode(&mut out), Err(what));
@@ -351,7 +351,7 @@ fn every_header_is_read_back() {
         let read = Packets::new(&packet, 8, &[version], false).next().unwrap().unwrap();
         assert_eq!((read.dst_cid(), read.data()), (ID, &packet[..]));
         let head = read.head();
-        assert_eq!(head.head_end() + if head.is_protected() { 2 } else { 0 }, written.header_len);
+        assert_eq!(head.header_end() + if head.is_protected() { 2 } else { 0 }, written.header_len);
         let told = (head.src_cid(&packet), head.token(&packet), head.retry(&packet), head.versions(&packet).count());
         let wanted = match header {
             Header::Initial { token, .. } => (src_cid, token, None, 0),
@@ -366,16 +366,16 @@ fn every_header_is_read_back() {
 }
 
 #[test]
-fn a_head_is_told_where_its_packet_is_cut_off() {
+fn a_header_is_told_where_its_packet_is_cut_off() {
     let datagram = [0xc0, 0, 0, 0, 1, 1, 0xaa, 0, 0, 0x44, 0xb0, 1];
-    let Err(HeadError::CutOff(head)) = Head::read(&datagram, 0, &[1]) else { panic!() };
-    assert_eq!((head.dst_cid(&datagram), head.head_end(), head.end()), (&[0xaa][..], 11, 12));
+    let Err(HeaderError::CutOff(head)) = HeaderPlaces::read(&datagram, 0, &[1]) else { panic!() };
+    assert_eq!((head.dst_cid(&datagram), head.header_end(), head.end()), (&[0xaa][..], 11, 12));
     assert_eq!(head.len_field(), 0x4b0);
     let mut unknown = vec![0xc0, 0, 0, 0, 9, 255];
     unknown.extend([1; 255]);
     unknown.extend([1, 2]);
-    let error = Head::read(&unknown, 0, &[1]).unwrap_err();
-    let HeadError::UnsupportedVersion(head) = error else { panic!() };
+    let error = HeaderPlaces::read(&unknown, 0, &[1]).unwrap_err();
+    let HeaderError::UnsupportedVersion(head) = error else { panic!() };
     assert_eq!((head.version(), head.dst_cid(&unknown).len(), head.src_cid(&unknown)), (9, 255, &[2][..]));
     assert_eq!(Error::from(error), Error::UnsupportedVersion(9));
 }

@@ -2,7 +2,7 @@
 // many items there were in a round, and a sum. WORK: frames, canonical (of payloads; with KIND c of their canonical
 // forms); ngtcp2 (with KIND w of those payloads alone that are frames to their end without PADDING, for ngtcp2 too
 // where there is one, and the items are frames); copy, decode, cut (of datagrams; KIND s, i or h: those that begin with
-// a short, Initial or Handshake head); read, write (of lists of parameters); number, number0, expand, expand0 (0:
+// a short, Initial or Handshake header); read, write (of lists of parameters); number, number0, expand, expand0 (0:
 // without the work); initial, handshake, short; ranges (of the ACKs of payloads), encode, in_range (of their frames);
 // set KIND NAME N, two WORK NAME NAME N, ack NAME N (of sets, below).
 #include "work.h"
@@ -64,7 +64,7 @@ int main(int argc, char **argv) {
         items_len = 1000;
         if (!strncmp(work, "number", 6)) sum = numbers(count_number, rounds, work[6] != '0');
         else if (!strncmp(work, "expand", 6)) sum = expansions(count_expand, rounds, work[6] != '0');
-        else sum = count_head(*work == 'i' ? 0 : *work == 'h' ? 1 : 2, 1000 * rounds);
+        else sum = count_header(*work == 'i' ? 0 : *work == 'h' ? 1 : 2, 1000 * rounds);
     }
     printf("%zu %llu\n", frames_len ? frames_len : items_len, (unsigned long long)sum);
     return 0;

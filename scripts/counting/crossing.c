@@ -2,7 +2,7 @@
 // Prints how many items one round has, and a number that depends on all of them. WORK is frames (the numbers and the
 // length of each), many-frames (the same by calls that fill 16 entries, where a run of PADDING is one), ranges (of each
 // ACK, read too), acks (the same, frames and ranges by calls that fill 16), or packets (of each line as a datagram, the
-// heads with ids of 8 bytes). With a number in place of FILE: set-push (a run behind so many others), set-grow (the
+// headers with ids of 8 bytes). With a number in place of FILE: set-push (a run behind so many others), set-grow (the
 // last of so many runs), set-contains (each of so many) or set-ack (of so many), each a thousand times, less what set-0
 // takes; or a call by itself, call-NAME of those in calls below, with ids of so many bytes or an ACK of so many ranges,
 // each a thousand times, less what call-none takes.
@@ -10,11 +10,11 @@
 
 static u64 packets_of(const uint8_t *datagram, size_t len) {
     static const uint32_t versions[] = {1, 0x6b3343cf};
-    quic_wire_head head;
+    quic_wire_header head;
     u64 sum = 0;
-    while (len != 0 && quic_wire_head_read(datagram, len, 8, versions, 2, &head) == QUIC_WIRE_OK &&
+    while (len != 0 && quic_wire_header_read(datagram, len, 8, versions, 2, &head) == QUIC_WIRE_OK &&
            head.first & QUIC_WIRE_FIXED_BIT) {
-        sum += head.kind + head.version + head.head_end + head.dcidlen + head.scidlen + head.token + head.tokenlen +
+        sum += head.kind + head.version + head.header_end + head.dcidlen + head.scidlen + head.token + head.tokenlen +
                head.len + head.end + *quic_wire_dcid(datagram, &head);
         datagram += head.end;
         len -= head.end;
@@ -63,9 +63,9 @@ static u64 front_read(u64 turn) {
     return turn + (u64)end + frame.kind + frame.datalen + frame.data;
 }
 
-static u64 stream_head(u64 turn) {
+static u64 stream_header(u64 turn) {
     size_t written = 0;
-    return turn + (u64)quic_wire_frame_head_write(&stream, 0, dest, sizeof dest, &written) + written;
+    return turn + (u64)quic_wire_frame_header_write(&stream, 0, dest, sizeof dest, &written) + written;
 }
 
 static u64 ack_write(u64 turn) {
@@ -73,19 +73,19 @@ static u64 ack_write(u64 turn) {
     return turn + (u64)quic_wire_ack_gaps_write(&ack, gaps, gaps_len, dest, sizeof dest, &written) + written;
 }
 
-static inline __attribute__((always_inline)) u64 head_of(uint8_t kind, u64 turn) {
+static inline __attribute__((always_inline)) u64 header_of(uint8_t kind, u64 turn) {
     quic_wire_said said = {
         .kind = kind, .flags = QUIC_WIRE_FIXED_BIT, .numberlen = 2, .lengthlen = 2, .version = 1, .number = turn};
     size_t token_len = kind == QUIC_WIRE_INITIAL ? sizeof token : 0;
-    return (u64)quic_wire_head_write(&said, id, id_len, id, id_len, token, token_len, dest, sizeof dest);
+    return (u64)quic_wire_header_write(&said, id, id_len, id, id_len, token, token_len, dest, sizeof dest);
 }
 
-static u64 initial(u64 turn) { return head_of(QUIC_WIRE_INITIAL, turn); }
-static u64 zero_rtt(u64 turn) { return head_of(QUIC_WIRE_0RTT, turn); }
-static u64 handshake(u64 turn) { return head_of(QUIC_WIRE_HANDSHAKE, turn); }
-static u64 retry(u64 turn) { return head_of(QUIC_WIRE_RETRY, turn); }
-static u64 one_rtt(u64 turn) { return head_of(QUIC_WIRE_1RTT, turn); }
-static u64 negotiation(u64 turn) { return head_of(QUIC_WIRE_VERSION_NEGOTIATION, turn); }
+static u64 initial(u64 turn) { return header_of(QUIC_WIRE_INITIAL, turn); }
+static u64 zero_rtt(u64 turn) { return header_of(QUIC_WIRE_0RTT, turn); }
+static u64 handshake(u64 turn) { return header_of(QUIC_WIRE_HANDSHAKE, turn); }
+static u64 retry(u64 turn) { return header_of(QUIC_WIRE_RETRY, turn); }
+static u64 one_rtt(u64 turn) { return header_of(QUIC_WIRE_1RTT, turn); }
+static u64 negotiation(u64 turn) { return header_of(QUIC_WIRE_VERSION_NEGOTIATION, turn); }
 
 static const struct {
     const char *name;
@@ -95,7 +95,7 @@ static const struct {
     {"short-read", short_read},
     {"stream-read", front_read},
     {"ack-read", front_read},
-    {"stream-head", stream_head},
+    {"stream-head", stream_header},
     {"ack-write", ack_write},
     {"initial", initial},
     {"0rtt", zero_rtt},

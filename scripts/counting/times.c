@@ -20,7 +20,7 @@
 #define PEER_NGTCP2(call) NULL
 #endif
 
-// How often a payload's frames, a list of parameters, a head and an ACK are written in a round, for one look at them.
+// How often a payload's frames, a list of parameters, a header and an ACK are written in a round, for one look at them.
 #define WRITES 20
 
 static u32 rounds;
@@ -158,26 +158,26 @@ static void parameters(void) {
             {"crate", PEER(quinn_params_written), PEER(quinn_params_read)});
 }
 
-static u32 kind_of_head;
-static u64 head(void) { return count_head(kind_of_head, 10000); }
+static u32 kind_of_header;
+static u64 head(void) { return count_header(kind_of_header, 10000); }
 static u64 ack_written(void) { return count_ack(operations, operations_len, 1000); }
 static u64 ack_set(void) { return count_ack(operations, operations_len, 0); }
 static u64 array(void) { return count_set(0, operations, operations_len); }
 static u64 vec(void) { return count_set(1, operations, operations_len); }
 #ifdef QUINN
-static u64 quinn_head(void) { return quinn_count_head(kind_of_head, 10000); }
+static u64 quinn_header(void) { return quinn_count_header(kind_of_header, 10000); }
 static u64 quinn_ack_written(void) { return quinn_ack_encode(operations, operations_len, 1000, 1000); }
 static u64 quinn_ack_set(void) { return quinn_ack_encode(operations, operations_len, 1000, 0); }
 static u64 quinn_array_set(void) { return quinn_array(operations, operations_len); }
 static u64 quinn_tree_set(void) { return quinn_tree(operations, operations_len); }
 #endif
 
-static void heads_and_sets(void) {
-    static const char *const heads[] = {"Initial", "Handshake", "short"};
+static void headers_and_sets(void) {
+    static const char *const headers[] = {"Initial", "Handshake", "short"};
     static const struct { const char *name; size_t len; } acks[] = {{"runs4", 2}, {"packets", 100}};
     static const char *const orders[] = {"order", "packets", "packets-r", "down", "up-r", "hole", "any"};
-    for (kind_of_head = 0; kind_of_head < 3; kind_of_head++)
-        COMPARE("a head that is written", heads[kind_of_head], 10000.0, {"ours", head}, {"crate", PEER(quinn_head)});
+    for (kind_of_header = 0; kind_of_header < 3; kind_of_header++)
+        COMPARE("a head that is written", headers[kind_of_header], 10000.0, {"ours", head}, {"crate", PEER(quinn_header)});
     for (size_t k = 0; k < LENGTH(acks); k++) {
         generate(acks[k].name, acks[k].len);
         COMPARE("an ACK of a set", acks[k].name, 1000.0, {"ours", ack_written, ack_set},
@@ -232,6 +232,6 @@ int main(int argc, char **argv) {
             }
         }
     }
-    heads_and_sets();
+    headers_and_sets();
     return 0;
 }

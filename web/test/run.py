@@ -36,9 +36,9 @@ class Server(http.server.SimpleHTTPRequestHandler):
     # What was asked for.
     asked = []
 
-    def send_head(self):
+    def send_header(self):
         self.asked.append(self.path)
-        return super().send_head()
+        return super().send_header()
 
     def do_POST(self):
         self.asked.append(self.path)

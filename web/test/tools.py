@@ -29,7 +29,7 @@ NOTE = "return document.querySelector('.packet-note').textContent"
 
 
 def opened(browser, address):
-    """A mask and a payload from the RFC's examples give the heads and the frames that stand there."""
+    """A mask and a payload from the RFC's examples give the headers and the frames that stand there."""
     browser.go(f"{address}#read=datagram&ids=0&hex=00")
     for datagram, length, mask, payload, first, lines, sample in OPENED:
         set_form(browser, {"mode": "datagram", "idLength": length}, datagram)

@@ -9,7 +9,7 @@ add_byte low x = (x + low) % 256
 abbrev pub take_byte : ℕ → ℕ → ℕ
 take_byte low x = (x + (256 - low)) % 256
 
--- each byte with the number's lowest one added, then how many bytes the head and the payload have, each modulo 256
+-- each byte with the number's lowest one added, then how many bytes the header and the payload have, each modulo 256
 abbrev pub add_sealed : ℕ → List ℕ → List ℕ → List ℕ
 add_sealed number header payload = map (add_byte (number % 256)) payload ++ (length header % 256) ∷ (length payload % 256) ∷ []
 

@@ -7,7 +7,7 @@ use Rattle.std.proofs.lemmas.Bool.{cases_eq, cases_lt}
 use Rattle.std.proofs.lemmas.Bool.Decides.{nat_tests}
 use lib.Bits.{xor_assoc, xor_self, xor_zero_r, xor_shr, xor_lt}
 use Rattle.quic_base.specs.Number.{AreBytes}
-use Rattle.quic_crypto.specs.Keys.{HasSample, Protects, Unprotects, ChangesHead, first_unit, is_short, number_len}
+use Rattle.quic_crypto.specs.Keys.{HasSample, Protects, Unprotects, ChangesHeader, first_unit, is_short, number_len}
 use Rattle.quic_bench.specs.Mask.{mask_at, mask_protect, mask_unprotect}
 
 -- ---- one byte
@@ -100,9 +100,9 @@ masked_twice at count s x old mid new from there back = same_number_lists new ol
     ])
 
 -- what masking changes
-masked_head : (at count s : ℕ) (old new : List ℕ) → 0 < at → AreBytes old → s < 256
-    → Masked at count s (bit_xor (get_or old 0 0) (s % first_unit (is_short old))) old new → ChangesHead at count old new
-masked_head at count s old new from bytes fits m = record {
+masked_header : (at count s : ℕ) (old new : List ℕ) → 0 < at → AreBytes old → s < 256
+    → Masked at count s (bit_xor (get_or old 0 0) (s % first_unit (is_short old))) old new → ChangesHeader at count old new
+masked_header at count s old new from bytes fits m = record {
   len = m.len;
   bytes = λ i. elim (cases_eq i 0) [
     | inl zero_here ↦ rw (zero_here, m.first) (low_fits (is_short old) (get_or old 0 0) s (bytes 0))
@@ -120,7 +120,7 @@ masked_head at count s old new from bytes fits m = record {
 }
 
 -- where fewer bytes change than may
-wider : (at few many : ℕ) (old new : List ℕ) → few ≤ many → ChangesHead at few old new → ChangesHead at many old new
+wider : (at few many : ℕ) (old new : List ℕ) → few ≤ many → ChangesHeader at few old new → ChangesHeader at many old new
 wider at few many old new le c = record { len = c.len; bytes = c.bytes; first = c.first; before = c.before; after = λ i past. c.after i (omega arith) }
 
 protect_is : (at : ℕ) (packet : List ℕ) → 0 < at
@@ -147,8 +147,8 @@ mask_protects at packet bytes room =
     let f = get_or packet 0 0 in
     let s = get_or packet (at + 4) 0 in
     let x = bit_xor f (s % first_unit (is_short packet)) in
-    subst (λ (p : List ℕ). ChangesHead at (number_len f) packet p) (sym (protect_is at packet room.after_first))
-    (masked_head at (number_len f) s packet (set (mask_at at (number_len f) s packet) 0 x) room.after_first bytes (bytes (at + 4))
+    subst (λ (p : List ℕ). ChangesHeader at (number_len f) packet p) (sym (protect_is at packet room.after_first))
+    (masked_header at (number_len f) s packet (set (mask_at at (number_len f) s packet) 0 x) room.after_first bytes (bytes (at + 4))
     (first_after at (number_len f) s x packet room.after_first (omega (arith, number_short f, room.room))))
 
 pub mask_unprotects : (at : ℕ) (packet : List ℕ) → AreBytes packet → HasSample 1 at packet → Unprotects at packet (mask_unprotect at packet)
@@ -157,9 +157,9 @@ mask_unprotects at packet bytes room =
     let s = get_or packet (at + 4) 0 in
     let x = bit_xor f (s % first_unit (is_short packet)) in
     let n = number_len x in
-    subst (λ (p : List ℕ). ChangesHead at 4 packet p) (sym (unprotect_is at packet (omega (arith, room.room))))
+    subst (λ (p : List ℕ). ChangesHeader at 4 packet p) (sym (unprotect_is at packet (omega (arith, room.room))))
     (wider at n 4 packet (mask_at at n s (set packet 0 x)) (number_short x)
-    (masked_head at n s packet (mask_at at n s (set packet 0 x)) room.after_first bytes (bytes (at + 4))
+    (masked_header at n s packet (mask_at at n s (set packet 0 x)) room.after_first bytes (bytes (at + 4))
     (first_before at n s x packet room.after_first (omega (arith, number_short x, room.room)))))
 
 restored : (at : ℕ) (packet mid : List ℕ) → HasSample 1 at packet

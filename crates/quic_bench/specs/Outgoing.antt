@@ -16,7 +16,7 @@ use Rattle.quic_bench.specs.declared.two_packets.Failure.{Failure}
 use Rattle.quic_bench.specs.declared.two_packets.Failure.TheVariants as failure
 use Rattle.quic_bench.specs.declared.two_packets.Outgoing.{Outgoing}
 
--- A packet that may be sealed: its head can be written and has the low part of its number, which is below 2^62; it
+-- A packet that may be sealed: its header can be written and has the low part of its number, which is below 2^62; it
 -- has frames, and they can be written one after another.
 pub record CanBeSealed (packet : Outgoing) : Type 0 where
   pub writable : IsWritable packet.header.now
@@ -26,7 +26,7 @@ pub record CanBeSealed (packet : Outgoing) : Type 0 where
   pub some : 0 < length packet.frames.now
   pub follow : CanFollow packet.frames.now
 
--- A packet that is found again where these bytes follow it: its head is read back, and its number is found by the one
+-- A packet that is found again where these bytes follow it: its header is read back, and its number is found by the one
 -- that is expected in its space.
 pub record IsFoundAgain (context : Context) (expected : SpaceId → ℕ) (packet : Outgoing) (rest : List ℕ) : Type 0 where
   pub head : IsReadBack context packet.header.now rest
@@ -40,7 +40,7 @@ pub record AreSealed (keys : SpaceId → KeyPair) (first second : Outgoing) (byt
   pub second_sealed : SealedFrames (keys (space_in second.header.now)) second.header.now second.number second.frames.now back
   pub text : bytes ≡ front ++ back
 
--- what was opened has the packet's head and number, and its payload is the least one that means the packet's frames
+-- what was opened has the packet's header and number, and its payload is the least one that means the packet's frames
 pub record Carries (opened : Opened) (packet : Outgoing) : Type 0 where
   pub header : opened.header ≡ packet.header.now
   pub number : opened.number ≡ Some packet.number

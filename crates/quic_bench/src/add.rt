@@ -10,7 +10,7 @@ use quic_crypto::crypto::{CryptoError, PacketKey};
 pub const TAG_LEN: usize = 2;
 
 /// A packet key that adds the packet number's lowest byte to each byte of the payload, modulo 256. The tag is the
-/// count of the head's bytes and that of the payload's, each modulo 256.
+/// count of the header's bytes and that of the payload's, each modulo 256.
 #[derive(Clone, Copy, Debug)]
 pub struct AddKey;
 

@@ -6,7 +6,7 @@ ghost use Rattle.quic_bench.specs.MaskLaws.{mask_protects, mask_unprotects, mask
 use quic_crypto::crypto::HeaderKey;
 
 /// A header key whose sample is one byte, four bytes behind the number's place. It is joined by exclusive or to
-/// each byte of the number, and its low bits to the first byte: four in long heads, five in short ones.
+/// each byte of the number, and its low bits to the first byte: four in long headers, five in short ones.
 #[derive(Clone, Copy, Debug)]
 pub struct MaskKey;
 

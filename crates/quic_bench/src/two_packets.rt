@@ -77,11 +77,11 @@ fn seal_both<H: HeaderKey, P: PacketKey>(
 }
 
 /// Seals two packets in one datagram, each by the keys of its space, and opens both again. What is given has their
-/// heads and numbers, and payloads that mean their frames. Refused with `Seal` where one of them can't be sealed, and
+/// headers and numbers, and payloads that mean their frames. Refused with `Seal` where one of them can't be sealed, and
 /// with `Open(OpenError::OutOfMemory)`: no other error of opening comes.
 ///
 /// The caller must give packets that `seal_packet` may be asked to seal, and expected numbers below 2^62 by which
-/// theirs are found. The first head must be read back whatever follows its packet, so it must be a long one, and the
+/// theirs are found. The first header must be read back whatever follows its packet, so it must be a long one, and the
 /// second one where nothing does.
 pub fn sealed_and_opened<C: ConnectionIdParser, H: HeaderKey, P: PacketKey>(
     alloc: Global,

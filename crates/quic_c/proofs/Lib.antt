@@ -7,6 +7,6 @@ mod Fronts
 mod RangeFilling
 mod GapFilling
 mod AckGaps
-mod DataHeads
+mod DataHeaders
 mod ReadingOn
 mod Types

@@ -11,7 +11,7 @@ use Rattle.quic_frames.specs.declared.frame.Frame.TheVariants as frames
 use Rattle.quic_frames.specs.InRange.{IsNoAck}
 use Rattle.quic_frames.specs.Meaning.{meaning_of, frame_of}
 use Rattle.quic_c.specs.declared.words.FrameWords.{FrameWords}
-use Rattle.quic_c.specs.Heads.{first_in, second_in}
+use Rattle.quic_c.specs.Headers.{first_in, second_in}
 use Rattle.quic_c.specs.Shapes.{token_room}
 use Rattle.quic_c.specs.Shown.{kind_of, flags_of, numbers_of, data_of, tail_of}
 use Rattle.quic_c.specs.Written.{CanWrite, token_of}

@@ -5,7 +5,7 @@
 
 mod ack_gaps;
 mod acks;
-mod data_heads;
+mod data_headers;
 mod fill;
 mod fill_ranges;
 mod frames;

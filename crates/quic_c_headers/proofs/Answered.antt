@@ -1,27 +1,27 @@
--- What is told of the head that bytes begin with is one answer, and where the packet is whole it is cut there.
+-- What is told of the header that bytes begin with is one answer, and where the packet is whole it is cut there.
 use Rattle.std.specs.Prelude.{◌≡◌, ℕ, ◌+◌, ◌-◌, ◌≤◌, List, length, drop, Option, None, Some, Result, Ok, Err, codes, slice_index, slice_range, unwrap_or, IfOk}
 use Rattle.std.proofs.Common.{refl, sym, ap, subst, ◌∙◌, arith, take, length-drop, length-take}
 use Rattle.quic_base.specs.Number.{AreBytes}
-use Rattle.quic_header_encode.specs.declared.long_type.HeadKind.{HeadKind}
-use Rattle.quic_header_encode.specs.declared.long_type.HeadKind.TheVariants as kind
+use Rattle.quic_header_encode.specs.declared.long_type.HeaderKind.{HeaderKind}
+use Rattle.quic_header_encode.specs.declared.long_type.HeaderKind.TheVariants as kind
 use Rattle.quic_header_decode.specs.declared.fields.Place.{Place}
-use Rattle.quic_header_decode.specs.declared.places.HeadPlaces.{HeadPlaces}
+use Rattle.quic_header_decode.specs.declared.places.HeaderPlaces.{HeaderPlaces}
 use Rattle.quic_header_decode.specs.declared.places.ReadError.{ReadError}
 use Rattle.quic_header_decode.specs.declared.places.ReadError.TheVariants as error
 use Rattle.quic_header_decode.specs.declared.protected.ProtectedHeader.{ProtectedHeader}
 use Rattle.quic_header_decode.specs.declared.protected.ProtectedHeader.TheVariants as head
 use Rattle.quic_header_decode.specs.declared.protected.ProtectedInitialHeader.{ProtectedInitialHeader}
-use Rattle.quic_header_decode.specs.Grammar.{Cut, Head}
-use Rattle.quic_header_decode.specs.Places.{any_fixed, dst_part, src_part, dst_place, ends_at, head_by, ids_end, said_in, told_in, seen_in, ArePlaces, IsNowhere, IsPlaced, IsSeen, ReadAnswer}
+use Rattle.quic_header_decode.specs.Grammar.{Cut, HeaderAt}
+use Rattle.quic_header_decode.specs.Places.{any_fixed, dst_part, src_part, dst_place, ends_at, header_by, ids_end, said_in, told_in, seen_in, ArePlaces, IsNowhere, IsPlaced, IsSeen, ReadAnswer}
 use Rattle.quic_header_decode.specs.Reading.{Context}
 use Rattle.quic_header_decode.specs.Refusal.{Refusal, Unsupported, Invalid, NoMemory}
-use Rattle.quic_c_headers.specs.declared.words.HeadWords.{HeadWords}
-use Rattle.quic_c_headers.specs.Reading.{answer_word, head_words, whole_word, HasFirst, Told}
+use Rattle.quic_c_headers.specs.declared.words.HeaderWords.{HeaderWords}
+use Rattle.quic_c_headers.specs.Reading.{answer_word, header_words, whole_word, HasFirst, Told}
 
--- ---- what a head says of its places
+-- ---- what a header says of its places
 
--- two lists of fields say the same, as far as a head of the kind has them
-abbrev AreSame : HeadKind → List ℕ → List ℕ → Place → Place → ℕ → ℕ → ℕ → ℕ → Type 0
+-- two lists of fields say the same, as far as a header of the kind has them
+abbrev AreSame : HeaderKind → List ℕ → List ℕ → Place → Place → ℕ → ℕ → ℕ → ℕ → Type 0
 AreSame kind.Initial src other p q len n version v = (src ≡ other) × (p.start ≡ q.start) × (p.end ≡ q.end) × (len ≡ n) × (version ≡ v)
 AreSame kind.ZeroRtt src other p q len n version v = (src ≡ other) × (len ≡ n) × (version ≡ v)
 AreSame kind.Handshake src other p q len n version v = (src ≡ other) × (len ≡ n) × (version ≡ v)
@@ -32,7 +32,7 @@ AreSame kind.VersionNegotiate src other p q len n version v = src ≡ other
 initial_is : (h g : ProtectedInitialHeader) → head.Initial h ≡ head.Initial g → h ≡ g
 initial_is h g e = cc
 
-same_said : (k l : HeadKind) (first f : ℕ) (dst d src s : List ℕ) (p q : Place) (len n version v : ℕ) → head_by k first dst src p len version ≡ head_by l f d s q n v
+same_said : (k l : HeaderKind) (first f : ℕ) (dst d src s : List ℕ) (p q : Place) (len n version v : ℕ) → header_by k first dst src p len version ≡ header_by l f d s q n v
     → (k ≡ l) × (dst ≡ d) × AreSame k src s p q len n version v
 same_said kind.Initial kind.Initial first f dst d src s p q len n version v e =
     let same = initial_is _ _ e in (
@@ -53,12 +53,12 @@ same_said kind.Short kind.Short first f dst d src s p q len n version v e = (ref
 same_said kind.VersionNegotiate kind.VersionNegotiate first f dst d src s p q len n version v e = (refl, cc, cc)
 same_said k l first f dst d src s p q len n version v e = absurd cc
 
--- ---- the places of a head
+-- ---- the places of a header
 
 slice_len : (a n : ℕ) (xs : List ℕ) → a + n ≤ length xs → length (slice_range xs a (a + n)) ≡ n
 slice_len a n xs room = simp (length-take, length-drop) (omega arith)
 
-dst_within : (k : HeadKind) (x : HeadPlaces) → ArePlaces k x → dst_place k + x.dst_len ≤ x.head_end
+dst_within : (k : HeaderKind) (x : HeaderPlaces) → ArePlaces k x → dst_place k + x.dst_len ≤ x.header_end
 dst_within kind.Initial x f = omega (arith, f.0, f.1, f.2)
 dst_within kind.ZeroRtt x f = omega (arith, f.0)
 dst_within kind.Handshake x f = omega (arith, f.0)
@@ -66,21 +66,21 @@ dst_within kind.Retry x f = omega (arith, f.0)
 dst_within kind.Short x f = omega (arith, f.0)
 dst_within kind.VersionNegotiate x f = omega (arith, f.0)
 
-src_is : (packet : List ℕ) (x y : HeadPlaces) → ids_end x ≤ length packet → ids_end y ≤ length packet → src_part packet x ≡ src_part packet y → x.src_len ≡ y.src_len
+src_is : (packet : List ℕ) (x y : HeaderPlaces) → ids_end x ≤ length packet → ids_end y ≤ length packet → src_part packet x ≡ src_part packet y → x.src_len ≡ y.src_len
 src_is packet x y one two same =
     let a = slice_len (6 + x.dst_len + 1) x.src_len packet (omega arith) in
     let b = slice_len (6 + y.dst_len + 1) y.src_len packet (omega arith) in
     sym a ∙ ap length same ∙ b
 
--- what else stands in the head
-record Others (x y : HeadPlaces) : Type 0 where
+-- what else stands in the header
+record Others (x y : HeaderPlaces) : Type 0 where
   src : x.src_len ≡ y.src_len
   start : x.token.start ≡ y.token.start
   end : x.token.end ≡ y.token.end
   len : x.len ≡ y.len
   version : x.version ≡ y.version
 
-others : (k : HeadKind) (packet : List ℕ) (x y : HeadPlaces) → ArePlaces k x → ArePlaces k y → x.head_end ≤ length packet → y.head_end ≤ length packet
+others : (k : HeaderKind) (packet : List ℕ) (x y : HeaderPlaces) → ArePlaces k x → ArePlaces k y → x.header_end ≤ length packet → y.header_end ≤ length packet
     → AreSame k (src_part packet x) (src_part packet y) x.token y.token x.len y.len x.version y.version → Others x y
 others kind.Initial packet x y f g one two s = record {
   src = src_is packet x y (omega (arith, f.0, f.1, f.2)) (omega (arith, g.0, g.1, g.2)) s.0;
@@ -125,30 +125,30 @@ others kind.VersionNegotiate packet x y f g one two s = record {
   version = f.3 ∙ sym g.3;
 }
 
-made : (k l : HeadKind) (first f version v dst_len d src_len s start a end b len n head_end h : ℕ) → k ≡ l → first ≡ f → version ≡ v → dst_len ≡ d → src_len ≡ s → start ≡ a → end ≡ b → len ≡ n → head_end ≡ h
-    → ◌≡◌ {A = HeadPlaces}
-    (record { kind = k; first = first; version = version; dst_len = dst_len; src_len = src_len; token = record { start = start; end = end }; len = len; head_end = head_end })
-    (record { kind = l; first = f; version = v; dst_len = d; src_len = s; token = record { start = a; end = b }; len = n; head_end = h })
-made k l first f version v dst_len d src_len s start a end b len n head_end h e0 e1 e2 e3 e4 e5 e6 e7 e8 = cc
+made : (k l : HeaderKind) (first f version v dst_len d src_len s start a end b len n header_end h : ℕ) → k ≡ l → first ≡ f → version ≡ v → dst_len ≡ d → src_len ≡ s → start ≡ a → end ≡ b → len ≡ n → header_end ≡ h
+    → ◌≡◌ {A = HeaderPlaces}
+    (record { kind = k; first = first; version = version; dst_len = dst_len; src_len = src_len; token = record { start = start; end = end }; len = len; header_end = header_end })
+    (record { kind = l; first = f; version = v; dst_len = d; src_len = s; token = record { start = a; end = b }; len = n; header_end = h })
+made k l first f version v dst_len d src_len s start a end b len n header_end h e0 e1 e2 e3 e4 e5 e6 e7 e8 = cc
 
-same_places : (packet : List ℕ) (x y : HeadPlaces) → IsPlaced x (length packet) → IsPlaced y (length packet) → x.first ≡ y.first
-    → said_in packet x ≡ said_in packet y → drop x.head_end packet ≡ drop y.head_end packet → x ≡ y
+same_places : (packet : List ℕ) (x y : HeaderPlaces) → IsPlaced x (length packet) → IsPlaced y (length packet) → x.first ≡ y.first
+    → said_in packet x ≡ said_in packet y → drop x.header_end packet ≡ drop y.header_end packet → x ≡ y
 same_places packet x y one two first said behind =
     let same = same_said x.kind y.kind x.first y.first (dst_part packet x) (dst_part packet y) (src_part packet x) (src_part packet y) x.token y.token x.len y.len x.version y.version said in
-    let head : x.head_end ≡ y.head_end = omega (arith, one.head, two.head, simp length-drop at (ap length behind)) in
-    let fields : ArePlaces x.kind y = subst (λ (k : HeadKind). ArePlaces k y) (sym same.0) two.fields in
+    let head : x.header_end ≡ y.header_end = omega (arith, one.head, two.head, simp length-drop at (ap length behind)) in
+    let fields : ArePlaces x.kind y = subst (λ (k : HeaderKind). ArePlaces k y) (sym same.0) two.fields in
     let here = dst_within x.kind x one.fields in
     let there = dst_within x.kind y fields in
     let dst_is : dst_part packet x ≡ slice_range packet (dst_place x.kind) (dst_place x.kind + y.dst_len) =
-    same.1 ∙ ap (λ (k : HeadKind). slice_range packet (dst_place k) (dst_place k + y.dst_len)) (sym same.0) in
+    same.1 ∙ ap (λ (k : HeaderKind). slice_range packet (dst_place k) (dst_place k + y.dst_len)) (sym same.0) in
     let dst : x.dst_len ≡ y.dst_len =
     sym (slice_len (dst_place x.kind) x.dst_len packet (omega (arith, here, one.head))) ∙ ap length dst_is
     ∙ slice_len (dst_place x.kind) y.dst_len packet (omega (arith, there, two.head)) in
     let o = others x.kind packet x y one.fields fields one.head two.head same.2 in
-    made x.kind y.kind x.first y.first x.version y.version x.dst_len y.dst_len x.src_len y.src_len x.token.start y.token.start x.token.end y.token.end x.len y.len x.head_end y.head_end
+    made x.kind y.kind x.first y.first x.version y.version x.dst_len y.dst_len x.src_len y.src_len x.token.start y.token.start x.token.end y.token.end x.len y.len x.header_end y.header_end
     same.0 first o.version dst o.src o.start o.end o.len head
 
--- ---- what is told where no head is read
+-- ---- what is told where no header is read
 
 -- a number by which refusals are told apart
 mark : Refusal → ℕ
@@ -175,7 +175,7 @@ same_told packet e f is one two = absurd (omega (arith, ap mark is))
 
 -- ---- one answer
 
-firsts : (packet : List ℕ) (x y : HeadPlaces) → HasFirst (Ok x) packet → HasFirst (Ok y) packet → x.first ≡ y.first
+firsts : (packet : List ℕ) (x y : HeaderPlaces) → HasFirst (Ok x) packet → HasFirst (Ok y) packet → x.first ≡ y.first
 firsts packet x y one two = one ∙ sym two
 
 pair_is : (p q : ProtectedHeader × List ℕ) → (let r : Result (ProtectedHeader × List ℕ) Refusal = Ok p in r) ≡ Ok q → p ≡ q
@@ -188,7 +188,7 @@ found_is h g rest left e =
 told_is : (e f : Refusal) → (let r : Result (ProtectedHeader × List ℕ) Refusal = Err e in r) ≡ Err f → e ≡ f
 told_is e f is = cc
 
-same_read : (packet : List ℕ) (one other : Result HeadPlaces ReadError) → seen_in packet one ≡ seen_in packet other → IsSeen one (length packet) → IsSeen other (length packet)
+same_read : (packet : List ℕ) (one other : Result HeaderPlaces ReadError) → seen_in packet one ≡ seen_in packet other → IsSeen one (length packet) → IsSeen other (length packet)
     → HasFirst one packet → HasFirst other packet → one ≡ other
 same_read packet (Ok x) (Ok y) e one two f g =
     let parts = found_is _ _ _ _ e in
@@ -197,12 +197,12 @@ same_read packet (Ok x) (Err y) e one two f g = absurd cc
 same_read packet (Err x) (Ok y) e one two f g = absurd cc
 same_read packet (Err x) (Err y) e one two f g = ap Err (same_told packet x y (told_is _ _ e) one two)
 
-pub has_first : (read : Result HeadPlaces ReadError) (packet : List ℕ) → IfOk read (λ x. x.first ≡ slice_index packet 0) → HasFirst read packet
+pub has_first : (read : Result HeaderPlaces ReadError) (packet : List ℕ) → IfOk read (λ x. x.first ≡ slice_index packet 0) → HasFirst read packet
 has_first (Ok x) packet is = is
 has_first (Err e) packet is = tt
 
 -- what is told of one packet is one answer
-pub one_answer : (id_len : ℕ) (versions packet : List ℕ) (old new words : HeadWords) (answer other : ℕ)
+pub one_answer : (id_len : ℕ) (versions packet : List ℕ) (old new words : HeaderWords) (answer other : ℕ)
     → ((id_len : ℕ) (versions bytes : List ℕ) (one other : Result (ProtectedHeader × List ℕ) Refusal) → AreBytes bytes
     → ReadAnswer (any_fixed id_len versions) bytes one → ReadAnswer (any_fixed id_len versions) bytes other → one ≡ other)
     → AreBytes packet → Told id_len versions packet old answer new → Told id_len versions packet old other words → (answer ≡ other) × (new ≡ words)
@@ -210,29 +210,29 @@ one_answer id_len versions packet old new words answer other law fits t u =
     let seen = law id_len versions packet (seen_in packet t.read) (seen_in packet u.read) fits t.right u.right in
     let same = same_read packet t.read u.read seen t.laid u.laid t.first u.first in (
       t.answers ∙ ap (λ r. answer_word r (length packet)) same ∙ sym u.answers,
-      t.words ∙ ap (λ r. head_words packet r old) same ∙ sym u.words,
+      t.words ∙ ap (λ r. header_words packet r old) same ∙ sym u.words,
     )
 
 -- ---- where a whole packet ends
 
 -- a packet is cut where the words say
-abbrev IsCut : Context → List ℕ → HeadWords → Type 0
-IsCut context packet words = (h : ProtectedHeader) × Cut context packet h words.head_end words.end
+abbrev IsCut : Context → List ℕ → HeaderWords → Type 0
+IsCut context packet words = (h : ProtectedHeader) × Cut context packet h words.header_end words.end
 
 abbrev Law : Type 0
-Law = (context : Context) (bytes : List ℕ) (x : HeadPlaces) (q : ℕ) → Head context (length bytes) bytes (said_in bytes x) (drop x.head_end bytes) → x.head_end ≤ length bytes
-    → ends_at x (length bytes) ≡ Some q → Cut context bytes (said_in bytes x) x.head_end q
+Law = (context : Context) (bytes : List ℕ) (x : HeaderPlaces) (q : ℕ) → HeaderAt context (length bytes) bytes (said_in bytes x) (drop x.header_end bytes) → x.header_end ≤ length bytes
+    → ends_at x (length bytes) ≡ Some q → Cut context bytes (said_in bytes x) x.header_end q
 
-ended : (context : Context) (packet : List ℕ) (x : HeadPlaces) (end : Option ℕ) (old new : HeadWords) → Law → Head context (length packet) packet (said_in packet x) (drop x.head_end packet)
-    → x.head_end ≤ length packet → ends_at x (length packet) ≡ end → 0 ≡ whole_word end → new ≡ head_words packet (Ok x) old → IsCut context packet new
+ended : (context : Context) (packet : List ℕ) (x : HeaderPlaces) (end : Option ℕ) (old new : HeaderWords) → Law → HeaderAt context (length packet) packet (said_in packet x) (drop x.header_end packet)
+    → x.header_end ≤ length packet → ends_at x (length packet) ≡ end → 0 ≡ whole_word end → new ≡ header_words packet (Ok x) old → IsCut context packet new
 ended context packet x None old new law head within ends zero words = absurd (omega (arith, zero))
 ended context packet x (Some q) old new law head within ends zero words =
-    let stop : new.end ≡ q = ap (λ (w : HeadWords). w.end) words ∙ ap (λ (o : Option ℕ). unwrap_or o (length packet)) ends in
-    let start : new.head_end ≡ x.head_end = ap (λ (w : HeadWords). w.head_end) words in
+    let stop : new.end ≡ q = ap (λ (w : HeaderWords). w.end) words ∙ ap (λ (o : Option ℕ). unwrap_or o (length packet)) ends in
+    let start : new.header_end ≡ x.header_end = ap (λ (w : HeaderWords). w.header_end) words in
     (said_in packet x, rw (start, stop) (law context packet x q head within ends))
 
-cut_there : (context : Context) (packet : List ℕ) (read : Result HeadPlaces ReadError) (old new : HeadWords) → Law → ReadAnswer context packet (seen_in packet read) → IsSeen read (length packet)
-    → 0 ≡ answer_word read (length packet) → new ≡ head_words packet read old → IsCut context packet new
+cut_there : (context : Context) (packet : List ℕ) (read : Result HeaderPlaces ReadError) (old new : HeaderWords) → Law → ReadAnswer context packet (seen_in packet read) → IsSeen read (length packet)
+    → 0 ≡ answer_word read (length packet) → new ≡ header_words packet read old → IsCut context packet new
 cut_there context packet (Ok x) old new law right laid zero words = ended context packet x (ends_at x (length packet)) old new law right laid.head refl zero words
 cut_there context packet (Err (error.UnsupportedVersion version dst_len src_len)) old new law right laid zero words = absurd (omega (arith, zero))
 cut_there context packet (Err error.UnexpectedEnd) old new law right laid zero words = absurd (omega (arith, zero))
@@ -241,7 +241,7 @@ cut_there context packet (Err error.MalformedCid) old new law right laid zero wo
 cut_there context packet (Err error.TokenOutOfBounds) old new law right laid zero words = absurd (omega (arith, zero))
 
 -- a packet that is told to be whole is cut where the words say
-pub whole_cut : (id_len : ℕ) (versions packet : List ℕ) (old new : HeadWords) (answer : ℕ) → Law → Told id_len versions packet old answer new → answer ≡ 0
-    → (h : ProtectedHeader) × Cut (any_fixed id_len versions) packet h new.head_end new.end
+pub whole_cut : (id_len : ℕ) (versions packet : List ℕ) (old new : HeaderWords) (answer : ℕ) → Law → Told id_len versions packet old answer new → answer ≡ 0
+    → (h : ProtectedHeader) × Cut (any_fixed id_len versions) packet h new.header_end new.end
 whole_cut id_len versions packet old new answer law t zero =
     cut_there (any_fixed id_len versions) packet t.read old new law t.right t.laid (sym zero ∙ t.answers) t.words

@@ -1,4 +1,4 @@
--- Version negotiation packets: one has its ids in one way, and is told as a head of its kind; and their bytes.
+-- Version negotiation packets: one has its ids in one way, and is told as a header of its kind; and their bytes.
 use Rattle.std.proofs.Common.{◌≡◌, ℕ, ◌+◌, ◌-◌, ◌*◌, ◌%◌, ◌<◌, ◌≤◌, List, [], ◌∷◌, ◌++◌, length, take, drop, refl, sym, ap, ◌∙◌, arith}
 use Rattle.std.specs.Prelude.{bit_or, get_or, slice_index, slice_range, Ok}
 use Rattle.std.specs.Int.{w32, from_be_bytes}
@@ -10,16 +10,16 @@ use Rattle.quic_base.specs.ConnectionId.{long_id}
 use Rattle.quic_base.specs.Number.{num, AreBytes, bytes_of}
 use Rattle.quic_base.proofs.PublicLaws as law
 use Rattle.quic_header_encode.specs.Starts.{long_front}
-use Rattle.quic_header_encode.specs.declared.long_type.HeadKind.TheVariants as kind
+use Rattle.quic_header_encode.specs.declared.long_type.HeaderKind.TheVariants as kind
 use Rattle.quic_header_encode.proofs.Lays.{stays}
-use Rattle.quic_header_decode.specs.declared.places.HeadPlaces.{HeadPlaces}
+use Rattle.quic_header_decode.specs.declared.places.HeaderPlaces.{HeaderPlaces}
 use Rattle.quic_header_decode.specs.declared.protected.ProtectedHeader.TheVariants as head
-use Rattle.quic_header_decode.specs.Grammar.{Head}
+use Rattle.quic_header_decode.specs.Grammar.{HeaderAt}
 use Rattle.quic_header_decode.specs.Places.{any_fixed}
 use Rattle.quic_header_decode.specs.Reading.{Context}
-use Rattle.quic_header_decode.proofs.Made.{negotiation_head, LongStart}
+use Rattle.quic_header_decode.proofs.Made.{negotiation_header, LongStart}
 use Rattle.quic_header_decode.proofs.Steps.{drop_front, take_front}
-use Rattle.quic_c_headers.specs.declared.words.HeadWords.{HeadWords}
+use Rattle.quic_c_headers.specs.declared.words.HeaderWords.{HeaderWords}
 use Rattle.quic_c_headers.specs.Negotiation.{negotiation_bytes, negotiation_words, version_bytes, IsNegotiation}
 use Rattle.quic_c_headers.specs.Reading.{Told}
 
@@ -87,7 +87,7 @@ same_ids packet dst src rest d s r (f, number, whole, long, word) (g, other, all
 pub same_words : (packet dst src d s : List ℕ) → dst ≡ d → src ≡ s → negotiation_words packet dst src ≡ negotiation_words packet d s
 same_words packet dst src d s e f = rw (e, f) refl
 
--- ---- what is told of heads of all kinds
+-- ---- what is told of headers of all kinds
 
 -- a part of a list, and what is left behind it
 part_at : (a n : ℕ) (packet front part rest : List ℕ) → packet ≡ front ++ (part ++ rest) → length front ≡ a → length part ≡ n
@@ -100,7 +100,7 @@ part_at a n packet front part rest is from many =
     )
 
 -- the places of its fields
-places : List ℕ → List ℕ → List ℕ → HeadPlaces
+places : List ℕ → List ℕ → List ℕ → HeaderPlaces
 places packet dst src = record {
   kind = kind.VersionNegotiate;
   first = slice_index packet 0;
@@ -109,15 +109,15 @@ places packet dst src = record {
   src_len = length src;
   token = record { start = 0; end = 0 };
   len = 0;
-  head_end = 7 + length dst + length src;
+  header_end = 7 + length dst + length src;
 }
 
--- the head that stands there, by its parts
-head_at : (context : Context) (packet dst src rest d s left : List ℕ) (random : ℕ) → d ≡ dst → s ≡ src → left ≡ rest
-    → Head context (length packet) packet (head.VersionNegotiate random dst src) rest → Head context (length packet) packet (head.VersionNegotiate random d s) left
-head_at context packet dst src rest d s left random e f g h = rw (e, f, g) h
+-- the header that stands there, by its parts
+header_at : (context : Context) (packet dst src rest d s left : List ℕ) (random : ℕ) → d ≡ dst → s ≡ src → left ≡ rest
+    → HeaderAt context (length packet) packet (head.VersionNegotiate random dst src) rest → HeaderAt context (length packet) packet (head.VersionNegotiate random d s) left
+header_at context packet dst src rest d s left random e f g h = rw (e, f, g) h
 
-pub told : (id_len : ℕ) (versions packet dst src rest : List ℕ) (old : HeadWords) → IsNegotiation packet dst src rest → length dst ≤ 20 → length src ≤ 20
+pub told : (id_len : ℕ) (versions packet dst src rest : List ℕ) (old : HeaderWords) → IsNegotiation packet dst src rest → length dst ≤ 20 → length src ≤ 20
     → Told id_len versions packet old 0 (negotiation_words packet dst src)
 unfolding places
 told id_len versions packet dst src rest old (first, number, whole, long, word) few less =
@@ -151,7 +151,7 @@ told id_len versions packet dst src rest old (first, number, whole, long, word) 
     omega (arith, ap length two, length-append next (src ++ rest), length-append src rest, place) in
     record {
       read = Ok (places packet dst src);
-      right = head_at context packet dst src rest _ _ _ random dst_is.0 src_is.0 behind (negotiation_head context (length packet) packet random dst src rest start);
+      right = header_at context packet dst src rest _ _ _ random dst_is.0 src_is.0 behind (negotiation_header context (length packet) packet random dst src rest start);
       laid = record {
         fields = (omega arith, (refl, refl), refl, refl);
         dst_few = few;

@@ -1,4 +1,4 @@
--- The words of a head that can be written are those of its kind.
+-- The words of a header that can be written are those of its kind.
 use Rattle.std.proofs.Common.{◌≡◌, ℕ, ◌<◌, ◌≤◌, ◌^◌, ◌⊎◌, List, length, Bool, Some, sym, subst, inl, inr, arith}
 use Rattle.quic_crypto.specs.declared.packet_number.PacketNumber.{PacketNumber}
 use Rattle.quic_header_encode.proofs.Sizes.{number_few}
@@ -6,7 +6,7 @@ use Rattle.quic_header_encode.specs.declared.long_type.LongType.TheVariants.{Han
 use Rattle.quic_header_encode.specs.declared.header.Header.{Header}
 use Rattle.quic_header_encode.specs.declared.header.Header.TheVariants as header
 use Rattle.quic_c_headers.specs.declared.words.SaidWords.{SaidWords}
-use Rattle.quic_c_headers.specs.Heads.{SaysNumber, CanWrite}
+use Rattle.quic_c_headers.specs.Headers.{SaysNumber, CanWrite}
 use Rattle.quic_c_headers.specs.Shapes.{AreParts, IsNumbered, IsShaped}
 
 with_number : (words : SaidWords) (number : PacketNumber) → SaysNumber words.number words.number_len (Some number)
@@ -18,7 +18,7 @@ with_number words number s len =
 without_number : (words : SaidWords) → (words.kind ≡ 3) ⊎ (words.kind ≡ 5) → IsNumbered words
 without_number words kind = record { number = λ e. absurd (omega (arith, kind, e)); len = λ e. absurd (omega (arith, kind, e)) }
 
--- the parts of a head that has no token
+-- the parts of a header that has no token
 no_token : (kind : ℕ) (dst src token : List ℕ) → 0 < kind → length dst ≤ 20 → length src ≤ 20 → AreParts kind dst src token
 no_token kind dst src token some dst_few src_few =
     record { dst_few = dst_few; src_few = λ _. src_few; token_short = λ e. absurd (omega (arith, some, e)) }

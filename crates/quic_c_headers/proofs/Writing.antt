@@ -1,4 +1,4 @@
--- The head that words say, and its bytes.
+-- The header that words say, and its bytes.
 use Rattle.std.proofs.Common.{◌≡◌, ℕ, ◌+◌, ◌-◌, ◌*◌, ◌/◌, ◌%◌, ◌<◌, ◌≤◌, ◌^◌, ◌⊎◌, Bool, false, List, [], ◌∷◌, ◌++◌, length, take, drop, replicate, IsTrue, refl, sym, ap, subst, ◌∙◌, inl, inr, arith, rules}
 use Rattle.std.specs.Prelude.{◌≢◌, bit_or, nat_eq}
 use Rattle.std.proofs.lemmas.Bool.{cases_eq}
@@ -9,20 +9,20 @@ use Rattle.quic_base.specs.ConnectionId.{long_id}
 use Rattle.quic_base.specs.Number.{bytes_of}
 use Rattle.quic_crypto.specs.declared.packet_number.PacketNumber.{PacketNumber}
 use Rattle.quic_crypto.specs.PacketNumbers.{low_part, number_bytes, number_size, window_of, IsInRange}
-use Rattle.quic_header_encode.specs.declared.long_type.HeadKind.{HeadKind}
-use Rattle.quic_header_encode.specs.declared.long_type.HeadKind.TheVariants as kind
+use Rattle.quic_header_encode.specs.declared.long_type.HeaderKind.{HeaderKind}
+use Rattle.quic_header_encode.specs.declared.long_type.HeaderKind.TheVariants as kind
 use Rattle.quic_header_encode.specs.declared.header.Header.{Header}
-use Rattle.quic_header_encode.specs.Laying.{begun_by, has_bit, head_of, number_bits, says_length, token_by, type_bits}
+use Rattle.quic_header_encode.specs.Laying.{begun_by, has_bit, header_of, number_bits, says_length, token_by, type_bits}
 use Rattle.quic_header_encode.specs.Starts.{long_front}
-use Rattle.quic_header_encode.specs.Writing.{bit, head_with}
+use Rattle.quic_header_encode.specs.Writing.{bit, header_with}
 use Rattle.quic_c_headers.specs.declared.words.SaidWords.{SaidWords}
-use Rattle.quic_c_headers.specs.Heads.{part_of, said_bytes, CanWrite}
+use Rattle.quic_c_headers.specs.Headers.{part_of, said_bytes, CanWrite}
 use Rattle.quic_c_headers.specs.Reading.{kind_word}
 use Rattle.quic_c_headers.specs.Shapes.{first_word, numbered_bytes, numbered_first, IsNumbered, IsShaped}
 use Rattle.quic_c_headers.specs.Written.{short_words}
 
 -- whether the fixed bit is cleared
-abbrev pub clear_by : HeadKind → ℕ → Bool
+abbrev pub clear_by : HeaderKind → ℕ → Bool
 clear_by kind.Initial flags = has_bit 64 flags
 clear_by kind.ZeroRtt flags = has_bit 64 flags
 clear_by kind.Handshake flags = has_bit 64 flags
@@ -30,9 +30,9 @@ clear_by kind.Retry flags = has_bit 64 flags
 clear_by kind.Short flags = has_bit 64 flags
 clear_by kind.VersionNegotiate flags = false
 
--- the head that they say
-abbrev pub head_said : HeadKind → SaidWords → List ℕ → List ℕ → List ℕ → Header
-head_said k words dst src token = head_of k words.flags words.version dst src token (part_of words.number_len words.number)
+-- the header that they say
+abbrev pub header_said : HeaderKind → SaidWords → List ℕ → List ℕ → List ℕ → Header
+header_said k words dst src token = header_of k words.flags words.version dst src token (part_of words.number_len words.number)
 
 bit_at : (x n : ℕ) → x < 2 → bit (nat_eq x 1) n ≡ n * x
 bit_at x n lt = grind (arith, nat_tests)
@@ -76,8 +76,8 @@ source_said : (words : SaidWords) (dst src token from : List ℕ) → IsShaped w
     → (src ≡ from) × (length src ≤ 20)
 source_said words dst src token from s source other = (sym (source other), s.parts.src_few other)
 
-pub can_said : (k : HeadKind) (words : SaidWords) (dst src token from own : List ℕ) → IsShaped words dst src token → kind_word k ≡ words.kind
-    → (words.kind ≢ 4 → from ≡ src) → (words.kind ≡ 0 → own ≡ token) → CanWrite words dst src token (clear_by k words.flags) (head_said k words dst from own)
+pub can_said : (k : HeaderKind) (words : SaidWords) (dst src token from own : List ℕ) → IsShaped words dst src token → kind_word k ≡ words.kind
+    → (words.kind ≢ 4 → from ≡ src) → (words.kind ≡ 0 → own ≡ token) → CanWrite words dst src token (clear_by k words.flags) (header_said k words dst from own)
 can_said kind.Initial words dst src token from own s e source mine =
     let n = numbered words s.numbered (inl (omega (arith, e))) in
     record {
@@ -177,35 +177,35 @@ begun_same : (f g : ℕ) (h : ℕ → List ℕ) (a b : ℕ) → f ≡ g → a �
 begun_same f g h a b e same = ap (λ (x : ℕ). begun_by x (h a)) e ∙ ap (λ (n : ℕ). begun_by g (h n)) same
 
 -- what is laid of them
-abbrev pub laid_said : HeadKind → ℕ → SaidWords → List ℕ → List ℕ → List ℕ → List ℕ
+abbrev pub laid_said : HeaderKind → ℕ → SaidWords → List ℕ → List ℕ → List ℕ → List ℕ
 laid_said k len words dst src token =
     let number = part_of words.number_len words.number in
     begun_by (first_word k words.flags + type_bits k words.version + number_bits k number)
-    (head_with (replicate len 0) (head_of k (first_word k words.flags) words.version dst src token number))
+    (header_with (replicate len 0) (header_of k (first_word k words.flags) words.version dst src token number))
 
-pub laid_as : (k : HeadKind) (f len : ℕ) (words : SaidWords) (dst src token : List ℕ) (number : PacketNumber) → f ≡ first_word k words.flags
+pub laid_as : (k : HeaderKind) (f len : ℕ) (words : SaidWords) (dst src token : List ℕ) (number : PacketNumber) → f ≡ first_word k words.flags
     → number ≡ part_of words.number_len words.number
-    → begun_by (f + type_bits k words.version + number_bits k number) (head_with (replicate len 0) (head_of k f words.version dst src token number))
+    → begun_by (f + type_bits k words.version + number_bits k number) (header_with (replicate len 0) (header_of k f words.version dst src token number))
     ≡ laid_said k len words dst src token
 laid_as k f len words dst src token number e is =
-    ap (λ (g : ℕ). begun_by (g + type_bits k words.version + number_bits k number) (head_with (replicate len 0) (head_of k g words.version dst src token number))) e
+    ap (λ (g : ℕ). begun_by (g + type_bits k words.version + number_bits k number) (header_with (replicate len 0) (header_of k g words.version dst src token number))) e
     ∙ ap (λ (p : PacketNumber). begun_by (first_word k words.flags + type_bits k words.version + number_bits k p)
-    (head_with (replicate len 0) (head_of k (first_word k words.flags) words.version dst src token p))) is
+    (header_with (replicate len 0) (header_of k (first_word k words.flags) words.version dst src token p))) is
 
-pub bytes_said : (k : HeadKind) (len : ℕ) (words : SaidWords) (dst src token : List ℕ) → IsNumbered words → kind_word k ≡ words.kind
+pub bytes_said : (k : HeaderKind) (len : ℕ) (words : SaidWords) (dst src token : List ℕ) → IsNumbered words → kind_word k ≡ words.kind
     → ((words.length_len ≡ 2) ⊎ (words.length_len ≡ 4) → len ≡ words.length_len)
-    → laid_said k len words dst src token ≡ said_bytes words.length_len (clear_by k words.flags) (head_said k words dst src token)
+    → laid_said k len words dst src token ≡ said_bytes words.length_len (clear_by k words.flags) (header_said k words dst src token)
 bytes_said kind.Initial len words dst src token s e same =
-    begun_same _ _ (λ n. head_with (replicate n 0) (head_said kind.Initial words dst src token)) len words.length_len
+    begun_same _ _ (λ n. header_with (replicate n 0) (header_said kind.Initial words dst src token)) len words.length_len
     (omega (arith, clear_is words.flags)) (same (s.len (omega (arith, e))))
 bytes_said kind.ZeroRtt len words dst src token s e same =
-    begun_same _ _ (λ n. head_with (replicate n 0) (head_said kind.ZeroRtt words dst src token)) len words.length_len
+    begun_same _ _ (λ n. header_with (replicate n 0) (header_said kind.ZeroRtt words dst src token)) len words.length_len
     (omega (arith, clear_is words.flags)) (same (s.len (omega (arith, e))))
 bytes_said kind.Handshake len words dst src token s e same =
-    begun_same _ _ (λ n. head_with (replicate n 0) (head_said kind.Handshake words dst src token)) len words.length_len
+    begun_same _ _ (λ n. header_with (replicate n 0) (header_said kind.Handshake words dst src token)) len words.length_len
     (omega (arith, clear_is words.flags)) (same (s.len (omega (arith, e))))
 bytes_said kind.Retry len words dst src token s e same =
-    ap (λ (f : ℕ). begun_by f (head_with (replicate 0 0) (head_said kind.Retry words dst src token)))
+    ap (λ (f : ℕ). begun_by f (header_with (replicate 0 0) (header_said kind.Retry words dst src token)))
     (let g : first_word kind.Retry words.flags + type_bits kind.Retry words.version + 0 ≡ 192 + type_bits kind.Retry words.version - bit (has_bit 64 words.flags) 64 =
     omega (arith, clear_is words.flags) in g)
 bytes_said kind.Short len words dst src token s e same =
@@ -215,7 +215,7 @@ bytes_said kind.Short len words dst src token s e same =
     ≡ 64 + bit (has_bit 32 words.flags) 32 + bit (has_bit 4 words.flags) 4 + (number_size number - 1) - bit (has_bit 64 words.flags) 64 =
     omega (arith, clear_is words.flags, spin_is words.flags, phase_is words.flags) in g)
 bytes_said kind.VersionNegotiate len words dst src token s e same =
-    ap (λ (f : ℕ). begun_by f (head_with (replicate 0 0) (head_said kind.VersionNegotiate words dst src token)))
+    ap (λ (f : ℕ). begun_by f (header_with (replicate 0 0) (header_said kind.VersionNegotiate words dst src token)))
     (let g : bit_or 128 (words.flags % 128) + 0 + 0 ≡ bit_or 128 (words.flags % 128) - 0 = omega arith in g)
 
 -- ---- what was written
@@ -227,7 +227,7 @@ written n old new bytes said within front back same = (
   sym (length-take-le n new within) ∙ ap length (front ∙ same),
 )
 
--- ---- short heads by their first byte
+-- ---- short headers by their first byte
 
 pub short_shaped : (first number : ℕ) (dst : List ℕ) → number < 2 ^ 62 → length dst ≤ 20 → IsShaped (short_words first number) dst [] []
 short_shaped first number dst small few = record {
@@ -238,7 +238,7 @@ short_shaped first number dst small few = record {
 }
 
 pub short_can : (first number : ℕ) (dst : List ℕ) → number < 2 ^ 62 → length dst ≤ 20
-    → CanWrite (short_words first number) dst [] [] (clear_by kind.Short (short_words first number).flags) (head_said kind.Short (short_words first number) dst [] [])
+    → CanWrite (short_words first number) dst [] [] (clear_by kind.Short (short_words first number).flags) (header_said kind.Short (short_words first number) dst [] [])
 short_can first number dst small few =
     can_said kind.Short (short_words first number) dst [] [] [] [] (short_shaped first number dst small few) refl (λ _. refl) (λ _. refl)
 
@@ -259,10 +259,10 @@ low_bytes len number some few =
       ]
     ]
 
--- what is laid of a short head is what its words say
+-- what is laid of a short header is what its words say
 pub short_bytes : (first number : ℕ) (dst : List ℕ) → first < 128 → first / 8 % 4 ≡ 0 → number < 2 ^ 62 → length dst ≤ 20
     → (first ∷ dst) ++ bytes_of (first % 4 + 1) number
-    ≡ said_bytes 0 (clear_by kind.Short (short_words first number).flags) (head_said kind.Short (short_words first number) dst [] [])
+    ≡ said_bytes 0 (clear_by kind.Short (short_words first number).flags) (header_said kind.Short (short_words first number) dst [] [])
 short_bytes first number dst low clear small few =
     let count : ℕ = first % 4 + 1 in
     let words : SaidWords = short_words first number in
@@ -273,9 +273,9 @@ short_bytes first number dst low clear small few =
     ∙ ap (λ (f : ℕ). f ∷ (dst ++ number_bytes part)) byte
     ∙ bytes_said kind.Short 0 words dst [] [] (short_shaped first number dst small few).numbered refl (λ _. refl)
 
--- ---- heads of packets with a number and a length
+-- ---- headers of packets with a number and a length
 
-pub with_length : (k : HeadKind) (words : SaidWords) → kind_word k ≡ words.kind → IsTrue (says_length k) → words.kind ≤ 2
+pub with_length : (k : HeaderKind) (words : SaidWords) → kind_word k ≡ words.kind → IsTrue (says_length k) → words.kind ≤ 2
 with_length kind.Initial words e has = omega (arith, e)
 with_length kind.ZeroRtt words e has = omega (arith, e)
 with_length kind.Handshake words e has = omega (arith, e)
@@ -284,7 +284,7 @@ with_length kind.Short words e has = absurd (search (rules, has))
 with_length kind.VersionNegotiate words e has = absurd (search (rules, has))
 
 -- what is laid of one, field behind field, is what its words say
-pub numbered_said : (k : HeadKind) (words : SaidWords) (dst src token : List ℕ) → IsTrue (says_length k) → 1 ≤ words.number_len → words.number_len ≤ 4
+pub numbered_said : (k : HeaderKind) (words : SaidWords) (dst src token : List ℕ) → IsTrue (says_length k) → 1 ≤ words.number_len → words.number_len ≤ 4
     → numbered_bytes k words dst src token ≡ laid_said k words.length_len words dst src token
 numbered_said kind.Initial words dst src token has some few =
     let part : PacketNumber = part_of words.number_len words.number in

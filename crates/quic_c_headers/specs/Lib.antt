@@ -1,4 +1,4 @@
-pub mod Heads
+pub mod Headers
 pub mod Negotiation
 pub mod Numbers
 pub mod Protecting

@@ -6,21 +6,21 @@ use Rattle.quic_base.specs.Number.{bytes_of}
 use Rattle.quic_header_encode.specs.declared.header.Header.TheVariants as header
 use Rattle.quic_header_encode.specs.Writing.{header_bytes}
 use Rattle.quic_header_decode.specs.Places.{AnyVersion}
-use Rattle.quic_c_headers.specs.declared.words.HeadWords.{HeadWords}
+use Rattle.quic_c_headers.specs.declared.words.HeaderWords.{HeaderWords}
 
--- The bytes begin with the head of one: a long head of version 0, and rest is left behind its ids.
+-- The bytes begin with the header of one: a long header of version 0, and rest is left behind its ids.
 abbrev pub IsNegotiation : List ℕ → List ℕ → List ℕ → List ℕ → Type 0
 IsNegotiation bytes dst src rest = AnyVersion bytes 0 dst src rest
 
 -- what is told of a packet with these ids
-abbrev pub negotiation_words : List ℕ → List ℕ → List ℕ → HeadWords
+abbrev pub negotiation_words : List ℕ → List ℕ → List ℕ → HeaderWords
 negotiation_words packet dst src = record {
   kind = 5;
   first = slice_index packet 0;
   dst_len = length dst;
   src_len = length src;
   version = 0;
-  head_end = 7 + length dst + length src;
+  header_end = 7 + length dst + length src;
   end = length packet;
   token = 0;
   token_len = 0;
@@ -31,6 +31,6 @@ negotiation_words packet dst src = record {
 abbrev pub version_bytes : List ℕ → List ℕ
 version_bytes = flat_map (bytes_of 4)
 
--- a packet: its head, whose seven low bits of the first byte are given, and versions
+-- a packet: its header, whose seven low bits of the first byte are given, and versions
 abbrev pub negotiation_bytes : ℕ → List ℕ → List ℕ → List ℕ → List ℕ
 negotiation_bytes first dst src versions = header_bytes (header.VersionNegotiate (first % 128) src dst) ++ version_bytes versions

@@ -1,24 +1,24 @@
--- What a kind of head has.
+-- What a kind of header has.
 use Rattle.std.specs.Prelude.{◌≡◌, ◌≢◌, ℕ, ◌+◌, ◌-◌, ◌*◌, ◌/◌, ◌%◌, ◌<◌, ◌≤◌, ◌^◌, ◌⊎◌, List, ◌++◌, length, replicate, bit_or}
 use Rattle.quic_base.specs.Number.{bytes_of}
-use Rattle.quic_header_encode.specs.declared.long_type.HeadKind.{HeadKind}
-use Rattle.quic_header_encode.specs.declared.long_type.HeadKind.TheVariants as kind
+use Rattle.quic_header_encode.specs.declared.long_type.HeaderKind.{HeaderKind}
+use Rattle.quic_header_encode.specs.declared.long_type.HeaderKind.TheVariants as kind
 use Rattle.quic_header_encode.specs.Laying.{token_by, token_size, type_bits}
 use Rattle.quic_header_encode.specs.Starts.{long_front}
 use Rattle.quic_c_headers.specs.declared.words.SaidWords.{SaidWords}
 
--- The number, the count of its bytes and that of the length's are those of a head of the kind.
+-- The number, the count of its bytes and that of the length's are those of a header of the kind.
 pub record IsNumbered (words : SaidWords) : Type 0 where
   pub number : (words.kind ≤ 2) ⊎ (words.kind ≡ 4) → (1 ≤ words.number_len) × (words.number_len ≤ 4) × (words.number < 2 ^ 62)
   pub len : words.kind ≤ 2 → (words.length_len ≡ 2) ⊎ (words.length_len ≡ 4)
 
--- The ids and the token are those of a head of the kind.
+-- The ids and the token are those of a header of the kind.
 pub record AreParts (kind : ℕ) (dst src token : List ℕ) : Type 0 where
   pub dst_few : length dst ≤ 20
   pub src_few : kind ≢ 4 → length src ≤ 20
   pub token_short : kind ≡ 0 → length token < 2 ^ 62
 
--- The words, the ids and the token are those of a head of the kind.
+-- The words, the ids and the token are those of a header of the kind.
 pub record IsShaped (words : SaidWords) (dst src token : List ℕ) : Type 0 where
   pub known : words.kind ≤ 5
   pub numbered : IsNumbered words
@@ -26,7 +26,7 @@ pub record IsShaped (words : SaidWords) (dst src token : List ℕ) : Type 0 wher
   pub parts : AreParts words.kind dst src token
 
 -- what a first byte has beside its type and number, by the flags
-abbrev pub first_word : HeadKind → ℕ → ℕ
+abbrev pub first_word : HeaderKind → ℕ → ℕ
 first_word kind.Initial flags = 192 - 64 * (flags / 64 % 2)
 first_word kind.ZeroRtt flags = 192 - 64 * (flags / 64 % 2)
 first_word kind.Handshake flags = 192 - 64 * (flags / 64 % 2)
@@ -35,14 +35,14 @@ first_word kind.Short flags = 64 - 64 * (flags / 64 % 2) + 32 * (flags / 32 % 2)
 first_word kind.VersionNegotiate flags = bit_or 128 (flags % 128)
 
 -- the first byte of a packet with a number and a length
-abbrev pub numbered_first : HeadKind → SaidWords → ℕ
+abbrev pub numbered_first : HeaderKind → SaidWords → ℕ
 numbered_first kind words = 192 - 64 * (words.flags / 64 % 2) + type_bits kind words.version + (words.number_len - 1)
 
--- the bytes of its head: up to the ids' end, the token of an Initial, so many zeros as the length, and the number
-abbrev pub numbered_bytes : HeadKind → SaidWords → List ℕ → List ℕ → List ℕ → List ℕ
+-- the bytes of its header: up to the ids' end, the token of an Initial, so many zeros as the length, and the number
+abbrev pub numbered_bytes : HeaderKind → SaidWords → List ℕ → List ℕ → List ℕ → List ℕ
 numbered_bytes kind words dst src token =
     (long_front (numbered_first kind words) words.version dst src ++ token_by kind token)
     ++ (replicate words.length_len 0 ++ bytes_of words.number_len words.number)
 
-abbrev pub numbered_size : HeadKind → SaidWords → List ℕ → List ℕ → List ℕ → ℕ
+abbrev pub numbered_size : HeaderKind → SaidWords → List ℕ → List ℕ → List ℕ → ℕ
 numbered_size kind words dst src token = 7 + length dst + length src + token_size kind token + (words.length_len + words.number_len)

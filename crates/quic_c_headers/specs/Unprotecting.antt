@@ -1,11 +1,11 @@
--- Protection is taken off a head by a mask that the caller brings (RFC 9001, section 5.4.1).
+-- Protection is taken off a header by a mask that the caller brings (RFC 9001, section 5.4.1).
 use Rattle.std.specs.Prelude.{◌≡◌, ℕ, zero, suc, ◌+◌, ◌%◌, ◌<◌, ◌≤◌, List, drop, slice_index, slice_set, bit_xor, nat_lt}
 use Rattle.quic_base.specs.Codec.{Takes}
 use Rattle.quic_crypto.specs.Keys.{first_unit, number_len}
 use Rattle.quic_crypto.specs.declared.packet_number.PacketNumber.{PacketNumber}
 use Rattle.quic_crypto.specs.PacketNumbers.{NumberAt, Expands, low_part, number_size, window_of}
 
--- the first byte with its mask taken off: five bits in a short head, four in a long one
+-- the first byte with its mask taken off: five bits in a short header, four in a long one
 abbrev pub unmasked_first : List ℕ → ℕ → ℕ
 unmasked_first mask first = bit_xor first (slice_index mask 0 % first_unit (nat_lt first 128))
 
@@ -15,7 +15,7 @@ unmasked_at at mask zero bytes = bytes
 unmasked_at at mask (suc n) bytes =
     slice_set (unmasked_at at mask n bytes) (at + n) (bit_xor (slice_index (unmasked_at at mask n bytes) (at + n)) (slice_index mask (n + 1)))
 
--- a mask taken off a head whose number begins at a place, and has as many bytes as the first byte then says
+-- a mask taken off a header whose number begins at a place, and has as many bytes as the first byte then says
 abbrev pub unmasked : ℕ → List ℕ → List ℕ → List ℕ
 unmasked at mask bytes =
     let first = unmasked_first mask (slice_index bytes 0) in

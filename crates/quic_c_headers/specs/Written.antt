@@ -1,10 +1,10 @@
--- What the calls answer that write heads.
+-- What the calls answer that write headers.
 use Rattle.std.specs.Prelude.{◌≡◌, ℕ, ◌+◌, ◌-◌, ◌/◌, ◌%◌, ◌<◌, ◌≤◌, ◌⊎◌, Bool, List, ◌++◌, length, drop}
 use Rattle.quic_header_encode.specs.declared.header.Header.{Header}
 use Rattle.quic_c_headers.specs.declared.words.SaidWords.{SaidWords}
-use Rattle.quic_c_headers.specs.Heads.{said_bytes, CanWrite}
+use Rattle.quic_c_headers.specs.Headers.{said_bytes, CanWrite}
 
--- The bytes of the head that the words, the ids and the token say stand at the front, with what stood behind them,
+-- The bytes of the header that the words, the ids and the token say stand at the front, with what stood behind them,
 -- and are counted.
 pub record Wrote (words : SaidWords) (dst src token old new : List ℕ) (count : ℕ) : Type 0 where
   pub clear : Bool
@@ -13,7 +13,7 @@ pub record Wrote (words : SaidWords) (dst src token old new : List ℕ) (count :
   pub front : new ≡ said_bytes words.length_len clear head ++ drop count old
   pub count_is : count ≡ length (said_bytes words.length_len clear head)
 
--- There is less room than such a head needs.
+-- There is less room than such a header needs.
 pub record NeedsMore (words : SaidWords) (dst src token : List ℕ) (room : ℕ) : Type 0 where
   pub clear : Bool
   pub head : Header
@@ -24,12 +24,12 @@ pub record NeedsMore (words : SaidWords) (dst src token : List ℕ) (room : ℕ)
 abbrev pub SaysNone : SaidWords → List ℕ → List ℕ → List ℕ → Type 0
 SaysNone words dst src token = (clear : Bool) (head : Header) → CanWrite words dst src token clear head → ⊥
 
--- A byte is no first byte of a short head whose reserved bits are 0: its highest bit is set, or one of those is (RFC
+-- A byte is no first byte of a short header whose reserved bits are 0: its highest bit is set, or one of those is (RFC
 -- 9000, section 17.3.1).
 abbrev pub HasReserved : ℕ → Type 0
 HasReserved first = (128 ≤ first) ⊎ (0 < first / 8 % 4)
 
--- the words of a short head by its first byte and its number
+-- the words of a short header by its first byte and its number
 abbrev pub short_words : ℕ → ℕ → SaidWords
 short_words first number = record {
   kind = 4;

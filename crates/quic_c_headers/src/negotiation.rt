@@ -4,10 +4,10 @@ ghost use Rattle.quic_base.specs.ConnectionId.{long_id};
 ghost use Rattle.quic_c_headers.specs.Negotiation.{negotiation_bytes, negotiation_words, version_bytes, IsNegotiation};
 ghost use Rattle.quic_c_headers.specs.Reading.{Told};
 
-use crate::words::HeadWords;
+use crate::words::HeaderWords;
 use crate::write::first_word;
 use quic_base::coding::{are_bytes, lay_array};
-use quic_header_encode::long_type::HeadKind;
+use quic_header_encode::long_type::HeaderKind;
 
 // The id that bytes begin with, behind its length, and what follows it.
 #[inline(always)]
@@ -39,13 +39,13 @@ fn ids_of(packet: &[u8]) -> Option<(&[u8], &[u8])>
     Some((dst, src))
 }
 
-/// Reads the head of the version negotiation that a packet begins with, whose ids have up to 255 bytes; the versions
-/// stand behind the head, up to the packet's end. It answers 0 with the head; -3 just where none begins there: the
+/// Reads the header of the version negotiation that a packet begins with, whose ids have up to 255 bytes; the versions
+/// stand behind the header, up to the packet's end. It answers 0 with the header; -3 just where none begins there: the
 /// highest bit of the first byte is clear, the version isn't 0, or the bytes end within the ids; -1 just where there
 /// are 2^32 bytes or more. `head` changes with 0 alone. Where both ids have at most 20 bytes, it is what
-/// `quic_wire_head_read_` tells.
+/// `quic_wire_header_read_` tells.
 #[unsafe(no_mangle)]
-pub extern "C" fn quic_wire_negotiation_read_(packet: &[u8], head: &mut HeadWords) -> i32
+pub extern "C" fn quic_wire_negotiation_read_(packet: &[u8], head: &mut HeaderWords) -> i32
     ensures answers { (result ≡ pos 0) ⊎ (result ≡ negsuc 2) ⊎ (result ≡ negsuc 0) }
     ensures invalid { (result ≡ negsuc 0) ↔ (2 ^ 32 ≤ length packet.now) }
     ensures read { result ≡ pos 0 → (dst src rest : List ℕ) × IsNegotiation packet.now dst src rest }
@@ -53,7 +53,7 @@ pub extern "C" fn quic_wire_negotiation_read_(packet: &[u8], head: &mut HeadWord
         → head.new ≡ negotiation_words packet.now dst src }
     ensures none { result ≡ negsuc 2 → (dst src rest : List ℕ) → IsNegotiation packet.now dst src rest → ⊥ }
     ensures same { (result ≡ pos 0) ⊎ (head.new ≡ head.old) }
-    // It is what is told of heads of all kinds.
+    // It is what is told of headers of all kinds.
     ensures agrees { result ≡ pos 0 → head.new.dst_len ≤ 20 → head.new.src_len ≤ 20
         → (id_len : ℕ) (versions : List ℕ) → Told id_len versions packet.now head.old 0 head.new }
 {
@@ -63,13 +63,13 @@ pub extern "C" fn quic_wire_negotiation_read_(packet: &[u8], head: &mut HeadWord
     let Some((dst, src)) = ids_of(packet) else {
         return -3;
     };
-    *head = HeadWords {
+    *head = HeaderWords {
         kind: 5,
         first: packet[0],
         dst_len: dst.len() as u8,
         src_len: src.len() as u8,
         version: 0,
-        head_end: (7 + dst.len() + src.len()) as u32,
+        header_end: (7 + dst.len() + src.len()) as u32,
         end: packet.len() as u32,
         token: 0,
         token_len: 0,
@@ -120,7 +120,7 @@ fn lay_packet(first: u8, dst: &[u8], src: &[u8], versions: &[u32], dest: &mut [u
     ensures end { result ≡ 7 + length dst.now + length src.now + 4 * length versions.now }
     ensures wrote { dest.new ≡ negotiation_bytes first dst.now src.now versions.now ++ drop result dest.old }
 {
-    let at = lay_array(dest, 0, [first_word(HeadKind::VersionNegotiate, first)]);
+    let at = lay_array(dest, 0, [first_word(HeaderKind::VersionNegotiate, first)]);
     let at = lay_array(dest, at, [0; 4]);
     let at = lay_id(dest, at, dst);
     let at = lay_id(dest, at, src);

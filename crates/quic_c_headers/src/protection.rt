@@ -1,4 +1,4 @@
-//! Protection is put on heads and taken off, by masks that the caller makes (RFC 9001, section 5.4).
+//! Protection is put on headers and taken off, by masks that the caller makes (RFC 9001, section 5.4).
 ghost use Rattle.std.specs.Prelude.{◌≡◌, ◌⊎◌, ◌↔◌, ◌<◌, ◌≤◌, ◌+◌, ◌^◌, ℕ, pos, negsuc, length, slice_index, slice_set, IsTrue};
 ghost use Rattle.quic_crypto.specs.Keys.{number_len};
 ghost use Rattle.quic_crypto.specs.PacketNumbers.{number_size};
@@ -9,7 +9,7 @@ ghost use Rattle.quic_c_headers.specs.Unprotecting.{unmasked_first, unmasked_at,
 use quic_crypto::packet_number::PacketNumber;
 use quic_header_encode::lay::set_len;
 
-// Puts a mask on the first byte: on five bits in a short head, on four in a long one.
+// Puts a mask on the first byte: on five bits in a short header, on four in a long one.
 #[inline(always)]
 fn mask_first(packet: &mut [u8], mask: &[u8; 5]) -> u8
     requires { 0 < length packet.old }
@@ -47,7 +47,7 @@ fn mask_number(packet: &mut [u8], at: usize, mask: &[u8; 5], count: usize)
     }
 }
 
-// Takes the protection off the head of a packet whose number begins at a place, and answers the number that is written.
+// Takes the protection off the header of a packet whose number begins at a place, and answers the number that is written.
 #[inline(always)]
 fn unmask(packet: &mut [u8], at: usize, mask: &[u8; 5]) -> PacketNumber
     requires { HasNumber at (length packet.old) }
@@ -72,11 +72,11 @@ fn has_number(packet: &[u8], place: usize) -> bool
     packet.len() >= 4 && place != 0 && place <= packet.len() - 4
 }
 
-/// Takes the protection off the head of a packet whose number begins at `place`, by the mask that the caller made of
+/// Takes the protection off the header of a packet whose number begins at `place`, by the mask that the caller made of
 /// the sample (RFC 9001, section 5.4.1), and gives the number by the one that is `expected` next (RFC 9000, appendix
 /// A.3). It answers how many bytes the number has: the payload begins behind them. It answers -1 just where
 /// `expected` is 2^62 or more; -3 just where it isn't and the place is 0 or has fewer than four bytes behind it.
-/// Nothing changes then, and otherwise the low bits of the first byte, five in a short head and four in a long one,
+/// Nothing changes then, and otherwise the low bits of the first byte, five in a short header and four in a long one,
 /// and the number's bytes.
 #[unsafe(no_mangle)]
 pub extern "C" fn quic_wire_unprotect_(
@@ -104,7 +104,7 @@ pub extern "C" fn quic_wire_unprotect_(
     written.len() as i32
 }
 
-/// Puts the protection on the head of a packet whose payload is sealed and whose number begins at `place`, by the
+/// Puts the protection on the header of a packet whose payload is sealed and whose number begins at `place`, by the
 /// mask that the caller made of the sample (RFC 9001, section 5.4.1), and answers how many bytes the number has. It
 /// answers -3 just where the place is 0 or has fewer than four bytes behind it, and then nothing changes. Taking
 /// protection off by the same mask gives the bytes that were there.
@@ -125,7 +125,7 @@ pub extern "C" fn quic_wire_protect_(packet: &mut [u8], place: usize, mask: &[u8
     count as i32
 }
 
-/// Sets the length in the head of a packet whose number begins at `place`, to how many bytes it has from there on:
+/// Sets the length in the header of a packet whose number begins at `place`, to how many bytes it has from there on:
 /// `length_len` bytes before the place, 2 or 4 (RFC 9000, section 17.2). It answers 0; -1 just where it is another
 /// count of them, there is no such place, or there are 2^14 or 2^30 bytes or more, and then nothing changes.
 #[unsafe(no_mangle)]

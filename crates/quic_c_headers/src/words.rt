@@ -1,11 +1,11 @@
 //! The structs that C sees. Each of their words may hold any value, so nothing can be broken by them. They have no
 //! word of the machine's size, so they lie the same on all machines.
 
-/// The head of a packet. Every place is one in the packet. The receiver's id begins at 6 in a long head and at 1 in a
+/// The header of a packet. Every place is one in the packet. The receiver's id begins at 6 in a long header and at 1 in a
 /// short one; the sender's behind it and its own length. What the kind lacks is 0.
 #[repr(C)]
 #[derive(Clone, Copy)]
-pub struct HeadWords {
+pub struct HeaderWords {
     /// 0 Initial, 1 0-RTT, 2 Handshake, 3 Retry, 4 1-RTT, 5 version negotiation, 6 of a version that is none of those
     /// given.
     pub kind: u8,
@@ -18,19 +18,19 @@ pub struct HeadWords {
     pub src_len: u8,
     /// The version of QUIC.
     pub version: u32,
-    /// Where the head ends; where the number begins, if it has one.
-    pub head_end: u32,
+    /// Where the header ends; where the number begins, if it has one.
+    pub header_end: u32,
     /// Where the packet ends; where the bytes end, if it is cut off.
     pub end: u32,
     /// Where the token of an Initial packet begins.
     pub token: u32,
     /// How many bytes it has.
     pub token_len: u32,
-    /// How many bytes an Initial, Handshake or 0-RTT packet has from `head_end` on, as its head says.
+    /// How many bytes an Initial, Handshake or 0-RTT packet has from `header_end` on, as its header says.
     pub len: u64,
 }
 
-/// What a head says that is written, beside its ids and its token. What its kind lacks isn't looked at.
+/// What a header says that is written, beside its ids and its token. What its kind lacks isn't looked at.
 #[repr(C)]
 #[derive(Clone, Copy)]
 pub struct SaidWords {

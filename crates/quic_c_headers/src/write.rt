@@ -1,10 +1,10 @@
-//! Heads, written from words into the caller's bytes.
+//! Headers, written from words into the caller's bytes.
 ghost use Rattle.std.specs.Prelude.{◌≡◌, ◌≢◌, ◌+◌, ◌%◌, ◌^◌, ◌<◌, ◌≤◌, ◌⊎◌, ◌↔◌, ◌++◌, ℕ, [], IsTrue, length, take, drop, replicate, pos, negsuc};
 ghost use Rattle.quic_base.specs.Number.{bytes_of};
 ghost use Rattle.quic_crypto.specs.PacketNumbers.{IsInRange};
 ghost use Rattle.quic_header_encode.specs.Laying.{token_by, token_size, IsTyped};
 ghost use Rattle.quic_header_encode.specs.Starts.{long_front};
-ghost use Rattle.quic_c_headers.specs.Heads.{part_of};
+ghost use Rattle.quic_c_headers.specs.Headers.{part_of};
 ghost use Rattle.quic_c_headers.specs.Reading.{kind_word};
 ghost use Rattle.quic_c_headers.specs.Shapes.{first_word, numbered_bytes, numbered_first, numbered_size, AreParts, IsNumbered, IsShaped};
 ghost use Rattle.quic_c_headers.specs.Written.{short_words, HasReserved, NeedsMore, SaysNone, Wrote};
@@ -13,9 +13,9 @@ use crate::words::SaidWords;
 use quic_crypto::packet_number::PacketNumber;
 use quic_header_encode::fields::lay_low;
 use quic_header_encode::lay::{Exact, HeaderRef, lay_long_start, lay_no_length, lay_short, lay_token};
-use quic_header_encode::long_type::HeadKind;
+use quic_header_encode::long_type::HeaderKind;
 
-// Whether the number, the count of its bytes and that of the length's are those of a head of the kind.
+// Whether the number, the count of its bytes and that of the length's are those of a header of the kind.
 #[inline(always)]
 fn is_numbered(said: &SaidWords) -> bool
     requires { said.now.kind ≤ 5 }
@@ -28,7 +28,7 @@ fn is_numbered(said: &SaidWords) -> bool
     0 < said.number_len && said.number_len <= 4 && said.number < 1 << 62 && fits
 }
 
-// Whether the ids and the token are those of a head of the kind.
+// Whether the ids and the token are those of a header of the kind.
 #[inline(always)]
 fn are_parts(kind: u8, dst: &[u8], src: &[u8], token: &[u8]) -> bool
     ensures { IsTrue result ↔ AreParts kind dst.now src.now token.now }
@@ -36,7 +36,7 @@ fn are_parts(kind: u8, dst: &[u8], src: &[u8], token: &[u8]) -> bool
     dst.len() <= 20 && (kind == 4 || src.len() <= 20) && (kind != 0 || token.len() < 1 << 62)
 }
 
-// Whether the words, the ids and the token are those of a head of the kind.
+// Whether the words, the ids and the token are those of a header of the kind.
 #[inline(always)]
 fn is_shaped(said: &SaidWords, dst: &[u8], src: &[u8], token: &[u8]) -> bool
     ensures { IsTrue result ↔ IsShaped said.now dst.now src.now token.now }
@@ -47,7 +47,7 @@ fn is_shaped(said: &SaidWords, dst: &[u8], src: &[u8], token: &[u8]) -> bool
         && are_parts(said.kind, dst, src, token)
 }
 
-// The sender's id, of heads that have one.
+// The sender's id, of headers that have one.
 #[inline(always)]
 fn source_of<'a>(kind: u8, src: &'a [u8]) -> &'a [u8]
     ensures has { kind ≢ 4 → result.now ≡ src.now }
@@ -56,7 +56,7 @@ fn source_of<'a>(kind: u8, src: &'a [u8]) -> &'a [u8]
     if kind == 4 { &[] } else { src }
 }
 
-// The token, of heads that have one.
+// The token, of headers that have one.
 #[inline(always)]
 fn token_of<'a>(kind: u8, token: &'a [u8]) -> &'a [u8]
     ensures has { kind ≡ 0 → result.now ≡ token.now }
@@ -81,18 +81,18 @@ fn written_part(number: u64, len: u8) -> PacketNumber
 
 // What the first byte has beside its type and number.
 #[inline(always)]
-pub(crate) fn first_word(kind: HeadKind, flags: u8) -> u8
+pub(crate) fn first_word(kind: HeaderKind, flags: u8) -> u8
     ensures { result ≡ first_word kind flags }
 {
     let clear = 64 * (flags / 64 % 2);
     match kind {
-        HeadKind::Short => 64 - clear + 32 * (flags / 32 % 2) + 4 * (flags / 4 % 2),
-        HeadKind::VersionNegotiate => 128 | (flags % 128),
+        HeaderKind::Short => 64 - clear + 32 * (flags / 32 % 2) + 4 * (flags / 4 % 2),
+        HeaderKind::VersionNegotiate => 128 | (flags % 128),
         _ => 192 - clear,
     }
 }
 
-// How many bytes of length are laid, where the head says one.
+// How many bytes of length are laid, where the header says one.
 #[inline(always)]
 fn laid_length_len(said: &SaidWords) -> usize
     ensures known { (result ≡ 2) ⊎ (result ≡ 4) }
@@ -101,10 +101,10 @@ fn laid_length_len(said: &SaidWords) -> usize
     if said.length_len == 4 { 4 } else { 2 }
 }
 
-/// Writes a short head of a first byte, whose lowest two bits say how many bytes of the number are written, at the
-/// front of `dest`, as `quic_wire_head_write_` does, and answers how many bytes it has. It answers -4 where `dest`
-/// has fewer; -1 just where no such head can be written: the first byte is above 0x7f or has a reserved bit, the id
-/// has more than 20 bytes, or the number is 2^62 or more. What stood behind the head stays, and all of it where
+/// Writes a short header of a first byte, whose lowest two bits say how many bytes of the number are written, at the
+/// front of `dest`, as `quic_wire_header_write_` does, and answers how many bytes it has. It answers -4 where `dest`
+/// has fewer; -1 just where no such header can be written: the first byte is above 0x7f or has a reserved bit, the id
+/// has more than 20 bytes, or the number is 2^62 or more. What stood behind the header stays, and all of it where
 /// nothing was written.
 #[unsafe(no_mangle)]
 pub extern "C" fn quic_wire_short_write_(
@@ -131,9 +131,9 @@ pub extern "C" fn quic_wire_short_write_(
     lay_low(dest, at, number, count) as i32
 }
 
-// Lays a long head up to its ids' end at the front.
+// Lays a long header up to its ids' end at the front.
 #[inline(always)]
-fn lay_front(kind: HeadKind, said: &SaidWords, dst: &[u8], src: &[u8], dest: &mut [u8]) -> usize
+fn lay_front(kind: HeaderKind, said: &SaidWords, dst: &[u8], src: &[u8], dest: &mut [u8]) -> usize
     requires typed { IsTyped kind }
     requires some { 1 ≤ said.now.number_len }
     requires few { said.now.number_len ≤ 4 }
@@ -152,9 +152,9 @@ fn lay_front(kind: HeadKind, said: &SaidWords, dst: &[u8], src: &[u8], dest: &mu
     lay_long_start(dest, first, said.version, Exact(dst), Exact(src))
 }
 
-// Lays the token of an Initial head behind its length.
+// Lays the token of an Initial header behind its length.
 #[inline(always)]
-fn lay_own_token(kind: HeadKind, dest: &mut [u8], at: usize, token: &[u8]) -> usize
+fn lay_own_token(kind: HeaderKind, dest: &mut [u8], at: usize, token: &[u8]) -> usize
     requires numeric { length token.now < 2 ^ 62 }
     requires room { at + token_size kind token.now ≤ length dest.old }
     ensures end { result ≡ at + token_size kind token.now }
@@ -163,7 +163,7 @@ fn lay_own_token(kind: HeadKind, dest: &mut [u8], at: usize, token: &[u8]) -> us
     ensures len { length dest.new ≡ length dest.old }
 {
     match kind {
-        HeadKind::Initial => lay_token::<false>(dest, at, token),
+        HeaderKind::Initial => lay_token::<false>(dest, at, token),
         _ => at,
     }
 }
@@ -185,10 +185,10 @@ fn lay_end(said: &SaidWords, dest: &mut [u8], at: usize) -> usize
     lay_low(dest, at, said.number, said.number_len as usize)
 }
 
-// Lays the head of a packet with a number and a length at the front.
+// Lays the header of a packet with a number and a length at the front.
 #[inline(always)]
 fn lay_numbered(
-    kind: HeadKind,
+    kind: HeaderKind,
     said: &SaidWords,
     dst: &[u8],
     src: &[u8],
@@ -213,10 +213,10 @@ fn lay_numbered(
     lay_end(said, dest, at)
 }
 
-// Writes a head of a kind, as `quic_wire_head_write_` does.
+// Writes a header of a kind, as `quic_wire_header_write_` does.
 #[inline(always)]
 fn write_as(
-    kind: HeadKind,
+    kind: HeaderKind,
     said: &SaidWords,
     dst: &[u8],
     src: &[u8],
@@ -256,16 +256,16 @@ fn write_as(
     }
 }
 
-/// Writes the head that the words say with the ids of the receiver and of the sender and the token, with no
+/// Writes the header that the words say with the ids of the receiver and of the sender and the token, with no
 /// protection on it, at the front of `dest` (RFC 9000, section 17), and answers how many bytes it has, at whose end
 /// the number stands. The length of an Initial, 0-RTT or Handshake packet is 0, until `quic_wire_set_len_`. What the
-/// kind lacks isn't looked at. What stood behind the head stays. It answers -4 where `dest` has fewer bytes; -1 just
-/// where they say no head that can be written: a kind above 5, an id of more than 20 bytes, a number of 2^62 or more
+/// kind lacks isn't looked at. What stood behind the header stays. It answers -4 where `dest` has fewer bytes; -1 just
+/// where they say no header that can be written: a kind above 5, an id of more than 20 bytes, a number of 2^62 or more
 /// or one that is written in no or more than four bytes, a length of other than 2 or 4 bytes, a token of 2^62 bytes,
-/// or version 0 in an Initial, 0-RTT, Handshake or Retry head, which would be a version negotiation (RFC 9000, section
+/// or version 0 in an Initial, 0-RTT, Handshake or Retry header, which would be a version negotiation (RFC 9000, section
 /// 17.2.1). Nothing changes then. A version negotiation is written with any low bits of its first byte.
 #[unsafe(no_mangle)]
-pub extern "C" fn quic_wire_head_write_(
+pub extern "C" fn quic_wire_header_write_(
     said: &SaidWords,
     dst: &[u8],
     src: &[u8],
@@ -279,12 +279,12 @@ pub extern "C" fn quic_wire_head_write_(
     ensures same { (result ≡ negsuc 3) ⊎ (result ≡ negsuc 0) → dest.new ≡ dest.old }
 {
     match said.kind {
-        0 => write_as(HeadKind::Initial, said, dst, src, token, dest),
-        1 => write_as(HeadKind::ZeroRtt, said, dst, src, token, dest),
-        2 => write_as(HeadKind::Handshake, said, dst, src, token, dest),
-        3 => write_as(HeadKind::Retry, said, dst, src, token, dest),
-        4 => write_as(HeadKind::Short, said, dst, src, token, dest),
-        5 => write_as(HeadKind::VersionNegotiate, said, dst, src, token, dest),
+        0 => write_as(HeaderKind::Initial, said, dst, src, token, dest),
+        1 => write_as(HeaderKind::ZeroRtt, said, dst, src, token, dest),
+        2 => write_as(HeaderKind::Handshake, said, dst, src, token, dest),
+        3 => write_as(HeaderKind::Retry, said, dst, src, token, dest),
+        4 => write_as(HeaderKind::Short, said, dst, src, token, dest),
+        5 => write_as(HeaderKind::VersionNegotiate, said, dst, src, token, dest),
         _ => -1,
     }
 }

@@ -3,5 +3,5 @@ mod Sums
 mod Reread
 mod Again
 mod Counts
-mod HeadsBack
+mod HeadersBack
 mod Values

@@ -4,7 +4,7 @@
 pub mod acks;
 pub mod client;
 pub mod frames;
-pub mod heads;
+pub mod headers;
 pub mod lists;
 pub mod params;
 pub mod payloads;

@@ -10,7 +10,7 @@ ghost use Rattle.quic_frames.specs.declared.frame.Frame.TheVariants as frames;
 
 use quic_base::coding::NoRoom;
 use quic_frames::frame::{Frame, FrameType, Iter, Stream, StreamMeta};
-use quic_frames::laws::{lasting, stream_head_and_data};
+use quic_frames::laws::{lasting, stream_header_and_data};
 use quic_frames::transport_error::Error;
 
 /// How many bytes of stream data a payload has, up to its error, and the type of what is no frame.
@@ -77,7 +77,7 @@ fn is_final(reason: &str) -> bool
     reason != "unexpected end"
 }
 
-/// Appends a STREAM as a sender of data does: its head, and then the data. That is its shortest encoding, as the last
+/// Appends a STREAM as a sender of data does: its header, and then the data. That is its shortest encoding, as the last
 /// frame of its payload or as one that others follow. The caller must ensure that its offset is below 2^62, and the
 /// length of its data where that is written.
 pub fn write_stream(stream: &Stream<'_>, last: bool, out: &mut Vec<u8>) -> Result<(), NoRoom>
@@ -85,7 +85,7 @@ pub fn write_stream(stream: &Stream<'_>, last: bool, out: &mut Vec<u8>) -> Resul
     requires counted { last ≡ false → length stream.now.bytes.now < 2 ^ 62 }
     ensures { OnOk result (out.new.items ≡ out.old.items ++ shortest_frame last (meaning_of (frames.Stream stream.now))) }
 {
-    stream_head_and_data();
+    stream_header_and_data();
     let end = stream.offset + stream.bytes.len() as u64;
     let meta = StreamMeta {
         id: stream.id,

@@ -7,21 +7,21 @@ ghost use Rattle.quic_crypto.specs.Keys.{HasSample, Protects, Unprotects, payloa
 use bytes::BytesMut;
 use thiserror::Error;
 
-/// A payload does not belong to the number, the head and the key that are to open it.
+/// A payload does not belong to the number, the header and the key that are to open it.
 #[derive(Clone, Copy, Debug, PartialEq, Eq, Error)]
 #[error("payload does not belong to the packet's number, head and key")]
 pub struct CryptoError;
 
-/// A key that hides the low bits of a head's first byte, and the packet number (RFC 9001, section 5.4). What
+/// A key that hides the low bits of a header's first byte, and the packet number (RFC 9001, section 5.4). What
 /// its calls do is a function of the key, the number's place and the packet.
 pub trait HeaderKey {
     // How many bytes are sampled.
     ghost sample_len: { Self → ℕ };
 
-    // The packet with its head protected, whose number begins at a place.
+    // The packet with its header protected, whose number begins at a place.
     ghost protected: { Self → ℕ → List ℕ → List ℕ };
 
-    // The packet with its head's protection taken off.
+    // The packet with its header's protection taken off.
     ghost unprotected: { Self → ℕ → List ℕ → List ℕ };
 
     /// How many bytes are sampled. They begin four bytes behind the place where the packet number begins,
@@ -29,13 +29,13 @@ pub trait HeaderKey {
     fn sample_size(&self) -> usize
         ensures { result ≡ sample_len self.now };
 
-    /// Protects the head of a packet whose number begins at `pn_offset`. The caller must ensure that this is behind
+    /// Protects the header of a packet whose number begins at `pn_offset`. The caller must ensure that this is behind
     /// the first byte, and that the packet has four bytes and the sample from there on.
     fn encrypt(&self, pn_offset: usize, packet: &mut [u8])
         requires { HasSample (sample_len self.now) pn_offset packet.old }
         ensures { packet.new ≡ protected self.now pn_offset packet.old };
 
-    /// Takes off the protection of the head of a packet whose number begins at `pn_offset`. The caller must meet
+    /// Takes off the protection of the header of a packet whose number begins at `pn_offset`. The caller must meet
     /// what `encrypt` asks for.
     fn decrypt(&self, pn_offset: usize, packet: &mut [u8])
         requires { HasSample (sample_len self.now) pn_offset packet.old }
@@ -55,31 +55,31 @@ pub trait HeaderKey {
 }
 
 /// A key that seals the payloads of packets (RFC 9001, section 5.3). What its calls do is a function of the key,
-/// the packet's number, its head and the payload.
+/// the packet's number, its header and the payload.
 pub trait PacketKey {
     // How many bytes longer a sealed payload is.
     ghost tag_size: { Self → ℕ };
 
-    // The sealed payload of a packet number, a head and a payload.
+    // The sealed payload of a packet number, a header and a payload.
     ghost sealed: { Self → ℕ → List ℕ → List ℕ → List ℕ };
 
-    // The payload of a packet number, a head and a sealed payload, where they belong together.
+    // The payload of a packet number, a header and a sealed payload, where they belong together.
     ghost opened: { Self → ℕ → List ℕ → List ℕ → Option (List ℕ) };
 
     /// How many bytes longer a sealed payload is.
     fn tag_len(&self) -> usize
         ensures { result ≡ tag_size self.now };
 
-    /// Seals the payload of a packet, which is what stands behind the head's `header_len` bytes but for the
-    /// last bytes, as many as the tag has: these are room. The caller must ensure that the packet has the head and
-    /// that room. The head stays.
+    /// Seals the payload of a packet, which is what stands behind the header's `header_len` bytes but for the
+    /// last bytes, as many as the tag has: these are room. The caller must ensure that the packet has the header and
+    /// that room. The header stays.
     fn encrypt(&self, number: u64, packet: &mut [u8], header_len: usize)
         requires { header_len + tag_size self.now ≤ length packet.old }
         ensures { packet.new ≡ take header_len packet.old
             ++ sealed self.now number (take header_len packet.old) (payload_in header_len (tag_size self.now) packet.old) };
 
     /// Opens a sealed payload, which becomes the payload. Answers `CryptoError` exactly where it is none of
-    /// this number, head and key; then the payload's bytes are open.
+    /// this number, header and key; then the payload's bytes are open.
     fn decrypt(&self, number: u64, header: &[u8], payload: &mut BytesMut) -> Result<(), CryptoError>
         ensures { MatchResult result
             (λ _. opened self.now number header.now payload.old.items ≡ Some payload.new.items)
@@ -89,7 +89,7 @@ pub trait PacketKey {
     ghost sealed_len: { (k : Self) (number : ℕ) (header payload : List ℕ) → number < 2 ^ 64 → AreBytes header → AreBytes payload
         → length (sealed k number header payload) ≡ length payload + tag_size k };
 
-    // What was sealed with a number and a head opens with them.
+    // What was sealed with a number and a header opens with them.
     ghost opens: { (k : Self) (number : ℕ) (header payload : List ℕ) → number < 2 ^ 64 → AreBytes header → AreBytes payload
         → opened k number header (sealed k number header payload) ≡ Some payload };
 }

@@ -100,14 +100,14 @@ impl PacketNumber {
         })
     }
 
-    /// How many bytes the number takes, by the lowest two bits of a head's first byte: one more than these say.
+    /// How many bytes the number takes, by the lowest two bits of a header's first byte: one more than these say.
     pub fn decode_len(tag: u8) -> usize
         ensures { result ≡ tag % 4 + 1 }
     {
         usize::from(tag % 4) + 1
     }
 
-    /// The lowest two bits of a head's first byte, which say how many bytes the number takes: one less than that.
+    /// The lowest two bits of a header's first byte, which say how many bytes the number takes: one less than that.
     pub fn tag(self) -> u8
         ensures { result + 1 ≡ number_size self }
     {

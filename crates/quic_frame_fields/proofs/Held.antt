@@ -9,7 +9,7 @@ use Rattle.quic_frame_fields.specs.declared.frame.ack.EcnCounts.{EcnCounts}
 use Rattle.quic_frame_fields.specs.Acks.{ranges_acked}
 use Rattle.quic_frame_fields.specs.Field.{AreBelow, AreBlocks}
 use Rattle.quic_frame_fields.specs.Parts.{ack_meaning}
-use Rattle.quic_frame_fields.specs.Sets.{IsAckInRange, ack_type, count_numbers, head_numbers}
+use Rattle.quic_frame_fields.specs.Sets.{IsAckInRange, ack_type, count_numbers, header_numbers}
 use Rattle.quic_frame_fields.specs.Shortest.{shortest_below, shortest_frame}
 use Rattle.quic_frame_fields.specs.Numbers.{AreNumeric, AreEncoded, all_short}
 use Rattle.quic_frame_fields.proofs.AckParts.{ack_parts, small_type}
@@ -50,8 +50,8 @@ pub record HeldParts (a : Ack) : Type 0 where
   pub numbers : List ℕ
   pub encoded : AreEncoded numbers a.additional.now
   pub many : length numbers / 2 ≡ length (ranges_acked a) - 1
-  pub numeric : AreNumeric (head_numbers a)
-  pub parts : (last : Bool) → shortest_frame last (ack_meaning a) ≡ all_short (head_numbers a) ++ (all_short numbers ++ all_short (count_numbers a.ecn))
+  pub numeric : AreNumeric (header_numbers a)
+  pub parts : (last : Bool) → shortest_frame last (ack_meaning a) ≡ all_short (header_numbers a) ++ (all_short numbers ++ all_short (count_numbers a.ecn))
 
 pub held_parts : (a : Ack) → AreBytes a.additional.now → IsAckInRange a → HeldParts a
 held_parts a fits q =
@@ -76,17 +76,17 @@ held_parts a fits q =
 pub held_many : (a : Ack) (h : HeldParts a) (encoded : List ℕ) (count : ℕ) → encoded ≡ a.additional.now → ((ns : List ℕ) → AreEncoded ns encoded → count ≡ length ns) → count / 2 ≡ length (ranges_acked a) - 1
 held_many a h encoded count is counted = ap (λ (n : ℕ). n / 2) (counted h.numbers (subst (AreEncoded h.numbers) (sym is) h.encoded)) ∙ h.many
 
--- the same of a head and counts that were computed
-pub held_whole : (a : Ack) (h : HeldParts a) (last : Bool) (head : List ℕ) (counts : Option EcnCounts) → head ≡ head_numbers a → counts ≡ a.ecn
+-- the same of a header and counts that were computed
+pub held_whole : (a : Ack) (h : HeldParts a) (last : Bool) (head : List ℕ) (counts : Option EcnCounts) → head ≡ header_numbers a → counts ≡ a.ecn
     → shortest_frame last (ack_meaning a) ≡ all_short head ++ (all_short h.numbers ++ all_short (count_numbers counts))
-held_whole a h last head counts head_is counts_are =
-    h.parts last ∙ ap (λ (l : List ℕ). all_short l ++ (all_short h.numbers ++ all_short (count_numbers a.ecn))) (sym head_is)
+held_whole a h last head counts header_is counts_are =
+    h.parts last ∙ ap (λ (l : List ℕ). all_short l ++ (all_short h.numbers ++ all_short (count_numbers a.ecn))) (sym header_is)
     ∙ ap (λ (k : Option EcnCounts). all_short head ++ (all_short h.numbers ++ all_short (count_numbers k))) (sym counts_are)
 
-pub held_length : (a : Ack) (h : HeldParts a) (last : Bool) (head : List ℕ) (counts : Option EcnCounts) (first second third : ℕ) → head ≡ head_numbers a → counts ≡ a.ecn → first ≡ length (all_short head)
+pub held_length : (a : Ack) (h : HeldParts a) (last : Bool) (head : List ℕ) (counts : Option EcnCounts) (first second third : ℕ) → head ≡ header_numbers a → counts ≡ a.ecn → first ≡ length (all_short head)
     → second ≡ length (all_short h.numbers) → third ≡ length (all_short (count_numbers counts)) → first + second + third ≡ length (shortest_frame last (ack_meaning a))
-held_length a h last head counts first second third head_is counts_are one two three =
-    let whole = ap length (held_whole a h last head counts head_is counts_are) in
+held_length a h last head counts first second third header_is counts_are one two three =
+    let whole = ap length (held_whole a h last head counts header_is counts_are) in
     let front = length-append (all_short head) (all_short h.numbers ++ all_short (count_numbers counts)) in
     let back = length-append (all_short h.numbers) (all_short (count_numbers counts)) in
     omega (arith, whole, front, back, one, two, three)

@@ -1,4 +1,4 @@
--- A STREAM as its head and its data.
+-- A STREAM as its header and its data.
 use Rattle.std.proofs.Common.{◌≡◌, ℕ, Bool, Option, true, false, List, [], ◌∷◌, ◌++◌, length, Some, None, ◌+◌, arith, refl, ap, ◌∙◌, eqb, append_assoc}
 use Rattle.std.specs.Prelude.{not, if◌then◌else◌}
 use Rattle.std.specs.Bool.{then_some}
@@ -8,10 +8,10 @@ use Rattle.quic_base.proofs.PublicLaws.{length-short}
 use Rattle.quic_frame_fields.specs.Field.{Number, Bytes}
 use Rattle.quic_frame_fields.specs.Table.{Stream}
 use Rattle.quic_frame_fields.specs.Parts.{frame_of, flag}
-use Rattle.quic_frame_fields.specs.Shortest.{shortest_frame, stream_head, written_offset}
+use Rattle.quic_frame_fields.specs.Shortest.{shortest_frame, stream_header, written_offset}
 
 by_cases : (b last fin : Bool) (id offset : ℕ) (bytes : List ℕ) → eqb offset 0 ≡ b
-    → stream_head id offset fin (if last then None else Some (length bytes)) ++ bytes
+    → stream_header id offset fin (if last then None else Some (length bytes)) ++ bytes
     ≡ shortest_frame last (frame_of Stream (flag fin ∷ Number id ∷ Number offset ∷ Bytes bytes ∷ []))
 unfolding shortest_frame
 by_cases true true true id offset bytes e = rw e (simp (append_assoc, append-nil))
@@ -24,15 +24,15 @@ by_cases false false true id offset bytes e = rw e (simp (append_assoc, append-n
 by_cases false false false id offset bytes e = rw e (simp (append_assoc, append-nil))
 
 pub stream_parts : (last fin : Bool) (id offset : ℕ) (bytes : List ℕ)
-    → stream_head id offset fin (if last then None else Some (length bytes)) ++ bytes
+    → stream_header id offset fin (if last then None else Some (length bytes)) ++ bytes
     ≡ shortest_frame last (frame_of Stream (flag fin ∷ Number id ∷ Number offset ∷ Bytes bytes ∷ []))
 stream_parts last fin id offset bytes = by_cases (eqb offset 0) last fin id offset bytes refl
 
 -- the same, with the length as code has it
 pub stream_parts_as : (last fin : Bool) (id offset : ℕ) (bytes : List ℕ) (counted : Option ℕ) → counted ≡ then_some (not last) (length bytes)
-    → stream_head id offset fin counted ++ bytes ≡ shortest_frame last (frame_of Stream (flag fin ∷ Number id ∷ Number offset ∷ Bytes bytes ∷ []))
-stream_parts_as true fin id offset bytes counted e = ap (λ (n : Option ℕ). stream_head id offset fin n ++ bytes) e ∙ stream_parts true fin id offset bytes
-stream_parts_as false fin id offset bytes counted e = ap (λ (n : Option ℕ). stream_head id offset fin n ++ bytes) e ∙ stream_parts false fin id offset bytes
+    → stream_header id offset fin counted ++ bytes ≡ shortest_frame last (frame_of Stream (flag fin ∷ Number id ∷ Number offset ∷ Bytes bytes ∷ []))
+stream_parts_as true fin id offset bytes counted e = ap (λ (n : Option ℕ). stream_header id offset fin n ++ bytes) e ∙ stream_parts true fin id offset bytes
+stream_parts_as false fin id offset bytes counted e = ap (λ (n : Option ℕ). stream_header id offset fin n ++ bytes) e ∙ stream_parts false fin id offset bytes
 
 -- ---- how many bytes they take
 
@@ -63,7 +63,7 @@ stream_length true fin id offset bytes =
     omega (
       arith,
       ap length (stream_parts true fin id offset bytes),
-      length-append (stream_head id offset fin None) bytes,
+      length-append (stream_header id offset fin None) bytes,
       length-append (short t) (short id ++ back),
       length-append (short id) back,
       length-short t,
@@ -78,7 +78,7 @@ stream_length false fin id offset bytes =
     omega (
       arith,
       ap length (stream_parts false fin id offset bytes),
-      length-append (stream_head id offset fin (Some n)) bytes,
+      length-append (stream_header id offset fin (Some n)) bytes,
       length-append (short t) (short id ++ back),
       length-append (short id) back,
       length-append (written_offset offset) (short n),

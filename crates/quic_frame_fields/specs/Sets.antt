@@ -55,5 +55,5 @@ count_numbers None = []
 count_numbers (Some counts) = counts.ect0 ∷ counts.ect1 ∷ counts.ce ∷ []
 
 -- the numbers in front of the blocks of an ACK that is held, its type first
-abbrev pub head_numbers : held.Ack → List ℕ
-head_numbers a = ack_type a.ecn ∷ a.largest ∷ a.delay ∷ (length (ranges_acked a) - 1) ∷ []
+abbrev pub header_numbers : held.Ack → List ℕ
+header_numbers a = ack_type a.ecn ∷ a.largest ∷ a.delay ∷ (length (ranges_acked a) - 1) ∷ []

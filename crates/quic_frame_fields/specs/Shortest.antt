@@ -62,9 +62,9 @@ written_offset offset = if offset == 0 then [] else short offset
 
 -- the bytes of a STREAM before its data: its type, its id, its offset where that isn't 0, and the length of the data
 -- where it is written
-abbrev pub stream_head : ℕ → ℕ → Bool → Option ℕ → List ℕ
-stream_head id offset fin None = short (named_type Stream (flag fin ∷ Number id ∷ Number offset ∷ [])) ++ (short id ++ written_offset offset)
-stream_head id offset fin (Some n) = short (named_type Stream (flag fin ∷ Number id ∷ Number offset ∷ []) + 2) ++ (short id ++ (written_offset offset ++ short n))
+abbrev pub stream_header : ℕ → ℕ → Bool → Option ℕ → List ℕ
+stream_header id offset fin None = short (named_type Stream (flag fin ∷ Number id ∷ Number offset ∷ [])) ++ (short id ++ written_offset offset)
+stream_header id offset fin (Some n) = short (named_type Stream (flag fin ∷ Number id ∷ Number offset ∷ []) + 2) ++ (short id ++ (written_offset offset ++ short n))
 
 -- ---- closes that are cut to their room
 

@@ -16,7 +16,7 @@ ghost use Rattle.quic_errors.specs.Codes.{long_type_reason};
 ghost use Rattle.quic_frames.specs.Placed.{Placed, ArePlaced, IsPlacedBroken, whole};
 ghost use Rattle.quic_frames.specs.Walk.{given, left, resumed, unplaced};
 ghost use Rattle.quic_frame_fields.specs.Sets.{ranges_in, greatest_in, is_in, ack_of};
-ghost use Rattle.quic_frame_fields.specs.Shortest.{shortest_frame, stream_head};
+ghost use Rattle.quic_frame_fields.specs.Shortest.{shortest_frame, stream_header};
 ghost use Rattle.quic_frame_fields.specs.declared.frame.Stream.{Stream};
 ghost use Rattle.quic_frame_fields.specs.Table.{is_open};
 ghost use Rattle.quic_frames.specs.declared.frame.Frame.{Frame};
@@ -156,11 +156,11 @@ pub fn read_back()
         → IsFrame false (found_as t frame) bytes → (is_open t ≡ true → last ≡ true) → CanStand last frame }
 {}
 
-/// The head that `StreamMeta::encode` appends, and then the data, are the shortest encoding of the STREAM: of the
+/// The header that `StreamMeta::encode` appends, and then the data, are the shortest encoding of the STREAM: of the
 /// last frame of its payload where the length of the data isn't written, else of a frame that others follow.
-pub fn stream_head_and_data()
+pub fn stream_header_and_data()
     ensures { (last : Bool) (s : Stream)
-        → stream_head s.id s.offset s.fin (if last then None else Some (length s.bytes.now)) ++ s.bytes.now
+        → stream_header s.id s.offset s.fin (if last then None else Some (length s.bytes.now)) ++ s.bytes.now
         ≡ shortest_frame last (meaning_of (frames.Stream s)) }
 {}
 

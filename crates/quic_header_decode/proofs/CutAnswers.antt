@@ -6,32 +6,32 @@ use Rattle.std.proofs.lemmas.Bool.{cases_lt}
 use Rattle.quic_base.specs.Number.{AreBytes}
 use Rattle.quic_header_decode.specs.declared.protected.ProtectedHeader.{ProtectedHeader}
 use Rattle.quic_header_decode.specs.Refusal.{Refusal, Invalid, Answers}
-use Rattle.quic_header_decode.specs.Grammar.{Head, HeadAnswer, Cut, Uncut, no_head, past_end, CutAnswer}
-use Rattle.quic_header_decode.specs.Reading.{Context, head_at, cut_at, len_in}
-use Rattle.quic_header_decode.proofs.Heads.{head_found, head_again, refused_found, refused_again, head_strict}
+use Rattle.quic_header_decode.specs.Grammar.{HeaderAt, HeaderAnswer, Cut, Uncut, no_header, past_end, CutAnswer}
+use Rattle.quic_header_decode.specs.Reading.{Context, header_at, cut_at, len_in}
+use Rattle.quic_header_decode.proofs.Headers.{header_found, header_again, refused_found, refused_again, header_strict}
 use Rattle.quic_header_decode.proofs.Steps.{then_ok, then_err, otherwise, taken}
 
 -- what a parser takes is there
 abbrev pub Takes : Context → Type 0
 Takes context = (text : List ℕ) (id : List ℕ) (n : ℕ) → context.parsed text ≡ Ok (id, n) → n ≤ length text
 
-head_of : (context : Context) (whole : ℕ) (bytes : List ℕ) → AreBytes bytes → length bytes ≤ whole → Takes context
-    → (read : Result (ProtectedHeader × List ℕ) Refusal) → head_at context whole bytes ≡ read → HeadAnswer context whole bytes read
-head_of context whole bytes fits room takes (Ok found) e = head_found context whole bytes found.1 found.0 fits room takes e
-head_of context whole bytes fits room takes (Err r) e = refused_found context whole bytes r fits takes e
+header_of : (context : Context) (whole : ℕ) (bytes : List ℕ) → AreBytes bytes → length bytes ≤ whole → Takes context
+    → (read : Result (ProtectedHeader × List ℕ) Refusal) → header_at context whole bytes ≡ read → HeaderAnswer context whole bytes read
+header_of context whole bytes fits room takes (Ok found) e = header_found context whole bytes found.1 found.0 fits room takes e
+header_of context whole bytes fits room takes (Err r) e = refused_found context whole bytes r fits takes e
 
-pub head_answer : (context : Context) (whole : ℕ) (bytes : List ℕ) → AreBytes bytes → length bytes ≤ whole → Takes context → HeadAnswer context whole bytes (head_at context whole bytes)
-head_answer context whole bytes fits room takes = head_of context whole bytes fits room takes (head_at context whole bytes) refl
+pub header_answer : (context : Context) (whole : ℕ) (bytes : List ℕ) → AreBytes bytes → length bytes ≤ whole → Takes context → HeaderAnswer context whole bytes (header_at context whole bytes)
+header_answer context whole bytes fits room takes = header_of context whole bytes fits room takes (header_at context whole bytes) refl
 
-pub head_sole : (context : Context) (whole : ℕ) (bytes : List ℕ) (answer : Result (ProtectedHeader × List ℕ) Refusal) → AreBytes bytes → HeadAnswer context whole bytes answer → head_at context whole bytes ≡ answer
-head_sole context whole bytes (Ok found) fits h = head_again context whole bytes found.0 found.1 h
-head_sole context whole bytes (Err e) fits h = refused_again context whole bytes e fits h
+pub header_sole : (context : Context) (whole : ℕ) (bytes : List ℕ) (answer : Result (ProtectedHeader × List ℕ) Refusal) → AreBytes bytes → HeaderAnswer context whole bytes answer → header_at context whole bytes ≡ answer
+header_sole context whole bytes (Ok found) fits h = header_again context whole bytes found.0 found.1 h
+header_sole context whole bytes (Err e) fits h = refused_again context whole bytes e fits h
 
 -- ---- cuts
 
 -- what is left is a part of the bytes
-pub head_room : (context : Context) (whole : ℕ) (bytes : List ℕ) (h : ProtectedHeader) (rest : List ℕ) → Head context whole bytes h rest → length rest ≤ length bytes
-head_room context whole bytes h rest d = omega (arith, head_strict context whole bytes h rest d)
+pub header_room : (context : Context) (whole : ℕ) (bytes : List ℕ) (h : ProtectedHeader) (rest : List ℕ) → HeaderAt context whole bytes h rest → length rest ≤ length bytes
+header_room context whole bytes h rest d = omega (arith, header_strict context whole bytes h rest d)
 
 end_positive : (o : Option ℕ) (p q whole : ℕ) → 0 < p → p ≤ whole → MatchOption o (q ≡ whole) (λ len. q ≡ p + len) → 0 < q
 end_positive None p q whole some room ends = omega arith
@@ -40,13 +40,13 @@ end_positive (Some len) p q whole some room ends = omega arith
 -- a packet takes a byte
 pub cut_positive : (context : Context) (bytes : List ℕ) (h : ProtectedHeader) (p q : ℕ) → Cut context bytes h p q → 0 < q
 cut_positive context bytes h p q cut =
-    let strict = head_strict context (length bytes) bytes h cut.0 cut.1 in
+    let strict = header_strict context (length bytes) bytes h cut.0 cut.1 in
     end_positive (len_in h) p q (length bytes) (omega (arith, strict, cut.2)) (omega (arith, cut.2)) cut.3
 
 abbrev too_short : Refusal
 too_short = Invalid (codes "packet too short to contain payload length")
 
--- what a head's length makes of the bytes behind it
+-- what a header's length makes of the bytes behind it
 abbrev cut_behind : ProtectedHeader → Option ℕ → ℕ → ℕ → Result (ProtectedHeader × ℕ × ℕ) Refusal
 cut_behind h o whole left =
     cond (nat_lt left (unwrap_or o left)) (Err too_short) (Ok (h, whole - left, whole - left + unwrap_or o left))
@@ -73,27 +73,27 @@ behind_past h (Some n) whole left len is past =
 pub cut_again : (context : Context) (bytes : List ℕ) (h : ProtectedHeader) (p q : ℕ) → Cut context bytes h p q → cut_at context bytes ≡ Ok (h, p, q)
 unfolding cut_at
 cut_again context bytes h p q cut =
-    then_ok _ _ (h, cut.0) _ (head_again context (length bytes) bytes h cut.0 cut.1) (behind_again h (len_in h) (length bytes) (length cut.0) p q cut.2 cut.3 cut.4)
+    then_ok _ _ (h, cut.0) _ (header_again context (length bytes) bytes h cut.0 cut.1) (behind_again h (len_in h) (length bytes) (length cut.0) p q cut.2 cut.3 cut.4)
 
 pub uncut_again : (context : Context) (bytes : List ℕ) (e : Refusal) → AreBytes bytes → Uncut context bytes e → cut_at context bytes ≡ Err e
 unfolding cut_at
-uncut_again context bytes _ fits (no_head e refused) = then_err _ _ e (refused_again context (length bytes) bytes e fits refused)
+uncut_again context bytes _ fits (no_header e refused) = then_err _ _ e (refused_again context (length bytes) bytes e fits refused)
 uncut_again context bytes e fits (past_end h rest len found is past) =
-    then_ok _ _ (h, rest) _ (head_again context (length bytes) bytes h rest found) (behind_past h (len_in h) (length bytes) (length rest) len is past)
+    then_ok _ _ (h, rest) _ (header_again context (length bytes) bytes h rest found) (behind_past h (len_in h) (length bytes) (length rest) len is past)
 
 pub cut_sole : (context : Context) (bytes : List ℕ) (answer : Result (ProtectedHeader × ℕ × ℕ) Refusal) → AreBytes bytes → CutAnswer context bytes answer → cut_at context bytes ≡ answer
 cut_sole context bytes (Ok cut) fits h = cut_again context bytes cut.0 cut.1 cut.2 h
 cut_sole context bytes (Err e) fits h = uncut_again context bytes e fits h
 
-behind_found : (context : Context) (bytes : List ℕ) (h : ProtectedHeader) (rest : List ℕ) → Head context (length bytes) bytes h rest → (o : Option ℕ) → len_in h ≡ o
+behind_found : (context : Context) (bytes : List ℕ) (h : ProtectedHeader) (rest : List ℕ) → HeaderAt context (length bytes) bytes h rest → (o : Option ℕ) → len_in h ≡ o
     → CutAnswer context bytes (cut_behind h o (length bytes) (length rest))
 behind_found context bytes h rest found None is =
-    let room : length rest ≤ length bytes = head_room context (length bytes) bytes h rest found in
+    let room : length rest ≤ length bytes = header_room context (length bytes) bytes h rest found in
     let cut : Cut context bytes h (length bytes - length rest) (length bytes) =
     (rest, found, omega arith, subst (λ (o : Option ℕ). MatchOption o (length bytes ≡ length bytes) (λ len. length bytes ≡ length bytes - length rest + len)) (sym is) refl, omega arith) in
     subst (CutAnswer context bytes) (sym (behind_again h None (length bytes) (length rest) (length bytes - length rest) (length bytes) (omega arith) refl (omega arith))) cut
 behind_found context bytes h rest found (Some len) is =
-    let room : length rest ≤ length bytes = head_room context (length bytes) bytes h rest found in
+    let room : length rest ≤ length bytes = header_room context (length bytes) bytes h rest found in
     elim (cases_lt (length rest) len) [
       | inl past ↦ subst (CutAnswer context bytes) (sym (behind_past h (Some len) (length bytes) (length rest) len refl past)) (past_end h rest len found is past)
       | inr within ↦
@@ -104,24 +104,24 @@ behind_found context bytes h rest found (Some len) is =
     ]
 
 cut_of : (context : Context) (bytes : List ℕ) → AreBytes bytes → Takes context
-    → (read : Result (ProtectedHeader × List ℕ) Refusal) → head_at context (length bytes) bytes ≡ read → CutAnswer context bytes (cut_at context bytes)
+    → (read : Result (ProtectedHeader × List ℕ) Refusal) → header_at context (length bytes) bytes ≡ read → CutAnswer context bytes (cut_at context bytes)
 unfolding cut_at
 cut_of context bytes fits takes (Ok found) e =
     subst (CutAnswer context bytes) (sym (then_ok _ _ found _ e refl))
-    (behind_found context bytes found.0 found.1 (head_found context (length bytes) bytes found.1 found.0 fits (omega arith) takes e) (len_in found.0) refl)
+    (behind_found context bytes found.0 found.1 (header_found context (length bytes) bytes found.1 found.0 fits (omega arith) takes e) (len_in found.0) refl)
 cut_of context bytes fits takes (Err r) e =
-    subst (CutAnswer context bytes) (sym (then_err _ _ r e)) (no_head r (refused_found context (length bytes) bytes r fits takes e))
+    subst (CutAnswer context bytes) (sym (then_err _ _ r e)) (no_header r (refused_found context (length bytes) bytes r fits takes e))
 
 pub cut_answer : (context : Context) (bytes : List ℕ) → AreBytes bytes → Takes context → CutAnswer context bytes (cut_at context bytes)
-cut_answer context bytes fits takes = cut_of context bytes fits takes (head_at context (length bytes) bytes) refl
+cut_answer context bytes fits takes = cut_of context bytes fits takes (header_at context (length bytes) bytes) refl
 
 -- ---- what calls answer
 
-pub head_answers : (context : Context) (whole : ℕ) (bytes : List ℕ) (IsGiven : Result (ProtectedHeader × List ℕ) Refusal → Type 0)
-    → AreBytes bytes → length bytes ≤ whole → Takes context → IsGiven (head_at context whole bytes) → Answers (HeadAnswer context whole bytes) IsGiven
-head_answers context whole bytes IsGiven fits room takes given = record {
-  some = (head_at context whole bytes, head_answer context whole bytes fits room takes, given);
-  each = λ answer right. subst IsGiven (head_sole context whole bytes answer fits right) given;
+pub header_answers : (context : Context) (whole : ℕ) (bytes : List ℕ) (IsGiven : Result (ProtectedHeader × List ℕ) Refusal → Type 0)
+    → AreBytes bytes → length bytes ≤ whole → Takes context → IsGiven (header_at context whole bytes) → Answers (HeaderAnswer context whole bytes) IsGiven
+header_answers context whole bytes IsGiven fits room takes given = record {
+  some = (header_at context whole bytes, header_answer context whole bytes fits room takes, given);
+  each = λ answer right. subst IsGiven (header_sole context whole bytes answer fits right) given;
 }
 
 pub cut_answers : (context : Context) (bytes : List ℕ) (IsGiven : Result (ProtectedHeader × ℕ × ℕ) Refusal → Type 0)

@@ -1,20 +1,20 @@
--- Where the packet ends whose head was read as places.
+-- Where the packet ends whose header was read as places.
 use Rattle.std.specs.Prelude.{◌≡◌, ℕ, ◌+◌, ◌<◌, ◌≤◌, List, length, drop, Option, None, Some, MatchOption, nat_lt, codes}
 use Rattle.std.proofs.Common.{sym, arith, refl, cond, inl, inr, length-drop}
 use Rattle.std.proofs.lemmas.Bool.Decides.{nat_tests}
-use Rattle.quic_header_encode.specs.declared.long_type.HeadKind.{HeadKind}
-use Rattle.quic_header_encode.specs.declared.long_type.HeadKind.TheVariants as kind
+use Rattle.quic_header_encode.specs.declared.long_type.HeaderKind.{HeaderKind}
+use Rattle.quic_header_encode.specs.declared.long_type.HeaderKind.TheVariants as kind
 use Rattle.quic_header_encode.specs.Laying.{says_length}
 use Rattle.quic_header_decode.specs.declared.fields.Place.{Place}
-use Rattle.quic_header_decode.specs.declared.places.HeadPlaces.{HeadPlaces}
-use Rattle.quic_header_decode.specs.Grammar.{Cut, Head, Uncut, past_end}
-use Rattle.quic_header_decode.specs.Places.{ends_at, head_by, said_in}
+use Rattle.quic_header_decode.specs.declared.places.HeaderPlaces.{HeaderPlaces}
+use Rattle.quic_header_decode.specs.Grammar.{Cut, HeaderAt, Uncut, past_end}
+use Rattle.quic_header_decode.specs.Places.{ends_at, header_by, said_in}
 use Rattle.quic_header_decode.specs.Reading.{Context, len_in}
 use Rattle.quic_header_decode.specs.Refusal.{Invalid}
 use Rattle.quic_header_decode.proofs.Steps.{chosen, none_some, some_same}
 
 -- where a packet ends by its kind
-abbrev End : HeadKind → ℕ → ℕ → ℕ → Option ℕ
+abbrev End : HeaderKind → ℕ → ℕ → ℕ → Option ℕ
 End k at len whole = cond (says_length k) (cond (nat_lt whole (at + len)) None (Some (at + len))) (Some whole)
 
 said : (at len whole q : ℕ) → cond (nat_lt whole (at + len)) None (Some (at + len)) ≡ Some q → (q ≡ at + len) × (q ≤ whole)
@@ -32,8 +32,8 @@ lacking at len whole e = elim (chosen {A = Option ℕ} (nat_lt whole (at + len))
   | inr within ↦ absurd (none_some (at + len) (sym within.1))
 ]
 
-ended : (k : HeadKind) (first : ℕ) (dst src : List ℕ) (token : Place) (at len version whole q : ℕ) → End k at len whole ≡ Some q
-    → MatchOption (len_in (head_by k first dst src token len version)) (q ≡ whole) (λ n. q ≡ at + n) × (q ≤ whole)
+ended : (k : HeaderKind) (first : ℕ) (dst src : List ℕ) (token : Place) (at len version whole q : ℕ) → End k at len whole ≡ Some q
+    → MatchOption (len_in (header_by k first dst src token len version)) (q ≡ whole) (λ n. q ≡ at + n) × (q ≤ whole)
 ended kind.Initial first dst src token at len version whole q e = said at len whole q e
 ended kind.ZeroRtt first dst src token at len version whole q e = said at len whole q e
 ended kind.Handshake first dst src token at len version whole q e = said at len whole q e
@@ -41,8 +41,8 @@ ended kind.Retry first dst src token at len version whole q e = (let same : whol
 ended kind.Short first dst src token at len version whole q e = (let same : whole ≡ q = some_same e in (sym same, omega arith))
 ended kind.VersionNegotiate first dst src token at len version whole q e = (let same : whole ≡ q = some_same e in (sym same, omega arith))
 
-cut_short : (k : HeadKind) (first : ℕ) (dst src : List ℕ) (token : Place) (at len version whole : ℕ) → End k at len whole ≡ None
-    → (len_in (head_by k first dst src token len version) ≡ Some len) × (whole < at + len)
+cut_short : (k : HeaderKind) (first : ℕ) (dst src : List ℕ) (token : Place) (at len version whole : ℕ) → End k at len whole ≡ None
+    → (len_in (header_by k first dst src token len version) ≡ Some len) × (whole < at + len)
 cut_short kind.Initial first dst src token at len version whole e = (refl, lacking at len whole e)
 cut_short kind.ZeroRtt first dst src token at len version whole e = (refl, lacking at len whole e)
 cut_short kind.Handshake first dst src token at len version whole e = (refl, lacking at len whole e)
@@ -50,14 +50,14 @@ cut_short kind.Retry first dst src token at len version whole e = absurd (none_s
 cut_short kind.Short first dst src token at len version whole e = absurd (none_some whole (sym e))
 cut_short kind.VersionNegotiate first dst src token at len version whole e = absurd (none_some whole (sym e))
 
-pub whole_cut : (context : Context) (bytes : List ℕ) (x : HeadPlaces) (q : ℕ) → Head context (length bytes) bytes (said_in bytes x) (drop x.head_end bytes)
-    → x.head_end ≤ length bytes → ends_at x (length bytes) ≡ Some q → Cut context bytes (said_in bytes x) x.head_end q
+pub whole_cut : (context : Context) (bytes : List ℕ) (x : HeaderPlaces) (q : ℕ) → HeaderAt context (length bytes) bytes (said_in bytes x) (drop x.header_end bytes)
+    → x.header_end ≤ length bytes → ends_at x (length bytes) ≡ Some q → Cut context bytes (said_in bytes x) x.header_end q
 whole_cut context bytes x q read within ends =
-    let e = ended x.kind x.first _ _ x.token x.head_end x.len x.version (length bytes) q ends in
-    (drop x.head_end bytes, read, omega (arith, length-drop x.head_end bytes), e.0, e.1)
+    let e = ended x.kind x.first _ _ x.token x.header_end x.len x.version (length bytes) q ends in
+    (drop x.header_end bytes, read, omega (arith, length-drop x.header_end bytes), e.0, e.1)
 
-pub cut_off : (context : Context) (bytes : List ℕ) (x : HeadPlaces) → Head context (length bytes) bytes (said_in bytes x) (drop x.head_end bytes)
-    → x.head_end ≤ length bytes → ends_at x (length bytes) ≡ None → Uncut context bytes (Invalid (codes "packet too short to contain payload length"))
+pub cut_off : (context : Context) (bytes : List ℕ) (x : HeaderPlaces) → HeaderAt context (length bytes) bytes (said_in bytes x) (drop x.header_end bytes)
+    → x.header_end ≤ length bytes → ends_at x (length bytes) ≡ None → Uncut context bytes (Invalid (codes "packet too short to contain payload length"))
 cut_off context bytes x read within ends =
-    let e = cut_short x.kind x.first _ _ x.token x.head_end x.len x.version (length bytes) ends in
-    past_end (said_in bytes x) (drop x.head_end bytes) x.len read e.0 (omega (arith, e.1, length-drop x.head_end bytes))
+    let e = cut_short x.kind x.first _ _ x.token x.header_end x.len x.version (length bytes) ends in
+    past_end (said_in bytes x) (drop x.header_end bytes) x.len read e.0 (omega (arith, e.1, length-drop x.header_end bytes))

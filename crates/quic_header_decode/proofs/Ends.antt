@@ -12,10 +12,10 @@ use Rattle.quic_header_encode.specs.declared.long_type.LongHeaderType.{LongHeade
 use Rattle.quic_header_encode.specs.declared.long_type.LongHeaderType.TheVariants as kind
 use Rattle.quic_header_encode.specs.Types.{long_type}
 use Rattle.quic_header_decode.specs.Refusal.{Refusal, Invalid, Unsupported, NoMemory}
-use Rattle.quic_header_decode.specs.Grammar.{is_long, Field, Supported, ShortId, Value, Number, Bytes, typed_row, row_behind_ids, row_of, Stops, AreFields, StopsWithin, IsHead, Refused, Cut}
+use Rattle.quic_header_decode.specs.Grammar.{is_long, Field, Supported, ShortId, Value, Number, Bytes, typed_row, row_behind_ids, row_of, Stops, AreFields, StopsWithin, IsHeader, Refused, Cut}
 use Rattle.quic_header_decode.specs.Reading.{Context, len_in, at_end, bad_id}
 use Rattle.quic_header_decode.proofs.Steps.{take_front, drop_front}
-use Rattle.quic_header_decode.proofs.Heads.{Ids, id_values, long_row, ids_of, of_ids, stops_behind_ids, version_is}
+use Rattle.quic_header_decode.proofs.Headers.{Ids, id_values, long_row, ids_of, of_ids, stops_behind_ids, version_is}
 
 -- bytes are replaced behind a front and so many others
 replaced : (front rest other bytes : List ℕ) (q len : ℕ) → bytes ≡ front ++ rest → q ≡ length front + len → take q bytes ++ other ≡ front ++ (take len rest ++ other)
@@ -26,10 +26,10 @@ replaced front rest other bytes q len split at =
     ap (λ (n : ℕ). take n bytes ++ other) at ∙ ap (λ (xs : List ℕ). take (length front + len) xs ++ other) split
     ∙ ap (λ (xs : List ℕ). xs ++ other) kept ∙ append_assoc front (take len rest) other
 
--- ---- heads that say their length
+-- ---- headers that say their length
 
--- values of other heads
-no_id : (whole first len : ℕ) (values : List Value) (id : List ℕ) (h : ProtectedHeader) → IsHead whole first values h → len_in h ≡ Some len → values ≡ Bytes id ∷ [] → ⊥
+-- values of other headers
+no_id : (whole first len : ℕ) (values : List Value) (id : List ℕ) (h : ProtectedHeader) → IsHeader whole first values h → len_in h ≡ Some len → values ≡ Bytes id ∷ [] → ⊥
 no_id whole first len values id (head.Short spin dst) is has said = cc
 no_id whole first len values id (head.VersionNegotiate random dst src) is has said = cc
 no_id whole first len values id (head.Retry dst src version) is has said = cc
@@ -37,7 +37,7 @@ no_id whole first len values id (head.Long ty dst src n version) (type, is) has 
 no_id whole first len values id (head.Initial h) (count, left, start, stop, is) has said =
     (let e : Bytes id ∷ [] ≡ Number h.version ∷ Bytes h.dst_cid ∷ Bytes h.src_cid ∷ Number count ∷ Number left ∷ Number h.len ∷ [] = sym said ∙ is in cc)
 
-no_ids : (whole first len version : ℕ) (dst src : List ℕ) (values : List Value) (h : ProtectedHeader) → IsHead whole first values h → len_in h ≡ Some len → values ≡ id_values version dst src → ⊥
+no_ids : (whole first len version : ℕ) (dst src : List ℕ) (values : List Value) (h : ProtectedHeader) → IsHeader whole first values h → len_in h ≡ Some len → values ≡ id_values version dst src → ⊥
 no_ids whole first len v d s values (head.Short spin dst) is has said = cc
 no_ids whole first len v d s values (head.VersionNegotiate random dst src) is has said = cc
 no_ids whole first len v d s values (head.Retry dst src version) is has said = cc
@@ -45,9 +45,9 @@ no_ids whole first len v d s values (head.Long ty dst src n version) (type, is) 
 no_ids whole first len v d s values (head.Initial h) (count, left, start, stop, is) has said =
     (let e : id_values v d s ≡ Number h.version ∷ Bytes h.dst_cid ∷ Bytes h.src_cid ∷ Number count ∷ Number left ∷ Number h.len ∷ [] = sym said ∙ is in cc)
 
--- a head without a token has no place
-kept : (whole whole' first v n len : ℕ) (d s : List ℕ) (values : List Value) (h : ProtectedHeader) → IsHead whole first values h → len_in h ≡ Some len
-    → values ≡ Number v ∷ Bytes d ∷ Bytes s ∷ Number n ∷ [] → IsHead whole' first values h
+-- a header without a token has no place
+kept : (whole whole' first v n len : ℕ) (d s : List ℕ) (values : List Value) (h : ProtectedHeader) → IsHeader whole first values h → len_in h ≡ Some len
+    → values ≡ Number v ∷ Bytes d ∷ Bytes s ∷ Number n ∷ [] → IsHeader whole' first values h
 kept whole whole' first v n len d s values (head.Short spin dst) is has said = absurd cc
 kept whole whole' first v n len d s values (head.VersionNegotiate random dst src) is has said = absurd cc
 kept whole whole' first v n len d s values (head.Retry dst src version) is has said = absurd cc
@@ -55,13 +55,13 @@ kept whole whole' first v n len d s values (head.Long ty dst src m version) is h
 kept whole whole' first v n len d s values (head.Initial h) (count, left, start, stop, is) has said =
     absurd (let e : Number v ∷ Bytes d ∷ Bytes s ∷ Number n ∷ [] ≡ Number h.version ∷ Bytes h.dst_cid ∷ Bytes h.src_cid ∷ Number count ∷ Number left ∷ Number h.len ∷ [] = sym said ∙ is in cc)
 
--- the values of a head with a token
+-- the values of a header with a token
 abbrev six : ℕ → List ℕ → List ℕ → ℕ → ℕ → ℕ → List Value
 six v d s count left n = Number v ∷ Bytes d ∷ Bytes s ∷ Number count ∷ Number left ∷ Number n ∷ []
 
 -- and where one has a token, its place goes by what follows it
-shifted : (whole whole' first v count left left' n len : ℕ) (d s : List ℕ) (values : List Value) (h : ProtectedHeader) → IsHead whole first values h → len_in h ≡ Some len
-    → values ≡ six v d s count left n → whole' + left ≡ whole + left' → IsHead whole' first (six v d s count left' n) h
+shifted : (whole whole' first v count left left' n len : ℕ) (d s : List ℕ) (values : List Value) (h : ProtectedHeader) → IsHeader whole first values h → len_in h ≡ Some len
+    → values ≡ six v d s count left n → whole' + left ≡ whole + left' → IsHeader whole' first (six v d s count left' n) h
 shifted whole whole' first v count left left' n len d s values (head.Short spin dst) is has said moved = absurd cc
 shifted whole whole' first v count left left' n len d s values (head.VersionNegotiate random dst src) is has said moved = absurd cc
 shifted whole whole' first v count left left' n len d s values (head.Retry dst src version) is has said moved = absurd cc
@@ -72,14 +72,14 @@ shifted whole whole' first v count left left' n len d s values (head.Initial h) 
     let same : left ≡ left0 = cc in
     (count0, left', start, omega (arith, stop, moved, same), (let all : six v d s count left' n ≡ six h.version h.dst_cid h.src_cid count0 left' h.len = cc in all))
 
--- The bytes are a front and then rest, and other bytes behind that front leave the head as it is.
+-- The bytes are a front and then rest, and other bytes behind that front leave the header as it is.
 record Moves (context : Context) (fields : List Field) (before : List Value) (whole first : ℕ) (bytes rest : List ℕ) (h : ProtectedHeader) : Type 0 where
   front : List ℕ
   split : bytes ≡ front ++ rest
   moved : (other : List ℕ) (whole' : ℕ) → whole' + length rest ≡ whole + length other
-      → (values : List Value) × AreFields context fields before values (front ++ other) other × IsHead whole' first values h
+      → (values : List Value) × AreFields context fields before values (front ++ other) other × IsHeader whole' first values h
 
-typed_moves : (context : Context) (whole first len version : ℕ) (dst src left rest : List ℕ) (values : List Value) (h : ProtectedHeader) → IsHead whole first values h → len_in h ≡ Some len
+typed_moves : (context : Context) (whole first len version : ℕ) (dst src left rest : List ℕ) (values : List Value) (h : ProtectedHeader) → IsHeader whole first values h → len_in h ≡ Some len
     → (ty : LongHeaderType) → AreFields context (typed_row ty) (id_values version dst src) values left rest → Moves context (typed_row ty) (id_values version dst src) whole first left rest h
 typed_moves context whole first len version dst src left rest values h is has kind.Retry (said, same) = absurd (no_ids whole first len version dst src values h is has said)
 typed_moves context whole first len version dst src left rest values h is has (kind.Standard ty) (v, back, (f, split, (n, is1, encoded)), (said, same)) =
@@ -118,7 +118,7 @@ typed_moves context whole first len version dst src left rest values h is has ki
       );
     }
 
-behind_moves : (context : Context) (whole first len version : ℕ) (dst src left rest : List ℕ) (values : List Value) (h : ProtectedHeader) → IsHead whole first values h → len_in h ≡ Some len
+behind_moves : (context : Context) (whole first len version : ℕ) (dst src left rest : List ℕ) (values : List Value) (h : ProtectedHeader) → IsHeader whole first values h → len_in h ≡ Some len
     → (none : Bool) (ty : LongHeaderType) → AreFields context (cond none [] (Supported version ∷ typed_row ty)) (id_values version dst src) values left rest
     → Moves context (cond none [] (Supported version ∷ typed_row ty)) (id_values version dst src) whole first left rest h
 behind_moves context whole first len version dst src left rest values h is has true ty (said, same) = absurd (no_ids whole first len version dst src values h is has said)
@@ -132,10 +132,10 @@ behind_moves context whole first len version dst src left rest values h is has f
       moved = λ other whole' sum. (let x = m.moved other whole' sum in (x.0, ([], m.front ++ other, ([], refl, (refl, refl, known)), x.1), x.2));
     }
 
-row_moves : (context : Context) (whole first len : ℕ) (text rest : List ℕ) (values : List Value) (h : ProtectedHeader) → IsHead whole first values h → len_in h ≡ Some len
+row_moves : (context : Context) (whole first len : ℕ) (text rest : List ℕ) (values : List Value) (h : ProtectedHeader) → IsHeader whole first values h → len_in h ≡ Some len
     → (long : Bool) → is_long first ≡ long → AreFields context (cond long (long_row (row_behind_ids first (num (take 4 text)))) (ShortId ∷ [])) [] values text rest
     → (front : List ℕ) × (text ≡ front ++ rest) × ((other : List ℕ) (whole' : ℕ) → whole' + length rest ≡ whole + length other
-    → (values : List Value) × AreFields context (row_of first (num (take 4 (front ++ other)))) [] values (front ++ other) other × IsHead whole' first values h)
+    → (values : List Value) × AreFields context (row_of first (num (take 4 (front ++ other)))) [] values (front ++ other) other × IsHeader whole' first values h)
 row_moves context whole first len text rest values h is has false short (v, back, (f, split, (id, is1, parsed)), (said, same)) = absurd (no_id whole first len values id h is has (said ∙ is1))
 row_moves context whole first len text rest values h is has true long d =
     let x = ids_of context (row_behind_ids first (num (take 4 text))) values text rest d in

@@ -1,4 +1,4 @@
--- The fields of a head: read as functions, and in the words of their encodings.
+-- The fields of a header: read as functions, and in the words of their encodings.
 use Rattle.std.specs.Prelude.{◌≡◌, ℕ, ◌+◌, ◌-◌, ◌<◌, ◌≤◌, ◌^◌, true, false, List, [], ◌∷◌, ◌++◌, length, take, drop, Option, Some, None, nat_lt, ◌||◌}
 use Rattle.std.proofs.Common.{sym, ap, subst, ◌∙◌, arith, refl, suc, inl, inr, length-append}
 use Rattle.std.proofs.lemmas.List.{take-append-drop, length-take}

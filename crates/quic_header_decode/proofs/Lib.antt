@@ -5,7 +5,7 @@ mod Ended
 mod Ends
 mod FieldLaws
 mod Finishes
-pub mod Heads
+pub mod Headers
 pub mod Made
 pub mod Rows
 mod Scans

@@ -1,4 +1,4 @@
--- Heads of parts that are put together.
+-- Headers of parts that are put together.
 use Rattle.std.specs.Prelude.{◌≡◌, ◌≢◌, ℕ, ◌+◌, ◌/◌, ◌%◌, ◌<◌, ◌≤◌, ◌^◌, Bool, true, false, List, [], ◌∷◌, ◌++◌, length, take, Ok, nat_eq}
 use Rattle.std.proofs.Common.{sym, ap, ◌∙◌, arith, refl, cond, subst, append_assoc}
 use Rattle.std.proofs.lemmas.Bool.Decides.{nat_tests}
@@ -14,12 +14,12 @@ use Rattle.quic_header_encode.specs.declared.long_type.LongHeaderType.TheVariant
 use Rattle.quic_header_encode.specs.declared.long_type.LongType.{LongType}
 use Rattle.quic_header_encode.specs.Starts.{long_front}
 use Rattle.quic_header_encode.specs.Types.{long_type}
-use Rattle.quic_header_decode.specs.Grammar.{has_bit, is_long, is_fixed, Field, Supported, ShortId, Value, Number, Bytes, typed_row, row_behind_ids, row_of, AreFields, IsHead, Head, IsKnown}
+use Rattle.quic_header_decode.specs.Grammar.{has_bit, is_long, is_fixed, Field, Supported, ShortId, Value, Number, Bytes, typed_row, row_behind_ids, row_of, AreFields, IsHeader, HeaderAt, IsKnown}
 use Rattle.quic_header_decode.specs.Reading.{Context}
 use Rattle.quic_header_decode.proofs.Rows.{or_right}
-use Rattle.quic_header_decode.proofs.Heads.{Ids, id_values, long_row, of_ids, version_is}
+use Rattle.quic_header_decode.proofs.Headers.{Ids, id_values, long_row, of_ids, version_is}
 
--- the bytes are a long head's first byte, version and ids, and rest
+-- the bytes are a long header's first byte, version and ids, and rest
 pub record LongStart (context : Context) (bytes : List ℕ) (first version : ℕ) (dst src rest : List ℕ) : Type 0 where
   pub long : 128 ≤ first
   pub fixed : is_fixed context first ≡ true
@@ -43,7 +43,7 @@ joined first version dst src rest =
 
 made : (context : Context) (whole : ℕ) (bytes : List ℕ) (first version : ℕ) (dst src left rest : List ℕ) (values : List Value) (h : ProtectedHeader)
     → LongStart context bytes first version dst src left → AreFields context (row_behind_ids first version) (id_values version dst src) values left rest
-    → IsHead whole first values h → Head context whole bytes h rest
+    → IsHeader whole first values h → HeaderAt context whole bytes h rest
 made context whole bytes first version dst src left rest values h start others is =
     let text : List ℕ = behind version dst src left in
     let ids : Ids text version dst src left =
@@ -70,27 +70,27 @@ typed context first version ty known is =
 
 typed_made : (context : Context) (whole : ℕ) (bytes : List ℕ) (first version : ℕ) (dst src left rest : List ℕ) (values : List Value) (h : ProtectedHeader) (ty : LongHeaderType)
     → LongStart context bytes first version dst src left → IsKnown context version → long_type version first ≡ ty
-    → AreFields context (typed_row ty) (id_values version dst src) values left rest → IsHead whole first values h → Head context whole bytes h rest
+    → AreFields context (typed_row ty) (id_values version dst src) values left rest → IsHeader whole first values h → HeaderAt context whole bytes h rest
 typed_made context whole bytes first version dst src left rest values h ty start known type others is =
     made context whole bytes first version dst src left rest values h start
     (subst (λ (fields : List Field). AreFields context fields (id_values version dst src) values left rest) (sym (typed context first version ty known type))
     ([], left, ([], refl, (refl, refl, known.1)), others))
     is
 
--- ---- each head
+-- ---- each header
 
-pub long_head : (context : Context) (whole : ℕ) (bytes : List ℕ) (first version : ℕ) (dst src text rest : List ℕ) (ty : LongType) (len : ℕ)
+pub long_header : (context : Context) (whole : ℕ) (bytes : List ℕ) (first version : ℕ) (dst src text rest : List ℕ) (ty : LongType) (len : ℕ)
     → LongStart context bytes first version dst src (text ++ rest) → IsKnown context version → long_type version first ≡ kind.Standard ty → Encodes len text
-    → Head context whole bytes (head.Long ty dst src len version) rest
-long_head context whole bytes first version dst src text rest ty len start known type encoded =
+    → HeaderAt context whole bytes (head.Long ty dst src len version) rest
+long_header context whole bytes first version dst src text rest ty len start known type encoded =
     typed_made context whole bytes first version dst src (text ++ rest) rest (Number version ∷ Bytes dst ∷ Bytes src ∷ Number len ∷ []) (head.Long ty dst src len version) (kind.Standard ty) start known type
     (Number len ∷ [], rest, (text, refl, (len, refl, encoded)), (refl, refl)) (type, refl)
 
-pub initial_head : (context : Context) (whole : ℕ) (bytes : List ℕ) (first : ℕ) (count token text rest : List ℕ) (h : ProtectedInitialHeader)
+pub initial_header : (context : Context) (whole : ℕ) (bytes : List ℕ) (first : ℕ) (count token text rest : List ℕ) (h : ProtectedInitialHeader)
     → LongStart context bytes first h.version h.dst_cid h.src_cid (count ++ (token ++ (text ++ rest))) → IsKnown context h.version → long_type h.version first ≡ kind.Initial
     → Encodes (length token) count → Encodes h.len text → h.token_pos.end + length (text ++ rest) ≡ whole → h.token_pos.start + length token ≡ h.token_pos.end
-    → Head context whole bytes (head.Initial h) rest
-initial_head context whole bytes first count token text rest h start known type counted encoded stop from =
+    → HeaderAt context whole bytes (head.Initial h) rest
+initial_header context whole bytes first count token text rest h start known type counted encoded stop from =
     let left : ℕ = length (text ++ rest) in
     typed_made context whole bytes first h.version h.dst_cid h.src_cid (count ++ (token ++ (text ++ rest))) rest
     (Number h.version ∷ Bytes h.dst_cid ∷ Bytes h.src_cid ∷ Number (length token) ∷ Number left ∷ Number h.len ∷ []) (head.Initial h) kind.Initial start known type (
@@ -100,19 +100,19 @@ initial_head context whole bytes first count token text rest h start known type 
       (Number left ∷ [], text ++ rest, (token, refl, (refl, refl)), (Number h.len ∷ [], rest, (text, refl, (h.len, refl, encoded)), (refl, refl))),
     ) (length token, left, from, stop, refl)
 
-pub retry_head : (context : Context) (whole : ℕ) (bytes : List ℕ) (first version : ℕ) (dst src rest : List ℕ)
-    → LongStart context bytes first version dst src rest → IsKnown context version → long_type version first ≡ kind.Retry → Head context whole bytes (head.Retry dst src version) rest
-retry_head context whole bytes first version dst src rest start known type =
+pub retry_header : (context : Context) (whole : ℕ) (bytes : List ℕ) (first version : ℕ) (dst src rest : List ℕ)
+    → LongStart context bytes first version dst src rest → IsKnown context version → long_type version first ≡ kind.Retry → HeaderAt context whole bytes (head.Retry dst src version) rest
+retry_header context whole bytes first version dst src rest start known type =
     typed_made context whole bytes first version dst src rest rest (id_values version dst src) (head.Retry dst src version) kind.Retry start known type (refl, refl) (known.0, type, refl)
 
-pub negotiation_head : (context : Context) (whole : ℕ) (bytes : List ℕ) (random : ℕ) (dst src rest : List ℕ)
-    → LongStart context bytes (128 + random) 0 dst src rest → Head context whole bytes (head.VersionNegotiate random dst src) rest
-negotiation_head context whole bytes random dst src rest start =
+pub negotiation_header : (context : Context) (whole : ℕ) (bytes : List ℕ) (random : ℕ) (dst src rest : List ℕ)
+    → LongStart context bytes (128 + random) 0 dst src rest → HeaderAt context whole bytes (head.VersionNegotiate random dst src) rest
+negotiation_header context whole bytes random dst src rest start =
     made context whole bytes (128 + random) 0 dst src rest rest (id_values 0 dst src) (head.VersionNegotiate random dst src) start (refl, refl) (refl, refl)
 
-pub short_head : (context : Context) (whole : ℕ) (bytes : List ℕ) (first : ℕ) (spin : Bool) (dst text rest : List ℕ) → first < 128 → is_fixed context first ≡ true
-    → bytes ≡ first ∷ (text ++ rest) → context.parsed (text ++ rest) ≡ Ok (dst, length text) → spin ≡ nat_eq (first / 32 % 2) 1 → Head context whole bytes (head.Short spin dst) rest
-short_head context whole bytes first spin dst text rest short fixed split parsed is =
+pub short_header : (context : Context) (whole : ℕ) (bytes : List ℕ) (first : ℕ) (spin : Bool) (dst text rest : List ℕ) → first < 128 → is_fixed context first ≡ true
+    → bytes ≡ first ∷ (text ++ rest) → context.parsed (text ++ rest) ≡ Ok (dst, length text) → spin ≡ nat_eq (first / 32 % 2) 1 → HeaderAt context whole bytes (head.Short spin dst) rest
+short_header context whole bytes first spin dst text rest short fixed split parsed is =
     let test : is_long first ≡ false = grind (arith, nat_tests) in
     let row : row_of first (num (take 4 (text ++ rest))) ≡ ShortId ∷ [] =
     ap (λ (b : Bool). cond b (long_row (row_behind_ids first (num (take 4 (text ++ rest))))) (ShortId ∷ [])) test in (

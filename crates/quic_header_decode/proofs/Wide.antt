@@ -1,4 +1,4 @@
--- Heads that are read with ids of any length where their version isn't known.
+-- Headers that are read with ids of any length where their version isn't known.
 use Rattle.std.specs.Prelude.{◌≡◌, ◌≢◌, ℕ, ◌+◌, ◌-◌, ◌≤◌, Bool, true, false, List, [], ◌∷◌, ◌++◌, length, take, drop, Option, Some, None, Result, Ok, Err, Contains, nat_lt, nat_eq, not, ◌&&◌, ◌||◌}
 use Rattle.std.proofs.Common.{sym, ap, subst, ◌∙◌, arith, refl, cond, inl, inr, suc, length-append, length-take}
 use Rattle.std.specs.List.{list_any}
@@ -19,10 +19,10 @@ use Rattle.quic_header_decode.specs.Fields.{id_at, wide_id_at, word_at}
 use Rattle.quic_header_decode.specs.Grammar.{is_long, Refused}
 use Rattle.quic_header_decode.specs.Parsers.{fixed_parsed, fixed_lawful}
 use Rattle.quic_header_decode.specs.Places.{any_fixed, IsUnknown, ReadAnswer}
-use Rattle.quic_header_decode.specs.Reading.{TakesWithin, ◌>>=◌, at_end, bad_id, head_at, long_at, typed_at, wide_at, wide_head_at}
+use Rattle.quic_header_decode.specs.Reading.{TakesWithin, ◌>>=◌, at_end, bad_id, header_at, long_at, typed_at, wide_at, wide_header_at}
 use Rattle.quic_header_decode.specs.Refusal.{Refusal, Unsupported, Invalid, NoMemory}
 use Rattle.quic_header_decode.proofs.FieldLaws.{word_found, word_of}
-use Rattle.quic_header_decode.proofs.Heads.{head_found, head_again, refused_found, refused_again}
+use Rattle.quic_header_decode.proofs.Headers.{header_found, header_again, refused_found, refused_again}
 use Rattle.quic_header_decode.proofs.Rows.{known_again, known_at}
 use Rattle.quic_header_decode.proofs.Steps.{bind_err, bool_cases, chosen, match_ok, none_some, option_err, option_ok, otherwise, pair_parts, some_of, some_pair, some_same, taken, then_ok}
 
@@ -164,11 +164,11 @@ agree_first : (b : Bool) (short wide long : Read) → Agrees wide long → Agree
 agree_first true short wide long h = agrees_self short
 agree_first false short wide long h = h
 
-head_agrees : (id_len : ℕ) (versions : List ℕ) (whole : ℕ) (bytes : List ℕ)
-    → Agrees (wide_head_at id_len versions whole bytes) (head_at (any_fixed id_len versions) whole bytes)
-unfolding wide_head_at head_at
-head_agrees id_len versions whole [] = refl
-head_agrees id_len versions whole (first ∷ text) = agree_first (nat_lt first 128) _ _ _ (wide_agrees versions whole first text)
+header_agrees : (id_len : ℕ) (versions : List ℕ) (whole : ℕ) (bytes : List ℕ)
+    → Agrees (wide_header_at id_len versions whole bytes) (header_at (any_fixed id_len versions) whole bytes)
+unfolding wide_header_at header_at
+header_agrees id_len versions whole [] = refl
+header_agrees id_len versions whole (first ∷ text) = agree_first (nat_lt first 128) _ _ _ (wide_agrees versions whole first text)
 
 -- ---- unknown versions
 
@@ -271,7 +271,7 @@ unknown_again versions whole first text src dst version (number, rest, split, is
     (then_ok (ok_or (wide_id_at src_bytes) bad_id) _ (src, rest) _ (some_of _ bad_id _ (wide_again src rest))
     (taken (not (nat_eq version 0) && not known) _ _ _ test refl)))
 
--- ---- heads
+-- ---- headers
 
 fixed_told : (short : Bool) (text id : List ℕ) (n : ℕ) (f : List ℕ × ℕ → ProtectedHeader × List ℕ) (s d : List ℕ) (v : ℕ)
     → (cond {A = Result (List ℕ × ℕ) Refusal} short (Err (Invalid text)) (Ok (id, n)) >>= λ x. Ok (f x)) ≡ Err (Unsupported s d v) → ⊥
@@ -285,8 +285,8 @@ not_short : (first : ℕ) → is_long first ≡ true → nat_lt first 128 ≡ fa
 not_short first e = grind (arith, nat_tests)
 
 unknown_found : (id_len : ℕ) (versions : List ℕ) (whole : ℕ) (bytes src dst : List ℕ) (version : ℕ) → AreBytes bytes
-    → wide_head_at id_len versions whole bytes ≡ Err (Unsupported src dst version) → IsUnknown (any_fixed id_len versions) bytes version dst src
-unfolding wide_head_at
+    → wide_header_at id_len versions whole bytes ≡ Err (Unsupported src dst version) → IsUnknown (any_fixed id_len versions) bytes version dst src
+unfolding wide_header_at
 unknown_found id_len versions whole [] src dst version fits e = absurd cc
 unknown_found id_len versions whole (first ∷ text) src dst version fits e = elim (chosen (nat_lt first 128) _ _ (Err (Unsupported src dst version)) e) [
   | inl short ↦ absurd (fixed_told (nat_lt (length text) id_len) _ _ _ _ src dst version short.1)
@@ -296,70 +296,70 @@ unknown_found id_len versions whole (first ∷ text) src dst version fits e = el
 ]
 
 unknown_told : (id_len : ℕ) (versions : List ℕ) (whole : ℕ) (bytes src dst : List ℕ) (version : ℕ)
-    → IsUnknown (any_fixed id_len versions) bytes version dst src → wide_head_at id_len versions whole bytes ≡ Err (Unsupported src dst version)
-unfolding wide_head_at
+    → IsUnknown (any_fixed id_len versions) bytes version dst src → wide_header_at id_len versions whole bytes ≡ Err (Unsupported src dst version)
+unfolding wide_header_at
 unknown_told id_len versions whole bytes src dst version (rest, (first, number, split, long, is), some, none) =
-    ap (wide_head_at id_len versions whole) split
+    ap (wide_header_at id_len versions whole) split
     ∙ otherwise (nat_lt first 128) _ _ _ (not_short first long)
     (unknown_again versions whole first (number ++ (long_id dst ++ (long_id src ++ rest))) src dst version (number, rest, refl, is, some, none))
 
 takes : (id_len : ℕ) (versions : List ℕ) → TakesWithin (any_fixed id_len versions)
 takes id_len versions text id n e = match_ok (λ x. x.1 ≤ length text) (λ r. r ≡ NoMemory → ⊥) (fixed_parsed id_len text) (id, n) (fixed_lawful id_len text) e
 
-refused : (id_len : ℕ) (versions bytes : List ℕ) (e : Refusal) → AreBytes bytes → wide_head_at id_len versions (length bytes) bytes ≡ Err e
-    → ((src dst : List ℕ) (version : ℕ) → e ≡ Unsupported src dst version → ⊥) → head_at (any_fixed id_len versions) (length bytes) bytes ≡ Err e
+refused : (id_len : ℕ) (versions bytes : List ℕ) (e : Refusal) → AreBytes bytes → wide_header_at id_len versions (length bytes) bytes ≡ Err e
+    → ((src dst : List ℕ) (version : ℕ) → e ≡ Unsupported src dst version → ⊥) → header_at (any_fixed id_len versions) (length bytes) bytes ≡ Err e
     → Refused (any_fixed id_len versions) bytes e × ((version : ℕ) (dst src : List ℕ) → IsUnknown (any_fixed id_len versions) bytes version dst src → ⊥)
 refused id_len versions bytes e fits read other same = (
   refused_found (any_fixed id_len versions) (length bytes) bytes e fits (takes id_len versions) same,
   (λ version dst src unknown. other src dst version (let told = unknown_told id_len versions (length bytes) bytes src dst version unknown in cc)),
 )
 
-pub read_answer : (id_len : ℕ) (versions bytes : List ℕ) → AreBytes bytes → (r : Read) → wide_head_at id_len versions (length bytes) bytes ≡ r
+pub read_answer : (id_len : ℕ) (versions bytes : List ℕ) → AreBytes bytes → (r : Read) → wide_header_at id_len versions (length bytes) bytes ≡ r
     → ReadAnswer (any_fixed id_len versions) bytes r
 read_answer id_len versions bytes fits (Ok found) e =
-    let same : head_at (any_fixed id_len versions) (length bytes) bytes ≡ Ok found =
-    subst (λ (r : Read). Agrees r (head_at (any_fixed id_len versions) (length bytes) bytes)) e (head_agrees id_len versions (length bytes) bytes) in
-    head_found (any_fixed id_len versions) (length bytes) bytes found.1 found.0 fits (omega arith) (takes id_len versions) same
+    let same : header_at (any_fixed id_len versions) (length bytes) bytes ≡ Ok found =
+    subst (λ (r : Read). Agrees r (header_at (any_fixed id_len versions) (length bytes) bytes)) e (header_agrees id_len versions (length bytes) bytes) in
+    header_found (any_fixed id_len versions) (length bytes) bytes found.1 found.0 fits (omega arith) (takes id_len versions) same
 read_answer id_len versions bytes fits (Err (Unsupported src dst version)) e = unknown_found id_len versions (length bytes) bytes src dst version fits e
 read_answer id_len versions bytes fits (Err (Invalid text)) e =
     refused id_len versions bytes (Invalid text) fits e (λ src dst version same. cc)
-    (subst (λ (r : Read). Agrees r (head_at (any_fixed id_len versions) (length bytes) bytes)) e (head_agrees id_len versions (length bytes) bytes))
+    (subst (λ (r : Read). Agrees r (header_at (any_fixed id_len versions) (length bytes) bytes)) e (header_agrees id_len versions (length bytes) bytes))
 read_answer id_len versions bytes fits (Err NoMemory) e =
     refused id_len versions bytes NoMemory fits e (λ src dst version same. cc)
-    (subst (λ (r : Read). Agrees r (head_at (any_fixed id_len versions) (length bytes) bytes)) e (head_agrees id_len versions (length bytes) bytes))
+    (subst (λ (r : Read). Agrees r (header_at (any_fixed id_len versions) (length bytes) bytes)) e (header_agrees id_len versions (length bytes) bytes))
 
 pub long_answer : (id_len : ℕ) (versions bytes : List ℕ) (first : ℕ) → AreBytes bytes → (r : Read) → bytes ≡ first ∷ drop 1 bytes → 128 ≤ first
     → wide_at versions (length bytes) first (drop 1 bytes) ≡ r → ReadAnswer (any_fixed id_len versions) bytes r
-unfolding wide_head_at
+unfolding wide_header_at
 long_answer id_len versions bytes first fits r split long e =
     let test : nat_lt first 128 ≡ false = grind (arith, nat_tests) in
     read_answer id_len versions bytes fits r
-    (ap (wide_head_at id_len versions (length bytes)) split ∙ otherwise (nat_lt first 128) _ _ _ test e)
+    (ap (wide_header_at id_len versions (length bytes)) split ∙ otherwise (nat_lt first 128) _ _ _ test e)
 
 -- ---- one reading
 
-sole : (id_len : ℕ) (versions bytes : List ℕ) (w r : Read) → AreBytes bytes → wide_head_at id_len versions (length bytes) bytes ≡ w → Agrees w (head_at (any_fixed id_len versions) (length bytes) bytes)
+sole : (id_len : ℕ) (versions bytes : List ℕ) (w r : Read) → AreBytes bytes → wide_header_at id_len versions (length bytes) bytes ≡ w → Agrees w (header_at (any_fixed id_len versions) (length bytes) bytes)
     → ReadAnswer (any_fixed id_len versions) bytes r → w ≡ r
-sole id_len versions bytes (Ok x) (Ok found) fits e agrees a = sym agrees ∙ head_again (any_fixed id_len versions) (length bytes) bytes found.0 found.1 a
+sole id_len versions bytes (Ok x) (Ok found) fits e agrees a = sym agrees ∙ header_again (any_fixed id_len versions) (length bytes) bytes found.0 found.1 a
 sole id_len versions bytes (Ok x) (Err (Unsupported src dst version)) fits e agrees a = absurd (let told = unknown_told id_len versions (length bytes) bytes src dst version a in cc)
 sole id_len versions bytes (Ok x) (Err (Invalid text)) fits e agrees a = absurd (let told = refused_again (any_fixed id_len versions) (length bytes) bytes (Invalid text) fits a.0 in cc)
 sole id_len versions bytes (Ok x) (Err NoMemory) fits e agrees a = absurd (let told = refused_again (any_fixed id_len versions) (length bytes) bytes NoMemory fits a.0 in cc)
-sole id_len versions bytes (Err (Unsupported s d v)) (Ok found) fits e agrees a = absurd (agrees found (head_again (any_fixed id_len versions) (length bytes) bytes found.0 found.1 a))
+sole id_len versions bytes (Err (Unsupported s d v)) (Ok found) fits e agrees a = absurd (agrees found (header_again (any_fixed id_len versions) (length bytes) bytes found.0 found.1 a))
 sole id_len versions bytes (Err (Unsupported s d v)) (Err (Unsupported src dst version)) fits e agrees a = sym e ∙ unknown_told id_len versions (length bytes) bytes src dst version a
 sole id_len versions bytes (Err (Unsupported s d v)) (Err (Invalid text)) fits e agrees a = absurd (a.1 v d s (unknown_found id_len versions (length bytes) bytes s d v fits e))
 sole id_len versions bytes (Err (Unsupported s d v)) (Err NoMemory) fits e agrees a = absurd (a.1 v d s (unknown_found id_len versions (length bytes) bytes s d v fits e))
-sole id_len versions bytes (Err (Invalid t)) (Ok found) fits e agrees a = absurd (let told = head_again (any_fixed id_len versions) (length bytes) bytes found.0 found.1 a in cc)
+sole id_len versions bytes (Err (Invalid t)) (Ok found) fits e agrees a = absurd (let told = header_again (any_fixed id_len versions) (length bytes) bytes found.0 found.1 a in cc)
 sole id_len versions bytes (Err (Invalid t)) (Err (Unsupported src dst version)) fits e agrees a = absurd (let told = unknown_told id_len versions (length bytes) bytes src dst version a in cc)
 sole id_len versions bytes (Err (Invalid t)) (Err (Invalid text)) fits e agrees a = sym agrees ∙ refused_again (any_fixed id_len versions) (length bytes) bytes (Invalid text) fits a.0
 sole id_len versions bytes (Err (Invalid t)) (Err NoMemory) fits e agrees a = sym agrees ∙ refused_again (any_fixed id_len versions) (length bytes) bytes NoMemory fits a.0
-sole id_len versions bytes (Err NoMemory) (Ok found) fits e agrees a = absurd (let told = head_again (any_fixed id_len versions) (length bytes) bytes found.0 found.1 a in cc)
+sole id_len versions bytes (Err NoMemory) (Ok found) fits e agrees a = absurd (let told = header_again (any_fixed id_len versions) (length bytes) bytes found.0 found.1 a in cc)
 sole id_len versions bytes (Err NoMemory) (Err (Unsupported src dst version)) fits e agrees a = absurd (let told = unknown_told id_len versions (length bytes) bytes src dst version a in cc)
 sole id_len versions bytes (Err NoMemory) (Err (Invalid text)) fits e agrees a = sym agrees ∙ refused_again (any_fixed id_len versions) (length bytes) bytes (Invalid text) fits a.0
 sole id_len versions bytes (Err NoMemory) (Err NoMemory) fits e agrees a = refl
 
--- bytes begin with one head, the ids of one unknown version, or one refusal
+-- bytes begin with one header, the ids of one unknown version, or one refusal
 pub read_sole : (id_len : ℕ) (versions bytes : List ℕ) (one other : Read) → AreBytes bytes → ReadAnswer (any_fixed id_len versions) bytes one → ReadAnswer (any_fixed id_len versions) bytes other → one ≡ other
 read_sole id_len versions bytes one other fits a b =
-    let read : Read = wide_head_at id_len versions (length bytes) bytes in
-    let agrees = head_agrees id_len versions (length bytes) bytes in
+    let read : Read = wide_header_at id_len versions (length bytes) bytes in
+    let agrees = header_agrees id_len versions (length bytes) bytes in
     sym (sole id_len versions bytes read one fits refl agrees a) ∙ sole id_len versions bytes read other fits refl agrees b

@@ -5,7 +5,7 @@ use Rattle.quic_header_decode.specs.Refusal.{Refusal}
 use Rattle.quic_header_decode.specs.Grammar.{Cut, Uncut}
 use Rattle.quic_header_decode.specs.Reading.{Context, cut_at}
 
--- a packet in its datagram: where it begins and ends, and its head
+-- a packet in its datagram: where it begins and ends, and its header
 pub record Placed : Type 0 where
   pub start : ℕ
   pub stop : ℕ

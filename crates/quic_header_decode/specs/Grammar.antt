@@ -1,4 +1,4 @@
--- Which bytes are the head of a packet, and why others are none (RFC 9000, section 17).
+-- Which bytes are the header of a packet, and why others are none (RFC 9000, section 17).
 use Rattle.std.specs.Prelude.{◌≡◌, ◌≢◌, ℕ, ◌+◌, ◌/◌, ◌%◌, ◌<◌, ◌≤◌, ◌⊎◌, Bool, true, false, List, [], ◌∷◌, ◌++◌, length, take, Result, Some, Ok, Err, Contains, nat_le, ◌==◌, ◌||◌, if◌then◌else◌, MatchOption, codes}
 use Rattle.quic_base.specs.Number.{IsNumber, num}
 use Rattle.quic_base.specs.Varint.{Encodes}
@@ -16,7 +16,7 @@ use Rattle.quic_header_decode.specs.Reading.{Context, len_in}
 abbrev pub has_bit : ℕ → ℕ → Bool
 has_bit bit byte = (byte / bit % 2) == 1
 
--- the header form, the highest bit, is set in long heads (section 17.2) and clear in short ones (section 17.3)
+-- the header form, the highest bit, is set in long headers (section 17.2) and clear in short ones (section 17.3)
 abbrev pub is_long : ℕ → Bool
 is_long first = nat_le 0x80 first
 
@@ -96,7 +96,7 @@ refusal_at (Supported version) (number ∷ Bytes dst ∷ Bytes src ∷ []) = Uns
 refusal_at Token before = Invalid (codes "token out of bounds")
 refusal_at field before = Invalid (codes "unexpected end of packet")
 
--- Of a short head's id it is what the parser says.
+-- Of a short header's id it is what the parser says.
 abbrev pub IsRefusal : Context → Field → List Value → List ℕ → Refusal → Type 0
 IsRefusal context ShortId before bytes e = context.parsed bytes ≡ Err e
 IsRefusal context field before bytes e = e ≡ refusal_at field before
@@ -128,61 +128,61 @@ StopsWithin context (field ∷ fields) before bytes e =
     ⊎ ((values : List Value) × (left : List ℕ) × Begins context field before values bytes left
     × StopsWithin context fields (before ++ values) left e)
 
--- ---- heads
+-- ---- headers
 
--- The head that a first byte and the values of its row say. The spin bit is 0x20 (section 17.3.1). Places are counted
+-- The header that a first byte and the values of its row say. The spin bit is 0x20 (section 17.3.1). Places are counted
 -- from the end of whole bytes.
-abbrev pub IsHead : ℕ → ℕ → List Value → ProtectedHeader → Type 0
-IsHead whole first values (head.Short spin dst) =
+abbrev pub IsHeader : ℕ → ℕ → List Value → ProtectedHeader → Type 0
+IsHeader whole first values (head.Short spin dst) =
     (is_long first ≡ false) × (spin ≡ has_bit 0x20 first) × (values ≡ Bytes dst ∷ [])
-IsHead whole first values (head.VersionNegotiate random dst src) =
+IsHeader whole first values (head.VersionNegotiate random dst src) =
     (first ≡ 0x80 + random) × (values ≡ Number 0 ∷ Bytes dst ∷ Bytes src ∷ [])
-IsHead whole first values (head.Retry dst src version) =
+IsHeader whole first values (head.Retry dst src version) =
     (version ≢ 0) × (long_type version first ≡ kind.Retry) × (values ≡ Number version ∷ Bytes dst ∷ Bytes src ∷ [])
-IsHead whole first values (head.Long ty dst src len version) =
+IsHeader whole first values (head.Long ty dst src len version) =
     (long_type version first ≡ kind.Standard ty) × (values ≡ Number version ∷ Bytes dst ∷ Bytes src ∷ Number len ∷ [])
-IsHead whole first values (head.Initial h) =
+IsHeader whole first values (head.Initial h) =
     (count left : ℕ) × (h.token_pos.start + count ≡ h.token_pos.end) × (h.token_pos.end + left ≡ whole)
     × (values ≡ Number h.version ∷ Bytes h.dst_cid ∷ Bytes h.src_cid ∷ Number count ∷ Number left ∷ Number h.len ∷ [])
 
--- The bytes begin with this head, and rest is left behind it.
-abbrev pub Head : Context → ℕ → List ℕ → ProtectedHeader → List ℕ → Type 0
-Head context whole bytes h rest =
+-- The bytes begin with this header, and rest is left behind it.
+abbrev pub HeaderAt : Context → ℕ → List ℕ → ProtectedHeader → List ℕ → Type 0
+HeaderAt context whole bytes h rest =
     (first : ℕ) × (text : List ℕ) × (values : List Value) × (bytes ≡ first ∷ text) × (is_fixed context first ≡ true)
-    × AreFields context (row_of first (num (take 4 text))) [] values text rest × IsHead whole first values h
+    × AreFields context (row_of first (num (take 4 text))) [] values text rest × IsHeader whole first values h
 
--- The bytes begin with no head, and this is the refusal: of the first byte, or of the first field that is not there.
+-- The bytes begin with no header, and this is the refusal: of the first byte, or of the first field that is not there.
 abbrev pub Refused : Context → List ℕ → Refusal → Type 0
 Refused context [] e = e ≡ Invalid (codes "unexpected end of packet")
 Refused context (first ∷ text) e =
     ((is_fixed context first ≡ false) × (e ≡ Invalid (codes "fixed bit unset")))
     ⊎ ((is_fixed context first ≡ true) × StopsWithin context (row_of first (num (take 4 text))) [] text e)
 
--- a head and what is left behind it, or a refusal, is what the bytes begin with
-abbrev pub HeadAnswer : Context → ℕ → List ℕ → Result (ProtectedHeader × List ℕ) Refusal → Type 0
-HeadAnswer context whole bytes (Ok found) = Head context whole bytes found.0 found.1
-HeadAnswer context whole bytes (Err e) = Refused context bytes e
+-- a header and what is left behind it, or a refusal, is what the bytes begin with
+abbrev pub HeaderAnswer : Context → ℕ → List ℕ → Result (ProtectedHeader × List ℕ) Refusal → Type 0
+HeaderAnswer context whole bytes (Ok found) = HeaderAt context whole bytes found.0 found.1
+HeaderAnswer context whole bytes (Err e) = Refused context bytes e
 
--- a version whose heads are read further than their ids
+-- a version whose headers are read further than their ids
 abbrev pub IsKnown : Context → ℕ → Type 0
 IsKnown context version = (version ≢ 0) × Contains context.versions version
 
 -- ---- packets
 
--- a packet of q bytes begins the datagram, and its head ends at p
+-- a packet of q bytes begins the datagram, and its header ends at p
 abbrev pub Cut : Context → List ℕ → ProtectedHeader → ℕ → ℕ → Type 0
 Cut context bytes h p q =
-    (rest : List ℕ) × Head context (length bytes) bytes h rest × (p + length rest ≡ length bytes)
+    (rest : List ℕ) × HeaderAt context (length bytes) bytes h rest × (p + length rest ≡ length bytes)
     × MatchOption (len_in h) (q ≡ length bytes) (λ len. q ≡ p + len) × (q ≤ length bytes)
 
--- No packet can be cut from the bytes, and this is the refusal: the head's, or that of a length beyond the end.
+-- No packet can be cut from the bytes, and this is the refusal: the header's, or that of a length beyond the end.
 pub data Uncut (context : Context) (bytes : List ℕ) : Refusal → Type 0 where
-  no_head : (e : Refusal) → Refused context bytes e → Uncut context bytes e
-  past_end : (h : ProtectedHeader) (rest : List ℕ) (len : ℕ) → Head context (length bytes) bytes h rest
+  no_header : (e : Refusal) → Refused context bytes e → Uncut context bytes e
+  past_end : (h : ProtectedHeader) (rest : List ℕ) (len : ℕ) → HeaderAt context (length bytes) bytes h rest
       → len_in h ≡ Some len → length rest < len
       → Uncut context bytes (Invalid (codes "packet too short to contain payload length"))
 
--- a head, where it ends and where its packet ends, or a refusal, is what the bytes begin with
+-- a header, where it ends and where its packet ends, or a refusal, is what the bytes begin with
 abbrev pub CutAnswer : Context → List ℕ → Result (ProtectedHeader × ℕ × ℕ) Refusal → Type 0
 CutAnswer context bytes (Ok cut) = Cut context bytes cut.0 cut.1 cut.2
 CutAnswer context bytes (Err e) = Uncut context bytes e

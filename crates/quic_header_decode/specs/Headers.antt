@@ -1,4 +1,4 @@
--- Heads without protection, and the protected ones that they were (RFC 9000, section 17).
+-- Headers without protection, and the protected ones that they were (RFC 9000, section 17).
 use Rattle.std.specs.Prelude.{◌≡◌, ℕ, ◌+◌, ◌/◌, ◌%◌, Bool, true, false, List, slice_index, slice_range, nat_eq}
 use Rattle.quic_crypto.specs.declared.packet_number.PacketNumber.{PacketNumber}
 use Rattle.quic_crypto.specs.PacketNumbers.{number_size}
@@ -16,7 +16,7 @@ is_protected (head.Short spin dst) = true
 is_protected (head.Retry dst src version) = false
 is_protected (head.VersionNegotiate random dst src) = false
 
--- what a head says once its number is known, in an open packet
+-- what a header says once its number is known, in an open packet
 abbrev pub with_number : ProtectedHeader → PacketNumber → List ℕ → Header → Type 0
 with_number (head.Initial h) number packet got =
     got ≡ header.Initial (record { dst_cid = h.dst_cid; src_cid = h.src_cid; token = slice_range packet h.token_pos.start h.token_pos.end; number = number; version = h.version })
@@ -25,7 +25,7 @@ with_number (head.Short spin dst) number packet got = got ≡ header.Short spin 
 with_number (head.Retry dst src version) number packet got = ⊥
 with_number (head.VersionNegotiate random dst src) number packet got = ⊥
 
--- what a head without a number says
+-- what a header without a number says
 abbrev pub without_number : ProtectedHeader → Header → Type 0
 without_number (head.Retry dst src version) got = got ≡ header.Retry dst src version
 without_number (head.VersionNegotiate random dst src) got = got ≡ header.VersionNegotiate random src dst
@@ -33,12 +33,12 @@ without_number (head.Initial h) got = ⊥
 without_number (head.Long ty dst src len version) got = ⊥
 without_number (head.Short spin dst) got = ⊥
 
--- the head of an open packet, which ends behind the number where it has one
+-- the header of an open packet, which ends behind the number where it has one
 abbrev pub IsOpenedBy : Bool → ProtectedHeader → ℕ → Header → List ℕ → ℕ → Type 0
 IsOpenedBy true h at header packet end =
     (number : PacketNumber) × IsNumberIn number at packet × with_number h number packet header × (end ≡ at + number_size number)
 IsOpenedBy false h at header packet end = without_number h header × (end ≡ at)
 
--- the head of an open packet: with a number where it was protected
+-- the header of an open packet: with a number where it was protected
 abbrev pub IsOpened : ProtectedHeader → ℕ → Header → List ℕ → ℕ → Type 0
 IsOpened h = IsOpenedBy (is_protected h) h

@@ -3,10 +3,10 @@ use Rattle.std.specs.Prelude.{ℕ, List}
 use Rattle.quic_header_decode.specs.declared.parser.FixedLengthConnectionIdParser.{FixedLengthConnectionIdParser}
 use Rattle.quic_header_decode.specs.declared.protected.ProtectedHeader.{ProtectedHeader}
 
--- a packet's head, where that ends, and the packet's bytes
+-- a packet's header, where that ends, and the packet's bytes
 pub record CutPacket : Type 0 where
   pub head : ProtectedHeader
-  pub head_end : ℕ
+  pub header_end : ℕ
   pub bytes : List ℕ
 
 -- how many bytes each id has

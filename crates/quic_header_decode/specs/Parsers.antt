@@ -1,4 +1,4 @@
--- Parsers of the ids of short heads.
+-- Parsers of the ids of short headers.
 use Rattle.std.specs.Prelude.{◌≡◌, ◌≢◌, ℕ, ◌≤◌, List, length, take, Result, Ok, Err, MatchResult, nat_lt, if◌then◌else◌, codes}
 use Rattle.std.proofs.Common.{cond, Bool, true, false, arith, refl}
 use Rattle.std.proofs.lemmas.Bool.Decides.{nat_tests}

@@ -1,26 +1,26 @@
--- What places in bytes say: the head whose fields stand there, or a refusal.
+-- What places in bytes say: the header whose fields stand there, or a refusal.
 use Rattle.std.specs.Prelude.{◌≡◌, ◌≢◌, ℕ, ◌+◌, ◌-◌, ◌/◌, ◌%◌, ◌<◌, ◌≤◌, List, ◌∷◌, ◌++◌, drop, length, true, Option, Some, None, Result, Ok, Err, Contains, slice_range, codes, nat_lt, nat_eq, if◌then◌else◌}
 use Rattle.quic_base.specs.ConnectionId.{long_id}
 use Rattle.quic_base.specs.Number.{IsNumber}
-use Rattle.quic_header_encode.specs.declared.long_type.HeadKind.{HeadKind}
-use Rattle.quic_header_encode.specs.declared.long_type.HeadKind.TheVariants as kind
+use Rattle.quic_header_encode.specs.declared.long_type.HeaderKind.{HeaderKind}
+use Rattle.quic_header_encode.specs.declared.long_type.HeaderKind.TheVariants as kind
 use Rattle.quic_header_encode.specs.declared.long_type.LongHeaderType.{LongHeaderType}
 use Rattle.quic_header_encode.specs.declared.long_type.LongHeaderType.TheVariants as type
 use Rattle.quic_header_encode.specs.declared.long_type.LongType.TheVariants.{Handshake, ZeroRtt}
 use Rattle.quic_header_encode.specs.Laying.{says_length}
 use Rattle.quic_header_decode.specs.declared.fields.Place.{Place}
-use Rattle.quic_header_decode.specs.declared.places.HeadPlaces.{HeadPlaces}
+use Rattle.quic_header_decode.specs.declared.places.HeaderPlaces.{HeaderPlaces}
 use Rattle.quic_header_decode.specs.declared.places.ReadError.{ReadError}
 use Rattle.quic_header_decode.specs.declared.places.ReadError.TheVariants as error
 use Rattle.quic_header_decode.specs.declared.protected.ProtectedHeader.{ProtectedHeader}
 use Rattle.quic_header_decode.specs.declared.protected.ProtectedHeader.TheVariants as head
-use Rattle.quic_header_decode.specs.Grammar.{is_long, Head, Refused}
+use Rattle.quic_header_decode.specs.Grammar.{is_long, HeaderAt, Refused}
 use Rattle.quic_header_decode.specs.Parsers.{fixed_parsed}
 use Rattle.quic_header_decode.specs.Reading.{Context}
 use Rattle.quic_header_decode.specs.Refusal.{Refusal, Unsupported, Invalid, NoMemory}
 
 -- the type of a kind that has one
-abbrev pub type_of : HeadKind → LongHeaderType
+abbrev pub type_of : HeaderKind → LongHeaderType
 type_of kind.Initial = type.Initial
 type_of kind.ZeroRtt = type.Standard ZeroRtt
 type_of kind.Handshake = type.Standard Handshake
@@ -29,7 +29,7 @@ type_of kind.Short = type.Retry
 type_of kind.VersionNegotiate = type.Retry
 
 -- where the receiver's id begins
-abbrev pub dst_place : HeadKind → ℕ
+abbrev pub dst_place : HeaderKind → ℕ
 dst_place kind.Initial = 6
 dst_place kind.ZeroRtt = 6
 dst_place kind.Handshake = 6
@@ -37,26 +37,26 @@ dst_place kind.Retry = 6
 dst_place kind.Short = 1
 dst_place kind.VersionNegotiate = 6
 
-abbrev pub dst_part : List ℕ → HeadPlaces → List ℕ
+abbrev pub dst_part : List ℕ → HeaderPlaces → List ℕ
 dst_part bytes x = slice_range bytes (dst_place x.kind) (dst_place x.kind + x.dst_len)
 
 -- the sender's, behind the receiver's and its own length
-abbrev pub src_part : List ℕ → HeadPlaces → List ℕ
+abbrev pub src_part : List ℕ → HeaderPlaces → List ℕ
 src_part bytes x = slice_range bytes (6 + x.dst_len + 1) (6 + x.dst_len + 1 + x.src_len)
 
--- the head of a kind, with the fields that it has of these
-abbrev pub head_by : HeadKind → ℕ → List ℕ → List ℕ → Place → ℕ → ℕ → ProtectedHeader
-head_by kind.Initial first dst src token len version =
+-- the header of a kind, with the fields that it has of these
+abbrev pub header_by : HeaderKind → ℕ → List ℕ → List ℕ → Place → ℕ → ℕ → ProtectedHeader
+header_by kind.Initial first dst src token len version =
     head.Initial (record { dst_cid = dst; src_cid = src; token_pos = record { start = token.start; end = token.end }; len = len; version = version })
-head_by kind.ZeroRtt first dst src token len version = head.Long ZeroRtt dst src len version
-head_by kind.Handshake first dst src token len version = head.Long Handshake dst src len version
-head_by kind.Retry first dst src token len version = head.Retry dst src version
-head_by kind.Short first dst src token len version = head.Short (nat_eq (first / 32 % 2) 1) dst
-head_by kind.VersionNegotiate first dst src token len version = head.VersionNegotiate (first - 128) dst src
+header_by kind.ZeroRtt first dst src token len version = head.Long ZeroRtt dst src len version
+header_by kind.Handshake first dst src token len version = head.Long Handshake dst src len version
+header_by kind.Retry first dst src token len version = head.Retry dst src version
+header_by kind.Short first dst src token len version = head.Short (nat_eq (first / 32 % 2) 1) dst
+header_by kind.VersionNegotiate first dst src token len version = head.VersionNegotiate (first - 128) dst src
 
--- the head that places say in these bytes
-abbrev pub said_in : List ℕ → HeadPlaces → ProtectedHeader
-said_in bytes x = head_by x.kind x.first (dst_part bytes x) (src_part bytes x) x.token x.len x.version
+-- the header that places say in these bytes
+abbrev pub said_in : List ℕ → HeaderPlaces → ProtectedHeader
+said_in bytes x = header_by x.kind x.first (dst_part bytes x) (src_part bytes x) x.token x.len x.version
 
 -- the refusal that an error is in these bytes
 abbrev pub told_in : List ℕ → ReadError → Refusal
@@ -67,49 +67,49 @@ told_in bytes error.SmallPacket = Invalid (codes "packet too small")
 told_in bytes error.MalformedCid = Invalid (codes "malformed cid")
 told_in bytes error.TokenOutOfBounds = Invalid (codes "token out of bounds")
 
--- what a reading says: the head and what follows it, or a refusal
-abbrev pub seen_in : List ℕ → Result HeadPlaces ReadError → Result (ProtectedHeader × List ℕ) Refusal
-seen_in bytes (Ok x) = Ok (said_in bytes x, drop x.head_end bytes)
+-- what a reading says: the header and what follows it, or a refusal
+abbrev pub seen_in : List ℕ → Result HeaderPlaces ReadError → Result (ProtectedHeader × List ℕ) Refusal
+seen_in bytes (Ok x) = Ok (said_in bytes x, drop x.header_end bytes)
 seen_in bytes (Err e) = Err (told_in bytes e)
 
--- where the ids of a long head end
-abbrev pub ids_end : HeadPlaces → ℕ
+-- where the ids of a long header end
+abbrev pub ids_end : HeaderPlaces → ℕ
 ids_end x = 6 + x.dst_len + 1 + x.src_len
 
 abbrev pub IsNowhere : Place → Type 0
 IsNowhere place = (place.start ≡ 0) × (place.end ≡ 0)
 
--- Where the fields of a head stand. What a kind lacks is 0.
-abbrev pub ArePlaces : HeadKind → HeadPlaces → Type 0
-ArePlaces kind.Initial x = (ids_end x < x.token.start) × (x.token.start ≤ x.token.end) × (x.token.end < x.head_end)
-ArePlaces kind.ZeroRtt x = (ids_end x < x.head_end) × IsNowhere x.token
-ArePlaces kind.Handshake x = (ids_end x < x.head_end) × IsNowhere x.token
-ArePlaces kind.Retry x = (ids_end x ≡ x.head_end) × IsNowhere x.token × (x.len ≡ 0)
-ArePlaces kind.Short x = (1 + x.dst_len ≡ x.head_end) × (x.src_len ≡ 0) × IsNowhere x.token × (x.len ≡ 0) × (x.version ≡ 0)
-ArePlaces kind.VersionNegotiate x = (ids_end x ≡ x.head_end) × IsNowhere x.token × (x.len ≡ 0) × (x.version ≡ 0)
+-- Where the fields of a header stand. What a kind lacks is 0.
+abbrev pub ArePlaces : HeaderKind → HeaderPlaces → Type 0
+ArePlaces kind.Initial x = (ids_end x < x.token.start) × (x.token.start ≤ x.token.end) × (x.token.end < x.header_end)
+ArePlaces kind.ZeroRtt x = (ids_end x < x.header_end) × IsNowhere x.token
+ArePlaces kind.Handshake x = (ids_end x < x.header_end) × IsNowhere x.token
+ArePlaces kind.Retry x = (ids_end x ≡ x.header_end) × IsNowhere x.token × (x.len ≡ 0)
+ArePlaces kind.Short x = (1 + x.dst_len ≡ x.header_end) × (x.src_len ≡ 0) × IsNowhere x.token × (x.len ≡ 0) × (x.version ≡ 0)
+ArePlaces kind.VersionNegotiate x = (ids_end x ≡ x.header_end) × IsNowhere x.token × (x.len ≡ 0) × (x.version ≡ 0)
 
--- The fields stand in the head, and the head in as many bytes.
-pub record IsPlaced (x : HeadPlaces) (whole : ℕ) : Type 0 where
+-- The fields stand in the header, and the header in as many bytes.
+pub record IsPlaced (x : HeaderPlaces) (whole : ℕ) : Type 0 where
   pub fields : ArePlaces x.kind x
   pub dst_few : x.dst_len ≤ 20
   pub src_few : x.src_len ≤ 20
   pub token_order : x.token.start ≤ x.token.end
-  pub token_within : x.token.end ≤ x.head_end
-  pub first : 0 < x.head_end
-  pub head : x.head_end ≤ whole
+  pub token_within : x.token.end ≤ x.header_end
+  pub first : 0 < x.header_end
+  pub head : x.header_end ≤ whole
 
--- what a long head has before its type's fields
-pub record IsFront (x : HeadPlaces) (whole : ℕ) : Type 0 where
-  pub ids : ids_end x ≡ x.head_end
+-- what a long header has before its type's fields
+pub record IsFront (x : HeaderPlaces) (whole : ℕ) : Type 0 where
+  pub ids : ids_end x ≡ x.header_end
   pub dst_few : x.dst_len ≤ 20
   pub src_few : x.src_len ≤ 20
   pub start : x.token.start ≡ 0
   pub end : x.token.end ≡ 0
   pub len : x.len ≡ 0
-  pub head : x.head_end ≤ whole
+  pub head : x.header_end ≤ whole
 
 -- the ids of an unknown version stand in as many bytes
-abbrev pub IsSeen : Result HeadPlaces ReadError → ℕ → Type 0
+abbrev pub IsSeen : Result HeaderPlaces ReadError → ℕ → Type 0
 IsSeen (Ok x) whole = IsPlaced x whole
 IsSeen (Err (error.UnsupportedVersion version dst_len src_len)) whole = (dst_len ≤ 255) × (src_len ≤ 255) × (6 + dst_len + 1 + src_len ≤ whole)
 IsSeen (Err error.UnexpectedEnd) whole = Unit {0}
@@ -118,13 +118,13 @@ IsSeen (Err error.MalformedCid) whole = Unit {0}
 IsSeen (Err error.TokenOutOfBounds) whole = Unit {0}
 
 -- where a packet ends in so many bytes
-abbrev pub ends_at : HeadPlaces → ℕ → Option ℕ
+abbrev pub ends_at : HeaderPlaces → ℕ → Option ℕ
 ends_at x whole =
-    if says_length x.kind then (if nat_lt whole (x.head_end + x.len) then None else Some (x.head_end + x.len)) else Some whole
+    if says_length x.kind then (if nat_lt whole (x.header_end + x.len) then None else Some (x.header_end + x.len)) else Some whole
 
 -- ---- which bytes these are
 
--- The bytes begin with a long head of any version, up to its ids (RFC 8999, section 5.1), and rest is left behind them.
+-- The bytes begin with a long header of any version, up to its ids (RFC 8999, section 5.1), and rest is left behind them.
 abbrev pub AnyVersion : List ℕ → ℕ → List ℕ → List ℕ → List ℕ → Type 0
 AnyVersion bytes version dst src rest =
     (first : ℕ) × (number : List ℕ) × (bytes ≡ first ∷ (number ++ (long_id dst ++ (long_id src ++ rest)))) × (is_long first ≡ true) × IsNumber 4 version number
@@ -134,14 +134,14 @@ abbrev pub IsUnknown : Context → List ℕ → ℕ → List ℕ → List ℕ �
 IsUnknown context bytes version dst src =
     (rest : List ℕ) × AnyVersion bytes version dst src rest × (version ≢ 0) × (Contains context.versions version → ⊥)
 
--- what heads are read by where the fixed bit isn't looked at: the ids of short heads have so many bytes
+-- what headers are read by where the fixed bit isn't looked at: the ids of short headers have so many bytes
 abbrev pub any_fixed : ℕ → List ℕ → Context
 any_fixed id_len versions = record { parsed = fixed_parsed id_len; versions = versions; grease = true }
 
--- A head and what is left behind it, or a refusal, is what the bytes begin with. A long head of an unknown version is
+-- A header and what is left behind it, or a refusal, is what the bytes begin with. A long header of an unknown version is
 -- told by its ids also where they are longer than those of the versions that are known.
 abbrev pub ReadAnswer : Context → List ℕ → Result (ProtectedHeader × List ℕ) Refusal → Type 0
-ReadAnswer context bytes (Ok found) = Head context (length bytes) bytes found.0 found.1
+ReadAnswer context bytes (Ok found) = HeaderAt context (length bytes) bytes found.0 found.1
 ReadAnswer context bytes (Err (Unsupported src dst version)) = IsUnknown context bytes version dst src
 ReadAnswer context bytes (Err (Invalid text)) =
     Refused context bytes (Invalid text) × ((version : ℕ) (dst src : List ℕ) → IsUnknown context bytes version dst src → ⊥)

@@ -1,4 +1,4 @@
--- What heads say.
+-- What headers say.
 use Rattle.quic_header_encode.specs.Types.{long_space}
 use Rattle.std.specs.Prelude.{◌≡◌, ℕ, List, Option, Some, None}
 use Rattle.quic_base.specs.declared.ids.SpaceId.{SpaceId}

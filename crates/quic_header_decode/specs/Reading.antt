@@ -1,4 +1,4 @@
--- How a head is read, step by step.
+-- How a header is read, step by step.
 use Rattle.quic_header_encode.specs.Types.{long_type}
 use Rattle.std.specs.Prelude.{◌≡◌, ℕ, ◌+◌, ◌-◌, ◌/◌, ◌%◌, ◌<◌, ◌≤◌, Bool, List, [], length, drop, Option, Some, None, Result, Ok, Err, nat_lt, nat_eq, not, ◌&&◌, ◌||◌, if◌then◌else◌, codes, unwrap_or}
 use Rattle.std.specs.List.{list_any}
@@ -18,13 +18,13 @@ abbrev pub ◌>>=◌ : {A B : Type 0} → Result A Refusal → (A → Result B R
 (Ok x) >>= f = f x
 (Err e) >>= f = Err e
 
--- what heads are read by: the ids of short heads, the versions that are known, and whether the fixed bit may be clear
+-- what headers are read by: the ids of short headers, the versions that are known, and whether the fixed bit may be clear
 pub record Context : Type 0 where
   pub parsed : List ℕ → Result (List ℕ × ℕ) Refusal
   pub versions : List ℕ
   pub grease : Bool
 
--- the ids of short heads are among the bytes that are there
+-- the ids of short headers are among the bytes that are there
 abbrev pub TakesWithin : Context → Type 0
 TakesWithin context = (text id : List ℕ) (count : ℕ) → context.parsed text ≡ Ok (id, count) → count ≤ length text
 
@@ -54,7 +54,7 @@ long_at versions whole first bytes = do
       else (if not (list_any (λ known. nat_eq known version.0) versions) then Err (Unsupported src.0 dst.0 version.0)
       else typed_at (long_type version.0 first) whole dst.0 src.0 version.0 src.1)
 
--- a long head whose ids may be longer, where its version isn't known
+-- a long header whose ids may be longer, where its version isn't known
 unfoldable pub wide_at : List ℕ → ℕ → ℕ → List ℕ → Result (ProtectedHeader × List ℕ) Refusal
 wide_at versions whole first bytes = do
   version ← ok_or (word_at bytes) at_end
@@ -65,24 +65,24 @@ wide_at versions whole first bytes = do
       else (if nat_eq version.0 0 then Ok (head.VersionNegotiate (first - 128) dst.0 src.0, src.1)
       else typed_at (long_type version.0 first) whole dst.0 src.0 version.0 src.1))
 
-unfoldable pub head_at : Context → ℕ → List ℕ → Result (ProtectedHeader × List ℕ) Refusal
-head_at context whole bytes = do
+unfoldable pub header_at : Context → ℕ → List ℕ → Result (ProtectedHeader × List ℕ) Refusal
+header_at context whole bytes = do
   first ← ok_or (byte_at bytes) at_end
   if not context.grease && nat_eq (first.0 / 64 % 2) 0 then Err (Invalid (codes "fixed bit unset"))
       else (if nat_lt first.0 128
       then (context.parsed first.1 >>= λ id. Ok (head.Short (nat_eq (first.0 / 32 % 2) 1) id.0, drop id.1 first.1))
       else long_at context.versions whole first.0 first.1)
 
--- a head whose fixed bit isn't looked at, with ids of so many bytes in short ones, and in long ones as many as stand
+-- a header whose fixed bit isn't looked at, with ids of so many bytes in short ones, and in long ones as many as stand
 -- there
-unfoldable pub wide_head_at : ℕ → List ℕ → ℕ → List ℕ → Result (ProtectedHeader × List ℕ) Refusal
-wide_head_at id_len versions whole bytes = do
+unfoldable pub wide_header_at : ℕ → List ℕ → ℕ → List ℕ → Result (ProtectedHeader × List ℕ) Refusal
+wide_header_at id_len versions whole bytes = do
   first ← ok_or (byte_at bytes) at_end
   if nat_lt first.0 128
       then (fixed_parsed id_len first.1 >>= λ id. Ok (head.Short (nat_eq (first.0 / 32 % 2) 1) id.0, drop id.1 first.1))
       else wide_at versions whole first.0 first.1
 
--- the length that a head says
+-- the length that a header says
 abbrev pub len_in : ProtectedHeader → Option ℕ
 len_in (head.Initial h) = Some h.len
 len_in (head.Long ty dst src len version) = Some len
@@ -90,10 +90,10 @@ len_in (head.Retry dst src version) = None
 len_in (head.Short spin dst) = None
 len_in (head.VersionNegotiate random dst src) = None
 
--- a head, where it ends, and where its packet ends
+-- a header, where it ends, and where its packet ends
 unfoldable pub cut_at : Context → List ℕ → Result (ProtectedHeader × ℕ × ℕ) Refusal
 cut_at context bytes = do
-  read ← head_at context (length bytes) bytes
+  read ← header_at context (length bytes) bytes
   let len = unwrap_or (len_in read.0) (length read.1) in
       let place = length bytes - length read.1 in
       if nat_lt (length read.1) len then Err (Invalid (codes "packet too short to contain payload length")) else Ok (read.0, place, place + len)
@@ -118,7 +118,7 @@ token_end (head.Retry dst src version) = 0
 token_end (head.Short spin dst) = 0
 token_end (head.VersionNegotiate random dst src) = 0
 
--- a head that ends at this place takes its first byte, and its token lies in it
+-- a header that ends at this place takes its first byte, and its token lies in it
 pub record IsPlaced (h : ProtectedHeader) (at : ℕ) : Type 0 where
   pub after_first : 0 < at
   pub token_order : token_start h ≤ token_end h

@@ -14,7 +14,7 @@ use quic_base::ids::{ConnectionId, SpaceId};
 use quic_header_encode::long_type::LongType;
 use std::marker::Model;
 
-/// A packet that was cut from a datagram, with its head's protection still on.
+/// A packet that was cut from a datagram, with its header's protection still on.
 #[derive(Debug, Drop)]
 pub struct PartialDecode {
     pub(crate) plain_header: ProtectedHeader,
@@ -29,14 +29,14 @@ impl Model for PartialDecode {
 
     ghost Value = { CutPacket };
 
-    ghost view = { λ p. record { head = p.plain_header; head_end = p.position; bytes = p.packet.items } };
+    ghost view = { λ p. record { head = p.plain_header; header_end = p.position; bytes = p.packet.items } };
 
     ghost invariant = { λ p. IsPlaced p.plain_header p.position × (p.position ≤ length p.packet.items) };
 }
 
 impl PartialDecode {
     /// Cuts the first packet from a datagram, and gives what follows it. An Initial, Handshake or 0-RTT packet
-    /// ends where its head says; the others take the whole datagram. Where no head can be read the refusal is
+    /// ends where its header says; the others take the whole datagram. Where no header can be read the refusal is
     /// that of `ProtectedHeader::decode`; a length beyond the end is `InvalidHeader("packet too short to
     /// contain payload length")`. `OutOfMemory` comes only of a parser that takes memory, and where something
     /// follows the packet.
@@ -51,7 +51,7 @@ impl PartialDecode {
         grease: bool,
     ) -> Result<(Self, Option<BytesMut>), PacketDecodeError>
         ensures answer { Answers (CutAnswer (record { parsed = P.parsed parser.now; versions = versions.now; grease = grease }) bytes.items)
-            (λ answer. Gives (λ x. (x.0.head, x.0.head_end, length x.0.bytes)) result answer) }
+            (λ answer. Gives (λ x. (x.0.head, x.0.header_end, length x.0.bytes)) result answer) }
         ensures packet { IfOk result (λ x. x.0.bytes ≡ take (length x.0.bytes) bytes.items) }
         ensures rest { IfOk result (λ x. IsRest x.1 (drop (length x.0.bytes) bytes.items)) }
         ensures shorter { IfOk result (λ x. IfSome x.1 (λ rest. length rest.items < length bytes.items)) }
@@ -71,7 +71,7 @@ impl PartialDecode {
         versions: &[u32],
         grease: bool,
     ) -> Result<(Self, Option<BytesMut>), PacketDecodeError>
-        ensures exact { Gives (λ x. (x.0.head, x.0.head_end, length x.0.bytes)) result
+        ensures exact { Gives (λ x. (x.0.head, x.0.header_end, length x.0.bytes)) result
             (cut_at (record { parsed = P.parsed parser.now; versions = versions.now; grease = grease }) bytes.items) }
         ensures packet { IfOk result (λ x. x.0.bytes ≡ take (length x.0.bytes) bytes.items) }
         ensures rest { IfOk result (λ x. IsRest x.1 (drop (length x.0.bytes) bytes.items)) }
@@ -79,7 +79,7 @@ impl PartialDecode {
             ⊎ MatchResult (cut_at (record { parsed = P.parsed parser.now; versions = versions.now; grease = grease }) bytes.items) (λ x. x.2 < length bytes.items) (λ _. ⊥) }
     {
         let mut buf = Cursor::new(bytes);
-        let read = ProtectedHeader::decode_head(&mut buf, parser, versions, grease);
+        let read = ProtectedHeader::decode_header(&mut buf, parser, versions, grease);
         let position = buf.position();
         let remaining = buf.remaining() as u64;
         let mut datagram = buf.into_inner();
@@ -135,7 +135,7 @@ impl PartialDecode {
         &self.plain_header
     }
 
-    /// The head, if this is an Initial packet.
+    /// The header, if this is an Initial packet.
     pub fn initial_header(&self) -> Option<&ProtectedInitialHeader>
         ensures some { IfSome result (λ h. self.now.head ≡ ProtectedHeader.Initial h.now) }
         ensures none { IsNone result → IsInitial self.now.head → ⊥ }
@@ -169,7 +169,7 @@ impl PartialDecode {
         }
     }
 
-    /// Whether the head is long: any but a short one.
+    /// Whether the header is long: any but a short one.
     pub fn has_long_header(&self) -> bool
         ensures { IsTrue result ↔ (IsShort self.now.head → ⊥) }
     {

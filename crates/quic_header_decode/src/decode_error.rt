@@ -11,7 +11,7 @@ use thiserror::Error;
 /// read then either: the datagram is given up.
 #[derive(Clone, Copy, Debug, PartialEq, Eq, PartialOrd, Ord, Hash, Drop, Error)]
 pub enum PacketDecodeError {
-    /// The version of a long head is none of those that the endpoint speaks (RFC 9000, section 6.1).
+    /// The version of a long header is none of those that the endpoint speaks (RFC 9000, section 6.1).
     #[error("unsupported version {version:x}")]
     UnsupportedVersion {
         /// The sender's id.
@@ -21,7 +21,7 @@ pub enum PacketDecodeError {
         /// The version.
         version: u32,
     },
-    /// The head or the packet is malformed, as the text says.
+    /// The header or the packet is malformed, as the text says.
     #[error("invalid header: {0}")]
     InvalidHeader(&'static str),
     /// Memory ran out.

@@ -1,4 +1,4 @@
-//! The fields of heads, taken from bytes at a place, which moves behind what was taken.
+//! The fields of headers, taken from bytes at a place, which moves behind what was taken.
 ghost use Rattle.std.specs.Prelude.{◌≡◌, ◌+◌, ◌<◌, ◌≤◌, Some, None, drop, length, slice_range, IfSome, MatchOption};
 ghost use Rattle.quic_base.specs.Number.{AreBytes};
 ghost use Rattle.quic_base.specs.Reading.{number_at};

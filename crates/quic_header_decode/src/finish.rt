@@ -1,4 +1,4 @@
-//! Protection is taken off heads (RFC 9001, section 5.4).
+//! Protection is taken off headers (RFC 9001, section 5.4).
 ghost use Rattle.std.specs.Prelude.{◌≡◌, ◌≤◌, ◌<◌, ◌++◌, length, take, drop, IfOk, IfErr, IsTrue, IsSome, IfSome, true, false, slice_range};
 ghost use Rattle.quic_crypto.specs.Keys.{HasSample};
 ghost use Rattle.quic_header_decode.specs.Finish.{sample_refusal, IsUnfinished, IsNumberIn};
@@ -15,22 +15,22 @@ use quic_crypto::packet_number::PacketNumber;
 use quic_header_encode::header::{Header, InitialHeader};
 
 impl PartialDecode {
-    /// Takes the protection off the packet's head, and cuts the packet behind the head, which ends with the
+    /// Takes the protection off the packet's header, and cuts the packet behind the header, which ends with the
     /// packet number. Refused with `InvalidHeader("packet too short to extract header protection sample")`
     /// exactly where fewer than four bytes and the sample follow the place where the number begins; else only
     /// with `OutOfMemory`. A Retry or version negotiation has no protection: it needs no key, and comes as it
     /// stands. The caller must give a key for the others, which are those with a `space()`.
     pub fn finish<H: HeaderKey>(self, key: Option<&H>) -> Result<Packet, PacketDecodeError>
         requires { IsTrue (is_protected self.head) → IsSome key }
-        ensures opened { IfOk result (λ packet. IsOpened self.head self.head_end packet.header (packet.header_data ++ packet.payload.items) (length packet.header_data)) }
+        ensures opened { IfOk result (λ packet. IsOpened self.head self.header_end packet.header (packet.header_data ++ packet.payload.items) (length packet.header_data)) }
         ensures plain { IfOk result (λ packet. is_protected self.head ≡ false
             → packet.header_data ++ packet.payload.items ≡ self.bytes) }
         ensures unprotected { IfOk result (λ packet. IfSome key.entry (λ k. IsTrue (is_protected self.head)
-            → packet.header_data ++ packet.payload.items ≡ H.unprotected k.now self.head_end self.bytes)) }
+            → packet.header_data ++ packet.payload.items ≡ H.unprotected k.now self.header_end self.bytes)) }
         ensures sample { IfOk result (λ _. IfSome key.entry (λ k. IsTrue (is_protected self.head)
-            → HasSample (H.sample_len k.now) self.head_end self.bytes)) }
+            → HasSample (H.sample_len k.now) self.header_end self.bytes)) }
         ensures refused { IfErr result (λ e. IfSome key.entry (λ k. IsTrue (is_protected self.head)
-            → IsUnfinished (HasSample (H.sample_len k.now) self.head_end self.bytes) (refusal_of e))) }
+            → IsUnfinished (HasSample (H.sample_len k.now) self.header_end self.bytes) (refusal_of e))) }
         ensures refused_plain { IfErr result (λ e. is_protected self.head ≡ false → refusal_of e ≡ NoMemory) }
     {
         if self.has_protection() {
@@ -53,13 +53,13 @@ impl PartialDecode {
         }
     }
 
-    // Takes the protection off the head of a packet that has one.
+    // Takes the protection off the header of a packet that has one.
     fn finish_protected<H: HeaderKey>(self, key: &H) -> Result<Packet, PacketDecodeError>
         requires { IsTrue (is_protected self.head) }
-        ensures opened { IfOk result (λ packet. IsOpenedBy true self.head self.head_end packet.header (packet.header_data ++ packet.payload.items) (length packet.header_data)) }
-        ensures unprotected { IfOk result (λ packet. packet.header_data ++ packet.payload.items ≡ H.unprotected key.now self.head_end self.bytes) }
-        ensures sample { IfOk result (λ _. HasSample (H.sample_len key.now) self.head_end self.bytes) }
-        ensures refused { IfErr result (λ e. IsUnfinished (HasSample (H.sample_len key.now) self.head_end self.bytes) (refusal_of e)) }
+        ensures opened { IfOk result (λ packet. IsOpenedBy true self.head self.header_end packet.header (packet.header_data ++ packet.payload.items) (length packet.header_data)) }
+        ensures unprotected { IfOk result (λ packet. packet.header_data ++ packet.payload.items ≡ H.unprotected key.now self.header_end self.bytes) }
+        ensures sample { IfOk result (λ _. HasSample (H.sample_len key.now) self.header_end self.bytes) }
+        ensures refused { IfErr result (λ e. IsUnfinished (HasSample (H.sample_len key.now) self.header_end self.bytes) (refusal_of e)) }
     {
         let PartialDecode {
             plain_header,
@@ -110,7 +110,7 @@ impl PartialDecode {
     // Gives a packet without protection as it stands.
     fn finish_plain(self) -> Result<Packet, PacketDecodeError>
         requires { is_protected self.head ≡ false }
-        ensures opened { IfOk result (λ packet. IsOpenedBy false self.head self.head_end packet.header (packet.header_data ++ packet.payload.items) (length packet.header_data)) }
+        ensures opened { IfOk result (λ packet. IsOpenedBy false self.head self.header_end packet.header (packet.header_data ++ packet.payload.items) (length packet.header_data)) }
         ensures plain { IfOk result (λ packet. packet.header_data ++ packet.payload.items ≡ self.bytes) }
         ensures refused { IfErr result (λ e. refusal_of e ≡ NoMemory) }
     {
@@ -151,7 +151,7 @@ impl PartialDecode {
     }
 }
 
-// Takes the protection off a head whose number stands at a place, and reads the number.
+// Takes the protection off a header whose number stands at a place, and reads the number.
 #[tactic(auto, using(crate::proofs::Finishes::number_at_place))]
 fn decrypt_header<H: HeaderKey>(
     packet: &mut BytesMut,
@@ -181,7 +181,7 @@ fn decrypt_header<H: HeaderKey>(
     }
 }
 
-// A packet whose head ends at the buffer's place.
+// A packet whose header ends at the buffer's place.
 fn finish_with(packet: BytesMut, end: usize, header: Header) -> Result<Packet, PacketDecodeError>
     requires { end ≤ length packet.items }
     ensures header { IfOk result (λ x. x.header ≡ header) }
@@ -189,7 +189,7 @@ fn finish_with(packet: BytesMut, end: usize, header: Header) -> Result<Packet, P
     ensures len { IfOk result (λ x. length x.header_data ≡ end) }
     ensures err { IfErr result (λ e. refusal_of e ≡ NoMemory) }
 {
-    let (header_data, payload) = match split_head(packet, end) {
+    let (header_data, payload) = match split_header(packet, end) {
         Ok(parts) => parts,
         Err(e) => return Err(e),
     };
@@ -201,7 +201,7 @@ fn finish_with(packet: BytesMut, end: usize, header: Header) -> Result<Packet, P
 }
 
 // Cuts a packet behind its head.
-fn split_head(mut packet: BytesMut, end: usize) -> Result<(Bytes, BytesMut), PacketDecodeError>
+fn split_header(mut packet: BytesMut, end: usize) -> Result<(Bytes, BytesMut), PacketDecodeError>
     requires { end ≤ length packet.items }
     ensures head { IfOk result (λ x. x.0 ≡ take end packet.items) }
     ensures rest { IfOk result (λ x. x.1.items ≡ drop end packet.items) }
@@ -241,7 +241,7 @@ fn finish_initial(
         len: _,
         version,
     } = head;
-    let (header_data, payload) = match split_head(packet, end) {
+    let (header_data, payload) = match split_header(packet, end) {
         Ok(parts) => parts,
         Err(e) => return Err(e),
     };

@@ -1,38 +1,38 @@
-//! Laws of heads and cuts, which no single call carries. The functions do nothing.
+//! Laws of headers and cuts, which no single call carries. The functions do nothing.
 ghost use Rattle.std.specs.Prelude.{◌≡◌, ◌+◌, ◌<◌, ◌≤◌, ◌++◌, List, ℕ, Result, Ok, Some, None, Option, length, take, drop, codes, slice_index, ◌^◌, IsTrue, [], ◌∷◌, Contains, Bool};
 ghost use Rattle.quic_base.specs.Number.{AreBytes};
 ghost use Rattle.quic_header_decode.specs.Datagram.{Placed, ArePackets, packets_in};
-ghost use Rattle.quic_header_decode.specs.Grammar.{is_fixed, Head, HeadAnswer, Refused, Cut, CutAnswer, Uncut, IsKnown};
+ghost use Rattle.quic_header_decode.specs.Grammar.{is_fixed, HeaderAt, HeaderAnswer, Refused, Cut, CutAnswer, Uncut, IsKnown};
 ghost use Rattle.quic_base.specs.Varint.{Encodes};
 ghost use Rattle.quic_crypto.specs.PacketNumbers.{number_bytes};
-ghost use Rattle.quic_header_encode.specs.Writing.{header_bytes, head_with};
+ghost use Rattle.quic_header_encode.specs.Writing.{header_bytes, header_with};
 ghost use Rattle.quic_header_decode.specs.Places.{any_fixed, ends_at, said_in, ReadAnswer};
-ghost use Rattle.quic_header_decode.specs.Reading.{Context, TakesWithin, cut_at, head_at, len_in};
+ghost use Rattle.quic_header_decode.specs.Reading.{Context, TakesWithin, cut_at, header_at, len_in};
 ghost use Rattle.quic_header_decode.specs.Refusal.{Refusal, Invalid, Unsupported};
 
-use crate::places::HeadPlaces;
+use crate::places::HeaderPlaces;
 use crate::protected::ProtectedHeader;
 use quic_crypto::packet_number::PacketNumber;
 use quic_header_encode::header::{Header, InitialHeader};
 use quic_header_encode::long_type::LongType;
 
-/// Bytes begin with one head or have one refusal, and so has what is cut from them; reading finds that
+/// Bytes begin with one header or have one refusal, and so has what is cut from them; reading finds that
 /// answer, where the parser of ids takes no more than is there.
 pub fn one_answer()
     ensures head { (context : Context) (whole : ℕ) (bytes : List ℕ) (one other : Result (ProtectedHeader
         × List ℕ) Refusal)
-        → AreBytes bytes → HeadAnswer context whole bytes one → HeadAnswer context whole bytes other → one ≡ other }
+        → AreBytes bytes → HeaderAnswer context whole bytes one → HeaderAnswer context whole bytes other → one ≡ other }
     ensures cut { (context : Context) (bytes : List ℕ) (one other : Result (ProtectedHeader × ℕ × ℕ) Refusal)
         → AreBytes bytes → CutAnswer context bytes one → CutAnswer context bytes other → one ≡ other }
-    ensures head_found { (context : Context) (whole : ℕ) (bytes : List ℕ) → AreBytes bytes → length bytes ≤ whole
+    ensures header_found { (context : Context) (whole : ℕ) (bytes : List ℕ) → AreBytes bytes → length bytes ≤ whole
         → TakesWithin context
-        → HeadAnswer context whole bytes (head_at context whole bytes) }
+        → HeaderAnswer context whole bytes (header_at context whole bytes) }
     ensures cut_found { (context : Context) (bytes : List ℕ) → AreBytes bytes → TakesWithin context
         → CutAnswer context bytes (cut_at context bytes) }
 {}
 
-/// Bytes begin with one head, with the ids of one version that isn't known, or with one refusal, where ids of short
-/// heads have one length and the fixed bit isn't looked at.
+/// Bytes begin with one header, with the ids of one version that isn't known, or with one refusal, where ids of short
+/// headers have one length and the fixed bit isn't looked at.
 pub fn one_reading()
     ensures { (id_len : ℕ) (versions bytes : List ℕ) (one other : Result (ProtectedHeader × List ℕ) Refusal)
         → AreBytes bytes
@@ -54,10 +54,10 @@ pub fn ends()
     // It takes a byte, so what follows it is shorter than the datagram.
     ensures some { (context : Context) (bytes : List ℕ) (h : ProtectedHeader) (p q : ℕ)
         → Cut context bytes h p q → 0 < q }
-    // A packet whose head says its length has the same head and the same end, whatever follows it.
+    // A packet whose header says its length has the same header and the same end, whatever follows it.
     ensures alone { (context : Context) (bytes other : List ℕ) (h : ProtectedHeader) (p q len : ℕ)
         → Cut context bytes h p q → len_in h ≡ Some len → Cut context (take q bytes ++ other) h p q }
-    // A long head that is refused for its fixed bit or for its version is refused so, whatever follows.
+    // A long header that is refused for its fixed bit or for its version is refused so, whatever follows.
     ensures fixed { (context : Context) (bytes other : List ℕ) → 128 ≤ slice_index bytes 0
         → Refused context bytes (Invalid (codes "fixed bit unset"))
         → Refused context (bytes ++ other) (Invalid (codes "fixed bit unset")) }
@@ -66,40 +66,40 @@ pub fn ends()
         → Refused context (bytes ++ other) (Unsupported src dst version) }
 {}
 
-/// A head that was read as places begins the packet that `packet_end` says, or one that is cut off.
+/// A header that was read as places begins the packet that `packet_end` says, or one that is cut off.
 pub fn places_cut()
-    ensures whole { (context : Context) (bytes : List ℕ) (x : HeadPlaces) (q : ℕ)
-        → Head context (length bytes) bytes (said_in bytes x) (drop x.head_end bytes) → x.head_end ≤ length bytes
-        → ends_at x (length bytes) ≡ Some q → Cut context bytes (said_in bytes x) x.head_end q }
-    ensures cut_off { (context : Context) (bytes : List ℕ) (x : HeadPlaces)
-        → Head context (length bytes) bytes (said_in bytes x) (drop x.head_end bytes) → x.head_end ≤ length bytes
+    ensures whole { (context : Context) (bytes : List ℕ) (x : HeaderPlaces) (q : ℕ)
+        → HeaderAt context (length bytes) bytes (said_in bytes x) (drop x.header_end bytes) → x.header_end ≤ length bytes
+        → ends_at x (length bytes) ≡ Some q → Cut context bytes (said_in bytes x) x.header_end q }
+    ensures cut_off { (context : Context) (bytes : List ℕ) (x : HeaderPlaces)
+        → HeaderAt context (length bytes) bytes (said_in bytes x) (drop x.header_end bytes) → x.header_end ≤ length bytes
         → ends_at x (length bytes) ≡ None
         → Uncut context bytes (Invalid (codes "packet too short to contain payload length")) }
 {}
 
-/// Heads are read back as they are written, before protection is put on, whatever follows them.
+/// Headers are read back as they are written, before protection is put on, whatever follows them.
 pub fn written()
     // The length stands in any encoding, and the number is left.
     ensures initial { (context : Context) (whole start n : ℕ) (h : InitialHeader) (len rest : List ℕ)
         → h.version < 2 ^ 32 → IsKnown context h.version → length h.dst_cid ≤ 20 → length h.src_cid ≤ 20
         → length h.token < 2 ^ 62 → Encodes n len
         → start + length h.token + length (len ++ (number_bytes h.number ++ rest)) ≡ whole
-        → Head context whole (head_with len (Header.Initial h) ++ rest)
+        → HeaderAt context whole (header_with len (Header.Initial h) ++ rest)
         (ProtectedHeader.Initial (record { dst_cid = h.dst_cid; src_cid = h.src_cid; token_pos = record { start = start; end = start + length h.token }; len = n; version = h.version }))
         (number_bytes h.number ++ rest) }
     ensures long { (context : Context) (whole n version : ℕ) (ty : LongType) (dst src len rest : List ℕ) (number : PacketNumber)
         → version < 2 ^ 32 → IsKnown context version → length dst ≤ 20 → length src ≤ 20 → Encodes n len
-        → Head context whole (head_with len (Header.Long ty dst src number version) ++ rest) (ProtectedHeader.Long ty dst src n version) (number_bytes number ++ rest) }
+        → HeaderAt context whole (header_with len (Header.Long ty dst src number version) ++ rest) (ProtectedHeader.Long ty dst src n version) (number_bytes number ++ rest) }
     ensures retry { (context : Context) (whole version : ℕ) (dst src rest : List ℕ) → version < 2 ^ 32
         → IsKnown context version → length dst ≤ 20 → length src ≤ 20
-        → Head context whole (header_bytes (Header.Retry dst src version) ++ rest) (ProtectedHeader.Retry dst src version) rest }
+        → HeaderAt context whole (header_bytes (Header.Retry dst src version) ++ rest) (ProtectedHeader.Retry dst src version) rest }
     ensures short { (context : Context) (whole : ℕ) (spin key_phase : Bool) (dst rest : List ℕ) (number : PacketNumber)
         → context.parsed (dst ++ (number_bytes number ++ rest)) ≡ Ok (dst, length dst)
-        → Head context whole (header_bytes (Header.Short spin key_phase dst number) ++ rest) (ProtectedHeader.Short spin dst) (number_bytes number ++ rest) }
+        → HeaderAt context whole (header_bytes (Header.Short spin key_phase dst number) ++ rest) (ProtectedHeader.Short spin dst) (number_bytes number ++ rest) }
     // Of the first byte, only the bits below the highest are free.
     ensures negotiation { (context : Context) (whole random : ℕ) (dst src rest : List ℕ) → random < 128
         → IsTrue (is_fixed context (128 + random)) → length dst ≤ 20 → length src ≤ 20
-        → Head context whole (header_bytes (Header.VersionNegotiate random src dst) ++ rest) (ProtectedHeader.VersionNegotiate random dst src) rest }
+        → HeaderAt context whole (header_bytes (Header.VersionNegotiate random src dst) ++ rest) (ProtectedHeader.VersionNegotiate random dst src) rest }
 {}
 
 /// Two datagrams of version 1, by their bytes.
@@ -107,7 +107,7 @@ pub fn examples()
     // The client's first Initial packet (RFC 9001, section A.2): ids of eight bytes and of none, no token, and 1182
     // bytes behind the head.
     ensures initial { (context : Context) (rest : List ℕ) → Contains context.versions 1
-        → Head context (18 + length rest)
+        → HeaderAt context (18 + length rest)
         (0xc0 ∷ 0x00 ∷ 0x00 ∷ 0x00 ∷ 0x01 ∷ 0x08 ∷ 0x83 ∷ 0x94 ∷ 0xc8 ∷ 0xf0 ∷ 0x3e ∷ 0x51 ∷ 0x57 ∷ 0x08 ∷ 0x00 ∷ 0x00 ∷ 0x44 ∷ 0x9e ∷ rest)
         (ProtectedHeader.Initial (record { dst_cid = 0x83 ∷ 0x94 ∷ 0xc8 ∷ 0xf0 ∷ 0x3e ∷ 0x51 ∷ 0x57 ∷ 0x08 ∷ []; src_cid = []; token_pos = record { start = 16; end = 16 }; len = 1182; version = 1 })) rest }
     // An Initial packet that ends within its token of five bytes.

@@ -1,36 +1,36 @@
-//! Packets whose heads' protection is taken off (RFC 9000, section 17).
+//! Packets whose headers' protection is taken off (RFC 9000, section 17).
 ghost use Rattle.std.specs.Prelude.{◌≡◌, ◌<◌, length, slice_index, false};
-ghost use Rattle.quic_header_encode.specs.declared.header.Header.TheVariants as heads;
+ghost use Rattle.quic_header_encode.specs.declared.header.Header.TheVariants as headers;
 ghost use Rattle.quic_header_encode.specs.Queries.{reserved_zero};
 
 use bytes::{Bytes, BytesMut};
 use quic_header_encode::header::{Header, InitialHeader};
 
-/// An Initial packet whose head's protection is taken off. Its payload may still be sealed.
+/// An Initial packet whose header's protection is taken off. Its payload may still be sealed.
 #[derive(Debug, Drop)]
 pub struct InitialPacket {
     /// The head.
     pub header: InitialHeader,
-    /// The head's bytes, the packet number among them.
+    /// The header's bytes, the packet number among them.
     pub header_data: Bytes,
     /// What follows the head.
     pub payload: BytesMut,
 }
 
-/// A packet whose head's protection is taken off. Its payload may still be sealed.
+/// A packet whose header's protection is taken off. Its payload may still be sealed.
 #[derive(Debug, Drop)]
 pub struct Packet {
     /// The head.
     pub header: Header,
-    /// The head's bytes, the packet number among them.
+    /// The header's bytes, the packet number among them.
     pub header_data: Bytes,
-    /// What follows the head: of a Retry its token and tag, of a version negotiation the versions.
+    /// What follows the header: of a Retry its token and tag, of a version negotiation the versions.
     pub payload: BytesMut,
 }
 
 impl Packet {
-    /// Whether the reserved bits of the head's first byte are zero, as they have to be (RFC 9000, sections 17.2
-    /// and 17.3.1): 0x18 in a short head, 0x0c in the others. They are not where `header_data` has no byte.
+    /// Whether the reserved bits of the header's first byte are zero, as they have to be (RFC 9000, sections 17.2
+    /// and 17.3.1): 0x18 in a short header, 0x0c in the others. They are not where `header_data` has no byte.
     pub fn reserved_bits_valid(&self) -> bool
         ensures some { 0 < length self.now.header_data
             → result ≡ reserved_zero self.now.header (slice_index self.now.header_data 0) }
@@ -49,7 +49,7 @@ impl Packet {
 
 /// The same packet.
 impl From<InitialPacket> for Packet {
-    ghost from_gives = { λ initial packet. (packet.header ≡ heads.Initial initial.header)
+    ghost from_gives = { λ initial packet. (packet.header ≡ headers.Initial initial.header)
         × (packet.header_data ≡ initial.header_data) × (packet.payload ≡ initial.payload) };
 
     fn from(initial: InitialPacket) -> Packet {

@@ -1,4 +1,4 @@
-//! Parsers of the connection ids of short heads, which say no length.
+//! Parsers of the connection ids of short headers, which say no length.
 ghost use Rattle.std.specs.Prelude.{◌≡◌, ℕ, ◌-◌, ◌≤◌, List, length, drop, Bool, IsTrue, false, Result, IfOk, IsErrOf, MatchResult, ◌≢◌};
 ghost use Rattle.quic_header_decode.specs.Refusal.{Refusal, NoMemory, Gives};
 
@@ -6,7 +6,7 @@ use crate::decode_error::PacketDecodeError;
 use quic_base::coding::Cursor;
 use quic_base::ids::ConnectionId;
 
-/// Takes the connection id of a short head, which doesn't say the id's length. An endpoint knows its own
+/// Takes the connection id of a short header, which doesn't say the id's length. An endpoint knows its own
 /// ids, so it brings the parser.
 pub trait ConnectionIdParser {
     ghost use Rattle.quic_base.specs.Cursor.{unread};

@@ -1,43 +1,43 @@
-//! Heads are read as places in bytes that stay where they are: nothing is copied.
+//! Headers are read as places in bytes that stay where they are: nothing is copied.
 ghost use Rattle.std.specs.Prelude.{◌≡◌, ◌+◌, ◌<◌, ◌≤◌, ◌∷◌, ℕ, Some, None, length, drop, slice_index, slice_range, IfOk, IfSome, MatchOption, ◌==◌};
 ghost use Rattle.std.specs.List.{list_any};
 ghost use Rattle.quic_header_encode.specs.Laying.{IsTyped};
 ghost use Rattle.quic_header_decode.specs.Fields.{Reads, wide_id_at, word_at};
 ghost use Rattle.quic_header_decode.specs.Places.{any_fixed, ends_at, seen_in, type_of, IsFront, IsSeen, ReadAnswer};
-ghost use Rattle.quic_header_decode.specs.Reading.{wide_at, wide_head_at, typed_at};
+ghost use Rattle.quic_header_decode.specs.Reading.{wide_at, wide_header_at, typed_at};
 
 pub use crate::fields::Place;
 use crate::fields::{pass, read_var, read_word, remaining};
 use quic_base::coding::are_bytes;
 use quic_base::ids::MAX_CID_SIZE;
-pub use quic_header_encode::long_type::HeadKind;
+pub use quic_header_encode::long_type::HeaderKind;
 
-/// A packet's head as places in the bytes that the packet begins. What its kind lacks is 0.
+/// A packet's header as places in the bytes that the packet begins. What its kind lacks is 0.
 #[derive(Clone, Copy, Debug, PartialEq, Eq)]
-pub struct HeadPlaces {
+pub struct HeaderPlaces {
     /// The kind.
-    pub kind: HeadKind,
+    pub kind: HeaderKind,
     /// The first byte as it stands.
     pub first: u8,
-    /// The version of QUIC: 0 of short heads, which say none, and of a version negotiation.
+    /// The version of QUIC: 0 of short headers, which say none, and of a version negotiation.
     pub version: u32,
-    /// How many bytes the receiver's id has, which begins at 6 in a long head and at 1 in a short one.
+    /// How many bytes the receiver's id has, which begins at 6 in a long header and at 1 in a short one.
     pub dst_len: usize,
-    /// How many bytes the sender's id has, which begins behind the receiver's and its own length. Short heads have
+    /// How many bytes the sender's id has, which begins behind the receiver's and its own length. Short headers have
     /// none.
     pub src_len: usize,
     /// The token of an Initial packet.
     pub token: Place,
-    /// How many bytes an Initial, Handshake or 0-RTT packet has behind its head, the number's bytes among them.
+    /// How many bytes an Initial, Handshake or 0-RTT packet has behind its header, the number's bytes among them.
     pub len: u64,
-    /// Where the head ends; where the number begins, if the packet has one.
-    pub head_end: usize,
+    /// Where the header ends; where the number begins, if the packet has one.
+    pub header_end: usize,
 }
 
-/// Why no head can be read. Nothing behind the place can be read then either: the datagram is given up.
+/// Why no header can be read. Nothing behind the place can be read then either: the datagram is given up.
 #[derive(Clone, Copy, Debug, PartialEq, Eq)]
 pub enum ReadError {
-    /// The version of a long head is none of those that the endpoint speaks (RFC 9000, section 6.1). Its ids may have
+    /// The version of a long header is none of those that the endpoint speaks (RFC 9000, section 6.1). Its ids may have
     /// up to 255 bytes (RFC 8999, section 5.1).
     UnsupportedVersion {
         /// The version.
@@ -47,18 +47,18 @@ pub enum ReadError {
         /// How many bytes the sender's id has, which begins behind the receiver's and its own length.
         src_len: usize,
     },
-    /// The bytes end within the head: "unexpected end of packet".
+    /// The bytes end within the header: "unexpected end of packet".
     UnexpectedEnd,
-    /// The bytes end within a short head's id: "packet too small".
+    /// The bytes end within a short header's id: "packet too small".
     SmallPacket,
-    /// An id of a long head isn't whole, or has more than 20 bytes in a version that is spoken: "malformed cid".
+    /// An id of a long header isn't whole, or has more than 20 bytes in a version that is spoken: "malformed cid".
     MalformedCid,
     /// The bytes end within the token: "token out of bounds".
     TokenOutOfBounds,
 }
 
-impl HeadPlaces {
-    /// Where the packet ends in so many bytes: where its head says, or with the bytes. None where they end before that.
+impl HeaderPlaces {
+    /// Where the packet ends in so many bytes: where its header says, or with the bytes. None where they end before that.
     #[inline(always)]
     pub fn packet_end(&self, whole: usize) -> Option<usize>
         ensures value { result ≡ ends_at self.now whole }
@@ -67,33 +67,33 @@ impl HeadPlaces {
         if !self.kind.has_len() {
             return Some(whole);
         }
-        if whole < self.head_end || ((whole - self.head_end) as u64) < self.len {
+        if whole < self.header_end || ((whole - self.header_end) as u64) < self.len {
             return None;
         }
-        Some(self.head_end + self.len as usize)
+        Some(self.header_end + self.len as usize)
     }
 }
 
-/// Reads the head at the front of bytes, in the order of its fields, also where the packet is cut off behind it. Ids of
-/// short heads have `id_len` bytes, of which the caller must ensure that they are at most 20; `versions` are those that
+/// Reads the header at the front of bytes, in the order of its fields, also where the packet is cut off behind it. Ids of
+/// short headers have `id_len` bytes, of which the caller must ensure that they are at most 20; `versions` are those that
 /// are read further than their ids. The first field that can't be read is the refusal. Nothing is allocated.
 ///
 /// The fixed bit is not looked at: it stands in `first`. In a version negotiation clients ignore it (RFC 9000, section
 /// 17.2.1).
 #[inline(always)]
-pub fn read_head(bytes: &[u8], id_len: usize, versions: &[u32]) -> Result<HeadPlaces, ReadError>
+pub fn read_header(bytes: &[u8], id_len: usize, versions: &[u32]) -> Result<HeaderPlaces, ReadError>
     requires { id_len ≤ MAX_CID_SIZE }
     ensures answer { ReadAnswer (any_fixed id_len versions.now) bytes.now (seen_in bytes.now result) }
     ensures seen { IsSeen result (length bytes.now) }
     ensures first { IfOk result (λ x. x.first ≡ slice_index bytes.now 0) }
 {
     are_bytes(bytes);
-    scan_head(bytes, id_len, versions)
+    scan_header(bytes, id_len, versions)
 }
 
-/// The same of bytes that begin with a long head's first byte, which is given.
+/// The same of bytes that begin with a long header's first byte, which is given.
 #[inline(always)]
-pub fn read_long(bytes: &[u8], first: u8, versions: &[u32]) -> Result<HeadPlaces, ReadError>
+pub fn read_long(bytes: &[u8], first: u8, versions: &[u32]) -> Result<HeaderPlaces, ReadError>
     requires begins { bytes.now ≡ first ∷ drop 1 bytes.now }
     requires long { 128 ≤ first }
     ensures answer { (id_len : ℕ) → ReadAnswer (any_fixed id_len versions.now) bytes.now (seen_in bytes.now result) }
@@ -106,10 +106,10 @@ pub fn read_long(bytes: &[u8], first: u8, versions: &[u32]) -> Result<HeadPlaces
 
 // Reads a head.
 #[inline(always)]
-#[tactic(auto, unfolding(crate::specs::Reading::wide_head_at))]
-fn scan_head(bytes: &[u8], id_len: usize, versions: &[u32]) -> Result<HeadPlaces, ReadError>
+#[tactic(auto, unfolding(crate::specs::Reading::wide_header_at))]
+fn scan_header(bytes: &[u8], id_len: usize, versions: &[u32]) -> Result<HeaderPlaces, ReadError>
     requires { id_len ≤ MAX_CID_SIZE }
-    ensures exact { wide_head_at id_len versions.now (length bytes.now) bytes.now ≡ seen_in bytes.now result }
+    ensures exact { wide_header_at id_len versions.now (length bytes.now) bytes.now ≡ seen_in bytes.now result }
     ensures seen { IsSeen result (length bytes.now) }
     ensures first { IfOk result (λ x. x.first ≡ slice_index bytes.now 0) }
 {
@@ -123,15 +123,15 @@ fn scan_head(bytes: &[u8], id_len: usize, versions: &[u32]) -> Result<HeadPlaces
     if remaining(bytes, 1) < id_len {
         return Err(ReadError::SmallPacket);
     }
-    Ok(HeadPlaces {
-        kind: HeadKind::Short,
+    Ok(HeaderPlaces {
+        kind: HeaderKind::Short,
         first,
         version: 0,
         dst_len: id_len,
         src_len: 0,
         token: Place { start: 0, end: 0 },
         len: 0,
-        head_end: 1 + id_len,
+        header_end: 1 + id_len,
     })
 }
 
@@ -176,10 +176,10 @@ fn read_id_len(bytes: &[u8], at: usize) -> Option<usize>
     Some(len)
 }
 
-// Reads a long head, whose first byte is given.
+// Reads a long header, whose first byte is given.
 #[inline(always)]
 #[tactic(auto, unfolding(crate::specs::Reading::wide_at))]
-fn scan_long(bytes: &[u8], first: u8, versions: &[u32]) -> Result<HeadPlaces, ReadError>
+fn scan_long(bytes: &[u8], first: u8, versions: &[u32]) -> Result<HeaderPlaces, ReadError>
     requires some { 1 ≤ length bytes.now }
     requires long { 128 ≤ first }
     ensures exact { wide_at versions.now (length bytes.now) first (drop 1 bytes.now) ≡ seen_in bytes.now result }
@@ -205,37 +205,37 @@ fn scan_long(bytes: &[u8], first: u8, versions: &[u32]) -> Result<HeadPlaces, Re
     if dst_len > MAX_CID_SIZE || src_len > MAX_CID_SIZE {
         return Err(ReadError::MalformedCid);
     }
-    let front = HeadPlaces {
-        kind: HeadKind::VersionNegotiate,
+    let front = HeaderPlaces {
+        kind: HeaderKind::VersionNegotiate,
         first,
         version,
         dst_len,
         src_len,
         token: Place { start: 0, end: 0 },
         len: 0,
-        head_end: 6 + dst_len + 1 + src_len,
+        header_end: 6 + dst_len + 1 + src_len,
     };
     if version == 0 {
         return Ok(front);
     }
-    read_typed(bytes, HeadKind::of_long(first, version), front)
+    read_typed(bytes, HeaderKind::of_long(first, version), front)
 }
 
-// Reads what follows the ids in a long head of a type.
+// Reads what follows the ids in a long header of a type.
 #[inline(always)]
 #[tactic(auto, unfolding(crate::specs::Reading::typed_at))]
-fn read_typed(bytes: &[u8], kind: HeadKind, front: HeadPlaces) -> Result<HeadPlaces, ReadError>
+fn read_typed(bytes: &[u8], kind: HeaderKind, front: HeaderPlaces) -> Result<HeaderPlaces, ReadError>
     requires typed { IsTyped kind }
     requires front { IsFront front (length bytes.now) }
     ensures exact { typed_at (type_of kind) (length bytes.now) (slice_range bytes.now 6 (6 + front.dst_len))
-        (slice_range bytes.now (6 + front.dst_len + 1) (6 + front.dst_len + 1 + front.src_len)) front.version (drop front.head_end bytes.now)
+        (slice_range bytes.now (6 + front.dst_len + 1) (6 + front.dst_len + 1 + front.src_len)) front.version (drop front.header_end bytes.now)
         ≡ seen_in bytes.now result }
     ensures seen { IsSeen result (length bytes.now) }
     ensures first { IfOk result (λ x. x.first ≡ front.first) }
 {
-    let mut place = front.head_end;
+    let mut place = front.header_end;
     match kind {
-        HeadKind::Initial => {
+        HeaderKind::Initial => {
             let Some(token_len) = read_var(bytes, &mut place) else {
                 return Err(ReadError::UnexpectedEnd);
             };
@@ -248,23 +248,23 @@ fn read_typed(bytes: &[u8], kind: HeadKind, front: HeadPlaces) -> Result<HeadPla
             let Some(len) = read_var(bytes, &mut place) else {
                 return Err(ReadError::UnexpectedEnd);
             };
-            Ok(HeadPlaces {
+            Ok(HeaderPlaces {
                 kind,
                 token: Place { start, end },
                 len,
-                head_end: place,
+                header_end: place,
                 ..front
             })
         }
-        HeadKind::Retry => Ok(HeadPlaces { kind, ..front }),
+        HeaderKind::Retry => Ok(HeaderPlaces { kind, ..front }),
         _ => {
             let Some(len) = read_var(bytes, &mut place) else {
                 return Err(ReadError::UnexpectedEnd);
             };
-            Ok(HeadPlaces {
+            Ok(HeaderPlaces {
                 kind,
                 len,
-                head_end: place,
+                header_end: place,
                 ..front
             })
         }

@@ -1,9 +1,9 @@
-//! Heads of packets as they are read before their protection is taken off (RFC 9000, section 17).
+//! Headers of packets as they are read before their protection is taken off (RFC 9000, section 17).
 ghost use Rattle.std.specs.Prelude.{◌≡◌, ◌<◌, ◌≤◌, length, IsTrue, Err, IfOk, IsErrOf, ◌≢◌, drop};
 ghost use Rattle.quic_header_decode.specs.Refusal.{Gives, Answers};
-ghost use Rattle.quic_header_decode.specs.Grammar.{HeadAnswer};
+ghost use Rattle.quic_header_decode.specs.Grammar.{HeaderAnswer};
 ghost use Rattle.quic_header_decode.specs.Queries.{dst_of};
-ghost use Rattle.quic_header_decode.specs.Reading.{head_at, long_at, typed_at, len_in, IsPlaced};
+ghost use Rattle.quic_header_decode.specs.Reading.{header_at, long_at, typed_at, len_in, IsPlaced};
 
 use crate::decode_error::PacketDecodeError;
 use crate::fields::{pass, read_id, read_var, read_word, remaining};
@@ -13,7 +13,7 @@ use quic_base::ids::ConnectionId;
 use quic_header_encode::long_type::{LongHeaderType, LongType};
 use std::ops::Range;
 
-/// What an Initial packet's head says before its protection is taken off (RFC 9000, section 17.2.2).
+/// What an Initial packet's header says before its protection is taken off (RFC 9000, section 17.2.2).
 #[derive(Clone, Debug, Drop)]
 pub struct ProtectedInitialHeader {
     /// The receiver's id.
@@ -22,18 +22,18 @@ pub struct ProtectedInitialHeader {
     pub src_cid: ConnectionId,
     /// Where the token stands in the bytes of the cursor; after `PartialDecode::new`, in the packet.
     pub token_pos: Range<usize>,
-    /// How many bytes the packet has behind its head, the number's bytes among them.
+    /// How many bytes the packet has behind its header, the number's bytes among them.
     pub len: u64,
     /// The version of QUIC.
     pub version: u32,
 }
 
-/// What a packet's head says before its protection is taken off.
+/// What a packet's header says before its protection is taken off.
 #[derive(Clone, Debug, Drop)]
 pub enum ProtectedHeader {
-    /// The head of an Initial packet.
+    /// The header of an Initial packet.
     Initial(ProtectedInitialHeader),
-    /// The head of a Handshake or 0-RTT packet (RFC 9000, sections 17.2.3 and 17.2.4).
+    /// The header of a Handshake or 0-RTT packet (RFC 9000, sections 17.2.3 and 17.2.4).
     Long {
         /// Which of the two.
         ty: LongType,
@@ -41,12 +41,12 @@ pub enum ProtectedHeader {
         dst_cid: ConnectionId,
         /// The sender's id.
         src_cid: ConnectionId,
-        /// How many bytes the packet has behind its head, the number's bytes among them.
+        /// How many bytes the packet has behind its header, the number's bytes among them.
         len: u64,
         /// The version of QUIC.
         version: u32,
     },
-    /// The head of a Retry packet (RFC 9000, section 17.2.5). What follows it is its token and tag.
+    /// The header of a Retry packet (RFC 9000, section 17.2.5). What follows it is its token and tag.
     Retry {
         /// The receiver's id.
         dst_cid: ConnectionId,
@@ -55,14 +55,14 @@ pub enum ProtectedHeader {
         /// The version of QUIC.
         version: u32,
     },
-    /// The head of a 1-RTT packet (RFC 9000, section 17.3.1).
+    /// The header of a 1-RTT packet (RFC 9000, section 17.3.1).
     Short {
         /// The bit for measuring round trips.
         spin: bool,
         /// The receiver's id.
         dst_cid: ConnectionId,
     },
-    /// The head of a version negotiation (RFC 9000, section 17.2.1). What follows it are the versions.
+    /// The header of a version negotiation (RFC 9000, section 17.2.1). What follows it are the versions.
     VersionNegotiate {
         /// The first byte without its highest bit.
         random: u8,
@@ -76,12 +76,12 @@ pub enum ProtectedHeader {
 impl ProtectedHeader {
     ghost use Rattle.quic_base.specs.Cursor.{unread};
 
-    /// Reads the head at the cursor's place, in the order of its fields: the first that can't be read is the
-    /// refusal. Afterwards the cursor stands at the head's end; after an error its place is open. Its bytes
+    /// Reads the header at the cursor's place, in the order of its fields: the first that can't be read is the
+    /// refusal. Afterwards the cursor stands at the header's end; after an error its place is open. Its bytes
     /// stay. `versions` are those that are read further than their ids; with `grease` the fixed bit may be
     /// clear (RFC 9287). `OutOfMemory` comes only of a parser that takes memory.
     ///
-    /// Without `grease` every head whose fixed bit is clear is refused, as in quinn-proto, though clients ignore that
+    /// Without `grease` every header whose fixed bit is clear is refused, as in quinn-proto, though clients ignore that
     /// bit in a version negotiation (RFC 9000, section 17.2.1), and a version that isn't known may use it for anything
     /// (RFC 8999, section 5.1).
     #[inline(always)]
@@ -92,20 +92,20 @@ impl ProtectedHeader {
         grease: bool,
     ) -> Result<Self, PacketDecodeError>
         ensures bytes { buf.new.bytes ≡ buf.old.bytes }
-        ensures answer { Answers (HeadAnswer (record { parsed = P.parsed parser.now; versions = versions.now; grease = grease }) (length buf.old.bytes.items) (unread buf.old))
+        ensures answer { Answers (HeaderAnswer (record { parsed = P.parsed parser.now; versions = versions.now; grease = grease }) (length buf.old.bytes.items) (unread buf.old))
             (λ answer. Gives (λ h. (h, unread buf.new)) result answer) }
         ensures memory { IsErrOf result PacketDecodeError.OutOfMemory → IsTrue (P.takes_memory parser.now) }
         ensures places { IfOk result (λ h. IsPlaced h buf.new.position) }
     {
         let _rest = buf.rest();
         let _len = buf.remaining();
-        Self::decode_head(buf, parser, versions, grease)
+        Self::decode_header(buf, parser, versions, grease)
     }
 
-    // Short heads are read where this stands, long ones by a call.
+    // Short headers are read where this stands, long ones by a call.
     #[inline(always)]
-    #[tactic(auto, unfolding(crate::specs::Reading::head_at))]
-    pub(crate) fn decode_head<P: ConnectionIdParser>(
+    #[tactic(auto, unfolding(crate::specs::Reading::header_at))]
+    pub(crate) fn decode_header<P: ConnectionIdParser>(
         buf: &mut Cursor,
         parser: &P,
         versions: &[u32],
@@ -113,7 +113,7 @@ impl ProtectedHeader {
     ) -> Result<Self, PacketDecodeError>
         ensures bytes { buf.new.bytes ≡ buf.old.bytes }
         ensures exact { Gives (λ h. (h, unread buf.new)) result
-            (head_at (record { parsed = P.parsed parser.now; versions = versions.now; grease = grease }) (length buf.old.bytes.items) (unread buf.old)) }
+            (header_at (record { parsed = P.parsed parser.now; versions = versions.now; grease = grease }) (length buf.old.bytes.items) (unread buf.old)) }
         ensures memory { IsErrOf result PacketDecodeError.OutOfMemory → IsTrue (P.takes_memory parser.now) }
         ensures places { IfOk result (λ h. IsPlaced h buf.new.position) }
     {
@@ -135,7 +135,7 @@ impl ProtectedHeader {
         Self::decode_long(buf, first, versions)
     }
 
-    // Reads a long head behind its first byte at the cursor's place.
+    // Reads a long header behind its first byte at the cursor's place.
     #[inline(always)]
     fn decode_long(buf: &mut Cursor, first: u8, versions: &[u32]) -> Result<Self, PacketDecodeError>
         requires long { 128 ≤ first }
@@ -152,8 +152,8 @@ impl ProtectedHeader {
         head
     }
 
-    // Reads a long head behind its first byte, and moves the place behind what was read. It is one function, so that
-    // each head is put together once, and not once for each call that it goes through. Each kind returns by itself, and
+    // Reads a long header behind its first byte, and moves the place behind what was read. It is one function, so that
+    // each header is put together once, and not once for each call that it goes through. Each kind returns by itself, and
     // builds the sender's id itself, so that its words go from where they are read to their places in the answer.
     #[inline(never)]
     #[tactic(auto, unfolding(crate::specs::Reading::long_at, crate::specs::Reading::typed_at))]
@@ -246,7 +246,7 @@ impl ProtectedHeader {
 }
 
 impl ProtectedHeader {
-    // The length that the head says.
+    // The length that the header says.
     #[inline]
     pub(crate) fn payload_len(&self) -> Option<u64>
         ensures { result ≡ len_in self.now }

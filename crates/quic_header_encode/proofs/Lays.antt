@@ -67,7 +67,7 @@ pub no_token_laid : (n : ℕ) (token front laid : List ℕ) → n ≡ length tok
 no_token_laid n [] front laid is none e = sym (append-nil laid) ∙ token_laid n [] front laid is (omega (arith, none)) e
 no_token_laid n (x ∷ xs) front laid is none e = absurd (omega arith)
 
--- a head was laid behind what stood, where zeros had been put, and what is behind the head goes
+-- a header was laid behind what stood, where zeros had been put, and what is behind the header goes
 pub laid_behind : (n k all : ℕ) (old zeros both head post rest bytes : List ℕ) → n ≡ length old → both ≡ old ++ zeros → k ≤ length head → n + k ≤ all
     → take k head ≡ bytes → take (n + k) (take all ((take n both ++ (head ++ post)) ++ rest)) ≡ old ++ bytes
 laid_behind n k all old zeros both head post rest bytes is stood within fits front =

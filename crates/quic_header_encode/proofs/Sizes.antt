@@ -1,16 +1,16 @@
--- How many bytes heads take that are laid.
+-- How many bytes headers take that are laid.
 use Rattle.std.proofs.Common.{◌≡◌, ℕ, ◌+◌, ◌≤◌, List, length, arith}
 use Rattle.std.proofs.lemmas.Bool.Decides.{nat_tests}
 use Rattle.quic_base.specs.Varint.{size}
 use Rattle.quic_crypto.specs.declared.packet_number.PacketNumber.{PacketNumber}
 use Rattle.quic_crypto.specs.declared.packet_number.PacketNumber.TheVariants.{U8, U16, U24, U32}
 use Rattle.quic_crypto.specs.PacketNumbers.{number_size}
-use Rattle.quic_header_encode.specs.declared.long_type.HeadKind.{HeadKind}
-use Rattle.quic_header_encode.specs.declared.long_type.HeadKind.TheVariants as head
+use Rattle.quic_header_encode.specs.declared.long_type.HeaderKind.{HeaderKind}
+use Rattle.quic_header_encode.specs.declared.long_type.HeaderKind.TheVariants as head
 use Rattle.quic_header_encode.specs.Laying.{end_size, laid_size, token_size, IsLong}
 
--- a long head has its front, its token and its end
-pub long_size : (kind : HeadKind) (dst src token : List ℕ) (number : PacketNumber) (len : ℕ) → IsLong kind
+-- a long header has its front, its token and its end
+pub long_size : (kind : HeaderKind) (dst src token : List ℕ) (number : PacketNumber) (len : ℕ) → IsLong kind
     → laid_size kind dst src token number len ≡ 7 + length dst + length src + token_size kind token + end_size kind len number
 long_size head.Initial dst src token number len long = omega arith
 long_size head.ZeroRtt dst src token number len long = omega arith
@@ -30,7 +30,7 @@ number_few (U24 x) = (omega arith, omega arith)
 number_few (U32 x) = (omega arith, omega arith)
 
 -- 64 bytes are enough for what is not its token
-pub laid_within : (kind : HeadKind) (dst src token : List ℕ) (number : PacketNumber) (len : ℕ) → length dst ≤ 20 → length src ≤ 20 → len ≤ 4
+pub laid_within : (kind : HeaderKind) (dst src token : List ℕ) (number : PacketNumber) (len : ℕ) → length dst ≤ 20 → length src ≤ 20 → len ≤ 4
     → laid_size kind dst src token number len ≤ length token + 64
 laid_within head.Initial dst src token number len d s l = omega (arith, size_few (length token), number_few number)
 laid_within head.ZeroRtt dst src token number len d s l = omega (arith, number_few number)

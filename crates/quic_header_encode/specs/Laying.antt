@@ -1,4 +1,4 @@
--- Heads as they are laid over bytes: what a head says, with a first byte whose fixed bit may be clear (RFC 9287), and
+-- Headers as they are laid over bytes: what a header says, with a first byte whose fixed bit may be clear (RFC 9287), and
 -- with as many zeros in place of its length as are asked for.
 use Rattle.std.specs.Prelude.{◌≡◌, ℕ, ◌+◌, ◌-◌, ◌*◌, ◌/◌, ◌%◌, ◌<◌, ◌≤◌, ◌^◌, ◌⊎◌, Bool, true, false, List, [], ◌∷◌, ◌++◌, length, take, drop, replicate, ◌==◌, if◌then◌else◌}
 use Rattle.quic_base.specs.Number.{bytes_of}
@@ -9,16 +9,16 @@ use Rattle.quic_header_encode.specs.declared.header.Header.{Header}
 use Rattle.quic_header_encode.specs.declared.header.Header.TheVariants as header
 use Rattle.quic_header_encode.specs.declared.lay.HeaderRef.{HeaderRef}
 use Rattle.quic_header_encode.specs.declared.lay.Padded.{Padded}
-use Rattle.quic_header_encode.specs.declared.long_type.HeadKind.{HeadKind}
-use Rattle.quic_header_encode.specs.declared.long_type.HeadKind.TheVariants as head
+use Rattle.quic_header_encode.specs.declared.long_type.HeaderKind.{HeaderKind}
+use Rattle.quic_header_encode.specs.declared.long_type.HeaderKind.TheVariants as head
 use Rattle.quic_header_encode.specs.declared.long_type.LongHeaderType.{LongHeaderType}
 use Rattle.quic_header_encode.specs.declared.long_type.LongHeaderType.TheVariants as kind
 use Rattle.quic_header_encode.specs.declared.long_type.LongType.TheVariants.{Handshake, ZeroRtt}
 use Rattle.quic_header_encode.specs.Types.{type_number}
-use Rattle.quic_header_encode.specs.Writing.{head_with, header_bytes, header_size}
+use Rattle.quic_header_encode.specs.Writing.{header_with, header_bytes, header_size}
 
--- the bits that say a long head's type under a version, and a short head's or a version negotiation's, which have none
-abbrev pub type_bits : HeadKind → ℕ → ℕ
+-- the bits that say a long header's type under a version, and a short header's or a version negotiation's, which have none
+abbrev pub type_bits : HeaderKind → ℕ → ℕ
 type_bits head.Initial version = 16 * type_number version kind.Initial
 type_bits head.ZeroRtt version = 16 * type_number version (kind.Standard ZeroRtt)
 type_bits head.Handshake version = 16 * type_number version (kind.Standard Handshake)
@@ -27,7 +27,7 @@ type_bits head.Short version = 0
 type_bits head.VersionNegotiate version = 0
 
 -- the bits that say how many bytes of a number are written
-abbrev pub number_bits : HeadKind → PacketNumber → ℕ
+abbrev pub number_bits : HeaderKind → PacketNumber → ℕ
 number_bits head.Initial number = number_size number - 1
 number_bits head.ZeroRtt number = number_size number - 1
 number_bits head.Handshake number = number_size number - 1
@@ -39,16 +39,16 @@ number_bits head.VersionNegotiate number = 0
 abbrev pub has_bit : ℕ → ℕ → Bool
 has_bit bit byte = (byte / bit % 2) == 1
 
--- The head that is said. Of its first byte, first is what neither the type nor the number says: 0x20 is the spin bit
--- and 0x04 the key phase of a short head, and a version negotiation has seven bits of it as it likes.
-abbrev pub head_of : HeadKind → ℕ → ℕ → List ℕ → List ℕ → List ℕ → PacketNumber → Header
-head_of head.Initial first version dst src token number =
+-- The header that is said. Of its first byte, first is what neither the type nor the number says: 0x20 is the spin bit
+-- and 0x04 the key phase of a short header, and a version negotiation has seven bits of it as it likes.
+abbrev pub header_of : HeaderKind → ℕ → ℕ → List ℕ → List ℕ → List ℕ → PacketNumber → Header
+header_of head.Initial first version dst src token number =
     header.Initial (record { dst_cid = dst; src_cid = src; token = token; number = number; version = version })
-head_of head.ZeroRtt first version dst src token number = header.Long ZeroRtt dst src number version
-head_of head.Handshake first version dst src token number = header.Long Handshake dst src number version
-head_of head.Retry first version dst src token number = header.Retry dst src version
-head_of head.Short first version dst src token number = header.Short (has_bit 0x20 first) (has_bit 0x04 first) dst number
-head_of head.VersionNegotiate first version dst src token number = header.VersionNegotiate (first % 128) src dst
+header_of head.ZeroRtt first version dst src token number = header.Long ZeroRtt dst src number version
+header_of head.Handshake first version dst src token number = header.Long Handshake dst src number version
+header_of head.Retry first version dst src token number = header.Retry dst src version
+header_of head.Short first version dst src token number = header.Short (has_bit 0x20 first) (has_bit 0x04 first) dst number
+header_of head.VersionNegotiate first version dst src token number = header.VersionNegotiate (first % 128) src dst
 
 -- its first byte
 abbrev pub first_of : {I : Type 0} → HeaderRef I → ℕ
@@ -58,14 +58,14 @@ first_of said = said.first + type_bits said.kind said.version + number_bits said
 abbrev pub begun_by : ℕ → List ℕ → List ℕ
 begun_by first bytes = first ∷ drop 1 bytes
 
--- The bytes that are laid: those of the head with so many zeros as its length, behind the first byte.
+-- The bytes that are laid: those of the header with so many zeros as its length, behind the first byte.
 abbrev pub laid_bytes : {I : Type 0} → (I → List ℕ) → HeaderRef I → List ℕ
 laid_bytes id said =
     begun_by (first_of said)
-    (head_with (replicate said.length_len 0) (head_of said.kind said.first said.version (id said.dst_cid) (id said.src_cid) said.token.now said.number.now))
+    (header_with (replicate said.length_len 0) (header_of said.kind said.first said.version (id said.dst_cid) (id said.src_cid) said.token.now said.number.now))
 
--- how many bytes a token and its length take, which an Initial head has
-abbrev pub token_size : HeadKind → List ℕ → ℕ
+-- how many bytes a token and its length take, which an Initial header has
+abbrev pub token_size : HeaderKind → List ℕ → ℕ
 token_size head.Initial token = size (length token) + length token
 token_size head.ZeroRtt token = 0
 token_size head.Handshake token = 0
@@ -73,8 +73,8 @@ token_size head.Retry token = 0
 token_size head.Short token = 0
 token_size head.VersionNegotiate token = 0
 
--- how many bytes a length and a number take, which Initial, 0-RTT and Handshake heads have
-abbrev pub end_size : HeadKind → ℕ → PacketNumber → ℕ
+-- how many bytes a length and a number take, which Initial, 0-RTT and Handshake headers have
+abbrev pub end_size : HeaderKind → ℕ → PacketNumber → ℕ
 end_size head.Initial len number = len + number_size number
 end_size head.ZeroRtt len number = len + number_size number
 end_size head.Handshake len number = len + number_size number
@@ -82,8 +82,8 @@ end_size head.Retry len number = 0
 end_size head.Short len number = 0
 end_size head.VersionNegotiate len number = 0
 
--- how many bytes a head takes
-abbrev pub laid_size : HeadKind → List ℕ → List ℕ → List ℕ → PacketNumber → ℕ → ℕ
+-- how many bytes a header takes
+abbrev pub laid_size : HeaderKind → List ℕ → List ℕ → List ℕ → PacketNumber → ℕ → ℕ
 laid_size head.Initial dst src token number len = 7 + length dst + length src + (size (length token) + length token) + (len + number_size number)
 laid_size head.ZeroRtt dst src token number len = 7 + length dst + length src + (len + number_size number)
 laid_size head.Handshake dst src token number len = 7 + length dst + length src + (len + number_size number)
@@ -96,7 +96,7 @@ laid_len id said = laid_size said.kind (id said.dst_cid) (id said.src_cid) said.
 
 -- what a first byte has beside its type and number has room for these: all eight bits of a version negotiation are
 -- its own
-abbrev pub HasLow : HeadKind → ℕ → Type 0
+abbrev pub HasLow : HeaderKind → ℕ → Type 0
 HasLow head.Initial first = first ≤ 192
 HasLow head.ZeroRtt first = first ≤ 192
 HasLow head.Handshake first = first ≤ 192
@@ -104,7 +104,7 @@ HasLow head.Retry first = first ≤ 192
 HasLow head.Short first = first ≤ 192
 HasLow head.VersionNegotiate first = Unit {0}
 
--- Such a head can be laid.
+-- Such a header can be laid.
 pub record IsLayable {I : Type 0} (id : I → List ℕ) (said : HeaderRef I) : Type 0 where
   pub low : HasLow said.kind said.first
   pub dst_few : length (id said.dst_cid) ≤ 20
@@ -117,8 +117,8 @@ pub record IsLayable {I : Type 0} (id : I → List ℕ) (said : HeaderRef I) : T
 abbrev pub IsShortToken : List ℕ → Type 0
 IsShortToken token = (length token ≡ 0) ⊎ ((16 ≤ length token) × (length token ≤ 32))
 
--- all heads but short ones
-abbrev pub IsLong : HeadKind → Type 0
+-- all headers but short ones
+abbrev pub IsLong : HeaderKind → Type 0
 IsLong head.Initial = Unit {0}
 IsLong head.ZeroRtt = Unit {0}
 IsLong head.Handshake = Unit {0}
@@ -126,8 +126,8 @@ IsLong head.Retry = Unit {0}
 IsLong head.Short = ⊥
 IsLong head.VersionNegotiate = Unit {0}
 
--- the heads that say a type
-abbrev pub IsTyped : HeadKind → Type 0
+-- the headers that say a type
+abbrev pub IsTyped : HeaderKind → Type 0
 IsTyped head.Initial = Unit {0}
 IsTyped head.ZeroRtt = Unit {0}
 IsTyped head.Handshake = Unit {0}
@@ -136,14 +136,14 @@ IsTyped head.Short = ⊥
 IsTyped head.VersionNegotiate = ⊥
 
 -- the kind of a type
-abbrev pub kind_of : LongHeaderType → HeadKind
+abbrev pub kind_of : LongHeaderType → HeaderKind
 kind_of kind.Initial = head.Initial
 kind_of (kind.Standard ZeroRtt) = head.ZeroRtt
 kind_of (kind.Standard Handshake) = head.Handshake
 kind_of kind.Retry = head.Retry
 
--- the heads that say a length, and those that have a number
-abbrev pub says_length : HeadKind → Bool
+-- the headers that say a length, and those that have a number
+abbrev pub says_length : HeaderKind → Bool
 says_length head.Initial = true
 says_length head.ZeroRtt = true
 says_length head.Handshake = true
@@ -151,7 +151,7 @@ says_length head.Retry = false
 says_length head.Short = false
 says_length head.VersionNegotiate = false
 
-abbrev pub says_number : HeadKind → Bool
+abbrev pub says_number : HeaderKind → Bool
 says_number head.Initial = true
 says_number head.ZeroRtt = true
 says_number head.Handshake = true
@@ -159,8 +159,8 @@ says_number head.Retry = false
 says_number head.Short = true
 says_number head.VersionNegotiate = false
 
--- the version that a long head says: 0 in a version negotiation
-abbrev pub version_by : HeadKind → ℕ → ℕ
+-- the version that a long header says: 0 in a version negotiation
+abbrev pub version_by : HeaderKind → ℕ → ℕ
 version_by head.Initial version = version
 version_by head.ZeroRtt version = version
 version_by head.Handshake version = version
@@ -171,8 +171,8 @@ version_by head.VersionNegotiate version = 0
 abbrev pub version_said : {I : Type 0} → HeaderRef I → ℕ
 version_said said = version_by said.kind said.version
 
--- a token behind its length, which an Initial head has
-abbrev pub token_by : HeadKind → List ℕ → List ℕ
+-- a token behind its length, which an Initial header has
+abbrev pub token_by : HeaderKind → List ℕ → List ℕ
 token_by head.Initial token = short (length token) ++ token
 token_by head.ZeroRtt token = []
 token_by head.Handshake token = []
@@ -183,8 +183,8 @@ token_by head.VersionNegotiate token = []
 abbrev pub token_bytes : {I : Type 0} → HeaderRef I → List ℕ
 token_bytes said = token_by said.kind said.token.now
 
--- a length that isn't said yet and a number, which Initial, 0-RTT and Handshake heads have at their end
-abbrev pub end_by : HeadKind → ℕ → PacketNumber → List ℕ
+-- a length that isn't said yet and a number, which Initial, 0-RTT and Handshake headers have at their end
+abbrev pub end_by : HeaderKind → ℕ → PacketNumber → List ℕ
 end_by head.Initial len number = replicate len 0 ++ number_bytes number
 end_by head.ZeroRtt len number = replicate len 0 ++ number_bytes number
 end_by head.Handshake len number = replicate len 0 ++ number_bytes number
@@ -195,13 +195,13 @@ end_by head.VersionNegotiate len number = []
 abbrev pub end_bytes : {I : Type 0} → HeaderRef I → List ℕ
 end_bytes said = end_by said.kind said.length_len said.number.now
 
--- So many bytes have room for the head, and for what its ids are laid with. A short head has no sender's id.
+-- So many bytes have room for the header, and for what its ids are laid with. A short header has no sender's id.
 pub record HasLongRoom {I : Type 0} (id : I → List ℕ) (room : I → ℕ) (said : HeaderRef I) (size : ℕ) : Type 0 where
   pub whole : laid_len id said ≤ size
   pub dst : 6 + room said.dst_cid ≤ size
   pub src : 7 + length (id said.dst_cid) + room said.src_cid ≤ size
 
-abbrev pub room_by : HeadKind → ℕ → ℕ → ℕ
+abbrev pub room_by : HeaderKind → ℕ → ℕ → ℕ
 room_by head.Initial short long = long
 room_by head.ZeroRtt short long = long
 room_by head.Handshake short long = long
@@ -219,7 +219,7 @@ pub record IsExact {I : Type 0} (id : I → List ℕ) (room : I → ℕ) (said :
   pub dst : length (id said.dst_cid) ≡ room said.dst_cid
   pub src : length (id said.src_cid) ≡ room said.src_cid
 
--- Such a head is laid as this one's bytes.
+-- Such a header is laid as this one's bytes.
 pub record Lays {I : Type 0} (id : I → List ℕ) (said : HeaderRef I) (h : Header) : Type 0 where
   pub bytes : laid_bytes id said ≡ header_bytes h
   pub size : laid_len id said ≡ header_size h

@@ -1,4 +1,4 @@
--- The types of long heads (RFC 9000, section 17.2; RFC 9369, section 3.2).
+-- The types of long headers (RFC 9000, section 17.2; RFC 9369, section 3.2).
 use Rattle.std.specs.Prelude.{ℕ, ◌+◌, ◌*◌, ◌/◌, ◌%◌, List, [], ◌∷◌, nat_eq, if◌then◌else◌, slice_index_or}
 use Rattle.quic_base.specs.declared.ids.SpaceId.{SpaceId}
 use Rattle.quic_base.specs.declared.ids.SpaceId.TheVariants as space
@@ -11,7 +11,7 @@ use Rattle.quic_header_encode.specs.declared.long_type.LongType.TheVariants.{Han
 abbrev pub version_2 : ℕ
 version_2 = 1798521807
 
--- the types of long heads under a version, by the numbers 0 to 3 that first bytes say
+-- the types of long headers under a version, by the numbers 0 to 3 that first bytes say
 abbrev pub types_of : ℕ → List LongHeaderType
 types_of version =
     if nat_eq version version_2 then kind.Retry ∷ kind.Initial ∷ kind.Standard ZeroRtt ∷ kind.Standard Handshake ∷ []
@@ -42,7 +42,7 @@ type_number version ty = place_of ty (types_of version)
 abbrev pub first_byte : ℕ → LongHeaderType → ℕ
 first_byte version ty = 192 + 16 * type_number version ty
 
--- the space of the numbers of packets with a long head of this form
+-- the space of the numbers of packets with a long header of this form
 abbrev pub long_space : LongType → SpaceId
 long_space Handshake = space.Handshake
 long_space ZeroRtt = space.Data

@@ -1,4 +1,4 @@
--- The bytes of heads, and what becomes of a packet once its payload stands behind its head (RFC 9000, section 17; RFC
+-- The bytes of headers, and what becomes of a packet once its payload stands behind its header (RFC 9000, section 17; RFC
 -- 9001, sections 5.3 and 5.4).
 use Rattle.std.specs.Prelude.{IsTrue, ◌≤◌, take, drop, ℕ, ◌+◌, ◌-◌, ◌<◌, ◌^◌, Bool, true, false, Option, Some, None, List, [], ◌∷◌, ◌++◌, length, bit_or, if◌then◌else◌}
 use Rattle.quic_base.specs.Number.{bytes_of}
@@ -12,7 +12,7 @@ use Rattle.quic_header_encode.specs.declared.long_type.LongHeaderType.TheVariant
 use Rattle.quic_header_encode.specs.Starts.{long_front}
 use Rattle.quic_header_encode.specs.Types.{first_byte}
 
--- the first byte of a long head with a number of that many bytes: the lowest two bits say one less
+-- the first byte of a long header with a number of that many bytes: the lowest two bits say one less
 abbrev pub long_first : ℕ → LongHeaderType → ℕ → ℕ
 long_first version ty count = first_byte version ty + (count - 1)
 
@@ -24,28 +24,28 @@ no_length = 0 ∷ 0 ∷ []
 abbrev pub bit : Bool → ℕ → ℕ
 bit b n = if b then n else 0
 
--- what stands in a head before its length and its number
-abbrev pub head_front : Header → List ℕ
-head_front (header.Initial h) =
+-- what stands in a header before its length and its number
+abbrev pub header_front : Header → List ℕ
+header_front (header.Initial h) =
     long_front (long_first h.version kind.Initial (number_size h.number)) h.version h.dst_cid h.src_cid ++ (short (length h.token) ++ h.token)
-head_front (header.Long ty dst src number version) = long_front (long_first version (kind.Standard ty) (number_size number)) version dst src
-head_front (header.Retry dst src version) = long_front (first_byte version kind.Retry) version dst src
-head_front (header.Short spin key_phase dst number) = (64 + bit spin 32 + bit key_phase 4 + (number_size number - 1)) ∷ dst
-head_front (header.VersionNegotiate random src dst) = long_front (bit_or 128 random) 0 dst src
+header_front (header.Long ty dst src number version) = long_front (long_first version (kind.Standard ty) (number_size number)) version dst src
+header_front (header.Retry dst src version) = long_front (first_byte version kind.Retry) version dst src
+header_front (header.Short spin key_phase dst number) = (64 + bit spin 32 + bit key_phase 4 + (number_size number - 1)) ∷ dst
+header_front (header.VersionNegotiate random src dst) = long_front (bit_or 128 random) 0 dst src
 
--- the bytes of a head, with these bytes as its length where it has one
-abbrev pub head_with : List ℕ → Header → List ℕ
-head_with len (header.Initial h) = head_front (header.Initial h) ++ (len ++ number_bytes h.number)
-head_with len (header.Long ty dst src number version) = head_front (header.Long ty dst src number version) ++ (len ++ number_bytes number)
-head_with len (header.Retry dst src version) = head_front (header.Retry dst src version)
-head_with len (header.Short spin key_phase dst number) = head_front (header.Short spin key_phase dst number) ++ number_bytes number
-head_with len (header.VersionNegotiate random src dst) = head_front (header.VersionNegotiate random src dst)
+-- the bytes of a header, with these bytes as its length where it has one
+abbrev pub header_with : List ℕ → Header → List ℕ
+header_with len (header.Initial h) = header_front (header.Initial h) ++ (len ++ number_bytes h.number)
+header_with len (header.Long ty dst src number version) = header_front (header.Long ty dst src number version) ++ (len ++ number_bytes number)
+header_with len (header.Retry dst src version) = header_front (header.Retry dst src version)
+header_with len (header.Short spin key_phase dst number) = header_front (header.Short spin key_phase dst number) ++ number_bytes number
+header_with len (header.VersionNegotiate random src dst) = header_front (header.VersionNegotiate random src dst)
 
--- the bytes of a head, whose length is not filled in yet
+-- the bytes of a header, whose length is not filled in yet
 abbrev pub header_bytes : Header → List ℕ
-header_bytes h = head_with no_length h
+header_bytes h = header_with no_length h
 
--- what is asked of a head that is written: a token whose length has a encoding, and a number that takes no more bytes
+-- what is asked of a header that is written: a token whose length has a encoding, and a number that takes no more bytes
 -- than it says
 abbrev pub IsWritable : Header → Type 0
 IsWritable (header.Initial h) = (length h.token < 2 ^ 62) × IsInRange h.number
@@ -54,7 +54,7 @@ IsWritable (header.Retry dst src version) = Unit {0}
 IsWritable (header.Short spin key_phase dst number) = IsInRange number
 IsWritable (header.VersionNegotiate random src dst) = Unit {0}
 
--- how many bytes a head takes
+-- how many bytes a header takes
 abbrev pub header_size : Header → ℕ
 header_size (header.Initial h) = 9 + length h.dst_cid + length h.src_cid + size (length h.token) + length h.token + number_size h.number
 header_size (header.Long ty dst src number version) = 9 + length dst + length src + number_size number
@@ -62,7 +62,7 @@ header_size (header.Retry dst src version) = 7 + length dst + length src
 header_size (header.Short spin key_phase dst number) = 1 + length dst + number_size number
 header_size (header.VersionNegotiate random src dst) = 7 + length dst + length src
 
--- the length of a head's number, where it has one, and whether it has a length
+-- the length of a header's number, where it has one, and whether it has a length
 abbrev pub place_in : Header → Option (ℕ × Bool)
 place_in (header.Initial h) = Some (number_size h.number, true)
 place_in (header.Long ty dst src number version) = Some (number_size number, true)
@@ -70,7 +70,7 @@ place_in (header.Retry dst src version) = None
 place_in (header.Short spin key_phase dst number) = Some (number_size number, false)
 place_in (header.VersionNegotiate random src dst) = None
 
--- how many bytes a head's number takes
+-- how many bytes a header's number takes
 abbrev pub size_in : Header → ℕ
 size_in (header.Initial h) = number_size h.number
 size_in (header.Long ty dst src number version) = number_size number
@@ -94,7 +94,7 @@ has_number (header.Retry dst src version) = false
 has_number (header.Short spin key_phase dst number) = true
 has_number (header.VersionNegotiate random src dst) = false
 
--- a packet whose head's length, where it has one, counts the bytes from the number on
+-- a packet whose header's length, where it has one, counts the bytes from the number on
 abbrev pub with_length : ℕ → Bool → ℕ → List ℕ → List ℕ
 with_length pn_len false header_len bytes = bytes
 with_length pn_len true header_len bytes =
@@ -107,13 +107,13 @@ sealed_packet header_len None bytes = bytes
 sealed_packet header_len (Some key) bytes =
     take header_len bytes ++ key.1 (take header_len bytes) (payload_in header_len key.0 bytes)
 
--- A packet before its head is protected: its length filled in where pn says so, pn being the length of its number and
+-- A packet before its header is protected: its length filled in where pn says so, pn being the length of its number and
 -- whether it has a length; its payload sealed if there is a key for it.
 abbrev pub finished : ℕ × Bool → ℕ → Option (ℕ × (List ℕ → List ℕ → List ℕ)) → List ℕ → List ℕ
 finished pn header_len key bytes = sealed_packet header_len key (with_length pn.0 pn.1 header_len bytes)
 
 -- A packet of that size has room for its number behind the first byte, for the two bytes of its length where it has
--- one, which is below 2^14 then, for its head, and for the sample, which begins four bytes behind the number's place.
+-- one, which is below 2^14 then, for its header, and for the sample, which begins four bytes behind the number's place.
 pub record HasRoom (pn_len : ℕ) (write_len : Bool) (header_len sample_len size : ℕ) : Type 0 where
   pub head : pn_len < header_len
   pub length_place : IsTrue write_len → pn_len + 2 ≤ header_len

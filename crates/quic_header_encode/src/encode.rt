@@ -1,4 +1,4 @@
-//! Heads are written, and packets finished (RFC 9000, section 17; RFC 9001, sections 5.3 and 5.4).
+//! Headers are written, and packets finished (RFC 9000, section 17; RFC 9001, sections 5.3 and 5.4).
 ghost use Rattle.std.specs.Prelude.{◌≡◌, ◌+◌, ◌-◌, ◌≤◌, ◌<◌, ◌^◌, ◌++◌, length, vec_len, vec_capacity, IfOk, OnErr, OnOk, IfSome, IfNone, IsOk, IsTrue, ◌↔◌, ◌⊎◌, option_map, take, drop};
 ghost use Rattle.quic_base.specs.Number.{AreBytes, bytes_of};
 ghost use Rattle.quic_crypto.specs.PacketNumbers.{IsInRange};
@@ -9,20 +9,20 @@ ghost use Rattle.quic_header_encode.specs.Writing.{bit, header_size, place_in, h
 
 use crate::header::{Header, InitialHeader};
 use crate::lay::{Exact, HeaderRef, Padded};
-use crate::long_type::{HeadKind, LongType};
+use crate::long_type::{HeaderKind, LongType};
 use quic_base::coding::{NoRoom, are_bytes};
 use quic_base::ids::ConnectionId;
 use quic_crypto::crypto::{HeaderKey, PacketKey};
 use quic_crypto::packet_number::PacketNumber;
 
-/// Where a head was written: what `finish` has to know once the payload stands behind it.
+/// Where a header was written: what `finish` has to know once the payload stands behind it.
 #[derive(Clone, Copy, Debug)]
 pub struct PartialEncode {
-    /// Where the head begins in its buffer.
+    /// Where the header begins in its buffer.
     pub start: usize,
-    /// How many bytes the head has.
+    /// How many bytes the header has.
     pub header_len: usize,
-    /// How many bytes the number has, which stands at the head's end, and whether the head has a length, which
+    /// How many bytes the number has, which stands at the header's end, and whether the header has a length, which
     /// stands before the number; none for Retry and version negotiation.
     pub pn: Option<(usize, bool)>,
 }
@@ -40,14 +40,14 @@ pub(crate) fn append(out: &mut Vec<u8>, bytes: &[u8])
     }
 }
 
-// Over how many bytes a short head is laid, one that has no token, and an Initial one whose token has at most 32 bytes.
+// Over how many bytes a short header is laid, one that has no token, and an Initial one whose token has at most 32 bytes.
 const SHORT_ROOM: usize = 32;
 
 const LONG_ROOM: usize = 64;
 
 const INITIAL_ROOM: usize = 96;
 
-// What the first byte of a long head has beside its type and number.
+// What the first byte of a long header has beside its type and number.
 const LONG_FIRST: u8 = 0xc0;
 
 // What stands in place of a number where there is none.
@@ -61,7 +61,7 @@ fn is_laid_by_stores(token: &[u8]) -> bool
     token.len() == 0 || token.len() >= 16 && token.len() <= 32
 }
 
-// Appends a head where there is spare room for the longest of its kind: zeros are appended, the head is laid over
+// Appends a header where there is spare room for the longest of its kind: zeros are appended, the header is laid over
 // them, and what is left of them goes. Answers whether there was room.
 #[inline(always)]
 fn put<const ROOM: usize>(head: HeaderRef<'_, Padded<'_>>, out: &mut Vec<u8>) -> bool
@@ -94,16 +94,16 @@ fn padded(id: &ConnectionId) -> Padded<'_>
 
 // The kind of a Handshake or 0-RTT head.
 #[inline(always)]
-fn long_kind(ty: LongType) -> HeadKind
+fn long_kind(ty: LongType) -> HeaderKind
     ensures { result ≡ kind_of (kind.Standard ty) }
 {
     match ty {
-        LongType::ZeroRtt => HeadKind::ZeroRtt,
-        LongType::Handshake => HeadKind::Handshake,
+        LongType::ZeroRtt => HeaderKind::ZeroRtt,
+        LongType::Handshake => HeaderKind::Handshake,
     }
 }
 
-// What the first byte of a short head has beside its number.
+// What the first byte of a short header has beside its number.
 #[inline(always)]
 fn short_first(spin: bool, key_phase: bool) -> u8
     ensures value { result ≡ 64 + bit spin 32 + bit key_phase 4 }
@@ -114,7 +114,7 @@ fn short_first(spin: bool, key_phase: bool) -> u8
     0x40 + spin + key_phase
 }
 
-// The head of an Initial packet.
+// The header of an Initial packet.
 #[inline(always)]
 fn initial_ref(initial: &InitialHeader) -> HeaderRef<'_, Padded<'_>>
     requires { IsWritable (header.Initial initial.now) }
@@ -122,7 +122,7 @@ fn initial_ref(initial: &InitialHeader) -> HeaderRef<'_, Padded<'_>>
     ensures room { IsShortToken result.token.now → HasLayRoom padded_id padded_room result INITIAL_ROOM }
 {
     HeaderRef {
-        kind: HeadKind::Initial,
+        kind: HeaderKind::Initial,
         first: LONG_FIRST,
         version: initial.version,
         dst_cid: padded(&initial.dst_cid),
@@ -133,7 +133,7 @@ fn initial_ref(initial: &InitialHeader) -> HeaderRef<'_, Padded<'_>>
     }
 }
 
-// The head of a Handshake or 0-RTT packet.
+// The header of a Handshake or 0-RTT packet.
 #[inline(always)]
 fn long_ref<'a>(
     ty: LongType,
@@ -158,7 +158,7 @@ fn long_ref<'a>(
     }
 }
 
-// The head of a 1-RTT packet.
+// The header of a 1-RTT packet.
 #[inline(always)]
 fn short_ref<'a>(
     spin: bool,
@@ -171,7 +171,7 @@ fn short_ref<'a>(
     ensures room { HasLayRoom padded_id padded_room result SHORT_ROOM }
 {
     HeaderRef {
-        kind: HeadKind::Short,
+        kind: HeaderKind::Short,
         first: short_first(spin, key_phase),
         version: 0,
         dst_cid: padded(dst_cid),
@@ -183,7 +183,7 @@ fn short_ref<'a>(
 }
 
 impl Header {
-    // The same head, with ids and a token that stay where they are.
+    // The same header, with ids and a token that stay where they are.
     fn borrowed(&self) -> HeaderRef<'_, Padded<'_>>
         requires { IsWritable self.now }
         ensures { Lays padded_id result self.now }
@@ -202,7 +202,7 @@ impl Header {
                 src_cid,
                 version,
             } => HeaderRef {
-                kind: HeadKind::Retry,
+                kind: HeaderKind::Retry,
                 first: LONG_FIRST,
                 version: *version,
                 dst_cid: padded(dst_cid),
@@ -222,7 +222,7 @@ impl Header {
                 src_cid,
                 dst_cid,
             } => HeaderRef {
-                kind: HeadKind::VersionNegotiate,
+                kind: HeaderKind::VersionNegotiate,
                 first: 0x80 | *random,
                 version: 0,
                 dst_cid: padded(dst_cid),
@@ -242,7 +242,7 @@ impl Header {
         self.borrowed().encoded_len()
     }
 
-    // Makes room for just the head, and lays it there.
+    // Makes room for just the header, and lays it there.
     #[inline(never)]
     fn put_with_room(&self, out: &mut Vec<u8>) -> Result<(), NoRoom>
         requires { IsWritable self.now }
@@ -321,7 +321,7 @@ impl Header {
         self.put_with_room(out)
     }
 
-    // Appends a Handshake or 0-RTT head, or one without a number.
+    // Appends a Handshake or 0-RTT header, or one without a number.
     #[inline(never)]
     fn put_long(&self, out: &mut Vec<u8>) -> Result<(), NoRoom>
         requires { IsWritable self.now }
@@ -347,7 +347,7 @@ impl Header {
         self.put_with_room(out)
     }
 
-    // Appends a head that isn't short. It is not inlined, so that for a short one its caller makes one comparison.
+    // Appends a header that isn't short. It is not inlined, so that for a short one its caller makes one comparison.
     #[inline(never)]
     fn put_other(&self, out: &mut Vec<u8>) -> Result<(), NoRoom>
         requires { IsWritable self.now }
@@ -364,7 +364,7 @@ impl Header {
         }
     }
 
-    /// How many bytes the number takes, and whether the head has a length; none for Retry and version
+    /// How many bytes the number takes, and whether the header has a length; none for Retry and version
     /// negotiation, which have neither.
     #[inline]
     pub fn number_place(&self) -> Option<(usize, bool)>
@@ -393,7 +393,7 @@ impl Header {
         }
     }
 
-    /// Whether the head says the packet's length: just those of Initial, Handshake and 0-RTT packets do.
+    /// Whether the header says the packet's length: just those of Initial, Handshake and 0-RTT packets do.
     pub fn has_len(&self) -> bool
         ensures { result ≡ has_length self.now }
     {
@@ -406,9 +406,9 @@ impl Header {
         }
     }
 
-    /// Appends the head, and answers where it begins and ends. The two bytes of its length, where it has one, are
+    /// Appends the header, and answers where it begins and ends. The two bytes of its length, where it has one, are
     /// zeros, which `PartialEncode::finish` fills in. Answers `NoRoom` only where the spare room of `out` is less
-    /// than the head and there is no memory for more; then the bytes of `out` are as they were, and its room still is
+    /// than the header and there is no memory for more; then the bytes of `out` are as they were, and its room still is
     /// less. The caller must give a token below 2^62 bytes, and that a `U24` is below 2^24.
     #[inline]
     pub fn encode(&self, out: &mut Vec<u8>) -> Result<PartialEncode, NoRoom>
@@ -439,11 +439,11 @@ impl Header {
 }
 
 impl PartialEncode {
-    /// Finishes a packet, which is `buf`: fills in its length, where its head has one, seals its payload by the
-    /// number and key of `crypto`, if there is one, and protects the head by `header_key`. The payload's last
+    /// Finishes a packet, which is `buf`: fills in its length, where its header has one, seals its payload by the
+    /// number and key of `crypto`, if there is one, and protects the header by `header_key`. The payload's last
     /// bytes are room for the tag. Retry and version negotiation stay as they are. The caller must ensure that the
-    /// packet has its head, the tag's room, and four bytes and the sample from its number's place on; and fewer
-    /// than 2^14 bytes from there on where the head has a length.
+    /// packet has its header, the tag's room, and four bytes and the sample from its number's place on; and fewer
+    /// than 2^14 bytes from there on where the header has a length.
     pub fn finish<H: HeaderKey, P: PacketKey>(
         self,
         buf: &mut [u8],

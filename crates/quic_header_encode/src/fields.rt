@@ -1,4 +1,4 @@
-//! The fields of a head, each laid at a place: bytes, ids and packet numbers.
+//! The fields of a header, each laid at a place: bytes, ids and packet numbers.
 ghost use Rattle.std.specs.Prelude.{◌≡◌, ◌+◌, ◌≤◌, ◌++◌, length, take, drop};
 ghost use Rattle.quic_base.specs.Number.{bytes_of};
 ghost use Rattle.quic_crypto.specs.PacketNumbers.{number_bytes, number_size, IsInRange};

@@ -1,4 +1,4 @@
-//! Heads of packets as values (RFC 9000, section 17).
+//! Headers of packets as values (RFC 9000, section 17).
 ghost use Rattle.std.specs.Prelude.{◌≡◌, ◌↔◌, IsTrue};
 ghost use Rattle.quic_header_encode.specs.Queries.{space_in, dst_in, number_in, phase_in, IsShortHeader, IsEarly};
 ghost use Rattle.quic_header_encode.specs.Writing.{has_number};
@@ -8,14 +8,14 @@ use bytes::Bytes;
 use quic_base::ids::{ConnectionId, SpaceId};
 use quic_crypto::packet_number::PacketNumber;
 
-/// What the head of an Initial packet says (RFC 9000, section 17.2.2).
+/// What the header of an Initial packet says (RFC 9000, section 17.2.2).
 #[derive(Debug, Drop)]
 pub struct InitialHeader {
     /// The receiver's id.
     pub dst_cid: ConnectionId,
     /// The sender's id.
     pub src_cid: ConnectionId,
-    /// The token, below 2^62 bytes in a head that is written.
+    /// The token, below 2^62 bytes in a header that is written.
     pub token: Bytes,
     /// The packet's number as it is written.
     pub number: PacketNumber,
@@ -23,13 +23,13 @@ pub struct InitialHeader {
     pub version: u32,
 }
 
-/// What a packet's head says, with no protection on it. The length of an Initial, Handshake or 0-RTT packet is
+/// What a packet's header says, with no protection on it. The length of an Initial, Handshake or 0-RTT packet is
 /// not a part of it: `PartialEncode::finish` fills it in.
 #[derive(Debug, Drop)]
 pub enum Header {
-    /// The head of an Initial packet.
+    /// The header of an Initial packet.
     Initial(InitialHeader),
-    /// The head of a Handshake or 0-RTT packet (RFC 9000, sections 17.2.3 and 17.2.4).
+    /// The header of a Handshake or 0-RTT packet (RFC 9000, sections 17.2.3 and 17.2.4).
     Long {
         /// Which of the two.
         ty: LongType,
@@ -42,7 +42,7 @@ pub enum Header {
         /// The version of QUIC.
         version: u32,
     },
-    /// The head of a Retry packet (RFC 9000, section 17.2.5). What follows it is its token and tag.
+    /// The header of a Retry packet (RFC 9000, section 17.2.5). What follows it is its token and tag.
     Retry {
         /// The receiver's id.
         dst_cid: ConnectionId,
@@ -51,7 +51,7 @@ pub enum Header {
         /// The version of QUIC.
         version: u32,
     },
-    /// The head of a 1-RTT packet (RFC 9000, section 17.3.1).
+    /// The header of a 1-RTT packet (RFC 9000, section 17.3.1).
     Short {
         /// The bit for measuring round trips.
         spin: bool,
@@ -62,7 +62,7 @@ pub enum Header {
         /// The packet's number as it is written.
         number: PacketNumber,
     },
-    /// The head of a version negotiation (RFC 9000, section 17.2.1). What follows it are the versions.
+    /// The header of a version negotiation (RFC 9000, section 17.2.1). What follows it are the versions.
     VersionNegotiate {
         /// The first byte without its highest bit.
         random: u8,
@@ -116,7 +116,7 @@ impl Header {
         }
     }
 
-    /// The key phase of a short head; false for the others.
+    /// The key phase of a short header; false for the others.
     pub fn key_phase(&self) -> bool
         ensures { result ≡ phase_in self.now }
     {
@@ -146,14 +146,14 @@ impl Header {
         self.is_protected()
     }
 
-    /// Whether the head is short.
+    /// Whether the header is short.
     pub fn is_short(&self) -> bool
         ensures { IsTrue result ↔ IsShortHeader self.now }
     {
         matches!(self, Self::Short { .. })
     }
 
-    /// Whether it is a 1-RTT packet: just those with a short head are.
+    /// Whether it is a 1-RTT packet: just those with a short header are.
     pub fn is_1rtt(&self) -> bool
         ensures { IsTrue result ↔ IsShortHeader self.now }
     {

@@ -1,4 +1,4 @@
-//! The one writer of heads: what a head says is laid at the front of bytes, field behind field, by stores of whole
+//! The one writer of headers: what a header says is laid at the front of bytes, field behind field, by stores of whole
 //! arrays whose ends the next field covers.
 ghost use Rattle.std.specs.Prelude.{◌≡◌, ◌+◌, ◌*◌, ◌^◌, ◌<◌, ◌≤◌, ◌⊎◌, ◌∷◌, ◌++◌, List, ℕ, length, take, drop, replicate, true, ◌↔◌, IsTrue};
 ghost use Rattle.quic_base.specs.ConnectionId.{long_id};
@@ -8,7 +8,7 @@ ghost use Rattle.quic_header_encode.specs.Starts.{long_front};
 ghost use Rattle.quic_header_encode.specs.Laying.{end_bytes, end_size, first_of, laid_bytes, laid_len, token_bytes, token_size, version_said, with_len, HasLayRoom, HasLongRoom, HasLow, IsExact, IsLayable, IsLong, IsShortToken, TakesLen};
 
 use crate::fields::{lay_bytes, lay_ends, lay_id, lay_number};
-use crate::long_type::HeadKind;
+use crate::long_type::HeaderKind;
 use quic_base::coding::lay_array;
 use quic_base::ids::ConnectionId;
 use quic_crypto::packet_number::PacketNumber;
@@ -77,20 +77,20 @@ impl LaidId for Exact<'_> {
     }
 }
 
-/// What a head says, with ids and a token that stay where they are.
+/// What a header says, with ids and a token that stay where they are.
 #[derive(Clone, Copy)]
 pub struct HeaderRef<'a, I> {
     /// The kind.
-    pub kind: HeadKind,
-    /// What the first byte has beside the bits of the type and of the number's length. Of long heads 0xc0, or 0x80
+    pub kind: HeaderKind,
+    /// What the first byte has beside the bits of the type and of the number's length. Of long headers 0xc0, or 0x80
     /// where the fixed bit is clear (RFC 9287). Of short ones 0x40 and 0 in the same way, 0x20 for the spin bit and
     /// 0x04 for the key phase. Of a version negotiation all of it, with 0x80.
     pub first: u8,
-    /// The version of QUIC. Short heads and version negotiations say none.
+    /// The version of QUIC. Short headers and version negotiations say none.
     pub version: u32,
     /// The receiver's id.
     pub dst_cid: I,
-    /// The sender's id. Short heads have none.
+    /// The sender's id. Short headers have none.
     pub src_cid: I,
     /// The token of an Initial packet.
     pub token: &'a [u8],
@@ -100,7 +100,7 @@ pub struct HeaderRef<'a, I> {
     pub length_len: usize,
 }
 
-/// Lays a short head up to its number at the front, and answers where the number begins. The caller must ensure that
+/// Lays a short header up to its number at the front, and answers where the number begins. The caller must ensure that
 /// the id has at most 20 bytes, and that there is room for it.
 #[inline(always)]
 pub fn lay_short<I: LaidId>(out: &mut [u8], first: u8, dst_cid: I) -> usize
@@ -131,7 +131,7 @@ fn lay_long_id<I: LaidId>(out: &mut [u8], at: usize, id: I) -> usize
     id.lay(out, at)
 }
 
-/// Lays what each long head begins with, up to the end of the sender's id, at the front, and answers where it ends. The
+/// Lays what each long header begins with, up to the end of the sender's id, at the front, and answers where it ends. The
 /// caller must ensure that each id has at most 20 bytes, and that there is room for it.
 #[inline(always)]
 #[tactic(auto, unfolding(quic_base::specs::Number::bytes_of))]
@@ -262,7 +262,7 @@ pub fn lay_no_length(out: &mut [u8], at: usize, len: usize) -> usize
 }
 
 impl<I: LaidId> HeaderRef<'_, I> {
-    // The first byte of a head that isn't short.
+    // The first byte of a header that isn't short.
     #[inline(always)]
     fn long_first(&self) -> u8
         requires long { IsLong self.now.kind }
@@ -270,39 +270,39 @@ impl<I: LaidId> HeaderRef<'_, I> {
         ensures { result ≡ first_of self.now }
     {
         match self.kind {
-            HeadKind::VersionNegotiate => self.first,
-            HeadKind::Retry => self.first + self.kind.type_bits(self.version),
+            HeaderKind::VersionNegotiate => self.first,
+            HeaderKind::Retry => self.first + self.kind.type_bits(self.version),
             _ => self.first + self.kind.type_bits(self.version) + self.number.tag(),
         }
     }
 
-    // The version that a long head says.
+    // The version that a long header says.
     #[inline(always)]
     fn said_version(&self) -> u32
         ensures { result ≡ version_said self.now }
     {
         match self.kind {
-            HeadKind::VersionNegotiate => 0,
+            HeaderKind::VersionNegotiate => 0,
             _ => self.version,
         }
     }
 
-    /// How many bytes the head has. The caller must ensure that its token has fewer than 2^62.
+    /// How many bytes the header has. The caller must ensure that its token has fewer than 2^62.
     pub fn encoded_len(&self) -> usize
         requires { IsLayable I.id self.now }
         ensures { result ≡ laid_len I.id self.now }
     {
         match self.kind {
-            HeadKind::Short => 1 + self.dst_cid.len() + self.number.len(),
-            HeadKind::Initial => {
+            HeaderKind::Short => 1 + self.dst_cid.len() + self.number.len(),
+            HeaderKind::Initial => {
                 let token = var_len(self.token.len() as u64) + self.token.len();
                 7 + self.dst_cid.len()
                     + self.src_cid.len()
                     + token
                     + (self.length_len + self.number.len())
             }
-            HeadKind::Retry => 7 + self.dst_cid.len() + self.src_cid.len(),
-            HeadKind::VersionNegotiate => 7 + self.dst_cid.len() + self.src_cid.len(),
+            HeaderKind::Retry => 7 + self.dst_cid.len() + self.src_cid.len(),
+            HeaderKind::VersionNegotiate => 7 + self.dst_cid.len() + self.src_cid.len(),
             _ => 7
                 + self.dst_cid.len()
                 + self.src_cid.len()
@@ -323,7 +323,7 @@ impl<I: LaidId> HeaderRef<'_, I> {
         self.encoded_len() <= room
     }
 
-    // Lays the token of an Initial head behind its length.
+    // Lays the token of an Initial header behind its length.
     #[inline(always)]
     fn lay_its_token<const SHORT_TOKEN: bool>(&self, out: &mut [u8], at: usize) -> usize
         requires short { SHORT_TOKEN ≡ true → IsShortToken self.now.token.now }
@@ -335,7 +335,7 @@ impl<I: LaidId> HeaderRef<'_, I> {
         ensures len { length out.new ≡ length out.old }
     {
         match self.kind {
-            HeadKind::Initial => lay_token::<SHORT_TOKEN>(out, at, self.token),
+            HeaderKind::Initial => lay_token::<SHORT_TOKEN>(out, at, self.token),
             _ => at,
         }
     }
@@ -358,7 +358,7 @@ impl<I: LaidId> HeaderRef<'_, I> {
         lay_number(out, at, *self.number)
     }
 
-    /// Lays a head that isn't short at the front, and answers how many bytes it has. Its length, where it has one, is
+    /// Lays a header that isn't short at the front, and answers how many bytes it has. Its length, where it has one, is
     /// 0, which `set_len` or `PartialEncode::finish` fill in. The caller must ensure that there is room for it, and
     /// where SHORT_TOKEN is true that the token is empty or has 16 to 32 bytes.
     #[inline(always)]
@@ -383,7 +383,7 @@ impl<I: LaidId> HeaderRef<'_, I> {
         self.lay_end(out, at)
     }
 
-    /// Lays a head at the front, and answers how many bytes it has, likewise.
+    /// Lays a header at the front, and answers how many bytes it has, likewise.
     #[inline(always)]
     pub fn lay<const SHORT_TOKEN: bool>(&self, out: &mut [u8]) -> usize
         requires layable { IsLayable I.id self.now }
@@ -395,7 +395,7 @@ impl<I: LaidId> HeaderRef<'_, I> {
         ensures len { length out.new ≡ length out.old }
     {
         match self.kind {
-            HeadKind::Short => {
+            HeaderKind::Short => {
                 let at = lay_short(out, self.first + self.number.tag(), self.dst_cid);
                 lay_number(out, at, *self.number)
             }

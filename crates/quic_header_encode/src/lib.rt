@@ -1,4 +1,4 @@
-//! Heads of packets as values, and how they are written (RFC 9000, section 17; RFC 9369, section 3).
+//! Headers of packets as values, and how they are written (RFC 9000, section 17; RFC 9369, section 3).
 #![tactic(auto)]
 
 pub mod encode;

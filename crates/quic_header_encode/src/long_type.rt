@@ -1,15 +1,15 @@
-//! The first bytes of heads, and the types of long heads (RFC 9000, section 17.2; RFC 9369, section 3.2).
+//! The first bytes of headers, and the types of long headers (RFC 9000, section 17.2; RFC 9369, section 3.2).
 ghost use Rattle.std.specs.Prelude.{◌≡◌, ◌≤◌};
 ghost use Rattle.quic_header_encode.specs.Laying.{kind_of, says_length, says_number, type_bits, IsTyped};
 ghost use Rattle.quic_header_encode.specs.Types.{first_byte, long_type};
 
-/// The bit of a first byte that is set in long heads.
+/// The bit of a first byte that is set in long headers.
 pub const LONG_HEADER_FORM: u8 = 0x80;
 
-/// The bit of a first byte that is set in all heads, but for greased ones.
+/// The bit of a first byte that is set in all headers, but for greased ones.
 pub const FIXED_BIT: u8 = 0x40;
 
-/// The bit of a short head's first byte that is for measuring round trips.
+/// The bit of a short header's first byte that is for measuring round trips.
 pub const SPIN_BIT: u8 = 0x20;
 
 /// Version 2 of QUIC.
@@ -20,9 +20,9 @@ const _: () = prove!(LONG_HEADER_FORM == 128 && FIXED_BIT == 64 && SPIN_BIT == 3
 
 const _: () = prove!(VERSION_2 == 1_798_521_807);
 
-/// The kinds of heads.
+/// The kinds of headers.
 #[derive(Clone, Copy, Debug, PartialEq, Eq)]
-pub enum HeadKind {
+pub enum HeaderKind {
     /// Of an Initial packet (RFC 9000, section 17.2.2).
     Initial,
     /// Of a 0-RTT packet (RFC 9000, section 17.2.3).
@@ -37,22 +37,22 @@ pub enum HeadKind {
     VersionNegotiate,
 }
 
-impl HeadKind {
-    /// The kind of a long head of a version, by its first byte.
+impl HeaderKind {
+    /// The kind of a long header of a version, by its first byte.
     #[inline(always)]
-    pub fn of_long(first: u8, version: u32) -> HeadKind
+    pub fn of_long(first: u8, version: u32) -> HeaderKind
         ensures { result ≡ kind_of (long_type version first) }
     {
         let behind = if version == VERSION_2 { 3 } else { 0 };
         match (first / 16 + behind) % 4 {
-            0 => HeadKind::Initial,
-            1 => HeadKind::ZeroRtt,
-            2 => HeadKind::Handshake,
-            _ => HeadKind::Retry,
+            0 => HeaderKind::Initial,
+            1 => HeaderKind::ZeroRtt,
+            2 => HeaderKind::Handshake,
+            _ => HeaderKind::Retry,
         }
     }
 
-    /// The bits of a long head's first byte that say its type under a version. The caller must ensure that it says one.
+    /// The bits of a long header's first byte that say its type under a version. The caller must ensure that it says one.
     #[inline(always)]
     pub fn type_bits(self, version: u32) -> u8
         requires { IsTyped self }
@@ -60,9 +60,9 @@ impl HeadKind {
         ensures few { result ≤ 48 }
     {
         let number = match self {
-            HeadKind::Initial => 0,
-            HeadKind::ZeroRtt => 1,
-            HeadKind::Handshake => 2,
+            HeaderKind::Initial => 0,
+            HeaderKind::ZeroRtt => 1,
+            HeaderKind::Handshake => 2,
             _ => 3,
         };
         let before = if version == VERSION_2 { 1 } else { 0 };
@@ -75,27 +75,27 @@ impl HeadKind {
         ensures { result ≡ says_number self }
     {
         match self {
-            HeadKind::Retry => false,
-            HeadKind::VersionNegotiate => false,
+            HeaderKind::Retry => false,
+            HeaderKind::VersionNegotiate => false,
             _ => true,
         }
     }
 
-    /// Whether the head says a length.
+    /// Whether the header says a length.
     #[inline(always)]
     pub fn has_len(self) -> bool
         ensures { result ≡ says_length self }
     {
         match self {
-            HeadKind::Initial => true,
-            HeadKind::ZeroRtt => true,
-            HeadKind::Handshake => true,
+            HeaderKind::Initial => true,
+            HeaderKind::ZeroRtt => true,
+            HeaderKind::Handshake => true,
             _ => false,
         }
     }
 }
 
-/// Long heads of one form.
+/// Long headers of one form.
 #[derive(Clone, Copy, Debug, PartialEq, Eq)]
 pub enum LongType {
     /// Of the handshake.
@@ -104,7 +104,7 @@ pub enum LongType {
     ZeroRtt,
 }
 
-/// The types of long heads.
+/// The types of long headers.
 #[derive(Clone, Copy, Debug, PartialEq, Eq)]
 pub enum LongHeaderType {
     /// With a token.
@@ -116,7 +116,7 @@ pub enum LongHeaderType {
 }
 
 impl LongHeaderType {
-    /// The type that a long head's first byte says under a version.
+    /// The type that a long header's first byte says under a version.
     #[inline]
     pub fn from_byte(first: u8, version: u32) -> Self
         ensures { result ≡ long_type version first }
@@ -141,7 +141,7 @@ impl LongHeaderType {
         }
     }
 
-    /// The first byte of a long head under a version, but for its number's length.
+    /// The first byte of a long header under a version, but for its number's length.
     pub fn byte(self, version: u32) -> u8
         ensures { result ≡ first_byte version self }
     {

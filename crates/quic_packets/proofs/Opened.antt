@@ -40,7 +40,7 @@ num_back (U16 x) h = (law.is_number_2 x h).value
 num_back (U24 x) h = (let is = is_number_3 x h in is)
 num_back (U32 x) h = (law.is_number_4 x h).value
 
--- a packet whose head was protected, as a first byte, a front, and what follows
+-- a packet whose header was protected, as a first byte, a front, and what follows
 pub record Shape (key : KeyPair) (packet front plain : List ℕ) (first at : ℕ) : Type 0 where
   pub text : packet ≡ (get_or packet 0 0 ∷ front) ++ drop at packet
   pub len : length packet ≡ length plain
@@ -105,7 +105,7 @@ number_valid (U16 x) text t = let below : num text < 256 ^ 2 = subst (λ (k : �
 number_valid (U24 x) text t = let below : num text < 256 ^ 3 = subst (λ (k : ℕ). num text < 256 ^ k) t.width (law.num_below text t.bytes) in omega (arith, below, t.value)
 number_valid (U32 x) text t = let below : num text < 256 ^ 4 = subst (λ (k : ℕ). num text < 256 ^ k) t.width (law.num_below text t.bytes) in omega (arith, below, t.value)
 
--- the number of an open head is in range
+-- the number of an open header is in range
 pub opened_number : (h : ProtectedHeader) (at : ℕ) (got : Header) (packet : List ℕ) (end : ℕ) → IsOpenedBy true h at got packet end → HasNumber got
 opened_number (head.Initial i) at got packet end o = subst HasNumber (sym o.2) (number_valid o.0 _ o.1.text)
 opened_number (head.Long ty dst src len version) at got packet end o = subst HasNumber (sym o.2) (number_valid o.0 _ o.1.text)

@@ -18,9 +18,9 @@ use Rattle.quic_header_decode.specs.Queries.{space_of}
 use Rattle.quic_header_encode.specs.Queries.{space_in}
 use Rattle.quic_header_encode.specs.Writing.{header_size, size_in}
 use Rattle.quic_packets.specs.Pairs.{IsLawful, KeyPair}
-use Rattle.quic_packets.specs.Sealing.{Sealed, plain_packet, sealed_head, protected_len}
+use Rattle.quic_packets.specs.Sealing.{Sealed, plain_packet, sealed_header, protected_len}
 use Rattle.quic_packets.specs.Opening.{Opens, IsBack, IsReadBack, ExpandsIn, Unlocked, KeyGives, KeyRefuses, PartGives, PartRefuses, PacketGives, PacketRefuses}
-use Rattle.quic_packets.proofs.Sealings.{head_length}
+use Rattle.quic_packets.proofs.Sealings.{header_length}
 use Rattle.quic_packets.proofs.Parts.{expands_same}
 use Rattle.quic_packets.proofs.Opened.{Lawful, front_bytes, cut_same}
 use Rattle.quic_packets.proofs.SealedFound.{Found, sealed_found, read_numbered}
@@ -45,7 +45,7 @@ pub record Given (seal : KeyPair) (key : KeyPair) (context : Context) (expected 
 -- a packet that was unlocked has the parts that were sealed
 record Same (seal : KeyPair) (key : KeyPair) (h : Header) (n : ℕ) (payload : List ℕ) (got : Header) (head body : List ℕ) (m : ℕ) : Type 0 where
   header_same : got ≡ h
-  head_same : head ≡ sealed_head seal.tag_size h payload
+  bytes_same : head ≡ sealed_header seal.tag_size h payload
   number_same : m ≡ n
   opened : key.opened m head body ≡ Some payload
 
@@ -54,15 +54,15 @@ unlocked_same : (seal : KeyPair) (key : KeyPair) (context : Context) (expected :
     → (got : Header) (head body : List ℕ) (m : ℕ) → Unlocked key expected found.cut.0 (header_size h - size_in h) packet got head body m → Same seal key h n payload got head body m
 unlocked_same seal key context expected bytes h n payload packet rest given found got head body m u =
     let at : ℕ = header_size h - size_in h in
-    let top : List ℕ = sealed_head seal.tag_size h payload in
+    let top : List ℕ = sealed_header seal.tag_size h payload in
     let whole : head ++ body ≡ plain_packet seal h n payload = u.whole ∙ found.back in
-    let is = found.cut.3 got (length head) (subst (λ (xs : List ℕ). IsOpenedBy true found.cut.0 at got xs (length head)) whole u.is_head) in
+    let is = found.cut.3 got (length head) (subst (λ (xs : List ℕ). IsOpenedBy true found.cut.0 at got xs (length head)) whole u.is_header) in
     let parts = cut_same head body top (seal.sealed n top payload) whole
-    (is.1 ∙ sym (head_length h (bytes_of 2 (2 ^ 14 + protected_len seal.tag_size h payload)) (read_numbered context h rest given.read) (law.length-bytes_of 2 (2 ^ 14 + protected_len seal.tag_size h payload)))) in
+    (is.1 ∙ sym (header_length h (bytes_of 2 (2 ^ 14 + protected_len seal.tag_size h payload)) (read_numbered context h rest given.read) (law.length-bytes_of 2 (2 ^ 14 + protected_len seal.tag_size h payload)))) in
     let same : m ≡ n = expands_in_same h expected m n (subst (λ (x : Header). ExpandsIn x expected m) is.0 u.number) given.number in
     record {
       header_same = is.0;
-      head_same = parts.0;
+      bytes_same = parts.0;
       number_same = same;
       opened = ap (λ (k : ℕ). key.opened k head body) same ∙ ap (λ (xs : List ℕ). key.opened n xs body) parts.0 ∙ ap (key.opened n top) parts.1
           ∙ given.laws.opens n top payload (let fits : n < 2 ^ 62 = given.sealed.fits in omega arith) (front_bytes top (seal.sealed n top payload) given.sealed.are_bytes) given.sealed.payload_bytes;
@@ -90,10 +90,10 @@ some_same x y e = cc
 key_gives : (seal : KeyPair) (key : KeyPair) (context : Context) (expected : ℕ) (bytes : List ℕ) (h : Header) (n : ℕ) (payload packet rest : List ℕ)
     → (given : Given seal key context expected bytes h n payload packet rest) → (found : Found seal key context h n payload packet rest)
     → (got : Header) (head : List ℕ) (m : ℕ) (opened : List ℕ) → KeyGives key expected found.cut.0 (header_size h - size_in h) packet got head (Some m) opened
-    → (got ≡ h) × (head ≡ sealed_head seal.tag_size h payload) × ((let o : Option ℕ = Some m in o) ≡ Some n) × (opened ≡ payload)
+    → (got ≡ h) × (head ≡ sealed_header seal.tag_size h payload) × ((let o : Option ℕ = Some m in o) ≡ Some n) × (opened ≡ payload)
 key_gives seal key context expected bytes h n payload packet rest given found got head m opened part =
     let same = unlocked_same seal key context expected bytes h n payload packet rest given found got head part.0 m part.1 in
-    (same.header_same, same.head_same, ap (λ (k : ℕ). let o : Option ℕ = Some k in o) same.number_same, some_same opened payload (sym part.2 ∙ same.opened))
+    (same.header_same, same.bytes_same, ap (λ (k : ℕ). let o : Option ℕ = Some k in o) same.number_same, some_same opened payload (sym part.2 ∙ same.opened))
 
 key_refuses : (seal : KeyPair) (key : KeyPair) (context : Context) (expected : ℕ) (bytes : List ℕ) (h : Header) (n : ℕ) (payload packet rest : List ℕ)
     → (given : Given seal key context expected bytes h n payload packet rest) → (found : Found seal key context h n payload packet rest)
@@ -119,7 +119,7 @@ Known seal key context expected bytes h n payload packet rest = Given (seal (spa
 part_gives : (seal : SpaceId → KeyPair) (key : SpaceId → KeyPair) (context : Context) (expected : SpaceId → ℕ) (bytes : List ℕ) (h : Header) (n : ℕ) (payload packet rest : List ℕ)
     → (given : Known seal key context expected bytes h n payload packet rest) → (found : Found (seal (space_in h)) (key (space_in h)) context h n payload packet rest)
     → (got : Header) (head : List ℕ) (number : Option ℕ) (opened : List ℕ) → PartGives key expected found.cut.0 (header_size h - size_in h) packet got head number opened
-    → (got ≡ h) × (head ≡ sealed_head (seal (space_in h)).tag_size h payload) × (number ≡ Some n) × (opened ≡ payload)
+    → (got ≡ h) × (head ≡ sealed_header (seal (space_in h)).tag_size h payload) × (number ≡ Some n) × (opened ≡ payload)
 part_gives seal key context expected bytes h n payload packet rest given found got head None opened part =
     absurd (space_none (space_in h) (space_of found.cut.0) found.cut.2 part.0)
 part_gives seal key context expected bytes h n payload packet rest given found got head (Some m) opened part =
@@ -141,7 +141,7 @@ gives_back seal key context expected bytes h n payload packet rest given got hea
     let p2 = subst (λ (k : ℕ). PartGives key expected found.cut.0 k (take gives.2 bytes) got head number opened) same.place p1 in
     let p3 = subst (λ (xs : List ℕ). PartGives key expected found.cut.0 at xs got head number opened) front p2 in
     let back = part_gives seal key context expected bytes h n payload packet rest given found got head number opened p3 in
-    record { header_back = back.0; head_back = back.1; number_back = back.2; payload_back = back.3; rest_back = subst (IsRest left) behind gives.5 }
+    record { header_back = back.0; bytes_back = back.1; number_back = back.2; payload_back = back.3; rest_back = subst (IsRest left) behind gives.5 }
 
 part_refuses : (seal : SpaceId → KeyPair) (key : SpaceId → KeyPair) (context : Context) (expected : SpaceId → ℕ) (bytes : List ℕ) (h : Header) (n : ℕ) (payload packet rest : List ℕ)
     → (given : Known seal key context expected bytes h n payload packet rest) → (found : Found (seal (space_in h)) (key (space_in h)) context h n payload packet rest)
@@ -198,16 +198,16 @@ sealed_opens keys context expected n h payload packet rest lawful sealed read nu
     let laws : Lawful keys keys = record { sample_same = refl; protects = lawful.protects; restores = lawful.restores; sealed_len = lawful.sealed_len; opens = lawful.opens } in
     let found = sealed_found keys keys laws context h n payload packet rest sealed read in
     let at : ℕ = header_size h - size_in h in
-    let top : List ℕ = sealed_head keys.tag_size h payload in
+    let top : List ℕ = sealed_header keys.tag_size h payload in
     let body : List ℕ = keys.sealed n top payload in
-    let end : length top ≡ header_size h = head_length h (bytes_of 2 (2 ^ 14 + protected_len keys.tag_size h payload)) (read_numbered context h rest read) (law.length-bytes_of 2 (2 ^ 14 + protected_len keys.tag_size h payload)) in
+    let end : length top ≡ header_size h = header_length h (bytes_of 2 (2 ^ 14 + protected_len keys.tag_size h payload)) (read_numbered context h rest read) (law.length-bytes_of 2 (2 ^ 14 + protected_len keys.tag_size h payload)) in
     let whole : take (length packet) (packet ++ rest) ≡ packet = take_front packet rest (length packet) refl in
     let gives : KeyGives keys expected found.cut.0 at packet h top (Some n) payload = (
       body,
       record {
         sample = found.sample;
         whole = sym found.back;
-        is_head = subst (λ (k : ℕ). IsOpenedBy true found.cut.0 at h (top ++ body) k) (sym end) found.cut.4;
+        is_header = subst (λ (k : ℕ). IsOpenedBy true found.cut.0 at h (top ++ body) k) (sym end) found.cut.4;
         number = number;
       },
       lawful.opens n top payload (let fits : n < 2 ^ 62 = sealed.fits in omega arith) (front_bytes top body sealed.are_bytes) sealed.payload_bytes,

@@ -23,7 +23,7 @@ Opens seal context expected bytes opened left = (h : Header) (n : ℕ) (payload 
     → ExpandsIn h (expected (space_in h)) n → bytes ≡ packet ++ rest → IsBack (seal (space_in h)).tag_size h n payload rest opened.header opened.header_data opened.number opened.payload.items left
 
 is_packet : (seal : SpaceId → KeyPair) (h : Header) (n : ℕ) (payload rest : List ℕ) (opened : Opened) (left : Option Filled) → IsBack (seal (space_in h)).tag_size h n payload rest opened.header opened.header_data opened.number opened.payload.items left → IsPacket seal opened (h, n, payload)
-is_packet seal h n payload rest opened left back = record { header = back.header_back; head = back.head_back; number = back.number_back; payload = back.payload_back }
+is_packet seal h n payload rest opened left back = record { header = back.header_back; head = back.bytes_back; number = back.number_back; payload = back.payload_back }
 
 row_step : (seal : SpaceId → KeyPair) (context : Context) (expected : SpaceId → ℕ) (others : List (Header × ℕ × List ℕ)) (bytes : List ℕ) (opened : Opened) (next : Filled)
     → Row seal context expected others bytes → Opens seal context expected bytes opened (Some next)

@@ -21,7 +21,7 @@ use Rattle.quic_header_encode.specs.declared.header.Header.{Header}
 use Rattle.quic_header_encode.specs.declared.header.InitialHeader.{InitialHeader}
 use Rattle.quic_header_encode.specs.declared.header.Header.TheVariants as header
 use Rattle.quic_header_decode.specs.Grammar.{Cut}
-use Rattle.quic_header_decode.proofs.Made.{LongStart, fixed_set, long_head, initial_head, short_head}
+use Rattle.quic_header_decode.proofs.Made.{LongStart, fixed_set, long_header, initial_header, short_header}
 use Rattle.quic_header_decode.specs.Reading.{Context}
 use Rattle.quic_header_encode.specs.Types.{types_of, long_type, version_2, type_number, place_of}
 use Rattle.quic_header_decode.specs.Headers.{IsOpenedBy}
@@ -30,9 +30,9 @@ use Rattle.quic_header_encode.specs.Queries.{space_in}
 use Rattle.quic_header_decode.specs.Finish.{IsNumberIn}
 use Rattle.quic_header_encode.specs.Writing.{header_size, long_first, bit, size_in, has_number}
 use Rattle.quic_packets.specs.Pairs.{KeyPair}
-use Rattle.quic_packets.specs.Sealing.{Sealed, plain_packet, sealed_head, protected_len}
+use Rattle.quic_packets.specs.Sealing.{Sealed, plain_packet, sealed_header, protected_len}
 use Rattle.quic_packets.specs.Opening.{IsReadBack}
-use Rattle.quic_packets.proofs.Sealings.{long_length, front_length, head_length, size_within, middle}
+use Rattle.quic_packets.proofs.Sealings.{long_length, front_length, header_length, size_within, middle}
 use Rattle.quic_packets.proofs.Parts.{length_encoded}
 use Rattle.quic_packets.proofs.Opened.{Lawful, Shape, shape, front_bytes, number_known, number_there}
 
@@ -47,9 +47,9 @@ pub record Found (seal : KeyPair) (key : KeyPair) (context : Context) (h : Heade
 pub plain_length : (seal : KeyPair) (key : KeyPair) → Lawful seal key → (h : Header) (n : ℕ) (payload packet : List ℕ) → Sealed seal h n payload packet → IsTrue (has_number h)
     → length (plain_packet seal h n payload) ≡ header_size h + (length payload + seal.tag_size)
 plain_length seal key laws h n payload packet sealed numbered =
-    let top : List ℕ = sealed_head seal.tag_size h payload in
+    let top : List ℕ = sealed_header seal.tag_size h payload in
     length-append top (seal.sealed n top payload)
-    ∙ ap (λ (k : ℕ). k + length (seal.sealed n top payload)) (head_length h (bytes_of 2 (2 ^ 14 + protected_len seal.tag_size h payload)) numbered (law.length-bytes_of 2 (2 ^ 14 + protected_len seal.tag_size h payload)))
+    ∙ ap (λ (k : ℕ). k + length (seal.sealed n top payload)) (header_length h (bytes_of 2 (2 ^ 14 + protected_len seal.tag_size h payload)) numbered (law.length-bytes_of 2 (2 ^ 14 + protected_len seal.tag_size h payload)))
     ∙ ap (λ (k : ℕ). header_size h + k) (laws.sealed_len n top payload (let fits : n < 2 ^ 62 = sealed.fits in omega arith) (front_bytes top (seal.sealed n top payload) sealed.are_bytes) sealed.payload_bytes)
 
 pub sealed_shape : (seal : KeyPair) (key : KeyPair) → Lawful seal key → (h : Header) (n : ℕ) (payload packet : List ℕ) → Sealed seal h n payload packet → IsTrue (has_number h)
@@ -100,7 +100,7 @@ regroup : (front len number body : List ℕ) → (front ++ (len ++ number)) ++ b
 regroup front len number body =
     ap (λ (xs : List ℕ). xs ++ body) (sym (append_assoc front len number)) ∙ append_assoc (front ++ len) number body
 
--- the first byte of a long head, whose low bits were changed
+-- the first byte of a long header, whose low bits were changed
 record LongByte (version : ℕ) (ty : LongHeaderType) (b : ℕ) : Type 0 where
   long : 128 ≤ b
   fixed : b / 64 % 2 ≡ 1
@@ -139,7 +139,7 @@ long_sealed seal key laws context ty dst src number version n payload packet res
     let len : List ℕ = bytes_of 2 (2 ^ 14 + count) in
     let first : ℕ = long_first version (kind.Standard ty) size in
     let tail : List ℕ = bytes_of 4 version ++ (long_id dst ++ long_id src) in
-    let body : List ℕ = seal.sealed n (sealed_head seal.tag_size h payload) payload in
+    let body : List ℕ = seal.sealed n (sealed_header seal.tag_size h payload) payload in
     let at : ℕ = header_size h - size_in h in
     let same : plain_packet seal h n payload ≡ (first ∷ (tail ++ len)) ++ (number_bytes number ++ body) = regroup (first ∷ tail) len (number_bytes number) body in
     let at_is : at ≡ length (first ∷ (tail ++ len)) = omega (arith, front_length h refl, length-append (first ∷ tail) len, law.length-bytes_of 2 (2 ^ 14 + count)) in
@@ -164,7 +164,7 @@ long_sealed seal key laws context ty dst src number version n payload packet res
         head.Long ty dst src count version,
         (
           behind ++ rest,
-          long_head context (length (packet ++ rest)) (packet ++ rest) b version dst src len (behind ++ rest) ty count start read.1 byte.is (length_encoded count (sealed.short refl)),
+          long_header context (length (packet ++ rest)) (packet ++ rest) b version dst src len (behind ++ rest) ty count start read.1 byte.is (length_encoded count (sealed.short refl)),
           omega (arith, length-append behind rest, length-append packet rest),
           omega arith,
           omega (arith, length-append packet rest),
@@ -205,7 +205,7 @@ initial_sealed seal key laws context i n payload packet rest sealed read =
     let first : ℕ = long_first version kind.Initial size in
     let tail : List ℕ = bytes_of 4 version ++ (long_id i.dst_cid ++ long_id i.src_cid) in
     let front : List ℕ = tail ++ (var ++ token) in
-    let body : List ℕ = seal.sealed n (sealed_head seal.tag_size h payload) payload in
+    let body : List ℕ = seal.sealed n (sealed_header seal.tag_size h payload) payload in
     let at : ℕ = header_size h - size_in h in
     let same : plain_packet seal h n payload ≡ (first ∷ (front ++ len)) ++ (number_bytes number ++ body) = regroup (first ∷ front) len (number_bytes number) body in
     let at_is : at ≡ length (first ∷ (front ++ len)) = omega (arith, front_length h refl, length-append (first ∷ front) len, law.length-bytes_of 2 (2 ^ 14 + count)) in
@@ -245,7 +245,7 @@ initial_sealed seal key laws context i n payload packet rest sealed read =
         head.Initial found,
         (
           behind ++ rest,
-          initial_head context (length (packet ++ rest)) (packet ++ rest) b var token len (behind ++ rest) found start read.1 byte.is
+          initial_header context (length (packet ++ rest)) (packet ++ rest) b var token len (behind ++ rest) found start read.1 byte.is
               (law.shortest_encodes (length token) sealed.writable.0) (length_encoded count (sealed.short refl))
               (omega (arith, ap length whole, length-append (b ∷ tail) (var ++ (token ++ after)), length-append var (token ++ after), length-append token after, top)) refl,
           omega (arith, length-append behind rest, length-append packet rest),
@@ -271,9 +271,9 @@ initial_sealed seal key laws context i n payload packet rest sealed read =
       back = it.back ∙ sym same;
     }
 
--- ---- short heads
+-- ---- short headers
 
--- the bits of a short head's first byte
+-- the bits of a short header's first byte
 abbrev short_first : Bool → Bool → ℕ → ℕ
 short_first spin key_phase size = 64 + bit spin 32 + bit key_phase 4 + (size - 1)
 
@@ -310,7 +310,7 @@ short_sealed seal key laws context spin key_phase dst number n payload packet re
     let size : ℕ = number_size number in
     let bounds = size_bounds number in
     let first : ℕ = short_first spin key_phase size in
-    let body : List ℕ = seal.sealed n (sealed_head seal.tag_size h payload) payload in
+    let body : List ℕ = seal.sealed n (sealed_header seal.tag_size h payload) payload in
     let at : ℕ = header_size h - size_in h in
     let same : plain_packet seal h n payload ≡ (first ∷ dst) ++ (number_bytes number ++ body) = append_assoc (first ∷ dst) (number_bytes number) body in
     let at_is : at ≡ length (first ∷ dst) = omega arith in
@@ -327,7 +327,7 @@ short_sealed seal key laws context spin key_phase dst number n payload packet re
         head.Short spin dst,
         (
           behind ++ rest,
-          short_head context (length (packet ++ rest)) (packet ++ rest) b spin dst dst (behind ++ rest) byte.short (fixed_set context b byte.fixed) whole (read.1 (behind ++ rest)) byte.spin_bit,
+          short_header context (length (packet ++ rest)) (packet ++ rest) b spin dst dst (behind ++ rest) byte.short (fixed_set context b byte.fixed) whole (read.1 (behind ++ rest)) byte.spin_bit,
           omega (arith, length-append behind rest, length-append packet rest),
           ends,
           omega arith,

@@ -1,4 +1,4 @@
--- What is written behind a head, and sealed, is a sealed packet.
+-- What is written behind a header, and sealed, is a sealed packet.
 use Rattle.std.specs.Prelude.{◌≡◌, ℕ, ◌+◌, ◌-◌, ◌≤◌, ◌^◌, Bool, IsTrue, List, ◌∷◌, ◌++◌, length, take, drop, Option, Some, None, slice_range, replicate, IfSome}
 use Rattle.std.proofs.Common.{sym, ap, ◌∙◌, arith, refl, subst, length-append, append_assoc}
 use Rattle.quic_base.specs.Varint.{short, size}
@@ -14,9 +14,9 @@ use Rattle.quic_header_encode.specs.declared.header.Header.{Header}
 use Rattle.quic_header_encode.specs.declared.header.Header.TheVariants as header
 use Rattle.quic_header_encode.specs.Starts.{long_front}
 use Rattle.quic_header_encode.specs.declared.long_type.LongHeaderType.TheVariants as kind
-use Rattle.quic_header_encode.specs.Writing.{long_first, head_front, head_with, header_bytes, header_size, no_length, place_in, size_in, has_length, has_number, with_length, sealed_packet}
+use Rattle.quic_header_encode.specs.Writing.{long_first, header_front, header_with, header_bytes, header_size, no_length, place_in, size_in, has_length, has_number, with_length, sealed_packet}
 use Rattle.quic_packets.specs.Pairs.{KeyPair}
-use Rattle.quic_packets.specs.Sealing.{plain_packet, sealed_head, protected_len}
+use Rattle.quic_packets.specs.Sealing.{plain_packet, sealed_header, protected_len}
 use Rattle.quic_header_decode.proofs.Steps.{take_front, drop_front}
 
 pub place_is : (h : Header) → IsTrue (has_number h) → place_in h ≡ Some (size_in h, has_length h)
@@ -41,8 +41,8 @@ pub long_length : (first version : ℕ) (dst src : List ℕ) → length (long_fr
 long_length first version dst src =
     omega (arith, length-append (first ∷ bytes_of 4 version) (long_id dst ++ long_id src), length-append (long_id dst) (long_id src), length-bytes_of 4 version, length-append (bytes_of 4 version) (long_id dst ++ long_id src))
 
--- where a head's number stands
-pub front_length : (h : Header) → IsTrue (has_length h) → header_size h ≡ length (head_front h) + 2 + size_in h
+-- where a header's number stands
+pub front_length : (h : Header) → IsTrue (has_length h) → header_size h ≡ length (header_front h) + 2 + size_in h
 front_length (header.Initial h) e =
     let first : ℕ = long_first h.version kind.Initial (number_size h.number) in
     let front : List ℕ = long_front first h.version h.dst_cid h.src_cid in
@@ -52,15 +52,15 @@ front_length (header.Retry dst src version) e = absurd cc
 front_length (header.Short spin key_phase dst number) e = absurd cc
 front_length (header.VersionNegotiate random src dst) e = absurd cc
 
-pub head_length : (h : Header) (len : List ℕ) → IsTrue (has_number h) → length len ≡ 2 → length (head_with len h) ≡ header_size h
-head_length (header.Initial h) len e two =
-    omega (arith, front_length (header.Initial h) refl, length-append (head_front (header.Initial h)) (len ++ number_bytes h.number), length-append len (number_bytes h.number), number_length h.number)
-head_length (header.Long ty dst src number version) len e two =
-    omega (arith, front_length (header.Long ty dst src number version) refl, length-append (head_front (header.Long ty dst src number version)) (len ++ number_bytes number), length-append len (number_bytes number), number_length number)
-head_length (header.Retry dst src version) len e two = absurd cc
-head_length (header.Short spin key_phase dst number) len e two =
-    omega (arith, length-append (head_front (header.Short spin key_phase dst number)) (number_bytes number), number_length number)
-head_length (header.VersionNegotiate random src dst) len e two = absurd cc
+pub header_length : (h : Header) (len : List ℕ) → IsTrue (has_number h) → length len ≡ 2 → length (header_with len h) ≡ header_size h
+header_length (header.Initial h) len e two =
+    omega (arith, front_length (header.Initial h) refl, length-append (header_front (header.Initial h)) (len ++ number_bytes h.number), length-append len (number_bytes h.number), number_length h.number)
+header_length (header.Long ty dst src number version) len e two =
+    omega (arith, front_length (header.Long ty dst src number version) refl, length-append (header_front (header.Long ty dst src number version)) (len ++ number_bytes number), length-append len (number_bytes number), number_length number)
+header_length (header.Retry dst src version) len e two = absurd cc
+header_length (header.Short spin key_phase dst number) len e two =
+    omega (arith, length-append (header_front (header.Short spin key_phase dst number)) (number_bytes number), number_length number)
+header_length (header.VersionNegotiate random src dst) len e two = absurd cc
 
 -- two bytes of a list are filled in
 filled : (front number tail len : List ℕ) (at : ℕ) → at ≡ length front + 2
@@ -77,12 +77,12 @@ filled front number tail len at is =
 
 filled_in : (h : Header) (tail : List ℕ) → IsTrue (has_number h)
     → with_length (size_in h) (has_length h) (header_size h) (header_bytes h ++ tail)
-    ≡ head_with (bytes_of 2 (2 ^ 14 + (length (header_bytes h ++ tail) - (header_size h - size_in h)))) h ++ tail
+    ≡ header_with (bytes_of 2 (2 ^ 14 + (length (header_bytes h ++ tail) - (header_size h - size_in h)))) h ++ tail
 filled_in (header.Initial h) tail e =
-    filled (head_front (header.Initial h)) (number_bytes h.number) tail (bytes_of 2 (2 ^ 14 + (length (header_bytes (header.Initial h) ++ tail) - (header_size (header.Initial h) - number_size h.number))))
+    filled (header_front (header.Initial h)) (number_bytes h.number) tail (bytes_of 2 (2 ^ 14 + (length (header_bytes (header.Initial h) ++ tail) - (header_size (header.Initial h) - number_size h.number))))
     (header_size (header.Initial h) - number_size h.number) (omega (arith, front_length (header.Initial h) refl))
 filled_in (header.Long ty dst src number version) tail e =
-    filled (head_front (header.Long ty dst src number version)) (number_bytes number) tail (bytes_of 2 (2 ^ 14 + (length (header_bytes (header.Long ty dst src number version) ++ tail) - (header_size (header.Long ty dst src number version) - number_size number))))
+    filled (header_front (header.Long ty dst src number version)) (number_bytes number) tail (bytes_of 2 (2 ^ 14 + (length (header_bytes (header.Long ty dst src number version) ++ tail) - (header_size (header.Long ty dst src number version) - number_size number))))
     (header_size (header.Long ty dst src number version) - number_size number) (omega (arith, front_length (header.Long ty dst src number version) refl))
 filled_in (header.Retry dst src version) tail e = absurd cc
 filled_in (header.Short spin key_phase dst number) tail e = refl
@@ -97,10 +97,10 @@ middle head payload room i j from to =
 
 sealed_parts : (seal : List ℕ → List ℕ → List ℕ) (head payload room : List ℕ) (header_len tag : ℕ) → length head ≡ header_len → length room ≡ tag
     → sealed_packet header_len (Some (tag, seal)) (head ++ (payload ++ room)) ≡ head ++ seal head payload
-sealed_parts seal head payload room header_len tag head_is room_is =
-    let front : take header_len (head ++ (payload ++ room)) ≡ head = take_front head (payload ++ room) header_len head_is in
+sealed_parts seal head payload room header_len tag header_is room_is =
+    let front : take header_len (head ++ (payload ++ room)) ≡ head = take_front head (payload ++ room) header_len header_is in
     let inner : payload_in header_len tag (head ++ (payload ++ room)) ≡ payload =
-    middle head payload room header_len (length (head ++ (payload ++ room)) - tag) (sym head_is)
+    middle head payload room header_len (length (head ++ (payload ++ room)) - tag) (sym header_is)
     (omega (arith, length-append head (payload ++ room), length-append payload room)) in
     ap (λ (xs : List ℕ). xs ++ seal xs (payload_in header_len tag (head ++ (payload ++ room)))) front ∙ ap (λ (xs : List ℕ). head ++ seal head xs) inner
 
@@ -114,20 +114,20 @@ size_within (header.VersionNegotiate random src dst) = omega arith
 counted : (whole head size payload tag : ℕ) → size ≤ head → whole ≡ head + (payload + tag) → whole - (head - size) ≡ size + payload + tag
 counted whole head size payload tag le sum = omega arith
 
--- what is written behind a head becomes the sealed packet
+-- what is written behind a header becomes the sealed packet
 pub packet_sealed : (seal : List ℕ → List ℕ → List ℕ) (h : Header) (payload : List ℕ) (tag : ℕ) → IsTrue (has_number h)
     → sealed_packet (header_size h) (Some (tag, seal)) (with_length (size_in h) (has_length h) (header_size h) (header_bytes h ++ (payload ++ replicate tag 0)))
-    ≡ sealed_head tag h payload ++ seal (sealed_head tag h payload) payload
+    ≡ sealed_header tag h payload ++ seal (sealed_header tag h payload) payload
 packet_sealed seal h payload tag e =
     let tail : List ℕ = payload ++ replicate tag 0 in
     let room : length (replicate tag 0) ≡ tag = length-replicate {A = ℕ} tag 0 in
     let size : size_in h ≤ header_size h = size_within h in
     let count : length (header_bytes h ++ tail) - (header_size h - size_in h) ≡ protected_len tag h payload =
     counted (length (header_bytes h ++ tail)) (header_size h) (size_in h) (length payload) tag size
-    (length-append (header_bytes h) tail ∙ ap (λ (n : ℕ). n + length tail) (head_length h no_length e refl)
+    (length-append (header_bytes h) tail ∙ ap (λ (n : ℕ). n + length tail) (header_length h no_length e refl)
     ∙ ap (λ (n : ℕ). header_size h + n) (length-append payload (replicate tag 0) ∙ ap (λ (n : ℕ). length payload + n) room)) in
-    ap (sealed_packet (header_size h) (Some (tag, seal))) (filled_in h tail e ∙ ap (λ (n : ℕ). head_with (bytes_of 2 (2 ^ 14 + n)) h ++ tail) count)
-    ∙ sealed_parts seal (sealed_head tag h payload) payload (replicate tag 0) (header_size h) tag (head_length h (bytes_of 2 (2 ^ 14 + protected_len tag h payload)) e (length-bytes_of 2 (2 ^ 14 + protected_len tag h payload))) room
+    ap (sealed_packet (header_size h) (Some (tag, seal))) (filled_in h tail e ∙ ap (λ (n : ℕ). header_with (bytes_of 2 (2 ^ 14 + n)) h ++ tail) count)
+    ∙ sealed_parts seal (sealed_header tag h payload) payload (replicate tag 0) (header_size h) tag (header_length h (bytes_of 2 (2 ^ 14 + protected_len tag h payload)) e (length-bytes_of 2 (2 ^ 14 + protected_len tag h payload))) room
 
 -- the same, at the end of a buffer
 pub sealed_end : (keys : KeyPair) (h : Header) (n : ℕ) (payload before old new : List ℕ) (start header_len : ℕ) (pn : Option (ℕ × Bool)) → IsTrue (has_number h) → pn ≡ place_in h

@@ -19,13 +19,13 @@ use Rattle.quic_header_encode.specs.Queries.{space_in}
 use Rattle.quic_base.specs.declared.ids.SpaceId.{SpaceId}
 use Rattle.quic_packets.specs.declared.keys.Expected.{Expected}
 use Rattle.quic_packets.specs.Pairs.{KeyPair}
-use Rattle.quic_packets.specs.Sealing.{sealed_head}
+use Rattle.quic_packets.specs.Sealing.{sealed_header}
 
--- what heads are read by: a parser of ids, the versions that are known, and whether the fixed bit may be clear
+-- what headers are read by: a parser of ids, the versions that are known, and whether the fixed bit may be clear
 abbrev pub read_by : (List ℕ → Result (List ℕ × ℕ) Refusal) → List ℕ → Bool → Context
 read_by parsed versions grease = record { parsed = parsed; versions = versions; grease = grease }
 
--- the number for which the one in the head stands
+-- the number for which the one in the header stands
 abbrev pub ExpandsIn : Header → ℕ → ℕ → Type 0
 ExpandsIn (header.Initial h) expected n = Expands (low_part h.number) (window_of h.number) expected n
 ExpandsIn (header.Long ty dst src number version) expected n = Expands (low_part number) (window_of number) expected n
@@ -33,11 +33,11 @@ ExpandsIn (header.Retry dst src version) expected n = ⊥
 ExpandsIn (header.Short spin key_phase dst number) expected n = Expands (low_part number) (window_of number) expected n
 ExpandsIn (header.VersionNegotiate random src dst) expected n = ⊥
 
--- a protected packet has this head, number and sealed payload
+-- a protected packet has this header, number and sealed payload
 pub record Unlocked (keys : KeyPair) (expected : ℕ) (h : ProtectedHeader) (at : ℕ) (packet : List ℕ) (header : Header) (head body : List ℕ) (n : ℕ) : Type 0 where
   pub sample : HasSample keys.sample_len at packet
   pub whole : head ++ body ≡ keys.unprotected at packet
-  pub is_head : IsOpenedBy true h at header (head ++ body) (length head)
+  pub is_header : IsOpenedBy true h at header (head ++ body) (length head)
   pub number : ExpandsIn header expected n
 
 -- what a key gives of a packet
@@ -80,7 +80,7 @@ IsDecode e (error.Decode f) = (refusal_of f ≡ refusal_of e) × (refusal_of e �
 IsDecode e error.Unsealed = ⊥
 IsDecode e error.OutOfMemory = refusal_of e ≡ NoMemory
 
--- the head's number is in range
+-- the header's number is in range
 abbrev pub HasNumber : Header → Type 0
 HasNumber (header.Initial h) = IsInRange h.number
 HasNumber (header.Long ty dst src number version) = IsInRange number
@@ -106,7 +106,7 @@ PacketRefuses takes_memory keys context expected bytes e =
     IsUncut takes_memory context bytes e
     ⊎ ((h : ProtectedHeader) × (p : ℕ) × (q : ℕ) × Cut context bytes h p q × PartRefuses keys expected h p (take q bytes) e)
 
--- a head that is read back where these bytes follow its packet
+-- a header that is read back where these bytes follow its packet
 abbrev pub IsReadBack : Context → Header → List ℕ → Type 0
 IsReadBack context (header.Initial h) rest = (h.version < 2 ^ 32) × IsKnown context h.version × (length h.dst_cid ≤ 20) × (length h.src_cid ≤ 20)
 IsReadBack context (header.Long ty dst src number version) rest = (version < 2 ^ 32) × IsKnown context version × (length dst ≤ 20) × (length src ≤ 20)
@@ -114,20 +114,20 @@ IsReadBack context (header.Retry dst src version) rest = ⊥
 IsReadBack context (header.Short spin key_phase dst number) rest = (rest ≡ []) × ((tail : List ℕ) → context.parsed (dst ++ tail) ≡ Ok (dst, length dst))
 IsReadBack context (header.VersionNegotiate random src dst) rest = ⊥
 
--- The first packet of the bytes is cut behind so many bytes, and the key of its space gives this head, number and
+-- The first packet of the bytes is cut behind so many bytes, and the key of its space gives this header, number and
 -- payload of it.
 pub record Opens (keys : KeyPair) (context : Context) (expected : ℕ) (bytes : List ℕ) (count : ℕ) (h : Header) (n : ℕ) (payload : List ℕ) : Type 0 where
   pub found : ProtectedHeader
   pub at : ℕ
   pub cut : Cut context bytes found at count
   pub space : space_of found ≡ Some (space_in h)
-  pub gives : KeyGives keys expected found at (take count bytes) h (sealed_head keys.tag_size h payload) (Some n) payload
+  pub gives : KeyGives keys expected found at (take count bytes) h (sealed_header keys.tag_size h payload) (Some n) payload
 
--- what is given of a packet that was sealed with a tag of that many bytes: its head with the head's bytes, its
+-- what is given of a packet that was sealed with a tag of that many bytes: its header with the header's bytes, its
 -- number, its payload, and what follows it
 pub record IsBack (tag_size : ℕ) (h : Header) (n : ℕ) (payload rest : List ℕ) (got : Header) (head : List ℕ) (number : Option ℕ) (opened : List ℕ) (left : Option Filled) : Type 0 where
   pub header_back : got ≡ h
-  pub head_back : head ≡ sealed_head tag_size h payload
+  pub bytes_back : head ≡ sealed_header tag_size h payload
   pub number_back : number ≡ Some n
   pub payload_back : opened ≡ payload
   pub rest_back : IsRest left rest

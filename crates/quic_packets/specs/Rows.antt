@@ -9,7 +9,7 @@ use Rattle.quic_packets.specs.declared.opening.Opened.{Opened}
 use Rattle.quic_packets.specs.declared.opening.OpenError.{OpenError}
 use Rattle.quic_packets.specs.declared.opening.OpenError.TheVariants.{OutOfMemory}
 use Rattle.quic_packets.specs.Pairs.{KeyPair}
-use Rattle.quic_packets.specs.Sealing.{IsAppended, Sealed, sealed_head}
+use Rattle.quic_packets.specs.Sealing.{IsAppended, Sealed, sealed_header}
 use Rattle.quic_packets.specs.Opening.{PacketGives, PacketRefuses, IsBack, IsReadBack, ExpandsIn}
 
 -- ---- any bytes
@@ -60,7 +60,7 @@ pub record Ends (keys : SpaceId → KeyPair) (context : Context) (expected : Spa
 
 -- ---- sealed bytes
 
--- the bytes are packets in a row, each of a head, a number and a payload, sealed by these keys and read back where it
+-- the bytes are packets in a row, each of a header, a number and a payload, sealed by these keys and read back where it
 -- stands
 pub data Row (seal : SpaceId → KeyPair) (context : Context) (expected : SpaceId → ℕ) : List (Header × ℕ × List ℕ) → List ℕ → Type 0 where
   last : (h : Header) (n : ℕ) (payload packet : List ℕ) → Sealed (seal (space_in h)) h n payload packet → IsReadBack context h [] → ExpandsIn h (expected (space_in h)) n
@@ -71,7 +71,7 @@ pub data Row (seal : SpaceId → KeyPair) (context : Context) (expected : SpaceI
 -- what was opened is this
 pub record IsPacket (seal : SpaceId → KeyPair) (opened : Opened) (packet : Header × ℕ × List ℕ) : Type 0 where
   pub header : opened.header ≡ packet.0
-  pub head : opened.header_data ≡ sealed_head (seal (space_in packet.0)).tag_size packet.0 packet.2
+  pub head : opened.header_data ≡ sealed_header (seal (space_in packet.0)).tag_size packet.0 packet.2
   pub number : opened.number ≡ Some packet.1
   pub payload : opened.payload.items ≡ packet.2
 

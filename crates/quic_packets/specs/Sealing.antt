@@ -11,9 +11,9 @@ use Rattle.quic_header_encode.specs.declared.header.Header.TheVariants as header
 use Rattle.quic_packets.specs.declared.seal.SealError.{SealError}
 use Rattle.quic_packets.specs.declared.seal.SealError.TheVariants as refusal
 use Rattle.quic_packets.specs.Pairs.{KeyPair}
-use Rattle.quic_header_encode.specs.Writing.{head_with, header_size, IsWritable, size_in, has_length}
+use Rattle.quic_header_encode.specs.Writing.{header_with, header_size, IsWritable, size_in, has_length}
 
--- the number in the head is the low part of this one
+-- the number in the header is the low part of this one
 abbrev pub IsLowPart : Header → ℕ → Type 0
 IsLowPart (header.Initial h) n = low_part h.number ≡ n % window_of h.number
 IsLowPart (header.Long ty dst src number version) n = low_part number ≡ n % window_of number
@@ -21,21 +21,21 @@ IsLowPart (header.Retry dst src version) n = ⊥
 IsLowPart (header.Short spin key_phase dst number) n = low_part number ≡ n % window_of number
 IsLowPart (header.VersionNegotiate random src dst) n = ⊥
 
--- how many bytes stand from the number on, which is what a head's length counts
+-- how many bytes stand from the number on, which is what a header's length counts
 abbrev pub protected_len : ℕ → Header → List ℕ → ℕ
 protected_len tag_size h payload = size_in h + length payload + tag_size
 
--- the head of a sealed packet, with its length
-abbrev pub sealed_head : ℕ → Header → List ℕ → List ℕ
-sealed_head tag_size h payload = head_with (bytes_of 2 (2 ^ 14 + protected_len tag_size h payload)) h
+-- the header of a sealed packet, with its length
+abbrev pub sealed_header : ℕ → Header → List ℕ → List ℕ
+sealed_header tag_size h payload = header_with (bytes_of 2 (2 ^ 14 + protected_len tag_size h payload)) h
 
--- a packet before its head is protected
+-- a packet before its header is protected
 abbrev pub plain_packet : KeyPair → Header → ℕ → List ℕ → List ℕ
-plain_packet keys h n payload = sealed_head keys.tag_size h payload ++ keys.sealed n (sealed_head keys.tag_size h payload) payload
+plain_packet keys h n payload = sealed_header keys.tag_size h payload ++ keys.sealed n (sealed_header keys.tag_size h payload) payload
 
--- Bytes are a packet of this head, number and payload, sealed by these keys: the head can be written, and its number
+-- Bytes are a packet of this header, number and payload, sealed by these keys: the header can be written, and its number
 -- is the low part of this one, which is below 2^62; from the number on there are four bytes and the sample, and fewer
--- than 2^14 where the head has a length; the bytes are the head with its length, and the sealed payload, the head
+-- than 2^14 where the header has a length; the bytes are the header with its length, and the sealed payload, the header
 -- being protected.
 pub record Sealed (keys : KeyPair) (h : Header) (n : ℕ) (payload bytes : List ℕ) : Type 0 where
   pub writable : IsWritable h
@@ -48,7 +48,7 @@ pub record Sealed (keys : KeyPair) (h : Header) (n : ℕ) (payload bytes : List 
   pub text : bytes ≡ keys.protected (header_size h - size_in h) (plain_packet keys h n payload)
 
 -- Why a packet is not sealed: the first of these, in this order. From the number on there are fewer than four bytes
--- and the sample; there are 2^14 or more, and the head has a length; the spare room is less than the packet.
+-- and the sample; there are 2^14 or more, and the header has a length; the spare room is less than the packet.
 abbrev pub SealRefused : SealError → ℕ → Header → ℕ → List ℕ → ℕ → Type 0
 SealRefused refusal.TooShort tag_size h sample_len payload spare = protected_len tag_size h payload < 4 + sample_len
 SealRefused refusal.TooLong tag_size h sample_len payload spare =
@@ -65,7 +65,7 @@ IsAppended {X} IsSuch old new = (added : List X) × IsSuch added × (new ≡ old
 abbrev pub payload_of : List Frame → List ℕ
 payload_of frames = shortest_frames (map meaning_of frames)
 
--- bytes are a packet of this head, number and frames, sealed by these keys
+-- bytes are a packet of this header, number and frames, sealed by these keys
 pub record SealedFrames (keys : KeyPair) (h : Header) (n : ℕ) (frames : List Frame) (bytes : List ℕ) : Type 0 where
   pub payload : List ℕ
   pub is_payload : IsPayload frames payload

@@ -7,7 +7,7 @@ use quic_base::ids::SpaceId;
 /// The keys of one space.
 #[derive(Drop)]
 pub struct Keys<H, P> {
-    /// The key that protects heads.
+    /// The key that protects headers.
     pub header: H,
     /// The key that seals payloads.
     pub packet: P,

@@ -12,7 +12,7 @@ use quic_frames::frame::Frame;
 use quic_header_encode::header::Header;
 pub use quic_header_decode::laws::{ends, one_answer, one_row_of_packets};
 
-/// Keys make one packet of a head, a number and a payload; frames have one least payload; and the number that is
+/// Keys make one packet of a header, a number and a payload; frames have one least payload; and the number that is
 /// written stands for one number, by the one that is expected.
 pub fn one_packet()
     ensures packet { (keys : KeyPair) (h : Header) (n : ℕ) (payload one other : List ℕ)
@@ -26,7 +26,7 @@ pub fn one_packet()
 {}
 
 /// What was sealed by lawful keys can be opened by them, whatever follows it: it is cut where it ends, and gives its
-/// head, its number and its payload.
+/// header, its number and its payload.
 pub fn sealed_opens()
     ensures { (keys : KeyPair) (context : Context) (expected n : ℕ) (h : Header) (payload packet rest : List ℕ)
         → IsLawful keys → Sealed keys h n payload packet → IsReadBack context h rest → ExpandsIn h expected n

@@ -40,11 +40,11 @@ pub enum OpenError {
 pub struct Opened {
     /// The head.
     pub header: Header,
-    /// The head's bytes, without protection and with the length filled in, the packet number among them.
+    /// The header's bytes, without protection and with the length filled in, the packet number among them.
     pub header_data: Bytes,
     /// The whole packet number; none for Retry and version negotiation.
     pub number: Option<u64>,
-    /// The payload. What follows the head of a Retry or version negotiation.
+    /// The payload. What follows the header of a Retry or version negotiation.
     pub payload: BytesMut,
 }
 
@@ -69,7 +69,7 @@ fn decode_error(e: &PacketDecodeError) -> OpenError
     }
 }
 
-// The number for which the one in a head stands.
+// The number for which the one in a header stands.
 fn expand(header: &Header, expected: u64) -> u64
     requires valid { HasNumber header.now }
     requires small { expected < 2 ^ 62 }
@@ -93,9 +93,9 @@ fn open_protected<H: HeaderKey, P: PacketKey>(
     requires protected { IsTrue (is_protected partial.head) }
     requires small { expected < 2 ^ 62 }
     ensures opened { IfOk result (λ x. KeyGives (⟦<Keys<H, P> as PairOfKeys>⟧.pair keys.now)
-        expected partial.head partial.head_end partial.bytes x.header x.header_data x.number x.payload.items) }
+        expected partial.head partial.header_end partial.bytes x.header x.header_data x.number x.payload.items) }
     ensures refused { IfErr result (λ e. KeyRefuses (⟦<Keys<H, P> as PairOfKeys>⟧.pair keys.now)
-        expected partial.head partial.head_end partial.bytes e) }
+        expected partial.head partial.header_end partial.bytes e) }
 {
     let packet = match partial.finish(Some(&keys.header)) {
         Ok(packet) => packet,
@@ -130,9 +130,9 @@ fn open_plain<H: HeaderKey, P: PacketKey>(
     requires plain { is_protected partial.head ≡ false }
     requires none { space_of partial.head ≡ None }
     ensures opened { IfOk result (λ x. PartGives (⟦<SpaceKeys<H, P> as PairsOfKeys>⟧.pairs keys.now)
-        (expected_in expected.now) partial.head partial.head_end partial.bytes x.header x.header_data x.number x.payload.items) }
+        (expected_in expected.now) partial.head partial.header_end partial.bytes x.header x.header_data x.number x.payload.items) }
     ensures refused { IfErr result (λ e. PartRefuses (⟦<SpaceKeys<H, P> as PairsOfKeys>⟧.pairs keys.now)
-        (expected_in expected.now) partial.head partial.head_end partial.bytes e) }
+        (expected_in expected.now) partial.head partial.header_end partial.bytes e) }
 {
     // It is read without a key, so any would do.
     let packet = match partial.finish(Some(&keys.initial.header)) {
@@ -155,9 +155,9 @@ fn open_part<H: HeaderKey, P: PacketKey>(
 ) -> Result<Opened, OpenError>
     requires { AreExpected expected.now }
     ensures opened { IfOk result (λ x. PartGives (⟦<SpaceKeys<H, P> as PairsOfKeys>⟧.pairs keys.now)
-        (expected_in expected.now) partial.head partial.head_end partial.bytes x.header x.header_data x.number x.payload.items) }
+        (expected_in expected.now) partial.head partial.header_end partial.bytes x.header x.header_data x.number x.payload.items) }
     ensures refused { IfErr result (λ e. PartRefuses (⟦<SpaceKeys<H, P> as PairsOfKeys>⟧.pairs keys.now)
-        (expected_in expected.now) partial.head partial.head_end partial.bytes e) }
+        (expected_in expected.now) partial.head partial.header_end partial.bytes e) }
 {
     match partial.space() {
         Some(space) => open_protected(partial, keys.of(space), expected.of(space)),
@@ -227,13 +227,13 @@ fn open_one<C: ConnectionIdParser, H: HeaderKey, P: PacketKey>(
 }
 
 /// Opens a datagram's first packet by the keys and the expected number of its space, and gives what follows it.
-/// Ids of short heads are taken by `parser`; heads of other versions than `versions` are refused; with `grease`
+/// Ids of short headers are taken by `parser`; headers of other versions than `versions` are refused; with `grease`
 /// the fixed bit may be clear. A Retry or version negotiation is given as it stands, with no number.
 ///
 /// Refused with `Decode` only where `PartialDecode::new` or `PartialDecode::finish` refuses the packet, and with
 /// `Unsealed` only where the packet key answers `CryptoError`. Once a packet was cut, `OutOfMemory` may stand in place
 /// of every answer; before, where the parser takes memory. What was sealed by the keys handed in, with a number that is
-/// found from the expected one, is opened to the same head, number and payload, or memory ran out. The caller must give
+/// found from the expected one, is opened to the same header, number and payload, or memory ran out. The caller must give
 /// expected numbers below 2^62.
 pub fn open_packet<C: ConnectionIdParser, H: HeaderKey, P: PacketKey>(
     bytes: BytesMut,

@@ -1,4 +1,4 @@
-//! Heads of packets, the cutting of datagrams into packets, and packets sealed and opened.
+//! Headers of packets, the cutting of datagrams into packets, and packets sealed and opened.
 
 pub use crate::keys::{Expected, Keys, SpaceKeys};
 pub use crate::opening::{OpenError, Opened, Packets, open_datagram, open_packet};

@@ -20,7 +20,7 @@ pub enum SealError {
     /// The number, the payload and the tag have fewer bytes than four and the sample: PADDING helps.
     #[error("packet too short for header protection sample")]
     TooShort,
-    /// The head has a length, and the number, the payload and the tag have 2^14 bytes or more.
+    /// The header has a length, and the number, the payload and the tag have 2^14 bytes or more.
     #[error("packet too long for its length field")]
     TooLong,
     /// The buffer's spare room is less than the packet, and there is no memory for more.
@@ -55,7 +55,7 @@ fn refused(
     None
 }
 
-// Appends a head, frames and room for a tag.
+// Appends a header, frames and room for a tag.
 fn write_packet(
     header: &Header,
     frames: &[Frame<'_>],
@@ -113,12 +113,12 @@ fn sum(a: usize, payload: u128, c: usize) -> Option<usize>
     a.checked_add(payload)?.checked_add(c)
 }
 
-/// Appends a packet of this head, number and frames, sealed by the keys, and answers how many bytes that is. The
+/// Appends a packet of this header, number and frames, sealed by the keys, and answers how many bytes that is. The
 /// frames are written by `Frame::encode`, the last one as the last, so in their shortest forms. There is one
 /// growth, after the lengths are known.
 ///
 /// Of the refusals the first that holds is answered, and each leaves `out` as it was; `NoRoom` comes only where
-/// the spare room is less than what is written. The caller must give a protected head that `Header::encode` may write
+/// the spare room is less than what is written. The caller must give a protected header that `Header::encode` may write
 /// and whose number is the low part of `number`, a `number` below 2^62, and one or more frames that
 /// `Frame::encode` may write at their places.
 pub fn seal_packet<H: HeaderKey, P: PacketKey>(

@@ -94,8 +94,8 @@ pub written_below : (p : TransportParameters) → IsTyped p → length (written 
 written_below p t =
     omega (arith, all_below (λ i. written_for p (id_at i)) (λ i. for_below p t (id_at i)) (order_of p.write_order), order_long p.write_order t.order)
 
-pub head_below : (number len : ℕ) → length (short number ++ short len) ≤ 16
-head_below number len = omega (arith, short_below number, short_below len, length-append (short number) (short len))
+pub header_below : (number len : ℕ) → length (short number ++ short len) ≤ 16
+header_below number len = omega (arith, short_below number, short_below len, length-append (short number) (short len))
 
 pub whole_below : (number : ℕ) (value : List ℕ) → length (entry number value) ≤ 16 + length value
 whole_below number value =

@@ -5,7 +5,7 @@ ghost use Rattle.quic_params.specs.Writing.{entry, written, written_for};
 
 use crate::parameter::TransportParameterId;
 use crate::record::TransportParameters;
-use crate::writing::write_head_by_parts;
+use crate::writing::write_header_by_parts;
 use bytes::BufMut;
 use std::alloc::AllocError;
 
@@ -15,7 +15,7 @@ const ROOM: usize = 21 * 77;
 // No entry of a record has more bytes than that, and what an entry begins with no more than these.
 const ENTRY_ROOM: usize = 77;
 
-const HEAD_ROOM: usize = 16;
+const HEADER_ROOM: usize = 16;
 
 // Room for bytes that are written, which are the first `len` ones.
 #[derive(Drop)]
@@ -149,13 +149,13 @@ impl TransportParameters {
 }
 
 // Fills an empty room with what an entry begins with.
-fn fill_head(number: u64, len: u64, room: &mut Room<HEAD_ROOM>)
+fn fill_header(number: u64, len: u64, room: &mut Room<HEADER_ROOM>)
     requires number { number < 2 ^ 62 }
     requires len { len < 2 ^ 62 }
     requires empty { room.old.len ≡ 0 }
     ensures { take room.new.len room.new.bytes ≡ short number ++ short len }
 {
-    match write_head_by_parts(number, len, room) {
+    match write_header_by_parts(number, len, room) {
         Ok(()) => {}
         Err(_) => unreachable!(),
     }
@@ -174,8 +174,8 @@ pub fn write_entry_into(number: u64, value: &[u8], dest: &mut [u8]) -> Result<us
     ensures same { OnErr result (dest.new ≡ dest.old) }
     ensures few { length (entry number value.now) ≤ 16 + length value.now }
 {
-    let mut room = Room::<HEAD_ROOM>::new();
-    fill_head(number, value.len() as u64, &mut room);
+    let mut room = Room::<HEADER_ROOM>::new();
+    fill_header(number, value.len() as u64, &mut room);
     let head = room.filled();
     let len = head.len() + value.len();
     if len > dest.len() {

@@ -2,7 +2,7 @@
 //! after another. The lists lie in `data/`, and `stdout` is what must come of them.
 //!
 //! The lists are seeded random, damaged, cut-off and hostile lines, and their answers come from elsewhere: those
-//! on `datagrams.in`, with ids of 0, 8 and 20 bytes in short heads, from a plain model in which versions 1 and 2
+//! on `datagrams.in`, with ids of 0, 8 and 20 bytes in short headers, from a plain model in which versions 1 and 2
 //! are both supported. Where version 2 isn't, it agrees on every line with the Rust crate quinn-proto 0.11.19,
 //! which has no version 2. Those on `params.in`, as a client and as a
 //! server gets them, come from the Rust crate. Those on `payloads.in`, in their shortest form and with types in

@@ -1,4 +1,4 @@
-//! Tests of heads, of the cutting of datagrams, and of what `quic-show datagram` prints.
+//! Tests of headers, of the cutting of datagrams, and of what `quic-show datagram` prints.
 #![tactic(auto)]
 
 #[cfg(test)]

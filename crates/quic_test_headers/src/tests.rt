@@ -3,7 +3,7 @@
 mod beginnings;
 mod beginnings_answers;
 mod calls;
-mod heads_refused;
+mod headers_refused;
 mod negotiation;
 mod packets;
 mod parsers;

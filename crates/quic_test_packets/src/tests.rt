@@ -1,8 +1,8 @@
 //! Worked rows, odd keys, and each growth refused in turn.
 
 mod client;
-mod heads;
-mod heads_refused;
+mod headers;
+mod headers_refused;
 mod numbers;
 mod odd_keys;
 mod packets_refused;

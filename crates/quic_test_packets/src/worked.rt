@@ -1,4 +1,4 @@
-//! Keys and heads of the worked rows.
+//! Keys and headers of the worked rows.
 ghost use Rattle.std.specs.Prelude.{◌≡◌, ◌≤◌, ◌<◌, ◌^◌, ◌++◌, IsTrue, List, [], Ok, ℕ, length};
 ghost use Rattle.quic_header_encode.specs.Writing.{IsWritable, has_number};
 ghost use Rattle.quic_header_decode.specs.Grammar.{IsKnown};
@@ -37,7 +37,7 @@ pub fn all_toy() -> SpaceKeys<ToyHeaderKey, ToyPacketKey> {
     }
 }
 
-/// The head of an Initial packet from the id `04` to `010203`, with a token and a number of three bytes.
+/// The header of an Initial packet from the id `04` to `010203`, with a token and a number of three bytes.
 pub fn initial(token: &'static [u8]) -> Header
     requires { length token.now < 2 ^ 62 }
     ensures { IsWritable result }
@@ -51,7 +51,7 @@ pub fn initial(token: &'static [u8]) -> Header
     })
 }
 
-/// The head of a Handshake packet for the id `aa`, with the number 0 in one byte.
+/// The header of a Handshake packet for the id `aa`, with the number 0 in one byte.
 pub fn handshake(version: u32) -> Header
     ensures writable { IsWritable result }
     ensures numbered { IsTrue (has_number result) }
@@ -68,7 +68,7 @@ pub fn handshake(version: u32) -> Header
     }
 }
 
-/// The head of a 1-RTT packet for an id, with a number's lowest byte.
+/// The header of a 1-RTT packet for an id, with a number's lowest byte.
 pub fn short(id: &[u8], number: u64) -> Header
     requires { length id.now ≤ 20 }
     ensures writable { IsWritable result }

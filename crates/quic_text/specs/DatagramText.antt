@@ -13,7 +13,7 @@ use Rattle.quic_header_decode.specs.declared.protected.ProtectedHeader.{Protecte
 use Rattle.quic_header_decode.specs.declared.protected.ProtectedHeader.TheVariants as head
 use Rattle.quic_text.specs.Printed.{Printed, Plain, Error}
 
--- how datagrams are read: ids of short heads have that many bytes, the versions are the usual ones, and the fixed bit
+-- how datagrams are read: ids of short headers have that many bytes, the versions are the usual ones, and the fixed bit
 -- is asked for
 abbrev pub with_ids_of : ℕ → Context
 with_ids_of len = record { parsed = fixed_parsed len; versions = DEFAULT_SUPPORTED_VERSIONS.now; grease = false }
@@ -35,17 +35,17 @@ long_name ZeroRtt = codes "0rtt"
 abbrev pub long_text : List ℕ → List ℕ → List ℕ → ℕ → List ℕ
 long_text kind dst src version = kind ++ codes " dst " ++ id_or_dash dst ++ codes " src " ++ id_or_dash src ++ codes " version " ++ eight_digits version
 
--- what a head says; the place of an Initial packet's token counts from the packet's first byte
-abbrev pub head_text : ProtectedHeader → List ℕ
-head_text (head.Initial h) = long_text (codes "initial") h.dst_cid h.src_cid h.version ++ codes " token " ++ decimal h.token_pos.start ++ codes ".." ++ decimal h.token_pos.end
-head_text (head.Long ty dst src len version) = long_text (long_name ty) dst src version
-head_text (head.Retry dst src version) = long_text (codes "retry") dst src version
-head_text (head.Short spin dst) = codes "short dst " ++ id_or_dash dst
-head_text (head.VersionNegotiate random dst src) = long_text (codes "version-negotiation") dst src 0
+-- what a header says; the place of an Initial packet's token counts from the packet's first byte
+abbrev pub header_text : ProtectedHeader → List ℕ
+header_text (head.Initial h) = long_text (codes "initial") h.dst_cid h.src_cid h.version ++ codes " token " ++ decimal h.token_pos.start ++ codes ".." ++ decimal h.token_pos.end
+header_text (head.Long ty dst src len version) = long_text (long_name ty) dst src version
+header_text (head.Retry dst src version) = long_text (codes "retry") dst src version
+header_text (head.Short spin dst) = codes "short dst " ++ id_or_dash dst
+header_text (head.VersionNegotiate random dst src) = long_text (codes "version-negotiation") dst src 0
 
 -- `START..END HEAD`
 abbrev pub packet_line : Placed → Printed
-packet_line p = Plain (decimal p.start ++ codes ".." ++ decimal p.stop ++ codes " " ++ head_text p.header)
+packet_line p = Plain (decimal p.start ++ codes ".." ++ decimal p.stop ++ codes " " ++ header_text p.header)
 
 abbrev pub refusal_text : Refusal → List ℕ
 refusal_text (Invalid reason) = reason

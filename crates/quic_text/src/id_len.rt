@@ -1,4 +1,4 @@
-//! How long the connection ids of short heads are, as a word of the call says it.
+//! How long the connection ids of short headers are, as a word of the call says it.
 ghost use Rattle.std.specs.Prelude.{◌≡◌, ◌↔◌, ◌≤◌, ℕ, Some, option_map};
 
 /// A length of connection ids in bytes: at most 20.

@@ -15,7 +15,7 @@ pub enum Mode {
     Strict,
     /// The shortest payload of the same frames.
     Canon,
-    /// The packets of a datagram, whose short heads have ids of this length.
+    /// The packets of a datagram, whose short headers have ids of this length.
     Datagram(IdLen),
     /// The transport parameters that an endpoint of this side gets.
     Params(Side),

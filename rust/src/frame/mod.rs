@@ -12,14 +12,14 @@
 mod ack;
 mod close;
 mod encode;
-mod heads;
+mod headers;
 mod invalid;
 mod iter;
 mod ty;
 
 pub use ack::{Ack, AckError, AckIter, EcnCounts};
 pub use close::{ApplicationClose, Close, ConnectionClose};
-pub use heads::{CryptoMeta, DatagramMeta, StreamMeta};
+pub use headers::{CryptoMeta, DatagramMeta, StreamMeta};
 pub(crate) use invalid::invalid_by;
 pub use invalid::{EmptyPayload, InvalidFrame, Reason};
 pub use iter::{Batch, Entry, Iter};

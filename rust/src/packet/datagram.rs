@@ -1,23 +1,23 @@
 //! A datagram cut into its packets (RFC 9000, section 12.2).
-use super::{Head, HeadError, PacketDecodeError, PacketMut, PacketPlace, ProtectedHeader};
+use super::{HeaderPlaces, HeaderError, PacketDecodeError, PacketMut, PacketPlace, ProtectedHeader};
 use crate::text::Short;
 use core::fmt;
 use core::iter::FusedIterator;
 
 // The header that a datagram's rest begins with.
 #[inline]
-fn read_packet(rest: &[u8], how: &How<'_>) -> Result<Head, HeadError> {
+fn read_packet(rest: &[u8], how: &How<'_>) -> Result<HeaderPlaces, HeaderError> {
     if !how.grease && rest.first().is_some_and(|first| first & 0x40 == 0) {
-        return Err(HeadError::InvalidHeader("fixed bit unset"));
+        return Err(HeaderError::InvalidHeader("fixed bit unset"));
     }
-    Head::read(rest, how.cid_len, how.versions)
+    HeaderPlaces::read(rest, how.cid_len, how.versions)
 }
 
 // Its error as that of a datagram.
 #[cold]
-fn error_of(rest: &[u8], error: HeadError) -> PacketDecodeError<'_> {
+fn error_of(rest: &[u8], error: HeaderError) -> PacketDecodeError<'_> {
     match error {
-        HeadError::UnsupportedVersion(head) => PacketDecodeError::UnsupportedVersion {
+        HeaderError::UnsupportedVersion(head) => PacketDecodeError::UnsupportedVersion {
             src_cid: head.src_cid(rest),
             dst_cid: head.dst_cid(rest),
             version: head.version(),
@@ -115,7 +115,7 @@ impl fmt::Debug for Packets<'_, '_> {
 /// ```
 #[derive(Clone, Copy)]
 pub struct PartialDecode<'a> {
-    head: Head,
+    head: HeaderPlaces,
     packet: &'a [u8],
     begin: usize,
 }
@@ -143,7 +143,7 @@ impl<'a> PartialDecode<'a> {
     /// assert_eq!(packet.head().token(packet.data()), [0x77]);
     /// # Ok::<(), quic_wire::Error>(())
     /// ```
-    pub fn head(&self) -> &Head {
+    pub fn head(&self) -> &HeaderPlaces {
         &self.head
     }
 

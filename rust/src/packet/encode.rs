@@ -309,7 +309,7 @@ impl Long<'_> {
     fn encode<B: Buffer + ?Sized>(&self, out: &mut B) -> Result<PartialEncode, WriteError> {
         let (header_len, number_len) = (self.header_len, usize::from(self.said.numberlen));
         let length = if number_len == 0 { 0 } else { 2 };
-        out.put(|room| match sys::head_write(&self.said, [self.ids[0], self.ids[1], self.token], room) {
+        out.put(|room| match sys::header_write(&self.said, [self.ids[0], self.ids[1], self.token], room) {
             Ok(filled) => Ok((filled, PartialEncode { header_len, number: header_len - number_len, length })),
             Err(answer) => Err(refused(answer, header_len)),
         })

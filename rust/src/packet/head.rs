@@ -8,57 +8,57 @@ use core::ops::Range;
 /// The header of a packet as places in it, before its protection is taken off: 32 bytes that borrow nothing.
 ///
 /// ```
-/// use quic_wire::packet::{Head, ProtectedHeader};
+/// use quic_wire::packet::{HeaderPlaces, ProtectedHeader};
 /// let packet = [0x41, 0xaa, 0xbb, 9, 9, 9, 9, 9];
-/// let head = Head::read(&packet, 2, &[1])?;
+/// let header = HeaderPlaces::read(&packet, 2, &[1])?;
 /// assert_eq!(head.header(&packet), ProtectedHeader::Short { spin: false, dst_cid: &[0xaa, 0xbb] });
-/// assert_eq!((head.head_end(), head.end(), head.is_protected(), head.fixed_bit()), (3, 8, true, true));
+/// assert_eq!((head.header_end(), head.end(), head.is_protected(), head.fixed_bit()), (3, 8, true, true));
 /// # Ok::<(), quic_wire::Error>(())
 /// ```
 #[derive(Clone, Copy, PartialEq, Eq, Hash)]
-pub struct Head(sys::Head);
+pub struct HeaderPlaces(sys::HeaderPlaces);
 
 /// Why no header was read, or not of a whole packet.
 ///
 /// ```
-/// use quic_wire::packet::{Head, HeadError};
+/// use quic_wire::packet::{HeaderPlaces, HeaderError};
 /// // A Handshake packet of 100 bytes, of which one came.
 /// let bytes = [0xe0, 0, 0, 0, 1, 1, 0xaa, 0, 0x40, 100, 7];
-/// let error = Head::read(&bytes, 0, &[1]).unwrap_err();
+/// let error = HeaderPlaces::read(&bytes, 0, &[1]).unwrap_err();
 /// assert_eq!(error.to_string(), "packet too short to contain payload length");
-/// let HeadError::CutOff(head) = error else { panic!() };
-/// assert_eq!((head.dst_cid(&bytes), head.head_end(), head.end()), (&[0xaa][..], 10, 11));
+/// let HeaderError::CutOff(head) = error else { panic!() };
+/// assert_eq!((head.dst_cid(&bytes), head.header_end(), head.end()), (&[0xaa][..], 10, 11));
 /// ```
 #[derive(Clone, Copy, Debug, PartialEq, Eq, Hash)]
-pub enum HeadError {
+pub enum HeaderError {
     /// The version is none of those that were given. Its version and its ids are told, of up to 255 bytes (RFC 8999).
-    UnsupportedVersion(Head),
+    UnsupportedVersion(HeaderPlaces),
     /// The bytes end within the packet. All of its header is told.
-    CutOff(Head),
+    CutOff(HeaderPlaces),
     /// No header can be read.
     InvalidHeader(&'static str),
 }
 
-impl HeadError {
+impl HeaderError {
     pub(crate) fn reason(&self) -> &'static str {
         match self {
-            HeadError::UnsupportedVersion(_) => "unsupported version",
-            HeadError::CutOff(_) => "packet too short to contain payload length",
-            HeadError::InvalidHeader(reason) => reason,
+            HeaderError::UnsupportedVersion(_) => "unsupported version",
+            HeaderError::CutOff(_) => "packet too short to contain payload length",
+            HeaderError::InvalidHeader(reason) => reason,
         }
     }
 }
 
-impl fmt::Display for HeadError {
+impl fmt::Display for HeaderError {
     fn fmt(&self, f: &mut fmt::Formatter<'_>) -> fmt::Result {
         match self {
-            HeadError::UnsupportedVersion(head) => write!(f, "unsupported version {:x}", head.version()),
+            HeaderError::UnsupportedVersion(head) => write!(f, "unsupported version {:x}", head.version()),
             _ => f.write_str(self.reason()),
         }
     }
 }
 
-impl core::error::Error for HeadError {}
+impl core::error::Error for HeaderError {}
 
 // The kinds that the library tells.
 const INITIAL: u8 = 0;
@@ -68,17 +68,17 @@ const RETRY: u8 = 3;
 const ONE_RTT: u8 = 4;
 const VERSION_NEGOTIATION: u8 = 5;
 
-impl Head {
+impl HeaderPlaces {
     /// Reads the header of the packet that bytes begin with. Ids of short headers have `cid_len` bytes; `versions` are
-    /// those that are read further than their ids. The fixed bit isn't looked at: see [`Head::fixed_bit`]. Ids of a
-    /// version negotiation that are longer than 20 bytes are told by [`Head::read_version_negotiation`] alone.
+    /// those that are read further than their ids. The fixed bit isn't looked at: see [`HeaderPlaces::fixed_bit`]. Ids of a
+    /// version negotiation that are longer than 20 bytes are told by [`HeaderPlaces::read_version_negotiation`] alone.
     ///
     /// ```
-    /// use quic_wire::packet::{Head, HeadError};
+    /// use quic_wire::packet::{HeaderPlaces, HeaderError};
     /// let packet = [0xc0, 0, 0, 0, 1, 1, 0xaa, 1, 0xbb, 1, 0x77, 2, 9, 9];
-    /// let head = Head::read(&packet, 0, &[1])?;
+    /// let header = HeaderPlaces::read(&packet, 0, &[1])?;
     /// assert_eq!(head.end(), 14);
-    /// assert!(matches!(Head::read(&packet, 0, &[]), Err(HeadError::UnsupportedVersion(_))));
+    /// assert!(matches!(HeaderPlaces::read(&packet, 0, &[]), Err(HeaderError::UnsupportedVersion(_))));
     /// # Ok::<(), quic_wire::Error>(())
     /// ```
     ///
@@ -90,27 +90,27 @@ impl Head {
     ///
     /// Where `cid_len` is above 20.
     #[inline]
-    pub fn read(bytes: &[u8], cid_len: usize, versions: &[u32]) -> Result<Head, HeadError> {
-        let mut head = sys::Head::default();
-        match sys::head_read(bytes, u32::try_from(cid_len).unwrap_or(u32::MAX), versions, &mut head) {
-            0 => Ok(Head(head)),
-            reason => Err(Head(head).error(reason, cid_len)),
+    pub fn read(bytes: &[u8], cid_len: usize, versions: &[u32]) -> Result<HeaderPlaces, HeaderError> {
+        let mut head = sys::HeaderPlaces::default();
+        match sys::header_read(bytes, u32::try_from(cid_len).unwrap_or(u32::MAX), versions, &mut head) {
+            0 => Ok(HeaderPlaces(head)),
+            reason => Err(HeaderPlaces(head).error(reason, cid_len)),
         }
     }
 
     /// Where the short header ends that a packet begins with, whose id has `cid_len` bytes: where its number begins. It
-    /// is what [`Head::read`] tells of such a packet as [`Head::head_end`], with fewer instructions; `None` where no
+    /// is what [`HeaderPlaces::read`] tells of such a packet as [`HeaderPlaces::header_end`], with fewer instructions; `None` where no
     /// short header begins there.
     ///
     /// ```
-    /// use quic_wire::packet::Head;
+    /// use quic_wire::packet::HeaderPlaces;
     /// let packet = [0x40, 0xaa, 0xbb, 7];
-    /// assert_eq!(Head::short_head_end(&packet, 2), Some(3));
-    /// assert_eq!(Head::short_head_end(&packet, 4), None);
-    /// assert_eq!(Head::short_head_end(&[0xc0, 0xaa, 0xbb, 7], 2), None);
+    /// assert_eq!(HeaderPlaces::short_header_end(&packet, 2), Some(3));
+    /// assert_eq!(HeaderPlaces::short_header_end(&packet, 4), None);
+    /// assert_eq!(HeaderPlaces::short_header_end(&[0xc0, 0xaa, 0xbb, 7], 2), None);
     /// ```
     #[inline]
-    pub fn short_head_end(packet: &[u8], cid_len: usize) -> Option<usize> {
+    pub fn short_header_end(packet: &[u8], cid_len: usize) -> Option<usize> {
         match sys::short_read(packet, u32::try_from(cid_len).ok()?) {
             0 => None,
             end => Some(end),
@@ -118,39 +118,39 @@ impl Head {
     }
 
     /// Reads the header of the version negotiation that a packet is. Its ids are those of the packet that it answers,
-    /// which may be of any version, so they have up to 255 bytes (RFC 8999, section 6). [`Head::read`] tells the same
+    /// which may be of any version, so they have up to 255 bytes (RFC 8999, section 6). [`HeaderPlaces::read`] tells the same
     /// where both have at most 20, and refuses longer ones. `None` where no version negotiation begins there, or where
     /// there are 4 GiB or more. The fixed bit isn't looked at.
     ///
     /// ```
-    /// use quic_wire::packet::{Head, VersionNegotiation};
+    /// use quic_wire::packet::{HeaderPlaces, VersionNegotiation};
     /// let (dst_cid, src_cid) = (&[7; 30][..], &[][..]);
     /// let mut packet = [0; 41];
     /// VersionNegotiation { random: 0x40, dst_cid, src_cid, versions: &[1] }.encode(&mut packet)?;
-    /// let head = Head::read_version_negotiation(&packet).unwrap();
+    /// let header = HeaderPlaces::read_version_negotiation(&packet).unwrap();
     /// assert_eq!((head.dst_cid(&packet), head.src_cid(&packet)), (dst_cid, src_cid));
     /// assert_eq!(head.versions(&packet).collect::<Vec<_>>(), [1]);
-    /// assert!(Head::read(&packet, 0, &[]).is_err());
+    /// assert!(HeaderPlaces::read(&packet, 0, &[]).is_err());
     /// # Ok::<(), quic_wire::WriteError>(())
     /// ```
-    pub fn read_version_negotiation(packet: &[u8]) -> Option<Head> {
-        let mut head = sys::Head::default();
+    pub fn read_version_negotiation(packet: &[u8]) -> Option<HeaderPlaces> {
+        let mut head = sys::HeaderPlaces::default();
         match sys::negotiation_read(packet, &mut head) {
-            0 => Some(Head(head)),
+            0 => Some(HeaderPlaces(head)),
             _ => None,
         }
     }
 
     #[cold]
-    fn error(self, reason: i32, cid_len: usize) -> HeadError {
+    fn error(self, reason: i32, cid_len: usize) -> HeaderError {
         assert!(cid_len <= crate::ids::MAX_CID_SIZE, "the ids of short headers have at most 20 bytes");
-        HeadError::InvalidHeader(match reason {
-            1 => return HeadError::UnsupportedVersion(self),
+        HeaderError::InvalidHeader(match reason {
+            1 => return HeaderError::UnsupportedVersion(self),
             2 => "unexpected end of packet",
             4 => "packet too small",
             5 => "malformed cid",
             6 => "token out of bounds",
-            7 => return HeadError::CutOff(self),
+            7 => return HeaderError::CutOff(self),
             // Places have 32 bits.
             _ => "packet of 4 GiB or more",
         })
@@ -159,9 +159,9 @@ impl Head {
     /// The first byte as it stands.
     ///
     /// ```
-    /// use quic_wire::packet::Head;
+    /// use quic_wire::packet::HeaderPlaces;
     /// let packet = [0xc0, 0, 0, 0, 1, 1, 0xaa, 1, 0xbb, 1, 0x77, 2, 9, 9];
-    /// let head = Head::read(&packet, 0, &[1])?;
+    /// let header = HeaderPlaces::read(&packet, 0, &[1])?;
     /// assert_eq!(head.first(), 0xc0);
     /// # Ok::<(), quic_wire::Error>(())
     /// ```
@@ -174,9 +174,9 @@ impl Head {
     /// it (RFC 9000, section 17.2.1).
     ///
     /// ```
-    /// use quic_wire::packet::Head;
+    /// use quic_wire::packet::HeaderPlaces;
     /// let packet = [0xc0, 0, 0, 0, 1, 1, 0xaa, 1, 0xbb, 1, 0x77, 2, 9, 9];
-    /// let head = Head::read(&packet, 0, &[1])?;
+    /// let header = HeaderPlaces::read(&packet, 0, &[1])?;
     /// assert!(head.fixed_bit());
     /// # Ok::<(), quic_wire::Error>(())
     /// ```
@@ -188,9 +188,9 @@ impl Head {
     /// Whether it is a short header (RFC 9000, section 17.3).
     ///
     /// ```
-    /// use quic_wire::packet::Head;
+    /// use quic_wire::packet::HeaderPlaces;
     /// let packet = [0xc0, 0, 0, 0, 1, 1, 0xaa, 1, 0xbb, 1, 0x77, 2, 9, 9];
-    /// let head = Head::read(&packet, 0, &[1])?;
+    /// let header = HeaderPlaces::read(&packet, 0, &[1])?;
     /// assert!(!head.is_short());
     /// # Ok::<(), quic_wire::Error>(())
     /// ```
@@ -202,9 +202,9 @@ impl Head {
     /// Whether the packet has a number, under protection: all but Retry and version negotiation do.
     ///
     /// ```
-    /// use quic_wire::packet::Head;
+    /// use quic_wire::packet::HeaderPlaces;
     /// let packet = [0xc0, 0, 0, 0, 1, 1, 0xaa, 1, 0xbb, 1, 0x77, 2, 9, 9];
-    /// let head = Head::read(&packet, 0, &[1])?;
+    /// let header = HeaderPlaces::read(&packet, 0, &[1])?;
     /// assert!(head.is_protected());
     /// # Ok::<(), quic_wire::Error>(())
     /// ```
@@ -216,9 +216,9 @@ impl Head {
     /// The version of QUIC; 0 of 1-RTT and of a version negotiation.
     ///
     /// ```
-    /// use quic_wire::packet::Head;
+    /// use quic_wire::packet::HeaderPlaces;
     /// let packet = [0xc0, 0, 0, 0, 1, 1, 0xaa, 1, 0xbb, 1, 0x77, 2, 9, 9];
-    /// let head = Head::read(&packet, 0, &[1])?;
+    /// let header = HeaderPlaces::read(&packet, 0, &[1])?;
     /// assert_eq!(head.version(), 1);
     /// # Ok::<(), quic_wire::Error>(())
     /// ```
@@ -230,9 +230,9 @@ impl Head {
     /// The receiver's id in the packet.
     ///
     /// ```
-    /// use quic_wire::packet::Head;
+    /// use quic_wire::packet::HeaderPlaces;
     /// let packet = [0xc0, 0, 0, 0, 1, 1, 0xaa, 1, 0xbb, 1, 0x77, 2, 9, 9];
-    /// let head = Head::read(&packet, 0, &[1])?;
+    /// let header = HeaderPlaces::read(&packet, 0, &[1])?;
     /// assert_eq!(head.dst_cid(&packet), [0xaa]);
     /// # Ok::<(), quic_wire::Error>(())
     /// ```
@@ -249,9 +249,9 @@ impl Head {
     /// The sender's id in the packet, empty in a short header.
     ///
     /// ```
-    /// use quic_wire::packet::Head;
+    /// use quic_wire::packet::HeaderPlaces;
     /// let packet = [0xc0, 0, 0, 0, 1, 1, 0xaa, 1, 0xbb, 1, 0x77, 2, 9, 9];
-    /// let head = Head::read(&packet, 0, &[1])?;
+    /// let header = HeaderPlaces::read(&packet, 0, &[1])?;
     /// assert_eq!(head.src_cid(&packet), [0xbb]);
     /// # Ok::<(), quic_wire::Error>(())
     /// ```
@@ -268,9 +268,9 @@ impl Head {
     /// Where the token of an Initial packet stands in it; an empty range in others.
     ///
     /// ```
-    /// use quic_wire::packet::Head;
+    /// use quic_wire::packet::HeaderPlaces;
     /// let packet = [0xc0, 0, 0, 0, 1, 1, 0xaa, 1, 0xbb, 1, 0x77, 2, 9, 9];
-    /// let head = Head::read(&packet, 0, &[1])?;
+    /// let header = HeaderPlaces::read(&packet, 0, &[1])?;
     /// assert_eq!(head.token_pos(), 10..11);
     /// # Ok::<(), quic_wire::Error>(())
     /// ```
@@ -283,9 +283,9 @@ impl Head {
     /// The token of an Initial packet; empty in others.
     ///
     /// ```
-    /// use quic_wire::packet::Head;
+    /// use quic_wire::packet::HeaderPlaces;
     /// let packet = [0xc0, 0, 0, 0, 1, 1, 0xaa, 1, 0xbb, 1, 0x77, 2, 9, 9];
-    /// let head = Head::read(&packet, 0, &[1])?;
+    /// let header = HeaderPlaces::read(&packet, 0, &[1])?;
     /// assert_eq!(head.token(&packet), [0x77]);
     /// # Ok::<(), quic_wire::Error>(())
     /// ```
@@ -302,10 +302,10 @@ impl Head {
     /// None of another packet, and where it is too short.
     ///
     /// ```
-    /// use quic_wire::packet::Head;
+    /// use quic_wire::packet::HeaderPlaces;
     /// let mut packet = vec![0xf0, 0, 0, 0, 1, 0, 0, b't', b'o', b'k'];
     /// packet.extend([9; 16]);
-    /// let head = Head::read(&packet, 0, &[1])?;
+    /// let header = HeaderPlaces::read(&packet, 0, &[1])?;
     /// assert_eq!(head.retry(&packet), Some((&b"tok"[..], &[9; 16])));
     /// # Ok::<(), quic_wire::Error>(())
     /// ```
@@ -313,29 +313,29 @@ impl Head {
         if self.0.kind != RETRY {
             return None;
         }
-        packet.get(self.head_end()..self.end())?.split_last_chunk()
+        packet.get(self.header_end()..self.end())?.split_last_chunk()
     }
 
     /// The versions that a version negotiation names (RFC 9000, section 17.2.1); none of another packet.
     ///
     /// ```
-    /// use quic_wire::packet::Head;
+    /// use quic_wire::packet::HeaderPlaces;
     /// let packet = [0xc0, 0, 0, 0, 0, 0, 0, 0, 0, 0, 1, 0x6b, 0x33, 0x43, 0xcf];
-    /// let head = Head::read(&packet, 0, &[1])?;
+    /// let header = HeaderPlaces::read(&packet, 0, &[1])?;
     /// assert_eq!(head.versions(&packet).collect::<Vec<_>>(), [1, 0x6b33_43cf]);
     /// # Ok::<(), quic_wire::Error>(())
     /// ```
     pub fn versions<'a>(&self, packet: &'a [u8]) -> Versions<'a> {
         let named = self.0.kind == VERSION_NEGOTIATION;
-        Versions(if named { packet.get(self.head_end()..self.end()).unwrap_or_default() } else { &[] })
+        Versions(if named { packet.get(self.header_end()..self.end()).unwrap_or_default() } else { &[] })
     }
 
-    /// How many bytes an Initial, Handshake or 0-RTT packet has from [`Head::head_end`] on, as it says; 0 of others.
+    /// How many bytes an Initial, Handshake or 0-RTT packet has from [`HeaderPlaces::header_end`] on, as it says; 0 of others.
     ///
     /// ```
-    /// use quic_wire::packet::Head;
+    /// use quic_wire::packet::HeaderPlaces;
     /// let packet = [0xc0, 0, 0, 0, 1, 1, 0xaa, 1, 0xbb, 1, 0x77, 2, 9, 9];
-    /// let head = Head::read(&packet, 0, &[1])?;
+    /// let header = HeaderPlaces::read(&packet, 0, &[1])?;
     /// assert_eq!(head.len_field(), 2);
     /// # Ok::<(), quic_wire::Error>(())
     /// ```
@@ -347,9 +347,9 @@ impl Head {
     /// Where the packet ends in its bytes; where they end, if it is cut off.
     ///
     /// ```
-    /// use quic_wire::packet::Head;
+    /// use quic_wire::packet::HeaderPlaces;
     /// let packet = [0xc0, 0, 0, 0, 1, 1, 0xaa, 1, 0xbb, 1, 0x77, 2, 9, 9];
-    /// let head = Head::read(&packet, 0, &[1])?;
+    /// let header = HeaderPlaces::read(&packet, 0, &[1])?;
     /// assert_eq!(head.end(), 14);
     /// # Ok::<(), quic_wire::Error>(())
     /// ```
@@ -361,23 +361,23 @@ impl Head {
     /// Where the header ends; where the number begins, if the packet has one.
     ///
     /// ```
-    /// use quic_wire::packet::Head;
+    /// use quic_wire::packet::HeaderPlaces;
     /// let packet = [0xc0, 0, 0, 0, 1, 1, 0xaa, 1, 0xbb, 1, 0x77, 2, 9, 9];
-    /// let head = Head::read(&packet, 0, &[1])?;
-    /// assert_eq!(head.head_end(), 12);
+    /// let header = HeaderPlaces::read(&packet, 0, &[1])?;
+    /// assert_eq!(head.header_end(), 12);
     /// # Ok::<(), quic_wire::Error>(())
     /// ```
     #[inline]
-    pub fn head_end(&self) -> usize {
-        self.0.head_end as usize
+    pub fn header_end(&self) -> usize {
+        self.0.header_end as usize
     }
 
     /// Where the packet stands that begins at a place of its datagram. One without a number has no room for protection.
     ///
     /// ```
-    /// use quic_wire::packet::Head;
+    /// use quic_wire::packet::HeaderPlaces;
     /// let packet = [0xc0, 0, 0, 0, 1, 1, 0xaa, 1, 0xbb, 1, 0x77, 2, 9, 9];
-    /// let head = Head::read(&packet, 0, &[1])?;
+    /// let header = HeaderPlaces::read(&packet, 0, &[1])?;
     /// assert_eq!(head.place(100).range(), 100..114);
     /// # Ok::<(), quic_wire::Error>(())
     /// ```
@@ -387,16 +387,16 @@ impl Head {
     /// Where the packet would end at 4 GiB or behind.
     #[inline]
     pub fn place(&self, begin: usize) -> PacketPlace {
-        let number = if self.is_protected() { self.head_end() } else { self.end() };
+        let number = if self.is_protected() { self.header_end() } else { self.end() };
         PacketPlace::of(begin, number, self.end())
     }
 
     /// What it says.
     ///
     /// ```
-    /// use quic_wire::packet::{Head, ProtectedHeader};
+    /// use quic_wire::packet::{HeaderPlaces, ProtectedHeader};
     /// let packet = [0xc0, 0, 0, 0, 1, 1, 0xaa, 1, 0xbb, 1, 0x77, 2, 9, 9];
-    /// let head = Head::read(&packet, 0, &[1])?;
+    /// let header = HeaderPlaces::read(&packet, 0, &[1])?;
     /// assert!(matches!(head.header(&packet), ProtectedHeader::Initial { len: 2, .. }));
     /// # Ok::<(), quic_wire::Error>(())
     /// ```
@@ -419,7 +419,7 @@ impl Head {
     }
 }
 
-impl fmt::Debug for Head {
+impl fmt::Debug for HeaderPlaces {
     fn fmt(&self, f: &mut fmt::Formatter<'_>) -> fmt::Result {
         f.debug_struct("Head")
             .field("first", &format_args!("{:02x}", self.0.first))
@@ -427,7 +427,7 @@ impl fmt::Debug for Head {
             .field("dst_cid_len", &self.0.dcidlen)
             .field("src_cid_len", &self.0.scidlen)
             .field("token_pos", &self.token_pos())
-            .field("head_end", &self.head_end())
+            .field("head_end", &self.header_end())
             .field("end", &self.end())
             .finish()
     }
@@ -436,9 +436,9 @@ impl fmt::Debug for Head {
 /// The versions that a version negotiation names.
 ///
 /// ```
-/// use quic_wire::packet::Head;
+/// use quic_wire::packet::HeaderPlaces;
 /// let packet = [0xc0, 0, 0, 0, 0, 0, 0, 0, 0, 0, 1];
-/// assert_eq!(Head::read(&packet, 0, &[])?.versions(&packet).next(), Some(1));
+/// assert_eq!(HeaderPlaces::read(&packet, 0, &[])?.versions(&packet).next(), Some(1));
 /// # Ok::<(), quic_wire::Error>(())
 /// ```
 #[derive(Clone)]

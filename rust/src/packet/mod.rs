@@ -35,7 +35,7 @@ mod protection;
 
 pub use datagram::{Packets, PacketsMut, PartialDecode};
 pub use encode::{Header, PartialEncode};
-pub use head::{Head, HeadError, Versions};
+pub use head::{HeaderPlaces, HeaderError, Versions};
 pub use negotiation::VersionNegotiation;
 pub use number::PacketNumber;
 pub use opening::{Packet, PacketMut};
@@ -54,9 +54,9 @@ pub const DEFAULT_SUPPORTED_VERSIONS: &[u32] =
 /// The kinds of long headers that have a number but no token.
 ///
 /// ```
-/// use quic_wire::packet::{Head, LongType, ProtectedHeader};
+/// use quic_wire::packet::{HeaderPlaces, LongType, ProtectedHeader};
 /// let packet = [0xd0, 0, 0, 0, 1, 0, 0, 0];
-/// let header = Head::read(&packet, 0, &[1])?.header(&packet);
+/// let header = HeaderPlaces::read(&packet, 0, &[1])?.header(&packet);
 /// assert!(matches!(header, ProtectedHeader::Long { ty: LongType::ZeroRtt, .. }));
 /// # Ok::<(), quic_wire::Error>(())
 /// ```
@@ -71,9 +71,9 @@ pub enum LongType {
 /// What a header says before its protection is taken off.
 ///
 /// ```
-/// use quic_wire::packet::{Head, ProtectedHeader};
+/// use quic_wire::packet::{HeaderPlaces, ProtectedHeader};
 /// let packet = [0x60, 0xaa, 1, 2];
-/// assert_eq!(Head::read(&packet, 1, &[])?.header(&packet), ProtectedHeader::Short { spin: true, dst_cid: &[0xaa] });
+/// assert_eq!(HeaderPlaces::read(&packet, 1, &[])?.header(&packet), ProtectedHeader::Short { spin: true, dst_cid: &[0xaa] });
 /// # Ok::<(), quic_wire::Error>(())
 /// ```
 #[derive(Clone, PartialEq, Eq, Hash)]

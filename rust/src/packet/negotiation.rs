@@ -7,7 +7,7 @@ use core::fmt;
 
 /// A version negotiation, all of the packet (RFC 9000, section 17.2.1). Its ids are those of the packet that it
 /// answers, which may be of any version, so they have up to 255 bytes (RFC 8999, section 6).
-/// [`Head::read_version_negotiation`](super::Head::read_version_negotiation) reads it.
+/// [`HeaderPlaces::read_version_negotiation`](super::HeaderPlaces::read_version_negotiation) reads it.
 ///
 /// ```
 /// use quic_wire::packet::VersionNegotiation;

@@ -1,5 +1,5 @@
 //! A packet that is opened where it stands (RFC 9001, section 5.4).
-use super::{Head, Opened, ProtectedHeader, UnprotectError};
+use super::{HeaderPlaces, Opened, ProtectedHeader, UnprotectError};
 use crate::text::Short;
 use core::fmt;
 
@@ -13,13 +13,13 @@ use core::fmt;
 /// # Ok::<(), quic_wire::Error>(())
 /// ```
 pub struct PacketMut<'a> {
-    head: Head,
+    head: HeaderPlaces,
     packet: &'a mut [u8],
 }
 
 impl<'a> PacketMut<'a> {
     // Of a packet that is these bytes.
-    pub(super) fn new(head: Head, packet: &'a mut [u8]) -> Self {
+    pub(super) fn new(head: HeaderPlaces, packet: &'a mut [u8]) -> Self {
         PacketMut { head, packet }
     }
 
@@ -42,10 +42,10 @@ impl<'a> PacketMut<'a> {
     /// use quic_wire::packet::PacketsMut;
     /// let mut datagram = [0x40, 7, 0, 1, 2, 3, 4, 5, 6];
     /// let packet = PacketsMut::new(&mut datagram, 1, &[1], false).next().unwrap()?;
-    /// assert_eq!(packet.head().head_end(), 2);
+    /// assert_eq!(packet.head().header_end(), 2);
     /// # Ok::<(), quic_wire::Error>(())
     /// ```
-    pub fn head(&self) -> &Head {
+    pub fn head(&self) -> &HeaderPlaces {
         &self.head
     }
 
@@ -82,7 +82,7 @@ impl<'a> PacketMut<'a> {
     /// use quic_wire::packet::PacketsMut;
     /// let mut datagram = [0xc0, 0, 0, 0, 0, 0, 0, 0, 0, 0, 1];
     /// let packet = PacketsMut::new(&mut datagram, 0, &[1], false).next().unwrap()?;
-    /// let head = *packet.head();
+    /// let header = *packet.head();
     /// assert_eq!(head.versions(packet.into_data()).collect::<Vec<_>>(), [1]);
     /// # Ok::<(), quic_wire::Error>(())
     /// ```
@@ -171,7 +171,7 @@ pub struct Packet<'a> {
     pub header_data: &'a [u8],
     /// The payload with its tag, to be opened where it stands.
     pub payload: &'a mut [u8],
-    head: Head,
+    head: HeaderPlaces,
     opened: Opened,
 }
 

@@ -292,8 +292,8 @@ impl PacketPlace {
     /// ```
     /// use quic_wire::packet::PacketPlace;
     /// let datagram = [0x5f, 0xaa, 0xbb, 0x2c ^ 0x05, 1, 2, 3];
-    /// let mut head = [0; 7];
-    /// let opened = PacketPlace::new(0..7, 3).unprotect_head(&datagram, &[0x1f, 5, 5, 5, 5], 300, &mut head)?;
+    /// let mut header = [0; 7];
+    /// let opened = PacketPlace::new(0..7, 3).unprotect_header(&datagram, &[0x1f, 5, 5, 5, 5], 300, &mut header)?;
     /// assert_eq!((opened.number, &head[..opened.payload]), (300, &[0x40, 0xaa, 0xbb, 0x2c][..]));
     /// # Ok::<(), quic_wire::Error>(())
     /// ```
@@ -301,7 +301,7 @@ impl PacketPlace {
     /// # Errors
     ///
     /// As [`PacketPlace::unprotect`], and where `head` has too little room. Nothing is written then.
-    pub fn unprotect_head<B: Buffer + ?Sized>(
+    pub fn unprotect_header<B: Buffer + ?Sized>(
         &self,
         datagram: &[u8],
         mask: &[u8; 5],

@@ -1,7 +1,7 @@
 //! The functions of `quic_wire.h` that the library has; those of the header that C alone needs look for NULL.
 #[cfg(test)]
 use super::words::Gap;
-use super::words::{Canon, Frame, Frames, Head, Param, Params, Range, Ranges, Said};
+use super::words::{Canon, Frame, Frames, HeaderPlaces, Param, Params, Range, Ranges, Said};
 
 extern "C" {
     /// An archive of another version lacks it, so that it isn't linked.
@@ -41,7 +41,7 @@ extern "C" {
         out_len: usize,
         written: *mut usize,
     ) -> i32;
-    pub fn quic_wire_frame_head_write_(
+    pub fn quic_wire_frame_header_write_(
         frame: *const Frame,
         last: u32,
         out: *mut u8,
@@ -49,16 +49,16 @@ extern "C" {
         written: *mut usize,
     ) -> i32;
     pub fn quic_wire_canonical_(payload: *const u8, len: usize, dest: *mut u8, room: usize, out: *mut Canon) -> i32;
-    pub fn quic_wire_head_read_(
+    pub fn quic_wire_header_read_(
         bytes: *const u8,
         len: usize,
         cid_len: u32,
         versions: *const u32,
         versions_len: usize,
-        out: *mut Head,
+        out: *mut HeaderPlaces,
     ) -> i32;
     pub fn quic_wire_short_read_(packet: *const u8, len: usize, cid_len: u32) -> usize;
-    pub fn quic_wire_negotiation_read_(packet: *const u8, len: usize, out: *mut Head) -> i32;
+    pub fn quic_wire_negotiation_read_(packet: *const u8, len: usize, out: *mut HeaderPlaces) -> i32;
     pub fn quic_wire_unprotect_(
         packet: *mut u8,
         len: usize,
@@ -76,7 +76,7 @@ extern "C" {
         out: *mut u8,
         out_len: usize,
     ) -> i32;
-    pub fn quic_wire_head_write_(
+    pub fn quic_wire_header_write_(
         said: *const Said,
         dst: *const u8,
         dst_len: usize,

@@ -11,7 +11,7 @@ mod c;
 mod c_alone;
 mod words;
 
-pub use words::{Canon, Frame, Frames, Head, Param, Params, Range, Ranges, Said};
+pub use words::{Canon, Frame, Frames, HeaderPlaces, Param, Params, Range, Ranges, Said};
 
 use crate::frame::Entry;
 use core::mem::MaybeUninit;
@@ -150,13 +150,13 @@ pub fn frame_write(frame: &Frame, data: &[u8], last: bool, out: &mut Room) -> Re
 }
 
 #[inline]
-pub fn frame_head_write(frame: &Frame, last: bool, out: &mut Room) -> Result<Filled, (i32, usize)> {
+pub fn frame_header_write(frame: &Frame, last: bool, out: &mut Room) -> Result<Filled, (i32, usize)> {
     let (mut written, last) = (0, u32::from(last));
     let (to, room) = (out.as_mut_ptr().cast::<u8>(), out.len());
     // SAFETY: `out` gives its own pointer and length; `out` and `written` are borrowed alone. Any words in `frame`
     // serve: where its data stand isn't looked at. With 0 the first `written` bytes of `out` are initialised. The
     // library looks at no other memory and keeps no pointer.
-    let answer = unsafe { c::quic_wire_frame_head_write_(frame, last, to, room, &mut written) };
+    let answer = unsafe { c::quic_wire_frame_header_write_(frame, last, to, room, &mut written) };
     wrote(answer, written)
 }
 
@@ -171,11 +171,11 @@ pub fn canonical(payload: &[u8], out: &mut Room) -> Result<Filled, (i32, Canon)>
 }
 
 #[inline]
-pub fn head_read(bytes: &[u8], cid_len: u32, versions: &[u32], out: &mut Head) -> i32 {
+pub fn header_read(bytes: &[u8], cid_len: u32, versions: &[u32], out: &mut HeaderPlaces) -> i32 {
     let (first, count) = (versions.as_ptr(), versions.len());
     // SAFETY: `bytes` and `versions` each give their own pointer and length; `out` is borrowed alone. The library looks
     // at no other memory and keeps no pointer.
-    unsafe { c::quic_wire_head_read_(bytes.as_ptr(), bytes.len(), cid_len, first, count, out) }
+    unsafe { c::quic_wire_header_read_(bytes.as_ptr(), bytes.len(), cid_len, first, count, out) }
 }
 
 #[inline]
@@ -185,7 +185,7 @@ pub fn short_read(packet: &[u8], cid_len: u32) -> usize {
 }
 
 #[inline]
-pub fn negotiation_read(packet: &[u8], out: &mut Head) -> i32 {
+pub fn negotiation_read(packet: &[u8], out: &mut HeaderPlaces) -> i32 {
     // SAFETY: `packet` gives its own pointer and length; `out` is borrowed alone. The library looks at no other memory
     // and keeps no pointer.
     unsafe { c::quic_wire_negotiation_read_(packet.as_ptr(), packet.len(), out) }
@@ -219,7 +219,7 @@ pub fn short_write(first: u8, number: u64, dst: &[u8], out: &mut Room) -> Result
 
 /// `Err` has the library's answer, below 0.
 #[inline]
-pub fn head_write(said: &Said, [dst, src, token]: [&[u8]; 3], out: &mut Room) -> Result<Filled, i64> {
+pub fn header_write(said: &Said, [dst, src, token]: [&[u8]; 3], out: &mut Room) -> Result<Filled, i64> {
     let (to, room) = (out.as_mut_ptr().cast::<u8>(), out.len());
     let (dst, dst_len) = (dst.as_ptr(), dst.len());
     let (src, src_len) = (src.as_ptr(), src.len());
@@ -227,7 +227,7 @@ pub fn head_write(said: &Said, [dst, src, token]: [&[u8]; 3], out: &mut Room) ->
     // SAFETY: both ids, the token and `out` each give their own pointer and length; `out` is borrowed alone. Any words
     // in `said` serve. An answer above 0 is how many bytes at the front of `out` are initialised. The library looks at
     // no other memory and keeps no pointer.
-    let answer = unsafe { c::quic_wire_head_write_(said, dst, dst_len, src, src_len, token, token_len, to, room) };
+    let answer = unsafe { c::quic_wire_header_write_(said, dst, dst_len, src, src_len, token, token_len, to, room) };
     usize::try_from(answer).map(Filled).map_err(|_| answer)
 }
 

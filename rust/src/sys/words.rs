@@ -68,23 +68,23 @@ pub struct Canon {
     pub reason: u64,
 }
 
-/// The head of a packet as places in it.
+/// The header of a packet as places in it.
 #[repr(C)]
 #[derive(Clone, Copy, Debug, Default, PartialEq, Eq, Hash)]
-pub struct Head {
+pub struct HeaderPlaces {
     pub kind: u8,
     pub first: u8,
     pub dcidlen: u8,
     pub scidlen: u8,
     pub version: u32,
-    pub head_end: u32,
+    pub header_end: u32,
     pub end: u32,
     pub token: u32,
     pub tokenlen: u32,
     pub len: u64,
 }
 
-/// What a head says beside its ids and its token.
+/// What a header says beside its ids and its token.
 #[repr(C)]
 #[derive(Clone, Copy, Debug, Default, PartialEq, Eq, Hash)]
 pub struct Said {
@@ -162,7 +162,7 @@ layout!(Range, 16, 8: start 0 8, end 8 8,);
 layout!(Gap, 16, 8: gap 0 8, len 8 8,);
 layout!(Ranges, 24, 8: begin 0 8, end 8 8, largest 16 8,);
 layout!(Canon, 24, 8: len 0 8, last_type 8 8, reason 16 8,);
-layout!(Head, 32, 8: kind 0 1, first 1 1, dcidlen 2 1, scidlen 3 1, version 4 4, head_end 8 4, end 12 4, token 16 4,
+layout!(HeaderPlaces, 32, 8: kind 0 1, first 1 1, dcidlen 2 1, scidlen 3 1, version 4 4, header_end 8 4, end 12 4, token 16 4,
     tokenlen 20 4, len 24 8,);
 layout!(Said, 16, 8: kind 0 1, flags 1 1, numberlen 2 1, lengthlen 3 1, version 4 4, number 8 8,);
 layout!(Params, 264, 8: present 0 4, reason 4 4, max_idle_timeout 8 8, max_udp_payload_size 16 8, initial_max_data 24 8,

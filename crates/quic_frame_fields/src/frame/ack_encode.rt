@@ -4,7 +4,7 @@ ghost use Rattle.std.specs.Option.{option_copied};
 ghost use Rattle.quic_ranges.specs.Runs.{IsMaximalRuns, member};
 ghost use Rattle.quic_frame_fields.specs.Acks.{ranges_acked};
 ghost use Rattle.quic_frame_fields.specs.Parts.{ack_meaning};
-ghost use Rattle.quic_frame_fields.specs.Sets.{AreCounts, IsAckInRange, ranges_in, ack_of, ack_type, count_numbers, head_numbers};
+ghost use Rattle.quic_frame_fields.specs.Sets.{AreCounts, IsAckInRange, ranges_in, ack_of, ack_type, count_numbers, header_numbers};
 ghost use Rattle.quic_frame_fields.specs.Shortest.{shortest_frame, shortest_below};
 ghost use Rattle.quic_base.specs.Writing.{Writes};
 ghost use Rattle.quic_frame_fields.specs.Putting.{Flushes};
@@ -181,9 +181,9 @@ fn counts_len(ecn: Option<EcnCounts>) -> u128
 // The numbers in front of the blocks: the type, the greatest number, the delay, and how many ranges are
 // below the first, where it is known how many numbers the blocks are.
 #[inline(always)]
-pub(super) fn head_of(ack: &Ack<'_>, numbers: u64) -> [u64; 4]
+pub(super) fn header_of(ack: &Ack<'_>, numbers: u64) -> [u64; 4]
     requires { numbers / 2 ≡ length (ranges_acked ack.now) - 1 }
-    ensures { result ≡ head_numbers ack.now }
+    ensures { result ≡ header_numbers ack.now }
 {
     [type_of(ack.ecn()), ack.largest(), ack.delay(), numbers / 2]
 }
@@ -196,7 +196,7 @@ pub fn encode_ack<B: BufMut>(ack: &Ack<'_>, out: &mut B) -> Result<(), NoRoom>
         (B.written out.old) (B.spare out.old) (B.written out.new) (B.spare out.new) }
 {
     let (numbers, blocks) = write::count_and_len(ack.additional());
-    write::numbers(out, &head_of(ack, numbers))?;
+    write::numbers(out, &header_of(ack, numbers))?;
     write::shortened(out, ack.additional(), blocks)?;
     encode_counts(ack.ecn(), out)
 }
@@ -208,6 +208,6 @@ pub fn ack_len(ack: &Ack<'_>) -> u128
     ensures { (last : Bool) → result ≡ length (shortest_frame last (ack_meaning ack.now)) }
 {
     let (numbers, blocks) = write::count_and_len(ack.additional());
-    let head = write::numbers_len(&head_of(ack, numbers));
+    let head = write::numbers_len(&header_of(ack, numbers));
     head + u128::from(blocks) + counts_len(ack.ecn())
 }

@@ -4,10 +4,10 @@ ghost use Rattle.quic_frame_fields.specs.Numbers.{AreNumeric, AreEncoded, all_sh
 ghost use Rattle.quic_frame_fields.specs.Parts.{ack_meaning};
 ghost use Rattle.quic_frame_fields.specs.Putting.{Lays, Puts, Shortens};
 ghost use Rattle.quic_frame_fields.specs.Sets.{AreCounts, IsAckInRange, count_numbers};
-ghost use Rattle.quic_frame_fields.specs.Shortest.{shortest_frame, stream_head};
+ghost use Rattle.quic_frame_fields.specs.Shortest.{shortest_frame, stream_header};
 
-use super::ack_encode::head_of;
-use super::write::{HEAD_ROOM, count_and_len, lay_number, lay_numbers};
+use super::ack_encode::header_of;
+use super::write::{HEADER_ROOM, count_and_len, lay_number, lay_numbers};
 use super::{Ack, EcnCounts, FrameType, Stream, field};
 
 /// Lays at most five numbers in their shortest encodings at the front of the slice, and answers how many bytes they
@@ -19,7 +19,7 @@ pub fn numbers(dest: &mut [u8], numbers: &[u64]) -> Result<usize, usize>
     requires numeric { AreNumeric numbers.now }
     ensures { Puts result (all_short numbers.now) dest.old dest.new }
 {
-    let mut head = [0; HEAD_ROOM];
+    let mut head = [0; HEADER_ROOM];
     let len = lay_numbers(&mut head, numbers);
     bytes(dest, &head[..len])
 }
@@ -31,7 +31,7 @@ pub fn numbers_and_bytes(dest: &mut [u8], head: &[u64], tail: &[u8]) -> Result<u
     requires numeric { AreNumeric head.now }
     ensures { Puts result (all_short head.now ++ tail.now) dest.old dest.new }
 {
-    let mut numbers = [0; HEAD_ROOM];
+    let mut numbers = [0; HEADER_ROOM];
     let len = lay_numbers(&mut numbers, head);
     two(dest, &numbers[..len], tail)
 }
@@ -48,7 +48,7 @@ pub fn numbers_and_two(
     requires end { length end.now ≤ 64 }
     ensures { Puts result (all_short head.now ++ (middle.now ++ end.now)) dest.old dest.new }
 {
-    let mut numbers = [0; HEAD_ROOM];
+    let mut numbers = [0; HEADER_ROOM];
     let len = lay_numbers(&mut numbers, head);
     three(dest, &numbers[..len], middle, end)
 }
@@ -62,7 +62,7 @@ pub fn numbers_at(dest: &mut [u8], at: usize, numbers: &[u64]) -> usize
     ensures lays { Lays (all_short numbers.now) at dest.old result dest.new }
     ensures len { length dest.new ≡ length dest.old }
 {
-    let mut head = [0; HEAD_ROOM];
+    let mut head = [0; HEADER_ROOM];
     let len = lay_numbers(&mut head, numbers);
     lay_bytes(dest, at, &head[..len])
 }
@@ -123,7 +123,7 @@ fn lay_bytes(dest: &mut [u8], at: usize, bytes: &[u8]) -> usize
 pub fn stream(dest: &mut [u8], stream: &Stream<'_>, counted: Option<u64>) -> Result<usize, usize>
     requires offset { stream.now.offset < 2 ^ 62 }
     requires counted { IfSome counted (λ n. n < 2 ^ 62) }
-    ensures { Puts result (stream_head stream.now.id stream.now.offset stream.now.fin counted ++ stream.now.bytes.now) dest.old dest.new }
+    ensures { Puts result (stream_header stream.now.id stream.now.offset stream.now.fin counted ++ stream.now.bytes.now) dest.old dest.new }
 {
     let Stream {
         id,
@@ -148,23 +148,23 @@ pub fn ack(dest: &mut [u8], ack: &Ack<'_>) -> Result<usize, usize>
     ensures { (last : Bool) → Puts result (shortest_frame last (ack_meaning ack.now)) dest.old dest.new }
 {
     let (numbers, blocks) = count_and_len(ack.additional());
-    let mut head = [0; HEAD_ROOM];
-    let head_len = lay_numbers(&mut head, &head_of(ack, numbers));
-    let mut counts = [0; HEAD_ROOM];
+    let mut head = [0; HEADER_ROOM];
+    let header_len = lay_numbers(&mut head, &header_of(ack, numbers));
+    let mut counts = [0; HEADER_ROOM];
     let counts_len = lay_counts(&mut counts, ack.ecn());
-    let needed = head_len + blocks as usize + counts_len;
+    let needed = header_len + blocks as usize + counts_len;
     if dest.len() < needed {
         return Err(needed);
     }
-    let at = lay_bytes(dest, 0, &head[..head_len]);
+    let at = lay_bytes(dest, 0, &head[..header_len]);
     let at = lay_shortened(dest, at, ack.additional(), blocks as usize);
     Ok(lay_bytes(dest, at, &counts[..counts_len]))
 }
 
 // Lays the counts of an acknowledgement, where they are given, and answers where they end.
-fn lay_counts(counts: &mut [u8; HEAD_ROOM], ecn: Option<EcnCounts>) -> usize
+fn lay_counts(counts: &mut [u8; HEADER_ROOM], ecn: Option<EcnCounts>) -> usize
     requires { AreCounts ecn }
-    ensures within { result ≤ HEAD_ROOM }
+    ensures within { result ≤ HEADER_ROOM }
     ensures front { take result counts.new ≡ all_short (count_numbers ecn) }
 {
     match ecn {

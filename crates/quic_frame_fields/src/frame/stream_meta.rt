@@ -1,6 +1,6 @@
 //! STREAM frames, whose data the writer appends by itself (RFC 9000, section 19.8).
 ghost use Rattle.std.specs.Prelude.{◌≡◌, ◌≤◌, ◌<◌, ◌-◌, ◌^◌, ◌++◌, ℕ, List, length, Some, None, IfSome, true, false, if◌then◌else◌};
-ghost use Rattle.quic_frame_fields.specs.Shortest.{shortest_frame, stream_head};
+ghost use Rattle.quic_frame_fields.specs.Shortest.{shortest_frame, stream_header};
 ghost use Rattle.quic_base.specs.Writing.{Writes};
 
 use super::{FrameType, Stream, write};
@@ -47,18 +47,18 @@ impl StreamMeta {
         requires start { self.now.offsets.start < 2 ^ 62 }
         requires counted { with_length ≡ true → self.now.offsets.end - self.now.offsets.start < 2 ^ 62 }
         ensures { Writes result
-            (stream_head self.now.id self.now.offsets.start self.now.fin (if with_length then Some (self.now.offsets.end - self.now.offsets.start) else None))
+            (stream_header self.now.id self.now.offsets.start self.now.fin (if with_length then Some (self.now.offsets.end - self.now.offsets.start) else None))
             (B.written out.old) (B.spare out.old) (B.written out.new) (B.spare out.new) }
     {
         let Range { start, end } = self.offsets;
         let counted = with_length.then_some(end - start);
-        encode_head(out, self.id, start, self.fin, counted)
+        encode_header(out, self.id, start, self.fin, counted)
     }
 }
 
 /// A STREAM up to its data, whose length is written where it is given. The caller must ensure that the numbers
 /// are below 2^62. Answers `NoRoom` as `StreamMeta::encode` does.
-pub fn encode_head<B: BufMut>(
+pub fn encode_header<B: BufMut>(
     out: &mut B,
     id: StreamId,
     offset: u64,
@@ -67,7 +67,7 @@ pub fn encode_head<B: BufMut>(
 ) -> Result<(), NoRoom>
     requires offset { offset < 2 ^ 62 }
     requires counted { IfSome counted (λ n. n < 2 ^ 62) }
-    ensures { Writes result (stream_head id offset fin counted)
+    ensures { Writes result (stream_header id offset fin counted)
         (B.written out.old) (B.spare out.old) (B.written out.new) (B.spare out.new) }
 {
     let ty = FrameType::of_stream(offset != 0, fin).into_inner();

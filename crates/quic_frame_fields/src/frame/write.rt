@@ -13,7 +13,7 @@ use quic_base::ids::ConnectionId;
 use quic_base::varint::VarInt;
 
 // How many bytes the array has that numbers are laid into: five of them, each by a store of eight bytes at most.
-pub(super) const HEAD_ROOM: usize = 40;
+pub(super) const HEADER_ROOM: usize = 40;
 
 // Lays a number in its shortest encoding at a place, and answers where it ends.
 #[inline(always)]
@@ -62,7 +62,7 @@ pub fn numbers<B: BufMut>(out: &mut B, numbers: &[u64]) -> Result<(), NoRoom>
     requires numeric { AreNumeric numbers.now }
     ensures { Writes result (all_short numbers.now) (B.written out.old) (B.spare out.old) (B.written out.new) (B.spare out.new) }
 {
-    let mut head = [0; HEAD_ROOM];
+    let mut head = [0; HEADER_ROOM];
     let len = lay_numbers(&mut head, numbers);
     bytes(out, &head[..len])
 }

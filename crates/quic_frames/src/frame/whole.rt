@@ -18,7 +18,7 @@ use quic_base::coding::NoRoom;
 use quic_base::ids::Dir;
 use quic_frame_fields::frame::ack_encode::{ack_len, encode_ack};
 use quic_frame_fields::frame::encode::type_or_zero;
-use quic_frame_fields::frame::stream_meta::encode_head;
+use quic_frame_fields::frame::stream_meta::encode_header;
 use quic_frame_fields::frame::write;
 
 impl Frame<'_> {
@@ -128,7 +128,7 @@ fn encode_stream<B: BufMut>(stream: &Stream<'_>, last: bool, out: &mut B) -> Res
         (B.written out.old) (B.spare out.old) (B.written out.new) (B.spare out.new) }
 {
     let counted = (!last).then_some(stream.bytes.len() as u64);
-    encode_head(out, stream.id, stream.offset, stream.fin, counted)?;
+    encode_header(out, stream.id, stream.offset, stream.fin, counted)?;
     write::bytes(out, stream.bytes)
 }
 

@@ -289,7 +289,7 @@ fn spaces(rt: HostRuntime) -> Result<(), Fail> {
     checks.verdict()
 }
 
-// Bytes of heads of IP, and the codepoints in them.
+// Bytes of headers of IP, and the codepoints in them.
 const CODEPOINTS: &[(u8, Option<EcnCodepoint>)] = &[
     (0xfe, Some(EcnCodepoint::Ect0)),
     (0xff, Some(EcnCodepoint::Ce)),

@@ -40,7 +40,7 @@ enum Call<'a> {
     Frequency,
     CloseOfTransport(usize),
     CloseOfApplication(usize),
-    Head(bool),
+    HeaderAt(bool),
     FirstFrame(&'a [u8], bool),
     Ack(&'a ArrayRangeSet),
 }
@@ -57,7 +57,7 @@ fn made(out: &mut Vec<u8>, call: &Call<'_>) -> Result<(), NoRoom> {
         Call::Frequency => write_frequency(out),
         Call::CloseOfTransport(room) => write_close_of_transport(out, *room),
         Call::CloseOfApplication(room) => write_close_of_application(out, *room),
-        Call::Head(with_length) => write_head(out, *with_length),
+        Call::HeaderAt(with_length) => write_header(out, *with_length),
         Call::FirstFrame(payload, last) => write_first_frame(out, payload, *last),
         Call::Ack(set) => write_ack(out, set),
     }
@@ -251,7 +251,7 @@ fn a_close_of_the_application(rt: HostRuntime) -> Result<(), Fail> {
     checks.verdict()
 }
 
-fn write_head(out: &mut Vec<u8>, with_length: bool) -> Result<(), NoRoom> {
+fn write_header(out: &mut Vec<u8>, with_length: bool) -> Result<(), NoRoom> {
     let meta = StreamMeta {
         id: stream_id(),
         offsets: 16384..16448,
@@ -261,12 +261,12 @@ fn write_head(out: &mut Vec<u8>, with_length: bool) -> Result<(), NoRoom> {
 }
 
 #[test]
-fn the_head_of_a_stream(rt: HostRuntime) -> Result<(), Fail> {
+fn the_header_of_a_stream(rt: HostRuntime) -> Result<(), Fail> {
     let mut checks = Checks::new(rt.alloc());
     let whole = b"\x0f\x04\x80\x00\x40\x00\x40\x40";
-    checks.holds(writes(rt.alloc(), &Call::Head(true), whole));
+    checks.holds(writes(rt.alloc(), &Call::HeaderAt(true), whole));
     let whole = b"\x0d\x04\x80\x00\x40\x00";
-    checks.holds(writes(rt.alloc(), &Call::Head(false), whole));
+    checks.holds(writes(rt.alloc(), &Call::HeaderAt(false), whole));
     checks.verdict()
 }
 

@@ -1,4 +1,4 @@
-//! Heads of streams, and datagrams, that are written by themselves.
+//! Headers of streams, and datagrams, that are written by themselves.
 ghost use Rattle.std.specs.Prelude.{◌<◌, ◌^◌, length};
 
 use quic_base::ids::StreamId;
@@ -8,9 +8,9 @@ use quic_checks::Checks;
 use std::test::Fail;
 
 // Where the data begin and end, whether they are the last, whether their length is written, and the head.
-type HeadRow = (u64, u64, bool, bool, &'static [u8]);
+type HeaderRow = (u64, u64, bool, bool, &'static [u8]);
 
-const HEADS: &[HeadRow] = &[
+const HEADS: &[HeaderRow] = &[
     (16, 18, false, true, b"\x0e\x04\x10\x02"),
     (16, 18, false, false, b"\x0c\x04\x10"),
     (16, 18, true, true, b"\x0f\x04\x10\x02"),
@@ -21,7 +21,7 @@ const HEADS: &[HeadRow] = &[
     (64, 64, false, true, b"\x0e\x04\x40\x40\x00"),
 ];
 
-fn is_head(out: &mut Vec<u8>, row: &HeadRow) -> bool {
+fn is_header(out: &mut Vec<u8>, row: &HeaderRow) -> bool {
     let &(start, end, fin, with_length, head) = row;
     if start > end || end >= 1 << 62 {
         return false;
@@ -35,10 +35,10 @@ fn is_head(out: &mut Vec<u8>, row: &HeadRow) -> bool {
 }
 
 #[test]
-fn heads_of_streams(rt: HostRuntime) -> Result<(), Fail> {
+fn headers_of_streams(rt: HostRuntime) -> Result<(), Fail> {
     let mut checks = Checks::new(rt.alloc());
     for row in HEADS {
-        let is_written = is_head(&mut Vec::new(rt.alloc()), row);
+        let is_written = is_header(&mut Vec::new(rt.alloc()), row);
         checks.holds_at(format_args!("{row:?}"), is_written);
     }
     checks.verdict()
@@ -48,23 +48,23 @@ fn is_of_no_data(meta: &StreamMeta) -> bool {
     u64::from(meta.id) == 0 && meta.offsets.start == 0 && meta.offsets.end == 0 && !meta.fin
 }
 
-fn is_head_of_no_data(out: &mut Vec<u8>, with_length: bool, head: &[u8]) -> bool {
+fn is_header_of_no_data(out: &mut Vec<u8>, with_length: bool, head: &[u8]) -> bool {
     let meta = StreamMeta::default();
     meta.encode(with_length, out).is_ok() && out.as_slice() == head
 }
 
 #[test]
-fn the_head_of_no_data(rt: HostRuntime) -> Result<(), Fail> {
+fn the_header_of_no_data(rt: HostRuntime) -> Result<(), Fail> {
     let mut checks = Checks::new(rt.alloc());
     checks.holds(is_of_no_data(&StreamMeta::default()));
-    let counted = is_head_of_no_data(&mut Vec::new(rt.alloc()), true, b"\x0a\x00\x00");
+    let counted = is_header_of_no_data(&mut Vec::new(rt.alloc()), true, b"\x0a\x00\x00");
     checks.holds(counted);
-    let open = is_head_of_no_data(&mut Vec::new(rt.alloc()), false, b"\x08\x00");
+    let open = is_header_of_no_data(&mut Vec::new(rt.alloc()), false, b"\x08\x00");
     checks.holds(open);
     checks.verdict()
 }
 
-fn lay_a_head_and_its_data(out: &mut Vec<u8>) -> bool {
+fn lay_a_header_and_its_data(out: &mut Vec<u8>) -> bool {
     let meta = StreamMeta {
         id: StreamId::from(VarInt::from_u32(4)),
         offsets: 16..18,
@@ -91,33 +91,33 @@ fn is_the_stream_and_a_ping(payload: &[u8]) -> bool {
 }
 
 fn are_a_frame(out: &mut Vec<u8>) -> bool {
-    lay_a_head_and_its_data(out) && is_the_stream_and_a_ping(out.as_slice())
+    lay_a_header_and_its_data(out) && is_the_stream_and_a_ping(out.as_slice())
 }
 
-// A head and the data behind it are a frame.
+// A header and the data behind it are a frame.
 #[test]
-fn a_head_and_its_data(rt: HostRuntime) -> Result<(), Fail> {
+fn a_header_and_its_data(rt: HostRuntime) -> Result<(), Fail> {
     let mut checks = Checks::new(rt.alloc());
     checks.holds(are_a_frame(&mut Vec::new(rt.alloc())));
     checks.verdict()
 }
 
-fn is_one_head(metas: &[StreamMeta]) -> bool {
+fn is_one_header(metas: &[StreamMeta]) -> bool {
     let [meta] = metas else {
         return false;
     };
     is_of_no_data(meta)
 }
 
-fn holds_one_head(metas: &mut StreamMetaVec) -> bool {
-    metas.push(StreamMeta::default()).is_ok() && is_one_head(metas.as_slice())
+fn holds_one_header(metas: &mut StreamMetaVec) -> bool {
+    metas.push(StreamMeta::default()).is_ok() && is_one_header(metas.as_slice())
 }
 
-// One head is held without memory.
+// One header is held without memory.
 #[test]
-fn one_head_is_held(rt: HostRuntime) -> Result<(), Fail> {
+fn one_header_is_held(rt: HostRuntime) -> Result<(), Fail> {
     let mut checks = Checks::new(rt.alloc());
-    checks.holds(holds_one_head(&mut StreamMetaVec::new(rt.alloc())));
+    checks.holds(holds_one_header(&mut StreamMetaVec::new(rt.alloc())));
     checks.verdict()
 }
 

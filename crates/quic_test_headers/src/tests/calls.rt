@@ -30,7 +30,7 @@ fn a_cursor(rt: HostRuntime) -> Result<(), Fail> {
 }
 
 #[test]
-fn a_head(rt: HostRuntime) -> Result<(), Fail> {
+fn a_header(rt: HostRuntime) -> Result<(), Fail> {
     let mut checks = Checks::new(rt.alloc());
     let mut cursor = Cursor::new(BytesMut::copy_from_slice(rt.alloc(), INITIAL)?);
     let Ok(head) = ProtectedHeader::decode(&mut cursor, &NoIds, &[1], false) else {
@@ -80,7 +80,7 @@ fn a_cut(rt: HostRuntime) -> Result<(), Fail> {
     checks.verdict()
 }
 
-// A type, and the first byte of its heads under versions 1 and 2.
+// A type, and the first byte of its headers under versions 1 and 2.
 const TYPES: &[(LongHeaderType, u8, u8)] = &[
     (LongHeaderType::Initial, 0xc0, 0xd0),
     (LongHeaderType::Standard(LongType::ZeroRtt), 0xd0, 0xe0),
@@ -89,7 +89,7 @@ const TYPES: &[(LongHeaderType, u8, u8)] = &[
 ];
 
 #[test]
-fn types_of_long_heads(rt: HostRuntime) -> Result<(), Fail> {
+fn types_of_long_headers(rt: HostRuntime) -> Result<(), Fail> {
     let mut checks = Checks::new(rt.alloc());
     for (ty, first, second) in TYPES {
         checks.same_at(*first, ty.byte(1), *first);

@@ -54,7 +54,7 @@ fn beginnings_where_the_fixed_bit_is_fixed(rt: HostRuntime) -> Result<(), Fail> 
     checks.verdict()
 }
 
-// Whether the head is one of a version negotiation with these random bits and ids.
+// Whether the header is one of a version negotiation with these random bits and ids.
 fn is_negotiation(head: &ProtectedHeader, bits: u8, dst: &[u8], src: &[u8]) -> bool {
     let ProtectedHeader::VersionNegotiate {
         random,

@@ -1,4 +1,4 @@
-//! Packets whose heads' protection is off, as values.
+//! Packets whose headers' protection is off, as values.
 use bytes::{Bytes, BytesMut};
 use quic_base::ids::ConnectionId;
 use quic_packets::packet::{Header, InitialHeader, InitialPacket, Packet, PacketNumber};
@@ -6,7 +6,7 @@ use quic_checks::Checks;
 use std::alloc::Global;
 use std::test::Fail;
 
-// An Initial packet with these bytes as its head's, whatever they are, and as its payload.
+// An Initial packet with these bytes as its header's, whatever they are, and as its payload.
 fn initial(head: &'static [u8], payload: BytesMut) -> InitialPacket {
     InitialPacket {
         header: InitialHeader {
@@ -21,8 +21,8 @@ fn initial(head: &'static [u8], payload: BytesMut) -> InitialPacket {
     }
 }
 
-// Whether it is the head of that packet.
-fn is_its_head(header: &Header) -> bool {
+// Whether it is the header of that packet.
+fn is_its_header(header: &Header) -> bool {
     let Header::Initial(head) = header else {
         return false;
     };
@@ -33,9 +33,9 @@ fn is_its_head(header: &Header) -> bool {
         && head.version == 1
 }
 
-// Whether the packet has that head and these bytes.
+// Whether the packet has that header and these bytes.
 fn has(packet: &Packet, head: &[u8], payload: &[u8]) -> bool {
-    is_its_head(&packet.header)
+    is_its_header(&packet.header)
         && packet.header_data.as_slice() == head
         && packet.payload.as_slice() == payload
 }
@@ -49,8 +49,8 @@ fn is_the_same(alloc: Global, head: &'static [u8], payload: &[u8], are_zero: boo
     has(&packet, head, payload) && packet.reserved_bits_valid() == are_zero
 }
 
-// The bytes of a head and of a payload, and whether the reserved bits of the first byte are zero: there is none where
-// the head has no byte (RFC 9000, section 17.2).
+// The bytes of a header and of a payload, and whether the reserved bits of the first byte are zero: there is none where
+// the header has no byte (RFC 9000, section 17.2).
 const ROWS: &[(&[u8], &[u8], bool)] = &[
     (
         b"\xc0\0\0\0\x01\x02\x06\xb8\x01\x07\x02\xaa\xbb\x40\x03\x05",

@@ -1,16 +1,16 @@
-//! Places that `read_head` finds in the bytes of worked lines.
-use quic_header_decode::places::{HeadKind, ReadError, read_head};
+//! Places that `read_header` finds in the bytes of worked lines.
+use quic_header_decode::places::{HeaderKind, ReadError, read_header};
 use quic_checks::Checks;
 use std::test::Fail;
 
 const VERSIONS: &[u32] = &[1, 0x6b33_43cf];
 
-// How many bytes ids of short heads have, a datagram, and of its first packet the kind, the ids, the version, the
+// How many bytes ids of short headers have, a datagram, and of its first packet the kind, the ids, the version, the
 // token's place and the end.
 type Row = (
     usize,
     &'static [u8],
-    HeadKind,
+    HeaderKind,
     &'static [u8],
     &'static [u8],
     u32,
@@ -22,7 +22,7 @@ const ROWS: &[Row] = &[
     (
         0,
         b"\xc0\0\0\0\x01\x08\x06\xb8\x58\xec\x6f\x80\x45\x2b\0\x02\xaa\xbb\x40\x03\x01\x02\x03\x41",
-        HeadKind::Initial,
+        HeaderKind::Initial,
         b"\x06\xb8\x58\xec\x6f\x80\x45\x2b",
         b"",
         1,
@@ -32,7 +32,7 @@ const ROWS: &[Row] = &[
     (
         0,
         b"\xe0\0\0\0\x01\0\0\x02\xaa\xbb\x41",
-        HeadKind::Handshake,
+        HeaderKind::Handshake,
         b"",
         b"",
         1,
@@ -42,7 +42,7 @@ const ROWS: &[Row] = &[
     (
         0,
         b"\xf0\0\0\0\x01\x01\xaa\0\xff\xff",
-        HeadKind::Retry,
+        HeaderKind::Retry,
         b"\xaa",
         b"",
         1,
@@ -52,7 +52,7 @@ const ROWS: &[Row] = &[
     (
         0,
         b"\xc0\0\0\0\0\x01\xaa\x01\xbb\0\0\0\x01",
-        HeadKind::VersionNegotiate,
+        HeaderKind::VersionNegotiate,
         b"\xaa",
         b"\xbb",
         0,
@@ -62,7 +62,7 @@ const ROWS: &[Row] = &[
     (
         0,
         b"\xe0\x6b\x33\x43\xcf\0\0\x02\xaa\xbb",
-        HeadKind::ZeroRtt,
+        HeaderKind::ZeroRtt,
         b"",
         b"",
         0x6b33_43cf,
@@ -72,7 +72,7 @@ const ROWS: &[Row] = &[
     (
         0,
         b"\xc0\x6b\x33\x43\xcf\0\0\xff\xff",
-        HeadKind::Retry,
+        HeaderKind::Retry,
         b"",
         b"",
         0x6b33_43cf,
@@ -82,14 +82,14 @@ const ROWS: &[Row] = &[
     (
         0,
         b"\xd0\x6b\x33\x43\xcf\0\0\0\x40\x01\xff",
-        HeadKind::Initial,
+        HeaderKind::Initial,
         b"",
         b"",
         0x6b33_43cf,
         (8, 8),
         11,
     ),
-    (1, b"\x40\x05", HeadKind::Short, b"\x05", b"", 0, (0, 0), 2),
+    (1, b"\x40\x05", HeaderKind::Short, b"\x05", b"", 0, (0, 0), 2),
 ];
 
 #[test]
@@ -99,14 +99,14 @@ fn places(rt: HostRuntime) -> Result<(), Fail> {
         if *id_len > 20 {
             continue;
         }
-        match read_head(datagram, *id_len, VERSIONS) {
+        match read_header(datagram, *id_len, VERSIONS) {
             Ok(found) => {
                 checks.same_at(datagram.len(), found.kind, *kind);
-                let start = if *kind == HeadKind::Short { 1 } else { 6 };
+                let start = if *kind == HeaderKind::Short { 1 } else { 6 };
                 let dst_cid = datagram.get(start..start + found.dst_len);
                 checks.same_at(datagram.len(), dst_cid, Some(*dst));
                 let behind = 7 + found.dst_len;
-                let src_cid = if *kind == HeadKind::Short {
+                let src_cid = if *kind == HeaderKind::Short {
                     Some(*src)
                 } else {
                     datagram.get(behind..behind + found.src_len)
@@ -133,7 +133,7 @@ const CUT_OFF: &[&[u8]] = &[
 fn cut_off(rt: HostRuntime) -> Result<(), Fail> {
     let mut checks = Checks::new(rt.alloc());
     for datagram in CUT_OFF {
-        match read_head(datagram, 0, VERSIONS) {
+        match read_header(datagram, 0, VERSIONS) {
             Ok(found) => checks.same_at(datagram.len(), found.packet_end(datagram.len()), None),
             Err(_error) => checks.holds(false),
         }
@@ -141,7 +141,7 @@ fn cut_off(rt: HostRuntime) -> Result<(), Fail> {
     checks.verdict()
 }
 
-// Bytes that begin with no head, where ids of short heads have so many bytes, and why.
+// Bytes that begin with no header, where ids of short headers have so many bytes, and why.
 const REFUSED: &[(usize, &[u8], ReadError)] = &[
     (
         0,
@@ -190,7 +190,7 @@ fn refusals(rt: HostRuntime) -> Result<(), Fail> {
         if *id_len > 20 {
             continue;
         }
-        let found = read_head(datagram, *id_len, VERSIONS);
+        let found = read_header(datagram, *id_len, VERSIONS);
         checks.same_at(datagram.len(), found, Err(*wanted));
     }
     checks.verdict()

@@ -4,7 +4,7 @@ use quic_checks::Checks;
 use quic_text::{Mode, mode_of, run, status};
 use std::test::Fail;
 
-// A line, and what is printed of it where ids of short heads have no bytes.
+// A line, and what is printed of it where ids of short headers have no bytes.
 const ROWS: &[(&str, &str)] = &[
     (
         "c0000000010806b858ec6f80452b0002aabb400301020341",

@@ -1,4 +1,4 @@
-//! Texts of errors, and what is printed of heads for debugging.
+//! Texts of errors, and what is printed of headers for debugging.
 use quic_base::coding::UnexpectedEnd;
 use quic_base::ids::ConnectionId;
 use quic_packets::packet::{LongHeaderType, LongType, PacketDecodeError, ProtectedHeader};
@@ -27,7 +27,7 @@ fn errors(rt: HostRuntime) -> Result<(), Fail> {
 }
 
 #[test]
-fn heads(rt: HostRuntime) -> Result<(), Fail> {
+fn headers(rt: HostRuntime) -> Result<(), Fail> {
     let mut checks = Checks::new(rt.alloc());
     let alloc = rt.alloc();
     let head = ProtectedHeader::Long {

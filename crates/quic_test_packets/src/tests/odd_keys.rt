@@ -73,7 +73,7 @@ fn is_finished<H: HeaderKey>(cut: PartialDecode, key: &H, payload: &[u8]) -> boo
     packet.header_data.as_slice() == b"\x40\x05".as_slice() && packet.payload.as_slice() == payload
 }
 
-// The head has two bytes.
+// The header has two bytes.
 fn is_cut_and_finished<H: HeaderKey>(alloc: Global, key: &H, bytes: &[u8]) -> bool {
     let Some((_, payload)) = bytes.split_at_checked(2) else {
         return false;

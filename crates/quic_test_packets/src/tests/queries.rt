@@ -1,4 +1,4 @@
-//! What heads say of their packets.
+//! What headers say of their packets.
 use bytes::Bytes;
 use quic_base::ids::ConnectionId;
 use quic_packets::packet::{Header, InitialHeader, LongType, PacketNumber};
@@ -50,7 +50,7 @@ fn negotiation() -> Header {
     }
 }
 
-// Whether this is the head's number. Just packets with a number have frames.
+// Whether this is the header's number. Just packets with a number have frames.
 fn has_number(head: &Header, number: Option<PacketNumber>) -> bool {
     head.number() == number && head.has_frames() == number.is_some()
 }
@@ -75,7 +75,7 @@ fn is_of_1rtt(head: &Header, key_phase: bool) -> bool {
     head.is_short() && head.is_1rtt() && !head.is_0rtt() && head.key_phase() == key_phase
 }
 
-// Whether the head is long. It has no key phase then.
+// Whether the header is long. It has no key phase then.
 fn is_long(head: &Header, early: bool) -> bool {
     !head.is_short() && !head.is_1rtt() && head.is_0rtt() == early && !head.key_phase()
 }

@@ -14,7 +14,7 @@ use quic_checks::Checks;
 use std::alloc::Global;
 use std::test::Fail;
 
-// Opens a datagram whose short heads have ids of one byte, where these versions are spoken.
+// Opens a datagram whose short headers have ids of one byte, where these versions are spoken.
 fn open(
     opened: &mut Vec<Opened>,
     alloc: Global,
@@ -109,7 +109,7 @@ fn is_not_opened(opened: &mut Vec<Opened>, alloc: Global, datagram: &[u8]) -> bo
     open(opened, alloc, datagram, &[1]) == Err(OpenError::Unsealed) && opened.is_empty()
 }
 
-// A packet with a short head has no length, so that the tag is looked for at the end of the other one.
+// A packet with a short header has no length, so that the tag is looked for at the end of the other one.
 #[test]
 fn the_same_packets_short_first(rt: HostRuntime) -> Result<(), Fail> {
     let mut checks = Checks::new(rt.alloc());
@@ -121,7 +121,7 @@ fn the_same_packets_short_first(rt: HostRuntime) -> Result<(), Fail> {
     checks.verdict()
 }
 
-// The same packets, the Handshake packet under version 2, whose heads have other types (RFC 9369, section 3.2).
+// The same packets, the Handshake packet under version 2, whose headers have other types (RFC 9369, section 3.2).
 const OF_VERSION_2: [u8; 60] =
     *b"\xf0\x6b\x33\x43\xcf\x01\xaa\0\x40\x14\0\x01\0\0\0\0\0\0\0\0\0\0\0\0\0\0\0\0\0\0\x40\xaa\x05\x02\x03\0\x01\0\0\x01\x08\0hi\0\0\0\0\0\0\0\x05\0\0\0\0\0\0\0\0";
 

@@ -51,7 +51,7 @@ fn opened_packet_stands(rt: HostRuntime) -> Result<(), Fail> {
     checks.verdict()
 }
 
-// Opens a datagram whose short heads have ids of one byte.
+// Opens a datagram whose short headers have ids of one byte.
 fn open_all(opened: &mut Vec<Opened>, datagram: Vec<u8>) -> Result<(), OpenError> {
     open_datagram(
         BytesMut::from_vec(datagram),
@@ -68,7 +68,7 @@ fn open_all(opened: &mut Vec<Opened>, datagram: Vec<u8>) -> Result<(), OpenError
 pub const WHOLE: [u8; 60] =
     *b"\xe0\0\0\0\x01\x01\xaa\0\x40\x14\0\x01\0\0\0\0\0\0\0\0\0\0\0\0\0\0\0\0\0\0\x40\xaa\x05\x02\x03\0\x01\0\0\x01\x08\0hi\0\0\0\0\0\0\0\x05\0\0\0\0\0\0\0\0";
 
-// The heads of both packets, their numbers and their payloads.
+// The headers of both packets, their numbers and their payloads.
 const PACKETS: &[(&[u8], u64, &[u8])] = &[
     (b"\xe0\0\0\0\x01\x01\xaa\0\x40\x14\0", 0, b"\x01\0\0"),
     (b"\x40\xaa\x05", 5, b"\x02\x03\0\x01\0\0\x01\x08\0hi"),
@@ -144,7 +144,7 @@ fn is_nothing_opened(opened: &mut Vec<Opened>, datagram: Vec<u8>) -> bool {
     open_all(opened, datagram) == Err(OpenError::Unsealed) && opened.is_empty()
 }
 
-// A packet with a short head has no length, and takes what follows it.
+// A packet with a short header has no length, and takes what follows it.
 #[test]
 fn short_packet_first(rt: HostRuntime) -> Result<(), Fail> {
     let mut out = Vec::new(rt.alloc());
@@ -205,7 +205,7 @@ fn is_sealed_in_version_two(out: &mut Vec<u8>) -> bool {
         && out.starts_with(b"\xf0\x6b\x33\x43\xcf\x01\xaa\0\x40\x14\0")
 }
 
-// Version 2 has other types of long heads.
+// Version 2 has other types of long headers.
 #[test]
 fn version_two(rt: HostRuntime) -> Result<(), Fail> {
     let mut checks = Checks::new(rt.alloc());
@@ -278,7 +278,7 @@ fn seal_initial(out: &mut Vec<u8>, version: u32) -> Result<usize, SealError> {
     seal_packet(&header, 0, &frames, &toy(), out)
 }
 
-fn is_opened_with_head(datagram: Vec<u8>, head: &[u8]) -> bool {
+fn is_opened_with_header(datagram: Vec<u8>, head: &[u8]) -> bool {
     let answer = open_packet(
         BytesMut::from_vec(datagram),
         &FixedLengthConnectionIdParser::new(0),
@@ -293,13 +293,13 @@ fn is_opened_with_head(datagram: Vec<u8>, head: &[u8]) -> bool {
     opened.header_data.as_slice() == head && rest.is_none()
 }
 
-fn has_initial_head(alloc: Global, version: u32, head: &[u8]) -> bool {
+fn has_initial_header(alloc: Global, version: u32, head: &[u8]) -> bool {
     let mut out = Vec::new(alloc);
-    seal_initial(&mut out, version) == Ok(head.len() + 16 + 16) && is_opened_with_head(out, head)
+    seal_initial(&mut out, version) == Ok(head.len() + 16 + 16) && is_opened_with_header(out, head)
 }
 
-// Versions, and an Initial packet's head in them.
-const INITIAL_HEADS: &[(u32, &[u8])] = &[
+// Versions, and an Initial packet's header in them.
+const INITIAL_HEADERS: &[(u32, &[u8])] = &[
     (
         1,
         b"\xc0\0\0\0\x01\x08\x06\xb8\x58\xec\x6f\x80\x45\x2b\0\0\x40\x21\0",
@@ -310,12 +310,12 @@ const INITIAL_HEADS: &[(u32, &[u8])] = &[
     ),
 ];
 
-// The head's bytes as they were sealed, with the length filled in.
+// The header's bytes as they were sealed, with the length filled in.
 #[test]
-fn initial_head(rt: HostRuntime) -> Result<(), Fail> {
+fn initial_header(rt: HostRuntime) -> Result<(), Fail> {
     let mut checks = Checks::new(rt.alloc());
-    for &(version, head) in INITIAL_HEADS {
-        checks.holds_at(version, has_initial_head(rt.alloc(), version, head));
+    for &(version, head) in INITIAL_HEADERS {
+        checks.holds_at(version, has_initial_header(rt.alloc(), version, head));
     }
     checks.verdict()
 }

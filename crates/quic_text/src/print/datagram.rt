@@ -4,7 +4,7 @@ ghost use Rattle.std.specs.Fmt.{decimal, digits};
 ghost use Rattle.std.specs.String.{string_bytes};
 ghost use Rattle.std.specs.List.{flat_map, list_all};
 ghost use Rattle.quic_text.specs.Printed.{Error, shown, is_plain};
-ghost use Rattle.quic_text.specs.DatagramText.{datagram_lines, head_text, id_or_dash, long_text, packet_line, eight_digits, refusal_text};
+ghost use Rattle.quic_text.specs.DatagramText.{datagram_lines, header_text, id_or_dash, long_text, packet_line, eight_digits, refusal_text};
 ghost use Rattle.quic_header_decode.specs.Refusal.{NoMemory, refusal_of};
 ghost use Rattle.quic_text.specs.IdLens.{count};
 ghost use Rattle.quic_text.specs.Status.{is_write};
@@ -23,7 +23,7 @@ use quic_header_decode::parser::FixedLengthConnectionIdParser;
 use quic_header_decode::protected::ProtectedHeader;
 use std::alloc::{AllocError, Global};
 
-// A line for each packet, and one for what is refused. Ids of short heads have the length given.
+// A line for each packet, and one for what is refused. Ids of short headers have the length given.
 pub(super) fn print_datagram<W: Sink>(
     alloc: Global,
     id_len: IdLen,
@@ -72,13 +72,13 @@ fn print_packet(
     ensures { OnOk result (string_bytes text.new ≡ string_bytes text.old ++ shown (packet_line (record { start = start; stop = end; header = head.now }))) }
 {
     write!(text, "{start}..{end} ")?;
-    print_head(head, text)?;
+    print_header(head, text)?;
     text.push('\n')
 }
 
-// What a head says.
-fn print_head(head: &ProtectedHeader, text: &mut String) -> Result<(), AllocError>
-    ensures { OnOk result (string_bytes text.new ≡ string_bytes text.old ++ head_text head.now) }
+// What a header says.
+fn print_header(head: &ProtectedHeader, text: &mut String) -> Result<(), AllocError>
+    ensures { OnOk result (string_bytes text.new ≡ string_bytes text.old ++ header_text head.now) }
 {
     match head {
         ProtectedHeader::Initial(initial) => {
@@ -129,7 +129,7 @@ fn print_token(start: usize, end: usize, text: &mut String) -> Result<(), AllocE
     write!(text, " token {start}..{end}")
 }
 
-// What every long head says.
+// What every long header says.
 fn print_long(
     kind: &str,
     dst_cid: &ConnectionId,

@@ -1,7 +1,7 @@
 //! The packets of datagrams.
 use crate::args::Datagrams;
 use crate::output::{Field, Output, Value};
-use quic_wire::packet::{Head, HeadError, LongType, ProtectedHeader};
+use quic_wire::packet::{HeaderPlaces, HeaderError, LongType, ProtectedHeader};
 use std::io::{self, Write};
 use Value::{Bytes, Flag, Number, Version, Versions};
 
@@ -12,7 +12,7 @@ pub fn show(datagram: &[u8], how: &Datagrams, output: &mut Output<impl Write>) -
         if !how.grease && rest.first().is_some_and(|first| first & 0x40 == 0) {
             return output.error("fixed bit unset", Some(begin));
         }
-        match Head::read(rest, how.cid_len, &how.versions) {
+        match HeaderPlaces::read(rest, how.cid_len, &how.versions) {
             Ok(head) => {
                 let (name, fields) = fields(&head, &rest[..head.end()], begin);
                 let first = [("first", Number(head.first().into()))];
@@ -28,18 +28,18 @@ pub fn show(datagram: &[u8], how: &Datagrams, output: &mut Output<impl Write>) -
 }
 
 // What a refusal tells of the header.
-fn told(error: &HeadError, rest: &[u8], begin: usize) -> Vec<Field> {
+fn told(error: &HeaderError, rest: &[u8], begin: usize) -> Vec<Field> {
     match error {
-        HeadError::UnsupportedVersion(head) => {
+        HeaderError::UnsupportedVersion(head) => {
             vec![("dst", Bytes(head.dst_cid(rest).into())), ("src", Bytes(head.src_cid(rest).into()))]
         }
-        HeadError::CutOff(head) => fields(head, rest, begin).1,
-        HeadError::InvalidHeader(_) => vec![],
+        HeaderError::CutOff(head) => fields(head, rest, begin).1,
+        HeaderError::InvalidHeader(_) => vec![],
     }
 }
 
-fn fields(head: &Head, packet: &[u8], begin: usize) -> (&'static str, Vec<Field>) {
-    let number_at = ("number_at", Number((begin + head.head_end()) as u64));
+fn fields(head: &HeaderPlaces, packet: &[u8], begin: usize) -> (&'static str, Vec<Field>) {
+    let number_at = ("number_at", Number((begin + head.header_end()) as u64));
     let ids = |dst: &[u8], src: &[u8]| vec![("dst", Bytes(dst.into())), ("src", Bytes(src.into()))];
     match head.header(packet) {
         ProtectedHeader::Initial { dst_cid, src_cid, token_pos, len, version } => {
@@ -57,7 +57,7 @@ fn fields(head: &Head, packet: &[u8], begin: usize) -> (&'static str, Vec<Field>
             )
         }
         ProtectedHeader::Retry { dst_cid, src_cid, version } => {
-            let rest = packet[head.head_end()..].into();
+            let rest = packet[head.header_end()..].into();
             let more = match head.retry(packet) {
                 Some((token, tag)) => vec![("token", Bytes(token.into())), ("tag", Bytes(tag.to_vec()))],
                 None => vec![("rest", Bytes(rest))],

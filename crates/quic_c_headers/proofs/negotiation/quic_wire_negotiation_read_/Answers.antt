@@ -1,4 +1,4 @@
--- The ids that are told are those that stand there, and a head of these is told so.
+-- The ids that are told are those that stand there, and a header of these is told so.
 use Rattle.quic_c_headers.proofs.Negotiated.{same_ids, same_words, told}
 use Rattle.quic_c_headers.proofs.negotiation.quic_wire_negotiation_read_.Goals as goal
 

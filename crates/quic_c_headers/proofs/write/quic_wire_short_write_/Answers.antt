@@ -1,12 +1,12 @@
--- What is laid of a short head is what its words say.
+-- What is laid of a short header is what its words say.
 use Rattle.std.proofs.Common.{◌≡◌, ◌^◌, ◌+◌, ◌/◌, ◌%◌, ◌<◌, ◌≤◌, ◌∷◌, ◌++◌, ◌∙◌, ℕ, List, [], length, length-append, ap, inr, refl, arith, rules, to_z, w32}
 use Rattle.std.specs.Prelude.{drop, pos, take}
 use Rattle.quic_base.specs.Number.{bytes_of}
 use Rattle.quic_base.proofs.PublicLaws.{length-bytes_of}
 use Rattle.quic_header_encode.proofs.Lays.{stays}
-use Rattle.quic_header_encode.specs.declared.long_type.HeadKind.TheVariants as kind
+use Rattle.quic_header_encode.specs.declared.long_type.HeaderKind.TheVariants as kind
 use Rattle.quic_c_headers.specs.Written.{short_words}
-use Rattle.quic_c_headers.proofs.Writing.{clear_by, head_said, short_bytes, short_can, written}
+use Rattle.quic_c_headers.proofs.Writing.{clear_by, header_said, short_bytes, short_can, written}
 use Rattle.quic_c_headers.proofs.write.quic_wire_short_write_.Goals as goal
 
 pub returns-then-dest-dst-clause-room : goal.returns-then-dest-dst-clause-room
@@ -21,7 +21,7 @@ returns-then-dest-dst-clause-room c = λ _.
     let bytes = short_bytes first number dst low plain small few in
     record {
       clear = clear_by kind.Short (short_words first number).flags;
-      head = head_said kind.Short (short_words first number) dst [] [];
+      head = header_said kind.Short (short_words first number) dst [] [];
       can = short_can first number dst small few;
       full = omega (arith, ap length bytes, length-append (first ∷ dst) (bytes_of (first % 4 + 1) number), length-bytes_of (first % 4 + 1) number);
     }
@@ -49,7 +49,7 @@ returns-clause-wrote c =
       count,
       record {
         clear = clear_by kind.Short (short_words first number).flags;
-        head = head_said kind.Short (short_words first number) dst [] [];
+        head = header_said kind.Short (short_words first number) dst [] [];
         can = short_can first number dst small few;
         front = all.0;
         count_is = all.1;

@@ -1,14 +1,14 @@
--- What has the shape of no head says no head, and what has one's is laid as its bytes.
+-- What has the shape of no header says no header, and what has one's is laid as its bytes.
 use Rattle.std.proofs.Common.{◌≡◌, ◌+◌, ◌≤◌, ◌<◌, ◌∙◌, ℕ, List, length, IsTrue, ap, inl, inr, refl, arith, rules, to_z, w64}
 use Rattle.std.proofs.lemmas.Bool.{cases_lt}
 use Rattle.quic_crypto.specs.declared.packet_number.PacketNumber.{PacketNumber}
 use Rattle.std.specs.Prelude.{pos, take, drop}
 use Rattle.quic_header_encode.specs.Laying.{laid_size, number_bits, says_length, type_bits}
 use Rattle.quic_header_encode.proofs.Later.{laid_length}
-use Rattle.quic_c_headers.specs.Heads.{part_of, said_bytes}
+use Rattle.quic_c_headers.specs.Headers.{part_of, said_bytes}
 use Rattle.quic_c_headers.specs.Shapes.{first_word, IsShaped}
 use Rattle.quic_c_headers.proofs.Shaping.{shaped}
-use Rattle.quic_c_headers.proofs.Writing.{laid_as, bytes_said, can_said, clear_by, head_said, laid_said, numbered_said, with_length, written}
+use Rattle.quic_c_headers.proofs.Writing.{laid_as, bytes_said, can_said, clear_by, header_said, laid_said, numbered_said, with_length, written}
 use Rattle.quic_c_headers.proofs.write.write_as.Goals as goal
 
 pub returns-then-not-is_shaped-clause-refused : goal.returns-then-not-is_shaped-clause-refused
@@ -35,11 +35,11 @@ returns-then-not-fits-clause-room c = λ _.
     ap (λ (p : PacketNumber). laid_size k dst src token p len) c.written_part-number.ensures.value in
     let whole : length (laid_said k len words dst src token) ≡ laid_size k dst src token part len =
     laid_length k (first_word k words.flags + type_bits k words.version + number_bits k part) (first_word k words.flags) words.version dst src token part len in
-    let same : laid_said k len words dst src token ≡ said_bytes words.length_len (clear_by k words.flags) (head_said k words dst src token) =
+    let same : laid_said k len words dst src token ≡ said_bytes words.length_len (clear_by k words.flags) (header_said k words dst src token) =
     bytes_said k len words dst src token is.numbered c.requires.kind c.laid_length_len.ensures.same in
     record {
       clear = clear_by k words.flags;
-      head = head_said k words dst src token;
+      head = header_said k words dst src token;
       can = can_said k words dst c.args.src.now c.args.token.now src token is c.requires.kind c.source_of-source.ensures.has c.token_of-own.ensures.has;
       full = omega (arith, small, size, whole, ap length same);
     }
@@ -65,7 +65,7 @@ returns-then-has_len-clause-wrote c =
       count,
       record {
         clear = clear_by k words.flags;
-        head = head_said k words dst src token;
+        head = header_said k words dst src token;
         can = can_said k words dst src c.args.token.now src token is c.requires.kind (λ _. refl) c.token_of-own.ensures.has;
         front = all.0;
         count_is = all.1;
@@ -82,7 +82,7 @@ returns-else-has_len-clause-wrote c =
     let n : ℕ = c.lay.result in
     let new : List ℕ = c.lay.new.out in
     let is : IsShaped words dst c.args.src.now c.args.token.now = search (rules, c.is_shaped.ensures, c.if-not-is_shaped) in
-    let same : laid_said k c.laid_length_len.result words dst src token ≡ said_bytes words.length_len (clear_by k words.flags) (head_said k words dst src token) =
+    let same : laid_said k c.laid_length_len.result words dst src token ≡ said_bytes words.length_len (clear_by k words.flags) (header_said k words dst src token) =
     bytes_said k c.laid_length_len.result words dst src token is.numbered c.requires.kind c.laid_length_len.ensures.same in
     let front : take n new ≡ laid_said k c.laid_length_len.result words dst src token = c.lay.ensures.front
     ∙ laid_as k c.first_word.result c.laid_length_len.result words dst src token c.written_part-number.result c.first_word.ensures c.written_part-number.ensures.value in
@@ -95,7 +95,7 @@ returns-else-has_len-clause-wrote c =
       count,
       record {
         clear = clear_by k words.flags;
-        head = head_said k words dst src token;
+        head = header_said k words dst src token;
         can = can_said k words dst c.args.src.now c.args.token.now src token is c.requires.kind c.source_of-source.ensures.has c.token_of-own.ensures.has;
         front = all.0;
         count_is = all.1;

@@ -1,4 +1,4 @@
--- The token is a part of the head, and so of the packet.
+-- The token is a part of the header, and so of the packet.
 use Rattle.std.proofs.Common.{arith, ℕ, List, ap, ◌∙◌}
 use Rattle.std.specs.Prelude.{slice_range}
 use Rattle.quic_header_decode.proofs.Cuts.{between-take}

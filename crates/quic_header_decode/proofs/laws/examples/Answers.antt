@@ -5,7 +5,7 @@ use Rattle.quic_base.specs.Number.{bytes_of}
 use Rattle.quic_base.specs.Varint.{short}
 use Rattle.quic_base.proofs.PublicLaws as law
 use Rattle.quic_header_decode.specs.Grammar.{Number, Bytes}
-use Rattle.quic_header_decode.proofs.Made.{fixed_set, initial_head}
+use Rattle.quic_header_decode.proofs.Made.{fixed_set, initial_header}
 use Rattle.quic_header_decode.proofs.laws.examples.Goals as goal
 
 one_zero : (let n : ℕ = 1 in n) ≡ 0 → ⊥
@@ -15,7 +15,7 @@ pub returns-clause-initial : goal.returns-clause-initial
 unfolding short bytes_of
 returns-clause-initial c = λ context rest known.
     let dst : List ℕ = 0x83 ∷ 0x94 ∷ 0xc8 ∷ 0xf0 ∷ 0x3e ∷ 0x51 ∷ 0x57 ∷ 0x08 ∷ [] in
-    initial_head context (18 + length rest) (0xc0 ∷ 0x00 ∷ 0x00 ∷ 0x00 ∷ 0x01 ∷ 0x08 ∷ (dst ++ (0x00 ∷ 0x00 ∷ 0x44 ∷ 0x9e ∷ rest))) 0xc0 (0x00 ∷ []) [] (0x44 ∷ 0x9e ∷ []) rest
+    initial_header context (18 + length rest) (0xc0 ∷ 0x00 ∷ 0x00 ∷ 0x00 ∷ 0x01 ∷ 0x08 ∷ (dst ++ (0x00 ∷ 0x00 ∷ 0x44 ∷ 0x9e ∷ rest))) 0xc0 (0x00 ∷ []) [] (0x44 ∷ 0x9e ∷ []) rest
     (record { dst_cid = dst; src_cid = []; token_pos = record { start = 16; end = 16 }; len = 1182; version = 1 })
     (record { long = omega arith; fixed = fixed_set context 0xc0 refl; range = omega arith; dst_len = omega arith; src_len = omega arith; text = refl })
     (one_zero, known) refl (law.shortest_encodes 0 (omega arith)) (law.shortest_encodes 1182 (omega arith)) (omega arith) refl

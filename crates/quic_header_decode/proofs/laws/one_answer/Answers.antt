@@ -1,16 +1,16 @@
 -- By what reading answers.
 use Rattle.std.proofs.Common.{sym, ◌∙◌}
-use Rattle.quic_header_decode.proofs.CutAnswers.{head_sole, cut_sole, head_answer, cut_answer}
+use Rattle.quic_header_decode.proofs.CutAnswers.{header_sole, cut_sole, header_answer, cut_answer}
 use Rattle.quic_header_decode.proofs.laws.one_answer.Goals as goal
 
 pub returns-clause-head : goal.returns-clause-head
-returns-clause-head c = λ context whole bytes one other fits a b. sym (head_sole context whole bytes one fits a) ∙ head_sole context whole bytes other fits b
+returns-clause-head c = λ context whole bytes one other fits a b. sym (header_sole context whole bytes one fits a) ∙ header_sole context whole bytes other fits b
 
 pub returns-clause-cut : goal.returns-clause-cut
 returns-clause-cut c = λ context bytes one other fits a b. sym (cut_sole context bytes one fits a) ∙ cut_sole context bytes other fits b
 
-pub returns-clause-head_found : goal.returns-clause-head_found
-returns-clause-head_found c = λ context whole bytes fits room takes. head_answer context whole bytes fits room takes
+pub returns-clause-header_found : goal.returns-clause-header_found
+returns-clause-header_found c = λ context whole bytes fits room takes. header_answer context whole bytes fits room takes
 
 pub returns-clause-cut_found : goal.returns-clause-cut_found
 returns-clause-cut_found c = λ context bytes fits takes. cut_answer context bytes fits takes

@@ -14,7 +14,7 @@ use Rattle.quic_header_encode.specs.declared.long_type.LongType.TheVariants.{Han
 use Rattle.quic_header_encode.specs.Types.{version_2, types_of, long_type, type_number, first_byte, place_of}
 use Rattle.quic_header_encode.specs.Starts.{long_front}
 use Rattle.quic_header_encode.specs.Writing.{long_first, bit}
-use Rattle.quic_header_decode.proofs.Made.{fixed_set, initial_head, long_head, retry_head, short_head, negotiation_head}
+use Rattle.quic_header_decode.proofs.Made.{fixed_set, initial_header, long_header, retry_header, short_header, negotiation_header}
 use Rattle.quic_header_decode.proofs.laws.written.Goals as goal
 
 size_bounds : (number : PacketNumber) → (1 ≤ number_size number) × (number_size number ≤ 4)
@@ -23,9 +23,9 @@ size_bounds (U16 x) = (omega arith, omega arith)
 size_bounds (U24 x) = (omega arith, omega arith)
 size_bounds (U32 x) = (omega arith, omega arith)
 
--- ---- the first bytes of long heads
+-- ---- the first bytes of long headers
 
--- the types of long heads, of version 2 or another
+-- the types of long headers, of version 2 or another
 abbrev table : Bool → List LongHeaderType
 table second =
     cond second (kind.Retry ∷ kind.Initial ∷ kind.Standard ZeroRtt ∷ kind.Standard Handshake ∷ [])
@@ -72,7 +72,7 @@ returns-clause-initial c = λ context whole start n h len rest range known dst_l
     let text : ((front ++ (count ++ h.token)) ++ (len ++ number_bytes h.number)) ++ rest ≡ front ++ (count ++ (h.token ++ (len ++ behind))) =
     apart (front ++ (count ++ h.token)) len (number_bytes h.number) rest ∙ append_assoc front (count ++ h.token) (len ++ behind)
     ∙ ap (λ (xs : List ℕ). front ++ xs) (append_assoc count h.token (len ++ behind)) in
-    initial_head context whole (((front ++ (count ++ h.token)) ++ (len ++ number_bytes h.number)) ++ rest) first count h.token len behind
+    initial_header context whole (((front ++ (count ++ h.token)) ++ (len ++ number_bytes h.number)) ++ rest) first count h.token len behind
     (record { dst_cid = h.dst_cid; src_cid = h.src_cid; token_pos = record { start = start; end = start + length h.token }; len = n; version = h.version })
     (record { long = byte.long; fixed = fixed_set context first byte.fixed; range = range; dst_len = dst_len; src_len = src_len; text = text })
     known byte.is (law.shortest_encodes (length h.token) token_fits) encoded place refl
@@ -84,7 +84,7 @@ returns-clause-long c = λ context whole n version ty dst src len rest number ra
     let first : ℕ = long_first version (kind.Standard ty) size in
     let byte = long_byte version first (size - 1) (kind.Standard ty) (omega (arith, bounds.0, bounds.1)) refl in
     let front : List ℕ = long_front first version dst src in
-    long_head context whole ((front ++ (len ++ number_bytes number)) ++ rest) first version dst src len (number_bytes number ++ rest) ty n
+    long_header context whole ((front ++ (len ++ number_bytes number)) ++ rest) first version dst src len (number_bytes number ++ rest) ty n
     (record { long = byte.long; fixed = fixed_set context first byte.fixed; range = range; dst_len = dst_len; src_len = src_len; text = apart front len (number_bytes number) rest })
     known byte.is encoded
 
@@ -92,15 +92,15 @@ pub returns-clause-retry : goal.returns-clause-retry
 returns-clause-retry c = λ context whole version dst src rest range known dst_len src_len.
     let first : ℕ = first_byte version kind.Retry in
     let byte = long_byte version first 0 kind.Retry (omega arith) (omega arith) in
-    retry_head context whole (long_front first version dst src ++ rest) first version dst src rest
+    retry_header context whole (long_front first version dst src ++ rest) first version dst src rest
     (record { long = byte.long; fixed = fixed_set context first byte.fixed; range = range; dst_len = dst_len; src_len = src_len; text = refl }) known byte.is
 
 pub returns-clause-negotiation : goal.returns-clause-negotiation
 returns-clause-negotiation c = λ context whole random dst src rest free fixed dst_len src_len.
-    negotiation_head context whole (long_front (bit_or 128 random) 0 dst src ++ rest) random dst src rest
+    negotiation_header context whole (long_front (bit_or 128 random) 0 dst src ++ rest) random dst src rest
     (record { long = omega arith; fixed = fixed; range = omega arith; dst_len = dst_len; src_len = src_len; text = ap (λ (n : ℕ). long_front n 0 dst src ++ rest) (or_shifted 1 7 random free) })
 
--- ---- short heads
+-- ---- short headers
 
 abbrev short_first : Bool → Bool → ℕ → ℕ
 short_first spin key_phase low = 64 + bit spin 32 + bit key_phase 4 + low
@@ -128,5 +128,5 @@ returns-clause-short c = λ context whole spin key_phase dst rest number parsed.
     let low : ℕ = number_size number - 1 in
     let first : ℕ = short_first spin key_phase low in
     let byte = short_byte spin key_phase low (omega (arith, bounds.0, bounds.1)) in
-    short_head context whole (((first ∷ dst) ++ number_bytes number) ++ rest) first spin dst dst (number_bytes number ++ rest) byte.short (fixed_set context first byte.fixed)
+    short_header context whole (((first ∷ dst) ++ number_bytes number) ++ rest) first spin dst dst (number_bytes number ++ rest) byte.short (fixed_set context first byte.fixed)
     (append_assoc (first ∷ dst) (number_bytes number) rest) parsed byte.spins

@@ -1,4 +1,4 @@
--- The head stays that was laid behind what stood, and what is behind it goes.
+-- The header stays that was laid behind what stood, and what is behind it goes.
 use Rattle.std.proofs.Common.{ℕ, List, ◌≡◌, ◌≤◌, ◌+◌, length, rules, ◌∙◌}
 use Rattle.quic_header_encode.proofs.Lays.{laid_behind}
 use Rattle.quic_header_encode.proofs.encode.put.Goals as goal

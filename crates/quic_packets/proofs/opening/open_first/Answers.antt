@@ -30,8 +30,8 @@ returns-in-Err-open_part-clause-refused g c =
     let part = c.in-Ok.parts.0 in
     inr (
       part.head,
-      part.head_end,
+      part.header_end,
       length part.bytes,
-      cut_given context c.args.bytes.items (part.head, part.head_end, length part.bytes) c.in-Ok.ensures.answer.some,
-      subst (λ (xs : List ℕ). PartRefuses seal expected part.head part.head_end xs c.in-Err-open_part.e) c.in-Ok.ensures.packet c.in-Err-open_part.ensures.refused,
+      cut_given context c.args.bytes.items (part.head, part.header_end, length part.bytes) c.in-Ok.ensures.answer.some,
+      subst (λ (xs : List ℕ). PartRefuses seal expected part.head part.header_end xs c.in-Err-open_part.e) c.in-Ok.ensures.packet c.in-Err-open_part.ensures.refused,
     )

@@ -46,9 +46,9 @@ pub returns-in-None-clause-ok : goal.returns-in-None-clause-ok
 returns-in-None-clause-ok g c =
     let q : ℕ = length c.in-Ok.packet.bytes in
     let left : List ℕ = c.loop-left.left.items in
-    let cut : Cut (with_ids_of c.new-parser.result.expected_len) left c.in-Ok.packet.head c.in-Ok.packet.head_end q = cut_given (with_ids_of c.new-parser.result.expected_len) left _ _ q c.in-Ok.ensures.answer.some in
+    let cut : Cut (with_ids_of c.new-parser.result.expected_len) left c.in-Ok.packet.head c.in-Ok.packet.header_end q = cut_given (with_ids_of c.new-parser.result.expected_len) left _ _ q c.in-Ok.ensures.answer.some in
     let none : drop q left ≡ [] = rw c.in-None.is at c.in-Ok.ensures.rest in
-    text_last (with_ids_of c.new-parser.result.expected_len) c.loop-left.start (c.loop-left.start + c.len.result) q c.in-Ok.packet.head_end left (string_bytes c.pass_on_pieces.new.text) (string_bytes c.print_packet.new.text)
+    text_last (with_ids_of c.new-parser.result.expected_len) c.loop-left.start (c.loop-left.start + c.len.result) q c.in-Ok.packet.header_end left (string_bytes c.pass_on_pieces.new.text) (string_bytes c.print_packet.new.text)
     (λ waits. AppendsAllBut (g.W.Sink.taken c.args.sink.now) (g.W.Sink.taken c.pass_on_pieces.new.sink) waits (string_bytes c.args.text.now ++ flat_map shown (datagram_lines (count c.args.id_len) c.args.datagram.now)))
     c.in-Ok.packet.head cut none (ap (λ (n : ℕ). c.loop-left.start + n) c.len.ensures) (rw c.header.ensures at c.in_ok-print_packet-in-Ok.ensures)
     (waits_less c.new-parser.result.expected_len c.loop-left.start c.loop-left.left.items _ _ _ (string_bytes c.loop-left.text) _ _ c.loop-left.invariant.passed c.in_ok-pass_on_pieces.ensures.ok)
@@ -57,25 +57,25 @@ pub returns-in-None-clause-clean : goal.returns-in-None-clause-clean
 returns-in-None-clause-clean g c =
     let q : ℕ = length c.in-Ok.packet.bytes in
     let left : List ℕ = c.loop-left.left.items in
-    let cut : Cut (with_ids_of c.new-parser.result.expected_len) left c.in-Ok.packet.head c.in-Ok.packet.head_end q = cut_given (with_ids_of c.new-parser.result.expected_len) left _ _ q c.in-Ok.ensures.answer.some in
+    let cut : Cut (with_ids_of c.new-parser.result.expected_len) left c.in-Ok.packet.head c.in-Ok.packet.header_end q = cut_given (with_ids_of c.new-parser.result.expected_len) left _ _ q c.in-Ok.ensures.answer.some in
     let none : drop q left ≡ [] = rw c.in-None.is at c.in-Ok.ensures.rest in
-    clean_last (with_ids_of c.new-parser.result.expected_len) c.loop-left.start q c.in-Ok.packet.head_end left (datagram_lines (count c.args.id_len) c.args.datagram.now) c.in-Ok.packet.head cut none c.loop-left.invariant.clean
+    clean_last (with_ids_of c.new-parser.result.expected_len) c.loop-left.start q c.in-Ok.packet.header_end left (datagram_lines (count c.args.id_len) c.args.datagram.now) c.in-Ok.packet.head cut none c.loop-left.invariant.clean
 
 pub loop-left-preserved : goal.loop-left-preserved
 loop-left-preserved g c =
     let q : ℕ = length c.in-Ok.packet.bytes in
     let left : List ℕ = c.loop-left.left.items in
-    let cut : Cut (with_ids_of c.new-parser.result.expected_len) left c.in-Ok.packet.head c.in-Ok.packet.head_end q = cut_given (with_ids_of c.new-parser.result.expected_len) left _ _ q c.in-Ok.ensures.answer.some in
+    let cut : Cut (with_ids_of c.new-parser.result.expected_len) left c.in-Ok.packet.head c.in-Ok.packet.header_end q = cut_given (with_ids_of c.new-parser.result.expected_len) left _ _ q c.in-Ok.ensures.answer.some in
     let stop : ℕ = c.loop-left.start + c.len.result in
     let rest : (c.in-Some.rest.items ≡ drop q left) × (0 < length (drop q left)) = rw c.in-Some.is at c.in-Ok.ensures.rest in
     let lt : q < length left = omega (arith, rest.1, length-drop q left) in
     let at : stop ≡ c.loop-left.start + q = ap (λ (n : ℕ). c.loop-left.start + n) c.len.ensures in
     record {
-      passed = text_more (with_ids_of c.new-parser.result.expected_len) c.loop-left.start stop q c.in-Ok.packet.head_end left c.in-Some.rest.items (string_bytes c.pass_on_pieces.new.text) (string_bytes c.print_packet.new.text)
+      passed = text_more (with_ids_of c.new-parser.result.expected_len) c.loop-left.start stop q c.in-Ok.packet.header_end left c.in-Some.rest.items (string_bytes c.pass_on_pieces.new.text) (string_bytes c.print_packet.new.text)
           (λ waits. AppendsAllBut (g.W.Sink.taken c.args.sink.now) (g.W.Sink.taken c.pass_on_pieces.new.sink) waits (string_bytes c.args.text.now ++ flat_map shown (datagram_lines (count c.args.id_len) c.args.datagram.now)))
           c.in-Ok.packet.head cut lt rest.0 at (rw c.header.ensures at c.in_ok-print_packet-in-Ok.ensures)
           (waits_less c.new-parser.result.expected_len c.loop-left.start c.loop-left.left.items _ _ _ (string_bytes c.loop-left.text) _ _ c.loop-left.invariant.passed c.in_ok-pass_on_pieces.ensures.ok);
-      clean = clean_more (with_ids_of c.new-parser.result.expected_len) c.loop-left.start stop q c.in-Ok.packet.head_end left c.in-Some.rest.items (datagram_lines (count c.args.id_len) c.args.datagram.now) c.in-Ok.packet.head cut lt rest.0 at c.loop-left.invariant.clean;
+      clean = clean_more (with_ids_of c.new-parser.result.expected_len) c.loop-left.start stop q c.in-Ok.packet.header_end left c.in-Some.rest.items (datagram_lines (count c.args.id_len) c.args.datagram.now) c.in-Ok.packet.head cut lt rest.0 at c.loop-left.invariant.clean;
       within = omega (arith, ap length rest.0, length-drop q left, c.loop-left.invariant.within, at, lt);
       fits = rest_fits q left c.in-Some.rest.items rest.0 c.loop-left.invariant.fits;
       failed = c.in_ok-pass_on_pieces.ensures.failed ∙ or-false _ ∙ c.loop-left.invariant.failed;

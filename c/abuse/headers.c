@@ -1,0 +1,148 @@
+/* Headers of packets that are read, and their protection. */
+#include "abuse.h"
+
+static void protection_nulls(void) {
+  uint8_t id[4] = {1, 2, 3, 4}, out[16];
+  uint64_t number = 77;
+  WANT(quic_wire_unprotect(NULL, 4, 0, id, 0, &number) == INVALID);
+  WANT(quic_wire_unprotect(out, 4, 0, NULL, 0, &number) == INVALID);
+  WANT(quic_wire_unprotect(out, 4, 0, id, 0, NULL) == INVALID);
+  WANT(quic_wire_unprotect_header(NULL, 4, 0, id, 0, out, 16, &number) == INVALID);
+  WANT(quic_wire_unprotect_header(id, 4, 0, NULL, 0, out, 16, &number) == INVALID);
+  WANT(quic_wire_unprotect_header(id, 4, 0, id, 0, NULL, 16, &number) == INVALID);
+  WANT(quic_wire_unprotect_header(id, 4, 0, id, 0, out, 16, NULL) == INVALID);
+  WANT(quic_wire_protect(NULL, 4, 0, id) == INVALID);
+  WANT(quic_wire_protect(out, 4, 0, NULL) == INVALID);
+  WANT(quic_wire_set_len(NULL, 4, 2, 2) == INVALID && number == 77);
+}
+
+void headers_nulls(void) {
+  static const uint32_t one[] = {1};
+  quic_wire_header head;
+  uint8_t id[4] = {1, 2, 3, 4};
+  WANT(quic_wire_header_read(NULL, 1, 0, one, 1, &head) == INVALID);
+  WANT(quic_wire_header_read(id, 4, 0, NULL, 1, &head) == INVALID);
+  WANT(quic_wire_header_read(id, 4, 0, one, 1, NULL) == INVALID);
+  WANT(quic_wire_header_read(id, 4, 21, one, 1, &head) == INVALID);
+  WANT(quic_wire_header_read(id, 0, 0, NULL, 0, &head) ==
+       QUIC_WIRE_PACKET_UNEXPECTED_END);
+  WANT(!quic_wire_dcid(NULL, &head) && !quic_wire_dcid(id, NULL));
+  WANT(!quic_wire_scid(NULL, &head) && !quic_wire_scid(id, NULL));
+  WANT(!quic_wire_sample(NULL, 40, 0, 16) && !quic_wire_sample(id, 4, 5, 0));
+  WANT(quic_wire_short_read(NULL, 5, 4) == 0);
+  protection_nulls();
+}
+
+/* Lengths of two and of four bytes on both sides of 2^14. */
+void long_lengths(void) {
+  static uint8_t packet[(1 << 14) + 4];
+  WANT(quic_wire_set_len(packet, sizeof packet, 4, 2) == INVALID);
+  WANT(quic_wire_set_len(packet, sizeof packet - 1, 4, 2) == 0);
+  WANT(!memcmp(packet, "\0\0\x7f\xff", 5));
+  WANT(quic_wire_set_len(packet, sizeof packet, 4, 4) == 0);
+  WANT(!memcmp(packet, "\x80\0\x40\0", 5));
+}
+
+/* What was told of a packet lies within it. */
+static void header_within(const uint8_t *packet, size_t left,
+                        const quic_wire_header *head) {
+  const uint8_t *sample;
+  WANT(head->header_end && head->header_end <= head->end && head->end <= left);
+  WANT(quic_wire_dcid(packet, head) + head->dcidlen <=
+       packet + head->header_end);
+  WANT(head->kind == QUIC_WIRE_1RTT ||
+       quic_wire_scid(packet, head) + head->scidlen <=
+           packet + head->header_end);
+  WANT(head->token + head->tokenlen <= head->header_end);
+  sample = quic_wire_sample(packet, head->end, head->header_end, 16);
+  WANT(!sample || sample + 16 <= packet + head->end);
+}
+
+/* Reads any bytes as packets, and takes protection off any of them: in place, and
+ * in a copy of the head. */
+void packet_rubbish(uint8_t *datagram, size_t len) {
+  static const uint32_t versions[] = {1, 0x6b3343cf};
+  uint8_t mask[5], copy[40];
+  quic_wire_header head;
+  uint64_t number = 0, expected = edge() >> 2, again = 0;
+  size_t begin = 0, at;
+  uint32_t cidlen = (uint32_t)(any() % 22);
+  int answer = 0;
+  if (len > 4 && any() % 2) { /* a version that is known */
+    memcpy(datagram + 1, any() % 2 ? "\0\0\0\1" : "\x6b\x33\x43\xcf", 4);
+    datagram[0] |= 0xc0;
+  }
+  any_bytes(mask, 5);
+  for (; begin < len; begin += head.end) {
+    uint8_t *packet = datagram + begin;
+    answer = quic_wire_header_read(packet, len - begin, cidlen, versions, 2, &head);
+    if (cidlen > 20)
+      WANT(answer == INVALID);
+    WANT(quic_wire_short_read(packet, len - begin, cidlen) ==
+         (answer == 0 && head.kind == QUIC_WIRE_1RTT ? head.header_end : 0));
+    if (answer != 0 && answer != QUIC_WIRE_PACKET_LENGTH_BEYOND_END)
+      break;
+    header_within(packet, len - begin, &head);
+    answer = quic_wire_unprotect_header(packet, head.end, head.header_end, mask,
+                                      expected, copy, sizeof copy, &again);
+    WANT(answer == quic_wire_unprotect(packet, head.end, head.header_end, mask,
+                                       expected, &number));
+    WANT(answer >= 1 ? answer <= 4 && number == again
+                     : answer == INVALID || answer == QUIC_WIRE_ERR_MALFORMED);
+  }
+  at = place();
+  answer = quic_wire_unprotect(datagram, len, at, mask, edge(), &number);
+  WANT(answer == INVALID || (answer >= 1 ? at + 4 <= len
+                                         : answer == QUIC_WIRE_ERR_MALFORMED));
+}
+
+/* Any place to put protection on. */
+void protect_rubbish(uint8_t *datagram, size_t len) {
+  const size_t at = place();
+  uint8_t before[40], mask[5];
+  size_t k;
+  int answer;
+  any_bytes(mask, 5);
+  memcpy(before, datagram, len);
+  answer = quic_wire_protect(datagram, len, at, mask);
+  WANT(answer == QUIC_WIRE_ERR_MALFORMED ||
+       (answer >= 1 && answer <= 4 && at + 4 <= len));
+  for (k = 0; k < len; k++)
+    WANT(datagram[k] == before[k] ||
+         (answer > 0 && (k == 0 || (k >= at && k < at + 4))));
+}
+
+/* A header of any bytes is opened in a copy where that has room, and a length is
+ * set where it fits. */
+void place_any(uint8_t *packet, size_t len) {
+  static const uint8_t mask[5] = {0xff, 1, 2, 3, 4};
+  const size_t at = place(), headerlen = any() % 40;
+  const uint32_t lengthlen = (uint32_t)(any() % 6);
+  uint8_t before[40], head[40];
+  uint64_t number = 77;
+  size_t k;
+  int answer;
+  memcpy(before, packet, len);
+  memset(head, 0xa5, sizeof head);
+  answer = quic_wire_unprotect_header(packet, len, at, mask, 0, head, headerlen,
+                                    &number);
+  if (len < 4 || at > len - 4)
+    WANT(answer == QUIC_WIRE_ERR_MALFORMED);
+  else if (headerlen < at + 4)
+    WANT(answer == QUIC_WIRE_ERR_NOBUF);
+  else
+    WANT(at ? answer >= 1 && answer <= 4 : answer == QUIC_WIRE_ERR_MALFORMED);
+  for (k = headerlen; k < sizeof head; k++)
+    WANT(head[k] == 0xa5);
+  WANT((answer > 0 || number == 77) && !memcmp(packet, before, len));
+  answer = quic_wire_set_len(packet, len, at, lengthlen);
+  if ((lengthlen == 2 || lengthlen == 4) && lengthlen <= at && at <= len) {
+    WANT(answer == 0);
+    WANT(quic_wire_varint_read(packet + at - lengthlen, lengthlen, &number) ==
+             lengthlen && number == len - at);
+    memcpy(packet + at - lengthlen, before + at - lengthlen, lengthlen);
+  } else {
+    WANT(answer == INVALID);
+  }
+  WANT(!memcmp(packet, before, len));
+}

@@ -1,0 +1,119 @@
+-- The header of a frame, and its data behind it.
+use Rattle.std.proofs.Common.{◌≡◌, ℕ, ◌<◌, ◌^◌, List, [], ◌∷◌, ◌++◌, length, Bool, true, false, None, Some, refl, sym, ap, subst, ◌∙◌, inl, inr, arith}
+use Rattle.std.specs.Prelude.{◌==◌, ◌||◌, ◌⊎◌, if◌then◌else◌}
+use Rattle.quic_base.specs.declared.ids.Dir.TheVariants as dirs
+use Rattle.quic_frame_fields.specs.declared.frame.close.Close.TheVariants as closes
+use Rattle.quic_frame_fields.specs.Numbers.{AreNumeric}
+use Rattle.quic_frame_fields.specs.Shortest.{shortest_frame, stream_header}
+use Rattle.quic_frame_fields.proofs.Encoding.{crypto_parts, datagram_counted, datagram_open}
+use Rattle.quic_frame_fields.proofs.StreamParts.{stream_parts}
+use Rattle.quic_frames.specs.declared.frame.Frame.{Frame}
+use Rattle.quic_frames.specs.declared.frame.Frame.TheVariants as frames
+use Rattle.quic_frame_fields.specs.declared.frame.Datagram.{Datagram}
+use Rattle.quic_frames.specs.Meaning.{meaning_of}
+use Rattle.quic_c.specs.declared.words.FrameWords.{FrameWords}
+use Rattle.quic_c.specs.Shown.{data_of}
+use Rattle.quic_c.specs.Written.{CanWrite}
+use Rattle.quic_c.specs.Headers.{IsHeaded, HasHeader, AreTwo, IsCounted, first_in, second_in, header_by, header_bytes}
+
+zero_fits : 0 < 2 ^ 62
+zero_fits = omega arith
+
+abbrev is_headed : ℕ → Bool
+is_headed kind = kind == 0x06 || kind == 0x08 || kind == 0x30
+
+headed : (kind : ℕ) → IsHeaded kind → is_headed kind ≡ true
+headed kind (inl e) = rw e refl
+headed kind (inr (inl e)) = rw e refl
+headed kind (inr (inr e)) = rw e refl
+
+never : (kind other : ℕ) → IsHeaded kind → kind ≡ other → is_headed other ≡ false → ⊥
+never kind other h e apart =
+    let yes : is_headed other ≡ true = ap is_headed (sym e) ∙ headed kind h in
+    let same : ◌≡◌ {A = Bool} true false = sym yes ∙ apart in
+    cc
+
+-- what the law says of a frame
+abbrev IsCut : FrameWords → Bool → Frame → Type 0
+IsCut words last frame = HasHeader words last × (shortest_frame last (meaning_of frame) ≡ header_bytes words last ++ data_of frame)
+
+fin_is : (fin : Bool) → ◌≡◌ {A = Bool} ((if fin then 1 else 0) == 1) fin
+fin_is true = refl
+fin_is false = refl
+
+fin_flag : (fin : Bool) (kind flags : ℕ) → kind ≡ 0x08 → flags ≡ (if fin then 1 else 0) → flags ≡ 0 ⊎ (kind ≡ 0x08) × (flags ≡ 1)
+fin_flag true kind flags k e = inr (k, e)
+fin_flag false kind flags k e = inl e
+
+inner_of : (kind : ℕ) (last : Bool) → IsCounted kind last → (kind ≡ 0x06 → ⊥) → last ≡ false
+inner_of kind last (inl e) other = absurd (other e)
+inner_of kind last (inr e) other = e
+
+datagram_parts : (last : Bool) (d : Datagram) → shortest_frame last (meaning_of (frames.Datagram d)) ≡ header_by 0x30 0 (0 ∷ 0 ∷ 0 ∷ 0 ∷ 0 ∷ []) (length d.bytes.now) last ++ d.bytes.now
+datagram_parts true d = datagram_open d.bytes.now
+datagram_parts false d = datagram_counted d.bytes.now
+
+pub header_and : (words : FrameWords) (bytes : List ℕ) (last : Bool) (frame : Frame) → IsHeaded words.kind → CanWrite words bytes last frame → IsCut words last frame
+header_and words bytes last (frames.Crypto x) h can =
+    let s = can.said in
+    let same : header_bytes words last ≡ header_by 0x06 0 (0 ∷ x.offset ∷ 0 ∷ 0 ∷ 0 ∷ []) (length x.bytes.now) last = rw (s.kind, s.numbers, s.count) refl in
+    let has : HasHeader words last = record {
+      kind = h;
+      two = subst AreTwo (sym s.numbers) (refl, refl, refl);
+      numeric = subst AreNumeric (sym s.numbers) (zero_fits, (can.stands.in_range.0, (zero_fits, (zero_fits, (zero_fits, tt)))));
+      counted = λ _. subst (λ (n : ℕ). n < 2 ^ 62) (sym s.count) can.stands.in_range.1.0;
+      id = inr (ap first_in s.numbers);
+      offset = λ e. absurd (omega (arith, e, s.kind));
+      flags = inl s.flags;
+    } in
+    (has, crypto_parts last x.offset x.bytes.now ∙ ap (λ (l : List ℕ). l ++ x.bytes.now) (sym same))
+header_and words bytes last (frames.Stream x) h can =
+    let s = can.said in
+    let fin : ◌≡◌ {A = Bool} (words.flags == 1) x.fin = ap (λ (n : ℕ). n == 1) s.flags ∙ fin_is x.fin in
+    let same : header_bytes words last ≡ stream_header x.id x.offset x.fin (if last then None else Some (length x.bytes.now)) = rw (fin, s.kind, s.numbers, s.count) refl in
+    let has : HasHeader words last = record {
+      kind = h;
+      two = subst AreTwo (sym s.numbers) (refl, refl, refl);
+      numeric = subst AreNumeric (sym s.numbers) (can.typed, (can.stands.in_range, (zero_fits, (zero_fits, (zero_fits, tt)))));
+      counted = λ c. subst (λ (n : ℕ). n < 2 ^ 62) (sym s.count) (can.stands.counted (inner_of words.kind last c (λ e. absurd (omega (arith, e, s.kind)))));
+      id = inl s.kind;
+      offset = λ e. absurd (omega (arith, e, s.kind));
+      flags = fin_flag x.fin words.kind words.flags s.kind s.flags;
+    } in
+    (has, sym (stream_parts last x.fin x.id x.offset x.bytes.now) ∙ ap (λ (l : List ℕ). l ++ x.bytes.now) (sym same))
+header_and words bytes last (frames.Datagram x) h can =
+    let s = can.said in
+    let same : header_bytes words last ≡ header_by 0x30 0 (0 ∷ 0 ∷ 0 ∷ 0 ∷ 0 ∷ []) (length x.bytes.now) last = rw (s.kind, s.count) refl in
+    let has : HasHeader words last = record {
+      kind = h;
+      two = subst AreTwo (sym s.numbers) (refl, refl, refl);
+      numeric = subst AreNumeric (sym s.numbers) (zero_fits, (zero_fits, (zero_fits, (zero_fits, (zero_fits, tt)))));
+      counted = λ c. subst (λ (n : ℕ). n < 2 ^ 62) (sym s.count) (can.stands.counted (inner_of words.kind last c (λ e. absurd (omega (arith, e, s.kind)))));
+      id = inr (ap first_in s.numbers);
+      offset = λ e. ap second_in s.numbers;
+      flags = inl s.flags;
+    } in
+    (has, datagram_parts last x ∙ ap (λ (l : List ℕ). l ++ x.bytes.now) (sym same))
+header_and words bytes last frames.Padding h can = absurd (never words.kind 0x00 h can.said.kind refl)
+header_and words bytes last frames.Ping h can = absurd (never words.kind 0x01 h can.said.kind refl)
+header_and words bytes last (frames.Ack a) h can = absurd (never words.kind 0x02 h can.said.kind refl)
+header_and words bytes last (frames.ResetStream r) h can = absurd (never words.kind 0x04 h can.said.kind refl)
+header_and words bytes last (frames.StopSending x) h can = absurd (never words.kind 0x05 h can.said.kind refl)
+header_and words bytes last (frames.NewToken t) h can = absurd (never words.kind 0x07 h can.said.kind refl)
+header_and words bytes last (frames.MaxData n) h can = absurd (never words.kind 0x10 h can.said.kind refl)
+header_and words bytes last (frames.MaxStreamData id offset) h can = absurd (never words.kind 0x11 h can.said.kind refl)
+header_and words bytes last (frames.MaxStreams dirs.Bi count) h can = absurd (never words.kind 0x12 h can.said.kind refl)
+header_and words bytes last (frames.MaxStreams dirs.Uni count) h can = absurd (never words.kind 0x13 h can.said.kind refl)
+header_and words bytes last (frames.DataBlocked offset) h can = absurd (never words.kind 0x14 h can.said.kind refl)
+header_and words bytes last (frames.StreamDataBlocked id offset) h can = absurd (never words.kind 0x15 h can.said.kind refl)
+header_and words bytes last (frames.StreamsBlocked dirs.Bi limit) h can = absurd (never words.kind 0x16 h can.said.kind refl)
+header_and words bytes last (frames.StreamsBlocked dirs.Uni limit) h can = absurd (never words.kind 0x17 h can.said.kind refl)
+header_and words bytes last (frames.NewConnectionId n) h can = absurd (never words.kind 0x18 h can.said.kind refl)
+header_and words bytes last (frames.RetireConnectionId sequence) h can = absurd (never words.kind 0x19 h can.said.kind refl)
+header_and words bytes last (frames.PathChallenge n) h can = absurd (never words.kind 0x1a h can.said.kind refl)
+header_and words bytes last (frames.PathResponse n) h can = absurd (never words.kind 0x1b h can.said.kind refl)
+header_and words bytes last (frames.Close (closes.Connection x)) h can = absurd (never words.kind 0x1c h can.said.kind refl)
+header_and words bytes last (frames.Close (closes.Application x)) h can = absurd (never words.kind 0x1d h can.said.kind refl)
+header_and words bytes last (frames.AckFrequency f) h can = absurd (never words.kind 0xaf h can.said.kind refl)
+header_and words bytes last frames.ImmediateAck h can = absurd (never words.kind 0x1f h can.said.kind refl)
+header_and words bytes last frames.HandshakeDone h can = absurd (never words.kind 0x1e h can.said.kind refl)

@@ -1,0 +1,60 @@
+-- The bytes of a frame up to its data.
+use Rattle.std.specs.Prelude.{◌≡◌, ℕ, ◌<◌, ◌^◌, ◌==◌, ◌⊎◌, List, [], ◌∷◌, ◌++◌, length, drop, Bool, false, None, Some, if◌then◌else◌}
+use Rattle.quic_frame_fields.specs.Numbers.{AreNumeric, all_short}
+use Rattle.quic_frame_fields.specs.Shortest.{stream_header}
+use Rattle.quic_c.specs.declared.words.FrameWords.{FrameWords}
+
+-- CRYPTO, STREAM and DATAGRAM
+abbrev pub IsHeaded : ℕ → Type 0
+IsHeaded kind = (kind ≡ 0x06) ⊎ (kind ≡ 0x08) ⊎ (kind ≡ 0x30)
+
+-- the length of the data is written: always of a CRYPTO, else where the frame isn't the last
+abbrev pub IsCounted : ℕ → Bool → Type 0
+IsCounted kind last = (kind ≡ 0x06) ⊎ (last ≡ false)
+
+-- Of the five numbers the first, the id of a STREAM, and the second, the offset of a STREAM or CRYPTO, may be other
+-- than 0.
+abbrev pub AreTwo : List ℕ → Type 0
+AreTwo (a ∷ b ∷ c ∷ d ∷ e ∷ []) = (c ≡ 0) × (d ≡ 0) × (e ≡ 0)
+AreTwo numbers = ⊥
+
+abbrev pub first_in : List ℕ → ℕ
+first_in (a ∷ numbers) = a
+first_in numbers = 0
+
+abbrev pub second_in : List ℕ → ℕ
+second_in (a ∷ b ∷ numbers) = b
+second_in numbers = 0
+
+-- The words say such a frame, which can be written as the last of its payload or not; where its data stand isn't
+-- looked at.
+pub record HasHeader (words : FrameWords) (last : Bool) : Type 0 where
+  pub kind : IsHeaded words.kind
+  pub two : AreTwo words.numbers
+  pub numeric : AreNumeric words.numbers
+  pub counted : IsCounted words.kind last → words.data_len < 2 ^ 62
+  pub id : words.kind ≡ 0x08 ⊎ first_in words.numbers ≡ 0
+  pub offset : words.kind ≡ 0x30 → second_in words.numbers ≡ 0
+  pub flags : words.flags ≡ 0 ⊎ (words.kind ≡ 0x08) × (words.flags ≡ 1)
+
+-- its shortest encoding up to its data
+abbrev pub header_by : (kind flags : ℕ) (numbers : List ℕ) (len : ℕ) (last : Bool) → List ℕ
+header_by kind flags numbers len last =
+    if kind == 0x06 then all_short (0x06 ∷ second_in numbers ∷ len ∷ [])
+    else if kind == 0x08 then stream_header (first_in numbers) (second_in numbers) (flags == 1) (if last then None else Some len)
+    else if last then all_short (0x30 ∷ []) else all_short (0x31 ∷ len ∷ [])
+
+abbrev pub header_bytes : FrameWords → Bool → List ℕ
+header_bytes words last = header_by words.kind words.flags words.numbers words.data_len last
+
+-- These bytes stand at the front, with what stood behind them, and are counted.
+pub record WroteHeader (words : FrameWords) (last : Bool) (old new : List ℕ) (written : ℕ) : Type 0 where
+  pub can : HasHeader words last
+  pub count : written ≡ length (header_bytes words last)
+  pub front : new ≡ header_bytes words last ++ drop written old
+
+-- There is less room than they need, and how much that is was told.
+pub record HeaderNeedsMore (words : FrameWords) (last : Bool) (old : List ℕ) (needed : ℕ) : Type 0 where
+  pub can : HasHeader words last
+  pub count : needed ≡ length (header_bytes words last)
+  pub full : length old < needed

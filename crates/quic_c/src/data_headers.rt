@@ -1,0 +1,131 @@
+//! The headers of STREAM, CRYPTO and DATAGRAM frames, whose data the caller puts behind them.
+ghost use Rattle.std.specs.Prelude.{◌≡◌, ◌⊎◌, ◌↔◌, ◌<◌, ◌≤◌, ◌^◌, ◌++◌, List, ℕ, Bool, pos, negsuc, length, IsTrue, IfSome};
+ghost use Rattle.quic_frame_fields.specs.Numbers.{AreNumeric, all_short};
+ghost use Rattle.quic_frame_fields.specs.Putting.{Puts};
+ghost use Rattle.quic_frame_fields.specs.Shortest.{shortest_frame, stream_header};
+ghost use Rattle.quic_frames.specs.declared.frame.Frame.{Frame};
+ghost use Rattle.quic_frames.specs.Meaning.{meaning_of};
+ghost use Rattle.quic_c.specs.Headers.{IsHeaded, HasHeader, WroteHeader, HeaderNeedsMore, header_bytes};
+ghost use Rattle.quic_c.specs.Shown.{data_of};
+ghost use Rattle.quic_c.specs.Written.{CanWrite, flag_of};
+ghost use Rattle.quic_c.specs.declared.words.FrameWords.{FrameWords};
+
+use crate::ack_gaps::lay;
+use crate::words::FrameWords;
+use quic_errors::frame_type::FrameType;
+use quic_frame_fields::frame::put;
+
+// Whether the words say a frame that has a head.
+fn has_header(words: &FrameWords, last: bool) -> bool
+    ensures { IsTrue result ↔ HasHeader words.now last }
+{
+    let (flags, len) = (words.flags, words.data_len as u64);
+    let [id, offset, c, d, e] = words.numbers;
+    if id >= 1 << 62 || offset >= 1 << 62 || c != 0 || d != 0 || e != 0 {
+        return false;
+    }
+    let is_short = len < 1 << 62;
+    match words.kind {
+        0x06 => id == 0 && flags == 0 && is_short,
+        0x08 => flags <= 1 && (last || is_short),
+        0x30 => id == 0 && offset == 0 && flags == 0 && (last || is_short),
+        _ => false,
+    }
+}
+
+// Puts at most five numbers in their shortest encodings at the front. Where there is room for five of the longest they
+// are laid there one by one; else they are put together first, and the room is looked at then.
+#[inline(always)]
+fn put_numbers(dest: &mut [u8], numbers: &[u64]) -> Result<usize, usize>
+    requires few { length numbers.now ≤ 5 }
+    requires numeric { AreNumeric numbers.now }
+    ensures { Puts result (all_short numbers.now) dest.old dest.new }
+{
+    if dest.len() < 40 {
+        return put::numbers(dest, numbers);
+    }
+    let mut at = 0;
+    for number in numbers {
+        at = lay(dest, at, *number);
+    }
+    Ok(at)
+}
+
+// Lays the header of a STREAM at the front, with the length of its data where that is given.
+fn put_stream(
+    id: u64,
+    offset: u64,
+    fin: bool,
+    counted: Option<u64>,
+    dest: &mut [u8],
+) -> Result<usize, usize>
+    requires id { id < 2 ^ 62 }
+    requires offset { offset < 2 ^ 62 }
+    requires counted { IfSome counted (λ n. n < 2 ^ 62) }
+    ensures { Puts result (stream_header id offset fin counted) dest.old dest.new }
+{
+    let ty = FrameType::of_stream(offset != 0, fin).into_inner();
+    match (offset, counted) {
+        (0, None) => put_numbers(dest, &[ty, id]),
+        (0, Some(length)) => put_numbers(dest, &[ty + 2, id, length]),
+        (_, None) => put_numbers(dest, &[ty, id, offset]),
+        (_, Some(length)) => put_numbers(dest, &[ty + 2, id, offset, length]),
+    }
+}
+
+// Lays the header that the words say at the front.
+fn put_header(words: &FrameWords, last: bool, dest: &mut [u8]) -> Result<usize, usize>
+    requires { HasHeader words.now last }
+    ensures { Puts result (header_bytes words.now last) dest.old dest.new }
+{
+    let len = words.data_len as u64;
+    let [id, offset, ..] = words.numbers;
+    match words.kind {
+        0x06 => put_numbers(dest, &[0x06, offset, len]),
+        0x08 => put_stream(id, offset, words.flags == 1, (!last).then_some(len), dest),
+        _ if last => put_numbers(dest, &[0x30]),
+        _ => put_numbers(dest, &[0x31, len]),
+    }
+}
+
+/// Writes the shortest encoding of a STREAM, CRYPTO or DATAGRAM up to its data at the front of `out`, the last frame
+/// of its payload where `last` isn't 0 (RFC 9000, sections 19.6 and 19.8; RFC 9221, section 4). The words say how
+/// many bytes the data have; where these stand isn't looked at. It answers 0 with how many bytes were written, and
+/// what stood behind them stays; -4 with how many are needed where `out` has fewer; -1 where the words say no such
+/// frame that can be written. `out` changes with 0 alone, and `written` not with -1.
+#[unsafe(no_mangle)]
+pub extern "C" fn quic_wire_frame_header_write_(
+    frame: &FrameWords,
+    last: u32,
+    out: &mut [u8],
+    written: &mut usize,
+) -> i32
+    ensures answers { (result ≡ pos 0) ⊎ (result ≡ negsuc 3) ⊎ (result ≡ negsuc 0) }
+    ensures wrote { result ≡ pos 0 → WroteHeader frame.now (flag_of last) out.old out.new written.new }
+    ensures room { result ≡ negsuc 3 → HeaderNeedsMore frame.now (flag_of last) out.old written.new }
+    ensures refused { (result ≡ negsuc 0) ↔ (HasHeader frame.now (flag_of last) → ⊥) }
+    ensures kept { result ≡ negsuc 0 → written.new ≡ written.old }
+    ensures same { (result ≡ pos 0) ⊎ (out.new ≡ out.old) }
+{
+    let last = last != 0;
+    if !has_header(frame, last) {
+        return -1;
+    }
+    match put_header(frame, last, out) {
+        Ok(n) => {
+            *written = n;
+            0
+        }
+        Err(n) => {
+            *written = n;
+            -4
+        }
+    }
+}
+
+/// A header and then the data are the frame: what can be written whole has a header, and is that with its data behind it.
+pub fn header_and_data()
+    ensures { (words : FrameWords) (bytes : List ℕ) (last : Bool) (frame : Frame) → IsHeaded words.kind
+        → CanWrite words bytes last frame
+        → HasHeader words last × (shortest_frame last (meaning_of frame) ≡ header_bytes words last ++ data_of frame) }
+{}

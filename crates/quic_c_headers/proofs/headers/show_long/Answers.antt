@@ -1,0 +1,21 @@
+-- What was read is told.
+use Rattle.std.proofs.Common.{◌≡◌, ℕ, List, Result, Ok, Err, ap, sym, ◌∙◌}
+use Rattle.std.specs.Prelude.{IfOk, slice_index}
+use Rattle.quic_header_decode.specs.declared.places.HeaderPlaces.{HeaderPlaces}
+use Rattle.quic_header_decode.specs.declared.places.ReadError.{ReadError}
+use Rattle.quic_c_headers.specs.Reading.{HasFirst}
+use Rattle.quic_c_headers.proofs.headers.show_long.Goals as goal
+
+first_of : (read : Result HeaderPlaces ReadError) (first : ℕ) (packet : List ℕ) → IfOk read (λ x. x.first ≡ first) → slice_index packet 0 ≡ first → HasFirst read packet
+first_of (Ok x) first packet is stands = is ∙ sym stands
+first_of (Err e) first packet is stands = tt
+
+pub returns-clause-told : goal.returns-clause-told
+returns-clause-told c = λ id_len. record {
+  read = c.read_long.result;
+  right = c.read_long.ensures.answer id_len;
+  laid = c.read_long.ensures.seen;
+  first = first_of c.read_long.result c.args.first c.args.packet.now c.read_long.ensures.first (ap (λ (p : List ℕ). slice_index p 0) c.requires.begins);
+  answers = c.show.ensures.answer;
+  words = c.show.ensures.words;
+}

@@ -1,0 +1,96 @@
+-- The headers that words say (RFC 9000, section 17).
+use Rattle.std.specs.Prelude.{◌≡◌, ℕ, ◌+◌, ◌-◌, ◌%◌, ◌<◌, ◌≤◌, ◌^◌, ◌⊎◌, Bool, false, List, [], length, replicate, slice_index, Option, None, Some, ◌==◌, if◌then◌else◌}
+use Rattle.quic_crypto.specs.declared.packet_number.PacketNumber.{PacketNumber}
+use Rattle.quic_crypto.specs.declared.packet_number.PacketNumber.TheVariants.{U8, U16, U24, U32}
+use Rattle.quic_crypto.specs.PacketNumbers.{low_part, number_size, window_of}
+use Rattle.quic_header_encode.specs.declared.long_type.LongType.TheVariants.{Handshake, ZeroRtt}
+use Rattle.quic_header_encode.specs.declared.header.Header.{Header}
+use Rattle.quic_header_encode.specs.declared.header.Header.TheVariants as header
+use Rattle.quic_header_encode.specs.Laying.{begun_by, has_bit}
+use Rattle.quic_header_encode.specs.Queries.{dst_in, number_in}
+use Rattle.quic_header_encode.specs.Writing.{bit, header_with, IsWritable}
+use Rattle.quic_c_headers.specs.declared.words.SaidWords.{SaidWords}
+
+-- the part of a number that is written in so many bytes
+abbrev pub part_of : ℕ → ℕ → PacketNumber
+part_of len number =
+    if len == 2 then U16 (number % 2 ^ 16) else if len == 3 then U24 (number % 2 ^ 24) else if len == 4 then U32 (number % 2 ^ 32) else U8 (number % 2 ^ 8)
+
+-- the word of a kind: 0 Initial, 1 0-RTT, 2 Handshake, 3 Retry, 4 1-RTT, 5 version negotiation
+abbrev pub header_word : Header → ℕ
+header_word (header.Initial h) = 0
+header_word (header.Long ZeroRtt dst src number version) = 1
+header_word (header.Long Handshake dst src number version) = 2
+header_word (header.Retry dst src version) = 3
+header_word (header.Short spin key_phase dst number) = 4
+header_word (header.VersionNegotiate random src dst) = 5
+
+-- Of a short header 0x20 is the spin bit and 0x04 the key phase, of a version negotiation the seven low bits stand as they
+-- are, and of the others and of a short header the fixed bit is clear where 0x40 is set (RFC 9287).
+abbrev pub SaysFlags : ℕ → Bool → Header → Type 0
+SaysFlags flags clear (header.Initial h) = clear ≡ has_bit 0x40 flags
+SaysFlags flags clear (header.Long ty dst src number version) = clear ≡ has_bit 0x40 flags
+SaysFlags flags clear (header.Retry dst src version) = clear ≡ has_bit 0x40 flags
+SaysFlags flags clear (header.Short spin key_phase dst number) = (clear ≡ has_bit 0x40 flags) × (spin ≡ has_bit 0x20 flags) × (key_phase ≡ has_bit 0x04 flags)
+SaysFlags flags clear (header.VersionNegotiate random src dst) = (clear ≡ false) × (random ≡ flags % 128)
+
+-- A version that isn't 0, by which a version negotiation is told (RFC 9000, section 17.2.1); short headers and version
+-- negotiations say none.
+abbrev pub SaysVersion : ℕ → Header → Type 0
+SaysVersion version (header.Initial h) = (version ≡ h.version) × (0 < version)
+SaysVersion version (header.Long ty dst src number named) = (version ≡ named) × (0 < version)
+SaysVersion version (header.Retry dst src named) = (version ≡ named) × (0 < version)
+SaysVersion version (header.Short spin key_phase dst number) = Unit {0}
+SaysVersion version (header.VersionNegotiate random src dst) = Unit {0}
+
+-- the sender's id, of at most 20 bytes, which a short header lacks
+abbrev pub SaysSource : List ℕ → Header → Type 0
+SaysSource id (header.Initial h) = (id ≡ h.src_cid) × (length id ≤ 20)
+SaysSource id (header.Long ty dst src number version) = (id ≡ src) × (length id ≤ 20)
+SaysSource id (header.Retry dst src version) = (id ≡ src) × (length id ≤ 20)
+SaysSource id (header.Short spin key_phase dst number) = Unit {0}
+SaysSource id (header.VersionNegotiate random src dst) = (id ≡ src) × (length id ≤ 20)
+
+-- the token, which an Initial packet alone has in its header
+abbrev pub SaysToken : List ℕ → Header → Type 0
+SaysToken token (header.Initial h) = token ≡ h.token
+SaysToken token (header.Long ty dst src number version) = Unit {0}
+SaysToken token (header.Retry dst src version) = Unit {0}
+SaysToken token (header.Short spin key_phase dst number) = Unit {0}
+SaysToken token (header.VersionNegotiate random src dst) = Unit {0}
+
+-- how many bytes the length has, 2 or 4, of a header that says one
+abbrev pub LengthIs : ℕ → Header → Type 0
+LengthIs len (header.Initial h) = (len ≡ 2) ⊎ (len ≡ 4)
+LengthIs len (header.Long ty dst src number version) = (len ≡ 2) ⊎ (len ≡ 4)
+LengthIs len (header.Retry dst src version) = Unit {0}
+LengthIs len (header.Short spin key_phase dst number) = Unit {0}
+LengthIs len (header.VersionNegotiate random src dst) = Unit {0}
+
+-- A number below 2^62, of which so many bytes are written (RFC 9000, section 17.1), where the header has one.
+abbrev pub SaysNumber : ℕ → ℕ → Option PacketNumber → Type 0
+SaysNumber number len None = Unit {0}
+SaysNumber number len (Some written) = (number < 2 ^ 62) × (len ≡ number_size written) × (low_part written ≡ number % window_of written)
+
+-- The words, two ids and a token say the header, with a fixed bit that is clear or isn't. What its kind lacks isn't
+-- looked at.
+pub record Says (words : SaidWords) (dst src token : List ℕ) (clear : Bool) (head : Header) : Type 0 where
+  pub kind : words.kind ≡ header_word head
+  pub flags : SaysFlags words.flags clear head
+  pub version : SaysVersion words.version head
+  pub number : SaysNumber words.number words.number_len (number_in head)
+  pub len : LengthIs words.length_len head
+  pub dst_is : dst ≡ dst_in head
+  pub src_is : SaysSource src head
+  pub token_is : SaysToken token head
+
+-- They say a header that can be written: the receiver's id has at most 20 bytes.
+pub record CanWrite (words : SaidWords) (dst src token : List ℕ) (clear : Bool) (head : Header) : Type 0 where
+  pub says : Says words dst src token clear head
+  pub dst_few : length dst ≤ 20
+  pub writable : IsWritable head
+
+-- the bytes that are written: the header's, with so many zeros as its length, and with its fixed bit cleared where that
+-- is said
+abbrev pub said_bytes : ℕ → Bool → Header → List ℕ
+said_bytes len clear head = let bytes = header_with (replicate len 0) head in begun_by (slice_index bytes 0 - bit clear 64) bytes

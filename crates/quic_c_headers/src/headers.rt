@@ -1,0 +1,175 @@
+//! Headers of packets, with their protection on.
+ghost use Rattle.std.specs.Prelude.{◌≡◌, ◌+◌, ◌<◌, ◌≤◌, ◌⊎◌, ◌↔◌, ◌^◌, ◌∷◌, ℕ, List, [], Ok, drop, length, pos, negsuc, slice_index};
+ghost use Rattle.quic_header_decode.specs.Grammar.{Cut, HeaderAt};
+ghost use Rattle.quic_header_decode.specs.Places.{any_fixed, IsPlaced, IsSeen};
+ghost use Rattle.quic_header_decode.specs.declared.protected.ProtectedHeader.{ProtectedHeader};
+ghost use Rattle.quic_c_headers.specs.Reading.{answer_word, header_words, kind_word, Told};
+
+use crate::words::HeaderWords;
+use quic_base::coding::are_bytes;
+use quic_header_decode::laws::{one_reading, places_cut};
+use quic_header_decode::places::{HeaderKind, HeaderPlaces, ReadError, read_header, read_long};
+
+// The word of a kind.
+#[inline(always)]
+fn kind_word(kind: HeaderKind) -> u8
+    ensures { result ≡ kind_word kind }
+{
+    match kind {
+        HeaderKind::Initial => 0,
+        HeaderKind::ZeroRtt => 1,
+        HeaderKind::Handshake => 2,
+        HeaderKind::Retry => 3,
+        HeaderKind::Short => 4,
+        HeaderKind::VersionNegotiate => 5,
+    }
+}
+
+// The words of a header, and whether its packet is whole: 0 or 7.
+#[inline(always)]
+fn show_header(packet: &[u8], places: HeaderPlaces, head: &mut HeaderWords) -> u32
+    requires whole { length packet.now < 2 ^ 32 }
+    requires placed { IsPlaced places (length packet.now) }
+    ensures answer { result ≡ answer_word (Ok places) (length packet.now) }
+    ensures few { result ≤ 7 }
+    ensures words { head.new ≡ header_words packet.now (Ok places) head.old }
+{
+    let whole = packet.len();
+    let (end, answer) = match places.packet_end(whole) {
+        Some(end) => (end, 0),
+        None => (whole, 7),
+    };
+    *head = HeaderWords {
+        kind: kind_word(places.kind),
+        first: places.first,
+        dst_len: places.dst_len as u8,
+        src_len: places.src_len as u8,
+        version: places.version,
+        header_end: places.header_end as u32,
+        end: end as u32,
+        token: places.token.start as u32,
+        token_len: (places.token.end - places.token.start) as u32,
+        len: places.len,
+    };
+    answer
+}
+
+// Shows what was read, and answers 0, 7 or the reason.
+#[inline(always)]
+fn show(packet: &[u8], read: Result<HeaderPlaces, ReadError>, head: &mut HeaderWords) -> u32
+    requires whole { length packet.now < 2 ^ 32 }
+    requires seen { IsSeen read (length packet.now) }
+    ensures answer { result ≡ answer_word read (length packet.now) }
+    ensures few { result ≤ 7 }
+    ensures words { head.new ≡ header_words packet.now read head.old }
+{
+    match read {
+        Ok(places) => show_header(packet, places, head),
+        Err(
+            ReadError::UnsupportedVersion {
+                version,
+                dst_len,
+                src_len,
+            },
+        ) => {
+            *head = HeaderWords {
+                kind: 6,
+                first: packet[0],
+                dst_len: dst_len as u8,
+                src_len: src_len as u8,
+                version,
+                header_end: (6 + dst_len + 1 + src_len) as u32,
+                end: packet.len() as u32,
+                token: 0,
+                token_len: 0,
+                len: 0,
+            };
+            1
+        }
+        Err(ReadError::UnexpectedEnd) => 2,
+        Err(ReadError::SmallPacket) => 4,
+        Err(ReadError::MalformedCid) => 5,
+        Err(ReadError::TokenOutOfBounds) => 6,
+    }
+}
+
+// Shows a long head. It is a function of its own, so that a short header's caller saves no registers.
+#[inline(never)]
+fn show_long(packet: &[u8], first: u8, versions: &[u32], head: &mut HeaderWords) -> u32
+    requires whole { length packet.now < 2 ^ 32 }
+    requires begins { packet.now ≡ first ∷ drop 1 packet.now }
+    requires long { 128 ≤ first }
+    ensures told { (id_len : ℕ) → Told id_len versions.now packet.now head.old result head.new }
+    ensures few { result ≤ 7 }
+{
+    show(packet, read_long(packet, first, versions), head)
+}
+
+/// Reads the header of the packet that bytes begin with, be it whole or cut off behind its head. Ids of short headers
+/// have `id_len` bytes; `versions` are those that are read further than their ids. The fixed bit isn't looked at. It
+/// answers 0 with the header of a packet that is whole, and the place where it ends; 7 with the header of one that is cut
+/// off; 1 with the version and the ids, of up to 255 bytes (RFC 8999, section 5.1), of a version that isn't known; 2,
+/// 4, 5 or 6 where no header begins there, as the first field that can't be read says; -1 just where there are 2^32
+/// bytes or more, or `id_len` is above 20. `head` changes with 0, 7 and 1 alone.
+///
+/// The fixed bit stands in `head.first`. In a version negotiation clients ignore it (RFC 9000, section 17.2.1).
+#[unsafe(no_mangle)]
+pub extern "C" fn quic_wire_header_read_(
+    packet: &[u8],
+    id_len: u32,
+    versions: &[u32],
+    head: &mut HeaderWords,
+) -> i32
+    ensures invalid { (result ≡ negsuc 0) ↔ ((2 ^ 32 ≤ length packet.now) ⊎ (20 < id_len)) }
+    ensures told { (result ≡ negsuc 0)
+        ⊎ ((answer : ℕ) × (result ≡ pos answer) × Told id_len versions.now packet.now head.old answer head.new) }
+    ensures same { result ≡ negsuc 0 → head.new ≡ head.old }
+    // There is one answer, and one way to tell it.
+    ensures one { (result ≡ negsuc 0)
+        ⊎ ((answer : ℕ) (words : HeaderWords) → Told id_len versions.now packet.now head.old answer words
+        → (result ≡ pos answer) × (head.new ≡ words)) }
+    // The packet that is whole is the one that is cut from the bytes.
+    ensures whole { result ≡ pos 0
+        → (h : ProtectedHeader) × Cut (any_fixed id_len versions.now) packet.now h head.new.header_end head.new.end }
+{
+    one_reading();
+    places_cut();
+    are_bytes(packet);
+    if packet.len() > u32::MAX as usize || id_len > 20 {
+        return -1;
+    }
+    if let Some(first) = packet.first() {
+        if *first >= 0x80 {
+            return show_long(packet, *first, versions, head) as i32;
+        }
+    }
+    show(packet, read_header(packet, id_len as usize, versions), head) as i32
+}
+
+/// Where the short header ends that a packet begins with, whose id has `id_len` bytes (RFC 9000, section 17.3); 0 just
+/// where none begins there: no byte or a long header's first byte stands there, the bytes end within the id, or `id_len`
+/// is above 20. The fixed bit isn't looked at.
+#[unsafe(no_mangle)]
+pub extern "C" fn quic_wire_short_read_(packet: &[u8], id_len: u32) -> usize
+    ensures read { 0 < result → (h : ProtectedHeader)
+        × HeaderAt (any_fixed id_len []) (length packet.now) packet.now h (drop result packet.now) }
+    ensures short { 0 < result → slice_index packet.now 0 < 128 }
+    ensures within { result ≤ length packet.now }
+    ensures none { result ≡ 0 → (20 < id_len) ⊎ (128 ≤ slice_index packet.now 0)
+        ⊎ ((h : ProtectedHeader) (rest : List ℕ) → HeaderAt (any_fixed id_len []) (length packet.now) packet.now h rest → ⊥) }
+{
+    one_reading();
+    are_bytes(packet);
+    if id_len > 20 {
+        return 0;
+    }
+    if let Some(first) = packet.first() {
+        if *first >= 0x80 {
+            return 0;
+        }
+    }
+    match read_header(packet, id_len as usize, &[]) {
+        Ok(places) => places.header_end,
+        Err(_) => 0,
+    }
+}

@@ -1,0 +1,154 @@
+//! Headers that are written and read again, and datagrams that are cut twice: what callers learn from the contracts of
+//! both and from the laws of headers, for every lawful parser of ids.
+ghost use Rattle.std.specs.Prelude.{◌≡◌, ◌≢◌, ◌++◌, ◌<◌, ◌≤◌, ◌⊎◌, List, ℕ, true, IsTrue, IfErr, IfOk, IfSome, MatchResult, None, Contains, length};
+ghost use Rattle.quic_header_encode.specs.Writing.{IsWritable, header_bytes};
+ghost use Rattle.quic_header_decode.specs.declared.protected.ProtectedHeader.{ProtectedHeader};
+ghost use Rattle.quic_header_decode.specs.Grammar.{Cut, HeaderAt};
+ghost use Rattle.quic_header_decode.specs.Reading.{len_in};
+
+use bytes::BytesMut;
+use quic_base::coding::are_bytes;
+use quic_base::ids::ConnectionId;
+use quic_header_encode::header::Header;
+use quic_header_decode::cut::PartialDecode;
+use quic_header_decode::decode_error::PacketDecodeError;
+use quic_header_decode::laws;
+use quic_header_decode::parser::ConnectionIdParser;
+use std::alloc::Global;
+
+// Cuts a packet whose header says no length, and that so ends with the datagram.
+fn cut_alone<C: ConnectionIdParser>(
+    datagram: BytesMut,
+    parser: &C,
+    versions: &[u32],
+    grease: bool,
+) -> Result<PartialDecode, PacketDecodeError>
+    ensures { (h : ProtectedHeader) (front rest : List ℕ) → datagram.items ≡ front ++ rest → len_in h ≡ None
+        → HeaderAt (record { parsed = C.parsed parser.now; versions = versions.now; grease = grease })
+        (length datagram.items) datagram.items h rest
+        → MatchResult result (λ x. (x.head ≡ h) × (x.bytes ≡ datagram.items))
+        (λ e. (e ≡ PacketDecodeError.OutOfMemory) × IsTrue (C.takes_memory parser.now)) }
+{
+    laws::one_answer();
+    are_bytes(datagram.as_slice());
+    match PartialDecode::new(datagram, parser, versions, grease) {
+        Ok((packet, _rest)) => Ok(packet),
+        Err(e) => Err(e),
+    }
+}
+
+// Cuts the first packet, and tells how many bytes it has.
+fn cut_len<C: ConnectionIdParser>(
+    datagram: BytesMut,
+    parser: &C,
+    versions: &[u32],
+    grease: bool,
+) -> Option<usize>
+    ensures { IfSome result (λ len. (h : ProtectedHeader) × (end : ℕ)
+        × Cut (record { parsed = C.parsed parser.now; versions = versions.now; grease = grease })
+        datagram.items h end len) }
+{
+    match PartialDecode::new(datagram, parser, versions, grease) {
+        Ok((packet, _rest)) => Some(packet.len()),
+        Err(_) => None,
+    }
+}
+
+// A header and what follows it, in one datagram.
+fn datagram_of(alloc: Global, header: &Header, behind: &[u8]) -> Option<BytesMut>
+    requires { IsWritable header.now }
+    ensures { IfSome result (λ datagram. datagram.items ≡ header_bytes header.now ++ behind.now) }
+{
+    let mut out = Vec::new(alloc);
+    if header.encode(&mut out).is_err() || out.extend_from_slice(behind).is_err() {
+        return None;
+    }
+    Some(BytesMut::from_vec(out))
+}
+
+/// Writes a Retry's header and what follows it, and cuts the packet: its header is what was written, whatever follows, and
+/// only memory can be wanting. The caller must give one of the versions that are known.
+pub fn retry_read_back<C: ConnectionIdParser>(
+    alloc: Global,
+    ids: (ConnectionId, ConnectionId),
+    version: u32,
+    behind: &[u8],
+    parser: &C,
+    versions: &[u32],
+    grease: bool,
+) -> Result<PartialDecode, PacketDecodeError>
+    requires some { version ≢ 0 }
+    requires known { Contains versions.now version }
+    ensures back { IfOk result (λ x. x.head ≡ ProtectedHeader.Retry ids.0 ids.1 version) }
+    ensures refused { IfErr result (λ e. e ≡ PacketDecodeError.OutOfMemory) }
+{
+    laws::written();
+    let (dst_cid, src_cid) = ids;
+    let _dst = dst_cid.as_slice();
+    let _src = src_cid.as_slice();
+    let header = Header::Retry {
+        dst_cid,
+        src_cid,
+        version,
+    };
+    let Some(datagram) = datagram_of(alloc, &header, behind) else {
+        return Err(PacketDecodeError::OutOfMemory);
+    };
+    match cut_alone(datagram, parser, versions, grease) {
+        Ok(packet) => Ok(packet),
+        Err(e) => Err(e),
+    }
+}
+
+/// The same of a version negotiation. The caller must give a first byte without its highest bit that has the fixed
+/// bit, 0x40, unless that may be clear.
+pub fn negotiation_read_back<C: ConnectionIdParser>(
+    alloc: Global,
+    random: u8,
+    ids: (ConnectionId, ConnectionId),
+    behind: &[u8],
+    parser: &C,
+    versions: &[u32],
+    grease: bool,
+) -> Result<PartialDecode, PacketDecodeError>
+    requires low { random < 128 }
+    requires fixed { IsTrue grease ⊎ (64 ≤ random) }
+    ensures back { IfOk result (λ x. x.head ≡ ProtectedHeader.VersionNegotiate random ids.0 ids.1) }
+    ensures refused { IfErr result (λ e. e ≡ PacketDecodeError.OutOfMemory) }
+{
+    laws::written();
+    let (dst_cid, src_cid) = ids;
+    let _dst = dst_cid.as_slice();
+    let _src = src_cid.as_slice();
+    let header = Header::VersionNegotiate {
+        random,
+        src_cid,
+        dst_cid,
+    };
+    let Some(datagram) = datagram_of(alloc, &header, behind) else {
+        return Err(PacketDecodeError::OutOfMemory);
+    };
+    match cut_alone(datagram, parser, versions, grease) {
+        Ok(packet) => Ok(packet),
+        Err(e) => Err(e),
+    }
+}
+
+/// Cuts two datagrams of the same bytes, and tells whether both packets have as many bytes: they have, unless memory
+/// runs out.
+pub fn cut_twice<C: ConnectionIdParser>(
+    one: BytesMut,
+    other: BytesMut,
+    parser: &C,
+    versions: &[u32],
+    grease: bool,
+) -> Option<bool>
+    requires { one.items ≡ other.items }
+    ensures { IfSome result (λ same. same ≡ true) }
+{
+    laws::one_answer();
+    are_bytes(one.as_slice());
+    let first = cut_len(one, parser, versions, grease)?;
+    let second = cut_len(other, parser, versions, grease)?;
+    Some(first == second)
+}

@@ -1,0 +1,214 @@
+//! Frames without their data, which the writer puts behind them from where it has them.
+use super::encode::NO_FRAME;
+use super::StreamId;
+use crate::buffer::Buffer;
+use crate::sys::{self, Filled, Room};
+use crate::{varint, WriteError};
+use core::ops::Range;
+
+/// A STREAM without its data (RFC 9000, section 19.8).
+///
+/// ```
+/// use quic_wire::frame::StreamMeta;
+/// use quic_wire::StreamId;
+/// let meta = StreamMeta { id: StreamId(4), offsets: 16..18, fin: false };
+/// let mut out = [0; 4];
+/// assert_eq!((meta.encode(true, &mut out), out), (Ok(4), [0x0e, 4, 16, 2]));
+/// assert_eq!((meta.encode(false, &mut out), &out[..3]), (Ok(3), &[0x0c, 4, 16][..]));
+/// assert_eq!(meta.encoded_len(true), Ok(4));
+/// ```
+#[derive(Clone, Debug, Default, PartialEq, Eq, Hash)]
+pub struct StreamMeta {
+    /// The stream.
+    pub id: StreamId,
+    /// Where in the stream the data stand, in bytes.
+    pub offsets: Range<u64>,
+    /// Whether the stream ends with them.
+    pub fin: bool,
+}
+
+/// A CRYPTO without its data (RFC 9000, section 19.6).
+///
+/// ```
+/// use quic_wire::frame::CryptoMeta;
+/// let mut out = [0; 4];
+/// assert_eq!(CryptoMeta { offsets: 64..67 }.encode(&mut out), Ok(4));
+/// assert_eq!(out, [0x06, 0x40, 64, 3]);
+/// ```
+#[derive(Clone, Debug, Default, PartialEq, Eq, Hash)]
+pub struct CryptoMeta {
+    /// Where in the handshake the data stand, in bytes.
+    pub offsets: Range<u64>,
+}
+
+/// A DATAGRAM without its data (RFC 9221, section 4).
+///
+/// ```
+/// use quic_wire::frame::DatagramMeta;
+/// let mut out = [0; 3];
+/// assert_eq!((DatagramMeta { len: 100 }.encode(true, &mut out), out), (Ok(3), [0x31, 0x40, 100]));
+/// assert_eq!((DatagramMeta { len: 100 }.encode(false, &mut out), out[0]), (Ok(1), 0x30));
+/// ```
+#[derive(Clone, Copy, Debug, Default, PartialEq, Eq, Hash)]
+pub struct DatagramMeta {
+    /// How many bytes the data are.
+    pub len: u64,
+}
+
+impl StreamMeta {
+    /// Writes the frame up to its data, with their length or, as the last of its payload, without; and answers how many
+    /// bytes that are.
+    ///
+    /// ```
+    /// use quic_wire::frame::StreamMeta;
+    /// use quic_wire::StreamId;
+    /// let meta = StreamMeta { id: StreamId(4), offsets: 0..100, fin: true };
+    /// let mut frame = [0; 4];
+    /// let len = meta.encode(true, &mut frame)?;
+    /// assert_eq!(frame[..len], [0x0b, 4, 0x40, 100]);
+    /// # Ok::<(), quic_wire::WriteError>(())
+    /// ```
+    ///
+    /// # Errors
+    ///
+    /// Where the range is reversed, its end or the stream's number is 2^62 or more, or there is too little room.
+    #[inline]
+    pub fn encode<B: Buffer + ?Sized>(&self, length: bool, out: &mut B) -> Result<usize, WriteError> {
+        let head = self.head()?;
+        out.put(|room| write(&head, length, room))
+    }
+
+    /// How many bytes the frame has without its data.
+    ///
+    /// ```
+    /// use quic_wire::frame::StreamMeta;
+    /// use quic_wire::StreamId;
+    /// let meta = StreamMeta { id: StreamId(4), offsets: 0..100, fin: true };
+    /// assert_eq!((meta.encoded_len(true), meta.encoded_len(false)), (Ok(4), Ok(2)));
+    /// ```
+    ///
+    /// # Errors
+    ///
+    /// As [`StreamMeta::encode`], but for room.
+    pub fn encoded_len(&self, length: bool) -> Result<usize, WriteError> {
+        len_of(&self.head()?, length)
+    }
+
+    #[inline]
+    fn head(&self) -> Result<sys::Frame, WriteError> {
+        let datalen = length_of(&self.offsets)?;
+        let (id, start) = (self.id.0, self.offsets.start);
+        if id > varint::MAX {
+            return Err(WriteError::OutOfRange("a stream's number is 2^62 or more"));
+        }
+        let flags = u32::from(self.fin);
+        Ok(sys::Frame { kind: 0x08, flags, datalen, numbers: [id, start, 0, 0, 0], ..NO_FRAME })
+    }
+}
+
+impl CryptoMeta {
+    /// Writes the frame up to its data, and answers how many bytes that are.
+    ///
+    /// ```
+    /// use quic_wire::frame::CryptoMeta;
+    /// let mut frame = [0; 3];
+    /// assert_eq!(CryptoMeta { offsets: 5..8 }.encode(&mut frame), Ok(3));
+    /// assert_eq!(frame, [0x06, 5, 3]);
+    /// ```
+    ///
+    /// # Errors
+    ///
+    /// Where the range is reversed, its end is 2^62 or more, or there is too little room.
+    #[inline]
+    pub fn encode<B: Buffer + ?Sized>(&self, out: &mut B) -> Result<usize, WriteError> {
+        let head = self.head()?;
+        out.put(|room| write(&head, true, room))
+    }
+
+    /// How many bytes the frame has without its data.
+    ///
+    /// ```
+    /// use quic_wire::frame::CryptoMeta;
+    /// assert_eq!(CryptoMeta { offsets: 5..8 }.encoded_len(), Ok(3));
+    /// ```
+    ///
+    /// # Errors
+    ///
+    /// As [`CryptoMeta::encode`], but for room.
+    pub fn encoded_len(&self) -> Result<usize, WriteError> {
+        len_of(&self.head()?, true)
+    }
+
+    #[inline]
+    fn head(&self) -> Result<sys::Frame, WriteError> {
+        let datalen = length_of(&self.offsets)?;
+        Ok(sys::Frame { kind: 0x06, datalen, numbers: [0, self.offsets.start, 0, 0, 0], ..NO_FRAME })
+    }
+}
+
+impl DatagramMeta {
+    /// Writes the frame up to its data, with their length or, as the last of its payload, without; and answers how many
+    /// bytes that are.
+    ///
+    /// ```
+    /// use quic_wire::frame::DatagramMeta;
+    /// let mut frame = [0; 2];
+    /// assert_eq!(DatagramMeta { len: 9 }.encode(true, &mut frame), Ok(2));
+    /// assert_eq!(frame, [0x31, 9]);
+    /// ```
+    ///
+    /// # Errors
+    ///
+    /// Where the length is 2^62 or more, or there is too little room.
+    #[inline]
+    pub fn encode<B: Buffer + ?Sized>(&self, length: bool, out: &mut B) -> Result<usize, WriteError> {
+        let head = self.head()?;
+        out.put(|room| write(&head, length, room))
+    }
+
+    /// How many bytes the frame has without its data.
+    ///
+    /// ```
+    /// use quic_wire::frame::DatagramMeta;
+    /// assert_eq!(DatagramMeta { len: 100 }.encoded_len(true), Ok(3));
+    /// ```
+    ///
+    /// # Errors
+    ///
+    /// As [`DatagramMeta::encode`], but for room.
+    pub fn encoded_len(&self, length: bool) -> Result<usize, WriteError> {
+        len_of(&self.head()?, length)
+    }
+
+    #[inline]
+    fn head(&self) -> Result<sys::Frame, WriteError> {
+        let datalen = length_of(&(0..self.len))?;
+        Ok(sys::Frame { kind: 0x30, datalen, ..NO_FRAME })
+    }
+}
+
+// How many bytes the data are, which end below 2^62.
+fn length_of(offsets: &Range<u64>) -> Result<usize, WriteError> {
+    match offsets.end.checked_sub(offsets.start) {
+        None => Err(WriteError::OutOfRange("a range of data is reversed")),
+        Some(_) if offsets.end > varint::MAX => Err(WriteError::OutOfRange("data end at 2^62 or behind it")),
+        Some(len) => Ok(len as usize),
+    }
+}
+
+// Writes a frame up to its data, with their length, which CRYPTO always has, or without.
+#[inline]
+fn write(head: &sys::Frame, length: bool, room: &mut Room) -> Result<(Filled, usize), WriteError> {
+    match sys::frame_header_write(head, !length, room) {
+        Ok(filled) => Ok((filled, filled.len())),
+        Err((sys::NO_ROOM, needed)) => Err(WriteError::NoRoom(needed)),
+        Err(_) => Err(WriteError::OutOfRange("a number is 2^62 or more")),
+    }
+}
+
+fn len_of(head: &sys::Frame, length: bool) -> Result<usize, WriteError> {
+    match write(head, length, &mut []) {
+        Err(WriteError::NoRoom(needed)) => Ok(needed),
+        answer => answer.map(|(_, len)| len),
+    }
+}

@@ -1,0 +1,296 @@
+"""The figures of packet headers (RFC 9000, section 17; RFC 8999), from crates/quic_header_decode/specs/Grammar.antt."""
+import collections
+
+from format.definitions import clauses, fail, figure, listed, log_of, matched, said
+
+NUMBER = "quic_base/specs/Number"
+LONG_ID = "quic_base/specs/ConnectionId"
+CRYPTO = "quic_crypto/specs/PacketNumbers"
+KEYS = "quic_crypto/specs/Keys"
+TYPES = "quic_header_encode/specs/Types"
+QUERIES = "quic_header_encode/specs/Queries"
+STARTS = "quic_header_encode/specs/Starts"
+WRITING = "quic_header_encode/specs/Writing"
+GRAMMAR = "quic_header_decode/specs/Grammar"
+HEADS = "quic_header_decode/specs/Headers"
+FINISH = "quic_header_decode/specs/Finish"
+PLACES = "quic_header_decode/specs/Places"
+NEGOTIATION = "quic_c_headers/specs/Negotiation"
+
+# A header: its section in RFC 9000, its name in ProtectedHeader and in Header with what they hold, its type.
+HeaderAt = collections.namedtuple("HeaderAt", "title section read written type")
+LONG = ("(head.Long ty dst src len version)", "(header.Long ty dst src number version)")
+ALL = [
+    HeaderAt("Version Negotiation", "17.2.1", "(head.VersionNegotiate random dst src)",
+         "(header.VersionNegotiate random src dst)", None),
+    HeaderAt("Initial", "17.2.2", "(head.Initial h)", "(header.Initial h)", "kind.Initial"),
+    HeaderAt("0-RTT", "17.2.3", *LONG, "kind.Standard ZeroRtt"),
+    HeaderAt("Handshake", "17.2.4", *LONG, "kind.Standard Handshake"),
+    HeaderAt("Retry", "17.2.5", "(head.Retry dst src version)", "(header.Retry dst src version)", "kind.Retry"),
+    HeaderAt("1-RTT", "17.3.1", "(head.Short spin dst)", "(header.Short spin key_phase dst number)", None),
+]
+# The RFC's names of fields.
+NAMES = {
+    "Version": "Version", "DestinationId": "Destination Connection ID", "SourceId": "Source Connection ID",
+    "TokenLength": "Token Length", "Token": "Token", "Length": "Length", "ShortId": "Destination Connection ID",
+}
+# What a field is, by the right side of its clause of IsField.
+KINDS = {
+    "(n : ℕ) × (values ≡ Number n ∷ []) × IsNumber <width> n bytes": lambda width: [f"NAME ({8 * width})"],
+    "IsId values bytes": lambda: ["NAME Length (8)", f"NAME (0..{8 * most_of_id()})"],
+    "IsVarint values bytes": lambda: ["NAME (i)"],
+    "(values ≡ Number (length rest) ∷ []) × (length bytes ≡ token_length_of before)": lambda: ["NAME (..)"],
+    "(id : List ℕ) × (values ≡ Bytes id ∷ []) × (context.parsed (bytes ++ rest) ≡ Ok (id, length bytes))":
+        lambda: ["NAME (..)"],
+    "(values ≡ []) × (bytes ≡ []) × Contains context.versions version": lambda: [],
+}
+# How a header is written: what stands before its length and its number, and with these.
+WRITTEN = {
+    "Version Negotiation": ("long_front (bit_or 128 random) 0 dst src", "<front..>"),
+    "Initial": ("long_front (long_first h.version kind.Initial (number_size h.number)) h.version h.dst_cid h.src_cid"
+                " ++ (short (length h.token) ++ h.token)", "<front..> ++ (len ++ number_bytes h.number)"),
+    "0-RTT": ("long_front (long_first version (kind.Standard ty) (number_size number)) version dst src",
+              "<front..> ++ (len ++ number_bytes number)"),
+    "Retry": ("long_front (first_byte version kind.Retry) version dst src", "<front..>"),
+    "1-RTT": ("(64 + bit spin 32 + bit key_phase 4 + (number_size number - 1)) ∷ dst",
+              "<front..> ++ number_bytes number"),
+}
+WRITTEN["Handshake"] = WRITTEN["0-RTT"]
+# What the values of a row are to a header, in order.
+MEANT = {
+    "Version Negotiation": "(first ≡ 0x80 + random) × (values ≡ Number <version> ∷ Bytes dst ∷ Bytes src ∷ [])",
+    "Initial": "(count left : ℕ) × (h.token_pos.start + count ≡ h.token_pos.end) × (h.token_pos.end + left ≡ whole)"
+               " × (values ≡ Number h.version ∷ Bytes h.dst_cid ∷ Bytes h.src_cid ∷ Number count ∷ Number left"
+               " ∷ Number h.len ∷ [])",
+    "0-RTT": "(long_type version first ≡ kind.Standard ty)"
+             " × (values ≡ Number version ∷ Bytes dst ∷ Bytes src ∷ Number len ∷ [])",
+    "Retry": "(version ≢ 0) × (long_type version first ≡ kind.Retry)"
+             " × (values ≡ Number version ∷ Bytes dst ∷ Bytes src ∷ [])",
+    "1-RTT": "(is_long first ≡ false) × (spin ≡ has_bit <spin> first) × (values ≡ Bytes dst ∷ [])",
+}
+MEANT["Handshake"] = MEANT["0-RTT"]
+
+
+def most_of_id():
+    """How long an id may be, behind the byte of its length."""
+    said(LONG_ID, "long_id", "id", "length id ∷ id")
+    return said(GRAMMAR, "IsId", "values bytes", (
+        "(id : List ℕ) × (values ≡ Bytes id ∷ []) × (length id ≤ <most>) × (bytes ≡ long_id id)"))["most"]
+
+
+def lines_of(field):
+    """The lines of a field in the RFC's words."""
+    kind = field.split()[0]
+    lefts = {left.strip("()").split()[1].strip("("): right for left, right in clauses(GRAMMAR, "IsField").items()}
+    for template, lines in KINDS.items():
+        found = matched(template, lefts.get(kind, ""))
+        if found is not None:
+            return [line.replace("NAME", NAMES.get(kind, kind)) for line in lines(**found)]
+    return fail(f"IsField {kind} in crates/{GRAMMAR}.antt", lefts.get(kind, ""))
+
+
+def meant(head):
+    """What stands in place of the holes of what a header is meant to be."""
+    return said(GRAMMAR, "IsHeader", f"whole first values {head.read}", MEANT[head.title])
+
+
+def is_protected(head):
+    return said(HEADS, "is_protected", head.read, "<answer>")["answer"] == "true"
+
+
+def row(head):
+    """The fields of a header behind its first byte."""
+    rows = said(GRAMMAR, "row_of", "first version", (
+        "if is_long first then <long..> ∷ row_behind_ids first version else <short..> ∷ []"))
+    behind = said(GRAMMAR, "row_behind_ids", "first version", (
+        "if version == 0 then [] else <known..> ∷ typed_row (long_type version first)"))
+    if head.title == "1-RTT":
+        return rows["short"].split(" ∷ ")
+    if not head.type:
+        return rows["long"].split(" ∷ ")
+    typed = clauses(GRAMMAR, "typed_row")
+    last = typed.get(head.type) or typed.get(f"({head.type.split()[0]} ty)", "")
+    return rows["long"].split(" ∷ ") + [behind["known"]] + listed(last, f"typed_row {head.type}")
+
+
+def type_number(head, version):
+    """The number of a header's type under version 1 and its drafts, or 2."""
+    types = said(TYPES, "types_of", "version", "if nat_eq version version_2 then <second..> else <first..>")
+    numbers = {kind: number for number, kind in enumerate(listed(types[version], "types_of"))}
+    if len(numbers) != 4 or head.type not in numbers:
+        fail(f"types_of in crates/{TYPES}.antt", types[version])
+    return numbers[head.type]
+
+
+def first_parts(head):
+    """What the bits of a first byte are: the lowest's value, how many values there are, name, value."""
+    said(GRAMMAR, "has_bit", "bit byte", "(byte / bit % 2) == 1")
+    form = said(GRAMMAR, "is_long", "first", "nat_le <bit> first")["bit"]
+    yield form, 2, "Header Form", 0 if head.title == "1-RTT" else 1
+    yield said(GRAMMAR, "is_fixed", "context first", "context.grease || has_bit <bit> first")["bit"], 2, "Fixed Bit", 1
+    if head.type:
+        found = said(TYPES, "long_type", "version first", (
+            "slice_index_or (types_of version) (first / <unit> % <count>) kind.Retry"))
+        yield found["unit"], found["count"], "Long Packet Type", type_number(head, "first")
+    if head.title == "1-RTT":
+        yield meant(head)["spin"], 2, "Spin Bit", None
+        found = said(HEADS, "with_number", f"{head.read} number packet got", (
+            "got ≡ header.Short spin (nat_eq (slice_index packet 0 / <unit> % <count>) 1) dst number"))
+        yield found["unit"], found["count"], "Key Phase", None
+    if is_protected(head):
+        found = said(QUERIES, "reserved_zero", f"{head.written} first", "nat_eq (first / <unit> % <count>) 0")
+        yield found["unit"], found["count"], "Reserved Bits", None
+        yield 1, said(KEYS, "number_len", "first", "first % <count> + 1")["count"], "Packet Number Length", None
+
+
+def first_lines(head):
+    """The lines of a first byte; bits that nothing speaks of are unused."""
+    lines, end = [], 256
+    for unit, count, name, value in sorted(first_parts(head), reverse=True):
+        if unit * count > end:
+            fail(f"the first byte of {head.title}", f"{name}: bits that are another's too")
+        lines += unused(unit * count, end)
+        lines.append(f"{name} ({log_of(count, name)})" + ("" if value is None else f" = {value}"))
+        end = unit
+    return lines + unused(1, end)
+
+
+def unused(low, high):
+    return [f"Unused ({log_of(high, 'a bit') - log_of(low, 'a bit')})"] if low < high else []
+
+
+def behind(head):
+    """What stands behind the row of a header."""
+    if not is_protected(head):
+        return ["(..)"]
+    said(FINISH, "IsNumberIn", "size", "number_size number ≡ number_len (slice_index packet 0)")
+    said(CRYPTO, "NumberAt", "number text", "IsNumber (number_size number) (low_part number) text")
+    sizes = clauses(CRYPTO, "number_size")
+    if list(sizes) != [f"(U{8 * int(size)} x)" for size in sizes.values()]:
+        fail(f"number_size in crates/{CRYPTO}.antt", str(sizes))
+    sizes = [8 * int(size) for size in sizes.values()]
+    return [f"Packet Number ({min(sizes)}..{max(sizes)})", "Packet Payload (..)"]
+
+
+def notes(head):
+    """What the figure of a header can't say, beside what is so of all."""
+    if head.title == "Version Negotiation":
+        yield "The versions, (..), are told as bytes."
+    if head.title == "Retry":
+        yield "Retry Token and Retry Integrity Tag, (..), are told as bytes."
+    if head.title == "1-RTT":
+        yield "Destination Connection ID is what the parser of ids takes (`ShortId`)."
+
+
+def checked(head):
+    """Stops where a header ends or is written otherwise than the paragraphs on all say."""
+    if "Length" in row(head):
+        said(GRAMMAR, "Cut", "context bytes h p q", (
+            "(rest : List ℕ) × HeaderAt context (length bytes) bytes h rest × (p + length rest ≡ length bytes)"
+            " × MatchOption (len_in h) (q ≡ length bytes) (λ len. q ≡ p + len) × (q ≤ length bytes)"))
+    front, whole = WRITTEN[head.title]
+    said(WRITING, "header_front", head.written, front)
+    said(WRITING, "header_with", f"len {head.written}", whole.replace("<front..>", f"header_front {head.written}"))
+
+
+def reading():
+    """How headers are read."""
+    said(GRAMMAR, "HeaderAt", "context whole bytes h rest", (
+        "(first : ℕ) × (text : List ℕ) × (values : List Value) × (bytes ≡ first ∷ text) × (is_fixed context first ≡"
+        " true) × AreFields context (row_of first (num (take 4 text))) [] values text rest"
+        " × IsHeader whole first values h"))
+    said(GRAMMAR, "AreFields", "context (field ∷ fields) before after bytes rest", (
+        "(values : List Value) × (left : List ℕ) × Begins context field before values bytes left"
+        " × AreFields context fields (before ++ values) after left rest"))
+    said(GRAMMAR, "Begins", "context field before values bytes rest", (
+        "(front : List ℕ) × (bytes ≡ front ++ rest) × IsField context field before values front rest"))
+    said(GRAMMAR, "token_length_of", "(version ∷ destination ∷ source ∷ Number count ∷ [])", "count")
+    version = said(TYPES, "version_2", "", "<number>")["number"]
+    types = ", ".join(f"{type_number(head, 'second')} {head.title}" for head in ALL if head.type)
+    return (
+        "A header is its first byte and its row's fields one after another (`HeaderAt`, `row_of`, `row_behind_ids`,"
+        f" `typed_row`, crates/{GRAMMAR}.antt); its packet ends as many bytes behind Length as that says (`Cut`). Any"
+        " fixed bit may be clear where `context.grease` holds (RFC 9287; `is_fixed`). Versions but 0 are known ones"
+        f" (`Supported`). Version 2 ({version:#x}; RFC 9369, 3.2) has the Long Packet Types {types} (`types_of`).")
+
+
+def protection():
+    """What is under header protection."""
+    low = {short: log_of(said(KEYS, "first_unit", short, "<unit>")["unit"], short) for short in ("true", "false")}
+    said(KEYS, "is_short", "packet", "nat_lt (slice_index packet 0) 128")
+    skipped = said(KEYS, "HasSample", "room", "at + <skipped> + sample_len ≤ length packet")["skipped"]
+    return (
+        "Packet Number has a byte more than Packet Number Length says (`number_len`); `reserved_zero` tells whether"
+        f" Reserved Bits are 0. The low {low['true']} bits of a 1-RTT packet's first byte, {low['false']} of others,"
+        " and the number are under header protection (`first_unit`, `Protects`; RFC 9001, 5.4), whose sample stands"
+        f" {skipped} bytes behind the number's place (`HasSample`, crates/{KEYS}.antt).")
+
+
+def packet_numbers():
+    """What a packet number stands for."""
+    said(CRYPTO, "IsInWindow", "residue", "n % window ≡ low")
+    said(CRYPTO, "IsInWindow", "above", "expected < n + window / 2")
+    said(CRYPTO, "IsInWindow", "below", "n ≤ expected + window / 2")
+    said(CRYPTO, "window_of", "number", "2 ^ (8 * number_size number)")
+    return (
+        "It is the low bytes of the one number with these that is greater than the expected one less half the window,"
+        f" and at most half the window greater (17.1, A.3; `IsInWindow`, crates/{CRYPTO}.antt).")
+
+
+def writing():
+    """How headers are written."""
+    said(STARTS, "long_front", "first version dst src", "(first ∷ bytes_of 4 version) ++ (long_id dst ++ long_id src)")
+    said(WRITING, "long_first", "version ty count", "first_byte version ty + (count - 1)")
+    said(TYPES, "first_byte", "version ty", "192 + 16 * type_number version ty")
+    said(TYPES, "type_number", "version ty", "place_of ty (types_of version)")
+    said(WRITING, "no_length", "", "0 ∷ 0 ∷ []")
+    said(WRITING, "with_length", "pn_len true header_len bytes", (
+        "let at = header_len - pn_len in take (at - 2) bytes ++ (bytes_of 2 (2 ^ 14 + (length bytes - at)) ++ drop at"
+        " bytes)"))
+    return (
+        f"Headers are written in this order (`header_with`, crates/{WRITING}.antt), Length in two bytes, the fixed bit"
+        " set, reserved and unused bits clear; the low seven of a version negotiation are given.")
+
+
+def any_version():
+    """The headers that all versions have."""
+    width = said(PLACES, "AnyVersion", "bytes version dst src rest", (
+        "(first : ℕ) × (number : List ℕ) × (bytes ≡ first ∷ (number ++ (long_id dst ++ (long_id src ++ rest))))"
+        " × (is_long first ≡ true) × IsNumber <width> version number"))["width"]
+    most = 8 * (said(NUMBER, "AreBytes", "b", "(i : ℕ) → slice_index b i < <above>")["above"] - 1)
+    zero = said(NEGOTIATION, "IsNegotiation", "bytes dst src rest", "AnyVersion bytes <zero> dst src rest")["zero"]
+    one = said(NEGOTIATION, "version_bytes", "", "flat_map (bytes_of <width>)")["width"]
+    said(NEGOTIATION, "negotiation_bytes", "first dst src versions", (
+        "header_bytes (header.VersionNegotiate (first % 128) src dst) ++ version_bytes versions"))
+    widths = [" Length (8)", f" (0..{most})"]
+    ids = [f"{end} Connection ID{width}" for end in ("Destination", "Source") for width in widths]
+    yield "### Long headers of any version (RFC 8999, 5.1)"
+    yield ""
+    lines = ["Header Form (1) = 1", "Version-Specific Bits (7)", f"Version ({8 * width})", *ids]
+    yield from figure("Long Header Packet", [*lines, "Version-Specific Data (..)"])
+    yield f"`AnyVersion`, crates/{PLACES}.antt; by it unknown versions are told (`IsUnknown`)."
+    yield from ["", "### Version Negotiation of any version (RFC 8999, 6)", ""]
+    lines = ["Header Form (1) = 1", "Unused (7)", f"Version ({8 * width}) = {zero}", *ids]
+    yield from figure("Version Negotiation Packet", [*lines, f"Supported Version ({8 * one}) ..."])
+    yield (
+        f"`IsNegotiation`, `negotiation_bytes`, crates/{NEGOTIATION}.antt. What is read ends behind the ids; the"
+        " versions are what is written (`version_bytes`).")
+    yield ""
+
+
+def page():
+    """All headers."""
+    yield "## Headers"
+    for paragraph in (reading(), protection(), packet_numbers(), writing()):
+        yield from ["", paragraph]
+    yield ""
+    for head in ALL:
+        checked(head)
+        yield f"### {head.title} ({head.section})"
+        yield ""
+        zero = f" = {meant(head)['version']}" if "version" in meant(head) else ""
+        fields = [line + zero * (field == "Version") for field in row(head) for line in lines_of(field)]
+        yield from figure(f"{head.title} Packet", [*first_lines(head), *fields, *behind(head)])
+        for note in notes(head):
+            yield from [note, ""]
+    yield from any_version()

@@ -110,7 +110,7 @@ pub fn get_array<B: Buf, const N: usize>(buf: &mut B) -> Result<[u8; N]>
 /// Lays an array over the bytes at a place, and answers where it ends. The caller must ensure that there are as
 /// many bytes. What stands before and behind the array stays.
 #[inline(always)]
-pub fn lay_array<const N: usize>(bytes: &mut [u8], at: usize, array: [u8; N]) -> usize
+pub fn store_array<const N: usize>(bytes: &mut [u8], at: usize, array: [u8; N]) -> usize
     requires { at + N ≤ length bytes.old }
     ensures end { result ≡ at + N }
     ensures front { take result bytes.new ≡ take at bytes.old ++ array.entry }

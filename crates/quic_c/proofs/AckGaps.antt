@@ -8,9 +8,9 @@ use Rattle.std.proofs.lemmas.Nat.{le_or_l, le_or_r, or_lt}
 use Rattle.quic_base.specs.Varint.{short, size}
 use Rattle.quic_base.proofs.PublicLaws.{length-short}
 use Rattle.quic_frame_fields.proofs.AckParts.{ack_parts}
-use Rattle.quic_frame_fields.proofs.Putting.{lays_more, lays_none}
+use Rattle.quic_frame_fields.proofs.Putting.{stores_more, stores_none}
 use Rattle.quic_frame_fields.proofs.Encoded.{all_short-append}
-use Rattle.quic_frame_fields.specs.Putting.{Lays}
+use Rattle.quic_frame_fields.specs.Putting.{Stores}
 use Rattle.quic_frame_fields.specs.Numbers.{AreNumeric, all_short}
 use Rattle.quic_frame_fields.specs.Sets.{ack_type, count_numbers}
 use Rattle.quic_frame_fields.specs.Shortest.{shortest_below, shortest_frame}
@@ -230,25 +230,25 @@ short_two a b lt =
 pub few_two : (a b : ℕ) → 2 ≤ length (all_short (a ∷ b ∷ []))
 few_two a b = omega (arith, length-append (short a) (short b ++ []), length-append (short b) [], length-short a, length-short b, size_some a, size_some b)
 
-pub laid_two : (a b : ℕ) (old one new : List ℕ) (at place end : ℕ) → Lays (short a) at old place one → Lays (short b) place one end new
-    → Lays (all_short (a ∷ b ∷ [])) at old end new
-laid_two a b old one new at place end x y =
-    subst (λ (l : List ℕ). Lays (short a ++ l) at old end new) (sym (append-nil (short b))) (lays_more (short a) (short b) old one new at place end x y)
+pub stored_two : (a b : ℕ) (old one new : List ℕ) (at place end : ℕ) → Stores (short a) at old place one → Stores (short b) place one end new
+    → Stores (all_short (a ∷ b ∷ [])) at old end new
+stored_two a b old one new at place end x y =
+    subst (λ (l : List ℕ). Stores (short a ++ l) at old end new) (sym (append-nil (short b))) (stores_more (short a) (short b) old one new at place end x y)
 
-pub laid_front : (g d n f : ℕ) (old one two new : List ℕ) (place stop end : ℕ) → Lays (short g) 1 old place one → Lays (short d) place one stop two
-    → Lays (all_short (n ∷ f ∷ [])) stop two end new → Lays (all_short (g ∷ d ∷ n ∷ f ∷ [])) 1 old end new
-laid_front g d n f old one two new place stop end x y z =
-    lays_more (short g) (all_short (d ∷ n ∷ f ∷ [])) old one new 1 place end x (lays_more (short d) (all_short (n ∷ f ∷ [])) one two new place stop end y z)
+pub stored_front : (g d n f : ℕ) (old one two new : List ℕ) (place stop end : ℕ) → Stores (short g) 1 old place one → Stores (short d) place one stop two
+    → Stores (all_short (n ∷ f ∷ [])) stop two end new → Stores (all_short (g ∷ d ∷ n ∷ f ∷ [])) 1 old end new
+stored_front g d n f old one two new place stop end x y z =
+    stores_more (short g) (all_short (d ∷ n ∷ f ∷ [])) old one new 1 place end x (stores_more (short d) (all_short (n ∷ f ∷ [])) one two new place stop end y z)
 
-pub laid_counts : (words : FrameWords) (old one new : List ℕ) (at place end : ℕ) → words.flags ≡ 2
-    → Lays (short (slice_index words.numbers 2)) at old place one → Lays (all_short (slice_index words.numbers 3 ∷ slice_index words.numbers 4 ∷ [])) place one end new
-    → Lays (all_short (counts_list words)) at old end new
-laid_counts words old one new at place end two x y =
+pub stored_counts : (words : FrameWords) (old one new : List ℕ) (at place end : ℕ) → words.flags ≡ 2
+    → Stores (short (slice_index words.numbers 2)) at old place one → Stores (all_short (slice_index words.numbers 3 ∷ slice_index words.numbers 4 ∷ [])) place one end new
+    → Stores (all_short (counts_list words)) at old end new
+stored_counts words old one new at place end two x y =
     let a : ℕ = slice_index words.numbers 2 in
     let b : ℕ = slice_index words.numbers 3 in
     let c : ℕ = slice_index words.numbers 4 in
-    let joined : Lays (all_short (a ∷ b ∷ c ∷ [])) at old end new = lays_more (short a) (all_short (b ∷ c ∷ [])) old one new at place end x y in
-    subst (λ (f : ℕ). Lays (all_short (if f == 2 then a ∷ b ∷ c ∷ [] else [])) at old end new) (sym two) joined
+    let joined : Stores (all_short (a ∷ b ∷ c ∷ [])) at old end new = stores_more (short a) (all_short (b ∷ c ∷ [])) old one new at place end x y in
+    subst (λ (f : ℕ). Stores (all_short (if f == 2 then a ∷ b ∷ c ∷ [] else [])) at old end new) (sym two) joined
 
 -- ---- the type is laid last
 
@@ -285,8 +285,8 @@ tail_of k bytes [] mid le e = absurd (omega (arith, le))
 tail_of k bytes (o ∷ old) [] le e = absurd (omega (arith, ap length e))
 tail_of k bytes (o ∷ old) (m ∷ mid) le e = ap (λ (l : List ℕ). drop 1 l) e
 
-typed : (t : ℕ) (bytes old mid new : List ℕ) (end first : ℕ) → 1 ≤ length old → Lays bytes 1 old end mid → first ≡ 0 + 1 → take first new ≡ take 0 mid ++ (t ∷ [])
-    → drop first new ≡ drop first mid → Lays (t ∷ bytes) 0 old end new
+typed : (t : ℕ) (bytes old mid new : List ℕ) (end first : ℕ) → 1 ≤ length old → Stores bytes 1 old end mid → first ≡ 0 + 1 → take first new ≡ take 0 mid ++ (t ∷ [])
+    → drop first new ≡ drop first mid → Stores (t ∷ bytes) 0 old end new
 typed t bytes old mid new end first le x one front back =
     let k : ℕ = length bytes in
     let count = x.count in
@@ -301,14 +301,14 @@ typed t bytes old mid new end first le x one front back =
     }
 
 -- the numbers behind the type, the gaps, the type and the counts were laid, one after the other
-pub laid_ack : (t : ℕ) (behind middle end old front mid one new : List ℕ) (place at stop first : ℕ) → 1 ≤ length old → Lays behind 1 old place front → Lays middle place front at mid
-    → first ≡ 0 + 1 → take first one ≡ take 0 mid ++ (t ∷ []) → drop first one ≡ drop first mid → Lays end at one stop new
-    → Lays ((t ∷ behind) ++ (middle ++ end)) 0 old stop new
-laid_ack t behind middle end old front mid one new place at stop first le x y a b c z =
-    let so_far : Lays (behind ++ middle) 1 old at mid = lays_more behind middle old front mid 1 place at x y in
-    let with_type : Lays (t ∷ (behind ++ middle)) 0 old at one = typed t (behind ++ middle) old mid one at first le so_far a b c in
-    let all = lays_more (t ∷ (behind ++ middle)) end old one new 0 at stop with_type z in
-    subst (λ (l : List ℕ). Lays (t ∷ l) 0 old stop new) (append_assoc behind middle end) all
+pub stored_ack : (t : ℕ) (behind middle end old front mid one new : List ℕ) (place at stop first : ℕ) → 1 ≤ length old → Stores behind 1 old place front → Stores middle place front at mid
+    → first ≡ 0 + 1 → take first one ≡ take 0 mid ++ (t ∷ []) → drop first one ≡ drop first mid → Stores end at one stop new
+    → Stores ((t ∷ behind) ++ (middle ++ end)) 0 old stop new
+stored_ack t behind middle end old front mid one new place at stop first le x y a b c z =
+    let so_far : Stores (behind ++ middle) 1 old at mid = stores_more behind middle old front mid 1 place at x y in
+    let with_type : Stores (t ∷ (behind ++ middle)) 0 old at one = typed t (behind ++ middle) old mid one at first le so_far a b c in
+    let all = stores_more (t ∷ (behind ++ middle)) end old one new 0 at stop with_type z in
+    subst (λ (l : List ℕ). Stores (t ∷ l) 0 old stop new) (append_assoc behind middle end) all
 
 -- ---- gap after gap
 
@@ -391,23 +391,23 @@ pub counted_all : (low : ℕ) (gaps : List GapWords) (i len : ℕ) → length ga
 counted_all low gaps i len le inv = inv.counted ∙ ap (λ (x : List GapWords). length (all_short (gap_numbers x))) (take_all i gaps le)
 
 -- so many gaps were laid
-pub record LaidOn (gaps : List GapWords) (at : ℕ) (old : List ℕ) (i end : ℕ) (new : List ℕ) : Type 0 where
-  pub laid : Lays (all_short (gap_numbers (take i gaps))) at old end new
+pub record StoredOn (gaps : List GapWords) (at : ℕ) (old : List ℕ) (i end : ℕ) (new : List ℕ) : Type 0 where
+  pub stored : Stores (all_short (gap_numbers (take i gaps))) at old end new
   pub len : length new ≡ length old
 
-pub laid_none : (gaps : List GapWords) (at : ℕ) (old : List ℕ) → LaidOn gaps at old 0 at old
-laid_none gaps at old = record { laid = lays_none at old; len = refl }
+pub stored_none : (gaps : List GapWords) (at : ℕ) (old : List ℕ) → StoredOn gaps at old 0 at old
+stored_none gaps at old = record { stored = stores_none at old; len = refl }
 
-pub laid_more : (gaps : List GapWords) (at i end stop : ℕ) (old one new : List ℕ) → i < length gaps → LaidOn gaps at old i end one
-    → Lays (all_short ((get_or gaps i none).gap ∷ (get_or gaps i none).len ∷ [])) end one stop new → length new ≡ length one → LaidOn gaps at old (i + 1) stop new
-laid_more gaps at i end stop old one new lt inv y same = record {
-  laid = subst (λ (l : List ℕ). Lays l at old stop new) (sym (gap_more gaps i lt))
-      (lays_more (all_short (gap_numbers (take i gaps))) (all_short ((get_or gaps i none).gap ∷ (get_or gaps i none).len ∷ [])) old one new at end stop inv.laid y);
+pub stored_more : (gaps : List GapWords) (at i end stop : ℕ) (old one new : List ℕ) → i < length gaps → StoredOn gaps at old i end one
+    → Stores (all_short ((get_or gaps i none).gap ∷ (get_or gaps i none).len ∷ [])) end one stop new → length new ≡ length one → StoredOn gaps at old (i + 1) stop new
+stored_more gaps at i end stop old one new lt inv y same = record {
+  stored = subst (λ (l : List ℕ). Stores l at old stop new) (sym (gap_more gaps i lt))
+      (stores_more (all_short (gap_numbers (take i gaps))) (all_short ((get_or gaps i none).gap ∷ (get_or gaps i none).len ∷ [])) old one new at end stop inv.stored y);
   len = same ∙ inv.len;
 }
 
-pub laid_all : (gaps : List GapWords) (at i end : ℕ) (old new : List ℕ) → length gaps ≤ i → LaidOn gaps at old i end new → Lays (all_short (gap_numbers gaps)) at old end new
-laid_all gaps at i end old new le inv = subst (λ (x : List GapWords). Lays (all_short (gap_numbers x)) at old end new) (take_all i gaps le) inv.laid
+pub stored_all : (gaps : List GapWords) (at i end : ℕ) (old new : List ℕ) → length gaps ≤ i → StoredOn gaps at old i end new → Stores (all_short (gap_numbers gaps)) at old end new
+stored_all gaps at i end old new le inv = subst (λ (x : List GapWords). Stores (all_short (gap_numbers x)) at old end new) (take_all i gaps le) inv.stored
 
 pub numeric_at : (gaps : List GapWords) (i : ℕ) → i < length gaps → AreNumeric (gap_numbers gaps) → ((get_or gaps i none).gap < 2 ^ 62) × ((get_or gaps i none).len < 2 ^ 62)
 numeric_at [] i lt n = absurd (omega (arith, lt))
@@ -415,14 +415,14 @@ numeric_at (g ∷ gaps) zero lt n = (n.0, n.1.0)
 numeric_at (g ∷ gaps) (suc i) lt n = numeric_at gaps i (omega (arith, lt)) n.1.1
 
 -- the next two numbers have room
-pub room_at : (gaps : List GapWords) (at i end : ℕ) (old one : List ℕ) → i < length gaps → at + length (all_short (gap_numbers gaps)) ≤ length old → LaidOn gaps at old i end one
+pub room_at : (gaps : List GapWords) (at i end : ℕ) (old one : List ℕ) → i < length gaps → at + length (all_short (gap_numbers gaps)) ≤ length old → StoredOn gaps at old i end one
     → end + length (all_short ((get_or gaps i none).gap ∷ (get_or gaps i none).len ∷ [])) ≤ length one
 room_at gaps at i end old one lt room inv =
     let g : GapWords = get_or gaps i none in
     let front : List GapWords = take (i + 1) gaps in
     let back : List GapWords = drop (i + 1) gaps in
     let parts : gap_numbers gaps ≡ gap_numbers front ++ gap_numbers back = ap gap_numbers (sym (take-append-drop (i + 1) gaps)) ∙ numbers_append front back in
-    let so_far = inv.laid.count in
+    let so_far = inv.stored.count in
     let same = inv.len in
     omega (
       arith,

@@ -2,12 +2,12 @@
 ghost use Rattle.std.specs.Prelude.{◌≡◌, ◌⊎◌, ◌↔◌, ◌+◌, ◌*◌, ◌<◌, ◌≤◌, ◌^◌, ◌++◌, ◌∷◌, ℕ, List, [], Bool, Ok, Err, IsTrue, length, pos, negsuc, ◌==◌, if◌then◌else◌};
 ghost use Rattle.quic_base.specs.Varint.{short};
 ghost use Rattle.quic_frame_fields.specs.Numbers.{AreNumeric, all_short};
-ghost use Rattle.quic_frame_fields.specs.Putting.{Lays, Puts};
+ghost use Rattle.quic_frame_fields.specs.Putting.{Stores, Puts};
 ghost use Rattle.quic_frame_fields.specs.Shortest.{shortest_frame};
 ghost use Rattle.quic_c.specs.AckGaps.{ack_bytes, ack_said, behind_type, counts_list, delay_in, gap_numbers, greatest_in, Fit, IsAck, SaysAck};
 
 use crate::words::{FrameWords, GapWords};
-use quic_base::coding::lay_array;
+use quic_base::coding::store_array;
 use quic_frame_fields::frame::write::{numbers_len, size_of};
 
 // The type, which tells whether there are counts.
@@ -20,32 +20,32 @@ fn type_of(ack: &FrameWords) -> u64
 
 // Lays two bytes, each by a store of its own: no word is made of them first.
 #[inline(always)]
-fn lay_bytes(dest: &mut [u8], at: usize, one: u8, other: u8) -> usize
+fn store_bytes(dest: &mut [u8], at: usize, one: u8, other: u8) -> usize
     requires { at + 2 ≤ length dest.old }
-    ensures lays { Lays (one ∷ other ∷ []) at dest.old result dest.new }
+    ensures stores { Stores (one ∷ other ∷ []) at dest.old result dest.new }
     ensures len { length dest.new ≡ length dest.old }
 {
-    let at = lay_array(dest, at, [one]);
-    lay_array(dest, at, [other])
+    let at = store_array(dest, at, [one]);
+    store_array(dest, at, [other])
 }
 
 // Lays a number in its shortest encoding over the bytes at a place, and answers where it ends.
 #[inline(always)]
 #[tactic(auto, unfolding(quic_base::specs::Varint::short, quic_base::specs::Varint::size, quic_base::specs::Number::bytes_of))]
-pub(crate) fn lay(dest: &mut [u8], at: usize, n: u64) -> usize
+pub(crate) fn store(dest: &mut [u8], at: usize, n: u64) -> usize
     requires numeric { n < 2 ^ 62 }
     requires room { at + length (short n) ≤ length dest.old }
-    ensures lays { Lays (short n) at dest.old result dest.new }
+    ensures stores { Stores (short n) at dest.old result dest.new }
     ensures len { length dest.new ≡ length dest.old }
 {
     if n < 1 << 6 {
-        lay_array(dest, at, [n as u8])
+        store_array(dest, at, [n as u8])
     } else if n < 1 << 14 {
-        lay_bytes(dest, at, (1 << 6) + (n / 256) as u8, (n % 256) as u8)
+        store_bytes(dest, at, (1 << 6) + (n / 256) as u8, (n % 256) as u8)
     } else if n < 1 << 30 {
-        lay_array(dest, at, ((2 << 30) + n as u32).to_be_bytes())
+        store_array(dest, at, ((2 << 30) + n as u32).to_be_bytes())
     } else {
-        lay_array(dest, at, (3 << 62 | n).to_be_bytes())
+        store_array(dest, at, (3 << 62 | n).to_be_bytes())
     }
 }
 
@@ -80,76 +80,76 @@ fn gaps_len(low: u64, gaps: &[GapWords]) -> usize
 
 // Lays two numbers, one behind the other. Where both have one byte, one test tells that.
 #[inline(always)]
-fn lay_two(dest: &mut [u8], at: usize, one: u64, other: u64) -> usize
+fn store_two(dest: &mut [u8], at: usize, one: u64, other: u64) -> usize
     requires one { one < 2 ^ 62 }
     requires other { other < 2 ^ 62 }
     requires room { at + length (all_short (one ∷ other ∷ [])) ≤ length dest.old }
-    ensures lays { Lays (all_short (one ∷ other ∷ [])) at dest.old result dest.new }
+    ensures stores { Stores (all_short (one ∷ other ∷ [])) at dest.old result dest.new }
     ensures len { length dest.new ≡ length dest.old }
 {
     if (one | other) < 1 << 6 {
-        return lay_bytes(dest, at, one as u8, other as u8);
+        return store_bytes(dest, at, one as u8, other as u8);
     }
-    let at = lay(dest, at, one);
-    lay(dest, at, other)
+    let at = store(dest, at, one);
+    store(dest, at, other)
 }
 
 // Lays the gaps and lengths over the bytes at a place, and answers where they end.
 #[inline(always)]
-fn lay_gaps(dest: &mut [u8], at: usize, gaps: &[GapWords]) -> usize
+fn store_gaps(dest: &mut [u8], at: usize, gaps: &[GapWords]) -> usize
     requires numeric { AreNumeric (gap_numbers gaps.now) }
     requires room { at + length (all_short (gap_numbers gaps.now)) ≤ length dest.old }
-    ensures lays { Lays (all_short (gap_numbers gaps.now)) at dest.old result dest.new }
+    ensures stores { Stores (all_short (gap_numbers gaps.now)) at dest.old result dest.new }
     ensures len { length dest.new ≡ length dest.old }
 {
     let mut at = at;
     for gap in gaps {
-        at = lay_two(dest, at, gap.gap, gap.len);
+        at = store_two(dest, at, gap.gap, gap.len);
     }
     at
 }
 
 // Lays the numbers between the type and the gaps behind the first byte.
 #[inline(always)]
-fn lay_front(dest: &mut [u8], ack: &FrameWords, gaps: &[GapWords]) -> usize
+fn store_front(dest: &mut [u8], ack: &FrameWords, gaps: &[GapWords]) -> usize
     requires ack { IsAck ack.now gaps.now }
     requires room { 1 + length (all_short (behind_type ack.now gaps.now)) ≤ length dest.old }
-    ensures lays { Lays (all_short (behind_type ack.now gaps.now)) 1 dest.old result dest.new }
+    ensures stores { Stores (all_short (behind_type ack.now gaps.now)) 1 dest.old result dest.new }
     ensures len { length dest.new ≡ length dest.old }
 {
-    let at = lay(dest, 1, ack.numbers[0]);
-    let at = lay(dest, at, ack.numbers[1]);
-    lay_two(dest, at, gaps.len() as u64, ack.data_len as u64)
+    let at = store(dest, 1, ack.numbers[0]);
+    let at = store(dest, at, ack.numbers[1]);
+    store_two(dest, at, gaps.len() as u64, ack.data_len as u64)
 }
 
 // Lays the counts.
 #[inline(always)]
-fn lay_counts(dest: &mut [u8], at: usize, ack: &FrameWords) -> usize
+fn store_counts(dest: &mut [u8], at: usize, ack: &FrameWords) -> usize
     requires some { ack.now.flags ≡ 2 }
     requires counts { AreNumeric (counts_list ack.now) }
     requires room { at + length (all_short (counts_list ack.now)) ≤ length dest.old }
-    ensures lays { Lays (all_short (counts_list ack.now)) at dest.old result dest.new }
+    ensures stores { Stores (all_short (counts_list ack.now)) at dest.old result dest.new }
     ensures len { length dest.new ≡ length dest.old }
 {
-    let at = lay(dest, at, ack.numbers[2]);
-    lay_two(dest, at, ack.numbers[3], ack.numbers[4])
+    let at = store(dest, at, ack.numbers[2]);
+    store_two(dest, at, ack.numbers[3], ack.numbers[4])
 }
 
 // Lays the ACK at the front, and its type last, where the flags are looked at for the counts.
 #[inline(always)]
-fn lay_ack(ack: &FrameWords, gaps: &[GapWords], dest: &mut [u8]) -> usize
+fn store_ack(ack: &FrameWords, gaps: &[GapWords], dest: &mut [u8]) -> usize
     requires ack { IsAck ack.now gaps.now }
     requires room { length (ack_bytes ack.now gaps.now) ≤ length dest.old }
     ensures { Puts (Ok result) (ack_bytes ack.now gaps.now) dest.old dest.new }
 {
-    let at = lay_front(dest, ack, gaps);
-    let at = lay_gaps(dest, at, gaps);
+    let at = store_front(dest, ack, gaps);
+    let at = store_gaps(dest, at, gaps);
     if ack.flags != 2 {
-        lay_array(dest, 0, [0x02]);
+        store_array(dest, 0, [0x02]);
         return at;
     }
-    lay_array(dest, 0, [0x03]);
-    lay_counts(dest, at, ack)
+    store_array(dest, 0, [0x03]);
+    store_counts(dest, at, ack)
 }
 
 // How many bytes the ACK has.
@@ -228,7 +228,7 @@ fn write_counted(ack: &FrameWords, gaps: &[GapWords], out: &mut [u8], written: &
         *written = needed;
         return -4;
     }
-    *written = lay_ack(ack, gaps, out);
+    *written = store_ack(ack, gaps, out);
     0
 }
 
@@ -257,7 +257,7 @@ pub extern "C" fn quic_wire_ack_gaps_write_(
     ensures same { (result ≡ negsuc 0) → (written.new ≡ written.old) × (out.new ≡ out.old) }
 {
     if has_room(gaps, out.len()) && is_ack(ack, gaps) {
-        *written = lay_ack(ack, gaps, out);
+        *written = store_ack(ack, gaps, out);
         return 0;
     }
     write_counted(ack, gaps, out, written)

@@ -10,7 +10,7 @@ ghost use Rattle.quic_c.specs.Shown.{data_of};
 ghost use Rattle.quic_c.specs.Written.{CanWrite, flag_of};
 ghost use Rattle.quic_c.specs.declared.words.FrameWords.{FrameWords};
 
-use crate::ack_gaps::lay;
+use crate::ack_gaps::store;
 use crate::words::FrameWords;
 use quic_errors::frame_type::FrameType;
 use quic_frame_fields::frame::put;
@@ -46,7 +46,7 @@ fn put_numbers(dest: &mut [u8], numbers: &[u64]) -> Result<usize, usize>
     }
     let mut at = 0;
     for number in numbers {
-        at = lay(dest, at, *number);
+        at = store(dest, at, *number);
     }
     Ok(at)
 }

@@ -1,3 +1,3 @@
 mod PaddingBytes
 mod LenWalk
-mod LayWalk
+mod StoreWalk

@@ -122,7 +122,7 @@ fn pad(count: usize, dest: &mut [u8], at: usize) -> usize
 }
 
 // Lays the frames of a payload in their shortest encodings, for which there is room, at the front.
-fn lay(payload: &[u8], dest: &mut [u8])
+fn store(payload: &[u8], dest: &mut [u8])
     requires some { payload.now ≢ [] }
     requires whole { (found : List Found) × AreFrames false found payload.now }
     requires room { (found : List Found) → AreFrames false found payload.now
@@ -161,7 +161,7 @@ fn write(payload: &[u8], len: usize, dest: &mut [u8])
     if len == payload.len() {
         dest[..len].copy_from_slice(payload);
     } else {
-        lay(payload, dest);
+        store(payload, dest);
     }
 }
 

@@ -208,7 +208,7 @@ pub one_answer : (id_len : ℕ) (versions packet : List ℕ) (old new words : He
     → AreBytes packet → Told id_len versions packet old answer new → Told id_len versions packet old other words → (answer ≡ other) × (new ≡ words)
 one_answer id_len versions packet old new words answer other law fits t u =
     let seen = law id_len versions packet (seen_in packet t.read) (seen_in packet u.read) fits t.right u.right in
-    let same = same_read packet t.read u.read seen t.laid u.laid t.first u.first in (
+    let same = same_read packet t.read u.read seen t.stored u.stored t.first u.first in (
       t.answers ∙ ap (λ r. answer_word r (length packet)) same ∙ sym u.answers,
       t.words ∙ ap (λ r. header_words packet r old) same ∙ sym u.words,
     )
@@ -233,15 +233,15 @@ ended context packet x (Some q) old new law head within ends zero words =
 
 cut_there : (context : Context) (packet : List ℕ) (read : Result HeaderPlaces ReadError) (old new : HeaderWords) → Law → ReadAnswer context packet (seen_in packet read) → IsSeen read (length packet)
     → 0 ≡ answer_word read (length packet) → new ≡ header_words packet read old → IsCut context packet new
-cut_there context packet (Ok x) old new law right laid zero words = ended context packet x (ends_at x (length packet)) old new law right laid.head refl zero words
-cut_there context packet (Err (error.UnsupportedVersion version dst_len src_len)) old new law right laid zero words = absurd (omega (arith, zero))
-cut_there context packet (Err error.UnexpectedEnd) old new law right laid zero words = absurd (omega (arith, zero))
-cut_there context packet (Err error.SmallPacket) old new law right laid zero words = absurd (omega (arith, zero))
-cut_there context packet (Err error.MalformedCid) old new law right laid zero words = absurd (omega (arith, zero))
-cut_there context packet (Err error.TokenOutOfBounds) old new law right laid zero words = absurd (omega (arith, zero))
+cut_there context packet (Ok x) old new law right stored zero words = ended context packet x (ends_at x (length packet)) old new law right stored.head refl zero words
+cut_there context packet (Err (error.UnsupportedVersion version dst_len src_len)) old new law right stored zero words = absurd (omega (arith, zero))
+cut_there context packet (Err error.UnexpectedEnd) old new law right stored zero words = absurd (omega (arith, zero))
+cut_there context packet (Err error.SmallPacket) old new law right stored zero words = absurd (omega (arith, zero))
+cut_there context packet (Err error.MalformedCid) old new law right stored zero words = absurd (omega (arith, zero))
+cut_there context packet (Err error.TokenOutOfBounds) old new law right stored zero words = absurd (omega (arith, zero))
 
 -- a packet that is told to be whole is cut where the words say
 pub whole_cut : (id_len : ℕ) (versions packet : List ℕ) (old new : HeaderWords) (answer : ℕ) → Law → Told id_len versions packet old answer new → answer ≡ 0
     → (h : ProtectedHeader) × Cut (any_fixed id_len versions) packet h new.header_end new.end
 whole_cut id_len versions packet old new answer law t zero =
-    cut_there (any_fixed id_len versions) packet t.read old new law t.right t.laid (sym zero ∙ t.answers) t.words
+    cut_there (any_fixed id_len versions) packet t.read old new law t.right t.stored (sym zero ∙ t.answers) t.words

@@ -11,7 +11,7 @@ use Rattle.quic_base.specs.Number.{num, AreBytes, bytes_of}
 use Rattle.quic_base.proofs.PublicLaws as law
 use Rattle.quic_header_encode.specs.Starts.{long_front}
 use Rattle.quic_header_encode.specs.declared.long_type.HeaderKind.TheVariants as kind
-use Rattle.quic_header_encode.proofs.Lays.{stays}
+use Rattle.quic_header_encode.proofs.Stores.{stays}
 use Rattle.quic_header_decode.specs.declared.places.HeaderPlaces.{HeaderPlaces}
 use Rattle.quic_header_decode.specs.declared.protected.ProtectedHeader.TheVariants as head
 use Rattle.quic_header_decode.specs.Grammar.{HeaderAt}
@@ -152,7 +152,7 @@ told id_len versions packet dst src rest old (first, number, whole, long, word) 
     record {
       read = Ok (places packet dst src);
       right = header_at context packet dst src rest _ _ _ random dst_is.0 src_is.0 behind (negotiation_header context (length packet) packet random dst src rest start);
-      laid = record {
+      stored = record {
         fields = (omega arith, (refl, refl), refl, refl);
         dst_few = few;
         src_few = less;
@@ -169,14 +169,14 @@ told id_len versions packet dst src rest old (first, number, whole, long, word) 
 -- ---- what is laid
 
 -- so many versions were laid
-pub record LaidOn (versions : List ℕ) (at : ℕ) (old : List ℕ) (i end : ℕ) (new : List ℕ) : Type 0 where
+pub record StoredOn (versions : List ℕ) (at : ℕ) (old : List ℕ) (i end : ℕ) (new : List ℕ) : Type 0 where
   pub count : end ≡ at + 4 * i
   pub front : take end new ≡ take at old ++ version_bytes (take i versions)
   pub back : drop end new ≡ drop end old
   pub len : length new ≡ length old
 
-pub laid_none : (versions : List ℕ) (at : ℕ) (old : List ℕ) → LaidOn versions at old 0 at old
-laid_none versions at old = record { count = omega arith; front = sym (append-nil (take at old)); back = refl; len = refl }
+pub stored_none : (versions : List ℕ) (at : ℕ) (old : List ℕ) → StoredOn versions at old 0 at old
+stored_none versions at old = record { count = omega arith; front = sym (append-nil (take at old)); back = refl; len = refl }
 
 version_more : (versions : List ℕ) (i : ℕ) → i < length versions → version_bytes (take (i + 1) versions) ≡ version_bytes (take i versions) ++ bytes_of 4 (get_or versions i 0)
 version_more versions i lt =
@@ -184,10 +184,10 @@ version_more versions i lt =
     ap version_bytes (take_more versions i 0 lt) ∙ flat_map-append (bytes_of 4) (take i versions) (v ∷ [])
     ∙ ap (λ (xs : List ℕ). version_bytes (take i versions) ++ xs) (append-nil (bytes_of 4 v))
 
-pub laid_more : (versions : List ℕ) (at i end stop : ℕ) (old one new : List ℕ) → i < length versions → LaidOn versions at old i end one
+pub stored_more : (versions : List ℕ) (at i end stop : ℕ) (old one new : List ℕ) → i < length versions → StoredOn versions at old i end one
     → stop ≡ end + 4 → take stop new ≡ take end one ++ bytes_of 4 (get_or versions i 0) → drop stop new ≡ drop stop one → length new ≡ length one
-    → LaidOn versions at old (i + 1) stop new
-laid_more versions at i end stop old one new lt inv after front back same = record {
+    → StoredOn versions at old (i + 1) stop new
+stored_more versions at i end stop old one new lt inv after front back same = record {
   count = (let so_far = inv.count in omega (arith, so_far, after));
   front = front ∙ ap (λ (xs : List ℕ). xs ++ bytes_of 4 (get_or versions i 0)) inv.front
       ∙ append_assoc (take at old) (version_bytes (take i versions)) (bytes_of 4 (get_or versions i 0))
@@ -200,9 +200,9 @@ pub versions_long : (versions : List ℕ) → length (version_bytes versions) �
 versions_long [] = refl
 versions_long (v ∷ versions) = omega (arith, length-append (bytes_of 4 v) (version_bytes versions), law.length-bytes_of 4 v, versions_long versions)
 
-pub laid_all : (versions : List ℕ) (at i end : ℕ) (old new : List ℕ) → length versions ≤ i → LaidOn versions at old i end new
+pub stored_all : (versions : List ℕ) (at i end : ℕ) (old new : List ℕ) → length versions ≤ i → StoredOn versions at old i end new
     → take end new ≡ take at old ++ version_bytes versions
-laid_all versions at i end old new le inv = inv.front ∙ ap (λ (xs : List ℕ). take at old ++ version_bytes xs) (take_all i versions le)
+stored_all versions at i end old new le inv = inv.front ∙ ap (λ (xs : List ℕ). take at old ++ version_bytes xs) (take_all i versions le)
 
 -- ---- all of the packet
 
@@ -218,10 +218,10 @@ bytes_long first dst src versions =
       versions_long versions,
     )
 
-pub bytes_laid : (first : ℕ) (dst src versions one two three four all : List ℕ) → one ≡ bit_or 128 (first % 128) ∷ [] → two ≡ one ++ (0 ∷ 0 ∷ 0 ∷ 0 ∷ [])
+pub bytes_stored : (first : ℕ) (dst src versions one two three four all : List ℕ) → one ≡ bit_or 128 (first % 128) ∷ [] → two ≡ one ++ (0 ∷ 0 ∷ 0 ∷ 0 ∷ [])
     → three ≡ two ++ long_id dst → four ≡ three ++ long_id src → all ≡ four ++ version_bytes versions → all ≡ negotiation_bytes first dst src versions
 unfolding bytes_of
-bytes_laid first dst src versions one two three four all e f g h i =
+bytes_stored first dst src versions one two three four all e f g h i =
     let start : List ℕ = bit_or 128 (first % 128) ∷ 0 ∷ 0 ∷ 0 ∷ 0 ∷ [] in
     let both : four ≡ start ++ (long_id dst ++ long_id src) =
     h ∙ ap (λ (xs : List ℕ). xs ++ long_id src) (g ∙ ap (λ (xs : List ℕ). xs ++ long_id dst) (f ∙ ap (λ (xs : List ℕ). xs ++ (0 ∷ 0 ∷ 0 ∷ 0 ∷ [])) e))

@@ -12,7 +12,7 @@ use Rattle.quic_crypto.specs.PacketNumbers.{low_part, number_bytes, number_size,
 use Rattle.quic_header_encode.specs.declared.long_type.HeaderKind.{HeaderKind}
 use Rattle.quic_header_encode.specs.declared.long_type.HeaderKind.TheVariants as kind
 use Rattle.quic_header_encode.specs.declared.header.Header.{Header}
-use Rattle.quic_header_encode.specs.Laying.{begun_by, has_bit, header_of, number_bits, says_length, token_by, type_bits}
+use Rattle.quic_header_encode.specs.Storing.{begun_by, has_bit, header_of, number_bits, says_length, token_by, type_bits}
 use Rattle.quic_header_encode.specs.Starts.{long_front}
 use Rattle.quic_header_encode.specs.Writing.{bit, header_with}
 use Rattle.quic_c_headers.specs.declared.words.SaidWords.{SaidWords}
@@ -177,24 +177,24 @@ begun_same : (f g : ℕ) (h : ℕ → List ℕ) (a b : ℕ) → f ≡ g → a �
 begun_same f g h a b e same = ap (λ (x : ℕ). begun_by x (h a)) e ∙ ap (λ (n : ℕ). begun_by g (h n)) same
 
 -- what is laid of them
-abbrev pub laid_said : HeaderKind → ℕ → SaidWords → List ℕ → List ℕ → List ℕ → List ℕ
-laid_said k len words dst src token =
+abbrev pub stored_said : HeaderKind → ℕ → SaidWords → List ℕ → List ℕ → List ℕ → List ℕ
+stored_said k len words dst src token =
     let number = part_of words.number_len words.number in
     begun_by (first_word k words.flags + type_bits k words.version + number_bits k number)
     (header_with (replicate len 0) (header_of k (first_word k words.flags) words.version dst src token number))
 
-pub laid_as : (k : HeaderKind) (f len : ℕ) (words : SaidWords) (dst src token : List ℕ) (number : PacketNumber) → f ≡ first_word k words.flags
+pub stored_as : (k : HeaderKind) (f len : ℕ) (words : SaidWords) (dst src token : List ℕ) (number : PacketNumber) → f ≡ first_word k words.flags
     → number ≡ part_of words.number_len words.number
     → begun_by (f + type_bits k words.version + number_bits k number) (header_with (replicate len 0) (header_of k f words.version dst src token number))
-    ≡ laid_said k len words dst src token
-laid_as k f len words dst src token number e is =
+    ≡ stored_said k len words dst src token
+stored_as k f len words dst src token number e is =
     ap (λ (g : ℕ). begun_by (g + type_bits k words.version + number_bits k number) (header_with (replicate len 0) (header_of k g words.version dst src token number))) e
     ∙ ap (λ (p : PacketNumber). begun_by (first_word k words.flags + type_bits k words.version + number_bits k p)
     (header_with (replicate len 0) (header_of k (first_word k words.flags) words.version dst src token p))) is
 
 pub bytes_said : (k : HeaderKind) (len : ℕ) (words : SaidWords) (dst src token : List ℕ) → IsNumbered words → kind_word k ≡ words.kind
     → ((words.length_len ≡ 2) ⊎ (words.length_len ≡ 4) → len ≡ words.length_len)
-    → laid_said k len words dst src token ≡ said_bytes words.length_len (clear_by k words.flags) (header_said k words dst src token)
+    → stored_said k len words dst src token ≡ said_bytes words.length_len (clear_by k words.flags) (header_said k words dst src token)
 bytes_said kind.Initial len words dst src token s e same =
     begun_same _ _ (λ n. header_with (replicate n 0) (header_said kind.Initial words dst src token)) len words.length_len
     (omega (arith, clear_is words.flags)) (same (s.len (omega (arith, e))))
@@ -285,7 +285,7 @@ with_length kind.VersionNegotiate words e has = absurd (search (rules, has))
 
 -- what is laid of one, field behind field, is what its words say
 pub numbered_said : (k : HeaderKind) (words : SaidWords) (dst src token : List ℕ) → IsTrue (says_length k) → 1 ≤ words.number_len → words.number_len ≤ 4
-    → numbered_bytes k words dst src token ≡ laid_said k words.length_len words dst src token
+    → numbered_bytes k words dst src token ≡ stored_said k words.length_len words dst src token
 numbered_said kind.Initial words dst src token has some few =
     let part : PacketNumber = part_of words.number_len words.number in
     let size : words.number_len ≡ number_size part = (part_says words.number_len words.number some few).0 in

@@ -6,7 +6,7 @@ use Rattle.quic_crypto.specs.PacketNumbers.{low_part, number_size, window_of}
 use Rattle.quic_header_encode.specs.declared.long_type.LongType.TheVariants.{Handshake, ZeroRtt}
 use Rattle.quic_header_encode.specs.declared.header.Header.{Header}
 use Rattle.quic_header_encode.specs.declared.header.Header.TheVariants as header
-use Rattle.quic_header_encode.specs.Laying.{begun_by, has_bit}
+use Rattle.quic_header_encode.specs.Storing.{begun_by, has_bit}
 use Rattle.quic_header_encode.specs.Queries.{dst_in, number_in}
 use Rattle.quic_header_encode.specs.Writing.{bit, header_with, IsWritable}
 use Rattle.quic_c_headers.specs.declared.words.SaidWords.{SaidWords}

@@ -70,7 +70,7 @@ HasFirst (Err e) packet = Unit {0}
 pub record Told (id_len : ℕ) (versions packet : List ℕ) (old : HeaderWords) (answer : ℕ) (new : HeaderWords) : Type 0 where
   pub read : Result HeaderPlaces ReadError
   pub right : ReadAnswer (any_fixed id_len versions) packet (seen_in packet read)
-  pub laid : IsSeen read (length packet)
+  pub stored : IsSeen read (length packet)
   pub first : HasFirst read packet
   pub answers : answer ≡ answer_word read (length packet)
   pub words : new ≡ header_words packet read old

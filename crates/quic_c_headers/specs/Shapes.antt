@@ -3,7 +3,7 @@ use Rattle.std.specs.Prelude.{◌≡◌, ◌≢◌, ℕ, ◌+◌, ◌-◌, ◌*�
 use Rattle.quic_base.specs.Number.{bytes_of}
 use Rattle.quic_header_encode.specs.declared.long_type.HeaderKind.{HeaderKind}
 use Rattle.quic_header_encode.specs.declared.long_type.HeaderKind.TheVariants as kind
-use Rattle.quic_header_encode.specs.Laying.{token_by, token_size, type_bits}
+use Rattle.quic_header_encode.specs.Storing.{token_by, token_size, type_bits}
 use Rattle.quic_header_encode.specs.Starts.{long_front}
 use Rattle.quic_c_headers.specs.declared.words.SaidWords.{SaidWords}
 

@@ -6,7 +6,7 @@ ghost use Rattle.quic_c_headers.specs.Reading.{Told};
 
 use crate::words::HeaderWords;
 use crate::write::first_word;
-use quic_base::coding::{are_bytes, lay_array};
+use quic_base::coding::{are_bytes, store_array};
 use quic_header_encode::long_type::HeaderKind;
 
 // The id that bytes begin with, behind its length, and what follows it.
@@ -80,7 +80,7 @@ pub extern "C" fn quic_wire_negotiation_read_(packet: &[u8], head: &mut HeaderWo
 
 // Lays an id behind its length, and answers where it ends.
 #[inline(always)]
-fn lay_id(dest: &mut [u8], at: usize, id: &[u8]) -> usize
+fn store_id(dest: &mut [u8], at: usize, id: &[u8]) -> usize
     requires few { length id.now ≤ 255 }
     requires room { at + (1 + length id.now) ≤ length dest.old }
     ensures end { result ≡ at + (1 + length id.now) }
@@ -88,7 +88,7 @@ fn lay_id(dest: &mut [u8], at: usize, id: &[u8]) -> usize
     ensures back { drop result dest.new ≡ drop result dest.old }
     ensures len { length dest.new ≡ length dest.old }
 {
-    let at = lay_array(dest, at, [id.len() as u8]);
+    let at = store_array(dest, at, [id.len() as u8]);
     let end = at + id.len();
     dest[at..end].copy_from_slice(id);
     end
@@ -97,7 +97,7 @@ fn lay_id(dest: &mut [u8], at: usize, id: &[u8]) -> usize
 // Lays versions at a place, and answers where they end.
 #[inline(always)]
 #[tactic(auto, unfolding(quic_base::specs::Number::bytes_of))]
-fn lay_versions(dest: &mut [u8], at: usize, versions: &[u32]) -> usize
+fn store_versions(dest: &mut [u8], at: usize, versions: &[u32]) -> usize
     requires { at + 4 * length versions.now ≤ length dest.old }
     ensures end { result ≡ at + 4 * length versions.now }
     ensures front { take result dest.new ≡ take at dest.old ++ version_bytes versions.now }
@@ -106,25 +106,25 @@ fn lay_versions(dest: &mut [u8], at: usize, versions: &[u32]) -> usize
 {
     let mut at = at;
     for version in versions {
-        at = lay_array(dest, at, version.to_be_bytes());
+        at = store_array(dest, at, version.to_be_bytes());
     }
     at
 }
 
 // Lays the packet at the front, and answers how many bytes it has.
 #[inline(always)]
-fn lay_packet(first: u8, dst: &[u8], src: &[u8], versions: &[u32], dest: &mut [u8]) -> usize
+fn store_packet(first: u8, dst: &[u8], src: &[u8], versions: &[u32], dest: &mut [u8]) -> usize
     requires dst_few { length dst.now ≤ 255 }
     requires src_few { length src.now ≤ 255 }
     requires room { 7 + length dst.now + length src.now + 4 * length versions.now ≤ length dest.old }
     ensures end { result ≡ 7 + length dst.now + length src.now + 4 * length versions.now }
     ensures wrote { dest.new ≡ negotiation_bytes first dst.now src.now versions.now ++ drop result dest.old }
 {
-    let at = lay_array(dest, 0, [first_word(HeaderKind::VersionNegotiate, first)]);
-    let at = lay_array(dest, at, [0; 4]);
-    let at = lay_id(dest, at, dst);
-    let at = lay_id(dest, at, src);
-    lay_versions(dest, at, versions)
+    let at = store_array(dest, 0, [first_word(HeaderKind::VersionNegotiate, first)]);
+    let at = store_array(dest, at, [0; 4]);
+    let at = store_id(dest, at, dst);
+    let at = store_id(dest, at, src);
+    store_versions(dest, at, versions)
 }
 
 /// Writes a version negotiation at the front of `dest`: the first byte, with its highest bit set, version 0, the ids
@@ -160,6 +160,6 @@ pub extern "C" fn quic_wire_negotiation_write_(
     if dest.len() < needed {
         return -4;
     }
-    lay_packet(first, dst, src, versions, dest);
+    store_packet(first, dst, src, versions, dest);
     0
 }

@@ -5,7 +5,7 @@ ghost use Rattle.quic_base.specs.Varint.{Encodes};
 ghost use Rattle.quic_crypto.specs.PacketNumbers.{Expands, SizeFor};
 ghost use Rattle.quic_c_headers.specs.Numbers.{least_width, encoding, CanExpand, CanEncode, IsWidth};
 
-use quic_base::coding::lay_array;
+use quic_base::coding::store_array;
 use quic_base::varint::split_var;
 use quic_crypto::packet_number::PacketNumber;
 
@@ -45,7 +45,7 @@ fn least_width(value: u64) -> usize
 // Lays a number in a width that it fits.
 #[inline(always)]
 #[tactic(auto, unfolding(quic_base::specs::Number::bytes_of))]
-fn lay_encoding(value: u64, width: usize, dest: &mut [u8]) -> usize
+fn store_encoding(value: u64, width: usize, dest: &mut [u8]) -> usize
     requires numeric { value < 2 ^ 62 }
     requires room { width ≤ length dest.old }
     requires fits { least_width value ≤ width }
@@ -55,10 +55,10 @@ fn lay_encoding(value: u64, width: usize, dest: &mut [u8]) -> usize
     ensures same { (0 < result) ⊎ (dest.new ≡ dest.old) }
 {
     match width {
-        1 => lay_array(dest, 0, [value as u8]),
-        2 => lay_array(dest, 0, (value as u16 + (1 << 14)).to_be_bytes()),
-        4 => lay_array(dest, 0, (value as u32 + (2 << 30)).to_be_bytes()),
-        8 => lay_array(dest, 0, (value + (3 << 62)).to_be_bytes()),
+        1 => store_array(dest, 0, [value as u8]),
+        2 => store_array(dest, 0, (value as u16 + (1 << 14)).to_be_bytes()),
+        4 => store_array(dest, 0, (value as u32 + (2 << 30)).to_be_bytes()),
+        8 => store_array(dest, 0, (value + (3 << 62)).to_be_bytes()),
         _ => 0,
     }
 }
@@ -79,7 +79,7 @@ pub extern "C" fn quic_wire_varint_write_(value: u64, width: u32, dest: &mut [u8
     if value >= 1 << 62 || width < least || dest.len() < width {
         return 0;
     }
-    lay_encoding(value, width, dest)
+    store_encoding(value, width, dest)
 }
 
 /// How many bytes of the number of a packet are written whose receiver has acknowledged `largest_acked`, as quinn-proto

@@ -2,12 +2,12 @@
 ghost use Rattle.std.specs.Prelude.{◌≡◌, ◌⊎◌, ◌↔◌, ◌<◌, ◌≤◌, ◌+◌, ◌^◌, ℕ, pos, negsuc, length, slice_index, slice_set, IsTrue};
 ghost use Rattle.quic_crypto.specs.Keys.{number_len};
 ghost use Rattle.quic_crypto.specs.PacketNumbers.{number_size};
-ghost use Rattle.quic_header_encode.specs.Laying.{with_len, TakesLen};
+ghost use Rattle.quic_header_encode.specs.Storing.{with_len, TakesLen};
 ghost use Rattle.quic_c_headers.specs.Protecting.{masked};
 ghost use Rattle.quic_c_headers.specs.Unprotecting.{unmasked_first, unmasked_at, unmasked, GivesNumber, HasNumber, StandsAt};
 
 use quic_crypto::packet_number::PacketNumber;
-use quic_header_encode::lay::set_len;
+use quic_header_encode::store::set_len;
 
 // Puts a mask on the first byte: on five bits in a short header, on four in a long one.
 #[inline(always)]

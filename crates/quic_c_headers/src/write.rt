@@ -2,7 +2,7 @@
 ghost use Rattle.std.specs.Prelude.{◌≡◌, ◌≢◌, ◌+◌, ◌%◌, ◌^◌, ◌<◌, ◌≤◌, ◌⊎◌, ◌↔◌, ◌++◌, ℕ, [], IsTrue, length, take, drop, replicate, pos, negsuc};
 ghost use Rattle.quic_base.specs.Number.{bytes_of};
 ghost use Rattle.quic_crypto.specs.PacketNumbers.{IsInRange};
-ghost use Rattle.quic_header_encode.specs.Laying.{token_by, token_size, IsTyped};
+ghost use Rattle.quic_header_encode.specs.Storing.{token_by, token_size, IsTyped};
 ghost use Rattle.quic_header_encode.specs.Starts.{long_front};
 ghost use Rattle.quic_c_headers.specs.Headers.{part_of};
 ghost use Rattle.quic_c_headers.specs.Reading.{kind_word};
@@ -11,8 +11,8 @@ ghost use Rattle.quic_c_headers.specs.Written.{short_words, HasReserved, NeedsMo
 
 use crate::words::SaidWords;
 use quic_crypto::packet_number::PacketNumber;
-use quic_header_encode::fields::lay_low;
-use quic_header_encode::lay::{Exact, HeaderRef, lay_long_start, lay_no_length, lay_short, lay_token};
+use quic_header_encode::fields::store_low;
+use quic_header_encode::store::{Exact, HeaderRef, store_long_start, store_no_length, store_short, store_token};
 use quic_header_encode::long_type::HeaderKind;
 
 // Whether the number, the count of its bytes and that of the length's are those of a header of the kind.
@@ -94,7 +94,7 @@ pub(crate) fn first_word(kind: HeaderKind, flags: u8) -> u8
 
 // How many bytes of length are laid, where the header says one.
 #[inline(always)]
-fn laid_length_len(said: &SaidWords) -> usize
+fn stored_length_len(said: &SaidWords) -> usize
     ensures known { (result ≡ 2) ⊎ (result ≡ 4) }
     ensures same { (said.now.length_len ≡ 2) ⊎ (said.now.length_len ≡ 4) → result ≡ said.now.length_len }
 {
@@ -127,13 +127,13 @@ pub extern "C" fn quic_wire_short_write_(
     if dest.len() < 1 + dst.len() + count {
         return -4;
     }
-    let at = lay_short(dest, first as u8, Exact(dst));
-    lay_low(dest, at, number, count) as i32
+    let at = store_short(dest, first as u8, Exact(dst));
+    store_low(dest, at, number, count) as i32
 }
 
 // Lays a long header up to its ids' end at the front.
 #[inline(always)]
-fn lay_front(kind: HeaderKind, said: &SaidWords, dst: &[u8], src: &[u8], dest: &mut [u8]) -> usize
+fn store_front(kind: HeaderKind, said: &SaidWords, dst: &[u8], src: &[u8], dest: &mut [u8]) -> usize
     requires typed { IsTyped kind }
     requires some { 1 ≤ said.now.number_len }
     requires few { said.now.number_len ≤ 4 }
@@ -149,12 +149,12 @@ fn lay_front(kind: HeaderKind, said: &SaidWords, dst: &[u8], src: &[u8], dest: &
     let first = 192 - 64 * (said.flags / 64 % 2)
         + kind.type_bits(said.version)
         + (said.number_len - 1);
-    lay_long_start(dest, first, said.version, Exact(dst), Exact(src))
+    store_long_start(dest, first, said.version, Exact(dst), Exact(src))
 }
 
 // Lays the token of an Initial header behind its length.
 #[inline(always)]
-fn lay_own_token(kind: HeaderKind, dest: &mut [u8], at: usize, token: &[u8]) -> usize
+fn store_own_token(kind: HeaderKind, dest: &mut [u8], at: usize, token: &[u8]) -> usize
     requires numeric { length token.now < 2 ^ 62 }
     requires room { at + token_size kind token.now ≤ length dest.old }
     ensures end { result ≡ at + token_size kind token.now }
@@ -163,14 +163,14 @@ fn lay_own_token(kind: HeaderKind, dest: &mut [u8], at: usize, token: &[u8]) -> 
     ensures len { length dest.new ≡ length dest.old }
 {
     match kind {
-        HeaderKind::Initial => lay_token::<false>(dest, at, token),
+        HeaderKind::Initial => store_token::<false>(dest, at, token),
         _ => at,
     }
 }
 
 // Lays a length, which is 0, and the number.
 #[inline(always)]
-fn lay_end(said: &SaidWords, dest: &mut [u8], at: usize) -> usize
+fn store_end(said: &SaidWords, dest: &mut [u8], at: usize) -> usize
     requires known { (said.now.length_len ≡ 2) ⊎ (said.now.length_len ≡ 4) }
     requires some { 1 ≤ said.now.number_len }
     requires few { said.now.number_len ≤ 4 }
@@ -181,13 +181,13 @@ fn lay_end(said: &SaidWords, dest: &mut [u8], at: usize) -> usize
     ensures back { drop result dest.new ≡ drop result dest.old }
     ensures len { length dest.new ≡ length dest.old }
 {
-    let at = lay_no_length(dest, at, said.length_len as usize);
-    lay_low(dest, at, said.number, said.number_len as usize)
+    let at = store_no_length(dest, at, said.length_len as usize);
+    store_low(dest, at, said.number, said.number_len as usize)
 }
 
 // Lays the header of a packet with a number and a length at the front.
 #[inline(always)]
-fn lay_numbered(
+fn store_numbered(
     kind: HeaderKind,
     said: &SaidWords,
     dst: &[u8],
@@ -208,9 +208,9 @@ fn lay_numbered(
     ensures back { drop result dest.new ≡ drop result dest.old }
     ensures len { length dest.new ≡ length dest.old }
 {
-    let at = lay_front(kind, said, dst, src, dest);
-    let at = lay_own_token(kind, dest, at, token);
-    lay_end(said, dest, at)
+    let at = store_front(kind, said, dst, src, dest);
+    let at = store_own_token(kind, dest, at, token);
+    store_end(said, dest, at)
 }
 
 // Writes a header of a kind, as `quic_wire_header_write_` does.
@@ -244,15 +244,15 @@ fn write_as(
         src_cid: Exact(source),
         token: own,
         number: &number,
-        length_len: laid_length_len(said),
+        length_len: stored_length_len(said),
     };
     if !head.fits(dest.len()) {
         return -4;
     }
     if kind.has_len() {
-        lay_numbered(kind, said, dst, src, own, dest) as i64
+        store_numbered(kind, said, dst, src, own, dest) as i64
     } else {
-        head.lay::<false>(dest) as i64
+        head.store::<false>(dest) as i64
     }
 }
 

@@ -86,20 +86,20 @@ counted_to_all p further order count k len le c any has same o es h =
     c.value es h ∙ ap length (first_all p es (asked count order) k (omega (arith, o.width, le))) ∙ ap (λ (n : ℕ). length (flat_map (piece_at p es) (asked n order))) (sym e)
 
 -- so many of them are laid
-pub record LaidTo (p : TransportParameters) (further order old : List ℕ) (k at : ℕ) (new : List ℕ) : Type 0 where
+pub record StoredTo (p : TransportParameters) (further order old : List ℕ) (k at : ℕ) (new : List ℕ) : Type 0 where
   pub count : (es : List Entry) → AreInOrder es further → at ≡ length (first_of p es order k)
   pub front : (es : List Entry) → AreInOrder es further → take at new ≡ first_of p es order k
   pub back : drop at new ≡ drop at old
   pub long : length new ≡ length old
 
-pub laid_to_none : (p : TransportParameters) (further order old : List ℕ) → LaidTo p further order old 0 0 old
-laid_to_none p further order old = record { count = λ es h. refl; front = λ es h. refl; back = refl; long = refl }
+pub stored_to_none : (p : TransportParameters) (further order old : List ℕ) → StoredTo p further order old 0 0 old
+stored_to_none p further order old = record { count = λ es h. refl; front = λ es h. refl; back = refl; long = refl }
 
 -- a piece that is laid at the end of those that are, over the rest of the slice
-pub laid_to_more : (p : TransportParameters) (further order old new ys : List ℕ) (k index at n : ℕ) (result : Result ℕ ℕ) → k < length order → index ≡ get_or order k 0 → result ≡ Ok n
+pub stored_to_more : (p : TransportParameters) (further order old new ys : List ℕ) (k index at n : ℕ) (result : Result ℕ ℕ) → k < length order → index ≡ get_or order k 0 → result ≡ Ok n
     → ((es : List Entry) → AreInOrder es further → Lies result (piece_at p es index) (drop at new) ys) → (any : List Entry) → AreInOrder any further → at ≤ length new
-    → length ys ≡ length (drop at new) → LaidTo p further order old k at new → LaidTo p further order old (k + 1) (at + n) (take at new ++ ys)
-laid_to_more p further order old new ys k index at n result lt is ok lies any has le same_room l =
+    → length ys ≡ length (drop at new) → StoredTo p further order old k at new → StoredTo p further order old (k + 1) (at + n) (take at new ++ ys)
+stored_to_more p further order old new ys k index at n result lt is ok lies any has le same_room l =
     let lie : (es : List Entry) → AreInOrder es further → Lies (Ok n) (piece_at p es index) (drop at new) ys = λ es h. subst (λ (r : Result ℕ ℕ). Lies r (piece_at p es index) (drop at new) ys) ok (lies es h) in
     let long : length (take at new) ≡ at = omega (arith, length-take at new, le) in
     let piece : List ℕ = piece_at p any index in
@@ -128,15 +128,15 @@ asked_same : (further : List ℕ) (count : ℕ) (any es : List Entry) → AreInO
 asked_same further count any es has same h = omega (arith, ap length (in_order_once any es further has h), same)
 
 -- what is laid has room
-pub laid_within : (p : TransportParameters) (further order old new : List ℕ) (count k at : ℕ) (any : List Entry) → AreInOrder any further → count ≡ rows + length any
-    → ((es : List Entry) → AreInOrder es further → length (listed p es order) ≤ length old) → LaidTo p further (asked count order) old k at new → at ≤ length new
-laid_within p further order old new count k at any has same room l =
+pub stored_within : (p : TransportParameters) (further order old new : List ℕ) (count k at : ℕ) (any : List Entry) → AreInOrder any further → count ≡ rows + length any
+    → ((es : List Entry) → AreInOrder es further → length (listed p es order) ≤ length old) → StoredTo p further (asked count order) old k at new → at ≤ length new
+stored_within p further order old new count k at any has same room l =
     let e = asked_same further count any any has same has in
     omega (arith, l.count any has, first_within p any (asked count order) k, ap (λ (n : ℕ). length (flat_map (piece_at p any) (asked n order))) e, room any has, l.long)
 
 -- and so has the next piece
 pub next_within : (p : TransportParameters) (further order old new ys : List ℕ) (count k index at n : ℕ) (result : Result ℕ ℕ) (any : List Entry) → AreInOrder any further → count ≡ rows + length any
-    → ((es : List Entry) → AreInOrder es further → length (listed p es order) ≤ length old) → LaidTo p further (asked count order) old k at new
+    → ((es : List Entry) → AreInOrder es further → length (listed p es order) ≤ length old) → StoredTo p further (asked count order) old k at new
     → k < length (asked count order) → index ≡ get_or (asked count order) k 0 → result ≡ Err n
     → ((es : List Entry) → AreInOrder es further → Lies result (piece_at p es index) (drop at new) ys) → ⊥
 next_within p further order old new ys count k index at n result any has same room l lt is err lies =
@@ -156,9 +156,9 @@ next_within p further order old new ys count k index at n result any has same ro
       room any has,
     )
 
-pub laid_to_all : (p : TransportParameters) (further order old new : List ℕ) (count k at : ℕ) → count ≤ k → LaidTo p further (asked count order) old k at new → (any : List Entry) → AreInOrder any further
+pub stored_to_all : (p : TransportParameters) (further order old new : List ℕ) (count k at : ℕ) → count ≤ k → StoredTo p further (asked count order) old k at new → (any : List Entry) → AreInOrder any further
     → count ≡ rows + length any → IsOrderOf count (asked count order) → (es : List Entry) → AreInOrder es further → new ≡ listed p es order ++ drop (length (listed p es order)) old
-laid_to_all p further order old new count k at le l any has same o es h =
+stored_to_all p further order old new count k at le l any has same o es h =
     let e = asked_same further count any es has same h in
     let whole : first_of p es (asked count order) k ≡ listed p es order =
     first_all p es (asked count order) k (omega (arith, o.width, le)) ∙ ap (λ (n : ℕ). flat_map (piece_at p es) (asked n order)) (sym e) in

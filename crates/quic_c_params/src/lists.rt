@@ -27,7 +27,7 @@ fn row_at(index: usize) -> TransportParameterId
 }
 
 // Lays what is written for a row at the front of a slice.
-fn lay_row(
+fn store_row(
     params: &TransportParameters,
     id: TransportParameterId,
     dest: &mut [u8],
@@ -39,7 +39,7 @@ fn lay_row(
 }
 
 // Lays an entry in its least widths at the front of a slice.
-fn lay_entry(number: u64, value: &[u8], dest: &mut [u8]) -> Result<usize, usize>
+fn store_entry(number: u64, value: &[u8], dest: &mut [u8]) -> Result<usize, usize>
     requires number { number < 2 ^ 62 }
     requires len { length value.now < 2 ^ 62 }
     ensures lies { Lies result (entry number value.now) dest.old dest.new }
@@ -50,7 +50,7 @@ fn lay_entry(number: u64, value: &[u8], dest: &mut [u8]) -> Result<usize, usize>
 
 // Lays the piece at an index at the front of a slice: a row of the record, or a further entry. Where the slice has fewer
 // bytes, it is as it was, and the error is how many the piece has.
-fn lay_piece(
+fn store_piece(
     params: &TransportParameters,
     further: &[u8],
     index: usize,
@@ -63,10 +63,10 @@ fn lay_piece(
         → length (get_or (pieces params.now es) index []) ≤ 77 + length further.now }
 {
     if index < ROWS {
-        return lay_row(params, row_at(index), dest);
+        return store_row(params, row_at(index), dest);
     }
     let (number, value) = nth(further, index - ROWS);
-    lay_entry(number, value, dest)
+    store_entry(number, value, dest)
 }
 
 // How many pieces a list has with these further entries, if they are such, and the order is one of all.
@@ -93,7 +93,7 @@ fn list_len(params: &TransportParameters, further: &[u8], count: usize, order: &
     let mut len = 0;
     for place in 0..count {
         let index = index_at(count, order, place);
-        len += match lay_piece(params, further, index, &mut []) {
+        len += match store_piece(params, further, index, &mut []) {
             Ok(piece_len) => piece_len,
             Err(piece_len) => piece_len,
         };
@@ -102,7 +102,7 @@ fn list_len(params: &TransportParameters, further: &[u8], count: usize, order: &
 }
 
 // Lays the pieces in an order over the front of a slice that has room for them.
-fn lay_list(
+fn store_list(
     params: &TransportParameters,
     further: &[u8],
     count: usize,
@@ -118,7 +118,7 @@ fn lay_list(
     let mut at = 0;
     for place in 0..count {
         let index = index_at(count, order, place);
-        match lay_piece(params, further, index, &mut dest[at..]) {
+        match store_piece(params, further, index, &mut dest[at..]) {
             Ok(piece_len) => at += piece_len,
             Err(_) => unreachable!(),
         }
@@ -167,6 +167,6 @@ pub extern "C" fn quic_wire_params_write_with_(
     if dest.len() < len {
         return -4;
     }
-    lay_list(&params, further, count, order, dest);
+    store_list(&params, further, count, order, dest);
     0
 }

@@ -8,11 +8,11 @@ use Rattle.quic_base.proofs.PublicLaws.{length-short}
 use Rattle.quic_ranges.specs.Runs.{IsMaximalRuns, member}
 use Rattle.quic_ranges.proofs.RunsLemmas.{IsGreatest-last}
 use Rattle.quic_frame_fields.specs.Numbers.{AreNumeric, all_short}
-use Rattle.quic_frame_fields.specs.Putting.{Lays}
+use Rattle.quic_frame_fields.specs.Putting.{Stores}
 use Rattle.quic_frame_fields.specs.Sets.{ack_of, ack_type, count_numbers, ranges_in}
 use Rattle.quic_frame_fields.specs.Shortest.{shortest_below, shortest_frame}
 use Rattle.quic_frame_fields.proofs.AckParts.{SetParts, run_numbers, set_parts}
-use Rattle.quic_frame_fields.proofs.Putting.{lays_more}
+use Rattle.quic_frame_fields.proofs.Putting.{stores_more}
 use Rattle.quic_frame_fields.proofs.Sets.{has_below, ranges_in-last}
 use Rattle.quic_c_sets.specs.declared.words.RunWords.{RunWords}
 use Rattle.quic_c_sets.specs.Acks.{SaysAck, counts_in}
@@ -134,15 +134,15 @@ all_below words first = ap (λ (l : List RunWords). shortest_below first.start (
 
 -- ---- they are laid
 
-pub record LaidBelow (words : List RunWords) (first : RunWords) (at : ℕ) (old : List ℕ) (left : ℕ) (above : RunWords) (end : ℕ) (new : List ℕ) : Type 0 where
+pub record StoredBelow (words : List RunWords) (first : RunWords) (at : ℕ) (old : List ℕ) (left : ℕ) (above : RunWords) (end : ℕ) (new : List ℕ) : Type 0 where
   pub before : List ℕ
   pub below : AreBelow words left above
-  pub laid : Lays before at old end new
+  pub stored : Stores before at old end new
   pub parts : bytes_below words (length words) first ≡ before ++ bytes_below words left above
 
-pub laid_more : (words : List RunWords) (first above : RunWords) (at left next end stop : ℕ) (old one new : List ℕ) → left ≡ next + 1 → LaidBelow words first at old left above end one
-    → Lays (all_short (run_numbers (range_of above) (range_of (get_or words next nowhere)))) end one stop new → LaidBelow words first at old next (get_or words next nowhere) stop new
-laid_more words first above at left next end stop old one new e h y =
+pub stored_more : (words : List RunWords) (first above : RunWords) (at left next end stop : ℕ) (old one new : List ℕ) → left ≡ next + 1 → StoredBelow words first at old left above end one
+    → Stores (all_short (run_numbers (range_of above) (range_of (get_or words next nowhere)))) end one stop new → StoredBelow words first at old next (get_or words next nowhere) stop new
+stored_more words first above at left next end stop old one new e h y =
     let run = get_or words next nowhere in
     let x = next_below words left next above e h.below in
     let now = all_short (run_numbers (range_of above) (range_of run)) in
@@ -150,19 +150,19 @@ laid_more words first above at left next end stop old one new e h y =
     record {
       before = h.before ++ now;
       below = x.below;
-      laid = lays_more h.before now old one new at end stop h.laid y;
+      stored = stores_more h.before now old one new at end stop h.stored y;
       parts = parts ∙ ap (λ (l : List ℕ). h.before ++ l) x.parts ∙ sym (append_assoc h.before now (bytes_below words next run));
     }
 
 -- the next run has room
-pub room_below : (words : List RunWords) (first above : RunWords) (at left next end : ℕ) (old one : List ℕ) → left ≡ next + 1 → LaidBelow words first at old left above end one
+pub room_below : (words : List RunWords) (first above : RunWords) (at left next end : ℕ) (old one : List ℕ) → left ≡ next + 1 → StoredBelow words first at old left above end one
     → end + length (all_short (run_numbers (range_of above) (range_of (get_or words next nowhere)))) ≤ at + length (bytes_below words (length words) first)
 room_below words first above at left next end old one e h =
     let run = get_or words next nowhere in
     let x = next_below words left next above e h.below in
     let now = all_short (run_numbers (range_of above) (range_of run)) in
     let parts : bytes_below words (length words) first ≡ h.before ++ bytes_below words (next + 1) above = rw (← e) h.parts in
-    let so_far = h.laid.count in
+    let so_far = h.stored.count in
     omega (arith, so_far, ap length parts, length-append h.before (bytes_below words (next + 1) above), ap length x.parts, length-append now (bytes_below words next run))
 
 -- ---- whether there is an ACK

@@ -2,7 +2,7 @@
 ghost use Rattle.std.specs.Prelude.{◌≡◌, ◌<◌, ◌≤◌, ◌+◌, ◌^◌, ◌∷◌, ◌++◌, ◌⊎◌, ◌↔◌, [], Bool, Ok, Err, pos, negsuc, length, IsTrue};
 ghost use Rattle.quic_ranges.specs.Runs.{IsMaximalRuns};
 ghost use Rattle.quic_frame_fields.specs.Numbers.{AreNumeric};
-ghost use Rattle.quic_frame_fields.specs.Putting.{Lays, Puts};
+ghost use Rattle.quic_frame_fields.specs.Putting.{Stores, Puts};
 ghost use Rattle.quic_frame_fields.specs.Sets.{ack_of, ack_type, ranges_in};
 ghost use Rattle.quic_frame_fields.specs.Shortest.{shortest_below, shortest_frame};
 ghost use Rattle.quic_c_sets.specs.Acks.{SaysAck, counts_in};
@@ -75,11 +75,11 @@ fn below_len(above: RunWords, runs: &[RunWords]) -> usize
 }
 
 // Lays the runs below another one, the greatest first, over the bytes at a place, and answers where they end.
-fn lay_below(dest: &mut [u8], at: usize, above: RunWords, runs: &[RunWords]) -> usize
+fn store_below(dest: &mut [u8], at: usize, above: RunWords, runs: &[RunWords]) -> usize
     requires runs { IsMaximalRuns (runs_of runs.now ++ range_of above ∷ []) }
     requires bound { above.start < 2 ^ 62 }
     requires room { at + length (shortest_below above.start (ranges_in (runs_of runs.now))) ≤ length dest.old }
-    ensures lays { Lays (shortest_below above.start (ranges_in (runs_of runs.now))) at dest.old result dest.new }
+    ensures stores { Stores (shortest_below above.start (ranges_in (runs_of runs.now))) at dest.old result dest.new }
     ensures len { length dest.new ≡ length dest.old }
 {
     let mut above = above;
@@ -97,7 +97,7 @@ fn lay_below(dest: &mut [u8], at: usize, above: RunWords, runs: &[RunWords]) -> 
 }
 
 // Lays the ACK that the words say at the front of the bytes.
-fn lay_ack(
+fn store_ack(
     delay: u64,
     runs: &[RunWords],
     count: usize,
@@ -126,7 +126,7 @@ fn lay_ack(
         return Err(needed);
     }
     let at = numbers_at(dest, 0, &head);
-    let at = lay_below(dest, at, first, below);
+    let at = store_below(dest, at, first, below);
     Ok(numbers_at(dest, at, counts))
 }
 
@@ -156,7 +156,7 @@ pub extern "C" fn quic_wire_ack_write_(
     if !says_ack(delay, runs, count, counts) {
         return -1;
     }
-    match lay_ack(delay, runs, count, counts, dest) {
+    match store_ack(delay, runs, count, counts, dest) {
         Ok(len) => {
             *written = len;
             0

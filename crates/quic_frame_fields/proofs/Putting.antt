@@ -4,7 +4,7 @@ use Rattle.std.proofs.lemmas.List.{length-append, length-take, append-nil, take-
 use Rattle.quic_base.specs.Number.{AreBytes}
 use Rattle.quic_base.specs.Varint.{short}
 use Rattle.quic_frame_fields.specs.Numbers.{AreEncoded, all_short}
-use Rattle.quic_frame_fields.specs.Putting.{Lays, Puts, Shortens}
+use Rattle.quic_frame_fields.specs.Putting.{Stores, Puts, Shortens}
 use Rattle.quic_frame_fields.specs.Reading.{varint_at}
 use Rattle.quic_frame_fields.proofs.Encoded.{ReadSome, all_short-append, all_short-last, next_number}
 
@@ -39,19 +39,19 @@ puts_three front middle end old one two new at place n r s t p q o u v w =
 
 -- ---- numbers that are laid one after the other
 
-pub lays_none : (at : ℕ) (old : List ℕ) → Lays [] at old at old
-lays_none at old = record { count = omega arith; front = sym (append-nil (take at old)); back = refl }
+pub stores_none : (at : ℕ) (old : List ℕ) → Stores [] at old at old
+stores_none at old = record { count = omega arith; front = sym (append-nil (take at old)); back = refl }
 
-pub lays_more : (first second old one new : List ℕ) (at place end : ℕ) → Lays first at old place one → Lays second place one end new → Lays (first ++ second) at old end new
-lays_more first second old one new at place end x y = record {
+pub stores_more : (first second old one new : List ℕ) (at place end : ℕ) → Stores first at old place one → Stores second place one end new → Stores (first ++ second) at old end new
+stores_more first second old one new at place end x y = record {
   count = let m = x.count in let n = y.count in omega (arith, m, n, length-append first second);
   front = y.front ∙ ap (λ (l : List ℕ). l ++ second) x.front ∙ append_assoc (take at old) first second;
   back = y.back ∙ rw y.count (further place (length second) one old x.back);
 }
 
 -- an array's first bytes, laid
-pub lays_of : (n : ℕ) (xs bytes old new : List ℕ) (at end : ℕ) → take n xs ≡ bytes → end ≡ at + length (take n xs) → take end new ≡ take at old ++ take n xs → drop end new ≡ drop end old → Lays bytes at old end new
-lays_of n xs bytes old new at end is count front back = record {
+pub stores_of : (n : ℕ) (xs bytes old new : List ℕ) (at end : ℕ) → take n xs ≡ bytes → end ≡ at + length (take n xs) → take end new ≡ take at old ++ take n xs → drop end new ≡ drop end old → Stores bytes at old end new
+stores_of n xs bytes old new at end is count front back = record {
   count = omega (arith, count, ap length is);
   front = front ∙ ap (λ (l : List ℕ). take at old ++ l) is;
   back = back;
@@ -61,22 +61,22 @@ lays_of n xs bytes old new at end is count front back = record {
 pub taken : (n room : ℕ) (xs bytes : List ℕ) → n ≤ room → length xs ≡ room → take n xs ≡ bytes → n ≡ length bytes
 taken n room xs bytes le long is = omega (arith, le, long, ap length is, length-take n xs)
 
-pub puts_lays : (bytes old new : List ℕ) (n : ℕ) → Lays bytes 0 old n new → Puts (Ok n) bytes old new
-puts_lays bytes old new n x = puts bytes old new n (let m = x.count in omega (arith, m)) x.front x.back
+pub puts_stores : (bytes old new : List ℕ) (n : ℕ) → Stores bytes 0 old n new → Puts (Ok n) bytes old new
+puts_stores bytes old new n x = puts bytes old new n (let m = x.count in omega (arith, m)) x.front x.back
 
 pub puts_refused : (bytes old : List ℕ) (n : ℕ) → n ≡ length bytes → length old < n → Puts (Err n) bytes old old
 puts_refused bytes old n count lt = record { count = tt; front = tt; needed = count; full = omega (arith, count, lt); same = refl }
 
 -- They were laid.
-abbrev pub LaidThem : ℕ → List ℕ → ℕ → List ℕ → List ℕ → Type 0
-LaidThem at old end new ns = Lays (all_short ns) at old end new
+abbrev pub StoredThem : ℕ → List ℕ → ℕ → List ℕ → List ℕ → Type 0
+StoredThem at old end new ns = Stores (all_short ns) at old end new
 
-pub laid_one : (n at place end : ℕ) (old one new : List ℕ) → Lays (short n) place one end new → (ns : List ℕ) → LaidThem at old place one ns → LaidThem at old end new (ns ++ n ∷ [])
-laid_one n at place end old one new x ns so_far =
-    subst (λ (l : List ℕ). Lays l at old end new) (sym (all_short-last ns n)) (lays_more (all_short ns) (short n) old one new at place end so_far x)
+pub stored_one : (n at place end : ℕ) (old one new : List ℕ) → Stores (short n) place one end new → (ns : List ℕ) → StoredThem at old place one ns → StoredThem at old end new (ns ++ n ∷ [])
+stored_one n at place end old one new x ns so_far =
+    subst (λ (l : List ℕ). Stores l at old end new) (sym (all_short-last ns n)) (stores_more (all_short ns) (short n) old one new at place end so_far x)
 
 -- the next number has room
-pub room_for_one : (encoded rest after old one : List ℕ) (n len at place : ℕ) → AreBytes rest → (s : Shortens encoded len) → ((ns : List ℕ) → AreEncoded ns encoded → ReadSome (LaidThem at old place one) rest ns)
+pub room_for_one : (encoded rest after old one : List ℕ) (n len at place : ℕ) → AreBytes rest → (s : Shortens encoded len) → ((ns : List ℕ) → AreEncoded ns encoded → ReadSome (StoredThem at old place one) rest ns)
     → varint_at rest ≡ Ok (n, after) → place + length (short n) ≤ at + len
 room_for_one encoded rest after old one n len at place fits s read e =
     let r = read s.numbers s.encodes in

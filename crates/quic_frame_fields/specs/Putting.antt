@@ -13,7 +13,7 @@ pub record Puts (result : Result ℕ ℕ) (bytes old new : List ℕ) : Type 0 wh
   pub same : OnErr result (new ≡ old)
 
 -- The bytes stand from a place to where they end, with what stood before and behind them.
-pub record Lays (bytes : List ℕ) (at : ℕ) (old : List ℕ) (end : ℕ) (new : List ℕ) : Type 0 where
+pub record Stores (bytes : List ℕ) (at : ℕ) (old : List ℕ) (end : ℕ) (new : List ℕ) : Type 0 where
   pub count : end ≡ at + length bytes
   pub front : take end new ≡ take at old ++ bytes
   pub back : drop end new ≡ drop end old

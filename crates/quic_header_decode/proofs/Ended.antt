@@ -4,7 +4,7 @@ use Rattle.std.proofs.Common.{sym, arith, refl, cond, inl, inr, length-drop}
 use Rattle.std.proofs.lemmas.Bool.Decides.{nat_tests}
 use Rattle.quic_header_encode.specs.declared.long_type.HeaderKind.{HeaderKind}
 use Rattle.quic_header_encode.specs.declared.long_type.HeaderKind.TheVariants as kind
-use Rattle.quic_header_encode.specs.Laying.{says_length}
+use Rattle.quic_header_encode.specs.Storing.{says_length}
 use Rattle.quic_header_decode.specs.declared.fields.Place.{Place}
 use Rattle.quic_header_decode.specs.declared.places.HeaderPlaces.{HeaderPlaces}
 use Rattle.quic_header_decode.specs.Grammar.{Cut, HeaderAt, Uncut, past_end}

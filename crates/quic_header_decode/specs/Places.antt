@@ -7,7 +7,7 @@ use Rattle.quic_header_encode.specs.declared.long_type.HeaderKind.TheVariants as
 use Rattle.quic_header_encode.specs.declared.long_type.LongHeaderType.{LongHeaderType}
 use Rattle.quic_header_encode.specs.declared.long_type.LongHeaderType.TheVariants as type
 use Rattle.quic_header_encode.specs.declared.long_type.LongType.TheVariants.{Handshake, ZeroRtt}
-use Rattle.quic_header_encode.specs.Laying.{says_length}
+use Rattle.quic_header_encode.specs.Storing.{says_length}
 use Rattle.quic_header_decode.specs.declared.fields.Place.{Place}
 use Rattle.quic_header_decode.specs.declared.places.HeaderPlaces.{HeaderPlaces}
 use Rattle.quic_header_decode.specs.declared.places.ReadError.{ReadError}

@@ -11,7 +11,7 @@ use Rattle.std.specs.Prelude.{bit_or, ◌%◌}
 use Rattle.quic_header_encode.proofs.Writings.{number_length}
 use Rattle.quic_header_encode.specs.declared.header.Header.{Header}
 use Rattle.quic_header_encode.specs.declared.header.Header.TheVariants as header
-use Rattle.quic_header_encode.specs.Laying.{begun_by, header_of, laid_size, length_in, with_len}
+use Rattle.quic_header_encode.specs.Storing.{begun_by, header_of, stored_size, length_in, with_len}
 use Rattle.quic_header_encode.specs.declared.long_type.HeaderKind.{HeaderKind}
 use Rattle.quic_header_encode.specs.declared.long_type.HeaderKind.TheVariants as head
 use Rattle.quic_header_encode.specs.Types.{first_byte}
@@ -98,17 +98,17 @@ finished_later (header.Short spin key_phase dst number) body has = absurd (searc
 finished_later (header.VersionNegotiate random src dst) body has = absurd (search (rules, has))
 
 -- a header that is laid is as long as it is said to be
-pub laid_length : (k : HeaderKind) (f first version : ℕ) (dst src token : List ℕ) (number : PacketNumber) (len : ℕ)
-    → length (begun_by f (header_with (replicate len 0) (header_of k first version dst src token number))) ≡ laid_size k dst src token number len
-laid_length head.Initial f first version dst src token number len =
+pub stored_length : (k : HeaderKind) (f first version : ℕ) (dst src token : List ℕ) (number : PacketNumber) (len : ℕ)
+    → length (begun_by f (header_with (replicate len 0) (header_of k first version dst src token number))) ≡ stored_size k dst src token number len
+stored_length head.Initial f first version dst src token number len =
     let h : Header = header_of head.Initial first version dst src token number in
     omega (arith, sizes (header_front h) (number_bytes number) len (number_size number) (number_length number), front_length h refl)
-laid_length head.ZeroRtt f first version dst src token number len =
+stored_length head.ZeroRtt f first version dst src token number len =
     let h : Header = header_of head.ZeroRtt first version dst src token number in
     omega (arith, sizes (header_front h) (number_bytes number) len (number_size number) (number_length number), front_length h refl)
-laid_length head.Handshake f first version dst src token number len =
+stored_length head.Handshake f first version dst src token number len =
     let h : Header = header_of head.Handshake first version dst src token number in
     omega (arith, sizes (header_front h) (number_bytes number) len (number_size number) (number_length number), front_length h refl)
-laid_length head.Retry f first version dst src token number len = omega (arith, long_length (first_byte version kind.Retry) version dst src)
-laid_length head.Short f first version dst src token number len = omega (arith, length-append dst (number_bytes number), number_length number)
-laid_length head.VersionNegotiate f first version dst src token number len = omega (arith, long_length (bit_or 128 (first % 128)) 0 dst src)
+stored_length head.Retry f first version dst src token number len = omega (arith, long_length (first_byte version kind.Retry) version dst src)
+stored_length head.Short f first version dst src token number len = omega (arith, length-append dst (number_bytes number), number_length number)
+stored_length head.VersionNegotiate f first version dst src token number len = omega (arith, long_length (bit_or 128 (first % 128)) 0 dst src)

@@ -7,11 +7,11 @@ use Rattle.quic_crypto.specs.declared.packet_number.PacketNumber.TheVariants.{U8
 use Rattle.quic_crypto.specs.PacketNumbers.{number_size}
 use Rattle.quic_header_encode.specs.declared.long_type.HeaderKind.{HeaderKind}
 use Rattle.quic_header_encode.specs.declared.long_type.HeaderKind.TheVariants as head
-use Rattle.quic_header_encode.specs.Laying.{end_size, laid_size, token_size, IsLong}
+use Rattle.quic_header_encode.specs.Storing.{end_size, stored_size, token_size, IsLong}
 
 -- a long header has its front, its token and its end
 pub long_size : (kind : HeaderKind) (dst src token : List ℕ) (number : PacketNumber) (len : ℕ) → IsLong kind
-    → laid_size kind dst src token number len ≡ 7 + length dst + length src + token_size kind token + end_size kind len number
+    → stored_size kind dst src token number len ≡ 7 + length dst + length src + token_size kind token + end_size kind len number
 long_size head.Initial dst src token number len long = omega arith
 long_size head.ZeroRtt dst src token number len long = omega arith
 long_size head.Handshake dst src token number len long = omega arith
@@ -30,11 +30,11 @@ number_few (U24 x) = (omega arith, omega arith)
 number_few (U32 x) = (omega arith, omega arith)
 
 -- 64 bytes are enough for what is not its token
-pub laid_within : (kind : HeaderKind) (dst src token : List ℕ) (number : PacketNumber) (len : ℕ) → length dst ≤ 20 → length src ≤ 20 → len ≤ 4
-    → laid_size kind dst src token number len ≤ length token + 64
-laid_within head.Initial dst src token number len d s l = omega (arith, size_few (length token), number_few number)
-laid_within head.ZeroRtt dst src token number len d s l = omega (arith, number_few number)
-laid_within head.Handshake dst src token number len d s l = omega (arith, number_few number)
-laid_within head.Retry dst src token number len d s l = omega arith
-laid_within head.Short dst src token number len d s l = omega (arith, number_few number)
-laid_within head.VersionNegotiate dst src token number len d s l = omega arith
+pub stored_within : (kind : HeaderKind) (dst src token : List ℕ) (number : PacketNumber) (len : ℕ) → length dst ≤ 20 → length src ≤ 20 → len ≤ 4
+    → stored_size kind dst src token number len ≤ length token + 64
+stored_within head.Initial dst src token number len d s l = omega (arith, size_few (length token), number_few number)
+stored_within head.ZeroRtt dst src token number len d s l = omega (arith, number_few number)
+stored_within head.Handshake dst src token number len d s l = omega (arith, number_few number)
+stored_within head.Retry dst src token number len d s l = omega arith
+stored_within head.Short dst src token number len d s l = omega (arith, number_few number)
+stored_within head.VersionNegotiate dst src token number len d s l = omega arith

@@ -1,4 +1,4 @@
-pub mod Laying
+pub mod Storing
 pub mod Queries
 pub mod Starts
 pub mod Types

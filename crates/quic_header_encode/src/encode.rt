@@ -4,11 +4,11 @@ ghost use Rattle.quic_base.specs.Number.{AreBytes, bytes_of};
 ghost use Rattle.quic_crypto.specs.PacketNumbers.{IsInRange};
 ghost use Rattle.quic_header_encode.specs.declared.header.Header.TheVariants as header;
 ghost use Rattle.quic_header_encode.specs.declared.long_type.LongHeaderType.TheVariants as kind;
-ghost use Rattle.quic_header_encode.specs.Laying.{kind_of, laid_bytes, laid_len, padded_id, padded_room, HasLayRoom, IsLayable, IsShortToken, Lays};
+ghost use Rattle.quic_header_encode.specs.Storing.{kind_of, stored_bytes, stored_len, padded_id, padded_room, HasStoreRoom, IsStorable, IsShortToken, Stores};
 ghost use Rattle.quic_header_encode.specs.Writing.{bit, header_size, place_in, header_bytes, IsWritable, size_in, has_length, finished, HasRoom};
 
 use crate::header::{Header, InitialHeader};
-use crate::lay::{Exact, HeaderRef, Padded};
+use crate::store::{Exact, HeaderRef, Padded};
 use crate::long_type::{HeaderKind, LongType};
 use quic_base::coding::{NoRoom, are_bytes};
 use quic_base::ids::ConnectionId;
@@ -55,7 +55,7 @@ const NO_NUMBER: PacketNumber = PacketNumber::U8(0);
 
 // Whether a token is laid without a call: one of 16 to 32 bytes, or an empty one.
 #[inline(always)]
-fn is_laid_by_stores(token: &[u8]) -> bool
+fn is_stored_by_stores(token: &[u8]) -> bool
     ensures { IsTrue result ↔ IsShortToken token.now }
 {
     token.len() == 0 || token.len() >= 16 && token.len() <= 32
@@ -65,19 +65,19 @@ fn is_laid_by_stores(token: &[u8]) -> bool
 // them, and what is left of them goes. Answers whether there was room.
 #[inline(always)]
 fn put<const ROOM: usize>(head: HeaderRef<'_, Padded<'_>>, out: &mut Vec<u8>) -> bool
-    requires layable { IsLayable padded_id head }
-    requires room { IsShortToken head.token.now → HasLayRoom padded_id padded_room head ROOM }
-    ensures items { IsTrue result → out.new.items ≡ out.old.items ++ laid_bytes padded_id head.entry }
-    ensures len { IsTrue result → vec_len out.new ≡ vec_len out.old + laid_len padded_id head.entry }
+    requires storable { IsStorable padded_id head }
+    requires room { IsShortToken head.token.now → HasStoreRoom padded_id padded_room head ROOM }
+    ensures items { IsTrue result → out.new.items ≡ out.old.items ++ stored_bytes padded_id head.entry }
+    ensures len { IsTrue result → vec_len out.new ≡ vec_len out.old + stored_len padded_id head.entry }
     ensures capacity { vec_capacity out.old ≤ vec_capacity out.new }
     ensures same { IsTrue result ⊎ (out.new ≡ out.old) }
 {
-    if out.capacity() - out.len() < ROOM || !is_laid_by_stores(head.token) {
+    if out.capacity() - out.len() < ROOM || !is_stored_by_stores(head.token) {
         return false;
     }
     let begin = out.len();
     append(out, &[0; ROOM]);
-    let len = head.lay::<true>(&mut out.as_mut_slice()[begin..]);
+    let len = head.store::<true>(&mut out.as_mut_slice()[begin..]);
     out.truncate(begin + len);
     true
 }
@@ -118,8 +118,8 @@ fn short_first(spin: bool, key_phase: bool) -> u8
 #[inline(always)]
 fn initial_ref(initial: &InitialHeader) -> HeaderRef<'_, Padded<'_>>
     requires { IsWritable (header.Initial initial.now) }
-    ensures lays { Lays padded_id result (header.Initial initial.now) }
-    ensures room { IsShortToken result.token.now → HasLayRoom padded_id padded_room result INITIAL_ROOM }
+    ensures stores { Stores padded_id result (header.Initial initial.now) }
+    ensures room { IsShortToken result.token.now → HasStoreRoom padded_id padded_room result INITIAL_ROOM }
 {
     HeaderRef {
         kind: HeaderKind::Initial,
@@ -143,8 +143,8 @@ fn long_ref<'a>(
     number: &'a PacketNumber,
 ) -> HeaderRef<'a, Padded<'a>>
     requires { IsInRange number.now }
-    ensures lays { Lays padded_id result (header.Long ty dst.now src.now number.now version) }
-    ensures room { HasLayRoom padded_id padded_room result LONG_ROOM }
+    ensures stores { Stores padded_id result (header.Long ty dst.now src.now number.now version) }
+    ensures room { HasStoreRoom padded_id padded_room result LONG_ROOM }
 {
     HeaderRef {
         kind: long_kind(ty),
@@ -167,8 +167,8 @@ fn short_ref<'a>(
     number: &'a PacketNumber,
 ) -> HeaderRef<'a, Padded<'a>>
     requires { IsInRange number.now }
-    ensures lays { Lays padded_id result (header.Short spin key_phase dst_cid.now number.now) }
-    ensures room { HasLayRoom padded_id padded_room result SHORT_ROOM }
+    ensures stores { Stores padded_id result (header.Short spin key_phase dst_cid.now number.now) }
+    ensures room { HasStoreRoom padded_id padded_room result SHORT_ROOM }
 {
     HeaderRef {
         kind: HeaderKind::Short,
@@ -186,7 +186,7 @@ impl Header {
     // The same header, with ids and a token that stay where they are.
     fn borrowed(&self) -> HeaderRef<'_, Padded<'_>>
         requires { IsWritable self.now }
-        ensures { Lays padded_id result self.now }
+        ensures { Stores padded_id result self.now }
     {
         match self {
             Self::Initial(initial) => initial_ref(initial),
@@ -273,7 +273,7 @@ impl Header {
             Ok(()) => (),
             Err(_) => unreachable!(),
         }
-        head.lay::<false>(&mut out.as_mut_slice()[begin..]);
+        head.store::<false>(&mut out.as_mut_slice()[begin..]);
         Ok(())
     }
 

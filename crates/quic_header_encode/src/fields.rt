@@ -3,12 +3,12 @@ ghost use Rattle.std.specs.Prelude.{◌≡◌, ◌+◌, ◌≤◌, ◌++◌, len
 ghost use Rattle.quic_base.specs.Number.{bytes_of};
 ghost use Rattle.quic_crypto.specs.PacketNumbers.{number_bytes, number_size, IsInRange};
 
-use quic_base::coding::lay_array;
+use quic_base::coding::store_array;
 use quic_crypto::packet_number::PacketNumber;
 
 // Lays bytes by their first N and their last N.
 #[inline(always)]
-pub(crate) fn lay_ends<const N: usize>(out: &mut [u8], at: usize, bytes: &[u8]) -> usize
+pub(crate) fn store_ends<const N: usize>(out: &mut [u8], at: usize, bytes: &[u8]) -> usize
     requires many { N ≤ length bytes.now }
     requires covered { length bytes.now ≤ N + N }
     requires room { at + length bytes.now ≤ length out.old }
@@ -24,13 +24,13 @@ pub(crate) fn lay_ends<const N: usize>(out: &mut [u8], at: usize, bytes: &[u8]) 
         unreachable!()
     };
     let (first, last) = (*first, *last);
-    lay_array(out, at, first);
-    lay_array(out, at + (bytes.len() - N), last)
+    store_array(out, at, first);
+    store_array(out, at + (bytes.len() - N), last)
 }
 
 // Lays bytes at a place, and answers where they end.
 #[inline(always)]
-pub(crate) fn lay_bytes(out: &mut [u8], at: usize, bytes: &[u8]) -> usize
+pub(crate) fn store_bytes(out: &mut [u8], at: usize, bytes: &[u8]) -> usize
     requires { at + length bytes.now ≤ length out.old }
     ensures end { result ≡ at + length bytes.now }
     ensures front { take result out.new ≡ take at out.old ++ bytes.now }
@@ -45,7 +45,7 @@ pub(crate) fn lay_bytes(out: &mut [u8], at: usize, bytes: &[u8]) -> usize
 // Lays an id of at most 20 bytes at a place, and answers where it ends. Those of 8 bytes, the usual ones, are laid by
 // one store.
 #[inline(always)]
-pub(crate) fn lay_id(out: &mut [u8], at: usize, id: &[u8]) -> usize
+pub(crate) fn store_id(out: &mut [u8], at: usize, id: &[u8]) -> usize
     requires few { length id.now ≤ 20 }
     requires room { at + length id.now ≤ length out.old }
     ensures end { result ≡ at + length id.now }
@@ -55,17 +55,17 @@ pub(crate) fn lay_id(out: &mut [u8], at: usize, id: &[u8]) -> usize
 {
     let len = id.len();
     if len == 8 {
-        lay_whole::<8>(out, at, id)
+        store_whole::<8>(out, at, id)
     } else if len > 16 {
-        lay_ends::<16>(out, at, id)
+        store_ends::<16>(out, at, id)
     } else if len > 8 {
-        lay_ends::<8>(out, at, id)
+        store_ends::<8>(out, at, id)
     } else if len >= 4 {
-        lay_ends::<4>(out, at, id)
+        store_ends::<4>(out, at, id)
     } else if len >= 2 {
-        lay_ends::<2>(out, at, id)
+        store_ends::<2>(out, at, id)
     } else if len == 1 {
-        lay_whole::<1>(out, at, id)
+        store_whole::<1>(out, at, id)
     } else {
         at
     }
@@ -73,7 +73,7 @@ pub(crate) fn lay_id(out: &mut [u8], at: usize, id: &[u8]) -> usize
 
 // Lays N bytes.
 #[inline(always)]
-fn lay_whole<const N: usize>(out: &mut [u8], at: usize, bytes: &[u8]) -> usize
+fn store_whole<const N: usize>(out: &mut [u8], at: usize, bytes: &[u8]) -> usize
     requires many { length bytes.now ≡ N }
     requires room { at + length bytes.now ≤ length out.old }
     ensures end { result ≡ at + length bytes.now }
@@ -84,14 +84,14 @@ fn lay_whole<const N: usize>(out: &mut [u8], at: usize, bytes: &[u8]) -> usize
     let Some(all) = bytes.first_chunk::<N>() else {
         unreachable!()
     };
-    lay_array(out, at, *all)
+    store_array(out, at, *all)
 }
 
 /// Lays the low `len` bytes of a number at a place, and answers where they end. The caller must ensure that these are
 /// 1 to 4, and that there is room.
 #[inline(always)]
 #[tactic(auto, unfolding(quic_base::specs::Number::bytes_of))]
-pub fn lay_low(out: &mut [u8], at: usize, number: u64, len: usize) -> usize
+pub fn store_low(out: &mut [u8], at: usize, number: u64, len: usize) -> usize
     requires some { 1 ≤ len }
     requires few { len ≤ 4 }
     requires room { at + len ≤ length out.old }
@@ -102,21 +102,21 @@ pub fn lay_low(out: &mut [u8], at: usize, number: u64, len: usize) -> usize
 {
     let [_, _, _, _, first, second, third, fourth] = number.to_be_bytes();
     if len == 2 {
-        lay_array(out, at, [third, fourth])
+        store_array(out, at, [third, fourth])
     } else if len == 4 {
-        lay_array(out, at, [first, second, third, fourth])
+        store_array(out, at, [first, second, third, fourth])
     } else if len == 1 {
-        lay_array(out, at, [fourth])
+        store_array(out, at, [fourth])
     } else {
-        lay_array(out, at, [second, third, fourth])
+        store_array(out, at, [second, third, fourth])
     }
 }
 
 /// Lays the part of a number that is written, and answers where it ends. The caller must ensure that there is room,
 /// and that a `U24` is below 2^24.
 #[inline(always)]
-#[tactic(auto, using(crate::proofs::Lays::numbers), unfolding(quic_base::specs::Number::bytes_of))]
-pub fn lay_number(out: &mut [u8], at: usize, number: PacketNumber) -> usize
+#[tactic(auto, using(crate::proofs::Stores::numbers), unfolding(quic_base::specs::Number::bytes_of))]
+pub fn store_number(out: &mut [u8], at: usize, number: PacketNumber) -> usize
     requires valid { IsInRange number }
     requires room { at + number_size number ≤ length out.old }
     ensures end { result ≡ at + number_size number }
@@ -125,12 +125,12 @@ pub fn lay_number(out: &mut [u8], at: usize, number: PacketNumber) -> usize
     ensures len { length out.new ≡ length out.old }
 {
     match number {
-        PacketNumber::U8(x) => lay_array(out, at, [x]),
-        PacketNumber::U16(x) => lay_array(out, at, x.to_be_bytes()),
+        PacketNumber::U8(x) => store_array(out, at, [x]),
+        PacketNumber::U16(x) => store_array(out, at, x.to_be_bytes()),
         PacketNumber::U24(x) => {
             let [_, high, middle, low] = x.to_be_bytes();
-            lay_array(out, at, [high, middle, low])
+            store_array(out, at, [high, middle, low])
         }
-        PacketNumber::U32(x) => lay_array(out, at, x.to_be_bytes()),
+        PacketNumber::U32(x) => store_array(out, at, x.to_be_bytes()),
     }
 }

@@ -1,6 +1,6 @@
 //! Laws of headers as they are written, which no single call carries. The function does nothing.
 ghost use Rattle.std.specs.Prelude.{◌≡◌, ◌+◌, ◌-◌, ◌⊎◌, ◌++◌, List, ℕ, IsTrue, length, replicate};
-ghost use Rattle.quic_header_encode.specs.Laying.{begun_by, length_in, with_len};
+ghost use Rattle.quic_header_encode.specs.Storing.{begun_by, length_in, with_len};
 ghost use Rattle.quic_header_encode.specs.Writing.{has_length, header_bytes, header_size, header_with, size_in, with_length};
 
 use crate::header::Header;

@@ -1,7 +1,7 @@
 //! The limits and options that two endpoints tell each other while they shake hands (RFC 9000, section 7.4).
 
 pub use crate::error::Error;
-pub use crate::laying::write_entry_into;
+pub use crate::storing::write_entry_into;
 pub use crate::order::WriteOrder;
 pub use crate::parameter::TransportParameterId;
 pub use crate::reading::{known, split_entry};

@@ -2,4 +2,4 @@
 
 mod frames;
 mod frames_in_range;
-mod frames_laid;
+mod frames_stored;

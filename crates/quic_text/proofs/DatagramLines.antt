@@ -36,8 +36,8 @@ when_ok (Err e) f h = tt
 pub version_written : {T E : Type 0} (r : Result T E) (old new text : List ℕ) (digits_shown : Option (List ℕ)) (n : ℕ)
     → digits_shown ≡ option_map (padded_integral (format_spec 32 0 4 8 (2 ^ 64 - 1)) false []) (Some (digits 16 false n))
     → OnOk r (AppendsText old new (Some text ++? digits_shown)) → OnOk r (new ≡ old ++ (text ++ eight_digits n))
-version_written r old new text digits_shown n laid written =
-    let eight : digits_shown ≡ Some (eight_digits n) = laid ∙ ap (λ (ds : List ℕ). Some ds) (eight_written n) in
+version_written r old new text digits_shown n stored written =
+    let eight : digits_shown ≡ Some (eight_digits n) = stored ∙ ap (λ (ds : List ℕ). Some ds) (eight_written n) in
     when_ok r (λ h. subst (λ (o : Option (List ℕ)). AppendsText old new (Some text ++? o)) eight h) written
 
 -- what a call answers that cuts a packet

@@ -86,7 +86,7 @@ fn encode_runs<B: BufMut>(
     let block = greatest - first.start;
     let below = count as u64 - 1;
     let mut chunk = [0; CHUNK];
-    let at = write::lay_numbers(&mut chunk, &[type_of(ecn), greatest, delay, below, block]);
+    let at = write::store_numbers(&mut chunk, &[type_of(ecn), greatest, delay, below, block]);
     encode_below(&mut chunk, at, first, runs, out)?;
     encode_counts(ecn, out)
 }
@@ -115,15 +115,15 @@ fn make_room<B: BufMut>(chunk: &[u8; CHUNK], at: usize, out: &mut B) -> Result<u
 
 // Lays two numbers, one behind the other.
 #[inline(always)]
-fn lay_two(chunk: &mut [u8; CHUNK], at: usize, gap: u64, len: u64) -> usize
+fn store_two(chunk: &mut [u8; CHUNK], at: usize, gap: u64, len: u64) -> usize
     requires room { at + 16 ≤ CHUNK }
     requires gap { gap < 2 ^ 62 }
     requires len { len < 2 ^ 62 }
     ensures near { result ≤ CHUNK }
     ensures front { take result chunk.new ≡ take at chunk.old ++ all_short (gap ∷ len ∷ []) }
 {
-    let at = write::lay_number(chunk, at, gap);
-    write::lay_number(chunk, at, len)
+    let at = write::store_number(chunk, at, gap);
+    write::store_number(chunk, at, len)
 }
 
 // Appends what is held, the front of the chunk, and the runs below another one, the greatest first: for each the
@@ -147,7 +147,7 @@ fn encode_below<B: BufMut>(
     while let Some(run) = runs.next_back() {
         at = make_room(chunk, at, out)?;
         let gap = above.start - run.end - 1;
-        at = lay_two(chunk, at, gap, run.end - 1 - run.start);
+        at = store_two(chunk, at, gap, run.end - 1 - run.start);
         above = run;
     }
     write::bytes(out, &chunk[..at])

@@ -2,12 +2,12 @@
 ghost use Rattle.std.specs.Prelude.{◌≡◌, ◌<◌, ◌≤◌, ◌+◌, ◌^◌, ◌++◌, ℕ, List, Bool, length, take, drop, IfSome};
 ghost use Rattle.quic_frame_fields.specs.Numbers.{AreNumeric, AreEncoded, all_short};
 ghost use Rattle.quic_frame_fields.specs.Parts.{ack_meaning};
-ghost use Rattle.quic_frame_fields.specs.Putting.{Lays, Puts, Shortens};
+ghost use Rattle.quic_frame_fields.specs.Putting.{Stores, Puts, Shortens};
 ghost use Rattle.quic_frame_fields.specs.Sets.{AreCounts, IsAckInRange, count_numbers};
 ghost use Rattle.quic_frame_fields.specs.Shortest.{shortest_frame, stream_header};
 
 use super::ack_encode::header_of;
-use super::write::{HEADER_ROOM, count_and_len, lay_number, lay_numbers};
+use super::write::{HEADER_ROOM, count_and_len, store_number, store_numbers};
 use super::{Ack, EcnCounts, FrameType, Stream, field};
 
 /// Lays at most five numbers in their shortest encodings at the front of the slice, and answers how many bytes they
@@ -20,7 +20,7 @@ pub fn numbers(dest: &mut [u8], numbers: &[u64]) -> Result<usize, usize>
     ensures { Puts result (all_short numbers.now) dest.old dest.new }
 {
     let mut head = [0; HEADER_ROOM];
-    let len = lay_numbers(&mut head, numbers);
+    let len = store_numbers(&mut head, numbers);
     bytes(dest, &head[..len])
 }
 
@@ -32,7 +32,7 @@ pub fn numbers_and_bytes(dest: &mut [u8], head: &[u64], tail: &[u8]) -> Result<u
     ensures { Puts result (all_short head.now ++ tail.now) dest.old dest.new }
 {
     let mut numbers = [0; HEADER_ROOM];
-    let len = lay_numbers(&mut numbers, head);
+    let len = store_numbers(&mut numbers, head);
     two(dest, &numbers[..len], tail)
 }
 
@@ -49,7 +49,7 @@ pub fn numbers_and_two(
     ensures { Puts result (all_short head.now ++ (middle.now ++ end.now)) dest.old dest.new }
 {
     let mut numbers = [0; HEADER_ROOM];
-    let len = lay_numbers(&mut numbers, head);
+    let len = store_numbers(&mut numbers, head);
     three(dest, &numbers[..len], middle, end)
 }
 
@@ -59,12 +59,12 @@ pub fn numbers_at(dest: &mut [u8], at: usize, numbers: &[u64]) -> usize
     requires few { length numbers.now ≤ 5 }
     requires numeric { AreNumeric numbers.now }
     requires room { at + length (all_short numbers.now) ≤ length dest.old }
-    ensures lays { Lays (all_short numbers.now) at dest.old result dest.new }
+    ensures stores { Stores (all_short numbers.now) at dest.old result dest.new }
     ensures len { length dest.new ≡ length dest.old }
 {
     let mut head = [0; HEADER_ROOM];
-    let len = lay_numbers(&mut head, numbers);
-    lay_bytes(dest, at, &head[..len])
+    let len = store_numbers(&mut head, numbers);
+    store_bytes(dest, at, &head[..len])
 }
 
 // Lays bytes at the front.
@@ -74,7 +74,7 @@ fn bytes(dest: &mut [u8], bytes: &[u8]) -> Result<usize, usize>
     if dest.len() < bytes.len() {
         return Err(bytes.len());
     }
-    Ok(lay_bytes(dest, 0, bytes))
+    Ok(store_bytes(dest, 0, bytes))
 }
 
 // Lays bytes at the front, and others behind them.
@@ -85,8 +85,8 @@ fn two(dest: &mut [u8], front: &[u8], end: &[u8]) -> Result<usize, usize>
     if dest.len() < needed {
         return Err(needed);
     }
-    let at = lay_bytes(dest, 0, front);
-    Ok(lay_bytes(dest, at, end))
+    let at = store_bytes(dest, 0, front);
+    Ok(store_bytes(dest, at, end))
 }
 
 // Lays bytes at the front, and others behind them, twice.
@@ -99,14 +99,14 @@ fn three(dest: &mut [u8], front: &[u8], middle: &[u8], end: &[u8]) -> Result<usi
     if dest.len() < needed {
         return Err(needed);
     }
-    let at = lay_bytes(dest, 0, front);
-    let at = lay_bytes(dest, at, middle);
-    Ok(lay_bytes(dest, at, end))
+    let at = store_bytes(dest, 0, front);
+    let at = store_bytes(dest, at, middle);
+    Ok(store_bytes(dest, at, end))
 }
 
 // Lays bytes over those at a place, and answers where they end.
 #[inline(always)]
-fn lay_bytes(dest: &mut [u8], at: usize, bytes: &[u8]) -> usize
+fn store_bytes(dest: &mut [u8], at: usize, bytes: &[u8]) -> usize
     requires { at + length bytes.now ≤ length dest.old }
     ensures end { result ≡ at + length bytes.now }
     ensures front { take result dest.new ≡ take at dest.old ++ bytes.now }
@@ -149,58 +149,58 @@ pub fn ack(dest: &mut [u8], ack: &Ack<'_>) -> Result<usize, usize>
 {
     let (numbers, blocks) = count_and_len(ack.additional());
     let mut head = [0; HEADER_ROOM];
-    let header_len = lay_numbers(&mut head, &header_of(ack, numbers));
+    let header_len = store_numbers(&mut head, &header_of(ack, numbers));
     let mut counts = [0; HEADER_ROOM];
-    let counts_len = lay_counts(&mut counts, ack.ecn());
+    let counts_len = store_counts(&mut counts, ack.ecn());
     let needed = header_len + blocks as usize + counts_len;
     if dest.len() < needed {
         return Err(needed);
     }
-    let at = lay_bytes(dest, 0, &head[..header_len]);
-    let at = lay_shortened(dest, at, ack.additional(), blocks as usize);
-    Ok(lay_bytes(dest, at, &counts[..counts_len]))
+    let at = store_bytes(dest, 0, &head[..header_len]);
+    let at = store_shortened(dest, at, ack.additional(), blocks as usize);
+    Ok(store_bytes(dest, at, &counts[..counts_len]))
 }
 
 // Lays the counts of an acknowledgement, where they are given, and answers where they end.
-fn lay_counts(counts: &mut [u8; HEADER_ROOM], ecn: Option<EcnCounts>) -> usize
+fn store_counts(counts: &mut [u8; HEADER_ROOM], ecn: Option<EcnCounts>) -> usize
     requires { AreCounts ecn }
     ensures within { result ≤ HEADER_ROOM }
     ensures front { take result counts.new ≡ all_short (count_numbers ecn) }
 {
     match ecn {
         None => 0,
-        Some(ecn) => lay_numbers(counts, &[ecn.ect0, ecn.ect1, ecn.ce]),
+        Some(ecn) => store_numbers(counts, &[ecn.ect0, ecn.ect1, ecn.ce]),
     }
 }
 
 // Lays the numbers that the bytes encode, in their shortest encodings of so many bytes, over those at a place, and
 // answers where they end.
-fn lay_shortened(dest: &mut [u8], at: usize, encoded: &[u8], len: usize) -> usize
+fn store_shortened(dest: &mut [u8], at: usize, encoded: &[u8], len: usize) -> usize
     requires shortens { Shortens encoded.now len }
     requires room { at + len ≤ length dest.old }
-    ensures lays { (ns : List ℕ) → AreEncoded ns encoded.now → Lays (all_short ns) at dest.old result dest.new }
+    ensures stores { (ns : List ℕ) → AreEncoded ns encoded.now → Stores (all_short ns) at dest.old result dest.new }
     ensures len { length dest.new ≡ length dest.old }
 {
     if len == encoded.len() {
-        lay_bytes(dest, at, encoded)
+        store_bytes(dest, at, encoded)
     } else {
-        lay_each(dest, at, encoded, len)
+        store_each(dest, at, encoded, len)
     }
 }
 
 // The same, one number after the other.
-fn lay_each(dest: &mut [u8], at: usize, encoded: &[u8], len: usize) -> usize
+fn store_each(dest: &mut [u8], at: usize, encoded: &[u8], len: usize) -> usize
     requires shortens { Shortens encoded.now len }
     requires room { at + len ≤ length dest.old }
-    ensures lays { (ns : List ℕ) → AreEncoded ns encoded.now → Lays (all_short ns) at dest.old result dest.new }
+    ensures stores { (ns : List ℕ) → AreEncoded ns encoded.now → Stores (all_short ns) at dest.old result dest.new }
     ensures len { length dest.new ≡ length dest.old }
 {
     let mut at = at;
     let mut rest = encoded;
     while let Ok((number, after)) = field::varint(rest) {
         let mut short = [0; 8];
-        let end = lay_number(&mut short, 0, number);
-        at = lay_bytes(dest, at, &short[..end]);
+        let end = store_number(&mut short, 0, number);
+        at = store_bytes(dest, at, &short[..end]);
         rest = after;
     }
     at

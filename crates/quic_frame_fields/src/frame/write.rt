@@ -8,7 +8,7 @@ ghost use Rattle.quic_frame_fields.specs.Numbers.{AreNumeric, AreEncoded, all_sh
 
 use super::field;
 use bytes::BufMut;
-use quic_base::coding::{BufMutExt, NoRoom, lay_array};
+use quic_base::coding::{BufMutExt, NoRoom, store_array};
 use quic_base::ids::ConnectionId;
 use quic_base::varint::VarInt;
 
@@ -18,7 +18,7 @@ pub(super) const HEADER_ROOM: usize = 40;
 // Lays a number in its shortest encoding at a place, and answers where it ends.
 #[inline(always)]
 #[tactic(auto, unfolding(quic_base::specs::Varint::short, quic_base::specs::Varint::size, quic_base::specs::Number::bytes_of))]
-pub(super) fn lay_number(head: &mut [u8], at: usize, n: u64) -> usize
+pub(super) fn store_number(head: &mut [u8], at: usize, n: u64) -> usize
     requires numeric { n < 2 ^ 62 }
     requires room { at + 8 ≤ length head.old }
     ensures end { result ≡ at + length (short n) }
@@ -27,19 +27,19 @@ pub(super) fn lay_number(head: &mut [u8], at: usize, n: u64) -> usize
     ensures len { length head.new ≡ length head.old }
 {
     if n < 1 << 6 {
-        lay_array(head, at, [n as u8])
+        store_array(head, at, [n as u8])
     } else if n < 1 << 14 {
-        lay_array(head, at, ((1 << 14) + n as u16).to_be_bytes())
+        store_array(head, at, ((1 << 14) + n as u16).to_be_bytes())
     } else if n < 1 << 30 {
-        lay_array(head, at, ((2 << 30) + n as u32).to_be_bytes())
+        store_array(head, at, ((2 << 30) + n as u32).to_be_bytes())
     } else {
-        lay_array(head, at, ((3 << 62) + n).to_be_bytes())
+        store_array(head, at, ((3 << 62) + n).to_be_bytes())
     }
 }
 
 // Lays numbers, one behind the other, and answers where they end.
 #[inline(always)]
-pub(super) fn lay_numbers(head: &mut [u8], numbers: &[u64]) -> usize
+pub(super) fn store_numbers(head: &mut [u8], numbers: &[u64]) -> usize
     requires room { 8 * length numbers.now ≤ length head.old }
     requires numeric { AreNumeric numbers.now }
     ensures within { result ≤ 8 * length numbers.now }
@@ -48,7 +48,7 @@ pub(super) fn lay_numbers(head: &mut [u8], numbers: &[u64]) -> usize
 {
     let mut at = 0;
     for number in numbers {
-        at = lay_number(head, at, *number);
+        at = store_number(head, at, *number);
     }
     at
 }
@@ -63,7 +63,7 @@ pub fn numbers<B: BufMut>(out: &mut B, numbers: &[u64]) -> Result<(), NoRoom>
     ensures { Writes result (all_short numbers.now) (B.written out.old) (B.spare out.old) (B.written out.new) (B.spare out.new) }
 {
     let mut head = [0; HEADER_ROOM];
-    let len = lay_numbers(&mut head, numbers);
+    let len = store_numbers(&mut head, numbers);
     bytes(out, &head[..len])
 }
 

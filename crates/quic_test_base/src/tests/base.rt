@@ -1,7 +1,7 @@
 //! Rows, single calls and texts of `quic_base`.
 use bytes::{Buf, BufMut, BytesMut};
 use quic_base::coding::{
-    self, BufExt, BufMutExt, Codec, NoRoom, UnexpectedEnd, get_array, lay_array,
+    self, BufExt, BufMutExt, Codec, NoRoom, UnexpectedEnd, get_array, store_array,
 };
 use quic_base::ids::{
     ConnectionId, DEFAULT_SUPPORTED_VERSIONS, Dir, EcnCodepoint, INITIAL_MTU, IssuedCid,
@@ -177,9 +177,9 @@ fn an_array_is_taken() -> bool {
     get_array::<&[u8], 3>(&mut left) == Ok([1, 2, 3]) && left.len() == 5
 }
 
-fn an_array_is_laid() -> bool {
-    let mut laid = [0x0f; 4];
-    lay_array(&mut laid, 1, [7, 8]) == 3 && laid.starts_with(b"\x0f\x07\x08")
+fn an_array_is_stored() -> bool {
+    let mut stored = [0x0f; 4];
+    store_array(&mut stored, 1, [7, 8]) == 3 && stored.starts_with(b"\x0f\x07\x08")
 }
 
 fn is_read_as(address: Ipv4Addr, bytes: &[u8]) -> bool {
@@ -200,7 +200,7 @@ fn fixed_numbers(rt: HostRuntime) -> Result<(), Fail> {
     checks.holds(numbers_are_written(rt.alloc()));
     checks.holds(numbers_are_read());
     checks.holds(an_array_is_taken());
-    checks.holds(an_array_is_laid());
+    checks.holds(an_array_is_stored());
     let v4 = b"\x7f\x00\x00\x01";
     checks.holds(is_written(rt.alloc(), Ipv4Addr::LOCALHOST, v4));
     checks.holds(is_read_as(Ipv4Addr::LOCALHOST, v4));

@@ -64,7 +64,7 @@ fn the_header_of_no_data(rt: HostRuntime) -> Result<(), Fail> {
     checks.verdict()
 }
 
-fn lay_a_header_and_its_data(out: &mut Vec<u8>) -> bool {
+fn store_a_header_and_its_data(out: &mut Vec<u8>) -> bool {
     let meta = StreamMeta {
         id: StreamId::from(VarInt::from_u32(4)),
         offsets: 16..18,
@@ -91,7 +91,7 @@ fn is_the_stream_and_a_ping(payload: &[u8]) -> bool {
 }
 
 fn are_a_frame(out: &mut Vec<u8>) -> bool {
-    lay_a_header_and_its_data(out) && is_the_stream_and_a_ping(out.as_slice())
+    store_a_header_and_its_data(out) && is_the_stream_and_a_ping(out.as_slice())
 }
 
 // A header and the data behind it are a frame.

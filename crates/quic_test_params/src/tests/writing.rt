@@ -135,13 +135,13 @@ fn is_front(room: &[u8], bytes: &[u8]) -> bool {
 }
 
 // Whether these bytes are laid at the front, and what stands behind them stays.
-fn is_laid(params: &TransportParameters, bytes: &[u8]) -> bool {
+fn is_stored(params: &TransportParameters, bytes: &[u8]) -> bool {
     let mut room = [0xff; 90];
     params.write_into(&mut room) == Ok(bytes.len()) && is_front(&room, bytes)
 }
 
 // The same where there is just their room.
-fn is_laid_in_its_room(params: &TransportParameters, bytes: &[u8]) -> bool {
+fn is_stored_in_its_room(params: &TransportParameters, bytes: &[u8]) -> bool {
     let mut room = [0xff; 90];
     let Some(just) = room.get_mut(..bytes.len()) else {
         return false;
@@ -158,22 +158,22 @@ fn is_refused(params: &TransportParameters, bytes: &[u8]) -> bool {
     params.write_into(little) == Err(bytes.len()) && is_untouched(&room)
 }
 
-fn is_laid_whole_or_not(params: &TransportParameters, bytes: &[u8]) -> bool {
-    is_laid(params, bytes) && is_laid_in_its_room(params, bytes) && is_refused(params, bytes)
+fn is_stored_whole_or_not(params: &TransportParameters, bytes: &[u8]) -> bool {
+    is_stored(params, bytes) && is_stored_in_its_room(params, bytes) && is_refused(params, bytes)
 }
 
 #[test]
-fn lists_are_laid_at_the_front(rt: HostRuntime) -> Result<(), Fail> {
+fn lists_are_stored_at_the_front(rt: HostRuntime) -> Result<(), Fail> {
     let mut checks = Checks::new(rt.alloc());
     let bytes = hex::decode(rt.alloc(), WHOLE)?;
     checks.holds_at(
         "most kinds",
-        is_laid_whole_or_not(&whole(), bytes.as_slice()),
+        is_stored_whole_or_not(&whole(), bytes.as_slice()),
     );
     let two = b"\x03\x02\x44\xb0\x08\x01\x10";
-    checks.holds_at("two limits", is_laid_whole_or_not(&two_limits(), two));
+    checks.holds_at("two limits", is_stored_whole_or_not(&two_limits(), two));
     let none = TransportParameters::default();
-    checks.holds_at("no entry", is_laid(&none, b""));
+    checks.holds_at("no entry", is_stored(&none, b""));
     checks.holds_at("no entry and no room", none.write_into(&mut []) == Ok(0));
     checks.verdict()
 }

@@ -4,12 +4,12 @@ use Rattle.quic_frame_fields.specs.Putting.{Puts}
 use Rattle.quic_c.proofs.AckGaps.{is_of, longest, same_answer, says_of, whole}
 use Rattle.quic_c.proofs.ack_gaps.quic_wire_ack_gaps_write_.Goals as goal
 
-pub lay_ack-requires-clause-room : goal.lay_ack-requires-clause-room
-lay_ack-requires-clause-room c = omega (arith, longest c.args.ack.now c.args.gaps.now, c.if-has_room.ensures)
+pub store_ack-requires-clause-room : goal.store_ack-requires-clause-room
+store_ack-requires-clause-room c = omega (arith, longest c.args.ack.now c.args.gaps.now, c.if-has_room.ensures)
 
 pub returns-then-is_ack-clause-wrote : goal.returns-then-is_ack-clause-wrote
 returns-then-is_ack-clause-wrote c = λ _ last low below s.
-    subst (λ (b : List ℕ). Puts (Ok c.lay_ack.result) b c.args.out.now c.lay_ack.new.dest) (sym (whole last c.args.ack.now c.args.gaps.now low below s)) c.lay_ack.ensures
+    subst (λ (b : List ℕ). Puts (Ok c.store_ack.result) b c.args.out.now c.store_ack.new.dest) (sym (whole last c.args.ack.now c.args.gaps.now low below s)) c.store_ack.ensures
 
 pub returns-then-is_ack-clause-says : goal.returns-then-is_ack-clause-says
 returns-then-is_ack-clause-says c = inr (says_of c.args.ack.now c.args.gaps.now (c.if-is_ack.ensures.0 refl))

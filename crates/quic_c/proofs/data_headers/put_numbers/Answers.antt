@@ -3,15 +3,15 @@ use Rattle.quic_base.specs.Varint.{short}
 use Rattle.quic_base.proofs.PublicLaws.{length-short}
 use Rattle.quic_frame_fields.specs.Numbers.{all_short}
 use Rattle.quic_frame_fields.proofs.Numbers.{all_short-at, numeric_at}
-use Rattle.quic_frame_fields.proofs.Putting.{lays_more}
+use Rattle.quic_frame_fields.proofs.Putting.{stores_more}
 use Rattle.quic_frame_fields.proofs.Encoding.{size_small}
 use Rattle.quic_c.proofs.data_headers.put_numbers.Goals as goal
 
-pub lay-at-requires-clause-numeric : goal.lay-at-requires-clause-numeric
-lay-at-requires-clause-numeric c = numeric_at c.args.numbers.now c.loop-number.number-index c.requires.numeric c.loop-number-test.true
+pub store-at-requires-clause-numeric : goal.store-at-requires-clause-numeric
+store-at-requires-clause-numeric c = numeric_at c.args.numbers.now c.loop-number.number-index c.requires.numeric c.loop-number-test.true
 
-pub lay-at-requires-clause-room : goal.lay-at-requires-clause-room
-lay-at-requires-clause-room c =
+pub store-at-requires-clause-room : goal.store-at-requires-clause-room
+store-at-requires-clause-room c =
     let n : ℕ = get_or c.args.numbers.now c.loop-number.number-index 0 in
     omega (arith, c.loop-number.invariant.near, c.loop-number.invariant.len, c.loop-number-test.true, c.requires.few, length-short n, size_small n)
 
@@ -20,9 +20,9 @@ loop-number-preserved c =
     let ns : List ℕ = c.args.numbers.now in
     let i : ℕ = c.loop-number.number-index in
     let n : ℕ = get_or ns i 0 in
-    let lays = c.lay-at.ensures.lays in
+    let stores = c.store-at.ensures.stores in
     record {
-      near = omega (arith, c.loop-number.invariant.near, lays.count, length-short n, size_small n);
-      len = c.lay-at.ensures.len ∙ c.loop-number.invariant.len;
-      lays = rw (add-one, all_short-at ns i c.loop-number-test.true) (lays_more (all_short (take i ns)) (short n) c.args.dest.now c.loop-number.dest c.lay-at.new.dest 0 c.loop-number.at c.lay-at.result c.loop-number.invariant.lays lays);
+      near = omega (arith, c.loop-number.invariant.near, stores.count, length-short n, size_small n);
+      len = c.store-at.ensures.len ∙ c.loop-number.invariant.len;
+      stores = rw (add-one, all_short-at ns i c.loop-number-test.true) (stores_more (all_short (take i ns)) (short n) c.args.dest.now c.loop-number.dest c.store-at.new.dest 0 c.loop-number.at c.store-at.result c.loop-number.invariant.stores stores);
     }

@@ -14,7 +14,7 @@ pub returns-clause-told : goal.returns-clause-told
 returns-clause-told c = λ id_len. record {
   read = c.read_long.result;
   right = c.read_long.ensures.answer id_len;
-  laid = c.read_long.ensures.seen;
+  stored = c.read_long.ensures.seen;
   first = first_of c.read_long.result c.args.first c.args.packet.now c.read_long.ensures.first (ap (λ (p : List ℕ). slice_index p 0) c.requires.begins);
   answers = c.show.ensures.answer;
   words = c.show.ensures.words;

@@ -19,11 +19,11 @@ returns-clause-count c = inr (sym (bytes_long c.args.first c.args.dst.now c.args
 pub returns-clause-wrote : goal.returns-clause-wrote
 returns-clause-wrote c = λ _.
     let bytes : List ℕ = negotiation_bytes c.args.first c.args.dst.now c.args.src.now c.args.versions.now in
-    c.lay_packet.ensures.wrote ∙ ap (λ (k : ℕ). bytes ++ drop k c.args.dest.now) c.lay_packet.ensures.end
+    c.store_packet.ensures.wrote ∙ ap (λ (k : ℕ). bytes ++ drop k c.args.dest.now) c.store_packet.ensures.end
 
 pub returns-clause-again : goal.returns-clause-again
 returns-clause-again c = λ _.
     let bytes : List ℕ = negotiation_bytes c.args.first c.args.dst.now c.args.src.now c.args.versions.now in
     let count : ℕ = 7 + length c.args.dst.now + length c.args.src.now + 4 * length c.args.versions.now in
     let long : length bytes ≡ count = bytes_long c.args.first c.args.dst.now c.args.src.now c.args.versions.now in
-    read_back c.args.first c.args.dst.now c.args.src.now c.args.versions.now _ (ap (take count) c.lay_packet.ensures.wrote ∙ take_front bytes _ count long)
+    read_back c.args.first c.args.dst.now c.args.src.now c.args.versions.now _ (ap (take count) c.store_packet.ensures.wrote ∙ take_front bytes _ count long)

@@ -4,7 +4,7 @@ use Rattle.std.proofs.lemmas.List.{take-append-drop}
 use Rattle.std.proofs.lemmas.Bool.Decides.{nat_tests}
 use Rattle.quic_base.specs.Varint.{Encodes}
 use Rattle.quic_base.proofs.PublicLaws as law
-use Rattle.quic_header_encode.proofs.Lays.{short_small}
+use Rattle.quic_header_encode.proofs.Stores.{short_small}
 use Rattle.quic_c_headers.specs.Numbers.{least_width, encoding, CanEncode, IsWidth}
 use Rattle.quic_c_headers.proofs.numbers.quic_wire_varint_write_.Goals as goal
 use Rattle.quic_c_headers.proofs.numbers.quic_wire_varint_write_.Goals.{then-width-eq0, else-width-eq0}
@@ -54,14 +54,14 @@ encoded n v lt enough known =
 pub returns-clause-wrote : goal.returns-clause-wrote
 returns-clause-wrote c =
     let old : List ℕ = c.args.dest.now in
-    let new : List ℕ = c.lay_encoding.new.dest in
-    let n : ℕ = c.lay_encoding.result in
-    elim c.lay_encoding.ensures.wrote [
+    let new : List ℕ = c.store_encoding.new.dest in
+    let n : ℕ = c.store_encoding.result in
+    elim c.store_encoding.ensures.wrote [
       | inl none ↦ inl none
       | inr w ↦
           let front : take n new ≡ encoding n c.args.value = w.2 ∙ ap (λ (k : ℕ). encoding k c.args.value) (sym w.0) in
           let all : new ≡ encoding n c.args.value ++ drop n old =
-          sym (take-append-drop n new) ∙ ap (λ (xs : List ℕ). xs ++ drop n new) front ∙ ap (λ (xs : List ℕ). encoding n c.args.value ++ xs) c.lay_encoding.ensures.back in
+          sym (take-append-drop n new) ∙ ap (λ (xs : List ℕ). xs ++ drop n new) front ∙ ap (λ (xs : List ℕ). encoding n c.args.value ++ xs) c.store_encoding.ensures.back in
           inr (encoded n c.args.value c.if-value.false (omega (arith, w.0, c.least_width-least.ensures)) (subst IsWidth (sym w.0) w.1), all)
     ]
 
@@ -77,8 +77,8 @@ chosen width value least n room asked is lt known enough within = record {
 
 pub returns-clause-width : goal.returns-clause-width
 returns-clause-width c =
-    let n : ℕ = c.lay_encoding.result in
-    elim c.lay_encoding.ensures.wrote [
+    let n : ℕ = c.store_encoding.result in
+    elim c.store_encoding.ensures.wrote [
       | inl none ↦ inl none
       | inr w ↦
           let asked : (c.args.width ≡ 0) × (n ≡ c.least_width-least.result) ⊎ (0 < c.args.width) × (n ≡ c.args.width) =

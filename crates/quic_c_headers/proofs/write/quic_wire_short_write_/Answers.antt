@@ -3,7 +3,7 @@ use Rattle.std.proofs.Common.{◌≡◌, ◌^◌, ◌+◌, ◌/◌, ◌%◌, ◌
 use Rattle.std.specs.Prelude.{drop, pos, take}
 use Rattle.quic_base.specs.Number.{bytes_of}
 use Rattle.quic_base.proofs.PublicLaws.{length-bytes_of}
-use Rattle.quic_header_encode.proofs.Lays.{stays}
+use Rattle.quic_header_encode.proofs.Stores.{stays}
 use Rattle.quic_header_encode.specs.declared.long_type.HeaderKind.TheVariants as kind
 use Rattle.quic_c_headers.specs.Written.{short_words}
 use Rattle.quic_c_headers.proofs.Writing.{clear_by, header_said, short_bytes, short_can, written}
@@ -35,12 +35,12 @@ returns-clause-wrote c =
     let plain : first / 8 % 4 ≡ 0 = search rules in
     let small : number < 2 ^ 62 = search rules in
     let few : length dst ≤ 20 = search rules in
-    let n : ℕ = c.lay_low.result in
-    let new : List ℕ = c.lay_low.new.out in
+    let n : ℕ = c.store_low.result in
+    let new : List ℕ = c.store_low.new.out in
     let front : take n new ≡ (first ∷ dst) ++ bytes_of (first % 4 + 1) number =
-    c.lay_low.ensures.front ∙ ap (λ (xs : List ℕ). xs ++ bytes_of (first % 4 + 1) number) c.lay_short-at.ensures.front in
+    c.store_low.ensures.front ∙ ap (λ (xs : List ℕ). xs ++ bytes_of (first % 4 + 1) number) c.store_short-at.ensures.front in
     let back : drop n new ≡ drop n c.args.dest.now =
-    c.lay_low.ensures.back ∙ stays (1 + length dst) n c.lay_short-at.new.out c.args.dest.now c.lay_short-at.ensures.back (omega arith) in
+    c.store_low.ensures.back ∙ stays (1 + length dst) n c.store_short-at.new.out c.args.dest.now c.store_short-at.ensures.back (omega arith) in
     let within : n ≤ length new = search rules in
     let all = written n c.args.dest.now new _ _ within front back (short_bytes first number dst low plain small few) in
     let count : to_z w32 n ≡ pos n = search rules in

@@ -3,12 +3,12 @@ use Rattle.std.proofs.Common.{◌≡◌, ◌+◌, ◌≤◌, ◌<◌, ◌∙◌,
 use Rattle.std.proofs.lemmas.Bool.{cases_lt}
 use Rattle.quic_crypto.specs.declared.packet_number.PacketNumber.{PacketNumber}
 use Rattle.std.specs.Prelude.{pos, take, drop}
-use Rattle.quic_header_encode.specs.Laying.{laid_size, number_bits, says_length, type_bits}
-use Rattle.quic_header_encode.proofs.Later.{laid_length}
+use Rattle.quic_header_encode.specs.Storing.{stored_size, number_bits, says_length, type_bits}
+use Rattle.quic_header_encode.proofs.Later.{stored_length}
 use Rattle.quic_c_headers.specs.Headers.{part_of, said_bytes}
 use Rattle.quic_c_headers.specs.Shapes.{first_word, IsShaped}
 use Rattle.quic_c_headers.proofs.Shaping.{shaped}
-use Rattle.quic_c_headers.proofs.Writing.{laid_as, bytes_said, can_said, clear_by, header_said, laid_said, numbered_said, with_length, written}
+use Rattle.quic_c_headers.proofs.Writing.{stored_as, bytes_said, can_said, clear_by, header_said, stored_said, numbered_said, with_length, written}
 use Rattle.quic_c_headers.proofs.write.write_as.Goals as goal
 
 pub returns-then-not-is_shaped-clause-refused : goal.returns-then-not-is_shaped-clause-refused
@@ -23,20 +23,20 @@ returns-then-not-fits-clause-room c = λ _.
     let dst : List ℕ = c.args.dst.now in
     let src : List ℕ = c.source_of-source.result.now in
     let token : List ℕ = c.token_of-own.result.now in
-    let len : ℕ = c.laid_length_len.result in
+    let len : ℕ = c.stored_length_len.result in
     let is : IsShaped words dst c.args.src.now c.args.token.now = search (rules, c.is_shaped.ensures, c.if-not-is_shaped) in
     let number = c.written_part-number.result in
-    let small : length c.args.dest.now < laid_size k dst src token number len = elim (cases_lt (length c.args.dest.now) (laid_size k dst src token number len)) [
+    let small : length c.args.dest.now < stored_size k dst src token number len = elim (cases_lt (length c.args.dest.now) (stored_size k dst src token number len)) [
       | inl less ↦ less
       | inr fits ↦ absurd (let no = c.if-not-fits.ensures.1 fits in search (rules, no))
     ] in
     let part : PacketNumber = part_of words.number_len words.number in
-    let size : laid_size k dst src token number len ≡ laid_size k dst src token part len =
-    ap (λ (p : PacketNumber). laid_size k dst src token p len) c.written_part-number.ensures.value in
-    let whole : length (laid_said k len words dst src token) ≡ laid_size k dst src token part len =
-    laid_length k (first_word k words.flags + type_bits k words.version + number_bits k part) (first_word k words.flags) words.version dst src token part len in
-    let same : laid_said k len words dst src token ≡ said_bytes words.length_len (clear_by k words.flags) (header_said k words dst src token) =
-    bytes_said k len words dst src token is.numbered c.requires.kind c.laid_length_len.ensures.same in
+    let size : stored_size k dst src token number len ≡ stored_size k dst src token part len =
+    ap (λ (p : PacketNumber). stored_size k dst src token p len) c.written_part-number.ensures.value in
+    let whole : length (stored_said k len words dst src token) ≡ stored_size k dst src token part len =
+    stored_length k (first_word k words.flags + type_bits k words.version + number_bits k part) (first_word k words.flags) words.version dst src token part len in
+    let same : stored_said k len words dst src token ≡ said_bytes words.length_len (clear_by k words.flags) (header_said k words dst src token) =
+    bytes_said k len words dst src token is.numbered c.requires.kind c.stored_length_len.ensures.same in
     record {
       clear = clear_by k words.flags;
       head = header_said k words dst src token;
@@ -51,14 +51,14 @@ returns-then-has_len-clause-wrote c =
     let dst : List ℕ = c.args.dst.now in
     let src : List ℕ = c.args.src.now in
     let token : List ℕ = c.token_of-own.result.now in
-    let n : ℕ = c.lay_numbered.result in
-    let new : List ℕ = c.lay_numbered.new.dest in
+    let n : ℕ = c.store_numbered.result in
+    let new : List ℕ = c.store_numbered.new.dest in
     let is : IsShaped words dst src c.args.token.now = search (rules, c.is_shaped.ensures, c.if-not-is_shaped) in
     let has : IsTrue (says_length k) = search (rules, c.has_len.ensures, c.if-has_len) in
     let number = is.numbered.number (inl (with_length k words c.requires.kind has)) in
     let same = numbered_said k words dst src token has number.0 number.1 ∙ bytes_said k words.length_len words dst src token is.numbered c.requires.kind (λ _. refl) in
     let within : n ≤ length new = search rules in
-    let all = written n c.args.dest.now new _ _ within c.lay_numbered.ensures.front c.lay_numbered.ensures.back same in
+    let all = written n c.args.dest.now new _ _ within c.store_numbered.ensures.front c.store_numbered.ensures.back same in
     let count : to_z w64 n ≡ pos n = search rules in
     inr (inr (
       n,
@@ -79,14 +79,14 @@ returns-else-has_len-clause-wrote c =
     let dst : List ℕ = c.args.dst.now in
     let src : List ℕ = c.source_of-source.result.now in
     let token : List ℕ = c.token_of-own.result.now in
-    let n : ℕ = c.lay.result in
-    let new : List ℕ = c.lay.new.out in
+    let n : ℕ = c.store.result in
+    let new : List ℕ = c.store.new.out in
     let is : IsShaped words dst c.args.src.now c.args.token.now = search (rules, c.is_shaped.ensures, c.if-not-is_shaped) in
-    let same : laid_said k c.laid_length_len.result words dst src token ≡ said_bytes words.length_len (clear_by k words.flags) (header_said k words dst src token) =
-    bytes_said k c.laid_length_len.result words dst src token is.numbered c.requires.kind c.laid_length_len.ensures.same in
-    let front : take n new ≡ laid_said k c.laid_length_len.result words dst src token = c.lay.ensures.front
-    ∙ laid_as k c.first_word.result c.laid_length_len.result words dst src token c.written_part-number.result c.first_word.ensures c.written_part-number.ensures.value in
-    let back : drop n new ≡ drop n c.args.dest.now = c.lay.ensures.back (record { dst = refl; src = refl }) in
+    let same : stored_said k c.stored_length_len.result words dst src token ≡ said_bytes words.length_len (clear_by k words.flags) (header_said k words dst src token) =
+    bytes_said k c.stored_length_len.result words dst src token is.numbered c.requires.kind c.stored_length_len.ensures.same in
+    let front : take n new ≡ stored_said k c.stored_length_len.result words dst src token = c.store.ensures.front
+    ∙ stored_as k c.first_word.result c.stored_length_len.result words dst src token c.written_part-number.result c.first_word.ensures c.written_part-number.ensures.value in
+    let back : drop n new ≡ drop n c.args.dest.now = c.store.ensures.back (record { dst = refl; src = refl }) in
     let within : n ≤ length new = search rules in
     let all = written n c.args.dest.now new _ _ within front back same in
     let count : to_z w64 n ≡ pos n = search rules in

@@ -24,6 +24,6 @@ returns-clause-wrote c = λ _.
         further_are = r.1;
         order_is = order;
       };
-      stands = record { count_is = len; front = c.lay_list.ensures r.0 r.1.entries ∙ ap (λ (n : ℕ). list ++ drop n c.args.dest.now) (sym len) };
+      stands = record { count_is = len; front = c.store_list.ensures r.0 r.1.entries ∙ ap (λ (n : ℕ). list ++ drop n c.args.dest.now) (sym len) };
       read_back = subst (λ (q : TransportParameters). IsAnswer c.in-Some.reader list (Ok q)) (plain_is p s.0.no_grease s.0.no_order) read;
     }

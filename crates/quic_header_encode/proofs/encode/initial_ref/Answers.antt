@@ -1,7 +1,7 @@
 -- A short token has at most 32 bytes.
 use Rattle.std.proofs.Common.{◌≡◌, ◌<◌, length, arith}
 use Rattle.quic_base.specs.Varint.{size}
-use Rattle.quic_header_encode.proofs.Lays.{size_small}
+use Rattle.quic_header_encode.proofs.Stores.{size_small}
 use Rattle.quic_header_encode.proofs.Sizes.{number_few}
 use Rattle.quic_header_encode.proofs.encode.initial_ref.Goals as goal
 

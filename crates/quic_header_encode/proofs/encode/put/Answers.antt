@@ -1,6 +1,6 @@
 -- The header stays that was laid behind what stood, and what is behind it goes.
 use Rattle.std.proofs.Common.{ℕ, List, ◌≡◌, ◌≤◌, ◌+◌, length, rules, ◌∙◌}
-use Rattle.quic_header_encode.proofs.Lays.{laid_behind}
+use Rattle.quic_header_encode.proofs.Stores.{stored_behind}
 use Rattle.quic_header_encode.proofs.encode.put.Goals as goal
 
 pub returns-clause-items : goal.returns-clause-items
@@ -8,8 +8,8 @@ returns-clause-items g c = λ _.
     let old : List ℕ = c.args.out.now.items in
     let start : c.len-begin.result ≡ length old = search rules in
     let stood = c.as_mut_slice.ensures.value ∙ c.append.ensures.items in
-    let within : c.lay-len.result ≤ length c.lay-len.new.out = search rules in
-    let fits : c.len-begin.result + c.lay-len.result ≤ c.append.new.out.len = search rules in
+    let within : c.store-len.result ≤ length c.store-len.new.out = search rules in
+    let fits : c.len-begin.result + c.store-len.result ≤ c.append.new.out.len = search rules in
     c.truncate.ensures.items
-    ∙ laid_behind c.len-begin.result c.lay-len.result c.append.new.out.len old _ c.as_mut_slice.result.now c.lay-len.new.out _ _ _
-    start stood within fits c.lay-len.ensures.front
+    ∙ stored_behind c.len-begin.result c.store-len.result c.append.new.out.len old _ c.as_mut_slice.result.now c.store-len.new.out _ _ _
+    start stood within fits c.store-len.ensures.front

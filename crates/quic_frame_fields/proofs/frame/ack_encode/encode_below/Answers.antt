@@ -23,8 +23,8 @@ overflow_sub-run g c = let b = has_below c.next_back.new.self c.loop-run.runs c.
 pub overflow_sub-run-in-Some : goal.overflow_sub-run-in-Some
 overflow_sub-run-in-Some g c = let b = has_below c.next_back.new.self c.loop-run.runs c.in-Some.run' c.loop-run.above c.in-Some.ensures.steps c.loop-run.invariant.holds.maximal in omega (arith, b.some)
 
-pub lay_two-at-requires-clause-len : goal.lay_two-at-requires-clause-len
-lay_two-at-requires-clause-len g c =
+pub store_two-at-requires-clause-len : goal.store_two-at-requires-clause-len
+store_two-at-requires-clause-len g c =
     (next_held _ _ c.loop-run.above c.in-Some.run' c.next_back.new.self c.loop-run.runs _ _ _ _ c.loop-run.invariant.holds c.in-Some.ensures.steps).numeric.1.0
 
 pub loop-run-preserved : goal.loop-run-preserved
@@ -32,9 +32,9 @@ loop-run-preserved g c =
     let flushes = c.in_ok-at.ensures.flushes in
     let numbers : List ℕ = all_short (run_numbers c.loop-run.above c.in-Some.run') in
     record {
-      near = c.lay_two-at.ensures.near;
+      near = c.store_two-at.ensures.near;
       holds = holds_more _ _ _ c.loop-run.above c.in-Some.run' c.next_back.new.self c.loop-run.runs _ _ _ _ _ _ c.loop-run.invariant.holds c.in-Some.ensures.steps flushes.begun flushes.room
-          (c.lay_two-at.ensures.front ∙ ap (λ (l : List ℕ). l ++ numbers) flushes.left);
+          (c.store_two-at.ensures.front ∙ ap (λ (l : List ℕ). l ++ numbers) flushes.left);
     }
 
 pub returns : goal.returns

@@ -21,8 +21,8 @@ encode_below-requires-clause-bound g c =
     let b = bounded c.next_back.new.self c.args.runs c.in-Some.first c.in-Some.ensures.steps c.requires.maximal c.requires.members in
     omega (arith, b.some, b.greatest)
 
-pub lay_numbers-at-requires-clause-numeric : goal.lay_numbers-at-requires-clause-numeric
-lay_numbers-at-requires-clause-numeric g c =
+pub store_numbers-at-requires-clause-numeric : goal.store_numbers-at-requires-clause-numeric
+store_numbers-at-requires-clause-numeric g c =
     (set_parts c.args.delay c.args.runs c.next_back.new.self c.in-Some.first c.args.ecn c.type_of.result c.args.count c.in-Some.ensures.steps c.type_of.ensures c.requires.count c.requires.delay
     c.requires.maximal c.requires.members).numeric
 
@@ -31,14 +31,14 @@ returns-in_err-encode_below g c last =
     let x = set_parts c.args.delay c.args.runs c.next_back.new.self c.in-Some.first c.args.ecn c.type_of.result c.args.count c.in-Some.ensures.steps c.type_of.ensures c.requires.count c.requires.delay
     c.requires.maximal c.requires.members in
     let p = err_from_is_err_and c.from_residual.result c.from_residual.ensures.1 in
-    writes_in_two c.from_residual.result _ _ _ _ _ _ _ _ _ (x.parts last) c.lay_numbers-at.ensures.front
+    writes_in_two c.from_residual.result _ _ _ _ _ _ _ _ _ (x.parts last) c.store_numbers-at.ensures.front
     (writes_begun c.encode_below.result c.from_residual.result p.0 _ _ _ _ _ _ _ c.encode_below.ensures c.in_err-encode_below.was p.1)
 
 pub returns : goal.returns
 returns g c last =
     let x = set_parts c.args.delay c.args.runs c.next_back.new.self c.in-Some.first c.args.ecn c.type_of.result c.args.count c.in-Some.ensures.steps c.type_of.ensures c.requires.count c.requires.delay
     c.requires.maximal c.requires.members in
-    writes_in_two c.encode_counts.result _ _ _ _ _ _ _ _ _ (x.parts last) c.lay_numbers-at.ensures.front
+    writes_in_two c.encode_counts.result _ _ _ _ _ _ _ _ _ (x.parts last) c.store_numbers-at.ensures.front
     (writes_last c.encode_counts.result _ _ _ _ _ _ _ _ (wrote_first c.encode_below.result _ _ _ _ _ c.encode_below.ensures c.in_ok-encode_below.was) c.encode_counts.ensures)
 
 pub encode_below-requires-clause-runs : goal.encode_below-requires-clause-runs

@@ -5,10 +5,10 @@ use Rattle.quic_frame_fields.proofs.frame.put.three.Goals as goal
 
 pub returns : goal.returns
 returns c =
-    let one = c.lay_bytes-at.ensures in
-    let second = c.lay_bytes-at-2.ensures in
-    let more = c.lay_bytes.ensures in
-    puts_three c.args.front.now c.args.middle.now c.args.end.now c.args.dest.now c.lay_bytes-at.new.dest c.lay_bytes-at-2.new.dest c.lay_bytes.new.dest _ _ _
+    let one = c.store_bytes-at.ensures in
+    let second = c.store_bytes-at-2.ensures in
+    let more = c.store_bytes.ensures in
+    puts_three c.args.front.now c.args.middle.now c.args.end.now c.args.dest.now c.store_bytes-at.new.dest c.store_bytes-at-2.new.dest c.store_bytes.new.dest _ _ _
     one.end second.end more.end one.front second.front more.front one.back second.back more.back
 
 pub returns-then-dest-needed : goal.returns-then-dest-needed

@@ -1,6 +1,0 @@
-use Rattle.quic_params.specs.Further.{asked}
-use Rattle.quic_c_params.proofs.Pieces.{LaidTo}
-use Rattle.quic_c_params.proofs.lists.lay_list.Given as goal
-
-abbrev pub invariant-loop-place : goal.invariant-loop-place
-invariant-loop-place l = LaidTo l.params l.further (asked l.count l.order) l.fn.dest l.place l.at l.dest

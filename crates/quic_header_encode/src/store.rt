@@ -1,0 +1,448 @@
+//! The one writer of headers: what a header says is laid at the front of bytes, field behind field, by stores of whole
+//! arrays whose ends the next field covers.
+ghost use Rattle.std.specs.Prelude.{◌≡◌, ◌+◌, ◌*◌, ◌^◌, ◌<◌, ◌≤◌, ◌⊎◌, ◌∷◌, ◌++◌, List, ℕ, length, take, drop, replicate, true, ◌↔◌, IsTrue};
+ghost use Rattle.quic_base.specs.ConnectionId.{long_id};
+ghost use Rattle.quic_base.specs.Varint.{short, size};
+ghost use Rattle.quic_crypto.specs.PacketNumbers.{IsInRange};
+ghost use Rattle.quic_header_encode.specs.Starts.{long_front};
+ghost use Rattle.quic_header_encode.specs.Storing.{end_bytes, end_size, first_of, stored_bytes, stored_len, token_bytes, token_size, version_said, with_len, HasStoreRoom, HasLongRoom, HasLow, IsExact, IsStorable, IsLong, IsShortToken, TakesLen};
+
+use crate::fields::{store_bytes, store_ends, store_id, store_number};
+use crate::long_type::HeaderKind;
+use quic_base::coding::store_array;
+use quic_base::ids::ConnectionId;
+use quic_crypto::packet_number::PacketNumber;
+
+/// An id that is laid.
+pub trait StoredId: Copy {
+    ghost id: { Self → List ℕ };
+
+    ghost room: { Self → ℕ };
+
+    /// How many bytes it has.
+    fn len(self) -> usize
+        ensures value { result ≡ length (id self) }
+        ensures near { result ≤ room self };
+
+    /// Lays it at a place, and answers where it ends. The caller must ensure that it has at most 20 bytes, and that
+    /// there is room for it, for 20 bytes where it is padded.
+    fn store(self, out: &mut [u8], at: usize) -> usize
+        requires few { length (id self) ≤ 20 }
+        requires room { at + room self ≤ length out.old }
+        ensures end { result ≡ at + length (id self) }
+        ensures near { result ≤ at + room self }
+        ensures front { take result out.new ≡ take at out.old ++ id self }
+        ensures back { drop (at + room self) out.new ≡ drop (at + room self) out.old }
+        ensures len { length out.new ≡ length out.old };
+}
+
+/// An id with room for 20 bytes where it is laid: it is laid with what makes it 20 bytes.
+#[derive(Clone, Copy)]
+pub struct Padded<'a>(pub &'a ConnectionId);
+
+impl StoredId for Padded<'_> {
+    ghost id = { λ s. s.0.now };
+
+    ghost room = { λ s. 20 };
+
+    #[inline(always)]
+    fn len(self) -> usize {
+        self.0.as_slice().len()
+    }
+
+    #[inline(always)]
+    fn store(self, out: &mut [u8], at: usize) -> usize {
+        store_array(out, at, *self.0.padded());
+        at + self.0.as_slice().len()
+    }
+}
+
+/// An id of which just its own bytes are written.
+#[derive(Clone, Copy)]
+pub struct Exact<'a>(pub &'a [u8]);
+
+impl StoredId for Exact<'_> {
+    ghost id = { λ s. s.0.now };
+
+    ghost room = { λ s. length s.0.now };
+
+    #[inline(always)]
+    fn len(self) -> usize {
+        self.0.len()
+    }
+
+    #[inline(always)]
+    fn store(self, out: &mut [u8], at: usize) -> usize {
+        store_id(out, at, self.0)
+    }
+}
+
+/// What a header says, with ids and a token that stay where they are.
+#[derive(Clone, Copy)]
+pub struct HeaderRef<'a, I> {
+    /// The kind.
+    pub kind: HeaderKind,
+    /// What the first byte has beside the bits of the type and of the number's length. Of long headers 0xc0, or 0x80
+    /// where the fixed bit is clear (RFC 9287). Of short ones 0x40 and 0 in the same way, 0x20 for the spin bit and
+    /// 0x04 for the key phase. Of a version negotiation all of it, with 0x80.
+    pub first: u8,
+    /// The version of QUIC. Short headers and version negotiations say none.
+    pub version: u32,
+    /// The receiver's id.
+    pub dst_cid: I,
+    /// The sender's id. Short headers have none.
+    pub src_cid: I,
+    /// The token of an Initial packet.
+    pub token: &'a [u8],
+    /// The packet's number as it is written, but of Retry and version negotiation.
+    pub number: &'a PacketNumber,
+    /// How many bytes the length takes that Initial, Handshake and 0-RTT have, 2 or 4.
+    pub length_len: usize,
+}
+
+/// Lays a short header up to its number at the front, and answers where the number begins. The caller must ensure that
+/// the id has at most 20 bytes, and that there is room for it.
+#[inline(always)]
+pub fn store_short<I: StoredId>(out: &mut [u8], first: u8, dst_cid: I) -> usize
+    requires few { length (I.id dst_cid) ≤ 20 }
+    requires room { 1 + I.room dst_cid ≤ length out.old }
+    ensures end { result ≡ 1 + length (I.id dst_cid) }
+    ensures near { result ≤ 1 + I.room dst_cid }
+    ensures front { take result out.new ≡ first ∷ I.id dst_cid }
+    ensures back { drop (1 + I.room dst_cid) out.new ≡ drop (1 + I.room dst_cid) out.old }
+    ensures len { length out.new ≡ length out.old }
+{
+    let at = store_array(out, 0, [first]);
+    dst_cid.store(out, at)
+}
+
+// Lays an id behind its length.
+#[inline(always)]
+fn store_long_id<I: StoredId>(out: &mut [u8], at: usize, id: I) -> usize
+    requires few { length (I.id id) ≤ 20 }
+    requires room { at + (1 + I.room id) ≤ length out.old }
+    ensures end { result ≡ at + (1 + length (I.id id)) }
+    ensures near { result ≤ at + (1 + I.room id) }
+    ensures front { take result out.new ≡ take at out.old ++ long_id (I.id id) }
+    ensures back { drop (at + (1 + I.room id)) out.new ≡ drop (at + (1 + I.room id)) out.old }
+    ensures len { length out.new ≡ length out.old }
+{
+    let at = store_array(out, at, [id.len() as u8]);
+    id.store(out, at)
+}
+
+/// Lays what each long header begins with, up to the end of the sender's id, at the front, and answers where it ends. The
+/// caller must ensure that each id has at most 20 bytes, and that there is room for it.
+#[inline(always)]
+#[tactic(auto, unfolding(quic_base::specs::Number::bytes_of))]
+pub fn store_long_start<I: StoredId>(out: &mut [u8], first: u8, version: u32, dst: I, src: I) -> usize
+    requires dst_few { length (I.id dst) ≤ 20 }
+    requires src_few { length (I.id src) ≤ 20 }
+    requires dst_room { 6 + I.room dst ≤ length out.old }
+    requires src_room { 7 + length (I.id dst) + I.room src ≤ length out.old }
+    ensures end { result ≡ 7 + length (I.id dst) + length (I.id src) }
+    ensures front { take result out.new ≡ long_front first version (I.id dst) (I.id src) }
+    ensures back { length (I.id dst) ≡ I.room dst → length (I.id src) ≡ I.room src → drop result out.new ≡ drop result out.old }
+    ensures len { length out.new ≡ length out.old }
+{
+    let at = store_array(out, 0, [first]);
+    let at = store_array(out, at, version.to_be_bytes());
+    let at = store_long_id(out, at, dst);
+    store_long_id(out, at, src)
+}
+
+/// Lays a token behind its length, and answers where it ends. The caller must ensure that there is room for it, that it
+/// has fewer than 2^62 bytes, and where SHORT is true that it is empty or has 16 to 32.
+#[inline(always)]
+pub fn store_token<const SHORT: bool>(out: &mut [u8], at: usize, token: &[u8]) -> usize
+    requires short { SHORT ≡ true → IsShortToken token.now }
+    requires numeric { length token.now < 2 ^ 62 }
+    requires room { at + (size (length token.now) + length token.now) ≤ length out.old }
+    ensures end { result ≡ at + (size (length token.now) + length token.now) }
+    ensures front { take result out.new ≡ take at out.old ++ (short (length token.now) ++ token.now) }
+    ensures back { drop result out.new ≡ drop result out.old }
+    ensures len { length out.new ≡ length out.old }
+{
+    if SHORT || token.len() < 1 << 6 {
+        store_short_token::<SHORT>(out, at, token)
+    } else {
+        store_long_token(out, at, token)
+    }
+}
+
+// Lays a token whose length takes one byte.
+#[inline(always)]
+#[tactic(auto, using(crate::proofs::Stores::size_small))]
+fn store_short_token<const SHORT: bool>(out: &mut [u8], at: usize, token: &[u8]) -> usize
+    requires short { SHORT ≡ true → IsShortToken token.now }
+    requires small { length token.now < 2 ^ 6 }
+    requires room { at + (size (length token.now) + length token.now) ≤ length out.old }
+    ensures end { result ≡ at + (size (length token.now) + length token.now) }
+    ensures front { take result out.new ≡ take at out.old ++ (short (length token.now) ++ token.now) }
+    ensures back { drop result out.new ≡ drop result out.old }
+    ensures len { length out.new ≡ length out.old }
+{
+    let at = store_array(out, at, [token.len() as u8]);
+    if token.len() == 0 {
+        at
+    } else {
+        store_some::<SHORT>(out, at, token)
+    }
+}
+
+// Lays bytes, of which there are some: 16 to 32 by stores.
+#[inline(always)]
+fn store_some<const SHORT: bool>(out: &mut [u8], at: usize, bytes: &[u8]) -> usize
+    requires short { SHORT ≡ true → IsShortToken bytes.now }
+    requires some { 0 < length bytes.now }
+    requires room { at + length bytes.now ≤ length out.old }
+    ensures end { result ≡ at + length bytes.now }
+    ensures front { take result out.new ≡ take at out.old ++ bytes.now }
+    ensures back { drop result out.new ≡ drop result out.old }
+    ensures len { length out.new ≡ length out.old }
+{
+    if SHORT || bytes.len() >= 16 && bytes.len() <= 32 {
+        store_ends::<16>(out, at, bytes)
+    } else {
+        store_bytes(out, at, bytes)
+    }
+}
+
+// Lays a number of 2^6 or more in its shortest encoding, and answers where it ends.
+#[inline(always)]
+#[tactic(auto, unfolding(quic_base::specs::Varint::short, quic_base::specs::Varint::size, quic_base::specs::Number::bytes_of))]
+fn store_var(out: &mut [u8], at: usize, n: u64) -> usize
+    requires large { 2 ^ 6 ≤ n }
+    requires numeric { n < 2 ^ 62 }
+    requires room { at + size n ≤ length out.old }
+    ensures end { result ≡ at + size n }
+    ensures front { take result out.new ≡ take at out.old ++ short n }
+    ensures back { drop result out.new ≡ drop result out.old }
+    ensures len { length out.new ≡ length out.old }
+{
+    if n < 1 << 14 {
+        store_array(out, at, ((1 << 14) + n as u16).to_be_bytes())
+    } else if n < 1 << 30 {
+        store_array(out, at, ((2 << 30) + n as u32).to_be_bytes())
+    } else {
+        store_array(out, at, ((3 << 62) + n).to_be_bytes())
+    }
+}
+
+// Lays a token whose length takes more than a byte.
+#[inline(never)]
+fn store_long_token(out: &mut [u8], at: usize, token: &[u8]) -> usize
+    requires large { 2 ^ 6 ≤ length token.now }
+    requires numeric { length token.now < 2 ^ 62 }
+    requires room { at + (size (length token.now) + length token.now) ≤ length out.old }
+    ensures end { result ≡ at + (size (length token.now) + length token.now) }
+    ensures front { take result out.new ≡ take at out.old ++ (short (length token.now) ++ token.now) }
+    ensures back { drop result out.new ≡ drop result out.old }
+    ensures len { length out.new ≡ length out.old }
+{
+    let at = store_var(out, at, token.len() as u64);
+    store_bytes(out, at, token)
+}
+
+/// Lays as many zeros as a length takes, 2 or 4, and answers where they end. The caller must ensure that there is room.
+#[inline(always)]
+pub fn store_no_length(out: &mut [u8], at: usize, len: usize) -> usize
+    requires known { (len ≡ 2) ⊎ (len ≡ 4) }
+    requires room { at + len ≤ length out.old }
+    ensures end { result ≡ at + len }
+    ensures front { take result out.new ≡ take at out.old ++ replicate len 0 }
+    ensures back { drop result out.new ≡ drop result out.old }
+    ensures len { length out.new ≡ length out.old }
+{
+    if len == 4 {
+        store_array(out, at, [0, 0, 0, 0])
+    } else {
+        store_array(out, at, [0, 0])
+    }
+}
+
+impl<I: StoredId> HeaderRef<'_, I> {
+    // The first byte of a header that isn't short.
+    #[inline(always)]
+    fn long_first(&self) -> u8
+        requires long { IsLong self.now.kind }
+        requires low { HasLow self.now.kind self.now.first }
+        ensures { result ≡ first_of self.now }
+    {
+        match self.kind {
+            HeaderKind::VersionNegotiate => self.first,
+            HeaderKind::Retry => self.first + self.kind.type_bits(self.version),
+            _ => self.first + self.kind.type_bits(self.version) + self.number.tag(),
+        }
+    }
+
+    // The version that a long header says.
+    #[inline(always)]
+    fn said_version(&self) -> u32
+        ensures { result ≡ version_said self.now }
+    {
+        match self.kind {
+            HeaderKind::VersionNegotiate => 0,
+            _ => self.version,
+        }
+    }
+
+    /// How many bytes the header has. The caller must ensure that its token has fewer than 2^62.
+    pub fn encoded_len(&self) -> usize
+        requires { IsStorable I.id self.now }
+        ensures { result ≡ stored_len I.id self.now }
+    {
+        match self.kind {
+            HeaderKind::Short => 1 + self.dst_cid.len() + self.number.len(),
+            HeaderKind::Initial => {
+                let token = var_len(self.token.len() as u64) + self.token.len();
+                7 + self.dst_cid.len()
+                    + self.src_cid.len()
+                    + token
+                    + (self.length_len + self.number.len())
+            }
+            HeaderKind::Retry => 7 + self.dst_cid.len() + self.src_cid.len(),
+            HeaderKind::VersionNegotiate => 7 + self.dst_cid.len() + self.src_cid.len(),
+            _ => 7
+                + self.dst_cid.len()
+                + self.src_cid.len()
+                + (self.number.len() + self.length_len),
+        }
+    }
+
+    /// Whether so many bytes have room for the head. That they have room for the longest ids is seen first.
+    #[inline(always)]
+    #[tactic(auto, using(crate::proofs::Sizes::stored_within))]
+    pub fn fits(&self, room: usize) -> bool
+        requires { IsStorable I.id self.now }
+        ensures { IsTrue result ↔ (stored_len I.id self.now ≤ room) }
+    {
+        if room >= 64 && self.token.len() <= room - 64 {
+            return true;
+        }
+        self.encoded_len() <= room
+    }
+
+    // Lays the token of an Initial header behind its length.
+    #[inline(always)]
+    fn store_its_token<const SHORT_TOKEN: bool>(&self, out: &mut [u8], at: usize) -> usize
+        requires short { SHORT_TOKEN ≡ true → IsShortToken self.now.token.now }
+        requires numeric { length self.now.token.now < 2 ^ 62 }
+        requires room { at + token_size self.now.kind self.now.token.now ≤ length out.old }
+        ensures end { result ≡ at + token_size self.now.kind self.now.token.now }
+        ensures front { take result out.new ≡ take at out.old ++ token_bytes self.now }
+        ensures back { drop result out.new ≡ drop result out.old }
+        ensures len { length out.new ≡ length out.old }
+    {
+        match self.kind {
+            HeaderKind::Initial => store_token::<SHORT_TOKEN>(out, at, self.token),
+            _ => at,
+        }
+    }
+
+    // Lays what stands behind the ids and the token: a length that isn't said yet, and the number.
+    #[inline(always)]
+    fn store_end(&self, out: &mut [u8], at: usize) -> usize
+        requires known { (self.now.length_len ≡ 2) ⊎ (self.now.length_len ≡ 4) }
+        requires valid { IsInRange self.now.number.now }
+        requires room { at + end_size self.now.kind self.now.length_len self.now.number.now ≤ length out.old }
+        ensures end { result ≡ at + end_size self.now.kind self.now.length_len self.now.number.now }
+        ensures front { take result out.new ≡ take at out.old ++ end_bytes self.now }
+        ensures back { drop result out.new ≡ drop result out.old }
+        ensures len { length out.new ≡ length out.old }
+    {
+        if !self.kind.has_len() {
+            return at;
+        }
+        let at = store_no_length(out, at, self.length_len);
+        store_number(out, at, *self.number)
+    }
+
+    /// Lays a header that isn't short at the front, and answers how many bytes it has. Its length, where it has one, is
+    /// 0, which `set_len` or `PartialEncode::finish` fill in. The caller must ensure that there is room for it, and
+    /// where SHORT_TOKEN is true that the token is empty or has 16 to 32 bytes.
+    #[inline(always)]
+    pub fn store_long<const SHORT_TOKEN: bool>(&self, out: &mut [u8]) -> usize
+        requires long { IsLong self.now.kind }
+        requires storable { IsStorable I.id self.now }
+        requires short { SHORT_TOKEN ≡ true → IsShortToken self.now.token.now }
+        requires room { HasLongRoom I.id I.room self.now (length out.old) }
+        ensures end { result ≡ stored_len I.id self.now }
+        ensures front { take result out.new ≡ stored_bytes I.id self.now }
+        ensures back { IsExact I.id I.room self.now → drop result out.new ≡ drop result out.old }
+        ensures len { length out.new ≡ length out.old }
+    {
+        let at = store_long_start(
+            out,
+            self.long_first(),
+            self.said_version(),
+            self.dst_cid,
+            self.src_cid,
+        );
+        let at = self.store_its_token::<SHORT_TOKEN>(out, at);
+        self.store_end(out, at)
+    }
+
+    /// Lays a header at the front, and answers how many bytes it has, likewise.
+    #[inline(always)]
+    pub fn store<const SHORT_TOKEN: bool>(&self, out: &mut [u8]) -> usize
+        requires storable { IsStorable I.id self.now }
+        requires short { SHORT_TOKEN ≡ true → IsShortToken self.now.token.now }
+        requires room { HasStoreRoom I.id I.room self.now (length out.old) }
+        ensures end { result ≡ stored_len I.id self.now }
+        ensures front { take result out.new ≡ stored_bytes I.id self.now }
+        ensures back { IsExact I.id I.room self.now → drop result out.new ≡ drop result out.old }
+        ensures len { length out.new ≡ length out.old }
+    {
+        match self.kind {
+            HeaderKind::Short => {
+                let at = store_short(out, self.first + self.number.tag(), self.dst_cid);
+                store_number(out, at, *self.number)
+            }
+            _ => self.store_long::<SHORT_TOKEN>(out),
+        }
+    }
+}
+
+// How many bytes the shortest encoding of a number takes.
+#[inline(always)]
+#[tactic(auto, unfolding(quic_base::specs::Varint::size))]
+fn var_len(n: u64) -> usize
+    requires { n < 2 ^ 62 }
+    ensures value { result ≡ size n }
+    ensures low { 1 ≤ result }
+    ensures high { result ≤ 8 }
+{
+    if n < 1 << 6 {
+        1
+    } else if n < 1 << 14 {
+        2
+    } else if n < 1 << 30 {
+        4
+    } else {
+        8
+    }
+}
+
+/// Writes how many bytes a packet has from a place on, where its number begins, into the length before it, which has
+/// 2 or 4 bytes (RFC 9000, section 17.2). Answers false where it has another count of them, where there is no such
+/// place, or where what is to be counted doesn't fit: 2^14 or more, or 2^30 or more; then nothing changes.
+pub fn set_len(packet: &mut [u8], place: usize, length_len: usize) -> bool
+    ensures set { IsTrue result → packet.new ≡ with_len length_len place packet.old }
+    ensures taken { IsTrue result ↔ TakesLen length_len place (length packet.old) }
+    ensures same { IsTrue result ⊎ (packet.new ≡ packet.old) }
+{
+    if place > packet.len() || place < length_len {
+        return false;
+    }
+    let count = packet.len() - place;
+    if length_len == 2 && count < 1 << 14 {
+        store_array(packet, place - 2, (count as u16 + (1 << 14)).to_be_bytes());
+        true
+    } else if length_len == 4 && count < 1 << 30 {
+        store_array(packet, place - 4, (count as u32 + (2 << 30)).to_be_bytes());
+        true
+    } else {
+        false
+    }
+}

@@ -1,0 +1,187 @@
+//! A list of parameters, laid at the front of a slice.
+ghost use Rattle.std.specs.Prelude.{◌≡◌, ◌+◌, ◌<◌, ◌≤◌, ◌^◌, ◌++◌, length, take, drop, IfOk, IfErr, OnErr};
+ghost use Rattle.quic_base.specs.Varint.{short};
+ghost use Rattle.quic_params.specs.Writing.{entry, written, written_for};
+
+use crate::parameter::TransportParameterId;
+use crate::record::TransportParameters;
+use crate::writing::write_header_by_parts;
+use bytes::BufMut;
+use std::alloc::AllocError;
+
+// No list that is written of a record has more bytes: 21 entries, each of at most 77.
+const ROOM: usize = 21 * 77;
+
+// No entry of a record has more bytes than that, and what an entry begins with no more than these.
+const ENTRY_ROOM: usize = 77;
+
+const HEADER_ROOM: usize = 16;
+
+// Room for bytes that are written, which are the first `len` ones.
+#[derive(Drop)]
+struct Room<const N: usize> {
+    bytes: [u8; N],
+    len: usize,
+}
+
+impl<const N: usize> BufMut for Room<N> {
+    ghost use Rattle.std.specs.Prelude.{◌-◌, take};
+
+    ghost written = { λ r. take r.len r.bytes };
+
+    ghost spare = { λ r. N - r.len };
+
+    fn reserve(&mut self, additional: usize) -> Result<(), AllocError> {
+        if additional <= N.saturating_sub(self.len) {
+            Ok(())
+        } else {
+            Err(AllocError)
+        }
+    }
+
+    fn put_slice(&mut self, src: &[u8]) -> Result<(), AllocError> {
+        if src.is_empty() {
+            return Ok(());
+        }
+        let at = self.len;
+        if at > N || src.len() > N - at {
+            return Err(AllocError);
+        }
+        let end = at + src.len();
+        let all = &mut self.bytes[..];
+        all[at..end].copy_from_slice(src);
+        self.len = end;
+        Ok(())
+    }
+}
+
+impl<const N: usize> Room<N> {
+    fn new() -> Room<N>
+        ensures { result.len ≡ 0 }
+    {
+        Room {
+            bytes: [0; N],
+            len: 0,
+        }
+    }
+
+    // The bytes that it has.
+    fn filled(&self) -> &[u8]
+        ensures { result.now ≡ take self.now.len self.now.bytes }
+    {
+        let all = &self.bytes[..];
+        if self.len <= N { &all[..self.len] } else { all }
+    }
+}
+
+// Lays bytes at the front of a slice. Where it has fewer, it is as it was, and the error is how many are needed.
+fn store(dest: &mut [u8], bytes: &[u8]) -> Result<usize, usize>
+    ensures count { IfOk result (λ n. n ≡ length bytes.now) }
+    ensures front { IfOk result (λ n. dest.new ≡ bytes.now ++ drop n dest.old) }
+    ensures needed { IfErr result (λ n. n ≡ length bytes.now) }
+    ensures full { OnErr result (length dest.old < length bytes.now) }
+    ensures same { OnErr result (dest.new ≡ dest.old) }
+{
+    let len = bytes.len();
+    if dest.len() < len {
+        return Err(len);
+    }
+    dest[..len].copy_from_slice(bytes);
+    Ok(len)
+}
+
+impl TransportParameters {
+    // Fills an empty room with the list of the record.
+    fn fill(&self, room: &mut Room<ROOM>)
+        requires { room.old.len ≡ 0 }
+        ensures { take room.new.len room.new.bytes ≡ written self.now }
+    {
+        self.type_bounds();
+        match self.write(room) {
+            Ok(()) => {}
+            Err(_) => unreachable!(),
+        }
+    }
+
+    /// Lays the bytes that `write` appends at the front of a slice, and answers how many they are; what stands
+    /// behind them stays (RFC 9000, section 18). Where the slice has fewer bytes, and only there, it is as it was,
+    /// and the error is how many are needed. It takes no memory.
+    pub fn write_into(&self, dest: &mut [u8]) -> Result<usize, usize>
+        ensures count { IfOk result (λ n. n ≡ length (written self.now)) }
+        ensures front { IfOk result (λ n. dest.new ≡ written self.now ++ drop n dest.old) }
+        ensures needed { IfErr result (λ n. n ≡ length (written self.now)) }
+        ensures full { OnErr result (length dest.old < length (written self.now)) }
+        ensures same { OnErr result (dest.new ≡ dest.old) }
+    {
+        let mut room = Room::<ROOM>::new();
+        self.fill(&mut room);
+        store(dest, room.filled())
+    }
+
+    // Fills an empty room with the entry of a parameter.
+    fn fill_one(&self, id: TransportParameterId, room: &mut Room<ENTRY_ROOM>)
+        requires { room.old.len ≡ 0 }
+        ensures { take room.new.len room.new.bytes ≡ written_for self.now id }
+    {
+        self.type_bounds();
+        match self.write_one(id, room) {
+            Ok(()) => {}
+            Err(_) => unreachable!(),
+        }
+    }
+
+    /// Lays the bytes that `write_one` appends at the front of a slice, and answers how many they are; what stands
+    /// behind them stays (RFC 9000, section 18). Where the slice has fewer bytes, and only there, it is as it was,
+    /// and the error is how many are needed. It takes no memory.
+    pub fn write_one_into(&self, id: TransportParameterId, dest: &mut [u8]) -> Result<usize, usize>
+        ensures count { IfOk result (λ n. n ≡ length (written_for self.now id)) }
+        ensures front { IfOk result (λ n. dest.new ≡ written_for self.now id ++ drop n dest.old) }
+        ensures needed { IfErr result (λ n. n ≡ length (written_for self.now id)) }
+        ensures full { OnErr result (length dest.old < length (written_for self.now id)) }
+        ensures same { OnErr result (dest.new ≡ dest.old) }
+        ensures few { length (written_for self.now id) ≤ 77 }
+    {
+        self.type_bounds();
+        let mut room = Room::<ENTRY_ROOM>::new();
+        self.fill_one(id, &mut room);
+        store(dest, room.filled())
+    }
+}
+
+// Fills an empty room with what an entry begins with.
+fn fill_header(number: u64, len: u64, room: &mut Room<HEADER_ROOM>)
+    requires number { number < 2 ^ 62 }
+    requires len { len < 2 ^ 62 }
+    requires empty { room.old.len ≡ 0 }
+    ensures { take room.new.len room.new.bytes ≡ short number ++ short len }
+{
+    match write_header_by_parts(number, len, room) {
+        Ok(()) => {}
+        Err(_) => unreachable!(),
+    }
+}
+
+/// Lays an entry in its least widths at the front of a slice, and answers how many bytes it has; what stands behind them
+/// stays (RFC 9000, section 18). The caller must ensure that the number and the length are below 2^62. Where the slice
+/// has fewer bytes, and only there, it is as it was, and the error is how many are needed. It takes no memory.
+pub fn write_entry_into(number: u64, value: &[u8], dest: &mut [u8]) -> Result<usize, usize>
+    requires number { number < 2 ^ 62 }
+    requires len { length value.now < 2 ^ 62 }
+    ensures count { IfOk result (λ n. n ≡ length (entry number value.now)) }
+    ensures front { IfOk result (λ n. dest.new ≡ entry number value.now ++ drop n dest.old) }
+    ensures needed { IfErr result (λ n. n ≡ length (entry number value.now)) }
+    ensures full { OnErr result (length dest.old < length (entry number value.now)) }
+    ensures same { OnErr result (dest.new ≡ dest.old) }
+    ensures few { length (entry number value.now) ≤ 16 + length value.now }
+{
+    let mut room = Room::<HEADER_ROOM>::new();
+    fill_header(number, value.len() as u64, &mut room);
+    let head = room.filled();
+    let len = head.len() + value.len();
+    if len > dest.len() {
+        return Err(len);
+    }
+    dest[..head.len()].copy_from_slice(head);
+    dest[head.len()..len].copy_from_slice(value);
+    Ok(len)
+}

@@ -1,0 +1,108 @@
+//! Frames that are laid at the front of a slice.
+ghost use Rattle.std.specs.Prelude.{◌<◌, ◌^◌, length, IsTrue};
+ghost use Rattle.quic_frames.specs.InRange.{open_data, CanStand};
+
+use quic_frames::frame::{Frame, Iter};
+use quic_checks::Checks;
+use std::test::Fail;
+
+fn can_be_stored(frame: &Frame<'_>) -> bool
+    ensures { IsTrue result → length (open_data frame.now) < 2 ^ 62 }
+{
+    match frame {
+        Frame::Stream(stream) => (stream.bytes.len() as u64) < 1 << 62,
+        Frame::Datagram(datagram) => (datagram.bytes.len() as u64) < 1 << 62,
+        _ => true,
+    }
+}
+
+// Whether these bytes are laid at the front and no others.
+fn is_whole(frame: &Frame<'_>, last: bool, wanted: &[u8]) -> bool
+    requires { CanStand last frame.now }
+{
+    let mut room = [0xff; 40];
+    frame.encode_into(last, &mut room) == Ok(wanted.len()) && is_front(&room, wanted)
+}
+
+fn is_front(room: &[u8], wanted: &[u8]) -> bool {
+    let Some((front, rest)) = room.split_at_checked(wanted.len()) else {
+        return false;
+    };
+    front == wanted && is_untouched(rest)
+}
+
+fn is_untouched(room: &[u8]) -> bool {
+    for &byte in room {
+        if byte != 0xff {
+            return false;
+        }
+    }
+    true
+}
+
+// Whether nothing is laid where there is room for one byte less.
+fn is_refused(frame: &Frame<'_>, last: bool, len: usize) -> bool
+    requires { CanStand last frame.now }
+{
+    let mut little = [0xff; 40];
+    let Some(short) = little.get_mut(..len.saturating_sub(1)) else {
+        return false;
+    };
+    frame.encode_into(last, short) == Err(len) && is_untouched(&little)
+}
+
+// Whether the first frame of a payload is laid as these bytes, whole or not at all.
+fn is_stored(payload: &[u8], last: bool, wanted: &[u8]) -> bool {
+    let Some(mut iter) = Iter::new(payload).ok() else {
+        return false;
+    };
+    let Some(Ok(frame)) = iter.next() else {
+        return false;
+    };
+    if !frame.in_range() || !can_be_stored(&frame) {
+        return false;
+    }
+    is_whole(&frame, last, wanted) && is_refused(&frame, last, wanted.len())
+}
+
+// What is read, and what is laid of it before other frames and as the last.
+const ROWS: &[(&[u8], &[u8], &[u8])] = &[
+    (b"\x01", b"\x01", b"\x01"),
+    (b"\x40\x0a\x40\x00\x40\x01a", b"\x0a\x00\x01a", b"\x08\x00a"),
+    (
+        b"\x0f\x04\x10\x02ab",
+        b"\x0f\x04\x10\x02ab",
+        b"\x0d\x04\x10ab",
+    ),
+    (b"\x30hi", b"\x31\x02hi", b"\x30hi"),
+    (
+        b"\x40\x1a\x01\x02\x03\x04\x05\x06\x07\x08",
+        b"\x1a\x01\x02\x03\x04\x05\x06\x07\x08",
+        b"\x1a\x01\x02\x03\x04\x05\x06\x07\x08",
+    ),
+    (
+        b"\x18\x40\x05\x80\x00\x00\x02\x02\xaa\xbb\x11\x11\x11\x11\x11\x11\x11\x11\x11\x11\x11\x11\x11\x11\x11\x1f",
+        b"\x18\x05\x02\x02\xaa\xbb\x11\x11\x11\x11\x11\x11\x11\x11\x11\x11\x11\x11\x11\x11\x11\x1f",
+        b"\x18\x05\x02\x02\xaa\xbb\x11\x11\x11\x11\x11\x11\x11\x11\x11\x11\x11\x11\x11\x11\x11\x1f",
+    ),
+    (
+        b"\x03\x0e\x2a\x03\x00\x01\x01\x03\x00\x00\x02\x2a\x18\x0c",
+        b"\x03\x0e\x2a\x03\x00\x01\x01\x03\x00\x00\x02\x2a\x18\x0c",
+        b"\x03\x0e\x2a\x03\x00\x01\x01\x03\x00\x00\x02\x2a\x18\x0c",
+    ),
+    (
+        b"\x02\x40\x02\x00\x80\x00\x00\x01\x40\x00\x00\xc0\x00\x00\x00\x00\x00\x00\x00",
+        b"\x02\x02\x00\x01\x00\x00\x00",
+        b"\x02\x02\x00\x01\x00\x00\x00",
+    ),
+];
+
+#[test]
+fn frames_are_stored_at_the_front(rt: HostRuntime) -> Result<(), Fail> {
+    let mut checks = Checks::new(rt.alloc());
+    for &(payload, counted, open) in ROWS {
+        checks.holds(is_stored(payload, false, counted));
+        checks.holds(is_stored(payload, true, open));
+    }
+    checks.verdict()
+}

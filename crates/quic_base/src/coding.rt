@@ -107,7 +107,7 @@ pub fn get_array<B: Buf, const N: usize>(buf: &mut B) -> Result<[u8; N]>
     Ok(bytes)
 }
 
-/// Lays an array over the bytes at a place, and answers where it ends. The caller must ensure that there are as
+/// Stores an array over the bytes at a place, and answers where it ends. The caller must ensure that there are as
 /// many bytes. What stands before and behind the array stays.
 #[inline(always)]
 pub fn store_array<const N: usize>(bytes: &mut [u8], at: usize, array: [u8; N]) -> usize

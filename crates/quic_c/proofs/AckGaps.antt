@@ -208,7 +208,7 @@ longest words gaps =
       few_counts words,
     )
 
--- ---- they are laid
+-- ---- they are written
 
 size_some : (n : ℕ) → 1 ≤ size n
 unfolding size
@@ -250,7 +250,7 @@ stored_counts words old one new at place end two x y =
     let joined : Stores (all_short (a ∷ b ∷ c ∷ [])) at old end new = stores_more (short a) (all_short (b ∷ c ∷ [])) old one new at place end x y in
     subst (λ (f : ℕ). Stores (all_short (if f == 2 then a ∷ b ∷ c ∷ [] else [])) at old end new) (sym two) joined
 
--- ---- the type is laid last
+-- ---- the type is written last
 
 -- the type's byte, by the flags
 pub first_byte : (words : FrameWords) (gaps : List GapWords) → words.flags ≡ 2 → all_short (front_numbers words gaps) ≡ 0x03 ∷ all_short (behind_type words gaps)
@@ -300,7 +300,7 @@ typed t bytes old mid new end first le x one front back =
       back = ap (λ (l : List ℕ). drop end l) is ∙ ap (λ (n : ℕ). drop n (t ∷ drop 1 mid)) next ∙ drop-drop k 1 mid ∙ ap (λ (n : ℕ). drop n mid) (sym count) ∙ x.back;
     }
 
--- the numbers behind the type, the gaps, the type and the counts were laid, one after the other
+-- the numbers behind the type, the gaps, the type and the counts were written, one after the other
 pub stored_ack : (t : ℕ) (behind middle end old front mid one new : List ℕ) (place at stop first : ℕ) → 1 ≤ length old → Stores behind 1 old place front → Stores middle place front at mid
     → first ≡ 0 + 1 → take first one ≡ take 0 mid ++ (t ∷ []) → drop first one ≡ drop first mid → Stores end at one stop new
     → Stores ((t ∷ behind) ++ (middle ++ end)) 0 old stop new
@@ -390,7 +390,7 @@ counted_none low gaps f = record { rest = low; fit = f; counted = refl; small = 
 pub counted_all : (low : ℕ) (gaps : List GapWords) (i len : ℕ) → length gaps ≤ i → CountedOn low gaps i len → len ≡ length (all_short (gap_numbers gaps))
 counted_all low gaps i len le inv = inv.counted ∙ ap (λ (x : List GapWords). length (all_short (gap_numbers x))) (take_all i gaps le)
 
--- so many gaps were laid
+-- so many gaps were written
 pub record StoredOn (gaps : List GapWords) (at : ℕ) (old : List ℕ) (i end : ℕ) (new : List ℕ) : Type 0 where
   pub stored : Stores (all_short (gap_numbers (take i gaps))) at old end new
   pub len : length new ≡ length old

@@ -18,7 +18,7 @@ fn type_of(ack: &FrameWords) -> u64
     if ack.flags == 2 { 0x03 } else { 0x02 }
 }
 
-// Lays two bytes, each by a store of its own: no word is made of them first.
+// Stores two bytes, each by a store of its own: no word is made of them first.
 #[inline(always)]
 fn store_bytes(dest: &mut [u8], at: usize, one: u8, other: u8) -> usize
     requires { at + 2 ≤ length dest.old }
@@ -29,7 +29,7 @@ fn store_bytes(dest: &mut [u8], at: usize, one: u8, other: u8) -> usize
     store_array(dest, at, [other])
 }
 
-// Lays a number in its shortest encoding over the bytes at a place, and answers where it ends.
+// Stores a number in its shortest encoding over the bytes at a place, and answers where it ends.
 #[inline(always)]
 #[tactic(auto, unfolding(quic_base::specs::Varint::short, quic_base::specs::Varint::size, quic_base::specs::Number::bytes_of))]
 pub(crate) fn store(dest: &mut [u8], at: usize, n: u64) -> usize
@@ -78,7 +78,7 @@ fn gaps_len(low: u64, gaps: &[GapWords]) -> usize
     len
 }
 
-// Lays two numbers, one behind the other. Where both have one byte, one test tells that.
+// Stores two numbers, one behind the other. Where both have one byte, one test tells that.
 #[inline(always)]
 fn store_two(dest: &mut [u8], at: usize, one: u64, other: u64) -> usize
     requires one { one < 2 ^ 62 }
@@ -94,7 +94,7 @@ fn store_two(dest: &mut [u8], at: usize, one: u64, other: u64) -> usize
     store(dest, at, other)
 }
 
-// Lays the gaps and lengths over the bytes at a place, and answers where they end.
+// Stores the gaps and lengths over the bytes at a place, and answers where they end.
 #[inline(always)]
 fn store_gaps(dest: &mut [u8], at: usize, gaps: &[GapWords]) -> usize
     requires numeric { AreNumeric (gap_numbers gaps.now) }
@@ -109,7 +109,7 @@ fn store_gaps(dest: &mut [u8], at: usize, gaps: &[GapWords]) -> usize
     at
 }
 
-// Lays the numbers between the type and the gaps behind the first byte.
+// Stores the numbers between the type and the gaps behind the first byte.
 #[inline(always)]
 fn store_front(dest: &mut [u8], ack: &FrameWords, gaps: &[GapWords]) -> usize
     requires ack { IsAck ack.now gaps.now }
@@ -122,7 +122,7 @@ fn store_front(dest: &mut [u8], ack: &FrameWords, gaps: &[GapWords]) -> usize
     store_two(dest, at, gaps.len() as u64, ack.data_len as u64)
 }
 
-// Lays the counts.
+// Stores the counts.
 #[inline(always)]
 fn store_counts(dest: &mut [u8], at: usize, ack: &FrameWords) -> usize
     requires some { ack.now.flags ≡ 2 }
@@ -135,7 +135,7 @@ fn store_counts(dest: &mut [u8], at: usize, ack: &FrameWords) -> usize
     store_two(dest, at, ack.numbers[3], ack.numbers[4])
 }
 
-// Lays the ACK at the front, and its type last, where the flags are looked at for the counts.
+// Stores the ACK at the front, and its type last, where the flags are looked at for the counts.
 #[inline(always)]
 fn store_ack(ack: &FrameWords, gaps: &[GapWords], dest: &mut [u8]) -> usize
     requires ack { IsAck ack.now gaps.now }

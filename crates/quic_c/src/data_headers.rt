@@ -34,7 +34,7 @@ fn has_header(words: &FrameWords, last: bool) -> bool
 }
 
 // Puts at most five numbers in their shortest encodings at the front. Where there is room for five of the longest they
-// are laid there one by one; else they are put together first, and the room is looked at then.
+// are written there one by one; else they are put together first, and the room is looked at then.
 #[inline(always)]
 fn put_numbers(dest: &mut [u8], numbers: &[u64]) -> Result<usize, usize>
     requires few { length numbers.now ≤ 5 }
@@ -51,7 +51,7 @@ fn put_numbers(dest: &mut [u8], numbers: &[u64]) -> Result<usize, usize>
     Ok(at)
 }
 
-// Lays the header of a STREAM at the front, with the length of its data where that is given.
+// Stores the header of a STREAM at the front, with the length of its data where that is given.
 fn put_stream(
     id: u64,
     offset: u64,
@@ -73,7 +73,7 @@ fn put_stream(
     }
 }
 
-// Lays the header that the words say at the front.
+// Stores the header that the words say at the front.
 fn put_header(words: &FrameWords, last: bool, dest: &mut [u8]) -> Result<usize, usize>
     requires { HasHeader words.now last }
     ensures { Puts result (header_bytes words.now last) dest.old dest.new }

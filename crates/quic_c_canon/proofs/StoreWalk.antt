@@ -1,4 +1,4 @@
--- A walk over a payload that lays its frames in their shortest encodings, one behind the other.
+-- A walk over a payload that writes its frames in their shortest encodings, one behind the other.
 use Rattle.std.proofs.Common.{◌≡◌, ℕ, zero, suc, ◌+◌, ◌≤◌, eqb, false, List, [], ◌∷◌, ◌++◌, length, map, take, drop, Some, None, Result, Err, refl, sym, ap, ◌∙◌, subst, append_assoc, inl, inr, arith}
 use Rattle.std.specs.Prelude.{replicate}
 use Rattle.std.proofs.lemmas.List.{append-nil, length-append, length-take, length-drop, length-replicate, replicate-append-replicate, take-append-drop, drop-drop, drop_at, take_at}
@@ -77,7 +77,7 @@ store_room payload old new at stop way next frame begins s room w f there =
 further : (a b : ℕ) (l m : List ℕ) → drop a l ≡ drop a m → drop (a + b) l ≡ drop (a + b) m
 further a b l m e = sym (drop-drop b a l) ∙ ap (drop b) e ∙ drop-drop b a m
 
--- the frame that was found is laid
+-- the frame that was found is written
 stored : (old new out bytes here : List ℕ) (at end : ℕ) → at ≡ length bytes → new ≡ bytes ++ drop at old → end ≡ at + length here → out ≡ take at new ++ (here ++ drop end new) → out ≡ (bytes ++ here) ++ drop end old
 stored old new out bytes here at end is front stop wrote =
     let start : take at new ≡ bytes = ap (take at) front ∙ take_at bytes (drop at old) at (sym is) in
@@ -144,7 +144,7 @@ padded_on bytes at k le =
 abbrev HasRoom : List ℕ → List ℕ → Type 0
 HasRoom payload old = (found : List Found) → AreFrames false found payload → length (shortest_frames (map frame_in found)) ≤ length old
 
--- each frame of PADDING is laid as a byte of 0
+-- each frame of PADDING is written as a byte of 0
 all_stored : (payload old new : List ℕ) (at count k : ℕ) (way : Way) → BeginsNone → ((found : List Found) × AreFrames false found payload) → HasRoom payload old → StoreWalk payload old new at way → EachPads count way → k ≤ count
     → (at + k ≤ length new) × StoreWalk payload old (padded new at k) (at + k) (behind k way)
 all_stored payload old new at count zero way begins s room w each le =
@@ -179,7 +179,7 @@ none_given : (rest : List Found) → [] ≡ map given rest → rest ≡ []
 none_given [] e = refl
 none_given (f ∷ rest) e = absurd cc
 
--- all is laid
+-- all is written
 pub store_done : (payload old new : List ℕ) (at : ℕ) (way : Way) → StoreWalk payload old new at way → left way ≡ [] → (found : List Found) → AreFrames false found payload
     → new ≡ shortest_frames (map frame_in found) ++ drop (length (shortest_frames (map frame_in found))) old
 store_done payload old new at way w none found s =

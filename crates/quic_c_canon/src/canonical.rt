@@ -96,7 +96,7 @@ fn shortest_len(payload: &[u8]) -> Result<usize, InvalidFrame>
     Ok(total)
 }
 
-// Lays a frame in its shortest encoding at a place, and answers where it ends.
+// Stores a frame in its shortest encoding at a place, and answers where it ends.
 #[inline(always)]
 fn put(frame: &Frame<'_>, last: bool, dest: &mut [u8], at: usize) -> usize
     requires stands { CanStand last frame.now }
@@ -110,7 +110,7 @@ fn put(frame: &Frame<'_>, last: bool, dest: &mut [u8], at: usize) -> usize
     }
 }
 
-// Lays so many bytes of 0 at a place, and answers where they end.
+// Stores so many bytes of 0 at a place, and answers where they end.
 fn pad(count: usize, dest: &mut [u8], at: usize) -> usize
     requires { at + count ≤ length dest.old }
     ensures end { result ≡ at + count }
@@ -121,7 +121,7 @@ fn pad(count: usize, dest: &mut [u8], at: usize) -> usize
     end
 }
 
-// Lays the frames of a payload in their shortest encodings, for which there is room, at the front.
+// Stores the frames of a payload in their shortest encodings, for which there is room, at the front.
 fn store(payload: &[u8], dest: &mut [u8])
     requires some { payload.now ≢ [] }
     requires whole { (found : List Found) × AreFrames false found payload.now }

@@ -166,9 +166,9 @@ told id_len versions packet dst src rest old (first, number, whole, long, word) 
       words = refl;
     }
 
--- ---- what is laid
+-- ---- what is written
 
--- so many versions were laid
+-- so many versions were written
 pub record StoredOn (versions : List ℕ) (at : ℕ) (old : List ℕ) (i end : ℕ) (new : List ℕ) : Type 0 where
   pub count : end ≡ at + 4 * i
   pub front : take end new ≡ take at old ++ version_bytes (take i versions)

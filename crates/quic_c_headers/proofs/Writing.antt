@@ -176,7 +176,7 @@ can_said kind.VersionNegotiate words dst src token from own s e source mine = re
 begun_same : (f g : ℕ) (h : ℕ → List ℕ) (a b : ℕ) → f ≡ g → a ≡ b → begun_by f (h a) ≡ begun_by g (h b)
 begun_same f g h a b e same = ap (λ (x : ℕ). begun_by x (h a)) e ∙ ap (λ (n : ℕ). begun_by g (h n)) same
 
--- what is laid of them
+-- what is written of them
 abbrev pub stored_said : HeaderKind → ℕ → SaidWords → List ℕ → List ℕ → List ℕ → List ℕ
 stored_said k len words dst src token =
     let number = part_of words.number_len words.number in
@@ -259,7 +259,7 @@ low_bytes len number some few =
       ]
     ]
 
--- what is laid of a short header is what its words say
+-- what is written of a short header is what its words say
 pub short_bytes : (first number : ℕ) (dst : List ℕ) → first < 128 → first / 8 % 4 ≡ 0 → number < 2 ^ 62 → length dst ≤ 20
     → (first ∷ dst) ++ bytes_of (first % 4 + 1) number
     ≡ said_bytes 0 (clear_by kind.Short (short_words first number).flags) (header_said kind.Short (short_words first number) dst [] [])
@@ -283,7 +283,7 @@ with_length kind.Retry words e has = absurd (search (rules, has))
 with_length kind.Short words e has = absurd (search (rules, has))
 with_length kind.VersionNegotiate words e has = absurd (search (rules, has))
 
--- what is laid of one, field behind field, is what its words say
+-- what is written of one, field behind field, is what its words say
 pub numbered_said : (k : HeaderKind) (words : SaidWords) (dst src token : List ℕ) → IsTrue (says_length k) → 1 ≤ words.number_len → words.number_len ≤ 4
     → numbered_bytes k words dst src token ≡ stored_said k words.length_len words dst src token
 numbered_said kind.Initial words dst src token has some few =

@@ -78,7 +78,7 @@ pub extern "C" fn quic_wire_negotiation_read_(packet: &[u8], head: &mut HeaderWo
     0
 }
 
-// Lays an id behind its length, and answers where it ends.
+// Stores an id behind its length, and answers where it ends.
 #[inline(always)]
 fn store_id(dest: &mut [u8], at: usize, id: &[u8]) -> usize
     requires few { length id.now ≤ 255 }
@@ -94,7 +94,7 @@ fn store_id(dest: &mut [u8], at: usize, id: &[u8]) -> usize
     end
 }
 
-// Lays versions at a place, and answers where they end.
+// Stores versions at a place, and answers where they end.
 #[inline(always)]
 #[tactic(auto, unfolding(quic_base::specs::Number::bytes_of))]
 fn store_versions(dest: &mut [u8], at: usize, versions: &[u32]) -> usize
@@ -111,7 +111,7 @@ fn store_versions(dest: &mut [u8], at: usize, versions: &[u32]) -> usize
     at
 }
 
-// Lays the packet at the front, and answers how many bytes it has.
+// Stores the packet at the front, and answers how many bytes it has.
 #[inline(always)]
 fn store_packet(first: u8, dst: &[u8], src: &[u8], versions: &[u32], dest: &mut [u8]) -> usize
     requires dst_few { length dst.now ≤ 255 }

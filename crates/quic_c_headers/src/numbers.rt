@@ -42,7 +42,7 @@ fn least_width(value: u64) -> usize
     }
 }
 
-// Lays a number in a width that it fits.
+// Stores a number in a width that it fits.
 #[inline(always)]
 #[tactic(auto, unfolding(quic_base::specs::Number::bytes_of))]
 fn store_encoding(value: u64, width: usize, dest: &mut [u8]) -> usize

@@ -92,7 +92,7 @@ pub(crate) fn first_word(kind: HeaderKind, flags: u8) -> u8
     }
 }
 
-// How many bytes of length are laid, where the header says one.
+// How many bytes of length are written, where the header says one.
 #[inline(always)]
 fn stored_length_len(said: &SaidWords) -> usize
     ensures known { (result ≡ 2) ⊎ (result ≡ 4) }
@@ -131,7 +131,7 @@ pub extern "C" fn quic_wire_short_write_(
     store_low(dest, at, number, count) as i32
 }
 
-// Lays a long header up to its ids' end at the front.
+// Stores a long header up to its ids' end at the front.
 #[inline(always)]
 fn store_front(kind: HeaderKind, said: &SaidWords, dst: &[u8], src: &[u8], dest: &mut [u8]) -> usize
     requires typed { IsTyped kind }
@@ -152,7 +152,7 @@ fn store_front(kind: HeaderKind, said: &SaidWords, dst: &[u8], src: &[u8], dest:
     store_long_start(dest, first, said.version, Exact(dst), Exact(src))
 }
 
-// Lays the token of an Initial header behind its length.
+// Stores the token of an Initial header behind its length.
 #[inline(always)]
 fn store_own_token(kind: HeaderKind, dest: &mut [u8], at: usize, token: &[u8]) -> usize
     requires numeric { length token.now < 2 ^ 62 }
@@ -168,7 +168,7 @@ fn store_own_token(kind: HeaderKind, dest: &mut [u8], at: usize, token: &[u8]) -
     }
 }
 
-// Lays a length, which is 0, and the number.
+// Stores a length, which is 0, and the number.
 #[inline(always)]
 fn store_end(said: &SaidWords, dest: &mut [u8], at: usize) -> usize
     requires known { (said.now.length_len ≡ 2) ⊎ (said.now.length_len ≡ 4) }
@@ -185,7 +185,7 @@ fn store_end(said: &SaidWords, dest: &mut [u8], at: usize) -> usize
     store_low(dest, at, said.number, said.number_len as usize)
 }
 
-// Lays the header of a packet with a number and a length at the front.
+// Stores the header of a packet with a number and a length at the front.
 #[inline(always)]
 fn store_numbered(
     kind: HeaderKind,

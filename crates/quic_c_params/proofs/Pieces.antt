@@ -1,4 +1,4 @@
--- Pieces of a list, laid one behind the other.
+-- Pieces of a list, written one behind the other.
 use Rattle.std.proofs.Common.{◌≡◌, ℕ, zero, suc, ◌+◌, ◌-◌, ◌*◌, ◌<◌, ◌≤◌, ◌^◌, List, [], ◌∷◌, ◌++◌, length, take, drop, get_or, refl, sym, ◌∙◌, ap, subst, arith, length-append, append_assoc}
 use Rattle.std.specs.Prelude.{Result, Ok, Err}
 use Rattle.std.specs.List.{flat_map}
@@ -85,7 +85,7 @@ counted_to_all p further order count k len le c any has same o es h =
     let e : rows + length es ≡ count = omega (arith, ap length (in_order_once any es further has h), same) in
     c.value es h ∙ ap length (first_all p es (asked count order) k (omega (arith, o.width, le))) ∙ ap (λ (n : ℕ). length (flat_map (piece_at p es) (asked n order))) (sym e)
 
--- so many of them are laid
+-- so many of them are written
 pub record StoredTo (p : TransportParameters) (further order old : List ℕ) (k at : ℕ) (new : List ℕ) : Type 0 where
   pub count : (es : List Entry) → AreInOrder es further → at ≡ length (first_of p es order k)
   pub front : (es : List Entry) → AreInOrder es further → take at new ≡ first_of p es order k
@@ -95,7 +95,7 @@ pub record StoredTo (p : TransportParameters) (further order old : List ℕ) (k 
 pub stored_to_none : (p : TransportParameters) (further order old : List ℕ) → StoredTo p further order old 0 0 old
 stored_to_none p further order old = record { count = λ es h. refl; front = λ es h. refl; back = refl; long = refl }
 
--- a piece that is laid at the end of those that are, over the rest of the slice
+-- a piece that is written at the end of those that are, over the rest of the slice
 pub stored_to_more : (p : TransportParameters) (further order old new ys : List ℕ) (k index at n : ℕ) (result : Result ℕ ℕ) → k < length order → index ≡ get_or order k 0 → result ≡ Ok n
     → ((es : List Entry) → AreInOrder es further → Lies result (piece_at p es index) (drop at new) ys) → (any : List Entry) → AreInOrder any further → at ≤ length new
     → length ys ≡ length (drop at new) → StoredTo p further order old k at new → StoredTo p further order old (k + 1) (at + n) (take at new ++ ys)
@@ -127,7 +127,7 @@ first_within p es order k =
 asked_same : (further : List ℕ) (count : ℕ) (any es : List Entry) → AreInOrder any further → count ≡ rows + length any → AreInOrder es further → rows + length es ≡ count
 asked_same further count any es has same h = omega (arith, ap length (in_order_once any es further has h), same)
 
--- what is laid has room
+-- what is written has room
 pub stored_within : (p : TransportParameters) (further order old new : List ℕ) (count k at : ℕ) (any : List Entry) → AreInOrder any further → count ≡ rows + length any
     → ((es : List Entry) → AreInOrder es further → length (listed p es order) ≤ length old) → StoredTo p further (asked count order) old k at new → at ≤ length new
 stored_within p further order old new count k at any has same room l =

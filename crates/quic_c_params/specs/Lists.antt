@@ -21,7 +21,7 @@ pub record GivesEntry (list : List ℕ) (words : EntryWords) : Type 0 where
   pub entry : Takes (IsEntry words.id (take words.value_len (drop words.value list))) list (drop (words.value + words.value_len) list)
   pub within : words.value + words.value_len ≤ length list
 
--- Bytes are laid at the front, with what stood behind them, and are counted; or there is less room than that, how much
+-- Bytes are written at the front, with what stood behind them, and are counted; or there is less room than that, how much
 -- they need is told, and nothing changes.
 pub record Lies (result : Result ℕ ℕ) (bytes old new : List ℕ) : Type 0 where
   pub count : IfOk result (λ n. n ≡ length bytes)

@@ -26,7 +26,7 @@ fn row_at(index: usize) -> TransportParameterId
     TransportParameterId::SUPPORTED[index]
 }
 
-// Lays what is written for a row at the front of a slice.
+// Stores what is written for a row at the front of a slice.
 fn store_row(
     params: &TransportParameters,
     id: TransportParameterId,
@@ -38,7 +38,7 @@ fn store_row(
     params.write_one_into(id, dest)
 }
 
-// Lays an entry in its least widths at the front of a slice.
+// Stores an entry in its least widths at the front of a slice.
 fn store_entry(number: u64, value: &[u8], dest: &mut [u8]) -> Result<usize, usize>
     requires number { number < 2 ^ 62 }
     requires len { length value.now < 2 ^ 62 }
@@ -48,7 +48,7 @@ fn store_entry(number: u64, value: &[u8], dest: &mut [u8]) -> Result<usize, usiz
     write_entry_into(number, value, dest)
 }
 
-// Lays the piece at an index at the front of a slice: a row of the record, or a further entry. Where the slice has fewer
+// Stores the piece at an index at the front of a slice: a row of the record, or a further entry. Where the slice has fewer
 // bytes, it is as it was, and the error is how many the piece has.
 fn store_piece(
     params: &TransportParameters,
@@ -101,7 +101,7 @@ fn list_len(params: &TransportParameters, further: &[u8], count: usize, order: &
     len
 }
 
-// Lays the pieces in an order over the front of a slice that has room for them.
+// Stores the pieces in an order over the front of a slice that has room for them.
 fn store_list(
     params: &TransportParameters,
     further: &[u8],

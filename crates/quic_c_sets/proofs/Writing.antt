@@ -132,7 +132,7 @@ counted_more words first above len left next e h =
 pub all_below : (words : List RunWords) (first : RunWords) → bytes_below words (length words) first ≡ shortest_below first.start (ranges_in (runs_of words))
 all_below words first = ap (λ (l : List RunWords). shortest_below first.start (ranges_in (runs_of l))) (take_all (length words) words (omega arith))
 
--- ---- they are laid
+-- ---- they are written
 
 pub record StoredBelow (words : List RunWords) (first : RunWords) (at : ℕ) (old : List ℕ) (left : ℕ) (above : RunWords) (end : ℕ) (new : List ℕ) : Type 0 where
   pub before : List ℕ

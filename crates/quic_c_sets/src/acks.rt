@@ -74,7 +74,7 @@ fn below_len(above: RunWords, runs: &[RunWords]) -> usize
     len
 }
 
-// Lays the runs below another one, the greatest first, over the bytes at a place, and answers where they end.
+// Stores the runs below another one, the greatest first, over the bytes at a place, and answers where they end.
 fn store_below(dest: &mut [u8], at: usize, above: RunWords, runs: &[RunWords]) -> usize
     requires runs { IsMaximalRuns (runs_of runs.now ++ range_of above ∷ []) }
     requires bound { above.start < 2 ^ 62 }
@@ -96,7 +96,7 @@ fn store_below(dest: &mut [u8], at: usize, above: RunWords, runs: &[RunWords]) -
     at
 }
 
-// Lays the ACK that the words say at the front of the bytes.
+// Stores the ACK that the words say at the front of the bytes.
 fn store_ack(
     delay: u64,
     runs: &[RunWords],

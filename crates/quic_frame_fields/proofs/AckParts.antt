@@ -154,7 +154,7 @@ pub next_held : (all held : List ℕ) (above run : Range ℕ) (runs left : List 
 unfolding as_written
 next_held all held above run runs left w w1 s s1 x e = next_run all above run runs left [] (x.before ++ held) 0 0 (as_written all held above left w w1 s s1 x) e
 
--- a beginning of what was held was appended, and the next run is laid behind the rest
+-- a beginning of what was held was appended, and the next run is written behind the rest
 pub holds_more : (all held held' : List ℕ) (above run : Range ℕ) (runs left : List (Range ℕ)) (w w1 w2 : List ℕ) (s s1 s2 : ℕ) → HoldsRuns all held above left w s w1 s1 → left ≡ runs ++ run ∷ []
     → (b : IsBegun w1 held w2) → KeepsRoom w1 s1 w2 s2 → held' ≡ b.left ++ all_short (run_numbers above run) → HoldsRuns all held' run runs w s w2 s2
 holds_more all held held' above run runs left w w1 w2 s s1 s2 x e b room is =

@@ -1,4 +1,4 @@
--- Bytes that are laid one behind the other at the front of a slice.
+-- Bytes that are written one behind the other at the front of a slice.
 use Rattle.std.proofs.Common.{◌≡◌, ℕ, ◌+◌, ◌<◌, ◌≤◌, List, [], ◌∷◌, ◌++◌, length, take, drop, Ok, Err, refl, sym, ap, subst, ◌∙◌, append_assoc, arith}
 use Rattle.std.proofs.lemmas.List.{length-append, length-take, append-nil, take-append-drop, drop-drop}
 use Rattle.quic_base.specs.Number.{AreBytes}
@@ -37,7 +37,7 @@ puts_three front middle end old one two new at place n r s t p q o u v w =
     let all : take n new ≡ (front ++ middle) ++ end = o ∙ ap (λ (l : List ℕ). l ++ end) (q ∙ ap (λ (l : List ℕ). l ++ middle) p) in
     puts (front ++ (middle ++ end)) old new n count (all ∙ append_assoc front middle end) (w ∙ back)
 
--- ---- numbers that are laid one after the other
+-- ---- numbers that are written one after the other
 
 pub stores_none : (at : ℕ) (old : List ℕ) → Stores [] at old at old
 stores_none at old = record { count = omega arith; front = sym (append-nil (take at old)); back = refl }
@@ -49,7 +49,7 @@ stores_more first second old one new at place end x y = record {
   back = y.back ∙ rw y.count (further place (length second) one old x.back);
 }
 
--- an array's first bytes, laid
+-- an array's first bytes, written
 pub stores_of : (n : ℕ) (xs bytes old new : List ℕ) (at end : ℕ) → take n xs ≡ bytes → end ≡ at + length (take n xs) → take end new ≡ take at old ++ take n xs → drop end new ≡ drop end old → Stores bytes at old end new
 stores_of n xs bytes old new at end is count front back = record {
   count = omega (arith, count, ap length is);
@@ -67,7 +67,7 @@ puts_stores bytes old new n x = puts bytes old new n (let m = x.count in omega (
 pub puts_refused : (bytes old : List ℕ) (n : ℕ) → n ≡ length bytes → length old < n → Puts (Err n) bytes old old
 puts_refused bytes old n count lt = record { count = tt; front = tt; needed = count; full = omega (arith, count, lt); same = refl }
 
--- They were laid.
+-- They were written.
 abbrev pub StoredThem : ℕ → List ℕ → ℕ → List ℕ → List ℕ → Type 0
 StoredThem at old end new ns = Stores (all_short ns) at old end new
 

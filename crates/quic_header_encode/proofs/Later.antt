@@ -97,7 +97,7 @@ finished_later (header.Retry dst src version) body has = absurd (search (rules, 
 finished_later (header.Short spin key_phase dst number) body has = absurd (search (rules, has))
 finished_later (header.VersionNegotiate random src dst) body has = absurd (search (rules, has))
 
--- a header that is laid is as long as it is said to be
+-- a header that is written is as long as it is said to be
 pub stored_length : (k : HeaderKind) (f first version : ℕ) (dst src token : List ℕ) (number : PacketNumber) (len : ℕ)
     → length (begun_by f (header_with (replicate len 0) (header_of k first version dst src token number))) ≡ stored_size k dst src token number len
 stored_length head.Initial f first version dst src token number len =

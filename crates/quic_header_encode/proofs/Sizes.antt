@@ -1,4 +1,4 @@
--- How many bytes headers take that are laid.
+-- How many bytes headers take that are written.
 use Rattle.std.proofs.Common.{◌≡◌, ℕ, ◌+◌, ◌≤◌, List, length, arith}
 use Rattle.std.proofs.lemmas.Bool.Decides.{nat_tests}
 use Rattle.quic_base.specs.Varint.{size}

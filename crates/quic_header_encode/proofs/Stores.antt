@@ -1,4 +1,4 @@
--- What is laid into an array, by its front.
+-- What is written into an array, by its front.
 use Rattle.std.proofs.Common.{◌≡◌, ℕ, ◌+◌, ◌-◌, ◌*◌, ◌<◌, ◌≤◌, ◌^◌, List, [], ◌∷◌, ◌++◌, length, take, drop, sym, ap, ◌∙◌, arith}
 use Rattle.std.proofs.Math.Seq.{take-append-add, take-append_seam}
 use Rattle.std.proofs.lemmas.Bool.Decides.{nat_tests}
@@ -24,14 +24,14 @@ stays a b new old e le =
     ap (λ (i : ℕ). drop i new) (sym at) ∙ sym (drop-drop (b - a) a new) ∙ ap (drop (b - a)) e
     ∙ drop-drop (b - a) a old ∙ ap (λ (i : ℕ). drop i old) at
 
--- what was laid over bytes, where nothing behind it changed
+-- what was written over bytes, where nothing behind it changed
 pub stored_over : (at end : ℕ) (old new bytes : List ℕ) → take end new ≡ take at old ++ bytes → drop end new ≡ drop end old
     → new ≡ take at old ++ (bytes ++ drop end old)
 stored_over at end old new bytes front back =
     sym (take-append-drop end new) ∙ ap (λ (xs : List ℕ). xs ++ drop end new) front
     ∙ ap (λ (xs : List ℕ). (take at old ++ bytes) ++ xs) back ∙ append_assoc (take at old) bytes (drop end old)
 
--- a length was laid before a place
+-- a length was written before a place
 pub len_stored : (width place end : ℕ) (old new bytes : List ℕ) → end ≡ place → bytes ≡ length_in width (length old - place)
     → take end new ≡ take (place - width) old ++ bytes → drop end new ≡ drop end old → new ≡ with_len width place old
 len_stored width place end old new bytes at is front back =
@@ -39,13 +39,13 @@ len_stored width place end old new bytes at is front back =
     ∙ ap (λ (i : ℕ). take (place - width) old ++ (bytes ++ drop i old)) at
     ∙ ap (λ (xs : List ℕ). take (place - width) old ++ (xs ++ drop place old)) is
 
--- what was laid at a place has its first k elements there
+-- what was written at a place has its first k elements there
 pub shorter_stored : (k n at : ℕ) (head stored bytes : List ℕ) → k ≤ n → at ≤ length head → take (at + n) stored ≡ take at head ++ bytes → take (at + k) stored ≡ take at head ++ take k bytes
 shorter_stored k n at head stored bytes short within is =
     sym (take-take (at + k) (at + n) stored (omega arith)) ∙ ap (take (at + k)) is
     ∙ ap (λ (i : ℕ). take (i + k) (take at head ++ bytes)) (sym (length-take-le at head within)) ∙ take-append-add (take at head) bytes k
 
--- the first k of n elements were laid at a place, and then the last k over them
+-- the first k of n elements were written at a place, and then the last k over them
 pub both_ends : (k n at : ℕ) (xs head once twice : List ℕ) → n ≡ length xs → k ≤ n → n ≤ k + k → at ≤ length head
     → take (at + k) once ≡ take at head ++ take k xs → take (at + (n - k) + k) twice ≡ take (at + (n - k)) once ++ drop (n - k) xs
     → take (at + n) twice ≡ take at head ++ xs
@@ -57,7 +57,7 @@ both_ends k n at xs head once twice is enough covers within first last =
     ap (λ (i : ℕ). take i twice) place ∙ last ∙ ap (λ (ys : List ℕ). ys ++ drop m xs) front
     ∙ append_assoc (take at head) (take m xs) (drop m xs) ∙ ap (λ (ys : List ℕ). take at head ++ ys) (take-append-drop m xs)
 
--- a token that is laid stands behind its length in one byte
+-- a token that is written stands behind its length in one byte
 pub token_stored : (n : ℕ) (token front stored : List ℕ) → n ≡ length token → n < 64 → stored ≡ front ++ n ∷ [] → stored ++ token ≡ front ++ (short (length token) ++ token)
 token_stored n token front stored is small e =
     ap (λ (ys : List ℕ). ys ++ token) e ∙ append_assoc front (n ∷ []) token
@@ -67,7 +67,7 @@ pub no_token_stored : (n : ℕ) (token front stored : List ℕ) → n ≡ length
 no_token_stored n [] front stored is none e = sym (append-nil stored) ∙ token_stored n [] front stored is (omega (arith, none)) e
 no_token_stored n (x ∷ xs) front stored is none e = absurd (omega arith)
 
--- a header was laid behind what stood, where zeros had been put, and what is behind the header goes
+-- a header was written behind what stood, where zeros had been put, and what is behind the header goes
 pub stored_behind : (n k all : ℕ) (old zeros both head post rest bytes : List ℕ) → n ≡ length old → both ≡ old ++ zeros → k ≤ length head → n + k ≤ all
     → take k head ≡ bytes → take (n + k) (take all ((take n both ++ (head ++ post)) ++ rest)) ≡ old ++ bytes
 stored_behind n k all old zeros both head post rest bytes is stood within fits front =

@@ -1,4 +1,4 @@
--- Headers as they are laid over bytes: what a header says, with a first byte whose fixed bit may be clear (RFC 9287), and
+-- Headers as they are written over bytes: what a header says, with a first byte whose fixed bit may be clear (RFC 9287), and
 -- with as many zeros in place of its length as are asked for.
 use Rattle.std.specs.Prelude.{◌≡◌, ℕ, ◌+◌, ◌-◌, ◌*◌, ◌/◌, ◌%◌, ◌<◌, ◌≤◌, ◌^◌, ◌⊎◌, Bool, true, false, List, [], ◌∷◌, ◌++◌, length, take, drop, replicate, ◌==◌, if◌then◌else◌}
 use Rattle.quic_base.specs.Number.{bytes_of}
@@ -58,7 +58,7 @@ first_of said = said.first + type_bits said.kind said.version + number_bits said
 abbrev pub begun_by : ℕ → List ℕ → List ℕ
 begun_by first bytes = first ∷ drop 1 bytes
 
--- The bytes that are laid: those of the header with so many zeros as its length, behind the first byte.
+-- The bytes that are written: those of the header with so many zeros as its length, behind the first byte.
 abbrev pub stored_bytes : {I : Type 0} → (I → List ℕ) → HeaderRef I → List ℕ
 stored_bytes id said =
     begun_by (first_of said)
@@ -104,7 +104,7 @@ HasLow head.Retry first = first ≤ 192
 HasLow head.Short first = first ≤ 192
 HasLow head.VersionNegotiate first = Unit {0}
 
--- Such a header can be laid.
+-- Such a header can be written.
 pub record IsStorable {I : Type 0} (id : I → List ℕ) (said : HeaderRef I) : Type 0 where
   pub low : HasLow said.kind said.first
   pub dst_few : length (id said.dst_cid) ≤ 20
@@ -113,7 +113,7 @@ pub record IsStorable {I : Type 0} (id : I → List ℕ) (said : HeaderRef I) : 
   pub number : IsInRange said.number.now
   pub length_len : (said.length_len ≡ 2) ⊎ (said.length_len ≡ 4)
 
--- a token that is laid by stores of 16 bytes
+-- a token that is written by stores of 16 bytes
 abbrev pub IsShortToken : List ℕ → Type 0
 IsShortToken token = (length token ≡ 0) ⊎ ((16 ≤ length token) × (length token ≤ 32))
 
@@ -195,7 +195,7 @@ end_by head.VersionNegotiate len number = []
 abbrev pub end_bytes : {I : Type 0} → HeaderRef I → List ℕ
 end_bytes said = end_by said.kind said.length_len said.number.now
 
--- So many bytes have room for the header, and for what its ids are laid with. A short header has no sender's id.
+-- So many bytes have room for the header, and for what its ids are written with. A short header has no sender's id.
 pub record HasLongRoom {I : Type 0} (id : I → List ℕ) (room : I → ℕ) (said : HeaderRef I) (size : ℕ) : Type 0 where
   pub whole : stored_len id said ≤ size
   pub dst : 6 + room said.dst_cid ≤ size
@@ -214,18 +214,18 @@ pub record HasStoreRoom {I : Type 0} (id : I → List ℕ) (room : I → ℕ) (s
   pub dst : room_by said.kind 1 6 + room said.dst_cid ≤ size
   pub src : room_by said.kind 0 (7 + length (id said.dst_cid) + room said.src_cid) ≤ size
 
--- the ids are laid with nothing behind them
+-- the ids are written with nothing behind them
 pub record IsExact {I : Type 0} (id : I → List ℕ) (room : I → ℕ) (said : HeaderRef I) : Type 0 where
   pub dst : length (id said.dst_cid) ≡ room said.dst_cid
   pub src : length (id said.src_cid) ≡ room said.src_cid
 
--- Such a header is laid as this one's bytes.
+-- Such a header is written as this one's bytes.
 pub record Stores {I : Type 0} (id : I → List ℕ) (said : HeaderRef I) (h : Header) : Type 0 where
   pub bytes : stored_bytes id said ≡ header_bytes h
   pub size : stored_len id said ≡ header_size h
   pub storable : IsStorable id said
 
--- a padded id, and over how many bytes it is laid
+-- a padded id, and over how many bytes it is written
 abbrev pub padded_id : Padded → List ℕ
 padded_id id = id.0.now
 

@@ -40,7 +40,7 @@ pub(crate) fn append(out: &mut Vec<u8>, bytes: &[u8])
     }
 }
 
-// Over how many bytes a short header is laid, one that has no token, and an Initial one whose token has at most 32 bytes.
+// Over how many bytes a short header is written, one that has no token, and an Initial one whose token has at most 32 bytes.
 const SHORT_ROOM: usize = 32;
 
 const LONG_ROOM: usize = 64;
@@ -53,7 +53,7 @@ const LONG_FIRST: u8 = 0xc0;
 // What stands in place of a number where there is none.
 const NO_NUMBER: PacketNumber = PacketNumber::U8(0);
 
-// Whether a token is laid without a call: one of 16 to 32 bytes, or an empty one.
+// Whether a token is written without a call: one of 16 to 32 bytes, or an empty one.
 #[inline(always)]
 fn is_stored_by_stores(token: &[u8]) -> bool
     ensures { IsTrue result ↔ IsShortToken token.now }
@@ -61,7 +61,7 @@ fn is_stored_by_stores(token: &[u8]) -> bool
     token.len() == 0 || token.len() >= 16 && token.len() <= 32
 }
 
-// Appends a header where there is spare room for the longest of its kind: zeros are appended, the header is laid over
+// Appends a header where there is spare room for the longest of its kind: zeros are appended, the header is written over
 // them, and what is left of them goes. Answers whether there was room.
 #[inline(always)]
 fn put<const ROOM: usize>(head: HeaderRef<'_, Padded<'_>>, out: &mut Vec<u8>) -> bool
@@ -82,7 +82,7 @@ fn put<const ROOM: usize>(head: HeaderRef<'_, Padded<'_>>, out: &mut Vec<u8>) ->
     true
 }
 
-// An id that is laid with what makes it 20 bytes.
+// An id that is written with what makes it 20 bytes.
 #[inline(always)]
 fn padded(id: &ConnectionId) -> Padded<'_>
     ensures same { padded_id result ≡ id.now }
@@ -242,7 +242,7 @@ impl Header {
         self.borrowed().encoded_len()
     }
 
-    // Makes room for just the header, and lays it there.
+    // Makes room for just the header, and writes it there.
     #[inline(never)]
     fn put_with_room(&self, out: &mut Vec<u8>) -> Result<(), NoRoom>
         requires { IsWritable self.now }

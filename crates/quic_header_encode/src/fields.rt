@@ -1,4 +1,4 @@
-//! The fields of a header, each laid at a place: bytes, ids and packet numbers.
+//! The fields of a header, each written at a place: bytes, ids and packet numbers.
 ghost use Rattle.std.specs.Prelude.{◌≡◌, ◌+◌, ◌≤◌, ◌++◌, length, take, drop};
 ghost use Rattle.quic_base.specs.Number.{bytes_of};
 ghost use Rattle.quic_crypto.specs.PacketNumbers.{number_bytes, number_size, IsInRange};
@@ -6,7 +6,7 @@ ghost use Rattle.quic_crypto.specs.PacketNumbers.{number_bytes, number_size, IsI
 use quic_base::coding::store_array;
 use quic_crypto::packet_number::PacketNumber;
 
-// Lays bytes by their first N and their last N.
+// Stores bytes by their first N and their last N.
 #[inline(always)]
 pub(crate) fn store_ends<const N: usize>(out: &mut [u8], at: usize, bytes: &[u8]) -> usize
     requires many { N ≤ length bytes.now }
@@ -28,7 +28,7 @@ pub(crate) fn store_ends<const N: usize>(out: &mut [u8], at: usize, bytes: &[u8]
     store_array(out, at + (bytes.len() - N), last)
 }
 
-// Lays bytes at a place, and answers where they end.
+// Stores bytes at a place, and answers where they end.
 #[inline(always)]
 pub(crate) fn store_bytes(out: &mut [u8], at: usize, bytes: &[u8]) -> usize
     requires { at + length bytes.now ≤ length out.old }
@@ -42,7 +42,7 @@ pub(crate) fn store_bytes(out: &mut [u8], at: usize, bytes: &[u8]) -> usize
     end
 }
 
-// Lays an id of at most 20 bytes at a place, and answers where it ends. Those of 8 bytes, the usual ones, are laid by
+// Stores an id of at most 20 bytes at a place, and answers where it ends. Those of 8 bytes, the usual ones, are written by
 // one store.
 #[inline(always)]
 pub(crate) fn store_id(out: &mut [u8], at: usize, id: &[u8]) -> usize
@@ -71,7 +71,7 @@ pub(crate) fn store_id(out: &mut [u8], at: usize, id: &[u8]) -> usize
     }
 }
 
-// Lays N bytes.
+// Stores N bytes.
 #[inline(always)]
 fn store_whole<const N: usize>(out: &mut [u8], at: usize, bytes: &[u8]) -> usize
     requires many { length bytes.now ≡ N }
@@ -87,7 +87,7 @@ fn store_whole<const N: usize>(out: &mut [u8], at: usize, bytes: &[u8]) -> usize
     store_array(out, at, *all)
 }
 
-/// Lays the low `len` bytes of a number at a place, and answers where they end. The caller must ensure that these are
+/// Stores the low `len` bytes of a number at a place, and answers where they end. The caller must ensure that these are
 /// 1 to 4, and that there is room.
 #[inline(always)]
 #[tactic(auto, unfolding(quic_base::specs::Number::bytes_of))]
@@ -112,7 +112,7 @@ pub fn store_low(out: &mut [u8], at: usize, number: u64, len: usize) -> usize
     }
 }
 
-/// Lays the part of a number that is written, and answers where it ends. The caller must ensure that there is room,
+/// Stores the part of a number that is written, and answers where it ends. The caller must ensure that there is room,
 /// and that a `U24` is below 2^24.
 #[inline(always)]
 #[tactic(auto, using(crate::proofs::Stores::numbers), unfolding(quic_base::specs::Number::bytes_of))]

@@ -1,4 +1,4 @@
-//! The one writer of headers: what a header says is laid at the front of bytes, field behind field, by stores of whole
+//! The one writer of headers: what a header says is written at the front of bytes, field behind field, by stores of whole
 //! arrays whose ends the next field covers.
 ghost use Rattle.std.specs.Prelude.{◌≡◌, ◌+◌, ◌*◌, ◌^◌, ◌<◌, ◌≤◌, ◌⊎◌, ◌∷◌, ◌++◌, List, ℕ, length, take, drop, replicate, true, ◌↔◌, IsTrue};
 ghost use Rattle.quic_base.specs.ConnectionId.{long_id};
@@ -13,7 +13,7 @@ use quic_base::coding::store_array;
 use quic_base::ids::ConnectionId;
 use quic_crypto::packet_number::PacketNumber;
 
-/// An id that is laid.
+/// An id that is written.
 pub trait StoredId: Copy {
     ghost id: { Self → List ℕ };
 
@@ -24,7 +24,7 @@ pub trait StoredId: Copy {
         ensures value { result ≡ length (id self) }
         ensures near { result ≤ room self };
 
-    /// Lays it at a place, and answers where it ends. The caller must ensure that it has at most 20 bytes, and that
+    /// Stores it at a place, and answers where it ends. The caller must ensure that it has at most 20 bytes, and that
     /// there is room for it, for 20 bytes where it is padded.
     fn store(self, out: &mut [u8], at: usize) -> usize
         requires few { length (id self) ≤ 20 }
@@ -36,7 +36,7 @@ pub trait StoredId: Copy {
         ensures len { length out.new ≡ length out.old };
 }
 
-/// An id with room for 20 bytes where it is laid: it is laid with what makes it 20 bytes.
+/// An id with room for 20 bytes where it is written: it is written with what makes it 20 bytes.
 #[derive(Clone, Copy)]
 pub struct Padded<'a>(pub &'a ConnectionId);
 
@@ -100,7 +100,7 @@ pub struct HeaderRef<'a, I> {
     pub length_len: usize,
 }
 
-/// Lays a short header up to its number at the front, and answers where the number begins. The caller must ensure that
+/// Stores a short header up to its number at the front, and answers where the number begins. The caller must ensure that
 /// the id has at most 20 bytes, and that there is room for it.
 #[inline(always)]
 pub fn store_short<I: StoredId>(out: &mut [u8], first: u8, dst_cid: I) -> usize
@@ -116,7 +116,7 @@ pub fn store_short<I: StoredId>(out: &mut [u8], first: u8, dst_cid: I) -> usize
     dst_cid.store(out, at)
 }
 
-// Lays an id behind its length.
+// Stores an id behind its length.
 #[inline(always)]
 fn store_long_id<I: StoredId>(out: &mut [u8], at: usize, id: I) -> usize
     requires few { length (I.id id) ≤ 20 }
@@ -131,7 +131,7 @@ fn store_long_id<I: StoredId>(out: &mut [u8], at: usize, id: I) -> usize
     id.store(out, at)
 }
 
-/// Lays what each long header begins with, up to the end of the sender's id, at the front, and answers where it ends. The
+/// Stores what each long header begins with, up to the end of the sender's id, at the front, and answers where it ends. The
 /// caller must ensure that each id has at most 20 bytes, and that there is room for it.
 #[inline(always)]
 #[tactic(auto, unfolding(quic_base::specs::Number::bytes_of))]
@@ -151,7 +151,7 @@ pub fn store_long_start<I: StoredId>(out: &mut [u8], first: u8, version: u32, ds
     store_long_id(out, at, src)
 }
 
-/// Lays a token behind its length, and answers where it ends. The caller must ensure that there is room for it, that it
+/// Stores a token behind its length, and answers where it ends. The caller must ensure that there is room for it, that it
 /// has fewer than 2^62 bytes, and where SHORT is true that it is empty or has 16 to 32.
 #[inline(always)]
 pub fn store_token<const SHORT: bool>(out: &mut [u8], at: usize, token: &[u8]) -> usize
@@ -170,7 +170,7 @@ pub fn store_token<const SHORT: bool>(out: &mut [u8], at: usize, token: &[u8]) -
     }
 }
 
-// Lays a token whose length takes one byte.
+// Stores a token whose length takes one byte.
 #[inline(always)]
 #[tactic(auto, using(crate::proofs::Stores::size_small))]
 fn store_short_token<const SHORT: bool>(out: &mut [u8], at: usize, token: &[u8]) -> usize
@@ -190,7 +190,7 @@ fn store_short_token<const SHORT: bool>(out: &mut [u8], at: usize, token: &[u8])
     }
 }
 
-// Lays bytes, of which there are some: 16 to 32 by stores.
+// Stores bytes, of which there are some: 16 to 32 by stores.
 #[inline(always)]
 fn store_some<const SHORT: bool>(out: &mut [u8], at: usize, bytes: &[u8]) -> usize
     requires short { SHORT ≡ true → IsShortToken bytes.now }
@@ -208,7 +208,7 @@ fn store_some<const SHORT: bool>(out: &mut [u8], at: usize, bytes: &[u8]) -> usi
     }
 }
 
-// Lays a number of 2^6 or more in its shortest encoding, and answers where it ends.
+// Stores a number of 2^6 or more in its shortest encoding, and answers where it ends.
 #[inline(always)]
 #[tactic(auto, unfolding(quic_base::specs::Varint::short, quic_base::specs::Varint::size, quic_base::specs::Number::bytes_of))]
 fn store_var(out: &mut [u8], at: usize, n: u64) -> usize
@@ -229,7 +229,7 @@ fn store_var(out: &mut [u8], at: usize, n: u64) -> usize
     }
 }
 
-// Lays a token whose length takes more than a byte.
+// Stores a token whose length takes more than a byte.
 #[inline(never)]
 fn store_long_token(out: &mut [u8], at: usize, token: &[u8]) -> usize
     requires large { 2 ^ 6 ≤ length token.now }
@@ -244,7 +244,7 @@ fn store_long_token(out: &mut [u8], at: usize, token: &[u8]) -> usize
     store_bytes(out, at, token)
 }
 
-/// Lays as many zeros as a length takes, 2 or 4, and answers where they end. The caller must ensure that there is room.
+/// Stores as many zeros as a length takes, 2 or 4, and answers where they end. The caller must ensure that there is room.
 #[inline(always)]
 pub fn store_no_length(out: &mut [u8], at: usize, len: usize) -> usize
     requires known { (len ≡ 2) ⊎ (len ≡ 4) }
@@ -323,7 +323,7 @@ impl<I: StoredId> HeaderRef<'_, I> {
         self.encoded_len() <= room
     }
 
-    // Lays the token of an Initial header behind its length.
+    // Stores the token of an Initial header behind its length.
     #[inline(always)]
     fn store_its_token<const SHORT_TOKEN: bool>(&self, out: &mut [u8], at: usize) -> usize
         requires short { SHORT_TOKEN ≡ true → IsShortToken self.now.token.now }
@@ -340,7 +340,7 @@ impl<I: StoredId> HeaderRef<'_, I> {
         }
     }
 
-    // Lays what stands behind the ids and the token: a length that isn't said yet, and the number.
+    // Stores what stands behind the ids and the token: a length that isn't said yet, and the number.
     #[inline(always)]
     fn store_end(&self, out: &mut [u8], at: usize) -> usize
         requires known { (self.now.length_len ≡ 2) ⊎ (self.now.length_len ≡ 4) }
@@ -358,7 +358,7 @@ impl<I: StoredId> HeaderRef<'_, I> {
         store_number(out, at, *self.number)
     }
 
-    /// Lays a header that isn't short at the front, and answers how many bytes it has. Its length, where it has one, is
+    /// Stores a header that isn't short at the front, and answers how many bytes it has. Its length, where it has one, is
     /// 0, which `set_len` or `PartialEncode::finish` fill in. The caller must ensure that there is room for it, and
     /// where SHORT_TOKEN is true that the token is empty or has 16 to 32 bytes.
     #[inline(always)]
@@ -383,7 +383,7 @@ impl<I: StoredId> HeaderRef<'_, I> {
         self.store_end(out, at)
     }
 
-    /// Lays a header at the front, and answers how many bytes it has, likewise.
+    /// Stores a header at the front, and answers how many bytes it has, likewise.
     #[inline(always)]
     pub fn store<const SHORT_TOKEN: bool>(&self, out: &mut [u8]) -> usize
         requires storable { IsStorable I.id self.now }

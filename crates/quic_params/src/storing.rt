@@ -1,4 +1,4 @@
-//! A list of parameters, laid at the front of a slice.
+//! A list of parameters, written at the front of a slice.
 ghost use Rattle.std.specs.Prelude.{◌≡◌, ◌+◌, ◌<◌, ◌≤◌, ◌^◌, ◌++◌, length, take, drop, IfOk, IfErr, OnErr};
 ghost use Rattle.quic_base.specs.Varint.{short};
 ghost use Rattle.quic_params.specs.Writing.{entry, written, written_for};
@@ -74,7 +74,7 @@ impl<const N: usize> Room<N> {
     }
 }
 
-// Lays bytes at the front of a slice. Where it has fewer, it is as it was, and the error is how many are needed.
+// Stores bytes at the front of a slice. Where it has fewer, it is as it was, and the error is how many are needed.
 fn store(dest: &mut [u8], bytes: &[u8]) -> Result<usize, usize>
     ensures count { IfOk result (λ n. n ≡ length bytes.now) }
     ensures front { IfOk result (λ n. dest.new ≡ bytes.now ++ drop n dest.old) }
@@ -103,7 +103,7 @@ impl TransportParameters {
         }
     }
 
-    /// Lays the bytes that `write` appends at the front of a slice, and answers how many they are; what stands
+    /// Stores the bytes that `write` appends at the front of a slice, and answers how many they are; what stands
     /// behind them stays (RFC 9000, section 18). Where the slice has fewer bytes, and only there, it is as it was,
     /// and the error is how many are needed. It takes no memory.
     pub fn write_into(&self, dest: &mut [u8]) -> Result<usize, usize>
@@ -130,7 +130,7 @@ impl TransportParameters {
         }
     }
 
-    /// Lays the bytes that `write_one` appends at the front of a slice, and answers how many they are; what stands
+    /// Stores the bytes that `write_one` appends at the front of a slice, and answers how many they are; what stands
     /// behind them stays (RFC 9000, section 18). Where the slice has fewer bytes, and only there, it is as it was,
     /// and the error is how many are needed. It takes no memory.
     pub fn write_one_into(&self, id: TransportParameterId, dest: &mut [u8]) -> Result<usize, usize>
@@ -161,7 +161,7 @@ fn fill_header(number: u64, len: u64, room: &mut Room<HEADER_ROOM>)
     }
 }
 
-/// Lays an entry in its least widths at the front of a slice, and answers how many bytes it has; what stands behind them
+/// Stores an entry in its least widths at the front of a slice, and answers how many bytes it has; what stands behind them
 /// stays (RFC 9000, section 18). The caller must ensure that the number and the length are below 2^62. Where the slice
 /// has fewer bytes, and only there, it is as it was, and the error is how many are needed. It takes no memory.
 pub fn write_entry_into(number: u64, value: &[u8], dest: &mut [u8]) -> Result<usize, usize>

@@ -113,7 +113,7 @@ fn make_room<B: BufMut>(chunk: &[u8; CHUNK], at: usize, out: &mut B) -> Result<u
     Ok(0)
 }
 
-// Lays two numbers, one behind the other.
+// Stores two numbers, one behind the other.
 #[inline(always)]
 fn store_two(chunk: &mut [u8; CHUNK], at: usize, gap: u64, len: u64) -> usize
     requires room { at + 16 ≤ CHUNK }

@@ -1,4 +1,4 @@
-//! Numbers and bytes, laid at the front of a slice.
+//! Numbers and bytes, written at the front of a slice.
 ghost use Rattle.std.specs.Prelude.{◌≡◌, ◌<◌, ◌≤◌, ◌+◌, ◌^◌, ◌++◌, ℕ, List, Bool, length, take, drop, IfSome};
 ghost use Rattle.quic_frame_fields.specs.Numbers.{AreNumeric, AreEncoded, all_short};
 ghost use Rattle.quic_frame_fields.specs.Parts.{ack_meaning};
@@ -10,7 +10,7 @@ use super::ack_encode::header_of;
 use super::write::{HEADER_ROOM, count_and_len, store_number, store_numbers};
 use super::{Ack, EcnCounts, FrameType, Stream, field};
 
-/// Lays at most five numbers in their shortest encodings at the front of the slice, and answers how many bytes they
+/// Stores at most five numbers in their shortest encodings at the front of the slice, and answers how many bytes they
 /// have. Where the slice has fewer, and only there, it is as it was, and the error is how many are needed. The room is
 /// looked at once.
 #[inline(always)]
@@ -24,7 +24,7 @@ pub fn numbers(dest: &mut [u8], numbers: &[u64]) -> Result<usize, usize>
     bytes(dest, &head[..len])
 }
 
-/// Lays numbers and then bytes, in the same way.
+/// Stores numbers and then bytes, in the same way.
 #[inline(always)]
 pub fn numbers_and_bytes(dest: &mut [u8], head: &[u64], tail: &[u8]) -> Result<usize, usize>
     requires few { length head.now ≤ 5 }
@@ -36,7 +36,7 @@ pub fn numbers_and_bytes(dest: &mut [u8], head: &[u64], tail: &[u8]) -> Result<u
     two(dest, &numbers[..len], tail)
 }
 
-/// Lays numbers, then bytes, and then at most 64 others, in the same way.
+/// Stores numbers, then bytes, and then at most 64 others, in the same way.
 pub fn numbers_and_two(
     dest: &mut [u8],
     head: &[u64],
@@ -53,7 +53,7 @@ pub fn numbers_and_two(
     three(dest, &numbers[..len], middle, end)
 }
 
-/// Lays at most five numbers in their shortest encodings over the bytes at a place, and answers where they end.
+/// Stores at most five numbers in their shortest encodings over the bytes at a place, and answers where they end.
 #[inline(always)]
 pub fn numbers_at(dest: &mut [u8], at: usize, numbers: &[u64]) -> usize
     requires few { length numbers.now ≤ 5 }
@@ -67,7 +67,7 @@ pub fn numbers_at(dest: &mut [u8], at: usize, numbers: &[u64]) -> usize
     store_bytes(dest, at, &head[..len])
 }
 
-// Lays bytes at the front.
+// Stores bytes at the front.
 fn bytes(dest: &mut [u8], bytes: &[u8]) -> Result<usize, usize>
     ensures { Puts result bytes.now dest.old dest.new }
 {
@@ -77,7 +77,7 @@ fn bytes(dest: &mut [u8], bytes: &[u8]) -> Result<usize, usize>
     Ok(store_bytes(dest, 0, bytes))
 }
 
-// Lays bytes at the front, and others behind them.
+// Stores bytes at the front, and others behind them.
 fn two(dest: &mut [u8], front: &[u8], end: &[u8]) -> Result<usize, usize>
     ensures { Puts result (front.now ++ end.now) dest.old dest.new }
 {
@@ -89,7 +89,7 @@ fn two(dest: &mut [u8], front: &[u8], end: &[u8]) -> Result<usize, usize>
     Ok(store_bytes(dest, at, end))
 }
 
-// Lays bytes at the front, and others behind them, twice.
+// Stores bytes at the front, and others behind them, twice.
 fn three(dest: &mut [u8], front: &[u8], middle: &[u8], end: &[u8]) -> Result<usize, usize>
     requires front { length front.now ≤ 64 }
     requires end { length end.now ≤ 64 }
@@ -104,7 +104,7 @@ fn three(dest: &mut [u8], front: &[u8], middle: &[u8], end: &[u8]) -> Result<usi
     Ok(store_bytes(dest, at, end))
 }
 
-// Lays bytes over those at a place, and answers where they end.
+// Stores bytes over those at a place, and answers where they end.
 #[inline(always)]
 fn store_bytes(dest: &mut [u8], at: usize, bytes: &[u8]) -> usize
     requires { at + length bytes.now ≤ length dest.old }
@@ -118,7 +118,7 @@ fn store_bytes(dest: &mut [u8], at: usize, bytes: &[u8]) -> usize
     end
 }
 
-/// Lays a STREAM without its data, and then these, in the same way. Their length is written where it is given. The
+/// Stores a STREAM without its data, and then these, in the same way. Their length is written where it is given. The
 /// caller must ensure that the offset and the length are below 2^62.
 pub fn stream(dest: &mut [u8], stream: &Stream<'_>, counted: Option<u64>) -> Result<usize, usize>
     requires offset { stream.now.offset < 2 ^ 62 }
@@ -141,7 +141,7 @@ pub fn stream(dest: &mut [u8], stream: &Stream<'_>, counted: Option<u64>) -> Res
     }
 }
 
-/// Lays an acknowledgement that is held, whose numbers may have been encoded in any widths, in its shortest encoding,
+/// Stores an acknowledgement that is held, whose numbers may have been encoded in any widths, in its shortest encoding,
 /// in the same way. Blocks that are in their shortest encoding are copied.
 pub fn ack(dest: &mut [u8], ack: &Ack<'_>) -> Result<usize, usize>
     requires { IsAckInRange ack.now }
@@ -161,7 +161,7 @@ pub fn ack(dest: &mut [u8], ack: &Ack<'_>) -> Result<usize, usize>
     Ok(store_bytes(dest, at, &counts[..counts_len]))
 }
 
-// Lays the counts of an acknowledgement, where they are given, and answers where they end.
+// Stores the counts of an acknowledgement, where they are given, and answers where they end.
 fn store_counts(counts: &mut [u8; HEADER_ROOM], ecn: Option<EcnCounts>) -> usize
     requires { AreCounts ecn }
     ensures within { result ≤ HEADER_ROOM }
@@ -173,7 +173,7 @@ fn store_counts(counts: &mut [u8; HEADER_ROOM], ecn: Option<EcnCounts>) -> usize
     }
 }
 
-// Lays the numbers that the bytes encode, in their shortest encodings of so many bytes, over those at a place, and
+// Stores the numbers that the bytes encode, in their shortest encodings of so many bytes, over those at a place, and
 // answers where they end.
 fn store_shortened(dest: &mut [u8], at: usize, encoded: &[u8], len: usize) -> usize
     requires shortens { Shortens encoded.now len }

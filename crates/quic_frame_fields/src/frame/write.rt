@@ -12,10 +12,10 @@ use quic_base::coding::{BufMutExt, NoRoom, store_array};
 use quic_base::ids::ConnectionId;
 use quic_base::varint::VarInt;
 
-// How many bytes the array has that numbers are laid into: five of them, each by a store of eight bytes at most.
+// How many bytes the array has that numbers are written into: five of them, each by a store of eight bytes at most.
 pub(super) const HEADER_ROOM: usize = 40;
 
-// Lays a number in its shortest encoding at a place, and answers where it ends.
+// Stores a number in its shortest encoding at a place, and answers where it ends.
 #[inline(always)]
 #[tactic(auto, unfolding(quic_base::specs::Varint::short, quic_base::specs::Varint::size, quic_base::specs::Number::bytes_of))]
 pub(super) fn store_number(head: &mut [u8], at: usize, n: u64) -> usize
@@ -37,7 +37,7 @@ pub(super) fn store_number(head: &mut [u8], at: usize, n: u64) -> usize
     }
 }
 
-// Lays numbers, one behind the other, and answers where they end.
+// Stores numbers, one behind the other, and answers where they end.
 #[inline(always)]
 pub(super) fn store_numbers(head: &mut [u8], numbers: &[u64]) -> usize
     requires room { 8 * length numbers.now ≤ length head.old }

@@ -1,4 +1,4 @@
-//! Frames, laid at the front of a slice in their shortest form (RFC 9000, section 19).
+//! Frames, written at the front of a slice in their shortest form (RFC 9000, section 19).
 ghost use Rattle.std.specs.Prelude.{◌≡◌, ◌≢◌, ◌<◌, ◌^◌, ◌++◌, Bool, length, drop, IfSome, IsNone};
 ghost use Rattle.quic_base.specs.Number.{bytes_of};
 ghost use Rattle.quic_base.specs.Varint.{short};
@@ -15,7 +15,7 @@ use quic_frame_fields::frame::encode::type_or_zero;
 use quic_frame_fields::frame::put;
 
 impl Frame<'_> {
-    /// Lays the shortest encoding of the frame, which is the last of its payload or not, at the front of the slice,
+    /// Stores the shortest encoding of the frame, which is the last of its payload or not, at the front of the slice,
     /// and answers how many bytes it has; these are the bytes that `encode` appends, and what stands behind them
     /// stays. Where the slice has fewer, and only there, it is as it was, and the error is how many bytes are needed.
     /// The caller must ensure that the frame is in range, and that data whose length is written are below 2^62 bytes.

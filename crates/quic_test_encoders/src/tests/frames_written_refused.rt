@@ -300,7 +300,7 @@ fn stands_alone(alloc: Global, with_length: bool, whole: &[u8]) -> bool {
     }
 }
 
-// Whether it is laid behind what stands there, and alone where nothing can be refused.
+// Whether it is written behind what stands there, and alone where nothing can be refused.
 fn writes_datagram(alloc: Global, with_length: bool, whole: &[u8]) -> bool {
     let Some((_, datagram)) = whole.split_first() else {
         return false;

@@ -1,4 +1,4 @@
-//! Frames that are laid at the front of a slice.
+//! Frames that are written at the front of a slice.
 ghost use Rattle.std.specs.Prelude.{◌<◌, ◌^◌, length, IsTrue};
 ghost use Rattle.quic_frames.specs.InRange.{open_data, CanStand};
 
@@ -16,7 +16,7 @@ fn can_be_stored(frame: &Frame<'_>) -> bool
     }
 }
 
-// Whether these bytes are laid at the front and no others.
+// Whether these bytes are written at the front and no others.
 fn is_whole(frame: &Frame<'_>, last: bool, wanted: &[u8]) -> bool
     requires { CanStand last frame.now }
 {
@@ -40,7 +40,7 @@ fn is_untouched(room: &[u8]) -> bool {
     true
 }
 
-// Whether nothing is laid where there is room for one byte less.
+// Whether nothing is written where there is room for one byte less.
 fn is_refused(frame: &Frame<'_>, last: bool, len: usize) -> bool
     requires { CanStand last frame.now }
 {
@@ -51,7 +51,7 @@ fn is_refused(frame: &Frame<'_>, last: bool, len: usize) -> bool
     frame.encode_into(last, short) == Err(len) && is_untouched(&little)
 }
 
-// Whether the first frame of a payload is laid as these bytes, whole or not at all.
+// Whether the first frame of a payload is written as these bytes, whole or not at all.
 fn is_stored(payload: &[u8], last: bool, wanted: &[u8]) -> bool {
     let Some(mut iter) = Iter::new(payload).ok() else {
         return false;
@@ -65,7 +65,7 @@ fn is_stored(payload: &[u8], last: bool, wanted: &[u8]) -> bool {
     is_whole(&frame, last, wanted) && is_refused(&frame, last, wanted.len())
 }
 
-// What is read, and what is laid of it before other frames and as the last.
+// What is read, and what is written of it before other frames and as the last.
 const ROWS: &[(&[u8], &[u8], &[u8])] = &[
     (b"\x01", b"\x01", b"\x01"),
     (b"\x40\x0a\x40\x00\x40\x01a", b"\x0a\x00\x01a", b"\x08\x00a"),

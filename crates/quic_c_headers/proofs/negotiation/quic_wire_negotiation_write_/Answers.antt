@@ -1,4 +1,4 @@
--- All of the packet is laid, and read back.
+-- All of the packet is written, and read back.
 use Rattle.std.proofs.Common.{◌≡◌, ◌+◌, ◌*◌, ◌++◌, ◌∙◌, ℕ, List, length, take, drop, sym, ap, inr, arith}
 use Rattle.quic_header_decode.proofs.Steps.{take_front}
 use Rattle.quic_c_headers.specs.Negotiation.{negotiation_bytes}

@@ -1,4 +1,4 @@
--- What is laid are the bytes of the packet.
+-- What is written are the bytes of the packet.
 use Rattle.std.proofs.Common.{◌≡◌, ◌≤◌, ◌∷◌, [], ◌∙◌, ℕ, List, length, take, drop, refl, ap, arith}
 use Rattle.quic_header_encode.proofs.Stores.{stays}
 use Rattle.quic_c_headers.specs.Negotiation.{negotiation_bytes}

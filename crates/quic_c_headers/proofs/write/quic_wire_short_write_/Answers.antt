@@ -1,4 +1,4 @@
--- What is laid of a short header is what its words say.
+-- What is written of a short header is what its words say.
 use Rattle.std.proofs.Common.{◌≡◌, ◌^◌, ◌+◌, ◌/◌, ◌%◌, ◌<◌, ◌≤◌, ◌∷◌, ◌++◌, ◌∙◌, ℕ, List, [], length, length-append, ap, inr, refl, arith, rules, to_z, w32}
 use Rattle.std.specs.Prelude.{drop, pos, take}
 use Rattle.quic_base.specs.Number.{bytes_of}

@@ -1,4 +1,4 @@
--- The length is laid over the bytes before the place.
+-- The length is written over the bytes before the place.
 use Rattle.std.proofs.Common.{◌≡◌, ℕ, ◌+◌, ◌-◌, ◌^◌, ◌*◌, List, length, sym, ap, ◌∙◌, arith}
 use Rattle.quic_base.specs.Number.{bytes_of}
 use Rattle.quic_header_encode.specs.Storing.{with_len}

@@ -1,7 +1,7 @@
 /* The UDP datagrams of a capture file, pcap or pcapng, which libpcap reads, for the
  * example capture.c: of Ethernet with its tags of VLANs, Linux cooked captures, raw
  * IP and loopback; of IPv4, and of IPv6 without extension headers.  Of a datagram
- * in fragments the first one is told alone.  The program defines check, which ends
+ * in fragments the first one is reported alone.  The program defines check, which ends
  * it where something isn't so. */
 #ifndef DATAGRAMS_H
 #define DATAGRAMS_H

@@ -8,7 +8,7 @@
  *
  * No call takes memory or keeps anything: what is kept between calls is a
  * struct of the caller's, and the bytes are given anew with each call.  What
- * a packet or a frame holds is told by its offset and length in these bytes.
+ * a packet or a frame holds is reported by its offset and length in these bytes.
  * No call is made back, and no error is global, so each function may be
  * called from several threads at once on different structs.
  *
@@ -301,7 +301,7 @@ typedef struct quic_wire_ack_ranges {
   uint64_t largest;  /* the greatest number of the next range */
 } quic_wire_ack_ranges;
 
-/* What is told of the shortest form of a payload, or of why it has none. */
+/* What is reported of the shortest form of a payload, or of why it has none. */
 typedef struct quic_wire_canon {
   size_t len;         /* how many bytes the shortest form has */
   uint64_t last_type; /* of what is no frame: the last type that was read, its
@@ -534,7 +534,7 @@ QUIC_WIRE_API int quic_wire_frames_init(quic_wire_frames *frames,
 
 /*
  * The same with 1 in |frames->strict|: a type that isn't in its shortest
- * encoding is told with QUIC_WIRE_REASON_LONG_TYPE.  Other fields may have any
+ * encoding is reported with QUIC_WIRE_REASON_LONG_TYPE.  Other fields may have any
  * width.
  */
 QUIC_WIRE_API int quic_wire_frames_init_strict(quic_wire_frames *frames,
@@ -546,7 +546,7 @@ QUIC_WIRE_API int quic_wire_frames_init_strict(quic_wire_frames *frames,
  *
  * Returns QUIC_WIRE_ITEM and the frame; 0 where none is left;
  * QUIC_WIRE_ERR_MALFORMED, once, where something is no frame, and then 0: what
- * is told of it is in |frame| (quic_wire_error_type, quic_wire_error_reason).
+ * is reported of it is in |frame| (quic_wire_error_type, quic_wire_error_reason).
  * QUIC_WIRE_ERR_INVALID_ARGUMENT for NULL, or where |frames->offset| is above
  * |payloadlen|.  |frame| changes only with QUIC_WIRE_ITEM and
  * QUIC_WIRE_ERR_MALFORMED.
@@ -558,7 +558,7 @@ QUIC_WIRE_API int quic_wire_frames_next(quic_wire_frames *frames,
 
 /*
  * The same where the ACK frequency extension wasn't negotiated: an ACK_FREQUENCY
- * or IMMEDIATE_ACK is told as a frame of an unknown type, with
+ * or IMMEDIATE_ACK is reported as a frame of an unknown type, with
  * QUIC_WIRE_REASON_INVALID_FRAME_ID, but one that is broken within its fields
  * for that.  A caller may change between the two at any time.
  */
@@ -574,7 +574,7 @@ QUIC_WIRE_API int quic_wire_frames_next_basic(quic_wire_frames *frames,
  *
  * Returns QUIC_WIRE_ITEM, and in |*count| how many entries were filled, one at
  * least; 0 where no frame is left; QUIC_WIRE_ERR_MALFORMED, once, where what
- * stands next is no frame, and then 0: what is told of it is in |out[0]|
+ * stands next is no frame, and then 0: what is reported of it is in |out[0]|
  * (quic_wire_error_type, quic_wire_error_reason); QUIC_WIRE_ERR_NOBUF where
  * |room| is 0.  QUIC_WIRE_ERR_INVALID_ARGUMENT for NULL, or where
  * |frames->offset| is above |payloadlen|.  Frames that stand before what is no
@@ -603,7 +603,7 @@ QUIC_WIRE_API int quic_wire_frames_fill_basic(quic_wire_frames *frames,
  * |frames->offset| is below |payloadlen|.
  *
  * Returns QUIC_WIRE_ITEM, and in |*count| how many entries were filled, one at
- * least; QUIC_WIRE_ERR_EMPTY; QUIC_WIRE_ERR_MALFORMED, and what is told in
+ * least; QUIC_WIRE_ERR_EMPTY; QUIC_WIRE_ERR_MALFORMED, and what is reported in
  * |out[0]|, where what stands at the front is no frame; QUIC_WIRE_ERR_NOBUF
  * where |room| is 0; QUIC_WIRE_ERR_INVALID_ARGUMENT for NULL.  |*count| changes
  * only with QUIC_WIRE_ITEM, and nothing changes but with that and
@@ -628,7 +628,7 @@ QUIC_WIRE_API int quic_wire_frames_first(quic_wire_frames *frames,
  * quic_wire_ack_ranges_init gives all.  For other frames |gaps| stays.
  *
  * Returns where the frame ends, which is above 0; QUIC_WIRE_ERR_EMPTY where
- * nothing is left; QUIC_WIRE_ERR_MALFORMED, and what is told of it in |frame|,
+ * nothing is left; QUIC_WIRE_ERR_MALFORMED, and what is reported of it in |frame|,
  * where what stands at the front is no frame (its type is QUIC_WIRE_NO_TYPE if
  * it is cut off within that); QUIC_WIRE_ERR_INVALID_ARGUMENT for NULL.
  */
@@ -795,7 +795,7 @@ QUIC_WIRE_API int quic_wire_frame_len(const quic_wire_frame *frame,
  * QUIC_WIRE_ERR_MALFORMED where something in it is no frame, with its type and
  * the reason in |out|.  What stands in |dest| behind what was written stays,
  * and all of it where nothing was; |out| changes in the words alone that are
- * told.
+ * reported.
  */
 QUIC_WIRE_API int quic_wire_canonical(const uint8_t *payload, size_t payloadlen,
                                       uint8_t *dest, size_t destlen,

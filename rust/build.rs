@@ -31,7 +31,7 @@ fn packed(top: &Path, target: &str) -> Option<PathBuf> {
     with_archive(top.join("native").join(target))
 }
 
-// The folder that the caller names; what it lacks is told by `link`.
+// The folder that the caller names; what it lacks is reported by `link`.
 fn named() -> Option<PathBuf> {
     env::var_os("QUIC_WIRE_LIB").filter(|folder| !folder.is_empty()).map(PathBuf::from)
 }

@@ -120,7 +120,7 @@ void front_ranges(const uint8_t *payload, size_t len,
 }
 
 /* An ACK that was read, |len| bytes of |payload|, is written by its gaps in its
- * shortest form, where all of them were told; and not where it goes below 0. */
+ * shortest form, where all of them were reported; and not where it goes below 0. */
 void gaps_written(const uint8_t *payload, size_t len,
                   const quic_wire_frame *frame, const quic_wire_gap *gaps) {
   uint8_t out[128], shortest[128];

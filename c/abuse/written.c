@@ -97,7 +97,7 @@ void write_rubbish(const uint8_t *data, size_t len) {
 }
 
 /* The header of a frame of any words is the front of what is written of it with
- * data, and what can be written whole has the length that is told before. */
+ * data, and what can be written whole has the length that is reported before. */
 void header_rubbish(void) {
   static const uint16_t kinds[] = {QUIC_WIRE_CRYPTO, QUIC_WIRE_STREAM,
                                    QUIC_WIRE_DATAGRAM};

@@ -106,7 +106,7 @@ fn main() -> io::Result<()> {
 }
 
 #[test]
-fn frames_are_counted_and_losses_told() {
+fn frames_are_counted_and_losses_reported() {
     let mut summary = Summary::default();
     OWN.iter().for_each(|payload| summary.add(payload));
     let frames = [("PADDING", 3), ("PING", 2), ("STREAM", 2)].map(|(kind, count)| (kind.to_string(), count));

@@ -24,7 +24,7 @@ fn frames_borrow_the_payload() {
 }
 
 #[test]
-fn an_iterator_is_small_and_told_apart_by_what_it_gives() {
+fn an_iterator_is_small_and_reported_apart_by_what_it_gives() {
     assert!(size_of::<Iter<'_>>() == 48, "{}", size_of::<Iter<'_>>());
     // Two PADDING in three bytes, one in eight, two more, and a PING.
     let payload = [0x40, 0x00, 0x00, 0xc0, 0, 0, 0, 0, 0, 0, 0, 0, 0, 0x01];
@@ -85,7 +85,7 @@ fn an_iterator_goes_on_where_another_stopped() {
 }
 
 #[test]
-fn the_type_is_told_as_it_stands() {
+fn the_type_is_reported_as_it_stands() {
     let payload = [0x0e, 0x04, 0x00, 0x01, b'x', 0x31, 0x00];
     let mut frames = Iter::new(&payload).unwrap();
     let stream = frames.next().unwrap().unwrap();

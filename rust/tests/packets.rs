@@ -87,7 +87,7 @@ fn the_packets_of_a_datagram_are_opened_in_a_loop() {
 }
 
 #[test]
-fn reserved_bits_are_told() {
+fn reserved_bits_are_reported() {
     let opened = |first| Opened { number: 0, number_len: 1, payload: 0, first };
     let told = [0x40, 0x44, 0x48, 0x50, 0xc0, 0xc4, 0xc8].map(|first| {
         let opened = opened(first);
@@ -366,7 +366,7 @@ fn every_header_is_read_back() {
 }
 
 #[test]
-fn a_header_is_told_where_its_packet_is_cut_off() {
+fn a_header_is_reported_where_its_packet_is_cut_off() {
     let datagram = [0xc0, 0, 0, 0, 1, 1, 0xaa, 0, 0, 0x44, 0xb0, 1];
     let Err(HeaderError::CutOff(head)) = HeaderPlaces::read(&datagram, 0, &[1]) else { panic!() };
     assert_eq!((head.dst_cid(&datagram), head.header_end(), head.end()), (&[0xaa][..], 11, 12));
@@ -394,7 +394,7 @@ fn an_unknown_version_gives_its_ids() {
 }
 
 #[test]
-fn numbers_are_told_by_the_one_that_is_expected() {
+fn numbers_are_reported_by_the_one_that_is_expected() {
     assert_eq!(PacketNumber::expand(6, 1, 600), Some(518));
     assert_eq!(PacketNumber::expand(0x9b32, 2, 0xa82f_30eb), Some(0xa82f_9b32));
     assert_eq!([PacketNumber::expand(6, 0, 1), PacketNumber::expand(6, 5, 1)], [None; 2]);

@@ -175,9 +175,9 @@ def behind(head):
 def notes(head):
     """What the figure of a header can't say, beside what is so of all."""
     if head.title == "Version Negotiation":
-        yield "The versions, (..), are told as bytes."
+        yield "The versions, (..), are reported as bytes."
     if head.title == "Retry":
-        yield "Retry Token and Retry Integrity Tag, (..), are told as bytes."
+        yield "Retry Token and Retry Integrity Tag, (..), are reported as bytes."
     if head.title == "1-RTT":
         yield "Destination Connection ID is what the parser of ids takes (`ShortId`)."
 
@@ -268,7 +268,7 @@ def any_version():
     yield ""
     lines = ["Header Form (1) = 1", "Version-Specific Bits (7)", f"Version ({8 * width})", *ids]
     yield from figure("Long Header Packet", [*lines, "Version-Specific Data (..)"])
-    yield f"`AnyVersion`, crates/{PLACES}.antt; by it unknown versions are told (`IsUnknown`)."
+    yield f"`AnyVersion`, crates/{PLACES}.antt; by it unknown versions are reported (`IsUnknown`)."
     yield from ["", "### Version Negotiation of any version (RFC 8999, 6)", ""]
     lines = ["Header Form (1) = 1", "Unused (7)", f"Version ({8 * width}) = {zero}", *ids]
     yield from figure("Version Negotiation Packet", [*lines, f"Supported Version ({8 * one}) ..."])

@@ -73,16 +73,16 @@ def value_of(kind):
 
 def bounds():
     """What must be so of each field of a record."""
-    told = {}
+    reported = {}
     for name, text in fields_of(MEANING, "IsValid").items():
         for template, words in BOUNDS.items():
             found = matched(template, text)
             if found is not None:
-                told.setdefault(found.pop("name"), []).append(words(**found))
+                reported.setdefault(found.pop("name"), []).append(words(**found))
                 break
         else:
             fail(f"{name} of IsValid in crates/{MEANING}.antt", text)
-    return told
+    return reported
 
 
 def snake(name):
@@ -91,14 +91,14 @@ def snake(name):
 
 def rows():
     """The table of parameters, in the order of their numbers."""
-    told, held = bounds(), fields()
+    reported, held = bounds(), fields()
     for name, index, number, kind, once in sorted(identifiers(), key=lambda it: it[2]):
         value, default = value_of(kind)
-        must = ", ".join(told.pop(held[index], []) + ["may repeat"] * (not once))
+        must = ", ".join(reported.pop(held[index], []) + ["may repeat"] * (not once))
         section = f"({SECTIONS[name]})" if name in SECTIONS else ""
         yield [f"{number:#04x}", NAMES.get(name, snake(name)), value, default, f"{must} {section}".strip()]
-    if told:
-        fail(f"IsValid in crates/{MEANING}.antt", f"of no parameter: {', '.join(told)}")
+    if reported:
+        fail(f"IsValid in crates/{MEANING}.antt", f"of no parameter: {', '.join(reported)}")
 
 
 def address():

@@ -436,7 +436,7 @@ room_at gaps at i end old one lt room inv =
       length-append (all_short (gap_numbers (take i gaps))) (all_short (g.gap ∷ g.len ∷ [])),
     )
 
--- an answer as the word that it is told by
+-- an answer as the word that it is reported by
 pub same_answer : (answer : ℤ) → (answer ≡ pos 0) ⊎ ((answer ≡ negsuc 3) ⊎ (answer ≡ negsuc 0)) → to_z w32 (of_z w32 answer) ≡ answer
 same_answer answer cases = elim cases [
   | inl done ↦ subst (λ (z : ℤ). to_z w32 (of_z w32 z) ≡ z) (sym done) refl

@@ -97,9 +97,9 @@ filling_none basic old before here after count end s none =
     let kept : drop 0 after ≡ drop 0 before = rw none at s.kept in
     (shows, kept)
 
--- where it stops in front of what isn't given, which is told if no entry was filled
-pub filling_stops : (basic : Bool) (old : Way) (before : List FrameWords) (here : Way) (after : List FrameWords) (count end : ℕ) (told : Invalid) → Filling basic old before here after count end
-    → IsRefused basic here told → count ≡ 0 → IsRefused basic old told × (after ≡ before)
-filling_stops basic old before here after count end told s refused none =
+-- where it stops in front of what isn't given, which is reported if no entry was filled
+pub filling_stops : (basic : Bool) (old : Way) (before : List FrameWords) (here : Way) (after : List FrameWords) (count end : ℕ) (reported : Invalid) → Filling basic old before here after count end
+    → IsRefused basic here reported → count ≡ 0 → IsRefused basic old reported × (after ≡ before)
+filling_stops basic old before here after count end reported s refused none =
     let n = filling_none basic old before here after count end s none in
-    (subst (λ (w : Way). IsRefused basic w told) (sym n.0) refused, n.1)
+    (subst (λ (w : Way). IsRefused basic w reported) (sym n.0) refused, n.1)

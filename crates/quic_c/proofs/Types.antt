@@ -15,7 +15,7 @@ use Rattle.quic_c.specs.declared.words.FrameWords.{FrameWords}
 use Rattle.quic_c.specs.declared.words.FramesWords.{FramesWords}
 use Rattle.quic_c.specs.declared.words.GapWords.{GapWords}
 use Rattle.quic_c.specs.Shown.{kind_of, shown, type_in, way_of, IsExtension}
-use Rattle.quic_c.specs.Answers.{GivesFrame, IsRefused, unknown_told}
+use Rattle.quic_c.specs.Answers.{GivesFrame, IsRefused, unknown_type}
 use Rattle.quic_c.specs.Filling.{further}
 use Rattle.quic_c.specs.Front.{ReadsFront, ShowsFront}
 
@@ -84,8 +84,8 @@ pub is_kept : (basic test : Bool) (frame : Frame) → IsTrue test ↔ (basic ≡
 is_kept basic test frame tests e x = false≢true (sym e ∙ tests.1 x)
 
 -- a frame of the extension is refused where these are of unknown types
-pub unknown_refused : (basic : Bool) (here next : Way) (frame : Frame) (told : Invalid) → Finds here frame next → (basic ≡ true) × IsExtension (kind_of frame) → told ≡ unknown_told (kind_of frame) → IsRefused basic here told
-unknown_refused basic here next frame told finds is tells = inr (is.0, record { frame = frame; next = next; finds = finds; extension = is.1; is = tells })
+pub unknown_refused : (basic : Bool) (here next : Way) (frame : Frame) (reported : Invalid) → Finds here frame next → (basic ≡ true) × IsExtension (kind_of frame) → reported ≡ unknown_type (kind_of frame) → IsRefused basic here reported
+unknown_refused basic here next frame reported finds is tells = inr (is.0, record { frame = frame; next = next; finds = finds; extension = is.1; is = tells })
 
 pub reads_front : (strict basic : Bool) (payload : List ℕ) (before : List GapWords) (stop : ℕ) (words : FrameWords) (after : List GapWords) (frame : Frame) (next rest : Way) (type : ℕ)
     → (finds : Finds (first_of strict payload) frame next) → ((basic ≡ true) × IsExtension (kind_of frame) → ⊥) → (kind_of frame ≡ 0 → (more : ℕ) × PassesPadding next more rest) → (0 < kind_of frame → rest ≡ next)

@@ -19,22 +19,22 @@ use Rattle.quic_c.specs.Shown.{way_of, type_word, shown, shown_invalid, kind_of,
 abbrev pub reason_in : List ℕ → ℕ
 reason_in reason = if pointwise nat_eq reason (codes "unexpected end") then 1 else if pointwise nat_eq reason (codes "invalid frame ID") then 2 else if pointwise nat_eq reason (codes "frame type not in shortest form") then 4 else 3
 
--- what is told of a frame of a kind whose type is unknown
-abbrev pub unknown_told : ℕ → Invalid
-unknown_told kind = invalid (Some kind) InvalidFrameId
+-- what is reported of a frame of a kind whose type is unknown
+abbrev pub unknown_type : ℕ → Invalid
+unknown_type kind = invalid (Some kind) InvalidFrameId
 
--- A frame of the extension for ACK frequency stands there, and is told as one of an unknown type.
-pub record IsUnknown (way : Way) (told : Invalid) : Type 0 where
+-- A frame of the extension for ACK frequency stands there, and is reported as one of an unknown type.
+pub record IsUnknown (way : Way) (reported : Invalid) : Type 0 where
   pub frame : Frame
   pub next : Way
   pub finds : Finds way frame next
   pub extension : IsExtension (kind_of frame)
-  pub is : told ≡ unknown_told (kind_of frame)
+  pub is : reported ≡ unknown_type (kind_of frame)
 
--- What stands there isn't given, and this is told of it: it is no frame, or a frame of that extension where these are
+-- What stands there isn't given, and this is reported of it: it is no frame, or a frame of that extension where these are
 -- of unknown types.
 abbrev pub IsRefused : Bool → Way → Invalid → Type 0
-IsRefused basic way told = (left way ≡ Broken told ∷ []) ⊎ (basic ≡ true) × IsUnknown way told
+IsRefused basic way reported = (left way ≡ Broken reported ∷ []) ⊎ (basic ≡ true) × IsUnknown way reported
 
 -- A frame was found where the words stand, and its words were given: one of that extension only where these are known.
 pub record GivesFrame (basic : Bool) (old : FramesWords) (payload : List ℕ) (new : FramesWords) (out : FrameWords) : Type 0 where
@@ -43,15 +43,15 @@ pub record GivesFrame (basic : Bool) (old : FramesWords) (payload : List ℕ) (n
   pub known : (basic ≡ true) × IsExtension (kind_of frame) → ⊥
   pub words : out ≡ shown old.offset new.offset finds.found.type frame
 
--- What stands there isn't given, and that is told; nothing is left.
+-- What stands there isn't given, and that is reported; nothing is left.
 pub record GivesInvalid (basic : Bool) (old : FramesWords) (payload : List ℕ) (new : FramesWords) (out : FrameWords) : Type 0 where
-  pub told : Invalid
-  pub first : IsRefused basic (way_of old payload) told
+  pub reported : Invalid
+  pub first : IsRefused basic (way_of old payload) reported
   pub over : new ≡ record old { ended = 1 }
-  pub words : out ≡ shown_invalid old.offset (type_word told.type) (reason_in told.reason)
+  pub words : out ≡ shown_invalid old.offset (type_word reported.type) (reason_in reported.reason)
 
 -- What a call for the next frame answers and leaves, where frames of that extension are of unknown types if `basic` is
--- true: 1 with the frame; 0 where none is left; -3 with what is told of something that isn't given; -1 just where the
+-- true: 1 with the frame; 0 where none is left; -3 with what is reported of something that isn't given; -1 just where the
 -- place lies outside the payload. Nothing changes with 0 and -1.
 pub record AnswersNext (basic : Bool) (old : FramesWords) (payload : List ℕ) (before : FrameWords) (answer : ℤ) (new : FramesWords) (after : FrameWords) : Type 0 where
   pub answers : (answer ≡ pos 1) ⊎ (answer ≡ pos 0) ⊎ (answer ≡ negsuc 2) ⊎ (answer ≡ negsuc 0)

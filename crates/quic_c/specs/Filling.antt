@@ -30,7 +30,7 @@ Shows {P = P} step old (entry ∷ entries) new = (next : P) × step old entry ne
 
 -- Nothing is left, or what stands next isn't given.
 abbrev pub HasNoFrame : Bool → Way → Type 0
-HasNoFrame basic way = (left way ≡ []) ⊎ ((told : Invalid) × IsRefused basic way told)
+HasNoFrame basic way = (left way ≡ []) ⊎ ((reported : Invalid) × IsRefused basic way reported)
 
 -- So many entries were filled, and those behind them kept; more were not, for want of room or of a frame.
 pub record Fills (basic : Bool) (old : Way) (before : List FrameWords) (new : Way) (after : List FrameWords) (count : ℕ) : Type 0 where
@@ -46,7 +46,7 @@ pub record TellsInvalid (basic : Bool) (old : FramesWords) (payload : List ℕ) 
   pub entries : after ≡ entry ∷ drop 1 before
 
 -- What a call for the next frames answers and leaves, where frames of that extension are of unknown types if `basic` is
--- true: 1 with how many entries were filled, one at least; 0 where no frame is left; -3 with what is told of something
+-- true: 1 with how many entries were filled, one at least; 0 where no frame is left; -3 with what is reported of something
 -- that isn't given; -4 just where there is no entry and the place lies in the payload; -1 just where it lies outside.
 -- Nothing changes with 0, -4 and -1, and the count with 1 alone.
 pub record AnswersFill (basic : Bool) (old : FramesWords) (payload : List ℕ) (before : List FrameWords) (count_before : ℕ) (answer : ℤ) (new : FramesWords) (after : List FrameWords) (count : ℕ) : Type 0 where

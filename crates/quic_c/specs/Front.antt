@@ -52,7 +52,7 @@ abbrev pub ShowsFront : ℕ → ℕ → Frame → List GapWords → FrameWords �
 ShowsFront stop type (frames.Ack a) before words after = ShowsAck stop type a before words after
 ShowsFront stop type frame before words after = (words ≡ shown 0 stop type frame) × (after ≡ before)
 
--- The frame at the front is told, as the iterator over the payload gives it, and where just the frames of RFC 9000 and
+-- The frame at the front is reported, as the iterator over the payload gives it, and where just the frames of RFC 9000 and
 -- DATAGRAM count it is one of these. One of PADDING (RFC 9000, section 19.1) stands also for the PADDING that follows, a
 -- frame with each byte. What is left begins where it ends.
 pub record ReadsFront (strict basic : Bool) (payload : List ℕ) (before : List GapWords) (stop : ℕ) (words : FrameWords) (after : List GapWords) : Type 0 where
@@ -66,14 +66,14 @@ pub record ReadsFront (strict basic : Bool) (payload : List ℕ) (before : List 
   pub ends : stop ≡ rest.offset
   pub shows : ShowsFront stop finds.found.type frame before words after
 
--- No frame stands at the front, or just one of that extension where only those count, and that is told.
+-- No frame stands at the front, or just one of that extension where only those count, and that is reported.
 pub record TellsNone (strict basic : Bool) (payload : List ℕ) (words : FrameWords) : Type 0 where
-  pub told : Invalid
-  pub first : IsRefused basic (first_of strict payload) told
-  pub is : words ≡ shown_invalid 0 (type_word told.type) (reason_in told.reason)
+  pub reported : Invalid
+  pub first : IsRefused basic (first_of strict payload) reported
+  pub is : words ≡ shown_invalid 0 (type_word reported.type) (reason_in reported.reason)
 
 -- What a call for the frame at the front answers and leaves: where it ends, with its words; -2 just where there is no
--- byte, and nothing changes; -3 with what is told of something that isn't given, and no entry changes.
+-- byte, and nothing changes; -3 with what is reported of something that isn't given, and no entry changes.
 pub record AnswersRead (strict basic : Bool) (payload : List ℕ) (before : FrameWords) (room : List GapWords) (answer : ℤ) (after : FrameWords) (gaps : List GapWords) : Type 0 where
   pub answers : (answer ≡ negsuc 1) ⊎ (answer ≡ negsuc 2) ⊎ ((stop : ℕ) × (answer ≡ pos stop) × ReadsFront strict basic payload room stop after gaps)
   pub empty : (answer ≡ negsuc 1) ↔ (payload ≡ [])
@@ -86,14 +86,14 @@ pub record AnswersRead (strict basic : Bool) (payload : List ℕ) (before : Fram
 -- an item over so many bytes that stand before it
 abbrev pub behind : ℕ → Item → Item
 behind count (Whole start stop found) = Whole (count + start) (count + stop) found
-behind count (Broken told) = Broken told
+behind count (Broken reported) = Broken reported
 
 abbrev pub or_else : Option ℕ → Option ℕ → Option ℕ
 or_else None before = before
 or_else (Some type) before = Some type
 
--- what is told first of something that is cut off within its type: the last type before
-abbrev pub told_behind : Option ℕ → List Item → List Item
-told_behind before [] = []
-told_behind before (Whole start stop found ∷ items) = Whole start stop found ∷ items
-told_behind before (Broken told ∷ items) = Broken (record told { type = or_else told.type before }) ∷ items
+-- what is reported first of something that is cut off within its type: the last type before
+abbrev pub reported_behind : Option ℕ → List Item → List Item
+reported_behind before [] = []
+reported_behind before (Whole start stop found ∷ items) = Whole start stop found ∷ items
+reported_behind before (Broken reported ∷ items) = Broken (record reported { type = or_else reported.type before }) ∷ items

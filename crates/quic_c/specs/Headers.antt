@@ -53,7 +53,7 @@ pub record WroteHeader (words : FrameWords) (last : Bool) (old new : List ℕ) (
   pub count : written ≡ length (header_bytes words last)
   pub front : new ≡ header_bytes words last ++ drop written old
 
--- There is less room than they need, and how much that is was told.
+-- There is less room than they need, and how much that is was reported.
 pub record HeaderNeedsMore (words : FrameWords) (last : Bool) (old : List ℕ) (needed : ℕ) : Type 0 where
   pub can : HasHeader words last
   pub count : needed ≡ length (header_bytes words last)

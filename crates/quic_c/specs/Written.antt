@@ -42,7 +42,7 @@ pub record Wrote (words : FrameWords) (bytes : List ℕ) (last : Bool) (old new 
   pub count : written ≡ length (shortest_frame last (meaning_of frame))
   pub front : new ≡ shortest_frame last (meaning_of frame) ++ drop written old
 
--- There is less room than such a frame needs, and how much that is was told.
+-- There is less room than such a frame needs, and how much that is was reported.
 pub record NeedsMore (words : FrameWords) (bytes : List ℕ) (last : Bool) (old : List ℕ) (needed : ℕ) : Type 0 where
   pub frame : Frame
   pub can : CanWrite words bytes last frame

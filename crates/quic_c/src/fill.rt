@@ -21,7 +21,7 @@ struct Filled {
     last: Option<FrameType>,
 }
 
-// Fills entries with what stands next. Where that isn't given, it is told if none was filled. There is a copy for
+// Fills entries with what stands next. Where that isn't given, it is reported if none was filled. There is a copy for
 // each caller, so that each goes into its own.
 #[inline(always)]
 fn fill<const COPY: usize>(
@@ -125,7 +125,7 @@ pub extern "C" fn quic_wire_frames_fill_(
     fill_on::<1>(frames, payload, false, out, count)
 }
 
-/// The same, where a frame of the extension for ACK frequency is one of an unknown type: -3 is told of it.
+/// The same, where a frame of the extension for ACK frequency is one of an unknown type: -3 is reported of it.
 #[unsafe(no_mangle)]
 pub extern "C" fn quic_wire_frames_fill_basic_(
     frames: &mut FramesWords,

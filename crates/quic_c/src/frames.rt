@@ -5,7 +5,7 @@ ghost use Rattle.quic_frame_fields.specs.Reading.{Invalid, Broken, invalid};
 ghost use Rattle.quic_frames.specs.Way.{Way};
 ghost use Rattle.quic_frames.specs.Walk.{first_of, invalid_of, Finds};
 ghost use Rattle.quic_c.specs.Shown.{way_of, at_front, is_strict, kind_of, type_in, type_word, shown, shown_invalid, IsExtension};
-ghost use Rattle.quic_c.specs.Answers.{AnswersNext, reason_in, unknown_told};
+ghost use Rattle.quic_c.specs.Answers.{AnswersNext, reason_in, unknown_type};
 
 use crate::show::{parts_of, show};
 use crate::words::{FrameWords, FramesWords};
@@ -69,10 +69,10 @@ pub(crate) fn is_unknown(basic: bool, frame: &Frame<'_>) -> bool
     }
 }
 
-// What is told of a frame of this kind where its type is unknown.
+// What is reported of a frame of this kind where its type is unknown.
 #[inline(never)]
 pub(crate) fn unknown(kind: u16) -> InvalidFrame
-    ensures { invalid_of result ≡ unknown_told kind }
+    ensures { invalid_of result ≡ unknown_type kind }
 {
     InvalidFrame {
         ty: Some(FrameType::of(u64::from(kind))),
@@ -127,7 +127,7 @@ pub extern "C" fn quic_wire_frames_init_strict_(frames: &mut FramesWords, payloa
     begin(frames, payload, 1)
 }
 
-// What is no frame, told as words.
+// What is no frame, reported as words.
 pub(crate) fn show_invalid(begin: usize, invalid: &InvalidFrame) -> FrameWords
     ensures { result ≡ shown_invalid begin (type_word invalid.now.ty) (reason_in invalid.now.reason.now) }
 {
@@ -216,7 +216,7 @@ fn next_on<const PADDING: usize, const OTHER: usize>(
 }
 
 /// The next frame (RFC 9000, section 19). It answers 1 with the frame; 0 where none is left, and nothing changes; -3,
-/// once, with the type and the reason that are told of something that is no frame; -1 just where the place lies
+/// once, with the type and the reason that are reported of something that is no frame; -1 just where the place lies
 /// outside the payload, and nothing changes.
 #[unsafe(no_mangle)]
 pub extern "C" fn quic_wire_frames_next_(
@@ -229,7 +229,7 @@ pub extern "C" fn quic_wire_frames_next_(
     next_on::<0, 1>(frames, payload, false, out)
 }
 
-/// The same, where a frame of the extension for ACK frequency is one of an unknown type: -3 is told of it.
+/// The same, where a frame of the extension for ACK frequency is one of an unknown type: -3 is reported of it.
 #[unsafe(no_mangle)]
 pub extern "C" fn quic_wire_frames_next_basic_(
     frames: &mut FramesWords,

@@ -6,7 +6,7 @@ ghost use Rattle.quic_frames.specs.declared.frame.Frame.TheVariants as frames;
 ghost use Rattle.quic_frames.specs.Padding.{PassesPadding};
 ghost use Rattle.quic_frames.specs.Walk.{left, first_of, resumed};
 ghost use Rattle.quic_c.specs.Shown.{kind_of, shown, is_strict};
-ghost use Rattle.quic_c.specs.Front.{AnswersRead, FillsGaps, ShowsAck, ShowsFront, behind, told_behind};
+ghost use Rattle.quic_c.specs.Front.{AnswersRead, FillsGaps, ShowsAck, ShowsFront, behind, reported_behind};
 
 use crate::frames::{is_unknown, show_invalid, type_read, unknown};
 use crate::show::{parts_of, show};
@@ -197,7 +197,7 @@ fn read_by<const STREAM: usize>(
 /// than its shortest is no frame if `strict` isn't 0 (section 12.4). It answers where the frame ends, with its words,
 /// whose places count from this front; a run of PADDING, a frame with each byte, is one. Of an ACK they tell the first
 /// range, less one, as the length of its data, and the ranges below it are filled into `gaps` as they stand, as many as
-/// there is room for: how many is told as the offset of its data, and `flags` has 4 where there are more. It answers -2
+/// there is room for: how many is reported as the offset of its data, and `flags` has 4 where there are more. It answers -2
 /// just where nothing is left; -3 with the type and the reason in `out` where no frame stands at the front. `out`
 /// doesn't change with -2, and `gaps` for an ACK alone.
 #[unsafe(no_mangle)]
@@ -212,7 +212,7 @@ pub extern "C" fn quic_wire_frame_read_(
     read_by::<2>(payload, strict != 0, false, out, gaps)
 }
 
-/// The same, where a frame of the extension for ACK frequency is one of an unknown type: -3 is told of it.
+/// The same, where a frame of the extension for ACK frequency is one of an unknown type: -3 is reported of it.
 #[unsafe(no_mangle)]
 pub extern "C" fn quic_wire_frame_read_basic_(
     payload: &[u8],
@@ -227,8 +227,8 @@ pub extern "C" fn quic_wire_frame_read_basic_(
 
 /// A payload is read frame by frame, each at the front of what is left: what an iterator gives from a place on is
 /// what it gives of the bytes there by themselves, each at a place that counts from the payload's front. What is cut
-/// off within its type, and so has none, is told by the iterator with the type before.
+/// off within its type, and so has none, is reported by the iterator with the type before.
 pub fn read_on()
     ensures { (strict : Bool) (offset : ℕ) (before : Option ℕ) (payload : List ℕ)
-        → left (resumed payload offset before strict) ≡ told_behind before (map (behind offset) (left (first_of strict (drop offset payload)))) }
+        → left (resumed payload offset before strict) ≡ reported_behind before (map (behind offset) (left (first_of strict (drop offset payload)))) }
 {}

@@ -12,7 +12,7 @@ use Rattle.quic_frames.specs.Padding.{PassesPadding, behind}
 use Rattle.quic_frames.specs.Way.{Way}
 use Rattle.quic_frames.specs.Walk.{GivesFrames, GivesBroken, left, first_of, unplaced, given, Finds}
 use Rattle.quic_canon.proofs.Steps.{BeginsNone, OneShortest, Walks, walk_on, next_frame, span_of, frame_length, shortest_next, walk_begins, small_at}
-use Rattle.quic_c_canon.specs.Answers.{IsToldOf, HasLength}
+use Rattle.quic_c_canon.specs.Answers.{IsReportedOf, HasLength}
 use Rattle.quic_c_canon.proofs.PaddingBytes.{EachPads, padding_is}
 
 -- So many bytes are those of the frames so far, and the others are still to come.
@@ -113,7 +113,7 @@ len_done payload total start way some (inr b) w none =
     let r = w.walks.broken b.0 b.1 b.2 b.3 in absurd (not_empty r.0 (invalid b.1 b.2) (sym (ap (map unplaced) none) ∙ r.1))
 
 -- something is no frame
-pub len_fails : (payload : List ℕ) (total start : ℕ) (way : Way) (i : Invalid) → IsEither false None payload → LenWalk payload total start way → left way ≡ Broken i ∷ [] → IsToldOf payload i
+pub len_fails : (payload : List ℕ) (total start : ℕ) (way : Way) (i : Invalid) → IsEither false None payload → LenWalk payload total start way → left way ≡ Broken i ∷ [] → IsReportedOf payload i
 len_fails payload total start way i (inl a) w is =
     let s = w.sums a.0 a.1 in absurd (no_error s.rest i (sym (ap (map unplaced) is) ∙ s.left_are))
 len_fails payload total start way i (inr b) w is =
@@ -123,5 +123,5 @@ len_fails payload total start way i (inr b) w is =
       type = b.1;
       reason = b.2;
       broken = b.3;
-      told_is = error_is r.0 i (invalid b.1 b.2) (sym (ap (map unplaced) is) ∙ r.1);
+      reported_is = error_is r.0 i (invalid b.1 b.2) (sym (ap (map unplaced) is) ∙ r.1);
     }

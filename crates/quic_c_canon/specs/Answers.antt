@@ -17,14 +17,14 @@ type_word (Some n) = n
 abbrev pub reason_word : List ℕ → ℕ
 reason_word reason = if pointwise nat_eq reason (codes "unexpected end") then 1 else if pointwise nat_eq reason (codes "invalid frame ID") then 2 else 3
 
--- The least payload of the meaning stands at the front, with what stood behind it, and its length was told.
+-- The least payload of the meaning stands at the front, with what stood behind it, and its length was reported.
 pub record GivesLeast (payload before after : List ℕ) (old new : CanonicalWords) : Type 0 where
   pub least : List ℕ
   pub is_least : IsLeast least payload
   pub front : after ≡ least ++ drop (length least) before
   pub words : new ≡ record old { len = length least }
 
--- There is less room than the least payload of the meaning needs, and how much that is was told.
+-- There is less room than the least payload of the meaning needs, and how much that is was reported.
 pub record NeedsMore (payload before : List ℕ) (old new : CanonicalWords) : Type 0 where
   pub least : List ℕ
   pub is_least : IsLeast least payload
@@ -32,18 +32,18 @@ pub record NeedsMore (payload before : List ℕ) (old new : CanonicalWords) : Ty
   pub words : new ≡ record old { len = length least }
 
 -- Frames and then something that is none: what reading tells of that.
-pub record IsToldOf (payload : List ℕ) (told : Invalid) : Type 0 where
+pub record IsReportedOf (payload : List ℕ) (reported : Invalid) : Type 0 where
   pub found : List Found
   pub type : Option ℕ
   pub reason : Fault
   pub broken : IsBroken false None found payload type reason
-  pub told_is : told ≡ invalid type reason
+  pub reported_is : reported ≡ invalid type reason
 
--- Something in the payload is no frame, and that is told.
+-- Something in the payload is no frame, and that is reported.
 pub record TellsInvalid (payload : List ℕ) (old new : CanonicalWords) : Type 0 where
-  pub told : Invalid
-  pub of_it : IsToldOf payload told
-  pub words : new ≡ record old { last_type = type_word told.type; reason = reason_word told.reason }
+  pub reported : Invalid
+  pub of_it : IsReportedOf payload reported
+  pub words : new ≡ record old { last_type = type_word reported.type; reason = reason_word reported.reason }
 
 -- The payload has frames and nothing else, which take so many bytes in their shortest encodings.
 pub record HasLength (payload : List ℕ) (n : ℕ) : Type 0 where

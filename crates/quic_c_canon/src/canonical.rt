@@ -6,7 +6,7 @@ ghost use Rattle.quic_frames.specs.InRange.{CanStand};
 ghost use Rattle.quic_frames.specs.Least.{frame_in, shortest_frames};
 ghost use Rattle.quic_frames.specs.Meaning.{meaning_of};
 ghost use Rattle.quic_frames.specs.Walk.{invalid_of, first_of, GivesFrames, GivesBroken};
-ghost use Rattle.quic_c_canon.specs.Answers.{type_word, reason_word, GivesLeast, NeedsMore, IsToldOf, TellsInvalid, HasLength};
+ghost use Rattle.quic_c_canon.specs.Answers.{type_word, reason_word, GivesLeast, NeedsMore, IsReportedOf, TellsInvalid, HasLength};
 
 use crate::words::CanonicalWords;
 use quic_canon::laws::one_least;
@@ -67,7 +67,7 @@ fn begin(payload: &[u8]) -> Result<Iter<'_>, ()>
 fn shortest_len(payload: &[u8]) -> Result<usize, InvalidFrame>
     requires { payload.now ≢ [] }
     ensures ok { IfOk result (λ n. HasLength payload.now n) }
-    ensures err { IfErr result (λ i. IsToldOf payload.now (invalid_of i)) }
+    ensures err { IfErr result (λ i. IsReportedOf payload.now (invalid_of i)) }
 {
     one_reading();
     least_encoding();
@@ -169,7 +169,7 @@ fn write(payload: &[u8], len: usize, dest: &mut [u8])
 /// each in its shortest form, where the last frame of a payload needs no length (RFC 9000, sections 12.4 and 19). It
 /// answers 0 with its length, and what stood behind it stays; -4 with the length where `dest` has less room; -2 just
 /// where the payload is empty; -3 just where something in it is no frame, with the last type that was read and the
-/// reason. `dest` changes with 0 alone, and `out` in the words alone that are told. It takes no memory.
+/// reason. `dest` changes with 0 alone, and `out` in the words alone that are reported. It takes no memory.
 #[unsafe(no_mangle)]
 pub extern "C" fn quic_wire_canonical_(
     payload: &[u8],

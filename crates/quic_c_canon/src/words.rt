@@ -1,6 +1,6 @@
 //! The struct that C sees. Each of its words may hold any value, so nothing can be broken by it.
 
-/// What is told of a payload's shortest form, or of why it has none.
+/// What is reported of a payload's shortest form, or of why it has none.
 #[repr(C)]
 #[derive(Clone, Copy, PartialEq, Eq)]
 pub struct CanonicalWords {

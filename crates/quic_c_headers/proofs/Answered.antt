@@ -1,4 +1,4 @@
--- What is told of the header that bytes begin with is one answer, and where the packet is whole it is cut there.
+-- What is reported of the header that bytes begin with is one answer, and where the packet is whole it is cut there.
 use Rattle.std.specs.Prelude.{◌≡◌, ℕ, ◌+◌, ◌-◌, ◌≤◌, List, length, drop, Option, None, Some, Result, Ok, Err, codes, slice_index, slice_range, unwrap_or, IfOk}
 use Rattle.std.proofs.Common.{refl, sym, ap, subst, ◌∙◌, arith, take, length-drop, length-take}
 use Rattle.quic_base.specs.Number.{AreBytes}
@@ -12,11 +12,11 @@ use Rattle.quic_header_decode.specs.declared.protected.ProtectedHeader.{Protecte
 use Rattle.quic_header_decode.specs.declared.protected.ProtectedHeader.TheVariants as head
 use Rattle.quic_header_decode.specs.declared.protected.ProtectedInitialHeader.{ProtectedInitialHeader}
 use Rattle.quic_header_decode.specs.Grammar.{Cut, HeaderAt}
-use Rattle.quic_header_decode.specs.Places.{any_fixed, dst_part, src_part, dst_place, ends_at, header_by, ids_end, said_in, told_in, seen_in, ArePlaces, IsNowhere, IsPlaced, IsSeen, ReadAnswer}
+use Rattle.quic_header_decode.specs.Places.{any_fixed, dst_part, src_part, dst_place, ends_at, header_by, ids_end, said_in, refusal_in, seen_in, ArePlaces, IsNowhere, IsPlaced, IsSeen, ReadAnswer}
 use Rattle.quic_header_decode.specs.Reading.{Context}
 use Rattle.quic_header_decode.specs.Refusal.{Refusal, Unsupported, Invalid, NoMemory}
 use Rattle.quic_c_headers.specs.declared.words.HeaderWords.{HeaderWords}
-use Rattle.quic_c_headers.specs.Reading.{answer_word, header_words, whole_word, HasFirst, Told}
+use Rattle.quic_c_headers.specs.Reading.{answer_word, header_words, whole_word, HasFirst, Reported}
 
 -- ---- what a header says of its places
 
@@ -148,9 +148,9 @@ same_places packet x y one two first said behind =
     made x.kind y.kind x.first y.first x.version y.version x.dst_len y.dst_len x.src_len y.src_len x.token.start y.token.start x.token.end y.token.end x.len y.len x.header_end y.header_end
     same.0 first o.version dst o.src o.start o.end o.len head
 
--- ---- what is told where no header is read
+-- ---- what is reported where no header is read
 
--- a number by which refusals are told apart
+-- a number by which refusals are reported apart
 mark : Refusal → ℕ
 mark (Unsupported src dst version) = 0
 mark (Invalid text) = length text
@@ -159,19 +159,19 @@ mark NoMemory = 1
 named : (version v : ℕ) (dst d src s : List ℕ) → (let r : Refusal = Unsupported src dst version in r) ≡ Unsupported s d v → (version ≡ v) × (dst ≡ d) × (src ≡ s)
 named version v dst d src s e = (cc, cc, cc)
 
-same_told : (packet : List ℕ) (e f : ReadError) → told_in packet e ≡ told_in packet f → IsSeen (Err e) (length packet) → IsSeen (Err f) (length packet) → e ≡ f
+same_reported : (packet : List ℕ) (e f : ReadError) → refusal_in packet e ≡ refusal_in packet f → IsSeen (Err e) (length packet) → IsSeen (Err f) (length packet) → e ≡ f
 unfolding mark
-same_told packet (error.UnsupportedVersion version dst_len src_len) (error.UnsupportedVersion v d s) is one two =
+same_reported packet (error.UnsupportedVersion version dst_len src_len) (error.UnsupportedVersion v d s) is one two =
     let names = named _ _ _ _ _ _ is in
     let dst : dst_len ≡ d = sym (slice_len 6 dst_len packet (omega (arith, one.2))) ∙ ap length names.1 ∙ slice_len 6 d packet (omega (arith, two.2)) in
     let src : src_len ≡ s = sym (slice_len (6 + dst_len + 1) src_len packet (omega (arith, one.2))) ∙ ap length names.2 ∙ slice_len (6 + d + 1) s packet (omega (arith, two.2)) in
     let version_is : version ≡ v = names.0 in
     cc
-same_told packet error.UnexpectedEnd error.UnexpectedEnd is one two = refl
-same_told packet error.SmallPacket error.SmallPacket is one two = refl
-same_told packet error.MalformedCid error.MalformedCid is one two = refl
-same_told packet error.TokenOutOfBounds error.TokenOutOfBounds is one two = refl
-same_told packet e f is one two = absurd (omega (arith, ap mark is))
+same_reported packet error.UnexpectedEnd error.UnexpectedEnd is one two = refl
+same_reported packet error.SmallPacket error.SmallPacket is one two = refl
+same_reported packet error.MalformedCid error.MalformedCid is one two = refl
+same_reported packet error.TokenOutOfBounds error.TokenOutOfBounds is one two = refl
+same_reported packet e f is one two = absurd (omega (arith, ap mark is))
 
 -- ---- one answer
 
@@ -185,8 +185,8 @@ found_is : (h g : ProtectedHeader) (rest left : List ℕ) → (let r : Result (P
 found_is h g rest left e =
     let same = pair_is (h, rest) (g, left) e in (ap (λ (p : ProtectedHeader × List ℕ). p.0) same, ap (λ (p : ProtectedHeader × List ℕ). p.1) same)
 
-told_is : (e f : Refusal) → (let r : Result (ProtectedHeader × List ℕ) Refusal = Err e in r) ≡ Err f → e ≡ f
-told_is e f is = cc
+reported_is : (e f : Refusal) → (let r : Result (ProtectedHeader × List ℕ) Refusal = Err e in r) ≡ Err f → e ≡ f
+reported_is e f is = cc
 
 same_read : (packet : List ℕ) (one other : Result HeaderPlaces ReadError) → seen_in packet one ≡ seen_in packet other → IsSeen one (length packet) → IsSeen other (length packet)
     → HasFirst one packet → HasFirst other packet → one ≡ other
@@ -195,17 +195,17 @@ same_read packet (Ok x) (Ok y) e one two f g =
     ap Ok (same_places packet x y one two (firsts packet x y f g) parts.0 parts.1)
 same_read packet (Ok x) (Err y) e one two f g = absurd cc
 same_read packet (Err x) (Ok y) e one two f g = absurd cc
-same_read packet (Err x) (Err y) e one two f g = ap Err (same_told packet x y (told_is _ _ e) one two)
+same_read packet (Err x) (Err y) e one two f g = ap Err (same_reported packet x y (reported_is _ _ e) one two)
 
 pub has_first : (read : Result HeaderPlaces ReadError) (packet : List ℕ) → IfOk read (λ x. x.first ≡ slice_index packet 0) → HasFirst read packet
 has_first (Ok x) packet is = is
 has_first (Err e) packet is = tt
 
--- what is told of one packet is one answer
+-- what is reported of one packet is one answer
 pub one_answer : (id_len : ℕ) (versions packet : List ℕ) (old new words : HeaderWords) (answer other : ℕ)
     → ((id_len : ℕ) (versions bytes : List ℕ) (one other : Result (ProtectedHeader × List ℕ) Refusal) → AreBytes bytes
     → ReadAnswer (any_fixed id_len versions) bytes one → ReadAnswer (any_fixed id_len versions) bytes other → one ≡ other)
-    → AreBytes packet → Told id_len versions packet old answer new → Told id_len versions packet old other words → (answer ≡ other) × (new ≡ words)
+    → AreBytes packet → Reported id_len versions packet old answer new → Reported id_len versions packet old other words → (answer ≡ other) × (new ≡ words)
 one_answer id_len versions packet old new words answer other law fits t u =
     let seen = law id_len versions packet (seen_in packet t.read) (seen_in packet u.read) fits t.right u.right in
     let same = same_read packet t.read u.read seen t.stored u.stored t.first u.first in (
@@ -240,8 +240,8 @@ cut_there context packet (Err error.SmallPacket) old new law right stored zero w
 cut_there context packet (Err error.MalformedCid) old new law right stored zero words = absurd (omega (arith, zero))
 cut_there context packet (Err error.TokenOutOfBounds) old new law right stored zero words = absurd (omega (arith, zero))
 
--- a packet that is told to be whole is cut where the words say
-pub whole_cut : (id_len : ℕ) (versions packet : List ℕ) (old new : HeaderWords) (answer : ℕ) → Law → Told id_len versions packet old answer new → answer ≡ 0
+-- a packet that is reported to be whole is cut where the words say
+pub whole_cut : (id_len : ℕ) (versions packet : List ℕ) (old new : HeaderWords) (answer : ℕ) → Law → Reported id_len versions packet old answer new → answer ≡ 0
     → (h : ProtectedHeader) × Cut (any_fixed id_len versions) packet h new.header_end new.end
 whole_cut id_len versions packet old new answer law t zero =
     cut_there (any_fixed id_len versions) packet t.read old new law t.right t.stored (sym zero ∙ t.answers) t.words

@@ -1,4 +1,4 @@
--- Version negotiation packets: one has its ids in one way, and is told as a header of its kind; and their bytes.
+-- Version negotiation packets: one has its ids in one way, and is reported as a header of its kind; and their bytes.
 use Rattle.std.proofs.Common.{◌≡◌, ℕ, ◌+◌, ◌-◌, ◌*◌, ◌%◌, ◌<◌, ◌≤◌, List, [], ◌∷◌, ◌++◌, length, take, drop, refl, sym, ap, ◌∙◌, arith}
 use Rattle.std.specs.Prelude.{bit_or, get_or, slice_index, slice_range, Ok}
 use Rattle.std.specs.Int.{w32, from_be_bytes}
@@ -21,7 +21,7 @@ use Rattle.quic_header_decode.proofs.Made.{negotiation_header, LongStart}
 use Rattle.quic_header_decode.proofs.Steps.{drop_front, take_front}
 use Rattle.quic_c_headers.specs.declared.words.HeaderWords.{HeaderWords}
 use Rattle.quic_c_headers.specs.Negotiation.{negotiation_bytes, negotiation_words, version_bytes, IsNegotiation}
-use Rattle.quic_c_headers.specs.Reading.{Told}
+use Rattle.quic_c_headers.specs.Reading.{Reported}
 
 -- ---- what is read
 
@@ -87,7 +87,7 @@ same_ids packet dst src rest d s r (f, number, whole, long, word) (g, other, all
 pub same_words : (packet dst src d s : List ℕ) → dst ≡ d → src ≡ s → negotiation_words packet dst src ≡ negotiation_words packet d s
 same_words packet dst src d s e f = rw (e, f) refl
 
--- ---- what is told of headers of all kinds
+-- ---- what is reported of headers of all kinds
 
 -- a part of a list, and what is left behind it
 part_at : (a n : ℕ) (packet front part rest : List ℕ) → packet ≡ front ++ (part ++ rest) → length front ≡ a → length part ≡ n
@@ -117,10 +117,10 @@ header_at : (context : Context) (packet dst src rest d s left : List ℕ) (rando
     → HeaderAt context (length packet) packet (head.VersionNegotiate random dst src) rest → HeaderAt context (length packet) packet (head.VersionNegotiate random d s) left
 header_at context packet dst src rest d s left random e f g h = rw (e, f, g) h
 
-pub told : (id_len : ℕ) (versions packet dst src rest : List ℕ) (old : HeaderWords) → IsNegotiation packet dst src rest → length dst ≤ 20 → length src ≤ 20
-    → Told id_len versions packet old 0 (negotiation_words packet dst src)
+pub reported : (id_len : ℕ) (versions packet dst src rest : List ℕ) (old : HeaderWords) → IsNegotiation packet dst src rest → length dst ≤ 20 → length src ≤ 20
+    → Reported id_len versions packet old 0 (negotiation_words packet dst src)
 unfolding places
-told id_len versions packet dst src rest old (first, number, whole, long, word) few less =
+reported id_len versions packet dst src rest old (first, number, whole, long, word) few less =
     let context : Context = any_fixed id_len versions in
     let zero_word = law.is_number_4 0 (omega arith) in
     let zeros : number ≡ bytes_of 4 0 = law.num_injective number (bytes_of 4 0) word.bytes zero_word.bytes (word.width ∙ sym zero_word.width) (word.value ∙ sym zero_word.value) in

@@ -34,7 +34,7 @@ SaysFlags flags clear (header.Retry dst src version) = clear ≡ has_bit 0x40 fl
 SaysFlags flags clear (header.Short spin key_phase dst number) = (clear ≡ has_bit 0x40 flags) × (spin ≡ has_bit 0x20 flags) × (key_phase ≡ has_bit 0x04 flags)
 SaysFlags flags clear (header.VersionNegotiate random src dst) = (clear ≡ false) × (random ≡ flags % 128)
 
--- A version that isn't 0, by which a version negotiation is told (RFC 9000, section 17.2.1); short headers and version
+-- A version that isn't 0, by which a version negotiation is reported (RFC 9000, section 17.2.1); short headers and version
 -- negotiations say none.
 abbrev pub SaysVersion : ℕ → Header → Type 0
 SaysVersion version (header.Initial h) = (version ≡ h.version) × (0 < version)

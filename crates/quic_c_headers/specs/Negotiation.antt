@@ -12,7 +12,7 @@ use Rattle.quic_c_headers.specs.declared.words.HeaderWords.{HeaderWords}
 abbrev pub IsNegotiation : List ℕ → List ℕ → List ℕ → List ℕ → Type 0
 IsNegotiation bytes dst src rest = AnyVersion bytes 0 dst src rest
 
--- what is told of a packet with these ids
+-- what is reported of a packet with these ids
 abbrev pub negotiation_words : List ℕ → List ℕ → List ℕ → HeaderWords
 negotiation_words packet dst src = record {
   kind = 5;

@@ -61,13 +61,13 @@ header_words packet (Err error.SmallPacket) old = old
 header_words packet (Err error.MalformedCid) old = old
 header_words packet (Err error.TokenOutOfBounds) old = old
 
--- the first byte is told as it stands
+-- the first byte is reported as it stands
 abbrev pub HasFirst : Result HeaderPlaces ReadError → List ℕ → Type 0
 HasFirst (Ok x) packet = x.first ≡ slice_index packet 0
 HasFirst (Err e) packet = Unit {0}
 
--- What the bytes begin with was read, and told by the answer and the words.
-pub record Told (id_len : ℕ) (versions packet : List ℕ) (old : HeaderWords) (answer : ℕ) (new : HeaderWords) : Type 0 where
+-- What the bytes begin with was read, and reported by the answer and the words.
+pub record Reported (id_len : ℕ) (versions packet : List ℕ) (old : HeaderWords) (answer : ℕ) (new : HeaderWords) : Type 0 where
   pub read : Result HeaderPlaces ReadError
   pub right : ReadAnswer (any_fixed id_len versions) packet (seen_in packet read)
   pub stored : IsSeen read (length packet)

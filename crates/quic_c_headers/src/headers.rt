@@ -3,7 +3,7 @@ ghost use Rattle.std.specs.Prelude.{◌≡◌, ◌+◌, ◌<◌, ◌≤◌, ◌�
 ghost use Rattle.quic_header_decode.specs.Grammar.{Cut, HeaderAt};
 ghost use Rattle.quic_header_decode.specs.Places.{any_fixed, IsPlaced, IsSeen};
 ghost use Rattle.quic_header_decode.specs.declared.protected.ProtectedHeader.{ProtectedHeader};
-ghost use Rattle.quic_c_headers.specs.Reading.{answer_word, header_words, kind_word, Told};
+ghost use Rattle.quic_c_headers.specs.Reading.{answer_word, header_words, kind_word, Reported};
 
 use crate::words::HeaderWords;
 use quic_base::coding::are_bytes;
@@ -99,7 +99,7 @@ fn show_long(packet: &[u8], first: u8, versions: &[u32], head: &mut HeaderWords)
     requires whole { length packet.now < 2 ^ 32 }
     requires begins { packet.now ≡ first ∷ drop 1 packet.now }
     requires long { 128 ≤ first }
-    ensures told { (id_len : ℕ) → Told id_len versions.now packet.now head.old result head.new }
+    ensures reported { (id_len : ℕ) → Reported id_len versions.now packet.now head.old result head.new }
     ensures few { result ≤ 7 }
 {
     show(packet, read_long(packet, first, versions), head)
@@ -121,12 +121,12 @@ pub extern "C" fn quic_wire_header_read_(
     head: &mut HeaderWords,
 ) -> i32
     ensures invalid { (result ≡ negsuc 0) ↔ ((2 ^ 32 ≤ length packet.now) ⊎ (20 < id_len)) }
-    ensures told { (result ≡ negsuc 0)
-        ⊎ ((answer : ℕ) × (result ≡ pos answer) × Told id_len versions.now packet.now head.old answer head.new) }
+    ensures reported { (result ≡ negsuc 0)
+        ⊎ ((answer : ℕ) × (result ≡ pos answer) × Reported id_len versions.now packet.now head.old answer head.new) }
     ensures same { result ≡ negsuc 0 → head.new ≡ head.old }
     // There is one answer, and one way to tell it.
     ensures one { (result ≡ negsuc 0)
-        ⊎ ((answer : ℕ) (words : HeaderWords) → Told id_len versions.now packet.now head.old answer words
+        ⊎ ((answer : ℕ) (words : HeaderWords) → Reported id_len versions.now packet.now head.old answer words
         → (result ≡ pos answer) × (head.new ≡ words)) }
     // The packet that is whole is the one that is cut from the bytes.
     ensures whole { result ≡ pos 0

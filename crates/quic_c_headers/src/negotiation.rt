@@ -2,7 +2,7 @@
 ghost use Rattle.std.specs.Prelude.{◌≡◌, ◌+◌, ◌*◌, ◌^◌, ◌<◌, ◌≤◌, ◌⊎◌, ◌↔◌, ◌++◌, ℕ, List, length, take, drop, pos, negsuc, IfSome, MatchOption};
 ghost use Rattle.quic_base.specs.ConnectionId.{long_id};
 ghost use Rattle.quic_c_headers.specs.Negotiation.{negotiation_bytes, negotiation_words, version_bytes, IsNegotiation};
-ghost use Rattle.quic_c_headers.specs.Reading.{Told};
+ghost use Rattle.quic_c_headers.specs.Reading.{Reported};
 
 use crate::words::HeaderWords;
 use crate::write::first_word;
@@ -49,13 +49,13 @@ pub extern "C" fn quic_wire_negotiation_read_(packet: &[u8], head: &mut HeaderWo
     ensures answers { (result ≡ pos 0) ⊎ (result ≡ negsuc 2) ⊎ (result ≡ negsuc 0) }
     ensures invalid { (result ≡ negsuc 0) ↔ (2 ^ 32 ≤ length packet.now) }
     ensures read { result ≡ pos 0 → (dst src rest : List ℕ) × IsNegotiation packet.now dst src rest }
-    ensures told { result ≡ pos 0 → (dst src rest : List ℕ) → IsNegotiation packet.now dst src rest
+    ensures reported { result ≡ pos 0 → (dst src rest : List ℕ) → IsNegotiation packet.now dst src rest
         → head.new ≡ negotiation_words packet.now dst src }
     ensures none { result ≡ negsuc 2 → (dst src rest : List ℕ) → IsNegotiation packet.now dst src rest → ⊥ }
     ensures same { (result ≡ pos 0) ⊎ (head.new ≡ head.old) }
-    // It is what is told of headers of all kinds.
+    // It is what is reported of headers of all kinds.
     ensures agrees { result ≡ pos 0 → head.new.dst_len ≤ 20 → head.new.src_len ≤ 20
-        → (id_len : ℕ) (versions : List ℕ) → Told id_len versions packet.now head.old 0 head.new }
+        → (id_len : ℕ) (versions : List ℕ) → Reported id_len versions packet.now head.old 0 head.new }
 {
     if packet.len() > u32::MAX as usize {
         return -1;

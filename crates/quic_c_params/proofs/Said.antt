@@ -5,7 +5,7 @@ use Rattle.std.specs.Net.Addr.{segments_of, octets_of, ipv6_segments}
 use Rattle.std.specs.Net.Socket.{v6_ip, v6_port, v6_flowinfo, v6_scope_id}
 use Rattle.std.specs.declared.net.ipv6_addr.Ipv6Addr.{Ipv6Addr}
 use Rattle.std.specs.declared.net.socket_addr.SocketAddrV6.{SocketAddrV6}
-use Rattle.quic_params.specs.Range.{IsToldV6, IsTypedAs, IsTypedAddress, plain}
+use Rattle.quic_params.specs.Range.{IsEncodableV6, IsTypedAs, IsTypedAddress, plain}
 use Rattle.quic_params.specs.Record.{kept}
 use Rattle.quic_params.specs.Reserved.{Reserved}
 use Rattle.quic_params.specs.Table.{row}
@@ -31,11 +31,11 @@ same_v6 a s ip port flow scope =
     whole
 
 pub said_v6 : (o : Option SocketAddrV6) (a : SocketAddrV6) (ip : Ipv6Addr) (octets : List ℕ) (port : ℕ) → ipv6_segments ip ≡ segments_of octets → v6_ip a ≡ ip → v6_port a ≡ port
-    → v6_flowinfo a ≡ 0 → v6_scope_id a ≡ 0 → IfSome o IsToldV6 → true ≡ is_some o → octets ≡ octets_of_v6 o → port ≡ port_of_v6 o → Some a ≡ o
-said_v6 None a ip octets port s i p f c told there from at = cc
-said_v6 (Some x) a ip octets port s i p f c told there from at =
+    → v6_flowinfo a ≡ 0 → v6_scope_id a ≡ 0 → IfSome o IsEncodableV6 → true ≡ is_some o → octets ≡ octets_of_v6 o → port ≡ port_of_v6 o → Some a ≡ o
+said_v6 None a ip octets port s i p f c reported there from at = cc
+said_v6 (Some x) a ip octets port s i p f c reported there from at =
     let segments : ipv6_segments ip ≡ ipv6_segments (v6_ip x) = s ∙ ap segments_of from ∙ segments_back (ipv6_segments (v6_ip x)) in
-    ap Some (same_v6 a x (i ∙ same_ip ip (v6_ip x) segments) (p ∙ at) (f ∙ sym told.1) (c ∙ sym told.2))
+    ap Some (same_v6 a x (i ∙ same_ip ip (v6_ip x) segments) (p ∙ at) (f ∙ sym reported.1) (c ∙ sym reported.2))
 
 -- a record by its fields
 pub plain_is : (p : TransportParameters) → p.grease_transport_parameter ≡ None → p.write_order ≡ None → plain p ≡ p

@@ -27,7 +27,7 @@ pub record GivesParams (side : ℕ) (bytes : List ℕ) (new : ParamsWords) : Typ
   pub answer : IsAnswer reader bytes (Ok params)
   pub words : new ≡ params_words params
 
--- The side refuses the list, and why was told; no other word changes.
+-- The side refuses the list, and why was reported; no other word changes.
 pub record GivesRefusal (side : ℕ) (bytes : List ℕ) (old new : ParamsWords) : Type 0 where
   pub reader : Side
   pub is_side : IsSide side reader

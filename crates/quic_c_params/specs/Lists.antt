@@ -22,7 +22,7 @@ pub record GivesEntry (list : List ℕ) (words : EntryWords) : Type 0 where
   pub within : words.value + words.value_len ≤ length list
 
 -- Bytes are written at the front, with what stood behind them, and are counted; or there is less room than that, how much
--- they need is told, and nothing changes.
+-- they need is reported, and nothing changes.
 pub record Lies (result : Result ℕ ℕ) (bytes old new : List ℕ) : Type 0 where
   pub count : IfOk result (λ n. n ≡ length bytes)
   pub front : IfOk result (λ n. new ≡ bytes ++ drop n old)
@@ -35,7 +35,7 @@ pub record Stands (bytes old new : List ℕ) (count : ℕ) : Type 0 where
   pub count_is : count ≡ length bytes
   pub front : new ≡ bytes ++ drop count old
 
--- There is less room than bytes need, and how much that is was told.
+-- There is less room than bytes need, and how much that is was reported.
 pub record Lacks (bytes old : List ℕ) (needed : ℕ) : Type 0 where
   pub count_is : needed ≡ length bytes
   pub full : length old < needed
@@ -65,7 +65,7 @@ pub record WroteList (side : ℕ) (words : ParamsWords) (further order old new :
   pub stands : Stands (listed params es order) old new count
   pub read_back : IsAnswer can.record_is.reader (listed params es order) (Ok params)
 
--- There is less room than that list needs, and how much that is was told.
+-- There is less room than that list needs, and how much that is was reported.
 pub record ListLacks (side : ℕ) (words : ParamsWords) (further order old : List ℕ) (needed : ℕ) : Type 0 where
   pub params : TransportParameters
   pub es : List Entry

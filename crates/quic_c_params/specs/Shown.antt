@@ -88,7 +88,7 @@ present_in p =
     ∷ is_some p.min_ack_delay
     ∷ []
 
--- the words of a record; what is never read, grease and an order of writing, isn't told
+-- the words of a record; what is never read, grease and an order of writing, isn't reported
 abbrev pub params_words : TransportParameters → ParamsWords
 params_words p = record {
   present = bits (present_in p);

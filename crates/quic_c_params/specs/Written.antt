@@ -33,7 +33,7 @@ pub record Wrote (side : ℕ) (words : ParamsWords) (old new : List ℕ) (count 
   pub count_is : count ≡ length (written params)
   pub front : new ≡ written params ++ drop count old
 
--- There is less room than such a list needs, and how much that is was told.
+-- There is less room than such a list needs, and how much that is was reported.
 pub record NeedsMore (side : ℕ) (words : ParamsWords) (old : List ℕ) (needed : ℕ) : Type 0 where
   pub params : TransportParameters
   pub can : CanWrite side words params

@@ -3,7 +3,7 @@ ghost use Rattle.std.specs.Prelude.{◌≡◌, ◌⊎◌, ◌<◌, ◌≤◌, �
 ghost use Rattle.std.specs.declared.net.socket_addr.SocketAddrV4.{SocketAddrV4};
 ghost use Rattle.std.specs.declared.net.socket_addr.SocketAddrV6.{SocketAddrV6};
 ghost use Rattle.quic_base.specs.declared.ids.Side.{Side};
-ghost use Rattle.quic_params.specs.Range.{IsToldV6, IsTold, IsTypedAddress, IsInRange};
+ghost use Rattle.quic_params.specs.Range.{IsEncodableV6, IsEncodableAddress, IsTypedAddress, IsInRange};
 ghost use Rattle.quic_params.specs.Meaning.{IsAnswer};
 ghost use Rattle.quic_params.specs.Writing.{written};
 ghost use Rattle.quic_params.specs.declared.record.TransportParameters.{TransportParameters};
@@ -119,7 +119,7 @@ fn v4_in(there: bool, octets: [u8; 4], port: u16) -> Option<SocketAddrV4>
 }
 
 fn v6_in(there: bool, octets: [u8; 16], port: u16) -> Option<SocketAddrV6>
-    ensures { (o : Option SocketAddrV6) → IfSome o IsToldV6 → there ≡ is_some o → octets ≡ octets_of_v6 o
+    ensures { (o : Option SocketAddrV6) → IfSome o IsEncodableV6 → there ≡ is_some o → octets ≡ octets_of_v6 o
         → port ≡ port_of_v6 o → result ≡ o }
 {
     if there {
@@ -138,7 +138,7 @@ fn maybe_id(there: bool, len: u32, bytes: &[u8; 20]) -> Option<ConnectionId>
 
 fn address_in(words: &ParamsWords, flags: Flags) -> Option<PreferredAddress>
     ensures { (p : TransportParameters) → words.now ≡ params_words p → HasFlags flags p
-        → IfSome p.preferred_address IsTypedAddress → IfSome p.preferred_address IsTold
+        → IfSome p.preferred_address IsTypedAddress → IfSome p.preferred_address IsEncodableAddress
         → result ≡ p.preferred_address }
 {
     if !flags.address {

@@ -32,9 +32,9 @@ no_refusal (error.UnsupportedVersion src dst version) found refused = absurd cc
 no_refusal (error.InvalidHeader text) found refused = absurd cc
 no_refusal error.OutOfMemory found refused = refl
 
--- as it is told
-pub as_told : {T : Type 0} (e : PacketDecodeError) → e ≡ error.OutOfMemory → IsErrOf {T = T} (Err e) error.OutOfMemory
-as_told {T} e same = ap (λ (x : PacketDecodeError). let r : Result T PacketDecodeError = Err x in r) same
+-- as it is reported
+pub as_reported : {T : Type 0} (e : PacketDecodeError) → e ≡ error.OutOfMemory → IsErrOf {T = T} (Err e) error.OutOfMemory
+as_reported {T} e same = ap (λ (x : PacketDecodeError). let r : Result T PacketDecodeError = Err x in r) same
 
 -- which is the parser's, since nothing follows the packet
 pub parsers_memory : (context : Context) (takes : Bool) (bytes : List ℕ) (h : ProtectedHeader) (p : ℕ)

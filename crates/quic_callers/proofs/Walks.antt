@@ -3,7 +3,7 @@ use Rattle.std.proofs.Common.{◌≡◌, ◌≢◌, ℕ, List, [], ◌∷◌, �
 use Rattle.std.proofs.lemmas.List.{append-nil}
 use Rattle.std.specs.Prelude.{codes, IsTrue, MatchBool}
 use Rattle.quic_base.specs.Number.{AreBytes}
-use Rattle.quic_callers.specs.Told.{IsTold, MayGoOn}
+use Rattle.quic_callers.specs.Reported.{IsReported, MayGoOn}
 use Rattle.quic_errors.specs.Codes.{IsErrorOf}
 use Rattle.quic_errors.specs.declared.transport_error.Error.{Error}
 use Rattle.quic_errors.specs.declared.invalid_frame.InvalidFrame.{InvalidFrame}
@@ -47,13 +47,13 @@ same_error (first ∷ found) [] i j e = cc
 same_error (first ∷ found) (other ∷ others) i j e =
     let rest : map given found ++ Err i ∷ [] ≡ map given others ++ Err j ∷ [] = cc in same_error found others i j rest
 
--- what is told of the payload is what the walk met
+-- what is reported of the payload is what the walk met
 pub record IsMet (payload : List ℕ) (i : Invalid) : Type 0 where
   pub found : List Found
   pub type : Option ℕ
   pub reason : Fault
   pub broken : IsBroken false None found payload type reason
-  pub told : invalid type reason ≡ i
+  pub reported : invalid type reason ≡ i
 
 pub met : (payload : List ℕ) (start way : Way) (i : Invalid) → start ≡ first_of false payload → IsOnTheWay payload way → left way ≡ Broken i ∷ [] → IsEither false None payload
     → GivesFrames false payload start → GivesBroken false payload start → IsMet payload i
@@ -69,20 +69,20 @@ met payload start way i first w here either frames broken = by_case either
       type = s.1;
       reason = s.2;
       broken = s.3;
-      told = same_error s.0 w.found (invalid s.1 s.2) i (sym (broken s.0 s.1 s.2 s.3) ∙ items);
+      reported = same_error s.0 w.found (invalid s.1 s.2) i (sym (broken s.0 s.1 s.2 s.3) ∙ items);
     }
 
--- the error that is made of what the walk met is the one that is told of the payload
-pub tells : (payload : List ℕ) (i : InvalidFrame) (error : Error) → IsMet payload (invalid_of i) → IsErrorOf i.ty i.reason.now error → IsTold payload error
-tells payload i error m e = inr (m.found, m.type, m.reason, m.broken, subst (λ (x : Invalid). IsErrorOf x.type x.reason error) (sym m.told) e)
+-- the error that is made of what the walk met is the one that is reported of the payload
+pub tells : (payload : List ℕ) (i : InvalidFrame) (error : Error) → IsMet payload (invalid_of i) → IsErrorOf i.ty i.reason.now error → IsReported payload error
+tells payload i error m e = inr (m.found, m.type, m.reason, m.broken, subst (λ (x : Invalid). IsErrorOf x.type x.reason error) (sym m.reported) e)
 
--- What follows can't mend what the walk met, where it was told for another reason than the end of the bytes.
+-- What follows can't mend what the walk met, where it was reported for another reason than the end of the bytes.
 pub lost : (front : List ℕ) (i : InvalidFrame)
     → ((strict : Bool) (found others : List Found) (bytes more : List ℕ) (type : Option ℕ) (reason : Fault) → AreBytes (bytes ++ more) → AreFrames strict found (bytes ++ more) → IsBroken strict None others bytes type reason → reason ≡ UnexpectedEnd)
     → IsMet front (invalid_of i) → i.reason.now ≢ codes "unexpected end" → (more : List ℕ) (found : List Found) → AreBytes (front ++ more) → AreFrames false found (front ++ more) → ⊥
 lost front i last m final more found fits frames =
     let cut : m.reason ≡ UnexpectedEnd = last false found m.found front more m.type m.reason fits frames m.broken in
-    let text : reason_text m.reason ≡ i.reason.now = ap (λ (x : Invalid). x.reason) m.told in
+    let text : reason_text m.reason ≡ i.reason.now = ap (λ (x : Invalid). x.reason) m.reported in
     final (sym text ∙ ap reason_text cut)
 
 reason_is_end : (reason : Fault) → reason_text reason ≡ codes "unexpected end" → reason ≡ UnexpectedEnd
@@ -91,10 +91,10 @@ reason_is_end InvalidFrameId e = absurd (omega (arith, ap length e))
 reason_is_end Malformed e = absurd (omega (arith, ap length e))
 reason_is_end LongType e = absurd (omega (arith, ap length e))
 
--- what was told for the end of the bytes
+-- what was reported for the end of the bytes
 pub may_go_on : (front : List ℕ) (i : InvalidFrame) → IsMet front (invalid_of i) → i.reason.now ≡ codes "unexpected end" → MayGoOn front
 may_go_on front i m cut =
-    let end : m.reason ≡ UnexpectedEnd = reason_is_end m.reason (ap (λ (x : Invalid). x.reason) m.told ∙ cut) in
+    let end : m.reason ≡ UnexpectedEnd = reason_is_end m.reason (ap (λ (x : Invalid). x.reason) m.reported ∙ cut) in
     inr (inr (m.found, m.type, subst (λ (r : Fault). IsBroken false None m.found front m.type r) end m.broken))
 
 same_frames : (found others : List Found) → map given found ≡ map given others → found ≡ others
@@ -131,13 +131,13 @@ all_frames payload start way first w none either broken = by_case either
     by_case (inr s) = no_error w.found s.0 (invalid s.1 s.2) (sym items ∙ broken s.0 s.1 s.2 s.3)
 
 -- an answer in two cases, where it is known
-pub told_true : (P Q : Type 0) (b : Bool) → IsTrue b → MatchBool b P Q → P
-told_true P Q true t p = p
-told_true P Q false t p = absurd (is_not t)
+pub reported_true : (P Q : Type 0) (b : Bool) → IsTrue b → MatchBool b P Q → P
+reported_true P Q true t p = p
+reported_true P Q false t p = absurd (is_not t)
   where
     is_not : IsTrue false → ⊥
     is_not t = cc
 
-pub told_false : (P Q : Type 0) (b : Bool) → b ≡ false → MatchBool b P Q → Q
-told_false P Q true e p = absurd cc
-told_false P Q false e p = p
+pub reported_false : (P Q : Type 0) (b : Bool) → b ≡ false → MatchBool b P Q → Q
+reported_false P Q true e p = absurd cc
+reported_false P Q false e p = p

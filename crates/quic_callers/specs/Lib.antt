@@ -1,4 +1,4 @@
 pub mod Acked
 pub mod Data
 pub mod Reset
-pub mod Told
+pub mod Reported

@@ -2,7 +2,7 @@
 ghost use Rattle.std.specs.Prelude.{◌≡◌, ◌≢◌, ◌<◌, ◌^◌, ◌-◌, ◌++◌, List, ℕ, false, codes, length, min, IsTrue, IfErr, IfOk, MatchBool, OnOk};
 ghost use Rattle.quic_base.specs.Number.{AreBytes};
 ghost use Rattle.quic_callers.specs.Data.{streams_len};
-ghost use Rattle.quic_callers.specs.Told.{IsTold, MayGoOn};
+ghost use Rattle.quic_callers.specs.Reported.{IsReported, MayGoOn};
 ghost use Rattle.quic_frame_fields.specs.Payload.{Found, AreFrames};
 ghost use Rattle.quic_frame_fields.specs.Shortest.{shortest_frame};
 ghost use Rattle.quic_frames.specs.Meaning.{meaning_of};
@@ -34,7 +34,7 @@ pub fn stream_data(payload: &[u8]) -> (usize, Option<FrameType>) {
 pub fn all_stream_data(payload: &[u8]) -> Result<usize, Error>
     ensures ok { IfOk result (λ count. (found : List Found) × AreFrames false found payload.now
         × (count ≡ min (streams_len found) (2 ^ 64 - 1))) }
-    ensures err { IfErr result (λ e. IsTold payload.now e) }
+    ensures err { IfErr result (λ e. IsReported payload.now e) }
 {
     let mut count: usize = 0;
     for item in Iter::new(payload)? {
@@ -50,7 +50,7 @@ pub fn all_stream_data(payload: &[u8]) -> Result<usize, Error>
     Ok(count)
 }
 
-/// Whether no payload that begins with these bytes is without an error: just where they are told another reason
+/// Whether no payload that begins with these bytes is without an error: just where they are reported another reason
 /// than `unexpected end`.
 pub fn is_lost(front: &[u8]) -> bool
     ensures lost { IsTrue result → (more : List ℕ) (found : List Found) → AreBytes (front.now ++ more)
@@ -70,7 +70,7 @@ pub fn is_lost(front: &[u8]) -> bool
     false
 }
 
-// Whether what is told for this reason stands whatever follows.
+// Whether what is reported for this reason stands whatever follows.
 fn is_final(reason: &str) -> bool
     ensures { MatchBool result (reason.now ≢ codes "unexpected end") (reason.now ≡ codes "unexpected end") }
 {

@@ -8,7 +8,7 @@ use Rattle.quic_frame_fields.specs.Field as kinds
 use Rattle.quic_frame_fields.specs.Table.{Name, Row, rows, row_of}
 use Rattle.quic_frame_fields.specs.Payload.{Meaning, Found, IsFrame, AreFrames}
 use Rattle.quic_frames.specs.Least.{frame_in}
-use Rattle.quic_canon.specs.Same.{IsSameValue, AreSameValues, is_ack, told_values, IsSameFrame, AreSameFrames}
+use Rattle.quic_canon.specs.Same.{IsSameValue, AreSameValues, is_ack, compared_values, IsSameFrame, AreSameFrames}
 use Rattle.quic_canon.proofs.SameSets.{one_list_of_set}
 
 -- ---- values of frames hold ranges that never touch
@@ -52,7 +52,7 @@ fields_down : (fields : List Field) (before after : List Value) (bytes : List �
 fields_down [] before after bytes h s = subst AreDown (sym s.0) h
 fields_down (field ∷ fields) before after bytes h s = fields_down fields (before ++ s.0) after s.2 (down_join before s.0 h (field_down field before s.0 s.1 s.4)) s.5
 
--- ---- such values that are told the same are the same
+-- ---- such values that are reported the same are the same
 
 value_is : (value other : Value) → IsDown value → IsDown other → IsSameValue value other → value ≡ other
 value_is (Ranges some) (Ranges others) h k same = ap (λ (l : List (ℕ × ℕ)). let v : Value = Ranges l in v) (one_list_of_set some others h k same)
@@ -92,12 +92,12 @@ abbrev are_acks : List Field → Bool
 are_acks (first ∷ second ∷ third ∷ fields) = is_varint first && (is_varint second && is_blocks third)
 are_acks fields = false
 
-abbrev is_told : Row → Bool
-is_told r = not (is_ack r.name) || are_acks r.fields
+abbrev is_reported : Row → Bool
+is_reported r = not (is_ack r.name) || are_acks r.fields
 
-all_told : List (ℕ × Row) → Bool
-all_told [] = true
-all_told (entry ∷ entries) = is_told entry.1 && all_told entries
+all_reported : List (ℕ × Row) → Bool
+all_reported [] = true
+all_reported (entry ∷ entries) = is_reported entry.1 && all_reported entries
 
 both_of : (b c : Bool) → (b && c) ≡ true → (b ≡ true) × (c ≡ true)
 both_of true c h = (refl, h)
@@ -107,19 +107,19 @@ cases_bool : (b : Bool) → (b ≡ true) ⊎ (b ≡ false)
 cases_bool true = inl refl
 cases_bool false = inr refl
 
-found_told : (test : ℕ → Bool) (entries : List (ℕ × Row)) (r : Row) → all_told entries ≡ true → lookup test entries ≡ Some r → is_told r ≡ true
-unfolding all_told
-found_told test [] r told e = absurd cc
-found_told test (entry ∷ entries) r told e =
-    let w = both_of (is_told entry.1) (all_told entries) told in
+found_reported : (test : ℕ → Bool) (entries : List (ℕ × Row)) (r : Row) → all_reported entries ≡ true → lookup test entries ≡ Some r → is_reported r ≡ true
+unfolding all_reported
+found_reported test [] r reported e = absurd cc
+found_reported test (entry ∷ entries) r reported e =
+    let w = both_of (is_reported entry.1) (all_reported entries) reported in
     elim (cases_bool (test entry.0)) [
-      | inl passes ↦ let here : Some entry.1 ≡ Some r = rw passes at e in let same : entry.1 ≡ r = cc in subst (λ (x : Row). is_told x ≡ true) same w.0
-      | inr fails ↦ found_told test entries r w.1 (rw fails at e)
+      | inl passes ↦ let here : Some entry.1 ≡ Some r = rw passes at e in let same : entry.1 ≡ r = cc in subst (λ (x : Row). is_reported x ≡ true) same w.0
+      | inr fails ↦ found_reported test entries r w.1 (rw fails at e)
     ]
 
-row_is_told : (t : ℕ) (r : Row) → row_of t ≡ Some r → is_told r ≡ true
-unfolding all_told
-row_is_told t r e = found_told (λ u. eqb t u) rows r refl e
+row_is_reported : (t : ℕ) (r : Row) → row_of t ≡ Some r → is_reported r ≡ true
+unfolding all_reported
+row_is_reported t r e = found_reported (λ u. eqb t u) rows r refl e
 
 or_second : (b c : Bool) → (not b || c) ≡ true → b ≡ true → c ≡ true
 or_second true c h e = h
@@ -203,8 +203,8 @@ frame_known : (found : Found) (bytes : List ℕ) → IsFrame false found bytes �
 frame_known found bytes f = record {
   down = fields_down f.row.fields [] found.frame.values f.field_bytes tt f.fields;
   acks = λ e.
-      let told = or_second (is_ack f.row.name) (are_acks f.row.fields) (row_is_told found.type f.row f.in_table) (ap is_ack (sym f.name) ∙ e) in
-      let are = acks_are f.row.fields told in
+      let reported = or_second (is_ack f.row.name) (are_acks f.row.fields) (row_is_reported found.type f.row f.in_table) (ap is_ack (sym f.name) ∙ e) in
+      let are = acks_are f.row.fields reported in
       ack_fields are.0 found.frame.values f.field_bytes (subst (λ (l : List Field). AreFields l [] found.frame.values f.field_bytes) are.1 f.fields);
 }
 
@@ -234,9 +234,9 @@ meaning_is frame other e f = ap (λ (n : Name). let m : Meaning = record { name 
 frame_same : (frame other : Meaning) → IsKnown frame → IsKnown other → IsSameFrame frame other → frame ≡ other
 frame_same frame other h k s =
     let ack : is_ack other.name ≡ is_ack frame.name = ap is_ack (sym s.name) in
-    let told : AreSameValues (if is_ack frame.name then drop 1 frame.values else frame.values) (if is_ack frame.name then drop 1 other.values else other.values) =
-    subst (λ (b : Bool). AreSameValues (told_values frame) (if b then drop 1 other.values else other.values)) ack s.values in
-    meaning_is frame other s.name (values_same (is_ack frame.name) frame.values other.values h.down k.down h.acks (λ e. k.acks (ack ∙ e)) told)
+    let reported : AreSameValues (if is_ack frame.name then drop 1 frame.values else frame.values) (if is_ack frame.name then drop 1 other.values else other.values) =
+    subst (λ (b : Bool). AreSameValues (compared_values frame) (if b then drop 1 other.values else other.values)) ack s.values in
+    meaning_is frame other s.name (values_same (is_ack frame.name) frame.values other.values h.down k.down h.acks (λ e. k.acks (ack ∙ e)) reported)
 
 -- Payloads that mean the same are the same frames.
 pub frames_same : (found others : List Found) (payload other : List ℕ) → AreFrames false found payload → AreFrames false others other → AreSameFrames (map frame_in found) (map frame_in others)
@@ -262,4 +262,4 @@ values_themselves (value ∷ values) = (value_itself value, values_themselves va
 
 pub frames_themselves : (frames : List Meaning) → AreSameFrames frames frames
 frames_themselves [] = tt
-frames_themselves (frame ∷ frames) = (record { name = refl; values = values_themselves (told_values frame) }, frames_themselves frames)
+frames_themselves (frame ∷ frames) = (record { name = refl; values = values_themselves (compared_values frame) }, frames_themselves frames)

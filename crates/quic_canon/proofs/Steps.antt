@@ -10,7 +10,7 @@ use Rattle.quic_frame_fields.specs.Table.{is_open}
 use Rattle.quic_frame_fields.specs.Payload.{Meaning, Found, IsFrame, AreFrames, IsBroken, IsEither}
 use Rattle.quic_frame_fields.specs.Reading.{Invalid, invalid, Item, Broken}
 use Rattle.quic_frames.specs.Meaning.{meaning_of}
-use Rattle.quic_frames.specs.InRange.{IsToldApart, CanStand}
+use Rattle.quic_frames.specs.InRange.{HasNoTypeZero, CanStand}
 use Rattle.quic_frames.specs.Found.{found_as}
 use Rattle.quic_frame_fields.specs.Shortest.{shortest_frame}
 use Rattle.quic_frames.specs.Least.{AreOrExceed, is_end, frame_in, shortest_frames}
@@ -27,7 +27,7 @@ abbrev pub OneShortest : Type 0
 OneShortest = (last : Bool) (found : Found) (bytes : List ℕ) → IsFrame false found bytes → (is_open found.type ≡ true → last ≡ true) → AreOrExceed bytes (shortest_frame last found.frame)
 
 abbrev pub Exact : Type 0
-Exact = (last : Bool) (t : ℕ) (frame : Frame) (bytes : List ℕ) → IsToldApart frame → IsFrame false (found_as t frame) bytes → (is_open t ≡ true → last ≡ true) → CanStand last frame
+Exact = (last : Bool) (t : ℕ) (frame : Frame) (bytes : List ℕ) → HasNoTypeZero frame → IsFrame false (found_as t frame) bytes → (is_open t ≡ true → last ≡ true) → CanStand last frame
 
 -- ---- a frame that was found can be written
 
@@ -40,12 +40,12 @@ at_end m n e = grind (arith, nat_tests)
 pub can_stand : (old new : Way) (frame : Frame) (size : ℕ) → Exact → old.strict ≡ false → size ≡ length old.payload → Finds old frame new → CanStand (eqb new.offset size) frame
 can_stand old new frame size exact any len f =
     let s = subst (λ (x : Found). IsFrame false x (slice_range old.payload old.offset new.offset)) (meaning_is frame f.found f.says) (subst (λ (b : Bool). IsFrame b f.found (slice_range old.payload old.offset new.offset)) any f.stands.encoded) in
-    exact (eqb new.offset size) f.found.type frame (slice_range old.payload old.offset new.offset) f.told_apart s (λ opens. at_end new.offset size (f.ends opens ∙ sym len))
+    exact (eqb new.offset size) f.found.type frame (slice_range old.payload old.offset new.offset) f.distinct s (λ opens. at_end new.offset size (f.ends opens ∙ sym len))
 
 -- ---- what is left of a payload
 
-abbrev pub Told : Type 0
-Told = Result Found Invalid
+abbrev pub Reported : Type 0
+Reported = Result Found Invalid
 
 pub record Walks (payload : List ℕ) (start : ℕ) (way : Way) : Type 0 where
   pub strict_is : way.strict ≡ false
@@ -89,14 +89,14 @@ here payload start old new frame w f = record {
   done = ((λ e. f.is_done.0 e ∙ ap length w.payload_is), (λ e. f.is_done.1 (e ∙ sym (ap length w.payload_is))));
 }
 
-pub given_on : (found : Found) (items : List Told) (rest : List Found) → Ok found ∷ items ≡ map given rest → (more : List Found) × (rest ≡ found ∷ more) × (items ≡ map given more)
+pub given_on : (found : Found) (items : List Reported) (rest : List Found) → Ok found ∷ items ≡ map given rest → (more : List Found) × (rest ≡ found ∷ more) × (items ≡ map given more)
 given_on found items [] e = absurd cc
 given_on found items (r ∷ rest) e =
     let head : found ≡ r = cc in
     let tails : items ≡ map given rest = cc in
     (rest, ap (λ (f : Found). f ∷ rest) (sym head), tails)
 
-broken_on : (found : Found) (i : Invalid) (items : List Told) (rest : List Found) → Ok found ∷ items ≡ map given rest ++ Err i ∷ [] → (more : List Found) × (items ≡ map given more ++ Err i ∷ [])
+broken_on : (found : Found) (i : Invalid) (items : List Reported) (rest : List Found) → Ok found ∷ items ≡ map given rest ++ Err i ∷ [] → (more : List Found) × (items ≡ map given more ++ Err i ∷ [])
 broken_on found i items [] e = absurd cc
 broken_on found i items (r ∷ rest) e = let tails : items ≡ map given rest ++ Err i ∷ [] = cc in (rest, tails)
 

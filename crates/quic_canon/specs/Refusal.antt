@@ -1,4 +1,4 @@
--- What is told where there is no canonical payload.
+-- What is reported where there is no canonical payload.
 use Rattle.std.specs.Prelude.{◌≡◌, ◌≢◌, ℕ, List, [], ◌++◌, ◌⊎◌, Option, None, false}
 use Rattle.quic_frame_fields.specs.declared.frame.fault.Fault.{Fault}
 use Rattle.quic_frame_fields.specs.Payload.{Found, AreFrames, IsBroken}

@@ -6,7 +6,7 @@ use Rattle.quic_frame_fields.specs.Payload.{Meaning, Found, AreFrames}
 use Rattle.quic_frame_fields.specs.Sets.{is_in}
 use Rattle.quic_frames.specs.Least.{frame_in}
 
--- ranges are told by the numbers in them, other values by themselves
+-- ranges are reported by the numbers in them, other values by themselves
 abbrev pub IsSameValue : Value → Value → Type 0
 IsSameValue (Ranges some) (Ranges others) = (n : ℕ) → is_in some n ≡ is_in others n
 IsSameValue value other = value ≡ other
@@ -20,13 +20,13 @@ abbrev pub is_ack : Name → Bool
 is_ack Ack = true
 is_ack name = false
 
--- the values by which a frame is told: the greatest number of an ACK, its first value, is one of its numbers
-abbrev pub told_values : Meaning → List Value
-told_values frame = if is_ack frame.name then drop 1 frame.values else frame.values
+-- the values by which a frame is reported: the greatest number of an ACK, its first value, is one of its numbers
+abbrev pub compared_values : Meaning → List Value
+compared_values frame = if is_ack frame.name then drop 1 frame.values else frame.values
 
 pub record IsSameFrame (frame other : Meaning) : Type 0 where
   pub name : frame.name ≡ other.name
-  pub values : AreSameValues (told_values frame) (told_values other)
+  pub values : AreSameValues (compared_values frame) (compared_values other)
 
 abbrev pub AreSameFrames : List Meaning → List Meaning → Type 0
 AreSameFrames [] [] = ⊤

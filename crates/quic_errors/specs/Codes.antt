@@ -125,11 +125,11 @@ pub record IsSame (one other : Error) : Type 0 where
   pub frame_is : other.frame ≡ one.frame
   pub reason_is : reason_bytes other.reason ≡ reason_bytes one.reason
 
--- the reason that is told of a type that is not in its shortest encoding, where only that counts
+-- the reason that is reported of a type that is not in its shortest encoding, where only that counts
 abbrev pub long_type_reason : List ℕ
 long_type_reason = codes "frame type not in shortest form"
 
--- The error is what is told of something that is no frame: by another code where only the encoding of its type is
+-- The error is what is reported of something that is no frame: by another code where only the encoding of its type is
 -- wrong.
 pub record IsErrorOf (ty : Option ℕ) (reason : List ℕ) (error : Error) : Type 0 where
   pub long_is : reason ≡ long_type_reason → error.code ≡ protocol_violation

@@ -1,4 +1,4 @@
-//! What is told of something in a payload that is no frame.
+//! What is reported of something in a payload that is no frame.
 ghost use Rattle.quic_errors.specs.Codes.{IsErrorOf};
 
 use crate::frame_type::FrameType;
@@ -53,7 +53,7 @@ impl From<InvalidFrame> for Error {
     }
 }
 
-// The error that is told of what has this type and could not be read for this reason.
+// The error that is reported of what has this type and could not be read for this reason.
 fn error_of(ty: Option<FrameType>, reason: &'static str) -> Error
     ensures { IsErrorOf ty reason.now result }
 {

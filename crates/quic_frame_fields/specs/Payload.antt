@@ -78,7 +78,7 @@ HasUnknownType strict bytes t = BeginsWithType strict bytes t (λ back. row_of t
 abbrev pub HasBrokenField : Bool → List ℕ → ℕ → Fault → Type 0
 HasBrokenField strict bytes t reason = BeginsWithType strict bytes t (λ back. (r : Row) × (row_of t ≡ Some r) × StopsWithin r.fields [] back reason)
 
--- The type and the reason that are told of what can't be read, where the last type before was the one given.
+-- The type and the reason that are reported of what can't be read, where the last type before was the one given.
 abbrev pub IsNoFrame : Bool → Option ℕ → List ℕ → Option ℕ → Fault → Type 0
 IsNoFrame strict before bytes type reason =
     (LacksType bytes × (type ≡ before) × (reason ≡ UnexpectedEnd))

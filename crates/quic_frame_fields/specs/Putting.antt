@@ -4,7 +4,7 @@ use Rattle.quic_base.specs.Codec.{IsBegun, KeepsRoom}
 use Rattle.quic_frame_fields.specs.Numbers.{AreEncoded, all_short}
 
 -- The bytes stand at the front, with what stood behind them, and are counted; or there is less room than that, how
--- much they need is told, and nothing changes.
+-- much they need is reported, and nothing changes.
 pub record Puts (result : Result ℕ ℕ) (bytes old new : List ℕ) : Type 0 where
   pub count : IfOk result (λ n. n ≡ length bytes)
   pub front : IfOk result (λ n. new ≡ bytes ++ drop n old)

@@ -157,7 +157,7 @@ in_row (Some r) bytes = row_at r bytes
 unfoldable pub frame_at : ℕ → List ℕ → Result (Meaning × List ℕ) Fault
 frame_at t bytes = in_row (row_of t) bytes
 
--- what is told of the bytes that can't be read
+-- what is reported of the bytes that can't be read
 pub record Invalid : Type 0 where
   pub type : Option ℕ
   pub reason : List ℕ

@@ -181,10 +181,10 @@ found_again strict before found front back frame closed =
 
 -- ---- what is no frame
 
-pub record Tells (strict : Bool) (before : Option ℕ) (bytes : List ℕ) (told : Invalid) : Type 0 where
+pub record Tells (strict : Bool) (before : Option ℕ) (bytes : List ℕ) (reported : Invalid) : Type 0 where
   pub type : Option ℕ
   pub reason : Fault
-  pub is_told : told ≡ invalid type reason
+  pub is_reported : reported ≡ invalid type reason
   pub no_frame : IsNoFrame strict before bytes type reason
 
 pub found_fails : (strict : Bool) (before : Option ℕ) (bytes : List ℕ) (i : Invalid) → AreBytes bytes → bytes ≢ [] → found_at strict before bytes ≡ Err i → Tells strict before bytes i
@@ -196,7 +196,7 @@ found_fails strict before bytes i fits some e =
             some = some;
             no_front = λ n front back parts v. let again = ap varint_at parts ∙ varint_again n front back v in absurd (cc (again, a.1));
           } in
-          record { type = before; reason = a.0; is_told = a.2; no_frame = inl (lacks, refl, varint_fails bytes a.0 a.1) }
+          record { type = before; reason = a.0; is_reported = a.2; no_frame = inl (lacks, refl, varint_fails bytes a.0 a.1) }
       | inr a ↦
           let t = varint_takes bytes a.0.0 a.0.1 fits a.1 in
           let wide = ap (is_long_type strict a.0.0) (sym (front_width bytes t.front a.0.1 t.split)) in
@@ -206,7 +206,7 @@ found_fails strict before bytes i fits some e =
                 record {
                   type = Some a.0.0;
                   reason = LongType;
-                  is_told = w.1;
+                  is_reported = w.1;
                   no_frame = inr (inl (a.0.0, record { counts = l.counts; front = t.front; back = a.0.1; parts = t.split; encoded = t.is; long = l.long }, refl, refl));
                 }
             | inr w ↦
@@ -216,7 +216,7 @@ found_fails strict before bytes i fits some e =
                   | inl c ↦ record {
                     type = Some a.0.0;
                     reason = b.0;
-                    is_told = b.2;
+                    is_reported = b.2;
                     no_frame = inr (inr (inl (a.0.0, record { front = t.front; back = a.0.1; parts = t.split; encoded = encoded; then = c.0 }, refl, c.1)));
                   }
                   | inr c ↦
@@ -225,7 +225,7 @@ found_fails strict before bytes i fits some e =
                       record {
                         type = Some a.0.0;
                         reason = b.0;
-                        is_told = b.2;
+                        is_reported = b.2;
                         no_frame = inr (inr (inr (a.0.0, record { front = t.front; back = a.0.1; parts = t.split; encoded = encoded; then = (c.0, c.1, stops) }, refl)));
                       }
                 ]

@@ -20,7 +20,7 @@ use Rattle.quic_frames.specs.Meaning.{meaning_of}
 use Rattle.quic_frame_fields.specs.Shortest.{written_type}
 use Rattle.quic_frame_fields.specs.Numbers.{AreNumeric}
 use Rattle.quic_frame_fields.specs.Sets.{AreCounts}
-use Rattle.quic_frames.specs.InRange.{IsToldApart, InRange, open_data, CanStand}
+use Rattle.quic_frames.specs.InRange.{HasNoTypeZero, InRange, open_data, CanStand}
 use Rattle.quic_frames.proofs.LeastFrames.{FitsRow, in_row, stream_limits, datagram_limit, frame_least}
 
 -- a frame whose data, if it has any, are counted wherever it stands
@@ -47,7 +47,7 @@ streams_blocked_range last Uni n f = (in_row refl f).1.0
 at_most : (m n : ℕ) → nat_le n m ≡ true → n ≤ m
 at_most m n e = grind (arith, nat_tests)
 
-pub can_stand : (last : Bool) (frame : Frame) → IsToldApart frame → FitsRow last (written_type last (meaning_of frame).name (meaning_of frame).values) (meaning_of frame) → CanStand last frame
+pub can_stand : (last : Bool) (frame : Frame) → HasNoTypeZero frame → FitsRow last (written_type last (meaning_of frame).name (meaning_of frame).values) (meaning_of frame) → CanStand last frame
 can_stand last frames.Padding z f = closed_frame refl tt
 can_stand last frames.Ping z f = closed_frame refl tt
 can_stand last (frames.Ack a) z f = closed_frame refl (ack_range last a a.ecn f)
@@ -77,5 +77,5 @@ can_stand last (frames.Datagram d) z f = record { in_range = tt; counted = datag
 can_stand last (frames.AckFrequency g) z f = closed_frame refl tt
 
 -- A frame that is encoded where it may stand can be written there.
-pub encoded_can_stand : (last : Bool) (t : ℕ) (frame : Frame) (bytes : List ℕ) → IsToldApart frame → IsFrame false (record { type = t; frame = meaning_of frame }) bytes → (is_open t ≡ true → last ≡ true) → CanStand last frame
+pub encoded_can_stand : (last : Bool) (t : ℕ) (frame : Frame) (bytes : List ℕ) → HasNoTypeZero frame → IsFrame false (record { type = t; frame = meaning_of frame }) bytes → (is_open t ≡ true → last ≡ true) → CanStand last frame
 encoded_can_stand last t frame bytes z f closed = can_stand last frame z (frame_least last (record { type = t; frame = meaning_of frame }) bytes f closed).fits

@@ -12,8 +12,8 @@ use Rattle.quic_frame_fields.proofs.Steps.{true_is_not_false}
 use Rattle.quic_frame_fields.proofs.Varints.{varint_some}
 use Rattle.quic_frames.proofs.Frames.{found_takes, found_again, found_fails, no_frame_again}
 
-abbrev Told : Type 0
-Told = Result Found Invalid
+abbrev Reported : Type 0
+Reported = Result Found Invalid
 
 pub frame_some : (strict : Bool) (found : Found) (bytes : List ℕ) → IsFrame strict found bytes → 0 < length bytes
 frame_some strict found bytes frame =
@@ -118,7 +118,7 @@ frames_give strict (p ∷ ps) (suc n) start before bytes le s =
     let sizes : length bytes ≡ length s.0 + length s.1 = ap length s.2 ∙ length-append s.0 s.1 in
     let others = frames_give strict ps n (end_of start bytes s.1) (Some p.type) s.1 (omega (arith, le, sizes, some)) s.5 in
     ap (map unplaced) (items_ok strict n start before bytes (p, s.1) (is_some_bytes bytes (omega (arith, sizes, some))) here)
-    ∙ ap (λ (l : List Told). Ok p ∷ l) others
+    ∙ ap (λ (l : List Reported). Ok p ∷ l) others
 
 begins_some : (strict : Bool) (bytes : List ℕ) (t : ℕ) (P : List ℕ → Type 0) → BeginsWithType strict bytes t P → bytes ≢ []
 begins_some strict bytes t P u =
@@ -135,7 +135,7 @@ pub stops_at : (strict : Bool) (n start : ℕ) (before : Option ℕ) (bytes : Li
 stops_at strict zero start before bytes i le some e = absurd (some (nothing bytes le))
 stops_at strict (suc m) start before bytes i le some e = items_err strict m start before bytes i some e
 
--- the frames before what is none, and what is told of it, are the items
+-- the frames before what is none, and what is reported of it, are the items
 broken_gives : (strict : Bool) (ps : List Found) (n start : ℕ) (before : Option ℕ) (bytes : List ℕ) (type : Option ℕ) (reason : Fault) → AreBytes bytes → length bytes ≤ n → IsBroken strict before ps bytes type reason
     → map unplaced (items_from strict n start before bytes) ≡ map given ps ++ Err (invalid type reason) ∷ []
 broken_gives strict [] n start before bytes type reason fits le s =
@@ -158,7 +158,7 @@ broken_gives strict (p ∷ ps) (suc m) start before bytes type reason fits le s 
     let others = broken_gives strict ps m (end_of start bytes left) (Some p.type) left type reason (back_bytes f.0 left (subst AreBytes regrouped fits)) (omega (arith, le, sizes, some))
     (record { front = f.1; back = s.back; parts = refl; frames = f.5; closed = s.closed.1; no_frame = s.no_frame }) in
     ap (map unplaced) (items_ok strict m start before bytes (p, left) (is_some_bytes bytes (omega (arith, sizes, some))) here)
-    ∙ ap (λ (l : List Told). Ok p ∷ l) others
+    ∙ ap (λ (l : List Reported). Ok p ∷ l) others
 
 -- ---- each payload is either
 
@@ -203,8 +203,8 @@ either_in strict (suc n) before bytes fits le =
                 )
           ]
       | fails i some e ↦
-          let told = found_fails strict before bytes i fits some e in
-          inr ([], told.type, told.reason, record { front = []; back = bytes; parts = refl; frames = refl; closed = tt; no_frame = told.no_frame })
+          let reported = found_fails strict before bytes i fits some e in
+          inr ([], reported.type, reported.reason, record { front = []; back = bytes; parts = refl; frames = refl; closed = tt; no_frame = reported.no_frame })
     ]
 
 pub is_either : (strict : Bool) (before : Option ℕ) (bytes : List ℕ) → AreBytes bytes → IsEither strict before bytes
@@ -255,27 +255,27 @@ all_read strict start before bytes fits none = some_of strict start before bytes
 
 -- ---- the payload has one reading
 
-told_same : (ps qs : List Found) → map given ps ≡ map given qs → ps ≡ qs
-told_same [] [] e = refl
-told_same [] (q ∷ qs) e = absurd cc
-told_same (p ∷ ps) [] e = absurd cc
-told_same (p ∷ ps) (q ∷ qs) e =
+reported_same : (ps qs : List Found) → map given ps ≡ map given qs → ps ≡ qs
+reported_same [] [] e = refl
+reported_same [] (q ∷ qs) e = absurd cc
+reported_same (p ∷ ps) [] e = absurd cc
+reported_same (p ∷ ps) (q ∷ qs) e =
     let head : p ≡ q = cc in
     let tails : map given ps ≡ map given qs = cc in
-    cc (head, told_same ps qs tails)
+    cc (head, reported_same ps qs tails)
 
 pub one_reading : (strict : Bool) (ps qs : List Found) (bytes : List ℕ) → AreFrames strict ps bytes → AreFrames strict qs bytes → ps ≡ qs
-one_reading strict ps qs bytes s t = told_same ps qs (sym (frames_are_items strict ps 0 None bytes s) ∙ frames_are_items strict qs 0 None bytes t)
+one_reading strict ps qs bytes s t = reported_same ps qs (sym (frames_are_items strict ps 0 None bytes s) ∙ frames_are_items strict qs 0 None bytes t)
 
-told_differ : (ps qs : List Found) (i : Invalid) → map given ps ≡ map given qs ++ Err i ∷ [] → ⊥
-told_differ [] [] i e = cc
-told_differ [] (q ∷ qs) i e = cc
-told_differ (p ∷ ps) [] i e = cc
-told_differ (p ∷ ps) (q ∷ qs) i e = let tails : map given ps ≡ map given qs ++ Err i ∷ [] = cc in told_differ ps qs i tails
+reported_differ : (ps qs : List Found) (i : Invalid) → map given ps ≡ map given qs ++ Err i ∷ [] → ⊥
+reported_differ [] [] i e = cc
+reported_differ [] (q ∷ qs) i e = cc
+reported_differ (p ∷ ps) [] i e = cc
+reported_differ (p ∷ ps) (q ∷ qs) i e = let tails : map given ps ≡ map given qs ++ Err i ∷ [] = cc in reported_differ ps qs i tails
 
 pub never_both : (strict : Bool) (ps qs : List Found) (bytes : List ℕ) (type : Option ℕ) (reason : Fault) → AreBytes bytes → AreFrames strict ps bytes → IsBroken strict None qs bytes type reason → ⊥
 never_both strict ps qs bytes type reason fits s t =
-    told_differ ps qs (invalid type reason) (sym (frames_are_items strict ps 0 None bytes s) ∙ broken_are_items strict qs 0 None bytes type reason fits t)
+    reported_differ ps qs (invalid type reason) (sym (frames_are_items strict ps 0 None bytes s) ∙ broken_are_items strict qs 0 None bytes type reason fits t)
 
 abbrev found_of : Found × List ℕ → Result (Found × List ℕ) Invalid
 found_of x = Ok x

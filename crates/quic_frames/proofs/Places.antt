@@ -14,7 +14,7 @@ use Rattle.quic_frame_fields.specs.Reading.{Invalid, found_at, Whole, Broken, it
 use Rattle.quic_frame_fields.proofs.AckPlaces.{stand_in_frame}
 use Rattle.quic_frames.specs.declared.frame.Frame.TheVariants as frames
 use Rattle.quic_frames.specs.Found.{found_as, HasItsBlocksBehind}
-use Rattle.quic_frames.specs.InRange.{IsToldApart}
+use Rattle.quic_frames.specs.InRange.{HasNoTypeZero}
 use Rattle.quic_frames.specs.Way.{Way}
 use Rattle.quic_frames.specs.Walk.{left, bytes_of_value, last_bytes, Stands, StandsAsRead, Finds}
 use Rattle.quic_frames.proofs.Finding.{found_padding}
@@ -161,7 +161,7 @@ abbrev pub at_place : Bool → List ℕ → ℕ → Option ℕ → Way
 at_place strict payload offset last = record { strict = strict; payload = payload; offset = offset; last = last; is_broken = false }
 
 -- a frame at the offset
-pub finds : (strict : Bool) (payload : List ℕ) (offset : ℕ) (last : Option ℕ) (ty : ℕ) (frame : Frame) (rest : List ℕ) → IsToldApart frame × HasItsBlocksBehind ty frame (drop offset payload) rest → AreBytes (drop offset payload) → offset ≤ length payload → offset < length payload
+pub finds : (strict : Bool) (payload : List ℕ) (offset : ℕ) (last : Option ℕ) (ty : ℕ) (frame : Frame) (rest : List ℕ) → HasNoTypeZero frame × HasItsBlocksBehind ty frame (drop offset payload) rest → AreBytes (drop offset payload) → offset ≤ length payload → offset < length payload
     → found_at strict last (drop offset payload) ≡ Ok (found_as ty frame, rest) → Finds (at_place strict payload offset last) frame (at_place strict payload (length payload - length rest) (Some ty))
 finds strict payload offset last ty frame rest apart fits le some e =
     let found = found_as ty frame in
@@ -181,7 +181,7 @@ finds strict payload offset last ty frame rest apart fits le some e =
     record {
       found = found;
       says = refl;
-      told_apart = apart.0;
+      distinct = apart.0;
       comes = refl;
       first = items ∙ ap (λ (n : ℕ). Whole offset n found ∷ items_of strict n (Some ty) rest) same ∙ ap (λ (l : List ℕ). Whole offset stop found ∷ items_of strict stop (Some ty) l) (sym after);
       stands = cut_stands strict payload offset stop found rest c;
@@ -202,7 +202,7 @@ breaks strict payload offset last i some e =
 pub is_over : (strict : Bool) (payload : List ℕ) (offset : ℕ) (last : Option ℕ) → length (drop offset payload) ≡ 0 → left (at_place strict payload offset last) ≡ []
 is_over strict payload offset last none = ap (items_of strict offset last) (nothing (drop offset payload) (omega arith)) ∙ no_items strict offset last
 
--- the same of a walk whose parts are told apart
+-- the same of a walk whose parts are reported apart
 abbrev pub walk : Bool → List ℕ → ℕ → Option ℕ → Bool → Way
 walk strict payload offset last is_broken = record { strict = strict; payload = payload; offset = offset; last = last; is_broken = is_broken }
 
@@ -224,7 +224,7 @@ fewer_left strict payload offset last found rest fits e =
     omega (arith, sizes, size)
 
 pub finds_here : (strict : Bool) (payload : List ℕ) (offset : ℕ) (last : Option ℕ) (b : Bool) (old : Way) (ty : ℕ) (frame : Frame) (rest : List ℕ)
-    → IsToldApart frame → HasItsBlocksBehind ty frame (take (length payload - offset) (drop offset payload)) rest → walk strict payload offset last b ≡ old → b ≡ false → offset ≤ length payload
+    → HasNoTypeZero frame → HasItsBlocksBehind ty frame (take (length payload - offset) (drop offset payload)) rest → walk strict payload offset last b ≡ old → b ≡ false → offset ≤ length payload
     → eqb (length (take (length payload - offset) (drop offset payload))) 0 ≡ false → AreBytes (take (length payload - offset) (drop offset payload))
     → found_at strict last (take (length payload - offset) (drop offset payload)) ≡ Ok (found_as ty frame, rest) → Finds old frame (walk strict payload (length payload - length rest) (Some ty) b)
 finds_here strict payload offset last b old ty frame rest apart blocks v f le some fits e =

@@ -10,7 +10,7 @@ use Rattle.quic_frame_fields.specs.Acks.{parts_of}
 use Rattle.quic_frame_fields.specs.Payload.{Meaning, Found}
 use Rattle.quic_frame_fields.specs.Reading.{Invalid, Gives, varint_at}
 use Rattle.quic_frames.specs.Meaning.{meaning_of}
-use Rattle.quic_frames.specs.InRange.{IsToldApart}
+use Rattle.quic_frames.specs.InRange.{HasNoTypeZero}
 use Rattle.quic_frames.specs.Walk.{invalid_of}
 
 abbrev pub found_as : ℕ → Frame → Found
@@ -25,7 +25,7 @@ HasItsBlocks frame bytes left = ⊤
 -- ACK has its blocks as they stand.
 abbrev pub GivesFrame : {R : Type 0} → (R → List ℕ) → List ℕ → Result (Frame × R) Fault → Result (Meaning × List ℕ) Fault → Type 0
 GivesFrame left bytes result read =
-    Gives (λ x. (meaning_of x.0, left x.1)) result read × IfOk result (λ x. IsToldApart x.0) × IfOk result (λ x. HasItsBlocks x.0 bytes (left x.1))
+    Gives (λ x. (meaning_of x.0, left x.1)) result read × IfOk result (λ x. HasNoTypeZero x.0) × IfOk result (λ x. HasItsBlocks x.0 bytes (left x.1))
 
 -- The same of a frame whose type stands in front of its fields.
 abbrev pub HasItsBlocksBehind : ℕ → Frame → List ℕ → List ℕ → Type 0
@@ -34,5 +34,5 @@ HasItsBlocksBehind type frame bytes left = ⊤
 
 -- The same of the frame at the front.
 abbrev pub GivesFound : List ℕ → Result FirstFrame InvalidFrame → Result (Found × List ℕ) Invalid → Type 0
-GivesFound bytes (Ok x) read = (read ≡ Ok (found_as x.ty x.frame, x.rest.now)) × IsToldApart x.frame × HasItsBlocksBehind x.ty x.frame bytes x.rest.now
+GivesFound bytes (Ok x) read = (read ≡ Ok (found_as x.ty x.frame, x.rest.now)) × HasNoTypeZero x.frame × HasItsBlocksBehind x.ty x.frame bytes x.rest.now
 GivesFound bytes (Err i) read = read ≡ Err (invalid_of i)

@@ -10,12 +10,12 @@ use Rattle.quic_frame_fields.specs.Sets.{IsAckInRange}
 use Rattle.quic_frames.specs.Least.{is_end}
 
 -- a close whose type isn't given as 0, which is read as no type
-abbrev pub IsToldApart : Frame → Type 0
-IsToldApart (frames.Close (closes.Connection c)) = c.frame_type ≢ Some 0
-IsToldApart frame = ⊤
+abbrev pub HasNoTypeZero : Frame → Type 0
+HasNoTypeZero (frames.Close (closes.Connection c)) = c.frame_type ≢ Some 0
+HasNoTypeZero frame = ⊤
 
 -- The frame has a encoding, by which it is read as it is: numbers of any width are below 2^62, an id has 1 to 20
--- bytes, and what is retired comes before it; type 0 isn't told from no type (RFC 9000, sections 16, 19.15 and
+-- bytes, and what is retired comes before it; type 0 isn't reported from no type (RFC 9000, sections 16, 19.15 and
 -- 19.19). Numbers whose type holds the bound are not named.
 abbrev pub InRange : Frame → Type 0
 InRange (frames.Ack a) = IsAckInRange a
@@ -29,7 +29,7 @@ InRange (frames.StreamDataBlocked id offset) = offset < 2 ^ 62
 InRange (frames.StreamsBlocked dir limit) = limit < 2 ^ 62
 InRange (frames.NewConnectionId n) = AreNumeric (n.sequence ∷ n.retire_prior_to ∷ []) × (n.retire_prior_to ≤ n.sequence) × (0 < length n.id) × (length n.id ≤ 20)
 InRange (frames.RetireConnectionId sequence) = sequence < 2 ^ 62
-InRange (frames.Close (closes.Connection c)) = IsToldApart (frames.Close (closes.Connection c)) × (length c.reason.now < 2 ^ 62)
+InRange (frames.Close (closes.Connection c)) = HasNoTypeZero (frames.Close (closes.Connection c)) × (length c.reason.now < 2 ^ 62)
 InRange (frames.Close (closes.Application c)) = length c.reason.now < 2 ^ 62
 InRange frame = ⊤
 

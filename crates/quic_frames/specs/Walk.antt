@@ -10,7 +10,7 @@ use Rattle.quic_frame_fields.specs.declared.frame.fault.Fault.{Fault}
 use Rattle.quic_frame_fields.specs.Payload.{Found, IsFrame, AreFrames, IsBroken}
 use Rattle.quic_frame_fields.specs.Reading.{Item, Whole, Broken, Invalid, invalid, items_of}
 use Rattle.quic_frames.specs.Meaning.{meaning_of}
-use Rattle.quic_frames.specs.InRange.{IsToldApart}
+use Rattle.quic_frames.specs.InRange.{HasNoTypeZero}
 use Rattle.quic_frames.specs.Way.{Way}
 
 abbrev pub invalid_of : InvalidFrame → Invalid
@@ -40,7 +40,7 @@ given found = Ok found
 abbrev pub GivesFrames : Bool → List ℕ → Way → Type 0
 GivesFrames strict payload way = (found : List Found) → AreFrames strict found payload → map unplaced (left way) ≡ map given found
 
--- or those before what is none, and then what is told of that.
+-- or those before what is none, and then what is reported of that.
 abbrev pub GivesBroken : Bool → List ℕ → Way → Type 0
 GivesBroken strict payload way =
     (found : List Found) (type : Option ℕ) (reason : Fault) → IsBroken strict None found payload type reason
@@ -71,7 +71,7 @@ StandsAsRead type frame bytes = ⊤
 pub record Finds (old : Way) (frame : Frame) (new : Way) : Type 0 where
   pub found : Found
   pub says : found.frame ≡ meaning_of frame
-  pub told_apart : IsToldApart frame
+  pub distinct : HasNoTypeZero frame
   pub comes : new ≡ record old { offset = new.offset; last = Some found.type }
   pub first : left old ≡ Whole old.offset new.offset found ∷ left new
   pub stands : Stands old.strict old.payload old.offset new.offset found

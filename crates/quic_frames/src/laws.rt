@@ -7,7 +7,7 @@ ghost use Rattle.quic_frame_fields.specs.Acks.{parts_of, ranges_acked};
 ghost use Rattle.quic_frame_fields.specs.Field.{AreApart, AreBlocks};
 ghost use Rattle.quic_frames.specs.Found.{found_as};
 ghost use Rattle.quic_frame_fields.specs.Sets.{AreCounts};
-ghost use Rattle.quic_frames.specs.InRange.{IsTyped, AreTyped, IsToldApart, CanStand, CanFollow};
+ghost use Rattle.quic_frames.specs.InRange.{IsTyped, AreTyped, HasNoTypeZero, CanStand, CanFollow};
 ghost use Rattle.quic_frames.specs.Least.{AreOrExceed, shortest_frames, frame_in, as_written, all_written};
 ghost use Rattle.quic_frames.specs.Meaning.{meaning_of};
 ghost use Rattle.quic_frame_fields.specs.Payload.{Meaning, Found, IsFrame, AreFrames, AreClosed, IsBroken, IsEither, last_type};
@@ -59,7 +59,7 @@ pub fn lasting()
         → IsBroken strict None others bytes type reason → reason ≡ UnexpectedEnd }
 {}
 
-/// What is told of a type in another encoding than its shortest is told of nothing else.
+/// What is reported of a type in another encoding than its shortest is reported of nothing else.
 pub fn reasons()
     ensures long { reason_text LongType ≡ long_type_reason }
     ensures others { (reason : Fault) → reason ≢ LongType → reason_text reason ≢ long_type_reason }
@@ -76,7 +76,7 @@ pub fn items_in_place()
 {}
 
 /// An iterator that `Iter::resume` gives at a place still gives what the bytes from there on are, whatever stands
-/// before them: just their frames, or those before what is none, and then what is told of that.
+/// before them: just their frames, or those before what is none, and then what is reported of that.
 pub fn read_from_a_place()
     ensures either { (strict : Bool) (payload : List ℕ) (offset : ℕ) (last : Option ℕ) → AreBytes payload
         → IsEither strict last (drop offset payload) }
@@ -152,7 +152,7 @@ pub fn read_back()
         → AreFrames strict (all_written (map meaning_of fs)) (shortest_frames (map meaning_of fs))
         × (map frame_in (all_written (map meaning_of fs)) ≡ map meaning_of fs) }
     // What is asked of a frame that is written holds of each frame that is encoded.
-    ensures exact { (last : Bool) (t : ℕ) (frame : Frame) (bytes : List ℕ) → IsToldApart frame
+    ensures exact { (last : Bool) (t : ℕ) (frame : Frame) (bytes : List ℕ) → HasNoTypeZero frame
         → IsFrame false (found_as t frame) bytes → (is_open t ≡ true → last ≡ true) → CanStand last frame }
 {}
 

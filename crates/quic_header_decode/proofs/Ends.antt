@@ -208,31 +208,31 @@ past_token = Invalid (codes "token out of bounds")
 abbrev IsPlain : Refusal → Type 0
 IsPlain e = (e ≡ at_end) ⊎ (e ≡ bad_id) ⊎ (e ≡ past_token)
 
-typed_told : (context : Context) (before : List Value) (bytes : List ℕ) (e : Refusal) (ty : LongHeaderType) → StopsWithin context (typed_row ty) before bytes e → IsPlain e
-typed_told context before bytes e kind.Retry stops = absurd stops
-typed_told context before bytes e (kind.Standard ty) (inl stops) = inl stops.why
-typed_told context before bytes e (kind.Standard ty) (inr d) = absurd d.3
-typed_told context before bytes e kind.Initial (inl stops) = inl stops.why
-typed_told context before bytes e kind.Initial (inr (v1, t1, b1, inl stops)) = inr (inr stops.why)
-typed_told context before bytes e kind.Initial (inr (v1, t1, b1, inr (v2, t2, b2, inl stops))) = inl stops.why
-typed_told context before bytes e kind.Initial (inr (v1, t1, b1, inr (v2, t2, b2, inr d))) = absurd d.3
+typed_reported : (context : Context) (before : List Value) (bytes : List ℕ) (e : Refusal) (ty : LongHeaderType) → StopsWithin context (typed_row ty) before bytes e → IsPlain e
+typed_reported context before bytes e kind.Retry stops = absurd stops
+typed_reported context before bytes e (kind.Standard ty) (inl stops) = inl stops.why
+typed_reported context before bytes e (kind.Standard ty) (inr d) = absurd d.3
+typed_reported context before bytes e kind.Initial (inl stops) = inl stops.why
+typed_reported context before bytes e kind.Initial (inr (v1, t1, b1, inl stops)) = inr (inr stops.why)
+typed_reported context before bytes e kind.Initial (inr (v1, t1, b1, inr (v2, t2, b2, inl stops))) = inl stops.why
+typed_reported context before bytes e kind.Initial (inr (v1, t1, b1, inr (v2, t2, b2, inr d))) = absurd d.3
 
 -- the ids are there, and the version is unknown
 abbrev IsUnknown : Context → List ℕ → Refusal → Type 0
 IsUnknown context text e = (version : ℕ) × (dst src left : List ℕ) × Ids text version dst src left × (version ≢ 0) × Stops context (Supported version) (id_values version dst src) left e
 
-behind_told : (context : Context) (first version : ℕ) (text dst src left : List ℕ) (e : Refusal) → Ids text version dst src left
+behind_reported : (context : Context) (first version : ℕ) (text dst src left : List ℕ) (e : Refusal) → Ids text version dst src left
     → (none : Bool) → nat_eq version 0 ≡ none → (ty : LongHeaderType) → StopsWithin context (cond none [] (Supported version ∷ typed_row ty)) (id_values version dst src) left e
     → IsPlain e ⊎ IsUnknown context text e
-behind_told context first version text dst src left e ids true zero ty stops = absurd stops
-behind_told context first version text dst src left e ids false some ty (inl stops) = inr (version, dst, src, left, ids, (let other : version ≢ 0 = grind (arith, nat_tests) in other), stops)
-behind_told context first version text dst src left e ids false some ty (inr d) = inl (typed_told context (id_values version dst src ++ d.0) d.1 e ty d.3)
+behind_reported context first version text dst src left e ids true zero ty stops = absurd stops
+behind_reported context first version text dst src left e ids false some ty (inl stops) = inr (version, dst, src, left, ids, (let other : version ≢ 0 = grind (arith, nat_tests) in other), stops)
+behind_reported context first version text dst src left e ids false some ty (inr d) = inl (typed_reported context (id_values version dst src ++ d.0) d.1 e ty d.3)
 
-long_told : (context : Context) (first : ℕ) (text : List ℕ) (e : Refusal) → StopsWithin context (long_row (row_behind_ids first (num (take 4 text)))) [] text e → IsPlain e ⊎ IsUnknown context text e
-long_told context first text e (inl stops) = inl (inl stops.why)
-long_told context first text e (inr (v1, t1, b1, inl stops)) = inl (inr (inl stops.why))
-long_told context first text e (inr (v1, t1, b1, inr (v2, t2, b2, inl stops))) = inl (inr (inl stops.why))
-long_told context first text e
+long_reported : (context : Context) (first : ℕ) (text : List ℕ) (e : Refusal) → StopsWithin context (long_row (row_behind_ids first (num (take 4 text)))) [] text e → IsPlain e ⊎ IsUnknown context text e
+long_reported context first text e (inl stops) = inl (inl stops.why)
+long_reported context first text e (inr (v1, t1, b1, inl stops)) = inl (inr (inl stops.why))
+long_reported context first text e (inr (v1, t1, b1, inr (v2, t2, b2, inl stops))) = inl (inr (inl stops.why))
+long_reported context first text e
     (inr (v, t1, (word, split1, (version, is1, number)), inr (d, t2, (f2, split2, (dst, is2, len2, text2)), inr (s, left, (f3, split3, (src, is3, len3, text3)), stops)))) =
     let ids : Ids text version dst src left = record {
       word = word;
@@ -242,14 +242,14 @@ long_told context first text e
       text_is = split1 ∙ ap (λ (xs : List ℕ). word ++ xs) (split2 ∙ ap (λ (xs : List ℕ). xs ++ t2) text2 ∙ ap (λ (xs : List ℕ). long_id dst ++ xs) (split3 ∙ ap (λ (xs : List ℕ). xs ++ left) text3));
     } in
     let said : (v ++ d) ++ s ≡ id_values version dst src = rw (is1, is2, is3) in
-    behind_told context first version text dst src left e ids (nat_eq version 0) refl (long_type version first)
+    behind_reported context first version text dst src left e ids (nat_eq version 0) refl (long_type version first)
     (subst (λ (n : ℕ). StopsWithin context (row_behind_ids first n) (id_values version dst src) left e) (version_is text version dst src left ids)
     (subst (λ (xs : List Value). StopsWithin context (row_behind_ids first (num (take 4 text))) xs left e) said stops))
 
-row_told : (context : Context) (first : ℕ) (text : List ℕ) (e : Refusal) → 128 ≤ first → StopsWithin context (row_of first (num (take 4 text))) [] text e → IsPlain e ⊎ IsUnknown context text e
-row_told context first text e long stops =
+row_reported : (context : Context) (first : ℕ) (text : List ℕ) (e : Refusal) → 128 ≤ first → StopsWithin context (row_of first (num (take 4 text))) [] text e → IsPlain e ⊎ IsUnknown context text e
+row_reported context first text e long stops =
     let test : is_long first ≡ true = grind (arith, nat_tests) in
-    long_told context first text e (subst (λ (b : Bool). StopsWithin context (cond b (long_row (row_behind_ids first (num (take 4 text)))) (ShortId ∷ [])) [] text e) test stops)
+    long_reported context first text e (subst (λ (b : Bool). StopsWithin context (cond b (long_row (row_behind_ids first (num (take 4 text)))) (ShortId ∷ [])) [] text e) test stops)
 
 other_size : (e : Refusal) (n : ℕ) → IsPlain e → text_size e ≡ n → n < 13 ⊎ (n ≡ 15) → ⊥
 other_size e n (inl is) size small = elim small [
@@ -268,7 +268,7 @@ other_size e n (inr (inr is)) size small = elim small [
 pub fixed_alone : (context : Context) (bytes other : List ℕ) → 128 ≤ slice_index bytes 0 → Refused context bytes (Invalid (codes "fixed bit unset")) → Refused context (bytes ++ other) (Invalid (codes "fixed bit unset"))
 fixed_alone context [] other long is = absurd (omega (arith, long))
 fixed_alone context (first ∷ text) other long (inl unset) = inl unset
-fixed_alone context (first ∷ text) other long (inr (set, stops)) = elim (row_told context first text (Invalid (codes "fixed bit unset")) long stops) [
+fixed_alone context (first ∷ text) other long (inr (set, stops)) = elim (row_reported context first text (Invalid (codes "fixed bit unset")) long stops) [
   | inl plain ↦ absurd (other_size (Invalid (codes "fixed bit unset")) 15 plain refl (inr refl))
   | inr unknown ↦ absurd (let n : 15 ≡ 0 = ap text_size unknown.6.why in omega (arith, n))
 ]
@@ -276,7 +276,7 @@ fixed_alone context (first ∷ text) other long (inr (set, stops)) = elim (row_t
 pub version_alone : (context : Context) (bytes other src dst : List ℕ) (version : ℕ) → 128 ≤ slice_index bytes 0 → Refused context bytes (Unsupported src dst version) → Refused context (bytes ++ other) (Unsupported src dst version)
 version_alone context [] other src dst version long is = absurd (omega (arith, long))
 version_alone context (first ∷ text) other src dst version long (inl unset) = absurd (let n : 0 ≡ 15 = ap text_size unset.1 in omega (arith, n))
-version_alone context (first ∷ text) other src dst version long (inr (set, stops)) = elim (row_told context first text (Unsupported src dst version) long stops) [
+version_alone context (first ∷ text) other src dst version long (inr (set, stops)) = elim (row_reported context first text (Unsupported src dst version) long stops) [
   | inl plain ↦ absurd (other_size (Unsupported src dst version) 0 plain refl (inl (omega arith)))
   | inr (v, d, s, left, ids, some, unknown) ↦
       let e : Refusal = Unsupported src dst version in

@@ -168,36 +168,36 @@ field_found context ShortId before values bytes rest fits takes e =
     (front, split, (s.0.0, sym parts.0, ap context.parsed (sym split) ∙ s.1 ∙ ap (λ (k : ℕ). let r : Result (List ℕ × ℕ) Refusal = Ok (s.0.0, k) in r) width))
 
 -- a field that can't be read has this refusal
-field_told : (context : Context) (field : Field) (before : List Value) (bytes : List ℕ) (e : Refusal) → field_at context field before bytes ≡ Err e → IsRefusal context field before bytes e
-field_told context Version before bytes e h = elim (step (word_at bytes) at_end _ e h) [
+field_reported : (context : Context) (field : Field) (before : List Value) (bytes : List ℕ) (e : Refusal) → field_at context field before bytes ≡ Err e → IsRefusal context field before bytes e
+field_reported context Version before bytes e h = elim (step (word_at bytes) at_end _ e h) [
   | inl bad ↦ sym bad.1
   | inr good ↦ absurd (ok_err _ e good.2)
 ]
-field_told context DestinationId before bytes e h = elim (step (id_at bytes) bad_id _ e h) [
+field_reported context DestinationId before bytes e h = elim (step (id_at bytes) bad_id _ e h) [
   | inl bad ↦ sym bad.1
   | inr good ↦ absurd (ok_err _ e good.2)
 ]
-field_told context SourceId before bytes e h = elim (step (id_at bytes) bad_id _ e h) [
+field_reported context SourceId before bytes e h = elim (step (id_at bytes) bad_id _ e h) [
   | inl bad ↦ sym bad.1
   | inr good ↦ absurd (ok_err _ e good.2)
 ]
-field_told context (Supported version) before bytes e h = elim (chosen (not (list_any (λ known. nat_eq known version) context.versions)) _ _ (Err e) h) [
+field_reported context (Supported version) before bytes e h = elim (chosen (not (list_any (λ known. nat_eq known version) context.versions)) _ _ (Err e) h) [
   | inl bad ↦ sym (err_same _ e bad.1)
   | inr good ↦ absurd (ok_err _ e good.1)
 ]
-field_told context TokenLength before bytes e h = elim (step (number_at bytes) at_end _ e h) [
+field_reported context TokenLength before bytes e h = elim (step (number_at bytes) at_end _ e h) [
   | inl bad ↦ sym bad.1
   | inr good ↦ absurd (ok_err _ e good.2)
 ]
-field_told context Token before bytes e h = elim (chosen (nat_lt (length bytes) (token_length_of before)) _ _ (Err e) h) [
+field_reported context Token before bytes e h = elim (chosen (nat_lt (length bytes) (token_length_of before)) _ _ (Err e) h) [
   | inl bad ↦ sym (err_same _ e bad.1)
   | inr good ↦ absurd (ok_err _ e good.1)
 ]
-field_told context Length before bytes e h = elim (step (number_at bytes) at_end _ e h) [
+field_reported context Length before bytes e h = elim (step (number_at bytes) at_end _ e h) [
   | inl bad ↦ sym bad.1
   | inr good ↦ absurd (ok_err _ e good.2)
 ]
-field_told context ShortId before bytes e h = elim (bind_err (context.parsed bytes) _ e h) [
+field_reported context ShortId before bytes e h = elim (bind_err (context.parsed bytes) _ e h) [
   | inl bad ↦ bad
   | inr good ↦ absurd (ok_err _ e good.2)
 ]
@@ -205,7 +205,7 @@ field_told context ShortId before bytes e h = elim (bind_err (context.parsed byt
 field_stops : (context : Context) (field : Field) (before : List Value) (bytes : List ℕ) (e : Refusal) → field_at context field before bytes ≡ Err e → Stops context field before bytes e
 field_stops context field before bytes e h = record {
   none = λ values rest (front, split, is). err_ok e (values, rest) (sym h ∙ ap (field_at context field before) split ∙ field_again context field before values front rest is);
-  why = field_told context field before bytes e h;
+  why = field_reported context field before bytes e h;
 }
 
 -- where no such field stands, none is read
@@ -215,7 +215,7 @@ none_of_other : (context : Context) (field : Field) (before : List Value) (bytes
 none_of_other context field before bytes e fits takes stops same (Ok x) h =
     absurd (stops.none x.0 x.1 (field_found context field before x.0 bytes x.1 fits takes h))
 none_of_other context field before bytes e fits takes stops same (Err d) h =
-    ap (λ (r : Refusal). let q : Result Taken Refusal = Err r in q) (same d (field_told context field before bytes d h))
+    ap (λ (r : Refusal). let q : Result Taken Refusal = Err r in q) (same d (field_reported context field before bytes d h))
 
 pub field_refused : (context : Context) (field : Field) (before : List Value) (bytes : List ℕ) (e : Refusal) → AreBytes bytes
     → Stops context field before bytes e → field_at context field before bytes ≡ Err e

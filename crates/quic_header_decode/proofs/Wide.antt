@@ -180,15 +180,15 @@ from_not : (b : Bool) → not b ≡ true → b ≡ false
 from_not true e = sym e
 from_not false e = refl
 
-typed_told : (ty : LongHeaderType) (whole : ℕ) (dst src : List ℕ) (version : ℕ) (bytes s d : List ℕ) (v : ℕ)
+typed_reported : (ty : LongHeaderType) (whole : ℕ) (dst src : List ℕ) (version : ℕ) (bytes s d : List ℕ) (v : ℕ)
     → typed_at ty whole dst src version bytes ≡ Err (Unsupported s d v) → ⊥
 unfolding typed_at
-typed_told kind.Retry whole dst src version bytes s d v e = cc
-typed_told (kind.Standard ty) whole dst src version bytes s d v e = elim (bind_err (ok_or (number_at bytes) at_end) _ (Unsupported s d v) e) [
+typed_reported kind.Retry whole dst src version bytes s d v e = cc
+typed_reported (kind.Standard ty) whole dst src version bytes s d v e = elim (bind_err (ok_or (number_at bytes) at_end) _ (Unsupported s d v) e) [
   | inl bad ↦ (let end = (option_err (number_at bytes) at_end (Unsupported s d v) bad).1 in cc)
   | inr x ↦ (let other = x.2 in cc)
 ]
-typed_told kind.Initial whole dst src version bytes s d v e = elim (bind_err (ok_or (number_at bytes) at_end) _ (Unsupported s d v) e) [
+typed_reported kind.Initial whole dst src version bytes s d v e = elim (bind_err (ok_or (number_at bytes) at_end) _ (Unsupported s d v) e) [
   | inl bad ↦ (let end = (option_err (number_at bytes) at_end (Unsupported s d v) bad).1 in cc)
   | inr x ↦ elim (chosen (nat_lt (length x.0.1) x.0.0) _ _ (Err (Unsupported s d v)) x.2) [
     | inl past ↦ (let other = past.1 in cc)
@@ -232,10 +232,10 @@ wide_unknown versions whole first text src dst version fits e = elim (bind_err (
               | inr s ↦
                   let two : d.0.1 ≡ long_id s.0.0 ++ s.0.1 = wide_found d.0.1 s.0.0 s.0.1 (option_ok (wide_id_at d.0.1) bad_id s.0 s.1) in
                   elim (chosen (not (nat_eq w.0.0 0) && not known) _ _ (Err (Unsupported src dst version)) s.2) [
-                    | inl told ↦
-                        let tests = both_true (not (nat_eq w.0.0 0)) (not known) told.0 in
+                    | inl reported ↦
+                        let tests = both_true (not (nat_eq w.0.0 0)) (not known) reported.0 in
                         let zero : nat_eq w.0.0 0 ≡ false = from_not (nat_eq w.0.0 0) tests.0 in
-                        unknown_behind versions text src s.0.0 dst d.0.0 version w.0.0 told.1 (
+                        unknown_behind versions text src s.0.0 dst d.0.0 version w.0.0 reported.1 (
                           bytes_of 4 w.0.0,
                           s.0.1,
                           number.0 ∙ ap (λ (xs : List ℕ). bytes_of 4 w.0.0 ++ xs) (one ∙ ap (λ (xs : List ℕ). long_id d.0.0 ++ xs) two),
@@ -247,7 +247,7 @@ wide_unknown versions whole first text src dst version fits e = elim (bind_err (
                       | inl long ↦ (let other = long.1 in cc)
                       | inr few ↦ elim (chosen (nat_eq w.0.0 0) _ _ (Err (Unsupported src dst version)) few.1) [
                         | inl none ↦ (let other = none.1 in cc)
-                        | inr some ↦ typed_told (long_type w.0.0 first) whole d.0.0 s.0.0 w.0.0 s.0.1 src dst version some.1
+                        | inr some ↦ typed_reported (long_type w.0.0 first) whole d.0.0 s.0.0 w.0.0 s.0.1 src dst version some.1
                       ]
                     ])
                   ]
@@ -273,10 +273,10 @@ unknown_again versions whole first text src dst version (number, rest, split, is
 
 -- ---- headers
 
-fixed_told : (short : Bool) (text id : List ℕ) (n : ℕ) (f : List ℕ × ℕ → ProtectedHeader × List ℕ) (s d : List ℕ) (v : ℕ)
+fixed_reported : (short : Bool) (text id : List ℕ) (n : ℕ) (f : List ℕ × ℕ → ProtectedHeader × List ℕ) (s d : List ℕ) (v : ℕ)
     → (cond {A = Result (List ℕ × ℕ) Refusal} short (Err (Invalid text)) (Ok (id, n)) >>= λ x. Ok (f x)) ≡ Err (Unsupported s d v) → ⊥
-fixed_told true text id n f s d v e = cc
-fixed_told false text id n f s d v e = cc
+fixed_reported true text id n f s d v e = cc
+fixed_reported false text id n f s d v e = cc
 
 long_first : (first : ℕ) → nat_lt first 128 ≡ false → is_long first ≡ true
 long_first first e = grind (arith, nat_tests)
@@ -289,16 +289,16 @@ unknown_found : (id_len : ℕ) (versions : List ℕ) (whole : ℕ) (bytes src ds
 unfolding wide_header_at
 unknown_found id_len versions whole [] src dst version fits e = absurd cc
 unknown_found id_len versions whole (first ∷ text) src dst version fits e = elim (chosen (nat_lt first 128) _ _ (Err (Unsupported src dst version)) e) [
-  | inl short ↦ absurd (fixed_told (nat_lt (length text) id_len) _ _ _ _ src dst version short.1)
+  | inl short ↦ absurd (fixed_reported (nat_lt (length text) id_len) _ _ _ _ src dst version short.1)
   | inr long ↦
       let h = wide_unknown versions whole first text src dst version (λ i. fits (suc i)) long.1 in
       (h.1, (first, h.0, ap (λ (xs : List ℕ). first ∷ xs) h.2, long_first first long.0, h.3), h.4, h.5)
 ]
 
-unknown_told : (id_len : ℕ) (versions : List ℕ) (whole : ℕ) (bytes src dst : List ℕ) (version : ℕ)
+unknown_type : (id_len : ℕ) (versions : List ℕ) (whole : ℕ) (bytes src dst : List ℕ) (version : ℕ)
     → IsUnknown (any_fixed id_len versions) bytes version dst src → wide_header_at id_len versions whole bytes ≡ Err (Unsupported src dst version)
 unfolding wide_header_at
-unknown_told id_len versions whole bytes src dst version (rest, (first, number, split, long, is), some, none) =
+unknown_type id_len versions whole bytes src dst version (rest, (first, number, split, long, is), some, none) =
     ap (wide_header_at id_len versions whole) split
     ∙ otherwise (nat_lt first 128) _ _ _ (not_short first long)
     (unknown_again versions whole first (number ++ (long_id dst ++ (long_id src ++ rest))) src dst version (number, rest, refl, is, some, none))
@@ -311,7 +311,7 @@ refused : (id_len : ℕ) (versions bytes : List ℕ) (e : Refusal) → AreBytes 
     → Refused (any_fixed id_len versions) bytes e × ((version : ℕ) (dst src : List ℕ) → IsUnknown (any_fixed id_len versions) bytes version dst src → ⊥)
 refused id_len versions bytes e fits read other same = (
   refused_found (any_fixed id_len versions) (length bytes) bytes e fits (takes id_len versions) same,
-  (λ version dst src unknown. other src dst version (let told = unknown_told id_len versions (length bytes) bytes src dst version unknown in cc)),
+  (λ version dst src unknown. other src dst version (let reported = unknown_type id_len versions (length bytes) bytes src dst version unknown in cc)),
 )
 
 pub read_answer : (id_len : ℕ) (versions bytes : List ℕ) → AreBytes bytes → (r : Read) → wide_header_at id_len versions (length bytes) bytes ≡ r
@@ -341,19 +341,19 @@ long_answer id_len versions bytes first fits r split long e =
 sole : (id_len : ℕ) (versions bytes : List ℕ) (w r : Read) → AreBytes bytes → wide_header_at id_len versions (length bytes) bytes ≡ w → Agrees w (header_at (any_fixed id_len versions) (length bytes) bytes)
     → ReadAnswer (any_fixed id_len versions) bytes r → w ≡ r
 sole id_len versions bytes (Ok x) (Ok found) fits e agrees a = sym agrees ∙ header_again (any_fixed id_len versions) (length bytes) bytes found.0 found.1 a
-sole id_len versions bytes (Ok x) (Err (Unsupported src dst version)) fits e agrees a = absurd (let told = unknown_told id_len versions (length bytes) bytes src dst version a in cc)
-sole id_len versions bytes (Ok x) (Err (Invalid text)) fits e agrees a = absurd (let told = refused_again (any_fixed id_len versions) (length bytes) bytes (Invalid text) fits a.0 in cc)
-sole id_len versions bytes (Ok x) (Err NoMemory) fits e agrees a = absurd (let told = refused_again (any_fixed id_len versions) (length bytes) bytes NoMemory fits a.0 in cc)
+sole id_len versions bytes (Ok x) (Err (Unsupported src dst version)) fits e agrees a = absurd (let reported = unknown_type id_len versions (length bytes) bytes src dst version a in cc)
+sole id_len versions bytes (Ok x) (Err (Invalid text)) fits e agrees a = absurd (let reported = refused_again (any_fixed id_len versions) (length bytes) bytes (Invalid text) fits a.0 in cc)
+sole id_len versions bytes (Ok x) (Err NoMemory) fits e agrees a = absurd (let reported = refused_again (any_fixed id_len versions) (length bytes) bytes NoMemory fits a.0 in cc)
 sole id_len versions bytes (Err (Unsupported s d v)) (Ok found) fits e agrees a = absurd (agrees found (header_again (any_fixed id_len versions) (length bytes) bytes found.0 found.1 a))
-sole id_len versions bytes (Err (Unsupported s d v)) (Err (Unsupported src dst version)) fits e agrees a = sym e ∙ unknown_told id_len versions (length bytes) bytes src dst version a
+sole id_len versions bytes (Err (Unsupported s d v)) (Err (Unsupported src dst version)) fits e agrees a = sym e ∙ unknown_type id_len versions (length bytes) bytes src dst version a
 sole id_len versions bytes (Err (Unsupported s d v)) (Err (Invalid text)) fits e agrees a = absurd (a.1 v d s (unknown_found id_len versions (length bytes) bytes s d v fits e))
 sole id_len versions bytes (Err (Unsupported s d v)) (Err NoMemory) fits e agrees a = absurd (a.1 v d s (unknown_found id_len versions (length bytes) bytes s d v fits e))
-sole id_len versions bytes (Err (Invalid t)) (Ok found) fits e agrees a = absurd (let told = header_again (any_fixed id_len versions) (length bytes) bytes found.0 found.1 a in cc)
-sole id_len versions bytes (Err (Invalid t)) (Err (Unsupported src dst version)) fits e agrees a = absurd (let told = unknown_told id_len versions (length bytes) bytes src dst version a in cc)
+sole id_len versions bytes (Err (Invalid t)) (Ok found) fits e agrees a = absurd (let reported = header_again (any_fixed id_len versions) (length bytes) bytes found.0 found.1 a in cc)
+sole id_len versions bytes (Err (Invalid t)) (Err (Unsupported src dst version)) fits e agrees a = absurd (let reported = unknown_type id_len versions (length bytes) bytes src dst version a in cc)
 sole id_len versions bytes (Err (Invalid t)) (Err (Invalid text)) fits e agrees a = sym agrees ∙ refused_again (any_fixed id_len versions) (length bytes) bytes (Invalid text) fits a.0
 sole id_len versions bytes (Err (Invalid t)) (Err NoMemory) fits e agrees a = sym agrees ∙ refused_again (any_fixed id_len versions) (length bytes) bytes NoMemory fits a.0
-sole id_len versions bytes (Err NoMemory) (Ok found) fits e agrees a = absurd (let told = header_again (any_fixed id_len versions) (length bytes) bytes found.0 found.1 a in cc)
-sole id_len versions bytes (Err NoMemory) (Err (Unsupported src dst version)) fits e agrees a = absurd (let told = unknown_told id_len versions (length bytes) bytes src dst version a in cc)
+sole id_len versions bytes (Err NoMemory) (Ok found) fits e agrees a = absurd (let reported = header_again (any_fixed id_len versions) (length bytes) bytes found.0 found.1 a in cc)
+sole id_len versions bytes (Err NoMemory) (Err (Unsupported src dst version)) fits e agrees a = absurd (let reported = unknown_type id_len versions (length bytes) bytes src dst version a in cc)
 sole id_len versions bytes (Err NoMemory) (Err (Invalid text)) fits e agrees a = sym agrees ∙ refused_again (any_fixed id_len versions) (length bytes) bytes (Invalid text) fits a.0
 sole id_len versions bytes (Err NoMemory) (Err NoMemory) fits e agrees a = refl
 

@@ -74,7 +74,7 @@ abbrev pub IsVarint : List Value → List ℕ → Type 0
 IsVarint values bytes = (n : ℕ) × (values ≡ Number n ∷ []) × Encodes n bytes
 
 -- Behind fields with the values before, and in front of rest, the bytes are a field of this kind, with these values.
--- A token is told by how many bytes follow it.
+-- A token is reported by how many bytes follow it.
 abbrev pub IsField : Context → Field → List Value → List Value → List ℕ → List ℕ → Type 0
 IsField context Version before values bytes rest = (n : ℕ) × (values ≡ Number n ∷ []) × IsNumber 4 n bytes
 IsField context DestinationId before values bytes rest = IsId values bytes
@@ -88,7 +88,7 @@ IsField context Length before values bytes rest = IsVarint values bytes
 IsField context ShortId before values bytes rest =
     (id : List ℕ) × (values ≡ Bytes id ∷ []) × (context.parsed (bytes ++ rest) ≡ Ok (id, length bytes))
 
--- What is told where no such field stands.
+-- What is reported where no such field stands.
 abbrev pub refusal_at : Field → List Value → Refusal
 refusal_at DestinationId before = Invalid (codes "malformed cid")
 refusal_at SourceId before = Invalid (codes "malformed cid")

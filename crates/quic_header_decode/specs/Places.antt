@@ -59,18 +59,18 @@ abbrev pub said_in : List ℕ → HeaderPlaces → ProtectedHeader
 said_in bytes x = header_by x.kind x.first (dst_part bytes x) (src_part bytes x) x.token x.len x.version
 
 -- the refusal that an error is in these bytes
-abbrev pub told_in : List ℕ → ReadError → Refusal
-told_in bytes (error.UnsupportedVersion version dst_len src_len) =
+abbrev pub refusal_in : List ℕ → ReadError → Refusal
+refusal_in bytes (error.UnsupportedVersion version dst_len src_len) =
     Unsupported (slice_range bytes (6 + dst_len + 1) (6 + dst_len + 1 + src_len)) (slice_range bytes 6 (6 + dst_len)) version
-told_in bytes error.UnexpectedEnd = Invalid (codes "unexpected end of packet")
-told_in bytes error.SmallPacket = Invalid (codes "packet too small")
-told_in bytes error.MalformedCid = Invalid (codes "malformed cid")
-told_in bytes error.TokenOutOfBounds = Invalid (codes "token out of bounds")
+refusal_in bytes error.UnexpectedEnd = Invalid (codes "unexpected end of packet")
+refusal_in bytes error.SmallPacket = Invalid (codes "packet too small")
+refusal_in bytes error.MalformedCid = Invalid (codes "malformed cid")
+refusal_in bytes error.TokenOutOfBounds = Invalid (codes "token out of bounds")
 
 -- what a reading says: the header and what follows it, or a refusal
 abbrev pub seen_in : List ℕ → Result HeaderPlaces ReadError → Result (ProtectedHeader × List ℕ) Refusal
 seen_in bytes (Ok x) = Ok (said_in bytes x, drop x.header_end bytes)
-seen_in bytes (Err e) = Err (told_in bytes e)
+seen_in bytes (Err e) = Err (refusal_in bytes e)
 
 -- where the ids of a long header end
 abbrev pub ids_end : HeaderPlaces → ℕ
@@ -139,7 +139,7 @@ abbrev pub any_fixed : ℕ → List ℕ → Context
 any_fixed id_len versions = record { parsed = fixed_parsed id_len; versions = versions; grease = true }
 
 -- A header and what is left behind it, or a refusal, is what the bytes begin with. A long header of an unknown version is
--- told by its ids also where they are longer than those of the versions that are known.
+-- reported by its ids also where they are longer than those of the versions that are known.
 abbrev pub ReadAnswer : Context → List ℕ → Result (ProtectedHeader × List ℕ) Refusal → Type 0
 ReadAnswer context bytes (Ok found) = HeaderAt context (length bytes) bytes found.0 found.1
 ReadAnswer context bytes (Err (Unsupported src dst version)) = IsUnknown context bytes version dst src

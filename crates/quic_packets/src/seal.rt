@@ -14,7 +14,7 @@ use quic_header_encode::encode::PartialEncode;
 use quic_header_encode::header::Header;
 use thiserror::Error;
 
-/// Why a packet is not sealed. Where several of these hold, the first of them is told.
+/// Why a packet is not sealed. Where several of these hold, the first of them is reported.
 #[derive(Clone, Copy, Debug, PartialEq, Eq, Error)]
 pub enum SealError {
     /// The number, the payload and the tag have fewer bytes than four and the sample: PADDING helps.

@@ -2,7 +2,7 @@
 ghost use Rattle.std.specs.Prelude.{◌≡◌, ◌↔◌, IsTrue, IfSome, MatchResult};
 ghost use Rattle.quic_params.specs.Meaning.{IsValid};
 ghost use Rattle.quic_params.specs.Never.{Never};
-ghost use Rattle.quic_params.specs.Range.{IsInRange, IsTold, IsToldV4, IsToldV6};
+ghost use Rattle.quic_params.specs.Range.{IsInRange, IsEncodableAddress, IsEncodableV4, IsEncodableV6};
 
 use crate::error::Error;
 use crate::record::TransportParameters;
@@ -74,23 +74,23 @@ impl TransportParameters {
             return false;
         }
         match &self.preferred_address {
-            Some(address) => is_told(address),
+            Some(address) => is_encodable(address),
             None => true,
         }
     }
 }
 
 // Whether a preferred address is read back as it is.
-fn is_told(a: &PreferredAddress) -> bool
-    ensures { IsTrue result ↔ IsTold a.now }
+fn is_encodable(a: &PreferredAddress) -> bool
+    ensures { IsTrue result ↔ IsEncodableAddress a.now }
 {
     (a.address_v4.is_some() || a.address_v6.is_some())
-        && is_v4_told(a.address_v4)
-        && is_v6_told(a.address_v6)
+        && is_v4_encodable(a.address_v4)
+        && is_v6_encodable(a.address_v6)
 }
 
-fn is_v4_told(address: Option<SocketAddrV4>) -> bool
-    ensures { IsTrue result ↔ IfSome address IsToldV4 }
+fn is_v4_encodable(address: Option<SocketAddrV4>) -> bool
+    ensures { IsTrue result ↔ IfSome address IsEncodableV4 }
 {
     match address {
         Some(s) => !s.ip().is_unspecified() || s.port() != 0,
@@ -98,8 +98,8 @@ fn is_v4_told(address: Option<SocketAddrV4>) -> bool
     }
 }
 
-fn is_v6_told(address: Option<SocketAddrV6>) -> bool
-    ensures { IsTrue result ↔ IfSome address IsToldV6 }
+fn is_v6_encodable(address: Option<SocketAddrV6>) -> bool
+    ensures { IsTrue result ↔ IfSome address IsEncodableV6 }
 {
     match address {
         Some(s) => {

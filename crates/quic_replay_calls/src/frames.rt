@@ -11,7 +11,7 @@ use std::ops::Range;
 use std::test::Fail;
 
 // Most functions here borrow the bytes that they fill, so that their ways out have nothing to drop. They answer the
-// size that is told beforehand, where a frame can be asked for that.
+// size that is reported beforehand, where a frame can be asked for that.
 
 // Writes the bytes of a line's frame, and its size where it can be asked for that.
 pub(crate) fn replay(rt: &HostRuntime, line: &str) -> Result<(), Fail> {

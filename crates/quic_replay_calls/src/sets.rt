@@ -402,7 +402,7 @@ fn changed<S: Played>(
 }
 
 // The answer of a call that only looks at either set and has no number, `false` at another call.
-fn told_alone<S: Played>(text: &mut String, set: &S, name: &str) -> Result<bool, Fail> {
+fn reported_alone<S: Played>(text: &mut String, set: &S, name: &str) -> Result<bool, Fail> {
     let done = match name {
         "min" => push_number(text, set.ends().0),
         "max" => push_number(text, set.ends().1),
@@ -416,7 +416,7 @@ fn told_alone<S: Played>(text: &mut String, set: &S, name: &str) -> Result<bool,
 }
 
 // The same of a call with one word more.
-fn told_of<S: Played>(text: &mut String, set: &S, name: &str, word: &str) -> Result<bool, Fail> {
+fn reported_of<S: Played>(text: &mut String, set: &S, name: &str, word: &str) -> Result<bool, Fail> {
     match name {
         "contains" => push_flag(text, set.has(word.parse()?))?,
         "iter" => set.runs_from(text, word)?,
@@ -425,10 +425,10 @@ fn told_of<S: Played>(text: &mut String, set: &S, name: &str, word: &str) -> Res
     Ok(true)
 }
 
-fn told<S: Played>(text: &mut String, set: &S, name: &str, words: &[&str]) -> Result<bool, Fail> {
+fn reported<S: Played>(text: &mut String, set: &S, name: &str, words: &[&str]) -> Result<bool, Fail> {
     match words {
-        [] => told_alone(text, set, name),
-        [word] => told_of(text, set, name, word),
+        [] => reported_alone(text, set, name),
+        [word] => reported_of(text, set, name, word),
         _ => Ok(false),
     }
 }
@@ -445,7 +445,7 @@ fn answer<S: Played>(
     if changed(text, alloc, set, name, numbers)? {
         return Ok(true);
     }
-    told(text, set, name, words)
+    reported(text, set, name, words)
 }
 
 // The pieces that are taken, so many at most.

@@ -87,8 +87,8 @@ plain_frames strict found bytes some s =
 pub line_shown : (payload : List ℕ) (line : Printed) → canon_lines payload ≡ line ∷ [] → shown line ≡ flat_map shown (canon_lines payload)
 line_shown payload line e = sym (append-nil (shown line)) ∙ ap (flat_map shown) (sym e)
 
-pub line_told : (payload : List ℕ) (line : Printed) (b : Bool) → canon_lines payload ≡ line ∷ [] → list_all is_plain (line ∷ []) ≡ b → b ≡ list_all is_plain (canon_lines payload)
-line_told payload line b e told = sym told ∙ ap (list_all is_plain) (sym e)
+pub line_reported : (payload : List ℕ) (line : Printed) (b : Bool) → canon_lines payload ≡ line ∷ [] → list_all is_plain (line ∷ []) ≡ b → b ≡ list_all is_plain (canon_lines payload)
+line_reported payload line b e reported = sym reported ∙ ap (list_all is_plain) (sym e)
 
 -- the digits of bytes are those of their front and of their back
 digits_of_both : (a b : List ℕ) → encode_lower (a ++ b) ≡ encode_lower a ++ encode_lower b

@@ -11,7 +11,7 @@ abbrev pub after_frame : Meaning → Result (List Meaning) Invalid → Result (L
 after_frame frame (Ok frames) = Ok (frame ∷ frames)
 after_frame frame (Err i) = Err i
 
--- the frames of items, or what is told of the one that is none
+-- the frames of items, or what is reported of the one that is none
 abbrev pub frames_in : List Item → Result (List Meaning) Invalid
 frames_in [] = Ok []
 frames_in (Whole start stop found ∷ items) = after_frame found.frame (frames_in items)

@@ -77,7 +77,7 @@ impl<'a> Iter<'a> {
     }
 
     /// The same frames, but that ACK_FREQUENCY and IMMEDIATE_ACK are of unknown types, as they are where the ACK
-    /// frequency extension wasn't negotiated. One that is broken within its fields is told for that.
+    /// frequency extension wasn't negotiated. One that is broken within its fields is reported for that.
     ///
     /// ```
     /// use quic_wire::frame::{Frame, Iter, Reason};
@@ -159,7 +159,7 @@ impl<'a> Iter<'a> {
     }
 
     /// Reads the next frames with one call, as many as there are entries, which the caller keeps from payload to
-    /// payload. A run of PADDING is one of them. `None` where nothing is left; what is no frame is told once,
+    /// payload. A run of PADDING is one of them. `None` where nothing is left; what is no frame is reported once,
     /// behind the frames before it.
     ///
     /// ```

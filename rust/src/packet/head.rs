@@ -31,9 +31,9 @@ pub struct HeaderPlaces(sys::HeaderPlaces);
 /// ```
 #[derive(Clone, Copy, Debug, PartialEq, Eq, Hash)]
 pub enum HeaderError {
-    /// The version is none of those that were given. Its version and its ids are told, of up to 255 bytes (RFC 8999).
+    /// The version is none of those that were given. Its version and its ids are reported, of up to 255 bytes (RFC 8999).
     UnsupportedVersion(HeaderPlaces),
-    /// The bytes end within the packet. All of its header is told.
+    /// The bytes end within the packet. All of its header is reported.
     CutOff(HeaderPlaces),
     /// No header can be read.
     InvalidHeader(&'static str),
@@ -71,7 +71,7 @@ const VERSION_NEGOTIATION: u8 = 5;
 impl HeaderPlaces {
     /// Reads the header of the packet that bytes begin with. Ids of short headers have `cid_len` bytes; `versions` are
     /// those that are read further than their ids. The fixed bit isn't looked at: see [`HeaderPlaces::fixed_bit`]. Ids of a
-    /// version negotiation that are longer than 20 bytes are told by [`HeaderPlaces::read_version_negotiation`] alone.
+    /// version negotiation that are longer than 20 bytes are reported by [`HeaderPlaces::read_version_negotiation`] alone.
     ///
     /// ```
     /// use quic_wire::packet::{HeaderPlaces, HeaderError};
@@ -84,7 +84,7 @@ impl HeaderPlaces {
     ///
     /// # Errors
     ///
-    /// Where no header can be read, or its packet isn't whole or of another version; then what was read is told.
+    /// Where no header can be read, or its packet isn't whole or of another version; then what was read is reported.
     ///
     /// # Panics
     ///

@@ -95,7 +95,7 @@ pub fn frames_fill(frames: &mut Frames, payload: &[u8], basic: bool, out: &mut [
     }
 }
 
-/// Reads one frame into its room: `ITEM` with it, `MALFORMED` with what is told of it, or 0. With `basic`
+/// Reads one frame into its room: `ITEM` with it, `MALFORMED` with what is reported of it, or 0. With `basic`
 /// ACK_FREQUENCY and IMMEDIATE_ACK are of unknown types.
 #[inline]
 pub fn frames_next<'r>(

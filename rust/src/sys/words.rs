@@ -59,7 +59,7 @@ pub struct Ranges {
     pub largest: u64,
 }
 
-/// What is told of the shortest form of a payload.
+/// What is reported of the shortest form of a payload.
 #[repr(C)]
 #[derive(Clone, Copy, Debug, Default, PartialEq, Eq, Hash)]
 pub struct Canon {

@@ -35,7 +35,7 @@ pub struct ConnectionClose<'a> {
     pub error_code: Code,
     /// The type of the frame that caused it, where one is known.
     pub frame_type: Option<FrameType>,
-    /// What else is told, which should be text.
+    /// What else is reported, which should be text.
     pub reason: &'a [u8],
 }
 
@@ -44,7 +44,7 @@ pub struct ConnectionClose<'a> {
 pub struct ApplicationClose<'a> {
     /// A code of the application.
     pub error_code: VarInt,
-    /// What else is told, which should be text.
+    /// What else is reported, which should be text.
     pub reason: &'a [u8],
 }
 

@@ -32,12 +32,12 @@ pub fn split_first_range(greatest: u64, blocks: &[u8]) -> Result<(u64, u64, &[u8
 {
     match field::checked_range(greatest, blocks) {
         Ok((least, next, rest)) => Ok((least, next, rest)),
-        Err(fault) => Err(told(fault)),
+        Err(fault) => Err(reported(fault)),
     }
 }
 
-// What is told of a number that is cut off or too large.
-fn told(fault: Fault) -> AckError
+// What is reported of a number that is cut off or too large.
+fn reported(fault: Fault) -> AckError
     requires { (fault ≡ Fault.UnexpectedEnd) ⊎ (fault ≡ Fault.Malformed) }
     ensures { fault_of result ≡ fault }
 {

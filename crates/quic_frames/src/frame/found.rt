@@ -20,7 +20,7 @@ pub(super) struct FirstFrame<'a> {
     pub rest: &'a [u8],
 }
 
-/// The frame at the front of bytes, where it is told whether a type counts in its shortest encoding alone,
+/// The frame at the front of bytes, where it is reported whether a type counts in its shortest encoding alone,
 /// and the last type before them.
 #[inline(always)]
 pub(super) fn read_found(

@@ -46,7 +46,7 @@ impl<'a> Iter<'a> {
         // It gives just the frames that the payload is,
         ensures frames { IfOk result (λ it. GivesFrames false payload.now it) }
 
-        // or those before what is none, and then what is told of that.
+        // or those before what is none, and then what is reported of that.
         ensures broken { IfOk result (λ it. GivesBroken false payload.now it) }
 
         // At most as many items as bytes.
@@ -56,7 +56,7 @@ impl<'a> Iter<'a> {
     }
 
     /// The same, where a type in another encoding than its shortest is no frame (RFC 9000, section 12.4):
-    /// that is told as soon as the type is read. Other fields may have any width.
+    /// that is reported as soon as the type is read. Other fields may have any width.
     pub fn strict(payload: &'a [u8]) -> Result<Self, Error>
         ensures empty { IsErr result ↔ (payload.now ≡ []) }
         ensures refusal { IfErr result (λ e. IsError e protocol_violation (codes "packet payload is empty")) }
@@ -92,7 +92,7 @@ impl<'a> Iter<'a> {
     }
 
     /// An iterator as `new` or, where `strict` is true, as `strict` gives it, at a later place: the end of a
-    /// whole frame, in bytes, with the type of that frame, which is told if the next type is cut off. `None`
+    /// whole frame, in bytes, with the type of that frame, which is reported if the next type is cut off. `None`
     /// just where the place lies past the payload. What stands before it isn't read. It takes no memory.
     pub fn resume(
         payload: &'a [u8],

@@ -2,7 +2,7 @@
 ghost use Rattle.std.specs.Prelude.{◌≡◌, ◌≤◌, Bool, IfOk, length, if◌then◌else◌};
 ghost use Rattle.quic_frame_fields.specs.Table as table;
 ghost use Rattle.quic_frames.specs.Found.{GivesFrame};
-ghost use Rattle.quic_frames.specs.InRange.{IsToldApart};
+ghost use Rattle.quic_frames.specs.InRange.{HasNoTypeZero};
 ghost use Rattle.quic_frames.specs.Meaning.{meaning_of};
 ghost use Rattle.quic_frames.specs.declared.frame.Frame.TheVariants as frames;
 ghost use Rattle.quic_frame_fields.specs.Reading.{Gives, row_at, frame_at};
@@ -233,7 +233,7 @@ fn read_path(ty: u64, bytes: &[u8]) -> Result<(Frame<'_>, &[u8]), Fault>
 fn close(ty: u64, bytes: &[u8]) -> Result<(Close<'_>, &[u8]), Fault>
     requires either { (0x1c ≤ ty) × (ty ≤ 0x1d) }
     ensures gives { Gives (λ x. (meaning_of (frames.Close x.0), x.1.now)) result (frame_at ty bytes.now) }
-    ensures apart { IfOk result (λ x. IsToldApart (frames.Close x.0)) }
+    ensures apart { IfOk result (λ x. HasNoTypeZero (frames.Close x.0)) }
 {
     let (error_code, rest) = varint(bytes)?;
     if ty == 0x1d {

@@ -243,7 +243,7 @@ fn stream_ids(rt: HostRuntime) -> Result<(), Fail> {
     checks.verdict()
 }
 
-fn are_told_apart(client: Side, server: Side) -> bool {
+fn are_distinct(client: Side, server: Side) -> bool {
     client.is_client() && !client.is_server() && !server.is_client() && server.is_server()
 }
 
@@ -264,7 +264,7 @@ fn directions_have_their_texts(alloc: Global) -> bool {
 #[test]
 fn sides_and_directions(rt: HostRuntime) -> Result<(), Fail> {
     let mut checks = Checks::new(rt.alloc());
-    checks.holds(are_told_apart(Side::Client, Side::Server));
+    checks.holds(are_distinct(Side::Client, Side::Server));
     checks.same((!Side::Client, !Side::Server), (Side::Server, Side::Client));
     checks.same((Side::Client as u8, Side::Server as u8), (0, 1));
     checks.same((Dir::Bi as u8, Dir::Uni as u8), (0, 1));

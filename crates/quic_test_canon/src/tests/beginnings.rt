@@ -133,12 +133,12 @@ fn beginnings_of_what_goes_on_to_the_end(rt: HostRuntime) -> Result<(), Fail> {
         let ty = Some(FrameType::of(u64::from(number)));
         for k in 1..=frame.len() {
             let begun = &frame[..k];
-            let is_told = if k < head {
+            let is_reported = if k < head {
                 is_cut(begun, &ty)
             } else {
                 is_whole(true, begun)
             };
-            checks.holds_at(format_args!("{k} bytes of type {number:x}"), is_told);
+            checks.holds_at(format_args!("{k} bytes of type {number:x}"), is_reported);
         }
     }
     checks.verdict()
@@ -164,9 +164,9 @@ fn beginnings_of_an_id_that_cannot_be(rt: HostRuntime) -> Result<(), Fail> {
             } else {
                 "malformed"
             };
-            let is_told = is_broken(false, &frame[..k], &ty, reason)
+            let is_reported = is_broken(false, &frame[..k], &ty, reason)
                 && is_broken(true, &frame[..k], &ty, reason);
-            checks.holds_at(format_args!("{k} bytes, wrong from {at} on"), is_told);
+            checks.holds_at(format_args!("{k} bytes, wrong from {at} on"), is_reported);
         }
     }
     checks.verdict()
@@ -174,7 +174,7 @@ fn beginnings_of_an_id_that_cannot_be(rt: HostRuntime) -> Result<(), Fail> {
 
 // A payload is read without an error exactly where it has a shortest form, which is no longer, is its own and is
 // read where types count in their shortest form alone; else the error is the same.
-fn is_told_alike(alloc: Global, payload: &[u8]) -> bool {
+fn is_reported_alike(alloc: Global, payload: &[u8]) -> bool {
     match &canonical_of(alloc, payload) {
         Ok(bytes) => is_whole(false, payload) && is_least(alloc, bytes.bytes(), payload.len()),
         Err(CanonError::Invalid(invalid)) => {
@@ -199,7 +199,7 @@ fn each_beginning_of_each_row(rt: HostRuntime) -> Result<(), Fail> {
         for &(line, _) in rows {
             if let Ok(bytes) = hex::decode(rt.alloc(), line) {
                 for k in 0..=bytes.len() {
-                    checks.holds_at(line, is_told_alike(rt.alloc(), &bytes[..k]));
+                    checks.holds_at(line, is_reported_alike(rt.alloc(), &bytes[..k]));
                 }
             }
         }

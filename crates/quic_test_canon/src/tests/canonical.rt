@@ -65,9 +65,9 @@ fn what_is_refused(rt: HostRuntime) -> Result<(), Fail> {
 }
 
 // Whether this was answered.
-fn is_told(answer: &Result<bool, CanonError>, same: bool) -> bool {
+fn is_reported(answer: &Result<bool, CanonError>, same: bool) -> bool {
     match answer {
-        Ok(told) => *told == same,
+        Ok(reported) => *reported == same,
         Err(_) => false,
     }
 }
@@ -101,7 +101,7 @@ fn payloads_that_mean_the_same(rt: HostRuntime) -> Result<(), Fail> {
             false,
         ),
     ] {
-        checks.holds(is_told(&mean_the_same(rt.alloc(), payload, other), same));
+        checks.holds(is_reported(&mean_the_same(rt.alloc(), payload, other), same));
     }
     checks.holds(is_empty(&mean_the_same(rt.alloc(), b"\x00", b"")));
     checks.verdict()

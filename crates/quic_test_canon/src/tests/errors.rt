@@ -13,7 +13,7 @@ fn says<E: Error>(checks: &mut Checks, alloc: Global, error: &E, text: &str) -> 
 }
 
 #[test]
-fn errors_are_told(rt: HostRuntime) -> Result<(), Fail> {
+fn errors_are_reported(rt: HostRuntime) -> Result<(), Fail> {
     let mut checks = Checks::new(rt.alloc());
     let long = CanonError::Invalid(InvalidFrame {
         ty: Some(FrameType::PADDING),

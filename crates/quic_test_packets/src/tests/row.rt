@@ -211,7 +211,7 @@ fn is_unsealed_by_a_bit(alloc: Global, at: usize) -> bool {
     first_number(alloc, &changed) == Err(OpenError::Unsealed)
 }
 
-// The tag is the last 16 bytes of the first packet. Want of memory is not told where there is memory.
+// The tag is the last 16 bytes of the first packet. Want of memory is not reported where there is memory.
 #[test]
 fn a_changed_tag(rt: HostRuntime) -> Result<(), Fail> {
     let mut checks = Checks::new(rt.alloc());

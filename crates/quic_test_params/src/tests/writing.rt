@@ -149,7 +149,7 @@ fn is_stored_in_its_room(params: &TransportParameters, bytes: &[u8]) -> bool {
     params.write_into(just) == Ok(bytes.len()) && is_front(&room, bytes)
 }
 
-// Whether nothing is written where there is room for one byte less, and their number is told.
+// Whether nothing is written where there is room for one byte less, and their number is reported.
 fn is_refused(params: &TransportParameters, bytes: &[u8]) -> bool {
     let mut room = [0xff; 90];
     let Some(little) = room.get_mut(..bytes.len().saturating_sub(1)) else {

@@ -17,7 +17,7 @@ use quic_frames::frame::{FrameType, InvalidFrame, Iter};
 use quic_frames::transport_error::Error;
 use std::alloc::AllocError;
 
-// A line for each frame, and one for what is none, where it is told whether a type counts in its shortest
+// A line for each frame, and one for what is none, where it is reported whether a type counts in its shortest
 // encoding alone.
 pub(super) fn print_frames<W: Sink>(
     strict: bool,

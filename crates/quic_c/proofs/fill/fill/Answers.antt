@@ -1,7 +1,7 @@
 use Rattle.std.proofs.Common.{◌≡◌, inl, inr, refl, true, Some, subst, ap, arith}
 use Rattle.quic_frames.specs.Walk.{invalid_of, Finds, Advances}
 use Rattle.quic_c.specs.Shown.{kind_of, shown, IsExtension}
-use Rattle.quic_c.specs.Answers.{IsRefused, unknown_told}
+use Rattle.quic_c.specs.Answers.{IsRefused, unknown_type}
 use Rattle.quic_c.proofs.Filling.{filling_ends, filling_goes_on}
 use Rattle.quic_c.proofs.Types.{is_kept, unknown_refused}
 use Rattle.quic_c.proofs.fill.fill.Goals as goal
@@ -38,5 +38,5 @@ returns-then-is_unknown-clause-filled g c =
     let here = c.loop-count in
     let frame = c.in-Some-Ok.frame in
     let finds : Finds here.iter frame c.next.new.self = subst (λ f. Advances here.iter (Some f) c.next.new.self) c.in-Some-Ok.field-0-is c.in-Some-Ok.ensures.steps in
-    let refused : IsRefused c.args.basic here.iter (unknown_told (kind_of frame)) = unknown_refused c.args.basic here.iter c.next.new.self frame (unknown_told (kind_of frame)) finds (c.is_unknown.ensures.0 c.if-is_unknown.true) refl in
-    filling_ends c.args.basic c.args.iter.now c.args.out.now here.iter here.out here.count here.end c.last_type-last.result here.invariant c.last_type-last.ensures (inr (inr (unknown_told (kind_of frame), refused)))
+    let refused : IsRefused c.args.basic here.iter (unknown_type (kind_of frame)) = unknown_refused c.args.basic here.iter c.next.new.self frame (unknown_type (kind_of frame)) finds (c.is_unknown.ensures.0 c.if-is_unknown.true) refl in
+    filling_ends c.args.basic c.args.iter.now c.args.out.now here.iter here.out here.count here.end c.last_type-last.result here.invariant c.last_type-last.ensures (inr (inr (unknown_type (kind_of frame), refused)))

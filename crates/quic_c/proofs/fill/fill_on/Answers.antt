@@ -17,15 +17,15 @@ returns-in-Err g c =
     let way : way_of c.args.frames.now c.args.payload.now ≡ c.in-Some.iter = search rules in
     let first : IsRefused c.args.basic (way_of c.args.frames.now c.args.payload.now) (invalid_of c.in-Err.invalid) = subst (λ (w : Way). IsRefused c.args.basic w (invalid_of c.in-Err.invalid)) (sym way) here in
     let some : 0 < length c.args.out.now = search rules in
-    let told = c.show_invalid.result in
+    let reported = c.show_invalid.result in
     record {
       answers = search rules;
       frames = search rules;
       end = search rules;
       invalid = λ _. record {
-        entry = told;
-        invalid = record { told = invalid_of c.in-Err.invalid; first = first; over = refl; words = c.show_invalid.ensures };
-        entries = ap (λ (l : List FrameWords). set l 0 told) s.1 ∙ drop-set c.args.out.now 0 told some;
+        entry = reported;
+        invalid = record { reported = invalid_of c.in-Err.invalid; first = first; over = refl; words = c.show_invalid.ensures };
+        entries = ap (λ (l : List FrameWords). set l 0 reported) s.1 ∙ drop-set c.args.out.now 0 reported some;
       };
       room = search rules;
       outside = search rules;

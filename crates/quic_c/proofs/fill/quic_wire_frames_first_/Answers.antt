@@ -28,11 +28,11 @@ returns-in-Err-clause-invalid c =
     let s = c.in-Err.ensures.invalid in
     let it : IsRefused false (way_of (at_front 0) c.args.payload.now) (invalid_of c.in-Err.invalid) = rw c.in-Some.ensures.way at s.0 in
     let room : 0 < length c.args.out.now = search rules in
-    let told = c.show_invalid.result in
+    let reported = c.show_invalid.result in
     λ _. record {
-      entry = told;
-      invalid = record { told = invalid_of c.in-Err.invalid; first = it; over = refl; words = c.show_invalid.ensures };
-      entries = ap (λ (l : List FrameWords). set l 0 told) s.1 ∙ drop-set c.args.out.now 0 told room;
+      entry = reported;
+      invalid = record { reported = invalid_of c.in-Err.invalid; first = it; over = refl; words = c.show_invalid.ensures };
+      entries = ap (λ (l : List FrameWords). set l 0 reported) s.1 ∙ drop-set c.args.out.now 0 reported room;
     }
 
 pub returns-in-Err-clause-frames : goal.returns-in-Err-clause-frames

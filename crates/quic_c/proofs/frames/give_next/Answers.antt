@@ -3,7 +3,7 @@ use Rattle.std.proofs.lemmas.Grind.{common_steps}
 use Rattle.quic_frame_fields.specs.Reading.{Broken}
 use Rattle.quic_frames.specs.Way.{Way}
 use Rattle.quic_frames.specs.Walk.{invalid_of, left, Advances, Finds}
-use Rattle.quic_c.specs.Answers.{GivesInvalid, IsRefused, unknown_told}
+use Rattle.quic_c.specs.Answers.{GivesInvalid, IsRefused, unknown_type}
 use Rattle.quic_c.specs.Filling.{further}
 use Rattle.quic_c.specs.Shown.{kind_of, type_in, way_of}
 use Rattle.quic_c.proofs.Types.{behind_frame, gives_frame, is_kept, unknown_refused}
@@ -24,7 +24,7 @@ returns-in-Some-Err g c =
     let s = subst (λ f. Advances c.args.iter.now (Some f) c.next.new.self) c.in-Some-Err.field-0-is c.in-Some-Err.ensures.steps in
     let here : left (way_of c.args.frames.now c.args.iter.now.payload) ≡ Broken (invalid_of c.in-Some-Err.invalid) ∷ [] = ap left c.requires.way ∙ s.0 in
     let gives : GivesInvalid c.args.basic c.args.frames.now c.args.iter.now.payload c.refuse-in-Some-Err.new.frames c.refuse-in-Some-Err.new.out =
-    record { told = invalid_of c.in-Some-Err.invalid; first = inl here; over = c.refuse-in-Some-Err.ensures.over; words = c.refuse-in-Some-Err.ensures.words } in
+    record { reported = invalid_of c.in-Some-Err.invalid; first = inl here; over = c.refuse-in-Some-Err.ensures.over; words = c.refuse-in-Some-Err.ensures.words } in
     record {
       answers = search rules;
       frame = search rules;
@@ -55,12 +55,12 @@ returns-else-is_unknown g c =
 pub returns-then-is_unknown : goal.returns-then-is_unknown
 returns-then-is_unknown g c =
     let frame = c.in-Some-Ok.frame in
-    let told = invalid_of c.unknown.result in
+    let reported = invalid_of c.unknown.result in
     let finds : Finds c.args.iter.now frame c.next.new.self = subst (λ f. Advances c.args.iter.now (Some f) c.next.new.self) c.in-Some-Ok.field-0-is c.in-Some-Ok.ensures.steps in
-    let tells : told ≡ unknown_told (kind_of frame) = c.unknown.ensures ∙ ap (λ p. unknown_told p.kind) c.parts_of.ensures in
-    let here : IsRefused c.args.basic c.args.iter.now told = unknown_refused c.args.basic c.args.iter.now c.next.new.self frame told finds (c.is_unknown.ensures.0 c.if-is_unknown.true) tells in
-    let first : IsRefused c.args.basic (way_of c.args.frames.now c.args.iter.now.payload) told = subst (λ (w : Way). IsRefused c.args.basic w told) (sym c.requires.way) here in
-    let gives : GivesInvalid c.args.basic c.args.frames.now c.args.iter.now.payload c.refuse.new.frames c.refuse.new.out = record { told = told; first = first; over = c.refuse.ensures.over; words = c.refuse.ensures.words } in
+    let tells : reported ≡ unknown_type (kind_of frame) = c.unknown.ensures ∙ ap (λ p. unknown_type p.kind) c.parts_of.ensures in
+    let here : IsRefused c.args.basic c.args.iter.now reported = unknown_refused c.args.basic c.args.iter.now c.next.new.self frame reported finds (c.is_unknown.ensures.0 c.if-is_unknown.true) tells in
+    let first : IsRefused c.args.basic (way_of c.args.frames.now c.args.iter.now.payload) reported = subst (λ (w : Way). IsRefused c.args.basic w reported) (sym c.requires.way) here in
+    let gives : GivesInvalid c.args.basic c.args.frames.now c.args.iter.now.payload c.refuse.new.frames c.refuse.new.out = record { reported = reported; first = first; over = c.refuse.ensures.over; words = c.refuse.ensures.words } in
     record {
       answers = search rules;
       frame = search rules;

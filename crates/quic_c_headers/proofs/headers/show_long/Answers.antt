@@ -1,4 +1,4 @@
--- What was read is told.
+-- What was read is reported.
 use Rattle.std.proofs.Common.{◌≡◌, ℕ, List, Result, Ok, Err, ap, sym, ◌∙◌}
 use Rattle.std.specs.Prelude.{IfOk, slice_index}
 use Rattle.quic_header_decode.specs.declared.places.HeaderPlaces.{HeaderPlaces}
@@ -10,8 +10,8 @@ first_of : (read : Result HeaderPlaces ReadError) (first : ℕ) (packet : List �
 first_of (Ok x) first packet is stands = is ∙ sym stands
 first_of (Err e) first packet is stands = tt
 
-pub returns-clause-told : goal.returns-clause-told
-returns-clause-told c = λ id_len. record {
+pub returns-clause-reported : goal.returns-clause-reported
+returns-clause-reported c = λ id_len. record {
   read = c.read_long.result;
   right = c.read_long.ensures.answer id_len;
   stored = c.read_long.ensures.seen;

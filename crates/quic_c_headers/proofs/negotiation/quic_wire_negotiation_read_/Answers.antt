@@ -1,9 +1,9 @@
--- The ids that are told are those that stand there, and a header of these is told so.
-use Rattle.quic_c_headers.proofs.Negotiated.{same_ids, same_words, told}
+-- The ids that are reported are those that stand there, and a header of these is reported so.
+use Rattle.quic_c_headers.proofs.Negotiated.{same_ids, same_words, reported}
 use Rattle.quic_c_headers.proofs.negotiation.quic_wire_negotiation_read_.Goals as goal
 
-pub returns-clause-told : goal.returns-clause-told
-returns-clause-told c = λ _ dst src rest is.
+pub returns-clause-reported : goal.returns-clause-reported
+returns-clause-reported c = λ _ dst src rest is.
     let packet = c.args.packet.now in
     let found = c.in-Some.ensures.read in
     let same = same_ids packet c.in-Some.dst.now c.in-Some.src.now found.0 dst src rest found.1 is in
@@ -12,4 +12,4 @@ returns-clause-told c = λ _ dst src rest is.
 pub returns-clause-agrees : goal.returns-clause-agrees
 returns-clause-agrees c = λ _ few less id_len versions.
     let found = c.in-Some.ensures.read in
-    told id_len versions c.args.packet.now c.in-Some.dst.now c.in-Some.src.now found.0 c.args.head.now found.1 few less
+    reported id_len versions c.args.packet.now c.in-Some.dst.now c.in-Some.src.now found.0 c.args.head.now found.1 few less

@@ -16,11 +16,11 @@ returns-in-Ok-clause-first c = (splits_first c.args.greatest c.args.blocks.now _
 pub returns-in-Ok-clause-valid : goal.returns-in-Ok-clause-valid
 returns-in-Ok-clause-valid c = (splits_first c.args.greatest c.args.blocks.now _ c.in-Ok.ensures.bytes c.in-Ok.ensures.gives).valid
 
-pub told-requires : goal.told-requires
-told-requires c = (none_first c.args.greatest c.args.blocks.now _ c.in-Err.ensures.bytes c.in-Err.ensures.gives).reason.either
+pub reported-requires : goal.reported-requires
+reported-requires c = (none_first c.args.greatest c.args.blocks.now _ c.in-Err.ensures.bytes c.in-Err.ensures.gives).reason.either
 
 pub returns-in-Err-clause-refused : goal.returns-in-Err-clause-refused
-returns-in-Err-clause-refused c = (none_first c.args.greatest c.args.blocks.now _ c.in-Err.ensures.bytes (rw (← c.told.ensures) at c.in-Err.ensures.gives)).refused
+returns-in-Err-clause-refused c = (none_first c.args.greatest c.args.blocks.now _ c.in-Err.ensures.bytes (rw (← c.reported.ensures) at c.in-Err.ensures.gives)).refused
 
 pub returns-in-Err-clause-taken : goal.returns-in-Err-clause-taken
 returns-in-Err-clause-taken c = (none_first c.args.greatest c.args.blocks.now _ c.in-Err.ensures.bytes c.in-Err.ensures.gives).taken

@@ -8,7 +8,7 @@ use Rattle.quic_text.specs.Printed.{Plain, shown}
 use Rattle.quic_text.specs.FrameText.{item_line, empty_line}
 use Rattle.quic_text.specs.CanonText.{canon_lines}
 use Rattle.quic_text.specs.Whole.{AppendsAllBut, AppendsBeginning}
-use Rattle.quic_text.proofs.CanonLines.{given_printed, broken_printed, line_shown, line_told}
+use Rattle.quic_text.proofs.CanonLines.{given_printed, broken_printed, line_shown, line_reported}
 use Rattle.quic_text.proofs.PassingLemmas.{all_waits, nothing_begun, on_err}
 use Rattle.quic_text.proofs.print.canon.print_canon.Goals as goal
 
@@ -33,7 +33,7 @@ returns-in_ok-print_digits-in-Ok-clause-ok g c =
 pub returns-in_ok-print_digits-in-Ok-clause-clean : goal.returns-in_ok-print_digits-in-Ok-clause-clean
 returns-in_ok-print_digits-in-Ok-clause-clean g c =
     let given = given_printed c.args.payload.now c.in-Ok.canonical c.one_least.ensures.exists c.in-Ok.ensures.ok in
-    line_told c.args.payload.now (Plain (encode_lower (canon_bytes c.in-Ok.canonical))) _ given refl
+    line_reported c.args.payload.now (Plain (encode_lower (canon_bytes c.in-Ok.canonical))) _ given refl
 
 pub returns-in_ok-push_str-in-Err-Empty-clause-ok : goal.returns-in_ok-push_str-in-Err-Empty-clause-ok
 returns-in_ok-push_str-in-Err-Empty-clause-ok g c =
@@ -52,4 +52,4 @@ returns-in_ok-print_invalid-in-Err-Invalid-clause-clean g c =
     let r = rw c.in-Err-Invalid.field-0-is at c.in-Err-Invalid.ensures.err in
     let line : canon_lines c.args.payload.now ≡ item_line (Broken (invalid_of c.in-Err-Invalid.invalid)) ∷ [] =
     broken_printed r.0 c.args.payload.now r.1 r.2 (λ i. (c.type_inv.payload i).fits) r.3 ∙ ap (λ (j : Invalid). item_line (Broken j) ∷ []) (sym r.4) in
-    line_told c.args.payload.now (item_line (Broken (invalid_of c.in-Err-Invalid.invalid))) _ line refl
+    line_reported c.args.payload.now (item_line (Broken (invalid_of c.in-Err-Invalid.invalid))) _ line refl

@@ -1,4 +1,4 @@
--- What is told of a payload that can't be read.
+-- What is reported of a payload that can't be read.
 use Rattle.std.specs.Prelude.{◌≡◌, ◌⊎◌, ℕ, List, [], Option, None, false, codes}
 use Rattle.quic_errors.specs.Codes.{IsError, IsErrorOf, protocol_violation}
 use Rattle.quic_errors.specs.declared.transport_error.Error.{Error}
@@ -9,8 +9,8 @@ use Rattle.quic_frame_fields.specs.declared.frame.fault.Fault.TheVariants.{Unexp
 
 -- The payload has no frame, or it is frames and then something that isn't one, and the error tells its type and its
 -- reason.
-abbrev pub IsTold : List ℕ → Error → Type 0
-IsTold payload error =
+abbrev pub IsReported : List ℕ → Error → Type 0
+IsReported payload error =
     ((payload ≡ []) × IsError error protocol_violation (codes "packet payload is empty"))
     ⊎ ((found : List Found) × (type : Option ℕ) × (reason : Fault) × IsBroken false None found payload type reason × IsErrorOf type (reason_text reason) error)
 

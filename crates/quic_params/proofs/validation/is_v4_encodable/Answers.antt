@@ -1,5 +1,5 @@
 use Rattle.std.proofs.Common.{rules}
-use Rattle.quic_params.proofs.validation.is_v4_told.Goals as goal
+use Rattle.quic_params.proofs.validation.is_v4_encodable.Goals as goal
 
 pub returns-else-not-is_unspecified : goal.returns-else-not-is_unspecified
 returns-else-not-is_unspecified c = search rules

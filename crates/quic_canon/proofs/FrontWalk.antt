@@ -21,7 +21,7 @@ pub record InFront (payload : List ℕ) (n : ℕ) (way : Way) (found : List Foun
   pub cut : IsCut payload n found others
   pub rest : List Found
   pub left_are : map unplaced (left way) ≡ map given rest
-  pub state : ((n ≡ way.offset) × (rest ≡ others)) ⊎ ((n < way.offset) × (length (shortest_frames (map frame_in others)) < length payload - n))
+  pub is_there : ((n ≡ way.offset) × (rest ≡ others)) ⊎ ((n < way.offset) × (length (shortest_frames (map frame_in others)) < length payload - n))
 
 pub record FrontWalk (payload : List ℕ) (front start : ℕ) (way : Way) : Type 0 where
   pub walks : Walks payload start way
@@ -35,7 +35,7 @@ front_begins payload way found first are s = record {
   cut = record { back = s; parts = refl; within = omega arith };
   rest = found;
   left_are = are;
-  state = inl (sym (ap (λ (w : Way). w.offset) first), refl);
+  is_there = inl (sym (ap (λ (w : Way). w.offset) first), refl);
 }
 
 pub front_walk_begins : (payload : List ℕ) (way : Way) → way ≡ first_of false payload → IsEither false None payload → GivesFrames false payload way → GivesBroken false payload way
@@ -48,7 +48,7 @@ front_walk_begins payload way first e whole broken = record {
 
 -- the frames that are left where all before are in their shortest encodings
 all_so_far : (payload : List ℕ) (n : ℕ) (way : Way) (found : List Found) → (f : InFront payload n way found) → n ≡ way.offset → f.rest ≡ f.others
-all_so_far payload n way found f e = is f.state
+all_so_far payload n way found f e = is f.is_there
   where
     is : ((n ≡ way.offset) × (f.rest ≡ f.others)) ⊎ ((n < way.offset) × (length (shortest_frames (map frame_in f.others)) < length payload - n)) → f.rest ≡ f.others
     is (inl a) = a.1
@@ -80,7 +80,7 @@ front_grows payload start size old new frame b begins one len w f tested e =
             };
             rest = n.more;
             left_are = n.left_are;
-            state = inl (refl, refl);
+            is_there = inl (refl, refl);
           };
     }
 
@@ -107,7 +107,7 @@ front_ends payload start size old new frame b begins one all len w f tested e =
             cut = a.cut;
             rest = n.more;
             left_are = n.left_are;
-            state = inr (some, omega (arith, is, fewer, lt, some, within, length-drop stop payload));
+            is_there = inr (some, omega (arith, is, fewer, lt, some, within, length-drop stop payload));
           };
     }
 
@@ -128,7 +128,7 @@ front_stays payload front start old new frame differs w f =
             cut = a.cut;
             rest = g.0;
             left_are = g.2;
-            state = later (w.walks.start_is) some a.others a.rest a.state;
+            is_there = later (w.walks.start_is) some a.others a.rest a.is_there;
           };
     }
   where
@@ -152,7 +152,7 @@ front_done payload front start way some (inl a) w none =
       encoded = a.1;
       others = f.others;
       cut = f.cut;
-      shorter = λ lt. shorter (w.walks.start_is ∙ at) f.others f.rest lt f.state;
+      shorter = λ lt. shorter (w.walks.start_is ∙ at) f.others f.rest lt f.is_there;
     }
   where
     shorter : way.offset ≡ length payload → (others rest : List Found) → front < length payload → ((front ≡ way.offset) × (rest ≡ others)) ⊎ ((front < way.offset) × (length (shortest_frames (map frame_in others)) < length payload - front))

@@ -5,7 +5,7 @@ use Rattle.std.proofs.lemmas.List.{take_more_set, drop-set-lt}
 use Rattle.std.proofs.Math.ListN.{length-set}
 use Rattle.std.proofs.lemmas.Grind.{drop_more_same}
 use Rattle.quic_frames.specs.declared.frame.Frame.{Frame}
-use Rattle.quic_frames.specs.Way.{Way}
+use Rattle.quic_frames.specs.IterState.{IterState}
 use Rattle.quic_frames.specs.Walk.{Finds}
 use Rattle.quic_frames.specs.Padding.{PassesPadding, behind}
 use Rattle.quic_c.specs.declared.words.FrameWords.{FrameWords}
@@ -21,29 +21,29 @@ shows-append step old (first ∷ entries) here entry new s gives = (s.0, s.1, sh
 
 -- ---- places over one payload
 
-abbrev IsFurther : Way → Way → Type 0
+abbrev IsFurther : IterState → IterState → Type 0
 IsFurther old new = new ≡ further old new.offset new.last
 
-further_on : (a b c : Way) → IsFurther a b → IsFurther b c → IsFurther a c
-further_on a b c ab bc = bc ∙ ap (λ (w : Way). further w c.offset c.last) ab
+further_on : (a b c : IterState) → IsFurther a b → IsFurther b c → IsFurther a c
+further_on a b c ab bc = bc ∙ ap (λ (w : IterState). further w c.offset c.last) ab
 
-found_further : (old new : Way) (frame : Frame) → Finds old frame new → IsFurther old new
-found_further old new frame f = f.comes ∙ ap (λ (l : Option ℕ). further old new.offset l) (sym (ap (λ (w : Way). w.last) f.comes))
+found_further : (old new : IterState) (frame : Frame) → Finds old frame new → IsFurther old new
+found_further old new frame f = f.comes ∙ ap (λ (l : Option ℕ). further old new.offset l) (sym (ap (λ (w : IterState). w.last) f.comes))
 
-behind_further : (n : ℕ) (way : Way) → IsFurther way (behind n way)
-behind_further zero way = refl
-behind_further (suc n) way = refl
+behind_further : (n : ℕ) (state : IterState) → IsFurther state (behind n state)
+behind_further zero state = refl
+behind_further (suc n) state = refl
 
-passed_further : (old new : Way) (count : ℕ) → PassesPadding old count new → IsFurther old new
-passed_further old new count p = subst (λ (w : Way). IsFurther old w) (sym p.comes) (behind_further count old)
+passed_further : (old new : IterState) (count : ℕ) → PassesPadding old count new → IsFurther old new
+passed_further old new count p = subst (λ (w : IterState). IsFurther old w) (sym p.comes) (behind_further count old)
 
-pub passed_payload : (old new : Way) (count : ℕ) → PassesPadding old count new → new.payload ≡ old.payload
-passed_payload old new count p = ap (λ (w : Way). w.payload) (passed_further old new count p)
+pub passed_payload : (old new : IterState) (count : ℕ) → PassesPadding old count new → new.payload ≡ old.payload
+passed_payload old new count p = ap (λ (w : IterState). w.payload) (passed_further old new count p)
 
 -- ---- the loop
 
 -- So many entries are filled, from a place up to one that ends there.
-pub record Filling (basic : Bool) (old : Way) (before : List FrameWords) (here : Way) (after : List FrameWords) (count end : ℕ) : Type 0 where
+pub record Filling (basic : Bool) (old : IterState) (before : List FrameWords) (here : IterState) (after : List FrameWords) (count end : ℕ) : Type 0 where
   pub few : count ≤ length after
   pub all : length after ≡ length before
   pub place : here.offset ≡ end
@@ -51,21 +51,21 @@ pub record Filling (basic : Bool) (old : Way) (before : List FrameWords) (here :
   pub shows : Shows (GivesEntry basic) old (take count after) here
   pub kept : drop count after ≡ drop count before
 
-pub filling_begins : (basic : Bool) (old : Way) (before : List FrameWords) (end : ℕ) → end ≡ old.offset → Filling basic old before old before 0 end
+pub filling_begins : (basic : Bool) (old : IterState) (before : List FrameWords) (end : ℕ) → end ≡ old.offset → Filling basic old before old before 0 end
 filling_begins basic old before end e = record { few = omega arith; all = refl; place = sym e; comes = refl; shows = refl; kept = refl }
 
 pub kinds : (n : ℕ) → (n ≡ 0) ⊎ (0 < n)
 kinds zero = inl refl
 kinds (suc n) = inr (omega arith)
 
-next_further : (here next new : Way) (frame : Frame) → Finds here frame next → (kind_of frame ≡ 0 → (more : ℕ) × PassesPadding next more new) → (0 < kind_of frame → new ≡ next) → IsFurther here new
+next_further : (here next new : IterState) (frame : Frame) → Finds here frame next → (kind_of frame ≡ 0 → (more : ℕ) × PassesPadding next more new) → (0 < kind_of frame → new ≡ next) → IsFurther here new
 next_further here next new frame f run one =
     elim (kinds (kind_of frame)) [
       | inl is ↦ let p = run is in further_on here next new (found_further here next frame f) (passed_further next new p.0 p.1)
-      | inr is ↦ subst (λ (w : Way). IsFurther here w) (sym (one is)) (found_further here next frame f)
+      | inr is ↦ subst (λ (w : IterState). IsFurther here w) (sym (one is)) (found_further here next frame f)
     ]
 
-pub filling_goes_on : (basic : Bool) (old : Way) (before : List FrameWords) (here : Way) (after : List FrameWords) (count end : ℕ) (next new : Way) (frame : Frame) (entry : FrameWords) (stop type : ℕ)
+pub filling_goes_on : (basic : Bool) (old : IterState) (before : List FrameWords) (here : IterState) (after : List FrameWords) (count end : ℕ) (next new : IterState) (frame : Frame) (entry : FrameWords) (stop type : ℕ)
     → Filling basic old before here after count end → count < length after → (finds : Finds here frame next) → ((basic ≡ true) × IsExtension (kind_of frame) → ⊥) → (kind_of frame ≡ 0 → (more : ℕ) × PassesPadding next more new) → (0 < kind_of frame → new ≡ next)
     → stop ≡ new.offset → type ≡ finds.found.type → entry ≡ shown end stop type frame → Filling basic old before new (set after count entry) (count + 1) stop
 filling_goes_on basic old before here after count end next new frame entry stop type s room f known run one e begins words =
@@ -83,23 +83,23 @@ filling_goes_on basic old before here after count end next new frame entry stop 
     }
 
 -- where it ends
-pub filling_ends : (basic : Bool) (old : Way) (before : List FrameWords) (here : Way) (after : List FrameWords) (count end : ℕ) (last : Option ℕ) → Filling basic old before here after count end → last ≡ here.last
+pub filling_ends : (basic : Bool) (old : IterState) (before : List FrameWords) (here : IterState) (after : List FrameWords) (count end : ℕ) (last : Option ℕ) → Filling basic old before here after count end → last ≡ here.last
     → (count ≡ length before) ⊎ HasNoFrame basic here → Fills basic old before (further old end last) after count
 filling_ends basic old before here after count end last s e full =
     let is : here ≡ further old end last = s.comes ∙ ap (λ (n : ℕ). further old n here.last) s.place ∙ ap (further old end) (sym e) in
     let fills : Fills basic old before here after count = record { few = rw (← s.all) s.few; shows = s.shows; kept = s.kept; full = full } in
-    subst (λ (w : Way). Fills basic old before w after count) is fills
+    subst (λ (w : IterState). Fills basic old before w after count) is fills
 
 -- where nothing was filled
-pub filling_none : (basic : Bool) (old : Way) (before : List FrameWords) (here : Way) (after : List FrameWords) (count end : ℕ) → Filling basic old before here after count end → count ≡ 0 → (old ≡ here) × (after ≡ before)
+pub filling_none : (basic : Bool) (old : IterState) (before : List FrameWords) (here : IterState) (after : List FrameWords) (count end : ℕ) → Filling basic old before here after count end → count ≡ 0 → (old ≡ here) × (after ≡ before)
 filling_none basic old before here after count end s none =
     let shows : Shows (GivesEntry basic) old (take 0 after) here = rw none at s.shows in
     let kept : drop 0 after ≡ drop 0 before = rw none at s.kept in
     (shows, kept)
 
 -- where it stops in front of what isn't given, which is reported if no entry was filled
-pub filling_stops : (basic : Bool) (old : Way) (before : List FrameWords) (here : Way) (after : List FrameWords) (count end : ℕ) (reported : Invalid) → Filling basic old before here after count end
+pub filling_stops : (basic : Bool) (old : IterState) (before : List FrameWords) (here : IterState) (after : List FrameWords) (count end : ℕ) (reported : Invalid) → Filling basic old before here after count end
     → IsRefused basic here reported → count ≡ 0 → IsRefused basic old reported × (after ≡ before)
 filling_stops basic old before here after count end reported s refused none =
     let n = filling_none basic old before here after count end s none in
-    (subst (λ (w : Way). IsRefused basic w reported) (sym n.0) refused, n.1)
+    (subst (λ (w : IterState). IsRefused basic w reported) (sym n.0) refused, n.1)

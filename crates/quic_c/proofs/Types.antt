@@ -8,13 +8,13 @@ use Rattle.quic_frame_fields.specs.Payload.{Found}
 use Rattle.quic_frame_fields.specs.Reading.{Invalid}
 use Rattle.quic_frame_fields.specs.Table.{Row, rows, row_of}
 use Rattle.quic_frames.specs.declared.frame.Frame.{Frame}
-use Rattle.quic_frames.specs.Way.{Way}
+use Rattle.quic_frames.specs.IterState.{IterState}
 use Rattle.quic_frames.specs.Padding.{PassesPadding}
 use Rattle.quic_frames.specs.Walk.{first_of, Finds}
 use Rattle.quic_c.specs.declared.words.FrameWords.{FrameWords}
 use Rattle.quic_c.specs.declared.words.FramesWords.{FramesWords}
 use Rattle.quic_c.specs.declared.words.GapWords.{GapWords}
-use Rattle.quic_c.specs.Shown.{kind_of, shown, type_in, way_of, IsExtension}
+use Rattle.quic_c.specs.Shown.{kind_of, shown, type_in, state_of, IsExtension}
 use Rattle.quic_c.specs.Answers.{GivesFrame, IsRefused, unknown_type}
 use Rattle.quic_c.specs.Filling.{further}
 use Rattle.quic_c.specs.Front.{ReadsFront, ShowsFront}
@@ -49,11 +49,11 @@ some_is : {t u : ℕ} → ◌≡◌ {A = Option ℕ} (Some t) (Some u) → t ≡
 some_is e = cc
 
 -- the last type behind a frame that was found is its type
-pub last_is : (old new : Way) (frame : Frame) (finds : Finds old frame new) (t : ℕ) → new.last ≡ Some t → t ≡ finds.found.type
-last_is old new frame finds t e = some_is (sym e ∙ ap (λ (w : Way). w.last) finds.comes)
+pub last_is : (old new : IterState) (frame : Frame) (finds : Finds old frame new) (t : ℕ) → new.last ≡ Some t → t ≡ finds.found.type
+last_is old new frame finds t e = some_is (sym e ∙ ap (λ (w : IterState). w.last) finds.comes)
 
 -- and it is one of the table
-pub last_fits : (old new : Way) (frame : Frame) (finds : Finds old frame new) (t : ℕ) → new.last ≡ Some t → t < 2 ^ 16
+pub last_fits : (old new : IterState) (frame : Frame) (finds : Finds old frame new) (t : ℕ) → new.last ≡ Some t → t < 2 ^ 16
 last_fits old new frame finds t e =
     let small = row_fits finds.found.type finds.stands.encoded.row finds.stands.encoded.in_table in
     omega (arith, small, last_is old new frame finds t e)
@@ -64,19 +64,19 @@ word_back : (t : ℕ) → t < 2 ^ 16 → type_in t ≡ Some t
 word_back t small = grind (arith, nat_tests)
 
 -- where an iterator stands behind a frame, by its end and its type
-pub behind_frame : (here next : Way) (frame : Frame) (finds : Finds here frame next) (stop type : ℕ) → stop ≡ next.offset → type ≡ finds.found.type → type < 2 ^ 16 → further here stop (type_in type) ≡ next
+pub behind_frame : (here next : IterState) (frame : Frame) (finds : Finds here frame next) (stop type : ℕ) → stop ≡ next.offset → type ≡ finds.found.type → type < 2 ^ 16 → further here stop (type_in type) ≡ next
 behind_frame here next frame finds stop type ends begins small =
     ap (λ (n : ℕ). further here n (type_in type)) ends ∙ ap (λ (l : Option ℕ). further here next.offset l) (word_back type small ∙ ap (λ (n : ℕ). Some n) begins) ∙ sym finds.comes
 
 -- the same frame found between equal places
-found_between : (here next old new : Way) (frame : Frame) (finds : Finds here frame next) → here ≡ old → next ≡ new → (f : Finds old frame new) × (f.found ≡ finds.found)
+found_between : (here next old new : IterState) (frame : Frame) (finds : Finds here frame next) → here ≡ old → next ≡ new → (f : Finds old frame new) × (f.found ≡ finds.found)
 found_between here next old new frame finds p q =
-    subst (λ (w : Way). (f : Finds w frame new) × (f.found ≡ finds.found)) p (subst (λ (w : Way). (f : Finds here frame w) × (f.found ≡ finds.found)) q (finds, refl))
+    subst (λ (w : IterState). (f : Finds w frame new) × (f.found ≡ finds.found)) p (subst (λ (w : IterState). (f : Finds here frame w) × (f.found ≡ finds.found)) q (finds, refl))
 
-pub gives_frame : (basic : Bool) (old new : FramesWords) (payload : List ℕ) (out : FrameWords) (here next : Way) (frame : Frame) (type : ℕ) (finds : Finds here frame next)
-    → ((basic ≡ true) × IsExtension (kind_of frame) → ⊥) → way_of old payload ≡ here → way_of new payload ≡ next → type ≡ finds.found.type → out ≡ shown old.offset new.offset type frame → GivesFrame basic old payload new out
+pub gives_frame : (basic : Bool) (old new : FramesWords) (payload : List ℕ) (out : FrameWords) (here next : IterState) (frame : Frame) (type : ℕ) (finds : Finds here frame next)
+    → ((basic ≡ true) × IsExtension (kind_of frame) → ⊥) → state_of old payload ≡ here → state_of new payload ≡ next → type ≡ finds.found.type → out ≡ shown old.offset new.offset type frame → GivesFrame basic old payload new out
 gives_frame basic old new payload out here next frame type finds known is_here is_next begins words =
-    let f = found_between here next (way_of old payload) (way_of new payload) frame finds (sym is_here) (sym is_next) in
+    let f = found_between here next (state_of old payload) (state_of new payload) frame finds (sym is_here) (sym is_next) in
     record { frame = frame; finds = f.0; known = known; words = words ∙ ap (λ (n : ℕ). shown old.offset new.offset n frame) (begins ∙ ap (λ (x : Found). x.type) (sym f.1)) }
 
 -- where a test says that a frame isn't one of the extension where these are of unknown types
@@ -84,10 +84,10 @@ pub is_kept : (basic test : Bool) (frame : Frame) → IsTrue test ↔ (basic ≡
 is_kept basic test frame tests e x = false≢true (sym e ∙ tests.1 x)
 
 -- a frame of the extension is refused where these are of unknown types
-pub unknown_refused : (basic : Bool) (here next : Way) (frame : Frame) (reported : Invalid) → Finds here frame next → (basic ≡ true) × IsExtension (kind_of frame) → reported ≡ unknown_type (kind_of frame) → IsRefused basic here reported
+pub unknown_refused : (basic : Bool) (here next : IterState) (frame : Frame) (reported : Invalid) → Finds here frame next → (basic ≡ true) × IsExtension (kind_of frame) → reported ≡ unknown_type (kind_of frame) → IsRefused basic here reported
 unknown_refused basic here next frame reported finds is tells = inr (is.0, record { frame = frame; next = next; finds = finds; extension = is.1; is = tells })
 
-pub reads_front : (strict basic : Bool) (payload : List ℕ) (before : List GapWords) (stop : ℕ) (words : FrameWords) (after : List GapWords) (frame : Frame) (next rest : Way) (type : ℕ)
+pub reads_front : (strict basic : Bool) (payload : List ℕ) (before : List GapWords) (stop : ℕ) (words : FrameWords) (after : List GapWords) (frame : Frame) (next rest : IterState) (type : ℕ)
     → (finds : Finds (first_of strict payload) frame next) → ((basic ≡ true) × IsExtension (kind_of frame) → ⊥) → (kind_of frame ≡ 0 → (more : ℕ) × PassesPadding next more rest) → (0 < kind_of frame → rest ≡ next)
     → stop ≡ rest.offset → type ≡ finds.found.type → ShowsFront stop type frame before words after → ReadsFront strict basic payload before stop words after
 reads_front strict basic payload before stop words after frame next rest type finds known run one ends begins shows =

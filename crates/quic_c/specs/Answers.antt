@@ -7,13 +7,13 @@ use Rattle.quic_frame_fields.specs.declared.frame.fault.Fault.{Fault}
 use Rattle.quic_frame_fields.specs.AckPlace.{ack_at}
 use Rattle.quic_frame_fields.specs.declared.frame.fault.Fault.TheVariants.{InvalidFrameId}
 use Rattle.quic_frame_fields.specs.Reading.{◌>>=◌, varint_at, Invalid, invalid, Broken, IsBlocks, blocks_left, ranges_of, first_range_at}
-use Rattle.quic_frames.specs.Way.{Way}
+use Rattle.quic_frames.specs.IterState.{IterState}
 use Rattle.quic_frames.specs.Walk.{left, Finds}
 use Rattle.quic_c.specs.declared.words.FramesWords.{FramesWords}
 use Rattle.quic_c.specs.declared.words.FrameWords.{FrameWords}
 use Rattle.quic_c.specs.declared.words.RangeWords.{RangeWords}
 use Rattle.quic_c.specs.declared.words.RangesWords.{RangesWords}
-use Rattle.quic_c.specs.Shown.{way_of, type_word, shown, shown_invalid, kind_of, IsExtension}
+use Rattle.quic_c.specs.Shown.{state_of, type_word, shown, shown_invalid, kind_of, IsExtension}
 
 -- the number of a reason: 1 unexpected end, 2 invalid frame ID, 3 malformed, 4 frame type not in shortest form
 abbrev pub reason_in : List ℕ → ℕ
@@ -24,29 +24,29 @@ abbrev pub unknown_type : ℕ → Invalid
 unknown_type kind = invalid (Some kind) InvalidFrameId
 
 -- A frame of the extension for ACK frequency stands there, and is reported as one of an unknown type.
-pub record IsUnknown (way : Way) (reported : Invalid) : Type 0 where
+pub record IsUnknown (state : IterState) (reported : Invalid) : Type 0 where
   pub frame : Frame
-  pub next : Way
-  pub finds : Finds way frame next
+  pub next : IterState
+  pub finds : Finds state frame next
   pub extension : IsExtension (kind_of frame)
   pub is : reported ≡ unknown_type (kind_of frame)
 
 -- What stands there isn't given, and this is reported of it: it is no frame, or a frame of that extension where these are
 -- of unknown types.
-abbrev pub IsRefused : Bool → Way → Invalid → Type 0
-IsRefused basic way reported = (left way ≡ Broken reported ∷ []) ⊎ (basic ≡ true) × IsUnknown way reported
+abbrev pub IsRefused : Bool → IterState → Invalid → Type 0
+IsRefused basic state reported = (left state ≡ Broken reported ∷ []) ⊎ (basic ≡ true) × IsUnknown state reported
 
 -- A frame was found where the words stand, and its words were given: one of that extension only where these are known.
 pub record GivesFrame (basic : Bool) (old : FramesWords) (payload : List ℕ) (new : FramesWords) (out : FrameWords) : Type 0 where
   pub frame : Frame
-  pub finds : Finds (way_of old payload) frame (way_of new payload)
+  pub finds : Finds (state_of old payload) frame (state_of new payload)
   pub known : (basic ≡ true) × IsExtension (kind_of frame) → ⊥
   pub words : out ≡ shown old.offset new.offset finds.found.type frame
 
 -- What stands there isn't given, and that is reported; nothing is left.
 pub record GivesInvalid (basic : Bool) (old : FramesWords) (payload : List ℕ) (new : FramesWords) (out : FrameWords) : Type 0 where
   pub reported : Invalid
-  pub first : IsRefused basic (way_of old payload) reported
+  pub first : IsRefused basic (state_of old payload) reported
   pub over : new ≡ record old { ended = 1 }
   pub words : out ≡ shown_invalid old.offset (type_word reported.type) (reason_in reported.reason)
 
@@ -56,7 +56,7 @@ pub record GivesInvalid (basic : Bool) (old : FramesWords) (payload : List ℕ) 
 pub record AnswersNext (basic : Bool) (old : FramesWords) (payload : List ℕ) (before : FrameWords) (answer : ℤ) (new : FramesWords) (after : FrameWords) : Type 0 where
   pub answers : (answer ≡ pos 1) ⊎ (answer ≡ pos 0) ⊎ (answer ≡ negsuc 2) ⊎ (answer ≡ negsuc 0)
   pub frame : answer ≡ pos 1 → GivesFrame basic old payload new after
-  pub end : answer ≡ pos 0 → left (way_of old payload) ≡ []
+  pub end : answer ≡ pos 0 → left (state_of old payload) ≡ []
   pub invalid : answer ≡ negsuc 2 → GivesInvalid basic old payload new after
   pub outside : (answer ≡ negsuc 0) ↔ (length payload < old.offset)
   pub same : (answer ≡ pos 1) ⊎ (answer ≡ negsuc 2) ⊎ ((new ≡ old) × (after ≡ before))

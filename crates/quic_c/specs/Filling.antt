@@ -2,21 +2,21 @@
 use Rattle.std.specs.Prelude.{◌≡◌, ℕ, ◌<◌, ◌≤◌, ◌⊎◌, ◌↔◌, ℤ, pos, negsuc, List, [], ◌∷◌, length, take, drop, Bool, true, Option}
 use Rattle.quic_frames.specs.declared.frame.Frame.{Frame}
 use Rattle.quic_frame_fields.specs.Reading.{Invalid}
-use Rattle.quic_frames.specs.Way.{Way}
+use Rattle.quic_frames.specs.IterState.{IterState}
 use Rattle.quic_frames.specs.Walk.{left, Finds}
 use Rattle.quic_frames.specs.Padding.{PassesPadding}
 use Rattle.quic_c.specs.declared.words.FramesWords.{FramesWords}
 use Rattle.quic_c.specs.declared.words.FrameWords.{FrameWords}
-use Rattle.quic_c.specs.Shown.{way_of, kind_of, shown, IsExtension}
+use Rattle.quic_c.specs.Shown.{state_of, kind_of, shown, IsExtension}
 use Rattle.quic_c.specs.declared.words.RangeWords.{RangeWords}
 use Rattle.quic_c.specs.declared.words.RangesWords.{RangesWords}
 use Rattle.quic_c.specs.Answers.{GivesInvalid, GivesRange, IsRefused, NamesNone}
 
 -- One entry shows a frame, one of the extension for ACK frequency only where these are known; one of PADDING (RFC 9000,
 -- section 19.1) shows also the PADDING that follows, a frame with each byte.
-pub record GivesEntry (basic : Bool) (old : Way) (entry : FrameWords) (new : Way) : Type 0 where
+pub record GivesEntry (basic : Bool) (old : IterState) (entry : FrameWords) (new : IterState) : Type 0 where
   pub frame : Frame
-  pub next : Way
+  pub next : IterState
   pub finds : Finds old frame next
   pub known : (basic ≡ true) × IsExtension (kind_of frame) → ⊥
   pub run : kind_of frame ≡ 0 → (more : ℕ) × PassesPadding next more new
@@ -29,11 +29,11 @@ Shows step old [] new = old ≡ new
 Shows {P = P} step old (entry ∷ entries) new = (next : P) × step old entry next × Shows step next entries new
 
 -- Nothing is left, or what stands next isn't given.
-abbrev pub HasNoFrame : Bool → Way → Type 0
-HasNoFrame basic way = (left way ≡ []) ⊎ ((reported : Invalid) × IsRefused basic way reported)
+abbrev pub HasNoFrame : Bool → IterState → Type 0
+HasNoFrame basic state = (left state ≡ []) ⊎ ((reported : Invalid) × IsRefused basic state reported)
 
 -- So many entries were filled, and those behind them kept; more were not, for want of room or of a frame.
-pub record Fills (basic : Bool) (old : Way) (before : List FrameWords) (new : Way) (after : List FrameWords) (count : ℕ) : Type 0 where
+pub record Fills (basic : Bool) (old : IterState) (before : List FrameWords) (new : IterState) (after : List FrameWords) (count : ℕ) : Type 0 where
   pub few : count ≤ length before
   pub shows : Shows (GivesEntry basic) old (take count after) new
   pub kept : drop count after ≡ drop count before
@@ -51,8 +51,8 @@ pub record TellsInvalid (basic : Bool) (old : FramesWords) (payload : List ℕ) 
 -- Nothing changes with 0, -4 and -1, and the count with 1 alone.
 pub record AnswersFill (basic : Bool) (old : FramesWords) (payload : List ℕ) (before : List FrameWords) (count_before : ℕ) (answer : ℤ) (new : FramesWords) (after : List FrameWords) (count : ℕ) : Type 0 where
   pub answers : (answer ≡ pos 1) ⊎ (answer ≡ pos 0) ⊎ (answer ≡ negsuc 2) ⊎ (answer ≡ negsuc 3) ⊎ (answer ≡ negsuc 0)
-  pub frames : answer ≡ pos 1 → (0 < count) × Fills basic (way_of old payload) before (way_of new payload) after count
-  pub end : answer ≡ pos 0 → left (way_of old payload) ≡ []
+  pub frames : answer ≡ pos 1 → (0 < count) × Fills basic (state_of old payload) before (state_of new payload) after count
+  pub end : answer ≡ pos 0 → left (state_of old payload) ≡ []
   pub invalid : answer ≡ negsuc 2 → TellsInvalid basic old payload before new after
   pub room : (answer ≡ negsuc 3) ↔ ((old.offset ≤ length payload) × (before ≡ []))
   pub outside : (answer ≡ negsuc 0) ↔ (length payload < old.offset)
@@ -60,8 +60,8 @@ pub record AnswersFill (basic : Bool) (old : FramesWords) (payload : List ℕ) (
   pub counted : (answer ≡ pos 1) ⊎ (count ≡ count_before)
 
 -- an iterator further on over the same payload
-abbrev pub further : Way → ℕ → Option ℕ → Way
-further way offset last = record way { offset = offset; last = last }
+abbrev pub further : IterState → ℕ → Option ℕ → IterState
+further state offset last = record state { offset = offset; last = last }
 
 -- one range of an ACK
 abbrev pub StepsOver : List ℕ → RangesWords → RangeWords → RangesWords → Type 0

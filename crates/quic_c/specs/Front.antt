@@ -5,7 +5,7 @@ use Rattle.quic_frames.specs.declared.frame.Frame.TheVariants as frames
 use Rattle.quic_frame_fields.specs.declared.frame.ack.Ack.{Ack}
 use Rattle.quic_frame_fields.specs.Acks.{ranges_acked}
 use Rattle.quic_frame_fields.specs.Reading.{Invalid, Item, Whole, Broken}
-use Rattle.quic_frames.specs.Way.{Way}
+use Rattle.quic_frames.specs.IterState.{IterState}
 use Rattle.quic_frames.specs.Padding.{PassesPadding}
 use Rattle.quic_frames.specs.Walk.{first_of, Finds}
 use Rattle.quic_c.specs.declared.words.FrameWords.{FrameWords}
@@ -57,8 +57,8 @@ ShowsFront stop type frame before words after = (words ≡ shown 0 stop type fra
 -- frame with each byte. What is left begins where it ends.
 pub record ReadsFront (strict basic : Bool) (payload : List ℕ) (before : List GapWords) (stop : ℕ) (words : FrameWords) (after : List GapWords) : Type 0 where
   pub frame : Frame
-  pub next : Way
-  pub rest : Way
+  pub next : IterState
+  pub rest : IterState
   pub finds : Finds (first_of strict payload) frame next
   pub known : (basic ≡ true) × IsExtension (kind_of frame) → ⊥
   pub run : kind_of frame ≡ 0 → (more : ℕ) × PassesPadding next more rest

@@ -6,7 +6,7 @@ use Rattle.quic_frames.specs.declared.frame.Frame.{Frame}
 use Rattle.quic_frames.specs.declared.frame.Frame.TheVariants as frames
 use Rattle.quic_frame_fields.specs.declared.frame.close.Close.TheVariants as closes
 use Rattle.quic_frame_fields.specs.declared.frame.ack.EcnCounts.{EcnCounts}
-use Rattle.quic_frames.specs.Way.{Way}
+use Rattle.quic_frames.specs.IterState.{IterState}
 use Rattle.quic_c.specs.declared.words.FramesWords.{FramesWords}
 use Rattle.quic_c.specs.declared.words.FrameWords.{FrameWords}
 
@@ -28,8 +28,8 @@ abbrev pub type_in : ℕ → Option ℕ
 type_in n = if nat_lt n (2 ^ 62) then Some n else None
 
 -- how far an iterator has come over a payload, by the words that are kept of it
-abbrev pub way_of : FramesWords → List ℕ → Way
-way_of f payload = record { strict = is_strict f.strict; payload = payload; offset = f.offset; last = type_in f.last_type; is_broken = not (f.ended == 0) }
+abbrev pub state_of : FramesWords → List ℕ → IterState
+state_of f payload = record { strict = is_strict f.strict; payload = payload; offset = f.offset; last = type_in f.last_type; is_broken = not (f.ended == 0) }
 
 -- the kind of a frame: its type, 8 for every STREAM, 2 for every ACK and 0x30 for every DATAGRAM
 abbrev pub kind_of : Frame → ℕ

@@ -2,9 +2,9 @@
 ghost use Rattle.std.specs.Prelude.{◌≡◌, ◌<◌, ◌≤◌, ◌^◌, ◌-◌, ◌↔◌, ◌⊎◌, ℕ, [], ◌∷◌, pos, negsuc, length, codes, IsTrue, true, false, None};
 ghost use Rattle.quic_frames.specs.declared.frame.Frame.{Frame};
 ghost use Rattle.quic_frame_fields.specs.Reading.{Invalid, Broken, invalid};
-ghost use Rattle.quic_frames.specs.Way.{Way};
+ghost use Rattle.quic_frames.specs.IterState.{IterState};
 ghost use Rattle.quic_frames.specs.Walk.{first_of, invalid_of, Finds};
-ghost use Rattle.quic_c.specs.Shown.{way_of, at_front, is_strict, kind_of, type_in, type_word, shown, shown_invalid, IsExtension};
+ghost use Rattle.quic_c.specs.Shown.{state_of, at_front, is_strict, kind_of, type_in, type_word, shown, shown_invalid, IsExtension};
 ghost use Rattle.quic_c.specs.Answers.{AnswersNext, reason_in, unknown_type};
 
 use crate::show::{parts_of, show};
@@ -35,8 +35,8 @@ pub(crate) fn type_word(ty: Option<FrameType>) -> u64
 // The type of a frame that was read last, as it stands there: each known type has fewer than 16 bits.
 #[inline(always)]
 pub(crate) fn type_read(iter: &Iter<'_>) -> u64
-    requires { (old : Way) × (frame : Frame) × Finds old frame iter.now }
-    ensures value { (old : Way) (frame : Frame) (finds : Finds old frame iter.now) → result ≡ finds.found.type }
+    requires { (old : IterState) × (frame : Frame) × Finds old frame iter.now }
+    ensures value { (old : IterState) (frame : Frame) (finds : Finds old frame iter.now) → result ≡ finds.found.type }
     ensures fits { result < 2 ^ 16 }
 {
     let Some(ty) = iter.last_type() else {
@@ -86,7 +86,7 @@ fn begin(frames: &mut FramesWords, payload: &[u8], strict: u32) -> i32
     ensures answers { (result ≡ pos 0) ⊎ (result ≡ negsuc 1) }
     ensures empty { (result ≡ negsuc 1) ↔ (payload.now ≡ []) }
     ensures front { result ≡ pos 0 → frames.new ≡ at_front strict }
-    ensures first { result ≡ pos 0 → way_of frames.new payload.now ≡ first_of (is_strict strict) payload.now }
+    ensures first { result ≡ pos 0 → state_of frames.new payload.now ≡ first_of (is_strict strict) payload.now }
     ensures refused { result ≡ negsuc 1 → frames.new ≡ frames.old }
 {
     if payload.is_empty() {
@@ -108,7 +108,7 @@ pub extern "C" fn quic_wire_frames_init_(frames: &mut FramesWords, payload: &[u8
     ensures answers { (result ≡ pos 0) ⊎ (result ≡ negsuc 1) }
     ensures empty { (result ≡ negsuc 1) ↔ (payload.now ≡ []) }
     ensures front { result ≡ pos 0 → frames.new ≡ at_front 0 }
-    ensures first { result ≡ pos 0 → way_of frames.new payload.now ≡ first_of false payload.now }
+    ensures first { result ≡ pos 0 → state_of frames.new payload.now ≡ first_of false payload.now }
     ensures refused { result ≡ negsuc 1 → frames.new ≡ frames.old }
 {
     begin(frames, payload, 0)
@@ -121,7 +121,7 @@ pub extern "C" fn quic_wire_frames_init_strict_(frames: &mut FramesWords, payloa
     ensures answers { (result ≡ pos 0) ⊎ (result ≡ negsuc 1) }
     ensures empty { (result ≡ negsuc 1) ↔ (payload.now ≡ []) }
     ensures front { result ≡ pos 0 → frames.new ≡ at_front 1 }
-    ensures first { result ≡ pos 0 → way_of frames.new payload.now ≡ first_of true payload.now }
+    ensures first { result ≡ pos 0 → state_of frames.new payload.now ≡ first_of true payload.now }
     ensures refused { result ≡ negsuc 1 → frames.new ≡ frames.old }
 {
     begin(frames, payload, 1)
@@ -170,7 +170,7 @@ fn give_next<const COPY: usize>(
     frames: &mut FramesWords,
     out: &mut FrameWords,
 ) -> i32
-    requires way { way_of frames.old iter.old.payload ≡ iter.old }
+    requires state { state_of frames.old iter.old.payload ≡ iter.old }
     requires within { frames.old.offset ≤ length iter.old.payload }
     ensures { AnswersNext basic frames.old iter.old.payload out.old result frames.new out.new }
 {

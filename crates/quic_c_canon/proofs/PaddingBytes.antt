@@ -5,11 +5,11 @@ use Rattle.quic_frames.specs.declared.frame.Frame.TheVariants as frames
 use Rattle.quic_frame_fields.specs.Shortest.{shortest_frame}
 use Rattle.quic_frames.specs.Meaning.{meaning_of}
 use Rattle.quic_frames.specs.Padding.{behind}
-use Rattle.quic_frames.specs.Way.{Way}
+use Rattle.quic_frames.specs.IterState.{IterState}
 use Rattle.quic_frames.specs.Walk.{Finds}
 
-abbrev pub EachPads : ℕ → Way → Type 0
-EachPads count way = (k : ℕ) → k < count → Finds (behind k way) frames.Padding (behind (suc k) way)
+abbrev pub EachPads : ℕ → IterState → Type 0
+EachPads count state = (k : ℕ) → k < count → Finds (behind k state) frames.Padding (behind (suc k) state)
 
 pub padding_is : (last : Bool) → shortest_frame last (meaning_of frames.Padding) ≡ 0 ∷ []
 unfolding shortest_frame short size

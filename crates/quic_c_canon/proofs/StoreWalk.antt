@@ -11,32 +11,32 @@ use Rattle.quic_frame_fields.specs.Shortest.{shortest_frame}
 use Rattle.quic_frames.specs.Least.{AreOrExceed, frame_in, shortest_frames}
 use Rattle.quic_frames.specs.Meaning.{meaning_of}
 use Rattle.quic_frames.specs.Padding.{PassesPadding, behind}
-use Rattle.quic_frames.specs.Way.{Way}
+use Rattle.quic_frames.specs.IterState.{IterState}
 use Rattle.quic_frames.specs.Walk.{GivesFrames, GivesBroken, invalid_of, left, first_of, unplaced, given, Finds, Advances}
 use Rattle.quic_canon.proofs.LeastPayloads.{Shortest}
 use Rattle.quic_canon.proofs.Steps.{BeginsNone, Walks, walk_on, next_frame, frame_length, shortest_next, walk_begins, fails_err}
 use Rattle.quic_c_canon.proofs.PaddingBytes.{EachPads, padding_is}
 
 -- The bytes of the frames so far stand at the front, with what stood behind them.
-pub record Stores (payload old new : List ℕ) (at start : ℕ) (way : Way) (found : List Found) : Type 0 where
+pub record Stores (payload old new : List ℕ) (at start : ℕ) (state : IterState) (found : List Found) : Type 0 where
   pub rest : List Found
-  pub left_are : map unplaced (left way) ≡ map given rest
+  pub left_are : map unplaced (left state) ≡ map given rest
   pub encoded : AreFrames false rest (drop start payload)
   pub bytes : List ℕ
   pub parts : shortest_frames (map frame_in found) ≡ bytes ++ shortest_frames (map frame_in rest)
   pub at_is : at ≡ length bytes
   pub front : new ≡ bytes ++ drop at old
 
-pub record StoreWalk (payload old new : List ℕ) (at : ℕ) (way : Way) : Type 0 where
-  pub walks : Walks payload way.offset way
+pub record StoreWalk (payload old new : List ℕ) (at : ℕ) (state : IterState) : Type 0 where
+  pub walks : Walks payload state.offset state
   pub same_len : length new ≡ length old
-  pub stores : (found : List Found) → AreFrames false found payload → Stores payload old new at way.offset way found
+  pub stores : (found : List Found) → AreFrames false found payload → Stores payload old new at state.offset state found
 
-pub store_begins : (payload old : List ℕ) (way : Way) → way ≡ first_of false payload → IsEither false None payload → GivesFrames false payload way → GivesBroken false payload way → StoreWalk payload old old 0 way
-store_begins payload old way first e whole broken =
-    let here : way.offset ≡ 0 = ap (λ (w : Way). w.offset) first in
+pub store_begins : (payload old : List ℕ) (state : IterState) → state ≡ first_of false payload → IsEither false None payload → GivesFrames false payload state → GivesBroken false payload state → StoreWalk payload old old 0 state
+store_begins payload old state first e whole broken =
+    let here : state.offset ≡ 0 = ap (λ (w : IterState). w.offset) first in
     record {
-      walks = subst (λ (n : ℕ). Walks payload n way) (sym here) (walk_begins payload way first e whole broken);
+      walks = subst (λ (n : ℕ). Walks payload n state) (sym here) (walk_begins payload state first e whole broken);
       same_len = refl;
       stores = λ found s. record {
         rest = found;
@@ -53,22 +53,22 @@ no_error : (rest : List Found) (i : Invalid) → Err i ∷ [] ≡ map given rest
 no_error [] i e = cc
 no_error (f ∷ rest) i e = cc
 
-pub never_fails : (payload old new : List ℕ) (at : ℕ) (way next : Way) (item : Result Frame InvalidFrame) (i : InvalidFrame) → ((found : List Found) × AreFrames false found payload) → StoreWalk payload old new at way
-    → item ≡ Err i → Advances way (Some item) next → ⊥
-never_fails payload old new at way next item i s w e a =
+pub never_fails : (payload old new : List ℕ) (at : ℕ) (state next : IterState) (item : Result Frame InvalidFrame) (i : InvalidFrame) → ((found : List Found) × AreFrames false found payload) → StoreWalk payload old new at state
+    → item ≡ Err i → Advances state (Some item) next → ⊥
+never_fails payload old new at state next item i s w e a =
     let l = w.stores s.0 s.1 in
-    no_error l.rest (invalid_of i) (sym (ap (map unplaced) (fails_err way next item i e a)) ∙ l.left_are)
+    no_error l.rest (invalid_of i) (sym (ap (map unplaced) (fails_err state next item i e a)) ∙ l.left_are)
 
 -- there is room for the frame that was found
-pub store_room : (payload old new : List ℕ) (at stop : ℕ) (way next : Way) (frame : Frame) → BeginsNone → ((found : List Found) × AreFrames false found payload)
-    → ((found : List Found) → AreFrames false found payload → length (shortest_frames (map frame_in found)) ≤ length old) → StoreWalk payload old new at way → Finds way frame next → stop ≡ next.offset
+pub store_room : (payload old new : List ℕ) (at stop : ℕ) (state next : IterState) (frame : Frame) → BeginsNone → ((found : List Found) × AreFrames false found payload)
+    → ((found : List Found) → AreFrames false found payload → length (shortest_frames (map frame_in found)) ≤ length old) → StoreWalk payload old new at state → Finds state frame next → stop ≡ next.offset
     → at + length (shortest_frame (eqb stop (length payload)) (meaning_of frame)) ≤ length new
-store_room payload old new at stop way next frame begins s room w f there =
+store_room payload old new at stop state next frame begins s room w f there =
     let size = length payload in
     let last = eqb next.offset size in
     let l = w.stores s.0 s.1 in
     let fits = room s.0 s.1 in
-    let n = next_frame payload way.offset size way next frame l.rest begins refl w.walks f l.left_are l.encoded in
+    let n = next_frame payload state.offset size state next frame l.rest begins refl w.walks f l.left_are l.encoded in
     let is = ap length (shortest_next f.found l.rest n.more last n.rest_is n.last_is) ∙ length-append (shortest_frame last f.found.frame) (shortest_frames (map frame_in n.more)) in
     let all = ap length l.parts ∙ length-append l.bytes (shortest_frames (map frame_in l.rest)) in
     let here : length (shortest_frame (eqb stop size) (meaning_of frame)) ≡ length (shortest_frame last (meaning_of frame)) = ap (λ (k : ℕ). length (shortest_frame (eqb k size) (meaning_of frame))) there in
@@ -85,18 +85,18 @@ stored old new out bytes here at end is front stop wrote =
     let behind : drop end new ≡ drop end old = rw stop (further at (length here) new old back) in
     wrote ∙ ap (λ (l : List ℕ). l ++ (here ++ drop end new)) start ∙ ap (λ (l : List ℕ). bytes ++ (here ++ l)) behind ∙ sym (append_assoc bytes here (drop end old))
 
-pub store_on : (payload old new out : List ℕ) (at end stop : ℕ) (way next : Way) (frame : Frame) → BeginsNone → StoreWalk payload old new at way → Finds way frame next → stop ≡ next.offset
+pub store_on : (payload old new out : List ℕ) (at end stop : ℕ) (state next : IterState) (frame : Frame) → BeginsNone → StoreWalk payload old new at state → Finds state frame next → stop ≡ next.offset
     → end ≡ at + length (shortest_frame (eqb stop (length payload)) (meaning_of frame)) → out ≡ take at new ++ (shortest_frame (eqb stop (length payload)) (meaning_of frame) ++ drop end new)
     → length out ≡ length new → StoreWalk payload old out end next
-store_on payload old new out at end stop way next frame begins w f there ends wrote size_kept =
+store_on payload old new out at end stop state next frame begins w f there ends wrote size_kept =
     let size = length payload in
     let last = eqb next.offset size in
     record {
-      walks = walk_on payload way.offset way next frame w.walks f;
+      walks = walk_on payload state.offset state next frame w.walks f;
       same_len = size_kept ∙ w.same_len;
       stores = λ found encoded.
           let l = w.stores found encoded in
-          let n = next_frame payload way.offset size way next frame l.rest begins refl w.walks f l.left_are l.encoded in
+          let n = next_frame payload state.offset size state next frame l.rest begins refl w.walks f l.left_are l.encoded in
           let here = shortest_frame last f.found.frame in
           let is : shortest_frame (eqb stop size) (meaning_of frame) ≡ here = ap (λ (k : ℕ). shortest_frame (eqb k size) (meaning_of frame)) there ∙ ap (shortest_frame last) (sym f.says) in
           let stops : end ≡ at + length here = ends ∙ ap (λ (x : List ℕ). at + length x) is in
@@ -145,32 +145,32 @@ abbrev HasRoom : List ℕ → List ℕ → Type 0
 HasRoom payload old = (found : List Found) → AreFrames false found payload → length (shortest_frames (map frame_in found)) ≤ length old
 
 -- each frame of PADDING is written as a byte of 0
-all_stored : (payload old new : List ℕ) (at count k : ℕ) (way : Way) → BeginsNone → ((found : List Found) × AreFrames false found payload) → HasRoom payload old → StoreWalk payload old new at way → EachPads count way → k ≤ count
-    → (at + k ≤ length new) × StoreWalk payload old (padded new at k) (at + k) (behind k way)
-all_stored payload old new at count zero way begins s room w each le =
+all_stored : (payload old new : List ℕ) (at count k : ℕ) (state : IterState) → BeginsNone → ((found : List Found) × AreFrames false found payload) → HasRoom payload old → StoreWalk payload old new at state → EachPads count state → k ≤ count
+    → (at + k ≤ length new) × StoreWalk payload old (padded new at k) (at + k) (behind k state)
+all_stored payload old new at count zero state begins s room w each le =
     let l = w.stores s.0 s.1 in
-    let same : StoreWalk payload old (padded new at 0) at way = subst (λ (x : List ℕ). StoreWalk payload old x at way) (sym (padded_none new at)) w in
-    (omega (arith, ap length l.front, length-append l.bytes (drop at old), l.at_is), subst (λ (n : ℕ). StoreWalk payload old (padded new at 0) n way) (omega arith) same)
-all_stored payload old new at count (suc k) way begins s room w each le =
-    let so_far = all_stored payload old new at count k way begins s room w each (omega arith) in
+    let same : StoreWalk payload old (padded new at 0) at state = subst (λ (x : List ℕ). StoreWalk payload old x at state) (sym (padded_none new at)) w in
+    (omega (arith, ap length l.front, length-append l.bytes (drop at old), l.at_is), subst (λ (n : ℕ). StoreWalk payload old (padded new at 0) n state) (omega arith) same)
+all_stored payload old new at count (suc k) state begins s room w each le =
+    let so_far = all_stored payload old new at count k state begins s room w each (omega arith) in
     let f = each k (omega arith) in
-    let next = behind (suc k) way in
+    let next = behind (suc k) state in
     let one = padding_is (eqb next.offset (length payload)) in
     let same = length-padded new at k so_far.0 in
-    let fits = store_room payload old (padded new at k) (at + k) next.offset (behind k way) next frames.Padding begins s room so_far.1 f refl in
+    let fits = store_room payload old (padded new at k) (at + k) next.offset (behind k state) next frames.Padding begins s room so_far.1 f refl in
     let on : at + suc k ≤ length new = omega (arith, fits, ap length one, same) in
     let wrote = padded_on new at k so_far.0 ∙ ap (λ (x : List ℕ). take (at + k) (padded new at k) ++ (x ++ drop (at + suc k) (padded new at k))) (sym one) in
     let size_kept : length (padded new at (suc k)) ≡ length (padded new at k) = omega (arith, same, length-padded new at (suc k) on) in
-    (on, store_on payload old (padded new at k) (padded new at (suc k)) (at + k) (at + suc k) next.offset (behind k way) next frames.Padding begins so_far.1 f refl (omega (arith, ap length one)) wrote size_kept)
+    (on, store_on payload old (padded new at k) (padded new at (suc k)) (at + k) (at + suc k) next.offset (behind k state) next frames.Padding begins so_far.1 f refl (omega (arith, ap length one)) wrote size_kept)
 
-pub pad_room : (payload old new : List ℕ) (at count : ℕ) (way next : Way) → BeginsNone → ((found : List Found) × AreFrames false found payload) → HasRoom payload old → StoreWalk payload old new at way → PassesPadding way count next
+pub pad_room : (payload old new : List ℕ) (at count : ℕ) (state next : IterState) → BeginsNone → ((found : List Found) × AreFrames false found payload) → HasRoom payload old → StoreWalk payload old new at state → PassesPadding state count next
     → at + count ≤ length new
-pad_room payload old new at count way next begins s room w p = (all_stored payload old new at count count way begins s room w p.each (omega arith)).0
+pad_room payload old new at count state next begins s room w p = (all_stored payload old new at count count state begins s room w p.each (omega arith)).0
 
-pub store_pads : (payload old new out : List ℕ) (at end count : ℕ) (way next : Way) → BeginsNone → ((found : List Found) × AreFrames false found payload) → HasRoom payload old → StoreWalk payload old new at way → PassesPadding way count next
+pub store_pads : (payload old new out : List ℕ) (at end count : ℕ) (state next : IterState) → BeginsNone → ((found : List Found) × AreFrames false found payload) → HasRoom payload old → StoreWalk payload old new at state → PassesPadding state count next
     → end ≡ at + count → out ≡ take at new ++ (replicate count 0 ++ drop end new) → StoreWalk payload old out end next
-store_pads payload old new out at end count way next begins s room w p ends wrote =
-    let stored_all = (all_stored payload old new at count count way begins s room w p.each (omega arith)).1 in
+store_pads payload old new out at end count state next begins s room w p ends wrote =
+    let stored_all = (all_stored payload old new at count count state begins s room w p.each (omega arith)).1 in
     let there : StoreWalk payload old (padded new at count) (at + count) next = subst (StoreWalk payload old (padded new at count) (at + count)) (sym p.comes) stored_all in
     let is : out ≡ padded new at count = wrote ∙ ap (λ (n : ℕ). take at new ++ (replicate count 0 ++ drop n new)) ends in
     subst (λ (n : ℕ). StoreWalk payload old out n next) (sym ends) (subst (λ (x : List ℕ). StoreWalk payload old x (at + count) next) (sym is) there)
@@ -180,9 +180,9 @@ none_given [] e = refl
 none_given (f ∷ rest) e = absurd cc
 
 -- all is written
-pub store_done : (payload old new : List ℕ) (at : ℕ) (way : Way) → StoreWalk payload old new at way → left way ≡ [] → (found : List Found) → AreFrames false found payload
+pub store_done : (payload old new : List ℕ) (at : ℕ) (state : IterState) → StoreWalk payload old new at state → left state ≡ [] → (found : List Found) → AreFrames false found payload
     → new ≡ shortest_frames (map frame_in found) ++ drop (length (shortest_frames (map frame_in found))) old
-store_done payload old new at way w none found s =
+store_done payload old new at state w none found s =
     let l = w.stores found s in
     let rest = none_given l.rest (sym (ap (map unplaced) none) ∙ l.left_are) in
     let whole : shortest_frames (map frame_in found) ≡ l.bytes = l.parts ∙ ap (λ (x : List Found). l.bytes ++ shortest_frames (map frame_in x)) rest ∙ append-nil l.bytes in

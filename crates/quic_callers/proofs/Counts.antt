@@ -10,20 +10,20 @@ use Rattle.quic_frames.specs.declared.frame.Frame.{Frame}
 use Rattle.quic_frames.specs.declared.frame.Frame.TheVariants as frames
 use Rattle.quic_frames.specs.Meaning.{meaning_of}
 use Rattle.quic_frames.specs.Walk.{left, first_of, Finds, GivesFrames, GivesBroken}
-use Rattle.quic_frames.specs.Way.{Way}
+use Rattle.quic_frames.specs.IterState.{IterState}
 
 -- the greatest count
 abbrev pub most : ℕ
 most = 2 ^ 64 - 1
 
 -- Frames came, and so many bytes of their data were counted.
-pub record IsCounted (payload : List ℕ) (way : Way) (n : ℕ) : Type 0 where
-  pub came : IsOnTheWay payload way
+pub record IsCounted (payload : List ℕ) (state : IterState) (n : ℕ) : Type 0 where
+  pub came : IsOnTheWay payload state
   pub count : n ≡ min (streams_len came.found) most
 
-pub counted_first : (payload : List ℕ) (way : Way) → way ≡ first_of false payload → IsCounted payload way 0
+pub counted_first : (payload : List ℕ) (state : IterState) → state ≡ first_of false payload → IsCounted payload state 0
 unfolding on_the_way_first
-counted_first payload way e = record { came = on_the_way_first payload way e; count = refl }
+counted_first payload state e = record { came = on_the_way_first payload state e; count = refl }
 
 -- the data of a frame that came
 came_len : (found : Found) (frame : Frame) → found.frame ≡ meaning_of frame → stream_len found ≡ data_len (meaning_of frame).name (meaning_of frame).values
@@ -38,24 +38,24 @@ other_len frame other = refl
 more : (found : List Found) (one : Found) (n m len : ℕ) → n ≡ min (streams_len found) most → stream_len one ≡ len → m ≡ min (n + len) most → m ≡ min (streams_len (found ++ one ∷ [])) most
 more found one n m len so_far is then = omega (arith, so_far, is, then, sum_by_push stream_len found one)
 
-pub counted_other : (payload : List ℕ) (way next : Way) (frame : Frame) (n : ℕ) → IsCounted payload way n → Finds way frame next → ((s : Stream) → frame ≡ frames.Stream s → ⊥) → IsCounted payload next n
+pub counted_other : (payload : List ℕ) (state next : IterState) (frame : Frame) (n : ℕ) → IsCounted payload state n → Finds state frame next → ((s : Stream) → frame ≡ frames.Stream s → ⊥) → IsCounted payload next n
 unfolding on_the_way_next
-counted_other payload way next frame n w f other = record {
-  came = on_the_way_next payload way next frame w.came f;
+counted_other payload state next frame n w f other = record {
+  came = on_the_way_next payload state next frame w.came f;
   count = more w.came.found f.found n n 0 w.count (came_len f.found frame f.says ∙ other_len frame other) (omega (arith, w.count));
 }
 
-pub counted_stream : (payload : List ℕ) (way next : Way) (frame : Frame) (s : Stream) (n m : ℕ) → IsCounted payload way n → Finds way frame next → frame ≡ frames.Stream s
+pub counted_stream : (payload : List ℕ) (state next : IterState) (frame : Frame) (s : Stream) (n m : ℕ) → IsCounted payload state n → Finds state frame next → frame ≡ frames.Stream s
     → m ≡ min (n + length s.bytes.now) most → IsCounted payload next m
 unfolding on_the_way_next
-counted_stream payload way next frame s n m w f is then = record {
-  came = on_the_way_next payload way next frame w.came f;
+counted_stream payload state next frame s n m w f is then = record {
+  came = on_the_way_next payload state next frame w.came f;
   count = more w.came.found f.found n m (length s.bytes.now) w.count
       (came_len f.found frame f.says ∙ ap (λ (x : Frame). data_len (meaning_of x).name (meaning_of x).values) is) then;
 }
 
 -- nothing is left, and nothing was no frame: all data were counted
-pub all_counted : (payload : List ℕ) (start way : Way) (n : ℕ) → start ≡ first_of false payload → IsCounted payload way n → left way ≡ [] → IsEither false None payload → GivesFrames false payload start
+pub all_counted : (payload : List ℕ) (start state : IterState) (n : ℕ) → start ≡ first_of false payload → IsCounted payload state n → left state ≡ [] → IsEither false None payload → GivesFrames false payload start
     → GivesBroken false payload start → (found : List Found) × AreFrames false found payload × (n ≡ min (streams_len found) most)
-all_counted payload start way n first w none either frames broken =
-    (w.came.found, those_frames payload start way first w.came none either frames broken, w.count)
+all_counted payload start state n first w none either frames broken =
+    (w.came.found, those_frames payload start state first w.came none either frames broken, w.count)

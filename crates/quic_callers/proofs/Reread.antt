@@ -11,7 +11,7 @@ use Rattle.quic_errors.specs.declared.invalid_frame.InvalidFrame.{InvalidFrame}
 use Rattle.quic_frame_fields.specs.Payload.{Found, IsFrame, AreFrames}
 use Rattle.quic_frame_fields.specs.Reading.{Whole, Invalid}
 use Rattle.quic_frames.specs.Meaning.{meaning_of}
-use Rattle.quic_frames.specs.Way.{Way}
+use Rattle.quic_frames.specs.IterState.{IterState}
 use Rattle.quic_frames.specs.Walk.{left, unplaced, given, Advances}
 
 two_power : (t : ℕ) → t < 4 → 0 < 2 ^ t
@@ -35,14 +35,14 @@ content_is (Err f) x old new content bytes is wrote e empty = absurd (err_is_not
     err_is_not_ok e = cc
 
 -- An iterator over a payload of one frame has that frame left.
-pub one_left : (found : Found) (bytes payload : List ℕ) (it : Way) → IsFrame false found bytes → payload ≡ bytes → ((fs : List Found) → AreFrames false fs payload → map unplaced (left it) ≡ map given fs)
+pub one_left : (found : Found) (bytes payload : List ℕ) (it : IterState) → IsFrame false found bytes → payload ≡ bytes → ((fs : List Found) → AreFrames false fs payload → map unplaced (left it) ≡ map given fs)
     → map unplaced (left it) ≡ map given (found ∷ [])
 one_left found bytes payload it f is gives =
     let one : AreFrames false (found ∷ []) bytes = (bytes, [], sym (append-nil bytes), f, λ opens. refl, refl) in
     gives (found ∷ []) (subst (AreFrames false (found ∷ [])) (sym is) one)
 
 -- The first item that it gives is that frame.
-pub gives_it : (found : Found) (it new : Way) (item : Option (Result Frame InvalidFrame)) → map unplaced (left it) ≡ map given (found ∷ []) → Advances it item new
+pub gives_it : (found : Found) (it new : IterState) (item : Option (Result Frame InvalidFrame)) → map unplaced (left it) ≡ map given (found ∷ []) → Advances it item new
     → (frame : Frame) × (item ≡ Some (Ok frame)) × (meaning_of frame ≡ found.frame)
 gives_it found it new None one a = absurd (omega (arith, ap length (ap (map unplaced) (sym a.0) ∙ one)))
 gives_it found it new (Some (Err e)) one a = cc (ap (map unplaced) (sym a.0) ∙ one)

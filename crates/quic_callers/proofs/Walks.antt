@@ -13,22 +13,22 @@ use Rattle.quic_frame_fields.specs.declared.frame.fault.Fault.{Fault}
 use Rattle.quic_frame_fields.specs.declared.frame.fault.Fault.TheVariants.{UnexpectedEnd, InvalidFrameId, Malformed, LongType}
 use Rattle.quic_frames.specs.declared.frame.Frame.{Frame}
 use Rattle.quic_frames.specs.Walk.{left, unplaced, given, first_of, invalid_of, GivesFrames, GivesBroken, Finds}
-use Rattle.quic_frames.specs.Way.{Way}
+use Rattle.quic_frames.specs.IterState.{IterState}
 
 -- Frames came, and what is left from here on is still to come.
-pub record IsOnTheWay (payload : List ℕ) (way : Way) : Type 0 where
+pub record IsOnTheWay (payload : List ℕ) (state : IterState) : Type 0 where
   pub found : List Found
-  pub items : map unplaced (left (first_of false payload)) ≡ map given found ++ map unplaced (left way)
+  pub items : map unplaced (left (first_of false payload)) ≡ map given found ++ map unplaced (left state)
 
-unfoldable pub on_the_way_first : (payload : List ℕ) (way : Way) → way ≡ first_of false payload → IsOnTheWay payload way
-on_the_way_first payload way e = record { found = []; items = ap (λ (w : Way). map unplaced (left w)) (sym e) }
+unfoldable pub on_the_way_first : (payload : List ℕ) (state : IterState) → state ≡ first_of false payload → IsOnTheWay payload state
+on_the_way_first payload state e = record { found = []; items = ap (λ (w : IterState). map unplaced (left w)) (sym e) }
 
 pub push : (found : List Found) (one : Found) (rest : List (Result Found Invalid)) → map given found ++ given one ∷ rest ≡ map given (found ++ one ∷ []) ++ rest
 push [] one rest = refl
 push (first ∷ found) one rest = ap (λ (l : List (Result Found Invalid)). given first ∷ l) (push found one rest)
 
-unfoldable pub on_the_way_next : (payload : List ℕ) (way next : Way) (frame : Frame) → IsOnTheWay payload way → Finds way frame next → IsOnTheWay payload next
-on_the_way_next payload way next frame w f = record {
+unfoldable pub on_the_way_next : (payload : List ℕ) (state next : IterState) (frame : Frame) → IsOnTheWay payload state → Finds state frame next → IsOnTheWay payload next
+on_the_way_next payload state next frame w f = record {
   found = w.found ++ f.found ∷ [];
   items = w.items ∙ ap (λ l. map given w.found ++ map unplaced l) f.first ∙ push w.found f.found (map unplaced (left next));
 }
@@ -55,12 +55,12 @@ pub record IsMet (payload : List ℕ) (i : Invalid) : Type 0 where
   pub broken : IsBroken false None found payload type reason
   pub reported : invalid type reason ≡ i
 
-pub met : (payload : List ℕ) (start way : Way) (i : Invalid) → start ≡ first_of false payload → IsOnTheWay payload way → left way ≡ Broken i ∷ [] → IsEither false None payload
+pub met : (payload : List ℕ) (start state : IterState) (i : Invalid) → start ≡ first_of false payload → IsOnTheWay payload state → left state ≡ Broken i ∷ [] → IsEither false None payload
     → GivesFrames false payload start → GivesBroken false payload start → IsMet payload i
-met payload start way i first w here either frames broken = by_case either
+met payload start state i first w here either frames broken = by_case either
   where
     items : map unplaced (left start) ≡ map given w.found ++ Err i ∷ []
-    items = ap (λ (o : Way). map unplaced (left o)) first ∙ w.items ∙ ap (λ l. map given w.found ++ map unplaced l) here
+    items = ap (λ (o : IterState). map unplaced (left o)) first ∙ w.items ∙ ap (λ l. map given w.found ++ map unplaced l) here
 
     by_case : IsEither false None payload → IsMet payload i
     by_case (inl s) = no_error s.0 w.found i (sym (frames s.0 s.1) ∙ items)
@@ -107,24 +107,24 @@ same_frames (first ∷ found) (other ∷ others) e =
     cc
 
 -- nothing is left, and nothing was no frame: the frames that came are those of the payload
-pub those_frames : (payload : List ℕ) (start way : Way) → start ≡ first_of false payload → (w : IsOnTheWay payload way) → left way ≡ [] → IsEither false None payload → GivesFrames false payload start
+pub those_frames : (payload : List ℕ) (start state : IterState) → start ≡ first_of false payload → (w : IsOnTheWay payload state) → left state ≡ [] → IsEither false None payload → GivesFrames false payload start
     → GivesBroken false payload start → AreFrames false w.found payload
-those_frames payload start way first w none either frames broken = by_case either
+those_frames payload start state first w none either frames broken = by_case either
   where
     items : map unplaced (left start) ≡ map given w.found
-    items = ap (λ (o : Way). map unplaced (left o)) first ∙ w.items ∙ ap (λ l. map given w.found ++ map unplaced l) none ∙ append-nil (map given w.found)
+    items = ap (λ (o : IterState). map unplaced (left o)) first ∙ w.items ∙ ap (λ l. map given w.found ++ map unplaced l) none ∙ append-nil (map given w.found)
 
     by_case : IsEither false None payload → AreFrames false w.found payload
     by_case (inl s) = subst (λ found. AreFrames false found payload) (same_frames s.0 w.found (sym (frames s.0 s.1) ∙ items)) s.1
     by_case (inr s) = no_error w.found s.0 (invalid s.1 s.2) (sym items ∙ broken s.0 s.1 s.2 s.3)
 
 -- nothing is left, and nothing was no frame
-pub all_frames : (payload : List ℕ) (start way : Way) → start ≡ first_of false payload → IsOnTheWay payload way → left way ≡ [] → IsEither false None payload → GivesBroken false payload start
+pub all_frames : (payload : List ℕ) (start state : IterState) → start ≡ first_of false payload → IsOnTheWay payload state → left state ≡ [] → IsEither false None payload → GivesBroken false payload start
     → (found : List Found) × AreFrames false found payload
-all_frames payload start way first w none either broken = by_case either
+all_frames payload start state first w none either broken = by_case either
   where
     items : map unplaced (left start) ≡ map given w.found
-    items = ap (λ (o : Way). map unplaced (left o)) first ∙ w.items ∙ ap (λ l. map given w.found ++ map unplaced l) none ∙ append-nil (map given w.found)
+    items = ap (λ (o : IterState). map unplaced (left o)) first ∙ w.items ∙ ap (λ l. map given w.found ++ map unplaced l) none ∙ append-nil (map given w.found)
 
     by_case : IsEither false None payload → (found : List Found) × AreFrames false found payload
     by_case (inl s) = s

@@ -8,7 +8,7 @@ use Rattle.quic_frame_fields.specs.Payload.{Found, AreFrames, IsBroken, IsEither
 use Rattle.quic_frame_fields.specs.Reading.{Invalid, invalid, Broken}
 use Rattle.quic_frame_fields.specs.Shortest.{shortest_frame}
 use Rattle.quic_frames.specs.Least.{frame_in, shortest_frames}
-use Rattle.quic_frames.specs.Way.{Way}
+use Rattle.quic_frames.specs.IterState.{IterState}
 use Rattle.quic_frames.specs.Walk.{GivesFrames, GivesBroken, left, first_of, unplaced, given, Finds}
 use Rattle.quic_canon.specs.Front.{IsCut, IsFront}
 use Rattle.quic_canon.proofs.LeastPayloads.{Shortest}
@@ -16,46 +16,46 @@ use Rattle.quic_canon.proofs.Cuts.{take_on}
 use Rattle.quic_canon.proofs.Steps.{BeginsNone, OneShortest, Walks, here, given_on, walk_on, next_frame, at_most, span_of, Tested, shortest_there, longer_there, shortest_next, walk_begins}
 
 -- The first n bytes are in their shortest encoding, and either all frames so far are, or the next one isn't.
-pub record InFront (payload : List ℕ) (n : ℕ) (way : Way) (found : List Found) : Type 0 where
+pub record InFront (payload : List ℕ) (n : ℕ) (state : IterState) (found : List Found) : Type 0 where
   pub others : List Found
   pub cut : IsCut payload n found others
   pub rest : List Found
-  pub left_are : map unplaced (left way) ≡ map given rest
-  pub is_there : ((n ≡ way.offset) × (rest ≡ others)) ⊎ ((n < way.offset) × (length (shortest_frames (map frame_in others)) < length payload - n))
+  pub left_are : map unplaced (left state) ≡ map given rest
+  pub is_there : ((n ≡ state.offset) × (rest ≡ others)) ⊎ ((n < state.offset) × (length (shortest_frames (map frame_in others)) < length payload - n))
 
-pub record FrontWalk (payload : List ℕ) (front start : ℕ) (way : Way) : Type 0 where
-  pub walks : Walks payload start way
+pub record FrontWalk (payload : List ℕ) (front start : ℕ) (state : IterState) : Type 0 where
+  pub walks : Walks payload start state
   pub before : front ≤ start
-  pub in_front : (found : List Found) → AreFrames false found payload → InFront payload front way found
+  pub in_front : (found : List Found) → AreFrames false found payload → InFront payload front state found
 
 -- where the walk begins
-pub front_begins : (payload : List ℕ) (way : Way) (found : List Found) → way ≡ first_of false payload → map unplaced (left way) ≡ map given found → AreFrames false found payload → InFront payload 0 way found
-front_begins payload way found first are s = record {
+pub front_begins : (payload : List ℕ) (state : IterState) (found : List Found) → state ≡ first_of false payload → map unplaced (left state) ≡ map given found → AreFrames false found payload → InFront payload 0 state found
+front_begins payload state found first are s = record {
   others = found;
   cut = record { back = s; parts = refl; within = omega arith };
   rest = found;
   left_are = are;
-  is_there = inl (sym (ap (λ (w : Way). w.offset) first), refl);
+  is_there = inl (sym (ap (λ (w : IterState). w.offset) first), refl);
 }
 
-pub front_walk_begins : (payload : List ℕ) (way : Way) → way ≡ first_of false payload → IsEither false None payload → GivesFrames false payload way → GivesBroken false payload way
-    → FrontWalk payload 0 0 way
-front_walk_begins payload way first e whole broken = record {
-  walks = walk_begins payload way first e whole broken;
+pub front_walk_begins : (payload : List ℕ) (state : IterState) → state ≡ first_of false payload → IsEither false None payload → GivesFrames false payload state → GivesBroken false payload state
+    → FrontWalk payload 0 0 state
+front_walk_begins payload state first e whole broken = record {
+  walks = walk_begins payload state first e whole broken;
   before = omega arith;
-  in_front = λ found s. front_begins payload way found first (whole found s) s;
+  in_front = λ found s. front_begins payload state found first (whole found s) s;
 }
 
 -- the frames that are left where all before are in their shortest encodings
-all_so_far : (payload : List ℕ) (n : ℕ) (way : Way) (found : List Found) → (f : InFront payload n way found) → n ≡ way.offset → f.rest ≡ f.others
-all_so_far payload n way found f e = is f.is_there
+all_so_far : (payload : List ℕ) (n : ℕ) (state : IterState) (found : List Found) → (f : InFront payload n state found) → n ≡ state.offset → f.rest ≡ f.others
+all_so_far payload n state found f e = is f.is_there
   where
-    is : ((n ≡ way.offset) × (f.rest ≡ f.others)) ⊎ ((n < way.offset) × (length (shortest_frames (map frame_in f.others)) < length payload - n)) → f.rest ≡ f.others
+    is : ((n ≡ state.offset) × (f.rest ≡ f.others)) ⊎ ((n < state.offset) × (length (shortest_frames (map frame_in f.others)) < length payload - n)) → f.rest ≡ f.others
     is (inl a) = a.1
     is (inr a) = let lt = a.0 in absurd (omega (arith, lt, e))
 
 -- one more frame in its shortest encoding
-pub front_grows : (payload : List ℕ) (start size : ℕ) (old new : Way) (frame : Frame) (b : Bool) → BeginsNone → OneShortest → size ≡ length payload → FrontWalk payload start start old → Finds old frame new → Tested b frame start new.offset size → b ≡ true
+pub front_grows : (payload : List ℕ) (start size : ℕ) (old new : IterState) (frame : Frame) (b : Bool) → BeginsNone → OneShortest → size ≡ length payload → FrontWalk payload start start old → Finds old frame new → Tested b frame start new.offset size → b ≡ true
     → FrontWalk payload new.offset new.offset new
 front_grows payload start size old new frame b begins one len w f tested e =
     let stop = new.offset in
@@ -85,7 +85,7 @@ front_grows payload start size old new frame b begins one len w f tested e =
     }
 
 -- the first frame that isn't
-pub front_ends : (payload : List ℕ) (start size : ℕ) (old new : Way) (frame : Frame) (b : Bool) → BeginsNone → OneShortest → Shortest → size ≡ length payload → FrontWalk payload start start old → Finds old frame new → Tested b frame start new.offset size → b ≡ false
+pub front_ends : (payload : List ℕ) (start size : ℕ) (old new : IterState) (frame : Frame) (b : Bool) → BeginsNone → OneShortest → Shortest → size ≡ length payload → FrontWalk payload start start old → Finds old frame new → Tested b frame start new.offset size → b ≡ false
     → FrontWalk payload start new.offset new
 front_ends payload start size old new frame b begins one all len w f tested e =
     let stop = new.offset in
@@ -112,7 +112,7 @@ front_ends payload start size old new frame b begins one all len w f tested e =
     }
 
 -- the frames after that
-pub front_stays : (payload : List ℕ) (front start : ℕ) (old new : Way) (frame : Frame) → front ≢ start → FrontWalk payload front start old → Finds old frame new → FrontWalk payload front new.offset new
+pub front_stays : (payload : List ℕ) (front start : ℕ) (old new : IterState) (frame : Frame) → front ≢ start → FrontWalk payload front start old → Finds old frame new → FrontWalk payload front new.offset new
 front_stays payload front start old new frame differs w f =
     let h = here payload start old new frame w.walks f in
     let some = h.stands.some in
@@ -142,8 +142,8 @@ not_empty [] i e = cc
 not_empty (f ∷ found) i e = cc
 
 -- nothing is left
-pub front_done : (payload : List ℕ) (front start : ℕ) (way : Way) → payload ≢ [] → IsEither false None payload → FrontWalk payload front start way → left way ≡ [] → IsFront payload front
-front_done payload front start way some (inl a) w none =
+pub front_done : (payload : List ℕ) (front start : ℕ) (state : IterState) → payload ≢ [] → IsEither false None payload → FrontWalk payload front start state → left state ≡ [] → IsFront payload front
+front_done payload front start state some (inl a) w none =
     let f = w.in_front a.0 a.1 in
     let at = w.walks.done none in
     record {
@@ -155,37 +155,37 @@ front_done payload front start way some (inl a) w none =
       shorter = λ lt. shorter (w.walks.start_is ∙ at) f.others f.rest lt f.is_there;
     }
   where
-    shorter : way.offset ≡ length payload → (others rest : List Found) → front < length payload → ((front ≡ way.offset) × (rest ≡ others)) ⊎ ((front < way.offset) × (length (shortest_frames (map frame_in others)) < length payload - front))
+    shorter : state.offset ≡ length payload → (others rest : List Found) → front < length payload → ((front ≡ state.offset) × (rest ≡ others)) ⊎ ((front < state.offset) × (length (shortest_frames (map frame_in others)) < length payload - front))
         → length (shortest_frames (map frame_in others)) < length payload - front
     shorter is others rest lt (inl b) = let e = b.0 in absurd (omega (arith, lt, e, is))
     shorter is others rest lt (inr b) = b.1
-front_done payload front start way some (inr b) w none =
+front_done payload front start state some (inr b) w none =
     let r = w.walks.broken b.0 b.1 b.2 b.3 in absurd (not_empty r.0 (invalid b.1 b.2) (sym (ap (map unplaced) none) ∙ r.1))
 
 -- something is no frame
-pub front_fails : (payload : List ℕ) (front start : ℕ) (way : Way) (i : Invalid) → IsEither false None payload → FrontWalk payload front start way → left way ≡ Broken i ∷ []
+pub front_fails : (payload : List ℕ) (front start : ℕ) (state : IterState) (i : Invalid) → IsEither false None payload → FrontWalk payload front start state → left state ≡ Broken i ∷ []
     → (found : List Found) × (type : Option ℕ) × (reason : Fault) × IsBroken false None found payload type reason × (i ≡ invalid type reason)
-front_fails payload front start way i (inl a) w is =
+front_fails payload front start state i (inl a) w is =
     let f = w.in_front a.0 a.1 in absurd (no_error f.rest i (sym (ap (map unplaced) is) ∙ f.left_are))
   where
     no_error : (rest : List Found) (i : Invalid) → Err i ∷ [] ≡ map given rest → ⊥
     no_error [] i e = cc
     no_error (f ∷ rest) i e = cc
-front_fails payload front start way i (inr b) w is =
+front_fails payload front start state i (inr b) w is =
     let r = w.walks.broken b.0 b.1 b.2 b.3 in (b.0, b.1, b.2, b.3, error_is r.0 i (invalid b.1 b.2) (sym (ap (map unplaced) is) ∙ r.1))
   where
     error_is : (rest : List Found) (i j : Invalid) → Err i ∷ [] ≡ map given rest ++ Err j ∷ [] → i ≡ j
     error_is [] i j e = cc
     error_is (f ∷ rest) i j e = absurd cc
 
-pub grows_to : (payload : List ℕ) (front start stop : ℕ) (old new : Way) (frame : Frame) (b : Bool) → BeginsNone → OneShortest → front ≡ start → FrontWalk payload front start old → Finds old frame new → stop ≡ new.offset
+pub grows_to : (payload : List ℕ) (front start stop : ℕ) (old new : IterState) (frame : Frame) (b : Bool) → BeginsNone → OneShortest → front ≡ start → FrontWalk payload front start old → Finds old frame new → stop ≡ new.offset
     → Tested b frame start stop (length payload) → b ≡ true → FrontWalk payload stop stop new
 grows_to payload front start stop old new frame b begins one same w f at tested e =
     let v = subst (λ (n : ℕ). FrontWalk payload n start old) same w in
     let t = subst (λ (n : ℕ). Tested b frame start n (length payload)) at tested in
     subst (λ (n : ℕ). FrontWalk payload n n new) (sym at) (front_grows payload start (length payload) old new frame b begins one refl v f t e)
 
-pub ends_at : (payload : List ℕ) (front start stop : ℕ) (old new : Way) (frame : Frame) (b : Bool) → BeginsNone → OneShortest → Shortest → front ≡ start → FrontWalk payload front start old → Finds old frame new → stop ≡ new.offset
+pub ends_at : (payload : List ℕ) (front start stop : ℕ) (old new : IterState) (frame : Frame) (b : Bool) → BeginsNone → OneShortest → Shortest → front ≡ start → FrontWalk payload front start old → Finds old frame new → stop ≡ new.offset
     → Tested b frame start stop (length payload) → b ≡ false → FrontWalk payload front stop new
 ends_at payload front start stop old new frame b begins one all same w f at tested e =
     let v = subst (λ (n : ℕ). FrontWalk payload n start old) same w in
@@ -193,10 +193,10 @@ ends_at payload front start stop old new frame b begins one all same w f at test
     let ended = front_ends payload start (length payload) old new frame b begins one all refl v f t e in
     subst (λ (n : ℕ). FrontWalk payload n stop new) (sym same) (subst (λ (n : ℕ). FrontWalk payload start n new) (sym at) ended)
 
-pub stays_at : (payload : List ℕ) (front start stop : ℕ) (old new : Way) (frame : Frame) → front ≢ start → FrontWalk payload front start old → Finds old frame new → stop ≡ new.offset → FrontWalk payload front stop new
+pub stays_at : (payload : List ℕ) (front start stop : ℕ) (old new : IterState) (frame : Frame) → front ≢ start → FrontWalk payload front start old → Finds old frame new → stop ≡ new.offset → FrontWalk payload front stop new
 stays_at payload front start stop old new frame differs w f at =
     subst (λ (n : ℕ). FrontWalk payload front n new) (sym at) (front_stays payload front start old new frame differs w f)
 
 -- by another name of the place
-pub front_is : (payload : List ℕ) (front same start : ℕ) (way : Way) → same ≡ front → FrontWalk payload front start way → FrontWalk payload same start way
-front_is payload front same start way e w = subst (λ (n : ℕ). FrontWalk payload n start way) (sym e) w
+pub front_is : (payload : List ℕ) (front same start : ℕ) (state : IterState) → same ≡ front → FrontWalk payload front start state → FrontWalk payload same start state
+front_is payload front same start state e w = subst (λ (n : ℕ). FrontWalk payload n start state) (sym e) w

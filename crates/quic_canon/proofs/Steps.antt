@@ -14,7 +14,7 @@ use Rattle.quic_frames.specs.InRange.{HasNoTypeZero, CanStand}
 use Rattle.quic_frames.specs.Found.{found_as}
 use Rattle.quic_frame_fields.specs.Shortest.{shortest_frame}
 use Rattle.quic_frames.specs.Least.{AreOrExceed, is_end, frame_in, shortest_frames}
-use Rattle.quic_frames.specs.Way.{Way}
+use Rattle.quic_frames.specs.IterState.{IterState}
 use Rattle.quic_frames.specs.Walk.{GivesFrames, GivesBroken, invalid_of, left, first_of, unplaced, given, Stands, Finds, Advances}
 use Rattle.quic_errors.specs.declared.invalid_frame.InvalidFrame.{InvalidFrame}
 use Rattle.quic_canon.proofs.Cuts.{cut_there, length-slice_range, split_front, cases_bool}
@@ -37,7 +37,7 @@ meaning_is frame found e = ap (λ (m : Meaning). let f : Found = record { type =
 at_end : (m n : ℕ) → m ≡ n → eqb m n ≡ true
 at_end m n e = grind (arith, nat_tests)
 
-pub can_stand : (old new : Way) (frame : Frame) (size : ℕ) → Exact → old.strict ≡ false → size ≡ length old.payload → Finds old frame new → CanStand (eqb new.offset size) frame
+pub can_stand : (old new : IterState) (frame : Frame) (size : ℕ) → Exact → old.strict ≡ false → size ≡ length old.payload → Finds old frame new → CanStand (eqb new.offset size) frame
 can_stand old new frame size exact any len f =
     let s = subst (λ (x : Found). IsFrame false x (slice_range old.payload old.offset new.offset)) (meaning_is frame f.found f.says) (subst (λ (b : Bool). IsFrame b f.found (slice_range old.payload old.offset new.offset)) any f.stands.encoded) in
     exact (eqb new.offset size) f.found.type frame (slice_range old.payload old.offset new.offset) f.distinct s (λ opens. at_end new.offset size (f.ends opens ∙ sym len))
@@ -47,14 +47,14 @@ can_stand old new frame size exact any len f =
 abbrev pub Reported : Type 0
 Reported = Result Found Invalid
 
-pub record Walks (payload : List ℕ) (start : ℕ) (way : Way) : Type 0 where
-  pub strict_is : way.strict ≡ false
-  pub payload_is : way.payload ≡ payload
-  pub start_is : way.offset ≡ start
+pub record Walks (payload : List ℕ) (start : ℕ) (state : IterState) : Type 0 where
+  pub strict_is : state.strict ≡ false
+  pub payload_is : state.payload ≡ payload
+  pub start_is : state.offset ≡ start
   pub within : start ≤ length payload
   pub broken : (found : List Found) (type : Option ℕ) (reason : Fault) → IsBroken false None found payload type reason
-      → (rest : List Found) × (map unplaced (left way) ≡ map given rest ++ Err (invalid type reason) ∷ [])
-  pub done : left way ≡ [] → start ≡ length payload
+      → (rest : List Found) × (map unplaced (left state) ≡ map given rest ++ Err (invalid type reason) ∷ [])
+  pub done : left state ≡ [] → start ≡ length payload
 
 -- One frame has one encoding at the front of bytes.
 front_is : (f : Found) (a b c d : List ℕ) → BeginsNone → a ++ b ≡ c ++ d → IsFrame false f a → IsFrame false f c → (is_open f.type ≡ true → b ≡ []) → (is_open f.type ≡ true → d ≡ []) → a ≡ c
@@ -75,13 +75,13 @@ front_is f a b c d begins e one other opens opens' =
 
 -- ---- one step
 
-pub record Here (payload : List ℕ) (start stop : ℕ) (found : Found) (old new : Way) : Type 0 where
+pub record Here (payload : List ℕ) (start stop : ℕ) (found : Found) (old new : IterState) : Type 0 where
   pub stands : Stands false payload start stop found
   pub opens : is_open found.type ≡ true → stop ≡ length payload
   pub first : map unplaced (left old) ≡ Ok found ∷ map unplaced (left new)
   pub done : (left new ≡ []) ↔ (stop ≡ length payload)
 
-pub here : (payload : List ℕ) (start : ℕ) (old new : Way) (frame : Frame) → Walks payload start old → (f : Finds old frame new) → Here payload start new.offset f.found old new
+pub here : (payload : List ℕ) (start : ℕ) (old new : IterState) (frame : Frame) → Walks payload start old → (f : Finds old frame new) → Here payload start new.offset f.found old new
 here payload start old new frame w f = record {
   stands = subst (λ (l : List ℕ). Stands false l start new.offset f.found) w.payload_is (subst (λ (n : ℕ). Stands false old.payload n new.offset f.found) w.start_is (subst (λ (b : Bool). Stands b old.payload old.offset new.offset f.found) w.strict_is f.stands));
   opens = λ e. f.ends e ∙ ap length w.payload_is;
@@ -100,12 +100,12 @@ broken_on : (found : Found) (i : Invalid) (items : List Reported) (rest : List F
 broken_on found i items [] e = absurd cc
 broken_on found i items (r ∷ rest) e = let tails : items ≡ map given rest ++ Err i ∷ [] = cc in (rest, tails)
 
-pub walk_on : (payload : List ℕ) (start : ℕ) (old new : Way) (frame : Frame) → Walks payload start old → Finds old frame new → Walks payload new.offset new
+pub walk_on : (payload : List ℕ) (start : ℕ) (old new : IterState) (frame : Frame) → Walks payload start old → Finds old frame new → Walks payload new.offset new
 walk_on payload start old new frame w f =
     let h = here payload start old new frame w f in
     record {
-      strict_is = ap (λ (way : Way). way.strict) f.comes ∙ w.strict_is;
-      payload_is = ap (λ (way : Way). way.payload) f.comes ∙ w.payload_is;
+      strict_is = ap (λ (state : IterState). state.strict) f.comes ∙ w.strict_is;
+      payload_is = ap (λ (state : IterState). state.payload) f.comes ∙ w.payload_is;
       start_is = refl;
       within = h.stands.within;
       broken = λ found type reason b.
@@ -118,13 +118,13 @@ nothing_left : (items : List Item) → map unplaced items ≡ [] → items ≡ [
 nothing_left [] e = refl
 nothing_left (i ∷ items) e = absurd cc
 
-end_if : (more : List Found) (new : Way) (b : Bool) → map unplaced (left new) ≡ map given more → (left new ≡ [] → b ≡ true) → (b ≡ true → left new ≡ []) → is_end (map frame_in more) ≡ b
+end_if : (more : List Found) (new : IterState) (b : Bool) → map unplaced (left new) ≡ map given more → (left new ≡ [] → b ≡ true) → (b ≡ true → left new ≡ []) → is_end (map frame_in more) ≡ b
 end_if [] new b e to from = sym (to (nothing_left (left new) e))
 end_if (m ∷ more) new true e to from = absurd (let none : map unplaced (left new) ≡ [] = ap (map unplaced) (from refl) in cc (none, e))
 end_if (m ∷ more) new false e to from = refl
 
 -- the frame that was found, in front of the others
-pub record Next (payload : List ℕ) (start stop size : ℕ) (new : Way) (found : Found) (rest : List Found) : Type 0 where
+pub record Next (payload : List ℕ) (start stop size : ℕ) (new : IterState) (found : Found) (rest : List Found) : Type 0 where
   pub more : List Found
   pub rest_is : rest ≡ found ∷ more
   pub left_are : map unplaced (left new) ≡ map given more
@@ -134,7 +134,7 @@ pub record Next (payload : List ℕ) (start stop size : ℕ) (new : Way) (found 
 pub from_test : (m n : ℕ) → eqb m n ≡ true → m ≡ n
 from_test m n e = grind (arith, nat_tests)
 
-pub next_frame : (payload : List ℕ) (start size : ℕ) (old new : Way) (frame : Frame) (rest : List Found) → BeginsNone → size ≡ length payload → Walks payload start old → (f : Finds old frame new)
+pub next_frame : (payload : List ℕ) (start size : ℕ) (old new : IterState) (frame : Frame) (rest : List Found) → BeginsNone → size ≡ length payload → Walks payload start old → (f : Finds old frame new)
     → map unplaced (left old) ≡ map given rest → AreFrames false rest (drop start payload) → Next payload start new.offset size new f.found rest
 next_frame payload start size old new frame rest begins len w f are s =
     let h = here payload start old new frame w f in
@@ -190,7 +190,7 @@ pub record Span (payload : List ℕ) (start stop size : ℕ) (found : Found) : T
   pub encoded : IsFrame false found (slice_range payload start stop)
   pub last : is_open found.type ≡ true → eqb stop size ≡ true
 
-pub span_of : (payload : List ℕ) (start size : ℕ) (old new : Way) (frame : Frame) → size ≡ length payload → Walks payload start old → (f : Finds old frame new) → Span payload start new.offset size f.found
+pub span_of : (payload : List ℕ) (start size : ℕ) (old new : IterState) (frame : Frame) → size ≡ length payload → Walks payload start old → (f : Finds old frame new) → Span payload start new.offset size f.found
 span_of payload start size old new frame len w f =
     let h = here payload start old new frame w f in
     let some = h.stands.some in
@@ -209,7 +209,7 @@ Tested b frame start stop size = b ≡ eqb (length (shortest_frame (eqb stop siz
 pub frame_length : (frame : Frame) (found : Found) (last : Bool) → found.frame ≡ meaning_of frame → length (shortest_frame last (meaning_of frame)) ≡ length (shortest_frame last found.frame)
 frame_length frame found last e = ap (λ (m : Meaning). length (shortest_frame last m)) (sym e)
 
-pub shortest_there : (payload : List ℕ) (start size : ℕ) (old new : Way) (frame : Frame) (b : Bool) → OneShortest → size ≡ length payload → Walks payload start old → (f : Finds old frame new) → Tested b frame start new.offset size → b ≡ true
+pub shortest_there : (payload : List ℕ) (start size : ℕ) (old new : IterState) (frame : Frame) (b : Bool) → OneShortest → size ≡ length payload → Walks payload start old → (f : Finds old frame new) → Tested b frame start new.offset size → b ≡ true
     → slice_range payload start new.offset ≡ shortest_frame (eqb new.offset size) f.found.frame
 shortest_there payload start size old new frame b one len w f tested e =
     let s = span_of payload start size old new frame len w f in
@@ -217,7 +217,7 @@ shortest_there payload start size old new frame b one len w f tested e =
     let same = from_test (length (shortest_frame last (meaning_of frame))) (new.offset - start) (sym tested ∙ e) in
     span_is last f.found (slice_range payload start new.offset) one s.encoded s.last (sym (frame_length frame f.found last f.says) ∙ same ∙ sym s.len)
 
-pub longer_there : (payload : List ℕ) (start size : ℕ) (old new : Way) (frame : Frame) (b : Bool) → OneShortest → size ≡ length payload → Walks payload start old → (f : Finds old frame new) → Tested b frame start new.offset size → b ≡ false
+pub longer_there : (payload : List ℕ) (start size : ℕ) (old new : IterState) (frame : Frame) (b : Bool) → OneShortest → size ≡ length payload → Walks payload start old → (f : Finds old frame new) → Tested b frame start new.offset size → b ≡ false
     → length (shortest_frame (eqb new.offset size) f.found.frame) < new.offset - start
 longer_there payload start size old new frame b one len w f tested e =
     let s = span_of payload start size old new frame len w f in
@@ -234,44 +234,44 @@ pub shortest_next : (found : Found) (rest more : List Found) (last : Bool) → r
 shortest_next found rest more last is end =
     ap (λ (l : List Found). shortest_frames (map frame_in l)) is ∙ ap (λ (b : Bool). shortest_frame b found.frame ++ shortest_frames (map frame_in more)) end
 
-not_done : (payload : List ℕ) (way : Way) → IsEither false None payload → GivesFrames false payload way → GivesBroken false payload way
-    → left way ≡ [] → 0 ≡ length payload
-not_done payload way (inl a) whole broken none = sym (ap length (empty a.0 payload a.1 (sym (ap (map unplaced) none) ∙ whole a.0 a.1)))
+not_done : (payload : List ℕ) (state : IterState) → IsEither false None payload → GivesFrames false payload state → GivesBroken false payload state
+    → left state ≡ [] → 0 ≡ length payload
+not_done payload state (inl a) whole broken none = sym (ap length (empty a.0 payload a.1 (sym (ap (map unplaced) none) ∙ whole a.0 a.1)))
   where
     empty : (found : List Found) (bytes : List ℕ) → AreFrames false found bytes → [] ≡ map given found → bytes ≡ []
     empty [] bytes s e = s
     empty (f ∷ found) bytes s e = absurd cc
-not_done payload way (inr a) whole broken none = absurd (some a.0 (invalid a.1 a.2) (sym (ap (map unplaced) none) ∙ broken a.0 a.1 a.2 a.3))
+not_done payload state (inr a) whole broken none = absurd (some a.0 (invalid a.1 a.2) (sym (ap (map unplaced) none) ∙ broken a.0 a.1 a.2 a.3))
   where
     some : (found : List Found) (i : Invalid) → [] ≡ map given found ++ Err i ∷ [] → ⊥
     some [] i e = cc
     some (f ∷ found) i e = cc
 
-pub walk_begins : (payload : List ℕ) (way : Way) → way ≡ first_of false payload → IsEither false None payload → GivesFrames false payload way → GivesBroken false payload way
-    → Walks payload 0 way
-walk_begins payload way first e whole broken = record {
-  strict_is = ap (λ (w : Way). w.strict) first;
-  payload_is = ap (λ (w : Way). w.payload) first;
-  start_is = ap (λ (w : Way). w.offset) first;
+pub walk_begins : (payload : List ℕ) (state : IterState) → state ≡ first_of false payload → IsEither false None payload → GivesFrames false payload state → GivesBroken false payload state
+    → Walks payload 0 state
+walk_begins payload state first e whole broken = record {
+  strict_is = ap (λ (w : IterState). w.strict) first;
+  payload_is = ap (λ (w : IterState). w.payload) first;
+  start_is = ap (λ (w : IterState). w.offset) first;
   within = omega arith;
   broken = λ found type reason b. (found, broken found type reason b);
-  done = not_done payload way e whole broken;
+  done = not_done payload state e whole broken;
 }
 
 -- ---- what a step gave
 
-pub finds_ok : (old new : Way) (item : Result Frame InvalidFrame) (frame : Frame) → item ≡ Ok frame → Advances old (Some item) new → Finds old frame new
+pub finds_ok : (old new : IterState) (item : Result Frame InvalidFrame) (frame : Frame) → item ≡ Ok frame → Advances old (Some item) new → Finds old frame new
 finds_ok old new item frame e a = subst (λ (r : Result Frame InvalidFrame). Advances old (Some r) new) e a
 
-pub fails_err : (old new : Way) (item : Result Frame InvalidFrame) (i : InvalidFrame) → item ≡ Err i → Advances old (Some item) new → left old ≡ Broken (invalid_of i) ∷ []
+pub fails_err : (old new : IterState) (item : Result Frame InvalidFrame) (i : InvalidFrame) → item ≡ Err i → Advances old (Some item) new → left old ≡ Broken (invalid_of i) ∷ []
 fails_err old new item i e a = (subst (λ (r : Result Frame InvalidFrame). Advances old (Some r) new) e a).0
 
 -- the same by the number that the code holds
-pub stands_at : (payload : List ℕ) (start stop : ℕ) (old new : Way) (frame : Frame) → Exact → Walks payload start old → Finds old frame new → stop ≡ new.offset → CanStand (eqb stop (length payload)) frame
+pub stands_at : (payload : List ℕ) (start stop : ℕ) (old new : IterState) (frame : Frame) → Exact → Walks payload start old → Finds old frame new → stop ≡ new.offset → CanStand (eqb stop (length payload)) frame
 stands_at payload start stop old new frame exact w f at =
     subst (λ (n : ℕ). CanStand (eqb n (length payload)) frame) (sym at) (can_stand old new frame (length payload) exact w.strict_is (sym (ap length w.payload_is)) f)
 
-pub small_at : (payload : List ℕ) (start stop : ℕ) (old new : Way) (frame : Frame) → OneShortest → Walks payload start old → Finds old frame new → stop ≡ new.offset → length (shortest_frame (eqb stop (length payload)) (meaning_of frame)) ≤ stop - start
+pub small_at : (payload : List ℕ) (start stop : ℕ) (old new : IterState) (frame : Frame) → OneShortest → Walks payload start old → Finds old frame new → stop ≡ new.offset → length (shortest_frame (eqb stop (length payload)) (meaning_of frame)) ≤ stop - start
 small_at payload start stop old new frame one w f at =
     let s = span_of payload start (length payload) old new frame refl w f in
     let last = eqb new.offset (length payload) in

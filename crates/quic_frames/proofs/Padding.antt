@@ -5,7 +5,7 @@ use Rattle.std.proofs.lemmas.List.{length-drop, get_or-drop}
 use Rattle.std.proofs.Math.Seq.{drop-cons}
 use Rattle.quic_base.specs.Number.{AreBytes}
 use Rattle.quic_frames.specs.declared.frame.Frame.TheVariants as frames
-use Rattle.quic_frames.specs.Way.{Way}
+use Rattle.quic_frames.specs.IterState.{IterState}
 use Rattle.quic_frames.specs.Walk.{Finds}
 use Rattle.quic_frames.specs.Padding.{PassesPadding, behind}
 use Rattle.quic_frames.proofs.Finding.{found_padding}
@@ -67,11 +67,11 @@ behind_some zero strict payload offset last some = absurd (omega (arith, some))
 behind_some (suc n) strict payload offset last some = refl
 
 -- the same of a walk whose parts are reported apart
-pub passes_here : (strict : Bool) (payload : List ℕ) (offset n : ℕ) (last : Option ℕ) (b : Bool) (old : Way) (bytes : List ℕ) → walk strict payload offset last b ≡ old → b ≡ false → bytes ≡ drop offset payload → AreBytes bytes
+pub passes_here : (strict : Bool) (payload : List ℕ) (offset n : ℕ) (last : Option ℕ) (b : Bool) (old : IterState) (bytes : List ℕ) → walk strict payload offset last b ≡ old → b ≡ false → bytes ≡ drop offset payload → AreBytes bytes
     → offset ≤ length payload → n ≤ length bytes → ((k : ℕ) → k < n → get_or bytes k 0 ≡ 0) → (n < length bytes → 0 < get_or bytes n 0) → 0 < n
     → PassesPadding old n (walk strict payload (offset + n) (Some 0) b)
 passes_here strict payload offset n last b old bytes v f cut fits le few each over some =
     let all : PassesPadding (at_place strict payload offset last) n (at_place strict payload (offset + n) (Some 0)) =
-    subst (λ (w : Way). PassesPadding (at_place strict payload offset last) n w) (behind_some n strict payload offset last some) (passes strict payload offset n last bytes cut fits le few each over) in
-    subst (λ (o : Way). PassesPadding o n (walk strict payload (offset + n) (Some 0) b)) (is_not_broken strict payload offset last b old v f)
+    subst (λ (w : IterState). PassesPadding (at_place strict payload offset last) n w) (behind_some n strict payload offset last some) (passes strict payload offset n last bytes cut fits le few each over) in
+    subst (λ (o : IterState). PassesPadding o n (walk strict payload (offset + n) (Some 0) b)) (is_not_broken strict payload offset last b old v f)
     (subst (λ (c : Bool). PassesPadding (at_place strict payload offset last) n (walk strict payload (offset + n) (Some 0) c)) (sym f) all)

@@ -15,7 +15,7 @@ use Rattle.quic_frame_fields.proofs.AckPlaces.{stand_in_frame}
 use Rattle.quic_frames.specs.declared.frame.Frame.TheVariants as frames
 use Rattle.quic_frames.specs.Found.{found_as, HasItsBlocksBehind}
 use Rattle.quic_frames.specs.InRange.{HasNoTypeZero}
-use Rattle.quic_frames.specs.Way.{Way}
+use Rattle.quic_frames.specs.IterState.{IterState}
 use Rattle.quic_frames.specs.Walk.{left, bytes_of_value, last_bytes, Stands, StandsAsRead, Finds}
 use Rattle.quic_frames.proofs.Finding.{found_padding}
 use Rattle.quic_frames.proofs.Frames.{TakesFound, found_takes}
@@ -157,7 +157,7 @@ stand_as_read : (type : ℕ) (frame : Frame) (bytes front left : List ℕ) → A
 stand_as_read type (frames.Ack a) bytes front left fits cut h = stand_in_frame type a bytes h.0 front left fits h.1 h.2 cut
 stand_as_read type frame bytes front left fits cut h = tt
 
-abbrev pub at_place : Bool → List ℕ → ℕ → Option ℕ → Way
+abbrev pub at_place : Bool → List ℕ → ℕ → Option ℕ → IterState
 at_place strict payload offset last = record { strict = strict; payload = payload; offset = offset; last = last; is_broken = false }
 
 -- a frame at the offset
@@ -203,10 +203,10 @@ pub is_over : (strict : Bool) (payload : List ℕ) (offset : ℕ) (last : Option
 is_over strict payload offset last none = ap (items_of strict offset last) (nothing (drop offset payload) (omega arith)) ∙ no_items strict offset last
 
 -- the same of a walk whose parts are reported apart
-abbrev pub walk : Bool → List ℕ → ℕ → Option ℕ → Bool → Way
+abbrev pub walk : Bool → List ℕ → ℕ → Option ℕ → Bool → IterState
 walk strict payload offset last is_broken = record { strict = strict; payload = payload; offset = offset; last = last; is_broken = is_broken }
 
-pub is_not_broken : (strict : Bool) (payload : List ℕ) (offset : ℕ) (last : Option ℕ) (b : Bool) (old : Way) → walk strict payload offset last b ≡ old → b ≡ false → at_place strict payload offset last ≡ old
+pub is_not_broken : (strict : Bool) (payload : List ℕ) (offset : ℕ) (last : Option ℕ) (b : Bool) (old : IterState) → walk strict payload offset last b ≡ old → b ≡ false → at_place strict payload offset last ≡ old
 is_not_broken strict payload offset last b old e f = ap (walk strict payload offset last) (sym f) ∙ e
 
 some_bytes : (payload : List ℕ) (offset : ℕ) → eqb (length (take (length payload - offset) (drop offset payload))) 0 ≡ false → offset < length payload
@@ -223,18 +223,18 @@ fewer_left strict payload offset last found rest fits e =
     let size : length (take (length payload - offset) (drop offset payload)) ≡ length payload - offset = ap length (rest_is payload offset) ∙ length-drop offset payload in
     omega (arith, sizes, size)
 
-pub finds_here : (strict : Bool) (payload : List ℕ) (offset : ℕ) (last : Option ℕ) (b : Bool) (old : Way) (ty : ℕ) (frame : Frame) (rest : List ℕ)
+pub finds_here : (strict : Bool) (payload : List ℕ) (offset : ℕ) (last : Option ℕ) (b : Bool) (old : IterState) (ty : ℕ) (frame : Frame) (rest : List ℕ)
     → HasNoTypeZero frame → HasItsBlocksBehind ty frame (take (length payload - offset) (drop offset payload)) rest → walk strict payload offset last b ≡ old → b ≡ false → offset ≤ length payload
     → eqb (length (take (length payload - offset) (drop offset payload))) 0 ≡ false → AreBytes (take (length payload - offset) (drop offset payload))
     → found_at strict last (take (length payload - offset) (drop offset payload)) ≡ Ok (found_as ty frame, rest) → Finds old frame (walk strict payload (length payload - length rest) (Some ty) b)
 finds_here strict payload offset last b old ty frame rest apart blocks v f le some fits e =
     let cut = rest_is payload offset in
     let here = finds strict payload offset last ty frame rest (apart, subst (λ (l : List ℕ). HasItsBlocksBehind ty frame l rest) cut blocks) (subst AreBytes cut fits) le (some_bytes payload offset some) (ap (found_at strict last) (sym cut) ∙ e) in
-    subst (λ (o : Way). Finds o frame (walk strict payload (length payload - length rest) (Some ty) b)) (is_not_broken strict payload offset last b old v f)
+    subst (λ (o : IterState). Finds o frame (walk strict payload (length payload - length rest) (Some ty) b)) (is_not_broken strict payload offset last b old v f)
     (subst (λ (c : Bool). Finds (at_place strict payload offset last) frame (walk strict payload (length payload - length rest) (Some ty) c)) (sym f) here)
 
 -- a byte of PADDING, the same
-pub padding_here : (strict : Bool) (payload : List ℕ) (offset : ℕ) (last : Option ℕ) (b : Bool) (old : Way) → walk strict payload offset last b ≡ old → b ≡ false → offset ≤ length payload
+pub padding_here : (strict : Bool) (payload : List ℕ) (offset : ℕ) (last : Option ℕ) (b : Bool) (old : IterState) → walk strict payload offset last b ≡ old → b ≡ false → offset ≤ length payload
     → eqb (length (take (length payload - offset) (drop offset payload))) 0 ≡ false → AreBytes (take (length payload - offset) (drop offset payload))
     → take (length payload - offset) (drop offset payload) ≡ 0 ∷ drop 1 (take (length payload - offset) (drop offset payload)) → Finds old frames.Padding (walk strict payload (offset + 1) (Some 0) b)
 padding_here strict payload offset last b old v f le some fits front =
@@ -246,20 +246,20 @@ padding_here strict payload offset last b old v f le some fits front =
     let place : length payload - length rest ≡ offset + 1 = omega (arith, size, one, le, less) in
     subst (λ (n : ℕ). Finds old frames.Padding (walk strict payload n (Some 0) b)) place (finds_here strict payload offset last b old 0 frames.Padding rest tt tt v f le some fits (found_padding strict last bytes rest front))
 
-pub breaks_here : (strict : Bool) (payload : List ℕ) (offset : ℕ) (last : Option ℕ) (b : Bool) (old : Way) (i : Invalid) → walk strict payload offset last b ≡ old → b ≡ false
+pub breaks_here : (strict : Bool) (payload : List ℕ) (offset : ℕ) (last : Option ℕ) (b : Bool) (old : IterState) (i : Invalid) → walk strict payload offset last b ≡ old → b ≡ false
     → eqb (length (take (length payload - offset) (drop offset payload))) 0 ≡ false → found_at strict last (take (length payload - offset) (drop offset payload)) ≡ Err i
     → (left old ≡ Broken i ∷ []) × (walk strict payload offset last true ≡ record old { is_broken = true })
 breaks_here strict payload offset last b old i v f some e =
     let cut = rest_is payload offset in
     let is = is_not_broken strict payload offset last b old v f in (
       ap left (sym is) ∙ breaks strict payload offset last i (some_bytes payload offset some) (ap (found_at strict last) (sym cut) ∙ e),
-      ap (λ (o : Way). record o { is_broken = true }) is,
+      ap (λ (o : IterState). record o { is_broken = true }) is,
     )
 
-pub is_broken_here : (strict : Bool) (payload : List ℕ) (offset : ℕ) (last : Option ℕ) (b : Bool) (old : Way) → walk strict payload offset last b ≡ old → b ≡ true → left old ≡ []
+pub is_broken_here : (strict : Bool) (payload : List ℕ) (offset : ℕ) (last : Option ℕ) (b : Bool) (old : IterState) → walk strict payload offset last b ≡ old → b ≡ true → left old ≡ []
 is_broken_here strict payload offset last b old v t = ap left (sym v) ∙ ap (λ (c : Bool). left (walk strict payload offset last c)) t
 
-pub is_over_here : (strict : Bool) (payload : List ℕ) (offset : ℕ) (last : Option ℕ) (b : Bool) (old : Way) → walk strict payload offset last b ≡ old → b ≡ false
+pub is_over_here : (strict : Bool) (payload : List ℕ) (offset : ℕ) (last : Option ℕ) (b : Bool) (old : IterState) → walk strict payload offset last b ≡ old → b ≡ false
     → eqb (length (take (length payload - offset) (drop offset payload))) 0 ≡ true → left old ≡ []
 is_over_here strict payload offset last b old v f none =
     let size : length (take (length payload - offset) (drop offset payload)) ≡ length (drop offset payload) = ap length (rest_is payload offset) in

@@ -20,7 +20,7 @@ pub use Rattle.quic_frame_fields.specs.Putting
 pub mod Meaning
 pub mod InRange
 pub mod Least
-pub mod Way
+pub mod IterState
 pub mod Walk
 pub mod Padding
 pub mod Found

@@ -11,21 +11,21 @@ use Rattle.quic_frame_fields.specs.Payload.{Found, IsFrame, AreFrames, IsBroken}
 use Rattle.quic_frame_fields.specs.Reading.{Item, Whole, Broken, Invalid, invalid, items_of}
 use Rattle.quic_frames.specs.Meaning.{meaning_of}
 use Rattle.quic_frames.specs.InRange.{HasNoTypeZero}
-use Rattle.quic_frames.specs.Way.{Way}
+use Rattle.quic_frames.specs.IterState.{IterState}
 
 abbrev pub invalid_of : InvalidFrame → Invalid
 invalid_of i = record { type = i.ty; reason = i.reason.now }
 
 -- the items that are left
-abbrev pub left : Way → List Item
-left way = if way.is_broken then [] else items_of way.strict way.offset way.last (drop way.offset way.payload)
+abbrev pub left : IterState → List Item
+left state = if state.is_broken then [] else items_of state.strict state.offset state.last (drop state.offset state.payload)
 
 -- at the front of a payload
-abbrev pub first_of : Bool → List ℕ → Way
+abbrev pub first_of : Bool → List ℕ → IterState
 first_of strict payload = record { strict = strict; payload = payload; offset = 0; last = None; is_broken = false }
 
 -- at a later place, behind a frame of this type
-abbrev pub resumed : List ℕ → ℕ → Option ℕ → Bool → Way
+abbrev pub resumed : List ℕ → ℕ → Option ℕ → Bool → IterState
 resumed payload offset last strict = record { strict = strict; payload = payload; offset = offset; last = last; is_broken = false }
 
 -- an item without its place
@@ -37,14 +37,14 @@ abbrev pub given : Found → Result Found Invalid
 given found = Ok found
 
 -- It still gives just the frames that the payload is,
-abbrev pub GivesFrames : Bool → List ℕ → Way → Type 0
-GivesFrames strict payload way = (found : List Found) → AreFrames strict found payload → map unplaced (left way) ≡ map given found
+abbrev pub GivesFrames : Bool → List ℕ → IterState → Type 0
+GivesFrames strict payload state = (found : List Found) → AreFrames strict found payload → map unplaced (left state) ≡ map given found
 
 -- or those before what is none, and then what is reported of that.
-abbrev pub GivesBroken : Bool → List ℕ → Way → Type 0
-GivesBroken strict payload way =
+abbrev pub GivesBroken : Bool → List ℕ → IterState → Type 0
+GivesBroken strict payload state =
     (found : List Found) (type : Option ℕ) (reason : Fault) → IsBroken strict None found payload type reason
-    → map unplaced (left way) ≡ map given found ++ Err (invalid type reason) ∷ []
+    → map unplaced (left state) ≡ map given found ++ Err (invalid type reason) ∷ []
 
 abbrev pub bytes_of_value : Value → Option (List ℕ)
 bytes_of_value (Number n) = None
@@ -68,7 +68,7 @@ StandsAsRead type (frames.Ack a) bytes = BlocksStand type a bytes
 StandsAsRead type frame bytes = ⊤
 
 -- A frame was found, from the place before to the place after.
-pub record Finds (old : Way) (frame : Frame) (new : Way) : Type 0 where
+pub record Finds (old : IterState) (frame : Frame) (new : IterState) : Type 0 where
   pub found : Found
   pub says : found.frame ≡ meaning_of frame
   pub distinct : HasNoTypeZero frame
@@ -80,7 +80,7 @@ pub record Finds (old : Way) (frame : Frame) (new : Way) : Type 0 where
   pub is_done : (left new ≡ []) ↔ (new.offset ≡ length old.payload)
 
 -- what a call of next does: the first item that is left is given
-abbrev pub Advances : Way → Option (Result Frame InvalidFrame) → Way → Type 0
+abbrev pub Advances : IterState → Option (Result Frame InvalidFrame) → IterState → Type 0
 Advances old None new = (left old ≡ []) × (new ≡ old)
 Advances old (Some (Ok frame)) new = Finds old frame new
 Advances old (Some (Err i)) new = (left old ≡ Broken (invalid_of i) ∷ []) × (new ≡ record old { is_broken = true })

@@ -24,9 +24,9 @@ pub struct Iter<'a> {
 
 impl<'a> Model for Iter<'a> {
     ghost use Rattle.std.specs.Prelude.{◌≤◌, length};
-    ghost use Rattle.quic_frames.specs.Way.{Way};
+    ghost use Rattle.quic_frames.specs.IterState.{IterState};
 
-    ghost Value = { Way };
+    ghost Value = { IterState };
 
     ghost view = { λ it. record { strict = it.strict; payload = it.payload.now; offset = it.offset; last = it.last; is_broken = it.is_broken } };
 
@@ -101,7 +101,7 @@ impl<'a> Iter<'a> {
         strict: bool,
     ) -> Option<Self>
         ensures past { IsNone result ↔ (length payload.now < offset) }
-        ensures way { IfSome result (λ it. it ≡ resumed payload.now offset last strict) }
+        ensures state { IfSome result (λ it. it ≡ resumed payload.now offset last strict) }
     {
         if offset > payload.len() {
             return None;

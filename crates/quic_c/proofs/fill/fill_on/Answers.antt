@@ -1,9 +1,9 @@
 use Rattle.std.proofs.Common.{rules, refl, sym, subst, ap, inl, inr, ◌≡◌, ◌<◌, ◌∙◌, length, set, List}
 use Rattle.std.proofs.lemmas.List.{drop-set}
-use Rattle.quic_frames.specs.Way.{Way}
+use Rattle.quic_frames.specs.IterState.{IterState}
 use Rattle.quic_frames.specs.Walk.{invalid_of}
 use Rattle.quic_c.specs.declared.words.FrameWords.{FrameWords}
-use Rattle.quic_c.specs.Shown.{way_of}
+use Rattle.quic_c.specs.Shown.{state_of}
 use Rattle.quic_c.specs.Answers.{IsRefused}
 use Rattle.quic_c.proofs.fill.fill_on.Goals as goal
 
@@ -11,11 +11,11 @@ pub returns-in-Err : goal.returns-in-Err
 returns-in-Err g c =
     let s = c.in-Err.ensures.invalid in
     let here = s.0 in
-    let resumed = c.in-Some.ensures.way in
+    let resumed = c.in-Some.ensures.state in
     let ty = c.type_in.ensures in
     let ended = c.if-frames-ne0.false in
-    let way : way_of c.args.frames.now c.args.payload.now ≡ c.in-Some.iter = search rules in
-    let first : IsRefused c.args.basic (way_of c.args.frames.now c.args.payload.now) (invalid_of c.in-Err.invalid) = subst (λ (w : Way). IsRefused c.args.basic w (invalid_of c.in-Err.invalid)) (sym way) here in
+    let state : state_of c.args.frames.now c.args.payload.now ≡ c.in-Some.iter = search rules in
+    let first : IsRefused c.args.basic (state_of c.args.frames.now c.args.payload.now) (invalid_of c.in-Err.invalid) = subst (λ (w : IterState). IsRefused c.args.basic w (invalid_of c.in-Err.invalid)) (sym state) here in
     let some : 0 < length c.args.out.now = search rules in
     let reported = c.show_invalid.result in
     record {

@@ -3,7 +3,7 @@ use Rattle.std.proofs.lemmas.List.{drop-set}
 use Rattle.quic_frames.proofs.Items.{all_read}
 use Rattle.quic_frames.specs.Walk.{left, first_of, invalid_of}
 use Rattle.quic_c.specs.declared.words.FrameWords.{FrameWords}
-use Rattle.quic_c.specs.Shown.{way_of, at_front}
+use Rattle.quic_c.specs.Shown.{state_of, at_front}
 use Rattle.quic_c.specs.Answers.{IsRefused}
 use Rattle.quic_c.proofs.Filling.{kinds}
 use Rattle.std.proofs.lemmas.Grind.{common_steps}
@@ -11,7 +11,7 @@ use Rattle.quic_c.proofs.fill.quic_wire_frames_first_.Goals as goal
 
 pub returns-in-Ok-clause-frames : goal.returns-in-Ok-clause-frames
 returns-in-Ok-clause-frames c =
-    let front = c.in-Some.ensures.way in
+    let front = c.in-Some.ensures.state in
     let said = c.in-Ok.ensures in
     let room : 0 < length c.args.out.now = search rules in
     let some : 0 < c.in-Ok.filled.count = elim (kinds c.in-Ok.filled.count) [
@@ -26,7 +26,7 @@ returns-in-Ok-clause-frames c =
 pub returns-in-Err-clause-invalid : goal.returns-in-Err-clause-invalid
 returns-in-Err-clause-invalid c =
     let s = c.in-Err.ensures.invalid in
-    let it : IsRefused false (way_of (at_front 0) c.args.payload.now) (invalid_of c.in-Err.invalid) = rw c.in-Some.ensures.way at s.0 in
+    let it : IsRefused false (state_of (at_front 0) c.args.payload.now) (invalid_of c.in-Err.invalid) = rw c.in-Some.ensures.state at s.0 in
     let room : 0 < length c.args.out.now = search rules in
     let reported = c.show_invalid.result in
     λ _. record {

@@ -1,11 +1,11 @@
 use Rattle.std.proofs.Common.{rules, arith, inl, inr, sym, subst, ap, refl, ◌∙◌, ◌≡◌, [], ◌∷◌, Some}
 use Rattle.std.proofs.lemmas.Grind.{common_steps}
 use Rattle.quic_frame_fields.specs.Reading.{Broken}
-use Rattle.quic_frames.specs.Way.{Way}
+use Rattle.quic_frames.specs.IterState.{IterState}
 use Rattle.quic_frames.specs.Walk.{invalid_of, left, Advances, Finds}
 use Rattle.quic_c.specs.Answers.{GivesInvalid, IsRefused, unknown_type}
 use Rattle.quic_c.specs.Filling.{further}
-use Rattle.quic_c.specs.Shown.{kind_of, type_in, way_of}
+use Rattle.quic_c.specs.Shown.{kind_of, type_in, state_of}
 use Rattle.quic_c.proofs.Types.{behind_frame, gives_frame, is_kept, unknown_refused}
 use Rattle.quic_c.proofs.frames.give_next.Goals as goal
 
@@ -13,7 +13,7 @@ pub returns-in-None : goal.returns-in-None
 returns-in-None g c = record {
   answers = inr (inl refl);
   frame = search rules;
-  end = λ _. ap left c.requires.way ∙ c.in-None.ensures.steps.0;
+  end = λ _. ap left c.requires.state ∙ c.in-None.ensures.steps.0;
   invalid = search rules;
   outside = grind (arith, common_steps);
   same = inr (inr (refl, refl));
@@ -22,7 +22,7 @@ returns-in-None g c = record {
 pub returns-in-Some-Err : goal.returns-in-Some-Err
 returns-in-Some-Err g c =
     let s = subst (λ f. Advances c.args.iter.now (Some f) c.next.new.self) c.in-Some-Err.field-0-is c.in-Some-Err.ensures.steps in
-    let here : left (way_of c.args.frames.now c.args.iter.now.payload) ≡ Broken (invalid_of c.in-Some-Err.invalid) ∷ [] = ap left c.requires.way ∙ s.0 in
+    let here : left (state_of c.args.frames.now c.args.iter.now.payload) ≡ Broken (invalid_of c.in-Some-Err.invalid) ∷ [] = ap left c.requires.state ∙ s.0 in
     let gives : GivesInvalid c.args.basic c.args.frames.now c.args.iter.now.payload c.refuse-in-Some-Err.new.frames c.refuse-in-Some-Err.new.out =
     record { reported = invalid_of c.in-Some-Err.invalid; first = inl here; over = c.refuse-in-Some-Err.ensures.over; words = c.refuse-in-Some-Err.ensures.words } in
     record {
@@ -45,7 +45,7 @@ returns-else-is_unknown g c =
     let known = is_kept c.args.basic _ frame c.is_unknown.ensures c.if-is_unknown.false in
     record {
       answers = inl refl;
-      frame = λ _. gives_frame c.args.basic _ _ _ _ c.args.iter.now c.next.new.self frame type finds known c.requires.way (ap (λ (w : Way). further w stop (type_in type)) c.requires.way ∙ on) begins c.show.ensures;
+      frame = λ _. gives_frame c.args.basic _ _ _ _ c.args.iter.now c.next.new.self frame type finds known c.requires.state (ap (λ (w : IterState). further w stop (type_in type)) c.requires.state ∙ on) begins c.show.ensures;
       end = search rules;
       invalid = search rules;
       outside = grind (arith, common_steps);
@@ -59,7 +59,7 @@ returns-then-is_unknown g c =
     let finds : Finds c.args.iter.now frame c.next.new.self = subst (λ f. Advances c.args.iter.now (Some f) c.next.new.self) c.in-Some-Ok.field-0-is c.in-Some-Ok.ensures.steps in
     let tells : reported ≡ unknown_type (kind_of frame) = c.unknown.ensures ∙ ap (λ p. unknown_type p.kind) c.parts_of.ensures in
     let here : IsRefused c.args.basic c.args.iter.now reported = unknown_refused c.args.basic c.args.iter.now c.next.new.self frame reported finds (c.is_unknown.ensures.0 c.if-is_unknown.true) tells in
-    let first : IsRefused c.args.basic (way_of c.args.frames.now c.args.iter.now.payload) reported = subst (λ (w : Way). IsRefused c.args.basic w reported) (sym c.requires.way) here in
+    let first : IsRefused c.args.basic (state_of c.args.frames.now c.args.iter.now.payload) reported = subst (λ (w : IterState). IsRefused c.args.basic w reported) (sym c.requires.state) here in
     let gives : GivesInvalid c.args.basic c.args.frames.now c.args.iter.now.payload c.refuse.new.frames c.refuse.new.out = record { reported = reported; first = first; over = c.refuse.ensures.over; words = c.refuse.ensures.words } in
     record {
       answers = search rules;

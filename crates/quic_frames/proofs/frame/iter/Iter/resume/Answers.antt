@@ -1,5 +1,5 @@
 use Rattle.std.proofs.Common.{rules}
 use Rattle.quic_frames.proofs.frame.iter.Iter.resume.Goals as goal
 
-pub returns-clause-way : goal.returns-clause-way
-returns-clause-way c = search rules
+pub returns-clause-state : goal.returns-clause-state
+returns-clause-state c = search rules

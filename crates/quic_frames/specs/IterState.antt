@@ -3,7 +3,7 @@ use Rattle.std.specs.Prelude.{ℕ, List, Option, Bool}
 
 -- whether a type counts in its shortest encoding alone, the payload, the end of the last whole frame, the last type
 -- that was read, and whether something was no frame
-pub record Way : Type 0 where
+pub record IterState : Type 0 where
   pub strict : Bool
   pub payload : List ℕ
   pub offset : ℕ

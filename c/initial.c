@@ -45,7 +45,7 @@ static size_t open_packet(const keys *k, uint8_t *packet,
 
 /* Seals a payload behind the header that is said.  Returns how long the packet
  * is. */
-static size_t seal_packet(const keys *k, const quic_wire_said *said,
+static size_t seal_packet(const keys *k, const quic_wire_header_fields *said,
                           const uint8_t *dcid, size_t dcidlen,
                           const uint8_t *payload, size_t len, uint8_t *packet,
                           size_t room) {
@@ -91,7 +91,7 @@ static size_t read_hex(FILE *file, uint8_t *out, size_t room) {
 int main(void) {
   static const uint32_t versions[] = {VERSION_1};
   static uint8_t packet[MOST], given[MOST], again[MOST];
-  quic_wire_said said = {QUIC_WIRE_INITIAL, 0, 0, 2, 1, 0};
+  quic_wire_header_fields said = {QUIC_WIRE_INITIAL, 0, 0, 2, 1, 0};
   quic_wire_header head;
   const uint8_t *dcid;
   const size_t len = read_hex(stdin, packet, sizeof packet);

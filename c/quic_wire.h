@@ -52,7 +52,7 @@
  *
  * And a packet is sealed so, with room for a tag of 16 bytes behind it:
  *
- *   quic_wire_said said = {0};
+ *   quic_wire_header_fields said = {0};
  *   said.kind = QUIC_WIRE_HANDSHAKE;
  *   said.version = 1;
  *   said.number = number;
@@ -356,7 +356,7 @@ typedef struct quic_wire_header {
 
 /* What a header says that is written, beside its ids and its token.  What its
  * kind lacks isn't looked at. */
-typedef struct quic_wire_said {
+typedef struct quic_wire_header_fields {
   uint8_t kind;      /* QUIC_WIRE_INITIAL and so on */
   uint8_t flags;     /* QUIC_WIRE_FIXED_BIT: it is clear; of 1-RTT
                         QUIC_WIRE_SPIN_BIT and QUIC_WIRE_KEY_PHASE; of a
@@ -365,7 +365,7 @@ typedef struct quic_wire_said {
   uint8_t lengthlen; /* how many bytes the packet's length has, 2 or 4 */
   uint32_t version;
   uint64_t number; /* the packet number */
-} quic_wire_said;
+} quic_wire_header_fields;
 
 /* ---- Transport parameters (RFC 9000, section 18) */
 
@@ -478,7 +478,7 @@ QUIC_WIRE_ASSERT(offsetof(quic_wire_canon, reason) == 16, "64-bit words");
 QUIC_WIRE_ASSERT(sizeof(quic_wire_header) == 32, "no room between the fields");
 QUIC_WIRE_ASSERT(offsetof(quic_wire_header, version) == 4, "no room");
 QUIC_WIRE_ASSERT(offsetof(quic_wire_header, len) == 24, "no room");
-QUIC_WIRE_ASSERT(sizeof(quic_wire_said) == 16, "no room between the fields");
+QUIC_WIRE_ASSERT(sizeof(quic_wire_header_fields) == 16, "no room between the fields");
 QUIC_WIRE_ASSERT(sizeof(quic_wire_params) == 264, "no room between the fields");
 QUIC_WIRE_ASSERT(offsetof(quic_wire_params, max_idle_timeout) == 8, "no room");
 QUIC_WIRE_ASSERT(offsetof(quic_wire_params, original_dst_cidlen) == 112,
@@ -502,7 +502,7 @@ QUIC_WIRE_ASSERT(offsetof(quic_wire_param, value) == 8, "64-bit words");
    (uint64_t)(sizeof(quic_wire_ack_ranges) / 8) << 24 |                        \
    (uint64_t)(sizeof(quic_wire_canon) / 8) << 32 |                             \
    (uint64_t)(sizeof(quic_wire_header) / 8) << 40 |                              \
-   (uint64_t)(sizeof(quic_wire_said) / 8) << 48 |                              \
+   (uint64_t)(sizeof(quic_wire_header_fields) / 8) << 48 |                              \
    (uint64_t)(sizeof(quic_wire_params) / 8) << 56)
 
 /* QUIC_WIRE_VERSION and QUIC_WIRE_LAYOUT of the library that is linked. */
@@ -934,7 +934,7 @@ QUIC_WIRE_API size_t quic_wire_varint_write(uint64_t value, uint32_t width,
 /* ---- Headers of packets, written */
 
 /* How many bytes a header has whose token has |tokenlen|; 0 for NULL. */
-QUIC_WIRE_API size_t quic_wire_header_len(const quic_wire_said *said,
+QUIC_WIRE_API size_t quic_wire_header_len(const quic_wire_header_fields *said,
                                         size_t dcidlen, size_t scidlen,
                                         size_t tokenlen);
 
@@ -970,7 +970,7 @@ QUIC_WIRE_API size_t quic_wire_header_len(const quic_wire_said *said,
  * may share its port (RFC 7983), and readers that ask for it refuse it.
  */
 QUIC_WIRE_API int64_t quic_wire_header_write(
-    const quic_wire_said *said, const uint8_t *dcid, size_t dcidlen,
+    const quic_wire_header_fields *said, const uint8_t *dcid, size_t dcidlen,
     const uint8_t *scid, size_t scidlen, const uint8_t *token, size_t tokenlen,
     uint8_t *dest, size_t destlen);
 

@@ -58,7 +58,7 @@ int32_t quic_wire_unprotect_(uint8_t *, size_t, size_t, const uint8_t *,
 int32_t quic_wire_protect_(uint8_t *, size_t, size_t, const uint8_t *);
 int32_t quic_wire_short_write_(uint32_t, uint64_t, const uint8_t *, size_t,
                                uint8_t *, size_t);
-int64_t quic_wire_header_write_(const quic_wire_said *, const uint8_t *, size_t,
+int64_t quic_wire_header_write_(const quic_wire_header_fields *, const uint8_t *, size_t,
                               const uint8_t *, size_t, const uint8_t *, size_t,
                               uint8_t *, size_t);
 int32_t quic_wire_negotiation_write_(uint8_t, const uint8_t *, size_t,
@@ -456,7 +456,7 @@ QUIC_WIRE_API size_t quic_wire_varint_write(uint64_t value, uint32_t width,
   return dest ? quic_wire_varint_write_(value, width, dest, destlen) : 0;
 }
 
-QUIC_WIRE_API size_t quic_wire_header_len(const quic_wire_said *said,
+QUIC_WIRE_API size_t quic_wire_header_len(const quic_wire_header_fields *said,
                                         size_t dcidlen, size_t scidlen,
                                         size_t tokenlen) {
   size_t front = 7 + dcidlen + scidlen, end;
@@ -475,7 +475,7 @@ QUIC_WIRE_API size_t quic_wire_header_len(const quic_wire_said *said,
 }
 
 QUIC_WIRE_API int64_t quic_wire_header_write(
-    const quic_wire_said *said, const uint8_t *dcid, size_t dcidlen,
+    const quic_wire_header_fields *said, const uint8_t *dcid, size_t dcidlen,
     const uint8_t *scid, size_t scidlen, const uint8_t *token, size_t tokenlen,
     uint8_t *dest, size_t destlen) {
   static const uint8_t none = 0;

@@ -3,7 +3,7 @@
 #include "abuse.h"
 
 void headers_written_nulls(void) {
-  quic_wire_said said = {QUIC_WIRE_RETRY, 0, 0, 0, 1, 0};
+  quic_wire_header_fields said = {QUIC_WIRE_RETRY, 0, 0, 0, 1, 0};
   uint8_t id[4] = {1, 2, 3, 4}, out[16];
   WANT(quic_wire_header_write(NULL, id, 4, id, 4, NULL, 0, out, 16) == INVALID);
   WANT(quic_wire_header_write(&said, NULL, 4, id, 4, NULL, 0, out, 16) == INVALID);
@@ -29,7 +29,7 @@ void headers_written_nulls(void) {
 }
 
 /* The bytes of a long header up to its number, by the same model. */
-static size_t model_long(const quic_wire_said *h, const uint8_t *const parts[3],
+static size_t model_long(const quic_wire_header_fields *h, const uint8_t *const parts[3],
                          const size_t lens[3], uint8_t first, uint8_t *out) {
   const int vn = h->kind == QUIC_WIRE_VERSION_NEGOTIATION;
   const int is_long = h->kind <= QUIC_WIRE_HANDSHAKE;
@@ -57,7 +57,7 @@ static size_t model_long(const quic_wire_said *h, const uint8_t *const parts[3],
 
 /* A header as RFC 9000, section 17, and RFC 9369 draw it, by a plain model: its
  * length, or 0 where there is no such head. */
-static size_t model_header(const quic_wire_said *h, const uint8_t *const parts[3],
+static size_t model_header(const quic_wire_header_fields *h, const uint8_t *const parts[3],
                          const size_t lens[3], uint8_t *out) {
   const int is_long = h->kind <= QUIC_WIRE_HANDSHAKE;
   const int numbered = is_long || h->kind == QUIC_WIRE_1RTT;
@@ -84,7 +84,7 @@ static size_t model_header(const quic_wire_said *h, const uint8_t *const parts[3
 
 /* Puts protection on a packet, and sees that it is put on as by hand: on the
  * low bits of the first byte, and on the number.  Returns its answer. */
-static int header_protected(const quic_wire_said *h, uint8_t *packet,
+static int header_protected(const quic_wire_header_fields *h, uint8_t *packet,
                           const uint8_t *plain, size_t whole, size_t len,
                           size_t at, const uint8_t mask[5]) {
   const int numbered =
@@ -112,7 +112,7 @@ static int header_protected(const quic_wire_said *h, uint8_t *packet,
 /* A packet of a header that was written, and a body behind it: its length is set,
  * it is read as it was said, its protection is put on as by hand, and taken off
  * again. */
-static void header_cut(const quic_wire_said *h, const size_t lens[3],
+static void header_cut(const quic_wire_header_fields *h, const size_t lens[3],
                      const uint8_t *written, size_t len) {
   const int is_long = h->kind <= QUIC_WIRE_HANDSHAKE;
   const int numbered = is_long || h->kind == QUIC_WIRE_1RTT;
@@ -147,7 +147,7 @@ static void header_cut(const quic_wire_said *h, const size_t lens[3],
 }
 
 /* Words that are mostly a header's, and sometimes any. */
-static void any_said(quic_wire_said *h) {
+static void any_said(quic_wire_header_fields *h) {
   static const uint32_t versions[] = {1, 0x6b3343cf, 0xff00001d};
   memset(h, 0, sizeof *h);
   h->kind = (uint8_t)(any() % 60 ? any() % 6 : any());
@@ -161,7 +161,7 @@ static void any_said(quic_wire_said *h) {
 /* Words and parts that are mostly a header, and sometimes any words.  Returns
  * whether a header was written. */
 int header_written(void) {
-  quic_wire_said h;
+  quic_wire_header_fields h;
   uint8_t model[512], *parts[3], *dest;
   const uint8_t *given[3];
   size_t lens[3], room, want, k, i;

@@ -74,7 +74,7 @@ static u64 ack_write(u64 turn) {
 }
 
 static inline __attribute__((always_inline)) u64 header_of(uint8_t kind, u64 turn) {
-    quic_wire_said said = {
+    quic_wire_header_fields said = {
         .kind = kind, .flags = QUIC_WIRE_FIXED_BIT, .numberlen = 2, .lengthlen = 2, .version = 1, .number = turn};
     size_t token_len = kind == QUIC_WIRE_INITIAL ? sizeof token : 0;
     return (u64)quic_wire_header_write(&said, id, id_len, id, id_len, token, token_len, dest, sizeof dest);

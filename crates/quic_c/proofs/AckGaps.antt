@@ -16,7 +16,7 @@ use Rattle.quic_frame_fields.specs.Sets.{ack_type, count_numbers}
 use Rattle.quic_frame_fields.specs.Shortest.{shortest_below, shortest_frame}
 use Rattle.quic_c.specs.declared.words.FrameWords.{FrameWords}
 use Rattle.quic_c.specs.declared.words.GapWords.{GapWords}
-use Rattle.quic_c.specs.AckGaps.{ack_bytes, ack_said, behind_type, counts_list, counts_said, delay_in, front_numbers, gap_numbers, greatest_in, AreUnder, Fit, IsAck, SaysAck}
+use Rattle.quic_c.specs.AckGaps.{ack_bytes, ack_said, behind_type, counts_list, counts_said, delay_in, front_numbers, gap_numbers, greatest_in, AreUnder, Fit, IsAck, DescribesAck}
 use Rattle.quic_c.specs.Front.{gap_of, gaps_below}
 
 -- ---- the ranges that gaps say
@@ -76,7 +76,7 @@ counts_by flags a b c e = elim e [
 ]
 
 -- the bytes of the ACK that words and gaps say
-pub whole : (last : Bool) (words : FrameWords) (gaps : List GapWords) (low : ℕ) (below : List (ℕ × ℕ)) → SaysAck words gaps low below
+pub whole : (last : Bool) (words : FrameWords) (gaps : List GapWords) (low : ℕ) (below : List (ℕ × ℕ)) → DescribesAck words gaps low below
     → shortest_frame last (ack_said words low below) ≡ ack_bytes words gaps
 whole last words gaps low below s =
     let g : ℕ = greatest_in words in
@@ -95,7 +95,7 @@ whole last words gaps low below s =
     ∙ ap (λ (l : List ℕ). all_short (front_numbers words gaps) ++ (l ++ all_short (count_numbers (counts_said counts)))) bytes
     ∙ ap (λ (l : List ℕ). all_short (front_numbers words gaps) ++ (all_short (gap_numbers gaps) ++ all_short l)) numbers
 
-pub is_of : (words : FrameWords) (gaps : List GapWords) (low : ℕ) (below : List (ℕ × ℕ)) → SaysAck words gaps low below → IsAck words gaps
+pub is_of : (words : FrameWords) (gaps : List GapWords) (low : ℕ) (below : List (ℕ × ℕ)) → DescribesAck words gaps low below → IsAck words gaps
 is_of words gaps low below s =
     let e = s.first in
     let down : low ≡ greatest_in words - words.data_len = omega (arith, e) in
@@ -109,7 +109,7 @@ is_of words gaps low below s =
       counts = s.counts;
     }
 
-pub says_of : (words : FrameWords) (gaps : List GapWords) → IsAck words gaps → (low : ℕ) × (below : List (ℕ × ℕ)) × SaysAck words gaps low below
+pub says_of : (words : FrameWords) (gaps : List GapWords) → IsAck words gaps → (low : ℕ) × (below : List (ℕ × ℕ)) × DescribesAck words gaps low below
 says_of words gaps i =
     let low : ℕ = greatest_in words - words.data_len in
     let f = i.first in (

@@ -13,7 +13,7 @@ use Rattle.quic_frame_fields.specs.declared.frame.Datagram.{Datagram}
 use Rattle.quic_frames.specs.Meaning.{meaning_of}
 use Rattle.quic_c.specs.declared.words.FrameWords.{FrameWords}
 use Rattle.quic_c.specs.Shown.{data_of}
-use Rattle.quic_c.specs.Written.{CanWrite}
+use Rattle.quic_c.specs.Written.{CanWriteFrame}
 use Rattle.quic_c.specs.Headers.{IsHeaded, HasHeader, AreTwo, IsCounted, first_in, second_in, header_by, header_bytes}
 
 zero_fits : 0 < 2 ^ 62
@@ -53,7 +53,7 @@ datagram_parts : (last : Bool) (d : Datagram) → shortest_frame last (meaning_o
 datagram_parts true d = datagram_open d.bytes.now
 datagram_parts false d = datagram_counted d.bytes.now
 
-pub header_and : (words : FrameWords) (bytes : List ℕ) (last : Bool) (frame : Frame) → IsHeaded words.kind → CanWrite words bytes last frame → IsCut words last frame
+pub header_and : (words : FrameWords) (bytes : List ℕ) (last : Bool) (frame : Frame) → IsHeaded words.kind → CanWriteFrame words bytes last frame → IsCut words last frame
 header_and words bytes last (frames.Crypto x) h can =
     let s = can.said in
     let same : header_bytes words last ≡ header_by 0x06 0 (0 ∷ x.offset ∷ 0 ∷ 0 ∷ 0 ∷ []) (length x.bytes.now) last = rw (s.kind, s.numbers, s.count) refl in

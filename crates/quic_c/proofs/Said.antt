@@ -8,30 +8,30 @@ use Rattle.quic_frames.specs.InRange.{IsNoAck, IsTyped}
 use Rattle.quic_c.specs.declared.words.FrameWords.{FrameWords}
 use Rattle.quic_c.specs.Shown.{kind_of, data_of, tail_of}
 use Rattle.quic_c.specs.Shapes.{Shape, IsSound, Fills, HasPieces, IsShown, LacksData, LacksPieces, shape_of, shows_data, kept_numbers, kept_data, kept_token, token_room}
-use Rattle.quic_c.specs.Written.{Says, CanWrite, SaysNone, IsAnswer}
+use Rattle.quic_c.specs.Written.{DescribesFrame, CanWriteFrame, DescribesNoFrame, IsAnswer}
 use Rattle.quic_c.proofs.Shapes.{sound, keeps, open_short, counted_short}
 
-pub not_sound : (words : FrameWords) (bytes : List ℕ) (last : Bool) → (IsSound words.kind words.numbers words.data_len → ⊥) → SaysNone words bytes last
+pub not_sound : (words : FrameWords) (bytes : List ℕ) (last : Bool) → (IsSound words.kind words.numbers words.data_len → ⊥) → DescribesNoFrame words bytes last
 not_sound words bytes last never frame can =
     let s = can.said in
     never (rw (s.kind, s.numbers, s.count) (sound frame can.kind can.typed can.stands.in_range))
 
-pub not_counted : (words : FrameWords) (bytes : List ℕ) (last : Bool) → last ≡ false → 2 ^ 62 ≤ words.data_len → SaysNone words bytes last
+pub not_counted : (words : FrameWords) (bytes : List ℕ) (last : Bool) → last ≡ false → 2 ^ 62 ≤ words.data_len → DescribesNoFrame words bytes last
 not_counted words bytes last inner long frame can =
     let short = counted_short frame can.kind can.stands.in_range (can.stands.counted inner) in
     absurd (omega (arith, short, long, can.said.count))
 
-pub not_within : (words : FrameWords) (bytes : List ℕ) (last : Bool) → LacksPieces words bytes → SaysNone words bytes last
+pub not_within : (words : FrameWords) (bytes : List ℕ) (last : Bool) → LacksPieces words bytes → DescribesNoFrame words bytes last
 not_within words bytes last lacks frame can =
     let tail : token_room words.kind ≡ tail_of frame = ap token_room can.said.kind ∙ sym (keeps frame can.kind).tail in
     let within = can.said.within (omega (arith, lacks.some, tail)) in
     absurd (omega (arith, lacks.past, tail, within))
 
-pub not_known : (words : FrameWords) (bytes : List ℕ) (last : Bool) → shape_of words.kind ≡ None → SaysNone words bytes last
+pub not_known : (words : FrameWords) (bytes : List ℕ) (last : Bool) → shape_of words.kind ≡ None → DescribesNoFrame words bytes last
 not_known words bytes last none frame can = (keeps frame can.kind).known (sym (ap shape_of can.said.kind) ∙ none)
 
 pub shown_by : (words : FrameWords) (bytes front token : List ℕ) (built frame : Frame) → HasPieces words bytes front token → Fills words.kind (words.flags == 1) words.numbers front token built
-    → IsNoAck frame → Says words bytes frame → IsShown words built
+    → IsNoAck frame → DescribesFrame words bytes frame → IsShown words built
 shown_by words bytes front token built frame p f here s =
     let k = keeps frame here in
     let numbers : kept_numbers (shape_of words.kind) words.numbers ≡ words.numbers = rw (s.kind, s.numbers) k.numbers in
@@ -45,7 +45,7 @@ shown_by words bytes front token built frame p f here s =
     }
 
 pub not_shown : (words : FrameWords) (bytes front token : List ℕ) (last : Bool) (built : Frame) → HasPieces words bytes front token
-    → Fills words.kind (words.flags == 1) words.numbers front token built → (IsShown words built → ⊥) → SaysNone words bytes last
+    → Fills words.kind (words.flags == 1) words.numbers front token built → (IsShown words built → ⊥) → DescribesNoFrame words bytes last
 not_shown words bytes front token last built p f never frame can = never (shown_by words bytes front token built frame p f can.kind can.said)
 
 empty : (bytes : List ℕ) → 0 ≡ length bytes → [] ≡ bytes
@@ -61,7 +61,7 @@ kept_whole None bytes e = empty bytes e
 kept_whole (Some s) bytes e = kept_by s.has_data bytes e
 
 pub says : (words : FrameWords) (bytes front token : List ℕ) (frame : Frame) → HasPieces words bytes front token → Fills words.kind (words.flags == 1) words.numbers front token frame
-    → IsShown words frame → Says words bytes frame
+    → IsShown words frame → DescribesFrame words bytes frame
 says words bytes front token frame p f s =
     let whole : kept_data (shape_of words.kind) front ≡ front = kept_whole (shape_of words.kind) front (sym (ap length f.content) ∙ s.count ∙ sym p.width) in
     record {
@@ -76,7 +76,7 @@ says words bytes front token frame p f s =
 
 pub can_write : (words : FrameWords) (bytes front token : List ℕ) (last : Bool) (frame : Frame) → HasPieces words bytes front token
     → Fills words.kind (words.flags == 1) words.numbers front token frame → IsShown words frame → IsTyped frame → (last ≡ false → words.data_len < 2 ^ 62)
-    → CanWrite words bytes last frame
+    → CanWriteFrame words bytes last frame
 can_write words bytes front token last frame p f s typed short = record {
   said = says words bytes front token frame p f s;
   kind = f.no_ack;
@@ -108,7 +108,7 @@ data_kept : (shape : Option Shape) (bytes : List ℕ) → shows_data shape ≡ f
 data_kept None bytes e = refl
 data_kept (Some s) bytes e = ap (λ (b : Bool). if b then bytes else []) e
 
-no_data : (words : FrameWords) (bytes : List ℕ) (last : Bool) (frame : Frame) → LacksData words → CanWrite words bytes last frame → words.data_len ≡ 0
+no_data : (words : FrameWords) (bytes : List ℕ) (last : Bool) (frame : Frame) → LacksData words → CanWriteFrame words bytes last frame → words.data_len ≡ 0
 no_data words bytes last frame (inl none) can = none
 no_data words bytes last frame (inr e) can =
     let lacks : shows_data (shape_of (kind_of frame)) ≡ false = ap (λ (k : ℕ). shows_data (shape_of k)) (sym can.said.kind) ∙ e in
@@ -117,13 +117,13 @@ no_data words bytes last frame (inr e) can =
 no_room : (kind : ℕ) → (kind ≡ 0x18 → ⊥) → token_room kind ≡ 0
 no_room kind other = grind (arith, nat_tests)
 
-no_tail : (words : FrameWords) (bytes : List ℕ) (last : Bool) (frame : Frame) → words.data_len ≡ 0 → CanWrite words bytes last frame → tail_of frame ≡ 0
+no_tail : (words : FrameWords) (bytes : List ℕ) (last : Bool) (frame : Frame) → words.data_len ≡ 0 → CanWriteFrame words bytes last frame → tail_of frame ≡ 0
 no_tail words bytes last frame none can = elim (cases_eq (kind_of frame) 0x18) [
   | inl e ↦ absurd (omega (arith, (sound frame can.kind can.typed can.stands.in_range).some e, can.said.count, none))
   | inr other ↦ (keeps frame can.kind).tail ∙ no_room (kind_of frame) other
 ]
 
-pub elsewhere : (words : FrameWords) (bytes others : List ℕ) (last : Bool) (frame : Frame) → LacksData words → CanWrite words bytes last frame → CanWrite words others last frame
+pub elsewhere : (words : FrameWords) (bytes others : List ℕ) (last : Bool) (frame : Frame) → LacksData words → CanWriteFrame words bytes last frame → CanWriteFrame words others last frame
 elsewhere words bytes others last frame lacks can =
     let s = can.said in
     let none : words.data_len ≡ 0 = no_data words bytes last frame lacks can in

@@ -32,7 +32,7 @@ AreUnder low [] = ⊤
 AreUnder low (range ∷ ranges) = (range.0 ≤ range.1) × (range.1 + 2 ≤ low) × AreUnder range.0 ranges
 
 -- The words and the gaps say an ACK, whose first range goes down to low, and whose others stand below it.
-pub record SaysAck (words : FrameWords) (gaps : List GapWords) (low : ℕ) (below : List (ℕ × ℕ)) : Type 0 where
+pub record DescribesAck (words : FrameWords) (gaps : List GapWords) (low : ℕ) (below : List (ℕ × ℕ)) : Type 0 where
   pub kind : words.kind ≡ 0x02
   pub flags : (words.flags ≡ 0) ⊎ (words.flags ≡ 2)
   pub first : low + words.data_len ≡ greatest_in words

@@ -15,7 +15,7 @@ token_of frame = []
 
 -- The words say the frame, whose data stand in the bytes where the words say, with the token of a reset behind them.
 -- Where there are neither, their place says nothing, nor does ever where the frame begins and ends in a payload.
-pub record Says (words : FrameWords) (bytes : List ℕ) (frame : Frame) : Type 0 where
+pub record DescribesFrame (words : FrameWords) (bytes : List ℕ) (frame : Frame) : Type 0 where
   pub kind : words.kind ≡ kind_of frame
   pub flags : words.flags ≡ flags_of frame
   pub numbers : words.numbers ≡ numbers_of frame
@@ -25,8 +25,8 @@ pub record Says (words : FrameWords) (bytes : List ℕ) (frame : Frame) : Type 0
   pub token : take (tail_of frame) (drop words.data_len (drop words.data_offset bytes)) ≡ token_of frame
 
 -- The words say a frame that can be written there, the last of its payload or not, and is no ACK.
-pub record CanWrite (words : FrameWords) (bytes : List ℕ) (last : Bool) (frame : Frame) : Type 0 where
-  pub said : Says words bytes frame
+pub record CanWriteFrame (words : FrameWords) (bytes : List ℕ) (last : Bool) (frame : Frame) : Type 0 where
+  pub said : DescribesFrame words bytes frame
   pub kind : IsNoAck frame
   pub typed : IsTyped frame
   pub stands : CanStand last frame
@@ -38,23 +38,23 @@ flag_of n = not (n == 0)
 -- The bytes of such a frame stand at the front, with what stood behind them, and are counted.
 pub record Wrote (words : FrameWords) (bytes : List ℕ) (last : Bool) (old new : List ℕ) (written : ℕ) : Type 0 where
   pub frame : Frame
-  pub can : CanWrite words bytes last frame
+  pub can : CanWriteFrame words bytes last frame
   pub count : written ≡ length (shortest_frame last (meaning_of frame))
   pub front : new ≡ shortest_frame last (meaning_of frame) ++ drop written old
 
 -- There is less room than such a frame needs, and how much that is was reported.
 pub record NeedsMore (words : FrameWords) (bytes : List ℕ) (last : Bool) (old : List ℕ) (needed : ℕ) : Type 0 where
   pub frame : Frame
-  pub can : CanWrite words bytes last frame
+  pub can : CanWriteFrame words bytes last frame
   pub count : needed ≡ length (shortest_frame last (meaning_of frame))
   pub full : length old < needed
 
 -- The words say no such frame.
-abbrev pub SaysNone : FrameWords → List ℕ → Bool → Type 0
-SaysNone words bytes last = (frame : Frame) → CanWrite words bytes last frame → ⊥
+abbrev pub DescribesNoFrame : FrameWords → List ℕ → Bool → Type 0
+DescribesNoFrame words bytes last = (frame : Frame) → CanWriteFrame words bytes last frame → ⊥
 
 -- The answer, and what the call leaves, are right of the words and these bytes.
 pub record IsAnswer (words : FrameWords) (bytes : List ℕ) (last : Bool) (answer : ℤ) (old new : List ℕ) (written : ℕ) : Type 0 where
   pub wrote : answer ≡ pos 0 → Wrote words bytes last old new written
   pub room : answer ≡ negsuc 3 → NeedsMore words bytes last old written
-  pub refused : answer ≡ negsuc 0 → SaysNone words bytes last
+  pub refused : answer ≡ negsuc 0 → DescribesNoFrame words bytes last

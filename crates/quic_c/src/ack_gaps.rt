@@ -4,7 +4,7 @@ ghost use Rattle.quic_base.specs.Varint.{short};
 ghost use Rattle.quic_frame_fields.specs.Numbers.{AreNumeric, all_short};
 ghost use Rattle.quic_frame_fields.specs.Putting.{Stores, Puts};
 ghost use Rattle.quic_frame_fields.specs.Shortest.{shortest_frame};
-ghost use Rattle.quic_c.specs.AckGaps.{ack_bytes, ack_said, behind_type, counts_list, delay_in, gap_numbers, greatest_in, Fit, IsAck, SaysAck};
+ghost use Rattle.quic_c.specs.AckGaps.{ack_bytes, ack_said, behind_type, counts_list, delay_in, gap_numbers, greatest_in, Fit, IsAck, DescribesAck};
 
 use crate::words::{FrameWords, GapWords};
 use quic_base::coding::store_array;
@@ -247,13 +247,13 @@ pub extern "C" fn quic_wire_ack_gaps_write_(
     written: &mut usize,
 ) -> i32
     ensures answers { (result ≡ pos 0) ⊎ (result ≡ negsuc 3) ⊎ (result ≡ negsuc 0) }
-    ensures wrote { result ≡ pos 0 → (last : Bool) (low : ℕ) (below : List (ℕ × ℕ)) → SaysAck ack.now gaps.now low below
+    ensures wrote { result ≡ pos 0 → (last : Bool) (low : ℕ) (below : List (ℕ × ℕ)) → DescribesAck ack.now gaps.now low below
         → Puts (Ok written.new) (shortest_frame last (ack_said ack.now low below)) out.old out.new }
     ensures room { result ≡ negsuc 3 → (last : Bool) (low : ℕ) (below : List (ℕ × ℕ))
-        → SaysAck ack.now gaps.now low below
+        → DescribesAck ack.now gaps.now low below
         → Puts (Err written.new) (shortest_frame last (ack_said ack.now low below)) out.old out.new }
-    ensures says { (result ≡ negsuc 0) ⊎ ((low : ℕ) × (below : List (ℕ × ℕ)) × SaysAck ack.now gaps.now low below) }
-    ensures refused { result ≡ negsuc 0 → (low : ℕ) (below : List (ℕ × ℕ)) → SaysAck ack.now gaps.now low below → ⊥ }
+    ensures says { (result ≡ negsuc 0) ⊎ ((low : ℕ) × (below : List (ℕ × ℕ)) × DescribesAck ack.now gaps.now low below) }
+    ensures refused { result ≡ negsuc 0 → (low : ℕ) (below : List (ℕ × ℕ)) → DescribesAck ack.now gaps.now low below → ⊥ }
     ensures same { (result ≡ negsuc 0) → (written.new ≡ written.old) × (out.new ≡ out.old) }
 {
     if has_room(gaps, out.len()) && is_ack(ack, gaps) {

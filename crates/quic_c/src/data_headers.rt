@@ -7,7 +7,7 @@ ghost use Rattle.quic_frames.specs.declared.frame.Frame.{Frame};
 ghost use Rattle.quic_frames.specs.Meaning.{meaning_of};
 ghost use Rattle.quic_c.specs.Headers.{IsHeaded, HasHeader, WroteHeader, HeaderNeedsMore, header_bytes};
 ghost use Rattle.quic_c.specs.Shown.{data_of};
-ghost use Rattle.quic_c.specs.Written.{CanWrite, flag_of};
+ghost use Rattle.quic_c.specs.Written.{CanWriteFrame, flag_of};
 ghost use Rattle.quic_c.specs.declared.words.FrameWords.{FrameWords};
 
 use crate::ack_gaps::store;
@@ -126,6 +126,6 @@ pub extern "C" fn quic_wire_frame_header_write_(
 /// A header and then the data are the frame: what can be written whole has a header, and is that with its data behind it.
 pub fn header_and_data()
     ensures { (words : FrameWords) (bytes : List ℕ) (last : Bool) (frame : Frame) → IsHeaded words.kind
-        → CanWrite words bytes last frame
+        → CanWriteFrame words bytes last frame
         → HasHeader words last × (shortest_frame last (meaning_of frame) ≡ header_bytes words last ++ data_of frame) }
 {}

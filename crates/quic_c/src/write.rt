@@ -6,7 +6,7 @@ ghost use Rattle.quic_frames.specs.declared.frame.Frame.TheVariants as frames;
 ghost use Rattle.quic_frames.specs.Meaning.{meaning_of};
 ghost use Rattle.quic_frame_fields.specs.declared.frame.close.Close.TheVariants as closes;
 ghost use Rattle.quic_c.specs.Shapes.{IsSound, Fills, HasPieces, IsShown, LacksData, LacksPieces, shape_of, token_room};
-ghost use Rattle.quic_c.specs.Written.{CanWrite, SaysNone, Wrote, NeedsMore, IsAnswer, flag_of};
+ghost use Rattle.quic_c.specs.Written.{CanWriteFrame, DescribesNoFrame, Wrote, NeedsMore, IsAnswer, flag_of};
 ghost use Rattle.quic_c.specs.declared.words.FrameWords.{FrameWords};
 
 use crate::show::parts_of;
@@ -275,8 +275,8 @@ fn is_shown(frame: &Frame<'_>, words: &FrameWords) -> bool
 
 // The frame that the words say, where it can be written.
 fn said<'a>(words: &FrameWords, data: &'a [u8], last: bool) -> Option<Frame<'a>>
-    ensures some { IfSome result (CanWrite words.now data.now last) }
-    ensures none { IsNone result → SaysNone words.now data.now last }
+    ensures some { IfSome result (CanWriteFrame words.now data.now last) }
+    ensures none { IsNone result → DescribesNoFrame words.now data.now last }
 {
     let (kind, len) = (words.kind, words.data_len);
     let numbers = words.numbers;
@@ -314,7 +314,7 @@ pub extern "C" fn quic_wire_frame_write_(
     ensures answers { (result ≡ pos 0) ⊎ (result ≡ negsuc 3) ⊎ (result ≡ negsuc 0) }
     ensures wrote { result ≡ pos 0 → Wrote frame.now data.now (flag_of last) out.old out.new written.new }
     ensures room { result ≡ negsuc 3 → NeedsMore frame.now data.now (flag_of last) out.old written.new }
-    ensures refused { result ≡ negsuc 0 → SaysNone frame.now data.now (flag_of last) × (written.new ≡ written.old) }
+    ensures refused { result ≡ negsuc 0 → DescribesNoFrame frame.now data.now (flag_of last) × (written.new ≡ written.old) }
     ensures same { (result ≡ pos 0) ⊎ (out.new ≡ out.old) }
     ensures any_data { LacksData frame.now → (others : List ℕ)
         → IsAnswer frame.now others (flag_of last) result out.old out.new written.new }
@@ -338,6 +338,6 @@ pub extern "C" fn quic_wire_frame_write_(
 /// Words say one frame at most: each that the same words and bytes say has the same meaning, and so the same encoding.
 /// So an answer that is right of some words and bytes is the only one.
 pub fn one_frame()
-    ensures { (words : FrameWords) (bytes : List ℕ) (last : Bool) (one other : Frame) → CanWrite words bytes last one
-        → CanWrite words bytes last other → meaning_of one ≡ meaning_of other }
+    ensures { (words : FrameWords) (bytes : List ℕ) (last : Bool) (one other : Frame) → CanWriteFrame words bytes last one
+        → CanWriteFrame words bytes last other → meaning_of one ≡ meaning_of other }
 {}

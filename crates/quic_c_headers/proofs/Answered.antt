@@ -12,7 +12,7 @@ use Rattle.quic_header_decode.specs.declared.protected.ProtectedHeader.{Protecte
 use Rattle.quic_header_decode.specs.declared.protected.ProtectedHeader.TheVariants as head
 use Rattle.quic_header_decode.specs.declared.protected.ProtectedInitialHeader.{ProtectedInitialHeader}
 use Rattle.quic_header_decode.specs.Grammar.{Cut, HeaderAt}
-use Rattle.quic_header_decode.specs.Places.{any_fixed, dst_part, src_part, dst_place, ends_at, header_by, ids_end, said_in, refusal_in, seen_in, ArePlaces, IsNowhere, IsPlaced, IsSeen, ReadAnswer}
+use Rattle.quic_header_decode.specs.Places.{any_fixed, dst_part, src_part, dst_place, ends_at, header_by, ids_end, header_in, refusal_in, seen_in, ArePlaces, IsNowhere, IsPlaced, IsSeen, ReadAnswer}
 use Rattle.quic_header_decode.specs.Reading.{Context}
 use Rattle.quic_header_decode.specs.Refusal.{Refusal, Unsupported, Invalid, NoMemory}
 use Rattle.quic_c_headers.specs.declared.words.HeaderWords.{HeaderWords}
@@ -132,7 +132,7 @@ made : (k l : HeaderKind) (first f version v dst_len d src_len s start a end b l
 made k l first f version v dst_len d src_len s start a end b len n header_end h e0 e1 e2 e3 e4 e5 e6 e7 e8 = cc
 
 same_places : (packet : List ℕ) (x y : HeaderPlaces) → IsPlaced x (length packet) → IsPlaced y (length packet) → x.first ≡ y.first
-    → said_in packet x ≡ said_in packet y → drop x.header_end packet ≡ drop y.header_end packet → x ≡ y
+    → header_in packet x ≡ header_in packet y → drop x.header_end packet ≡ drop y.header_end packet → x ≡ y
 same_places packet x y one two first said behind =
     let same = same_said x.kind y.kind x.first y.first (dst_part packet x) (dst_part packet y) (src_part packet x) (src_part packet y) x.token y.token x.len y.len x.version y.version said in
     let head : x.header_end ≡ y.header_end = omega (arith, one.head, two.head, simp length-drop at (ap length behind)) in
@@ -220,16 +220,16 @@ abbrev IsCut : Context → List ℕ → HeaderWords → Type 0
 IsCut context packet words = (h : ProtectedHeader) × Cut context packet h words.header_end words.end
 
 abbrev Law : Type 0
-Law = (context : Context) (bytes : List ℕ) (x : HeaderPlaces) (q : ℕ) → HeaderAt context (length bytes) bytes (said_in bytes x) (drop x.header_end bytes) → x.header_end ≤ length bytes
-    → ends_at x (length bytes) ≡ Some q → Cut context bytes (said_in bytes x) x.header_end q
+Law = (context : Context) (bytes : List ℕ) (x : HeaderPlaces) (q : ℕ) → HeaderAt context (length bytes) bytes (header_in bytes x) (drop x.header_end bytes) → x.header_end ≤ length bytes
+    → ends_at x (length bytes) ≡ Some q → Cut context bytes (header_in bytes x) x.header_end q
 
-ended : (context : Context) (packet : List ℕ) (x : HeaderPlaces) (end : Option ℕ) (old new : HeaderWords) → Law → HeaderAt context (length packet) packet (said_in packet x) (drop x.header_end packet)
+ended : (context : Context) (packet : List ℕ) (x : HeaderPlaces) (end : Option ℕ) (old new : HeaderWords) → Law → HeaderAt context (length packet) packet (header_in packet x) (drop x.header_end packet)
     → x.header_end ≤ length packet → ends_at x (length packet) ≡ end → 0 ≡ whole_word end → new ≡ header_words packet (Ok x) old → IsCut context packet new
 ended context packet x None old new law head within ends zero words = absurd (omega (arith, zero))
 ended context packet x (Some q) old new law head within ends zero words =
     let stop : new.end ≡ q = ap (λ (w : HeaderWords). w.end) words ∙ ap (λ (o : Option ℕ). unwrap_or o (length packet)) ends in
     let start : new.header_end ≡ x.header_end = ap (λ (w : HeaderWords). w.header_end) words in
-    (said_in packet x, rw (start, stop) (law context packet x q head within ends))
+    (header_in packet x, rw (start, stop) (law context packet x q head within ends))
 
 cut_there : (context : Context) (packet : List ℕ) (read : Result HeaderPlaces ReadError) (old new : HeaderWords) → Law → ReadAnswer context packet (seen_in packet read) → IsSeen read (length packet)
     → 0 ≡ answer_word read (length packet) → new ≡ header_words packet read old → IsCut context packet new

@@ -12,11 +12,11 @@ use Rattle.quic_crypto.specs.PacketNumbers.{low_part, number_bytes, number_size,
 use Rattle.quic_header_encode.specs.declared.long_type.HeaderKind.{HeaderKind}
 use Rattle.quic_header_encode.specs.declared.long_type.HeaderKind.TheVariants as kind
 use Rattle.quic_header_encode.specs.declared.header.Header.{Header}
-use Rattle.quic_header_encode.specs.Storing.{begun_by, has_bit, header_of, number_bits, says_length, token_by, type_bits}
+use Rattle.quic_header_encode.specs.Storing.{begun_by, has_bit, header_of, number_bits, carries_length, token_by, type_bits}
 use Rattle.quic_header_encode.specs.Starts.{long_front}
 use Rattle.quic_header_encode.specs.Writing.{bit, header_with}
-use Rattle.quic_c_headers.specs.declared.words.SaidWords.{SaidWords}
-use Rattle.quic_c_headers.specs.Headers.{part_of, said_bytes, CanWrite}
+use Rattle.quic_c_headers.specs.declared.words.HeaderFields.{HeaderFields}
+use Rattle.quic_c_headers.specs.Headers.{part_of, said_bytes, CanWriteHeader}
 use Rattle.quic_c_headers.specs.Reading.{kind_word}
 use Rattle.quic_c_headers.specs.Shapes.{first_word, numbered_bytes, numbered_first, IsNumbered, IsShaped}
 use Rattle.quic_c_headers.specs.Written.{short_words}
@@ -31,7 +31,7 @@ clear_by kind.Short flags = has_bit 64 flags
 clear_by kind.VersionNegotiate flags = false
 
 -- the header that they say
-abbrev pub header_said : HeaderKind → SaidWords → List ℕ → List ℕ → List ℕ → Header
+abbrev pub header_said : HeaderKind → HeaderFields → List ℕ → List ℕ → List ℕ → Header
 header_said k words dst src token = header_of k words.flags words.version dst src token (part_of words.number_len words.number)
 
 bit_at : (x n : ℕ) → x < 2 → bit (nat_eq x 1) n ≡ n * x
@@ -66,18 +66,18 @@ part_says len number some few = elim (cases_eq len 2) [
 -- ---- that it can be written
 
 -- what is said of a number
-numbered : (words : SaidWords) → IsNumbered words → (words.kind ≤ 2) ⊎ (words.kind ≡ 4)
+numbered : (words : HeaderFields) → IsNumbered words → (words.kind ≤ 2) ⊎ (words.kind ≡ 4)
     → (words.number < 2 ^ 62) × Part words.number words.number_len
 numbered words s kind =
     let n = s.number kind in (n.2, part_says words.number_len words.number n.0 n.1)
 
 -- what is said of a sender's id
-source_said : (words : SaidWords) (dst src token from : List ℕ) → IsShaped words dst src token → (words.kind ≢ 4 → from ≡ src) → words.kind ≢ 4
+source_said : (words : HeaderFields) (dst src token from : List ℕ) → IsShaped words dst src token → (words.kind ≢ 4 → from ≡ src) → words.kind ≢ 4
     → (src ≡ from) × (length src ≤ 20)
 source_said words dst src token from s source other = (sym (source other), s.parts.src_few other)
 
-pub can_said : (k : HeaderKind) (words : SaidWords) (dst src token from own : List ℕ) → IsShaped words dst src token → kind_word k ≡ words.kind
-    → (words.kind ≢ 4 → from ≡ src) → (words.kind ≡ 0 → own ≡ token) → CanWrite words dst src token (clear_by k words.flags) (header_said k words dst from own)
+pub can_said : (k : HeaderKind) (words : HeaderFields) (dst src token from own : List ℕ) → IsShaped words dst src token → kind_word k ≡ words.kind
+    → (words.kind ≢ 4 → from ≡ src) → (words.kind ≡ 0 → own ≡ token) → CanWriteHeader words dst src token (clear_by k words.flags) (header_said k words dst from own)
 can_said kind.Initial words dst src token from own s e source mine =
     let n = numbered words s.numbered (inl (omega (arith, e))) in
     record {
@@ -177,13 +177,13 @@ begun_same : (f g : ℕ) (h : ℕ → List ℕ) (a b : ℕ) → f ≡ g → a �
 begun_same f g h a b e same = ap (λ (x : ℕ). begun_by x (h a)) e ∙ ap (λ (n : ℕ). begun_by g (h n)) same
 
 -- what is written of them
-abbrev pub stored_said : HeaderKind → ℕ → SaidWords → List ℕ → List ℕ → List ℕ → List ℕ
+abbrev pub stored_said : HeaderKind → ℕ → HeaderFields → List ℕ → List ℕ → List ℕ → List ℕ
 stored_said k len words dst src token =
     let number = part_of words.number_len words.number in
     begun_by (first_word k words.flags + type_bits k words.version + number_bits k number)
     (header_with (replicate len 0) (header_of k (first_word k words.flags) words.version dst src token number))
 
-pub stored_as : (k : HeaderKind) (f len : ℕ) (words : SaidWords) (dst src token : List ℕ) (number : PacketNumber) → f ≡ first_word k words.flags
+pub stored_as : (k : HeaderKind) (f len : ℕ) (words : HeaderFields) (dst src token : List ℕ) (number : PacketNumber) → f ≡ first_word k words.flags
     → number ≡ part_of words.number_len words.number
     → begun_by (f + type_bits k words.version + number_bits k number) (header_with (replicate len 0) (header_of k f words.version dst src token number))
     ≡ stored_said k len words dst src token
@@ -192,7 +192,7 @@ stored_as k f len words dst src token number e is =
     ∙ ap (λ (p : PacketNumber). begun_by (first_word k words.flags + type_bits k words.version + number_bits k p)
     (header_with (replicate len 0) (header_of k (first_word k words.flags) words.version dst src token p))) is
 
-pub bytes_said : (k : HeaderKind) (len : ℕ) (words : SaidWords) (dst src token : List ℕ) → IsNumbered words → kind_word k ≡ words.kind
+pub bytes_said : (k : HeaderKind) (len : ℕ) (words : HeaderFields) (dst src token : List ℕ) → IsNumbered words → kind_word k ≡ words.kind
     → ((words.length_len ≡ 2) ⊎ (words.length_len ≡ 4) → len ≡ words.length_len)
     → stored_said k len words dst src token ≡ said_bytes words.length_len (clear_by k words.flags) (header_said k words dst src token)
 bytes_said kind.Initial len words dst src token s e same =
@@ -238,7 +238,7 @@ short_shaped first number dst small few = record {
 }
 
 pub short_can : (first number : ℕ) (dst : List ℕ) → number < 2 ^ 62 → length dst ≤ 20
-    → CanWrite (short_words first number) dst [] [] (clear_by kind.Short (short_words first number).flags) (header_said kind.Short (short_words first number) dst [] [])
+    → CanWriteHeader (short_words first number) dst [] [] (clear_by kind.Short (short_words first number).flags) (header_said kind.Short (short_words first number) dst [] [])
 short_can first number dst small few =
     can_said kind.Short (short_words first number) dst [] [] [] [] (short_shaped first number dst small few) refl (λ _. refl) (λ _. refl)
 
@@ -265,7 +265,7 @@ pub short_bytes : (first number : ℕ) (dst : List ℕ) → first < 128 → firs
     ≡ said_bytes 0 (clear_by kind.Short (short_words first number).flags) (header_said kind.Short (short_words first number) dst [] [])
 short_bytes first number dst low clear small few =
     let count : ℕ = first % 4 + 1 in
-    let words : SaidWords = short_words first number in
+    let words : HeaderFields = short_words first number in
     let part : PacketNumber = part_of count number in
     let size : count ≡ number_size part = (part_says count number (omega arith) (omega arith)).0 in
     let byte : first ≡ first_word kind.Short words.flags + 0 + (number_size part - 1) = omega (arith, low, size) in
@@ -275,7 +275,7 @@ short_bytes first number dst low clear small few =
 
 -- ---- headers of packets with a number and a length
 
-pub with_length : (k : HeaderKind) (words : SaidWords) → kind_word k ≡ words.kind → IsTrue (says_length k) → words.kind ≤ 2
+pub with_length : (k : HeaderKind) (words : HeaderFields) → kind_word k ≡ words.kind → IsTrue (carries_length k) → words.kind ≤ 2
 with_length kind.Initial words e has = omega (arith, e)
 with_length kind.ZeroRtt words e has = omega (arith, e)
 with_length kind.Handshake words e has = omega (arith, e)
@@ -284,7 +284,7 @@ with_length kind.Short words e has = absurd (search (rules, has))
 with_length kind.VersionNegotiate words e has = absurd (search (rules, has))
 
 -- what is written of one, field behind field, is what its words say
-pub numbered_said : (k : HeaderKind) (words : SaidWords) (dst src token : List ℕ) → IsTrue (says_length k) → 1 ≤ words.number_len → words.number_len ≤ 4
+pub numbered_said : (k : HeaderKind) (words : HeaderFields) (dst src token : List ℕ) → IsTrue (carries_length k) → 1 ≤ words.number_len → words.number_len ≤ 4
     → numbered_bytes k words dst src token ≡ stored_said k words.length_len words dst src token
 numbered_said kind.Initial words dst src token has some few =
     let part : PacketNumber = part_of words.number_len words.number in

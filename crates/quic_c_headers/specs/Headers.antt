@@ -9,7 +9,7 @@ use Rattle.quic_header_encode.specs.declared.header.Header.TheVariants as header
 use Rattle.quic_header_encode.specs.Storing.{begun_by, has_bit}
 use Rattle.quic_header_encode.specs.Queries.{dst_in, number_in}
 use Rattle.quic_header_encode.specs.Writing.{bit, header_with, IsWritable}
-use Rattle.quic_c_headers.specs.declared.words.SaidWords.{SaidWords}
+use Rattle.quic_c_headers.specs.declared.words.HeaderFields.{HeaderFields}
 
 -- the part of a number that is written in so many bytes
 abbrev pub part_of : ℕ → ℕ → PacketNumber
@@ -27,37 +27,37 @@ header_word (header.VersionNegotiate random src dst) = 5
 
 -- Of a short header 0x20 is the spin bit and 0x04 the key phase, of a version negotiation the seven low bits stand as they
 -- are, and of the others and of a short header the fixed bit is clear where 0x40 is set (RFC 9287).
-abbrev pub SaysFlags : ℕ → Bool → Header → Type 0
-SaysFlags flags clear (header.Initial h) = clear ≡ has_bit 0x40 flags
-SaysFlags flags clear (header.Long ty dst src number version) = clear ≡ has_bit 0x40 flags
-SaysFlags flags clear (header.Retry dst src version) = clear ≡ has_bit 0x40 flags
-SaysFlags flags clear (header.Short spin key_phase dst number) = (clear ≡ has_bit 0x40 flags) × (spin ≡ has_bit 0x20 flags) × (key_phase ≡ has_bit 0x04 flags)
-SaysFlags flags clear (header.VersionNegotiate random src dst) = (clear ≡ false) × (random ≡ flags % 128)
+abbrev pub DescribesFlags : ℕ → Bool → Header → Type 0
+DescribesFlags flags clear (header.Initial h) = clear ≡ has_bit 0x40 flags
+DescribesFlags flags clear (header.Long ty dst src number version) = clear ≡ has_bit 0x40 flags
+DescribesFlags flags clear (header.Retry dst src version) = clear ≡ has_bit 0x40 flags
+DescribesFlags flags clear (header.Short spin key_phase dst number) = (clear ≡ has_bit 0x40 flags) × (spin ≡ has_bit 0x20 flags) × (key_phase ≡ has_bit 0x04 flags)
+DescribesFlags flags clear (header.VersionNegotiate random src dst) = (clear ≡ false) × (random ≡ flags % 128)
 
 -- A version that isn't 0, by which a version negotiation is reported (RFC 9000, section 17.2.1); short headers and version
 -- negotiations say none.
-abbrev pub SaysVersion : ℕ → Header → Type 0
-SaysVersion version (header.Initial h) = (version ≡ h.version) × (0 < version)
-SaysVersion version (header.Long ty dst src number named) = (version ≡ named) × (0 < version)
-SaysVersion version (header.Retry dst src named) = (version ≡ named) × (0 < version)
-SaysVersion version (header.Short spin key_phase dst number) = Unit {0}
-SaysVersion version (header.VersionNegotiate random src dst) = Unit {0}
+abbrev pub DescribesVersion : ℕ → Header → Type 0
+DescribesVersion version (header.Initial h) = (version ≡ h.version) × (0 < version)
+DescribesVersion version (header.Long ty dst src number named) = (version ≡ named) × (0 < version)
+DescribesVersion version (header.Retry dst src named) = (version ≡ named) × (0 < version)
+DescribesVersion version (header.Short spin key_phase dst number) = Unit {0}
+DescribesVersion version (header.VersionNegotiate random src dst) = Unit {0}
 
 -- the sender's id, of at most 20 bytes, which a short header lacks
-abbrev pub SaysSource : List ℕ → Header → Type 0
-SaysSource id (header.Initial h) = (id ≡ h.src_cid) × (length id ≤ 20)
-SaysSource id (header.Long ty dst src number version) = (id ≡ src) × (length id ≤ 20)
-SaysSource id (header.Retry dst src version) = (id ≡ src) × (length id ≤ 20)
-SaysSource id (header.Short spin key_phase dst number) = Unit {0}
-SaysSource id (header.VersionNegotiate random src dst) = (id ≡ src) × (length id ≤ 20)
+abbrev pub DescribesSource : List ℕ → Header → Type 0
+DescribesSource id (header.Initial h) = (id ≡ h.src_cid) × (length id ≤ 20)
+DescribesSource id (header.Long ty dst src number version) = (id ≡ src) × (length id ≤ 20)
+DescribesSource id (header.Retry dst src version) = (id ≡ src) × (length id ≤ 20)
+DescribesSource id (header.Short spin key_phase dst number) = Unit {0}
+DescribesSource id (header.VersionNegotiate random src dst) = (id ≡ src) × (length id ≤ 20)
 
 -- the token, which an Initial packet alone has in its header
-abbrev pub SaysToken : List ℕ → Header → Type 0
-SaysToken token (header.Initial h) = token ≡ h.token
-SaysToken token (header.Long ty dst src number version) = Unit {0}
-SaysToken token (header.Retry dst src version) = Unit {0}
-SaysToken token (header.Short spin key_phase dst number) = Unit {0}
-SaysToken token (header.VersionNegotiate random src dst) = Unit {0}
+abbrev pub DescribesToken : List ℕ → Header → Type 0
+DescribesToken token (header.Initial h) = token ≡ h.token
+DescribesToken token (header.Long ty dst src number version) = Unit {0}
+DescribesToken token (header.Retry dst src version) = Unit {0}
+DescribesToken token (header.Short spin key_phase dst number) = Unit {0}
+DescribesToken token (header.VersionNegotiate random src dst) = Unit {0}
 
 -- how many bytes the length has, 2 or 4, of a header that says one
 abbrev pub LengthIs : ℕ → Header → Type 0
@@ -68,25 +68,25 @@ LengthIs len (header.Short spin key_phase dst number) = Unit {0}
 LengthIs len (header.VersionNegotiate random src dst) = Unit {0}
 
 -- A number below 2^62, of which so many bytes are written (RFC 9000, section 17.1), where the header has one.
-abbrev pub SaysNumber : ℕ → ℕ → Option PacketNumber → Type 0
-SaysNumber number len None = Unit {0}
-SaysNumber number len (Some written) = (number < 2 ^ 62) × (len ≡ number_size written) × (low_part written ≡ number % window_of written)
+abbrev pub DescribesNumber : ℕ → ℕ → Option PacketNumber → Type 0
+DescribesNumber number len None = Unit {0}
+DescribesNumber number len (Some written) = (number < 2 ^ 62) × (len ≡ number_size written) × (low_part written ≡ number % window_of written)
 
 -- The words, two ids and a token say the header, with a fixed bit that is clear or isn't. What its kind lacks isn't
 -- looked at.
-pub record Says (words : SaidWords) (dst src token : List ℕ) (clear : Bool) (head : Header) : Type 0 where
+pub record DescribesHeader (words : HeaderFields) (dst src token : List ℕ) (clear : Bool) (head : Header) : Type 0 where
   pub kind : words.kind ≡ header_word head
-  pub flags : SaysFlags words.flags clear head
-  pub version : SaysVersion words.version head
-  pub number : SaysNumber words.number words.number_len (number_in head)
+  pub flags : DescribesFlags words.flags clear head
+  pub version : DescribesVersion words.version head
+  pub number : DescribesNumber words.number words.number_len (number_in head)
   pub len : LengthIs words.length_len head
   pub dst_is : dst ≡ dst_in head
-  pub src_is : SaysSource src head
-  pub token_is : SaysToken token head
+  pub src_is : DescribesSource src head
+  pub token_is : DescribesToken token head
 
 -- They say a header that can be written: the receiver's id has at most 20 bytes.
-pub record CanWrite (words : SaidWords) (dst src token : List ℕ) (clear : Bool) (head : Header) : Type 0 where
-  pub says : Says words dst src token clear head
+pub record CanWriteHeader (words : HeaderFields) (dst src token : List ℕ) (clear : Bool) (head : Header) : Type 0 where
+  pub says : DescribesHeader words dst src token clear head
   pub dst_few : length dst ≤ 20
   pub writable : IsWritable head
 

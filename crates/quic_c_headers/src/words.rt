@@ -33,7 +33,7 @@ pub struct HeaderWords {
 /// What a header says that is written, beside its ids and its token. What its kind lacks isn't looked at.
 #[repr(C)]
 #[derive(Clone, Copy)]
-pub struct SaidWords {
+pub struct HeaderFields {
     /// 0 Initial, 1 0-RTT, 2 Handshake, 3 Retry, 4 1-RTT, 5 version negotiation.
     pub kind: u8,
     /// Of 1-RTT 0x20 for the spin bit and 0x04 for the key phase; of a version negotiation the first byte without its

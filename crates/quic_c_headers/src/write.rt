@@ -7,9 +7,9 @@ ghost use Rattle.quic_header_encode.specs.Starts.{long_front};
 ghost use Rattle.quic_c_headers.specs.Headers.{part_of};
 ghost use Rattle.quic_c_headers.specs.Reading.{kind_word};
 ghost use Rattle.quic_c_headers.specs.Shapes.{first_word, numbered_bytes, numbered_first, numbered_size, AreParts, IsNumbered, IsShaped};
-ghost use Rattle.quic_c_headers.specs.Written.{short_words, HasReserved, NeedsMore, SaysNone, Wrote};
+ghost use Rattle.quic_c_headers.specs.Written.{short_words, HasReserved, NeedsMore, DescribesNoHeader, Wrote};
 
-use crate::words::SaidWords;
+use crate::words::HeaderFields;
 use quic_crypto::packet_number::PacketNumber;
 use quic_header_encode::fields::store_low;
 use quic_header_encode::store::{Exact, HeaderRef, store_long_start, store_no_length, store_short, store_token};
@@ -17,7 +17,7 @@ use quic_header_encode::long_type::HeaderKind;
 
 // Whether the number, the count of its bytes and that of the length's are those of a header of the kind.
 #[inline(always)]
-fn is_numbered(said: &SaidWords) -> bool
+fn is_numbered(said: &HeaderFields) -> bool
     requires { said.now.kind ≤ 5 }
     ensures { IsTrue result ↔ IsNumbered said.now }
 {
@@ -38,7 +38,7 @@ fn are_parts(kind: u8, dst: &[u8], src: &[u8], token: &[u8]) -> bool
 
 // Whether the words, the ids and the token are those of a header of the kind.
 #[inline(always)]
-fn is_shaped(said: &SaidWords, dst: &[u8], src: &[u8], token: &[u8]) -> bool
+fn is_shaped(said: &HeaderFields, dst: &[u8], src: &[u8], token: &[u8]) -> bool
     ensures { IsTrue result ↔ IsShaped said.now dst.now src.now token.now }
 {
     said.kind <= 5
@@ -94,7 +94,7 @@ pub(crate) fn first_word(kind: HeaderKind, flags: u8) -> u8
 
 // How many bytes of length are written, where the header says one.
 #[inline(always)]
-fn stored_length_len(said: &SaidWords) -> usize
+fn stored_length_len(said: &HeaderFields) -> usize
     ensures known { (result ≡ 2) ⊎ (result ≡ 4) }
     ensures same { (said.now.length_len ≡ 2) ⊎ (said.now.length_len ≡ 4) → result ≡ said.now.length_len }
 {
@@ -116,7 +116,7 @@ pub extern "C" fn quic_wire_short_write_(
     ensures wrote { (result ≡ negsuc 3) ⊎ (result ≡ negsuc 0) ⊎ ((count : ℕ) × (result ≡ pos count)
         × Wrote (short_words first number) dst.now [] [] dest.old dest.new count) }
     ensures room { result ≡ negsuc 3 → NeedsMore (short_words first number) dst.now [] [] (length dest.old) }
-    ensures refused { result ≡ negsuc 0 → HasReserved first ⊎ SaysNone (short_words first number) dst.now [] [] }
+    ensures refused { result ≡ negsuc 0 → HasReserved first ⊎ DescribesNoHeader (short_words first number) dst.now [] [] }
     ensures plain { (result ≡ negsuc 0) ⊎ (HasReserved first → ⊥) }
     ensures same { (result ≡ negsuc 3) ⊎ (result ≡ negsuc 0) → dest.new ≡ dest.old }
 {
@@ -133,7 +133,7 @@ pub extern "C" fn quic_wire_short_write_(
 
 // Stores a long header up to its ids' end at the front.
 #[inline(always)]
-fn store_front(kind: HeaderKind, said: &SaidWords, dst: &[u8], src: &[u8], dest: &mut [u8]) -> usize
+fn store_front(kind: HeaderKind, said: &HeaderFields, dst: &[u8], src: &[u8], dest: &mut [u8]) -> usize
     requires typed { IsTyped kind }
     requires some { 1 ≤ said.now.number_len }
     requires few { said.now.number_len ≤ 4 }
@@ -170,7 +170,7 @@ fn store_own_token(kind: HeaderKind, dest: &mut [u8], at: usize, token: &[u8]) -
 
 // Stores a length, which is 0, and the number.
 #[inline(always)]
-fn store_end(said: &SaidWords, dest: &mut [u8], at: usize) -> usize
+fn store_end(said: &HeaderFields, dest: &mut [u8], at: usize) -> usize
     requires known { (said.now.length_len ≡ 2) ⊎ (said.now.length_len ≡ 4) }
     requires some { 1 ≤ said.now.number_len }
     requires few { said.now.number_len ≤ 4 }
@@ -189,7 +189,7 @@ fn store_end(said: &SaidWords, dest: &mut [u8], at: usize) -> usize
 #[inline(always)]
 fn store_numbered(
     kind: HeaderKind,
-    said: &SaidWords,
+    said: &HeaderFields,
     dst: &[u8],
     src: &[u8],
     token: &[u8],
@@ -217,7 +217,7 @@ fn store_numbered(
 #[inline(always)]
 fn write_as(
     kind: HeaderKind,
-    said: &SaidWords,
+    said: &HeaderFields,
     dst: &[u8],
     src: &[u8],
     token: &[u8],
@@ -227,7 +227,7 @@ fn write_as(
     ensures wrote { (result ≡ negsuc 3) ⊎ (result ≡ negsuc 0) ⊎ ((count : ℕ) × (result ≡ pos count)
         × Wrote said.now dst.now src.now token.now dest.old dest.new count) }
     ensures room { result ≡ negsuc 3 → NeedsMore said.now dst.now src.now token.now (length dest.old) }
-    ensures refused { result ≡ negsuc 0 → SaysNone said.now dst.now src.now token.now }
+    ensures refused { result ≡ negsuc 0 → DescribesNoHeader said.now dst.now src.now token.now }
     ensures same { (result ≡ negsuc 3) ⊎ (result ≡ negsuc 0) → dest.new ≡ dest.old }
 {
     if !is_shaped(said, dst, src, token) {
@@ -266,7 +266,7 @@ fn write_as(
 /// 17.2.1). Nothing changes then. A version negotiation is written with any low bits of its first byte.
 #[unsafe(no_mangle)]
 pub extern "C" fn quic_wire_header_write_(
-    said: &SaidWords,
+    said: &HeaderFields,
     dst: &[u8],
     src: &[u8],
     token: &[u8],
@@ -275,7 +275,7 @@ pub extern "C" fn quic_wire_header_write_(
     ensures wrote { (result ≡ negsuc 3) ⊎ (result ≡ negsuc 0) ⊎ ((count : ℕ) × (result ≡ pos count)
         × Wrote said.now dst.now src.now token.now dest.old dest.new count) }
     ensures room { result ≡ negsuc 3 → NeedsMore said.now dst.now src.now token.now (length dest.old) }
-    ensures refused { result ≡ negsuc 0 → SaysNone said.now dst.now src.now token.now }
+    ensures refused { result ≡ negsuc 0 → DescribesNoHeader said.now dst.now src.now token.now }
     ensures same { (result ≡ negsuc 3) ⊎ (result ≡ negsuc 0) → dest.new ≡ dest.old }
 {
     match said.kind {

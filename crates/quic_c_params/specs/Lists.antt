@@ -10,7 +10,7 @@ use Rattle.quic_params.specs.Meaning.{IsAnswer}
 use Rattle.quic_params.specs.Table.{rows}
 use Rattle.quic_c_params.specs.declared.words.EntryWords.{EntryWords}
 use Rattle.quic_c_params.specs.declared.words.ParamsWords.{ParamsWords}
-use Rattle.quic_c_params.specs.Written.{CanWrite}
+use Rattle.quic_c_params.specs.Written.{CanWriteParams}
 
 -- 1 where a record has the parameter of this number, and 0 where it doesn't
 abbrev pub TellsKnown : ℕ → ℕ → Type 0
@@ -53,7 +53,7 @@ pub record IsFurther (es : List Entry) (list : List ℕ) : Type 0 where
 
 -- The words say a record that the side reads back, the list further entries, and the order one of all of them, or none.
 pub record CanList (side : ℕ) (words : ParamsWords) (further order : List ℕ) (p : TransportParameters) (es : List Entry) : Type 0 where
-  pub record_is : CanWrite side words p
+  pub record_is : CanWriteParams side words p
   pub further_are : IsFurther es further
   pub order_is : IsOrderOf (rows + length es) (asked (rows + length es) order)
 
@@ -73,5 +73,5 @@ pub record ListLacks (side : ℕ) (words : ParamsWords) (further order old : Lis
   pub lacks : Lacks (listed params es order) old needed
 
 -- There is no such list.
-abbrev pub SaysNoList : ℕ → ParamsWords → List ℕ → List ℕ → Type 0
-SaysNoList side words further order = (p : TransportParameters) (es : List Entry) → CanList side words further order p es → ⊥
+abbrev pub DescribesNoList : ℕ → ParamsWords → List ℕ → List ℕ → Type 0
+DescribesNoList side words further order = (p : TransportParameters) (es : List Entry) → CanList side words further order p es → ⊥

@@ -12,37 +12,37 @@ use Rattle.quic_c_params.specs.Shown.{params_words, v4_in, v6_in}
 
 -- The words are those of the record, whose fields hold what their types do; it has neither grease nor an order of
 -- writing.
-pub record Says (words : ParamsWords) (p : TransportParameters) : Type 0 where
+pub record DescribesParams (words : ParamsWords) (p : TransportParameters) : Type 0 where
   pub words_are : words ≡ params_words p
   pub typed : IsTyped p
   pub no_grease : p.grease_transport_parameter ≡ None
   pub no_order : p.write_order ≡ None
 
 -- The words say a record that the side reads back.
-pub record CanWrite (side : ℕ) (words : ParamsWords) (p : TransportParameters) : Type 0 where
+pub record CanWriteParams (side : ℕ) (words : ParamsWords) (p : TransportParameters) : Type 0 where
   pub reader : Side
   pub is_side : IsSide side reader
-  pub said : Says words p
+  pub said : DescribesParams words p
   pub in_range : IsInRange reader p
   pub read_back : IsAnswer reader (written p) (Ok p)
 
 -- The list of such a record stands at the front, with what stood behind it, and is counted.
 pub record Wrote (side : ℕ) (words : ParamsWords) (old new : List ℕ) (count : ℕ) : Type 0 where
   pub params : TransportParameters
-  pub can : CanWrite side words params
+  pub can : CanWriteParams side words params
   pub count_is : count ≡ length (written params)
   pub front : new ≡ written params ++ drop count old
 
 -- There is less room than such a list needs, and how much that is was reported.
 pub record NeedsMore (side : ℕ) (words : ParamsWords) (old : List ℕ) (needed : ℕ) : Type 0 where
   pub params : TransportParameters
-  pub can : CanWrite side words params
+  pub can : CanWriteParams side words params
   pub count_is : needed ≡ length (written params)
   pub full : length old < needed
 
 -- The words say no such record.
-abbrev pub SaysNone : ℕ → ParamsWords → Type 0
-SaysNone side words = (p : TransportParameters) → CanWrite side words p → ⊥
+abbrev pub DescribesNoParams : ℕ → ParamsWords → Type 0
+DescribesNoParams side words = (p : TransportParameters) → CanWriteParams side words p → ⊥
 
 -- the bits are those of what the record has
 pub record HasFlags (flags : Flags) (p : TransportParameters) : Type 0 where

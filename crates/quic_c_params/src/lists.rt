@@ -7,7 +7,7 @@ ghost use Rattle.quic_params.specs.Order.{id_at};
 ghost use Rattle.quic_params.specs.Table.{rows};
 ghost use Rattle.quic_params.specs.Writing.{entry, written_for};
 ghost use Rattle.quic_params.specs.declared.record.TransportParameters.{TransportParameters};
-ghost use Rattle.quic_c_params.specs.Lists.{CanList, IsFurther, Lies, ListLacks, SaysNoList, WroteList};
+ghost use Rattle.quic_c_params.specs.Lists.{CanList, IsFurther, Lies, ListLacks, DescribesNoList, WroteList};
 
 use crate::further::{ROWS, count_further, index_at, is_order, nth};
 use crate::read::side_of;
@@ -147,7 +147,7 @@ pub extern "C" fn quic_wire_params_write_with_(
     ensures wrote { result ≡ pos 0
         → WroteList side words.now further.now order.now dest.old dest.new written.new }
     ensures room { result ≡ negsuc 3 → ListLacks side words.now further.now order.now dest.old written.new }
-    ensures refused { result ≡ negsuc 0 → SaysNoList side words.now further.now order.now }
+    ensures refused { result ≡ negsuc 0 → DescribesNoList side words.now further.now order.now }
     ensures same { (result ≡ pos 0) ⊎ (dest.new ≡ dest.old) }
     ensures same_count { result ≡ negsuc 0 → written.new ≡ written.old }
 {

@@ -15,7 +15,7 @@ use Rattle.quic_frame_fields.proofs.AckParts.{SetParts, run_numbers, set_parts}
 use Rattle.quic_frame_fields.proofs.Putting.{stores_more}
 use Rattle.quic_frame_fields.proofs.Sets.{has_below, ranges_in-last}
 use Rattle.quic_c_sets.specs.declared.words.RunWords.{RunWords}
-use Rattle.quic_c_sets.specs.Acks.{SaysAck, counts_in}
+use Rattle.quic_c_sets.specs.Acks.{DescribesSetAck, counts_in}
 use Rattle.quic_c_sets.specs.Sets.{IsSet, first_runs, range_of, runs_of}
 use Rattle.quic_c_sets.proofs.Placing.{many, nowhere}
 
@@ -192,7 +192,7 @@ last_some words count set some =
     (IsGreatest-last (range_of (get_or words (count - 1) nowhere)) (runs_of (take (count - 1) words)) (first_runs count words) (whole_set words count set.within some) set.maximal).0
 
 pub says_ack_of : (delay : ℕ) (words : List RunWords) (count : ℕ) (counts : List ℕ) → IsSet words count → 0 < count → (get_or words (count - 1) nowhere).end ≤ 2 ^ 62 → delay < 2 ^ 62
-    → (length counts ≡ 0) ⊎ (length counts ≡ 3) → AreNumeric counts → SaysAck delay words count counts
+    → (length counts ≡ 0) ⊎ (length counts ≡ 3) → AreNumeric counts → DescribesSetAck delay words count counts
 says_ack_of delay words count counts set some le delayed three counted = record {
   set = set;
   some = some;
@@ -204,7 +204,7 @@ says_ack_of delay words count counts set some le delayed three counted = record 
 
 -- ---- the parts of an ACK
 
-pub ack_parts_of : (delay : ℕ) (words : List RunWords) (count : ℕ) (counts : List ℕ) (ty : ℕ) → SaysAck delay words count counts → ty ≡ ack_type (counts_in counts)
+pub ack_parts_of : (delay : ℕ) (words : List RunWords) (count : ℕ) (counts : List ℕ) (ty : ℕ) → DescribesSetAck delay words count counts → ty ≡ ack_type (counts_in counts)
     → SetParts delay (first_runs count words) (runs_of (take (count - 1) words)) (range_of (get_or words (count - 1) nowhere)) (counts_in counts) ty (count - 1)
 ack_parts_of delay words count counts ty says ty_is =
     let within = says.set.within in
@@ -213,7 +213,7 @@ ack_parts_of delay words count counts ty says ty_is =
     says.delayed says.set.maximal says.short
 
 -- the bytes of an ACK: its numbers, those of the runs below the first, and its counts
-pub whole_ack : (delay : ℕ) (words : List RunWords) (count : ℕ) (counts : List ℕ) (ty : ℕ) → SaysAck delay words count counts → ty ≡ ack_type (counts_in counts) → (last : Bool)
+pub whole_ack : (delay : ℕ) (words : List RunWords) (count : ℕ) (counts : List ℕ) (ty : ℕ) → DescribesSetAck delay words count counts → ty ≡ ack_type (counts_in counts) → (last : Bool)
     → shortest_frame last (ack_of delay (first_runs count words) (counts_in counts))
     ≡ all_short (ty ∷ ((get_or words (count - 1) nowhere).end - 1) ∷ delay ∷ (count - 1) ∷ ((get_or words (count - 1) nowhere).end - 1 - (get_or words (count - 1) nowhere).start) ∷ [])
     ++ (shortest_below (get_or words (count - 1) nowhere).start (ranges_in (runs_of (take (count - 1) words))) ++ all_short counts)

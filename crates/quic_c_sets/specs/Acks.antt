@@ -13,7 +13,7 @@ counts_in counts = None
 
 -- The first words of an array are a set that has a number, and there is an ACK of it: its numbers, the delay and
 -- three counts or none have encodings.
-pub record SaysAck (delay : ℕ) (words : List RunWords) (count : ℕ) (counts : List ℕ) : Type 0 where
+pub record DescribesSetAck (delay : ℕ) (words : List RunWords) (count : ℕ) (counts : List ℕ) : Type 0 where
   pub set : IsSet words count
   pub some : 0 < count
   pub short : (n : ℕ) → member (first_runs count words) n ≡ true → n < 2 ^ 62

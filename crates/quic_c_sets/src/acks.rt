@@ -5,7 +5,7 @@ ghost use Rattle.quic_frame_fields.specs.Numbers.{AreNumeric};
 ghost use Rattle.quic_frame_fields.specs.Putting.{Stores, Puts};
 ghost use Rattle.quic_frame_fields.specs.Sets.{ack_of, ack_type, ranges_in};
 ghost use Rattle.quic_frame_fields.specs.Shortest.{shortest_below, shortest_frame};
-ghost use Rattle.quic_c_sets.specs.Acks.{SaysAck, counts_in};
+ghost use Rattle.quic_c_sets.specs.Acks.{DescribesSetAck, counts_in};
 ghost use Rattle.quic_c_sets.specs.Sets.{first_runs, range_of, runs_of};
 
 use crate::places::is_set;
@@ -27,7 +27,7 @@ fn are_numeric(numbers: &[u64]) -> bool
 
 // Whether the words say an ACK.
 fn says_ack(delay: u64, runs: &[RunWords], count: usize, counts: &[u64]) -> bool
-    ensures { IsTrue result ↔ SaysAck delay runs.now count counts.now }
+    ensures { IsTrue result ↔ DescribesSetAck delay runs.now count counts.now }
 {
     if !is_set(runs, count) || count == 0 || delay >= 1 << 62 {
         return false;
@@ -104,7 +104,7 @@ fn store_ack(
     counts: &[u64],
     dest: &mut [u8],
 ) -> Result<usize, usize>
-    requires { SaysAck delay runs.now count counts.now }
+    requires { DescribesSetAck delay runs.now count counts.now }
     ensures { (last : Bool)
         → Puts result (shortest_frame last (ack_of delay (first_runs count runs.now) (counts_in counts.now))) dest.old dest.new }
 {
@@ -145,12 +145,12 @@ pub extern "C" fn quic_wire_ack_write_(
     written: &mut usize,
 ) -> i32
     ensures answers { (result ≡ pos 0) ⊎ (result ≡ negsuc 3) ⊎ (result ≡ negsuc 0) }
-    ensures says { (result ≡ negsuc 0) ⊎ SaysAck delay runs.now count counts.now }
+    ensures says { (result ≡ negsuc 0) ⊎ DescribesSetAck delay runs.now count counts.now }
     ensures wrote { result ≡ pos 0 → (last : Bool)
         → Puts (Ok written.new) (shortest_frame last (ack_of delay (first_runs count runs.now) (counts_in counts.now))) dest.old dest.new }
     ensures room { result ≡ negsuc 3 → (last : Bool)
         → Puts (Err written.new) (shortest_frame last (ack_of delay (first_runs count runs.now) (counts_in counts.now))) dest.old dest.new }
-    ensures refused { (result ≡ negsuc 0) ↔ (SaysAck delay runs.now count counts.now → ⊥) }
+    ensures refused { (result ≡ negsuc 0) ↔ (DescribesSetAck delay runs.now count counts.now → ⊥) }
     ensures same { (result ≡ negsuc 0) → (written.new ≡ written.old) × (dest.new ≡ dest.old) }
 {
     if !says_ack(delay, runs, count, counts) {

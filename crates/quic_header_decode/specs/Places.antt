@@ -7,7 +7,7 @@ use Rattle.quic_header_encode.specs.declared.long_type.HeaderKind.TheVariants as
 use Rattle.quic_header_encode.specs.declared.long_type.LongHeaderType.{LongHeaderType}
 use Rattle.quic_header_encode.specs.declared.long_type.LongHeaderType.TheVariants as type
 use Rattle.quic_header_encode.specs.declared.long_type.LongType.TheVariants.{Handshake, ZeroRtt}
-use Rattle.quic_header_encode.specs.Storing.{says_length}
+use Rattle.quic_header_encode.specs.Storing.{carries_length}
 use Rattle.quic_header_decode.specs.declared.fields.Place.{Place}
 use Rattle.quic_header_decode.specs.declared.places.HeaderPlaces.{HeaderPlaces}
 use Rattle.quic_header_decode.specs.declared.places.ReadError.{ReadError}
@@ -55,8 +55,8 @@ header_by kind.Short first dst src token len version = head.Short (nat_eq (first
 header_by kind.VersionNegotiate first dst src token len version = head.VersionNegotiate (first - 128) dst src
 
 -- the header that places say in these bytes
-abbrev pub said_in : List ℕ → HeaderPlaces → ProtectedHeader
-said_in bytes x = header_by x.kind x.first (dst_part bytes x) (src_part bytes x) x.token x.len x.version
+abbrev pub header_in : List ℕ → HeaderPlaces → ProtectedHeader
+header_in bytes x = header_by x.kind x.first (dst_part bytes x) (src_part bytes x) x.token x.len x.version
 
 -- the refusal that an error is in these bytes
 abbrev pub refusal_in : List ℕ → ReadError → Refusal
@@ -69,7 +69,7 @@ refusal_in bytes error.TokenOutOfBounds = Invalid (codes "token out of bounds")
 
 -- what a reading says: the header and what follows it, or a refusal
 abbrev pub seen_in : List ℕ → Result HeaderPlaces ReadError → Result (ProtectedHeader × List ℕ) Refusal
-seen_in bytes (Ok x) = Ok (said_in bytes x, drop x.header_end bytes)
+seen_in bytes (Ok x) = Ok (header_in bytes x, drop x.header_end bytes)
 seen_in bytes (Err e) = Err (refusal_in bytes e)
 
 -- where the ids of a long header end
@@ -120,7 +120,7 @@ IsSeen (Err error.TokenOutOfBounds) whole = Unit {0}
 -- where a packet ends in so many bytes
 abbrev pub ends_at : HeaderPlaces → ℕ → Option ℕ
 ends_at x whole =
-    if says_length x.kind then (if nat_lt whole (x.header_end + x.len) then None else Some (x.header_end + x.len)) else Some whole
+    if carries_length x.kind then (if nat_lt whole (x.header_end + x.len) then None else Some (x.header_end + x.len)) else Some whole
 
 -- ---- which bytes these are
 

@@ -6,7 +6,7 @@ ghost use Rattle.quic_header_decode.specs.Grammar.{is_fixed, HeaderAt, HeaderAns
 ghost use Rattle.quic_base.specs.Varint.{Encodes};
 ghost use Rattle.quic_crypto.specs.PacketNumbers.{number_bytes};
 ghost use Rattle.quic_header_encode.specs.Writing.{header_bytes, header_with};
-ghost use Rattle.quic_header_decode.specs.Places.{any_fixed, ends_at, said_in, ReadAnswer};
+ghost use Rattle.quic_header_decode.specs.Places.{any_fixed, ends_at, header_in, ReadAnswer};
 ghost use Rattle.quic_header_decode.specs.Reading.{Context, TakesWithin, cut_at, header_at, len_in};
 ghost use Rattle.quic_header_decode.specs.Refusal.{Refusal, Invalid, Unsupported};
 
@@ -69,10 +69,10 @@ pub fn ends()
 /// A header that was read as places begins the packet that `packet_end` says, or one that is cut off.
 pub fn places_cut()
     ensures whole { (context : Context) (bytes : List ℕ) (x : HeaderPlaces) (q : ℕ)
-        → HeaderAt context (length bytes) bytes (said_in bytes x) (drop x.header_end bytes) → x.header_end ≤ length bytes
-        → ends_at x (length bytes) ≡ Some q → Cut context bytes (said_in bytes x) x.header_end q }
+        → HeaderAt context (length bytes) bytes (header_in bytes x) (drop x.header_end bytes) → x.header_end ≤ length bytes
+        → ends_at x (length bytes) ≡ Some q → Cut context bytes (header_in bytes x) x.header_end q }
     ensures cut_off { (context : Context) (bytes : List ℕ) (x : HeaderPlaces)
-        → HeaderAt context (length bytes) bytes (said_in bytes x) (drop x.header_end bytes) → x.header_end ≤ length bytes
+        → HeaderAt context (length bytes) bytes (header_in bytes x) (drop x.header_end bytes) → x.header_end ≤ length bytes
         → ends_at x (length bytes) ≡ None
         → Uncut context bytes (Invalid (codes "packet too short to contain payload length")) }
 {}

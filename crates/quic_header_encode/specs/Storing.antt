@@ -143,13 +143,13 @@ kind_of (kind.Standard Handshake) = head.Handshake
 kind_of kind.Retry = head.Retry
 
 -- the headers that say a length, and those that have a number
-abbrev pub says_length : HeaderKind → Bool
-says_length head.Initial = true
-says_length head.ZeroRtt = true
-says_length head.Handshake = true
-says_length head.Retry = false
-says_length head.Short = false
-says_length head.VersionNegotiate = false
+abbrev pub carries_length : HeaderKind → Bool
+carries_length head.Initial = true
+carries_length head.ZeroRtt = true
+carries_length head.Handshake = true
+carries_length head.Retry = false
+carries_length head.Short = false
+carries_length head.VersionNegotiate = false
 
 abbrev pub says_number : HeaderKind → Bool
 says_number head.Initial = true

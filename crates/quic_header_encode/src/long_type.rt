@@ -1,6 +1,6 @@
 //! The first bytes of headers, and the types of long headers (RFC 9000, section 17.2; RFC 9369, section 3.2).
 ghost use Rattle.std.specs.Prelude.{◌≡◌, ◌≤◌};
-ghost use Rattle.quic_header_encode.specs.Storing.{kind_of, says_length, says_number, type_bits, IsTyped};
+ghost use Rattle.quic_header_encode.specs.Storing.{kind_of, carries_length, says_number, type_bits, IsTyped};
 ghost use Rattle.quic_header_encode.specs.Types.{first_byte, long_type};
 
 /// The bit of a first byte that is set in long headers.
@@ -84,7 +84,7 @@ impl HeaderKind {
     /// Whether the header says a length.
     #[inline(always)]
     pub fn has_len(self) -> bool
-        ensures { result ≡ says_length self }
+        ensures { result ≡ carries_length self }
     {
         match self {
             HeaderKind::Initial => true,

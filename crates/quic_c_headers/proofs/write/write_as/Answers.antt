@@ -3,7 +3,7 @@ use Rattle.std.proofs.Common.{◌≡◌, ◌+◌, ◌≤◌, ◌<◌, ◌∙◌,
 use Rattle.std.proofs.lemmas.Bool.{cases_lt}
 use Rattle.quic_crypto.specs.declared.packet_number.PacketNumber.{PacketNumber}
 use Rattle.std.specs.Prelude.{pos, take, drop}
-use Rattle.quic_header_encode.specs.Storing.{stored_size, number_bits, says_length, type_bits}
+use Rattle.quic_header_encode.specs.Storing.{stored_size, number_bits, carries_length, type_bits}
 use Rattle.quic_header_encode.proofs.Later.{stored_length}
 use Rattle.quic_c_headers.specs.Headers.{part_of, said_bytes}
 use Rattle.quic_c_headers.specs.Shapes.{first_word, IsShaped}
@@ -54,7 +54,7 @@ returns-then-has_len-clause-wrote c =
     let n : ℕ = c.store_numbered.result in
     let new : List ℕ = c.store_numbered.new.dest in
     let is : IsShaped words dst src c.args.token.now = search (rules, c.is_shaped.ensures, c.if-not-is_shaped) in
-    let has : IsTrue (says_length k) = search (rules, c.has_len.ensures, c.if-has_len) in
+    let has : IsTrue (carries_length k) = search (rules, c.has_len.ensures, c.if-has_len) in
     let number = is.numbered.number (inl (with_length k words c.requires.kind has)) in
     let same = numbered_said k words dst src token has number.0 number.1 ∙ bytes_said k words.length_len words dst src token is.numbered c.requires.kind (λ _. refl) in
     let within : n ≤ length new = search rules in

@@ -1,4 +1,4 @@
-/* The examples at the header of quic_wire.h, which scripts/callers cuts out of it
+/* The examples at the top of quic_wire.h, which scripts/callers cuts out of it
  * as example-1.h to example-3.h: the third seals a packet, the second opens it,
  * and the first reads its frames.  The cipher is none: it turns each bit, and
  * its tag is the packet's number. */

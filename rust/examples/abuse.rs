@@ -3,7 +3,7 @@
 use quic_wire::canonical::canonical;
 use quic_wire::frame::{Ack, CryptoMeta, DatagramMeta, Entry, Frame, Iter, StreamMeta};
 use quic_wire::packet::{
-    HeaderPlaces, HeaderError, Header, LongType, PacketNumber, PacketPlace, Packets, PacketsMut, VersionNegotiation,
+    Header, HeaderError, HeaderPlaces, LongType, PacketNumber, PacketPlace, Packets, PacketsMut, VersionNegotiation,
 };
 use quic_wire::range_set::ArrayRangeSet;
 use quic_wire::transport_parameters::{self, entries, TransportParameters};
@@ -165,7 +165,10 @@ fn datagrams(random: &mut Random) {
     let sample_len = random.below(17) as usize;
     let mask = [(); 5].map(|()| random.next() as u8);
     let expected = random.number();
-    let short = HeaderPlaces::read(&datagram, cid_len, VERSIONS).ok().filter(HeaderPlaces::is_short).map(|head| head.header_end());
+    let short = HeaderPlaces::read(&datagram, cid_len, VERSIONS)
+        .ok()
+        .filter(HeaderPlaces::is_short)
+        .map(|head| head.header_end());
     assert_eq!(HeaderPlaces::short_header_end(&datagram, cid_len), short);
     let mut opened = datagram.clone();
     let mut cut = Packets::new(&datagram, cid_len, VERSIONS, grease);
@@ -234,7 +237,10 @@ fn headers(random: &mut Random) {
     let head = HeaderPlaces::read(&packet, dst.len(), VERSIONS).unwrap();
     assert_eq!((head.dst_cid(&packet), head.end()), (dst_cid, packet.len()));
     let number_len = if head.is_protected() { number.len } else { 0 };
-    assert_eq!((head.header_end() + number_len, written.header_len), (written.header_len, packet.len() - payload.len()));
+    assert_eq!(
+        (head.header_end() + number_len, written.header_len),
+        (written.header_len, packet.len() - payload.len())
+    );
     for len in 0..packet.len() {
         if let Err(HeaderError::CutOff(cut)) = HeaderPlaces::read(&packet[..len], dst.len(), VERSIONS) {
             assert_eq!((cut.dst_cid(&packet), cut.header_end(), cut.end()), (dst_cid, head.header_end(), len));

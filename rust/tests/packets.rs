@@ -1,8 +1,8 @@
 //! Packets that are cut, opened, written and sealed.
 #![cfg(feature = "alloc")]
 use quic_wire::packet::{
-    HeaderPlaces, HeaderError, Header, LongType, Opened, PacketDecodeError, PacketNumber, PacketPlace, Packets, PacketsMut,
-    ProtectedHeader, UnprotectError, VersionNegotiation, DEFAULT_SUPPORTED_VERSIONS,
+    Header, HeaderError, HeaderPlaces, LongType, Opened, PacketDecodeError, PacketNumber, PacketPlace, Packets,
+    PacketsMut, ProtectedHeader, UnprotectError, VersionNegotiation, DEFAULT_SUPPORTED_VERSIONS,
 };
 use quic_wire::transport_error::Code;
 use quic_wire::{Error, WriteError};

@@ -34,7 +34,7 @@ pub const INITIAL_MTU: u16 = 1200;
 /// The greatest payload of a UDP datagram in bytes (RFC 9000, section 18.2).
 pub const MAX_UDP_PAYLOAD: u16 = 65527;
 
-/// The versions that an endpoint speaks where it isn't reported others: version 1 (RFC 9000, section
+/// The versions that an endpoint speaks where it is given no others: version 1 (RFC 9000, section
 /// 15), the drafts 29 to 34, and version 2 (RFC 9369, section 3.1).
 pub const DEFAULT_SUPPORTED_VERSIONS: &[u32] = &[
     0x0000_0001,

@@ -10,8 +10,8 @@ ghost use Rattle.quic_bench.specs.Outgoing.{AreSealed, CanBeSealed, Carries, IsF
 use bytes::BytesMut;
 use quic_crypto::crypto::{HeaderKey, PacketKey};
 use quic_frames::frame::Frame;
-use quic_header_encode::header::Header;
 use quic_header_decode::parser::ConnectionIdParser;
+use quic_header_encode::header::Header;
 use quic_packets::keys::{Expected, SpaceKeys};
 use quic_packets::laws;
 use quic_packets::opening::{OpenError, Opened, open_packet};

@@ -9,4 +9,4 @@ mod protection;
 mod words;
 mod write;
 
-pub use words::{HeaderWords, HeaderFields};
+pub use words::{HeaderFields, HeaderWords};

@@ -12,8 +12,10 @@ ghost use Rattle.quic_c_headers.specs.Written.{short_words, HasReserved, NeedsMo
 use crate::words::HeaderFields;
 use quic_crypto::packet_number::PacketNumber;
 use quic_header_encode::fields::store_low;
-use quic_header_encode::store::{Exact, HeaderRef, store_long_start, store_no_length, store_short, store_token};
 use quic_header_encode::long_type::HeaderKind;
+use quic_header_encode::store::{
+    Exact, HeaderRef, store_long_start, store_no_length, store_short, store_token,
+};
 
 // Whether the number, the count of its bytes and that of the length's are those of a header of the kind.
 #[inline(always)]
@@ -133,7 +135,13 @@ pub extern "C" fn quic_wire_short_write_(
 
 // Stores a long header up to its ids' end at the front.
 #[inline(always)]
-fn store_front(kind: HeaderKind, said: &HeaderFields, dst: &[u8], src: &[u8], dest: &mut [u8]) -> usize
+fn store_front(
+    kind: HeaderKind,
+    said: &HeaderFields,
+    dst: &[u8],
+    src: &[u8],
+    dest: &mut [u8],
+) -> usize
     requires typed { IsTyped kind }
     requires some { 1 ≤ said.now.number_len }
     requires few { said.now.number_len ≤ 4 }

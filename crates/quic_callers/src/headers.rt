@@ -9,11 +9,11 @@ ghost use Rattle.quic_header_decode.specs.Reading.{len_in};
 use bytes::BytesMut;
 use quic_base::coding::are_bytes;
 use quic_base::ids::ConnectionId;
-use quic_header_encode::header::Header;
 use quic_header_decode::cut::PartialDecode;
 use quic_header_decode::decode_error::PacketDecodeError;
 use quic_header_decode::laws;
 use quic_header_decode::parser::ConnectionIdParser;
+use quic_header_encode::header::Header;
 use std::alloc::Global;
 
 // Cuts a packet whose header says no length, and that so ends with the datagram.

@@ -224,7 +224,11 @@ fn scan_long(bytes: &[u8], first: u8, versions: &[u32]) -> Result<HeaderPlaces, 
 // Reads what follows the ids in a long header of a type.
 #[inline(always)]
 #[tactic(auto, unfolding(crate::specs::Reading::typed_at))]
-fn read_typed(bytes: &[u8], kind: HeaderKind, front: HeaderPlaces) -> Result<HeaderPlaces, ReadError>
+fn read_typed(
+    bytes: &[u8],
+    kind: HeaderKind,
+    front: HeaderPlaces,
+) -> Result<HeaderPlaces, ReadError>
     requires typed { IsTyped kind }
     requires front { IsFront front (length bytes.now) }
     ensures exact { typed_at (type_of kind) (length bytes.now) (slice_range bytes.now 6 (6 + front.dst_len))

@@ -8,8 +8,8 @@ ghost use Rattle.quic_header_encode.specs.Storing.{kind_of, stored_bytes, stored
 ghost use Rattle.quic_header_encode.specs.Writing.{bit, header_size, place_in, header_bytes, IsWritable, size_in, has_length, finished, HasRoom};
 
 use crate::header::{Header, InitialHeader};
-use crate::store::{Exact, HeaderRef, Padded};
 use crate::long_type::{HeaderKind, LongType};
+use crate::store::{Exact, HeaderRef, Padded};
 use quic_base::coding::{NoRoom, are_bytes};
 use quic_base::ids::ConnectionId;
 use quic_crypto::crypto::{HeaderKey, PacketKey};

@@ -5,5 +5,5 @@ pub mod encode;
 pub mod fields;
 pub mod header;
 pub mod laws;
-pub mod store;
 pub mod long_type;
+pub mod store;

@@ -135,7 +135,13 @@ fn store_long_id<I: StoredId>(out: &mut [u8], at: usize, id: I) -> usize
 /// caller must ensure that each id has at most 20 bytes, and that there is room for it.
 #[inline(always)]
 #[tactic(auto, unfolding(quic_base::specs::Number::bytes_of))]
-pub fn store_long_start<I: StoredId>(out: &mut [u8], first: u8, version: u32, dst: I, src: I) -> usize
+pub fn store_long_start<I: StoredId>(
+    out: &mut [u8],
+    first: u8,
+    version: u32,
+    dst: I,
+    src: I,
+) -> usize
     requires dst_few { length (I.id dst) ≤ 20 }
     requires src_few { length (I.id src) ≤ 20 }
     requires dst_room { 6 + I.room dst ≤ length out.old }

@@ -9,8 +9,8 @@ ghost use Rattle.quic_packets.specs.Sealing.{Sealed};
 
 use quic_crypto::packet_number::PacketNumber;
 use quic_frames::frame::Frame;
-use quic_header_encode::header::Header;
 pub use quic_header_decode::laws::{ends, one_answer, one_row_of_packets};
+use quic_header_encode::header::Header;
 
 /// Keys make one packet of a header, a number and a payload; frames have one least payload; and the number that is
 /// written stands for one number, by the one that is expected.

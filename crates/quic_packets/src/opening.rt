@@ -13,11 +13,11 @@ use crate::pairs::{PairOfKeys, PairsOfKeys};
 use bytes::{Bytes, BytesMut};
 use quic_base::coding::are_bytes;
 use quic_crypto::crypto::{HeaderKey, PacketKey};
-use quic_header_encode::header::Header;
 use quic_header_decode::cut::PartialDecode;
 use quic_header_decode::decode_error::PacketDecodeError;
 use quic_header_decode::packet::Packet;
 use quic_header_decode::parser::ConnectionIdParser;
+use quic_header_encode::header::Header;
 use thiserror::Error;
 
 /// Why a packet is not opened. The datagram is given up: nothing behind the packet is known then.

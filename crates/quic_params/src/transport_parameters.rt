@@ -1,11 +1,11 @@
 //! The limits and options that two endpoints tell each other while they shake hands (RFC 9000, section 7.4).
 
 pub use crate::error::Error;
-pub use crate::storing::write_entry_into;
 pub use crate::order::WriteOrder;
 pub use crate::parameter::TransportParameterId;
 pub use crate::reading::{known, split_entry};
 pub use crate::record::TransportParameters;
 pub use crate::reserved::{MAX_PAYLOAD_SIZE, ReservedTransportParameter};
+pub use crate::storing::write_entry_into;
 pub use crate::value::{PreferredAddress, Value};
 pub use crate::writing::write_entry;

@@ -416,7 +416,12 @@ fn reported_alone<S: Played>(text: &mut String, set: &S, name: &str) -> Result<b
 }
 
 // The same of a call with one word more.
-fn reported_of<S: Played>(text: &mut String, set: &S, name: &str, word: &str) -> Result<bool, Fail> {
+fn reported_of<S: Played>(
+    text: &mut String,
+    set: &S,
+    name: &str,
+    word: &str,
+) -> Result<bool, Fail> {
     match name {
         "contains" => push_flag(text, set.has(word.parse()?))?,
         "iter" => set.runs_from(text, word)?,
@@ -425,7 +430,12 @@ fn reported_of<S: Played>(text: &mut String, set: &S, name: &str, word: &str) ->
     Ok(true)
 }
 
-fn reported<S: Played>(text: &mut String, set: &S, name: &str, words: &[&str]) -> Result<bool, Fail> {
+fn reported<S: Played>(
+    text: &mut String,
+    set: &S,
+    name: &str,
+    words: &[&str],
+) -> Result<bool, Fail> {
     match words {
         [] => reported_alone(text, set, name),
         [word] => reported_of(text, set, name, word),

@@ -1,5 +1,5 @@
 //! A datagram cut into its packets (RFC 9000, section 12.2).
-use super::{HeaderPlaces, HeaderError, PacketDecodeError, PacketMut, PacketPlace, ProtectedHeader};
+use super::{HeaderError, HeaderPlaces, PacketDecodeError, PacketMut, PacketPlace, ProtectedHeader};
 use crate::text::Short;
 use core::fmt;
 use core::iter::FusedIterator;

@@ -35,7 +35,7 @@ mod protection;
 
 pub use datagram::{Packets, PacketsMut, PartialDecode};
 pub use encode::{Header, PartialEncode};
-pub use head::{HeaderPlaces, HeaderError, Versions};
+pub use head::{HeaderError, HeaderPlaces, Versions};
 pub use negotiation::VersionNegotiation;
 pub use number::PacketNumber;
 pub use opening::{Packet, PacketMut};

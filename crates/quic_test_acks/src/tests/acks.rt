@@ -1,10 +1,10 @@
 //! Acknowledgements, and frames of every kind by their fields.
 use quic_base::ids::EcnCodepoint;
+use quic_checks::Checks;
 use quic_frames::frame::{
     Ack, AckError, EcnCounts, Frame, FrameType, InvalidFrame, Iter, split_first_range,
 };
 use quic_frames::transport_error::Error;
-use quic_checks::Checks;
 use std::alloc::Global;
 use std::test::Fail;
 

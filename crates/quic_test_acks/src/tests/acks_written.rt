@@ -5,9 +5,9 @@ ghost use Rattle.quic_frames.specs.InRange.{AreCounts};
 
 use super::acks::has_ranges;
 use quic_base::coding::NoRoom;
+use quic_checks::Checks;
 use quic_frames::frame::{Ack, EcnCounts, Frame, Iter};
 use quic_ranges::range_set::{ArrayRangeSet, RangeSet};
-use quic_checks::Checks;
 use std::alloc::Global;
 use std::test::Fail;
 

@@ -2,10 +2,10 @@
 use super::growth_refused::is_same;
 use super::lines::{CANON, STRICT};
 use quic_canon::canonical::{CanonError, canonical_of};
-use quic_frames::frame::{FrameType, Iter};
-use quic_frames::transport_error::Error;
 use quic_checks::Checks;
 use quic_checks::codes::type_of;
+use quic_frames::frame::{FrameType, Iter};
+use quic_frames::transport_error::Error;
 use std::alloc::Global;
 use std::test::Fail;
 

@@ -1,9 +1,9 @@
 //! What stands where a growth is refused. Each test passes whichever one allocation of its run fails, and where
 //! none does: `rt try --test --fail-alloc N` lets the Nth fail.
 use quic_canon::canonical::{CanonBytes, CanonError, canonical, canonical_of};
+use quic_checks::Checks;
 use quic_errors::frame_type::FrameType;
 use quic_frames::frame::InvalidFrame;
-use quic_checks::Checks;
 use std::test::Fail;
 
 // A payload, and its shortest form.

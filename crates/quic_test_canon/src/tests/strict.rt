@@ -1,7 +1,7 @@
 //! Types that count in their shortest form alone.
+use quic_checks::Checks;
 use quic_frames::frame::{Frame, FrameType, InvalidFrame, Iter};
 use quic_frames::transport_error::Code;
-use quic_checks::Checks;
 use std::test::Fail;
 
 #[test]

@@ -2,8 +2,8 @@
 use super::frames_written_refused::is_counted;
 use quic_base::coding::NoRoom;
 use quic_callers::frames::written_and_read;
-use quic_frames::frame::{Frame, Iter};
 use quic_checks::Checks;
+use quic_frames::frame::{Frame, Iter};
 use std::alloc::Global;
 use std::test::Fail;
 

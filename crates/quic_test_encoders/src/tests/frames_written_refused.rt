@@ -7,13 +7,13 @@ ghost use Rattle.quic_frames.specs.Shortest.{close_reason, least_room};
 use quic_base::coding::NoRoom;
 use quic_base::ids::{ConnectionId, ResetToken, StreamId};
 use quic_base::varint::VarInt;
+use quic_checks::Checks;
 use quic_frames::frame::{
     Ack, AckFrequency, ApplicationClose, ConnectionClose, Crypto, Datagram, EcnCounts, Frame, Iter,
     NewConnectionId, NewToken, ResetStream, StopSending, StreamMeta,
 };
 use quic_frames::transport_error::Code;
 use quic_ranges::range_set::ArrayRangeSet;
-use quic_checks::Checks;
 use std::alloc::Global;
 use std::test::Fail;
 

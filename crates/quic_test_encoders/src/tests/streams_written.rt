@@ -3,8 +3,8 @@ ghost use Rattle.std.specs.Prelude.{◌<◌, ◌^◌, length};
 
 use quic_base::ids::StreamId;
 use quic_base::varint::VarInt;
-use quic_frames::frame::{Datagram, Frame, Iter, Stream, StreamMeta, StreamMetaVec};
 use quic_checks::Checks;
+use quic_frames::frame::{Datagram, Frame, Iter, Stream, StreamMeta, StreamMetaVec};
 use std::test::Fail;
 
 // Where the data begin and end, whether they are the last, whether their length is written, and the head.

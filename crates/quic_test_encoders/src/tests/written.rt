@@ -4,13 +4,13 @@ ghost use Rattle.quic_frames.specs.Shortest.{close_reason, least_room};
 
 use quic_base::ids::{ConnectionId, ResetToken, StreamId};
 use quic_base::varint::VarInt;
+use quic_checks::Checks;
+use quic_checks::codes::code_of;
 use quic_frames::frame::{
     AckFrequency, ApplicationClose, Close, ConnectionClose, Crypto, EcnCounts, FrameType,
     NewConnectionId, NewToken, ResetStream, StopSending,
 };
 use quic_frames::transport_error::{Code, Error};
-use quic_checks::Checks;
-use quic_checks::codes::code_of;
 use std::alloc::Global;
 use std::test::Fail;
 

@@ -1,8 +1,8 @@
 //! Frames, read from payloads.
 use quic_base::coding::{Codec, NoRoom};
+use quic_checks::Checks;
 use quic_frames::frame::{Frame, FrameType, Iter};
 use quic_frames::transport_error::{Code, Error, Reason};
-use quic_checks::Checks;
 use std::alloc::Global;
 use std::test::Fail;
 

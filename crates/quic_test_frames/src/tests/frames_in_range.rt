@@ -1,13 +1,13 @@
 //! Which frames can be written, and how long they are at most.
 use quic_base::ids::{ConnectionId, Dir, ResetToken, StreamId};
 use quic_base::varint::VarInt;
+use quic_checks::Checks;
 use quic_frames::frame::{
     Ack, AckError, ApplicationClose, Close, ConnectionClose, Crypto, Datagram, EcnCounts, Frame,
     FrameStruct, FrameType, Iter, NewConnectionId, RETIRE_CONNECTION_ID_SIZE_BOUND, ResetStream,
     StopSending, Stream,
 };
 use quic_frames::transport_error::Code;
-use quic_checks::Checks;
 use std::test::Fail;
 
 // The greatest number that can be written, and the next one.

@@ -2,8 +2,8 @@
 ghost use Rattle.std.specs.Prelude.{◌<◌, ◌^◌, length, IsTrue};
 ghost use Rattle.quic_frames.specs.InRange.{open_data, CanStand};
 
-use quic_frames::frame::{Frame, Iter};
 use quic_checks::Checks;
+use quic_frames::frame::{Frame, Iter};
 use std::test::Fail;
 
 fn can_be_stored(frame: &Frame<'_>) -> bool

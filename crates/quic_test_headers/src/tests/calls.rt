@@ -3,11 +3,11 @@ use bytes::{Buf, BytesMut};
 use quic_base::coding::Cursor;
 use quic_base::ids::{ConnectionId, SpaceId};
 use quic_bench::parsers::NoIds;
+use quic_checks::Checks;
 use quic_packets::packet::{
     FIXED_BIT, LONG_HEADER_FORM, LongHeaderType, LongType, PartialDecode, ProtectedHeader,
     SPIN_BIT, VERSION_2,
 };
-use quic_checks::Checks;
 use std::test::Fail;
 
 const INITIAL: &[u8] =

@@ -3,8 +3,8 @@ use bytes::BytesMut;
 use quic_base::coding::Cursor;
 use quic_bench::FailAt;
 use quic_bench::parsers::NoIds;
-use quic_packets::packet::{PacketDecodeError, PartialDecode, ProtectedHeader};
 use quic_checks::Checks;
+use quic_packets::packet::{PacketDecodeError, PartialDecode, ProtectedHeader};
 use quic_text::{RunError, mode_of, run};
 use std::test::Fail;
 

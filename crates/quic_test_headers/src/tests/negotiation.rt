@@ -1,8 +1,8 @@
 //! Version negotiations, whose first byte has no fixed bit (RFC 9000, section 17.2.1), and every beginning of one.
 use bytes::BytesMut;
 use quic_bench::parsers::NoIds;
-use quic_packets::packet::{PacketDecodeError, PartialDecode, ProtectedHeader};
 use quic_checks::Checks;
+use quic_packets::packet::{PacketDecodeError, PartialDecode, ProtectedHeader};
 use std::alloc::Global;
 use std::test::Fail;
 

@@ -1,8 +1,8 @@
 //! Packets whose headers' protection is off, as values.
 use bytes::{Bytes, BytesMut};
 use quic_base::ids::ConnectionId;
-use quic_packets::packet::{Header, InitialHeader, InitialPacket, Packet, PacketNumber};
 use quic_checks::Checks;
+use quic_packets::packet::{Header, InitialHeader, InitialPacket, Packet, PacketNumber};
 use std::alloc::Global;
 use std::test::Fail;
 

@@ -1,8 +1,8 @@
 //! Parsers of ids of several kinds, and the flag that lets the fixed bit be clear.
 use bytes::BytesMut;
 use quic_bench::parsers::{LongIds, NoIds, SelfSized};
-use quic_packets::packet::{ConnectionIdParser, FixedLengthConnectionIdParser, PartialDecode};
 use quic_checks::Checks;
+use quic_packets::packet::{ConnectionIdParser, FixedLengthConnectionIdParser, PartialDecode};
 use std::alloc::Global;
 use std::test::Fail;
 

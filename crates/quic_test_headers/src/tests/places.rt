@@ -1,6 +1,6 @@
 //! Places that `read_header` finds in the bytes of worked lines.
-use quic_header_decode::places::{HeaderKind, ReadError, read_header};
 use quic_checks::Checks;
+use quic_header_decode::places::{HeaderKind, ReadError, read_header};
 use std::test::Fail;
 
 const VERSIONS: &[u32] = &[1, 0x6b33_43cf];
@@ -89,7 +89,16 @@ const ROWS: &[Row] = &[
         (8, 8),
         11,
     ),
-    (1, b"\x40\x05", HeaderKind::Short, b"\x05", b"", 0, (0, 0), 2),
+    (
+        1,
+        b"\x40\x05",
+        HeaderKind::Short,
+        b"\x05",
+        b"",
+        0,
+        (0, 0),
+        2,
+    ),
 ];
 
 #[test]

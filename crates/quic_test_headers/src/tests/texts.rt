@@ -1,8 +1,8 @@
 //! Texts of errors, and what is printed of headers for debugging.
 use quic_base::coding::UnexpectedEnd;
 use quic_base::ids::ConnectionId;
-use quic_packets::packet::{LongHeaderType, LongType, PacketDecodeError, ProtectedHeader};
 use quic_checks::Checks;
+use quic_packets::packet::{LongHeaderType, LongType, PacketDecodeError, ProtectedHeader};
 use std::test::Fail;
 
 #[test]

@@ -2,9 +2,9 @@
 use crate::worked::{ALL_ZERO, all_toy, handshake, short};
 use quic_bench::parsers::NoIds;
 use quic_bench::two_packets::{Failure, Outgoing, sealed_and_opened};
+use quic_checks::Checks;
 use quic_frames::frame::Frame;
 use quic_packets::packet::Opened;
-use quic_checks::Checks;
 use std::alloc::Global;
 use std::test::Fail;
 

@@ -2,8 +2,8 @@
 ghost use Rattle.quic_header_encode.specs.Writing.{IsWritable};
 
 use crate::worked::{handshake, initial, short};
-use quic_packets::packet::Header;
 use quic_checks::Checks;
+use quic_packets::packet::Header;
 use std::alloc::Global;
 use std::test::Fail;
 

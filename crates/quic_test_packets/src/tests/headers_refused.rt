@@ -6,8 +6,8 @@ ghost use Rattle.quic_header_encode.specs.Writing.{IsWritable};
 use crate::worked::{handshake, initial, short};
 use quic_base::coding::NoRoom;
 use quic_base::ids::ConnectionId;
-use quic_packets::packet::{Header, PacketNumber};
 use quic_checks::Checks;
+use quic_packets::packet::{Header, PacketNumber};
 use std::alloc::Global;
 use std::test::Fail;
 

@@ -4,8 +4,8 @@ ghost use Rattle.quic_crypto.specs.PacketNumbers.{IsInRange};
 
 use bytes::BufMut;
 use quic_base::coding::NoRoom;
-use quic_packets::packet::PacketNumber;
 use quic_checks::Checks;
+use quic_packets::packet::PacketNumber;
 use std::alloc::Global;
 use std::test::Fail;
 

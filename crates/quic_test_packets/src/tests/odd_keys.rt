@@ -5,13 +5,13 @@ use quic_bench::add::AddKey;
 use quic_bench::mask::MaskKey;
 use quic_bench::parsers::NoIds;
 use quic_bench::plain::PlainKey;
+use quic_checks::Checks;
 use quic_frames::frame::Frame;
 use quic_packets::crypto::{HeaderKey, PacketKey};
 use quic_packets::packet::{
     Expected, Keys, Opened, PartialDecode, SealError, SpaceKeys, open_datagram, open_packet,
     seal_packet,
 };
-use quic_checks::Checks;
 use std::alloc::Global;
 use std::test::Fail;
 

@@ -3,13 +3,13 @@ use crate::counting::{CountingKey, all_counting, opened_by};
 use crate::worked::{ALL_ZERO, all_toy, handshake, short, toy};
 use bytes::BytesMut;
 use quic_bench::parsers::NoIds;
+use quic_checks::Checks;
 use quic_frames::frame::Frame;
 use quic_packets::crypto::toy::ToyHeaderKey;
 use quic_packets::packet::{
     FixedLengthConnectionIdParser, OpenError, Opened, SealError, SpaceKeys, open_datagram,
     open_packet, seal_packet,
 };
-use quic_checks::Checks;
 use std::test::Fail;
 
 // A Handshake packet of 30 bytes with the frames PING, PADDING, PADDING, and a 1-RTT packet with the same.

@@ -1,8 +1,8 @@
 //! What headers say of their packets.
 use bytes::Bytes;
 use quic_base::ids::ConnectionId;
-use quic_packets::packet::{Header, InitialHeader, LongType, PacketNumber};
 use quic_checks::Checks;
+use quic_packets::packet::{Header, InitialHeader, LongType, PacketNumber};
 use std::test::Fail;
 
 fn initial(number: PacketNumber) -> Header {

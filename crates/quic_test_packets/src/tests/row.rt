@@ -6,11 +6,11 @@ use super::sealed::{
 use crate::worked::{ALL_ZERO, all_toy};
 use bytes::BytesMut;
 use quic_base::ids::ConnectionId;
+use quic_checks::Checks;
 use quic_packets::packet::{
     FixedLengthConnectionIdParser, Header, LongType, OpenError, Opened, PacketDecodeError,
     PacketNumber, PartialDecode, VERSION_2, open_datagram, open_packet,
 };
-use quic_checks::Checks;
 use std::alloc::Global;
 use std::test::Fail;
 

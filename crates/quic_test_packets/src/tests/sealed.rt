@@ -4,12 +4,12 @@ use bytes::{Bytes, BytesMut};
 use quic_base::ids::{ConnectionId, Dir, Side, StreamId};
 use quic_base::varint::VarInt;
 use quic_bench::parsers::WithoutMemory;
+use quic_checks::Checks;
 use quic_frames::frame::{Ack, Frame, Stream};
 use quic_packets::packet::{
     Expected, FixedLengthConnectionIdParser, Header, InitialHeader, OpenError, Opened,
     PacketDecodeError, PacketNumber, SealError, VERSION_2, open_datagram, open_packet, seal_packet,
 };
-use quic_checks::Checks;
 use std::alloc::Global;
 use std::test::Fail;
 

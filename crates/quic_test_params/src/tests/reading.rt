@@ -3,8 +3,8 @@ use super::lines::{CLIENT, SERVER};
 use super::{WHOLE, preferred, two_limits, whole};
 use quic_base::ids::{ConnectionId, Side};
 use quic_base::varint::VarInt;
-use quic_params::transport_parameters::{Error, TransportParameterId, TransportParameters, Value};
 use quic_checks::Checks;
+use quic_params::transport_parameters::{Error, TransportParameterId, TransportParameters, Value};
 use std::test::Fail;
 
 #[test]

@@ -1,9 +1,9 @@
 //! What a client that remembers parameters asks of new ones, and how many ids are issued.
 use super::whole;
 use quic_base::varint::VarInt;
+use quic_checks::Checks;
 use quic_errors::transport_error::Code;
 use quic_params::transport_parameters::TransportParameters;
-use quic_checks::Checks;
 use std::test::Fail;
 
 #[test]

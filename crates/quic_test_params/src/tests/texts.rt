@@ -2,12 +2,12 @@
 use super::{DOWNWARD, preferred, two_limits};
 use quic_base::coding::UnexpectedEnd;
 use quic_base::varint::VarInt;
+use quic_checks::Checks;
 use quic_errors::transport_error;
 use quic_errors::transport_error::Code;
 use quic_params::transport_parameters::{
     Error, ReservedTransportParameter, TransportParameterId, Value, WriteOrder,
 };
-use quic_checks::Checks;
 use std::test::Fail;
 
 #[test]

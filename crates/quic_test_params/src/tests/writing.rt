@@ -2,10 +2,10 @@
 use super::{DOWNWARD, WHOLE, preferred, two_limits, whole};
 use quic_base::ids::Side;
 use quic_callers::params::written_and_read;
+use quic_checks::Checks;
 use quic_params::transport_parameters::{
     ReservedTransportParameter, TransportParameters, WriteOrder,
 };
-use quic_checks::Checks;
 use std::alloc::Global;
 use std::test::Fail;
 

@@ -2,10 +2,10 @@
 //! where none does: `rt try --test --fail-alloc N` lets the Nth fail.
 use super::{DOWNWARD, WHOLE, preferred, whole};
 use quic_base::coding::NoRoom;
+use quic_checks::Checks;
 use quic_params::transport_parameters::{
     ReservedTransportParameter, TransportParameters, WriteOrder,
 };
-use quic_checks::Checks;
 use std::test::Fail;
 
 // Whether the whole is there, or a part of it where there was no room.

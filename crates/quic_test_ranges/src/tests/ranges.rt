@@ -5,8 +5,8 @@ use super::ranges_refused::{
     Call, made, made_in_array, on_a_set, on_an_array, on_two_arrays, on_two_sets,
 };
 use quic_base::coding::NoRoom;
-use quic_ranges::range_set::{ArrayRangeSet, RangeSet, Replace};
 use quic_checks::Checks;
+use quic_ranges::range_set::{ArrayRangeSet, RangeSet, Replace};
 use std::alloc::Global;
 use std::ops::Range;
 use std::test::Fail;

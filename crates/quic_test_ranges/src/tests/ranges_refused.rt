@@ -2,8 +2,8 @@
 // where none is: `rt try --test --fail-alloc N` refuses the Nth. After the refusal the set stands as
 // promised, and the same call then succeeds.
 use quic_base::coding::NoRoom;
-use quic_ranges::range_set::{ArrayRangeSet, RangeSet, Replace};
 use quic_checks::Checks;
+use quic_ranges::range_set::{ArrayRangeSet, RangeSet, Replace};
 use std::alloc::Global;
 use std::ops::Range;
 use std::test::Fail;

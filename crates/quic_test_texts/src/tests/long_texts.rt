@@ -1,9 +1,9 @@
 //! Texts of 2,000 bytes and more, which are displayed whole.
 use super::texts::{displays, error_with_text_displays};
 use quic_base::varint::VarInt;
+use quic_checks::Checks;
 use quic_frames::frame::{ApplicationClose, ConnectionClose};
 use quic_frames::transport_error::Code;
-use quic_checks::Checks;
 use std::alloc::Global;
 use std::test::Fail;
 

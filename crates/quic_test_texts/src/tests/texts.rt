@@ -2,10 +2,10 @@
 use super::texts_answers::{CLOSES, CODES, ERRORS, TYPES};
 use quic_base::coding::{BufMutExt, Codec};
 use quic_base::varint::VarInt;
-use quic_frames::frame::{ApplicationClose, Close, ConnectionClose, Frame, FrameType, Iter};
-use quic_frames::transport_error::{Code, Error, Reason};
 use quic_checks::Checks;
 use quic_checks::codes::{code_of, type_of};
+use quic_frames::frame::{ApplicationClose, Close, ConnectionClose, Frame, FrameType, Iter};
+use quic_frames::transport_error::{Code, Error, Reason};
 use std::alloc::Global;
 use std::fmt::Display;
 use std::test::Fail;

@@ -1,7 +1,7 @@
 //! Errors where memory is refused: each test holds whichever allocation fails.
 use quic_base::coding::NoRoom;
-use quic_frames::transport_error::{Code, Error};
 use quic_checks::Checks;
+use quic_frames::transport_error::{Code, Error};
 use std::alloc::Global;
 use std::test::Fail;
 

@@ -16,11 +16,11 @@ use crate::output::pass_on_pieces;
 use crate::transfer::Sink;
 use bytes::BytesMut;
 use quic_base::ids::{ConnectionId, DEFAULT_SUPPORTED_VERSIONS};
-use quic_header_encode::long_type::LongType;
 use quic_header_decode::cut::PartialDecode;
 use quic_header_decode::decode_error::PacketDecodeError;
 use quic_header_decode::parser::FixedLengthConnectionIdParser;
 use quic_header_decode::protected::ProtectedHeader;
+use quic_header_encode::long_type::LongType;
 use std::alloc::{AllocError, Global};
 
 // A line for each packet, and one for what is refused. Ids of short headers have the length given.

@@ -1,7 +1,7 @@
 //! The packets of datagrams.
 use crate::args::Datagrams;
 use crate::output::{Field, Output, Value};
-use quic_wire::packet::{HeaderPlaces, HeaderError, LongType, ProtectedHeader};
+use quic_wire::packet::{HeaderError, HeaderPlaces, LongType, ProtectedHeader};
 use std::io::{self, Write};
 use Value::{Bytes, Flag, Number, Version, Versions};
 

@@ -14,7 +14,8 @@ id_cmp = then_cmp (on length nat_cmp) (slice_cmp nat_cmp)
 pub id_total : IsTotalOrder id_cmp
 id_total = search (comparing, rules)
 
-ties_at : (x y : List ℕ) (r : Ordering) → MatchOrdering r (length x < length y) (length x ≡ length y) (length y < length x)
+ties_at : (x y : List ℕ) (r : Ordering)
+    → MatchOrdering r (length x < length y) (length x ≡ length y) (length y < length x)
     → pointwise nat_eq x y ≡ is_eq (ordering_then r (slice_cmp nat_cmp x y))
 ties_at x y Less h = unequal nat_eq x y (λ e. omega arith)
 ties_at x y Equal h = texts_ties x y

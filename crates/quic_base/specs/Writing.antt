@@ -3,7 +3,8 @@ use Rattle.std.specs.Prelude.{◌≡◌, ℕ, ◌<◌, List, ◌++◌, length, R
 use Rattle.quic_base.specs.Codec.{IsBegun, KeepsRoom}
 
 -- The bytes stand behind what stood there; or there was less room than that, and a beginning of them does.
-pub record Writes {E : Type 0} (result : Result (Unit {0}) E) (bytes written : List ℕ) (spare : ℕ) (written' : List ℕ) (spare' : ℕ) : Type 0 where
+pub record Writes {E : Type 0} (result : Result (Unit {0}) E) (bytes written : List ℕ) (spare : ℕ) (written' : List ℕ)
+    (spare' : ℕ) : Type 0 where
   pub ok : OnOk result (written' ≡ written ++ bytes)
   pub err : OnErr result (IsBegun written bytes written')
   pub full : OnErr result (spare < length bytes)

@@ -221,7 +221,8 @@ fn read_number<B: Buf>(buf: &mut B) -> coding::Result<u64>
 /// in memory for it.
 #[inline(always)]
 pub fn split_var(bytes: &[u8]) -> Option<(u64, &[u8])>
-    ensures read { MatchOption result ((v : ℕ) → NoFront (Encodes v) bytes.now) (λ x. Takes (Encodes x.0) bytes.now x.1.now) }
+    ensures read { MatchOption result ((v : ℕ) → NoFront (Encodes v) bytes.now)
+        (λ x. Takes (Encodes x.0) bytes.now x.1.now) }
     ensures bound { IfSome result (λ x. x.0 < 2 ^ 62) }
 {
     let mut rest = bytes;
@@ -248,7 +249,8 @@ fn number_of_word(front: &[u8; 8]) -> (u64, usize)
 /// widths can't be foretold; where most have one width, `split_var` is faster.
 #[inline(always)]
 pub fn split_var_by_word(bytes: &[u8]) -> Option<(u64, &[u8])>
-    ensures read { MatchOption result ((v : ℕ) → NoFront (Encodes v) bytes.now) (λ x. Takes (Encodes x.0) bytes.now x.1.now) }
+    ensures read { MatchOption result ((v : ℕ) → NoFront (Encodes v) bytes.now)
+        (λ x. Takes (Encodes x.0) bytes.now x.1.now) }
     ensures bound { IfSome result (λ x. x.0 < 2 ^ 62) }
 {
     let Some(front) = bytes.first_chunk::<8>() else {

@@ -8,7 +8,8 @@ use Rattle.std.specs.Cmp.{nat_eq_equiv}
 use Rattle.quic_base.specs.Number.{AreBytes}
 use Rattle.quic_bench.specs.Add.{add_byte, take_byte, add_sealed, add_opened}
 
-pub add_sealed_len : (number : ℕ) (header payload : List ℕ) → length (add_sealed number header payload) ≡ length payload + 2
+pub add_sealed_len : (number : ℕ) (header payload : List ℕ)
+    → length (add_sealed number header payload) ≡ length payload + 2
 add_sealed_len number header payload =
     length-append (map (add_byte (number % 256)) payload) ((length header % 256) ∷ (length payload % 256) ∷ [])
     ∙ ap (λ n. n + 2) (length-map payload (add_byte (number % 256)))
@@ -38,10 +39,22 @@ opened_end ys a b low e =
     let sum : length (ys ++ a ∷ b ∷ []) ≡ length ys + 2 = length-append ys (a ∷ b ∷ []) in
     let at : length (ys ++ a ∷ b ∷ []) - 2 ≡ length ys = omega arith in
     let enough : nat_le 2 (length (ys ++ a ∷ b ∷ [])) ≡ true = grind (arith, nat_tests) in
-    rw (at, enough, first_of_end ys a b, second_of_end ys a b (length ys + 1) (omega arith), take-append_seam ys (a ∷ b ∷ []), e, nat_eq_equiv.refl a, nat_eq_equiv.refl (length ys % 256))
+    rw (
+      at,
+      enough,
+      first_of_end ys a b,
+      second_of_end ys a b (length ys + 1) (omega arith),
+      take-append_seam ys
+          (a ∷ b ∷ []),
+      e,
+      nat_eq_equiv.refl a,
+      nat_eq_equiv.refl (length ys % 256),
+    )
 
-pub add_opens : (number : ℕ) (header payload : List ℕ) → AreBytes payload → add_opened number header (add_sealed number header payload) ≡ Some payload
+pub add_opens : (number : ℕ) (header payload : List ℕ) → AreBytes payload
+    → add_opened number header (add_sealed number header payload) ≡ Some payload
 add_opens number header payload bytes =
     let low = number % 256 in
-    opened_end (map (add_byte low) payload) (length header % 256) (length payload % 256) low (ap (λ n. n % 256) (sym (length-map payload (add_byte low))))
+    opened_end (map (add_byte low) payload) (length header % 256) (length payload % 256) low
+    (ap (λ n. n % 256) (sym (length-map payload (add_byte low))))
     ∙ ap (λ ys. Some ys) (take_all_added low payload (omega arith) bytes)

@@ -11,11 +11,13 @@ use Rattle.quic_text.specs.Printed.{Printed, shown}
 -- where all that was given since is one line that encodes these bytes, these lines were printed
 abbrev pub Prints : List ℕ → List Printed → List ℕ → List ℕ → List ℕ → List ℕ → Type 0
 Prints bytes lines given given' taken taken' =
-    (input line : List ℕ) → given' ≡ given ++ input → lines_of input ≡ line ∷ [] → decode_of (without_return line) ≡ Ok bytes
+    (input line : List ℕ) → given' ≡ given ++ input → lines_of input ≡ line ∷ []
+    → decode_of (without_return line) ≡ Ok bytes
     → taken' ≡ taken ++ flat_map shown lines
 
 -- the datagram is these packets, up to its end or to this refusal, and no others
-pub record IsOneRow (context : Context) (bytes : List ℕ) (packets : List Placed) (refusal : Option Refusal) : Type 0 where
+pub record IsOneRow (context : Context) (bytes : List ℕ) (packets : List Placed)
+    (refusal : Option Refusal) : Type 0 where
   pub are : ArePackets context 0 bytes packets refusal
   pub alone : (others : List Placed) (other : Option Refusal) → ArePackets context 0 bytes others other
       → (others ≡ packets) × (other ≡ refusal)

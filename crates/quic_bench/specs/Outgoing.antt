@@ -36,8 +36,10 @@ pub record IsFoundAgain (context : Context) (expected : SpaceId → ℕ) (packet
 pub record AreSealed (keys : SpaceId → KeyPair) (first second : Outgoing) (bytes : List ℕ) : Type 0 where
   pub front : List ℕ
   pub back : List ℕ
-  pub first_sealed : SealedFrames (keys (space_in first.header.now)) first.header.now first.number first.frames.now front
-  pub second_sealed : SealedFrames (keys (space_in second.header.now)) second.header.now second.number second.frames.now back
+  pub first_sealed : SealedFrames
+      (keys (space_in first.header.now)) first.header.now first.number first.frames.now front
+  pub second_sealed : SealedFrames
+      (keys (space_in second.header.now)) second.header.now second.number second.frames.now back
   pub text : bytes ≡ front ++ back
 
 -- what was opened has the packet's header and number, and its payload is the least one that means the packet's frames

@@ -19,14 +19,17 @@ none_lawful bytes = omega arith
 abbrev pub self_sized_parsed : List ℕ → Result (List ℕ × ℕ) Refusal
 self_sized_parsed [] = Err (Invalid (codes "bad id"))
 self_sized_parsed (size ∷ rest) =
-    if (size == 0) || nat_lt 20 size || nat_lt (length rest + 1) size then Err (Invalid (codes "bad id")) else Ok (take size (size ∷ rest), size)
+    if (size == 0) || nat_lt 20 size || nat_lt (length rest + 1) size then Err (Invalid (codes "bad id"))
+    else Ok (take size (size ∷ rest), size)
 
 self_sized_cases : (bad : Bool) (size : ℕ) (rest text : List ℕ) → (bad ≡ false → size ≤ length (size ∷ rest))
-    → IsLawful (size ∷ rest) (cond {A = Result (List ℕ × ℕ) Refusal} bad (Err (Invalid text)) (Ok (take size (size ∷ rest), size)))
+    → IsLawful (size ∷ rest) (cond {A = Result (List ℕ × ℕ) Refusal} bad (Err (Invalid text))
+    (Ok (take size (size ∷ rest), size)))
 self_sized_cases true size rest text h = λ e. cc
 self_sized_cases false size rest text h = h refl
 
 pub self_sized_lawful : (bytes : List ℕ) → IsLawful bytes (self_sized_parsed bytes)
 self_sized_lawful [] = λ e. cc
 self_sized_lawful (size ∷ rest) =
-    self_sized_cases ((size == 0) || nat_lt 20 size || nat_lt (length rest + 1) size) size rest (codes "bad id") (λ e. grind (arith, nat_tests))
+    self_sized_cases ((size == 0) || nat_lt 20 size || nat_lt (length rest + 1) size) size rest (codes "bad id")
+    (λ e. grind (arith, nat_tests))

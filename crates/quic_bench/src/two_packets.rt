@@ -46,7 +46,9 @@ pub(crate) fn seal<H: HeaderKey, P: PacketKey>(
     out: &mut Vec<u8>,
 ) -> Result<(), SealError>
     requires { CanBeSealed packet.now }
-    ensures sealed { IfOk result (λ _. IsAppended (SealedFrames (⟦<SpaceKeys<H, P> as PairsOfKeys>⟧.pairs keys.now (space_in packet.now.header.now))
+    ensures sealed { IfOk result
+        (λ _. IsAppended (SealedFrames
+        (⟦<SpaceKeys<H, P> as PairsOfKeys>⟧.pairs keys.now (space_in packet.now.header.now))
         packet.now.header.now packet.now.number packet.now.frames.now) out.old.items out.new.items) }
     ensures refused { IfErr result (λ e. IsRefused (⟦<SpaceKeys<H, P> as PairsOfKeys>⟧.pairs keys.now) packet.now e) }
 {
@@ -66,7 +68,8 @@ fn seal_both<H: HeaderKey, P: PacketKey>(
 ) -> Result<Vec<u8>, SealError>
     requires first { CanBeSealed first.now }
     requires second { CanBeSealed second.now }
-    ensures sealed { IfOk result (λ out. AreSealed (⟦<SpaceKeys<H, P> as PairsOfKeys>⟧.pairs keys.now) first.now second.now out.items) }
+    ensures sealed { IfOk result
+        (λ out. AreSealed (⟦<SpaceKeys<H, P> as PairsOfKeys>⟧.pairs keys.now) first.now second.now out.items) }
     ensures refused { IfErr result (λ e. IsRefused (⟦<SpaceKeys<H, P> as PairsOfKeys>⟧.pairs keys.now) first.now e
         ⊎ IsRefused (⟦<SpaceKeys<H, P> as PairsOfKeys>⟧.pairs keys.now) second.now e) }
 {
@@ -97,9 +100,11 @@ pub fn sealed_and_opened<C: ConnectionIdParser, H: HeaderKey, P: PacketKey>(
     requires expected { AreExpected expected.now }
     requires front { (rest : List ℕ)
         → IsFoundAgain (read_by (C.parsed parser.now) versions.now false) (expected_in expected.now) first.now rest }
-    requires back { IsFoundAgain (read_by (C.parsed parser.now) versions.now false) (expected_in expected.now) second.now [] }
+    requires back { IsFoundAgain (read_by (C.parsed parser.now) versions.now false)
+        (expected_in expected.now) second.now [] }
     ensures opened { IfOk result (λ x. Carries x.0 first.now × Carries x.1 second.now) }
-    ensures refused { IfErr result (λ e. IsFailure (⟦<SpaceKeys<H, P> as PairsOfKeys>⟧.pairs keys.now) first.now second.now e) }
+    ensures refused { IfErr result
+        (λ e. IsFailure (⟦<SpaceKeys<H, P> as PairsOfKeys>⟧.pairs keys.now) first.now second.now e) }
 {
     laws::sealed_opens();
     laws::ends();

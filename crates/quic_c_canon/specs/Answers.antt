@@ -15,7 +15,8 @@ type_word (Some n) = n
 
 -- the number of a reason: 1 unexpected end, 2 invalid frame ID, 3 malformed
 abbrev pub reason_word : List ℕ → ℕ
-reason_word reason = if pointwise nat_eq reason (codes "unexpected end") then 1 else if pointwise nat_eq reason (codes "invalid frame ID") then 2 else 3
+reason_word reason = if pointwise nat_eq reason (codes "unexpected end") then 1
+    else if pointwise nat_eq reason (codes "invalid frame ID") then 2 else 3
 
 -- The least payload of the meaning stands at the front, with what stood behind it, and its length was reported.
 pub record GivesLeast (payload before after : List ℕ) (old new : CanonicalWords) : Type 0 where

@@ -102,7 +102,8 @@ fn put(frame: &Frame<'_>, last: bool, dest: &mut [u8], at: usize) -> usize
     requires stands { CanStand last frame.now }
     requires room { at + length (shortest_frame last (meaning_of frame.now)) ≤ length dest.old }
     ensures end { result ≡ at + length (shortest_frame last (meaning_of frame.now)) }
-    ensures bytes { dest.new ≡ take at dest.old ++ (shortest_frame last (meaning_of frame.now) ++ drop result dest.old) }
+    ensures bytes { dest.new ≡ take at dest.old
+        ++ (shortest_frame last (meaning_of frame.now) ++ drop result dest.old) }
 {
     match frame.encode_into(last, &mut dest[at..]) {
         Ok(n) => at + n,
@@ -128,7 +129,8 @@ fn store(payload: &[u8], dest: &mut [u8])
     requires room { (found : List Found) → AreFrames false found payload.now
         → length (shortest_frames (map frame_in found)) ≤ length dest.old }
     ensures { (found : List Found) → AreFrames false found payload.now
-        → dest.new ≡ shortest_frames (map frame_in found) ++ drop (length (shortest_frames (map frame_in found))) dest.old }
+        → dest.new ≡ shortest_frames (map frame_in found)
+        ++ drop (length (shortest_frames (map frame_in found))) dest.old }
 {
     one_reading();
     read_back();
@@ -154,7 +156,8 @@ fn write(payload: &[u8], len: usize, dest: &mut [u8])
     requires known { HasLength payload.now len }
     requires room { len ≤ length dest.old }
     ensures { (found : List Found) → AreFrames false found payload.now
-        → dest.new ≡ shortest_frames (map frame_in found) ++ drop (length (shortest_frames (map frame_in found))) dest.old }
+        → dest.new ≡ shortest_frames (map frame_in found)
+        ++ drop (length (shortest_frames (map frame_in found))) dest.old }
 {
     one_reading();
     least_encoding();

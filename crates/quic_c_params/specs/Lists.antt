@@ -14,15 +14,18 @@ use Rattle.quic_c_params.specs.Written.{CanWriteParams}
 
 -- 1 where a record has the parameter of this number, and 0 where it doesn't
 abbrev pub TellsKnown : ℕ → ℕ → Type 0
-TellsKnown known number = ((known ≡ 1) × (id : TransportParameterId) × IsKnown id number) ⊎ (known ≡ 0) × ((id : TransportParameterId) → Never (IsKnown id number))
+TellsKnown known number = ((known ≡ 1) × (id : TransportParameterId) × IsKnown id number) ⊎ (known ≡ 0)
+    × ((id : TransportParameterId) → Never (IsKnown id number))
 
--- The words tell the entry at the front of a list: its number, the place of its value, behind which the next one begins.
+-- The words tell the entry at the front of a list: its number, the place of its value, behind which the next one
+-- begins.
 pub record GivesEntry (list : List ℕ) (words : EntryWords) : Type 0 where
-  pub entry : Takes (IsEntry words.id (take words.value_len (drop words.value list))) list (drop (words.value + words.value_len) list)
+  pub entry : Takes (IsEntry words.id (take words.value_len (drop words.value list))) list
+      (drop (words.value + words.value_len) list)
   pub within : words.value + words.value_len ≤ length list
 
--- Bytes are written at the front, with what stood behind them, and are counted; or there is less room than that, how much
--- they need is reported, and nothing changes.
+-- Bytes are written at the front, with what stood behind them, and are counted; or there is less room than that, how
+-- much they need is reported, and nothing changes.
 pub record Lies (result : Result ℕ ℕ) (bytes old new : List ℕ) : Type 0 where
   pub count : IfOk result (λ n. n ≡ length bytes)
   pub front : IfOk result (λ n. new ≡ bytes ++ drop n old)
@@ -52,7 +55,8 @@ pub record IsFurther (es : List Entry) (list : List ℕ) : Type 0 where
   pub short : length list < 2 ^ 40
 
 -- The words say a record that the side reads back, the list further entries, and the order one of all of them, or none.
-pub record CanList (side : ℕ) (words : ParamsWords) (further order : List ℕ) (p : TransportParameters) (es : List Entry) : Type 0 where
+pub record CanList (side : ℕ) (words : ParamsWords) (further order : List ℕ) (p : TransportParameters)
+    (es : List Entry) : Type 0 where
   pub record_is : CanWriteParams side words p
   pub further_are : IsFurther es further
   pub order_is : IsOrderOf (rows + length es) (asked (rows + length es) order)
@@ -74,4 +78,5 @@ pub record ListLacks (side : ℕ) (words : ParamsWords) (further order old : Lis
 
 -- There is no such list.
 abbrev pub DescribesNoList : ℕ → ParamsWords → List ℕ → List ℕ → Type 0
-DescribesNoList side words further order = (p : TransportParameters) (es : List Entry) → CanList side words further order p es → ⊥
+DescribesNoList side words further order = (p : TransportParameters) (es : List Entry)
+    → CanList side words further order p es → ⊥

@@ -1,5 +1,5 @@
-//! Further entries of a list of transport parameters, which no record has, and the orders of all (RFC 9000, sections 7.4
-//! and 18).
+//! Further entries of a list of transport parameters, which no record has, and the orders of all (RFC 9000, sections
+//! 7.4 and 18).
 ghost use Rattle.std.specs.Prelude.{◌≡◌, ◌+◌, ◌<◌, ◌≤◌, ◌↔◌, ◌^◌, ℕ, List, get_or, length, IsTrue, IfSome, IsNone};
 ghost use Rattle.quic_params.specs.Entry.{Entry};
 ghost use Rattle.quic_params.specs.Further.{AreInOrder, AreOthers, HasNumber, IsOrderOf, asked};

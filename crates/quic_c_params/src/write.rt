@@ -156,7 +156,8 @@ fn address_in(words: &ParamsWords, flags: Flags) -> Option<PreferredAddress>
 
 // The record that the words say, if they say one.
 fn record_in(words: &ParamsWords) -> TransportParameters
-    ensures said { (side : Side) (p : TransportParameters) → DescribesParams words.now p → IsInRange side p → result ≡ p }
+    ensures said { (side : Side) (p : TransportParameters) → DescribesParams words.now p → IsInRange side p
+        → result ≡ p }
     ensures no_grease { result.grease_transport_parameter ≡ None }
     ensures no_order { result.write_order ≡ None }
 {
@@ -204,7 +205,8 @@ fn same_words(a: &ParamsWords, b: &ParamsWords) -> bool
 
 // The record that the words say, where the side reads it back.
 pub(crate) fn said(side: Side, words: &ParamsWords) -> Option<TransportParameters>
-    ensures some { IfSome result (λ p. DescribesParams words.now p × IsInRange side p × IsAnswer side (written p) (Ok p)) }
+    ensures some { IfSome result
+        (λ p. DescribesParams words.now p × IsInRange side p × IsAnswer side (written p) (Ok p)) }
     ensures none { IsNone result → (p : TransportParameters) → DescribesParams words.now p → IsInRange side p → ⊥ }
 {
     let params = record_in(words);

@@ -106,7 +106,8 @@ fn store_ack(
 ) -> Result<usize, usize>
     requires { DescribesSetAck delay runs.now count counts.now }
     ensures { (last : Bool)
-        → Puts result (shortest_frame last (ack_of delay (first_runs count runs.now) (counts_in counts.now))) dest.old dest.new }
+        → Puts result (shortest_frame last
+        (ack_of delay (first_runs count runs.now) (counts_in counts.now))) dest.old dest.new }
 {
     let first = runs[count - 1];
     let below = &runs[..count - 1];
@@ -147,9 +148,11 @@ pub extern "C" fn quic_wire_ack_write_(
     ensures answers { (result ≡ pos 0) ⊎ (result ≡ negsuc 3) ⊎ (result ≡ negsuc 0) }
     ensures says { (result ≡ negsuc 0) ⊎ DescribesSetAck delay runs.now count counts.now }
     ensures wrote { result ≡ pos 0 → (last : Bool)
-        → Puts (Ok written.new) (shortest_frame last (ack_of delay (first_runs count runs.now) (counts_in counts.now))) dest.old dest.new }
+        → Puts (Ok written.new) (shortest_frame last
+        (ack_of delay (first_runs count runs.now) (counts_in counts.now))) dest.old dest.new }
     ensures room { result ≡ negsuc 3 → (last : Bool)
-        → Puts (Err written.new) (shortest_frame last (ack_of delay (first_runs count runs.now) (counts_in counts.now))) dest.old dest.new }
+        → Puts (Err written.new) (shortest_frame last
+        (ack_of delay (first_runs count runs.now) (counts_in counts.now))) dest.old dest.new }
     ensures refused { (result ≡ negsuc 0) ↔ (DescribesSetAck delay runs.now count counts.now → ⊥) }
     ensures same { (result ≡ negsuc 0) → (written.new ≡ written.old) × (dest.new ≡ dest.old) }
 {

@@ -50,7 +50,8 @@ pub extern "C" fn quic_wire_set_remove_(
 ) -> i32
     ensures answers { (result ≡ pos 1) ⊎ (result ≡ pos 0) ⊎ (result ≡ negsuc 3) ⊎ (result ≡ negsuc 0) }
     ensures changed { result ≡ pos 1
-        → Becomes (in_difference (first_runs count.old runs.old) (span start end)) runs.old count.old runs.new count.new }
+        → Becomes (in_difference (first_runs count.old runs.old)
+        (span start end)) runs.old count.old runs.new count.new }
     ensures kept { result ≡ pos 0
         → Stays (in_difference (first_runs count.old runs.old) (span start end)) runs.old count.old }
     ensures room { result ≡ negsuc 3

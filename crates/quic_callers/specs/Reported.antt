@@ -12,10 +12,12 @@ use Rattle.quic_frame_fields.specs.declared.frame.fault.Fault.TheVariants.{Unexp
 abbrev pub IsReported : List ℕ → Error → Type 0
 IsReported payload error =
     ((payload ≡ []) × IsError error protocol_violation (codes "packet payload is empty"))
-    ⊎ ((found : List Found) × (type : Option ℕ) × (reason : Fault) × IsBroken false None found payload type reason × IsErrorOf type (reason_text reason) error)
+    ⊎ ((found : List Found) × (type : Option ℕ) × (reason : Fault) × IsBroken false None found payload type reason
+    × IsErrorOf type (reason_text reason) error)
 
 -- No error stands in the bytes that what follows couldn't mend: they are none, or frames, or frames and then
 -- something that is cut off.
 abbrev pub MayGoOn : List ℕ → Type 0
 MayGoOn front =
-    (front ≡ []) ⊎ ((found : List Found) × AreFrames false found front) ⊎ ((found : List Found) × (type : Option ℕ) × IsBroken false None found front type UnexpectedEnd)
+    (front ≡ []) ⊎ ((found : List Found) × AreFrames false found front)
+    ⊎ ((found : List Found) × (type : Option ℕ) × IsBroken false None found front type UnexpectedEnd)

@@ -66,8 +66,8 @@ fn datagram_of(alloc: Global, header: &Header, behind: &[u8]) -> Option<BytesMut
     Some(BytesMut::from_vec(out))
 }
 
-/// Writes a Retry's header and what follows it, and cuts the packet: its header is what was written, whatever follows, and
-/// only memory can be wanting. The caller must give one of the versions that are known.
+/// Writes a Retry's header and what follows it, and cuts the packet: its header is what was written, whatever follows,
+/// and only memory can be wanting. The caller must give one of the versions that are known.
 pub fn retry_read_back<C: ConnectionIdParser>(
     alloc: Global,
     ids: (ConnectionId, ConnectionId),

@@ -83,7 +83,8 @@ fn is_final(reason: &str) -> bool
 pub fn write_stream(stream: &Stream<'_>, last: bool, out: &mut Vec<u8>) -> Result<(), NoRoom>
     requires offset { stream.now.offset < 2 ^ 62 }
     requires counted { last ≡ false → length stream.now.bytes.now < 2 ^ 62 }
-    ensures { OnOk result (out.new.items ≡ out.old.items ++ shortest_frame last (meaning_of (frames.Stream stream.now))) }
+    ensures { OnOk result (out.new.items ≡ out.old.items
+        ++ shortest_frame last (meaning_of (frames.Stream stream.now))) }
 {
     stream_header_and_data();
     let end = stream.offset + stream.bytes.len() as u64;

@@ -12,7 +12,8 @@ use Rattle.quic_canon.specs.Least.{IsLeast, HasMeaning}
 abbrev pub IsRefused : List ℕ → CanonError → Type 0
 IsRefused payload Empty = payload ≡ []
 IsRefused payload (Invalid i) =
-    (found : List Found) × (type : Option ℕ) × (reason : Fault) × IsBroken false None found payload type reason × (invalid_of i ≡ invalid type reason)
+    (found : List Found) × (type : Option ℕ) × (reason : Fault) × IsBroken false None found payload type reason
+    × (invalid_of i ≡ invalid type reason)
 IsRefused payload OutOfMemory = (payload ≢ []) × (found : List Found) × AreFrames false found payload
 
 -- It is refused for what it is, and not for want of memory.

@@ -15,4 +15,5 @@ toy_seal number payload = payload ++ toy_tag number
 abbrev pub toy_open : ℕ → List ℕ → Option (List ℕ)
 toy_open number sealed =
     let at = length sealed - 16 in
-    if nat_le 16 (length sealed) && pointwise nat_eq (drop at sealed) (toy_tag number) then Some (take at sealed) else None
+    if nat_le 16 (length sealed) && pointwise nat_eq (drop at sealed) (toy_tag number) then Some (take at sealed)
+    else None

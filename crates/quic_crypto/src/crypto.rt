@@ -76,7 +76,8 @@ pub trait PacketKey {
     fn encrypt(&self, number: u64, packet: &mut [u8], header_len: usize)
         requires { header_len + tag_size self.now ≤ length packet.old }
         ensures { packet.new ≡ take header_len packet.old
-            ++ sealed self.now number (take header_len packet.old) (payload_in header_len (tag_size self.now) packet.old) };
+            ++ sealed self.now number (take header_len packet.old)
+            (payload_in header_len (tag_size self.now) packet.old) };
 
     /// Opens a sealed payload, which becomes the payload. Answers `CryptoError` exactly where it is none of
     /// this number, header and key; then the payload's bytes are open.
@@ -86,10 +87,12 @@ pub trait PacketKey {
             (λ _. opened self.now number header.now payload.old.items ≡ None) };
 
     // A sealed payload is longer by the tag.
-    ghost sealed_len: { (k : Self) (number : ℕ) (header payload : List ℕ) → number < 2 ^ 64 → AreBytes header → AreBytes payload
+    ghost sealed_len: { (k : Self) (number : ℕ) (header payload : List ℕ) → number < 2 ^ 64 → AreBytes header
+        → AreBytes payload
         → length (sealed k number header payload) ≡ length payload + tag_size k };
 
     // What was sealed with a number and a header opens with them.
-    ghost opens: { (k : Self) (number : ℕ) (header payload : List ℕ) → number < 2 ^ 64 → AreBytes header → AreBytes payload
+    ghost opens: { (k : Self) (number : ℕ) (header payload : List ℕ) → number < 2 ^ 64 → AreBytes header
+        → AreBytes payload
         → opened k number header (sealed k number header payload) ≡ Some payload };
 }

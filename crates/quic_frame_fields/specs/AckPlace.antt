@@ -13,7 +13,8 @@ pub record BlocksStand (type : ℕ) (ack : Ack) (bytes : List ℕ) : Type 0 wher
   pub head : List ℕ
   pub back : List ℕ
   pub parts : bytes ≡ head ++ ((parts_of ack).additional ++ back)
-  pub numbers : AreEncoded (type ∷ (parts_of ack).largest ∷ (parts_of ack).delay ∷ (length (ranges_acked ack) - 1) ∷ []) head
+  pub numbers : AreEncoded (type ∷ (parts_of ack).largest ∷ (parts_of ack).delay ∷ (length (ranges_acked ack) - 1)
+      ∷ []) head
 
 -- ---- as readers find them
 

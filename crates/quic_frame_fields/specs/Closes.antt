@@ -19,11 +19,13 @@ lossy_text bytes = encode_utf8_all (lossy_chars bytes)
 
 abbrev pub connection_close_text : ConnectionClose → List ℕ
 connection_close_text c =
-    if length c.reason.now == 0 then code_text c.error_code else code_text c.error_code ++ codes ": " ++ lossy_text c.reason.now
+    if length c.reason.now == 0 then code_text c.error_code
+    else code_text c.error_code ++ codes ": " ++ lossy_text c.reason.now
 
 abbrev pub application_close_text : ApplicationClose → List ℕ
 application_close_text c =
-    if length c.reason.now == 0 then decimal c.error_code else lossy_text c.reason.now ++ codes " (code " ++ decimal c.error_code ++ codes ")"
+    if length c.reason.now == 0 then decimal c.error_code
+    else lossy_text c.reason.now ++ codes " (code " ++ decimal c.error_code ++ codes ")"
 
 -- The close has the code, the frame and the reason of the error.
 pub record IsCloseOf (error : Error) (close : ConnectionClose) : Type 0 where

@@ -47,8 +47,8 @@ abbrev pub greatest_of : List Value → ℕ
 greatest_of (Number greatest ∷ values) = greatest
 greatest_of _ = 0
 
--- Bytes that encode ranges below a range with the least number low: for each the numbers between it and the range above,
--- less one, and its numbers, less one (RFC 9000, section 19.3.1).
+-- Bytes that encode ranges below a range with the least number low: for each the numbers between it and the range
+-- above, less one, and its numbers, less one (RFC 9000, section 19.3.1).
 abbrev pub AreBelow : ℕ → List (ℕ × ℕ) → List ℕ → Type 0
 AreBelow low [] bytes = bytes ≡ []
 AreBelow low (range ∷ ranges) bytes =
@@ -71,12 +71,15 @@ AreApart (range ∷ below ∷ ranges) = (range.0 ≤ range.1) × (below.1 + 2 �
 -- After fields with the values before, the bytes encode a field of this kind with these values.
 abbrev pub IsField : Field → List Value → List Value → List ℕ → Type 0
 IsField Varint before values bytes = (n : ℕ) × (values ≡ Number n ∷ []) × Encodes n bytes
-IsField Counted before values bytes = (front back : List ℕ) × (values ≡ Bytes back ∷ []) × Encodes (length back) front × (bytes ≡ front ++ back)
-IsField Id before values bytes = (back : List ℕ) × (values ≡ Bytes back ∷ []) × (0 < length back) × (length back ≤ 20) × (bytes ≡ length back ∷ back)
+IsField Counted before values bytes = (front back : List ℕ) × (values ≡ Bytes back ∷ []) × Encodes (length back) front
+    × (bytes ≡ front ++ back)
+IsField Id before values bytes = (back : List ℕ) × (values ≡ Bytes back ∷ []) × (0 < length back) × (length back ≤ 20)
+    × (bytes ≡ length back ∷ back)
 IsField Uint64 before values bytes = (n : ℕ) × (values ≡ Number n ∷ []) × IsNumber 8 n bytes
 IsField Bytes16 before values bytes = (values ≡ Bytes bytes ∷ []) × (length bytes ≡ 16)
 IsField Blocks before values bytes =
-    (front back : List ℕ) × (range : ℕ × ℕ) × (ranges : List (ℕ × ℕ)) × (values ≡ Ranges (range ∷ ranges) ∷ []) × (bytes ≡ front ++ back)
+    (front back : List ℕ) × (range : ℕ × ℕ) × (ranges : List (ℕ × ℕ)) × (values ≡ Ranges (range ∷ ranges) ∷ [])
+    × (bytes ≡ front ++ back)
     × Encodes (length ranges) front × AreBlocks (greatest_of before) (range ∷ ranges) back
 IsField Rest before values bytes = values ≡ Bytes bytes ∷ []
 IsField (Implied n) before values bytes = (values ≡ Number n ∷ []) × (bytes ≡ [])
@@ -103,15 +106,18 @@ abbrev pub BelowStops : ℕ → ℕ → List ℕ → Fault → Type 0
 BelowStops zero low bytes reason = ⊥
 BelowStops (suc count) low bytes reason =
     NumberStops bytes reason (λ gap. nat_lt low (gap + 2)) (λ gap rest.
-    NumberStops rest reason (λ block. nat_lt (low - (gap + 2)) block) (λ block others. BelowStops count (low - (gap + 2) - block) others reason))
+    NumberStops rest reason (λ block. nat_lt (low - (gap + 2)) block)
+    (λ block others. BelowStops count (low - (gap + 2) - block) others reason))
 
 -- the same, for a first block and so many ranges below it
 abbrev pub RangesStop : ℕ → ℕ → List ℕ → Fault → Type 0
 RangesStop count greatest bytes reason =
-    NumberStops bytes reason (λ block. nat_lt greatest block) (λ block others. BelowStops count (greatest - block) others reason)
+    NumberStops bytes reason (λ block. nat_lt greatest block)
+    (λ block others. BelowStops count (greatest - block) others reason)
 
 abbrev pub BlocksStop : ℕ → List ℕ → Fault → Type 0
-BlocksStop greatest bytes reason = NumberStops bytes reason (λ count. false) (λ count rest. RangesStop count greatest rest reason)
+BlocksStop greatest bytes reason = NumberStops bytes reason (λ count. false)
+    (λ count rest. RangesStop count greatest rest reason)
 
 -- why a field can't be read where it stands
 abbrev pub reason_of : Field → List ℕ → Fault
@@ -126,18 +132,21 @@ IsReason field before bytes reason = reason ≡ reason_of field bytes
 
 -- No front of the bytes encodes such a field.
 pub record Stops (field : Field) (before : List Value) (bytes : List ℕ) (reason : Fault) : Type 0 where
-  pub no_front : (values : List Value) (front back : List ℕ) → bytes ≡ front ++ back → IsField field before values front → ⊥
+  pub no_front : (values : List Value) (front back : List ℕ) → bytes ≡ front ++ back → IsField field before values front
+      → ⊥
   pub why : IsReason field before bytes reason
 
 -- The bytes encode fields of these kinds, one after the other, by which the values grow from before to after.
 abbrev pub AreFields : List Field → List Value → List Value → List ℕ → Type 0
 AreFields [] before after bytes = (after ≡ before) × (bytes ≡ [])
 AreFields (field ∷ fields) before after bytes =
-    (values : List Value) × (front back : List ℕ) × (bytes ≡ front ++ back) × IsField field before values front × AreFields fields (before ++ values) after back
+    (values : List Value) × (front back : List ℕ) × (bytes ≡ front ++ back) × IsField field before values front
+    × AreFields fields (before ++ values) after back
 
 -- The first fields are encoded, and the next one stops.
 abbrev pub StopsWithin : List Field → List Value → List ℕ → Fault → Type 0
 StopsWithin [] before bytes reason = ⊥
 StopsWithin (field ∷ fields) before bytes reason =
     Stops field before bytes reason
-    ⊎ ((values : List Value) × (front back : List ℕ) × (bytes ≡ front ++ back) × IsField field before values front × StopsWithin fields (before ++ values) back reason)
+    ⊎ ((values : List Value) × (front back : List ℕ) × (bytes ≡ front ++ back) × IsField field before values front
+    × StopsWithin fields (before ++ values) back reason)

@@ -31,7 +31,8 @@ counts_of (Some e) = Number e.ect0 ∷ Number e.ect1 ∷ Number e.ce ∷ []
 
 -- a close by its code, perhaps the type of a frame, and a reason
 abbrev pub connection_close : ℕ → Option ℕ → List ℕ → Meaning
-connection_close code ty reason = frame_of names.ConnectionClose (Number code ∷ Number (type_or_zero ty) ∷ Bytes reason ∷ [])
+connection_close code ty reason = frame_of names.ConnectionClose
+    (Number code ∷ Number (type_or_zero ty) ∷ Bytes reason ∷ [])
 
 abbrev pub application_close : ℕ → List ℕ → Meaning
 application_close code reason = frame_of names.ApplicationClose (Number code ∷ Bytes reason ∷ [])
@@ -59,14 +60,17 @@ abbrev pub stream_meaning : Stream → Meaning
 stream_meaning s = frame_of names.Stream (flag s.fin ∷ Number s.id ∷ Number s.offset ∷ Bytes s.bytes.now ∷ [])
 
 abbrev pub new_id_meaning : NewConnectionId → Meaning
-new_id_meaning n = frame_of names.NewConnectionId (Number n.sequence ∷ Number n.retire_prior_to ∷ Bytes n.id ∷ Bytes n.reset_token ∷ [])
+new_id_meaning n = frame_of names.NewConnectionId
+    (Number n.sequence ∷ Number n.retire_prior_to ∷ Bytes n.id ∷ Bytes n.reset_token ∷ [])
 
 abbrev pub datagram_meaning : Datagram → Meaning
 datagram_meaning d = frame_of names.Datagram (Bytes d.bytes.now ∷ [])
 
 abbrev pub frequency_meaning : AckFrequency → Meaning
 frequency_meaning f =
-    frame_of names.AckFrequency (Number f.sequence ∷ Number f.ack_eliciting_threshold ∷ Number f.request_max_ack_delay ∷ Number f.reordering_threshold ∷ [])
+    frame_of names.AckFrequency
+    (Number f.sequence ∷ Number f.ack_eliciting_threshold ∷ Number f.request_max_ack_delay
+    ∷ Number f.reordering_threshold ∷ [])
 
 -- the number of a direction's bit, as the first of values
 abbrev pub first_number : List Value → ℕ
@@ -83,7 +87,8 @@ named_type names.ResetStream values = 0x04
 named_type names.StopSending values = 0x05
 named_type names.Crypto values = 0x06
 named_type names.NewToken values = 0x07
-named_type names.Stream (Number fin ∷ id ∷ Number offset ∷ values) = 0x08 + (if offset == 0 then 0 else 4) + (if fin == 1 then 1 else 0)
+named_type names.Stream (Number fin ∷ id ∷ Number offset ∷ values) = 0x08 + (if offset == 0 then 0 else 4) +
+    (if fin == 1 then 1 else 0)
 named_type names.Stream values = 0x08
 named_type names.MaxData values = 0x10
 named_type names.MaxStreamData values = 0x11

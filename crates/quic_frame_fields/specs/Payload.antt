@@ -37,7 +37,8 @@ pub record IsFrame (strict : Bool) (found : Found) (bytes : List ℕ) : Type 0 w
 abbrev pub AreFrames : Bool → List Found → List ℕ → Type 0
 AreFrames strict [] bytes = bytes ≡ []
 AreFrames strict (found ∷ others) bytes =
-    (front back : List ℕ) × (bytes ≡ front ++ back) × IsFrame strict found front × (is_open found.type ≡ true → back ≡ []) × AreFrames strict others back
+    (front back : List ℕ) × (bytes ≡ front ++ back) × IsFrame strict found front
+    × (is_open found.type ≡ true → back ≡ []) × AreFrames strict others back
 
 -- the last type, if there is one
 abbrev pub last_type : Option ℕ → List Found → Option ℕ
@@ -76,7 +77,8 @@ HasUnknownType strict bytes t = BeginsWithType strict bytes t (λ back. row_of t
 
 -- or a field of the type's row can't be read.
 abbrev pub HasBrokenField : Bool → List ℕ → ℕ → Fault → Type 0
-HasBrokenField strict bytes t reason = BeginsWithType strict bytes t (λ back. (r : Row) × (row_of t ≡ Some r) × StopsWithin r.fields [] back reason)
+HasBrokenField strict bytes t reason = BeginsWithType strict bytes t
+    (λ back. (r : Row) × (row_of t ≡ Some r) × StopsWithin r.fields [] back reason)
 
 -- The type and the reason that are reported of what can't be read, where the last type before was the one given.
 abbrev pub IsNoFrame : Bool → Option ℕ → List ℕ → Option ℕ → Fault → Type 0
@@ -87,7 +89,8 @@ IsNoFrame strict before bytes type reason =
     ⊎ ((t : ℕ) × HasBrokenField strict bytes t reason × (type ≡ Some t))
 
 -- The bytes are these frames, and then something that isn't a frame.
-pub record IsBroken (strict : Bool) (before : Option ℕ) (found : List Found) (bytes : List ℕ) (type : Option ℕ) (reason : Fault) : Type 0 where
+pub record IsBroken (strict : Bool) (before : Option ℕ) (found : List Found) (bytes : List ℕ) (type : Option ℕ)
+    (reason : Fault) : Type 0 where
   pub front : List ℕ
   pub back : List ℕ
   pub parts : bytes ≡ front ++ back

@@ -28,7 +28,8 @@ pub record Shortens (encoded : List ℕ) (len : ℕ) : Type 0 where
 
 -- A beginning of what is held, the front of a chunk up to a place, was appended, and what is left of it stands at the
 -- front of the chunk, up to the answer; or there was less room than that.
-pub record Flushes {E : Type 0} (result : Result ℕ E) (at : ℕ) (chunk written : List ℕ) (spare : ℕ) (written' : List ℕ) (spare' : ℕ) : Type 0 where
+pub record Flushes {E : Type 0} (result : Result ℕ E) (at : ℕ) (chunk written : List ℕ) (spare : ℕ) (written' : List ℕ)
+    (spare' : ℕ) : Type 0 where
   pub begun : IsBegun written (take at chunk) written'
   pub left : IfOk result (λ n. take n chunk ≡ begun.left)
   pub full : OnErr result (spare < length (take at chunk))

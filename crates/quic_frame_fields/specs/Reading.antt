@@ -180,7 +180,8 @@ abbrev pub is_long_type : Bool → ℕ → ℕ → Bool
 is_long_type strict t width = strict && not (width == size t)
 
 abbrev pub at_type : Bool → Option ℕ → ℕ → Result (ℕ × List ℕ) Fault → Result (Found × List ℕ) Invalid
-at_type strict before total (Ok x) = if is_long_type strict x.0 (total - length x.1) then Err (invalid (Some x.0) LongType) else after_type x.0 (frame_at x.0 x.1)
+at_type strict before total (Ok x) = if is_long_type strict x.0 (total - length x.1)
+    then Err (invalid (Some x.0) LongType) else after_type x.0 (frame_at x.0 x.1)
 at_type strict before total (Err e) = Err (invalid before e)
 
 -- the frame at the front, where the last type before it is given
@@ -201,7 +202,8 @@ items_after others start total (Ok x) =
 unfoldable pub items_from : Bool → ℕ → ℕ → Option ℕ → List ℕ → List Item
 items_from strict zero start before bytes = []
 items_from strict (suc n) start before [] = []
-items_from strict (suc n) start before (b ∷ bs) = items_after (items_from strict n) start (length (b ∷ bs)) (found_at strict before (b ∷ bs))
+items_from strict (suc n) start before (b ∷ bs) = items_after (items_from strict n) start (length (b ∷ bs))
+    (found_at strict before (b ∷ bs))
 
 -- all items of bytes that begin at a place, where the last type before them is given
 unfoldable pub items_of : Bool → ℕ → Option ℕ → List ℕ → List Item

@@ -31,7 +31,8 @@ is_in (range ∷ ranges) n = (nat_le range.0 n && nat_le n range.1) || is_in ran
 
 -- an ACK of the set with these runs
 abbrev pub ack_of : ℕ → List (Range ℕ) → Option EcnCounts → Meaning
-ack_of delay runs counts = frame_of Ack (Number (greatest_in (ranges_in runs)) ∷ Number delay ∷ Ranges (ranges_in runs) ∷ counts_of counts)
+ack_of delay runs counts = frame_of Ack
+    (Number (greatest_in (ranges_in runs)) ∷ Number delay ∷ Ranges (ranges_in runs) ∷ counts_of counts)
 
 -- counts that have encodings
 abbrev pub AreCounts : Option EcnCounts → Type 0

@@ -13,7 +13,8 @@ use Rattle.quic_frame_fields.specs.declared.frame.close.Close.TheVariants as clo
 -- the blocks of ranges below one with the least number low, and of all ranges of an ACK behind their count
 abbrev pub shortest_below : ℕ → List (ℕ × ℕ) → List ℕ
 shortest_below low [] = []
-shortest_below low (range ∷ ranges) = short (low - (range.1 + 2)) ++ (short (range.1 - range.0) ++ shortest_below range.0 ranges)
+shortest_below low (range ∷ ranges) = short (low - (range.1 + 2))
+    ++ (short (range.1 - range.0) ++ shortest_below range.0 ranges)
 
 abbrev pub shortest_blocks : List (ℕ × ℕ) → List ℕ
 shortest_blocks [] = []
@@ -55,7 +56,8 @@ shortest_row (Some r) values = shortest_fields r.fields values
 
 -- a frame, the last of its payload or not
 unfoldable pub shortest_frame : Bool → Meaning → List ℕ
-shortest_frame last frame = let t = written_type last frame.name frame.values in short t ++ shortest_row (row_of t) frame.values
+shortest_frame last frame = let t = written_type last frame.name frame.values
+    in short t ++ shortest_row (row_of t) frame.values
 
 abbrev pub written_offset : ℕ → List ℕ
 written_offset offset = if offset == 0 then [] else short offset
@@ -63,15 +65,18 @@ written_offset offset = if offset == 0 then [] else short offset
 -- the bytes of a STREAM before its data: its type, its id, its offset where that isn't 0, and the length of the data
 -- where it is written
 abbrev pub stream_header : ℕ → ℕ → Bool → Option ℕ → List ℕ
-stream_header id offset fin None = short (named_type Stream (flag fin ∷ Number id ∷ Number offset ∷ [])) ++ (short id ++ written_offset offset)
-stream_header id offset fin (Some n) = short (named_type Stream (flag fin ∷ Number id ∷ Number offset ∷ []) + 2) ++ (short id ++ (written_offset offset ++ short n))
+stream_header id offset fin None = short (named_type Stream (flag fin ∷ Number id ∷ Number offset ∷ []))
+    ++ (short id ++ written_offset offset)
+stream_header id offset fin (Some n) = short (named_type Stream (flag fin ∷ Number id ∷ Number offset ∷ []) + 2)
+    ++ (short id ++ (written_offset offset ++ short n))
 
 -- ---- closes that are cut to their room
 
 -- the least room that a close asks for: its type, two bytes or the code's, the type of the frame, and the length of
 -- the whole reason
 abbrev pub least_room : Close → ℕ
-least_room (closes.Connection c) = 1 + max 2 (size c.error_code) + size (type_or_zero c.frame_type) + size (length c.reason.now)
+least_room (closes.Connection c) = 1 + max 2 (size c.error_code) + size (type_or_zero c.frame_type) + size
+    (length c.reason.now)
 least_room (closes.Application c) = 1 + max 2 (size c.error_code) + size (length c.reason.now)
 
 -- a close whose reason is cut to its first n bytes

@@ -23,16 +23,20 @@ HasItsBlocks frame bytes left = ⊤
 
 -- What the reader of a frame's fields returned of these bytes is what reading gives, no type is given as 0, and an
 -- ACK has its blocks as they stand.
-abbrev pub GivesFrame : {R : Type 0} → (R → List ℕ) → List ℕ → Result (Frame × R) Fault → Result (Meaning × List ℕ) Fault → Type 0
+abbrev pub GivesFrame : {R : Type 0} → (R → List ℕ) → List ℕ → Result (Frame × R) Fault
+    → Result (Meaning × List ℕ) Fault → Type 0
 GivesFrame left bytes result read =
-    Gives (λ x. (meaning_of x.0, left x.1)) result read × IfOk result (λ x. HasNoTypeZero x.0) × IfOk result (λ x. HasItsBlocks x.0 bytes (left x.1))
+    Gives (λ x. (meaning_of x.0, left x.1)) result read × IfOk result (λ x. HasNoTypeZero x.0)
+    × IfOk result (λ x. HasItsBlocks x.0 bytes (left x.1))
 
 -- The same of a frame whose type stands in front of its fields.
 abbrev pub HasItsBlocksBehind : ℕ → Frame → List ℕ → List ℕ → Type 0
-HasItsBlocksBehind type (frames.Ack a) bytes left = (behind : List ℕ) × (varint_at bytes ≡ Ok (type, behind)) × ReadsBlocks (parts_of a) behind left
+HasItsBlocksBehind type (frames.Ack a) bytes left = (behind : List ℕ) × (varint_at bytes ≡ Ok (type, behind))
+    × ReadsBlocks (parts_of a) behind left
 HasItsBlocksBehind type frame bytes left = ⊤
 
 -- The same of the frame at the front.
 abbrev pub GivesFound : List ℕ → Result FirstFrame InvalidFrame → Result (Found × List ℕ) Invalid → Type 0
-GivesFound bytes (Ok x) read = (read ≡ Ok (found_as x.ty x.frame, x.rest.now)) × HasNoTypeZero x.frame × HasItsBlocksBehind x.ty x.frame bytes x.rest.now
+GivesFound bytes (Ok x) read = (read ≡ Ok (found_as x.ty x.frame, x.rest.now)) × HasNoTypeZero x.frame
+    × HasItsBlocksBehind x.ty x.frame bytes x.rest.now
 GivesFound bytes (Err i) read = read ≡ Err (invalid_of i)

@@ -27,9 +27,11 @@ InRange (frames.MaxStreams dir count) = count < 2 ^ 62
 InRange (frames.DataBlocked offset) = offset < 2 ^ 62
 InRange (frames.StreamDataBlocked id offset) = offset < 2 ^ 62
 InRange (frames.StreamsBlocked dir limit) = limit < 2 ^ 62
-InRange (frames.NewConnectionId n) = AreNumeric (n.sequence ∷ n.retire_prior_to ∷ []) × (n.retire_prior_to ≤ n.sequence) × (0 < length n.id) × (length n.id ≤ 20)
+InRange (frames.NewConnectionId n) = AreNumeric (n.sequence ∷ n.retire_prior_to ∷ []) × (n.retire_prior_to ≤ n.sequence)
+    × (0 < length n.id) × (length n.id ≤ 20)
 InRange (frames.RetireConnectionId sequence) = sequence < 2 ^ 62
-InRange (frames.Close (closes.Connection c)) = HasNoTypeZero (frames.Close (closes.Connection c)) × (length c.reason.now < 2 ^ 62)
+InRange (frames.Close (closes.Connection c)) = HasNoTypeZero (frames.Close (closes.Connection c))
+    × (length c.reason.now < 2 ^ 62)
 InRange (frames.Close (closes.Application c)) = length c.reason.now < 2 ^ 62
 InRange frame = ⊤
 
@@ -47,7 +49,8 @@ IsTyped (frames.PathChallenge n) = n < 2 ^ 64
 IsTyped (frames.PathResponse n) = n < 2 ^ 64
 IsTyped (frames.Close (closes.Connection c)) = AreNumeric (c.error_code ∷ type_or_zero c.frame_type ∷ [])
 IsTyped (frames.Close (closes.Application c)) = c.error_code < 2 ^ 62
-IsTyped (frames.AckFrequency f) = AreNumeric (f.sequence ∷ f.ack_eliciting_threshold ∷ f.request_max_ack_delay ∷ f.reordering_threshold ∷ [])
+IsTyped (frames.AckFrequency f) = AreNumeric
+    (f.sequence ∷ f.ack_eliciting_threshold ∷ f.request_max_ack_delay ∷ f.reordering_threshold ∷ [])
 IsTyped frame = ⊤
 
 abbrev pub AreTyped : List Frame → Type 0

@@ -23,11 +23,13 @@ whole p = Whole p.start p.stop p.found
 abbrev pub ArePlaced : Bool → ℕ → List Placed → List ℕ → Type 0
 ArePlaced strict start [] bytes = bytes ≡ []
 ArePlaced strict start (p ∷ ps) bytes =
-    (front back : List ℕ) × (bytes ≡ front ++ back) × IsFrame strict p.found front × (is_open p.found.type ≡ true → back ≡ [])
+    (front back : List ℕ) × (bytes ≡ front ++ back) × IsFrame strict p.found front
+    × (is_open p.found.type ≡ true → back ≡ [])
     × (p.start ≡ start) × (p.stop ≡ start + length front) × ArePlaced strict p.stop ps back
 
 -- The bytes are these frames, and then something that isn't a frame.
-pub record IsPlacedBroken (strict : Bool) (ps : List Placed) (bytes : List ℕ) (type : Option ℕ) (reason : Fault) : Type 0 where
+pub record IsPlacedBroken (strict : Bool) (ps : List Placed) (bytes : List ℕ) (type : Option ℕ)
+    (reason : Fault) : Type 0 where
   pub front : List ℕ
   pub back : List ℕ
   pub parts : bytes ≡ front ++ back

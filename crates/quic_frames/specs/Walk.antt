@@ -18,7 +18,8 @@ invalid_of i = record { type = i.ty; reason = i.reason.now }
 
 -- the items that are left
 abbrev pub left : IterState → List Item
-left state = if state.is_broken then [] else items_of state.strict state.offset state.last (drop state.offset state.payload)
+left state = if state.is_broken then []
+    else items_of state.strict state.offset state.last (drop state.offset state.payload)
 
 -- at the front of a payload
 abbrev pub first_of : Bool → List ℕ → IterState
@@ -26,7 +27,8 @@ first_of strict payload = record { strict = strict; payload = payload; offset = 
 
 -- at a later place, behind a frame of this type
 abbrev pub resumed : List ℕ → ℕ → Option ℕ → Bool → IterState
-resumed payload offset last strict = record { strict = strict; payload = payload; offset = offset; last = last; is_broken = false }
+resumed payload offset last strict = record
+    { strict = strict; payload = payload; offset = offset; last = last; is_broken = false }
 
 -- an item without its place
 abbrev pub unplaced : Item → Result Found Invalid
@@ -38,7 +40,8 @@ given found = Ok found
 
 -- It still gives just the frames that the payload is,
 abbrev pub GivesFrames : Bool → List ℕ → IterState → Type 0
-GivesFrames strict payload state = (found : List Found) → AreFrames strict found payload → map unplaced (left state) ≡ map given found
+GivesFrames strict payload state = (found : List Found) → AreFrames strict found payload
+    → map unplaced (left state) ≡ map given found
 
 -- or those before what is none, and then what is reported of that.
 abbrev pub GivesBroken : Bool → List ℕ → IterState → Type 0
@@ -60,7 +63,8 @@ pub record Stands (strict : Bool) (payload : List ℕ) (start stop : ℕ) (found
   pub some : start < stop
   pub within : stop ≤ length payload
   pub encoded : IsFrame strict found (slice_range payload start stop)
-  pub borrowed : (bytes : List ℕ) → last_bytes None found.frame.values ≡ Some bytes → slice_range payload (stop - length bytes) stop ≡ bytes
+  pub borrowed : (bytes : List ℕ) → last_bytes None found.frame.values ≡ Some bytes
+      → slice_range payload (stop - length bytes) stop ≡ bytes
 
 -- The bytes of an ACK's blocks are those that stand in the bytes of its frame, which has this type.
 abbrev pub StandsAsRead : ℕ → Frame → List ℕ → Type 0

@@ -10,4 +10,5 @@ pub record IsPayload (frames : List Frame) (payload : List ℕ) : Type 0 where
   pub found : List Found
   pub encoded : AreFrames false found payload
   pub means : map frame_in found ≡ map meaning_of frames
-  pub least : (others : List Found) (bytes : List ℕ) → AreFrames false others bytes → map frame_in others ≡ map meaning_of frames → AreOrExceed bytes payload
+  pub least : (others : List Found) (bytes : List ℕ) → AreFrames false others bytes
+      → map frame_in others ≡ map meaning_of frames → AreOrExceed bytes payload

@@ -169,5 +169,6 @@ pub fn stream_header_and_data()
 pub fn retire_connection_id_is_bounded()
     ensures value { RETIRE_CONNECTION_ID_SIZE_BOUND ≡ 9 }
     ensures bounds { (last : Bool) (sequence : ℕ)
-        → length (shortest_frame last (meaning_of (frames.RetireConnectionId sequence))) ≤ RETIRE_CONNECTION_ID_SIZE_BOUND }
+        → length (shortest_frame last
+        (meaning_of (frames.RetireConnectionId sequence))) ≤ RETIRE_CONNECTION_ID_SIZE_BOUND }
 {}

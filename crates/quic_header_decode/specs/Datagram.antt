@@ -16,17 +16,22 @@ pub record Placed : Type 0 where
 pub data ArePackets (context : Context) : ℕ → List ℕ → List Placed → Option Refusal → Type 0 where
   last : (start : ℕ) (bytes : List ℕ) (h : ProtectedHeader) (p : ℕ) → Cut context bytes h p (length bytes)
       → ArePackets context start bytes (record { start = start; stop = start + length bytes; header = h } ∷ []) None
-  more : (start : ℕ) (bytes : List ℕ) (h : ProtectedHeader) (p q : ℕ) (others : List Placed) (refusal : Option Refusal) → Cut context bytes h p q → q < length bytes
+  more : (start : ℕ) (bytes : List ℕ) (h : ProtectedHeader) (p q : ℕ) (others : List Placed) (refusal : Option Refusal)
+      → Cut context bytes h p q → q < length bytes
       → ArePackets context (start + q) (drop q bytes) others refusal
       → ArePackets context start bytes (record { start = start; stop = start + q; header = h } ∷ others) refusal
-  refused : (start : ℕ) (bytes : List ℕ) (e : Refusal) → Uncut context bytes e → ArePackets context start bytes [] (Some e)
+  refused : (start : ℕ) (bytes : List ℕ) (e : Refusal) → Uncut context bytes e
+      → ArePackets context start bytes [] (Some e)
 
 -- The same, step by step: what was cut first goes before what comes of the rest.
-abbrev pub and_then : (ℕ → List ℕ → List Placed × Option Refusal) → ℕ → List ℕ → Result (ProtectedHeader × ℕ × ℕ) Refusal → List Placed × Option Refusal
+abbrev pub and_then : (ℕ → List ℕ → List Placed × Option Refusal) → ℕ → List ℕ
+    → Result (ProtectedHeader × ℕ × ℕ) Refusal → List Placed × Option Refusal
 and_then others start bytes (Err e) = ([], Some e)
 and_then others start bytes (Ok cut) =
     let first : Placed = record { start = start; stop = start + cut.2; header = cut.0 } in
-    if nat_lt cut.2 (length bytes) then (first ∷ (others (start + cut.2) (drop cut.2 bytes)).0, (others (start + cut.2) (drop cut.2 bytes)).1) else (first ∷ [], None)
+    if nat_lt cut.2 (length bytes) then
+    (first ∷ (others (start + cut.2) (drop cut.2 bytes)).0, (others (start + cut.2) (drop cut.2 bytes)).1)
+    else (first ∷ [], None)
 
 -- at most so many packets
 unfoldable pub packets_from : Context → ℕ → ℕ → List ℕ → List Placed × Option Refusal

@@ -19,9 +19,11 @@ is_protected (head.VersionNegotiate random dst src) = false
 -- what a header says once its number is known, in an open packet
 abbrev pub with_number : ProtectedHeader → PacketNumber → List ℕ → Header → Type 0
 with_number (head.Initial h) number packet got =
-    got ≡ header.Initial (record { dst_cid = h.dst_cid; src_cid = h.src_cid; token = slice_range packet h.token_pos.start h.token_pos.end; number = number; version = h.version })
+    got ≡ header.Initial (record
+    { dst_cid = h.dst_cid; src_cid = h.src_cid; token = slice_range packet h.token_pos.start h.token_pos.end; number = number; version = h.version })
 with_number (head.Long ty dst src len version) number packet got = got ≡ header.Long ty dst src number version
-with_number (head.Short spin dst) number packet got = got ≡ header.Short spin (nat_eq (slice_index packet 0 / 4 % 2) 1) dst number
+with_number (head.Short spin dst) number packet got = got
+    ≡ header.Short spin (nat_eq (slice_index packet 0 / 4 % 2) 1) dst number
 with_number (head.Retry dst src version) number packet got = ⊥
 with_number (head.VersionNegotiate random dst src) number packet got = ⊥
 
@@ -36,7 +38,8 @@ without_number (head.Short spin dst) got = ⊥
 -- the header of an open packet, which ends behind the number where it has one
 abbrev pub IsOpenedBy : Bool → ProtectedHeader → ℕ → Header → List ℕ → ℕ → Type 0
 IsOpenedBy true h at header packet end =
-    (number : PacketNumber) × IsNumberIn number at packet × with_number h number packet header × (end ≡ at + number_size number)
+    (number : PacketNumber) × IsNumberIn number at packet × with_number h number packet header
+    × (end ≡ at + number_size number)
 IsOpenedBy false h at header packet end = without_number h header × (end ≡ at)
 
 -- the header of an open packet: with a number where it was protected

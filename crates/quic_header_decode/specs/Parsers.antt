@@ -6,12 +6,16 @@ use Rattle.quic_header_decode.specs.Refusal.{Refusal, Invalid, NoMemory}
 
 -- that many bytes
 abbrev pub fixed_parsed : ℕ → List ℕ → Result (List ℕ × ℕ) Refusal
-fixed_parsed len bytes = if nat_lt (length bytes) len then Err (Invalid (codes "packet too small")) else Ok (take len bytes, len)
+fixed_parsed len bytes = if nat_lt (length bytes) len then Err (Invalid (codes "packet too small"))
+    else Ok (take len bytes, len)
 
 fixed_cases : (b : Bool) (len : ℕ) (bytes text : List ℕ) → (b ≡ false → len ≤ length bytes)
-    → MatchResult (cond {A = Result (List ℕ × ℕ) Refusal} b (Err (Invalid text)) (Ok (take len bytes, len))) (λ x. x.1 ≤ length bytes) (λ e. e ≢ NoMemory)
+    → MatchResult (cond {A = Result (List ℕ × ℕ) Refusal} b (Err (Invalid text)) (Ok (take len bytes, len)))
+    (λ x. x.1 ≤ length bytes) (λ e. e ≢ NoMemory)
 fixed_cases true len bytes text h = λ e. cc
 fixed_cases false len bytes text h = h refl
 
-pub fixed_lawful : (len : ℕ) (bytes : List ℕ) → MatchResult (fixed_parsed len bytes) (λ x. x.1 ≤ length bytes) (λ e. e ≢ NoMemory)
-fixed_lawful len bytes = fixed_cases (nat_lt (length bytes) len) len bytes (codes "packet too small") (λ e. grind (arith, nat_tests))
+pub fixed_lawful : (len : ℕ) (bytes : List ℕ)
+    → MatchResult (fixed_parsed len bytes) (λ x. x.1 ≤ length bytes) (λ e. e ≢ NoMemory)
+fixed_lawful len bytes = fixed_cases (nat_lt (length bytes) len) len bytes (codes "packet too small")
+    (λ e. grind (arith, nat_tests))

@@ -47,7 +47,14 @@ src_part bytes x = slice_range bytes (6 + x.dst_len + 1) (6 + x.dst_len + 1 + x.
 -- the header of a kind, with the fields that it has of these
 abbrev pub header_by : HeaderKind → ℕ → List ℕ → List ℕ → Place → ℕ → ℕ → ProtectedHeader
 header_by kind.Initial first dst src token len version =
-    head.Initial (record { dst_cid = dst; src_cid = src; token_pos = record { start = token.start; end = token.end }; len = len; version = version })
+    head.Initial (record {
+      dst_cid = dst;
+      src_cid = src;
+      token_pos = record
+          { start = token.start; end = token.end };
+      len = len;
+      version = version;
+    })
 header_by kind.ZeroRtt first dst src token len version = head.Long ZeroRtt dst src len version
 header_by kind.Handshake first dst src token len version = head.Long Handshake dst src len version
 header_by kind.Retry first dst src token len version = head.Retry dst src version
@@ -61,7 +68,8 @@ header_in bytes x = header_by x.kind x.first (dst_part bytes x) (src_part bytes 
 -- the refusal that an error is in these bytes
 abbrev pub refusal_in : List ℕ → ReadError → Refusal
 refusal_in bytes (error.UnsupportedVersion version dst_len src_len) =
-    Unsupported (slice_range bytes (6 + dst_len + 1) (6 + dst_len + 1 + src_len)) (slice_range bytes 6 (6 + dst_len)) version
+    Unsupported (slice_range bytes (6 + dst_len + 1) (6 + dst_len + 1 + src_len))
+    (slice_range bytes 6 (6 + dst_len)) version
 refusal_in bytes error.UnexpectedEnd = Invalid (codes "unexpected end of packet")
 refusal_in bytes error.SmallPacket = Invalid (codes "packet too small")
 refusal_in bytes error.MalformedCid = Invalid (codes "malformed cid")
@@ -85,7 +93,8 @@ ArePlaces kind.Initial x = (ids_end x < x.token.start) × (x.token.start ≤ x.t
 ArePlaces kind.ZeroRtt x = (ids_end x < x.header_end) × IsNowhere x.token
 ArePlaces kind.Handshake x = (ids_end x < x.header_end) × IsNowhere x.token
 ArePlaces kind.Retry x = (ids_end x ≡ x.header_end) × IsNowhere x.token × (x.len ≡ 0)
-ArePlaces kind.Short x = (1 + x.dst_len ≡ x.header_end) × (x.src_len ≡ 0) × IsNowhere x.token × (x.len ≡ 0) × (x.version ≡ 0)
+ArePlaces kind.Short x = (1 + x.dst_len ≡ x.header_end) × (x.src_len ≡ 0) × IsNowhere x.token × (x.len ≡ 0)
+    × (x.version ≡ 0)
 ArePlaces kind.VersionNegotiate x = (ids_end x ≡ x.header_end) × IsNowhere x.token × (x.len ≡ 0) × (x.version ≡ 0)
 
 -- The fields stand in the header, and the header in as many bytes.
@@ -111,7 +120,8 @@ pub record IsFront (x : HeaderPlaces) (whole : ℕ) : Type 0 where
 -- the ids of an unknown version stand in as many bytes
 abbrev pub IsSeen : Result HeaderPlaces ReadError → ℕ → Type 0
 IsSeen (Ok x) whole = IsPlaced x whole
-IsSeen (Err (error.UnsupportedVersion version dst_len src_len)) whole = (dst_len ≤ 255) × (src_len ≤ 255) × (6 + dst_len + 1 + src_len ≤ whole)
+IsSeen (Err (error.UnsupportedVersion version dst_len src_len)) whole = (dst_len ≤ 255) × (src_len ≤ 255)
+    × (6 + dst_len + 1 + src_len ≤ whole)
 IsSeen (Err error.UnexpectedEnd) whole = Unit {0}
 IsSeen (Err error.SmallPacket) whole = Unit {0}
 IsSeen (Err error.MalformedCid) whole = Unit {0}
@@ -120,14 +130,17 @@ IsSeen (Err error.TokenOutOfBounds) whole = Unit {0}
 -- where a packet ends in so many bytes
 abbrev pub ends_at : HeaderPlaces → ℕ → Option ℕ
 ends_at x whole =
-    if carries_length x.kind then (if nat_lt whole (x.header_end + x.len) then None else Some (x.header_end + x.len)) else Some whole
+    if carries_length x.kind then (if nat_lt whole (x.header_end + x.len) then None else Some (x.header_end + x.len))
+    else Some whole
 
 -- ---- which bytes these are
 
--- The bytes begin with a long header of any version, up to its ids (RFC 8999, section 5.1), and rest is left behind them.
+-- The bytes begin with a long header of any version, up to its ids (RFC 8999, section 5.1), and rest is left behind
+-- them.
 abbrev pub AnyVersion : List ℕ → ℕ → List ℕ → List ℕ → List ℕ → Type 0
 AnyVersion bytes version dst src rest =
-    (first : ℕ) × (number : List ℕ) × (bytes ≡ first ∷ (number ++ (long_id dst ++ (long_id src ++ rest)))) × (is_long first ≡ true) × IsNumber 4 version number
+    (first : ℕ) × (number : List ℕ) × (bytes ≡ first ∷ (number ++ (long_id dst ++ (long_id src ++ rest))))
+    × (is_long first ≡ true) × IsNumber 4 version number
 
 -- They do, and the version is none that is known.
 abbrev pub IsUnknown : Context → List ℕ → ℕ → List ℕ → List ℕ → Type 0
@@ -138,12 +151,13 @@ IsUnknown context bytes version dst src =
 abbrev pub any_fixed : ℕ → List ℕ → Context
 any_fixed id_len versions = record { parsed = fixed_parsed id_len; versions = versions; grease = true }
 
--- A header and what is left behind it, or a refusal, is what the bytes begin with. A long header of an unknown version is
--- reported by its ids also where they are longer than those of the versions that are known.
+-- A header and what is left behind it, or a refusal, is what the bytes begin with. A long header of an unknown version
+-- is reported by its ids also where they are longer than those of the versions that are known.
 abbrev pub ReadAnswer : Context → List ℕ → Result (ProtectedHeader × List ℕ) Refusal → Type 0
 ReadAnswer context bytes (Ok found) = HeaderAt context (length bytes) bytes found.0 found.1
 ReadAnswer context bytes (Err (Unsupported src dst version)) = IsUnknown context bytes version dst src
 ReadAnswer context bytes (Err (Invalid text)) =
-    Refused context bytes (Invalid text) × ((version : ℕ) (dst src : List ℕ) → IsUnknown context bytes version dst src → ⊥)
+    Refused context bytes (Invalid text)
+    × ((version : ℕ) (dst src : List ℕ) → IsUnknown context bytes version dst src → ⊥)
 ReadAnswer context bytes (Err NoMemory) =
     Refused context bytes NoMemory × ((version : ℕ) (dst src : List ℕ) → IsUnknown context bytes version dst src → ⊥)

@@ -18,7 +18,8 @@ abbrev pub ◌>>=◌ : {A B : Type 0} → Result A Refusal → (A → Result B R
 (Ok x) >>= f = f x
 (Err e) >>= f = Err e
 
--- what headers are read by: the ids of short headers, the versions that are known, and whether the fixed bit may be clear
+-- what headers are read by: the ids of short headers, the versions that are known, and whether the fixed bit may be
+-- clear
 pub record Context : Type 0 where
   pub parsed : List ℕ → Result (List ℕ × ℕ) Refusal
   pub versions : List ℕ
@@ -41,9 +42,20 @@ typed_at (kind.Standard ty) whole dst src version bytes = do
   Ok (head.Long ty dst src len.0 version, len.1)
 typed_at kind.Initial whole dst src version bytes = do
   token ← ok_or (number_at bytes) at_end
-  if nat_lt (length token.1) token.0 then Err (Invalid (codes "token out of bounds")) else (ok_or (number_at (drop token.0 token.1)) at_end >>= λ len.
+  if nat_lt (length token.1) token.0 then Err (Invalid (codes "token out of bounds"))
+      else (ok_or (number_at (drop token.0 token.1)) at_end >>= λ len.
       let start = whole - length token.1 in
-      Ok (head.Initial (record { dst_cid = dst; src_cid = src; token_pos = record { start = start; end = start + token.0 }; len = len.0; version = version }), len.1))
+      Ok (
+        head.Initial (record {
+          dst_cid = dst;
+          src_cid = src;
+          token_pos = record
+              { start = start; end = start + token.0 };
+          len = len.0;
+          version = version;
+        }),
+        len.1,
+      ))
 
 unfoldable pub long_at : List ℕ → ℕ → ℕ → List ℕ → Result (ProtectedHeader × List ℕ) Refusal
 long_at versions whole first bytes = do
@@ -60,7 +72,8 @@ wide_at versions whole first bytes = do
   version ← ok_or (word_at bytes) at_end
   dst ← ok_or (wide_id_at version.1) bad_id
   src ← ok_or (wide_id_at dst.1) bad_id
-  if not (nat_eq version.0 0) && not (list_any (λ known. nat_eq known version.0) versions) then Err (Unsupported src.0 dst.0 version.0)
+  if not (nat_eq version.0 0) && not (list_any (λ known. nat_eq known version.0) versions)
+      then Err (Unsupported src.0 dst.0 version.0)
       else (if nat_lt 20 (length dst.0) || nat_lt 20 (length src.0) then Err bad_id
       else (if nat_eq version.0 0 then Ok (head.VersionNegotiate (first - 128) dst.0 src.0, src.1)
       else typed_at (long_type version.0 first) whole dst.0 src.0 version.0 src.1))
@@ -96,7 +109,8 @@ cut_at context bytes = do
   read ← header_at context (length bytes) bytes
   let len = unwrap_or (len_in read.0) (length read.1) in
       let place = length bytes - length read.1 in
-      if nat_lt (length read.1) len then Err (Invalid (codes "packet too short to contain payload length")) else Ok (read.0, place, place + len)
+      if nat_lt (length read.1) len then Err (Invalid (codes "packet too short to contain payload length"))
+      else Ok (read.0, place, place + len)
 
 -- what follows a packet, if anything does
 abbrev pub IsRest : Option Filled → List ℕ → Type 0

@@ -50,14 +50,16 @@ impl PartialDecode {
         versions: &[u32],
         grease: bool,
     ) -> Result<(Self, Option<BytesMut>), PacketDecodeError>
-        ensures answer { Answers (CutAnswer (record { parsed = P.parsed parser.now; versions = versions.now; grease = grease }) bytes.items)
+        ensures answer { Answers (CutAnswer
+            (record { parsed = P.parsed parser.now; versions = versions.now; grease = grease }) bytes.items)
             (λ answer. Gives (λ x. (x.0.head, x.0.header_end, length x.0.bytes)) result answer) }
         ensures packet { IfOk result (λ x. x.0.bytes ≡ take (length x.0.bytes) bytes.items) }
         ensures rest { IfOk result (λ x. IsRest x.1 (drop (length x.0.bytes) bytes.items)) }
         ensures shorter { IfOk result (λ x. IfSome x.1 (λ rest. length rest.items < length bytes.items)) }
         ensures memory { IsErrOf result PacketDecodeError.OutOfMemory → IsTrue (P.takes_memory parser.now)
             ⊎ ((h : ProtectedHeader) × (p : ℕ) × (q : ℕ)
-            × Cut (record { parsed = P.parsed parser.now; versions = versions.now; grease = grease }) bytes.items h p q × (q < length bytes.items)) }
+            × Cut (record { parsed = P.parsed parser.now; versions = versions.now; grease = grease }) bytes.items h p q
+            × (q < length bytes.items)) }
     {
         are_bytes(bytes.as_slice());
         Self::cut(bytes, parser, versions, grease)
@@ -76,7 +78,9 @@ impl PartialDecode {
         ensures packet { IfOk result (λ x. x.0.bytes ≡ take (length x.0.bytes) bytes.items) }
         ensures rest { IfOk result (λ x. IsRest x.1 (drop (length x.0.bytes) bytes.items)) }
         ensures memory { IsErrOf result PacketDecodeError.OutOfMemory → IsTrue (P.takes_memory parser.now)
-            ⊎ MatchResult (cut_at (record { parsed = P.parsed parser.now; versions = versions.now; grease = grease }) bytes.items) (λ x. x.2 < length bytes.items) (λ _. ⊥) }
+            ⊎ MatchResult (cut_at (record
+            { parsed = P.parsed parser.now; versions = versions.now; grease = grease }) bytes.items)
+            (λ x. x.2 < length bytes.items) (λ _. ⊥) }
     {
         let mut buf = Cursor::new(bytes);
         let read = ProtectedHeader::decode_header(&mut buf, parser, versions, grease);

@@ -22,7 +22,9 @@ impl PartialDecode {
     /// stands. The caller must give a key for the others, which are those with a `space()`.
     pub fn finish<H: HeaderKey>(self, key: Option<&H>) -> Result<Packet, PacketDecodeError>
         requires { IsTrue (is_protected self.head) → IsSome key }
-        ensures opened { IfOk result (λ packet. IsOpened self.head self.header_end packet.header (packet.header_data ++ packet.payload.items) (length packet.header_data)) }
+        ensures opened { IfOk result
+            (λ packet. IsOpened self.head self.header_end packet.header (packet.header_data ++ packet.payload.items)
+            (length packet.header_data)) }
         ensures plain { IfOk result (λ packet. is_protected self.head ≡ false
             → packet.header_data ++ packet.payload.items ≡ self.bytes) }
         ensures unprotected { IfOk result (λ packet. IfSome key.entry (λ k. IsTrue (is_protected self.head)
@@ -56,10 +58,14 @@ impl PartialDecode {
     // Takes the protection off the header of a packet that has one.
     fn finish_protected<H: HeaderKey>(self, key: &H) -> Result<Packet, PacketDecodeError>
         requires { IsTrue (is_protected self.head) }
-        ensures opened { IfOk result (λ packet. IsOpenedBy true self.head self.header_end packet.header (packet.header_data ++ packet.payload.items) (length packet.header_data)) }
-        ensures unprotected { IfOk result (λ packet. packet.header_data ++ packet.payload.items ≡ H.unprotected key.now self.header_end self.bytes) }
+        ensures opened { IfOk result
+            (λ packet. IsOpenedBy true self.head self.header_end packet.header
+            (packet.header_data ++ packet.payload.items) (length packet.header_data)) }
+        ensures unprotected { IfOk result
+            (λ packet. packet.header_data ++ packet.payload.items ≡ H.unprotected key.now self.header_end self.bytes) }
         ensures sample { IfOk result (λ _. HasSample (H.sample_len key.now) self.header_end self.bytes) }
-        ensures refused { IfErr result (λ e. IsUnfinished (HasSample (H.sample_len key.now) self.header_end self.bytes) (refusal_of e)) }
+        ensures refused { IfErr result
+            (λ e. IsUnfinished (HasSample (H.sample_len key.now) self.header_end self.bytes) (refusal_of e)) }
     {
         let PartialDecode {
             plain_header,
@@ -110,7 +116,9 @@ impl PartialDecode {
     // Gives a packet without protection as it stands.
     fn finish_plain(self) -> Result<Packet, PacketDecodeError>
         requires { is_protected self.head ≡ false }
-        ensures opened { IfOk result (λ packet. IsOpenedBy false self.head self.header_end packet.header (packet.header_data ++ packet.payload.items) (length packet.header_data)) }
+        ensures opened { IfOk result
+            (λ packet. IsOpenedBy false self.head self.header_end packet.header
+            (packet.header_data ++ packet.payload.items) (length packet.header_data)) }
         ensures plain { IfOk result (λ packet. packet.header_data ++ packet.payload.items ≡ self.bytes) }
         ensures refused { IfErr result (λ e. refusal_of e ≡ NoMemory) }
     {

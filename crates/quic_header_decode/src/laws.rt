@@ -69,10 +69,12 @@ pub fn ends()
 /// A header that was read as places begins the packet that `packet_end` says, or one that is cut off.
 pub fn places_cut()
     ensures whole { (context : Context) (bytes : List ℕ) (x : HeaderPlaces) (q : ℕ)
-        → HeaderAt context (length bytes) bytes (header_in bytes x) (drop x.header_end bytes) → x.header_end ≤ length bytes
+        → HeaderAt context (length bytes) bytes (header_in bytes x) (drop x.header_end bytes)
+        → x.header_end ≤ length bytes
         → ends_at x (length bytes) ≡ Some q → Cut context bytes (header_in bytes x) x.header_end q }
     ensures cut_off { (context : Context) (bytes : List ℕ) (x : HeaderPlaces)
-        → HeaderAt context (length bytes) bytes (header_in bytes x) (drop x.header_end bytes) → x.header_end ≤ length bytes
+        → HeaderAt context (length bytes) bytes (header_in bytes x) (drop x.header_end bytes)
+        → x.header_end ≤ length bytes
         → ends_at x (length bytes) ≡ None
         → Uncut context bytes (Invalid (codes "packet too short to contain payload length")) }
 {}
@@ -85,21 +87,33 @@ pub fn written()
         → length h.token < 2 ^ 62 → Encodes n len
         → start + length h.token + length (len ++ (number_bytes h.number ++ rest)) ≡ whole
         → HeaderAt context whole (header_with len (Header.Initial h) ++ rest)
-        (ProtectedHeader.Initial (record { dst_cid = h.dst_cid; src_cid = h.src_cid; token_pos = record { start = start; end = start + length h.token }; len = n; version = h.version }))
+        (ProtectedHeader.Initial (record {
+          dst_cid = h.dst_cid;
+          src_cid = h.src_cid;
+          token_pos = record
+              { start = start; end = start + length h.token };
+          len = n;
+          version = h.version;
+        }))
         (number_bytes h.number ++ rest) }
-    ensures long { (context : Context) (whole n version : ℕ) (ty : LongType) (dst src len rest : List ℕ) (number : PacketNumber)
+    ensures long { (context : Context) (whole n version : ℕ) (ty : LongType) (dst src len rest : List ℕ)
+        (number : PacketNumber)
         → version < 2 ^ 32 → IsKnown context version → length dst ≤ 20 → length src ≤ 20 → Encodes n len
-        → HeaderAt context whole (header_with len (Header.Long ty dst src number version) ++ rest) (ProtectedHeader.Long ty dst src n version) (number_bytes number ++ rest) }
+        → HeaderAt context whole (header_with len (Header.Long ty dst src number version) ++ rest)
+        (ProtectedHeader.Long ty dst src n version) (number_bytes number ++ rest) }
     ensures retry { (context : Context) (whole version : ℕ) (dst src rest : List ℕ) → version < 2 ^ 32
         → IsKnown context version → length dst ≤ 20 → length src ≤ 20
-        → HeaderAt context whole (header_bytes (Header.Retry dst src version) ++ rest) (ProtectedHeader.Retry dst src version) rest }
+        → HeaderAt context whole (header_bytes (Header.Retry dst src version) ++ rest)
+        (ProtectedHeader.Retry dst src version) rest }
     ensures short { (context : Context) (whole : ℕ) (spin key_phase : Bool) (dst rest : List ℕ) (number : PacketNumber)
         → context.parsed (dst ++ (number_bytes number ++ rest)) ≡ Ok (dst, length dst)
-        → HeaderAt context whole (header_bytes (Header.Short spin key_phase dst number) ++ rest) (ProtectedHeader.Short spin dst) (number_bytes number ++ rest) }
+        → HeaderAt context whole (header_bytes (Header.Short spin key_phase dst number) ++ rest)
+        (ProtectedHeader.Short spin dst) (number_bytes number ++ rest) }
     // Of the first byte, only the bits below the highest are free.
     ensures negotiation { (context : Context) (whole random : ℕ) (dst src rest : List ℕ) → random < 128
         → IsTrue (is_fixed context (128 + random)) → length dst ≤ 20 → length src ≤ 20
-        → HeaderAt context whole (header_bytes (Header.VersionNegotiate random src dst) ++ rest) (ProtectedHeader.VersionNegotiate random dst src) rest }
+        → HeaderAt context whole (header_bytes (Header.VersionNegotiate random src dst) ++ rest)
+        (ProtectedHeader.VersionNegotiate random dst src) rest }
 {}
 
 /// Two datagrams of version 1, by their bytes.
@@ -108,9 +122,18 @@ pub fn examples()
     // bytes behind the head.
     ensures initial { (context : Context) (rest : List ℕ) → Contains context.versions 1
         → HeaderAt context (18 + length rest)
-        (0xc0 ∷ 0x00 ∷ 0x00 ∷ 0x00 ∷ 0x01 ∷ 0x08 ∷ 0x83 ∷ 0x94 ∷ 0xc8 ∷ 0xf0 ∷ 0x3e ∷ 0x51 ∷ 0x57 ∷ 0x08 ∷ 0x00 ∷ 0x00 ∷ 0x44 ∷ 0x9e ∷ rest)
-        (ProtectedHeader.Initial (record { dst_cid = 0x83 ∷ 0x94 ∷ 0xc8 ∷ 0xf0 ∷ 0x3e ∷ 0x51 ∷ 0x57 ∷ 0x08 ∷ []; src_cid = []; token_pos = record { start = 16; end = 16 }; len = 1182; version = 1 })) rest }
+        (0xc0 ∷ 0x00 ∷ 0x00 ∷ 0x00 ∷ 0x01 ∷ 0x08 ∷ 0x83 ∷ 0x94 ∷ 0xc8 ∷ 0xf0 ∷ 0x3e ∷ 0x51 ∷ 0x57 ∷ 0x08 ∷ 0x00 ∷ 0x00
+        ∷ 0x44 ∷ 0x9e ∷ rest)
+        (ProtectedHeader.Initial (record {
+          dst_cid = 0x83 ∷ 0x94 ∷ 0xc8 ∷ 0xf0 ∷ 0x3e ∷ 0x51 ∷ 0x57 ∷ 0x08
+              ∷ [];
+          src_cid = [];
+          token_pos = record { start = 16; end = 16 };
+          len = 1182;
+          version = 1;
+        })) rest }
     // An Initial packet that ends within its token of five bytes.
     ensures no_token { (context : Context) → Contains context.versions 1
-        → Refused context (0xc0 ∷ 0x00 ∷ 0x00 ∷ 0x00 ∷ 0x01 ∷ 0x00 ∷ 0x00 ∷ 0x05 ∷ 0xaa ∷ []) (Invalid (codes "token out of bounds")) }
+        → Refused context (0xc0 ∷ 0x00 ∷ 0x00 ∷ 0x00 ∷ 0x01 ∷ 0x00 ∷ 0x00 ∷ 0x05 ∷ 0xaa ∷ [])
+        (Invalid (codes "token out of bounds")) }
 {}

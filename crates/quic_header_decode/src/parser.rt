@@ -21,13 +21,16 @@ pub trait ConnectionIdParser {
     /// `OutOfMemory` may stand in place of every answer, if the parser takes memory.
     fn parse(&self, buf: &mut Cursor) -> Result<ConnectionId, PacketDecodeError>
         ensures bytes { buf.new.bytes ≡ buf.old.bytes }
-        ensures parsed { Gives (λ id. (id, length (unread buf.old) - length (unread buf.new))) result (parsed self.now (unread buf.old)) }
-        ensures within { IfOk result (λ id. unread buf.new ≡ drop (length (unread buf.old) - length (unread buf.new)) (unread buf.old)) }
+        ensures parsed { Gives (λ id. (id, length (unread buf.old) - length (unread buf.new))) result
+            (parsed self.now (unread buf.old)) }
+        ensures within { IfOk result
+            (λ id. unread buf.new ≡ drop (length (unread buf.old) - length (unread buf.new)) (unread buf.old)) }
         ensures forward { IfOk result (λ _. buf.old.position ≤ buf.new.position) }
         ensures memory { IsErrOf result PacketDecodeError.OutOfMemory → IsTrue (takes_memory self.now) };
 
     // An id takes bytes that are there, and want of memory is no refusal of bytes.
-    ghost lawful: { (p : Self) (bytes : List ℕ) → MatchResult (parsed p bytes) (λ x. x.1 ≤ length bytes) (λ e. e ≢ NoMemory) };
+    ghost lawful: { (p : Self) (bytes : List ℕ)
+        → MatchResult (parsed p bytes) (λ x. x.1 ≤ length bytes) (λ e. e ≢ NoMemory) };
 }
 
 /// A parser of ids that all have one length, of at most 20 bytes. Where fewer bytes are left it answers

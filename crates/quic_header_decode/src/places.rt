@@ -58,7 +58,8 @@ pub enum ReadError {
 }
 
 impl HeaderPlaces {
-    /// Where the packet ends in so many bytes: where its header says, or with the bytes. None where they end before that.
+    /// Where the packet ends in so many bytes: where its header says, or with the bytes. None where they end before
+    /// that.
     #[inline(always)]
     pub fn packet_end(&self, whole: usize) -> Option<usize>
         ensures value { result ≡ ends_at self.now whole }
@@ -74,9 +75,9 @@ impl HeaderPlaces {
     }
 }
 
-/// Reads the header at the front of bytes, in the order of its fields, also where the packet is cut off behind it. Ids of
-/// short headers have `id_len` bytes, of which the caller must ensure that they are at most 20; `versions` are those that
-/// are read further than their ids. The first field that can't be read is the refusal. Nothing is allocated.
+/// Reads the header at the front of bytes, in the order of its fields, also where the packet is cut off behind it. Ids
+/// of short headers have `id_len` bytes, of which the caller must ensure that they are at most 20; `versions` are those
+/// that are read further than their ids. The first field that can't be read is the refusal. Nothing is allocated.
 ///
 /// The fixed bit is not looked at: it stands in `first`. In a version negotiation clients ignore it (RFC 9000, section
 /// 17.2.1).
@@ -164,7 +165,8 @@ fn read_version(bytes: &[u8]) -> Option<u32>
 fn read_id_len(bytes: &[u8], at: usize) -> Option<usize>
     requires { at ≤ length bytes.now }
     ensures read { MatchOption result (wide_id_at (drop at bytes.now) ≡ None)
-        (λ n. wide_id_at (drop at bytes.now) ≡ Some (slice_range bytes.now (at + 1) (at + 1 + n), drop (at + 1 + n) bytes.now)) }
+        (λ n. wide_id_at (drop at bytes.now)
+        ≡ Some (slice_range bytes.now (at + 1) (at + 1 + n), drop (at + 1 + n) bytes.now)) }
     ensures there { IfSome result (λ n. at + 1 + n ≤ length bytes.now) }
     ensures few { IfSome result (λ n. n ≤ 255) }
 {
@@ -232,7 +234,8 @@ fn read_typed(
     requires typed { IsTyped kind }
     requires front { IsFront front (length bytes.now) }
     ensures exact { typed_at (type_of kind) (length bytes.now) (slice_range bytes.now 6 (6 + front.dst_len))
-        (slice_range bytes.now (6 + front.dst_len + 1) (6 + front.dst_len + 1 + front.src_len)) front.version (drop front.header_end bytes.now)
+        (slice_range bytes.now (6 + front.dst_len + 1) (6 + front.dst_len + 1 + front.src_len)) front.version
+        (drop front.header_end bytes.now)
         ≡ seen_in bytes.now result }
     ensures seen { IsSeen result (length bytes.now) }
     ensures first { IfOk result (λ x. x.first ≡ front.first) }

@@ -92,7 +92,9 @@ impl ProtectedHeader {
         grease: bool,
     ) -> Result<Self, PacketDecodeError>
         ensures bytes { buf.new.bytes ≡ buf.old.bytes }
-        ensures answer { Answers (HeaderAnswer (record { parsed = P.parsed parser.now; versions = versions.now; grease = grease }) (length buf.old.bytes.items) (unread buf.old))
+        ensures answer { Answers (HeaderAnswer
+            (record { parsed = P.parsed parser.now; versions = versions.now; grease = grease })
+            (length buf.old.bytes.items) (unread buf.old))
             (λ answer. Gives (λ h. (h, unread buf.new)) result answer) }
         ensures memory { IsErrOf result PacketDecodeError.OutOfMemory → IsTrue (P.takes_memory parser.now) }
         ensures places { IfOk result (λ h. IsPlaced h buf.new.position) }
@@ -113,7 +115,8 @@ impl ProtectedHeader {
     ) -> Result<Self, PacketDecodeError>
         ensures bytes { buf.new.bytes ≡ buf.old.bytes }
         ensures exact { Gives (λ h. (h, unread buf.new)) result
-            (header_at (record { parsed = P.parsed parser.now; versions = versions.now; grease = grease }) (length buf.old.bytes.items) (unread buf.old)) }
+            (header_at (record { parsed = P.parsed parser.now; versions = versions.now; grease = grease })
+            (length buf.old.bytes.items) (unread buf.old)) }
         ensures memory { IsErrOf result PacketDecodeError.OutOfMemory → IsTrue (P.takes_memory parser.now) }
         ensures places { IfOk result (λ h. IsPlaced h buf.new.position) }
     {
@@ -153,8 +156,8 @@ impl ProtectedHeader {
     }
 
     // Reads a long header behind its first byte, and moves the place behind what was read. It is one function, so that
-    // each header is put together once, and not once for each call that it goes through. Each kind returns by itself, and
-    // builds the sender's id itself, so that its words go from where they are read to their places in the answer.
+    // each header is put together once, and not once for each call that it goes through. Each kind returns by itself,
+    // and builds the sender's id itself, so that its words go from where they are read to their places in the answer.
     #[inline(never)]
     #[tactic(auto, unfolding(crate::specs::Reading::long_at, crate::specs::Reading::typed_at))]
     fn read_long(

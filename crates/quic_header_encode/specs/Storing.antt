@@ -1,5 +1,5 @@
--- Headers as they are written over bytes: what a header says, with a first byte whose fixed bit may be clear (RFC 9287), and
--- with as many zeros in place of its length as are asked for.
+-- Headers as they are written over bytes: what a header says, with a first byte whose fixed bit may be clear (RFC
+-- 9287), and with as many zeros in place of its length as are asked for.
 use Rattle.std.specs.Prelude.{◌≡◌, ℕ, ◌+◌, ◌-◌, ◌*◌, ◌/◌, ◌%◌, ◌<◌, ◌≤◌, ◌^◌, ◌⊎◌, Bool, true, false, List, [], ◌∷◌, ◌++◌, length, take, drop, replicate, ◌==◌, if◌then◌else◌}
 use Rattle.quic_base.specs.Number.{bytes_of}
 use Rattle.quic_base.specs.Varint.{short, size}
@@ -17,7 +17,8 @@ use Rattle.quic_header_encode.specs.declared.long_type.LongType.TheVariants.{Han
 use Rattle.quic_header_encode.specs.Types.{type_number}
 use Rattle.quic_header_encode.specs.Writing.{header_with, header_bytes, header_size}
 
--- the bits that say a long header's type under a version, and a short header's or a version negotiation's, which have none
+-- the bits that say a long header's type under a version, and a short header's or a version negotiation's, which have
+-- none
 abbrev pub type_bits : HeaderKind → ℕ → ℕ
 type_bits head.Initial version = 16 * type_number version kind.Initial
 type_bits head.ZeroRtt version = 16 * type_number version (kind.Standard ZeroRtt)
@@ -47,7 +48,8 @@ header_of head.Initial first version dst src token number =
 header_of head.ZeroRtt first version dst src token number = header.Long ZeroRtt dst src number version
 header_of head.Handshake first version dst src token number = header.Long Handshake dst src number version
 header_of head.Retry first version dst src token number = header.Retry dst src version
-header_of head.Short first version dst src token number = header.Short (has_bit 0x20 first) (has_bit 0x04 first) dst number
+header_of head.Short first version dst src token number = header.Short (has_bit 0x20 first)
+    (has_bit 0x04 first) dst number
 header_of head.VersionNegotiate first version dst src token number = header.VersionNegotiate (first % 128) src dst
 
 -- its first byte
@@ -62,7 +64,9 @@ begun_by first bytes = first ∷ drop 1 bytes
 abbrev pub stored_bytes : {I : Type 0} → (I → List ℕ) → HeaderRef I → List ℕ
 stored_bytes id said =
     begun_by (first_of said)
-    (header_with (replicate said.length_len 0) (header_of said.kind said.first said.version (id said.dst_cid) (id said.src_cid) said.token.now said.number.now))
+    (header_with (replicate said.length_len 0)
+    (header_of said.kind said.first said.version (id said.dst_cid)
+    (id said.src_cid) said.token.now said.number.now))
 
 -- how many bytes a token and its length take, which an Initial header has
 abbrev pub token_size : HeaderKind → List ℕ → ℕ
@@ -84,7 +88,8 @@ end_size head.VersionNegotiate len number = 0
 
 -- how many bytes a header takes
 abbrev pub stored_size : HeaderKind → List ℕ → List ℕ → List ℕ → PacketNumber → ℕ → ℕ
-stored_size head.Initial dst src token number len = 7 + length dst + length src + (size (length token) + length token) + (len + number_size number)
+stored_size head.Initial dst src token number len = 7 + length dst + length src + (size (length token) + length token) +
+    (len + number_size number)
 stored_size head.ZeroRtt dst src token number len = 7 + length dst + length src + (len + number_size number)
 stored_size head.Handshake dst src token number len = 7 + length dst + length src + (len + number_size number)
 stored_size head.Retry dst src token number len = 7 + length dst + length src
@@ -92,7 +97,8 @@ stored_size head.Short dst src token number len = 1 + length dst + number_size n
 stored_size head.VersionNegotiate dst src token number len = 7 + length dst + length src
 
 abbrev pub stored_len : {I : Type 0} → (I → List ℕ) → HeaderRef I → ℕ
-stored_len id said = stored_size said.kind (id said.dst_cid) (id said.src_cid) said.token.now said.number.now said.length_len
+stored_len id said = stored_size said.kind (id said.dst_cid)
+    (id said.src_cid) said.token.now said.number.now said.length_len
 
 -- what a first byte has beside its type and number has room for these: all eight bits of a version negotiation are
 -- its own

@@ -1,5 +1,5 @@
--- The bytes of headers, and what becomes of a packet once its payload stands behind its header (RFC 9000, section 17; RFC
--- 9001, sections 5.3 and 5.4).
+-- The bytes of headers, and what becomes of a packet once its payload stands behind its header (RFC 9000, section 17;
+-- RFC 9001, sections 5.3 and 5.4).
 use Rattle.std.specs.Prelude.{IsTrue, ◌≤◌, take, drop, ℕ, ◌+◌, ◌-◌, ◌<◌, ◌^◌, Bool, true, false, Option, Some, None, List, [], ◌∷◌, ◌++◌, length, bit_or, if◌then◌else◌}
 use Rattle.quic_base.specs.Number.{bytes_of}
 use Rattle.quic_base.specs.Varint.{short, size}
@@ -27,18 +27,23 @@ bit b n = if b then n else 0
 -- what stands in a header before its length and its number
 abbrev pub header_front : Header → List ℕ
 header_front (header.Initial h) =
-    long_front (long_first h.version kind.Initial (number_size h.number)) h.version h.dst_cid h.src_cid ++ (short (length h.token) ++ h.token)
-header_front (header.Long ty dst src number version) = long_front (long_first version (kind.Standard ty) (number_size number)) version dst src
+    long_front (long_first h.version kind.Initial (number_size h.number)) h.version h.dst_cid h.src_cid
+    ++ (short (length h.token) ++ h.token)
+header_front (header.Long ty dst src number version) = long_front
+    (long_first version (kind.Standard ty) (number_size number)) version dst src
 header_front (header.Retry dst src version) = long_front (first_byte version kind.Retry) version dst src
-header_front (header.Short spin key_phase dst number) = (64 + bit spin 32 + bit key_phase 4 + (number_size number - 1)) ∷ dst
+header_front (header.Short spin key_phase dst number) = (64 + bit spin 32 + bit key_phase 4 + (number_size number - 1))
+    ∷ dst
 header_front (header.VersionNegotiate random src dst) = long_front (bit_or 128 random) 0 dst src
 
 -- the bytes of a header, with these bytes as its length where it has one
 abbrev pub header_with : List ℕ → Header → List ℕ
 header_with len (header.Initial h) = header_front (header.Initial h) ++ (len ++ number_bytes h.number)
-header_with len (header.Long ty dst src number version) = header_front (header.Long ty dst src number version) ++ (len ++ number_bytes number)
+header_with len (header.Long ty dst src number version) = header_front (header.Long ty dst src number version)
+    ++ (len ++ number_bytes number)
 header_with len (header.Retry dst src version) = header_front (header.Retry dst src version)
-header_with len (header.Short spin key_phase dst number) = header_front (header.Short spin key_phase dst number) ++ number_bytes number
+header_with len (header.Short spin key_phase dst number) = header_front (header.Short spin key_phase dst number)
+    ++ number_bytes number
 header_with len (header.VersionNegotiate random src dst) = header_front (header.VersionNegotiate random src dst)
 
 -- the bytes of a header, whose length is not filled in yet
@@ -56,7 +61,8 @@ IsWritable (header.VersionNegotiate random src dst) = Unit {0}
 
 -- how many bytes a header takes
 abbrev pub header_size : Header → ℕ
-header_size (header.Initial h) = 9 + length h.dst_cid + length h.src_cid + size (length h.token) + length h.token + number_size h.number
+header_size (header.Initial h) = 9 + length h.dst_cid + length h.src_cid + size
+    (length h.token) + length h.token + number_size h.number
 header_size (header.Long ty dst src number version) = 9 + length dst + length src + number_size number
 header_size (header.Retry dst src version) = 7 + length dst + length src
 header_size (header.Short spin key_phase dst number) = 1 + length dst + number_size number

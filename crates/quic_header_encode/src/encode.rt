@@ -40,7 +40,8 @@ pub(crate) fn append(out: &mut Vec<u8>, bytes: &[u8])
     }
 }
 
-// Over how many bytes a short header is written, one that has no token, and an Initial one whose token has at most 32 bytes.
+// Over how many bytes a short header is written, one that has no token, and an Initial one whose token has at most 32
+// bytes.
 const SHORT_ROOM: usize = 32;
 
 const LONG_ROOM: usize = 64;
@@ -61,8 +62,8 @@ fn is_stored_by_stores(token: &[u8]) -> bool
     token.len() == 0 || token.len() >= 16 && token.len() <= 32
 }
 
-// Appends a header where there is spare room for the longest of its kind: zeros are appended, the header is written over
-// them, and what is left of them goes. Answers whether there was room.
+// Appends a header where there is spare room for the longest of its kind: zeros are appended, the header is written
+// over them, and what is left of them goes. Answers whether there was room.
 #[inline(always)]
 fn put<const ROOM: usize>(head: HeaderRef<'_, Padded<'_>>, out: &mut Vec<u8>) -> bool
     requires storable { IsStorable padded_id head }
@@ -414,7 +415,8 @@ impl Header {
     pub fn encode(&self, out: &mut Vec<u8>) -> Result<PartialEncode, NoRoom>
         requires { IsWritable self.now }
         ensures ok { OnOk result (out.new.items ≡ out.old.items ++ header_bytes self.now) }
-        ensures places { IfOk result (λ x. (x.start ≡ vec_len out.old) × (x.header_len ≡ header_size self.now) × (x.pn ≡ place_in self.now)) }
+        ensures places { IfOk result
+            (λ x. (x.start ≡ vec_len out.old) × (x.header_len ≡ header_size self.now) × (x.pn ≡ place_in self.now)) }
         ensures len { OnOk result (vec_len out.new ≡ vec_len out.old + header_size self.now) }
         ensures capacity { vec_capacity out.old ≤ vec_capacity out.new }
         ensures err { OnErr result (out.new.items ≡ out.old.items) }
@@ -450,13 +452,17 @@ impl PartialEncode {
         header_key: &H,
         crypto: Option<(u64, &P)>,
     )
-        requires room { IfSome self.pn (λ pn. HasRoom pn.0 pn.1 self.header_len (H.sample_len header_key.now) (length buf.old)) }
-        requires tag { IfSome self.pn (λ pn. IfSome crypto (λ c. self.header_len + P.tag_size c.1.now ≤ length buf.old)) }
+        requires room { IfSome self.pn
+            (λ pn. HasRoom pn.0 pn.1 self.header_len (H.sample_len header_key.now) (length buf.old)) }
+        requires tag { IfSome self.pn
+            (λ pn. IfSome crypto (λ c. self.header_len + P.tag_size c.1.now ≤ length buf.old)) }
         ensures plain { IfNone self.pn (buf.new ≡ buf.old) }
         ensures sealed { IfSome self.pn (λ pn. buf.new ≡ H.protected header_key.now (self.header_len - pn.0)
-            (finished pn self.header_len (option_map (λ c. (P.tag_size c.1.now, P.sealed c.1.now c.0)) crypto.entry) buf.old)) }
+            (finished pn self.header_len
+            (option_map (λ c. (P.tag_size c.1.now, P.sealed c.1.now c.0)) crypto.entry) buf.old)) }
         ensures bytes { IfSome self.pn (λ pn. AreBytes
-            (finished pn self.header_len (option_map (λ c. (P.tag_size c.1.now, P.sealed c.1.now c.0)) crypto.entry) buf.old)) }
+            (finished pn self.header_len
+            (option_map (λ c. (P.tag_size c.1.now, P.sealed c.1.now c.0)) crypto.entry) buf.old)) }
     {
         let Some((pn_len, write_len)) = self.pn else {
             return;
@@ -479,7 +485,8 @@ fn write_length(buf: &mut [u8], pn_pos: usize)
     requires place { 2 ≤ pn_pos }
     requires within { pn_pos ≤ length buf.old }
     requires short { length buf.old - pn_pos < 2 ^ 14 }
-    ensures { buf.new ≡ take (pn_pos - 2) buf.old ++ (bytes_of 2 (2 ^ 14 + (length buf.old - pn_pos)) ++ drop pn_pos buf.old) }
+    ensures { buf.new ≡ take (pn_pos - 2) buf.old
+        ++ (bytes_of 2 (2 ^ 14 + (length buf.old - pn_pos)) ++ drop pn_pos buf.old) }
 {
     let len = (buf.len() - pn_pos) as u16 + (1 << 14);
     buf[pn_pos - 2..pn_pos].copy_from_slice(&len.to_be_bytes());

@@ -42,8 +42,8 @@ pub(crate) fn store_bytes(out: &mut [u8], at: usize, bytes: &[u8]) -> usize
     end
 }
 
-// Stores an id of at most 20 bytes at a place, and answers where it ends. Those of 8 bytes, the usual ones, are written by
-// one store.
+// Stores an id of at most 20 bytes at a place, and answers where it ends. Those of 8 bytes, the usual ones, are written
+// by one store.
 #[inline(always)]
 pub(crate) fn store_id(out: &mut [u8], at: usize, id: &[u8]) -> usize
     requires few { length id.now ≤ 20 }

@@ -5,14 +5,16 @@ ghost use Rattle.quic_header_encode.specs.Writing.{has_length, header_bytes, hea
 
 use crate::header::Header;
 
-/// A header whose length is filled in once the payload stands behind it is the header that is written with its length at
-/// once. It counts the number's bytes and the payload's.
+/// A header whose length is filled in once the payload stands behind it is the header that is written with its length
+/// at once. It counts the number's bytes and the payload's.
 pub fn length_later()
     // By `PartialEncode::finish`.
     ensures finished { (h : Header) (body : List ℕ) → IsTrue (has_length h)
-        → with_length (size_in h) (has_length h) (header_size h) (header_bytes h ++ body) ≡ header_with (length_in 2 (size_in h + length body)) h ++ body }
+        → with_length (size_in h) (has_length h) (header_size h) (header_bytes h ++ body)
+        ≡ header_with (length_in 2 (size_in h + length body)) h ++ body }
     // By `set_len`, whatever the header's first byte is.
     ensures set { (h : Header) (first width : ℕ) (body : List ℕ) → IsTrue (has_length h) → (width ≡ 2) ⊎ (width ≡ 4)
-        → with_len width (length (header_with (replicate width 0) h) - size_in h) (begun_by first (header_with (replicate width 0) h) ++ body)
+        → with_len width (length (header_with (replicate width 0) h) - size_in h)
+        (begun_by first (header_with (replicate width 0) h) ++ body)
         ≡ begun_by first (header_with (length_in width (size_in h + length body)) h) ++ body }
 {}

@@ -52,7 +52,8 @@ impl HeaderKind {
         }
     }
 
-    /// The bits of a long header's first byte that say its type under a version. The caller must ensure that it says one.
+    /// The bits of a long header's first byte that say its type under a version. The caller must ensure that it says
+    /// one.
     #[inline(always)]
     pub fn type_bits(self, version: u32) -> u8
         requires { IsTyped self }

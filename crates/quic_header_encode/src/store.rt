@@ -1,5 +1,5 @@
-//! The one writer of headers: what a header says is written at the front of bytes, field behind field, by stores of whole
-//! arrays whose ends the next field covers.
+//! The one writer of headers: what a header says is written at the front of bytes, field behind field, by stores of
+//! whole arrays whose ends the next field covers.
 ghost use Rattle.std.specs.Prelude.{◌≡◌, ◌+◌, ◌*◌, ◌^◌, ◌<◌, ◌≤◌, ◌⊎◌, ◌∷◌, ◌++◌, List, ℕ, length, take, drop, replicate, true, ◌↔◌, IsTrue};
 ghost use Rattle.quic_base.specs.ConnectionId.{long_id};
 ghost use Rattle.quic_base.specs.Varint.{short, size};
@@ -100,8 +100,8 @@ pub struct HeaderRef<'a, I> {
     pub length_len: usize,
 }
 
-/// Stores a short header up to its number at the front, and answers where the number begins. The caller must ensure that
-/// the id has at most 20 bytes, and that there is room for it.
+/// Stores a short header up to its number at the front, and answers where the number begins. The caller must ensure
+/// that the id has at most 20 bytes, and that there is room for it.
 #[inline(always)]
 pub fn store_short<I: StoredId>(out: &mut [u8], first: u8, dst_cid: I) -> usize
     requires few { length (I.id dst_cid) ≤ 20 }
@@ -131,8 +131,8 @@ fn store_long_id<I: StoredId>(out: &mut [u8], at: usize, id: I) -> usize
     id.store(out, at)
 }
 
-/// Stores what each long header begins with, up to the end of the sender's id, at the front, and answers where it ends. The
-/// caller must ensure that each id has at most 20 bytes, and that there is room for it.
+/// Stores what each long header begins with, up to the end of the sender's id, at the front, and answers where it ends.
+/// The caller must ensure that each id has at most 20 bytes, and that there is room for it.
 #[inline(always)]
 #[tactic(auto, unfolding(quic_base::specs::Number::bytes_of))]
 pub fn store_long_start<I: StoredId>(
@@ -148,7 +148,8 @@ pub fn store_long_start<I: StoredId>(
     requires src_room { 7 + length (I.id dst) + I.room src ≤ length out.old }
     ensures end { result ≡ 7 + length (I.id dst) + length (I.id src) }
     ensures front { take result out.new ≡ long_front first version (I.id dst) (I.id src) }
-    ensures back { length (I.id dst) ≡ I.room dst → length (I.id src) ≡ I.room src → drop result out.new ≡ drop result out.old }
+    ensures back { length (I.id dst) ≡ I.room dst → length (I.id src) ≡ I.room src
+        → drop result out.new ≡ drop result out.old }
     ensures len { length out.new ≡ length out.old }
 {
     let at = store_array(out, 0, [first]);
@@ -157,8 +158,8 @@ pub fn store_long_start<I: StoredId>(
     store_long_id(out, at, src)
 }
 
-/// Stores a token behind its length, and answers where it ends. The caller must ensure that there is room for it, that it
-/// has fewer than 2^62 bytes, and where SHORT is true that it is empty or has 16 to 32.
+/// Stores a token behind its length, and answers where it ends. The caller must ensure that there is room for it, that
+/// it has fewer than 2^62 bytes, and where SHORT is true that it is empty or has 16 to 32.
 #[inline(always)]
 pub fn store_token<const SHORT: bool>(out: &mut [u8], at: usize, token: &[u8]) -> usize
     requires short { SHORT ≡ true → IsShortToken token.now }
@@ -250,7 +251,8 @@ fn store_long_token(out: &mut [u8], at: usize, token: &[u8]) -> usize
     store_bytes(out, at, token)
 }
 
-/// Stores as many zeros as a length takes, 2 or 4, and answers where they end. The caller must ensure that there is room.
+/// Stores as many zeros as a length takes, 2 or 4, and answers where they end. The caller must ensure that there is
+/// room.
 #[inline(always)]
 pub fn store_no_length(out: &mut [u8], at: usize, len: usize) -> usize
     requires known { (len ≡ 2) ⊎ (len ≡ 4) }
@@ -364,8 +366,8 @@ impl<I: StoredId> HeaderRef<'_, I> {
         store_number(out, at, *self.number)
     }
 
-    /// Stores a header that isn't short at the front, and answers how many bytes it has. Its length, where it has one, is
-    /// 0, which `set_len` or `PartialEncode::finish` fill in. The caller must ensure that there is room for it, and
+    /// Stores a header that isn't short at the front, and answers how many bytes it has. Its length, where it has one,
+    /// is 0, which `set_len` or `PartialEncode::finish` fill in. The caller must ensure that there is room for it, and
     /// where SHORT_TOKEN is true that the token is empty or has 16 to 32 bytes.
     #[inline(always)]
     pub fn store_long<const SHORT_TOKEN: bool>(&self, out: &mut [u8]) -> usize

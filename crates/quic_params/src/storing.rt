@@ -161,9 +161,9 @@ fn fill_header(number: u64, len: u64, room: &mut Room<HEADER_ROOM>)
     }
 }
 
-/// Stores an entry in its least widths at the front of a slice, and answers how many bytes it has; what stands behind them
-/// stays (RFC 9000, section 18). The caller must ensure that the number and the length are below 2^62. Where the slice
-/// has fewer bytes, and only there, it is as it was, and the error is how many are needed. It takes no memory.
+/// Stores an entry in its least widths at the front of a slice, and answers how many bytes it has; what stands behind
+/// them stays (RFC 9000, section 18). The caller must ensure that the number and the length are below 2^62. Where the
+/// slice has fewer bytes, and only there, it is as it was, and the error is how many are needed. It takes no memory.
 pub fn write_entry_into(number: u64, value: &[u8], dest: &mut [u8]) -> Result<usize, usize>
     requires number { number < 2 ^ 62 }
     requires len { length value.now < 2 ^ 62 }

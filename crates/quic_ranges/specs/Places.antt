@@ -15,4 +15,5 @@ starts_upto (r ∷ rs) x = cond (nat_le r.start x) (suc (starts_upto rs x)) zero
 -- what the runs that a..b touches become
 abbrev pub hull : List (Range ℕ) → ℕ → ℕ → Range ℕ
 hull [] a b = record { start = a; end = b }
-hull (r ∷ rs) a b = cond (nat_lt r.end a) (hull rs a b) (cond (nat_lt b r.start) (record { start = a; end = b }) (hull rs (min a r.start) (max b r.end)))
+hull (r ∷ rs) a b = cond (nat_lt r.end a) (hull rs a b)
+    (cond (nat_lt b r.start) (record { start = a; end = b }) (hull rs (min a r.start) (max b r.end)))

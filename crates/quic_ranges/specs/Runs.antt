@@ -45,7 +45,8 @@ abbrev pub in_sum : List (Range ℕ) → List (Range ℕ) → ℕ → Bool
 in_sum rs ss y = member rs y || member ss y
 
 -- the set was treated with the first runs of ss, by the test that says what is in the outcome
-pub record TreatsBeginning (test : List (Range ℕ) → List (Range ℕ) → ℕ → Bool) (rs ss after : List (Range ℕ)) : Type 0 where
+pub record TreatsBeginning (test : List (Range ℕ) → List (Range ℕ) → ℕ → Bool)
+    (rs ss after : List (Range ℕ)) : Type 0 where
   pub treated : List (Range ℕ)
   pub rest : List (Range ℕ)
   pub parts : ss ≡ treated ++ rest

@@ -33,11 +33,13 @@ long_name ZeroRtt = codes "0rtt"
 
 -- `KIND dst ID src ID version VVVVVVVV`
 abbrev pub long_text : List ℕ → List ℕ → List ℕ → ℕ → List ℕ
-long_text kind dst src version = kind ++ codes " dst " ++ id_or_dash dst ++ codes " src " ++ id_or_dash src ++ codes " version " ++ eight_digits version
+long_text kind dst src version = kind ++ codes " dst " ++ id_or_dash dst ++ codes " src " ++ id_or_dash src
+    ++ codes " version " ++ eight_digits version
 
 -- what a header says; the place of an Initial packet's token counts from the packet's first byte
 abbrev pub header_text : ProtectedHeader → List ℕ
-header_text (head.Initial h) = long_text (codes "initial") h.dst_cid h.src_cid h.version ++ codes " token " ++ decimal h.token_pos.start ++ codes ".." ++ decimal h.token_pos.end
+header_text (head.Initial h) = long_text (codes "initial") h.dst_cid h.src_cid h.version ++ codes " token "
+    ++ decimal h.token_pos.start ++ codes ".." ++ decimal h.token_pos.end
 header_text (head.Long ty dst src len version) = long_text (long_name ty) dst src version
 header_text (head.Retry dst src version) = long_text (codes "retry") dst src version
 header_text (head.Short spin dst) = codes "short dst " ++ id_or_dash dst

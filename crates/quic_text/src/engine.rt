@@ -50,8 +50,10 @@ pub fn run<R: Source, W: Sink>(
     sink: &mut W,
 ) -> Result<bool, RunError>
     ensures ended { OnOk result (IsTrue (R.has_ended source.new)) }
-    ensures text { IfOk result (WritesText mode (R.given source.old) (R.given source.new) (W.taken sink.old) (W.taken sink.new)) }
-    ensures beginning { OnErr result (WritesBeginning mode (R.given source.old) (R.given source.new) (W.taken sink.old) (W.taken sink.new)) }
+    ensures text { IfOk result
+        (WritesText mode (R.given source.old) (R.given source.new) (W.taken sink.old) (W.taken sink.new)) }
+    ensures beginning { OnErr result
+        (WritesBeginning mode (R.given source.old) (R.given source.new) (W.taken sink.old) (W.taken sink.new)) }
     ensures read { R.has_failed source.old ≡ false → (IsErrOf result RunError.Read ↔ IsTrue (R.has_failed source.new)) }
     ensures read_first { IsErrOf result RunError.Read → W.taken sink.new ≡ W.taken sink.old }
     ensures write { W.has_failed sink.old ≡ false → (IsErrOf result RunError.Write ↔ IsTrue (W.has_failed sink.new)) }

@@ -44,7 +44,8 @@ pub fn frames_printed()
         → payload_lines Mode.Frames bytes ≡ map (λ p. item_line (frames.whole p)) some }
     ensures broken { (some : List frames.Placed) (bytes : List ℕ) (type : Option ℕ) (reason : Fault) → bytes ≢ []
         → AreBytes bytes → frames.IsPlacedBroken false some bytes type reason
-        → payload_lines Mode.Frames bytes ≡ map (λ p. item_line (frames.whole p)) some ++ item_line (Broken (invalid type reason)) ∷ [] }
+        → payload_lines Mode.Frames bytes ≡ map (λ p. item_line (frames.whole p)) some
+        ++ item_line (Broken (invalid type reason)) ∷ [] }
 {}
 
 /// `strict` prints the same where a type counts in its shortest encoding alone.
@@ -53,7 +54,8 @@ pub fn strict_printed()
         → payload_lines Mode.Strict bytes ≡ map (λ p. item_line (frames.whole p)) some }
     ensures broken { (some : List frames.Placed) (bytes : List ℕ) (type : Option ℕ) (reason : Fault) → bytes ≢ []
         → AreBytes bytes → frames.IsPlacedBroken true some bytes type reason
-        → payload_lines Mode.Strict bytes ≡ map (λ p. item_line (frames.whole p)) some ++ item_line (Broken (invalid type reason)) ∷ [] }
+        → payload_lines Mode.Strict bytes ≡ map (λ p. item_line (frames.whole p)) some
+        ++ item_line (Broken (invalid type reason)) ∷ [] }
 {}
 
 /// `canon` prints the digits of the least payload that means what a payload does, and the line of what is none

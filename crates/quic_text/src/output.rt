@@ -10,7 +10,8 @@ pub(crate) const PIECE: usize = 16384;
 
 // Passes on the text that is held back, where it is as long as a piece.
 pub(crate) fn pass_on_pieces<W: Sink>(text: &mut String, sink: &mut W) -> Result<(), Failed>
-    ensures ok { OnOk result (AppendsAllBut (W.taken sink.old) (W.taken sink.new) (string_bytes text.new) (string_bytes text.old)) }
+    ensures ok { OnOk result (AppendsAllBut (W.taken sink.old) (W.taken sink.new) (string_bytes text.new)
+        (string_bytes text.old)) }
     ensures err { OnErr result (AppendsBeginning (W.taken sink.old) (W.taken sink.new) (string_bytes text.old)) }
     ensures failed { W.has_failed sink.new ≡ (W.has_failed sink.old || is_err result) }
 {

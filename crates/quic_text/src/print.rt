@@ -33,9 +33,12 @@ pub(crate) fn print_line<W: Sink>(
     text: &mut String,
     sink: &mut W,
 ) -> Result<bool, RunError>
-    ensures ok { OnOk result (AppendsAllBut (W.taken sink.old) (W.taken sink.new) (string_bytes text.new) (string_bytes text.old ++ flat_map shown (line_lines mode line.now))) }
+    ensures ok { OnOk result (AppendsAllBut (W.taken sink.old) (W.taken sink.new) (string_bytes text.new)
+        (string_bytes text.old ++ flat_map shown (line_lines mode line.now))) }
     ensures clean { IfOk result (λ clean. clean ≡ list_all is_plain (line_lines mode line.now)) }
-    ensures err { OnErr result (AppendsBeginning (W.taken sink.old) (W.taken sink.new) (string_bytes text.old ++ flat_map shown (line_lines mode line.now))) }
+    ensures err { OnErr result
+        (AppendsBeginning (W.taken sink.old) (W.taken sink.new)
+        (string_bytes text.old ++ flat_map shown (line_lines mode line.now))) }
     ensures failed { W.has_failed sink.new ≡ (W.has_failed sink.old || is_write result) }
     ensures read { IsErrOf result RunError.Read → ⊥ }
 {
@@ -67,9 +70,12 @@ fn print_payload<W: Sink>(
     text: &mut String,
     sink: &mut W,
 ) -> Result<bool, RunError>
-    ensures ok { OnOk result (AppendsAllBut (W.taken sink.old) (W.taken sink.new) (string_bytes text.new) (string_bytes text.old ++ flat_map shown (payload_lines mode payload.now))) }
+    ensures ok { OnOk result (AppendsAllBut (W.taken sink.old) (W.taken sink.new) (string_bytes text.new)
+        (string_bytes text.old ++ flat_map shown (payload_lines mode payload.now))) }
     ensures clean { IfOk result (λ clean. clean ≡ list_all is_plain (payload_lines mode payload.now)) }
-    ensures err { OnErr result (AppendsBeginning (W.taken sink.old) (W.taken sink.new) (string_bytes text.old ++ flat_map shown (payload_lines mode payload.now))) }
+    ensures err { OnErr result
+        (AppendsBeginning (W.taken sink.old) (W.taken sink.new)
+        (string_bytes text.old ++ flat_map shown (payload_lines mode payload.now))) }
     ensures failed { W.has_failed sink.new ≡ (W.has_failed sink.old || is_write result) }
     ensures read { IsErrOf result RunError.Read → ⊥ }
 {

@@ -46,7 +46,8 @@ impl<'a> Ack<'a> {
     ) -> Result<Self, AckError>
         requires largest { largest < 2 ^ 62 }
         requires delay { delay < 2 ^ 62 }
-        ensures parts { IfOk result (λ a. parts_of a ≡ record { largest = largest; delay = delay; additional = blocks.now; ecn = ecn }) }
+        ensures parts { IfOk result
+            (λ a. parts_of a ≡ record { largest = largest; delay = delay; additional = blocks.now; ecn = ecn }) }
         ensures ranges { IfOk result (λ a. AreBlocks largest (ranges_acked a) blocks.now) }
         ensures refused { IfErr result (λ e. AreNoBlocks largest blocks.now (fault_of e)) }
     {
@@ -178,7 +179,8 @@ impl Iterator for AckIter<'_> {
 
     type Item = RangeInclusive<u64>;
 
-    ghost next_gives = { λ old item new. YieldsFirstBy bounds_of ranges_left old item new × IfSome item (λ range. range_inclusive_exhausted range ≡ false) };
+    ghost next_gives = { λ old item new. YieldsFirstBy bounds_of ranges_left old item new
+        × IfSome item (λ range. range_inclusive_exhausted range ≡ false) };
 
     ghost remaining = { item_count ranges_left };
 

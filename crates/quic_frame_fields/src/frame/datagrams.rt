@@ -14,10 +14,12 @@ impl Datagram<'_> {
     #[tactic(auto, using(crate::proofs::Encoding::datagram_counted))]
     pub fn encode(&self, with_length: bool, out: &mut Vec<u8>) -> Result<(), NoRoom>
         requires { with_length ≡ true → length self.now.bytes.now < 2 ^ 62 }
-        ensures ok { OnOk result (out.new.items ≡ out.old.items ++ shortest_frame (not with_length) (datagram_meaning self.now)) }
+        ensures ok { OnOk result (out.new.items ≡ out.old.items
+            ++ shortest_frame (not with_length) (datagram_meaning self.now)) }
         ensures err { OnErr result (out.new.items ≡ out.old.items) }
         ensures capacity { OnErr result (vec_capacity out.new ≡ vec_capacity out.old) }
-        ensures room { vec_len out.old + length (shortest_frame (not with_length) (datagram_meaning self.now)) ≤ vec_capacity out.old → IsOk result }
+        ensures room { vec_len out.old + length
+            (shortest_frame (not with_length) (datagram_meaning self.now)) ≤ vec_capacity out.old → IsOk result }
     {
         if with_length {
             let head = [0x31, self.bytes.len() as u64];

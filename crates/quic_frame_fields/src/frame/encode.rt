@@ -68,7 +68,8 @@ impl AckFrequency {
 
     /// The numbers that the frame is.
     pub fn numbers(&self) -> [u64; 5]
-        ensures numbers { result ≡ 0xaf ∷ self.now.sequence ∷ self.now.ack_eliciting_threshold ∷ self.now.request_max_ack_delay ∷ self.now.reordering_threshold ∷ [] }
+        ensures numbers { result ≡ 0xaf ∷ self.now.sequence ∷ self.now.ack_eliciting_threshold
+            ∷ self.now.request_max_ack_delay ∷ self.now.reordering_threshold ∷ [] }
         ensures numeric { AreNumeric result }
     {
         [

@@ -154,7 +154,8 @@ fn sum_of(word: u64) -> u64
 fn short_ranges(front: &[u8; 8]) -> (u64, u64)
     ensures few { result.0 ≤ 4 }
     ensures read { (count low : ℕ) (rest : List ℕ) → result.0 ≤ count → result.1 ≤ low
-        → below_at count low (front.now ++ rest) ≡ below_at (count - result.0) (low - result.1) (drop (2 * result.0) front.now ++ rest) }
+        → below_at count low (front.now ++ rest)
+        ≡ below_at (count - result.0) (low - result.1) (drop (2 * result.0) front.now ++ rest) }
 {
     let word = u64::from_le_bytes(*front);
     let long = word & 0xc0c0_c0c0_c0c0_c0c0;
@@ -196,7 +197,8 @@ fn pass_short(count: u64, low: u64, bytes: &[u8]) -> (u64, u64, &[u8])
 
 // The least number of the range at the front, below a range that begins at `low`, and how many bytes it takes: sixteen
 // hold its two numbers, whatever their widths. `None` where both numbers have one byte, as those behind them may have,
-// and where they are more than `low`. Widths are reported by branches: in a run of one width the next place is foretold.
+// and where they are more than `low`. Widths are reported by branches: in a run of one width the next place is
+// foretold.
 #[inline(always)]
 fn wide_front(low: u64, front: &[u8; 16]) -> Option<(u64, usize)>
     ensures within { IfSome result (λ x. x.1 ≤ 16) }

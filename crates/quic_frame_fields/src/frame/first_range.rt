@@ -14,7 +14,8 @@ use super::field;
 /// refused that no block begins, or that go on with no gap; what follows the gap isn't read. It takes no memory.
 #[inline(always)]
 pub fn split_first_range(greatest: u64, blocks: &[u8]) -> Result<(u64, u64, &[u8]), AckError>
-    ensures gives { MatchResult result (λ x. first_range_at greatest blocks.now ≡ Ok (x.0, x.1, x.2.now)) (λ e. first_range_at greatest blocks.now ≡ Err (fault_of e)) }
+    ensures gives { MatchResult result (λ x. first_range_at greatest blocks.now ≡ Ok (x.0, x.1, x.2.now))
+        (λ e. first_range_at greatest blocks.now ≡ Err (fault_of e)) }
     ensures least { IfOk result (λ x. x.0 ≤ greatest) }
 
     // What is left is the end of the bytes, and shorter.

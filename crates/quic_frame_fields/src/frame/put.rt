@@ -123,7 +123,8 @@ fn store_bytes(dest: &mut [u8], at: usize, bytes: &[u8]) -> usize
 pub fn stream(dest: &mut [u8], stream: &Stream<'_>, counted: Option<u64>) -> Result<usize, usize>
     requires offset { stream.now.offset < 2 ^ 62 }
     requires counted { IfSome counted (λ n. n < 2 ^ 62) }
-    ensures { Puts result (stream_header stream.now.id stream.now.offset stream.now.fin counted ++ stream.now.bytes.now) dest.old dest.new }
+    ensures { Puts result (stream_header stream.now.id stream.now.offset stream.now.fin counted
+        ++ stream.now.bytes.now) dest.old dest.new }
 {
     let Stream {
         id,

@@ -47,7 +47,8 @@ impl StreamMeta {
         requires start { self.now.offsets.start < 2 ^ 62 }
         requires counted { with_length ≡ true → self.now.offsets.end - self.now.offsets.start < 2 ^ 62 }
         ensures { Writes result
-            (stream_header self.now.id self.now.offsets.start self.now.fin (if with_length then Some (self.now.offsets.end - self.now.offsets.start) else None))
+            (stream_header self.now.id self.now.offsets.start self.now.fin
+            (if with_length then Some (self.now.offsets.end - self.now.offsets.start) else None))
             (B.written out.old) (B.spare out.old) (B.written out.new) (B.spare out.new) }
     {
         let Range { start, end } = self.offsets;

@@ -60,7 +60,8 @@ pub(super) fn store_numbers(head: &mut [u8], numbers: &[u64]) -> usize
 pub fn numbers<B: BufMut>(out: &mut B, numbers: &[u64]) -> Result<(), NoRoom>
     requires few { length numbers.now ≤ 5 }
     requires numeric { AreNumeric numbers.now }
-    ensures { Writes result (all_short numbers.now) (B.written out.old) (B.spare out.old) (B.written out.new) (B.spare out.new) }
+    ensures { Writes result (all_short numbers.now) (B.written out.old) (B.spare out.old) (B.written out.new)
+        (B.spare out.new) }
 {
     let mut head = [0; HEADER_ROOM];
     let len = store_numbers(&mut head, numbers);
@@ -81,7 +82,8 @@ pub fn bytes<B: BufMut>(out: &mut B, bytes: &[u8]) -> Result<(), NoRoom>
 pub fn numbers_and_bytes<B: BufMut>(out: &mut B, head: &[u64], tail: &[u8]) -> Result<(), NoRoom>
     requires few { length head.now ≤ 5 }
     requires numeric { AreNumeric head.now }
-    ensures { Writes result (all_short head.now ++ tail.now) (B.written out.old) (B.spare out.old) (B.written out.new) (B.spare out.new) }
+    ensures { Writes result (all_short head.now ++ tail.now) (B.written out.old) (B.spare out.old) (B.written out.new)
+        (B.spare out.new) }
 {
     numbers(out, head)?;
     bytes(out, tail)
@@ -89,7 +91,8 @@ pub fn numbers_and_bytes<B: BufMut>(out: &mut B, head: &[u64], tail: &[u8]) -> R
 
 /// Appends an id behind its length, and bytes, in the same way.
 pub fn id_and_bytes<B: BufMut>(out: &mut B, id: &ConnectionId, tail: &[u8]) -> Result<(), NoRoom>
-    ensures { Writes result (long_id id.now ++ tail.now) (B.written out.old) (B.spare out.old) (B.written out.new) (B.spare out.new) }
+    ensures { Writes result (long_id id.now ++ tail.now) (B.written out.old) (B.spare out.old) (B.written out.new)
+        (B.spare out.new) }
 {
     id.encode_long(out)?;
     bytes(out, tail)

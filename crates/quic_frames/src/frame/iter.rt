@@ -28,7 +28,8 @@ impl<'a> Model for Iter<'a> {
 
     ghost Value = { IterState };
 
-    ghost view = { λ it. record { strict = it.strict; payload = it.payload.now; offset = it.offset; last = it.last; is_broken = it.is_broken } };
+    ghost view = { λ it. record
+        { strict = it.strict; payload = it.payload.now; offset = it.offset; last = it.last; is_broken = it.is_broken } };
 
     ghost invariant = { λ it. it.offset ≤ length it.payload.now };
 }

@@ -22,7 +22,8 @@ use quic_frame_fields::frame::field::{blocks, varint};
 #[tactic(auto, unfolding(quic_frame_fields::specs::Reading::row_at))]
 #[inline(always)]
 fn read_ack(has_counts: bool, bytes: &[u8]) -> Result<(Frame<'_>, &[u8]), Fault>
-    ensures { GivesFrame (λ rest. rest.now) bytes.now result (row_at (if has_counts then table.ack_ecn_row else table.ack_row) bytes.now) }
+    ensures { GivesFrame (λ rest. rest.now) bytes.now result
+        (row_at (if has_counts then table.ack_ecn_row else table.ack_row) bytes.now) }
 {
     let (largest, rest) = field::near_varint(bytes)?;
     let (delay, rest) = field::near_varint(rest)?;
@@ -44,7 +45,8 @@ fn read_ack(has_counts: bool, bytes: &[u8]) -> Result<(Frame<'_>, &[u8]), Fault>
 #[tactic(auto, unfolding(quic_frame_fields::specs::Reading::row_at))]
 #[inline(never)]
 fn reset_stream(bytes: &[u8]) -> Result<(ResetStream, &[u8]), Fault>
-    ensures { Gives (λ x. (meaning_of (frames.ResetStream x.0), x.1.now)) result (row_at table.reset_stream_row bytes.now) }
+    ensures { Gives (λ x. (meaning_of (frames.ResetStream x.0), x.1.now)) result
+        (row_at table.reset_stream_row bytes.now) }
 {
     let (id, rest) = varint(bytes)?;
     let (error_code, rest) = varint(rest)?;
@@ -71,7 +73,8 @@ fn read_reset_stream(bytes: &[u8]) -> Result<(Frame<'_>, &[u8]), Fault>
 #[tactic(auto, unfolding(quic_frame_fields::specs::Reading::row_at))]
 #[inline(never)]
 fn stop_sending(bytes: &[u8]) -> Result<(StopSending, &[u8]), Fault>
-    ensures { Gives (λ x. (meaning_of (frames.StopSending x.0), x.1.now)) result (row_at table.stop_sending_row bytes.now) }
+    ensures { Gives (λ x. (meaning_of (frames.StopSending x.0), x.1.now)) result
+        (row_at table.stop_sending_row bytes.now) }
 {
     let (id, rest) = varint(bytes)?;
     let (error_code, rest) = varint(rest)?;
@@ -119,7 +122,8 @@ fn read_stream(
     fin: bool,
     bytes: &[u8],
 ) -> Result<(Frame<'_>, &[u8]), Fault>
-    ensures { GivesFrame (λ rest. rest.now) bytes.now result (row_at (table.stream_row has_offset has_length fin) bytes.now) }
+    ensures { GivesFrame (λ rest. rest.now) bytes.now result
+        (row_at (table.stream_row has_offset has_length fin) bytes.now) }
 {
     let (id, rest) = field::near_varint(bytes)?;
     let (offset, rest) = field::offset(has_offset, rest)?;
@@ -175,7 +179,8 @@ fn id_of(bytes: &[u8]) -> ConnectionId
 #[tactic(auto, unfolding(quic_frame_fields::specs::Reading::row_at))]
 #[inline(never)]
 fn new_connection_id(bytes: &[u8]) -> Result<(NewConnectionId, &[u8]), Fault>
-    ensures { Gives (λ x. (meaning_of (frames.NewConnectionId x.0), x.1.now)) result (row_at table.new_connection_id_row bytes.now) }
+    ensures { Gives (λ x. (meaning_of (frames.NewConnectionId x.0), x.1.now)) result
+        (row_at table.new_connection_id_row bytes.now) }
 {
     let (sequence, rest) = field::short_varint(bytes)?;
     let (retire_prior_to, rest) = field::short_varint(rest)?;
@@ -206,7 +211,8 @@ fn read_new_connection_id(bytes: &[u8]) -> Result<(Frame<'_>, &[u8]), Fault>
 #[tactic(auto, unfolding(quic_frame_fields::specs::Reading::row_at))]
 #[inline(always)]
 fn read_retire_connection_id(bytes: &[u8]) -> Result<(Frame<'_>, &[u8]), Fault>
-    ensures { GivesFrame (λ rest. rest.now) bytes.now result (row_at (table.number_row table.RetireConnectionId) bytes.now) }
+    ensures { GivesFrame (λ rest. rest.now) bytes.now result
+        (row_at (table.number_row table.RetireConnectionId) bytes.now) }
 {
     let (sequence, rest) = varint(bytes)?;
     Ok((Frame::RetireConnectionId { sequence }, rest))
@@ -278,7 +284,8 @@ fn read_datagram(has_length: bool, bytes: &[u8]) -> Result<(Frame<'_>, &[u8]), F
 #[tactic(auto, unfolding(quic_frame_fields::specs::Reading::row_at))]
 #[inline(never)]
 fn ack_frequency(bytes: &[u8]) -> Result<(AckFrequency, &[u8]), Fault>
-    ensures { Gives (λ x. (meaning_of (frames.AckFrequency x.0), x.1.now)) result (row_at table.ack_frequency_row bytes.now) }
+    ensures { Gives (λ x. (meaning_of (frames.AckFrequency x.0), x.1.now)) result
+        (row_at table.ack_frequency_row bytes.now) }
 {
     let (sequence, rest) = field::near_varint(bytes)?;
     let (threshold, rest) = field::near_varint(rest)?;

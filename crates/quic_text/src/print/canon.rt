@@ -23,9 +23,12 @@ pub(super) fn print_canon<W: Sink>(
     text: &mut String,
     sink: &mut W,
 ) -> Result<bool, RunError>
-    ensures ok { OnOk result (AppendsAllBut (W.taken sink.old) (W.taken sink.new) (string_bytes text.new) (string_bytes text.old ++ flat_map shown (canon_lines payload.now))) }
+    ensures ok { OnOk result (AppendsAllBut (W.taken sink.old) (W.taken sink.new) (string_bytes text.new)
+        (string_bytes text.old ++ flat_map shown (canon_lines payload.now))) }
     ensures clean { IfOk result (λ clean. clean ≡ list_all is_plain (canon_lines payload.now)) }
-    ensures err { OnErr result (AppendsBeginning (W.taken sink.old) (W.taken sink.new) (string_bytes text.old ++ flat_map shown (canon_lines payload.now))) }
+    ensures err { OnErr result
+        (AppendsBeginning (W.taken sink.old) (W.taken sink.new)
+        (string_bytes text.old ++ flat_map shown (canon_lines payload.now))) }
     ensures failed { W.has_failed sink.new ≡ (W.has_failed sink.old || is_write result) }
     ensures read { IsErrOf result RunError.Read → ⊥ }
 {
@@ -54,8 +57,11 @@ fn print_digits<W: Sink>(
     text: &mut String,
     sink: &mut W,
 ) -> Result<(), RunError>
-    ensures ok { OnOk result (AppendsAllBut (W.taken sink.old) (W.taken sink.new) (string_bytes text.new) (string_bytes text.old ++ shown (Plain (encode_lower bytes.now)))) }
-    ensures err { OnErr result (AppendsBeginning (W.taken sink.old) (W.taken sink.new) (string_bytes text.old ++ shown (Plain (encode_lower bytes.now)))) }
+    ensures ok { OnOk result (AppendsAllBut (W.taken sink.old) (W.taken sink.new) (string_bytes text.new)
+        (string_bytes text.old ++ shown (Plain (encode_lower bytes.now)))) }
+    ensures err { OnErr result
+        (AppendsBeginning (W.taken sink.old) (W.taken sink.new)
+        (string_bytes text.old ++ shown (Plain (encode_lower bytes.now)))) }
     ensures failed { W.has_failed sink.new ≡ (W.has_failed sink.old || is_write result) }
     ensures read { IsErrOf result RunError.Read → ⊥ }
 {

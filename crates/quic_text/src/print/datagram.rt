@@ -31,9 +31,12 @@ pub(super) fn print_datagram<W: Sink>(
     text: &mut String,
     sink: &mut W,
 ) -> Result<bool, RunError>
-    ensures ok { OnOk result (AppendsAllBut (W.taken sink.old) (W.taken sink.new) (string_bytes text.new) (string_bytes text.old ++ flat_map shown (datagram_lines (count id_len) datagram.now))) }
+    ensures ok { OnOk result (AppendsAllBut (W.taken sink.old) (W.taken sink.new) (string_bytes text.new)
+        (string_bytes text.old ++ flat_map shown (datagram_lines (count id_len) datagram.now))) }
     ensures clean { IfOk result (λ clean. clean ≡ list_all is_plain (datagram_lines (count id_len) datagram.now)) }
-    ensures err { OnErr result (AppendsBeginning (W.taken sink.old) (W.taken sink.new) (string_bytes text.old ++ flat_map shown (datagram_lines (count id_len) datagram.now))) }
+    ensures err { OnErr result
+        (AppendsBeginning (W.taken sink.old) (W.taken sink.new)
+        (string_bytes text.old ++ flat_map shown (datagram_lines (count id_len) datagram.now))) }
     ensures failed { W.has_failed sink.new ≡ (W.has_failed sink.old || is_write result) }
     ensures read { IsErrOf result RunError.Read → ⊥ }
 {
@@ -69,7 +72,8 @@ fn print_packet(
     head: &ProtectedHeader,
     text: &mut String,
 ) -> Result<(), AllocError>
-    ensures { OnOk result (string_bytes text.new ≡ string_bytes text.old ++ shown (packet_line (record { start = start; stop = end; header = head.now }))) }
+    ensures { OnOk result (string_bytes text.new ≡ string_bytes text.old
+        ++ shown (packet_line (record { start = start; stop = end; header = head.now }))) }
 {
     write!(text, "{start}..{end} ")?;
     print_header(head, text)?;
@@ -124,7 +128,8 @@ fn print_header(head: &ProtectedHeader, text: &mut String) -> Result<(), AllocEr
 
 // Where an Initial packet's token stands in the packet.
 fn print_token(start: usize, end: usize, text: &mut String) -> Result<(), AllocError>
-    ensures { OnOk result (string_bytes text.new ≡ string_bytes text.old ++ (codes " token " ++ decimal start ++ codes ".." ++ decimal end)) }
+    ensures { OnOk result (string_bytes text.new ≡ string_bytes text.old
+        ++ (codes " token " ++ decimal start ++ codes ".." ++ decimal end)) }
 {
     write!(text, " token {start}..{end}")
 }
@@ -137,7 +142,8 @@ fn print_long(
     version: u32,
     text: &mut String,
 ) -> Result<(), AllocError>
-    ensures { OnOk result (string_bytes text.new ≡ string_bytes text.old ++ long_text kind.now dst_cid.now src_cid.now version) }
+    ensures { OnOk result (string_bytes text.new ≡ string_bytes text.old
+        ++ long_text kind.now dst_cid.now src_cid.now version) }
 {
     write!(text, "{kind} dst ")?;
     print_id(dst_cid, text)?;
@@ -148,7 +154,8 @@ fn print_long(
 
 // A version in eight hexadecimal digits.
 fn print_version(version: u32, text: &mut String) -> Result<(), AllocError>
-    ensures { OnOk result (string_bytes text.new ≡ string_bytes text.old ++ (codes " version " ++ eight_digits version)) }
+    ensures { OnOk result (string_bytes text.new ≡ string_bytes text.old
+        ++ (codes " version " ++ eight_digits version)) }
 {
     write!(text, " version {version:08x}")
 }
@@ -167,7 +174,8 @@ fn print_id(id: &ConnectionId, text: &mut String) -> Result<(), AllocError>
 
 // The `error` line of a refusal.
 fn print_refusal(error: &PacketDecodeError, text: &mut String) -> Result<(), AllocError>
-    ensures bytes { OnOk result (string_bytes text.new ≡ string_bytes text.old ++ shown (Error (refusal_text (refusal_of error.now)))) }
+    ensures bytes { OnOk result
+        (string_bytes text.new ≡ string_bytes text.old ++ shown (Error (refusal_text (refusal_of error.now)))) }
     ensures memory { OnOk result (refusal_of error.now ≢ NoMemory) }
 {
     match error {
@@ -179,7 +187,8 @@ fn print_refusal(error: &PacketDecodeError, text: &mut String) -> Result<(), All
 
 // The `error` line of a version that is not supported.
 fn print_unsupported(version: u32, text: &mut String) -> Result<(), AllocError>
-    ensures { OnOk result (string_bytes text.new ≡ string_bytes text.old ++ shown (Error (codes "unsupported version " ++ digits 16 false version))) }
+    ensures { OnOk result (string_bytes text.new ≡ string_bytes text.old
+        ++ shown (Error (codes "unsupported version " ++ digits 16 false version))) }
 {
     writeln!(text, "error unsupported version {version:x}")
 }

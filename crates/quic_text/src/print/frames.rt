@@ -25,9 +25,12 @@ pub(super) fn print_frames<W: Sink>(
     text: &mut String,
     sink: &mut W,
 ) -> Result<bool, RunError>
-    ensures ok { OnOk result (AppendsAllBut (W.taken sink.old) (W.taken sink.new) (string_bytes text.new) (string_bytes text.old ++ flat_map shown (frame_lines strict payload.now))) }
+    ensures ok { OnOk result (AppendsAllBut (W.taken sink.old) (W.taken sink.new) (string_bytes text.new)
+        (string_bytes text.old ++ flat_map shown (frame_lines strict payload.now))) }
     ensures clean { IfOk result (λ clean. clean ≡ list_all is_plain (frame_lines strict payload.now)) }
-    ensures err { OnErr result (AppendsBeginning (W.taken sink.old) (W.taken sink.new) (string_bytes text.old ++ flat_map shown (frame_lines strict payload.now))) }
+    ensures err { OnErr result
+        (AppendsBeginning (W.taken sink.old) (W.taken sink.new)
+        (string_bytes text.old ++ flat_map shown (frame_lines strict payload.now))) }
     ensures failed { W.has_failed sink.new ≡ (W.has_failed sink.old || is_write result) }
     ensures read { IsErrOf result RunError.Read → ⊥ }
 {
@@ -79,7 +82,8 @@ fn print_frame(start: usize, end: usize, ty: FrameType, text: &mut String) -> Re
 
 // The `error` line of something that is no frame.
 pub(super) fn print_invalid(invalid: &InvalidFrame, text: &mut String) -> Result<(), AllocError>
-    ensures { OnOk result (string_bytes text.new ≡ string_bytes text.old ++ shown (item_line (Broken (invalid_of invalid.now)))) }
+    ensures { OnOk result (string_bytes text.new ≡ string_bytes text.old
+        ++ shown (item_line (Broken (invalid_of invalid.now)))) }
 {
     writeln!(text, "error {invalid}")
 }

@@ -23,7 +23,8 @@ pub(super) fn print_params(
     list: &[u8],
     text: &mut String,
 ) -> Result<bool, AllocError>
-    ensures bytes { OnOk result (string_bytes text.new ≡ string_bytes text.old ++ flat_map shown (parameter_lines side list.now)) }
+    ensures bytes { OnOk result
+        (string_bytes text.new ≡ string_bytes text.old ++ flat_map shown (parameter_lines side list.now)) }
     ensures clean { IfOk result (λ clean. clean ≡ list_all is_plain (parameter_lines side list.now)) }
 {
     match answer(side, list) {
@@ -79,7 +80,8 @@ fn print_parameter(
     params: &TransportParameters,
     text: &mut String,
 ) -> Result<(), AllocError>
-    ensures { OnOk result (string_bytes text.new ≡ string_bytes text.old ++ flat_map shown (value_lines id (value_written params.now id))) }
+    ensures { OnOk result (string_bytes text.new ≡ string_bytes text.old
+        ++ flat_map shown (value_lines id (value_written params.now id))) }
 {
     let Some(value) = params.written_value(id) else {
         return Ok(());

@@ -7,7 +7,7 @@ ghost use Rattle.quic_header_encode.specs.Starts.{long_front};
 ghost use Rattle.quic_c_headers.specs.Headers.{part_of};
 ghost use Rattle.quic_c_headers.specs.Reading.{kind_word};
 ghost use Rattle.quic_c_headers.specs.Shapes.{first_word, numbered_bytes, numbered_first, numbered_size, AreParts, IsNumbered, IsShaped};
-ghost use Rattle.quic_c_headers.specs.Written.{short_words, HasReserved, NeedsMore, DescribesNoHeader, Wrote};
+ghost use Rattle.quic_c_headers.specs.Written.{short_words, HasReserved, PacketHeaderNeedsMore, DescribesNoHeader, WrotePacketHeader};
 
 use crate::words::HeaderFields;
 use quic_crypto::packet_number::PacketNumber;
@@ -116,8 +116,8 @@ pub extern "C" fn quic_wire_short_write_(
     dest: &mut [u8],
 ) -> i32
     ensures wrote { (result ≡ negsuc 3) ⊎ (result ≡ negsuc 0) ⊎ ((count : ℕ) × (result ≡ pos count)
-        × Wrote (short_words first number) dst.now [] [] dest.old dest.new count) }
-    ensures room { result ≡ negsuc 3 → NeedsMore (short_words first number) dst.now [] [] (length dest.old) }
+        × WrotePacketHeader (short_words first number) dst.now [] [] dest.old dest.new count) }
+    ensures room { result ≡ negsuc 3 → PacketHeaderNeedsMore (short_words first number) dst.now [] [] (length dest.old) }
     ensures refused { result ≡ negsuc 0 → HasReserved first ⊎ DescribesNoHeader (short_words first number) dst.now [] [] }
     ensures plain { (result ≡ negsuc 0) ⊎ (HasReserved first → ⊥) }
     ensures same { (result ≡ negsuc 3) ⊎ (result ≡ negsuc 0) → dest.new ≡ dest.old }
@@ -233,8 +233,8 @@ fn write_as(
 ) -> i64
     requires kind { kind_word kind ≡ said.now.kind }
     ensures wrote { (result ≡ negsuc 3) ⊎ (result ≡ negsuc 0) ⊎ ((count : ℕ) × (result ≡ pos count)
-        × Wrote said.now dst.now src.now token.now dest.old dest.new count) }
-    ensures room { result ≡ negsuc 3 → NeedsMore said.now dst.now src.now token.now (length dest.old) }
+        × WrotePacketHeader said.now dst.now src.now token.now dest.old dest.new count) }
+    ensures room { result ≡ negsuc 3 → PacketHeaderNeedsMore said.now dst.now src.now token.now (length dest.old) }
     ensures refused { result ≡ negsuc 0 → DescribesNoHeader said.now dst.now src.now token.now }
     ensures same { (result ≡ negsuc 3) ⊎ (result ≡ negsuc 0) → dest.new ≡ dest.old }
 {
@@ -281,8 +281,8 @@ pub extern "C" fn quic_wire_header_write_(
     dest: &mut [u8],
 ) -> i64
     ensures wrote { (result ≡ negsuc 3) ⊎ (result ≡ negsuc 0) ⊎ ((count : ℕ) × (result ≡ pos count)
-        × Wrote said.now dst.now src.now token.now dest.old dest.new count) }
-    ensures room { result ≡ negsuc 3 → NeedsMore said.now dst.now src.now token.now (length dest.old) }
+        × WrotePacketHeader said.now dst.now src.now token.now dest.old dest.new count) }
+    ensures room { result ≡ negsuc 3 → PacketHeaderNeedsMore said.now dst.now src.now token.now (length dest.old) }
     ensures refused { result ≡ negsuc 0 → DescribesNoHeader said.now dst.now src.now token.now }
     ensures same { (result ≡ negsuc 3) ⊎ (result ≡ negsuc 0) → dest.new ≡ dest.old }
 {

@@ -53,8 +53,8 @@ header_of head.Short first version dst src token number = header.Short (has_bit 
 header_of head.VersionNegotiate first version dst src token number = header.VersionNegotiate (first % 128) src dst
 
 -- its first byte
-abbrev pub first_of : {I : Type 0} → HeaderRef I → ℕ
-first_of said = said.first + type_bits said.kind said.version + number_bits said.kind said.number.now
+abbrev pub first_byte_of : {I : Type 0} → HeaderRef I → ℕ
+first_byte_of said = said.first + type_bits said.kind said.version + number_bits said.kind said.number.now
 
 -- bytes with another first one
 abbrev pub begun_by : ℕ → List ℕ → List ℕ
@@ -63,7 +63,7 @@ begun_by first bytes = first ∷ drop 1 bytes
 -- The bytes that are written: those of the header with so many zeros as its length, behind the first byte.
 abbrev pub stored_bytes : {I : Type 0} → (I → List ℕ) → HeaderRef I → List ℕ
 stored_bytes id said =
-    begun_by (first_of said)
+    begun_by (first_byte_of said)
     (header_with (replicate said.length_len 0)
     (header_of said.kind said.first said.version (id said.dst_cid)
     (id said.src_cid) said.token.now said.number.now))
@@ -226,7 +226,7 @@ pub record IsExact {I : Type 0} (id : I → List ℕ) (room : I → ℕ) (said :
   pub src : length (id said.src_cid) ≡ room said.src_cid
 
 -- Such a header is written as this one's bytes.
-pub record Stores {I : Type 0} (id : I → List ℕ) (said : HeaderRef I) (h : Header) : Type 0 where
+pub record StoresHeader {I : Type 0} (id : I → List ℕ) (said : HeaderRef I) (h : Header) : Type 0 where
   pub bytes : stored_bytes id said ≡ header_bytes h
   pub size : stored_len id said ≡ header_size h
   pub storable : IsStorable id said

@@ -124,7 +124,7 @@ def type_number(head, version):
 
 def first_parts(head):
     """What the bits of a first byte are: the lowest's value, how many values there are, name, value."""
-    said(GRAMMAR, "has_bit", "bit byte", "(byte / bit % 2) == 1")
+    said("quic_base/specs/Number", "has_bit", "bit byte", "(byte / bit % 2) == 1")
     form = said(GRAMMAR, "is_long", "first", "nat_le <bit> first")["bit"]
     yield form, 2, "Header Form", 0 if head.title == "1-RTT" else 1
     yield said(GRAMMAR, "is_fixed", "context first", "context.grease || has_bit <bit> first")["bit"], 2, "Fixed Bit", 1

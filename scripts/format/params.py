@@ -116,7 +116,7 @@ def address():
     said(LONG_ID, "long_id", "id", "length id ∷ id")
     most = said(LONG_ID, "IsLongId", "short", "length id ≤ <most>")["most"]
     token = said(ADDRESS, "AreAddressFields", "is_token", "length a.stateless_reset_token ≡ <width>")["width"]
-    said(ADDRESS, "IsAddress", "a b", "AreAddressFields a b × Never (HasNoAddress a)")
+    said(ADDRESS, "IsAddress", "a b", "AreAddressFields a b × ¬ (HasNoAddress a)")
     yield from figure("Preferred Address", [
         *lines, "Connection ID Length (8)", f"Connection ID (0..{8 * most})", f"Stateless Reset Token ({8 * token})"])
     yield (
@@ -130,9 +130,9 @@ def page():
     said(ENTRY, "AreEntries", "(e ∷ es) b", "Follows (AreEntries es) (IsEntry e.number e.bytes) b")
     said(ENTRY, "IsRepeat", "id before", "((row id).once ≡ true) × IsGiven id before")
     said(ENTRY, "Accepts", "Passed", (
-        "((id : TransportParameterId) → Never (IsKnownParameter id e.number)) → after ≡ before → Accepts before e after"))
+        "((id : TransportParameterId) → ¬ (IsKnownParameter id e.number)) → after ≡ before → Accepts before e after"))
     said(ENTRY, "Accepts", "Taken", (
-        "(id : TransportParameterId) (value : Value) → IsKnownParameter id e.number → Never (IsRepeat id before) → IsEncoded"
+        "(id : TransportParameterId) (value : Value) → IsKnownParameter id e.number → ¬ (IsRepeat id before) → IsEncoded"
         " (row id).kind value e.bytes → after ≡ record { id = id; value = value } ∷ before → Accepts before e after"))
     said(ENTRY, "IsKnownParameter", "number_is", "(row id).number ≡ number")
     free = said(RESERVED, "IsReserved", "number", "number % <step> ≡ <first>")

@@ -5,7 +5,6 @@ use Rattle.std.proofs.lemmas.Bool.{false≢true}
 use Rattle.std.proofs.lemmas.List.{length-drop}
 use Rattle.quic_base.specs.Codec.{Takes}
 use Rattle.quic_base.proofs.PublicLaws.{encoded_bound}
-use Rattle.quic_params.specs.Never.{Never}
 use Rattle.quic_params.specs.declared.parameter.TransportParameterId.{TransportParameterId}
 use Rattle.quic_params.specs.Entry.{Entry, IsEntry, IsCutEntry, IsKnownParameter}
 use Rattle.quic_params.specs.Further.{AreInOrder, AreOthers, HasEntryNumber, IsOther, IsOrderOf, upward, asked}
@@ -77,13 +76,13 @@ pub counted_none : (list : List ℕ) → Counted list list 0
 counted_none list = record { back = λ es h o. (es, h, o, omega arith); on = λ es h o. (es, h, o, omega arith); few = omega arith }
 
 -- an entry that was taken can be written
-other_taken : (n : ℕ) (x b r : List ℕ) → Takes (IsEntry n x) b r → ((id : TransportParameterId) → Never (IsKnownParameter id n)) → IsOther (taken n x)
+other_taken : (n : ℕ) (x b r : List ℕ) → Takes (IsEntry n x) b r → ((id : TransportParameterId) → ¬ (IsKnownParameter id n)) → IsOther (taken n x)
 other_taken n x b r t u = record { numeric = (encoded_bound n t.is.front t.is.first).0; short = (encoded_bound (length x) t.is.second.front t.is.second.first).0; unknown = u }
 
 others_of : (es others : List Entry) (first : Entry) → es ≡ first ∷ others → AreOthers es → AreOthers (first ∷ others)
 others_of es others first e h = subst AreOthers e h
 
-pub counted_more : (list rest behind : List ℕ) (n : ℕ) (x : List ℕ) (count : ℕ) → Takes (IsEntry n x) rest behind → ((id : TransportParameterId) → Never (IsKnownParameter id n))
+pub counted_more : (list rest behind : List ℕ) (n : ℕ) (x : List ℕ) (count : ℕ) → Takes (IsEntry n x) rest behind → ((id : TransportParameterId) → ¬ (IsKnownParameter id n))
     → ((es : List Entry) → AreInOrder es behind → HasEntryNumber n es → ⊥) → rows + count < 256 → Counted list rest count → Counted list behind (count + 1)
 counted_more list rest behind n x count t u once lt c = record {
   back = λ left h o.
@@ -102,11 +101,11 @@ counted_all list rest count e lt c =
     (a.0, record { entries = a.1; others = a.2; few = omega (arith, a.3, c.few); short = lt }, a.3 ∙ omega arith)
 
 -- what was looked up
-known_there : (n : ℕ) (r : Option TransportParameterId) → is_some r ≡ true → MatchOption r ((id : TransportParameterId) → Never (IsKnownParameter id n)) (λ id. IsKnownParameter id n) → (id : TransportParameterId) × IsKnownParameter id n
+known_there : (n : ℕ) (r : Option TransportParameterId) → is_some r ≡ true → MatchOption r ((id : TransportParameterId) → ¬ (IsKnownParameter id n)) (λ id. IsKnownParameter id n) → (id : TransportParameterId) × IsKnownParameter id n
 known_there n (Some id) e h = (id, h)
 known_there n None e h = absurd (false≢true e)
 
-pub unknown_there : (n : ℕ) (r : Option TransportParameterId) → is_some r ≡ false → MatchOption r ((id : TransportParameterId) → Never (IsKnownParameter id n)) (λ id. IsKnownParameter id n) → (id : TransportParameterId) → Never (IsKnownParameter id n)
+pub unknown_there : (n : ℕ) (r : Option TransportParameterId) → is_some r ≡ false → MatchOption r ((id : TransportParameterId) → ¬ (IsKnownParameter id n)) (λ id. IsKnownParameter id n) → (id : TransportParameterId) → ¬ (IsKnownParameter id n)
 unknown_there n (Some id) e h = absurd (false≢true (sym e))
 unknown_there n None e h = h
 
@@ -123,7 +122,7 @@ too_many list rest behind n x count t full c es f =
     omega (arith, f.few, a.3, ap length g.whole, full)
 
 pub known_one : (list rest behind : List ℕ) (n : ℕ) (x : List ℕ) (count : ℕ) (r : Option TransportParameterId) → Takes (IsEntry n x) rest behind → is_some r ≡ true
-    → MatchOption r ((id : TransportParameterId) → Never (IsKnownParameter id n)) (λ id. IsKnownParameter id n) → Counted list rest count → (es : List Entry) → IsFurther es list → ⊥
+    → MatchOption r ((id : TransportParameterId) → ¬ (IsKnownParameter id n)) (λ id. IsKnownParameter id n) → Counted list rest count → (es : List Entry) → IsFurther es list → ⊥
 known_one list rest behind n x count r t some m c es f =
     let k = known_there n r some m in
     let a = c.on es f.entries f.others in

@@ -1,7 +1,6 @@
 -- Lists of parameters by their entries, and with further ones: RFC 9000, section 18.
 use Rattle.std.specs.Prelude.{◌≡◌, ℕ, ◌+◌, ◌<◌, ◌≤◌, ◌^◌, ◌⊎◌, List, [], ◌++◌, length, take, drop, Result, Ok, IfOk, IfErr, OnErr}
 use Rattle.quic_base.specs.Codec.{Takes}
-use Rattle.quic_params.specs.Never.{Never}
 use Rattle.quic_params.specs.declared.parameter.TransportParameterId.{TransportParameterId}
 use Rattle.quic_params.specs.declared.record.TransportParameters.{TransportParameters}
 use Rattle.quic_params.specs.Entry.{Entry, IsEntry, IsKnownParameter}
@@ -15,7 +14,7 @@ use Rattle.quic_c_params.specs.Written.{CanWriteParams}
 -- 1 where a record has the parameter of this number, and 0 where it doesn't
 abbrev pub TellsKnown : ℕ → ℕ → Type 0
 TellsKnown known number = ((known ≡ 1) × (id : TransportParameterId) × IsKnownParameter id number) ⊎ (known ≡ 0)
-    × ((id : TransportParameterId) → Never (IsKnownParameter id number))
+    × ((id : TransportParameterId) → ¬ (IsKnownParameter id number))
 
 -- The words tell the entry at the front of a list: its number, the place of its value, behind which the next one
 -- begins.

@@ -2,7 +2,7 @@
 use Rattle.std.specs.Prelude.{◌≡◌, ◌≢◌, ℕ, ◌+◌, ◌/◌, ◌%◌, ◌<◌, ◌≤◌, ◌^◌, Bool, true, false, List, [], ◌∷◌, ◌++◌, length, take, Ok, nat_eq}
 use Rattle.std.proofs.Common.{sym, ap, ◌∙◌, arith, refl, cond, subst, append_assoc}
 use Rattle.std.proofs.lemmas.Bool.Decides.{nat_tests}
-use Rattle.quic_base.specs.Number.{bytes_of, num}
+use Rattle.quic_base.specs.Number.{has_bit, bytes_of, num}
 use Rattle.quic_base.specs.Varint.{Encodes}
 use Rattle.quic_base.specs.ConnectionId.{long_id}
 use Rattle.quic_base.proofs.PublicLaws as law
@@ -14,7 +14,7 @@ use Rattle.quic_header_encode.specs.declared.long_type.LongHeaderType.TheVariant
 use Rattle.quic_header_encode.specs.declared.long_type.LongType.{LongType}
 use Rattle.quic_header_encode.specs.Starts.{long_front}
 use Rattle.quic_header_encode.specs.Types.{long_type}
-use Rattle.quic_header_decode.specs.Grammar.{has_bit, is_long, is_fixed, HeaderField, Supported, ShortId, HeaderValue, Number, Bytes, typed_row, row_behind_ids, header_row_of, AreHeaderFields, IsHeader, HeaderAt, IsKnownVersion}
+use Rattle.quic_header_decode.specs.Grammar.{is_long, is_fixed, HeaderField, Supported, ShortId, HeaderValue, Number, Bytes, typed_row, row_behind_ids, header_row_of, AreHeaderFields, IsHeader, HeaderAt, IsKnownVersion}
 use Rattle.quic_header_decode.specs.Reading.{Context}
 use Rattle.quic_header_decode.proofs.Rows.{or_right}
 use Rattle.quic_header_decode.proofs.Headers.{Ids, id_values, long_row, of_ids, version_is}

@@ -1,6 +1,6 @@
 -- Which bytes are the header of a packet, and why others are none (RFC 9000, section 17).
 use Rattle.std.specs.Prelude.{◌≡◌, ◌≢◌, ℕ, ◌+◌, ◌/◌, ◌%◌, ◌<◌, ◌≤◌, ◌⊎◌, Bool, true, false, List, [], ◌∷◌, ◌++◌, length, take, Result, Some, Ok, Err, Contains, nat_le, ◌==◌, ◌||◌, if◌then◌else◌, MatchOption, codes}
-use Rattle.quic_base.specs.Number.{IsNumber, num}
+use Rattle.quic_base.specs.Number.{has_bit, IsNumber, num}
 use Rattle.quic_base.specs.Varint.{Encodes}
 use Rattle.quic_base.specs.ConnectionId.{long_id}
 use Rattle.quic_header_encode.specs.Types.{long_type}
@@ -12,9 +12,6 @@ use Rattle.quic_header_decode.specs.Refusal.{Refusal, Unsupported, Invalid}
 use Rattle.quic_header_decode.specs.Reading.{Context, len_in}
 
 -- ---- the first byte
-
-abbrev pub has_bit : ℕ → ℕ → Bool
-has_bit bit byte = (byte / bit % 2) == 1
 
 -- the header form, the highest bit, is set in long headers (section 17.2) and clear in short ones (section 17.3)
 abbrev pub is_long : ℕ → Bool

@@ -1,7 +1,7 @@
 -- Headers as they are written over bytes: what a header says, with a first byte whose fixed bit may be clear (RFC
 -- 9287), and with as many zeros in place of its length as are asked for.
 use Rattle.std.specs.Prelude.{◌≡◌, ℕ, ◌+◌, ◌-◌, ◌*◌, ◌/◌, ◌%◌, ◌<◌, ◌≤◌, ◌^◌, ◌⊎◌, Bool, true, false, List, [], ◌∷◌, ◌++◌, length, take, drop, replicate, ◌==◌, if◌then◌else◌}
-use Rattle.quic_base.specs.Number.{bytes_of}
+use Rattle.quic_base.specs.Number.{has_bit, bytes_of}
 use Rattle.quic_base.specs.Varint.{short, size}
 use Rattle.quic_crypto.specs.declared.packet_number.PacketNumber.{PacketNumber}
 use Rattle.quic_crypto.specs.PacketNumbers.{IsInRange, number_bytes, number_size}
@@ -35,10 +35,6 @@ number_bits head.Handshake number = number_size number - 1
 number_bits head.Retry number = 0
 number_bits head.Short number = number_size number - 1
 number_bits head.VersionNegotiate number = 0
-
--- a bit of a first byte
-abbrev pub has_bit : ℕ → ℕ → Bool
-has_bit bit byte = (byte / bit % 2) == 1
 
 -- The header that is said. Of its first byte, first is what neither the type nor the number says: 0x20 is the spin bit
 -- and 0x04 the key phase of a short header, and a version negotiation has seven bits of it as it likes.

@@ -3,7 +3,6 @@ use Rattle.std.proofs.Common.{◌≡◌, ℕ, ◌<◌, ◌≤◌, Bool, true, fa
 use Rattle.std.proofs.lemmas.List.{take-append-drop, length-take, drop-append-le, append_cancel_right}
 use Rattle.quic_base.specs.Codec.{Takes, Follows}
 use Rattle.quic_base.specs.Varint.{Encodes}
-use Rattle.quic_params.specs.Never.{Never}
 use Rattle.quic_params.specs.declared.error.Error.{Error}
 use Rattle.quic_params.specs.declared.error.Error.TheVariants.{Malformed}
 use Rattle.quic_params.specs.declared.parameter.Row.{Row}
@@ -63,10 +62,10 @@ repeat_left p seen before old mid n len i w e t le k once seen_it h =
 
 -- at a value that is none
 pub value_left : (p : TransportParameters) (seen : List Bool) (before : List Given) (old mid new : List ℕ) (n len count : ℕ) (i : TransportParameterId) (error : Error) (w : Row) → w ≡ row i
-    → Takes (Follows (Encodes n) (Encodes len)) old mid → len ≤ length mid → IsKnownParameter i n → Never ((w.once ≡ true) × (get_or seen w.index false ≡ true))
+    → Takes (Follows (Encodes n) (Encodes len)) old mid → len ≤ length mid → IsKnownParameter i n → ¬ ((w.once ≡ true) × (get_or seen w.index false ≡ true))
     → IsNoValue w.kind (take len mid) error → Holds p seen before → count ≤ len → new ≡ drop count mid → StopsAt before old error new
 value_left p seen before old mid new n len count i error w e t le k once bad h within rest =
-    let once_there : Never (((row i).once ≡ true) × (get_or seen (row i).index false ≡ true)) = subst (λ (r : Row). Never ((r.once ≡ true) × (get_or seen r.index false ≡ true))) e once in
+    let once_there : ¬ (((row i).once ≡ true) × (get_or seen (row i).index false ≡ true)) = subst (λ (r : Row). ¬ ((r.once ≡ true) × (get_or seen r.index false ≡ true))) e once in
     let none : IsNoValue (row i).kind (take len mid) error = subst (λ (r : Row). IsNoValue r.kind (take len mid) error) e bad in
     entry_left before old mid new n len count error t le (record { id = i; known = k; cause = inr ((λ r. once_there (r.0, h.marked i r.1)), none) }) within rest
 

@@ -2,7 +2,6 @@
 use Rattle.std.specs.Prelude.{◌≡◌, ℕ, zero, suc, ◌+◌, ◌<◌, ◌^◌, ◌⊎◌, List, [], ◌∷◌, ◌++◌, length, get_or, map, reverse, Contains}
 use Rattle.std.specs.List.{flat_map}
 use Rattle.quic_base.specs.Codec.{Follows}
-use Rattle.quic_params.specs.Never.{Never}
 use Rattle.quic_params.specs.declared.parameter.TransportParameterId.{TransportParameterId}
 use Rattle.quic_params.specs.declared.record.TransportParameters.{TransportParameters}
 use Rattle.quic_params.specs.Table.{ids, rows}
@@ -25,7 +24,7 @@ pub record IsRecordOf (es : List Entry) (p : TransportParameters) : Type 0 where
 pub record IsOther (e : Entry) : Type 0 where
   pub numeric : e.number < 2 ^ 62
   pub short : length e.bytes < 2 ^ 62
-  pub unknown : (id : TransportParameterId) → Never (IsKnownParameter id e.number)
+  pub unknown : (id : TransportParameterId) → ¬ (IsKnownParameter id e.number)
 
 -- an entry of this number is among these
 abbrev pub HasEntryNumber : ℕ → List Entry → Type 0
@@ -35,7 +34,7 @@ HasEntryNumber n (e ∷ es) = (e.number ≡ n) ⊎ HasEntryNumber n es
 -- entries that no record has, and none of them twice
 abbrev pub AreOthers : List Entry → Type 0
 AreOthers [] = Unit {0}
-AreOthers (e ∷ es) = IsOther e × Never (HasEntryNumber e.number es) × AreOthers es
+AreOthers (e ∷ es) = IsOther e × ¬ (HasEntryNumber e.number es) × AreOthers es
 
 -- what is written for each row of the table, and then further entries in their least widths
 abbrev pub pieces : TransportParameters → List Entry → List (List ℕ)

@@ -56,7 +56,7 @@ int32_t quic_wire_negotiation_read_(const uint8_t *, size_t, quic_wire_header *)
 int32_t quic_wire_unprotect_(uint8_t *, size_t, size_t, const uint8_t *,
                              uint64_t, uint64_t *);
 int32_t quic_wire_protect_(uint8_t *, size_t, size_t, const uint8_t *);
-int32_t quic_wire_short_write_(uint32_t, uint64_t, const uint8_t *, size_t,
+int64_t quic_wire_short_write_(const quic_wire_header_fields *, const uint8_t *, size_t,
                                uint8_t *, size_t);
 int64_t quic_wire_header_write_(const quic_wire_header_fields *, const uint8_t *, size_t,
                               const uint8_t *, size_t, const uint8_t *, size_t,
@@ -216,14 +216,13 @@ QUIC_WIRE_API int64_t quic_wire_frame_read_basic(const uint8_t *payload,
 QUIC_WIRE_API size_t quic_wire_padding_count(const uint8_t *payload,
                                              size_t payloadlen,
                                              const quic_wire_frame *frame) {
-  size_t typelen;
-  if (!payload || !frame || frame->kind != QUIC_WIRE_PADDING ||
-      frame->end > payloadlen || frame->begin >= frame->end)
-    return 0;
-  typelen = (size_t)1 << (payload[frame->begin] >> 6);
-  return frame->end - frame->begin < typelen
-             ? 0
-             : frame->end - frame->begin - typelen + 1;
+  /* The first type may have more bytes than one, as its first two bits say. */
+  return payload && frame && frame->kind == QUIC_WIRE_PADDING &&
+                 frame->end <= payloadlen && frame->begin < frame->end &&
+                 (frame->end - frame->begin) >> (payload[frame->begin] >> 6)
+             ? frame->end + 1 - frame->begin -
+                   ((size_t)1 << (payload[frame->begin] >> 6))
+             : 0;
 }
 
 QUIC_WIRE_API const uint8_t *
@@ -420,12 +419,11 @@ QUIC_WIRE_API int quic_wire_unprotect_header(const uint8_t *packet,
                                            size_t headerlen, uint64_t *number) {
   if (!packet || !mask || !head || !number)
     return QUIC_WIRE_ERR_INVALID_ARGUMENT;
-  if (packetlen < 4 || packetlen - 4 < place)
-    return QUIC_WIRE_ERR_MALFORMED;
-  if (headerlen < place + 4)
-    return QUIC_WIRE_ERR_NOBUF;
-  memcpy(head, packet, place + 4);
-  return quic_wire_unprotect_(head, place + 4, place, mask, expected, number);
+  return packetlen < 4 || packetlen - 4 < place ? QUIC_WIRE_ERR_MALFORMED
+         : headerlen < place + 4
+             ? QUIC_WIRE_ERR_NOBUF
+             : quic_wire_unprotect_((uint8_t *)memcpy(head, packet, place + 4),
+                                    place + 4, place, mask, expected, number);
 }
 
 QUIC_WIRE_API int quic_wire_protect(uint8_t *packet, size_t packetlen,
@@ -459,19 +457,19 @@ QUIC_WIRE_API size_t quic_wire_varint_write(uint64_t value, uint32_t width,
 QUIC_WIRE_API size_t quic_wire_header_len(const quic_wire_header_fields *said,
                                         size_t dcidlen, size_t scidlen,
                                         size_t tokenlen) {
-  size_t front = 7 + dcidlen + scidlen, end;
-  if (!said)
-    return 0;
-  end = (size_t)said->lengthlen + said->numberlen;
-  switch (said->kind) {
-  case QUIC_WIRE_INITIAL:
-    return front + end + tokenlen +
-           (tokenlen < 64 ? 1 : tokenlen < 16384 ? 2 : tokenlen < 1 << 30 ? 4 : 8);
-  case QUIC_WIRE_0RTT:
-  case QUIC_WIRE_HANDSHAKE: return front + end;
-  case QUIC_WIRE_1RTT: return 1 + dcidlen + said->numberlen;
-  default: return front;
-  }
+  return !said ? 0
+         : said->kind == QUIC_WIRE_1RTT
+             ? 1 + dcidlen + said->numberlen
+             : 7 + dcidlen + scidlen +
+                   (said->kind <= QUIC_WIRE_HANDSHAKE
+                        ? (size_t)said->lengthlen + said->numberlen
+                        : 0) +
+                   (said->kind == QUIC_WIRE_INITIAL
+                        ? tokenlen + (tokenlen < 64        ? 1
+                                      : tokenlen < 16384   ? 2
+                                      : tokenlen < 1 << 30 ? 4
+                                                           : 8)
+                        : 0);
 }
 
 QUIC_WIRE_API int64_t quic_wire_header_write(
@@ -483,13 +481,8 @@ QUIC_WIRE_API int64_t quic_wire_header_write(
     return QUIC_WIRE_ERR_INVALID_ARGUMENT;
   if (!dcid)
     dcid = &none;
-  if (said->kind == QUIC_WIRE_1RTT) {
-    if (said->numberlen - 1u > 3)
-      return QUIC_WIRE_ERR_INVALID_ARGUMENT;
-    return quic_wire_short_write_(
-        (QUIC_WIRE_FIXED_BIT ^ (said->flags & 0x64u)) | (said->numberlen - 1u),
-        said->number, dcid, dcidlen, dest, destlen);
-  }
+  if (said->kind == QUIC_WIRE_1RTT)
+    return quic_wire_short_write_(said, dcid, dcidlen, dest, destlen);
   if (said->kind != QUIC_WIRE_INITIAL)
     tokenlen = 0;
   if ((!scid && scidlen) || (!token && tokenlen))

@@ -34,7 +34,7 @@ NAMES = {
     "Version": "Version", "DestinationId": "Destination Connection ID", "SourceId": "Source Connection ID",
     "TokenLength": "Token Length", "Token": "Token", "Length": "Length", "ShortId": "Destination Connection ID",
 }
-# What a field is, by the right side of its clause of IsField.
+# What a field is, by the right side of its clause of IsHeaderField.
 KINDS = {
     "(n : ℕ) × (values ≡ Number n ∷ []) × IsNumber <width> n bytes": lambda width: [f"NAME ({8 * width})"],
     "IsId values bytes": lambda: ["NAME Length (8)", f"NAME (0..{8 * most_of_id()})"],
@@ -81,12 +81,12 @@ def most_of_id():
 def lines_of(field):
     """The lines of a field in the RFC's words."""
     kind = field.split()[0]
-    lefts = {left.strip("()").split()[1].strip("("): right for left, right in clauses(GRAMMAR, "IsField").items()}
+    lefts = {left.strip("()").split()[1].strip("("): right for left, right in clauses(GRAMMAR, "IsHeaderField").items()}
     for template, lines in KINDS.items():
         found = matched(template, lefts.get(kind, ""))
         if found is not None:
             return [line.replace("NAME", NAMES.get(kind, kind)) for line in lines(**found)]
-    return fail(f"IsField {kind} in crates/{GRAMMAR}.antt", lefts.get(kind, ""))
+    return fail(f"IsHeaderField {kind} in crates/{GRAMMAR}.antt", lefts.get(kind, ""))
 
 
 def meant(head):
@@ -100,7 +100,7 @@ def is_protected(head):
 
 def row(head):
     """The fields of a header behind its first byte."""
-    rows = said(GRAMMAR, "row_of", "first version", (
+    rows = said(GRAMMAR, "header_row_of", "first version", (
         "if is_long first then <long..> ∷ row_behind_ids first version else <short..> ∷ []"))
     behind = said(GRAMMAR, "row_behind_ids", "first version", (
         "if version == 0 then [] else <known..> ∷ typed_row (long_type version first)"))
@@ -124,7 +124,7 @@ def type_number(head, version):
 
 def first_parts(head):
     """What the bits of a first byte are: the lowest's value, how many values there are, name, value."""
-    said(GRAMMAR, "has_bit", "bit byte", "(byte / bit % 2) == 1")
+    said("quic_base/specs/Number", "has_bit", "bit byte", "(byte / bit % 2) == 1")
     form = said(GRAMMAR, "is_long", "first", "nat_le <bit> first")["bit"]
     yield form, 2, "Header Form", 0 if head.title == "1-RTT" else 1
     yield said(GRAMMAR, "is_fixed", "context first", "context.grease || has_bit <bit> first")["bit"], 2, "Fixed Bit", 1
@@ -183,7 +183,7 @@ def notes(head):
 
 
 def checked(head):
-    """Stops where a header ends or is written otherwise than the paragraphs on all say."""
+    """StopsAtField where a header ends or is written otherwise than the paragraphs on all say."""
     if "Length" in row(head):
         said(GRAMMAR, "Cut", "context bytes h p q", (
             "(rest : List ℕ) × HeaderAt context (length bytes) bytes h rest × (p + length rest ≡ length bytes)"
@@ -196,19 +196,19 @@ def checked(head):
 def reading():
     """How headers are read."""
     said(GRAMMAR, "HeaderAt", "context whole bytes h rest", (
-        "(first : ℕ) × (text : List ℕ) × (values : List Value) × (bytes ≡ first ∷ text) × (is_fixed context first ≡"
-        " true) × AreFields context (row_of first (num (take 4 text))) [] values text rest"
+        "(first : ℕ) × (text : List ℕ) × (values : List HeaderValue) × (bytes ≡ first ∷ text) × (is_fixed context first ≡"
+        " true) × AreHeaderFields context (header_row_of first (num (take 4 text))) [] values text rest"
         " × IsHeader whole first values h"))
-    said(GRAMMAR, "AreFields", "context (field ∷ fields) before after bytes rest", (
-        "(values : List Value) × (left : List ℕ) × Begins context field before values bytes left"
-        " × AreFields context fields (before ++ values) after left rest"))
-    said(GRAMMAR, "Begins", "context field before values bytes rest", (
-        "(front : List ℕ) × (bytes ≡ front ++ rest) × IsField context field before values front rest"))
+    said(GRAMMAR, "AreHeaderFields", "context (field ∷ fields) before after bytes rest", (
+        "(values : List HeaderValue) × (left : List ℕ) × BeginsWithField context field before values bytes left"
+        " × AreHeaderFields context fields (before ++ values) after left rest"))
+    said(GRAMMAR, "BeginsWithField", "context field before values bytes rest", (
+        "(front : List ℕ) × (bytes ≡ front ++ rest) × IsHeaderField context field before values front rest"))
     said(GRAMMAR, "token_length_of", "(version ∷ destination ∷ source ∷ Number count ∷ [])", "count")
     version = said(TYPES, "version_2", "", "<number>")["number"]
     types = ", ".join(f"{type_number(head, 'second')} {head.title}" for head in ALL if head.type)
     return (
-        "A header is its first byte and its row's fields one after another (`HeaderAt`, `row_of`, `row_behind_ids`,"
+        "A header is its first byte and its row's fields one after another (`HeaderAt`, `header_row_of`, `row_behind_ids`,"
         f" `typed_row`, crates/{GRAMMAR}.antt); its packet ends as many bytes behind Length as that says (`Cut`). Any"
         " fixed bit may be clear where `context.grease` holds (RFC 9287; `is_fixed`). Versions but 0 are known ones"
         f" (`Supported`). Version 2 ({version:#x}; RFC 9369, 3.2) has the Long Packet Types {types} (`types_of`).")

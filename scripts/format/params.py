@@ -60,7 +60,7 @@ def value_of(kind):
     """What a value of a kind is, and its default."""
     head, _, default = kind.partition(" ")
     if head == "K.Skipped":
-        said(ENTRY, "IsKnown", "counts", "(row id).kind ≢ K.Skipped")
+        said(ENTRY, "IsKnownParameter", "counts", "(row id).kind ≢ K.Skipped")
         return "(..)", ""
     encoded = {re.search(r"[KV_][.\w]*", left)[0]: text for left, text in clauses(VALUE, "IsEncoded").items()}
     for template, words in KINDS.items():
@@ -103,7 +103,7 @@ def rows():
 
 def address():
     """The figure of a preferred address."""
-    said(ADDRESS, "AreFields", "whole", "b ≡ v4 ++ v6 ++ id ++ a.stateless_reset_token")
+    said(ADDRESS, "AreAddressFields", "whole", "b ≡ v4 ++ v6 ++ id ++ a.stateless_reset_token")
     lines, absent = [], []
     for version, flow in ((4, ""), (6, " × (v6_flowinfo s ≡ 0) × (v6_scope_id s ≡ 0)")):
         none = said(ADDRESS, f"IsV{version}", "None b", "b ≡ replicate <width> 0")["width"]
@@ -115,12 +115,12 @@ def address():
     said(LONG_ID, "IsLongId", "value", "b ≡ long_id id")
     said(LONG_ID, "long_id", "id", "length id ∷ id")
     most = said(LONG_ID, "IsLongId", "short", "length id ≤ <most>")["most"]
-    token = said(ADDRESS, "AreFields", "is_token", "length a.stateless_reset_token ≡ <width>")["width"]
-    said(ADDRESS, "IsAddress", "a b", "AreFields a b × Never (IsNowhere a)")
+    token = said(ADDRESS, "AreAddressFields", "is_token", "length a.stateless_reset_token ≡ <width>")["width"]
+    said(ADDRESS, "IsAddress", "a b", "AreAddressFields a b × ¬ (HasNoAddress a)")
     yield from figure("Preferred Address", [
         *lines, "Connection ID Length (8)", f"Connection ID (0..{8 * most})", f"Stateless Reset Token ({8 * token})"])
     yield (
-        f"`AreFields`, crates/{ADDRESS}.antt. An address and its port that are {absent[0]} or {absent[1]} zeros are"
+        f"`AreAddressFields`, crates/{ADDRESS}.antt. An address and its port that are {absent[0]} or {absent[1]} zeros are"
         " absent (`IsV4`, `IsV6`), but not both (`IsAddress`). There is no flow label, no scope (`IsV6`).")
 
 
@@ -130,11 +130,11 @@ def page():
     said(ENTRY, "AreEntries", "(e ∷ es) b", "Follows (AreEntries es) (IsEntry e.number e.bytes) b")
     said(ENTRY, "IsRepeat", "id before", "((row id).once ≡ true) × IsGiven id before")
     said(ENTRY, "Accepts", "Passed", (
-        "((id : TransportParameterId) → Never (IsKnown id e.number)) → after ≡ before → Accepts before e after"))
+        "((id : TransportParameterId) → ¬ (IsKnownParameter id e.number)) → after ≡ before → Accepts before e after"))
     said(ENTRY, "Accepts", "Taken", (
-        "(id : TransportParameterId) (value : Value) → IsKnown id e.number → Never (IsRepeat id before) → IsEncoded"
+        "(id : TransportParameterId) (value : Value) → IsKnownParameter id e.number → ¬ (IsRepeat id before) → IsEncoded"
         " (row id).kind value e.bytes → after ≡ record { id = id; value = value } ∷ before → Accepts before e after"))
-    said(ENTRY, "IsKnown", "number_is", "(row id).number ≡ number")
+    said(ENTRY, "IsKnownParameter", "number_is", "(row id).number ≡ number")
     free = said(RESERVED, "IsReserved", "number", "number % <step> ≡ <first>")
     yield from ["## Transport parameters", "", "### Lists (18)", ""]
     yield from figure("Transport Parameters", ["Transport Parameter (..) ..."])

@@ -1,10 +1,14 @@
 -- Big-endian numbers.
-use Rattle.std.specs.Prelude.{◌≡◌, ℕ, ◌+◌, ◌*◌, ◌^◌, ◌<◌, List, [], ◌∷◌, length, slice_index}
+use Rattle.std.specs.Prelude.{◌≡◌, ◌==◌, ℕ, ◌+◌, ◌*◌, ◌/◌, ◌%◌, ◌^◌, ◌<◌, Bool, List, [], ◌∷◌, length, slice_index}
 use Rattle.std.specs.Int.{bytes_high_first}
 
 -- every element is a byte
 abbrev pub AreBytes : List ℕ → Type 0
 AreBytes b = (i : ℕ) → slice_index b i < 256
+
+-- whether a byte has a bit, which is a power of two
+abbrev pub has_bit : ℕ → ℕ → Bool
+has_bit bit byte = (byte / bit % 2) == 1
 
 -- the number whose bytes these are, the highest first
 abbrev pub num : List ℕ → ℕ

@@ -49,12 +49,12 @@ pub record Carries (opened : Opened) (packet : Outgoing) : Type 0 where
   pub payload : IsPayload packet.frames.now opened.payload.items
 
 -- why a packet isn't sealed, where there is so much room
-abbrev pub IsRefused : (SpaceId → KeyPair) → Outgoing → SealError → Type 0
-IsRefused keys packet e =
+abbrev pub IsRefusedPacket : (SpaceId → KeyPair) → Outgoing → SealError → Type 0
+IsRefusedPacket keys packet e =
     let pair = keys (space_in packet.header.now) in
     (spare : ℕ) × SealRefused e pair.tag_size packet.header.now pair.sample_len (payload_of packet.frames.now) spare
 
 -- why two packets are not sealed and opened: one of them can't be sealed, or memory ran out
 abbrev pub IsFailure : (SpaceId → KeyPair) → Outgoing → Outgoing → Failure → Type 0
-IsFailure keys first second (failure.Seal e) = IsRefused keys first e ⊎ IsRefused keys second e
+IsFailure keys first second (failure.Seal e) = IsRefusedPacket keys first e ⊎ IsRefusedPacket keys second e
 IsFailure keys first second (failure.Open e) = e ≡ error.OutOfMemory

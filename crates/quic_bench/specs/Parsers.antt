@@ -5,14 +5,14 @@ use Rattle.std.proofs.lemmas.Bool.Decides.{nat_tests}
 use Rattle.quic_header_decode.specs.Refusal.{Refusal, Invalid, NoMemory}
 
 -- an answer takes bytes that are there, and want of memory is no refusal
-abbrev pub IsLawful : List ℕ → Result (List ℕ × ℕ) Refusal → Type 0
-IsLawful bytes answer = MatchResult answer (λ x. x.1 ≤ length bytes) (λ e. e ≢ NoMemory)
+abbrev pub IsLawfulParser : List ℕ → Result (List ℕ × ℕ) Refusal → Type 0
+IsLawfulParser bytes answer = MatchResult answer (λ x. x.1 ≤ length bytes) (λ e. e ≢ NoMemory)
 
 -- no bytes are an id
 abbrev pub none_parsed : List ℕ → Result (List ℕ × ℕ) Refusal
 none_parsed bytes = Ok ([], 0)
 
-pub none_lawful : (bytes : List ℕ) → IsLawful bytes (none_parsed bytes)
+pub none_lawful : (bytes : List ℕ) → IsLawfulParser bytes (none_parsed bytes)
 none_lawful bytes = omega arith
 
 -- the first byte is how many bytes the id has, 1 to 20, itself among them
@@ -23,12 +23,12 @@ self_sized_parsed (size ∷ rest) =
     else Ok (take size (size ∷ rest), size)
 
 self_sized_cases : (bad : Bool) (size : ℕ) (rest text : List ℕ) → (bad ≡ false → size ≤ length (size ∷ rest))
-    → IsLawful (size ∷ rest) (cond {A = Result (List ℕ × ℕ) Refusal} bad (Err (Invalid text))
+    → IsLawfulParser (size ∷ rest) (cond {A = Result (List ℕ × ℕ) Refusal} bad (Err (Invalid text))
     (Ok (take size (size ∷ rest), size)))
 self_sized_cases true size rest text h = λ e. cc
 self_sized_cases false size rest text h = h refl
 
-pub self_sized_lawful : (bytes : List ℕ) → IsLawful bytes (self_sized_parsed bytes)
+pub self_sized_lawful : (bytes : List ℕ) → IsLawfulParser bytes (self_sized_parsed bytes)
 self_sized_lawful [] = λ e. cc
 self_sized_lawful (size ∷ rest) =
     self_sized_cases ((size == 0) || nat_lt 20 size || nat_lt (length rest + 1) size) size rest (codes "bad id")

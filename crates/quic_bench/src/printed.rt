@@ -7,9 +7,9 @@ ghost use Rattle.quic_canon.specs.Least.{IsLeast};
 ghost use Rattle.quic_frame_fields.specs.Reading.{Broken, invalid};
 ghost use Rattle.quic_frame_fields.specs.declared.frame.fault.Fault.{Fault};
 ghost use Rattle.quic_frames.specs.Placed as frames;
-ghost use Rattle.quic_header_decode.specs.Datagram.{Placed, ArePackets};
+ghost use Rattle.quic_header_decode.specs.Datagram.{PlacedPacket, ArePackets};
 ghost use Rattle.quic_header_decode.specs.Refusal.{Refusal};
-ghost use Rattle.quic_params.specs.Meaning.{IsAnswer};
+ghost use Rattle.quic_params.specs.Meaning.{IsReadAnswer};
 ghost use Rattle.quic_params.specs.declared.error.Error.{Error};
 ghost use Rattle.quic_params.specs.declared.record.TransportParameters.{TransportParameters};
 ghost use Rattle.quic_text.specs.DatagramText.{with_ids_of, packet_line, refusal_lines};
@@ -31,7 +31,7 @@ pub fn packets_printed<R: Source, W: Sink>(
     source: &mut R,
     sink: &mut W,
 ) -> Result<bool, RunError>
-    ensures { OnOk result ((bytes : List ℕ) → AreBytes bytes → (packets : List Placed) × (refusal : Option Refusal)
+    ensures { OnOk result ((bytes : List ℕ) → AreBytes bytes → (packets : List PlacedPacket) × (refusal : Option Refusal)
         × IsOneRow (with_ids_of (count len)) bytes packets refusal
         × Prints bytes (map packet_line packets ++ refusal_lines refusal)
         (R.given source.old) (R.given source.new) (W.taken sink.old) (W.taken sink.new)) }
@@ -109,7 +109,7 @@ pub fn parameters_printed<R: Source, W: Sink>(
     sink: &mut W,
 ) -> Result<bool, RunError>
     ensures { OnOk result ((list : List ℕ) (answer : Result TransportParameters Error)
-        → AreBytes list → IsAnswer side list answer
+        → AreBytes list → IsReadAnswer side list answer
         → Prints list (answer_lines answer)
         (R.given source.old) (R.given source.new) (W.taken sink.old) (W.taken sink.new)) }
 {

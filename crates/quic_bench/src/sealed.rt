@@ -4,7 +4,7 @@ ghost use Rattle.std.specs.Prelude.{◌≡◌, ◌++◌, ◌<◌, ◌∷◌, fal
 ghost use Rattle.quic_frames.specs.Written.{IsPayload};
 ghost use Rattle.quic_packets.specs.Opening.{read_by, AreExpected};
 ghost use Rattle.quic_packets.specs.Spaces.{expected_in};
-ghost use Rattle.quic_bench.specs.Outgoing.{CanBeSealed, Carries, IsFailure, IsFoundAgain, IsRefused};
+ghost use Rattle.quic_bench.specs.Outgoing.{CanBeSealed, Carries, IsFailure, IsFoundAgain, IsRefusedPacket};
 
 use crate::two_packets::{Failure, Outgoing, seal};
 use bytes::BytesMut;
@@ -28,7 +28,7 @@ pub fn sealed_alike<H: HeaderKey, P: PacketKey>(
 ) -> Result<bool, SealError>
     requires { CanBeSealed packet.now }
     ensures alike { IfOk result (λ same. same ≡ true) }
-    ensures refused { IfErr result (λ e. IsRefused (⟦<SpaceKeys<H, P> as PairsOfKeys>⟧.pairs keys.now) packet.now e) }
+    ensures refused { IfErr result (λ e. IsRefusedPacket (⟦<SpaceKeys<H, P> as PairsOfKeys>⟧.pairs keys.now) packet.now e) }
 {
     one_packet();
     let mut one = Vec::new(alloc);

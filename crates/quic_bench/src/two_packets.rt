@@ -5,7 +5,7 @@ ghost use Rattle.quic_header_encode.specs.Queries.{space_in};
 ghost use Rattle.quic_packets.specs.Opening.{read_by, AreExpected};
 ghost use Rattle.quic_packets.specs.Sealing.{IsAppended, SealedFrames};
 ghost use Rattle.quic_packets.specs.Spaces.{expected_in};
-ghost use Rattle.quic_bench.specs.Outgoing.{AreSealed, CanBeSealed, Carries, IsFailure, IsFoundAgain, IsRefused};
+ghost use Rattle.quic_bench.specs.Outgoing.{AreSealed, CanBeSealed, Carries, IsFailure, IsFoundAgain, IsRefusedPacket};
 
 use bytes::BytesMut;
 use quic_crypto::crypto::{HeaderKey, PacketKey};
@@ -50,7 +50,7 @@ pub(crate) fn seal<H: HeaderKey, P: PacketKey>(
         (λ _. IsAppended (SealedFrames
         (⟦<SpaceKeys<H, P> as PairsOfKeys>⟧.pairs keys.now (space_in packet.now.header.now))
         packet.now.header.now packet.now.number packet.now.frames.now) out.old.items out.new.items) }
-    ensures refused { IfErr result (λ e. IsRefused (⟦<SpaceKeys<H, P> as PairsOfKeys>⟧.pairs keys.now) packet.now e) }
+    ensures refused { IfErr result (λ e. IsRefusedPacket (⟦<SpaceKeys<H, P> as PairsOfKeys>⟧.pairs keys.now) packet.now e) }
 {
     let keys = keys.of(packet.header.space());
     match seal_packet(packet.header, packet.number, packet.frames, keys, out) {
@@ -70,8 +70,8 @@ fn seal_both<H: HeaderKey, P: PacketKey>(
     requires second { CanBeSealed second.now }
     ensures sealed { IfOk result
         (λ out. AreSealed (⟦<SpaceKeys<H, P> as PairsOfKeys>⟧.pairs keys.now) first.now second.now out.items) }
-    ensures refused { IfErr result (λ e. IsRefused (⟦<SpaceKeys<H, P> as PairsOfKeys>⟧.pairs keys.now) first.now e
-        ⊎ IsRefused (⟦<SpaceKeys<H, P> as PairsOfKeys>⟧.pairs keys.now) second.now e) }
+    ensures refused { IfErr result (λ e. IsRefusedPacket (⟦<SpaceKeys<H, P> as PairsOfKeys>⟧.pairs keys.now) first.now e
+        ⊎ IsRefusedPacket (⟦<SpaceKeys<H, P> as PairsOfKeys>⟧.pairs keys.now) second.now e) }
 {
     let mut out = Vec::new(alloc);
     seal(first, keys, &mut out)?;

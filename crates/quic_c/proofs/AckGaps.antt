@@ -16,7 +16,7 @@ use Rattle.quic_frame_fields.specs.Sets.{ack_type, count_numbers}
 use Rattle.quic_frame_fields.specs.Shortest.{shortest_below, shortest_frame}
 use Rattle.quic_c.specs.declared.words.FrameWords.{FrameWords}
 use Rattle.quic_c.specs.declared.words.GapWords.{GapWords}
-use Rattle.quic_c.specs.AckGaps.{ack_bytes, ack_said, behind_type, counts_list, counts_said, delay_in, front_numbers, gap_numbers, greatest_in, AreUnder, Fit, IsAck, DescribesAck}
+use Rattle.quic_c.specs.AckGaps.{ack_bytes, ack_said, behind_type, counts_list, counts_said, delay_in, front_numbers, gap_numbers, greatest_of_words, AreUnder, Fit, IsAck, DescribesAck}
 use Rattle.quic_c.specs.Front.{gap_of, gaps_below}
 
 -- ---- the ranges that gaps say
@@ -79,7 +79,7 @@ counts_by flags a b c e = elim e [
 pub whole : (last : Bool) (words : FrameWords) (gaps : List GapWords) (low : ℕ) (below : List (ℕ × ℕ)) → DescribesAck words gaps low below
     → shortest_frame last (ack_said words low below) ≡ ack_bytes words gaps
 whole last words gaps low below s =
-    let g : ℕ = greatest_in words in
+    let g : ℕ = greatest_of_words words in
     let d : ℕ = delay_in words in
     let counts : List ℕ = counts_list words in
     let parts = ack_parts last g d (low, g) below (counts_said counts) in
@@ -98,7 +98,7 @@ whole last words gaps low below s =
 pub is_of : (words : FrameWords) (gaps : List GapWords) (low : ℕ) (below : List (ℕ × ℕ)) → DescribesAck words gaps low below → IsAck words gaps
 is_of words gaps low below s =
     let e = s.first in
-    let down : low ≡ greatest_in words - words.data_len = omega (arith, e) in
+    let down : low ≡ greatest_of_words words - words.data_len = omega (arith, e) in
     record {
       kind = s.kind;
       flags = s.flags;
@@ -111,7 +111,7 @@ is_of words gaps low below s =
 
 pub says_of : (words : FrameWords) (gaps : List GapWords) → IsAck words gaps → (low : ℕ) × (below : List (ℕ × ℕ)) × DescribesAck words gaps low below
 says_of words gaps i =
-    let low : ℕ = greatest_in words - words.data_len in
+    let low : ℕ = greatest_of_words words - words.data_len in
     let f = i.first in (
       low,
       ranges_of low gaps,
@@ -150,10 +150,10 @@ counts_below words two =
     subst (λ (f : ℕ). (bit_or (bit_or a b) c < 2 ^ 62) ↔ AreNumeric (if f == 2 then a ∷ b ∷ c ∷ [] else [])) (sym two) (three_below a b c)
 
 pub numeric_by : (words : FrameWords) (bits : ℕ) → (words.flags ≡ 0) ⊎ (words.flags ≡ 2) → (bits < 2 ^ 62) ↔ AreNumeric (counts_list words)
-    → IsTrue (nat_lt (bit_or (bit_or (greatest_in words) (delay_in words)) bits) (2 ^ 62))
-    ↔ (((words.flags ≡ 0) ⊎ (words.flags ≡ 2)) × AreNumeric (greatest_in words ∷ delay_in words ∷ counts_list words))
+    → IsTrue (nat_lt (bit_or (bit_or (greatest_of_words words) (delay_in words)) bits) (2 ^ 62))
+    ↔ (((words.flags ≡ 0) ⊎ (words.flags ≡ 2)) × AreNumeric (greatest_of_words words ∷ delay_in words ∷ counts_list words))
 numeric_by words bits flags counts =
-    let g : ℕ = greatest_in words in
+    let g : ℕ = greatest_of_words words in
     let d : ℕ = delay_in words in (
       λ e.
           let all = both_below (bit_or g d) bits (ltb-true (bit_or (bit_or g d) bits) (2 ^ 62) e) in

@@ -14,7 +14,7 @@ use Rattle.quic_frames.specs.Meaning.{meaning_of}
 use Rattle.quic_c.specs.declared.words.FrameWords.{FrameWords}
 use Rattle.quic_c.specs.Shown.{data_of}
 use Rattle.quic_c.specs.Written.{CanWriteFrame}
-use Rattle.quic_c.specs.Headers.{IsHeaded, HasHeader, AreTwo, IsCounted, first_in, second_in, header_by, header_bytes}
+use Rattle.quic_c.specs.Headers.{IsHeaded, HasHeader, AreTwo, IsCounted, first_in, second_in, data_header_by, data_header_bytes}
 
 zero_fits : 0 < 2 ^ 62
 zero_fits = omega arith
@@ -35,7 +35,7 @@ never kind other h e apart =
 
 -- what the law says of a frame
 abbrev IsCut : FrameWords → Bool → Frame → Type 0
-IsCut words last frame = HasHeader words last × (shortest_frame last (meaning_of frame) ≡ header_bytes words last ++ data_of frame)
+IsCut words last frame = HasHeader words last × (shortest_frame last (meaning_of frame) ≡ data_header_bytes words last ++ data_of frame)
 
 fin_is : (fin : Bool) → ◌≡◌ {A = Bool} ((if fin then 1 else 0) == 1) fin
 fin_is true = refl
@@ -49,14 +49,14 @@ inner_of : (kind : ℕ) (last : Bool) → IsCounted kind last → (kind ≡ 0x06
 inner_of kind last (inl e) other = absurd (other e)
 inner_of kind last (inr e) other = e
 
-datagram_parts : (last : Bool) (d : Datagram) → shortest_frame last (meaning_of (frames.Datagram d)) ≡ header_by 0x30 0 (0 ∷ 0 ∷ 0 ∷ 0 ∷ 0 ∷ []) (length d.bytes.now) last ++ d.bytes.now
+datagram_parts : (last : Bool) (d : Datagram) → shortest_frame last (meaning_of (frames.Datagram d)) ≡ data_header_by 0x30 0 (0 ∷ 0 ∷ 0 ∷ 0 ∷ 0 ∷ []) (length d.bytes.now) last ++ d.bytes.now
 datagram_parts true d = datagram_open d.bytes.now
 datagram_parts false d = datagram_counted d.bytes.now
 
 pub header_and : (words : FrameWords) (bytes : List ℕ) (last : Bool) (frame : Frame) → IsHeaded words.kind → CanWriteFrame words bytes last frame → IsCut words last frame
 header_and words bytes last (frames.Crypto x) h can =
     let s = can.said in
-    let same : header_bytes words last ≡ header_by 0x06 0 (0 ∷ x.offset ∷ 0 ∷ 0 ∷ 0 ∷ []) (length x.bytes.now) last = rw (s.kind, s.numbers, s.count) refl in
+    let same : data_header_bytes words last ≡ data_header_by 0x06 0 (0 ∷ x.offset ∷ 0 ∷ 0 ∷ 0 ∷ []) (length x.bytes.now) last = rw (s.kind, s.numbers, s.count) refl in
     let has : HasHeader words last = record {
       kind = h;
       two = subst AreTwo (sym s.numbers) (refl, refl, refl);
@@ -70,7 +70,7 @@ header_and words bytes last (frames.Crypto x) h can =
 header_and words bytes last (frames.Stream x) h can =
     let s = can.said in
     let fin : ◌≡◌ {A = Bool} (words.flags == 1) x.fin = ap (λ (n : ℕ). n == 1) s.flags ∙ fin_is x.fin in
-    let same : header_bytes words last ≡ stream_header x.id x.offset x.fin (if last then None else Some (length x.bytes.now)) = rw (fin, s.kind, s.numbers, s.count) refl in
+    let same : data_header_bytes words last ≡ stream_header x.id x.offset x.fin (if last then None else Some (length x.bytes.now)) = rw (fin, s.kind, s.numbers, s.count) refl in
     let has : HasHeader words last = record {
       kind = h;
       two = subst AreTwo (sym s.numbers) (refl, refl, refl);
@@ -83,7 +83,7 @@ header_and words bytes last (frames.Stream x) h can =
     (has, sym (stream_parts last x.fin x.id x.offset x.bytes.now) ∙ ap (λ (l : List ℕ). l ++ x.bytes.now) (sym same))
 header_and words bytes last (frames.Datagram x) h can =
     let s = can.said in
-    let same : header_bytes words last ≡ header_by 0x30 0 (0 ∷ 0 ∷ 0 ∷ 0 ∷ 0 ∷ []) (length x.bytes.now) last = rw (s.kind, s.count) refl in
+    let same : data_header_bytes words last ≡ data_header_by 0x30 0 (0 ∷ 0 ∷ 0 ∷ 0 ∷ 0 ∷ []) (length x.bytes.now) last = rw (s.kind, s.count) refl in
     let has : HasHeader words last = record {
       kind = h;
       two = subst AreTwo (sym s.numbers) (refl, refl, refl);

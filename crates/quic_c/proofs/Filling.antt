@@ -9,8 +9,8 @@ use Rattle.quic_frames.specs.IterState.{IterState}
 use Rattle.quic_frames.specs.Walk.{Finds}
 use Rattle.quic_frames.specs.Padding.{PassesPadding, behind}
 use Rattle.quic_c.specs.declared.words.FrameWords.{FrameWords}
-use Rattle.quic_c.specs.Shown.{kind_of, shown, IsExtension}
-use Rattle.quic_c.specs.Answers.{IsRefused}
+use Rattle.quic_c.specs.Shown.{frame_kind_of, shown, IsExtension}
+use Rattle.quic_c.specs.Answers.{IsRefusedFrame}
 use Rattle.quic_frame_fields.specs.Reading.{Invalid}
 use Rattle.quic_c.specs.Filling.{GivesEntry, Shows, HasNoFrame, Fills, further}
 
@@ -58,15 +58,15 @@ pub kinds : (n : ℕ) → (n ≡ 0) ⊎ (0 < n)
 kinds zero = inl refl
 kinds (suc n) = inr (omega arith)
 
-next_further : (here next new : IterState) (frame : Frame) → Finds here frame next → (kind_of frame ≡ 0 → (more : ℕ) × PassesPadding next more new) → (0 < kind_of frame → new ≡ next) → IsFurther here new
+next_further : (here next new : IterState) (frame : Frame) → Finds here frame next → (frame_kind_of frame ≡ 0 → (more : ℕ) × PassesPadding next more new) → (0 < frame_kind_of frame → new ≡ next) → IsFurther here new
 next_further here next new frame f run one =
-    elim (kinds (kind_of frame)) [
+    elim (kinds (frame_kind_of frame)) [
       | inl is ↦ let p = run is in further_on here next new (found_further here next frame f) (passed_further next new p.0 p.1)
       | inr is ↦ subst (λ (w : IterState). IsFurther here w) (sym (one is)) (found_further here next frame f)
     ]
 
 pub filling_goes_on : (basic : Bool) (old : IterState) (before : List FrameWords) (here : IterState) (after : List FrameWords) (count end : ℕ) (next new : IterState) (frame : Frame) (entry : FrameWords) (stop type : ℕ)
-    → Filling basic old before here after count end → count < length after → (finds : Finds here frame next) → ((basic ≡ true) × IsExtension (kind_of frame) → ⊥) → (kind_of frame ≡ 0 → (more : ℕ) × PassesPadding next more new) → (0 < kind_of frame → new ≡ next)
+    → Filling basic old before here after count end → count < length after → (finds : Finds here frame next) → ((basic ≡ true) × IsExtension (frame_kind_of frame) → ⊥) → (frame_kind_of frame ≡ 0 → (more : ℕ) × PassesPadding next more new) → (0 < frame_kind_of frame → new ≡ next)
     → stop ≡ new.offset → type ≡ finds.found.type → entry ≡ shown end stop type frame → Filling basic old before new (set after count entry) (count + 1) stop
 filling_goes_on basic old before here after count end next new frame entry stop type s room f known run one e begins words =
     let same_words : entry ≡ shown here.offset new.offset f.found.type frame =
@@ -99,7 +99,7 @@ filling_none basic old before here after count end s none =
 
 -- where it stops in front of what isn't given, which is reported if no entry was filled
 pub filling_stops : (basic : Bool) (old : IterState) (before : List FrameWords) (here : IterState) (after : List FrameWords) (count end : ℕ) (reported : Invalid) → Filling basic old before here after count end
-    → IsRefused basic here reported → count ≡ 0 → IsRefused basic old reported × (after ≡ before)
+    → IsRefusedFrame basic here reported → count ≡ 0 → IsRefusedFrame basic old reported × (after ≡ before)
 filling_stops basic old before here after count end reported s refused none =
     let n = filling_none basic old before here after count end s none in
-    (subst (λ (w : IterState). IsRefused basic w reported) (sym n.0) refused, n.1)
+    (subst (λ (w : IterState). IsRefusedFrame basic w reported) (sym n.0) refused, n.1)

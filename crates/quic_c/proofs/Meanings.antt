@@ -13,7 +13,7 @@ use Rattle.quic_frames.specs.Meaning.{meaning_of, frame_of}
 use Rattle.quic_c.specs.declared.words.FrameWords.{FrameWords}
 use Rattle.quic_c.specs.Headers.{first_in, second_in}
 use Rattle.quic_c.specs.Shapes.{token_room}
-use Rattle.quic_c.specs.Shown.{kind_of, flags_of, numbers_of, data_of, tail_of}
+use Rattle.quic_c.specs.Shown.{frame_kind_of, flags_of, frame_numbers_of, data_of, tail_of}
 use Rattle.quic_c.specs.Written.{CanWriteFrame, token_of}
 use Rattle.quic_c.proofs.Shapes.{keeps}
 
@@ -56,7 +56,7 @@ said_by kind flags ns bytes token =
 
 -- the same of a frame
 abbrev parts_by : Frame → Meaning
-parts_by frame = said_by (kind_of frame) (flags_of frame) (numbers_of frame) (data_of frame) (token_of frame)
+parts_by frame = said_by (frame_kind_of frame) (flags_of frame) (frame_numbers_of frame) (data_of frame) (token_of frame)
 
 said_is : (frame : Frame) → IsNoAck frame → meaning_of frame ≡ parts_by frame
 unfolding said_by
@@ -94,11 +94,11 @@ same_parts f a a' b b' c c' d d' e e' p q r s t = cc
 pub one_meaning : (words : FrameWords) (bytes : List ℕ) (last : Bool) (one other : Frame) → CanWriteFrame words bytes last one → CanWriteFrame words bytes last other
     → meaning_of one ≡ meaning_of other
 one_meaning words bytes last one other a b =
-    let kinds : kind_of one ≡ kind_of other = sym a.said.kind ∙ b.said.kind in
+    let kinds : frame_kind_of one ≡ frame_kind_of other = sym a.said.kind ∙ b.said.kind in
     let tails : tail_of one ≡ tail_of other = (keeps one a.kind).tail ∙ ap token_room kinds ∙ sym (keeps other b.kind).tail in
     let behind : List ℕ = drop words.data_len (drop words.data_offset bytes) in
     let tokens : token_of one ≡ token_of other = sym a.said.token ∙ ap (λ (n : ℕ). take n behind) tails ∙ b.said.token in
     said_is one a.kind
-    ∙ same_parts said_by (kind_of one) (kind_of other) (flags_of one) (flags_of other) (numbers_of one) (numbers_of other) (data_of one) (data_of other)
+    ∙ same_parts said_by (frame_kind_of one) (frame_kind_of other) (flags_of one) (flags_of other) (frame_numbers_of one) (frame_numbers_of other) (data_of one) (data_of other)
     (token_of one) (token_of other) kinds (sym a.said.flags ∙ b.said.flags) (sym a.said.numbers ∙ b.said.numbers) (sym a.said.content ∙ b.said.content) tokens
     ∙ sym (said_is other b.kind)

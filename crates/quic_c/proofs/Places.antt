@@ -6,7 +6,7 @@ use Rattle.quic_frame_fields.specs.Reading.{first_range_at, ranges_of, blocks_le
 use Rattle.quic_c.specs.declared.words.RangeWords.{RangeWords}
 use Rattle.quic_c.specs.declared.words.RangesWords.{RangesWords}
 use Rattle.quic_c.specs.declared.words.FrameWords.{FrameWords}
-use Rattle.quic_c.specs.Answers.{GivesRange, GivesPlace, frame_in}
+use Rattle.quic_c.specs.Answers.{GivesRange, GivesPlace, frame_of_words}
 use Rattle.quic_frame_fields.specs.AckPlace.{ack_at}
 
 pub length-part : (bytes : List ℕ) (start stop : ℕ) → stop ≤ length bytes → length (slice_range bytes start stop) ≡ stop - start
@@ -65,8 +65,8 @@ stands_in payload begin end front blocks rest ordered within parts =
     (all, ap (λ (n : ℕ). slice_range payload n (end - length rest)) start ∙ ap (λ (n : ℕ). take n (drop (begin + length front) payload)) width ∙ cut)
 
 -- what is said of the words of an ACK, where its blocks stand in it
-pub place_given : (payload : List ℕ) (frame : FrameWords) (largest : ℕ) (blocks rest : List ℕ) → frame.begin ≤ frame.end → frame.end ≤ length payload → ack_at (frame_in frame payload) ≡ Ok (largest, blocks, rest)
-    → largest < 2 ^ 62 → IsBlocks largest blocks → (front : List ℕ) × (frame_in frame payload ≡ front ++ (blocks ++ rest)) → GivesPlace frame payload (at_place (frame.end - length rest - length blocks) (frame.end - length rest) largest)
+pub place_given : (payload : List ℕ) (frame : FrameWords) (largest : ℕ) (blocks rest : List ℕ) → frame.begin ≤ frame.end → frame.end ≤ length payload → ack_at (frame_of_words frame payload) ≡ Ok (largest, blocks, rest)
+    → largest < 2 ^ 62 → IsBlocks largest blocks → (front : List ℕ) × (frame_of_words frame payload ≡ front ++ (blocks ++ rest)) → GivesPlace frame payload (at_place (frame.end - length rest - length blocks) (frame.end - length rest) largest)
 place_given payload frame largest blocks rest ordered within reads small valid parts =
     let s = stands_in payload frame.begin frame.end parts.0 blocks rest ordered within parts.1 in
     let all = s.0 in

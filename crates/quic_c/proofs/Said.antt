@@ -4,10 +4,10 @@ use Rattle.std.specs.Prelude.{◌==◌, ◌&&◌, ℤ, if◌then◌else◌}
 use Rattle.std.proofs.lemmas.Bool.{cases_eq}
 use Rattle.std.proofs.lemmas.Bool.Decides.{nat_tests}
 use Rattle.quic_frames.specs.declared.frame.Frame.{Frame}
-use Rattle.quic_frames.specs.InRange.{IsNoAck, IsTyped}
+use Rattle.quic_frames.specs.InRange.{IsNoAck, IsTypedFrame}
 use Rattle.quic_c.specs.declared.words.FrameWords.{FrameWords}
-use Rattle.quic_c.specs.Shown.{kind_of, data_of, tail_of}
-use Rattle.quic_c.specs.Shapes.{Shape, IsSound, Fills, HasPieces, IsShown, LacksData, LacksPieces, shape_of, shows_data, kept_numbers, kept_data, kept_token, token_room}
+use Rattle.quic_c.specs.Shown.{frame_kind_of, data_of, tail_of}
+use Rattle.quic_c.specs.Shapes.{Shape, IsSound, FillsShape, HasPieces, IsShown, LacksData, LacksPieces, shape_of, shows_data, kept_numbers, kept_data, kept_token, token_room}
 use Rattle.quic_c.specs.Written.{DescribesFrame, CanWriteFrame, DescribesNoFrame, IsAnswer}
 use Rattle.quic_c.proofs.Shapes.{sound, keeps, open_short, counted_short}
 
@@ -30,7 +30,7 @@ not_within words bytes last lacks frame can =
 pub not_known : (words : FrameWords) (bytes : List ℕ) (last : Bool) → shape_of words.kind ≡ None → DescribesNoFrame words bytes last
 not_known words bytes last none frame can = (keeps frame can.kind).known (sym (ap shape_of can.said.kind) ∙ none)
 
-pub shown_by : (words : FrameWords) (bytes front token : List ℕ) (built frame : Frame) → HasPieces words bytes front token → Fills words.kind (words.flags == 1) words.numbers front token built
+pub shown_by : (words : FrameWords) (bytes front token : List ℕ) (built frame : Frame) → HasPieces words bytes front token → FillsShape words.kind (words.flags == 1) words.numbers front token built
     → IsNoAck frame → DescribesFrame words bytes frame → IsShown words built
 shown_by words bytes front token built frame p f here s =
     let k = keeps frame here in
@@ -45,7 +45,7 @@ shown_by words bytes front token built frame p f here s =
     }
 
 pub not_shown : (words : FrameWords) (bytes front token : List ℕ) (last : Bool) (built : Frame) → HasPieces words bytes front token
-    → Fills words.kind (words.flags == 1) words.numbers front token built → (IsShown words built → ⊥) → DescribesNoFrame words bytes last
+    → FillsShape words.kind (words.flags == 1) words.numbers front token built → (IsShown words built → ⊥) → DescribesNoFrame words bytes last
 not_shown words bytes front token last built p f never frame can = never (shown_by words bytes front token built frame p f can.kind can.said)
 
 empty : (bytes : List ℕ) → 0 ≡ length bytes → [] ≡ bytes
@@ -60,7 +60,7 @@ kept_whole : (shape : Option Shape) (bytes : List ℕ) → length (kept_data sha
 kept_whole None bytes e = empty bytes e
 kept_whole (Some s) bytes e = kept_by s.has_data bytes e
 
-pub says : (words : FrameWords) (bytes front token : List ℕ) (frame : Frame) → HasPieces words bytes front token → Fills words.kind (words.flags == 1) words.numbers front token frame
+pub says : (words : FrameWords) (bytes front token : List ℕ) (frame : Frame) → HasPieces words bytes front token → FillsShape words.kind (words.flags == 1) words.numbers front token frame
     → IsShown words frame → DescribesFrame words bytes frame
 says words bytes front token frame p f s =
     let whole : kept_data (shape_of words.kind) front ≡ front = kept_whole (shape_of words.kind) front (sym (ap length f.content) ∙ s.count ∙ sym p.width) in
@@ -75,7 +75,7 @@ says words bytes front token frame p f s =
     }
 
 pub can_write : (words : FrameWords) (bytes front token : List ℕ) (last : Bool) (frame : Frame) → HasPieces words bytes front token
-    → Fills words.kind (words.flags == 1) words.numbers front token frame → IsShown words frame → IsTyped frame → (last ≡ false → words.data_len < 2 ^ 62)
+    → FillsShape words.kind (words.flags == 1) words.numbers front token frame → IsShown words frame → IsTypedFrame frame → (last ≡ false → words.data_len < 2 ^ 62)
     → CanWriteFrame words bytes last frame
 can_write words bytes front token last frame p f s typed short = record {
   said = says words bytes front token frame p f s;
@@ -111,16 +111,16 @@ data_kept (Some s) bytes e = ap (λ (b : Bool). if b then bytes else []) e
 no_data : (words : FrameWords) (bytes : List ℕ) (last : Bool) (frame : Frame) → LacksData words → CanWriteFrame words bytes last frame → words.data_len ≡ 0
 no_data words bytes last frame (inl none) can = none
 no_data words bytes last frame (inr e) can =
-    let lacks : shows_data (shape_of (kind_of frame)) ≡ false = ap (λ (k : ℕ). shows_data (shape_of k)) (sym can.said.kind) ∙ e in
-    can.said.count ∙ ap length (sym (keeps frame can.kind).content ∙ data_kept (shape_of (kind_of frame)) (data_of frame) lacks)
+    let lacks : shows_data (shape_of (frame_kind_of frame)) ≡ false = ap (λ (k : ℕ). shows_data (shape_of k)) (sym can.said.kind) ∙ e in
+    can.said.count ∙ ap length (sym (keeps frame can.kind).content ∙ data_kept (shape_of (frame_kind_of frame)) (data_of frame) lacks)
 
 no_room : (kind : ℕ) → (kind ≡ 0x18 → ⊥) → token_room kind ≡ 0
 no_room kind other = grind (arith, nat_tests)
 
 no_tail : (words : FrameWords) (bytes : List ℕ) (last : Bool) (frame : Frame) → words.data_len ≡ 0 → CanWriteFrame words bytes last frame → tail_of frame ≡ 0
-no_tail words bytes last frame none can = elim (cases_eq (kind_of frame) 0x18) [
+no_tail words bytes last frame none can = elim (cases_eq (frame_kind_of frame) 0x18) [
   | inl e ↦ absurd (omega (arith, (sound frame can.kind can.typed can.stands.in_range).some e, can.said.count, none))
-  | inr other ↦ (keeps frame can.kind).tail ∙ no_room (kind_of frame) other
+  | inr other ↦ (keeps frame can.kind).tail ∙ no_room (frame_kind_of frame) other
 ]
 
 pub elsewhere : (words : FrameWords) (bytes others : List ℕ) (last : Bool) (frame : Frame) → LacksData words → CanWriteFrame words bytes last frame → CanWriteFrame words others last frame

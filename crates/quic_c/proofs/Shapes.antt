@@ -6,8 +6,8 @@ use Rattle.quic_frame_fields.specs.Numbers.{AreNumeric}
 use Rattle.quic_frame_fields.specs.declared.frame.close.Close.TheVariants as closes
 use Rattle.quic_frames.specs.declared.frame.Frame.{Frame}
 use Rattle.quic_frames.specs.declared.frame.Frame.TheVariants as frames
-use Rattle.quic_frames.specs.InRange.{IsNoAck, IsTyped, InRange, open_data}
-use Rattle.quic_c.specs.Shown.{kind_of, flags_of, numbers_of, data_of, tail_of}
+use Rattle.quic_frames.specs.InRange.{IsNoAck, IsTypedFrame, InRange, open_data}
+use Rattle.quic_c.specs.Shown.{frame_kind_of, flags_of, frame_numbers_of, data_of, tail_of}
 use Rattle.quic_c.specs.Shapes.{IsSound, Shape, shape, bare_shape, first_shape, second_shape, both_shape, shape_of, masked, kept_numbers, kept_data, token_room}
 
 zero_fits : 0 < 2 ^ 62
@@ -22,7 +22,7 @@ two a b p q = four a b 0 0 p q zero_fits zero_fits
 plain : (kind : ℕ) (numbers : List ℕ) (len : ℕ) → AreNumeric numbers → len < 2 ^ 62 → (kind ≡ 0x18 → ⊥) → IsSound kind numbers len
 plain kind numbers len n l other = record { numeric = λ _. n; counted = λ _. l; ordered = λ e. absurd (other e); some = λ e. absurd (other e); few = λ e. absurd (other e) }
 
-pub sound : (frame : Frame) → IsNoAck frame → IsTyped frame → InRange frame → IsSound (kind_of frame) (numbers_of frame) (length (data_of frame))
+pub sound : (frame : Frame) → IsNoAck frame → IsTypedFrame frame → InRange frame → IsSound (frame_kind_of frame) (frame_numbers_of frame) (length (data_of frame))
 sound frames.Padding here typed ok = plain _ _ _ (two 0 0 zero_fits zero_fits) (zero_fits) (λ e. absurd (omega arith))
 sound (frames.Ack _) here typed ok = elim here [ ]
 sound frames.Ping here typed ok = plain _ _ _ (two 0 0 zero_fits zero_fits) (zero_fits) (λ e. absurd (omega arith))
@@ -53,11 +53,11 @@ sound frames.HandshakeDone here typed ok = plain _ _ _ (two 0 0 zero_fits zero_f
 
 -- which of its words a frame takes
 pub record Keeps (frame : Frame) : Type 0 where
-  pub known : shape_of (kind_of frame) ≡ None → ⊥
-  pub numbers : kept_numbers (shape_of (kind_of frame)) (numbers_of frame) ≡ numbers_of frame
-  pub content : kept_data (shape_of (kind_of frame)) (data_of frame) ≡ data_of frame
-  pub flags : ◌≡◌ {A = ℕ} (if kind_of frame == 0x08 && flags_of frame == 1 then 1 else 0) (flags_of frame)
-  pub tail : tail_of frame ≡ token_room (kind_of frame)
+  pub known : shape_of (frame_kind_of frame) ≡ None → ⊥
+  pub numbers : kept_numbers (shape_of (frame_kind_of frame)) (frame_numbers_of frame) ≡ frame_numbers_of frame
+  pub content : kept_data (shape_of (frame_kind_of frame)) (data_of frame) ≡ data_of frame
+  pub flags : ◌≡◌ {A = ℕ} (if frame_kind_of frame == 0x08 && flags_of frame == 1 then 1 else 0) (flags_of frame)
+  pub tail : tail_of frame ≡ token_room (frame_kind_of frame)
 
 fin_kept : (fin : Bool) → ◌≡◌ {A = ℕ} (if (if fin then 1 else 0) == 1 then 1 else 0) (if fin then 1 else 0)
 fin_kept true = refl
@@ -67,11 +67,11 @@ fin_kept false = refl
 none_some : (s : Shape) → ◌≡◌ {A = Option Shape} (Some s) None → ⊥
 none_some s e = cc
 
-kept_by : (frame : Frame) (s : Shape) → shape_of (kind_of frame) ≡ Some s → masked s.numbers (numbers_of frame) ≡ numbers_of frame → (if s.has_data then data_of frame else []) ≡ data_of frame
-    → ◌≡◌ {A = ℕ} (if kind_of frame == 0x08 && flags_of frame == 1 then 1 else 0) (flags_of frame) → tail_of frame ≡ token_room (kind_of frame) → Keeps frame
+kept_by : (frame : Frame) (s : Shape) → shape_of (frame_kind_of frame) ≡ Some s → masked s.numbers (frame_numbers_of frame) ≡ frame_numbers_of frame → (if s.has_data then data_of frame else []) ≡ data_of frame
+    → ◌≡◌ {A = ℕ} (if frame_kind_of frame == 0x08 && flags_of frame == 1 then 1 else 0) (flags_of frame) → tail_of frame ≡ token_room (frame_kind_of frame) → Keeps frame
 kept_by frame s e numbers content flags tail = record {
   known = λ none. none_some s (sym e ∙ none);
-  numbers = ap (λ (o : Option Shape). kept_numbers o (numbers_of frame)) e ∙ numbers;
+  numbers = ap (λ (o : Option Shape). kept_numbers o (frame_numbers_of frame)) e ∙ numbers;
   content = ap (λ (o : Option Shape). kept_data o (data_of frame)) e ∙ content;
   flags = flags;
   tail = tail;

@@ -11,8 +11,8 @@ use Rattle.quic_c.specs.declared.words.GapWords.{GapWords}
 use Rattle.quic_c.specs.Front.{gaps_below}
 
 -- the greatest number and the delay
-abbrev pub greatest_in : FrameWords → ℕ
-greatest_in words = slice_index words.numbers 0
+abbrev pub greatest_of_words : FrameWords → ℕ
+greatest_of_words words = slice_index words.numbers 0
 
 abbrev pub delay_in : FrameWords → ℕ
 delay_in words = slice_index words.numbers 1
@@ -35,17 +35,17 @@ AreUnder low (range ∷ ranges) = (range.0 ≤ range.1) × (range.1 + 2 ≤ low)
 pub record DescribesAck (words : FrameWords) (gaps : List GapWords) (low : ℕ) (below : List (ℕ × ℕ)) : Type 0 where
   pub kind : words.kind ≡ 0x02
   pub flags : (words.flags ≡ 0) ⊎ (words.flags ≡ 2)
-  pub first : low + words.data_len ≡ greatest_in words
+  pub first : low + words.data_len ≡ greatest_of_words words
   pub under : AreUnder low below
   pub gaps_are : gaps ≡ gaps_below low below
-  pub greatest : greatest_in words < 2 ^ 62
+  pub greatest : greatest_of_words words < 2 ^ 62
   pub delay : delay_in words < 2 ^ 62
   pub counts : AreNumeric (counts_list words)
 
 -- the ACK
 abbrev pub ack_said : FrameWords → ℕ → List (ℕ × ℕ) → Meaning
 ack_said words low below =
-    frame_of Ack (Number (greatest_in words) ∷ Number (delay_in words) ∷ Ranges ((low, greatest_in words) ∷ below) ∷ counts_of (counts_said (counts_list words)))
+    frame_of Ack (Number (greatest_of_words words) ∷ Number (delay_in words) ∷ Ranges ((low, greatest_of_words words) ∷ below) ∷ counts_of (counts_said (counts_list words)))
 
 -- ---- No public clause cites what follows.
 
@@ -63,15 +63,15 @@ Fit low (g ∷ gaps) = (g.gap + 2 + g.len ≤ low) × Fit (low - 2 - g.gap - g.l
 pub record IsAck (words : FrameWords) (gaps : List GapWords) : Type 0 where
   pub kind : words.kind ≡ 0x02
   pub flags : (words.flags ≡ 0) ⊎ (words.flags ≡ 2)
-  pub first : words.data_len ≤ greatest_in words
-  pub fit : Fit (greatest_in words - words.data_len) gaps
-  pub greatest : greatest_in words < 2 ^ 62
+  pub first : words.data_len ≤ greatest_of_words words
+  pub fit : Fit (greatest_of_words words - words.data_len) gaps
+  pub greatest : greatest_of_words words < 2 ^ 62
   pub delay : delay_in words < 2 ^ 62
   pub counts : AreNumeric (counts_list words)
 
 -- their numbers in front of the gaps, behind the type
 abbrev pub behind_type : FrameWords → List GapWords → List ℕ
-behind_type words gaps = greatest_in words ∷ delay_in words ∷ length gaps ∷ words.data_len ∷ []
+behind_type words gaps = greatest_of_words words ∷ delay_in words ∷ length gaps ∷ words.data_len ∷ []
 
 -- these with the type
 abbrev pub front_numbers : FrameWords → List GapWords → List ℕ

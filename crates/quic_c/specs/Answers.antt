@@ -13,7 +13,7 @@ use Rattle.quic_c.specs.declared.words.FramesWords.{FramesWords}
 use Rattle.quic_c.specs.declared.words.FrameWords.{FrameWords}
 use Rattle.quic_c.specs.declared.words.RangeWords.{RangeWords}
 use Rattle.quic_c.specs.declared.words.RangesWords.{RangesWords}
-use Rattle.quic_c.specs.Shown.{state_of, type_word, shown, shown_invalid, kind_of, IsExtension}
+use Rattle.quic_c.specs.Shown.{state_of, type_word, shown, shown_invalid, frame_kind_of, IsExtension}
 
 -- the number of a reason: 1 unexpected end, 2 invalid frame ID, 3 malformed, 4 frame type not in shortest form
 abbrev pub reason_in : List ℕ → ℕ
@@ -28,25 +28,25 @@ pub record IsUnknown (state : IterState) (reported : Invalid) : Type 0 where
   pub frame : Frame
   pub next : IterState
   pub finds : Finds state frame next
-  pub extension : IsExtension (kind_of frame)
-  pub is : reported ≡ unknown_type (kind_of frame)
+  pub extension : IsExtension (frame_kind_of frame)
+  pub is : reported ≡ unknown_type (frame_kind_of frame)
 
 -- What stands there isn't given, and this is reported of it: it is no frame, or a frame of that extension where these are
 -- of unknown types.
-abbrev pub IsRefused : Bool → IterState → Invalid → Type 0
-IsRefused basic state reported = (left state ≡ Broken reported ∷ []) ⊎ (basic ≡ true) × IsUnknown state reported
+abbrev pub IsRefusedFrame : Bool → IterState → Invalid → Type 0
+IsRefusedFrame basic state reported = (left state ≡ Broken reported ∷ []) ⊎ (basic ≡ true) × IsUnknown state reported
 
 -- A frame was found where the words stand, and its words were given: one of that extension only where these are known.
-pub record GivesFrame (basic : Bool) (old : FramesWords) (payload : List ℕ) (new : FramesWords) (out : FrameWords) : Type 0 where
+pub record GivesFrameWords (basic : Bool) (old : FramesWords) (payload : List ℕ) (new : FramesWords) (out : FrameWords) : Type 0 where
   pub frame : Frame
   pub finds : Finds (state_of old payload) frame (state_of new payload)
-  pub known : (basic ≡ true) × IsExtension (kind_of frame) → ⊥
+  pub known : (basic ≡ true) × IsExtension (frame_kind_of frame) → ⊥
   pub words : out ≡ shown old.offset new.offset finds.found.type frame
 
 -- What stands there isn't given, and that is reported; nothing is left.
 pub record GivesInvalid (basic : Bool) (old : FramesWords) (payload : List ℕ) (new : FramesWords) (out : FrameWords) : Type 0 where
   pub reported : Invalid
-  pub first : IsRefused basic (state_of old payload) reported
+  pub first : IsRefusedFrame basic (state_of old payload) reported
   pub over : new ≡ record old { ended = 1 }
   pub words : out ≡ shown_invalid old.offset (type_word reported.type) (reason_in reported.reason)
 
@@ -55,7 +55,7 @@ pub record GivesInvalid (basic : Bool) (old : FramesWords) (payload : List ℕ) 
 -- place lies outside the payload. Nothing changes with 0 and -1.
 pub record AnswersNext (basic : Bool) (old : FramesWords) (payload : List ℕ) (before : FrameWords) (answer : ℤ) (new : FramesWords) (after : FrameWords) : Type 0 where
   pub answers : (answer ≡ pos 1) ⊎ (answer ≡ pos 0) ⊎ (answer ≡ negsuc 2) ⊎ (answer ≡ negsuc 0)
-  pub frame : answer ≡ pos 1 → GivesFrame basic old payload new after
+  pub frame : answer ≡ pos 1 → GivesFrameWords basic old payload new after
   pub end : answer ≡ pos 0 → left (state_of old payload) ≡ []
   pub invalid : answer ≡ negsuc 2 → GivesInvalid basic old payload new after
   pub outside : (answer ≡ negsuc 0) ↔ (length payload < old.offset)
@@ -71,15 +71,15 @@ pub record IsWithin (ranges : RangesWords) (payload : List ℕ) : Type 0 where
   pub ends : ranges.end ≤ length payload
 
 -- the bytes of a frame
-abbrev pub frame_in : FrameWords → List ℕ → List ℕ
-frame_in frame payload = slice_range payload frame.begin frame.end
+abbrev pub frame_of_words : FrameWords → List ℕ → List ℕ
+frame_of_words frame payload = slice_range payload frame.begin frame.end
 
 -- The frame is an ACK, and its greatest number and the place of its blocks were given.
 pub record GivesPlace (frame : FrameWords) (payload : List ℕ) (new : RangesWords) : Type 0 where
   pub ordered : frame.begin ≤ frame.end
   pub ends : frame.end ≤ length payload
   pub rest : List ℕ
-  pub reads : ack_at (frame_in frame payload) ≡ Ok (new.largest, blocks_in new payload, rest)
+  pub reads : ack_at (frame_of_words frame payload) ≡ Ok (new.largest, blocks_in new payload, rest)
   pub stop : new.end + length rest ≡ frame.end
   pub begins : frame.begin ≤ new.begin
   pub within : IsWithin new payload
@@ -108,20 +108,20 @@ IsWholeAck bytes largest blocks = (greatest : ℕ) (others : List ℕ) → ack_a
 pub record GivesFront (frame : FrameWords) (payload : List ℕ) (new : RangesWords) : Type 0 where
   pub ordered : frame.begin ≤ frame.end
   pub ends : frame.end ≤ length payload
-  pub front : ack_front_at (frame_in frame payload) ≡ Ok (new.largest, blocks_in new payload)
+  pub front : ack_front_at (frame_of_words frame payload) ≡ Ok (new.largest, blocks_in new payload)
   pub stop : new.end ≡ frame.end
   pub within : IsWithin new payload
   pub begins : frame.begin ≤ new.begin
   pub small : new.largest < 2 ^ 62
-  pub ack : (greatest : ℕ) (others : List ℕ) → ack_at (frame_in frame payload) ≡ Ok (greatest, others, []) → GivesPlace frame payload new
+  pub ack : (greatest : ℕ) (others : List ℕ) → ack_at (frame_of_words frame payload) ≡ Ok (greatest, others, []) → GivesPlace frame payload new
 
 -- The place of the frame lies outside the payload, or no front of an ACK without counts is read there.
 abbrev pub LacksFront : FrameWords → List ℕ → Type 0
-LacksFront frame payload = (frame.end < frame.begin) ⊎ (length payload < frame.end) ⊎ IsErr (ack_front_at (frame_in frame payload))
+LacksFront frame payload = (frame.end < frame.begin) ⊎ (length payload < frame.end) ⊎ IsErr (ack_front_at (frame_of_words frame payload))
 
 -- The place of the frame lies outside the payload, or no ACK is read there.
 abbrev pub LacksAck : FrameWords → List ℕ → Type 0
-LacksAck frame payload = (frame.end < frame.begin) ⊎ (length payload < frame.end) ⊎ IsErr (ack_at (frame_in frame payload))
+LacksAck frame payload = (frame.end < frame.begin) ⊎ (length payload < frame.end) ⊎ IsErr (ack_at (frame_of_words frame payload))
 
 -- The first range of the blocks was given, and what is left of the bytes are the blocks of the others.
 pub record GivesRange (old : RangesWords) (payload : List ℕ) (new : RangesWords) (out : RangeWords) : Type 0 where

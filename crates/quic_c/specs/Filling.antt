@@ -7,10 +7,10 @@ use Rattle.quic_frames.specs.Walk.{left, Finds}
 use Rattle.quic_frames.specs.Padding.{PassesPadding}
 use Rattle.quic_c.specs.declared.words.FramesWords.{FramesWords}
 use Rattle.quic_c.specs.declared.words.FrameWords.{FrameWords}
-use Rattle.quic_c.specs.Shown.{state_of, kind_of, shown, IsExtension}
+use Rattle.quic_c.specs.Shown.{state_of, frame_kind_of, shown, IsExtension}
 use Rattle.quic_c.specs.declared.words.RangeWords.{RangeWords}
 use Rattle.quic_c.specs.declared.words.RangesWords.{RangesWords}
-use Rattle.quic_c.specs.Answers.{GivesInvalid, GivesRange, IsRefused, NamesNone}
+use Rattle.quic_c.specs.Answers.{GivesInvalid, GivesRange, IsRefusedFrame, NamesNone}
 
 -- One entry shows a frame, one of the extension for ACK frequency only where these are known; one of PADDING (RFC 9000,
 -- section 19.1) shows also the PADDING that follows, a frame with each byte.
@@ -18,9 +18,9 @@ pub record GivesEntry (basic : Bool) (old : IterState) (entry : FrameWords) (new
   pub frame : Frame
   pub next : IterState
   pub finds : Finds old frame next
-  pub known : (basic ≡ true) × IsExtension (kind_of frame) → ⊥
-  pub run : kind_of frame ≡ 0 → (more : ℕ) × PassesPadding next more new
-  pub one : 0 < kind_of frame → new ≡ next
+  pub known : (basic ≡ true) × IsExtension (frame_kind_of frame) → ⊥
+  pub run : frame_kind_of frame ≡ 0 → (more : ℕ) × PassesPadding next more new
+  pub one : 0 < frame_kind_of frame → new ≡ next
   pub words : entry ≡ shown old.offset new.offset finds.found.type frame
 
 -- The entries show all that stands between two places, each by one step from where the one before it ends.
@@ -30,7 +30,7 @@ Shows {P = P} step old (entry ∷ entries) new = (next : P) × step old entry ne
 
 -- Nothing is left, or what stands next isn't given.
 abbrev pub HasNoFrame : Bool → IterState → Type 0
-HasNoFrame basic state = (left state ≡ []) ⊎ ((reported : Invalid) × IsRefused basic state reported)
+HasNoFrame basic state = (left state ≡ []) ⊎ ((reported : Invalid) × IsRefusedFrame basic state reported)
 
 -- So many entries were filled, and those behind them kept; more were not, for want of room or of a frame.
 pub record Fills (basic : Bool) (old : IterState) (before : List FrameWords) (new : IterState) (after : List FrameWords) (count : ℕ) : Type 0 where

@@ -10,8 +10,8 @@ use Rattle.quic_frames.specs.Padding.{PassesPadding}
 use Rattle.quic_frames.specs.Walk.{first_of, Finds}
 use Rattle.quic_c.specs.declared.words.FrameWords.{FrameWords}
 use Rattle.quic_c.specs.declared.words.GapWords.{GapWords}
-use Rattle.quic_c.specs.Answers.{IsRefused, reason_in}
-use Rattle.quic_c.specs.Shown.{kind_of, shown, shown_invalid, type_word, counts_flag, IsExtension}
+use Rattle.quic_c.specs.Answers.{IsRefusedFrame, reason_in}
+use Rattle.quic_c.specs.Shown.{frame_kind_of, shown, shown_invalid, type_word, counts_flag, IsExtension}
 
 -- a range, by its least and its greatest number, below one with the least number low: the numbers between the two,
 -- less one, and its numbers, less one (RFC 9000, section 19.3.1)
@@ -60,16 +60,16 @@ pub record ReadsFront (strict basic : Bool) (payload : List ℕ) (before : List 
   pub next : IterState
   pub rest : IterState
   pub finds : Finds (first_of strict payload) frame next
-  pub known : (basic ≡ true) × IsExtension (kind_of frame) → ⊥
-  pub run : kind_of frame ≡ 0 → (more : ℕ) × PassesPadding next more rest
-  pub one : 0 < kind_of frame → rest ≡ next
+  pub known : (basic ≡ true) × IsExtension (frame_kind_of frame) → ⊥
+  pub run : frame_kind_of frame ≡ 0 → (more : ℕ) × PassesPadding next more rest
+  pub one : 0 < frame_kind_of frame → rest ≡ next
   pub ends : stop ≡ rest.offset
   pub shows : ShowsFront stop finds.found.type frame before words after
 
 -- No frame stands at the front, or just one of that extension where only those count, and that is reported.
 pub record TellsNone (strict basic : Bool) (payload : List ℕ) (words : FrameWords) : Type 0 where
   pub reported : Invalid
-  pub first : IsRefused basic (first_of strict payload) reported
+  pub first : IsRefusedFrame basic (first_of strict payload) reported
   pub is : words ≡ shown_invalid 0 (type_word reported.type) (reason_in reported.reason)
 
 -- What a call for the frame at the front answers and leaves: where it ends, with its words; -2 just where there is no

@@ -38,23 +38,23 @@ pub record HasHeader (words : FrameWords) (last : Bool) : Type 0 where
   pub flags : words.flags ≡ 0 ⊎ (words.kind ≡ 0x08) × (words.flags ≡ 1)
 
 -- its shortest encoding up to its data
-abbrev pub header_by : (kind flags : ℕ) (numbers : List ℕ) (len : ℕ) (last : Bool) → List ℕ
-header_by kind flags numbers len last =
+abbrev pub data_header_by : (kind flags : ℕ) (numbers : List ℕ) (len : ℕ) (last : Bool) → List ℕ
+data_header_by kind flags numbers len last =
     if kind == 0x06 then all_short (0x06 ∷ second_in numbers ∷ len ∷ [])
     else if kind == 0x08 then stream_header (first_in numbers) (second_in numbers) (flags == 1) (if last then None else Some len)
     else if last then all_short (0x30 ∷ []) else all_short (0x31 ∷ len ∷ [])
 
-abbrev pub header_bytes : FrameWords → Bool → List ℕ
-header_bytes words last = header_by words.kind words.flags words.numbers words.data_len last
+abbrev pub data_header_bytes : FrameWords → Bool → List ℕ
+data_header_bytes words last = data_header_by words.kind words.flags words.numbers words.data_len last
 
 -- These bytes stand at the front, with what stood behind them, and are counted.
 pub record WroteHeader (words : FrameWords) (last : Bool) (old new : List ℕ) (written : ℕ) : Type 0 where
   pub can : HasHeader words last
-  pub count : written ≡ length (header_bytes words last)
-  pub front : new ≡ header_bytes words last ++ drop written old
+  pub count : written ≡ length (data_header_bytes words last)
+  pub front : new ≡ data_header_bytes words last ++ drop written old
 
 -- There is less room than they need, and how much that is was reported.
 pub record HeaderNeedsMore (words : FrameWords) (last : Bool) (old : List ℕ) (needed : ℕ) : Type 0 where
   pub can : HasHeader words last
-  pub count : needed ≡ length (header_bytes words last)
+  pub count : needed ≡ length (data_header_bytes words last)
   pub full : length old < needed

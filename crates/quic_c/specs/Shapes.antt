@@ -5,7 +5,7 @@ use Rattle.quic_frame_fields.specs.Numbers.{AreNumeric}
 use Rattle.quic_frames.specs.declared.frame.Frame.{Frame}
 use Rattle.quic_frames.specs.InRange.{IsNoAck, InRange}
 use Rattle.quic_c.specs.declared.words.FrameWords.{FrameWords}
-use Rattle.quic_c.specs.Shown.{kind_of, flags_of, numbers_of, data_of, tail_of}
+use Rattle.quic_c.specs.Shown.{frame_kind_of, flags_of, frame_numbers_of, data_of, tail_of}
 use Rattle.quic_c.specs.Written.{token_of}
 
 -- which of the five numbers a kind has, and whether it has data
@@ -65,8 +65,8 @@ kept_data (Some s) bytes = if s.has_data then bytes else []
 abbrev pub is_path : ℕ → Bool
 is_path kind = kind == 0x1a || kind == 0x1b
 
-abbrev pub is_open : ℕ → Bool
-is_open kind = kind == 0x08 || kind == 0x30
+abbrev pub is_open_kind : ℕ → Bool
+is_open_kind kind = kind == 0x08 || kind == 0x30
 
 abbrev pub IsOrdered : List ℕ → Type 0
 IsOrdered (sequence ∷ retire ∷ ns) = retire ≤ sequence
@@ -76,7 +76,7 @@ IsOrdered ns = ⊥
 -- id has 1 to 20 bytes and comes after what is retired.
 pub record IsSound (kind : ℕ) (numbers : List ℕ) (len : ℕ) : Type 0 where
   pub numeric : is_path kind ≡ false → AreNumeric numbers
-  pub counted : is_open kind ≡ false → len < 2 ^ 62
+  pub counted : is_open_kind kind ≡ false → len < 2 ^ 62
   pub ordered : kind ≡ 0x18 → IsOrdered numbers
   pub some : kind ≡ 0x18 → 0 < len
   pub few : kind ≡ 0x18 → len ≤ 20
@@ -89,10 +89,10 @@ abbrev pub kept_token : ℕ → List ℕ → List ℕ
 kept_token kind token = if kind == 0x18 then token else []
 
 -- The frame is of the kind and in range, and takes of the words what its kind has.
-pub record Fills (type : ℕ) (is_fin : Bool) (given bytes behind : List ℕ) (frame : Frame) : Type 0 where
-  pub kind : kind_of frame ≡ type
+pub record FillsShape (type : ℕ) (is_fin : Bool) (given bytes behind : List ℕ) (frame : Frame) : Type 0 where
+  pub kind : frame_kind_of frame ≡ type
   pub flags : flags_of frame ≡ (if type == 0x08 && is_fin then 1 else 0)
-  pub numbers : numbers_of frame ≡ kept_numbers (shape_of type) given
+  pub numbers : frame_numbers_of frame ≡ kept_numbers (shape_of type) given
   pub content : data_of frame ≡ kept_data (shape_of type) bytes
   pub tail : tail_of frame ≡ token_room type
   pub token : token_of frame ≡ kept_token type behind
@@ -116,4 +116,4 @@ pub record LacksPieces (words : FrameWords) (payload : List ℕ) : Type 0 where
 pub record IsShown (words : FrameWords) (frame : Frame) : Type 0 where
   pub flags : flags_of frame ≡ words.flags
   pub count : length (data_of frame) ≡ words.data_len
-  pub numbers : numbers_of frame ≡ words.numbers
+  pub numbers : frame_numbers_of frame ≡ words.numbers

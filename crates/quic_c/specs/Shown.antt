@@ -32,31 +32,31 @@ abbrev pub state_of : FramesWords → List ℕ → IterState
 state_of f payload = record { strict = is_strict f.strict; payload = payload; offset = f.offset; last = type_in f.last_type; is_broken = not (f.ended == 0) }
 
 -- the kind of a frame: its type, 8 for every STREAM, 2 for every ACK and 0x30 for every DATAGRAM
-abbrev pub kind_of : Frame → ℕ
-kind_of frames.Padding = 0x00
-kind_of frames.Ping = 0x01
-kind_of (frames.Ack a) = 0x02
-kind_of (frames.ResetStream r) = 0x04
-kind_of (frames.StopSending s) = 0x05
-kind_of (frames.Crypto c) = 0x06
-kind_of (frames.NewToken t) = 0x07
-kind_of (frames.Stream s) = 0x08
-kind_of (frames.MaxData n) = 0x10
-kind_of (frames.MaxStreamData id offset) = 0x11
-kind_of (frames.MaxStreams dir count) = 0x12 + dir_number dir
-kind_of (frames.DataBlocked offset) = 0x14
-kind_of (frames.StreamDataBlocked id offset) = 0x15
-kind_of (frames.StreamsBlocked dir limit) = 0x16 + dir_number dir
-kind_of (frames.NewConnectionId n) = 0x18
-kind_of (frames.RetireConnectionId sequence) = 0x19
-kind_of (frames.PathChallenge n) = 0x1a
-kind_of (frames.PathResponse n) = 0x1b
-kind_of (frames.Close (closes.Connection c)) = 0x1c
-kind_of (frames.Close (closes.Application c)) = 0x1d
-kind_of (frames.Datagram d) = 0x30
-kind_of (frames.AckFrequency f) = 0xaf
-kind_of frames.ImmediateAck = 0x1f
-kind_of frames.HandshakeDone = 0x1e
+abbrev pub frame_kind_of : Frame → ℕ
+frame_kind_of frames.Padding = 0x00
+frame_kind_of frames.Ping = 0x01
+frame_kind_of (frames.Ack a) = 0x02
+frame_kind_of (frames.ResetStream r) = 0x04
+frame_kind_of (frames.StopSending s) = 0x05
+frame_kind_of (frames.Crypto c) = 0x06
+frame_kind_of (frames.NewToken t) = 0x07
+frame_kind_of (frames.Stream s) = 0x08
+frame_kind_of (frames.MaxData n) = 0x10
+frame_kind_of (frames.MaxStreamData id offset) = 0x11
+frame_kind_of (frames.MaxStreams dir count) = 0x12 + dir_number dir
+frame_kind_of (frames.DataBlocked offset) = 0x14
+frame_kind_of (frames.StreamDataBlocked id offset) = 0x15
+frame_kind_of (frames.StreamsBlocked dir limit) = 0x16 + dir_number dir
+frame_kind_of (frames.NewConnectionId n) = 0x18
+frame_kind_of (frames.RetireConnectionId sequence) = 0x19
+frame_kind_of (frames.PathChallenge n) = 0x1a
+frame_kind_of (frames.PathResponse n) = 0x1b
+frame_kind_of (frames.Close (closes.Connection c)) = 0x1c
+frame_kind_of (frames.Close (closes.Application c)) = 0x1d
+frame_kind_of (frames.Datagram d) = 0x30
+frame_kind_of (frames.AckFrequency f) = 0xaf
+frame_kind_of frames.ImmediateAck = 0x1f
+frame_kind_of frames.HandshakeDone = 0x1e
 
 -- ACK_FREQUENCY and IMMEDIATE_ACK, whose types are unknown where the extension for ACK frequency wasn't negotiated
 abbrev pub IsExtension : ℕ → Type 0
@@ -67,26 +67,26 @@ counts_numbers None = 0 ∷ 0 ∷ 0 ∷ []
 counts_numbers (Some e) = e.ect0 ∷ e.ect1 ∷ e.ce ∷ []
 
 -- its five numbers, 0 where there are fewer
-abbrev pub numbers_of : Frame → List ℕ
-numbers_of (frames.Ack a) = a.largest ∷ a.delay ∷ counts_numbers a.ecn
-numbers_of (frames.ResetStream r) = r.id ∷ r.error_code ∷ r.final_offset ∷ 0 ∷ 0 ∷ []
-numbers_of (frames.StopSending s) = s.id ∷ s.error_code ∷ 0 ∷ 0 ∷ 0 ∷ []
-numbers_of (frames.Crypto c) = 0 ∷ c.offset ∷ 0 ∷ 0 ∷ 0 ∷ []
-numbers_of (frames.Stream s) = s.id ∷ s.offset ∷ 0 ∷ 0 ∷ 0 ∷ []
-numbers_of (frames.MaxData n) = 0 ∷ n ∷ 0 ∷ 0 ∷ 0 ∷ []
-numbers_of (frames.MaxStreamData id offset) = id ∷ offset ∷ 0 ∷ 0 ∷ 0 ∷ []
-numbers_of (frames.MaxStreams dir count) = 0 ∷ count ∷ 0 ∷ 0 ∷ 0 ∷ []
-numbers_of (frames.DataBlocked offset) = 0 ∷ offset ∷ 0 ∷ 0 ∷ 0 ∷ []
-numbers_of (frames.StreamDataBlocked id offset) = id ∷ offset ∷ 0 ∷ 0 ∷ 0 ∷ []
-numbers_of (frames.StreamsBlocked dir limit) = 0 ∷ limit ∷ 0 ∷ 0 ∷ 0 ∷ []
-numbers_of (frames.NewConnectionId n) = n.sequence ∷ n.retire_prior_to ∷ 0 ∷ 0 ∷ 0 ∷ []
-numbers_of (frames.RetireConnectionId sequence) = sequence ∷ 0 ∷ 0 ∷ 0 ∷ 0 ∷ []
-numbers_of (frames.PathChallenge n) = n ∷ 0 ∷ 0 ∷ 0 ∷ 0 ∷ []
-numbers_of (frames.PathResponse n) = n ∷ 0 ∷ 0 ∷ 0 ∷ 0 ∷ []
-numbers_of (frames.Close (closes.Connection c)) = c.error_code ∷ type_or_zero c.frame_type ∷ 0 ∷ 0 ∷ 0 ∷ []
-numbers_of (frames.Close (closes.Application c)) = c.error_code ∷ 0 ∷ 0 ∷ 0 ∷ 0 ∷ []
-numbers_of (frames.AckFrequency f) = f.sequence ∷ f.ack_eliciting_threshold ∷ f.request_max_ack_delay ∷ f.reordering_threshold ∷ 0 ∷ []
-numbers_of frame = 0 ∷ 0 ∷ 0 ∷ 0 ∷ 0 ∷ []
+abbrev pub frame_numbers_of : Frame → List ℕ
+frame_numbers_of (frames.Ack a) = a.largest ∷ a.delay ∷ counts_numbers a.ecn
+frame_numbers_of (frames.ResetStream r) = r.id ∷ r.error_code ∷ r.final_offset ∷ 0 ∷ 0 ∷ []
+frame_numbers_of (frames.StopSending s) = s.id ∷ s.error_code ∷ 0 ∷ 0 ∷ 0 ∷ []
+frame_numbers_of (frames.Crypto c) = 0 ∷ c.offset ∷ 0 ∷ 0 ∷ 0 ∷ []
+frame_numbers_of (frames.Stream s) = s.id ∷ s.offset ∷ 0 ∷ 0 ∷ 0 ∷ []
+frame_numbers_of (frames.MaxData n) = 0 ∷ n ∷ 0 ∷ 0 ∷ 0 ∷ []
+frame_numbers_of (frames.MaxStreamData id offset) = id ∷ offset ∷ 0 ∷ 0 ∷ 0 ∷ []
+frame_numbers_of (frames.MaxStreams dir count) = 0 ∷ count ∷ 0 ∷ 0 ∷ 0 ∷ []
+frame_numbers_of (frames.DataBlocked offset) = 0 ∷ offset ∷ 0 ∷ 0 ∷ 0 ∷ []
+frame_numbers_of (frames.StreamDataBlocked id offset) = id ∷ offset ∷ 0 ∷ 0 ∷ 0 ∷ []
+frame_numbers_of (frames.StreamsBlocked dir limit) = 0 ∷ limit ∷ 0 ∷ 0 ∷ 0 ∷ []
+frame_numbers_of (frames.NewConnectionId n) = n.sequence ∷ n.retire_prior_to ∷ 0 ∷ 0 ∷ 0 ∷ []
+frame_numbers_of (frames.RetireConnectionId sequence) = sequence ∷ 0 ∷ 0 ∷ 0 ∷ 0 ∷ []
+frame_numbers_of (frames.PathChallenge n) = n ∷ 0 ∷ 0 ∷ 0 ∷ 0 ∷ []
+frame_numbers_of (frames.PathResponse n) = n ∷ 0 ∷ 0 ∷ 0 ∷ 0 ∷ []
+frame_numbers_of (frames.Close (closes.Connection c)) = c.error_code ∷ type_or_zero c.frame_type ∷ 0 ∷ 0 ∷ 0 ∷ []
+frame_numbers_of (frames.Close (closes.Application c)) = c.error_code ∷ 0 ∷ 0 ∷ 0 ∷ 0 ∷ []
+frame_numbers_of (frames.AckFrequency f) = f.sequence ∷ f.ack_eliciting_threshold ∷ f.request_max_ack_delay ∷ f.reordering_threshold ∷ 0 ∷ []
+frame_numbers_of frame = 0 ∷ 0 ∷ 0 ∷ 0 ∷ 0 ∷ []
 
 abbrev pub counts_flag : Option EcnCounts → ℕ
 counts_flag None = 0
@@ -115,7 +115,7 @@ data_of frame = []
 
 -- the words of a frame that stands in a payload from start to stop and begins with this type
 abbrev pub shown : ℕ → ℕ → ℕ → Frame → FrameWords
-shown start stop type frame = record { kind = kind_of frame; ty = type; flags = flags_of frame; begin = start; end = stop; data_offset = stop - tail_of frame - length (data_of frame); data_len = length (data_of frame); numbers = numbers_of frame }
+shown start stop type frame = record { kind = frame_kind_of frame; ty = type; flags = flags_of frame; begin = start; end = stop; data_offset = stop - tail_of frame - length (data_of frame); data_len = length (data_of frame); numbers = frame_numbers_of frame }
 
 -- what is no frame, by the word of the last type and the number of its reason, at the end of the last frame
 abbrev pub shown_invalid : ℕ → ℕ → ℕ → FrameWords

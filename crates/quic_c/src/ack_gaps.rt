@@ -4,7 +4,7 @@ ghost use Rattle.quic_base.specs.Varint.{short};
 ghost use Rattle.quic_frame_fields.specs.Numbers.{AreNumeric, all_short};
 ghost use Rattle.quic_frame_fields.specs.Putting.{Stores, Puts};
 ghost use Rattle.quic_frame_fields.specs.Shortest.{shortest_frame};
-ghost use Rattle.quic_c.specs.AckGaps.{ack_bytes, ack_said, behind_type, counts_list, delay_in, gap_numbers, greatest_in, Fit, IsAck, DescribesAck};
+ghost use Rattle.quic_c.specs.AckGaps.{ack_bytes, ack_said, behind_type, counts_list, delay_in, gap_numbers, greatest_of_words, Fit, IsAck, DescribesAck};
 
 use crate::words::{FrameWords, GapWords};
 use quic_base::coding::store_array;
@@ -202,7 +202,7 @@ fn bits_of_counts(ack: &FrameWords) -> u64
 #[inline(always)]
 fn are_numeric(ack: &FrameWords) -> bool
     ensures { IsTrue result ↔ ((ack.now.flags ≡ 0) ⊎ (ack.now.flags ≡ 2))
-        × AreNumeric (greatest_in ack.now ∷ delay_in ack.now ∷ counts_list ack.now) }
+        × AreNumeric (greatest_of_words ack.now ∷ delay_in ack.now ∷ counts_list ack.now) }
 {
     if ack.flags != 0 && ack.flags != 2 {
         return false;

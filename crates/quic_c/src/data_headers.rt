@@ -5,7 +5,7 @@ ghost use Rattle.quic_frame_fields.specs.Putting.{Puts};
 ghost use Rattle.quic_frame_fields.specs.Shortest.{shortest_frame, stream_header};
 ghost use Rattle.quic_frames.specs.declared.frame.Frame.{Frame};
 ghost use Rattle.quic_frames.specs.Meaning.{meaning_of};
-ghost use Rattle.quic_c.specs.Headers.{IsHeaded, HasHeader, WroteHeader, HeaderNeedsMore, header_bytes};
+ghost use Rattle.quic_c.specs.Headers.{IsHeaded, HasHeader, WroteHeader, HeaderNeedsMore, data_header_bytes};
 ghost use Rattle.quic_c.specs.Shown.{data_of};
 ghost use Rattle.quic_c.specs.Written.{CanWriteFrame, flag_of};
 ghost use Rattle.quic_c.specs.declared.words.FrameWords.{FrameWords};
@@ -76,7 +76,7 @@ fn put_stream(
 // Stores the header that the words say at the front.
 fn put_header(words: &FrameWords, last: bool, dest: &mut [u8]) -> Result<usize, usize>
     requires { HasHeader words.now last }
-    ensures { Puts result (header_bytes words.now last) dest.old dest.new }
+    ensures { Puts result (data_header_bytes words.now last) dest.old dest.new }
 {
     let len = words.data_len as u64;
     let [id, offset, ..] = words.numbers;
@@ -127,5 +127,5 @@ pub extern "C" fn quic_wire_frame_header_write_(
 pub fn header_and_data()
     ensures { (words : FrameWords) (bytes : List ℕ) (last : Bool) (frame : Frame) → IsHeaded words.kind
         → CanWriteFrame words bytes last frame
-        → HasHeader words last × (shortest_frame last (meaning_of frame) ≡ header_bytes words last ++ data_of frame) }
+        → HasHeader words last × (shortest_frame last (meaning_of frame) ≡ data_header_bytes words last ++ data_of frame) }
 {}

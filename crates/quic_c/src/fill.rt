@@ -2,7 +2,7 @@
 ghost use Rattle.std.specs.Prelude.{◌≡◌, ◌<◌, ◌≤◌, ◌↔◌, ◌⊎◌, [], true, false, pos, negsuc, length, IfOk, IfErr};
 ghost use Rattle.quic_frames.specs.Walk.{left, first_of, invalid_of};
 ghost use Rattle.quic_c.specs.Shown.{state_of, at_front};
-ghost use Rattle.quic_c.specs.Answers.{IsRefused};
+ghost use Rattle.quic_c.specs.Answers.{IsRefusedFrame};
 ghost use Rattle.quic_c.specs.Filling.{AnswersFill, Fills, TellsInvalid, further};
 
 use crate::frames::{is_unknown, show_invalid, type_in, type_read, type_word, unknown};
@@ -31,7 +31,7 @@ fn fill<const COPY: usize>(
 ) -> Result<Filled, InvalidFrame>
     ensures filled { IfOk result (λ f. Fills basic iter.old out.old (further iter.old f.end f.last) out.new f.count) }
     ensures none { IfOk result (λ f. f.count ≡ 0 → 0 < length out.old → left iter.old ≡ []) }
-    ensures invalid { IfErr result (λ i. IsRefused basic iter.old (invalid_of i) × (out.new ≡ out.old)) }
+    ensures invalid { IfErr result (λ i. IsRefusedFrame basic iter.old (invalid_of i) × (out.new ≡ out.old)) }
 {
     let mut count = 0;
     let mut end = iter.offset();

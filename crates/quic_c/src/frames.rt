@@ -4,7 +4,7 @@ ghost use Rattle.quic_frames.specs.declared.frame.Frame.{Frame};
 ghost use Rattle.quic_frame_fields.specs.Reading.{Invalid, Broken, invalid};
 ghost use Rattle.quic_frames.specs.IterState.{IterState};
 ghost use Rattle.quic_frames.specs.Walk.{first_of, invalid_of, Finds};
-ghost use Rattle.quic_c.specs.Shown.{state_of, at_front, is_strict, kind_of, type_in, type_word, shown, shown_invalid, IsExtension};
+ghost use Rattle.quic_c.specs.Shown.{state_of, at_front, is_strict, frame_kind_of, type_in, type_word, shown, shown_invalid, IsExtension};
 ghost use Rattle.quic_c.specs.Answers.{AnswersNext, reason_in, unknown_type};
 
 use crate::show::{parts_of, show};
@@ -60,7 +60,7 @@ fn reason_in(reason: &str) -> u32
 // Whether the frame is one of the extension for ACK frequency, where these are of unknown types.
 #[inline(always)]
 pub(crate) fn is_unknown(basic: bool, frame: &Frame<'_>) -> bool
-    ensures { IsTrue result ↔ (basic ≡ true) × IsExtension (kind_of frame.now) }
+    ensures { IsTrue result ↔ (basic ≡ true) × IsExtension (frame_kind_of frame.now) }
 {
     match frame {
         Frame::AckFrequency(_) => basic,

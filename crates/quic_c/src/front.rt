@@ -5,7 +5,7 @@ ghost use Rattle.quic_frame_fields.specs.Reading.{Gives, varint_at};
 ghost use Rattle.quic_frames.specs.declared.frame.Frame.TheVariants as frames;
 ghost use Rattle.quic_frames.specs.Padding.{PassesPadding};
 ghost use Rattle.quic_frames.specs.Walk.{left, first_of, resumed};
-ghost use Rattle.quic_c.specs.Shown.{kind_of, shown, is_strict};
+ghost use Rattle.quic_c.specs.Shown.{frame_kind_of, shown, is_strict};
 ghost use Rattle.quic_c.specs.Front.{AnswersRead, FillsGaps, ShowsAck, ShowsFront, behind, reported_behind};
 
 use crate::frames::{is_unknown, show_invalid, type_read, unknown};
@@ -109,8 +109,8 @@ fn show_front(end: usize, ty: u16, frame: &Frame<'_>, gaps: &mut [GapWords]) -> 
 #[inline(always)]
 #[tactic(auto, using(crate::proofs::Filling::passed_payload))]
 fn pass_run(iter: &mut Iter<'_>, frame: &Frame<'_>) -> usize
-    ensures run { kind_of frame.now ≡ 0 → (more : ℕ) × PassesPadding iter.old more iter.new }
-    ensures one { 0 < kind_of frame.now → iter.new ≡ iter.old }
+    ensures run { frame_kind_of frame.now ≡ 0 → (more : ℕ) × PassesPadding iter.old more iter.new }
+    ensures one { 0 < frame_kind_of frame.now → iter.new ≡ iter.old }
     ensures end { result ≡ iter.new.offset }
     ensures within { result ≤ length iter.old.payload }
 {

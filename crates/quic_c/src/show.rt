@@ -1,6 +1,6 @@
 //! A frame as words.
 ghost use Rattle.std.specs.Prelude.{◌≡◌, ◌-◌, length};
-ghost use Rattle.quic_c.specs.Shown.{kind_of, flags_of, numbers_of, data_of, tail_of, shown};
+ghost use Rattle.quic_c.specs.Shown.{frame_kind_of, flags_of, frame_numbers_of, data_of, tail_of, shown};
 
 use crate::words::FrameWords;
 use quic_base::ids::Dir;
@@ -44,7 +44,7 @@ fn with_data(kind: u16, flags: u32, numbers: [u64; 5], bytes: &[u8]) -> Parts
 
 #[inline(always)]
 pub(crate) fn parts_of(frame: &Frame<'_>) -> Parts
-    ensures { result ≡ record { kind = kind_of frame.now; flags = flags_of frame.now; tail = tail_of frame.now; data_len = length (data_of frame.now); numbers = numbers_of frame.now } }
+    ensures { result ≡ record { kind = frame_kind_of frame.now; flags = flags_of frame.now; tail = tail_of frame.now; data_len = length (data_of frame.now); numbers = frame_numbers_of frame.now } }
 {
     match frame {
         Frame::Padding => without_data(0x00, [0; 5]),

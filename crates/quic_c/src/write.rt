@@ -5,8 +5,8 @@ ghost use Rattle.quic_frames.specs.declared.frame.Frame.{Frame};
 ghost use Rattle.quic_frames.specs.declared.frame.Frame.TheVariants as frames;
 ghost use Rattle.quic_frames.specs.Meaning.{meaning_of};
 ghost use Rattle.quic_frame_fields.specs.declared.frame.close.Close.TheVariants as closes;
-ghost use Rattle.quic_c.specs.Shapes.{IsSound, Fills, HasPieces, IsShown, LacksData, LacksPieces, shape_of, token_room};
-ghost use Rattle.quic_c.specs.Written.{CanWriteFrame, DescribesNoFrame, Wrote, NeedsMore, IsAnswer, flag_of};
+ghost use Rattle.quic_c.specs.Shapes.{IsSound, FillsShape, HasPieces, IsShown, LacksData, LacksPieces, shape_of, token_room};
+ghost use Rattle.quic_c.specs.Written.{CanWriteFrame, DescribesNoFrame, WroteFrame, FrameNeedsMore, IsAnswer, flag_of};
 ghost use Rattle.quic_c.specs.declared.words.FrameWords.{FrameWords};
 
 use crate::show::parts_of;
@@ -102,7 +102,7 @@ fn connection_close<'a>(code: u64, ty: u64, reason: &'a [u8]) -> Frame<'a>
     requires code { code < 2 ^ 62 }
     requires ty { ty < 2 ^ 62 }
     requires reason { length reason.now < 2 ^ 62 }
-    ensures { Fills 0x1c false (code ∷ ty ∷ 0 ∷ 0 ∷ 0 ∷ []) reason.now [] result }
+    ensures { FillsShape 0x1c false (code ∷ ty ∷ 0 ∷ 0 ∷ 0 ∷ []) reason.now [] result }
 {
     Frame::Close(Close::Connection(ConnectionClose {
         error_code: Code::of(code),
@@ -200,7 +200,7 @@ fn frame_of<'a>(
 ) -> Option<Frame<'a>>
     requires sound { IsSound kind numbers (length data.now) }
     requires token { length token.now ≡ token_room kind }
-    ensures some { IfSome result (λ frame. Fills kind is_fin numbers data.now token.now frame) }
+    ensures some { IfSome result (λ frame. FillsShape kind is_fin numbers data.now token.now frame) }
     ensures none { IsNone result → shape_of kind ≡ None }
 {
     let [a, b, c, d, _] = numbers;
@@ -312,8 +312,8 @@ pub extern "C" fn quic_wire_frame_write_(
     written: &mut usize,
 ) -> i32
     ensures answers { (result ≡ pos 0) ⊎ (result ≡ negsuc 3) ⊎ (result ≡ negsuc 0) }
-    ensures wrote { result ≡ pos 0 → Wrote frame.now data.now (flag_of last) out.old out.new written.new }
-    ensures room { result ≡ negsuc 3 → NeedsMore frame.now data.now (flag_of last) out.old written.new }
+    ensures wrote { result ≡ pos 0 → WroteFrame frame.now data.now (flag_of last) out.old out.new written.new }
+    ensures room { result ≡ negsuc 3 → FrameNeedsMore frame.now data.now (flag_of last) out.old written.new }
     ensures refused { result ≡ negsuc 0 → DescribesNoFrame frame.now data.now (flag_of last) × (written.new ≡ written.old) }
     ensures same { (result ≡ pos 0) ⊎ (out.new ≡ out.old) }
     ensures any_data { LacksData frame.now → (others : List ℕ)

@@ -19,14 +19,14 @@ reason_word reason = if pointwise nat_eq reason (codes "unexpected end") then 1
     else if pointwise nat_eq reason (codes "invalid frame ID") then 2 else 3
 
 -- The least payload of the meaning stands at the front, with what stood behind it, and its length was reported.
-pub record GivesLeast (payload before after : List ℕ) (old new : CanonicalWords) : Type 0 where
+pub record GivesLeastLen (payload before after : List ℕ) (old new : CanonicalWords) : Type 0 where
   pub least : List ℕ
   pub is_least : IsLeast least payload
   pub front : after ≡ least ++ drop (length least) before
   pub words : new ≡ record old { len = length least }
 
 -- There is less room than the least payload of the meaning needs, and how much that is was reported.
-pub record NeedsMore (payload before : List ℕ) (old new : CanonicalWords) : Type 0 where
+pub record LeastNeedsMore (payload before : List ℕ) (old new : CanonicalWords) : Type 0 where
   pub least : List ℕ
   pub is_least : IsLeast least payload
   pub full : length before < length least
@@ -41,7 +41,7 @@ pub record IsReportedOf (payload : List ℕ) (reported : Invalid) : Type 0 where
   pub reported_is : reported ≡ invalid type reason
 
 -- Something in the payload is no frame, and that is reported.
-pub record TellsInvalid (payload : List ℕ) (old new : CanonicalWords) : Type 0 where
+pub record TellsInvalidPayload (payload : List ℕ) (old new : CanonicalWords) : Type 0 where
   pub reported : Invalid
   pub of_it : IsReportedOf payload reported
   pub words : new ≡ record old { last_type = type_word reported.type; reason = reason_word reported.reason }

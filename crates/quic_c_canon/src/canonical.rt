@@ -6,7 +6,7 @@ ghost use Rattle.quic_frames.specs.InRange.{CanStand};
 ghost use Rattle.quic_frames.specs.Least.{frame_in, shortest_frames};
 ghost use Rattle.quic_frames.specs.Meaning.{meaning_of};
 ghost use Rattle.quic_frames.specs.Walk.{invalid_of, first_of, GivesFrames, GivesBroken};
-ghost use Rattle.quic_c_canon.specs.Answers.{type_word, reason_word, GivesLeast, NeedsMore, IsReportedOf, TellsInvalid, HasLength};
+ghost use Rattle.quic_c_canon.specs.Answers.{type_word, reason_word, GivesLeastLen, LeastNeedsMore, IsReportedOf, TellsInvalidPayload, HasLength};
 
 use crate::words::CanonicalWords;
 use quic_canon::laws::one_least;
@@ -180,10 +180,10 @@ pub extern "C" fn quic_wire_canonical_(
     out: &mut CanonicalWords,
 ) -> i32
     ensures answers { (result ≡ pos 0) ⊎ (result ≡ negsuc 3) ⊎ (result ≡ negsuc 1) ⊎ (result ≡ negsuc 2) }
-    ensures least { result ≡ pos 0 → GivesLeast payload.now dest.old dest.new out.old out.new }
-    ensures room { result ≡ negsuc 3 → NeedsMore payload.now dest.old out.old out.new }
+    ensures least { result ≡ pos 0 → GivesLeastLen payload.now dest.old dest.new out.old out.new }
+    ensures room { result ≡ negsuc 3 → LeastNeedsMore payload.now dest.old out.old out.new }
     ensures empty { (result ≡ negsuc 1) ↔ (payload.now ≡ []) }
-    ensures invalid { result ≡ negsuc 2 → TellsInvalid payload.now out.old out.new }
+    ensures invalid { result ≡ negsuc 2 → TellsInvalidPayload payload.now out.old out.new }
     ensures same { (result ≡ pos 0) ⊎ (dest.new ≡ dest.old) }
     ensures kept { result ≡ negsuc 1 → out.new ≡ out.old }
 {

@@ -12,7 +12,7 @@ use Rattle.quic_header_decode.specs.declared.protected.ProtectedHeader.{Protecte
 use Rattle.quic_header_decode.specs.declared.protected.ProtectedHeader.TheVariants as head
 use Rattle.quic_header_decode.specs.declared.protected.ProtectedInitialHeader.{ProtectedInitialHeader}
 use Rattle.quic_header_decode.specs.Grammar.{Cut, HeaderAt}
-use Rattle.quic_header_decode.specs.Places.{any_fixed, dst_part, src_part, dst_place, ends_at, header_by, ids_end, header_in, refusal_in, seen_in, ArePlaces, IsNowhere, IsPlaced, IsSeen, ReadAnswer}
+use Rattle.quic_header_decode.specs.Places.{any_fixed, dst_part, src_part, dst_place, ends_at, header_placed, ids_end, header_in, refusal_in, seen_in, ArePlaces, IsNowhere, ArePlacesWithin, IsSeen, ReadAnswer}
 use Rattle.quic_header_decode.specs.Reading.{Context}
 use Rattle.quic_header_decode.specs.Refusal.{Refusal, Unsupported, Invalid, NoMemory}
 use Rattle.quic_c_headers.specs.declared.words.HeaderWords.{HeaderWords}
@@ -32,7 +32,7 @@ AreSame kind.VersionNegotiate src other p q len n version v = src ≡ other
 initial_is : (h g : ProtectedInitialHeader) → head.Initial h ≡ head.Initial g → h ≡ g
 initial_is h g e = cc
 
-same_said : (k l : HeaderKind) (first f : ℕ) (dst d src s : List ℕ) (p q : Place) (len n version v : ℕ) → header_by k first dst src p len version ≡ header_by l f d s q n v
+same_said : (k l : HeaderKind) (first f : ℕ) (dst d src s : List ℕ) (p q : Place) (len n version v : ℕ) → header_placed k first dst src p len version ≡ header_placed l f d s q n v
     → (k ≡ l) × (dst ≡ d) × AreSame k src s p q len n version v
 same_said kind.Initial kind.Initial first f dst d src s p q len n version v e =
     let same = initial_is _ _ e in (
@@ -131,7 +131,7 @@ made : (k l : HeaderKind) (first f version v dst_len d src_len s start a end b l
     (record { kind = l; first = f; version = v; dst_len = d; src_len = s; token = record { start = a; end = b }; len = n; header_end = h })
 made k l first f version v dst_len d src_len s start a end b len n header_end h e0 e1 e2 e3 e4 e5 e6 e7 e8 = cc
 
-same_places : (packet : List ℕ) (x y : HeaderPlaces) → IsPlaced x (length packet) → IsPlaced y (length packet) → x.first ≡ y.first
+same_places : (packet : List ℕ) (x y : HeaderPlaces) → ArePlacesWithin x (length packet) → ArePlacesWithin y (length packet) → x.first ≡ y.first
     → header_in packet x ≡ header_in packet y → drop x.header_end packet ≡ drop y.header_end packet → x ≡ y
 same_places packet x y one two first said behind =
     let same = same_said x.kind y.kind x.first y.first (dst_part packet x) (dst_part packet y) (src_part packet x) (src_part packet y) x.token y.token x.len y.len x.version y.version said in

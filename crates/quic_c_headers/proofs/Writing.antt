@@ -6,13 +6,13 @@ use Rattle.std.proofs.lemmas.List.{append-nil, length-take-le, take-append-drop}
 use Rattle.std.proofs.lemmas.Bool.Decides.{nat_tests}
 use Rattle.std.specs.Int.{byte_at}
 use Rattle.quic_base.specs.ConnectionId.{long_id}
-use Rattle.quic_base.specs.Number.{bytes_of}
+use Rattle.quic_base.specs.Number.{has_bit, bytes_of}
 use Rattle.quic_crypto.specs.declared.packet_number.PacketNumber.{PacketNumber}
 use Rattle.quic_crypto.specs.PacketNumbers.{low_part, number_bytes, number_size, window_of, IsInRange}
 use Rattle.quic_header_encode.specs.declared.long_type.HeaderKind.{HeaderKind}
 use Rattle.quic_header_encode.specs.declared.long_type.HeaderKind.TheVariants as kind
 use Rattle.quic_header_encode.specs.declared.header.Header.{Header}
-use Rattle.quic_header_encode.specs.Storing.{begun_by, has_bit, header_of, number_bits, carries_length, token_by, type_bits}
+use Rattle.quic_header_encode.specs.Storing.{begun_by, header_of, number_bits, carries_length, token_by, type_bits}
 use Rattle.quic_header_encode.specs.Starts.{long_front}
 use Rattle.quic_header_encode.specs.Writing.{bit, header_with}
 use Rattle.quic_c_headers.specs.declared.words.HeaderFields.{HeaderFields}

@@ -1,4 +1,5 @@
 -- The headers that words say (RFC 9000, section 17).
+use Rattle.quic_base.specs.Number.{has_bit}
 use Rattle.std.specs.Prelude.{◌≡◌, ℕ, ◌+◌, ◌-◌, ◌%◌, ◌<◌, ◌≤◌, ◌^◌, ◌⊎◌, Bool, false, List, [], length, replicate, slice_index, Option, None, Some, ◌==◌, if◌then◌else◌}
 use Rattle.quic_crypto.specs.declared.packet_number.PacketNumber.{PacketNumber}
 use Rattle.quic_crypto.specs.declared.packet_number.PacketNumber.TheVariants.{U8, U16, U24, U32}
@@ -6,7 +7,7 @@ use Rattle.quic_crypto.specs.PacketNumbers.{low_part, number_size, window_of}
 use Rattle.quic_header_encode.specs.declared.long_type.LongType.TheVariants.{Handshake, ZeroRtt}
 use Rattle.quic_header_encode.specs.declared.header.Header.{Header}
 use Rattle.quic_header_encode.specs.declared.header.Header.TheVariants as header
-use Rattle.quic_header_encode.specs.Storing.{begun_by, has_bit}
+use Rattle.quic_header_encode.specs.Storing.{begun_by}
 use Rattle.quic_header_encode.specs.Queries.{dst_in, number_in}
 use Rattle.quic_header_encode.specs.Writing.{bit, header_with, IsWritable}
 use Rattle.quic_c_headers.specs.declared.words.HeaderFields.{HeaderFields}

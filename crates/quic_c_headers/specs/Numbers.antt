@@ -6,8 +6,8 @@ abbrev pub least_width : ℕ → ℕ
 least_width v = if nat_lt v (2 ^ 6) then 1 else if nat_lt v (2 ^ 14) then 2 else if nat_lt v (2 ^ 30) then 4 else 8
 
 -- a number in a width: the two highest bits are the tag
-abbrev pub encoding : ℕ → ℕ → List ℕ
-encoding width v =
+abbrev pub encoding_in : ℕ → ℕ → List ℕ
+encoding_in width v =
     if width == 1 then v ∷ [] else if width == 2 then bytes_of 2 (2 ^ 14 + v)
     else if width == 4 then bytes_of 4 (2 * 2 ^ 30 + v) else bytes_of 8 (3 * 2 ^ 62 + v)
 

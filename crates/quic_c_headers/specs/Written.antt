@@ -6,7 +6,7 @@ use Rattle.quic_c_headers.specs.Headers.{said_bytes, CanWriteHeader}
 
 -- The bytes of the header that the words, the ids and the token say stand at the front, with what stood behind them,
 -- and are counted.
-pub record Wrote (words : HeaderFields) (dst src token old new : List ℕ) (count : ℕ) : Type 0 where
+pub record WrotePacketHeader (words : HeaderFields) (dst src token old new : List ℕ) (count : ℕ) : Type 0 where
   pub clear : Bool
   pub head : Header
   pub can : CanWriteHeader words dst src token clear head
@@ -14,7 +14,7 @@ pub record Wrote (words : HeaderFields) (dst src token old new : List ℕ) (coun
   pub count_is : count ≡ length (said_bytes words.length_len clear head)
 
 -- There is less room than such a header needs.
-pub record NeedsMore (words : HeaderFields) (dst src token : List ℕ) (room : ℕ) : Type 0 where
+pub record PacketHeaderNeedsMore (words : HeaderFields) (dst src token : List ℕ) (room : ℕ) : Type 0 where
   pub clear : Bool
   pub head : Header
   pub can : CanWriteHeader words dst src token clear head

@@ -1,7 +1,7 @@
 //! Headers of packets, with their protection on.
 ghost use Rattle.std.specs.Prelude.{◌≡◌, ◌+◌, ◌<◌, ◌≤◌, ◌⊎◌, ◌↔◌, ◌^◌, ◌∷◌, ℕ, List, [], Ok, drop, length, pos, negsuc, slice_index};
 ghost use Rattle.quic_header_decode.specs.Grammar.{Cut, HeaderAt};
-ghost use Rattle.quic_header_decode.specs.Places.{any_fixed, IsPlaced, IsSeen};
+ghost use Rattle.quic_header_decode.specs.Places.{any_fixed, ArePlacesWithin, IsSeen};
 ghost use Rattle.quic_header_decode.specs.declared.protected.ProtectedHeader.{ProtectedHeader};
 ghost use Rattle.quic_c_headers.specs.Reading.{answer_word, header_words, kind_word, Reported};
 
@@ -29,7 +29,7 @@ fn kind_word(kind: HeaderKind) -> u8
 #[inline(always)]
 fn show_header(packet: &[u8], places: HeaderPlaces, head: &mut HeaderWords) -> u32
     requires whole { length packet.now < 2 ^ 32 }
-    requires placed { IsPlaced places (length packet.now) }
+    requires placed { ArePlacesWithin places (length packet.now) }
     ensures answer { result ≡ answer_word (Ok places) (length packet.now) }
     ensures few { result ≤ 7 }
     ensures words { head.new ≡ header_words packet.now (Ok places) head.old }

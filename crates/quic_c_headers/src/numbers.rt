@@ -3,7 +3,7 @@ ghost use Rattle.std.specs.Prelude.{◌≡◌, ◌+◌, ◌-◌, ◌*◌, ◌%�
 ghost use Rattle.quic_base.specs.Codec.{NoFront, Takes};
 ghost use Rattle.quic_base.specs.Varint.{Encodes};
 ghost use Rattle.quic_crypto.specs.PacketNumbers.{Expands, SizeFor};
-ghost use Rattle.quic_c_headers.specs.Numbers.{least_width, encoding, CanExpand, CanEncode, IsWidth};
+ghost use Rattle.quic_c_headers.specs.Numbers.{least_width, encoding_in, CanExpand, CanEncode, IsWidth};
 
 use quic_base::coding::store_array;
 use quic_base::varint::split_var;
@@ -49,7 +49,7 @@ fn store_encoding(value: u64, width: usize, dest: &mut [u8]) -> usize
     requires numeric { value < 2 ^ 62 }
     requires room { width ≤ length dest.old }
     requires fits { least_width value ≤ width }
-    ensures wrote { (result ≡ 0) ⊎ ((result ≡ width) × IsWidth width × (take result dest.new ≡ encoding width value)) }
+    ensures wrote { (result ≡ 0) ⊎ ((result ≡ width) × IsWidth width × (take result dest.new ≡ encoding_in width value)) }
     ensures back { drop result dest.new ≡ drop result dest.old }
     ensures none { result ≡ 0 → IsWidth width → ⊥ }
     ensures same { (0 < result) ⊎ (dest.new ≡ dest.old) }
@@ -69,7 +69,7 @@ fn store_encoding(value: u64, width: usize, dest: &mut [u8]) -> usize
 #[unsafe(no_mangle)]
 pub extern "C" fn quic_wire_varint_write_(value: u64, width: u32, dest: &mut [u8]) -> usize
     ensures wrote { (result ≡ 0)
-        ⊎ (Encodes value (encoding result value) × (dest.new ≡ encoding result value ++ drop result dest.old)) }
+        ⊎ (Encodes value (encoding_in result value) × (dest.new ≡ encoding_in result value ++ drop result dest.old)) }
     ensures width { (result ≡ 0) ⊎ CanEncode value width (length dest.old) result }
     ensures none { result ≡ 0 → (n : ℕ) → CanEncode value width (length dest.old) n → ⊥ }
     ensures same { (0 < result) ⊎ (dest.new ≡ dest.old) }

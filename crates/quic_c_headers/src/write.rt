@@ -1,5 +1,5 @@
 //! Headers, written from words into the caller's bytes.
-ghost use Rattle.std.specs.Prelude.{◌≡◌, ◌≢◌, ◌+◌, ◌%◌, ◌^◌, ◌<◌, ◌≤◌, ◌⊎◌, ◌↔◌, ◌++◌, ℕ, [], IsTrue, length, take, drop, replicate, pos, negsuc};
+ghost use Rattle.std.specs.Prelude.{◌≡◌, ◌≢◌, ◌+◌, ◌-◌, ◌%◌, ◌^◌, ◌<◌, ◌≤◌, ◌⊎◌, ◌↔◌, ◌++◌, ℕ, [], IsTrue, length, take, drop, replicate, pos, negsuc};
 ghost use Rattle.quic_base.specs.Number.{bytes_of};
 ghost use Rattle.quic_crypto.specs.PacketNumbers.{IsInRange};
 ghost use Rattle.quic_header_encode.specs.declared.long_type.HeaderKind.TheVariants as kind;
@@ -8,7 +8,7 @@ ghost use Rattle.quic_header_encode.specs.Starts.{long_front};
 ghost use Rattle.quic_c_headers.specs.Headers.{part_of};
 ghost use Rattle.quic_c_headers.specs.Reading.{kind_word};
 ghost use Rattle.quic_c_headers.specs.Shapes.{first_word, numbered_bytes, numbered_first, numbered_size, AreParts, IsNumbered, IsShaped};
-ghost use Rattle.quic_c_headers.specs.Written.{NeedsMore, DescribesNoHeader, Wrote};
+ghost use Rattle.quic_c_headers.specs.Written.{PacketHeaderNeedsMore, DescribesNoHeader, WrotePacketHeader};
 
 use crate::words::HeaderFields;
 use quic_crypto::packet_number::PacketNumber;
@@ -125,8 +125,8 @@ fn short_first(flags: u8, number_len: u8) -> u8
 #[unsafe(no_mangle)]
 pub extern "C" fn quic_wire_short_write_(said: &HeaderFields, dst: &[u8], dest: &mut [u8]) -> i64
     ensures wrote { (result ≡ negsuc 3) ⊎ (result ≡ negsuc 0) ⊎ ((count : ℕ) × (result ≡ pos count)
-        × Wrote said.now dst.now [] [] dest.old dest.new count) }
-    ensures room { result ≡ negsuc 3 → NeedsMore said.now dst.now [] [] (length dest.old) }
+        × WrotePacketHeader said.now dst.now [] [] dest.old dest.new count) }
+    ensures room { result ≡ negsuc 3 → PacketHeaderNeedsMore said.now dst.now [] [] (length dest.old) }
     ensures refused { result ≡ negsuc 0 → (said.now.kind ≢ 4) ⊎ DescribesNoHeader said.now dst.now [] [] }
     ensures short { (result ≡ negsuc 0) ⊎ (said.now.kind ≡ 4) }
     ensures same { (result ≡ negsuc 3) ⊎ (result ≡ negsuc 0) → dest.new ≡ dest.old }
@@ -249,8 +249,8 @@ fn write_as(
 ) -> i64
     requires kind { kind_word kind ≡ said.now.kind }
     ensures wrote { (result ≡ negsuc 3) ⊎ (result ≡ negsuc 0) ⊎ ((count : ℕ) × (result ≡ pos count)
-        × Wrote said.now dst.now src.now token.now dest.old dest.new count) }
-    ensures room { result ≡ negsuc 3 → NeedsMore said.now dst.now src.now token.now (length dest.old) }
+        × WrotePacketHeader said.now dst.now src.now token.now dest.old dest.new count) }
+    ensures room { result ≡ negsuc 3 → PacketHeaderNeedsMore said.now dst.now src.now token.now (length dest.old) }
     ensures refused { result ≡ negsuc 0 → DescribesNoHeader said.now dst.now src.now token.now }
     ensures same { (result ≡ negsuc 3) ⊎ (result ≡ negsuc 0) → dest.new ≡ dest.old }
 {
@@ -297,8 +297,8 @@ pub extern "C" fn quic_wire_header_write_(
     dest: &mut [u8],
 ) -> i64
     ensures wrote { (result ≡ negsuc 3) ⊎ (result ≡ negsuc 0) ⊎ ((count : ℕ) × (result ≡ pos count)
-        × Wrote said.now dst.now src.now token.now dest.old dest.new count) }
-    ensures room { result ≡ negsuc 3 → NeedsMore said.now dst.now src.now token.now (length dest.old) }
+        × WrotePacketHeader said.now dst.now src.now token.now dest.old dest.new count) }
+    ensures room { result ≡ negsuc 3 → PacketHeaderNeedsMore said.now dst.now src.now token.now (length dest.old) }
     ensures refused { result ≡ negsuc 0 → DescribesNoHeader said.now dst.now src.now token.now }
     ensures same { (result ≡ negsuc 3) ⊎ (result ≡ negsuc 0) → dest.new ≡ dest.old }
 {

@@ -5,10 +5,9 @@ use Rattle.std.proofs.lemmas.Bool.{false≢true}
 use Rattle.std.proofs.lemmas.List.{length-drop}
 use Rattle.quic_base.specs.Codec.{Takes}
 use Rattle.quic_base.proofs.PublicLaws.{encoded_bound}
-use Rattle.quic_params.specs.Never.{Never}
 use Rattle.quic_params.specs.declared.parameter.TransportParameterId.{TransportParameterId}
-use Rattle.quic_params.specs.Entry.{Entry, IsEntry, IsCut, IsKnown}
-use Rattle.quic_params.specs.Further.{AreInOrder, AreOthers, HasNumber, IsOther, IsOrderOf, upward, asked}
+use Rattle.quic_params.specs.Entry.{Entry, IsEntry, IsCutEntry, IsKnownParameter}
+use Rattle.quic_params.specs.Further.{AreInOrder, AreOthers, HasEntryNumber, IsOther, IsOrderOf, upward, asked}
 use Rattle.quic_params.specs.Table.{rows}
 use Rattle.quic_params.proofs.Again.{get_upward}
 use Rattle.quic_params.proofs.Further.{next, order_within}
@@ -23,7 +22,7 @@ pub begins : (n : ℕ) (x b r : List ℕ) (es : List Entry) → Takes (IsEntry n
 begins n x b r es t h = record { front = t.front; back = r; whole = t.split; first = t.is; second = h }
 
 -- no entry is there where one is cut off
-pub none_cut : (b : List ℕ) (es : List Entry) → IsCut b → AreInOrder es b → es ≡ []
+pub none_cut : (b : List ℕ) (es : List Entry) → IsCutEntry b → AreInOrder es b → es ≡ []
 none_cut b [] c h = refl
 none_cut b (e ∷ es) c h = absurd (c e.number e.bytes h.front h.back h.whole h.first)
 
@@ -33,13 +32,13 @@ nothing_left b es e h = subst (λ (l : List Entry). AreInOrder l b) e h
 -- ---- a number among entries
 
 abbrev pub SoFar : ℕ → List ℕ → List ℕ → Type 0
-SoFar n list rest = (es : List Entry) → AreInOrder es list → (left : List Entry) × AreInOrder left rest × (HasNumber n es → HasNumber n left) × (HasNumber n left → HasNumber n es)
+SoFar n list rest = (es : List Entry) → AreInOrder es list → (left : List Entry) × AreInOrder left rest × (HasEntryNumber n es → HasEntryNumber n left) × (HasEntryNumber n left → HasEntryNumber n es)
 
 pub so_far_none : (n : ℕ) (list : List ℕ) → SoFar n list list
 so_far_none n list es h = (es, h, λ x. x, λ x. x)
 
-has_next : (n : ℕ) (left others : List Entry) (first : Entry) → left ≡ first ∷ others → first.number ≢ n → HasNumber n left → HasNumber n others
-has_next n left others first e ne h = elim (subst (HasNumber n) e h) [
+has_next : (n : ℕ) (left others : List Entry) (first : Entry) → left ≡ first ∷ others → first.number ≢ n → HasEntryNumber n left → HasEntryNumber n others
+has_next n left others first e ne h = elim (subst (HasEntryNumber n) e h) [
   | inl is ↦ absurd (ne is)
   | inr o ↦ o
 ]
@@ -51,19 +50,19 @@ so_far_more n m x list rest behind ne t s es h =
       f.others,
       f.behind,
       λ has. has_next n a.0 f.others f.first f.whole (λ e. ne (sym f.number ∙ e)) (a.2 has),
-      λ has. a.3 (subst (HasNumber n) (sym f.whole) (inr has)),
+      λ has. a.3 (subst (HasEntryNumber n) (sym f.whole) (inr has)),
     )
 
-pub so_far_here : (n m : ℕ) (x list rest behind : List ℕ) → m ≡ n → Takes (IsEntry m x) rest behind → SoFar n list rest → (es : List Entry) → AreInOrder es list → HasNumber n es
+pub so_far_here : (n m : ℕ) (x list rest behind : List ℕ) → m ≡ n → Takes (IsEntry m x) rest behind → SoFar n list rest → (es : List Entry) → AreInOrder es list → HasEntryNumber n es
 so_far_here n m x list rest behind e t s es h =
     let a = s es h in
     let f = next m x rest behind a.0 t a.1 in
-    a.3 (subst (HasNumber n) (sym f.whole) (inl (f.number ∙ e)))
+    a.3 (subst (HasEntryNumber n) (sym f.whole) (inl (f.number ∙ e)))
 
-pub so_far_end : (n : ℕ) (list rest : List ℕ) → IsCut rest → SoFar n list rest → (es : List Entry) → AreInOrder es list → HasNumber n es → ⊥
+pub so_far_end : (n : ℕ) (list rest : List ℕ) → IsCutEntry rest → SoFar n list rest → (es : List Entry) → AreInOrder es list → HasEntryNumber n es → ⊥
 so_far_end n list rest c s es h has =
     let a = s es h in
-    subst (HasNumber n) (none_cut rest a.0 c a.1) (a.2 has)
+    subst (HasEntryNumber n) (none_cut rest a.0 c a.1) (a.2 has)
 
 -- ---- counted entries
 
@@ -77,14 +76,14 @@ pub counted_none : (list : List ℕ) → Counted list list 0
 counted_none list = record { back = λ es h o. (es, h, o, omega arith); on = λ es h o. (es, h, o, omega arith); few = omega arith }
 
 -- an entry that was taken can be written
-other_taken : (n : ℕ) (x b r : List ℕ) → Takes (IsEntry n x) b r → ((id : TransportParameterId) → Never (IsKnown id n)) → IsOther (taken n x)
+other_taken : (n : ℕ) (x b r : List ℕ) → Takes (IsEntry n x) b r → ((id : TransportParameterId) → ¬ (IsKnownParameter id n)) → IsOther (taken n x)
 other_taken n x b r t u = record { numeric = (encoded_bound n t.is.front t.is.first).0; short = (encoded_bound (length x) t.is.second.front t.is.second.first).0; unknown = u }
 
 others_of : (es others : List Entry) (first : Entry) → es ≡ first ∷ others → AreOthers es → AreOthers (first ∷ others)
 others_of es others first e h = subst AreOthers e h
 
-pub counted_more : (list rest behind : List ℕ) (n : ℕ) (x : List ℕ) (count : ℕ) → Takes (IsEntry n x) rest behind → ((id : TransportParameterId) → Never (IsKnown id n))
-    → ((es : List Entry) → AreInOrder es behind → HasNumber n es → ⊥) → rows + count < 256 → Counted list rest count → Counted list behind (count + 1)
+pub counted_more : (list rest behind : List ℕ) (n : ℕ) (x : List ℕ) (count : ℕ) → Takes (IsEntry n x) rest behind → ((id : TransportParameterId) → ¬ (IsKnownParameter id n))
+    → ((es : List Entry) → AreInOrder es behind → HasEntryNumber n es → ⊥) → rows + count < 256 → Counted list rest count → Counted list behind (count + 1)
 counted_more list rest behind n x count t u once lt c = record {
   back = λ left h o.
       let a = c.back (taken n x ∷ left) (begins n x rest behind left t h) (other_taken n x rest behind t u, once left h, o) in
@@ -102,16 +101,16 @@ counted_all list rest count e lt c =
     (a.0, record { entries = a.1; others = a.2; few = omega (arith, a.3, c.few); short = lt }, a.3 ∙ omega arith)
 
 -- what was looked up
-known_there : (n : ℕ) (r : Option TransportParameterId) → is_some r ≡ true → MatchOption r ((id : TransportParameterId) → Never (IsKnown id n)) (λ id. IsKnown id n) → (id : TransportParameterId) × IsKnown id n
+known_there : (n : ℕ) (r : Option TransportParameterId) → is_some r ≡ true → MatchOption r ((id : TransportParameterId) → ¬ (IsKnownParameter id n)) (λ id. IsKnownParameter id n) → (id : TransportParameterId) × IsKnownParameter id n
 known_there n (Some id) e h = (id, h)
 known_there n None e h = absurd (false≢true e)
 
-pub unknown_there : (n : ℕ) (r : Option TransportParameterId) → is_some r ≡ false → MatchOption r ((id : TransportParameterId) → Never (IsKnown id n)) (λ id. IsKnown id n) → (id : TransportParameterId) → Never (IsKnown id n)
+pub unknown_there : (n : ℕ) (r : Option TransportParameterId) → is_some r ≡ false → MatchOption r ((id : TransportParameterId) → ¬ (IsKnownParameter id n)) (λ id. IsKnownParameter id n) → (id : TransportParameterId) → ¬ (IsKnownParameter id n)
 unknown_there n (Some id) e h = absurd (false≢true (sym e))
 unknown_there n None e h = h
 
 -- what refuses a list
-pub cut_off : (list rest : List ℕ) (count : ℕ) → IsCut rest → rest ≢ [] → Counted list rest count → (es : List Entry) → IsFurther es list → ⊥
+pub cut_off : (list rest : List ℕ) (count : ℕ) → IsCutEntry rest → rest ≢ [] → Counted list rest count → (es : List Entry) → IsFurther es list → ⊥
 cut_off list rest count cut some c es f =
     let a = c.on es f.entries f.others in
     some (nothing_left rest a.0 (none_cut rest a.0 cut a.1) a.1)
@@ -123,19 +122,19 @@ too_many list rest behind n x count t full c es f =
     omega (arith, f.few, a.3, ap length g.whole, full)
 
 pub known_one : (list rest behind : List ℕ) (n : ℕ) (x : List ℕ) (count : ℕ) (r : Option TransportParameterId) → Takes (IsEntry n x) rest behind → is_some r ≡ true
-    → MatchOption r ((id : TransportParameterId) → Never (IsKnown id n)) (λ id. IsKnown id n) → Counted list rest count → (es : List Entry) → IsFurther es list → ⊥
+    → MatchOption r ((id : TransportParameterId) → ¬ (IsKnownParameter id n)) (λ id. IsKnownParameter id n) → Counted list rest count → (es : List Entry) → IsFurther es list → ⊥
 known_one list rest behind n x count r t some m c es f =
     let k = known_there n r some m in
     let a = c.on es f.entries f.others in
     let g = next n x rest behind a.0 t a.1 in
-    (others_of a.0 g.others g.first g.whole a.2).0.unknown k.0 (subst (IsKnown k.0) (sym g.number) k.1)
+    (others_of a.0 g.others g.first g.whole a.2).0.unknown k.0 (subst (IsKnownParameter k.0) (sym g.number) k.1)
 
 pub there_twice : (list rest behind : List ℕ) (n : ℕ) (x : List ℕ) (count : ℕ) → Takes (IsEntry n x) rest behind
-    → ((es : List Entry) → AreInOrder es behind → HasNumber n es) → Counted list rest count → (es : List Entry) → IsFurther es list → ⊥
+    → ((es : List Entry) → AreInOrder es behind → HasEntryNumber n es) → Counted list rest count → (es : List Entry) → IsFurther es list → ⊥
 there_twice list rest behind n x count t has c es f =
     let a = c.on es f.entries f.others in
     let g = next n x rest behind a.0 t a.1 in
-    (others_of a.0 g.others g.first g.whole a.2).1 (subst (λ (m : ℕ). HasNumber m g.others) (sym g.number) (has g.others g.behind))
+    (others_of a.0 g.others g.first g.whole a.2).1 (subst (λ (m : ℕ). HasEntryNumber m g.others) (sym g.number) (has g.others g.behind))
 
 -- ---- the entry at an index
 
@@ -146,7 +145,7 @@ pub passed_none : (list : List ℕ) → Passed list list 0
 passed_none list es h = h
 
 -- an entry that is there
-pub there : (list rest : List ℕ) (k : ℕ) (es : List Entry) → AreInOrder es list → k < length es → Passed list rest k → IsCut rest → ⊥
+pub there : (list rest : List ℕ) (k : ℕ) (es : List Entry) → AreInOrder es list → k < length es → Passed list rest k → IsCutEntry rest → ⊥
 there list rest k es h lt p c =
     let none : drop k es ≡ [] = none_cut rest (drop k es) c (p es h) in
     let some : drop k es ≡ get_or es k any_entry ∷ drop (suc k) es = drop-cons es k any_entry lt in

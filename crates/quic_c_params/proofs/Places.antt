@@ -3,11 +3,11 @@ use Rattle.std.proofs.Common.{◌≡◌, ℕ, ◌+◌, ◌-◌, List, ◌++◌, 
 use Rattle.std.proofs.lemmas.List.{drop_at, take_at}
 use Rattle.quic_base.specs.Codec.{Takes}
 use Rattle.quic_params.specs.Entry.{IsEntry}
-use Rattle.quic_c_params.specs.Lists.{GivesEntry}
+use Rattle.quic_c_params.specs.Lists.{GivesParameter}
 
 -- where the value of the first entry lies
 pub gives_entry : (list value rest : List ℕ) (id : ℕ) → Takes (IsEntry id value) list rest
-    → GivesEntry list (record { id = id; value = length list - length rest - length value; value_len = length value })
+    → GivesParameter list (record { id = id; value = length list - length rest - length value; value_len = length value })
 gives_entry list value rest id t =
     let f = t.is in
     let g = f.second in

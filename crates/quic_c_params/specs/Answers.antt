@@ -2,7 +2,7 @@
 use Rattle.std.specs.Prelude.{◌≡◌, ℕ, List, Ok, Err}
 use Rattle.quic_base.specs.declared.ids.Side.{Side}
 use Rattle.quic_base.specs.declared.ids.Side.TheVariants.{Client, Server}
-use Rattle.quic_params.specs.Meaning.{IsAnswer}
+use Rattle.quic_params.specs.Meaning.{IsReadAnswer}
 use Rattle.quic_params.specs.declared.error.Error.{Error}
 use Rattle.quic_params.specs.declared.error.Error.TheVariants.{IllegalValue, Malformed}
 use Rattle.quic_params.specs.declared.record.TransportParameters.{TransportParameters}
@@ -15,16 +15,16 @@ IsSide word Client = word ≡ 0
 IsSide word Server = word ≡ 1
 
 -- the number of a reason
-abbrev pub reason_of : Error → ℕ
-reason_of Malformed = 1
-reason_of IllegalValue = 2
+abbrev pub reason_word_of : Error → ℕ
+reason_word_of Malformed = 1
+reason_word_of IllegalValue = 2
 
 -- The side takes the list, and the words of its record were given.
 pub record GivesParams (side : ℕ) (bytes : List ℕ) (new : ParamsWords) : Type 0 where
   pub reader : Side
   pub is_side : IsSide side reader
   pub params : TransportParameters
-  pub answer : IsAnswer reader bytes (Ok params)
+  pub answer : IsReadAnswer reader bytes (Ok params)
   pub words : new ≡ params_words params
 
 -- The side refuses the list, and why was reported; no other word changes.
@@ -32,5 +32,5 @@ pub record GivesRefusal (side : ℕ) (bytes : List ℕ) (old new : ParamsWords) 
   pub reader : Side
   pub is_side : IsSide side reader
   pub reason : Error
-  pub answer : IsAnswer reader bytes (Err reason)
-  pub words : new ≡ record old { reason = reason_of reason }
+  pub answer : IsReadAnswer reader bytes (Err reason)
+  pub words : new ≡ record old { reason = reason_word_of reason }

@@ -1,12 +1,11 @@
 -- Lists of parameters by their entries, and with further ones: RFC 9000, section 18.
 use Rattle.std.specs.Prelude.{◌≡◌, ℕ, ◌+◌, ◌<◌, ◌≤◌, ◌^◌, ◌⊎◌, List, [], ◌++◌, length, take, drop, Result, Ok, IfOk, IfErr, OnErr}
 use Rattle.quic_base.specs.Codec.{Takes}
-use Rattle.quic_params.specs.Never.{Never}
 use Rattle.quic_params.specs.declared.parameter.TransportParameterId.{TransportParameterId}
 use Rattle.quic_params.specs.declared.record.TransportParameters.{TransportParameters}
-use Rattle.quic_params.specs.Entry.{Entry, IsEntry, IsKnown}
+use Rattle.quic_params.specs.Entry.{Entry, IsEntry, IsKnownParameter}
 use Rattle.quic_params.specs.Further.{AreInOrder, AreOthers, IsOrderOf, asked, listed}
-use Rattle.quic_params.specs.Meaning.{IsAnswer}
+use Rattle.quic_params.specs.Meaning.{IsReadAnswer}
 use Rattle.quic_params.specs.Table.{rows}
 use Rattle.quic_c_params.specs.declared.words.EntryWords.{EntryWords}
 use Rattle.quic_c_params.specs.declared.words.ParamsWords.{ParamsWords}
@@ -14,12 +13,12 @@ use Rattle.quic_c_params.specs.Written.{CanWriteParams}
 
 -- 1 where a record has the parameter of this number, and 0 where it doesn't
 abbrev pub TellsKnown : ℕ → ℕ → Type 0
-TellsKnown known number = ((known ≡ 1) × (id : TransportParameterId) × IsKnown id number) ⊎ (known ≡ 0)
-    × ((id : TransportParameterId) → Never (IsKnown id number))
+TellsKnown known number = ((known ≡ 1) × (id : TransportParameterId) × IsKnownParameter id number) ⊎ (known ≡ 0)
+    × ((id : TransportParameterId) → ¬ (IsKnownParameter id number))
 
 -- The words tell the entry at the front of a list: its number, the place of its value, behind which the next one
 -- begins.
-pub record GivesEntry (list : List ℕ) (words : EntryWords) : Type 0 where
+pub record GivesParameter (list : List ℕ) (words : EntryWords) : Type 0 where
   pub entry : Takes (IsEntry words.id (take words.value_len (drop words.value list))) list
       (drop (words.value + words.value_len) list)
   pub within : words.value + words.value_len ≤ length list
@@ -34,7 +33,7 @@ pub record Lies (result : Result ℕ ℕ) (bytes old new : List ℕ) : Type 0 wh
   pub same : OnErr result (new ≡ old)
 
 -- Bytes stand at the front, with what stood behind them, and are counted.
-pub record Stands (bytes old new : List ℕ) (count : ℕ) : Type 0 where
+pub record StandsInList (bytes old new : List ℕ) (count : ℕ) : Type 0 where
   pub count_is : count ≡ length bytes
   pub front : new ≡ bytes ++ drop count old
 
@@ -66,8 +65,8 @@ pub record WroteList (side : ℕ) (words : ParamsWords) (further order old new :
   pub params : TransportParameters
   pub es : List Entry
   pub can : CanList side words further order params es
-  pub stands : Stands (listed params es order) old new count
-  pub read_back : IsAnswer can.record_is.reader (listed params es order) (Ok params)
+  pub stands : StandsInList (listed params es order) old new count
+  pub read_back : IsReadAnswer can.record_is.reader (listed params es order) (Ok params)
 
 -- There is less room than that list needs, and how much that is was reported.
 pub record ListLacks (side : ℕ) (words : ParamsWords) (further order old : List ℕ) (needed : ℕ) : Type 0 where

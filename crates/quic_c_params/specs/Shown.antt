@@ -23,9 +23,9 @@ abbrev pub number_of : Option ℕ → ℕ
 number_of (Some n) = n
 number_of None = 0
 
-abbrev pub token_of : Option (List ℕ) → List ℕ
-token_of (Some token) = token
-token_of None = replicate 16 0
+abbrev pub reset_token_of : Option (List ℕ) → List ℕ
+reset_token_of (Some token) = token
+reset_token_of None = replicate 16 0
 
 -- an id of any length in 20 bytes
 abbrev pub padded : List ℕ → List ℕ
@@ -116,8 +116,8 @@ params_words p = record {
   initial_src_cid = id_of p.initial_src_cid;
   retry_src_cid = id_of p.retry_src_cid;
   preferred_id = id_of (id_in p.preferred_address);
-  stateless_reset_token = token_of p.stateless_reset_token;
-  preferred_token = token_of (token_in p.preferred_address);
+  stateless_reset_token = reset_token_of p.stateless_reset_token;
+  preferred_token = reset_token_of (token_in p.preferred_address);
   preferred_v6 = octets_of_v6 (v6_in p.preferred_address);
   preferred_v4 = octets_of_v4 (v4_in p.preferred_address);
 }

@@ -1,8 +1,8 @@
 -- The parameters that words say, and what the call answers that writes them.
 use Rattle.std.specs.Prelude.{◌≡◌, ℕ, ◌<◌, List, ◌++◌, length, drop, Ok, None, is_some}
 use Rattle.quic_base.specs.declared.ids.Side.{Side}
-use Rattle.quic_params.specs.Meaning.{IsAnswer}
-use Rattle.quic_params.specs.Range.{IsTyped, IsInRange}
+use Rattle.quic_params.specs.Meaning.{IsReadAnswer}
+use Rattle.quic_params.specs.Range.{IsTypedRecord, IsRecordInRange}
 use Rattle.quic_params.specs.Writing.{written}
 use Rattle.quic_params.specs.declared.record.TransportParameters.{TransportParameters}
 use Rattle.quic_c_params.specs.declared.words.ParamsWords.{ParamsWords}
@@ -14,7 +14,7 @@ use Rattle.quic_c_params.specs.Shown.{params_words, v4_in, v6_in}
 -- writing.
 pub record DescribesParams (words : ParamsWords) (p : TransportParameters) : Type 0 where
   pub words_are : words ≡ params_words p
-  pub typed : IsTyped p
+  pub typed : IsTypedRecord p
   pub no_grease : p.grease_transport_parameter ≡ None
   pub no_order : p.write_order ≡ None
 
@@ -23,18 +23,18 @@ pub record CanWriteParams (side : ℕ) (words : ParamsWords) (p : TransportParam
   pub reader : Side
   pub is_side : IsSide side reader
   pub said : DescribesParams words p
-  pub in_range : IsInRange reader p
-  pub read_back : IsAnswer reader (written p) (Ok p)
+  pub in_range : IsRecordInRange reader p
+  pub read_back : IsReadAnswer reader (written p) (Ok p)
 
 -- The list of such a record stands at the front, with what stood behind it, and is counted.
-pub record Wrote (side : ℕ) (words : ParamsWords) (old new : List ℕ) (count : ℕ) : Type 0 where
+pub record WroteParams (side : ℕ) (words : ParamsWords) (old new : List ℕ) (count : ℕ) : Type 0 where
   pub params : TransportParameters
   pub can : CanWriteParams side words params
   pub count_is : count ≡ length (written params)
   pub front : new ≡ written params ++ drop count old
 
 -- There is less room than such a list needs, and how much that is was reported.
-pub record NeedsMore (side : ℕ) (words : ParamsWords) (old : List ℕ) (needed : ℕ) : Type 0 where
+pub record ParamsNeedMore (side : ℕ) (words : ParamsWords) (old : List ℕ) (needed : ℕ) : Type 0 where
   pub params : TransportParameters
   pub can : CanWriteParams side words params
   pub count_is : needed ≡ length (written params)

@@ -1,8 +1,8 @@
 //! The entries of a list of transport parameters, whether a record has them or not (RFC 9000, section 18).
 ghost use Rattle.std.specs.Prelude.{◌≡◌, ◌≢◌, ◌⊎◌, ◌↔◌, ◌<◌, ◌≤◌, ◌^◌, ℕ, [], length, pos, negsuc};
-ghost use Rattle.quic_params.specs.Entry.{IsCut};
+ghost use Rattle.quic_params.specs.Entry.{IsCutEntry};
 ghost use Rattle.quic_params.specs.Writing.{entry};
-ghost use Rattle.quic_c_params.specs.Lists.{GivesEntry, Lacks, Stands, TellsKnown};
+ghost use Rattle.quic_c_params.specs.Lists.{GivesParameter, Lacks, StandsInList, TellsKnown};
 
 use crate::words::EntryWords;
 use quic_params::transport_parameters::{known, split_entry, write_entry_into};
@@ -26,9 +26,9 @@ pub extern "C" fn quic_wire_param_is_known_(id: u64) -> u32
 #[unsafe(no_mangle)]
 pub extern "C" fn quic_wire_param_read_(list: &[u8], entry: &mut EntryWords) -> i32
     ensures answers { (result ≡ pos 0) ⊎ (result ≡ negsuc 1) ⊎ (result ≡ negsuc 2) }
-    ensures read { result ≡ pos 0 → GivesEntry list.now entry.new }
+    ensures read { result ≡ pos 0 → GivesParameter list.now entry.new }
     ensures empty { (result ≡ negsuc 1) ↔ (list.now ≡ []) }
-    ensures cut { result ≡ negsuc 2 → IsCut list.now }
+    ensures cut { result ≡ negsuc 2 → IsCutEntry list.now }
     ensures same { (result ≡ pos 0) ⊎ (entry.new ≡ entry.old) }
 {
     if list.is_empty() {
@@ -58,7 +58,7 @@ pub extern "C" fn quic_wire_param_write_(
     written: &mut usize,
 ) -> i32
     ensures answers { (result ≡ pos 0) ⊎ (result ≡ negsuc 3) ⊎ (result ≡ negsuc 0) }
-    ensures wrote { result ≡ pos 0 → Stands (entry id value.now) dest.old dest.new written.new }
+    ensures wrote { result ≡ pos 0 → StandsInList (entry id value.now) dest.old dest.new written.new }
     ensures room { result ≡ negsuc 3 → Lacks (entry id value.now) dest.old written.new }
     ensures refused { (result ≡ negsuc 0) ↔ ((2 ^ 62 ≤ id) ⊎ (2 ^ 62 ≤ length value.now)) }
     ensures same { (result ≡ pos 0) ⊎ (dest.new ≡ dest.old) }

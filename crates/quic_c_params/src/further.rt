@@ -2,7 +2,7 @@
 //! 7.4 and 18).
 ghost use Rattle.std.specs.Prelude.{◌≡◌, ◌+◌, ◌<◌, ◌≤◌, ◌↔◌, ◌^◌, ℕ, List, get_or, length, IsTrue, IfSome, IsNone};
 ghost use Rattle.quic_params.specs.Entry.{Entry};
-ghost use Rattle.quic_params.specs.Further.{AreInOrder, AreOthers, HasNumber, IsOrderOf, asked};
+ghost use Rattle.quic_params.specs.Further.{AreInOrder, AreOthers, HasEntryNumber, IsOrderOf, asked};
 ghost use Rattle.quic_params.specs.Table.{rows};
 ghost use Rattle.quic_c_params.specs.Lists.{any_entry, IsFurther};
 
@@ -13,7 +13,7 @@ pub(crate) const ROWS: usize = TransportParameterId::SUPPORTED.len();
 
 // Whether a list of entries has one of this number.
 fn has_number(list: &[u8], number: u64) -> bool
-    ensures { (es : List Entry) → AreInOrder es list.now → IsTrue result ↔ HasNumber number es }
+    ensures { (es : List Entry) → AreInOrder es list.now → IsTrue result ↔ HasEntryNumber number es }
 {
     let mut rest = list;
     while let Some((other, _, behind)) = split_entry(rest) {

@@ -3,7 +3,7 @@ ghost use Rattle.std.specs.Prelude.{◌≡◌, ◌⊎◌, ◌+◌, ◌*◌, ◌<
 ghost use Rattle.std.specs.List.{flat_map};
 ghost use Rattle.quic_params.specs.Entry.{Entry};
 ghost use Rattle.quic_params.specs.Further.{AreInOrder, IsOrderOf, asked, listed, pieces};
-ghost use Rattle.quic_params.specs.Order.{id_at};
+ghost use Rattle.quic_params.specs.Order.{id_of_index};
 ghost use Rattle.quic_params.specs.Table.{rows};
 ghost use Rattle.quic_params.specs.Writing.{entry, written_for};
 ghost use Rattle.quic_params.specs.declared.record.TransportParameters.{TransportParameters};
@@ -21,7 +21,7 @@ use quic_params::transport_parameters::{
 // The parameter of a row.
 fn row_at(index: usize) -> TransportParameterId
     requires { index < rows }
-    ensures { result ≡ id_at index }
+    ensures { result ≡ id_of_index index }
 {
     TransportParameterId::SUPPORTED[index]
 }

@@ -1,6 +1,6 @@
 //! A list of transport parameters, read into words.
 ghost use Rattle.std.specs.Prelude.{◌≡◌, ◌⊎◌, ◌↔◌, ◌<◌, pos, negsuc, MatchOption};
-ghost use Rattle.quic_c_params.specs.Answers.{IsSide, reason_of, GivesParams, GivesRefusal};
+ghost use Rattle.quic_c_params.specs.Answers.{IsSide, reason_word_of, GivesParams, GivesRefusal};
 
 use crate::show::show;
 use crate::words::ParamsWords;
@@ -19,8 +19,8 @@ pub(crate) fn side_of(word: u32) -> Option<Side>
 }
 
 // The number of a reason.
-fn reason_of(error: Error) -> u32
-    ensures { result ≡ reason_of error }
+fn reason_word_of(error: Error) -> u32
+    ensures { result ≡ reason_word_of error }
 {
     match error {
         Error::Malformed => 1,
@@ -56,7 +56,7 @@ pub extern "C" fn quic_wire_params_read_(side: u32, bytes: &[u8], out: &mut Para
             0
         }
         Err(error) => {
-            out.reason = reason_of(error);
+            out.reason = reason_word_of(error);
             -3
         }
     }

@@ -1,6 +1,6 @@
 //! Transport parameters as words.
 ghost use Rattle.std.specs.Prelude.{◌≡◌, ◌+◌, ◌*◌, ◌<◌, ◌≤◌, ◌^◌};
-ghost use Rattle.quic_c_params.specs.Shown.{bit, number_of, token_of, id_of, len_of, octets_of_v4, port_of_v4, octets_of_v6, port_of_v6, v4_in, v6_in, id_in, token_in, bits, present_in, params_words};
+ghost use Rattle.quic_c_params.specs.Shown.{bit, number_of, reset_token_of, id_of, len_of, octets_of_v4, port_of_v4, octets_of_v6, port_of_v6, v4_in, v6_in, id_in, token_in, bits, present_in, params_words};
 
 use crate::words::ParamsWords;
 use quic_base::ids::{ConnectionId, ResetToken};
@@ -27,7 +27,7 @@ fn number(n: &Option<VarInt>) -> u64
 }
 
 fn token(token: &Option<ResetToken>) -> [u8; 16]
-    ensures { result ≡ token_of token.now }
+    ensures { result ≡ reset_token_of token.now }
 {
     match token {
         Some(token) => <[u8; 16]>::from(*token),

@@ -3,12 +3,12 @@ ghost use Rattle.std.specs.Prelude.{◌≡◌, ◌⊎◌, ◌<◌, ◌≤◌, �
 ghost use Rattle.std.specs.declared.net.socket_addr.SocketAddrV4.{SocketAddrV4};
 ghost use Rattle.std.specs.declared.net.socket_addr.SocketAddrV6.{SocketAddrV6};
 ghost use Rattle.quic_base.specs.declared.ids.Side.{Side};
-ghost use Rattle.quic_params.specs.Range.{IsEncodableV6, IsEncodableAddress, IsTypedAddress, IsInRange};
-ghost use Rattle.quic_params.specs.Meaning.{IsAnswer};
+ghost use Rattle.quic_params.specs.Range.{IsEncodableV6, IsEncodableAddress, IsTypedAddress, IsRecordInRange};
+ghost use Rattle.quic_params.specs.Meaning.{IsReadAnswer};
 ghost use Rattle.quic_params.specs.Writing.{written};
 ghost use Rattle.quic_params.specs.declared.record.TransportParameters.{TransportParameters};
-ghost use Rattle.quic_c_params.specs.Shown.{bit, bits, present_in, number_of, token_of, padded, id_of, len_of, octets_of_v4, port_of_v4, octets_of_v6, port_of_v6, params_words};
-ghost use Rattle.quic_c_params.specs.Written.{DescribesParams, CanWriteParams, Wrote, NeedsMore, DescribesNoParams, HasFlags};
+ghost use Rattle.quic_c_params.specs.Shown.{bit, bits, present_in, number_of, reset_token_of, padded, id_of, len_of, octets_of_v4, port_of_v4, octets_of_v6, port_of_v6, params_words};
+ghost use Rattle.quic_c_params.specs.Written.{DescribesParams, CanWriteParams, WroteParams, ParamsNeedMore, DescribesNoParams, HasFlags};
 
 use crate::read::side_of;
 use crate::show::show;
@@ -89,7 +89,7 @@ fn number_in(there: bool, n: u64) -> Option<VarInt>
 }
 
 fn token_in(there: bool, token: [u8; 16]) -> Option<ResetToken>
-    ensures { (o : Option (List ℕ)) → there ≡ is_some o → token ≡ token_of o → result ≡ o }
+    ensures { (o : Option (List ℕ)) → there ≡ is_some o → token ≡ reset_token_of o → result ≡ o }
 {
     if there {
         Some(ResetToken::from(token))
@@ -156,7 +156,7 @@ fn address_in(words: &ParamsWords, flags: Flags) -> Option<PreferredAddress>
 
 // The record that the words say, if they say one.
 fn record_in(words: &ParamsWords) -> TransportParameters
-    ensures said { (side : Side) (p : TransportParameters) → DescribesParams words.now p → IsInRange side p
+    ensures said { (side : Side) (p : TransportParameters) → DescribesParams words.now p → IsRecordInRange side p
         → result ≡ p }
     ensures no_grease { result.grease_transport_parameter ≡ None }
     ensures no_order { result.write_order ≡ None }
@@ -206,8 +206,8 @@ fn same_words(a: &ParamsWords, b: &ParamsWords) -> bool
 // The record that the words say, where the side reads it back.
 pub(crate) fn said(side: Side, words: &ParamsWords) -> Option<TransportParameters>
     ensures some { IfSome result
-        (λ p. DescribesParams words.now p × IsInRange side p × IsAnswer side (written p) (Ok p)) }
-    ensures none { IsNone result → (p : TransportParameters) → DescribesParams words.now p → IsInRange side p → ⊥ }
+        (λ p. DescribesParams words.now p × IsRecordInRange side p × IsReadAnswer side (written p) (Ok p)) }
+    ensures none { IsNone result → (p : TransportParameters) → DescribesParams words.now p → IsRecordInRange side p → ⊥ }
 {
     let params = record_in(words);
     params.type_bounds();
@@ -234,8 +234,8 @@ pub extern "C" fn quic_wire_params_write_(
     written: &mut usize,
 ) -> i32
     ensures answers { (result ≡ pos 0) ⊎ (result ≡ negsuc 3) ⊎ (result ≡ negsuc 0) }
-    ensures wrote { result ≡ pos 0 → Wrote side words.now dest.old dest.new written.new }
-    ensures room { result ≡ negsuc 3 → NeedsMore side words.now dest.old written.new }
+    ensures wrote { result ≡ pos 0 → WroteParams side words.now dest.old dest.new written.new }
+    ensures room { result ≡ negsuc 3 → ParamsNeedMore side words.now dest.old written.new }
     ensures refused { result ≡ negsuc 0 → DescribesNoParams side words.now × (written.new ≡ written.old) }
     ensures same { (result ≡ pos 0) ⊎ (dest.new ≡ dest.old) }
 {

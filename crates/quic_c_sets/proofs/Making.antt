@@ -8,7 +8,7 @@ use Rattle.quic_ranges.proofs.RunsLemmas.{IsRunsOf-unique}
 use Rattle.quic_c_sets.specs.declared.words.RunWords.{RunWords}
 use Rattle.quic_c_sets.specs.declared.change.Splice.{Splice}
 use Rattle.quic_c_sets.specs.Sets.{IsSet, Becomes, LacksRoom, runs_of}
-use Rattle.quic_c_sets.specs.Changes.{Fits, Made, NeedsMore, Plans, after_change, words_of}
+use Rattle.quic_c_sets.specs.Changes.{FitsRoom, Made, SetNeedsMore, Plans, after_change, words_of}
 use Rattle.quic_c_sets.proofs.Placing.{many}
 
 take_seam : (xs zs : List RunWords) (n : ℕ) → n ≡ length xs → take n (xs ++ zs) ≡ xs
@@ -73,7 +73,7 @@ module _ (old ys new vs : List RunWords) (before from to after : ℕ) (some : be
   moved_length : length new ≡ length old
   moved_length = omega (arith, ap length parts, length-append (take from old ++ (vs ++ take (before - to) (drop to old))) (drop after old), long, length-drop after old, room)
 
-pub made : (old ys new : List RunWords) (before after more : ℕ) (change : Splice) → before ≤ length old → Fits (take before old) change → more ≡ length (words_of change.by)
+pub made : (old ys new : List RunWords) (before after more : ℕ) (change : Splice) → before ≤ length old → FitsRoom (take before old) change → more ≡ length (words_of change.by)
     → after ≡ change.from + more + (before - change.to) → after ≤ length old → ys ≡ copy_within old change.to before (change.from + more)
     → new ≡ take change.from ys ++ (words_of change.by ++ drop (change.from + length (words_of change.by)) ys) → Made old before change new after
 made old ys new before after more change some fits more_is count room moved is =
@@ -90,14 +90,14 @@ made old ys new before after more change some fits more_is count room moved is =
     }
 
 -- how many runs there are after a change
-length_after : (words : List RunWords) (s : Splice) → Fits words s → length (after_change words s) ≡ s.from + length (words_of s.by) + (length words - s.to)
+length_after : (words : List RunWords) (s : Splice) → FitsRoom words s → length (after_change words s) ≡ s.from + length (words_of s.by) + (length words - s.to)
 length_after words s fits =
     let ordered = fits.ordered in
     let within = fits.within in
     omega (arith, ordered, within, length-append (take s.from words) (words_of s.by ++ drop s.to words), length-append (words_of s.by) (drop s.to words), length-take s.from words, length-drop s.to words)
 
-pub needs_more : (old : List RunWords) (before after more : ℕ) (change : Splice) → before ≤ length old → Fits (take before old) change → more ≡ length (words_of change.by)
-    → after ≡ change.from + more + (before - change.to) → length old < after → NeedsMore old before change
+pub needs_more : (old : List RunWords) (before after more : ℕ) (change : Splice) → before ≤ length old → FitsRoom (take before old) change → more ≡ length (words_of change.by)
+    → after ≡ change.from + more + (before - change.to) → length old < after → SetNeedsMore old before change
 needs_more old before after more change some fits more_is count lt =
     let ordered = fits.ordered in
     let within = fits.within in
@@ -117,7 +117,7 @@ becomes test old new before after change set plan made = record {
   behind = made.behind;
 }
 
-pub lacks_room : (test : ℕ → Bool) (old : List RunWords) (before : ℕ) (change : Splice) → IsSet old before → Plans test (take before old) change → NeedsMore old before change → LacksRoom test old before
+pub lacks_room : (test : ℕ → Bool) (old : List RunWords) (before : ℕ) (change : Splice) → IsSet old before → Plans test (take before old) change → SetNeedsMore old before change → LacksRoom test old before
 lacks_room test old before change set plan needs = record {
   set = set;
   full = needs.full;

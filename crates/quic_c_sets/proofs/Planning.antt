@@ -14,7 +14,7 @@ use Rattle.quic_c_sets.specs.declared.change.Splice.{Splice}
 use Rattle.quic_c_sets.specs.declared.change.Substitute.{Substitute}
 use Rattle.quic_c_sets.specs.declared.change.Substitute.TheVariants.{Nothing, One, Two}
 use Rattle.quic_c_sets.specs.Sets.{range_of, runs_of}
-use Rattle.quic_c_sets.specs.Changes.{Fits, Plans, after_change, words_of}
+use Rattle.quic_c_sets.specs.Changes.{FitsRoom, Plans, after_change, words_of}
 use Rattle.quic_c_sets.proofs.Placing.{many, nowhere, run_at}
 
 -- the ranges after a change
@@ -24,7 +24,7 @@ after_ranges words s =
     ∙ ap (λ (l : List (Range ℕ)). runs_of (take s.from words) ++ l) (map-append range_of (words_of s.by) (drop s.to words))
     ∙ rw (take-map range_of s.from words, drop-map range_of s.to words) refl
 
-plans : (test : ℕ → Bool) (words : List RunWords) (s : Splice) → Fits words s → BecomesRunsOf test (runs_of words) (take s.from (runs_of words) ++ (runs_of (words_of s.by) ++ drop s.to (runs_of words))) → Plans test words s
+plans : (test : ℕ → Bool) (words : List RunWords) (s : Splice) → FitsRoom words s → BecomesRunsOf test (runs_of words) (take s.from (runs_of words) ++ (runs_of (words_of s.by) ++ drop s.to (runs_of words))) → Plans test words s
 plans test words s fits runs = record { fits = fits; runs = subst (BecomesRunsOf test (runs_of words)) (sym (after_ranges words s)) runs }
 
 -- ---- insertions

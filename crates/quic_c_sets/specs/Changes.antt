@@ -18,14 +18,14 @@ abbrev pub after_change : List RunWords → Splice → List RunWords
 after_change words s = take s.from words ++ (words_of s.by ++ drop s.to words)
 
 -- The change lies inside the runs, and leaves at most one more.
-pub record Fits (words : List RunWords) (s : Splice) : Type 0 where
+pub record FitsRoom (words : List RunWords) (s : Splice) : Type 0 where
   pub ordered : s.from ≤ s.to
   pub within : s.to ≤ length words
   pub one_more : length (words_of s.by) ≤ s.to - s.from + 1
 
 -- The change makes of the runs those of the numbers that pass the test, which is another set.
 pub record Plans (test : ℕ → Bool) (words : List RunWords) (s : Splice) : Type 0 where
-  pub fits : Fits words s
+  pub fits : FitsRoom words s
   pub runs : BecomesRunsOf test (runs_of words) (runs_of (after_change words s))
 
 -- The change was made.
@@ -35,6 +35,6 @@ pub record Made (old : List RunWords) (before : ℕ) (change : Splice) (new : Li
   pub behind : drop after new ≡ drop after old
 
 -- The array is full, and the change asks for one run more.
-pub record NeedsMore (old : List RunWords) (before : ℕ) (change : Splice) : Type 0 where
+pub record SetNeedsMore (old : List RunWords) (before : ℕ) (change : Splice) : Type 0 where
   pub full : before ≡ length old
   pub more : length (after_change (take before old) change) ≡ before + 1

@@ -3,7 +3,7 @@ ghost use Rattle.std.specs.Prelude.{◌≡◌, ◌≤◌, ◌<◌, ◌+◌, ◌+
 ghost use Rattle.quic_ranges.specs.Pieces.{piece};
 ghost use Rattle.quic_ranges.specs.Runs.{IsMaximalRuns, IsRunsOf, in_union, in_difference};
 ghost use Rattle.quic_c_sets.specs.Sets.{range_of, runs_of};
-ghost use Rattle.quic_c_sets.specs.Changes.{Fits, Made, NeedsMore, Plans, words_of};
+ghost use Rattle.quic_c_sets.specs.Changes.{FitsRoom, Made, SetNeedsMore, Plans, words_of};
 
 use crate::places::{count_ends_below, count_starts_upto};
 use crate::words::RunWords;
@@ -134,9 +134,9 @@ pub(crate) fn removal(runs: &[RunWords], x: RunWords) -> Option<Splice>
 #[inline(always)]
 pub(crate) fn make(runs: &mut [RunWords], count: &mut usize, change: Splice) -> bool
     requires within { count.old ≤ length runs.old }
-    requires fits { Fits (take count.old runs.old) change }
+    requires fits { FitsRoom (take count.old runs.old) change }
     ensures made { result ≡ true → Made runs.old count.old change runs.new count.new }
-    ensures more { result ≡ false → NeedsMore runs.old count.old change }
+    ensures more { result ≡ false → SetNeedsMore runs.old count.old change }
     ensures same { result ≡ false → runs.new ≡ runs.old }
     ensures counted { result ≡ false → count.new ≡ count.old }
 {

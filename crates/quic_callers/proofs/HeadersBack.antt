@@ -6,7 +6,7 @@ use Rattle.quic_header_decode.specs.declared.decode_error.PacketDecodeError.TheV
 use Rattle.quic_header_decode.specs.declared.protected.ProtectedHeader.{ProtectedHeader}
 use Rattle.quic_header_decode.specs.Grammar.{HeaderAt, Cut, CutAnswer}
 use Rattle.quic_header_decode.specs.Reading.{Context, len_in}
-use Rattle.quic_header_decode.specs.Refusal.{Refusal, Refuses}
+use Rattle.quic_header_decode.specs.Refusal.{Refusal, RefusesHeader}
 
 -- a header without a length, and all that follows, are one packet
 pub alone : (context : Context) (bytes front rest : List ℕ) (h : ProtectedHeader) → bytes ≡ front ++ rest → HeaderAt context (length bytes) bytes h rest → len_in h ≡ None
@@ -27,7 +27,7 @@ is_alone h got p end p' len same =
     (sym (ap (λ x. x.0) parts), sym (ap (λ x. x.2) parts))
 
 -- where it wasn't, memory was wanting
-pub no_refusal : (e : PacketDecodeError) (found : ProtectedHeader × ℕ × ℕ) → Refuses e (Ok found) → e ≡ error.OutOfMemory
+pub no_refusal : (e : PacketDecodeError) (found : ProtectedHeader × ℕ × ℕ) → RefusesHeader e (Ok found) → e ≡ error.OutOfMemory
 no_refusal (error.UnsupportedVersion src dst version) found refused = absurd cc
 no_refusal (error.InvalidHeader text) found refused = absurd cc
 no_refusal error.OutOfMemory found refused = refl

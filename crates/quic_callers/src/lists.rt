@@ -1,6 +1,6 @@
 //! Lists of transport parameters that are written anew: what callers learn from the law on their lengths.
 ghost use Rattle.std.specs.Prelude.{◌≡◌, ◌≤◌, IfSome, Ok, length};
-ghost use Rattle.quic_params.specs.Meaning.{IsAnswer};
+ghost use Rattle.quic_params.specs.Meaning.{IsReadAnswer};
 ghost use Rattle.quic_params.specs.Writing.{written};
 ghost use Rattle.quic_params.specs.declared.record.TransportParameters.{TransportParameters};
 
@@ -12,7 +12,7 @@ use std::alloc::Global;
 /// Reads a list that the side has got, and writes its record anew, which takes no more bytes than the list. `None`
 /// where the list is refused, or there is no memory.
 pub fn shortened(alloc: Global, side: Side, list: &[u8]) -> Option<Vec<u8>>
-    ensures { IfSome result (λ out. (p : TransportParameters) × IsAnswer side list.now (Ok p)
+    ensures { IfSome result (λ out. (p : TransportParameters) × IsReadAnswer side list.now (Ok p)
         × (out.items ≡ written p) × (length out.items ≤ length list.now)) }
 {
     laws::shortest();

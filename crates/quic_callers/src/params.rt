@@ -3,8 +3,8 @@
 ghost use Rattle.std.specs.Prelude.{◌≡◌, IfOk, IfSome, OnOk, Ok, List, [], ◌∷◌};
 ghost use Rattle.quic_params.specs.Entry.{Entry};
 ghost use Rattle.quic_params.specs.Further.{IsRecordOf};
-ghost use Rattle.quic_params.specs.Meaning.{IsAnswer};
-ghost use Rattle.quic_params.specs.Range.{IsInRange, plain};
+ghost use Rattle.quic_params.specs.Meaning.{IsReadAnswer};
+ghost use Rattle.quic_params.specs.Range.{IsRecordInRange, plain};
 ghost use Rattle.quic_params.specs.Resumption.{Resumes};
 ghost use Rattle.quic_params.specs.declared.record.TransportParameters.{TransportParameters};
 
@@ -21,7 +21,7 @@ pub fn written_and_read(
     params: &TransportParameters,
     out: &mut Vec<u8>,
 ) -> Result<TransportParameters, NoRoom>
-    requires in_range { IsInRange side params.now }
+    requires in_range { IsRecordInRange side params.now }
     requires empty { out.old.items ≡ [] }
     ensures { IfOk result (λ read. read ≡ plain params.now) }
 {
@@ -39,7 +39,7 @@ pub fn written_and_read(
 /// refuses the list, or there is none. What the record has came of that entry and the ones behind it.
 pub fn first_read(side: Side, list: &[u8]) -> Option<u64>
     ensures { IfSome result (λ number. (p : TransportParameters) × (first : Entry) × (others : List Entry)
-        × IsAnswer side list.now (Ok p) × (first.number ≡ number) × IsRecordOf (first ∷ others) p) }
+        × IsReadAnswer side list.now (Ok p) × (first.number ≡ number) × IsRecordOf (first ∷ others) p) }
 {
     laws::entries();
     let mut rest = list;

@@ -120,7 +120,7 @@ pub record IsError (error : Error) (code : ℕ) (reason : List ℕ) : Type 0 whe
   pub reason_is : reason_bytes error.reason ≡ reason
 
 -- Two errors say the same.
-pub record IsSame (one other : Error) : Type 0 where
+pub record IsSameCode (one other : Error) : Type 0 where
   pub code_is : other.code ≡ one.code
   pub frame_is : other.frame ≡ one.frame
   pub reason_is : reason_bytes other.reason ≡ reason_bytes one.reason

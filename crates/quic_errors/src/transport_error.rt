@@ -292,7 +292,7 @@ pub struct Error {
 }
 
 impl Error {
-    ghost use Rattle.quic_errors.specs.Codes.{IsError, IsSame, is_static};
+    ghost use Rattle.quic_errors.specs.Codes.{IsError, IsSameCode, is_static};
 
     /// An error with a text that is copied. Answers `NoRoom` where memory is missing.
     pub fn with_text(alloc: Global, code: Code, text: &str) -> Result<Error, NoRoom>
@@ -306,7 +306,7 @@ impl Error {
 
     /// An equal error. Answers `NoRoom` where memory is missing; a static reason takes none.
     pub fn try_clone(&self) -> Result<Error, NoRoom>
-        ensures same { IfOk result (IsSame self.now) }
+        ensures same { IfOk result (IsSameCode self.now) }
         ensures free { is_static self.now.reason ≡ true → IsOk result }
     {
         let reason = self.reason.try_clone()?;

@@ -26,7 +26,7 @@ use Rattle.quic_ranges.specs.Runs.{IsMaximalRuns, member}
 use Rattle.quic_frame_fields.specs.Sets.{ends_of, ranges_in, greatest_in, ack_of}
 use Rattle.quic_frame_fields.proofs.Sets.{are_apart, is_greatest}
 use Rattle.quic_frame_fields.specs.Sets.{AreCounts}
-use Rattle.quic_frames.specs.InRange.{InRange, IsTyped, AreTyped, CanStand, CanFollow}
+use Rattle.quic_frames.specs.InRange.{InRange, IsTypedFrame, AreTyped, CanStand, CanFollow}
 use Rattle.quic_frame_fields.proofs.Steps.{true_is_not_false}
 use Rattle.quic_frame_fields.proofs.Apart.{acked_apart}
 use Rattle.quic_frames.proofs.LeastFields.{FitBlocks, AllFit, blocks_fit}
@@ -50,7 +50,7 @@ pub ack_row_fits : (last : Bool) (greatest delay : ℕ) (ranges : List (ℕ × �
 ack_row_fits last greatest delay ranges None high late blocks e = of_row (omega arith) refl refl (high, (late, (blocks, refl)))
 ack_row_fits last greatest delay ranges (Some counts) high late blocks e = of_row (omega arith) refl refl (high, (late, (blocks, (e.0, (e.1.0, (e.1.1.0, refl))))))
 
-close_fits : (last : Bool) (c : Close) → IsTyped (frames.Close c) → InRange (frames.Close c) → FitsRow last (written_type last (meaning_of (frames.Close c)).name (meaning_of (frames.Close c)).values) (meaning_of (frames.Close c))
+close_fits : (last : Bool) (c : Close) → IsTypedFrame (frames.Close c) → InRange (frames.Close c) → FitsRow last (written_type last (meaning_of (frames.Close c)).name (meaning_of (frames.Close c)).values) (meaning_of (frames.Close c))
 close_fits last (closes.Connection c) t r = of_row (omega arith) refl refl (t.0, (t.1.0, (r.1, refl)))
 close_fits last (closes.Application c) t r = of_row (omega arith) refl refl (t, (r, refl))
 
@@ -66,7 +66,7 @@ is_at_most : (m n : ℕ) → n ≤ m → nat_le n m ≡ true
 is_at_most m n le = grind (arith, nat_tests)
 
 -- a frame that can be written fits the row of the type by which it is written
-pub frame_fits : (last : Bool) (frame : Frame) → IsTyped frame → CanStand last frame → FitsRow last (written_type last (meaning_of frame).name (meaning_of frame).values) (meaning_of frame)
+pub frame_fits : (last : Bool) (frame : Frame) → IsTypedFrame frame → CanStand last frame → FitsRow last (written_type last (meaning_of frame).name (meaning_of frame).values) (meaning_of frame)
 frame_fits last frames.Padding t c = of_row (omega arith) refl refl refl
 frame_fits last frames.Ping t c = of_row (omega arith) refl refl refl
 frame_fits last (frames.Ack a) t c =
@@ -96,7 +96,7 @@ frame_fits last (frames.Datagram d) t c = datagram_row_fits last d.bytes.now c.c
 frame_fits last (frames.AckFrequency f) t c = of_row (omega arith) refl refl (t.0, (t.1.0, (t.1.1.0, (t.1.1.1.0, refl))))
 
 -- What is written of a frame is read back as this frame.
-pub frame_read_back : (strict last : Bool) (frame : Frame) → IsTyped frame → CanStand last frame → IsFrame strict (as_written last (meaning_of frame)) (shortest_frame last (meaning_of frame))
+pub frame_read_back : (strict last : Bool) (frame : Frame) → IsTypedFrame frame → CanStand last frame → IsFrame strict (as_written last (meaning_of frame)) (shortest_frame last (meaning_of frame))
 frame_read_back strict last frame t c = frame_encoded strict last (meaning_of frame) (frame_fits last frame t c)
 
 end_of_map : (fs : List Frame) → is_end fs ≡ is_end (map meaning_of fs)

@@ -37,25 +37,25 @@ InRange frame = ⊤
 
 -- What the types of a frame's parts hold by themselves: where numbers are below 2^62 or 2^64, and that a token has 16
 -- bytes.
-abbrev pub IsTyped : Frame → Type 0
-IsTyped (frames.ResetStream r) = AreNumeric (r.id ∷ r.error_code ∷ r.final_offset ∷ [])
-IsTyped (frames.StopSending s) = AreNumeric (s.id ∷ s.error_code ∷ [])
-IsTyped (frames.Stream s) = s.id < 2 ^ 62
-IsTyped (frames.MaxData n) = n < 2 ^ 62
-IsTyped (frames.MaxStreamData id offset) = id < 2 ^ 62
-IsTyped (frames.StreamDataBlocked id offset) = id < 2 ^ 62
-IsTyped (frames.NewConnectionId n) = length n.reset_token ≡ 16
-IsTyped (frames.PathChallenge n) = n < 2 ^ 64
-IsTyped (frames.PathResponse n) = n < 2 ^ 64
-IsTyped (frames.Close (closes.Connection c)) = AreNumeric (c.error_code ∷ type_or_zero c.frame_type ∷ [])
-IsTyped (frames.Close (closes.Application c)) = c.error_code < 2 ^ 62
-IsTyped (frames.AckFrequency f) = AreNumeric
+abbrev pub IsTypedFrame : Frame → Type 0
+IsTypedFrame (frames.ResetStream r) = AreNumeric (r.id ∷ r.error_code ∷ r.final_offset ∷ [])
+IsTypedFrame (frames.StopSending s) = AreNumeric (s.id ∷ s.error_code ∷ [])
+IsTypedFrame (frames.Stream s) = s.id < 2 ^ 62
+IsTypedFrame (frames.MaxData n) = n < 2 ^ 62
+IsTypedFrame (frames.MaxStreamData id offset) = id < 2 ^ 62
+IsTypedFrame (frames.StreamDataBlocked id offset) = id < 2 ^ 62
+IsTypedFrame (frames.NewConnectionId n) = length n.reset_token ≡ 16
+IsTypedFrame (frames.PathChallenge n) = n < 2 ^ 64
+IsTypedFrame (frames.PathResponse n) = n < 2 ^ 64
+IsTypedFrame (frames.Close (closes.Connection c)) = AreNumeric (c.error_code ∷ type_or_zero c.frame_type ∷ [])
+IsTypedFrame (frames.Close (closes.Application c)) = c.error_code < 2 ^ 62
+IsTypedFrame (frames.AckFrequency f) = AreNumeric
     (f.sequence ∷ f.ack_eliciting_threshold ∷ f.request_max_ack_delay ∷ f.reordering_threshold ∷ [])
-IsTyped frame = ⊤
+IsTypedFrame frame = ⊤
 
 abbrev pub AreTyped : List Frame → Type 0
 AreTyped [] = ⊤
-AreTyped (frame ∷ others) = IsTyped frame × AreTyped others
+AreTyped (frame ∷ others) = IsTypedFrame frame × AreTyped others
 
 -- a frame of any kind but ACK
 abbrev pub IsNoAck : Frame → Type 0

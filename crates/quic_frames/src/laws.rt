@@ -7,7 +7,7 @@ ghost use Rattle.quic_frame_fields.specs.Acks.{parts_of, ranges_acked};
 ghost use Rattle.quic_frame_fields.specs.Field.{AreApart, AreBlocks};
 ghost use Rattle.quic_frames.specs.Found.{found_as};
 ghost use Rattle.quic_frame_fields.specs.Sets.{AreCounts};
-ghost use Rattle.quic_frames.specs.InRange.{IsTyped, AreTyped, HasNoTypeZero, CanStand, CanFollow};
+ghost use Rattle.quic_frames.specs.InRange.{IsTypedFrame, AreTyped, HasNoTypeZero, CanStand, CanFollow};
 ghost use Rattle.quic_frames.specs.Least.{AreOrExceed, shortest_frames, frame_in, as_written, all_written};
 ghost use Rattle.quic_frames.specs.Meaning.{meaning_of};
 ghost use Rattle.quic_frame_fields.specs.Payload.{Meaning, Found, IsFrame, AreFrames, AreClosed, IsBroken, IsEither, last_type};
@@ -145,7 +145,7 @@ pub fn least_encoding()
 /// What is written of frames that can be written is read back as these frames, and by `one_reading` as
 /// nothing else. What the types of their parts hold comes of `Frame::type_bounds`.
 pub fn read_back()
-    ensures one { (strict last : Bool) (frame : Frame) → IsTyped frame → CanStand last frame
+    ensures one { (strict last : Bool) (frame : Frame) → IsTypedFrame frame → CanStand last frame
         → IsFrame strict (as_written last (meaning_of frame)) (shortest_frame last (meaning_of frame))
         × (is_open (as_written last (meaning_of frame)).type ≡ true → last ≡ true) }
     ensures all { (strict : Bool) (fs : List Frame) → AreTyped fs → CanFollow fs

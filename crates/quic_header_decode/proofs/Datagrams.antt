@@ -10,14 +10,14 @@ use Rattle.quic_header_decode.specs.declared.protected.ProtectedHeader.{Protecte
 use Rattle.quic_header_decode.specs.Refusal.{Refusal}
 use Rattle.quic_header_decode.specs.Grammar.{Cut, CutAnswer}
 use Rattle.quic_header_decode.specs.Reading.{Context, cut_at}
-use Rattle.quic_header_decode.specs.Datagram.{Placed, ArePackets, last, more, refused, and_then, packets_from, packets_in}
+use Rattle.quic_header_decode.specs.Datagram.{PlacedPacket, ArePackets, last, more, refused, and_then, packets_from, packets_in}
 use Rattle.quic_header_decode.proofs.Steps.{otherwise, taken}
 use Rattle.quic_header_decode.proofs.CutAnswers.{Takes, cut_answer, cut_positive, cut_again, uncut_again}
 
 abbrev Answer : Type 0
-Answer = List Placed × Option Refusal
+Answer = List PlacedPacket × Option Refusal
 
-placed : ℕ → ℕ → ProtectedHeader → Placed
+placed : ℕ → ℕ → ProtectedHeader → PlacedPacket
 placed start stop h = record { start = start; stop = stop; header = h }
 
 rest_bytes : (q : ℕ) (bytes : List ℕ) → AreBytes bytes → AreBytes (drop q bytes)
@@ -32,7 +32,7 @@ at_more : (others : ℕ → List ℕ → Answer) (start : ℕ) (bytes : List ℕ
 at_more others start bytes h p q lt = taken (nat_lt q (length bytes)) _ _ _ (grind (arith, nat_tests)) refl
 
 -- what the grammar calls the packets of a datagram is what reading finds
-again : (context : Context) (n start : ℕ) (bytes : List ℕ) (ps : List Placed) (end : Option Refusal) → AreBytes bytes → length bytes < n → ArePackets context start bytes ps end
+again : (context : Context) (n start : ℕ) (bytes : List ℕ) (ps : List PlacedPacket) (end : Option Refusal) → AreBytes bytes → length bytes < n → ArePackets context start bytes ps end
     → packets_from context n start bytes ≡ (ps, end)
 unfolding packets_from
 again context zero start bytes ps end fits le are = absurd (omega (arith, le))
@@ -45,7 +45,7 @@ again context (suc n) start bytes _ end fits le (more _ _ h p q others _ cut lt 
     ∙ ap (λ (r : Answer). let a : Answer = (record { start = start; stop = start + q; header = h } ∷ r.0, r.1) in a) inner
 again context (suc n) start bytes _ _ fits le (refused _ _ e uncut) = ap (and_then (packets_from context n) start bytes) (uncut_again context bytes e fits uncut)
 
-pub packets_again : (context : Context) (bytes : List ℕ) (ps : List Placed) (end : Option Refusal) → AreBytes bytes → ArePackets context 0 bytes ps end → packets_in context bytes ≡ (ps, end)
+pub packets_again : (context : Context) (bytes : List ℕ) (ps : List PlacedPacket) (end : Option Refusal) → AreBytes bytes → ArePackets context 0 bytes ps end → packets_in context bytes ≡ (ps, end)
 unfolding packets_in
 packets_again context bytes ps end fits are = again context (suc (length bytes)) 0 bytes ps end fits (omega arith) are
 
@@ -80,7 +80,7 @@ unfolding packets_in
 packets_found context bytes fits takes = found context (suc (length bytes)) 0 bytes fits takes (omega arith)
 
 -- wherever its first packet is said to start
-pub some_packets : (context : Context) (start : ℕ) (bytes : List ℕ) → AreBytes bytes → Takes context → (ps : List Placed) × (end : Option Refusal) × ArePackets context start bytes ps end
+pub some_packets : (context : Context) (start : ℕ) (bytes : List ℕ) → AreBytes bytes → Takes context → (ps : List PlacedPacket) × (end : Option Refusal) × ArePackets context start bytes ps end
 some_packets context start bytes fits takes =
     let answer : Answer = packets_from context (suc (length bytes)) start bytes in
     (answer.0, answer.1, found context (suc (length bytes)) start bytes fits takes (omega arith))

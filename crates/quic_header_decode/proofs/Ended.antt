@@ -8,7 +8,7 @@ use Rattle.quic_header_encode.specs.Storing.{carries_length}
 use Rattle.quic_header_decode.specs.declared.fields.Place.{Place}
 use Rattle.quic_header_decode.specs.declared.places.HeaderPlaces.{HeaderPlaces}
 use Rattle.quic_header_decode.specs.Grammar.{Cut, HeaderAt, Uncut, past_end}
-use Rattle.quic_header_decode.specs.Places.{ends_at, header_by, header_in}
+use Rattle.quic_header_decode.specs.Places.{ends_at, header_placed, header_in}
 use Rattle.quic_header_decode.specs.Reading.{Context, len_in}
 use Rattle.quic_header_decode.specs.Refusal.{Invalid}
 use Rattle.quic_header_decode.proofs.Steps.{chosen, none_some, some_same}
@@ -33,7 +33,7 @@ lacking at len whole e = elim (chosen {A = Option ℕ} (nat_lt whole (at + len))
 ]
 
 ended : (k : HeaderKind) (first : ℕ) (dst src : List ℕ) (token : Place) (at len version whole q : ℕ) → End k at len whole ≡ Some q
-    → MatchOption (len_in (header_by k first dst src token len version)) (q ≡ whole) (λ n. q ≡ at + n) × (q ≤ whole)
+    → MatchOption (len_in (header_placed k first dst src token len version)) (q ≡ whole) (λ n. q ≡ at + n) × (q ≤ whole)
 ended kind.Initial first dst src token at len version whole q e = said at len whole q e
 ended kind.ZeroRtt first dst src token at len version whole q e = said at len whole q e
 ended kind.Handshake first dst src token at len version whole q e = said at len whole q e
@@ -42,7 +42,7 @@ ended kind.Short first dst src token at len version whole q e = (let same : whol
 ended kind.VersionNegotiate first dst src token at len version whole q e = (let same : whole ≡ q = some_same e in (sym same, omega arith))
 
 cut_short : (k : HeaderKind) (first : ℕ) (dst src : List ℕ) (token : Place) (at len version whole : ℕ) → End k at len whole ≡ None
-    → (len_in (header_by k first dst src token len version) ≡ Some len) × (whole < at + len)
+    → (len_in (header_placed k first dst src token len version) ≡ Some len) × (whole < at + len)
 cut_short kind.Initial first dst src token at len version whole e = (refl, lacking at len whole e)
 cut_short kind.ZeroRtt first dst src token at len version whole e = (refl, lacking at len whole e)
 cut_short kind.Handshake first dst src token at len version whole e = (refl, lacking at len whole e)

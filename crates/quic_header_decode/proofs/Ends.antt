@@ -12,7 +12,7 @@ use Rattle.quic_header_encode.specs.declared.long_type.LongHeaderType.{LongHeade
 use Rattle.quic_header_encode.specs.declared.long_type.LongHeaderType.TheVariants as kind
 use Rattle.quic_header_encode.specs.Types.{long_type}
 use Rattle.quic_header_decode.specs.Refusal.{Refusal, Invalid, Unsupported, NoMemory}
-use Rattle.quic_header_decode.specs.Grammar.{is_long, Field, Supported, ShortId, Value, Number, Bytes, typed_row, row_behind_ids, row_of, Stops, AreFields, StopsWithin, IsHeader, Refused, Cut}
+use Rattle.quic_header_decode.specs.Grammar.{is_long, HeaderField, Supported, ShortId, HeaderValue, Number, Bytes, typed_row, row_behind_ids, header_row_of, StopsAtField, AreHeaderFields, StopsWithinRow, IsHeader, Refused, Cut}
 use Rattle.quic_header_decode.specs.Reading.{Context, len_in, at_end, bad_id}
 use Rattle.quic_header_decode.proofs.Steps.{take_front, drop_front}
 use Rattle.quic_header_decode.proofs.Headers.{Ids, id_values, long_row, ids_of, of_ids, stops_behind_ids, version_is}
@@ -29,7 +29,7 @@ replaced front rest other bytes q len split at =
 -- ---- headers that say their length
 
 -- values of other headers
-no_id : (whole first len : ℕ) (values : List Value) (id : List ℕ) (h : ProtectedHeader) → IsHeader whole first values h → len_in h ≡ Some len → values ≡ Bytes id ∷ [] → ⊥
+no_id : (whole first len : ℕ) (values : List HeaderValue) (id : List ℕ) (h : ProtectedHeader) → IsHeader whole first values h → len_in h ≡ Some len → values ≡ Bytes id ∷ [] → ⊥
 no_id whole first len values id (head.Short spin dst) is has said = cc
 no_id whole first len values id (head.VersionNegotiate random dst src) is has said = cc
 no_id whole first len values id (head.Retry dst src version) is has said = cc
@@ -37,7 +37,7 @@ no_id whole first len values id (head.Long ty dst src n version) (type, is) has 
 no_id whole first len values id (head.Initial h) (count, left, start, stop, is) has said =
     (let e : Bytes id ∷ [] ≡ Number h.version ∷ Bytes h.dst_cid ∷ Bytes h.src_cid ∷ Number count ∷ Number left ∷ Number h.len ∷ [] = sym said ∙ is in cc)
 
-no_ids : (whole first len version : ℕ) (dst src : List ℕ) (values : List Value) (h : ProtectedHeader) → IsHeader whole first values h → len_in h ≡ Some len → values ≡ id_values version dst src → ⊥
+no_ids : (whole first len version : ℕ) (dst src : List ℕ) (values : List HeaderValue) (h : ProtectedHeader) → IsHeader whole first values h → len_in h ≡ Some len → values ≡ id_values version dst src → ⊥
 no_ids whole first len v d s values (head.Short spin dst) is has said = cc
 no_ids whole first len v d s values (head.VersionNegotiate random dst src) is has said = cc
 no_ids whole first len v d s values (head.Retry dst src version) is has said = cc
@@ -46,7 +46,7 @@ no_ids whole first len v d s values (head.Initial h) (count, left, start, stop, 
     (let e : id_values v d s ≡ Number h.version ∷ Bytes h.dst_cid ∷ Bytes h.src_cid ∷ Number count ∷ Number left ∷ Number h.len ∷ [] = sym said ∙ is in cc)
 
 -- a header without a token has no place
-kept : (whole whole' first v n len : ℕ) (d s : List ℕ) (values : List Value) (h : ProtectedHeader) → IsHeader whole first values h → len_in h ≡ Some len
+kept : (whole whole' first v n len : ℕ) (d s : List ℕ) (values : List HeaderValue) (h : ProtectedHeader) → IsHeader whole first values h → len_in h ≡ Some len
     → values ≡ Number v ∷ Bytes d ∷ Bytes s ∷ Number n ∷ [] → IsHeader whole' first values h
 kept whole whole' first v n len d s values (head.Short spin dst) is has said = absurd cc
 kept whole whole' first v n len d s values (head.VersionNegotiate random dst src) is has said = absurd cc
@@ -56,11 +56,11 @@ kept whole whole' first v n len d s values (head.Initial h) (count, left, start,
     absurd (let e : Number v ∷ Bytes d ∷ Bytes s ∷ Number n ∷ [] ≡ Number h.version ∷ Bytes h.dst_cid ∷ Bytes h.src_cid ∷ Number count ∷ Number left ∷ Number h.len ∷ [] = sym said ∙ is in cc)
 
 -- the values of a header with a token
-abbrev six : ℕ → List ℕ → List ℕ → ℕ → ℕ → ℕ → List Value
+abbrev six : ℕ → List ℕ → List ℕ → ℕ → ℕ → ℕ → List HeaderValue
 six v d s count left n = Number v ∷ Bytes d ∷ Bytes s ∷ Number count ∷ Number left ∷ Number n ∷ []
 
 -- and where one has a token, its place goes by what follows it
-shifted : (whole whole' first v count left left' n len : ℕ) (d s : List ℕ) (values : List Value) (h : ProtectedHeader) → IsHeader whole first values h → len_in h ≡ Some len
+shifted : (whole whole' first v count left left' n len : ℕ) (d s : List ℕ) (values : List HeaderValue) (h : ProtectedHeader) → IsHeader whole first values h → len_in h ≡ Some len
     → values ≡ six v d s count left n → whole' + left ≡ whole + left' → IsHeader whole' first (six v d s count left' n) h
 shifted whole whole' first v count left left' n len d s values (head.Short spin dst) is has said moved = absurd cc
 shifted whole whole' first v count left left' n len d s values (head.VersionNegotiate random dst src) is has said moved = absurd cc
@@ -73,17 +73,17 @@ shifted whole whole' first v count left left' n len d s values (head.Initial h) 
     (count0, left', start, omega (arith, stop, moved, same), (let all : six v d s count left' n ≡ six h.version h.dst_cid h.src_cid count0 left' h.len = cc in all))
 
 -- The bytes are a front and then rest, and other bytes behind that front leave the header as it is.
-record Moves (context : Context) (fields : List Field) (before : List Value) (whole first : ℕ) (bytes rest : List ℕ) (h : ProtectedHeader) : Type 0 where
+record Moves (context : Context) (fields : List HeaderField) (before : List HeaderValue) (whole first : ℕ) (bytes rest : List ℕ) (h : ProtectedHeader) : Type 0 where
   front : List ℕ
   split : bytes ≡ front ++ rest
   moved : (other : List ℕ) (whole' : ℕ) → whole' + length rest ≡ whole + length other
-      → (values : List Value) × AreFields context fields before values (front ++ other) other × IsHeader whole' first values h
+      → (values : List HeaderValue) × AreHeaderFields context fields before values (front ++ other) other × IsHeader whole' first values h
 
-typed_moves : (context : Context) (whole first len version : ℕ) (dst src left rest : List ℕ) (values : List Value) (h : ProtectedHeader) → IsHeader whole first values h → len_in h ≡ Some len
-    → (ty : LongHeaderType) → AreFields context (typed_row ty) (id_values version dst src) values left rest → Moves context (typed_row ty) (id_values version dst src) whole first left rest h
+typed_moves : (context : Context) (whole first len version : ℕ) (dst src left rest : List ℕ) (values : List HeaderValue) (h : ProtectedHeader) → IsHeader whole first values h → len_in h ≡ Some len
+    → (ty : LongHeaderType) → AreHeaderFields context (typed_row ty) (id_values version dst src) values left rest → Moves context (typed_row ty) (id_values version dst src) whole first left rest h
 typed_moves context whole first len version dst src left rest values h is has kind.Retry (said, same) = absurd (no_ids whole first len version dst src values h is has said)
 typed_moves context whole first len version dst src left rest values h is has (kind.Standard ty) (v, back, (f, split, (n, is1, encoded)), (said, same)) =
-    let all : values ≡ Number version ∷ Bytes dst ∷ Bytes src ∷ Number n ∷ [] = said ∙ ap (λ (xs : List Value). id_values version dst src ++ xs) is1 in
+    let all : values ≡ Number version ∷ Bytes dst ∷ Bytes src ∷ Number n ∷ [] = said ∙ ap (λ (xs : List HeaderValue). id_values version dst src ++ xs) is1 in
     record {
       front = f;
       split = split ∙ ap (λ (xs : List ℕ). f ++ xs) same;
@@ -91,7 +91,7 @@ typed_moves context whole first len version dst src left rest values h is has (k
     }
 typed_moves context whole first len version dst src left rest values h is has kind.Initial
     (v1, t1, (f1, split1, (count, is1, encoded1)), (v2, t2, (token, split2, (is2, width)), (v3, t3, (f3, split3, (n, is3, encoded3)), (said, same)))) =
-    let base : List Value = id_values version dst src in
+    let base : List HeaderValue = id_values version dst src in
     let all : values ≡ six version dst src count (length t2) n =
     said ∙ (let eq : ((base ++ v1) ++ v2) ++ v3 ≡ ((base ++ Number count ∷ []) ++ Number (length t2) ∷ []) ++ Number n ∷ [] = rw (is1, is2, is3) in eq) in
     let inner : t2 ≡ f3 ++ rest = split3 ∙ ap (λ (xs : List ℕ). f3 ++ xs) same in
@@ -110,7 +110,7 @@ typed_moves context whole first len version dst src left rest values h is has ki
             Number (length (f3 ++ other)) ∷ [],
             f3 ++ other,
             (token, refl, (refl, width)),
-            (v3, other, (f3, refl, (n, is3, encoded3)), (ap (λ (xs : List Value). ((base ++ xs) ++ Number (length (f3 ++ other)) ∷ []) ++ Number n ∷ []) (sym is1) ∙ ap (λ (xs : List Value). ((base ++ v1) ++ Number (length (f3 ++ other)) ∷ []) ++ xs) (sym is3), refl)),
+            (v3, other, (f3, refl, (n, is3, encoded3)), (ap (λ (xs : List HeaderValue). ((base ++ xs) ++ Number (length (f3 ++ other)) ∷ []) ++ Number n ∷ []) (sym is1) ∙ ap (λ (xs : List HeaderValue). ((base ++ v1) ++ Number (length (f3 ++ other)) ∷ []) ++ xs) (sym is3), refl)),
           ),
         ),
         shifted whole whole' first version count (length t2) (length (f3 ++ other)) n len dst src values h is has all
@@ -118,24 +118,24 @@ typed_moves context whole first len version dst src left rest values h is has ki
       );
     }
 
-behind_moves : (context : Context) (whole first len version : ℕ) (dst src left rest : List ℕ) (values : List Value) (h : ProtectedHeader) → IsHeader whole first values h → len_in h ≡ Some len
-    → (none : Bool) (ty : LongHeaderType) → AreFields context (cond none [] (Supported version ∷ typed_row ty)) (id_values version dst src) values left rest
+behind_moves : (context : Context) (whole first len version : ℕ) (dst src left rest : List ℕ) (values : List HeaderValue) (h : ProtectedHeader) → IsHeader whole first values h → len_in h ≡ Some len
+    → (none : Bool) (ty : LongHeaderType) → AreHeaderFields context (cond none [] (Supported version ∷ typed_row ty)) (id_values version dst src) values left rest
     → Moves context (cond none [] (Supported version ∷ typed_row ty)) (id_values version dst src) whole first left rest h
 behind_moves context whole first len version dst src left rest values h is has true ty (said, same) = absurd (no_ids whole first len version dst src values h is has said)
 behind_moves context whole first len version dst src left rest values h is has false ty (v, back, (f, split, (said, none, known)), others) =
     let kept_left : left ≡ back = split ∙ ap (λ (xs : List ℕ). xs ++ back) none in
     let m = typed_moves context whole first len version dst src back rest values h is has ty
-    (subst (λ (xs : List Value). AreFields context (typed_row ty) (id_values version dst src ++ xs) values back rest) said others) in
+    (subst (λ (xs : List HeaderValue). AreHeaderFields context (typed_row ty) (id_values version dst src ++ xs) values back rest) said others) in
     record {
       front = m.front;
       split = kept_left ∙ m.split;
       moved = λ other whole' sum. (let x = m.moved other whole' sum in (x.0, ([], m.front ++ other, ([], refl, (refl, refl, known)), x.1), x.2));
     }
 
-row_moves : (context : Context) (whole first len : ℕ) (text rest : List ℕ) (values : List Value) (h : ProtectedHeader) → IsHeader whole first values h → len_in h ≡ Some len
-    → (long : Bool) → is_long first ≡ long → AreFields context (cond long (long_row (row_behind_ids first (num (take 4 text)))) (ShortId ∷ [])) [] values text rest
+row_moves : (context : Context) (whole first len : ℕ) (text rest : List ℕ) (values : List HeaderValue) (h : ProtectedHeader) → IsHeader whole first values h → len_in h ≡ Some len
+    → (long : Bool) → is_long first ≡ long → AreHeaderFields context (cond long (long_row (row_behind_ids first (num (take 4 text)))) (ShortId ∷ [])) [] values text rest
     → (front : List ℕ) × (text ≡ front ++ rest) × ((other : List ℕ) (whole' : ℕ) → whole' + length rest ≡ whole + length other
-    → (values : List Value) × AreFields context (row_of first (num (take 4 (front ++ other)))) [] values (front ++ other) other × IsHeader whole' first values h)
+    → (values : List HeaderValue) × AreHeaderFields context (header_row_of first (num (take 4 (front ++ other)))) [] values (front ++ other) other × IsHeader whole' first values h)
 row_moves context whole first len text rest values h is has false short (v, back, (f, split, (id, is1, parsed)), (said, same)) = absurd (no_id whole first len values id h is has (said ∙ is1))
 row_moves context whole first len text rest values h is has true long d =
     let x = ids_of context (row_behind_ids first (num (take 4 text))) values text rest d in
@@ -145,7 +145,7 @@ row_moves context whole first len text rest values h is has true long d =
     let left : List ℕ = x.3 in
     let ids : Ids text version dst src left = x.4 in
     let m = behind_moves context whole first len version dst src left rest values h is has (nat_eq version 0) (long_type version first)
-    (subst (λ (n : ℕ). AreFields context (row_behind_ids first n) (id_values version dst src) values left rest) (version_is text version dst src left ids) x.5) in
+    (subst (λ (n : ℕ). AreHeaderFields context (row_behind_ids first n) (id_values version dst src) values left rest) (version_is text version dst src left ids) x.5) in
     let front : List ℕ = ids.word ++ (long_id dst ++ (long_id src ++ m.front)) in
     let tail : (xs : List ℕ) → front ++ xs ≡ ids.word ++ (long_id dst ++ (long_id src ++ (m.front ++ xs))) =
     λ xs. append_assoc ids.word (long_id dst ++ (long_id src ++ m.front)) xs
@@ -156,10 +156,10 @@ row_moves context whole first len text rest values h is has true long d =
           let y = m.moved other whole' sum in
           let ids' : Ids (front ++ other) version dst src (m.front ++ other) =
           record { word = ids.word; is_word = ids.is_word; dst_len = ids.dst_len; src_len = ids.src_len; text_is = tail other } in
-          let row : row_of first (num (take 4 (front ++ other))) ≡ long_row (row_behind_ids first version) =
-          ap (λ (n : ℕ). row_of first n) (version_is (front ++ other) version dst src (m.front ++ other) ids') ∙ ap (λ (b : Bool). cond b (long_row (row_behind_ids first version)) (ShortId ∷ [])) long in (
+          let row : header_row_of first (num (take 4 (front ++ other))) ≡ long_row (row_behind_ids first version) =
+          ap (λ (n : ℕ). header_row_of first n) (version_is (front ++ other) version dst src (m.front ++ other) ids') ∙ ap (λ (b : Bool). cond b (long_row (row_behind_ids first version)) (ShortId ∷ [])) long in (
             y.0,
-            subst (λ (fields : List Field). AreFields context fields [] y.0 (front ++ other) other) (sym row)
+            subst (λ (fields : List HeaderField). AreHeaderFields context fields [] y.0 (front ++ other) other) (sym row)
                 (of_ids context (row_behind_ids first version) y.0 (front ++ other) other version dst src (m.front ++ other) ids' y.1),
             y.2,
           ),
@@ -208,7 +208,7 @@ past_token = Invalid (codes "token out of bounds")
 abbrev IsPlain : Refusal → Type 0
 IsPlain e = (e ≡ at_end) ⊎ (e ≡ bad_id) ⊎ (e ≡ past_token)
 
-typed_reported : (context : Context) (before : List Value) (bytes : List ℕ) (e : Refusal) (ty : LongHeaderType) → StopsWithin context (typed_row ty) before bytes e → IsPlain e
+typed_reported : (context : Context) (before : List HeaderValue) (bytes : List ℕ) (e : Refusal) (ty : LongHeaderType) → StopsWithinRow context (typed_row ty) before bytes e → IsPlain e
 typed_reported context before bytes e kind.Retry stops = absurd stops
 typed_reported context before bytes e (kind.Standard ty) (inl stops) = inl stops.why
 typed_reported context before bytes e (kind.Standard ty) (inr d) = absurd d.3
@@ -219,16 +219,16 @@ typed_reported context before bytes e kind.Initial (inr (v1, t1, b1, inr (v2, t2
 
 -- the ids are there, and the version is unknown
 abbrev IsUnknown : Context → List ℕ → Refusal → Type 0
-IsUnknown context text e = (version : ℕ) × (dst src left : List ℕ) × Ids text version dst src left × (version ≢ 0) × Stops context (Supported version) (id_values version dst src) left e
+IsUnknown context text e = (version : ℕ) × (dst src left : List ℕ) × Ids text version dst src left × (version ≢ 0) × StopsAtField context (Supported version) (id_values version dst src) left e
 
 behind_reported : (context : Context) (first version : ℕ) (text dst src left : List ℕ) (e : Refusal) → Ids text version dst src left
-    → (none : Bool) → nat_eq version 0 ≡ none → (ty : LongHeaderType) → StopsWithin context (cond none [] (Supported version ∷ typed_row ty)) (id_values version dst src) left e
+    → (none : Bool) → nat_eq version 0 ≡ none → (ty : LongHeaderType) → StopsWithinRow context (cond none [] (Supported version ∷ typed_row ty)) (id_values version dst src) left e
     → IsPlain e ⊎ IsUnknown context text e
 behind_reported context first version text dst src left e ids true zero ty stops = absurd stops
 behind_reported context first version text dst src left e ids false some ty (inl stops) = inr (version, dst, src, left, ids, (let other : version ≢ 0 = grind (arith, nat_tests) in other), stops)
 behind_reported context first version text dst src left e ids false some ty (inr d) = inl (typed_reported context (id_values version dst src ++ d.0) d.1 e ty d.3)
 
-long_reported : (context : Context) (first : ℕ) (text : List ℕ) (e : Refusal) → StopsWithin context (long_row (row_behind_ids first (num (take 4 text)))) [] text e → IsPlain e ⊎ IsUnknown context text e
+long_reported : (context : Context) (first : ℕ) (text : List ℕ) (e : Refusal) → StopsWithinRow context (long_row (row_behind_ids first (num (take 4 text)))) [] text e → IsPlain e ⊎ IsUnknown context text e
 long_reported context first text e (inl stops) = inl (inl stops.why)
 long_reported context first text e (inr (v1, t1, b1, inl stops)) = inl (inr (inl stops.why))
 long_reported context first text e (inr (v1, t1, b1, inr (v2, t2, b2, inl stops))) = inl (inr (inl stops.why))
@@ -243,13 +243,13 @@ long_reported context first text e
     } in
     let said : (v ++ d) ++ s ≡ id_values version dst src = rw (is1, is2, is3) in
     behind_reported context first version text dst src left e ids (nat_eq version 0) refl (long_type version first)
-    (subst (λ (n : ℕ). StopsWithin context (row_behind_ids first n) (id_values version dst src) left e) (version_is text version dst src left ids)
-    (subst (λ (xs : List Value). StopsWithin context (row_behind_ids first (num (take 4 text))) xs left e) said stops))
+    (subst (λ (n : ℕ). StopsWithinRow context (row_behind_ids first n) (id_values version dst src) left e) (version_is text version dst src left ids)
+    (subst (λ (xs : List HeaderValue). StopsWithinRow context (row_behind_ids first (num (take 4 text))) xs left e) said stops))
 
-row_reported : (context : Context) (first : ℕ) (text : List ℕ) (e : Refusal) → 128 ≤ first → StopsWithin context (row_of first (num (take 4 text))) [] text e → IsPlain e ⊎ IsUnknown context text e
+row_reported : (context : Context) (first : ℕ) (text : List ℕ) (e : Refusal) → 128 ≤ first → StopsWithinRow context (header_row_of first (num (take 4 text))) [] text e → IsPlain e ⊎ IsUnknown context text e
 row_reported context first text e long stops =
     let test : is_long first ≡ true = grind (arith, nat_tests) in
-    long_reported context first text e (subst (λ (b : Bool). StopsWithin context (cond b (long_row (row_behind_ids first (num (take 4 text)))) (ShortId ∷ [])) [] text e) test stops)
+    long_reported context first text e (subst (λ (b : Bool). StopsWithinRow context (cond b (long_row (row_behind_ids first (num (take 4 text)))) (ShortId ∷ [])) [] text e) test stops)
 
 other_size : (e : Refusal) (n : ℕ) → IsPlain e → text_size e ≡ n → n < 13 ⊎ (n ≡ 15) → ⊥
 other_size e n (inl is) size small = elim small [
@@ -284,18 +284,18 @@ version_alone context (first ∷ text) other src dst version long (inr (set, sto
       ap (λ (xs : List ℕ). xs ++ other) ids.text_is ∙ append_assoc ids.word (long_id d ++ (long_id s ++ left)) other
       ∙ ap (λ (ys : List ℕ). ids.word ++ ys) (append_assoc (long_id d) (long_id s ++ left) other ∙ ap (λ (ys : List ℕ). long_id d ++ ys) (append_assoc (long_id s) left other)) in
       let ids' : Ids (text ++ other) v d s (left ++ other) = record { word = ids.word; is_word = ids.is_word; dst_len = ids.dst_len; src_len = ids.src_len; text_is = tail } in
-      let stays : Stops context (Supported v) (id_values v d s) (left ++ other) e = record {
+      let stays : StopsAtField context (Supported v) (id_values v d s) (left ++ other) e = record {
         none = λ values rest (front, split, is). unknown.none [] left ([], refl, (refl, refl, is.2));
         why = unknown.why;
       } in
       let test : is_long first ≡ true = grind (arith, nat_tests) in
       let nonzero : nat_eq v 0 ≡ false = grind (arith, nat_tests) in
-      let row : row_of first (num (take 4 (text ++ other))) ≡ long_row (Supported v ∷ typed_row (long_type v first)) =
-      ap (λ (n : ℕ). row_of first n) (version_is (text ++ other) v d s (left ++ other) ids')
+      let row : header_row_of first (num (take 4 (text ++ other))) ≡ long_row (Supported v ∷ typed_row (long_type v first)) =
+      ap (λ (n : ℕ). header_row_of first n) (version_is (text ++ other) v d s (left ++ other) ids')
       ∙ ap (λ (b : Bool). cond b (long_row (row_behind_ids first v)) (ShortId ∷ [])) test ∙ ap (λ (b : Bool). long_row (cond b [] (Supported v ∷ typed_row (long_type v first)))) nonzero in
       inr (
         set,
-        subst (λ (fields : List Field). StopsWithin context fields [] (text ++ other) e) (sym row)
+        subst (λ (fields : List HeaderField). StopsWithinRow context fields [] (text ++ other) e) (sym row)
             (stops_behind_ids context (Supported v ∷ typed_row (long_type v first)) (text ++ other) e v d s (left ++ other) ids' (inl stays)),
       )
 ]

@@ -10,7 +10,7 @@ use Rattle.quic_base.specs.Varint.{Encodes}
 use Rattle.quic_base.specs.Reading.{number_at}
 use Rattle.quic_base.specs.ConnectionId.{IsLongId, long_id}
 use Rattle.quic_base.proofs.PublicLaws as law
-use Rattle.quic_header_decode.specs.Fields.{byte_at, word_at, id_at}
+use Rattle.quic_header_decode.specs.Fields.{byte_at, word_at, long_id_at}
 use Rattle.quic_header_decode.proofs.Steps.{chosen, none_some, some_same, pair_parts, option_cases, otherwise, taken, some_pair, take_front, drop_front, some_none}
 
 -- no front of the bytes is an id behind its length
@@ -81,7 +81,7 @@ word_none bytes e =
 
 -- ---- ids
 
-pub id_found : (bytes id rest : List ℕ) → id_at bytes ≡ Some (id, rest) → (length id ≤ 20) × (bytes ≡ long_id id ++ rest)
+pub id_found : (bytes id rest : List ℕ) → long_id_at bytes ≡ Some (id, rest) → (length id ≤ 20) × (bytes ≡ long_id id ++ rest)
 id_found [] id rest e = absurd cc
 id_found (n ∷ bytes) id rest e =
     elim (chosen {A = Option (List ℕ × List ℕ)} (nat_lt 20 n || nat_lt (length bytes) n) None (Some (take n bytes, drop n bytes)) (Some (id, rest)) e) [
@@ -97,7 +97,7 @@ id_found (n ∷ bytes) id rest e =
           )
     ]
 
-pub id_none : (bytes : List ℕ) → id_at bytes ≡ None → NoId bytes
+pub id_none : (bytes : List ℕ) → long_id_at bytes ≡ None → NoId bytes
 id_none [] e id front rest split is = absurd (let same : [] ≡ long_id id ++ rest = split ∙ ap (λ (xs : List ℕ). xs ++ rest) is.value in cc)
 id_none (n ∷ bytes) e id front rest split is =
     let same : n ∷ bytes ≡ long_id id ++ rest = split ∙ ap (λ (xs : List ℕ). xs ++ rest) is.value in
@@ -112,7 +112,7 @@ id_none (n ∷ bytes) e id front rest split is =
       | inr good ↦ cc
     ]
 
-pub id_again : (id rest : List ℕ) → length id ≤ 20 → id_at (long_id id ++ rest) ≡ Some (id, rest)
+pub id_again : (id rest : List ℕ) → length id ≤ 20 → long_id_at (long_id id ++ rest) ≡ Some (id, rest)
 id_again id rest short =
     let long : length (id ++ rest) ≡ length id + length rest = length-append id rest in
     let t1 : nat_lt 20 (length id) ≡ false = grind (arith, nat_tests) in
@@ -125,8 +125,8 @@ id_again id rest short =
 is_long_id : (bytes id rest : List ℕ) → AreBytes bytes → length id ≤ 20 → bytes ≡ long_id id ++ rest → IsLongId id (long_id id)
 is_long_id bytes id rest fits short split = record { bytes = λ i. front_fits bytes (long_id id) rest fits split (suc i); short = short; value = refl }
 
-pub id_without : (bytes : List ℕ) → AreBytes bytes → NoId bytes → id_at bytes ≡ None
-id_without bytes fits none = elim (option_cases (id_at bytes)) [
+pub id_without : (bytes : List ℕ) → AreBytes bytes → NoId bytes → long_id_at bytes ≡ None
+id_without bytes fits none = elim (option_cases (long_id_at bytes)) [
   | inl e ↦ e
   | inr found ↦
       let parts = id_found bytes found.0.0 found.0.1 found.1 in
@@ -152,8 +152,8 @@ var_none = law.none_found
 pub var_taken : (v : ℕ) (old new : List ℕ) → Takes (Encodes v) old new → number_at old ≡ Some (v, new)
 var_taken v old new t = ap number_at t.split ∙ law.number_again v t.front new t.is
 
-pub id_taken : (id old new : List ℕ) → Takes (IsLongId id) old new → id_at old ≡ Some (id, new)
-id_taken id old new t = ap id_at (t.split ∙ ap (λ (xs : List ℕ). xs ++ new) t.is.value) ∙ id_again id new t.is.short
+pub id_taken : (id old new : List ℕ) → Takes (IsLongId id) old new → long_id_at old ≡ Some (id, new)
+id_taken id old new t = ap long_id_at (t.split ∙ ap (λ (xs : List ℕ). xs ++ new) t.is.value) ∙ id_again id new t.is.short
 
 pub left_behind : (K : List ℕ → Type 0) (old new : List ℕ) → Takes K old new → drop (length old - length new) old ≡ new
 left_behind K old new t =

@@ -5,7 +5,7 @@ use Rattle.std.specs.List.{list_any}
 use Rattle.std.specs.Option.{ok_or}
 use Rattle.std.proofs.lemmas.List.{length-drop}
 use Rattle.std.proofs.lemmas.Bool.Decides.{nat_tests}
-use Rattle.quic_base.specs.Number.{AreBytes, IsNumber, num}
+use Rattle.quic_base.specs.Number.{has_bit, AreBytes, IsNumber, num}
 use Rattle.quic_base.specs.Reading.{number_at}
 use Rattle.quic_base.specs.ConnectionId.{long_id}
 use Rattle.quic_header_decode.specs.declared.protected.ProtectedHeader.{ProtectedHeader}
@@ -14,8 +14,8 @@ use Rattle.quic_header_encode.specs.declared.long_type.LongHeaderType.{LongHeade
 use Rattle.quic_header_encode.specs.declared.long_type.LongHeaderType.TheVariants as kind
 use Rattle.quic_header_encode.specs.Types.{long_type}
 use Rattle.quic_header_decode.specs.Refusal.{Refusal, Unsupported, Invalid}
-use Rattle.quic_header_decode.specs.Fields.{word_at, id_at}
-use Rattle.quic_header_decode.specs.Grammar.{has_bit, is_long, is_fixed, Field, Version, DestinationId, SourceId, Supported, ShortId, Value, Number, Bytes, typed_row, row_behind_ids, row_of, AreFields, StopsWithin, IsHeader, HeaderAt, Refused, token_length_of}
+use Rattle.quic_header_decode.specs.Fields.{word_at, long_id_at}
+use Rattle.quic_header_decode.specs.Grammar.{is_long, is_fixed, HeaderField, Version, DestinationId, SourceId, Supported, ShortId, HeaderValue, Number, Bytes, typed_row, row_behind_ids, header_row_of, AreHeaderFields, StopsWithinRow, IsHeader, HeaderAt, Refused, token_length_of}
 use Rattle.quic_header_decode.specs.Reading.{◌>>=◌, Context, TakesWithin, header_at, long_at, typed_at, at_end, bad_id}
 use Rattle.quic_header_decode.proofs.Steps.{chosen, otherwise, taken, option_ok, ok_pair, ok_err, err_ok, err_same, bool_cases, some_same, none_some, take_front}
 use Rattle.quic_header_decode.proofs.Rows.{Taken, row_at, row_again, row_found, row_refused, row_stops, row_room}
@@ -30,15 +30,15 @@ pub record Ids (text : List ℕ) (version : ℕ) (dst src left : List ℕ) : Typ
   pub src_len : length src ≤ 20
   pub text_is : text ≡ word ++ (long_id dst ++ (long_id src ++ left))
 
-abbrev pub id_values : ℕ → List ℕ → List ℕ → List Value
+abbrev pub id_values : ℕ → List ℕ → List ℕ → List HeaderValue
 id_values version dst src = Number version ∷ Bytes dst ∷ Bytes src ∷ []
 
 -- the row of a long header whose ids are followed by fields
-abbrev pub long_row : List Field → List Field
+abbrev pub long_row : List HeaderField → List HeaderField
 long_row fields = Version ∷ DestinationId ∷ SourceId ∷ fields
 
-pub ids_of : (context : Context) (fields : List Field) (after : List Value) (text rest : List ℕ) → AreFields context (long_row fields) [] after text rest
-    → (version : ℕ) × (dst src left : List ℕ) × Ids text version dst src left × AreFields context fields (id_values version dst src) after left rest
+pub ids_of : (context : Context) (fields : List HeaderField) (after : List HeaderValue) (text rest : List ℕ) → AreHeaderFields context (long_row fields) [] after text rest
+    → (version : ℕ) × (dst src left : List ℕ) × Ids text version dst src left × AreHeaderFields context fields (id_values version dst src) after left rest
 ids_of context fields after text rest (v, t1, (word, split1, (version, is1, number)), (d, t2, (f2, split2, (dst, is2, len2, text2)), (s, left, (f3, split3, (src, is3, len3, text3)), others))) = (
   version,
   dst,
@@ -51,11 +51,11 @@ ids_of context fields after text rest (v, t1, (word, split1, (version, is1, numb
     src_len = len3;
     text_is = split1 ∙ ap (λ (xs : List ℕ). word ++ xs) (split2 ∙ ap (λ (xs : List ℕ). xs ++ t2) text2 ∙ ap (λ (xs : List ℕ). long_id dst ++ xs) (split3 ∙ ap (λ (xs : List ℕ). xs ++ left) text3));
   },
-  (let said : (v ++ d) ++ s ≡ id_values version dst src = rw (is1, is2, is3) in subst (λ (xs : List Value). AreFields context fields xs after left rest) said others),
+  (let said : (v ++ d) ++ s ≡ id_values version dst src = rw (is1, is2, is3) in subst (λ (xs : List HeaderValue). AreHeaderFields context fields xs after left rest) said others),
 )
 
-pub of_ids : (context : Context) (fields : List Field) (after : List Value) (text rest : List ℕ) (version : ℕ) (dst src left : List ℕ) → Ids text version dst src left
-    → AreFields context fields (id_values version dst src) after left rest → AreFields context (long_row fields) [] after text rest
+pub of_ids : (context : Context) (fields : List HeaderField) (after : List HeaderValue) (text rest : List ℕ) (version : ℕ) (dst src left : List ℕ) → Ids text version dst src left
+    → AreHeaderFields context fields (id_values version dst src) after left rest → AreHeaderFields context (long_row fields) [] after text rest
 of_ids context fields after text rest version dst src left ids others = (
   Number version ∷ [],
   long_id dst ++ (long_id src ++ left),
@@ -68,8 +68,8 @@ of_ids context fields after text rest version dst src left ids others = (
   ),
 )
 
-pub stops_behind_ids : (context : Context) (fields : List Field) (text : List ℕ) (e : Refusal) (version : ℕ) (dst src left : List ℕ) → Ids text version dst src left
-    → StopsWithin context fields (id_values version dst src) left e → StopsWithin context (long_row fields) [] text e
+pub stops_behind_ids : (context : Context) (fields : List HeaderField) (text : List ℕ) (e : Refusal) (version : ℕ) (dst src left : List ℕ) → Ids text version dst src left
+    → StopsWithinRow context fields (id_values version dst src) left e → StopsWithinRow context (long_row fields) [] text e
 stops_behind_ids context fields text e version dst src left ids stops = inr (
   Number version ∷ [],
   long_id dst ++ (long_id src ++ left),
@@ -97,7 +97,7 @@ long_made kind.Initial dst src len version = other_header
 long_made (kind.Standard ty) dst src len version = head.Long ty dst src len version
 long_made kind.Retry dst src len version = other_header
 
-abbrev made : ℕ → ℕ → List Value → ProtectedHeader
+abbrev made : ℕ → ℕ → List HeaderValue → ProtectedHeader
 made whole first (Bytes dst ∷ []) = head.Short (has_bit 0x20 first) dst
 made whole first (Number version ∷ Bytes dst ∷ Bytes src ∷ []) = cond (nat_eq version 0) (head.VersionNegotiate (first - 128) dst src) (head.Retry dst src version)
 made whole first (Number version ∷ Bytes dst ∷ Bytes src ∷ Number len ∷ []) = long_made (long_type version first) dst src len version
@@ -106,7 +106,7 @@ made whole first (Number version ∷ Bytes dst ∷ Bytes src ∷ Number count �
     head.Initial (record { dst_cid = dst; src_cid = src; token_pos = record { start = start; end = start + count }; len = len; version = version })
 made whole first values = other_header
 
-made_is : (whole first : ℕ) (values : List Value) (h : ProtectedHeader) → IsHeader whole first values h → made whole first values ≡ h
+made_is : (whole first : ℕ) (values : List HeaderValue) (h : ProtectedHeader) → IsHeader whole first values h → made whole first values ≡ h
 made_is whole first values (head.Short spin dst) (short, is, said) = ap (made whole first) said ∙ ap (λ (s : Bool). head.Short s dst) (sym is)
 made_is whole first values (head.VersionNegotiate random dst src) (is, said) =
     ap (made whole first) said ∙ ap (λ (n : ℕ). head.VersionNegotiate n dst src) (let same : first - 128 ≡ random = omega (arith, is) in same)
@@ -120,57 +120,57 @@ made_is whole first values (head.Initial h) (count, left, start, stop, said) =
     ap (made whole first) said ∙ ap (λ (n : ℕ). at n (n + count)) begins ∙ ap (λ (n : ℕ). at h.token_pos.start n) start
 
 -- the values of a row make the header that they are
-typed_is : (context : Context) (whole first version : ℕ) (dst src left rest : List ℕ) (values : List Value) → length left ≤ whole → version ≢ 0
-    → (ty : LongHeaderType) → long_type version first ≡ ty → AreFields context (typed_row ty) (id_values version dst src) values left rest
+typed_is : (context : Context) (whole first version : ℕ) (dst src left rest : List ℕ) (values : List HeaderValue) → length left ≤ whole → version ≢ 0
+    → (ty : LongHeaderType) → long_type version first ≡ ty → AreHeaderFields context (typed_row ty) (id_values version dst src) values left rest
     → IsHeader whole first values (made whole first values)
 typed_is context whole first version dst src left rest values room some kind.Retry is (said, same) =
-    subst (λ (xs : List Value). IsHeader whole first xs (made whole first xs)) (sym said)
+    subst (λ (xs : List HeaderValue). IsHeader whole first xs (made whole first xs)) (sym said)
     (subst (IsHeader whole first (id_values version dst src)) (sym (otherwise (nat_eq version 0) _ _ (head.Retry dst src version) (grind (arith, nat_tests)) refl)) (some, is, refl))
 typed_is context whole first version dst src left rest values room some (kind.Standard ty) is (v, back, (f, split, (len, is1, encoded)), (said, same)) =
-    let all : values ≡ Number version ∷ Bytes dst ∷ Bytes src ∷ Number len ∷ [] = said ∙ ap (λ (xs : List Value). id_values version dst src ++ xs) is1 in
-    subst (λ (xs : List Value). IsHeader whole first xs (made whole first xs)) (sym all)
+    let all : values ≡ Number version ∷ Bytes dst ∷ Bytes src ∷ Number len ∷ [] = said ∙ ap (λ (xs : List HeaderValue). id_values version dst src ++ xs) is1 in
+    subst (λ (xs : List HeaderValue). IsHeader whole first xs (made whole first xs)) (sym all)
     (subst (IsHeader whole first (Number version ∷ Bytes dst ∷ Bytes src ∷ Number len ∷ [])) (ap (λ (k : LongHeaderType). long_made k dst src len version) (sym is)) (is, refl))
 typed_is context whole first version dst src left rest values room some kind.Initial is
     (v1, t1, (f1, split1, (count, is1, encoded1)), (v2, t2, (token, split2, (is2, width)), (v3, t3, (f3, split3, (len, is3, encoded3)), (said, same)))) =
-    let base : List Value = id_values version dst src in
+    let base : List HeaderValue = id_values version dst src in
     let all : values ≡ Number version ∷ Bytes dst ∷ Bytes src ∷ Number count ∷ Number (length t2) ∷ Number len ∷ [] =
     said ∙ (let eq : ((base ++ v1) ++ v2) ++ v3 ≡ ((base ++ Number count ∷ []) ++ Number (length t2) ∷ []) ++ Number len ∷ [] = rw (is1, is2, is3) in eq) in
-    let size : length token ≡ count = width ∙ (let eq : token_length_of (base ++ v1) ≡ count = ap (λ (xs : List Value). token_length_of (base ++ xs)) is1 in eq) in
+    let size : length token ≡ count = width ∙ (let eq : token_length_of (base ++ v1) ≡ count = ap (λ (xs : List HeaderValue). token_length_of (base ++ xs)) is1 in eq) in
     let inner : count + length t2 ≤ whole = omega (arith, room, size, ap length split1, length-append f1 t1, ap length split2, length-append token t2) in
-    subst (λ (xs : List Value). IsHeader whole first xs (made whole first xs)) (sym all) (count, length t2, refl, omega (arith, inner), refl)
+    subst (λ (xs : List HeaderValue). IsHeader whole first xs (made whole first xs)) (sym all) (count, length t2, refl, omega (arith, inner), refl)
 
-behind_is : (context : Context) (whole first version : ℕ) (dst src left rest : List ℕ) (values : List Value) → length left ≤ whole → 128 ≤ first
-    → (none : Bool) → nat_eq version 0 ≡ none → AreFields context (cond none [] (Supported version ∷ typed_row (long_type version first))) (id_values version dst src) values left rest
+behind_is : (context : Context) (whole first version : ℕ) (dst src left rest : List ℕ) (values : List HeaderValue) → length left ≤ whole → 128 ≤ first
+    → (none : Bool) → nat_eq version 0 ≡ none → AreHeaderFields context (cond none [] (Supported version ∷ typed_row (long_type version first))) (id_values version dst src) values left rest
     → IsHeader whole first values (made whole first values)
 behind_is context whole first version dst src left rest values room long true is (said, same) =
     let zero_version : version ≡ 0 = grind (arith, nat_tests) in
     let all : values ≡ id_values 0 dst src = said ∙ ap (λ (n : ℕ). id_values n dst src) zero_version in
-    subst (λ (xs : List Value). IsHeader whole first xs (made whole first xs)) (sym all) (omega arith, refl)
+    subst (λ (xs : List HeaderValue). IsHeader whole first xs (made whole first xs)) (sym all) (omega arith, refl)
 behind_is context whole first version dst src left rest values room long false is (v, back, (f, split, (said, none, known)), others) =
     let some : version ≢ 0 = grind (arith, nat_tests) in
     let kept : left ≡ back = split ∙ ap (λ (xs : List ℕ). xs ++ back) none in
     typed_is context whole first version dst src back rest values (subst (λ (xs : List ℕ). length xs ≤ whole) kept room) some (long_type version first) refl
-    (subst (λ (xs : List Value). AreFields context (typed_row (long_type version first)) (id_values version dst src ++ xs) values back rest) said others)
+    (subst (λ (xs : List HeaderValue). AreHeaderFields context (typed_row (long_type version first)) (id_values version dst src ++ xs) values back rest) said others)
 
 pub ids_room : (text : List ℕ) (version : ℕ) (dst src left : List ℕ) → Ids text version dst src left → length left ≤ length text
 ids_room text version dst src left ids =
     omega (arith, ap length ids.text_is, length-append ids.word (long_id dst ++ (long_id src ++ left)), length-append dst (long_id src ++ left), length-append src left)
 
-row_is : (context : Context) (whole first : ℕ) (text rest : List ℕ) (values : List Value) → length text ≤ whole
-    → (long : Bool) → is_long first ≡ long → AreFields context (cond long (long_row (row_behind_ids first (num (take 4 text)))) (ShortId ∷ [])) [] values text rest
+row_is : (context : Context) (whole first : ℕ) (text rest : List ℕ) (values : List HeaderValue) → length text ≤ whole
+    → (long : Bool) → is_long first ≡ long → AreHeaderFields context (cond long (long_row (row_behind_ids first (num (take 4 text)))) (ShortId ∷ [])) [] values text rest
     → IsHeader whole first values (made whole first values)
 row_is context whole first text rest values room false is (v, back, (f, split, (dst, is1, parsed)), (said, same)) =
-    subst (λ (xs : List Value). IsHeader whole first xs (made whole first xs)) (sym (said ∙ is1)) (is, refl, refl)
+    subst (λ (xs : List HeaderValue). IsHeader whole first xs (made whole first xs)) (sym (said ∙ is1)) (is, refl, refl)
 row_is context whole first text rest values room true is d =
     let long : 128 ≤ first = grind (arith, nat_tests) in
     let x = ids_of context (row_behind_ids first (num (take 4 text))) values text rest d in
     let same : num (take 4 text) ≡ x.0 = version_is text x.0 x.1 x.2 x.3 x.4 in
     behind_is context whole first x.0 x.1 x.2 x.3 rest values (omega (arith, room, ids_room text x.0 x.1 x.2 x.3 x.4)) long (nat_eq x.0 0) refl
-    (subst (λ (n : ℕ). AreFields context (row_behind_ids first n) (id_values x.0 x.1 x.2) values x.3 rest) same x.5)
+    (subst (λ (n : ℕ). AreHeaderFields context (row_behind_ids first n) (id_values x.0 x.1 x.2) values x.3 rest) same x.5)
 
 -- ---- the reader, by rows
 
-abbrev finish : ℕ → ℕ → List Value → List ℕ → Result (ProtectedHeader × List ℕ) Refusal
+abbrev finish : ℕ → ℕ → List HeaderValue → List ℕ → Result (ProtectedHeader × List ℕ) Refusal
 finish whole first values rest = Ok (made whole first values, rest)
 
 reassoc : {A B : Type 0} (r : Result A Refusal) (f : A → Taken) (k : Taken → Result B Refusal) (g : A → Result B Refusal)
@@ -225,8 +225,8 @@ long_same : (context : Context) (whole first : ℕ) (text : List ℕ)
 unfolding long_at
 long_same context whole first text =
     reassoc (ok_or (word_at text) at_end) (λ x. (Number x.0 ∷ [], x.1)) _ _
-    (λ version e. reassoc (ok_or (id_at version.1) bad_id) (λ x. (Bytes x.0 ∷ [], x.1)) _ _
-    (λ dst f. reassoc (ok_or (id_at dst.1) bad_id) (λ x. (Bytes x.0 ∷ [], x.1)) _ _
+    (λ version e. reassoc (ok_or (long_id_at version.1) bad_id) (λ x. (Bytes x.0 ∷ [], x.1)) _ _
+    (λ dst f. reassoc (ok_or (long_id_at dst.1) bad_id) (λ x. (Bytes x.0 ∷ [], x.1)) _ _
     (λ src g. behind_same context whole first version.0 dst.0 src.0 src.1 (nat_eq version.0 0) refl
     ∙ ap (λ (n : ℕ). row_at context (row_behind_ids first n) (id_values version.0 dst.0 src.0) src.1 (finish whole first)) (sym (word_says text version (option_ok (word_at text) at_end version e))))))
 
@@ -252,7 +252,7 @@ turned false false x y e = absurd cc
 
 by_rows : (context : Context) (whole first : ℕ) (text : List ℕ)
     → header_at context whole (first ∷ text)
-    ≡ cond (is_fixed context first) (row_at context (row_of first (num (take 4 text))) [] text (finish whole first)) (Err (Invalid (codes "fixed bit unset")))
+    ≡ cond (is_fixed context first) (row_at context (header_row_of first (num (take 4 text))) [] text (finish whole first)) (Err (Invalid (codes "fixed bit unset")))
 unfolding header_at
 by_rows context whole first text =
     turned (not context.grease && nat_eq (first / 64 % 2) 0) (is_fixed context first) (Err (Invalid (codes "fixed bit unset"))) _ (fixed_test context.grease (first / 64))
@@ -263,7 +263,7 @@ by_rows context whole first text =
 pub header_again : (context : Context) (whole : ℕ) (bytes : List ℕ) (h : ProtectedHeader) (rest : List ℕ) → HeaderAt context whole bytes h rest → header_at context whole bytes ≡ Ok (h, rest)
 header_again context whole bytes h rest (first, text, values, split, fixed, fields, is) =
     ap (header_at context whole) split ∙ by_rows context whole first text
-    ∙ taken (is_fixed context first) _ _ _ fixed (row_again context (row_of first (num (take 4 text))) [] values text rest (finish whole first) fields)
+    ∙ taken (is_fixed context first) _ _ _ fixed (row_again context (header_row_of first (num (take 4 text))) [] values text rest (finish whole first) fields)
     ∙ ap (λ (g : ProtectedHeader). let r : Result (ProtectedHeader × List ℕ) Refusal = Ok (g, rest) in r) (made_is whole first values h is)
 
 pub header_found : (context : Context) (whole : ℕ) (bytes rest : List ℕ) (h : ProtectedHeader) → AreBytes bytes → length bytes ≤ whole → TakesWithin context
@@ -274,14 +274,14 @@ header_found context whole (first ∷ text) rest h fits room takes e =
     elim (chosen (is_fixed context first) _ _ (Ok (h, rest)) (sym (by_rows context whole first text) ∙ e)) [
       | inr bad ↦ absurd (err_ok (Invalid (codes "fixed bit unset")) (h, rest) bad.1)
       | inl good ↦
-          let x = row_found context (row_of first (num (take 4 text))) [] text (finish whole first) (h, rest) (λ i. fits (suc i)) takes good.1 in
+          let x = row_found context (header_row_of first (num (take 4 text))) [] text (finish whole first) (h, rest) (λ i. fits (suc i)) takes good.1 in
           let parts = ok_pair x.3 in (
             first,
             text,
             x.0,
             refl,
             good.0,
-            subst (AreFields context (row_of first (num (take 4 text))) [] x.0 text) parts.1 x.2,
+            subst (AreHeaderFields context (header_row_of first (num (take 4 text))) [] x.0 text) parts.1 x.2,
             subst (IsHeader whole first x.0) parts.0 (row_is context whole first text x.1 x.0 (omega arith) (is_long first) refl x.2),
           )
     ]
@@ -293,7 +293,7 @@ refused_again context whole (first ∷ text) e fits (inl (unset, is)) =
     by_rows context whole first text ∙ otherwise (is_fixed context first) _ _ _ unset (ap (λ (r : Refusal). let q : Result (ProtectedHeader × List ℕ) Refusal = Err r in q) (sym is))
 refused_again context whole (first ∷ text) e fits (inr (set, stops)) =
     by_rows context whole first text ∙ taken (is_fixed context first) _ _ _ set
-    (row_stops context (row_of first (num (take 4 text))) [] text (finish whole first) e (λ i. fits (suc i)) stops)
+    (row_stops context (header_row_of first (num (take 4 text))) [] text (finish whole first) e (λ i. fits (suc i)) stops)
 
 pub refused_found : (context : Context) (whole : ℕ) (bytes : List ℕ) (e : Refusal) → AreBytes bytes → TakesWithin context → header_at context whole bytes ≡ Err e → Refused context bytes e
 unfolding header_at
@@ -301,10 +301,10 @@ refused_found context whole [] e fits takes h = sym (err_same _ e h)
 refused_found context whole (first ∷ text) e fits takes h =
     elim (chosen (is_fixed context first) _ _ (Err e) (sym (by_rows context whole first text) ∙ h)) [
       | inr bad ↦ inl (bad.0, sym (err_same _ e bad.1))
-      | inl good ↦ inr (good.0, row_refused context (row_of first (num (take 4 text))) [] text (finish whole first) e (λ i. fits (suc i)) takes (λ after rest f. ok_err _ e f) good.1)
+      | inl good ↦ inr (good.0, row_refused context (header_row_of first (num (take 4 text))) [] text (finish whole first) e (λ i. fits (suc i)) takes (λ after rest f. ok_err _ e f) good.1)
     ]
 
 -- a header takes a byte
 pub header_strict : (context : Context) (whole : ℕ) (bytes : List ℕ) (h : ProtectedHeader) (rest : List ℕ) → HeaderAt context whole bytes h rest → length rest < length bytes
 header_strict context whole bytes h rest (first, text, values, split, fixed, fields, is) =
-    omega (arith, ap length split, row_room context (row_of first (num (take 4 text))) [] values text rest fields)
+    omega (arith, ap length split, row_room context (header_row_of first (num (take 4 text))) [] values text rest fields)

@@ -2,7 +2,7 @@
 use Rattle.std.specs.Prelude.{◌≡◌, ◌≢◌, ℕ, ◌+◌, ◌/◌, ◌%◌, ◌<◌, ◌≤◌, ◌^◌, Bool, true, false, List, [], ◌∷◌, ◌++◌, length, take, Ok, nat_eq}
 use Rattle.std.proofs.Common.{sym, ap, ◌∙◌, arith, refl, cond, subst, append_assoc}
 use Rattle.std.proofs.lemmas.Bool.Decides.{nat_tests}
-use Rattle.quic_base.specs.Number.{bytes_of, num}
+use Rattle.quic_base.specs.Number.{has_bit, bytes_of, num}
 use Rattle.quic_base.specs.Varint.{Encodes}
 use Rattle.quic_base.specs.ConnectionId.{long_id}
 use Rattle.quic_base.proofs.PublicLaws as law
@@ -14,7 +14,7 @@ use Rattle.quic_header_encode.specs.declared.long_type.LongHeaderType.TheVariant
 use Rattle.quic_header_encode.specs.declared.long_type.LongType.{LongType}
 use Rattle.quic_header_encode.specs.Starts.{long_front}
 use Rattle.quic_header_encode.specs.Types.{long_type}
-use Rattle.quic_header_decode.specs.Grammar.{has_bit, is_long, is_fixed, Field, Supported, ShortId, Value, Number, Bytes, typed_row, row_behind_ids, row_of, AreFields, IsHeader, HeaderAt, IsKnown}
+use Rattle.quic_header_decode.specs.Grammar.{is_long, is_fixed, HeaderField, Supported, ShortId, HeaderValue, Number, Bytes, typed_row, row_behind_ids, header_row_of, AreHeaderFields, IsHeader, HeaderAt, IsKnownVersion}
 use Rattle.quic_header_decode.specs.Reading.{Context}
 use Rattle.quic_header_decode.proofs.Rows.{or_right}
 use Rattle.quic_header_decode.proofs.Headers.{Ids, id_values, long_row, of_ids, version_is}
@@ -41,8 +41,8 @@ joined first version dst src rest =
     append_assoc (first ∷ bytes_of 4 version) (long_id dst ++ long_id src) rest
     ∙ ap (λ (xs : List ℕ). (first ∷ bytes_of 4 version) ++ xs) (append_assoc (long_id dst) (long_id src) rest)
 
-made : (context : Context) (whole : ℕ) (bytes : List ℕ) (first version : ℕ) (dst src left rest : List ℕ) (values : List Value) (h : ProtectedHeader)
-    → LongStart context bytes first version dst src left → AreFields context (row_behind_ids first version) (id_values version dst src) values left rest
+made : (context : Context) (whole : ℕ) (bytes : List ℕ) (first version : ℕ) (dst src left rest : List ℕ) (values : List HeaderValue) (h : ProtectedHeader)
+    → LongStart context bytes first version dst src left → AreHeaderFields context (row_behind_ids first version) (id_values version dst src) values left rest
     → IsHeader whole first values h → HeaderAt context whole bytes h rest
 made context whole bytes first version dst src left rest values h start others is =
     let text : List ℕ = behind version dst src left in
@@ -50,44 +50,44 @@ made context whole bytes first version dst src left rest values h start others i
     record { word = bytes_of 4 version; is_word = law.is_number_4 version start.range; dst_len = start.dst_len; src_len = start.src_len; text_is = refl } in
     let above : 128 ≤ first = start.long in
     let test : is_long first ≡ true = grind (arith, nat_tests) in
-    let row : row_of first (num (take 4 text)) ≡ long_row (row_behind_ids first version) =
-    ap (λ (n : ℕ). row_of first n) (version_is text version dst src left ids) ∙ ap (λ (b : Bool). cond b (long_row (row_behind_ids first version)) (ShortId ∷ [])) test in (
+    let row : header_row_of first (num (take 4 text)) ≡ long_row (row_behind_ids first version) =
+    ap (λ (n : ℕ). header_row_of first n) (version_is text version dst src left ids) ∙ ap (λ (b : Bool). cond b (long_row (row_behind_ids first version)) (ShortId ∷ [])) test in (
       first,
       text,
       values,
       start.text ∙ joined first version dst src left,
       start.fixed,
-      subst (λ (fields : List Field). AreFields context fields [] values text rest) (sym row) (of_ids context (row_behind_ids first version) values text rest version dst src left ids others),
+      subst (λ (fields : List HeaderField). AreHeaderFields context fields [] values text rest) (sym row) (of_ids context (row_behind_ids first version) values text rest version dst src left ids others),
       is,
     )
 
 -- the row of a type, behind a version that is known
-typed : (context : Context) (first version : ℕ) (ty : LongHeaderType) → IsKnown context version → long_type version first ≡ ty → row_behind_ids first version ≡ Supported version ∷ typed_row ty
+typed : (context : Context) (first version : ℕ) (ty : LongHeaderType) → IsKnownVersion context version → long_type version first ≡ ty → row_behind_ids first version ≡ Supported version ∷ typed_row ty
 typed context first version ty known is =
     let other : version ≢ 0 = known.0 in
     let test : nat_eq version 0 ≡ false = grind (arith, nat_tests) in
     ap (λ (b : Bool). cond b [] (Supported version ∷ typed_row (long_type version first))) test ∙ ap (λ (k : LongHeaderType). Supported version ∷ typed_row k) is
 
-typed_made : (context : Context) (whole : ℕ) (bytes : List ℕ) (first version : ℕ) (dst src left rest : List ℕ) (values : List Value) (h : ProtectedHeader) (ty : LongHeaderType)
-    → LongStart context bytes first version dst src left → IsKnown context version → long_type version first ≡ ty
-    → AreFields context (typed_row ty) (id_values version dst src) values left rest → IsHeader whole first values h → HeaderAt context whole bytes h rest
+typed_made : (context : Context) (whole : ℕ) (bytes : List ℕ) (first version : ℕ) (dst src left rest : List ℕ) (values : List HeaderValue) (h : ProtectedHeader) (ty : LongHeaderType)
+    → LongStart context bytes first version dst src left → IsKnownVersion context version → long_type version first ≡ ty
+    → AreHeaderFields context (typed_row ty) (id_values version dst src) values left rest → IsHeader whole first values h → HeaderAt context whole bytes h rest
 typed_made context whole bytes first version dst src left rest values h ty start known type others is =
     made context whole bytes first version dst src left rest values h start
-    (subst (λ (fields : List Field). AreFields context fields (id_values version dst src) values left rest) (sym (typed context first version ty known type))
+    (subst (λ (fields : List HeaderField). AreHeaderFields context fields (id_values version dst src) values left rest) (sym (typed context first version ty known type))
     ([], left, ([], refl, (refl, refl, known.1)), others))
     is
 
 -- ---- each header
 
 pub long_header : (context : Context) (whole : ℕ) (bytes : List ℕ) (first version : ℕ) (dst src text rest : List ℕ) (ty : LongType) (len : ℕ)
-    → LongStart context bytes first version dst src (text ++ rest) → IsKnown context version → long_type version first ≡ kind.Standard ty → Encodes len text
+    → LongStart context bytes first version dst src (text ++ rest) → IsKnownVersion context version → long_type version first ≡ kind.Standard ty → Encodes len text
     → HeaderAt context whole bytes (head.Long ty dst src len version) rest
 long_header context whole bytes first version dst src text rest ty len start known type encoded =
     typed_made context whole bytes first version dst src (text ++ rest) rest (Number version ∷ Bytes dst ∷ Bytes src ∷ Number len ∷ []) (head.Long ty dst src len version) (kind.Standard ty) start known type
     (Number len ∷ [], rest, (text, refl, (len, refl, encoded)), (refl, refl)) (type, refl)
 
 pub initial_header : (context : Context) (whole : ℕ) (bytes : List ℕ) (first : ℕ) (count token text rest : List ℕ) (h : ProtectedInitialHeader)
-    → LongStart context bytes first h.version h.dst_cid h.src_cid (count ++ (token ++ (text ++ rest))) → IsKnown context h.version → long_type h.version first ≡ kind.Initial
+    → LongStart context bytes first h.version h.dst_cid h.src_cid (count ++ (token ++ (text ++ rest))) → IsKnownVersion context h.version → long_type h.version first ≡ kind.Initial
     → Encodes (length token) count → Encodes h.len text → h.token_pos.end + length (text ++ rest) ≡ whole → h.token_pos.start + length token ≡ h.token_pos.end
     → HeaderAt context whole bytes (head.Initial h) rest
 initial_header context whole bytes first count token text rest h start known type counted encoded stop from =
@@ -101,7 +101,7 @@ initial_header context whole bytes first count token text rest h start known typ
     ) (length token, left, from, stop, refl)
 
 pub retry_header : (context : Context) (whole : ℕ) (bytes : List ℕ) (first version : ℕ) (dst src rest : List ℕ)
-    → LongStart context bytes first version dst src rest → IsKnown context version → long_type version first ≡ kind.Retry → HeaderAt context whole bytes (head.Retry dst src version) rest
+    → LongStart context bytes first version dst src rest → IsKnownVersion context version → long_type version first ≡ kind.Retry → HeaderAt context whole bytes (head.Retry dst src version) rest
 retry_header context whole bytes first version dst src rest start known type =
     typed_made context whole bytes first version dst src rest rest (id_values version dst src) (head.Retry dst src version) kind.Retry start known type (refl, refl) (known.0, type, refl)
 
@@ -114,13 +114,13 @@ pub short_header : (context : Context) (whole : ℕ) (bytes : List ℕ) (first :
     → bytes ≡ first ∷ (text ++ rest) → context.parsed (text ++ rest) ≡ Ok (dst, length text) → spin ≡ nat_eq (first / 32 % 2) 1 → HeaderAt context whole bytes (head.Short spin dst) rest
 short_header context whole bytes first spin dst text rest short fixed split parsed is =
     let test : is_long first ≡ false = grind (arith, nat_tests) in
-    let row : row_of first (num (take 4 (text ++ rest))) ≡ ShortId ∷ [] =
+    let row : header_row_of first (num (take 4 (text ++ rest))) ≡ ShortId ∷ [] =
     ap (λ (b : Bool). cond b (long_row (row_behind_ids first (num (take 4 (text ++ rest))))) (ShortId ∷ [])) test in (
       first,
       text ++ rest,
       Bytes dst ∷ [],
       split,
       fixed,
-      subst (λ (fields : List Field). AreFields context fields [] (Bytes dst ∷ []) (text ++ rest) rest) (sym row) (Bytes dst ∷ [], rest, (text, refl, (dst, refl, parsed)), (refl, refl)),
+      subst (λ (fields : List HeaderField). AreHeaderFields context fields [] (Bytes dst ∷ []) (text ++ rest) rest) (sym row) (Bytes dst ∷ [], rest, (text, refl, (dst, refl, parsed)), (refl, refl)),
       (test, is, refl),
     )

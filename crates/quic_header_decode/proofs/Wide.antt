@@ -15,10 +15,10 @@ use Rattle.quic_header_encode.specs.declared.long_type.LongHeaderType.TheVariant
 use Rattle.quic_header_encode.specs.Types.{long_type}
 use Rattle.quic_header_decode.specs.declared.protected.ProtectedHeader.{ProtectedHeader}
 use Rattle.quic_header_decode.specs.declared.protected.ProtectedHeader.TheVariants as head
-use Rattle.quic_header_decode.specs.Fields.{id_at, wide_id_at, word_at}
+use Rattle.quic_header_decode.specs.Fields.{long_id_at, wide_id_at, word_at}
 use Rattle.quic_header_decode.specs.Grammar.{is_long, Refused}
 use Rattle.quic_header_decode.specs.Parsers.{fixed_parsed, fixed_lawful}
-use Rattle.quic_header_decode.specs.Places.{any_fixed, IsUnknown, ReadAnswer}
+use Rattle.quic_header_decode.specs.Places.{any_fixed, IsUnknownVersion, ReadAnswer}
 use Rattle.quic_header_decode.specs.Reading.{TakesWithin, ◌>>=◌, at_end, bad_id, header_at, long_at, typed_at, wide_at, wide_header_at}
 use Rattle.quic_header_decode.specs.Refusal.{Refusal, Unsupported, Invalid, NoMemory}
 use Rattle.quic_header_decode.proofs.FieldLaws.{word_found, word_of}
@@ -50,7 +50,7 @@ first_one false b e = absurd cc
 wide_is : (n : ℕ) (rest : List ℕ) → nat_lt (length rest) n ≡ false → wide_id_at (n ∷ rest) ≡ Some (take n rest, drop n rest)
 wide_is n rest room = otherwise (nat_lt (length rest) n) None (Some (take n rest, drop n rest)) _ room refl
 
-narrowed : (bytes : List ℕ) → id_at bytes ≡ narrow (wide_id_at bytes)
+narrowed : (bytes : List ℕ) → long_id_at bytes ≡ narrow (wide_id_at bytes)
 unfolding narrow
 narrowed [] = refl
 narrowed (n ∷ rest) = elim (bool_cases (nat_lt (length rest) n)) [
@@ -123,7 +123,7 @@ agree_narrow (Some x) f g few many = elim (bool_cases (nat_lt 20 (length x.0))) 
 agree_id : (bytes : List ℕ) (f g : List ℕ × List ℕ → Read)
     → ((x : List ℕ × List ℕ) → nat_lt 20 (length x.0) ≡ false → Agrees (f x) (g x))
     → ((x : List ℕ × List ℕ) → nat_lt 20 (length x.0) ≡ true → Agrees (f x) (Err bad_id))
-    → Agrees (ok_or (wide_id_at bytes) bad_id >>= f) (ok_or (id_at bytes) bad_id >>= g)
+    → Agrees (ok_or (wide_id_at bytes) bad_id >>= f) (ok_or (long_id_at bytes) bad_id >>= g)
 agree_id bytes f g few many =
     subst (λ (o : Option (List ℕ × List ℕ)). Agrees (ok_or (wide_id_at bytes) bad_id >>= f) (ok_or o bad_id >>= g)) (sym (narrowed bytes))
     (agree_narrow (wide_id_at bytes) f g few many)
@@ -285,7 +285,7 @@ not_short : (first : ℕ) → is_long first ≡ true → nat_lt first 128 ≡ fa
 not_short first e = grind (arith, nat_tests)
 
 unknown_found : (id_len : ℕ) (versions : List ℕ) (whole : ℕ) (bytes src dst : List ℕ) (version : ℕ) → AreBytes bytes
-    → wide_header_at id_len versions whole bytes ≡ Err (Unsupported src dst version) → IsUnknown (any_fixed id_len versions) bytes version dst src
+    → wide_header_at id_len versions whole bytes ≡ Err (Unsupported src dst version) → IsUnknownVersion (any_fixed id_len versions) bytes version dst src
 unfolding wide_header_at
 unknown_found id_len versions whole [] src dst version fits e = absurd cc
 unknown_found id_len versions whole (first ∷ text) src dst version fits e = elim (chosen (nat_lt first 128) _ _ (Err (Unsupported src dst version)) e) [
@@ -296,7 +296,7 @@ unknown_found id_len versions whole (first ∷ text) src dst version fits e = el
 ]
 
 unknown_type : (id_len : ℕ) (versions : List ℕ) (whole : ℕ) (bytes src dst : List ℕ) (version : ℕ)
-    → IsUnknown (any_fixed id_len versions) bytes version dst src → wide_header_at id_len versions whole bytes ≡ Err (Unsupported src dst version)
+    → IsUnknownVersion (any_fixed id_len versions) bytes version dst src → wide_header_at id_len versions whole bytes ≡ Err (Unsupported src dst version)
 unfolding wide_header_at
 unknown_type id_len versions whole bytes src dst version (rest, (first, number, split, long, is), some, none) =
     ap (wide_header_at id_len versions whole) split
@@ -308,7 +308,7 @@ takes id_len versions text id n e = match_ok (λ x. x.1 ≤ length text) (λ r. 
 
 refused : (id_len : ℕ) (versions bytes : List ℕ) (e : Refusal) → AreBytes bytes → wide_header_at id_len versions (length bytes) bytes ≡ Err e
     → ((src dst : List ℕ) (version : ℕ) → e ≡ Unsupported src dst version → ⊥) → header_at (any_fixed id_len versions) (length bytes) bytes ≡ Err e
-    → Refused (any_fixed id_len versions) bytes e × ((version : ℕ) (dst src : List ℕ) → IsUnknown (any_fixed id_len versions) bytes version dst src → ⊥)
+    → Refused (any_fixed id_len versions) bytes e × ((version : ℕ) (dst src : List ℕ) → IsUnknownVersion (any_fixed id_len versions) bytes version dst src → ⊥)
 refused id_len versions bytes e fits read other same = (
   refused_found (any_fixed id_len versions) (length bytes) bytes e fits (takes id_len versions) same,
   (λ version dst src unknown. other src dst version (let reported = unknown_type id_len versions (length bytes) bytes src dst version unknown in cc)),

@@ -6,17 +6,17 @@ use Rattle.quic_header_decode.specs.Grammar.{Cut, Uncut}
 use Rattle.quic_header_decode.specs.Reading.{Context, cut_at}
 
 -- a packet in its datagram: where it begins and ends, and its header
-pub record Placed : Type 0 where
+pub record PlacedPacket : Type 0 where
   pub start : ℕ
   pub stop : ℕ
   pub header : ProtectedHeader
 
 -- The bytes that begin at start are these packets, one after another up to their end; or these, and then bytes from
 -- which no packet can be cut, with their refusal.
-pub data ArePackets (context : Context) : ℕ → List ℕ → List Placed → Option Refusal → Type 0 where
+pub data ArePackets (context : Context) : ℕ → List ℕ → List PlacedPacket → Option Refusal → Type 0 where
   last : (start : ℕ) (bytes : List ℕ) (h : ProtectedHeader) (p : ℕ) → Cut context bytes h p (length bytes)
       → ArePackets context start bytes (record { start = start; stop = start + length bytes; header = h } ∷ []) None
-  more : (start : ℕ) (bytes : List ℕ) (h : ProtectedHeader) (p q : ℕ) (others : List Placed) (refusal : Option Refusal)
+  more : (start : ℕ) (bytes : List ℕ) (h : ProtectedHeader) (p q : ℕ) (others : List PlacedPacket) (refusal : Option Refusal)
       → Cut context bytes h p q → q < length bytes
       → ArePackets context (start + q) (drop q bytes) others refusal
       → ArePackets context start bytes (record { start = start; stop = start + q; header = h } ∷ others) refusal
@@ -24,20 +24,20 @@ pub data ArePackets (context : Context) : ℕ → List ℕ → List Placed → O
       → ArePackets context start bytes [] (Some e)
 
 -- The same, step by step: what was cut first goes before what comes of the rest.
-abbrev pub and_then : (ℕ → List ℕ → List Placed × Option Refusal) → ℕ → List ℕ
-    → Result (ProtectedHeader × ℕ × ℕ) Refusal → List Placed × Option Refusal
+abbrev pub and_then : (ℕ → List ℕ → List PlacedPacket × Option Refusal) → ℕ → List ℕ
+    → Result (ProtectedHeader × ℕ × ℕ) Refusal → List PlacedPacket × Option Refusal
 and_then others start bytes (Err e) = ([], Some e)
 and_then others start bytes (Ok cut) =
-    let first : Placed = record { start = start; stop = start + cut.2; header = cut.0 } in
+    let first : PlacedPacket = record { start = start; stop = start + cut.2; header = cut.0 } in
     if nat_lt cut.2 (length bytes) then
     (first ∷ (others (start + cut.2) (drop cut.2 bytes)).0, (others (start + cut.2) (drop cut.2 bytes)).1)
     else (first ∷ [], None)
 
 -- at most so many packets
-unfoldable pub packets_from : Context → ℕ → ℕ → List ℕ → List Placed × Option Refusal
+unfoldable pub packets_from : Context → ℕ → ℕ → List ℕ → List PlacedPacket × Option Refusal
 packets_from context zero start bytes = ([], None)
 packets_from context (suc n) start bytes = and_then (packets_from context n) start bytes (cut_at context bytes)
 
 -- the packets of a datagram, and the refusal of what is left, if anything is refused
-unfoldable pub packets_in : Context → List ℕ → List Placed × Option Refusal
+unfoldable pub packets_in : Context → List ℕ → List PlacedPacket × Option Refusal
 packets_in context bytes = packets_from context (suc (length bytes)) 0 bytes

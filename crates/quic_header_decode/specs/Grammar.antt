@@ -1,6 +1,6 @@
 -- Which bytes are the header of a packet, and why others are none (RFC 9000, section 17).
 use Rattle.std.specs.Prelude.{◌≡◌, ◌≢◌, ℕ, ◌+◌, ◌/◌, ◌%◌, ◌<◌, ◌≤◌, ◌⊎◌, Bool, true, false, List, [], ◌∷◌, ◌++◌, length, take, Result, Some, Ok, Err, Contains, nat_le, ◌==◌, ◌||◌, if◌then◌else◌, MatchOption, codes}
-use Rattle.quic_base.specs.Number.{IsNumber, num}
+use Rattle.quic_base.specs.Number.{has_bit, IsNumber, num}
 use Rattle.quic_base.specs.Varint.{Encodes}
 use Rattle.quic_base.specs.ConnectionId.{long_id}
 use Rattle.quic_header_encode.specs.Types.{long_type}
@@ -13,9 +13,6 @@ use Rattle.quic_header_decode.specs.Reading.{Context, len_in}
 
 -- ---- the first byte
 
-abbrev pub has_bit : ℕ → ℕ → Bool
-has_bit bit byte = (byte / bit % 2) == 1
-
 -- the header form, the highest bit, is set in long headers (section 17.2) and clear in short ones (section 17.3)
 abbrev pub is_long : ℕ → Bool
 is_long first = nat_le 0x80 first
@@ -26,70 +23,70 @@ is_fixed context first = context.grease || has_bit 0x40 first
 
 -- ---- rows of fields
 
-pub data Field : Type 0 where
+pub data HeaderField : Type 0 where
   -- four bytes (section 17.2)
-  Version : Field
+  Version : HeaderField
   -- a byte n, at most 20, and n bytes (section 17.2)
-  DestinationId : Field
-  SourceId : Field
+  DestinationId : HeaderField
+  SourceId : HeaderField
   -- no bytes: this version is one of those that are known (section 6.1)
-  Supported : ℕ → Field
+  Supported : ℕ → HeaderField
   -- a number of any width, and that many bytes (section 17.2.2)
-  TokenLength : Field
-  Token : Field
+  TokenLength : HeaderField
+  Token : HeaderField
   -- a number of any width (section 17.2)
-  Length : Field
+  Length : HeaderField
   -- as many bytes as the parser of ids takes, since their length is not written (section 17.3.1)
-  ShortId : Field
+  ShortId : HeaderField
 
 -- behind the ids: of Initial (section 17.2.2); of 0-RTT and Handshake (17.2.3, 17.2.4); of Retry (17.2.5)
-abbrev pub typed_row : LongHeaderType → List Field
+abbrev pub typed_row : LongHeaderType → List HeaderField
 typed_row kind.Initial = TokenLength ∷ Token ∷ Length ∷ []
 typed_row (kind.Standard ty) = Length ∷ []
 typed_row kind.Retry = []
 
 -- and of a version negotiation, which has version 0 and no type (section 17.2.1)
-abbrev pub row_behind_ids : ℕ → ℕ → List Field
+abbrev pub row_behind_ids : ℕ → ℕ → List HeaderField
 row_behind_ids first version = if version == 0 then [] else Supported version ∷ typed_row (long_type version first)
 
 -- the version is what the four bytes behind the first one say (RFC 8999, section 5.1)
-abbrev pub row_of : ℕ → ℕ → List Field
-row_of first version =
+abbrev pub header_row_of : ℕ → ℕ → List HeaderField
+header_row_of first version =
     if is_long first then Version ∷ DestinationId ∷ SourceId ∷ row_behind_ids first version else ShortId ∷ []
 
 -- ---- which bytes are a field, and why others are none
 
-pub data Value : Type 0 where
-  Number : ℕ → Value
-  Bytes : List ℕ → Value
+pub data HeaderValue : Type 0 where
+  Number : ℕ → HeaderValue
+  Bytes : List ℕ → HeaderValue
 
-abbrev pub token_length_of : List Value → ℕ
+abbrev pub token_length_of : List HeaderValue → ℕ
 token_length_of (version ∷ destination ∷ source ∷ Number count ∷ []) = count
 token_length_of values = 0
 
-abbrev pub IsId : List Value → List ℕ → Type 0
+abbrev pub IsId : List HeaderValue → List ℕ → Type 0
 IsId values bytes = (id : List ℕ) × (values ≡ Bytes id ∷ []) × (length id ≤ 20) × (bytes ≡ long_id id)
 
-abbrev pub IsVarint : List Value → List ℕ → Type 0
+abbrev pub IsVarint : List HeaderValue → List ℕ → Type 0
 IsVarint values bytes = (n : ℕ) × (values ≡ Number n ∷ []) × Encodes n bytes
 
 -- Behind fields with the values before, and in front of rest, the bytes are a field of this kind, with these values.
 -- A token is reported by how many bytes follow it.
-abbrev pub IsField : Context → Field → List Value → List Value → List ℕ → List ℕ → Type 0
-IsField context Version before values bytes rest = (n : ℕ) × (values ≡ Number n ∷ []) × IsNumber 4 n bytes
-IsField context DestinationId before values bytes rest = IsId values bytes
-IsField context SourceId before values bytes rest = IsId values bytes
-IsField context (Supported version) before values bytes rest =
+abbrev pub IsHeaderField : Context → HeaderField → List HeaderValue → List HeaderValue → List ℕ → List ℕ → Type 0
+IsHeaderField context Version before values bytes rest = (n : ℕ) × (values ≡ Number n ∷ []) × IsNumber 4 n bytes
+IsHeaderField context DestinationId before values bytes rest = IsId values bytes
+IsHeaderField context SourceId before values bytes rest = IsId values bytes
+IsHeaderField context (Supported version) before values bytes rest =
     (values ≡ []) × (bytes ≡ []) × Contains context.versions version
-IsField context TokenLength before values bytes rest = IsVarint values bytes
-IsField context Token before values bytes rest =
+IsHeaderField context TokenLength before values bytes rest = IsVarint values bytes
+IsHeaderField context Token before values bytes rest =
     (values ≡ Number (length rest) ∷ []) × (length bytes ≡ token_length_of before)
-IsField context Length before values bytes rest = IsVarint values bytes
-IsField context ShortId before values bytes rest =
+IsHeaderField context Length before values bytes rest = IsVarint values bytes
+IsHeaderField context ShortId before values bytes rest =
     (id : List ℕ) × (values ≡ Bytes id ∷ []) × (context.parsed (bytes ++ rest) ≡ Ok (id, length bytes))
 
 -- What is reported where no such field stands.
-abbrev pub refusal_at : Field → List Value → Refusal
+abbrev pub refusal_at : HeaderField → List HeaderValue → Refusal
 refusal_at DestinationId before = Invalid (codes "malformed cid")
 refusal_at SourceId before = Invalid (codes "malformed cid")
 refusal_at (Supported version) (number ∷ Bytes dst ∷ Bytes src ∷ []) = Unsupported src dst version
@@ -97,42 +94,42 @@ refusal_at Token before = Invalid (codes "token out of bounds")
 refusal_at field before = Invalid (codes "unexpected end of packet")
 
 -- Of a short header's id it is what the parser says.
-abbrev pub IsRefusal : Context → Field → List Value → List ℕ → Refusal → Type 0
+abbrev pub IsRefusal : Context → HeaderField → List HeaderValue → List ℕ → Refusal → Type 0
 IsRefusal context ShortId before bytes e = context.parsed bytes ≡ Err e
 IsRefusal context field before bytes e = e ≡ refusal_at field before
 
 -- ---- which bytes are a row, and why others are none
 
 -- The bytes are such a field, and then rest.
-abbrev pub Begins : Context → Field → List Value → List Value → List ℕ → List ℕ → Type 0
-Begins context field before values bytes rest =
-    (front : List ℕ) × (bytes ≡ front ++ rest) × IsField context field before values front rest
+abbrev pub BeginsWithField : Context → HeaderField → List HeaderValue → List HeaderValue → List ℕ → List ℕ → Type 0
+BeginsWithField context field before values bytes rest =
+    (front : List ℕ) × (bytes ≡ front ++ rest) × IsHeaderField context field before values front rest
 
 -- The bytes are the fields of a row, and then rest; the values grow from before to after.
-abbrev pub AreFields : Context → List Field → List Value → List Value → List ℕ → List ℕ → Type 0
-AreFields context [] before after bytes rest = (after ≡ before) × (bytes ≡ rest)
-AreFields context (field ∷ fields) before after bytes rest =
-    (values : List Value) × (left : List ℕ) × Begins context field before values bytes left
-    × AreFields context fields (before ++ values) after left rest
+abbrev pub AreHeaderFields : Context → List HeaderField → List HeaderValue → List HeaderValue → List ℕ → List ℕ → Type 0
+AreHeaderFields context [] before after bytes rest = (after ≡ before) × (bytes ≡ rest)
+AreHeaderFields context (field ∷ fields) before after bytes rest =
+    (values : List HeaderValue) × (left : List ℕ) × BeginsWithField context field before values bytes left
+    × AreHeaderFields context fields (before ++ values) after left rest
 
 -- The bytes do not begin with such a field.
-pub record Stops (context : Context) (field : Field) (before : List Value) (bytes : List ℕ) (e : Refusal) : Type 0 where
-  pub none : (values : List Value) (rest : List ℕ) → Begins context field before values bytes rest → ⊥
+pub record StopsAtField (context : Context) (field : HeaderField) (before : List HeaderValue) (bytes : List ℕ) (e : Refusal) : Type 0 where
+  pub none : (values : List HeaderValue) (rest : List ℕ) → BeginsWithField context field before values bytes rest → ⊥
   pub why : IsRefusal context field before bytes e
 
 -- The first fields of a row are there, and the next one is not.
-abbrev pub StopsWithin : Context → List Field → List Value → List ℕ → Refusal → Type 0
-StopsWithin context [] before bytes e = ⊥
-StopsWithin context (field ∷ fields) before bytes e =
-    Stops context field before bytes e
-    ⊎ ((values : List Value) × (left : List ℕ) × Begins context field before values bytes left
-    × StopsWithin context fields (before ++ values) left e)
+abbrev pub StopsWithinRow : Context → List HeaderField → List HeaderValue → List ℕ → Refusal → Type 0
+StopsWithinRow context [] before bytes e = ⊥
+StopsWithinRow context (field ∷ fields) before bytes e =
+    StopsAtField context field before bytes e
+    ⊎ ((values : List HeaderValue) × (left : List ℕ) × BeginsWithField context field before values bytes left
+    × StopsWithinRow context fields (before ++ values) left e)
 
 -- ---- headers
 
 -- The header that a first byte and the values of its row say. The spin bit is 0x20 (section 17.3.1). Places are counted
 -- from the end of whole bytes.
-abbrev pub IsHeader : ℕ → ℕ → List Value → ProtectedHeader → Type 0
+abbrev pub IsHeader : ℕ → ℕ → List HeaderValue → ProtectedHeader → Type 0
 IsHeader whole first values (head.Short spin dst) =
     (is_long first ≡ false) × (spin ≡ has_bit 0x20 first) × (values ≡ Bytes dst ∷ [])
 IsHeader whole first values (head.VersionNegotiate random dst src) =
@@ -148,15 +145,15 @@ IsHeader whole first values (head.Initial h) =
 -- The bytes begin with this header, and rest is left behind it.
 abbrev pub HeaderAt : Context → ℕ → List ℕ → ProtectedHeader → List ℕ → Type 0
 HeaderAt context whole bytes h rest =
-    (first : ℕ) × (text : List ℕ) × (values : List Value) × (bytes ≡ first ∷ text) × (is_fixed context first ≡ true)
-    × AreFields context (row_of first (num (take 4 text))) [] values text rest × IsHeader whole first values h
+    (first : ℕ) × (text : List ℕ) × (values : List HeaderValue) × (bytes ≡ first ∷ text) × (is_fixed context first ≡ true)
+    × AreHeaderFields context (header_row_of first (num (take 4 text))) [] values text rest × IsHeader whole first values h
 
 -- The bytes begin with no header, and this is the refusal: of the first byte, or of the first field that is not there.
 abbrev pub Refused : Context → List ℕ → Refusal → Type 0
 Refused context [] e = e ≡ Invalid (codes "unexpected end of packet")
 Refused context (first ∷ text) e =
     ((is_fixed context first ≡ false) × (e ≡ Invalid (codes "fixed bit unset")))
-    ⊎ ((is_fixed context first ≡ true) × StopsWithin context (row_of first (num (take 4 text))) [] text e)
+    ⊎ ((is_fixed context first ≡ true) × StopsWithinRow context (header_row_of first (num (take 4 text))) [] text e)
 
 -- a header and what is left behind it, or a refusal, is what the bytes begin with
 abbrev pub HeaderAnswer : Context → ℕ → List ℕ → Result (ProtectedHeader × List ℕ) Refusal → Type 0
@@ -164,8 +161,8 @@ HeaderAnswer context whole bytes (Ok found) = HeaderAt context whole bytes found
 HeaderAnswer context whole bytes (Err e) = Refused context bytes e
 
 -- a version whose headers are read further than their ids
-abbrev pub IsKnown : Context → ℕ → Type 0
-IsKnown context version = (version ≢ 0) × Contains context.versions version
+abbrev pub IsKnownVersion : Context → ℕ → Type 0
+IsKnownVersion context version = (version ≢ 0) × Contains context.versions version
 
 -- ---- packets
 

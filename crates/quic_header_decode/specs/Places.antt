@@ -20,13 +20,13 @@ use Rattle.quic_header_decode.specs.Reading.{Context}
 use Rattle.quic_header_decode.specs.Refusal.{Refusal, Unsupported, Invalid, NoMemory}
 
 -- the type of a kind that has one
-abbrev pub type_of : HeaderKind → LongHeaderType
-type_of kind.Initial = type.Initial
-type_of kind.ZeroRtt = type.Standard ZeroRtt
-type_of kind.Handshake = type.Standard Handshake
-type_of kind.Retry = type.Retry
-type_of kind.Short = type.Retry
-type_of kind.VersionNegotiate = type.Retry
+abbrev pub type_placed : HeaderKind → LongHeaderType
+type_placed kind.Initial = type.Initial
+type_placed kind.ZeroRtt = type.Standard ZeroRtt
+type_placed kind.Handshake = type.Standard Handshake
+type_placed kind.Retry = type.Retry
+type_placed kind.Short = type.Retry
+type_placed kind.VersionNegotiate = type.Retry
 
 -- where the receiver's id begins
 abbrev pub dst_place : HeaderKind → ℕ
@@ -45,8 +45,8 @@ abbrev pub src_part : List ℕ → HeaderPlaces → List ℕ
 src_part bytes x = slice_range bytes (6 + x.dst_len + 1) (6 + x.dst_len + 1 + x.src_len)
 
 -- the header of a kind, with the fields that it has of these
-abbrev pub header_by : HeaderKind → ℕ → List ℕ → List ℕ → Place → ℕ → ℕ → ProtectedHeader
-header_by kind.Initial first dst src token len version =
+abbrev pub header_placed : HeaderKind → ℕ → List ℕ → List ℕ → Place → ℕ → ℕ → ProtectedHeader
+header_placed kind.Initial first dst src token len version =
     head.Initial (record {
       dst_cid = dst;
       src_cid = src;
@@ -55,15 +55,15 @@ header_by kind.Initial first dst src token len version =
       len = len;
       version = version;
     })
-header_by kind.ZeroRtt first dst src token len version = head.Long ZeroRtt dst src len version
-header_by kind.Handshake first dst src token len version = head.Long Handshake dst src len version
-header_by kind.Retry first dst src token len version = head.Retry dst src version
-header_by kind.Short first dst src token len version = head.Short (nat_eq (first / 32 % 2) 1) dst
-header_by kind.VersionNegotiate first dst src token len version = head.VersionNegotiate (first - 128) dst src
+header_placed kind.ZeroRtt first dst src token len version = head.Long ZeroRtt dst src len version
+header_placed kind.Handshake first dst src token len version = head.Long Handshake dst src len version
+header_placed kind.Retry first dst src token len version = head.Retry dst src version
+header_placed kind.Short first dst src token len version = head.Short (nat_eq (first / 32 % 2) 1) dst
+header_placed kind.VersionNegotiate first dst src token len version = head.VersionNegotiate (first - 128) dst src
 
 -- the header that places say in these bytes
 abbrev pub header_in : List ℕ → HeaderPlaces → ProtectedHeader
-header_in bytes x = header_by x.kind x.first (dst_part bytes x) (src_part bytes x) x.token x.len x.version
+header_in bytes x = header_placed x.kind x.first (dst_part bytes x) (src_part bytes x) x.token x.len x.version
 
 -- the refusal that an error is in these bytes
 abbrev pub refusal_in : List ℕ → ReadError → Refusal
@@ -98,7 +98,7 @@ ArePlaces kind.Short x = (1 + x.dst_len ≡ x.header_end) × (x.src_len ≡ 0) �
 ArePlaces kind.VersionNegotiate x = (ids_end x ≡ x.header_end) × IsNowhere x.token × (x.len ≡ 0) × (x.version ≡ 0)
 
 -- The fields stand in the header, and the header in as many bytes.
-pub record IsPlaced (x : HeaderPlaces) (whole : ℕ) : Type 0 where
+pub record ArePlacesWithin (x : HeaderPlaces) (whole : ℕ) : Type 0 where
   pub fields : ArePlaces x.kind x
   pub dst_few : x.dst_len ≤ 20
   pub src_few : x.src_len ≤ 20
@@ -108,7 +108,7 @@ pub record IsPlaced (x : HeaderPlaces) (whole : ℕ) : Type 0 where
   pub head : x.header_end ≤ whole
 
 -- what a long header has before its type's fields
-pub record IsFront (x : HeaderPlaces) (whole : ℕ) : Type 0 where
+pub record IsLongFront (x : HeaderPlaces) (whole : ℕ) : Type 0 where
   pub ids : ids_end x ≡ x.header_end
   pub dst_few : x.dst_len ≤ 20
   pub src_few : x.src_len ≤ 20
@@ -119,7 +119,7 @@ pub record IsFront (x : HeaderPlaces) (whole : ℕ) : Type 0 where
 
 -- the ids of an unknown version stand in as many bytes
 abbrev pub IsSeen : Result HeaderPlaces ReadError → ℕ → Type 0
-IsSeen (Ok x) whole = IsPlaced x whole
+IsSeen (Ok x) whole = ArePlacesWithin x whole
 IsSeen (Err (error.UnsupportedVersion version dst_len src_len)) whole = (dst_len ≤ 255) × (src_len ≤ 255)
     × (6 + dst_len + 1 + src_len ≤ whole)
 IsSeen (Err error.UnexpectedEnd) whole = Unit {0}
@@ -143,8 +143,8 @@ AnyVersion bytes version dst src rest =
     × (is_long first ≡ true) × IsNumber 4 version number
 
 -- They do, and the version is none that is known.
-abbrev pub IsUnknown : Context → List ℕ → ℕ → List ℕ → List ℕ → Type 0
-IsUnknown context bytes version dst src =
+abbrev pub IsUnknownVersion : Context → List ℕ → ℕ → List ℕ → List ℕ → Type 0
+IsUnknownVersion context bytes version dst src =
     (rest : List ℕ) × AnyVersion bytes version dst src rest × (version ≢ 0) × (Contains context.versions version → ⊥)
 
 -- what headers are read by where the fixed bit isn't looked at: the ids of short headers have so many bytes
@@ -155,9 +155,9 @@ any_fixed id_len versions = record { parsed = fixed_parsed id_len; versions = ve
 -- is reported by its ids also where they are longer than those of the versions that are known.
 abbrev pub ReadAnswer : Context → List ℕ → Result (ProtectedHeader × List ℕ) Refusal → Type 0
 ReadAnswer context bytes (Ok found) = HeaderAt context (length bytes) bytes found.0 found.1
-ReadAnswer context bytes (Err (Unsupported src dst version)) = IsUnknown context bytes version dst src
+ReadAnswer context bytes (Err (Unsupported src dst version)) = IsUnknownVersion context bytes version dst src
 ReadAnswer context bytes (Err (Invalid text)) =
     Refused context bytes (Invalid text)
-    × ((version : ℕ) (dst src : List ℕ) → IsUnknown context bytes version dst src → ⊥)
+    × ((version : ℕ) (dst src : List ℕ) → IsUnknownVersion context bytes version dst src → ⊥)
 ReadAnswer context bytes (Err NoMemory) =
-    Refused context bytes NoMemory × ((version : ℕ) (dst src : List ℕ) → IsUnknown context bytes version dst src → ⊥)
+    Refused context bytes NoMemory × ((version : ℕ) (dst src : List ℕ) → IsUnknownVersion context bytes version dst src → ⊥)

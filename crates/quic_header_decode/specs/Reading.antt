@@ -8,7 +8,7 @@ use Rattle.quic_header_decode.specs.declared.protected.ProtectedHeader.TheVarian
 use Rattle.quic_header_encode.specs.declared.long_type.LongHeaderType.{LongHeaderType}
 use Rattle.quic_header_encode.specs.declared.long_type.LongHeaderType.TheVariants as kind
 use Rattle.quic_header_decode.specs.Refusal.{Refusal, Unsupported, Invalid}
-use Rattle.quic_header_decode.specs.Fields.{byte_at, word_at, id_at, wide_id_at}
+use Rattle.quic_header_decode.specs.Fields.{byte_at, word_at, long_id_at, wide_id_at}
 use Rattle.quic_header_decode.specs.Parsers.{fixed_parsed}
 use Rattle.quic_base.specs.Reading.{number_at}
 use Rattle.bytes.specs.Filled.{Filled}
@@ -60,8 +60,8 @@ typed_at kind.Initial whole dst src version bytes = do
 unfoldable pub long_at : List ℕ → ℕ → ℕ → List ℕ → Result (ProtectedHeader × List ℕ) Refusal
 long_at versions whole first bytes = do
   version ← ok_or (word_at bytes) at_end
-  dst ← ok_or (id_at version.1) bad_id
-  src ← ok_or (id_at dst.1) bad_id
+  dst ← ok_or (long_id_at version.1) bad_id
+  src ← ok_or (long_id_at dst.1) bad_id
   if nat_eq version.0 0 then Ok (head.VersionNegotiate (first - 128) dst.0 src.0, src.1)
       else (if not (list_any (λ known. nat_eq known version.0) versions) then Err (Unsupported src.0 dst.0 version.0)
       else typed_at (long_type version.0 first) whole dst.0 src.0 version.0 src.1)

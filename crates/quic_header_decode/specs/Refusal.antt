@@ -14,14 +14,14 @@ refusal_of (error.InvalidHeader text) = Invalid text.now
 refusal_of error.OutOfMemory = NoMemory
 
 -- what a call answered is what there is to be read, or its refusal, unless memory ran out
-abbrev pub Refuses : {Y : Type 0} → PacketDecodeError → Result Y Refusal → Type 0
-Refuses (error.UnsupportedVersion src dst version) read = read ≡ Err (Unsupported src dst version)
-Refuses (error.InvalidHeader text) read = read ≡ Err (Invalid text.now)
-Refuses error.OutOfMemory read = Unit {0}
+abbrev pub RefusesHeader : {Y : Type 0} → PacketDecodeError → Result Y Refusal → Type 0
+RefusesHeader (error.UnsupportedVersion src dst version) read = read ≡ Err (Unsupported src dst version)
+RefusesHeader (error.InvalidHeader text) read = read ≡ Err (Invalid text.now)
+RefusesHeader error.OutOfMemory read = Unit {0}
 
-abbrev pub Gives : {X Y : Type 0} → (X → Y) → Result X PacketDecodeError → Result Y Refusal → Type 0
-Gives view (Ok x) read = read ≡ Ok (view x)
-Gives view (Err e) read = Refuses e read
+abbrev pub GivesRead : {X Y : Type 0} → (X → Y) → Result X PacketDecodeError → Result Y Refusal → Type 0
+GivesRead view (Ok x) read = read ≡ Ok (view x)
+GivesRead view (Err e) read = RefusesHeader e read
 
 -- Some answer is right, and each right answer was given.
 pub record Answers {Y : Type 0} (IsRight IsGiven : Result Y Refusal → Type 0) : Type 0 where

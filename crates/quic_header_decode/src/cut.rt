@@ -1,7 +1,7 @@
 //! The cutting of datagrams into packets (RFC 9000, section 12.2).
 ghost use Rattle.std.specs.Prelude.{◌≡◌, ℕ, ◌<◌, ◌≤◌, length, take, drop, IsTrue, IfOk, IsErrOf, IfSome, IsNone, MatchResult, ◌⊎◌, ◌↔◌};
 ghost use Rattle.quic_header_decode.specs.Queries.{dst_of, space_of, IsShort, IsInitial, IsZeroRtt};
-ghost use Rattle.quic_header_decode.specs.Refusal.{Gives, Answers};
+ghost use Rattle.quic_header_decode.specs.Refusal.{GivesRead, Answers};
 ghost use Rattle.quic_header_decode.specs.Grammar.{CutAnswer, Cut};
 ghost use Rattle.quic_header_decode.specs.Reading.{cut_at, IsRest};
 
@@ -52,7 +52,7 @@ impl PartialDecode {
     ) -> Result<(Self, Option<BytesMut>), PacketDecodeError>
         ensures answer { Answers (CutAnswer
             (record { parsed = P.parsed parser.now; versions = versions.now; grease = grease }) bytes.items)
-            (λ answer. Gives (λ x. (x.0.head, x.0.header_end, length x.0.bytes)) result answer) }
+            (λ answer. GivesRead (λ x. (x.0.head, x.0.header_end, length x.0.bytes)) result answer) }
         ensures packet { IfOk result (λ x. x.0.bytes ≡ take (length x.0.bytes) bytes.items) }
         ensures rest { IfOk result (λ x. IsRest x.1 (drop (length x.0.bytes) bytes.items)) }
         ensures shorter { IfOk result (λ x. IfSome x.1 (λ rest. length rest.items < length bytes.items)) }
@@ -73,7 +73,7 @@ impl PartialDecode {
         versions: &[u32],
         grease: bool,
     ) -> Result<(Self, Option<BytesMut>), PacketDecodeError>
-        ensures exact { Gives (λ x. (x.0.head, x.0.header_end, length x.0.bytes)) result
+        ensures exact { GivesRead (λ x. (x.0.head, x.0.header_end, length x.0.bytes)) result
             (cut_at (record { parsed = P.parsed parser.now; versions = versions.now; grease = grease }) bytes.items) }
         ensures packet { IfOk result (λ x. x.0.bytes ≡ take (length x.0.bytes) bytes.items) }
         ensures rest { IfOk result (λ x. IsRest x.1 (drop (length x.0.bytes) bytes.items)) }

@@ -2,7 +2,7 @@
 ghost use Rattle.std.specs.Prelude.{◌≡◌, ◌+◌, ◌<◌, ◌≤◌, Some, None, drop, length, slice_range, IfSome, MatchOption};
 ghost use Rattle.quic_base.specs.Number.{AreBytes};
 ghost use Rattle.quic_base.specs.Reading.{number_at};
-ghost use Rattle.quic_header_decode.specs.Fields.{Reads, word_at, id_at};
+ghost use Rattle.quic_header_decode.specs.Fields.{Reads, word_at, long_id_at};
 
 use quic_base::coding::are_bytes;
 use quic_base::ids::MAX_CID_SIZE;
@@ -74,8 +74,8 @@ pub(crate) fn read_id<'a>(bytes: &'a [u8], place: &mut usize) -> Option<&'a [u8]
     ensures forward { place.old ≤ place.new }
     ensures within { place.new ≤ length bytes.now }
     ensures short { IfSome result (λ id. length id.now ≤ MAX_CID_SIZE) }
-    ensures read { MatchOption result (id_at (drop place.old bytes.now) ≡ None)
-        (λ id. id_at (drop place.old bytes.now) ≡ Some (id.now, drop place.new bytes.now)) }
+    ensures read { MatchOption result (long_id_at (drop place.old bytes.now) ≡ None)
+        (λ id. long_id_at (drop place.old bytes.now) ≡ Some (id.now, drop place.new bytes.now)) }
 {
     let (len, rest) = left(bytes, *place).split_first()?;
     let len = usize::from(*len);

@@ -1,8 +1,8 @@
 //! Laws of headers and cuts, which no single call carries. The functions do nothing.
 ghost use Rattle.std.specs.Prelude.{◌≡◌, ◌+◌, ◌<◌, ◌≤◌, ◌++◌, List, ℕ, Result, Ok, Some, None, Option, length, take, drop, codes, slice_index, ◌^◌, IsTrue, [], ◌∷◌, Contains, Bool};
 ghost use Rattle.quic_base.specs.Number.{AreBytes};
-ghost use Rattle.quic_header_decode.specs.Datagram.{Placed, ArePackets, packets_in};
-ghost use Rattle.quic_header_decode.specs.Grammar.{is_fixed, HeaderAt, HeaderAnswer, Refused, Cut, CutAnswer, Uncut, IsKnown};
+ghost use Rattle.quic_header_decode.specs.Datagram.{PlacedPacket, ArePackets, packets_in};
+ghost use Rattle.quic_header_decode.specs.Grammar.{is_fixed, HeaderAt, HeaderAnswer, Refused, Cut, CutAnswer, Uncut, IsKnownVersion};
 ghost use Rattle.quic_base.specs.Varint.{Encodes};
 ghost use Rattle.quic_crypto.specs.PacketNumbers.{number_bytes};
 ghost use Rattle.quic_header_encode.specs.Writing.{header_bytes, header_with};
@@ -42,7 +42,7 @@ pub fn one_reading()
 
 /// A datagram is packets in one way, up to its end or to one refusal, and reading finds these.
 pub fn one_row_of_packets()
-    ensures one { (context : Context) (bytes : List ℕ) (some others : List Placed) (refusal other : Option Refusal)
+    ensures one { (context : Context) (bytes : List ℕ) (some others : List PlacedPacket) (refusal other : Option Refusal)
         → AreBytes bytes → ArePackets context 0 bytes some refusal → ArePackets context 0 bytes others other
         → (some ≡ others) × (refusal ≡ other) }
     ensures found { (context : Context) (bytes : List ℕ) → AreBytes bytes → TakesWithin context
@@ -83,7 +83,7 @@ pub fn places_cut()
 pub fn written()
     // The length stands in any encoding, and the number is left.
     ensures initial { (context : Context) (whole start n : ℕ) (h : InitialHeader) (len rest : List ℕ)
-        → h.version < 2 ^ 32 → IsKnown context h.version → length h.dst_cid ≤ 20 → length h.src_cid ≤ 20
+        → h.version < 2 ^ 32 → IsKnownVersion context h.version → length h.dst_cid ≤ 20 → length h.src_cid ≤ 20
         → length h.token < 2 ^ 62 → Encodes n len
         → start + length h.token + length (len ++ (number_bytes h.number ++ rest)) ≡ whole
         → HeaderAt context whole (header_with len (Header.Initial h) ++ rest)
@@ -98,11 +98,11 @@ pub fn written()
         (number_bytes h.number ++ rest) }
     ensures long { (context : Context) (whole n version : ℕ) (ty : LongType) (dst src len rest : List ℕ)
         (number : PacketNumber)
-        → version < 2 ^ 32 → IsKnown context version → length dst ≤ 20 → length src ≤ 20 → Encodes n len
+        → version < 2 ^ 32 → IsKnownVersion context version → length dst ≤ 20 → length src ≤ 20 → Encodes n len
         → HeaderAt context whole (header_with len (Header.Long ty dst src number version) ++ rest)
         (ProtectedHeader.Long ty dst src n version) (number_bytes number ++ rest) }
     ensures retry { (context : Context) (whole version : ℕ) (dst src rest : List ℕ) → version < 2 ^ 32
-        → IsKnown context version → length dst ≤ 20 → length src ≤ 20
+        → IsKnownVersion context version → length dst ≤ 20 → length src ≤ 20
         → HeaderAt context whole (header_bytes (Header.Retry dst src version) ++ rest)
         (ProtectedHeader.Retry dst src version) rest }
     ensures short { (context : Context) (whole : ℕ) (spin key_phase : Bool) (dst rest : List ℕ) (number : PacketNumber)

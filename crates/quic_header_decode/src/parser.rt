@@ -1,6 +1,6 @@
 //! Parsers of the connection ids of short headers, which say no length.
 ghost use Rattle.std.specs.Prelude.{◌≡◌, ℕ, ◌-◌, ◌≤◌, List, length, drop, Bool, IsTrue, false, Result, IfOk, IsErrOf, MatchResult, ◌≢◌};
-ghost use Rattle.quic_header_decode.specs.Refusal.{Refusal, NoMemory, Gives};
+ghost use Rattle.quic_header_decode.specs.Refusal.{Refusal, NoMemory, GivesRead};
 
 use crate::decode_error::PacketDecodeError;
 use quic_base::coding::Cursor;
@@ -21,7 +21,7 @@ pub trait ConnectionIdParser {
     /// `OutOfMemory` may stand in place of every answer, if the parser takes memory.
     fn parse(&self, buf: &mut Cursor) -> Result<ConnectionId, PacketDecodeError>
         ensures bytes { buf.new.bytes ≡ buf.old.bytes }
-        ensures parsed { Gives (λ id. (id, length (unread buf.old) - length (unread buf.new))) result
+        ensures parsed { GivesRead (λ id. (id, length (unread buf.old) - length (unread buf.new))) result
             (parsed self.now (unread buf.old)) }
         ensures within { IfOk result
             (λ id. unread buf.new ≡ drop (length (unread buf.old) - length (unread buf.new)) (unread buf.old)) }

@@ -1,6 +1,6 @@
 //! Headers of packets as they are read before their protection is taken off (RFC 9000, section 17).
 ghost use Rattle.std.specs.Prelude.{◌≡◌, ◌<◌, ◌≤◌, length, IsTrue, Err, IfOk, IsErrOf, ◌≢◌, drop};
-ghost use Rattle.quic_header_decode.specs.Refusal.{Gives, Answers};
+ghost use Rattle.quic_header_decode.specs.Refusal.{GivesRead, Answers};
 ghost use Rattle.quic_header_decode.specs.Grammar.{HeaderAnswer};
 ghost use Rattle.quic_header_decode.specs.Queries.{dst_of};
 ghost use Rattle.quic_header_decode.specs.Reading.{header_at, long_at, typed_at, len_in, IsPlaced};
@@ -95,7 +95,7 @@ impl ProtectedHeader {
         ensures answer { Answers (HeaderAnswer
             (record { parsed = P.parsed parser.now; versions = versions.now; grease = grease })
             (length buf.old.bytes.items) (unread buf.old))
-            (λ answer. Gives (λ h. (h, unread buf.new)) result answer) }
+            (λ answer. GivesRead (λ h. (h, unread buf.new)) result answer) }
         ensures memory { IsErrOf result PacketDecodeError.OutOfMemory → IsTrue (P.takes_memory parser.now) }
         ensures places { IfOk result (λ h. IsPlaced h buf.new.position) }
     {
@@ -114,7 +114,7 @@ impl ProtectedHeader {
         grease: bool,
     ) -> Result<Self, PacketDecodeError>
         ensures bytes { buf.new.bytes ≡ buf.old.bytes }
-        ensures exact { Gives (λ h. (h, unread buf.new)) result
+        ensures exact { GivesRead (λ h. (h, unread buf.new)) result
             (header_at (record { parsed = P.parsed parser.now; versions = versions.now; grease = grease })
             (length buf.old.bytes.items) (unread buf.old)) }
         ensures memory { IsErrOf result PacketDecodeError.OutOfMemory → IsTrue (P.takes_memory parser.now) }
@@ -143,7 +143,7 @@ impl ProtectedHeader {
     fn decode_long(buf: &mut Cursor, first: u8, versions: &[u32]) -> Result<Self, PacketDecodeError>
         requires long { 128 ≤ first }
         ensures bytes { buf.new.bytes ≡ buf.old.bytes }
-        ensures exact { Gives (λ h. (h, unread buf.new)) result
+        ensures exact { GivesRead (λ h. (h, unread buf.new)) result
             (long_at versions.now (length buf.old.bytes.items) first (unread buf.old)) }
         ensures memory { result ≢ Err PacketDecodeError.OutOfMemory }
         ensures places { 0 < buf.old.position → IfOk result (λ h. IsPlaced h buf.new.position) }
@@ -170,7 +170,7 @@ impl ProtectedHeader {
         requires inside { place.old ≤ length bytes.now }
         ensures forward { place.old ≤ place.new }
         ensures within { place.new ≤ length bytes.now }
-        ensures exact { Gives (λ h. (h, drop place.new bytes.now)) result
+        ensures exact { GivesRead (λ h. (h, drop place.new bytes.now)) result
             (long_at versions.now (length bytes.now) first (drop place.old bytes.now)) }
         ensures memory { result ≢ Err PacketDecodeError.OutOfMemory }
         ensures places { 0 < place.old → IfOk result (λ h. IsPlaced h place.new) }

@@ -1,7 +1,7 @@
 -- Headers as they are written over bytes: what a header says, with a first byte whose fixed bit may be clear (RFC
 -- 9287), and with as many zeros in place of its length as are asked for.
 use Rattle.std.specs.Prelude.{◌≡◌, ℕ, ◌+◌, ◌-◌, ◌*◌, ◌/◌, ◌%◌, ◌<◌, ◌≤◌, ◌^◌, ◌⊎◌, Bool, true, false, List, [], ◌∷◌, ◌++◌, length, take, drop, replicate, ◌==◌, if◌then◌else◌}
-use Rattle.quic_base.specs.Number.{bytes_of}
+use Rattle.quic_base.specs.Number.{has_bit, bytes_of}
 use Rattle.quic_base.specs.Varint.{short, size}
 use Rattle.quic_crypto.specs.declared.packet_number.PacketNumber.{PacketNumber}
 use Rattle.quic_crypto.specs.PacketNumbers.{IsInRange, number_bytes, number_size}
@@ -36,10 +36,6 @@ number_bits head.Retry number = 0
 number_bits head.Short number = number_size number - 1
 number_bits head.VersionNegotiate number = 0
 
--- a bit of a first byte
-abbrev pub has_bit : ℕ → ℕ → Bool
-has_bit bit byte = (byte / bit % 2) == 1
-
 -- The header that is said. Of its first byte, first is what neither the type nor the number says: 0x20 is the spin bit
 -- and 0x04 the key phase of a short header, and a version negotiation has seven bits of it as it likes.
 abbrev pub header_of : HeaderKind → ℕ → ℕ → List ℕ → List ℕ → List ℕ → PacketNumber → Header
@@ -53,8 +49,8 @@ header_of head.Short first version dst src token number = header.Short (has_bit 
 header_of head.VersionNegotiate first version dst src token number = header.VersionNegotiate (first % 128) src dst
 
 -- its first byte
-abbrev pub first_of : {I : Type 0} → HeaderRef I → ℕ
-first_of said = said.first + type_bits said.kind said.version + number_bits said.kind said.number.now
+abbrev pub first_byte_of : {I : Type 0} → HeaderRef I → ℕ
+first_byte_of said = said.first + type_bits said.kind said.version + number_bits said.kind said.number.now
 
 -- bytes with another first one
 abbrev pub begun_by : ℕ → List ℕ → List ℕ
@@ -63,7 +59,7 @@ begun_by first bytes = first ∷ drop 1 bytes
 -- The bytes that are written: those of the header with so many zeros as its length, behind the first byte.
 abbrev pub stored_bytes : {I : Type 0} → (I → List ℕ) → HeaderRef I → List ℕ
 stored_bytes id said =
-    begun_by (first_of said)
+    begun_by (first_byte_of said)
     (header_with (replicate said.length_len 0)
     (header_of said.kind said.first said.version (id said.dst_cid)
     (id said.src_cid) said.token.now said.number.now))
@@ -226,7 +222,7 @@ pub record IsExact {I : Type 0} (id : I → List ℕ) (room : I → ℕ) (said :
   pub src : length (id said.src_cid) ≡ room said.src_cid
 
 -- Such a header is written as this one's bytes.
-pub record Stores {I : Type 0} (id : I → List ℕ) (said : HeaderRef I) (h : Header) : Type 0 where
+pub record StoresHeader {I : Type 0} (id : I → List ℕ) (said : HeaderRef I) (h : Header) : Type 0 where
   pub bytes : stored_bytes id said ≡ header_bytes h
   pub size : stored_len id said ≡ header_size h
   pub storable : IsStorable id said

@@ -4,7 +4,7 @@ ghost use Rattle.quic_base.specs.Number.{AreBytes, bytes_of};
 ghost use Rattle.quic_crypto.specs.PacketNumbers.{IsInRange};
 ghost use Rattle.quic_header_encode.specs.declared.header.Header.TheVariants as header;
 ghost use Rattle.quic_header_encode.specs.declared.long_type.LongHeaderType.TheVariants as kind;
-ghost use Rattle.quic_header_encode.specs.Storing.{kind_of, stored_bytes, stored_len, padded_id, padded_room, HasStoreRoom, IsStorable, IsShortToken, Stores};
+ghost use Rattle.quic_header_encode.specs.Storing.{kind_of, stored_bytes, stored_len, padded_id, padded_room, HasStoreRoom, IsStorable, IsShortToken, StoresHeader};
 ghost use Rattle.quic_header_encode.specs.Writing.{bit, header_size, place_in, header_bytes, IsWritable, size_in, has_length, finished, HasRoom};
 
 use crate::header::{Header, InitialHeader};
@@ -119,7 +119,7 @@ fn short_first(spin: bool, key_phase: bool) -> u8
 #[inline(always)]
 fn initial_ref(initial: &InitialHeader) -> HeaderRef<'_, Padded<'_>>
     requires { IsWritable (header.Initial initial.now) }
-    ensures stores { Stores padded_id result (header.Initial initial.now) }
+    ensures stores { StoresHeader padded_id result (header.Initial initial.now) }
     ensures room { IsShortToken result.token.now → HasStoreRoom padded_id padded_room result INITIAL_ROOM }
 {
     HeaderRef {
@@ -144,7 +144,7 @@ fn long_ref<'a>(
     number: &'a PacketNumber,
 ) -> HeaderRef<'a, Padded<'a>>
     requires { IsInRange number.now }
-    ensures stores { Stores padded_id result (header.Long ty dst.now src.now number.now version) }
+    ensures stores { StoresHeader padded_id result (header.Long ty dst.now src.now number.now version) }
     ensures room { HasStoreRoom padded_id padded_room result LONG_ROOM }
 {
     HeaderRef {
@@ -168,7 +168,7 @@ fn short_ref<'a>(
     number: &'a PacketNumber,
 ) -> HeaderRef<'a, Padded<'a>>
     requires { IsInRange number.now }
-    ensures stores { Stores padded_id result (header.Short spin key_phase dst_cid.now number.now) }
+    ensures stores { StoresHeader padded_id result (header.Short spin key_phase dst_cid.now number.now) }
     ensures room { HasStoreRoom padded_id padded_room result SHORT_ROOM }
 {
     HeaderRef {
@@ -187,7 +187,7 @@ impl Header {
     // The same header, with ids and a token that stay where they are.
     fn borrowed(&self) -> HeaderRef<'_, Padded<'_>>
         requires { IsWritable self.now }
-        ensures { Stores padded_id result self.now }
+        ensures { StoresHeader padded_id result self.now }
     {
         match self {
             Self::Initial(initial) => initial_ref(initial),

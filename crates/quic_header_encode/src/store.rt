@@ -5,7 +5,7 @@ ghost use Rattle.quic_base.specs.ConnectionId.{long_id};
 ghost use Rattle.quic_base.specs.Varint.{short, size};
 ghost use Rattle.quic_crypto.specs.PacketNumbers.{IsInRange};
 ghost use Rattle.quic_header_encode.specs.Starts.{long_front};
-ghost use Rattle.quic_header_encode.specs.Storing.{end_bytes, end_size, first_of, stored_bytes, stored_len, token_bytes, token_size, version_said, with_len, HasStoreRoom, HasLongRoom, HasLow, IsExact, IsStorable, IsLong, IsShortToken, TakesLen};
+ghost use Rattle.quic_header_encode.specs.Storing.{end_bytes, end_size, first_byte_of, stored_bytes, stored_len, token_bytes, token_size, version_said, with_len, HasStoreRoom, HasLongRoom, HasLow, IsExact, IsStorable, IsLong, IsShortToken, TakesLen};
 
 use crate::fields::{store_bytes, store_ends, store_id, store_number};
 use crate::long_type::HeaderKind;
@@ -275,7 +275,7 @@ impl<I: StoredId> HeaderRef<'_, I> {
     fn long_first(&self) -> u8
         requires long { IsLong self.now.kind }
         requires low { HasLow self.now.kind self.now.first }
-        ensures { result ≡ first_of self.now }
+        ensures { result ≡ first_byte_of self.now }
     {
         match self.kind {
             HeaderKind::VersionNegotiate => self.first,

@@ -10,7 +10,7 @@ use Rattle.quic_packets.specs.declared.opening.OpenError.{OpenError}
 use Rattle.quic_packets.specs.declared.opening.OpenError.TheVariants as error
 use Rattle.quic_header_decode.specs.Refusal.{Refusal, refusal_of, NoMemory}
 use Rattle.quic_header_decode.specs.Finish.{sample_refusal}
-use Rattle.quic_header_decode.specs.Grammar.{Cut, Uncut, IsKnown}
+use Rattle.quic_header_decode.specs.Grammar.{Cut, Uncut, IsKnownVersion}
 use Rattle.quic_header_decode.specs.Reading.{Context, IsRest}
 use Rattle.bytes.specs.Filled.{Filled}
 use Rattle.quic_header_decode.specs.Headers.{IsOpenedBy, without_number}
@@ -108,8 +108,8 @@ PacketRefuses takes_memory keys context expected bytes e =
 
 -- a header that is read back where these bytes follow its packet
 abbrev pub IsReadBack : Context → Header → List ℕ → Type 0
-IsReadBack context (header.Initial h) rest = (h.version < 2 ^ 32) × IsKnown context h.version × (length h.dst_cid ≤ 20) × (length h.src_cid ≤ 20)
-IsReadBack context (header.Long ty dst src number version) rest = (version < 2 ^ 32) × IsKnown context version × (length dst ≤ 20) × (length src ≤ 20)
+IsReadBack context (header.Initial h) rest = (h.version < 2 ^ 32) × IsKnownVersion context h.version × (length h.dst_cid ≤ 20) × (length h.src_cid ≤ 20)
+IsReadBack context (header.Long ty dst src number version) rest = (version < 2 ^ 32) × IsKnownVersion context version × (length dst ≤ 20) × (length src ≤ 20)
 IsReadBack context (header.Retry dst src version) rest = ⊥
 IsReadBack context (header.Short spin key_phase dst number) rest = (rest ≡ []) × ((tail : List ℕ) → context.parsed (dst ++ tail) ≡ Ok (dst, length dst))
 IsReadBack context (header.VersionNegotiate random src dst) rest = ⊥

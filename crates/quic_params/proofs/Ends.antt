@@ -3,7 +3,6 @@ use Rattle.std.proofs.Common.{◌≡◌, ℕ, ◌<◌, ◌≤◌, Bool, true, fa
 use Rattle.std.proofs.lemmas.List.{take-append-drop, length-take, drop-append-le, append_cancel_right}
 use Rattle.quic_base.specs.Codec.{Takes, Follows}
 use Rattle.quic_base.specs.Varint.{Encodes}
-use Rattle.quic_params.specs.Never.{Never}
 use Rattle.quic_params.specs.declared.error.Error.{Error}
 use Rattle.quic_params.specs.declared.error.Error.TheVariants.{Malformed}
 use Rattle.quic_params.specs.declared.parameter.Row.{Row}
@@ -11,7 +10,7 @@ use Rattle.quic_params.specs.declared.parameter.TransportParameterId.{TransportP
 use Rattle.quic_params.specs.declared.record.TransportParameters.{TransportParameters}
 use Rattle.quic_params.specs.Table.{row}
 use Rattle.quic_params.specs.Value.{IsNoValue}
-use Rattle.quic_params.specs.Entry.{Given, IsCut, IsEnd, IsKnown, Refuses, Stops, StopsAt, StopsIn, within_cut, within_entry}
+use Rattle.quic_params.specs.Entry.{Given, IsCutEntry, IsEnd, IsKnownParameter, RefusesList, StopsAtEntry, StopsAt, StopsIn, within_cut, within_entry}
 use Rattle.quic_params.specs.State.{Holds}
 use Rattle.quic_params.proofs.Entries.{at, entry_taken}
 use Rattle.quic_params.proofs.Progress.{HasRead}
@@ -35,12 +34,12 @@ drop_within count len mid le fits =
 -- ---- stops
 
 -- at an entry that is cut off
-pub cut_left : (before : List Given) (old new : List ℕ) (error : Error) → IsCut old → error ≡ Malformed → IsEnd new old → StopsAt before old error new
+pub cut_left : (before : List Given) (old new : List ℕ) (error : Error) → IsCutEntry old → error ≡ Malformed → IsEnd new old → StopsAt before old error new
 cut_left before old new error cut is end = within_cut cut is end
 
 -- at an entry that is refused, whose header was read, and so many bytes of its value
 entry_left : (before : List Given) (old mid new : List ℕ) (n len count : ℕ) (error : Error) → Takes (Follows (Encodes n) (Encodes len)) old mid → len ≤ length mid
-    → Refuses before (at n (take len mid)) error → count ≤ len → new ≡ drop count mid → StopsAt before old error new
+    → RefusesList before (at n (take len mid)) error → count ≤ len → new ≡ drop count mid → StopsAt before old error new
 entry_left before old mid new n len count error t le r within e =
     let w = entry_taken old mid n len t le in
     let parts : (t.front ++ take len mid) ++ drop len mid ≡ w.front ++ drop len mid =
@@ -54,7 +53,7 @@ entry_left before old mid new n len count error t le r within e =
 
 -- at a repeat, whose row is known by an equation
 pub repeat_left : (p : TransportParameters) (seen : List Bool) (before : List Given) (old mid : List ℕ) (n len : ℕ) (i : TransportParameterId) (w : Row) → w ≡ row i
-    → Takes (Follows (Encodes n) (Encodes len)) old mid → len ≤ length mid → IsKnown i n → w.once ≡ true → get_or seen w.index false ≡ true → Holds p seen before
+    → Takes (Follows (Encodes n) (Encodes len)) old mid → len ≤ length mid → IsKnownParameter i n → w.once ≡ true → get_or seen w.index false ≡ true → Holds p seen before
     → StopsAt before old Malformed mid
 repeat_left p seen before old mid n len i w e t le k once seen_it h =
     let again : (row i).once ≡ true = sym (ap (λ r. r.once) e) ∙ once in
@@ -63,16 +62,16 @@ repeat_left p seen before old mid n len i w e t le k once seen_it h =
 
 -- at a value that is none
 pub value_left : (p : TransportParameters) (seen : List Bool) (before : List Given) (old mid new : List ℕ) (n len count : ℕ) (i : TransportParameterId) (error : Error) (w : Row) → w ≡ row i
-    → Takes (Follows (Encodes n) (Encodes len)) old mid → len ≤ length mid → IsKnown i n → Never ((w.once ≡ true) × (get_or seen w.index false ≡ true))
+    → Takes (Follows (Encodes n) (Encodes len)) old mid → len ≤ length mid → IsKnownParameter i n → ¬ ((w.once ≡ true) × (get_or seen w.index false ≡ true))
     → IsNoValue w.kind (take len mid) error → Holds p seen before → count ≤ len → new ≡ drop count mid → StopsAt before old error new
 value_left p seen before old mid new n len count i error w e t le k once bad h within rest =
-    let once_there : Never (((row i).once ≡ true) × (get_or seen (row i).index false ≡ true)) = subst (λ (r : Row). Never ((r.once ≡ true) × (get_or seen r.index false ≡ true))) e once in
+    let once_there : ¬ (((row i).once ≡ true) × (get_or seen (row i).index false ≡ true)) = subst (λ (r : Row). ¬ ((r.once ≡ true) × (get_or seen r.index false ≡ true))) e once in
     let none : IsNoValue (row i).kind (take len mid) error = subst (λ (r : Row). IsNoValue r.kind (take len mid) error) e bad in
     entry_left before old mid new n len count error t le (record { id = i; known = k; cause = inr ((λ r. once_there (r.0, h.marked i r.1)), none) }) within rest
 
 -- at a list
 pub stops_in : (whole old left : List ℕ) (p : TransportParameters) (seen : List Bool) (e : Error) → HasRead whole old p seen → 0 < length old
-    → ((before : List Given) → Holds p seen before → Stops before old e) → ((before : List Given) → Holds p seen before → StopsAt before old e left) → StopsIn whole e left
+    → ((before : List Given) → Holds p seen before → StopsAtEntry before old e) → ((before : List Given) → Holds p seen before → StopsAt before old e left) → StopsIn whole e left
 stops_in whole old left p seen e h lt stop at = record {
   bad = record {
     es = h.es;

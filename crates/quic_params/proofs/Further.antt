@@ -14,9 +14,9 @@ use Rattle.quic_params.specs.declared.parameter.TransportParameterId.TheVariants
 use Rattle.quic_params.specs.declared.record.TransportParameters.{TransportParameters}
 use Rattle.quic_params.specs.Table.{ids, rows}
 use Rattle.quic_params.specs.Entry.{Entry, Given, IsEntry, IsGiven, Passed, AreEntries, Give}
-use Rattle.quic_params.specs.Meaning.{IsMeant, IsAnswer}
-use Rattle.quic_params.specs.Order.{id_at}
-use Rattle.quic_params.specs.Range.{IsTyped, IsInRange, plain}
+use Rattle.quic_params.specs.Meaning.{IsMeant, IsReadAnswer}
+use Rattle.quic_params.specs.Order.{id_of_index}
+use Rattle.quic_params.specs.Range.{IsTypedRecord, IsRecordInRange, plain}
 use Rattle.quic_params.specs.Writing.{entry, written_for}
 use Rattle.quic_params.specs.Further.{AreInOrder, IsRecordOf, IsOther, AreOthers, pieces, IsOrderOf}
 use Rattle.quic_params.proofs.Entries.{entry_unique}
@@ -33,7 +33,7 @@ piece_at p es i = get_or (pieces p es) i []
 abbrev bytes_of_entry : Entry → List ℕ
 bytes_of_entry e = entry e.number e.bytes
 
-pub piece_of_row : (p : TransportParameters) (es : List Entry) (i : ℕ) → i < rows → piece_at p es i ≡ written_for p (id_at i)
+pub piece_of_row : (p : TransportParameters) (es : List Entry) (i : ℕ) → i < rows → piece_at p es i ≡ written_for p (id_of_index i)
 piece_of_row p es i lt =
     let w : List (List ℕ) = map (written_for p) ids in
     get_or_append_left w (map bytes_of_entry es) [] i lt ∙ get_or-map (written_for p) ids i MaxIdleTimeout [] lt
@@ -111,7 +111,7 @@ Then p es os mine = (before : List Given) (front : List ℕ) → Once mine → F
 
 reads_row : (p : TransportParameters) (es : List Entry) (i : ℕ) (os mine : List ℕ) → IsSound p → i < rows → Then p es os mine → Then p es (i ∷ os) (i ∷ mine)
 reads_row p es i os mine s lt rest before front once free r =
-    let o : TransportParameterId = id_at i in
+    let o : TransportParameterId = id_of_index i in
     let here : 1 ≤ times o (i ∷ mine) = omega (arith, at_itself i) in
     let x : Reads (add o (gives p o) before) (front ++ written_for p o) = reads_parameter p o before front s (free o here) r in
     let y : Reads (add o (gives p o) before) (front ++ piece_at p es i) = subst (λ (b : List ℕ). Reads (add o (gives p o) before) (front ++ b)) (sym (piece_of_row p es i lt)) x in
@@ -152,8 +152,8 @@ read_further p es order s h o =
     let r = reads_mixed p es order s h (all_below (rows + length es) order (order_within (rows + length es) order o)) [] [] (λ id. omega (arith, one id)) (λ id le g. g) start in
     record { es = r.es; given = given_by p (own order) []; list = r.list; is_record = record { slots_are = all_held p (own order) one; no_grease = refl; no_order = refl } }
 
-pub answers_further : (side : Side) (p : TransportParameters) (es : List Entry) (order : List ℕ) → IsTyped p → IsInRange side p → AreOthers es → IsOrderOf (rows + length es) order
-    → IsAnswer side (flat_map (piece_at p es) order) (Ok (plain p))
+pub answers_further : (side : Side) (p : TransportParameters) (es : List Entry) (order : List ℕ) → IsTypedRecord p → IsRecordInRange side p → AreOthers es → IsOrderOf (rows + length es) order
+    → IsReadAnswer side (flat_map (piece_at p es) order) (Ok (plain p))
 answers_further side p es order t h others o = (read_further p es order (sound_of side p t h) others o, plain_valid side p h.valid)
 
 -- ---- the entries of a list
@@ -183,7 +183,7 @@ in_order_from (e ∷ es) fs a b p q =
     subst (AreInOrder (reverse_aux es (e ∷ fs))) (sym (append_assoc p.front p.back b) ∙ ap (λ l. l ++ b) (sym p.whole))
     (in_order_from es (e ∷ fs) p.front (p.back ++ b) p.first (record { front = p.back; back = b; whole = refl; first = p.second; second = q }))
 
-pub of_record : (side : Side) (b : List ℕ) (p : TransportParameters) → IsAnswer side b (Ok p) → (es : List Entry) × AreInOrder es b × IsRecordOf es p
+pub of_record : (side : Side) (b : List ℕ) (p : TransportParameters) → IsReadAnswer side b (Ok p) → (es : List Entry) × AreInOrder es b × IsRecordOf es p
 of_record side b p h =
     let m : IsMeant p b = h.0 in (
       reverse m.es,

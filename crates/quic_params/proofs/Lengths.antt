@@ -17,8 +17,8 @@ use Rattle.quic_params.specs.declared.record.TransportParameters.{TransportParam
 use Rattle.quic_params.specs.declared.value.PreferredAddress.{PreferredAddress}
 use Rattle.quic_params.specs.declared.value.Value.{Value}
 use Rattle.quic_params.specs.declared.value.Value.TheVariants as V
-use Rattle.quic_params.specs.Order.{IsOrder, id_at, order_of}
-use Rattle.quic_params.specs.Range.{IsTyped, IsTypedAs, IsTypedAddress, IsFree, slot}
+use Rattle.quic_params.specs.Order.{IsOrder, id_of_index, order_of}
+use Rattle.quic_params.specs.Range.{IsTypedRecord, IsTypedAs, IsTypedAddress, IsFree, slot}
 use Rattle.quic_params.specs.Reserved.{Reserved}
 use Rattle.quic_params.specs.Table.{row}
 use Rattle.quic_params.specs.Writing.{encoding, entry, piece, is_written, grease_bytes, of_kind, written, written_for, v4_bytes, v6_bytes}
@@ -78,7 +78,7 @@ kind_below : (k : Kind) (a b : List ℕ) → length a ≤ 77 → length b ≤ 77
 kind_below K.Skipped a b l m = l
 kind_below _ a b l m = m
 
-pub for_below : (p : TransportParameters) → IsTyped p → (id : TransportParameterId) → length (written_for p id) ≤ 77
+pub for_below : (p : TransportParameters) → IsTypedRecord p → (id : TransportParameterId) → length (written_for p id) ≤ 77
 unfolding written_for
 for_below p t id = kind_below (row id).kind (grease_bytes p.grease_transport_parameter) (piece id (slot p id)) (grease_below p.grease_transport_parameter t.grease) (piece_below id (slot p id) (t.values id))
 
@@ -90,9 +90,9 @@ order_long : (o : Option (List ℕ)) → IfSome o IsOrder → length (order_of o
 order_long None t = refl
 order_long (Some l) t = t.width
 
-pub written_below : (p : TransportParameters) → IsTyped p → length (written p) ≤ 1617
+pub written_below : (p : TransportParameters) → IsTypedRecord p → length (written p) ≤ 1617
 written_below p t =
-    omega (arith, all_below (λ i. written_for p (id_at i)) (λ i. for_below p t (id_at i)) (order_of p.write_order), order_long p.write_order t.order)
+    omega (arith, all_below (λ i. written_for p (id_of_index i)) (λ i. for_below p t (id_of_index i)) (order_of p.write_order), order_long p.write_order t.order)
 
 pub header_below : (number len : ℕ) → length (short number ++ short len) ≤ 16
 header_below number len = omega (arith, short_below number, short_below len, length-append (short number) (short len))

@@ -2,11 +2,10 @@
 use Rattle.std.specs.Prelude.{◌≡◌, ℕ, zero, suc, ◌+◌, ◌<◌, ◌^◌, ◌⊎◌, List, [], ◌∷◌, ◌++◌, length, get_or, map, reverse, Contains}
 use Rattle.std.specs.List.{flat_map}
 use Rattle.quic_base.specs.Codec.{Follows}
-use Rattle.quic_params.specs.Never.{Never}
 use Rattle.quic_params.specs.declared.parameter.TransportParameterId.{TransportParameterId}
 use Rattle.quic_params.specs.declared.record.TransportParameters.{TransportParameters}
 use Rattle.quic_params.specs.Table.{ids, rows}
-use Rattle.quic_params.specs.Entry.{Entry, Given, IsEntry, IsKnown, Give}
+use Rattle.quic_params.specs.Entry.{Entry, Given, IsEntry, IsKnownParameter, Give}
 use Rattle.quic_params.specs.Record.{IsRecord}
 use Rattle.quic_params.specs.Writing.{entry, written_for}
 
@@ -25,17 +24,17 @@ pub record IsRecordOf (es : List Entry) (p : TransportParameters) : Type 0 where
 pub record IsOther (e : Entry) : Type 0 where
   pub numeric : e.number < 2 ^ 62
   pub short : length e.bytes < 2 ^ 62
-  pub unknown : (id : TransportParameterId) → Never (IsKnown id e.number)
+  pub unknown : (id : TransportParameterId) → ¬ (IsKnownParameter id e.number)
 
 -- an entry of this number is among these
-abbrev pub HasNumber : ℕ → List Entry → Type 0
-HasNumber n [] = ⊥
-HasNumber n (e ∷ es) = (e.number ≡ n) ⊎ HasNumber n es
+abbrev pub HasEntryNumber : ℕ → List Entry → Type 0
+HasEntryNumber n [] = ⊥
+HasEntryNumber n (e ∷ es) = (e.number ≡ n) ⊎ HasEntryNumber n es
 
 -- entries that no record has, and none of them twice
 abbrev pub AreOthers : List Entry → Type 0
 AreOthers [] = Unit {0}
-AreOthers (e ∷ es) = IsOther e × Never (HasNumber e.number es) × AreOthers es
+AreOthers (e ∷ es) = IsOther e × ¬ (HasEntryNumber e.number es) × AreOthers es
 
 -- what is written for each row of the table, and then further entries in their least widths
 abbrev pub pieces : TransportParameters → List Entry → List (List ℕ)

@@ -3,7 +3,7 @@ ghost use Rattle.std.specs.Prelude.{◌≤◌, IfSome, length};
 ghost use Rattle.std.specs.Net.Socket.{IsSocketAddrV4, IsSocketAddrV6};
 ghost use Rattle.quic_base.specs.Number.{AreBytes};
 ghost use Rattle.quic_params.specs.Order.{IsOrder};
-ghost use Rattle.quic_params.specs.Range.{IsTyped, IsTypedAddress, IsFree};
+ghost use Rattle.quic_params.specs.Range.{IsTypedRecord, IsTypedAddress, IsFree};
 
 use crate::order::WriteOrder;
 use crate::parameter::TransportParameterId;
@@ -16,7 +16,7 @@ use std::net::{SocketAddrV4, SocketAddrV6};
 impl TransportParameters {
     /// The bounds that the types of the fields hold, as a fact of the record. It only reads.
     pub fn type_bounds(&self)
-        ensures { IsTyped self.now }
+        ensures { IsTypedRecord self.now }
     {
         for id in TransportParameterId::SUPPORTED {
             let _value = self.get(id);

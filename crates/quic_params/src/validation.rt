@@ -1,8 +1,7 @@
 //! Which records a side takes (RFC 9000, sections 7.4 and 18.2).
 ghost use Rattle.std.specs.Prelude.{◌≡◌, ◌↔◌, IsTrue, IfSome, MatchResult};
 ghost use Rattle.quic_params.specs.Meaning.{IsValid};
-ghost use Rattle.quic_params.specs.Never.{Never};
-ghost use Rattle.quic_params.specs.Range.{IsInRange, IsEncodableAddress, IsEncodableV4, IsEncodableV6};
+ghost use Rattle.quic_params.specs.Range.{IsRecordInRange, IsEncodableAddress, IsEncodableV4, IsEncodableV6};
 
 use crate::error::Error;
 use crate::record::TransportParameters;
@@ -14,7 +13,7 @@ impl TransportParameters {
     // Whether a side takes the record: `IllegalValue` where it does not.
     pub(crate) fn check(&self, side: Side) -> Result<(), Error>
         ensures { MatchResult result (λ _. IsValid side self.now)
-            (λ e. Never (IsValid side self.now) × (e ≡ Error.IllegalValue)) }
+            (λ e. ¬ (IsValid side self.now) × (e ≡ Error.IllegalValue)) }
     {
         if self.ack_delay_exponent.into_inner() > 20 {
             return Err(Error::IllegalValue);
@@ -68,7 +67,7 @@ impl TransportParameters {
     /// preferred address has an address, none that is unspecified with port 0, and neither a flow label
     /// nor a scope, which are not written (RFC 9000, section 18.2). It takes no memory.
     pub fn in_range(&self, side: Side) -> bool
-        ensures { IsTrue result ↔ IsInRange side self.now }
+        ensures { IsTrue result ↔ IsRecordInRange side self.now }
     {
         if self.check(side).is_err() {
             return false;

@@ -5,7 +5,7 @@ use Rattle.std.proofs.lemmas.Bool.Decides.{nat_tests}
 use Rattle.std.specs.List.{remove}
 use Rattle.std.specs.declared.ops.Range.{Range}
 use Rattle.quic_ranges.specs.Pieces.{piece, pieces}
-use Rattle.quic_ranges.specs.Runs.{in_range, member, RunsFrom, IsMaximalRuns, IsRunsOf, IsLeast, IsGreatest, in_union, in_difference, in_intersection}
+use Rattle.quic_ranges.specs.Runs.{in_range, member, RunsFrom, IsMaximalRuns, IsRunsOf, IsLeastMember, IsGreatest, in_union, in_difference, in_intersection}
 
 -- the range from a to b
 abbrev pub range : ℕ → ℕ → Range ℕ
@@ -192,12 +192,12 @@ IsMaximalRuns-remove_first [] h = tt
 IsMaximalRuns-remove_first (r ∷ rs) h = RunsFrom-lower (r.end + 1) 0 rs (omega arith) h.2
 
 -- the first run begins with the least member
-pub IsLeast-first : (r : Range ℕ) (rs ss : List (Range ℕ)) → ss ≡ r ∷ rs → IsMaximalRuns ss → IsLeast ss r.start
-IsLeast-first r rs ss e h = subst (λ l. IsLeast l r.start) (sym e) (first (subst IsMaximalRuns e h)) where
+pub IsLeastMember-first : (r : Range ℕ) (rs ss : List (Range ℕ)) → ss ≡ r ∷ rs → IsMaximalRuns ss → IsLeastMember ss r.start
+IsLeastMember-first r rs ss e h = subst (λ l. IsLeastMember l r.start) (sym e) (first (subst IsMaximalRuns e h)) where
   here : (m : Bool) → r.start < r.end → (in_range r r.start || m) ≡ true
   here m lt = grind (arith, nat_tests)
 
-  first : IsMaximalRuns (r ∷ rs) → IsLeast (r ∷ rs) r.start
+  first : IsMaximalRuns (r ∷ rs) → IsLeastMember (r ∷ rs) r.start
   first h = record {
     present = here (member rs r.start) h.1;
     least = λ z present. elim (cases_lt z r.start) [ inl lt ↦ absurd (false≢true (sym (member-below r.start z (r ∷ rs) (omega arith, h.1, h.2) lt) ∙ present)) | inr le ↦ le ];

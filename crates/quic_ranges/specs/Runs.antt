@@ -53,7 +53,7 @@ pub record TreatsBeginning (test : List (Range ℕ) → List (Range ℕ) → ℕ
   pub runs : IsRunsOf (test rs treated) after
 
 -- y is the least member
-pub record IsLeast (rs : List (Range ℕ)) (y : ℕ) : Type 0 where
+pub record IsLeastMember (rs : List (Range ℕ)) (y : ℕ) : Type 0 where
   pub present : member rs y ≡ true
   pub least : (z : ℕ) → member rs z ≡ true → y ≤ z
 

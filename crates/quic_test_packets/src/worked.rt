@@ -1,7 +1,7 @@
 //! Keys and headers of the worked rows.
 ghost use Rattle.std.specs.Prelude.{◌≡◌, ◌≤◌, ◌<◌, ◌^◌, ◌++◌, IsTrue, List, [], Ok, ℕ, length};
 ghost use Rattle.quic_header_encode.specs.Writing.{IsWritable, has_number};
-ghost use Rattle.quic_header_decode.specs.Grammar.{IsKnown};
+ghost use Rattle.quic_header_decode.specs.Grammar.{IsKnownVersion};
 ghost use Rattle.quic_header_decode.specs.Reading.{Context};
 ghost use Rattle.quic_packets.specs.Opening.{ExpandsIn, IsReadBack};
 ghost use Rattle.quic_packets.specs.Sealing.{IsLowPart};
@@ -57,7 +57,7 @@ pub fn handshake(version: u32) -> Header
     ensures numbered { IsTrue (has_number result) }
     ensures low { IsLowPart result 0 }
     ensures found { ExpandsIn result 0 0 }
-    ensures read { (context : Context) (rest : List ℕ) → IsKnown context version → IsReadBack context result rest }
+    ensures read { (context : Context) (rest : List ℕ) → IsKnownVersion context version → IsReadBack context result rest }
 {
     Header::Long {
         ty: LongType::Handshake,

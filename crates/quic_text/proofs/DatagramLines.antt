@@ -9,10 +9,10 @@ use Rattle.quic_base.proofs.PublicLaws.{back_bytes}
 use Rattle.quic_header_decode.specs.declared.decode_error.PacketDecodeError.{PacketDecodeError}
 use Rattle.quic_header_decode.specs.declared.decode_error.PacketDecodeError.TheVariants as error
 use Rattle.quic_header_decode.specs.declared.protected.ProtectedHeader.{ProtectedHeader}
-use Rattle.quic_header_decode.specs.Datagram.{Placed, ArePackets, last, more, refused}
+use Rattle.quic_header_decode.specs.Datagram.{PlacedPacket, ArePackets, last, more, refused}
 use Rattle.quic_header_decode.specs.Grammar.{Cut, Uncut, CutAnswer}
 use Rattle.quic_header_decode.specs.Reading.{Context}
-use Rattle.quic_header_decode.specs.Refusal.{Refusal, NoMemory, Refuses, refusal_of}
+use Rattle.quic_header_decode.specs.Refusal.{Refusal, NoMemory, RefusesHeader, refusal_of}
 use Rattle.quic_header_decode.proofs.Datagrams.{packets_again, some_packets}
 use Rattle.quic_header_decode.proofs.Steps.{match_ok}
 use Rattle.quic_header_decode.specs.Parsers.{fixed_parsed, fixed_lawful}
@@ -46,23 +46,23 @@ pub cut_given : (context : Context) (bytes : List ℕ) (h : ProtectedHeader) (p 
 cut_given context bytes h p q a = subst (CutAnswer context bytes) a.2 a.1
 
 pub refusal_given : (context : Context) (bytes : List ℕ) (e : PacketDecodeError) → refusal_of e ≢ NoMemory
-    → ((answer : Result (ProtectedHeader × ℕ × ℕ) Refusal) × CutAnswer context bytes answer × Refuses e answer) → Uncut context bytes (refusal_of e)
+    → ((answer : Result (ProtectedHeader × ℕ × ℕ) Refusal) × CutAnswer context bytes answer × RefusesHeader e answer) → Uncut context bytes (refusal_of e)
 refusal_given context bytes (error.UnsupportedVersion src dst version) some a = subst (CutAnswer context bytes) a.2 a.1
 refusal_given context bytes (error.InvalidHeader text) some a = subst (CutAnswer context bytes) a.2 a.1
 refusal_given context bytes error.OutOfMemory some a = absurd (some refl)
 
 -- the lines of packets, and those of a datagram's reading
-abbrev pub lines : List Placed → Option Refusal → List ℕ
+abbrev pub lines : List PlacedPacket → Option Refusal → List ℕ
 lines ps refusal = flat_map shown (row_lines ps refusal)
 
 -- so it is with what is printed so far and the lines of the packets that are left
 abbrev pub Leads : Context → ℕ → List ℕ → List ℕ → (List ℕ → Type 0) → Type 0
-Leads context start bytes text P = (ps : List Placed) (refusal : Option Refusal) → ArePackets context start bytes ps refusal → P (text ++ lines ps refusal)
+Leads context start bytes text P = (ps : List PlacedPacket) (refusal : Option Refusal) → ArePackets context start bytes ps refusal → P (text ++ lines ps refusal)
 
 pub text_first : (len : ℕ) (bytes left text : List ℕ) (P : List ℕ → Type 0) → AreBytes bytes → left ≡ bytes → P (text ++ flat_map shown (datagram_lines len bytes)) → Leads (with_ids_of len) 0 left text P
 text_first len bytes left text P fits e all ps refusal are =
     let same = packets_again (with_ids_of len) bytes ps refusal fits (subst (λ (xs : List ℕ). ArePackets (with_ids_of len) 0 xs ps refusal) e are) in
-    subst P (ap (λ (r : List Placed × Option Refusal). text ++ flat_map shown (row_lines r.0 r.1)) same) all
+    subst P (ap (λ (r : List PlacedPacket × Option Refusal). text ++ flat_map shown (row_lines r.0 r.1)) same) all
 
 pub text_more : (context : Context) (start stop q p : ℕ) (bytes rest text text' : List ℕ) (P : List ℕ → Type 0) (h : ProtectedHeader) → Cut context bytes h p q → q < length bytes → rest ≡ drop q bytes → stop ≡ start + q
     → text' ≡ text ++ shown (packet_line (record { start = start; stop = stop; header = h })) → Leads context start bytes text P → Leads context stop rest text' P
@@ -119,12 +119,12 @@ waits_broken len start left old mid new text all fits h begun =
 
 -- and whether an `error` line stands among the lines that are left says it of all
 abbrev pub LeadsClean : Context → ℕ → List ℕ → List Printed → Type 0
-LeadsClean context start bytes all = (ps : List Placed) (refusal : Option Refusal) → ArePackets context start bytes ps refusal → list_all is_plain (row_lines ps refusal) ≡ list_all is_plain all
+LeadsClean context start bytes all = (ps : List PlacedPacket) (refusal : Option Refusal) → ArePackets context start bytes ps refusal → list_all is_plain (row_lines ps refusal) ≡ list_all is_plain all
 
 pub clean_first : (len : ℕ) (bytes left : List ℕ) → AreBytes bytes → left ≡ bytes → LeadsClean (with_ids_of len) 0 left (datagram_lines len bytes)
 clean_first len bytes left fits e ps refusal are =
     let same = packets_again (with_ids_of len) bytes ps refusal fits (subst (λ (xs : List ℕ). ArePackets (with_ids_of len) 0 xs ps refusal) e are) in
-    ap (λ (r : List Placed × Option Refusal). list_all is_plain (row_lines r.0 r.1)) (sym same)
+    ap (λ (r : List PlacedPacket × Option Refusal). list_all is_plain (row_lines r.0 r.1)) (sym same)
 
 pub clean_more : (context : Context) (start stop q p : ℕ) (bytes rest : List ℕ) (all : List Printed) (h : ProtectedHeader) → Cut context bytes h p q → q < length bytes → rest ≡ drop q bytes → stop ≡ start + q
     → LeadsClean context start bytes all → LeadsClean context stop rest all

@@ -5,7 +5,7 @@ use Rattle.quic_base.specs.ConnectionId.{id_text}
 use Rattle.quic_base.specs.declared.ids.TheConstants.{DEFAULT_SUPPORTED_VERSIONS}
 use Rattle.quic_header_encode.specs.declared.long_type.LongType.{LongType}
 use Rattle.quic_header_encode.specs.declared.long_type.LongType.TheVariants.{Handshake, ZeroRtt}
-use Rattle.quic_header_decode.specs.Datagram.{Placed, packets_in}
+use Rattle.quic_header_decode.specs.Datagram.{PlacedPacket, packets_in}
 use Rattle.quic_header_decode.specs.Parsers.{fixed_parsed}
 use Rattle.quic_header_decode.specs.Reading.{Context}
 use Rattle.quic_header_decode.specs.Refusal.{Refusal, Invalid, Unsupported, NoMemory}
@@ -46,7 +46,7 @@ header_text (head.Short spin dst) = codes "short dst " ++ id_or_dash dst
 header_text (head.VersionNegotiate random dst src) = long_text (codes "version-negotiation") dst src 0
 
 -- `START..END HEAD`
-abbrev pub packet_line : Placed → Printed
+abbrev pub packet_line : PlacedPacket → Printed
 packet_line p = Plain (decimal p.start ++ codes ".." ++ decimal p.stop ++ codes " " ++ header_text p.header)
 
 abbrev pub refusal_text : Refusal → List ℕ
@@ -59,7 +59,7 @@ refusal_lines None = []
 refusal_lines (Some e) = Error (refusal_text e) ∷ []
 
 -- a line for each packet, and an `error` line for what is refused behind them
-abbrev pub row_lines : List Placed → Option Refusal → List Printed
+abbrev pub row_lines : List PlacedPacket → Option Refusal → List Printed
 row_lines packets refusal = map packet_line packets ++ refusal_lines refusal
 
 -- what is printed for a datagram by `datagram`

@@ -5,7 +5,7 @@ use Rattle.std.specs.Fmt.{decimal}
 use Rattle.hex.specs.Hex.{encode_lower}
 use Rattle.quic_base.specs.declared.ids.Side.{Side}
 use Rattle.quic_params.specs.Answer.{answer_at}
-use Rattle.quic_params.specs.Errors.{text_of}
+use Rattle.quic_params.specs.Errors.{error_text_of}
 use Rattle.quic_params.specs.Table.{ids}
 use Rattle.quic_params.specs.Writing.{encoding, value_written}
 use Rattle.quic_params.specs.declared.error.Error as params
@@ -17,28 +17,28 @@ use Rattle.quic_params.specs.declared.value.Value.TheVariants as V
 use Rattle.quic_text.specs.Printed.{Printed, Plain, Error}
 
 -- the name that a parameter is printed by
-abbrev pub name_of : TransportParameterId → List ℕ
-name_of MaxIdleTimeout = codes "max_idle_timeout"
-name_of MaxUdpPayloadSize = codes "max_udp_payload_size"
-name_of InitialMaxData = codes "initial_max_data"
-name_of InitialMaxStreamDataBidiLocal = codes "initial_max_stream_data_bidi_local"
-name_of InitialMaxStreamDataBidiRemote = codes "initial_max_stream_data_bidi_remote"
-name_of InitialMaxStreamDataUni = codes "initial_max_stream_data_uni"
-name_of InitialMaxStreamsBidi = codes "initial_max_streams_bidi"
-name_of InitialMaxStreamsUni = codes "initial_max_streams_uni"
-name_of AckDelayExponent = codes "ack_delay_exponent"
-name_of MaxAckDelay = codes "max_ack_delay"
-name_of ActiveConnectionIdLimit = codes "active_connection_id_limit"
-name_of ReservedTransportParameter = codes "grease_transport_parameter"
-name_of StatelessResetToken = codes "stateless_reset_token"
-name_of DisableActiveMigration = codes "disable_active_migration"
-name_of MaxDatagramFrameSize = codes "max_datagram_frame_size"
-name_of PreferredAddress = codes "preferred_address"
-name_of OriginalDestinationConnectionId = codes "original_dst_cid"
-name_of InitialSourceConnectionId = codes "initial_src_cid"
-name_of RetrySourceConnectionId = codes "retry_src_cid"
-name_of GreaseQuicBit = codes "grease_quic_bit"
-name_of MinAckDelayDraft07 = codes "min_ack_delay"
+abbrev pub parameter_name_of : TransportParameterId → List ℕ
+parameter_name_of MaxIdleTimeout = codes "max_idle_timeout"
+parameter_name_of MaxUdpPayloadSize = codes "max_udp_payload_size"
+parameter_name_of InitialMaxData = codes "initial_max_data"
+parameter_name_of InitialMaxStreamDataBidiLocal = codes "initial_max_stream_data_bidi_local"
+parameter_name_of InitialMaxStreamDataBidiRemote = codes "initial_max_stream_data_bidi_remote"
+parameter_name_of InitialMaxStreamDataUni = codes "initial_max_stream_data_uni"
+parameter_name_of InitialMaxStreamsBidi = codes "initial_max_streams_bidi"
+parameter_name_of InitialMaxStreamsUni = codes "initial_max_streams_uni"
+parameter_name_of AckDelayExponent = codes "ack_delay_exponent"
+parameter_name_of MaxAckDelay = codes "max_ack_delay"
+parameter_name_of ActiveConnectionIdLimit = codes "active_connection_id_limit"
+parameter_name_of ReservedTransportParameter = codes "grease_transport_parameter"
+parameter_name_of StatelessResetToken = codes "stateless_reset_token"
+parameter_name_of DisableActiveMigration = codes "disable_active_migration"
+parameter_name_of MaxDatagramFrameSize = codes "max_datagram_frame_size"
+parameter_name_of PreferredAddress = codes "preferred_address"
+parameter_name_of OriginalDestinationConnectionId = codes "original_dst_cid"
+parameter_name_of InitialSourceConnectionId = codes "initial_src_cid"
+parameter_name_of RetrySourceConnectionId = codes "retry_src_cid"
+parameter_name_of GreaseQuicBit = codes "grease_quic_bit"
+parameter_name_of MinAckDelayDraft07 = codes "min_ack_delay"
 
 -- bytes in hexadecimal digits, `-` for none
 abbrev pub digits_of : List ℕ → List ℕ
@@ -56,7 +56,7 @@ value_text (V.Address a) = digits_of (encoding (V.Address a))
 -- `NAME VALUE`, where there is a value
 abbrev pub value_lines : TransportParameterId → Option Value → List Printed
 value_lines id None = []
-value_lines id (Some value) = Plain (name_of id ++ codes " " ++ value_text value) ∷ []
+value_lines id (Some value) = Plain (parameter_name_of id ++ codes " " ++ value_text value) ∷ []
 
 -- a line for each parameter that would be written, in the order of the table
 abbrev pub record_lines : TransportParameters → List Printed
@@ -65,7 +65,7 @@ record_lines p = flat_map (λ id. value_lines id (value_written p id)) ids
 -- what is printed for an answer
 abbrev pub answer_lines : Result TransportParameters params.Error → List Printed
 answer_lines (Ok p) = record_lines p ++ (Plain (codes "ok") ∷ [])
-answer_lines (Err e) = Error (text_of e) ∷ []
+answer_lines (Err e) = Error (error_text_of e) ∷ []
 
 -- what is printed for a list by `params`
 abbrev pub parameter_lines : Side → List ℕ → List Printed

@@ -3,7 +3,7 @@ ghost use Rattle.std.specs.Prelude.{◌≡◌, ◌≢◌, ◌++◌, [], ◌∷�
 ghost use Rattle.std.specs.List.{list_all};
 ghost use Rattle.hex.specs.Hex.{encode_lower};
 ghost use Rattle.quic_base.specs.Number.{AreBytes};
-ghost use Rattle.quic_header_decode.specs.Datagram.{Placed, ArePackets};
+ghost use Rattle.quic_header_decode.specs.Datagram.{PlacedPacket, ArePackets};
 ghost use Rattle.quic_header_decode.specs.Refusal.{Refusal};
 ghost use Rattle.quic_text.specs.DatagramText.{with_ids_of, packet_line, refusal_lines};
 ghost use Rattle.quic_text.specs.IdLens.{count};
@@ -16,7 +16,7 @@ ghost use Rattle.quic_canon.specs.Least.{IsLeast};
 ghost use Rattle.quic_text.specs.FrameText.{item_line, empty_line};
 ghost use Rattle.quic_text.specs.Printed.{Plain, is_plain};
 ghost use Rattle.quic_base.specs.declared.ids.Side.{Side};
-ghost use Rattle.quic_params.specs.Meaning.{IsAnswer};
+ghost use Rattle.quic_params.specs.Meaning.{IsReadAnswer};
 ghost use Rattle.quic_params.specs.declared.error.Error.{Error};
 ghost use Rattle.quic_params.specs.declared.record.TransportParameters.{TransportParameters};
 ghost use Rattle.quic_text.specs.ParameterText.{answer_lines, parameter_lines};
@@ -29,11 +29,11 @@ use quic_params::laws;
 /// Where a datagram is these packets, or these and then a refusal, `datagram` prints just their lines, with
 /// these places. Each datagram is so, in one way.
 pub fn packets_printed()
-    ensures lines { (len : IdLen) (bytes : List ℕ) (packets : List Placed) (refusal : Option Refusal) → AreBytes bytes
+    ensures lines { (len : IdLen) (bytes : List ℕ) (packets : List PlacedPacket) (refusal : Option Refusal) → AreBytes bytes
         → ArePackets (with_ids_of (count len)) 0 bytes packets refusal
         → payload_lines (Mode.Datagram len) bytes ≡ map packet_line packets ++ refusal_lines refusal }
     ensures some { (len : IdLen) (bytes : List ℕ) → AreBytes bytes
-        → (packets : List Placed) × (refusal : Option Refusal)
+        → (packets : List PlacedPacket) × (refusal : Option Refusal)
         × ArePackets (with_ids_of (count len)) 0 bytes packets refusal }
 {}
 
@@ -77,7 +77,7 @@ pub fn canonical_printed()
 /// What `params` prints of a list is what is printed for the answer that the grammar gives to it.
 pub fn parameter_lines()
     ensures { (side : Side) (list : List ℕ) (answer : Result TransportParameters Error) → AreBytes list
-        → IsAnswer side list answer
+        → IsReadAnswer side list answer
         → parameter_lines side list ≡ answer_lines answer }
 {
     laws::one_answer();

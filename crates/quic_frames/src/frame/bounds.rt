@@ -1,5 +1,5 @@
 //! What a frame holds by the types of its parts.
-ghost use Rattle.quic_frames.specs.InRange.{IsTyped};
+ghost use Rattle.quic_frames.specs.InRange.{IsTypedFrame};
 
 use super::{Close, Frame};
 use quic_frame_fields::frame::encode::type_or_zero;
@@ -7,7 +7,7 @@ use quic_frame_fields::frame::encode::type_or_zero;
 impl Frame<'_> {
     /// The bounds that the types of the frame's parts hold, as a fact of the frame. It does nothing.
     pub fn type_bounds(&self)
-        ensures { IsTyped self.now }
+        ensures { IsTypedFrame self.now }
     {
         match self {
             Frame::ResetStream(r) => {

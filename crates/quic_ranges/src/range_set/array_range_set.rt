@@ -2,7 +2,7 @@
 ghost use Rattle.std.specs.Prelude.{◌≡◌, ◌≢◌, [], ◌≤◌, ◌<◌, ◌+◌, ◌-◌, ◌^◌, ◌∷◌, ◌++◌, ◌↔◌, ℕ, List, length, take, drop, IfSome, IfNone, IfOk, OnOk, OnErr, IsTrue, IsOk};
 ghost use Rattle.std.specs.declared.ops.Range.{Range};
 ghost use Rattle.smallvec.specs.SmallVec.{small_vec_len, HasRoomFor};
-ghost use Rattle.quic_ranges.specs.Runs.{IsMaximalRuns, IsRunsOf, IsLeast, IsGreatest, member, in_union, in_difference, in_subtraction};
+ghost use Rattle.quic_ranges.specs.Runs.{IsMaximalRuns, IsRunsOf, IsLeastMember, IsGreatest, member, in_union, in_difference, in_subtraction};
 ghost use Rattle.quic_ranges.specs.Numbers.{numbers_of};
 ghost use Rattle.quic_ranges.specs.Pieces.{outside, subtracted};
 ghost use Rattle.quic_ranges.specs.Splices.{Fits, after_splice};
@@ -60,7 +60,7 @@ impl ArrayRangeSet {
 
     /// The least number of the set.
     pub fn min(&self) -> Option<u64>
-        ensures some { IfSome result (IsLeast self.now) }
+        ensures some { IfSome result (IsLeastMember self.now) }
         ensures none { IfNone result (self.now ≡ []) }
     {
         let first = self.iter().next()?;

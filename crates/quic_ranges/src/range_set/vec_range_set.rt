@@ -3,7 +3,7 @@ ghost use Rattle.std.specs.Prelude.{◌≡◌, ◌≢◌, [], ◌∷◌, ◌+◌
 ghost use Rattle.std.specs.Borrow.{sem};
 ghost use Rattle.std.specs.Iterator.{YieldsFirst, item_count};
 ghost use Rattle.std.specs.declared.ops.Range.{Range};
-ghost use Rattle.quic_ranges.specs.Runs.{IsMaximalRuns, IsRunsOf, IsLeast, IsGreatest, TreatsBeginning, member, in_union, in_difference, in_intersection, in_sum, in_subtraction};
+ghost use Rattle.quic_ranges.specs.Runs.{IsMaximalRuns, IsRunsOf, IsLeastMember, IsGreatest, TreatsBeginning, member, in_union, in_difference, in_intersection, in_sum, in_subtraction};
 ghost use Rattle.quic_ranges.specs.Pieces.{pieces};
 ghost use Rattle.quic_ranges.specs.Numbers.{numbers_of};
 ghost use Rattle.quic_ranges.specs.Replaced.{Ends, pieces_left};
@@ -65,7 +65,7 @@ impl RangeSet {
 
     /// The least number of the set.
     pub fn min(&self) -> Option<u64>
-        ensures some { IfSome result (IsLeast self.now) }
+        ensures some { IfSome result (IsLeastMember self.now) }
         ensures none { IfNone result (self.now ≡ []) }
     {
         let first = self.iter().next()?;

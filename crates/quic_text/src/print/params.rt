@@ -7,7 +7,7 @@ ghost use Rattle.quic_params.specs.Answer.{answer_at};
 ghost use Rattle.quic_params.specs.Writing.{encoding, value_written};
 ghost use Rattle.quic_params.specs.declared.value.Value.TheVariants as values;
 ghost use Rattle.quic_text.specs.Printed.{shown, is_plain};
-ghost use Rattle.quic_text.specs.ParameterText.{digits_of, name_of, value_text, value_lines, record_lines, parameter_lines};
+ghost use Rattle.quic_text.specs.ParameterText.{digits_of, parameter_name_of, value_text, value_lines, record_lines, parameter_lines};
 
 use quic_base::ids::Side;
 use quic_params::laws;
@@ -92,9 +92,9 @@ fn print_parameter(
 
 // The name of a parameter and a space.
 fn print_name(id: TransportParameterId, text: &mut String) -> Result<(), AllocError>
-    ensures { OnOk result (string_bytes text.new ≡ string_bytes text.old ++ (name_of id ++ codes " ")) }
+    ensures { OnOk result (string_bytes text.new ≡ string_bytes text.old ++ (parameter_name_of id ++ codes " ")) }
 {
-    let name = name_of(id);
+    let name = parameter_name_of(id);
     write!(text, "{name} ")?;
     Ok(())
 }
@@ -143,8 +143,8 @@ fn print_address(
 }
 
 // The name that a parameter is printed by.
-fn name_of(id: TransportParameterId) -> &'static str
-    ensures { result.now ≡ name_of id }
+fn parameter_name_of(id: TransportParameterId) -> &'static str
+    ensures { result.now ≡ parameter_name_of id }
 {
     match id {
         TransportParameterId::MaxIdleTimeout => "max_idle_timeout",

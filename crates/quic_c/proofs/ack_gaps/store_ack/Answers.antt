@@ -2,7 +2,7 @@ use Rattle.std.proofs.Common.{◌≡◌, ℕ, List, [], ◌∷◌, ◌++◌, ◌
 use Rattle.quic_frame_fields.proofs.Putting.{stores_none, puts_stores}
 use Rattle.quic_frame_fields.specs.Numbers.{all_short}
 use Rattle.quic_frame_fields.specs.Putting.{Stores}
-use Rattle.quic_c.specs.AckGaps.{ack_bytes, behind_type, counts_list, gap_numbers, greatest_in}
+use Rattle.quic_c.specs.AckGaps.{ack_bytes, behind_type, counts_list, gap_numbers, greatest_of_words}
 use Rattle.quic_c.proofs.AckGaps.{first_byte, first_without, stored_ack, no_counts, numeric, room_of}
 use Rattle.quic_c.proofs.ack_gaps.store_ack.Goals as goal
 
@@ -14,7 +14,7 @@ store_front-at-requires-clause-room c =
 pub store_gaps-at-requires-clause-numeric : goal.store_gaps-at-requires-clause-numeric
 store_gaps-at-requires-clause-numeric c =
     let small = c.requires.ack.greatest in
-    numeric (greatest_in c.args.ack.now - c.args.ack.now.data_len) c.args.gaps.now (omega (arith, small)) c.requires.ack.fit
+    numeric (greatest_of_words c.args.ack.now - c.args.ack.now.data_len) c.args.gaps.now (omega (arith, small)) c.requires.ack.fit
 
 pub store_gaps-at-requires-clause-room : goal.store_gaps-at-requires-clause-room
 store_gaps-at-requires-clause-room c =

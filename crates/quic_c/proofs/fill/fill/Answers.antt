@@ -1,7 +1,7 @@
 use Rattle.std.proofs.Common.{◌≡◌, inl, inr, refl, true, Some, subst, ap, arith}
 use Rattle.quic_frames.specs.Walk.{invalid_of, Finds, Advances}
-use Rattle.quic_c.specs.Shown.{kind_of, shown, IsExtension}
-use Rattle.quic_c.specs.Answers.{IsRefused, unknown_type}
+use Rattle.quic_c.specs.Shown.{frame_kind_of, shown, IsExtension}
+use Rattle.quic_c.specs.Answers.{IsRefusedFrame, unknown_type}
 use Rattle.quic_c.proofs.Filling.{filling_ends, filling_goes_on}
 use Rattle.quic_c.proofs.Types.{is_kept, unknown_refused}
 use Rattle.quic_c.proofs.fill.fill.Goals as goal
@@ -16,8 +16,8 @@ loop-count-preserved g c =
     let ty = c.type_read-ty.result in
     let begins = c.type_read-ty.ensures.value here.iter frame finds in
     let words : c.show_parts.result ≡ shown here.end stop ty frame = rw c.parts_of-parts.ensures at c.show_parts.ensures in
-    let kind : c.parts_of-parts.result.kind ≡ kind_of frame = ap (λ p. p.kind) c.parts_of-parts.ensures in
-    let known : (c.args.basic ≡ true) × IsExtension (kind_of frame) → ⊥ = is_kept _ _ frame c.is_unknown.ensures c.if-is_unknown.false in
+    let kind : c.parts_of-parts.result.kind ≡ frame_kind_of frame = ap (λ p. p.kind) c.parts_of-parts.ensures in
+    let known : (c.args.basic ≡ true) × IsExtension (frame_kind_of frame) → ⊥ = is_kept _ _ frame c.is_unknown.ensures c.if-is_unknown.false in
     elim c.if-parts-eq0.branch [
       | then-parts-eq0 w ↦
           filling_goes_on c.args.basic c.args.iter.now c.args.out.now here.iter here.out here.count here.end c.next.new.self c.if-parts-eq0.iter frame c.show_parts.result stop ty here.invariant c.loop-count-test.true finds known
@@ -38,5 +38,5 @@ returns-then-is_unknown-clause-filled g c =
     let here = c.loop-count in
     let frame = c.in-Some-Ok.frame in
     let finds : Finds here.iter frame c.next.new.self = subst (λ f. Advances here.iter (Some f) c.next.new.self) c.in-Some-Ok.field-0-is c.in-Some-Ok.ensures.steps in
-    let refused : IsRefused c.args.basic here.iter (unknown_type (kind_of frame)) = unknown_refused c.args.basic here.iter c.next.new.self frame (unknown_type (kind_of frame)) finds (c.is_unknown.ensures.0 c.if-is_unknown.true) refl in
-    filling_ends c.args.basic c.args.iter.now c.args.out.now here.iter here.out here.count here.end c.last_type-last.result here.invariant c.last_type-last.ensures (inr (inr (unknown_type (kind_of frame), refused)))
+    let refused : IsRefusedFrame c.args.basic here.iter (unknown_type (frame_kind_of frame)) = unknown_refused c.args.basic here.iter c.next.new.self frame (unknown_type (frame_kind_of frame)) finds (c.is_unknown.ensures.0 c.if-is_unknown.true) refl in
+    filling_ends c.args.basic c.args.iter.now c.args.out.now here.iter here.out here.count here.end c.last_type-last.result here.invariant c.last_type-last.ensures (inr (inr (unknown_type (frame_kind_of frame), refused)))

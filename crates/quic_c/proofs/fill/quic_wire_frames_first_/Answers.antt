@@ -4,7 +4,7 @@ use Rattle.quic_frames.proofs.Items.{all_read}
 use Rattle.quic_frames.specs.Walk.{left, first_of, invalid_of}
 use Rattle.quic_c.specs.declared.words.FrameWords.{FrameWords}
 use Rattle.quic_c.specs.Shown.{state_of, at_front}
-use Rattle.quic_c.specs.Answers.{IsRefused}
+use Rattle.quic_c.specs.Answers.{IsRefusedFrame}
 use Rattle.quic_c.proofs.Filling.{kinds}
 use Rattle.std.proofs.lemmas.Grind.{common_steps}
 use Rattle.quic_c.proofs.fill.quic_wire_frames_first_.Goals as goal
@@ -26,7 +26,7 @@ returns-in-Ok-clause-frames c =
 pub returns-in-Err-clause-invalid : goal.returns-in-Err-clause-invalid
 returns-in-Err-clause-invalid c =
     let s = c.in-Err.ensures.invalid in
-    let it : IsRefused false (state_of (at_front 0) c.args.payload.now) (invalid_of c.in-Err.invalid) = rw c.in-Some.ensures.state at s.0 in
+    let it : IsRefusedFrame false (state_of (at_front 0) c.args.payload.now) (invalid_of c.in-Err.invalid) = rw c.in-Some.ensures.state at s.0 in
     let room : 0 < length c.args.out.now = search rules in
     let reported = c.show_invalid.result in
     λ _. record {

@@ -3,9 +3,9 @@ use Rattle.std.proofs.lemmas.Grind.{common_steps}
 use Rattle.quic_frame_fields.specs.Reading.{Broken}
 use Rattle.quic_frames.specs.IterState.{IterState}
 use Rattle.quic_frames.specs.Walk.{invalid_of, left, Advances, Finds}
-use Rattle.quic_c.specs.Answers.{GivesInvalid, IsRefused, unknown_type}
+use Rattle.quic_c.specs.Answers.{GivesInvalid, IsRefusedFrame, unknown_type}
 use Rattle.quic_c.specs.Filling.{further}
-use Rattle.quic_c.specs.Shown.{kind_of, type_in, state_of}
+use Rattle.quic_c.specs.Shown.{frame_kind_of, type_in, state_of}
 use Rattle.quic_c.proofs.Types.{behind_frame, gives_frame, is_kept, unknown_refused}
 use Rattle.quic_c.proofs.frames.give_next.Goals as goal
 
@@ -57,9 +57,9 @@ returns-then-is_unknown g c =
     let frame = c.in-Some-Ok.frame in
     let reported = invalid_of c.unknown.result in
     let finds : Finds c.args.iter.now frame c.next.new.self = subst (λ f. Advances c.args.iter.now (Some f) c.next.new.self) c.in-Some-Ok.field-0-is c.in-Some-Ok.ensures.steps in
-    let tells : reported ≡ unknown_type (kind_of frame) = c.unknown.ensures ∙ ap (λ p. unknown_type p.kind) c.parts_of.ensures in
-    let here : IsRefused c.args.basic c.args.iter.now reported = unknown_refused c.args.basic c.args.iter.now c.next.new.self frame reported finds (c.is_unknown.ensures.0 c.if-is_unknown.true) tells in
-    let first : IsRefused c.args.basic (state_of c.args.frames.now c.args.iter.now.payload) reported = subst (λ (w : IterState). IsRefused c.args.basic w reported) (sym c.requires.state) here in
+    let tells : reported ≡ unknown_type (frame_kind_of frame) = c.unknown.ensures ∙ ap (λ p. unknown_type p.kind) c.parts_of.ensures in
+    let here : IsRefusedFrame c.args.basic c.args.iter.now reported = unknown_refused c.args.basic c.args.iter.now c.next.new.self frame reported finds (c.is_unknown.ensures.0 c.if-is_unknown.true) tells in
+    let first : IsRefusedFrame c.args.basic (state_of c.args.frames.now c.args.iter.now.payload) reported = subst (λ (w : IterState). IsRefusedFrame c.args.basic w reported) (sym c.requires.state) here in
     let gives : GivesInvalid c.args.basic c.args.frames.now c.args.iter.now.payload c.refuse.new.frames c.refuse.new.out = record { reported = reported; first = first; over = c.refuse.ensures.over; words = c.refuse.ensures.words } in
     record {
       answers = search rules;

@@ -5,7 +5,7 @@ use Rattle.std.proofs.lemmas.Bool.Decides.{nat_tests}
 use Rattle.quic_base.specs.Varint.{Encodes}
 use Rattle.quic_base.proofs.PublicLaws as law
 use Rattle.quic_header_encode.proofs.Stores.{short_small}
-use Rattle.quic_c_headers.specs.Numbers.{least_width, encoding, CanEncode, IsWidth}
+use Rattle.quic_c_headers.specs.Numbers.{least_width, encoding_in, CanEncode, IsWidth}
 use Rattle.quic_c_headers.proofs.numbers.quic_wire_varint_write_.Goals as goal
 use Rattle.quic_c_headers.proofs.numbers.quic_wire_varint_write_.Goals.{then-width-eq0, else-width-eq0}
 
@@ -18,27 +18,27 @@ two v e = grind (arith, nat_tests)
 four : (v : ℕ) → least_width v ≤ 4 → v < 2 ^ 30
 four v e = grind (arith, nat_tests)
 
-encodes_one : (v : ℕ) → v < 2 ^ 6 → Encodes v (encoding 1 v)
+encodes_one : (v : ℕ) → v < 2 ^ 6 → Encodes v (encoding_in 1 v)
 encodes_one v lt = subst (Encodes v) (short_small v lt) (law.shortest_encodes v (omega arith))
 
-encodes_two : (v : ℕ) → v < 2 ^ 14 → Encodes v (encoding 2 v)
+encodes_two : (v : ℕ) → v < 2 ^ 14 → Encodes v (encoding_in 2 v)
 encodes_two v lt =
     let is = law.is_number_2 (2 ^ 14 + v) (omega arith) in
     record { tag = 1; tag_fits = omega arith; bytes = is.bytes; width = is.width; fits = lt; value = is.value ∙ omega arith }
 
-encodes_four : (v : ℕ) → v < 2 ^ 30 → Encodes v (encoding 4 v)
+encodes_four : (v : ℕ) → v < 2 ^ 30 → Encodes v (encoding_in 4 v)
 encodes_four v lt =
     let is = law.is_number_4 (2 * 2 ^ 30 + v) (omega arith) in
     record { tag = 2; tag_fits = omega arith; bytes = is.bytes; width = is.width; fits = lt; value = is.value }
 
-encodes_eight : (v : ℕ) → v < 2 ^ 62 → Encodes v (encoding 8 v)
+encodes_eight : (v : ℕ) → v < 2 ^ 62 → Encodes v (encoding_in 8 v)
 encodes_eight v lt =
     let is = law.is_number_8 (3 * 2 ^ 62 + v) (omega arith) in
     record { tag = 3; tag_fits = omega arith; bytes = is.bytes; width = is.width; fits = lt; value = is.value }
 
-encoded : (n v : ℕ) → v < 2 ^ 62 → least_width v ≤ n → IsWidth n → Encodes v (encoding n v)
+encoded : (n v : ℕ) → v < 2 ^ 62 → least_width v ≤ n → IsWidth n → Encodes v (encoding_in n v)
 encoded n v lt enough known =
-    let P : ℕ → Type 0 = λ k. least_width v ≤ k → Encodes v (encoding k v) in
+    let P : ℕ → Type 0 = λ k. least_width v ≤ k → Encodes v (encoding_in k v) in
     let all : P n = elim known [
       | inl e ↦ subst P (sym e) (λ h. encodes_one v (one v h))
       | inr more ↦ elim more [
@@ -59,9 +59,9 @@ returns-clause-wrote c =
     elim c.store_encoding.ensures.wrote [
       | inl none ↦ inl none
       | inr w ↦
-          let front : take n new ≡ encoding n c.args.value = w.2 ∙ ap (λ (k : ℕ). encoding k c.args.value) (sym w.0) in
-          let all : new ≡ encoding n c.args.value ++ drop n old =
-          sym (take-append-drop n new) ∙ ap (λ (xs : List ℕ). xs ++ drop n new) front ∙ ap (λ (xs : List ℕ). encoding n c.args.value ++ xs) c.store_encoding.ensures.back in
+          let front : take n new ≡ encoding_in n c.args.value = w.2 ∙ ap (λ (k : ℕ). encoding_in k c.args.value) (sym w.0) in
+          let all : new ≡ encoding_in n c.args.value ++ drop n old =
+          sym (take-append-drop n new) ∙ ap (λ (xs : List ℕ). xs ++ drop n new) front ∙ ap (λ (xs : List ℕ). encoding_in n c.args.value ++ xs) c.store_encoding.ensures.back in
           inr (encoded n c.args.value c.if-value.false (omega (arith, w.0, c.least_width-least.ensures)) (subst IsWidth (sym w.0) w.1), all)
     ]
 

@@ -1,7 +1,7 @@
 use Rattle.std.proofs.Common.{◌≡◌, ℕ, List, ◌+◌, ◌++◌, length, drop, ap, subst, sym, ◌∙◌}
 use Rattle.std.specs.Prelude.{Ok}
 use Rattle.quic_params.specs.Further.{IsOrderOf, asked, listed}
-use Rattle.quic_params.specs.Meaning.{IsAnswer}
+use Rattle.quic_params.specs.Meaning.{IsReadAnswer}
 use Rattle.quic_params.specs.Table.{rows}
 use Rattle.quic_params.specs.declared.record.TransportParameters.{TransportParameters}
 use Rattle.quic_c_params.proofs.Said.{plain_is}
@@ -25,5 +25,5 @@ returns-clause-wrote c = λ _.
         order_is = order;
       };
       stands = record { count_is = len; front = c.store_list.ensures r.0 r.1.entries ∙ ap (λ (n : ℕ). list ++ drop n c.args.dest.now) (sym len) };
-      read_back = subst (λ (q : TransportParameters). IsAnswer c.in-Some.reader list (Ok q)) (plain_is p s.0.no_grease s.0.no_order) read;
+      read_back = subst (λ (q : TransportParameters). IsReadAnswer c.in-Some.reader list (Ok q)) (plain_is p s.0.no_grease s.0.no_order) read;
     }

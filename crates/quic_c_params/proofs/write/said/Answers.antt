@@ -1,5 +1,5 @@
 use Rattle.std.proofs.Common.{rules, ap, sym, ◌∙◌, subst}
-use Rattle.quic_params.specs.Range.{IsInRange}
+use Rattle.quic_params.specs.Range.{IsRecordInRange}
 use Rattle.quic_c_params.specs.Shown.{params_words}
 use Rattle.quic_c_params.proofs.write.said.Goals.{then-not-same_words-via-then-not-same_words, then-not-same_words-via-else-not-same_words+then-not-in_range}
 use Rattle.quic_c_params.proofs.write.said.Goals as goal
@@ -12,6 +12,6 @@ returns-then-not-same_words-clause-none c = λ _ p says range.
           (let yes = c.same_words.ensures.1 (says.words_are ∙ ap params_words (sym same) ∙ sym c.show.ensures) in
           search (rules, yes, w.if-not-same_words))
       | then-not-same_words-via-else-not-same_words+then-not-in_range w ↦
-          (let yes = w.in_range.ensures.1 (subst (IsInRange c.args.side) (sym same) range) in
+          (let yes = w.in_range.ensures.1 (subst (IsRecordInRange c.args.side) (sym same) range) in
           search (rules, yes, w.if-not-in_range))
     ]

@@ -1,6 +1,6 @@
 use Rattle.std.proofs.Common.{◌≡◌, ℕ, ◌+◌, ◌<◌, ◌⊎◌, inl, inr, arith, sym, subst}
 use Rattle.std.specs.Prelude.{IfSome}
-use Rattle.quic_params.specs.Order.{id_at}
+use Rattle.quic_params.specs.Order.{id_of_index}
 use Rattle.quic_params.specs.Range.{slot, IsTypedAs}
 use Rattle.quic_params.specs.Table.{row}
 use Rattle.quic_params.proofs.Rows.{at_place, index_below}
@@ -12,7 +12,7 @@ one_more n i h = grind arith
 pub loop-id-preserved : goal.loop-id-preserved
 loop-id-preserved c = λ k lt. elim (one_more c.loop-id.id-index k lt) [
   | inl before ↦ c.loop-id.invariant k before
-  | inr e ↦ subst (λ j. IfSome (slot c.args.self.now (id_at j)) (IsTypedAs (row (id_at j)).kind)) (sym e) (subst (λ o. IfSome o (IsTypedAs (row (id_at c.loop-id.id-index)).kind)) c.get-value.ensures.value c.get-value.ensures.typed)
+  | inr e ↦ subst (λ j. IfSome (slot c.args.self.now (id_of_index j)) (IsTypedAs (row (id_of_index j)).kind)) (sym e) (subst (λ o. IfSome o (IsTypedAs (row (id_of_index c.loop-id.id-index)).kind)) c.get-value.ensures.value c.get-value.ensures.typed)
 ]
 
 pub returns : goal.returns

@@ -31,7 +31,8 @@ pub fn packets_printed<R: Source, W: Sink>(
     source: &mut R,
     sink: &mut W,
 ) -> Result<bool, RunError>
-    ensures { OnOk result ((bytes : List ℕ) → AreBytes bytes → (packets : List PlacedPacket) × (refusal : Option Refusal)
+    ensures { OnOk result ((bytes : List ℕ) → AreBytes bytes
+        → (packets : List PlacedPacket) × (refusal : Option Refusal)
         × IsOneRow (with_ids_of (count len)) bytes packets refusal
         × Prints bytes (map packet_line packets ++ refusal_lines refusal)
         (R.given source.old) (R.given source.new) (W.taken sink.old) (W.taken sink.new)) }

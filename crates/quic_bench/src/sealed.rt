@@ -28,7 +28,8 @@ pub fn sealed_alike<H: HeaderKey, P: PacketKey>(
 ) -> Result<bool, SealError>
     requires { CanBeSealed packet.now }
     ensures alike { IfOk result (λ same. same ≡ true) }
-    ensures refused { IfErr result (λ e. IsRefusedPacket (⟦<SpaceKeys<H, P> as PairsOfKeys>⟧.pairs keys.now) packet.now e) }
+    ensures refused { IfErr result
+        (λ e. IsRefusedPacket (⟦<SpaceKeys<H, P> as PairsOfKeys>⟧.pairs keys.now) packet.now e) }
 {
     one_packet();
     let mut one = Vec::new(alloc);

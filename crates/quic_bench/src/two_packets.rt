@@ -50,7 +50,8 @@ pub(crate) fn seal<H: HeaderKey, P: PacketKey>(
         (λ _. IsAppended (SealedFrames
         (⟦<SpaceKeys<H, P> as PairsOfKeys>⟧.pairs keys.now (space_in packet.now.header.now))
         packet.now.header.now packet.now.number packet.now.frames.now) out.old.items out.new.items) }
-    ensures refused { IfErr result (λ e. IsRefusedPacket (⟦<SpaceKeys<H, P> as PairsOfKeys>⟧.pairs keys.now) packet.now e) }
+    ensures refused { IfErr result
+        (λ e. IsRefusedPacket (⟦<SpaceKeys<H, P> as PairsOfKeys>⟧.pairs keys.now) packet.now e) }
 {
     let keys = keys.of(packet.header.space());
     match seal_packet(packet.header, packet.number, packet.frames, keys, out) {

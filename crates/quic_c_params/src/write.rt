@@ -207,7 +207,8 @@ fn same_words(a: &ParamsWords, b: &ParamsWords) -> bool
 pub(crate) fn said(side: Side, words: &ParamsWords) -> Option<TransportParameters>
     ensures some { IfSome result
         (λ p. DescribesParams words.now p × IsRecordInRange side p × IsReadAnswer side (written p) (Ok p)) }
-    ensures none { IsNone result → (p : TransportParameters) → DescribesParams words.now p → IsRecordInRange side p → ⊥ }
+    ensures none { IsNone result → (p : TransportParameters) → DescribesParams words.now p → IsRecordInRange side p
+        → ⊥ }
 {
     let params = record_in(words);
     params.type_bounds();

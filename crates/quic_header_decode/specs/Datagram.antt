@@ -16,7 +16,8 @@ pub record PlacedPacket : Type 0 where
 pub data ArePackets (context : Context) : ℕ → List ℕ → List PlacedPacket → Option Refusal → Type 0 where
   last : (start : ℕ) (bytes : List ℕ) (h : ProtectedHeader) (p : ℕ) → Cut context bytes h p (length bytes)
       → ArePackets context start bytes (record { start = start; stop = start + length bytes; header = h } ∷ []) None
-  more : (start : ℕ) (bytes : List ℕ) (h : ProtectedHeader) (p q : ℕ) (others : List PlacedPacket) (refusal : Option Refusal)
+  more : (start : ℕ) (bytes : List ℕ) (h : ProtectedHeader) (p q : ℕ) (others : List PlacedPacket)
+      (refusal : Option Refusal)
       → Cut context bytes h p q → q < length bytes
       → ArePackets context (start + q) (drop q bytes) others refusal
       → ArePackets context start bytes (record { start = start; stop = start + q; header = h } ∷ others) refusal

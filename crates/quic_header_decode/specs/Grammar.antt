@@ -113,7 +113,8 @@ AreHeaderFields context (field ∷ fields) before after bytes rest =
     × AreHeaderFields context fields (before ++ values) after left rest
 
 -- The bytes do not begin with such a field.
-pub record StopsAtField (context : Context) (field : HeaderField) (before : List HeaderValue) (bytes : List ℕ) (e : Refusal) : Type 0 where
+pub record StopsAtField (context : Context) (field : HeaderField) (before : List HeaderValue) (bytes : List ℕ)
+    (e : Refusal) : Type 0 where
   pub none : (values : List HeaderValue) (rest : List ℕ) → BeginsWithField context field before values bytes rest → ⊥
   pub why : IsRefusal context field before bytes e
 
@@ -145,8 +146,10 @@ IsHeader whole first values (head.Initial h) =
 -- The bytes begin with this header, and rest is left behind it.
 abbrev pub HeaderAt : Context → ℕ → List ℕ → ProtectedHeader → List ℕ → Type 0
 HeaderAt context whole bytes h rest =
-    (first : ℕ) × (text : List ℕ) × (values : List HeaderValue) × (bytes ≡ first ∷ text) × (is_fixed context first ≡ true)
-    × AreHeaderFields context (header_row_of first (num (take 4 text))) [] values text rest × IsHeader whole first values h
+    (first : ℕ) × (text : List ℕ) × (values : List HeaderValue) × (bytes ≡ first ∷ text)
+    × (is_fixed context first ≡ true)
+    × AreHeaderFields context (header_row_of first (num (take 4 text))) [] values text rest
+    × IsHeader whole first values h
 
 -- The bytes begin with no header, and this is the refusal: of the first byte, or of the first field that is not there.
 abbrev pub Refused : Context → List ℕ → Refusal → Type 0

@@ -160,4 +160,5 @@ ReadAnswer context bytes (Err (Invalid text)) =
     Refused context bytes (Invalid text)
     × ((version : ℕ) (dst src : List ℕ) → IsUnknownVersion context bytes version dst src → ⊥)
 ReadAnswer context bytes (Err NoMemory) =
-    Refused context bytes NoMemory × ((version : ℕ) (dst src : List ℕ) → IsUnknownVersion context bytes version dst src → ⊥)
+    Refused context bytes NoMemory × ((version : ℕ) (dst src : List ℕ) → IsUnknownVersion context bytes version dst src
+    → ⊥)

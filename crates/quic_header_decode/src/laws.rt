@@ -42,7 +42,8 @@ pub fn one_reading()
 
 /// A datagram is packets in one way, up to its end or to one refusal, and reading finds these.
 pub fn one_row_of_packets()
-    ensures one { (context : Context) (bytes : List ℕ) (some others : List PlacedPacket) (refusal other : Option Refusal)
+    ensures one { (context : Context) (bytes : List ℕ) (some others : List PlacedPacket)
+        (refusal other : Option Refusal)
         → AreBytes bytes → ArePackets context 0 bytes some refusal → ArePackets context 0 bytes others other
         → (some ≡ others) × (refusal ≡ other) }
     ensures found { (context : Context) (bytes : List ℕ) → AreBytes bytes → TakesWithin context

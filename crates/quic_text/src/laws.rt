@@ -29,7 +29,8 @@ use quic_params::laws;
 /// Where a datagram is these packets, or these and then a refusal, `datagram` prints just their lines, with
 /// these places. Each datagram is so, in one way.
 pub fn packets_printed()
-    ensures lines { (len : IdLen) (bytes : List ℕ) (packets : List PlacedPacket) (refusal : Option Refusal) → AreBytes bytes
+    ensures lines { (len : IdLen) (bytes : List ℕ) (packets : List PlacedPacket) (refusal : Option Refusal)
+        → AreBytes bytes
         → ArePackets (with_ids_of (count len)) 0 bytes packets refusal
         → payload_lines (Mode.Datagram len) bytes ≡ map packet_line packets ++ refusal_lines refusal }
     ensures some { (len : IdLen) (bytes : List ℕ) → AreBytes bytes

@@ -8,11 +8,7 @@ ghost use Rattle.quic_header_encode.specs.Starts.{long_front};
 ghost use Rattle.quic_c_headers.specs.Headers.{part_of};
 ghost use Rattle.quic_c_headers.specs.Reading.{kind_word};
 ghost use Rattle.quic_c_headers.specs.Shapes.{first_word, numbered_bytes, numbered_first, numbered_size, AreParts, IsNumbered, IsShaped};
-<<<<<<< HEAD
 ghost use Rattle.quic_c_headers.specs.Written.{PacketHeaderNeedsMore, DescribesNoHeader, WrotePacketHeader};
-=======
-ghost use Rattle.quic_c_headers.specs.Written.{short_words, HasReserved, PacketHeaderNeedsMore, DescribesNoHeader, WrotePacketHeader};
->>>>>>> 4e1d625ad73dfbdb482461aa11bb93671e46ddd1
 
 use crate::words::HeaderFields;
 use quic_crypto::packet_number::PacketNumber;
@@ -129,17 +125,10 @@ fn short_first(flags: u8, number_len: u8) -> u8
 #[unsafe(no_mangle)]
 pub extern "C" fn quic_wire_short_write_(said: &HeaderFields, dst: &[u8], dest: &mut [u8]) -> i64
     ensures wrote { (result ≡ negsuc 3) ⊎ (result ≡ negsuc 0) ⊎ ((count : ℕ) × (result ≡ pos count)
-<<<<<<< HEAD
         × WrotePacketHeader said.now dst.now [] [] dest.old dest.new count) }
     ensures room { result ≡ negsuc 3 → PacketHeaderNeedsMore said.now dst.now [] [] (length dest.old) }
     ensures refused { result ≡ negsuc 0 → (said.now.kind ≢ 4) ⊎ DescribesNoHeader said.now dst.now [] [] }
     ensures short { (result ≡ negsuc 0) ⊎ (said.now.kind ≡ 4) }
-=======
-        × WrotePacketHeader (short_words first number) dst.now [] [] dest.old dest.new count) }
-    ensures room { result ≡ negsuc 3 → PacketHeaderNeedsMore (short_words first number) dst.now [] [] (length dest.old) }
-    ensures refused { result ≡ negsuc 0 → HasReserved first ⊎ DescribesNoHeader (short_words first number) dst.now [] [] }
-    ensures plain { (result ≡ negsuc 0) ⊎ (HasReserved first → ⊥) }
->>>>>>> 4e1d625ad73dfbdb482461aa11bb93671e46ddd1
     ensures same { (result ≡ negsuc 3) ⊎ (result ≡ negsuc 0) → dest.new ≡ dest.old }
 {
     let HeaderFields {

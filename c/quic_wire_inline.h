@@ -1,12 +1,14 @@
 /* SPDX-License-Identifier: MIT OR Apache-2.0 */
 /*
- * What the functions of quic_wire.h do: most look at their pointers and call the
- * proved library.  Without a call are those that give a part of what was read,
- * quic_wire_padding_count and quic_wire_header_len; quic_wire_unprotect_header
- * copies first, and quic_wire_header_write chooses one of two calls.  c/abuse/
- * holds these against the proved calls.  quic_wire.h includes this file where
- * QUIC_WIRE_INLINE is defined, and so does the library's own quic_wire.c, which
- * makes symbols of them.
+ * What the functions of quic_wire.h do: they look at their pointers, and call the
+ * proved library with what they were given.  Without a call, each by one
+ * expression, are those that give a part of what was read,
+ * quic_wire_padding_count and quic_wire_header_len.  quic_wire_unprotect_header
+ * looks at two lengths and copies, quic_wire_frame_len asks for a frame where
+ * there is no room, and quic_wire_header_write chooses one of two proved calls
+ * of one meaning.  c/abuse/ holds these against the proved calls.  quic_wire.h
+ * includes this file where QUIC_WIRE_INLINE is defined, and so does the library's
+ * own quic_wire.c, which makes symbols of them.
  */
 #ifndef QUIC_WIRE_INLINE_H
 #define QUIC_WIRE_INLINE_H
@@ -228,22 +230,23 @@ QUIC_WIRE_API size_t quic_wire_padding_count(const uint8_t *payload,
 QUIC_WIRE_API const uint8_t *
 quic_wire_reset_token(const uint8_t *payload, size_t payloadlen,
                       const quic_wire_frame *frame) {
-  if (!payload || !frame || frame->kind != QUIC_WIRE_NEW_CONNECTION_ID ||
-      frame->data > payloadlen || frame->datalen > payloadlen - frame->data ||
-      payloadlen - frame->data - frame->datalen < 16)
-    return NULL;
-  return payload + frame->data + frame->datalen;
+  return payload && frame && frame->kind == QUIC_WIRE_NEW_CONNECTION_ID &&
+                 frame->data <= payloadlen &&
+                 frame->datalen <= payloadlen - frame->data &&
+                 payloadlen - frame->data - frame->datalen >= 16
+             ? payload + frame->data + frame->datalen
+             : NULL;
 }
 
 QUIC_WIRE_API const uint8_t *quic_wire_path_data(const uint8_t *payload,
                                                  size_t payloadlen,
                                                  const quic_wire_frame *frame) {
-  if (!payload || !frame ||
-      (frame->kind != QUIC_WIRE_PATH_CHALLENGE &&
-       frame->kind != QUIC_WIRE_PATH_RESPONSE) ||
-      frame->end > payloadlen || frame->end < 8)
-    return NULL;
-  return payload + frame->end - 8;
+  return payload && frame &&
+                 (frame->kind == QUIC_WIRE_PATH_CHALLENGE ||
+                  frame->kind == QUIC_WIRE_PATH_RESPONSE) &&
+                 frame->end <= payloadlen && frame->end >= 8
+             ? payload + frame->end - 8
+             : NULL;
 }
 
 QUIC_WIRE_API uint64_t quic_wire_error_type(const quic_wire_frame *frame) {
@@ -398,10 +401,10 @@ QUIC_WIRE_API const uint8_t *quic_wire_scid(const uint8_t *packet,
 QUIC_WIRE_API const uint8_t *quic_wire_sample(const uint8_t *packet,
                                               size_t packetlen, size_t number,
                                               size_t samplelen) {
-  if (!packet || packetlen < number || packetlen - number < 4 ||
-      packetlen - number - 4 < samplelen)
-    return NULL;
-  return packet + number + 4;
+  return packet && packetlen >= number && packetlen - number >= 4 &&
+                 packetlen - number - 4 >= samplelen
+             ? packet + number + 4
+             : NULL;
 }
 
 QUIC_WIRE_API int quic_wire_unprotect(uint8_t *packet, size_t packetlen,

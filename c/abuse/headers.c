@@ -55,7 +55,9 @@ static void header_within(const uint8_t *packet, size_t left,
            packet + head->header_end);
   WANT(head->token + head->tokenlen <= head->header_end);
   sample = quic_wire_sample(packet, head->end, head->header_end, 16);
-  WANT(!sample || sample + 16 <= packet + head->end);
+  WANT(head->end - head->header_end < 20
+           ? !sample
+           : sample == packet + head->header_end + 4);
 }
 
 /* Reads any bytes as packets, and takes protection off any of them: in place, and

@@ -139,8 +139,9 @@ static int header_protected(const quic_wire_header_fields *h, uint8_t *packet,
 /* A packet of a header that was written, and a body behind it: its length is set,
  * it is read as it was said, its protection is put on as by hand, and taken off
  * again. */
-static void header_cut(const quic_wire_header_fields *h, const size_t lens[3],
-                     const uint8_t *written, size_t len) {
+static void header_cut(const quic_wire_header_fields *h,
+                       const uint8_t *const parts[3], const size_t lens[3],
+                       const uint8_t *written, size_t len) {
   const int is_long = h->kind <= QUIC_WIRE_HANDSHAKE;
   const int numbered = is_long || h->kind == QUIC_WIRE_1RTT;
   const size_t whole = len + any() % 64;
@@ -162,6 +163,9 @@ static void header_cut(const quic_wire_header_fields *h, const size_t lens[3],
   WANT(head.version == (h->kind <= QUIC_WIRE_RETRY ? h->version : 0));
   WANT(head.dcidlen == lens[0] && head.end == whole && head.header_end == at);
   WANT(h->kind == QUIC_WIRE_1RTT || head.scidlen == lens[1]);
+  WANT(!memcmp(quic_wire_dcid(packet, &head), parts[0], lens[0]));
+  WANT(h->kind == QUIC_WIRE_1RTT ||
+       !memcmp(quic_wire_scid(packet, &head), parts[1], lens[1]));
   WANT(head.tokenlen == (h->kind == QUIC_WIRE_INITIAL ? lens[2] : 0));
   WANT(head.len == (is_long ? whole - at : 0));
   if (numbered && answer > 0 && h->number >> 62 == 0) {
@@ -214,7 +218,7 @@ int header_written(void) {
     WANT(answer == QUIC_WIRE_ERR_NOBUF);
   } else {
     WANT((size_t)answer == want && !memcmp(dest, model, want));
-    header_cut(&h, lens, dest, want);
+    header_cut(&h, given, lens, dest, want);
   }
   for (k = answer > 0 ? want : 0; k < room; k++)
     WANT(dest[k] == 0xa5);

@@ -55,7 +55,9 @@ static void header_within(const uint8_t *packet, size_t left,
            packet + head->header_end);
   WANT(head->token + head->tokenlen <= head->header_end);
   sample = quic_wire_sample(packet, head->end, head->header_end, 16);
-  WANT(!sample || sample + 16 <= packet + head->end);
+  WANT(head->end - head->header_end < 20
+           ? !sample
+           : sample == packet + head->header_end + 4);
 }
 
 /* Reads any bytes as packets, and takes protection off any of them: in place, and
@@ -112,29 +114,47 @@ void protect_rubbish(uint8_t *datagram, size_t len) {
          (answer > 0 && (k == 0 || (k >= at && k < at + 4))));
 }
 
-/* A header of any bytes is opened in a copy where that has room, and a length is
- * set where it fits. */
-void place_any(uint8_t *packet, size_t len) {
-  static const uint8_t mask[5] = {0xff, 1, 2, 3, 4};
-  const size_t at = place(), headerlen = any() % 40;
-  const uint32_t lengthlen = (uint32_t)(any() % 6);
-  uint8_t before[40], head[40];
-  uint64_t number = 77;
-  size_t k;
+/* A header of any bytes is opened in a copy where that has room: what is answered
+ * and written there is what opening the same bytes in place gives. */
+static void opened_apart(const uint8_t *packet, size_t len, size_t at) {
+  const size_t headerlen = any() % 40;
+  const uint64_t expected = any() % 2 ? edge() : any() >> 34;
+  uint8_t before[40], head[40], copy[40], mask[5];
+  uint64_t number = 77, again = 77;
+  size_t begin = 0;
   int answer;
+  any_bytes(mask, 5);
   memcpy(before, packet, len);
   memset(head, 0xa5, sizeof head);
-  answer = quic_wire_unprotect_header(packet, len, at, mask, 0, head, headerlen,
-                                    &number);
-  if (len < 4 || at > len - 4)
+  answer = quic_wire_unprotect_header(packet, len, at, mask, expected, head,
+                                    headerlen, &number);
+  if (len < 4 || at > len - 4) {
     WANT(answer == QUIC_WIRE_ERR_MALFORMED);
-  else if (headerlen < at + 4)
+  } else if (headerlen < at + 4) {
     WANT(answer == QUIC_WIRE_ERR_NOBUF);
-  else
-    WANT(at ? answer >= 1 && answer <= 4 : answer == QUIC_WIRE_ERR_MALFORMED);
-  for (k = headerlen; k < sizeof head; k++)
-    WANT(head[k] == 0xa5);
-  WANT((answer > 0 || number == 77) && !memcmp(packet, before, len));
+  } else {
+    begin = at + 4;
+    memcpy(copy, packet, begin);
+    WANT(quic_wire_unprotect(copy, begin, at, mask, expected, &again) == answer);
+    WANT(!memcmp(head, copy, begin));
+    WANT(answer == INVALID || (at ? answer >= 1 && answer <= 4
+                                  : answer == QUIC_WIRE_ERR_MALFORMED));
+  }
+  for (; begin < sizeof head; begin++)
+    WANT(head[begin] == 0xa5);
+  WANT(number == again && (answer > 0 || number == 77));
+  WANT(!memcmp(packet, before, len));
+}
+
+/* A header is opened in a copy, and a length is set where it fits. */
+void place_any(uint8_t *packet, size_t len) {
+  const size_t at = place();
+  const uint32_t lengthlen = (uint32_t)(any() % 6);
+  uint8_t before[40];
+  uint64_t number = 77;
+  int answer;
+  memcpy(before, packet, len);
+  opened_apart(packet, len, at);
   answer = quic_wire_set_len(packet, len, at, lengthlen);
   if ((lengthlen == 2 || lengthlen == 4) && lengthlen <= at && at <= len) {
     WANT(answer == 0);

@@ -28,6 +28,33 @@ void headers_written_nulls(void) {
   WANT(quic_wire_header_len(NULL, 4, 4, 0) == 0);
 }
 
+/* Headers of each kind with tokens of each length's class: each is as long as reported.
+ * Where no token of such a length is at hand, its length has as many bytes as it
+ * is written in. */
+void long_tokens(void) {
+  static const uint64_t lens[] = {0, 1, 63, 64, 16383, 16384, (1u << 30) - 1,
+                                  1u << 30, (1ull << 62) - 1};
+  static uint8_t token[16384], dest[16500];
+  quic_wire_header_fields said = {0, 0, 3, 4, 1, 99};
+  uint8_t id[20], bytes[8];
+  size_t k, len;
+  memset(id, 7, sizeof id);
+  for (k = 0; k < sizeof lens / sizeof *lens; k++) {
+    len = quic_wire_varint_write(lens[k], 0, bytes, 8) + 7 + 8 + 20 + 4 + 3;
+    said.kind = QUIC_WIRE_INITIAL;
+    WANT(quic_wire_header_len(&said, 8, 20, lens[k]) == len + lens[k]);
+    for (; said.kind <= QUIC_WIRE_VERSION_NEGOTIATION; said.kind++) {
+      if (lens[k] > sizeof token && said.kind == QUIC_WIRE_INITIAL)
+        continue;
+      len = quic_wire_header_len(&said, 8, 20, lens[k]);
+      WANT(quic_wire_header_write(&said, id, 8, id, 20, token, lens[k], dest,
+                                len) == (int64_t)len);
+      WANT(quic_wire_header_write(&said, id, 8, id, 20, token, lens[k], dest,
+                                len - 1) == QUIC_WIRE_ERR_NOBUF);
+    }
+  }
+}
+
 /* The bytes of a long header up to its number, by the same model. */
 static size_t model_long(const quic_wire_header_fields *h, const uint8_t *const parts[3],
                          const size_t lens[3], uint8_t first, uint8_t *out) {
@@ -112,8 +139,9 @@ static int header_protected(const quic_wire_header_fields *h, uint8_t *packet,
 /* A packet of a header that was written, and a body behind it: its length is set,
  * it is read as it was said, its protection is put on as by hand, and taken off
  * again. */
-static void header_cut(const quic_wire_header_fields *h, const size_t lens[3],
-                     const uint8_t *written, size_t len) {
+static void header_cut(const quic_wire_header_fields *h,
+                       const uint8_t *const parts[3], const size_t lens[3],
+                       const uint8_t *written, size_t len) {
   const int is_long = h->kind <= QUIC_WIRE_HANDSHAKE;
   const int numbered = is_long || h->kind == QUIC_WIRE_1RTT;
   const size_t whole = len + any() % 64;
@@ -135,6 +163,9 @@ static void header_cut(const quic_wire_header_fields *h, const size_t lens[3],
   WANT(head.version == (h->kind <= QUIC_WIRE_RETRY ? h->version : 0));
   WANT(head.dcidlen == lens[0] && head.end == whole && head.header_end == at);
   WANT(h->kind == QUIC_WIRE_1RTT || head.scidlen == lens[1]);
+  WANT(!memcmp(quic_wire_dcid(packet, &head), parts[0], lens[0]));
+  WANT(h->kind == QUIC_WIRE_1RTT ||
+       !memcmp(quic_wire_scid(packet, &head), parts[1], lens[1]));
   WANT(head.tokenlen == (h->kind == QUIC_WIRE_INITIAL ? lens[2] : 0));
   WANT(head.len == (is_long ? whole - at : 0));
   if (numbered && answer > 0 && h->number >> 62 == 0) {
@@ -187,7 +218,7 @@ int header_written(void) {
     WANT(answer == QUIC_WIRE_ERR_NOBUF);
   } else {
     WANT((size_t)answer == want && !memcmp(dest, model, want));
-    header_cut(&h, lens, dest, want);
+    header_cut(&h, given, lens, dest, want);
   }
   for (k = answer > 0 ? want : 0; k < room; k++)
     WANT(dest[k] == 0xa5);

@@ -52,6 +52,7 @@ static void nulls(void) {
   headers_nulls();
   long_lengths();
   headers_written_nulls();
+  long_tokens();
   negotiation_nulls();
   numbers_nulls();
   params_nulls();
@@ -68,6 +69,7 @@ static void rubbish(int rounds) {
       bytes[k] = any() % 4 ? (uint8_t)(any() % 64) : (uint8_t)any();
     read_rubbish(bytes, len);
     fill_rubbish(bytes, len);
+    padding_any();
     first_rubbish(bytes, len);
     front_rubbish(bytes, len);
     fill_ranges_rubbish(bytes, len);

@@ -245,11 +245,12 @@ impl Header<'_> {
         if number.len.wrapping_sub(1) > 3 {
             return Err(unwritable(&[dst_cid], Some(number), 1));
         }
-        let bits = (u8::from(spin) << 5) | (u8::from(key_phase) << 2);
-        let first = (0x40 | bits | (number.len as u8 - 1)) ^ fixed;
+        let PacketNumber { number: whole, len } = number;
+        let flags = fixed | (u8::from(spin) << 5) | (u8::from(key_phase) << 2);
+        let said = sys::Said { kind: 4, flags, numberlen: len as u8, lengthlen: 0, version: 0, number: whole };
         let place = 1 + dst_cid.len();
         // The library looks at the id and the number by itself.
-        out.put(|room| match sys::short_write(first, number.number, dst_cid, room) {
+        out.put(|room| match sys::short_write(&said, dst_cid, room) {
             Ok(filled) => Ok((filled, PartialEncode { header_len: place + number.len, number: place, length: 0 })),
             Err(answer) if answer == i64::from(sys::NO_ROOM) => Err(WriteError::NoRoom(place + number.len)),
             Err(_) => Err(unwritable(&[dst_cid], Some(number), 1)),

@@ -5,7 +5,7 @@ use super::words::{Canon, Frame, Frames, HeaderPlaces, Param, Params, Range, Ran
 
 extern "C" {
     /// An archive of another version lacks it, so that it isn't linked.
-    pub static quic_wire_abi_5: u8;
+    pub static quic_wire_abi_6: u8;
 
     pub fn quic_wire_frames_fill_(
         frames: *mut Frames,
@@ -69,13 +69,12 @@ extern "C" {
     ) -> i32;
     pub fn quic_wire_protect_(packet: *mut u8, len: usize, place: usize, mask: *const u8) -> i32;
     pub fn quic_wire_short_write_(
-        first: u32,
-        number: u64,
+        said: *const Said,
         dst: *const u8,
         dst_len: usize,
         out: *mut u8,
         out_len: usize,
-    ) -> i32;
+    ) -> i64;
     pub fn quic_wire_header_write_(
         said: *const Said,
         dst: *const u8,

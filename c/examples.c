@@ -60,7 +60,7 @@ static void open_packets(uint8_t *packet, size_t len) {
   const size_t nversions = 1;
   const uint32_t cidlen = 4;
   const uint64_t expected = 1;
-  quic_wire_header head;
+  quic_wire_header header;
   uint64_t number;
   uint8_t mask[5];
   int numberlen;

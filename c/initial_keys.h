@@ -77,7 +77,7 @@ static void make_mask(const keys *k, const uint8_t *sample, uint8_t mask[5]) {
  * place, and puts the tag behind them; or opens them, of which the tag is then
  * the last.  Returns whether the tag is right. */
 static int crypt_payload(const keys *k, int seal, uint64_t number,
-                         const uint8_t *head, size_t headerlen,
+                         const uint8_t *header, size_t headerlen,
                          const uint8_t *payload, size_t len, uint8_t *out) {
   EVP_CIPHER_CTX *gcm = EVP_CIPHER_CTX_new();
   uint8_t nonce[12], tag[TAG], end[TAG];
@@ -91,7 +91,7 @@ static int crypt_payload(const keys *k, int seal, uint64_t number,
   }
   check(gcm &&
             EVP_CipherInit_ex(gcm, EVP_aes_128_gcm(), NULL, k->key, nonce, seal) &&
-            EVP_CipherUpdate(gcm, NULL, &n, head, (int)headerlen) &&
+            EVP_CipherUpdate(gcm, NULL, &n, header, (int)headerlen) &&
             EVP_CipherUpdate(gcm, out, &n, payload, (int)len),
         "no AES-GCM");
   if (!seal)

@@ -52,19 +52,19 @@
  *
  * And a packet is sealed so, with room for a tag of 16 bytes behind it:
  *
- *   quic_wire_header_fields said = {0};
- *   said.kind = QUIC_WIRE_HANDSHAKE;
- *   said.version = 1;
- *   said.number = number;
- *   said.numberlen = (uint8_t)quic_wire_number_len(number, largest_acked);
- *   said.lengthlen = 2;
- *   int64_t begin = quic_wire_header_write(&said, dcid, dcidlen, scid, scidlen,
+ *   quic_wire_header_fields fields = {0};
+ *   fields.kind = QUIC_WIRE_HANDSHAKE;
+ *   fields.version = 1;
+ *   fields.number = number;
+ *   fields.numberlen = (uint8_t)quic_wire_number_len(number, largest_acked);
+ *   fields.lengthlen = 2;
+ *   int64_t begin = quic_wire_header_write(&fields, dcid, dcidlen, scid, scidlen,
  *                                        NULL, 0, packet, room);
- *   size_t place = (size_t)begin - said.numberlen; // where the number stands
+ *   size_t place = (size_t)begin - fields.numberlen; // where the number stands
  *   quic_wire_frame_write(&frame, data, datalen, 1, packet + begin,
  *                         room - 16 - (size_t)begin, &payloadlen);
  *   size_t end = (size_t)begin + payloadlen + 16;
- *   quic_wire_set_len(packet, end, place, said.lengthlen);
+ *   quic_wire_set_len(packet, end, place, fields.lengthlen);
  *   seal_payload(number, packet, (size_t)begin, packet + begin, payloadlen);
  *   make_mask(mask, quic_wire_sample(packet, end, place, 16));
  *   quic_wire_protect(packet, end, place, mask);
@@ -807,21 +807,21 @@ QUIC_WIRE_API int quic_wire_canonical(const uint8_t *payload, size_t payloadlen,
  * Reads the header of the packet that |bytes| begin with, be it whole or cut off
  * behind its head.  Ids of short headers have |cidlen| bytes; |versions| are
  * those that are read further than their ids.  The fixed bit isn't looked at:
- * who doesn't take packets of RFC 9287 asks for it in |head->first|, but not of
+ * who doesn't take packets of RFC 9287 asks for it in |header->first|, but not of
  * a version negotiation, where clients ignore it (RFC 9000, section 17.2.1).
  *
- * Returns 0 and the header, whose packet ends at |head->end|, where the next one
+ * Returns 0 and the header, whose packet ends at |header->end|, where the next one
  * of the datagram begins; QUIC_WIRE_PACKET_LENGTH_BEYOND_END and the header, of a
  * packet that is cut off; QUIC_WIRE_PACKET_UNSUPPORTED_VERSION and of the header
  * its kind, its version and its ids, which may have up to 255 bytes; another
  * reason where there is no header, or where a version negotiation has longer ids
  * than 20 bytes, which quic_wire_negotiation_read tells;
  * QUIC_WIRE_ERR_INVALID_ARGUMENT for NULL, or where |cidlen| is above 20 or
- * there are 2^32 bytes or more.  |head| stays with the last two.
+ * there are 2^32 bytes or more.  |header| stays with the last two.
  */
 QUIC_WIRE_API int quic_wire_header_read(const uint8_t *bytes, size_t len,
                                       uint32_t cidlen, const uint32_t *versions,
-                                      size_t nversions, quic_wire_header *head);
+                                      size_t nversions, quic_wire_header *header);
 
 /*
  * Where the short header ends that |packet| begins with, whose id has |cidlen|
@@ -839,22 +839,22 @@ QUIC_WIRE_API size_t quic_wire_short_read(const uint8_t *packet,
  * quic_wire_header_read tells where both have at most 20, which refuses longer
  * ones.  The seven low bits of the first byte aren't looked at.
  *
- * Returns 0 and the header, behind which the versions stand from |head->header_end|
- * to |head->end|, four bytes each, the highest first; QUIC_WIRE_ERR_MALFORMED
+ * Returns 0 and the header, behind which the versions stand from |header->header_end|
+ * to |header->end|, four bytes each, the highest first; QUIC_WIRE_ERR_MALFORMED
  * where none begins there: the highest bit of the first byte is clear, the
  * version isn't 0, or the bytes end within the ids;
  * QUIC_WIRE_ERR_INVALID_ARGUMENT for NULL, or where there are 2^32 bytes or
- * more.  |head| changes with 0 alone.
+ * more.  |header| changes with 0 alone.
  */
 QUIC_WIRE_API int quic_wire_negotiation_read(const uint8_t *packet,
                                              size_t packetlen,
-                                             quic_wire_header *head);
+                                             quic_wire_header *header);
 
 /* Where the ids stand in a packet of this header, or NULL for NULL. */
 QUIC_WIRE_API const uint8_t *quic_wire_dcid(const uint8_t *packet,
-                                            const quic_wire_header *head);
+                                            const quic_wire_header *header);
 QUIC_WIRE_API const uint8_t *quic_wire_scid(const uint8_t *packet,
-                                            const quic_wire_header *head);
+                                            const quic_wire_header *header);
 
 /* ---- The protection of headers */
 
@@ -883,14 +883,14 @@ QUIC_WIRE_API int quic_wire_unprotect(uint8_t *packet, size_t packetlen,
 
 /*
  * The same of a packet that stays as it is: its header and the four bytes from
- * |place| on are copied to |head|, which has room for |headerlen| bytes, and
+ * |place| on are copied to |header|, which has room for |headerlen| bytes, and
  * opened there.  QUIC_WIRE_ERR_NOBUF where that is less.  With an answer below
- * 0 |number| stays, and |head| may hold the copy.
+ * 0 |number| stays, and |header| may hold the copy.
  */
 QUIC_WIRE_API int quic_wire_unprotect_header(const uint8_t *packet,
                                            size_t packetlen, size_t place,
                                            const uint8_t *mask,
-                                           uint64_t expected, uint8_t *head,
+                                           uint64_t expected, uint8_t *header,
                                            size_t headerlen, uint64_t *number);
 
 /*
@@ -934,13 +934,13 @@ QUIC_WIRE_API size_t quic_wire_varint_write(uint64_t value, uint32_t width,
 /* ---- Headers of packets, written */
 
 /* How many bytes a header has whose token has |tokenlen|; 0 for NULL. */
-QUIC_WIRE_API size_t quic_wire_header_len(const quic_wire_header_fields *said,
+QUIC_WIRE_API size_t quic_wire_header_len(const quic_wire_header_fields *fields,
                                         size_t dcidlen, size_t scidlen,
                                         size_t tokenlen);
 
 /*
  * Writes the header of a packet at the front of |dest|, with no protection on it:
- * what |said| says, with the receiver's id |dcid|, the sender's id |scid| and
+ * what |fields| says, with the receiver's id |dcid|, the sender's id |scid| and
  * the |token|.  The length that an Initial, 0-RTT or Handshake packet has is 0,
  * until quic_wire_set_len.
  *
@@ -953,7 +953,7 @@ QUIC_WIRE_API size_t quic_wire_header_len(const quic_wire_header_fields *said,
  * version negotiation (RFC 9000, section 17.2.1).  |dest| changes where a header
  * was written alone.
  *
- * What is looked at, and nothing else, so that one |said| serves all kinds:
+ * What is looked at, and nothing else, so that one |fields| serves all kinds:
  *
  *   Initial          |flags|, |version|, both ids, |token|, |number|,
  *                    |numberlen|, |lengthlen|
@@ -965,12 +965,12 @@ QUIC_WIRE_API size_t quic_wire_header_len(const quic_wire_header_fields *said,
  * and of |flags| QUIC_WIRE_FIXED_BIT, with 1-RTT also QUIC_WIRE_SPIN_BIT and
  * QUIC_WIRE_KEY_PHASE, and with a version negotiation the seven low bits.
  *
- * A version negotiation is written also where |said->flags| lacks
+ * A version negotiation is written also where |fields->flags| lacks
  * QUIC_WIRE_FIXED_BIT: RFC 9000, section 17.2.1, has that bit set where QUIC
  * may share its port (RFC 7983), and readers that ask for it refuse it.
  */
 QUIC_WIRE_API int64_t quic_wire_header_write(
-    const quic_wire_header_fields *said, const uint8_t *dcid, size_t dcidlen,
+    const quic_wire_header_fields *fields, const uint8_t *dcid, size_t dcidlen,
     const uint8_t *scid, size_t scidlen, const uint8_t *token, size_t tokenlen,
     uint8_t *dest, size_t destlen);
 

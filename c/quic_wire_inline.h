@@ -366,12 +366,12 @@ QUIC_WIRE_API int quic_wire_canonical(const uint8_t *payload, size_t payloadlen,
 
 QUIC_WIRE_API int quic_wire_header_read(const uint8_t *bytes, size_t len,
                                       uint32_t cidlen, const uint32_t *versions,
-                                      size_t nversions, quic_wire_header *head) {
+                                      size_t nversions, quic_wire_header *header) {
   static const uint32_t none = 0;
-  if (!bytes || !head || (!versions && nversions))
+  if (!bytes || !header || (!versions && nversions))
     return QUIC_WIRE_ERR_INVALID_ARGUMENT;
   return quic_wire_header_read_(bytes, len, cidlen, versions ? versions : &none,
-                              nversions, head);
+                              nversions, header);
 }
 
 QUIC_WIRE_API size_t quic_wire_short_read(const uint8_t *packet,
@@ -381,21 +381,21 @@ QUIC_WIRE_API size_t quic_wire_short_read(const uint8_t *packet,
 
 QUIC_WIRE_API int quic_wire_negotiation_read(const uint8_t *packet,
                                              size_t packetlen,
-                                             quic_wire_header *head) {
-  if (!packet || !head)
+                                             quic_wire_header *header) {
+  if (!packet || !header)
     return QUIC_WIRE_ERR_INVALID_ARGUMENT;
-  return quic_wire_negotiation_read_(packet, packetlen, head);
+  return quic_wire_negotiation_read_(packet, packetlen, header);
 }
 
 QUIC_WIRE_API const uint8_t *quic_wire_dcid(const uint8_t *packet,
-                                            const quic_wire_header *head) {
-  return packet && head ? packet + (head->first & QUIC_WIRE_LONG_FORM ? 6 : 1)
+                                            const quic_wire_header *header) {
+  return packet && header ? packet + (header->first & QUIC_WIRE_LONG_FORM ? 6 : 1)
                         : NULL;
 }
 
 QUIC_WIRE_API const uint8_t *quic_wire_scid(const uint8_t *packet,
-                                            const quic_wire_header *head) {
-  return packet && head ? packet + 7 + head->dcidlen : NULL; /* of a long header */
+                                            const quic_wire_header *header) {
+  return packet && header ? packet + 7 + header->dcidlen : NULL; /* of a long header */
 }
 
 QUIC_WIRE_API const uint8_t *quic_wire_sample(const uint8_t *packet,
@@ -418,14 +418,14 @@ QUIC_WIRE_API int quic_wire_unprotect(uint8_t *packet, size_t packetlen,
 QUIC_WIRE_API int quic_wire_unprotect_header(const uint8_t *packet,
                                            size_t packetlen, size_t place,
                                            const uint8_t *mask,
-                                           uint64_t expected, uint8_t *head,
+                                           uint64_t expected, uint8_t *header,
                                            size_t headerlen, uint64_t *number) {
-  if (!packet || !mask || !head || !number)
+  if (!packet || !mask || !header || !number)
     return QUIC_WIRE_ERR_INVALID_ARGUMENT;
   return packetlen < 4 || packetlen - 4 < place ? QUIC_WIRE_ERR_MALFORMED
          : headerlen < place + 4
              ? QUIC_WIRE_ERR_NOBUF
-             : quic_wire_unprotect_((uint8_t *)memcpy(head, packet, place + 4),
+             : quic_wire_unprotect_((uint8_t *)memcpy(header, packet, place + 4),
                                     place + 4, place, mask, expected, number);
 }
 
@@ -457,17 +457,17 @@ QUIC_WIRE_API size_t quic_wire_varint_write(uint64_t value, uint32_t width,
   return dest ? quic_wire_varint_write_(value, width, dest, destlen) : 0;
 }
 
-QUIC_WIRE_API size_t quic_wire_header_len(const quic_wire_header_fields *said,
+QUIC_WIRE_API size_t quic_wire_header_len(const quic_wire_header_fields *fields,
                                         size_t dcidlen, size_t scidlen,
                                         size_t tokenlen) {
-  return !said ? 0
-         : said->kind == QUIC_WIRE_1RTT
-             ? 1 + dcidlen + said->numberlen
+  return !fields ? 0
+         : fields->kind == QUIC_WIRE_1RTT
+             ? 1 + dcidlen + fields->numberlen
              : 7 + dcidlen + scidlen +
-                   (said->kind <= QUIC_WIRE_HANDSHAKE
-                        ? (size_t)said->lengthlen + said->numberlen
+                   (fields->kind <= QUIC_WIRE_HANDSHAKE
+                        ? (size_t)fields->lengthlen + fields->numberlen
                         : 0) +
-                   (said->kind == QUIC_WIRE_INITIAL
+                   (fields->kind == QUIC_WIRE_INITIAL
                         ? tokenlen + (tokenlen < 64        ? 1
                                       : tokenlen < 16384   ? 2
                                       : tokenlen < 1 << 30 ? 4
@@ -476,21 +476,21 @@ QUIC_WIRE_API size_t quic_wire_header_len(const quic_wire_header_fields *said,
 }
 
 QUIC_WIRE_API int64_t quic_wire_header_write(
-    const quic_wire_header_fields *said, const uint8_t *dcid, size_t dcidlen,
+    const quic_wire_header_fields *fields, const uint8_t *dcid, size_t dcidlen,
     const uint8_t *scid, size_t scidlen, const uint8_t *token, size_t tokenlen,
     uint8_t *dest, size_t destlen) {
   static const uint8_t none = 0;
-  if (!said || (!dcid && dcidlen) || !dest)
+  if (!fields || (!dcid && dcidlen) || !dest)
     return QUIC_WIRE_ERR_INVALID_ARGUMENT;
   if (!dcid)
     dcid = &none;
-  if (said->kind == QUIC_WIRE_1RTT)
-    return quic_wire_short_write_(said, dcid, dcidlen, dest, destlen);
-  if (said->kind != QUIC_WIRE_INITIAL)
+  if (fields->kind == QUIC_WIRE_1RTT)
+    return quic_wire_short_write_(fields, dcid, dcidlen, dest, destlen);
+  if (fields->kind != QUIC_WIRE_INITIAL)
     tokenlen = 0;
   if ((!scid && scidlen) || (!token && tokenlen))
     return QUIC_WIRE_ERR_INVALID_ARGUMENT;
-  return quic_wire_header_write_(said, dcid, dcidlen, scid ? scid : &none, scidlen,
+  return quic_wire_header_write_(fields, dcid, dcidlen, scid ? scid : &none, scidlen,
                                token ? token : &none, tokenlen, dest, destlen);
 }
 

@@ -93,8 +93,8 @@ static const char *open_by(const uint8_t *id, size_t idlen, unsigned from, uint6
   if (!sample)
     return "too short for a sample";
   make_mask(&k, sample, mask);
-  numberlen = quic_wire_unprotect_header(packet, header->end, header->header_end, mask, expected, bare,
-                                       sizeof bare, &out->number);
+  numberlen = quic_wire_unprotect_header(packet, header->end, header->header_end, mask, expected,
+                                         bare, sizeof bare, &out->number);
   if (numberlen < 0)
     return quic_wire_strerror(numberlen);
   begin = header->header_end + (size_t)numberlen;
@@ -145,7 +145,7 @@ static void print_id(const char *name, const uint8_t *id, size_t len) {
 
 /* A packet's line up to its number. */
 static void print_header(const datagram *d, unsigned from, const uint8_t *packet,
-                       const quic_wire_header *header) {
+                         const quic_wire_header *header) {
   static const char *const kinds[] = {"initial", "0rtt", "handshake", "retry", "short",
                                       "version-negotiation", "unknown"};
   printf("%lu %c %s", d->frame, "cs"[from], kinds[header->kind]);
@@ -236,13 +236,14 @@ static void print_packet(const datagram *d, flow *f, unsigned *from, const uint8
  * bytes, or it isn't known how many (-1).  Returns whether there is one, and through
  * |why| what is wrong with it, or why there is none. */
 static int read_header(const uint8_t *packet, size_t len, int cidlen, quic_wire_header *header,
-                     const char **why) {
+                       const char **why) {
   int answer = quic_wire_negotiation_read(packet, len, header);
   *why = "the length of its id isn't known";
   if (!(packet[0] & QUIC_WIRE_LONG_FORM) && cidlen < 0)
     return 0;
   if (answer != QUIC_WIRE_OK)
-    answer = quic_wire_header_read(packet, len, cidlen < 0 ? 0 : (uint32_t)cidlen, versions, 2, header);
+    answer =
+        quic_wire_header_read(packet, len, cidlen < 0 ? 0 : (uint32_t)cidlen, versions, 2, header);
   *why = answer ? quic_wire_packet_reason_text((uint32_t)answer) : NULL;
   if (answer == QUIC_WIRE_PACKET_UNSUPPORTED_VERSION)
     header->end = (uint32_t)len; /* where such a packet ends only its version says */

@@ -39,15 +39,15 @@ static void turn(uint8_t *bytes, size_t len) {
     bytes[i] ^= 0xff;
 }
 
-static void seal_payload(uint64_t number, const uint8_t *packet, size_t headerlen,
-                         uint8_t *payload, size_t len) {
+static void seal_payload(uint64_t number, const uint8_t *packet,
+                         size_t headerlen, uint8_t *payload, size_t len) {
   check(packet + headerlen == payload, "another place");
   turn(payload, len);
   memset(payload + len, (int)number, 16);
 }
 
-static void open_payload(uint64_t number, const uint8_t *packet, size_t headerlen,
-                         uint8_t *payload, size_t len) {
+static void open_payload(uint64_t number, const uint8_t *packet,
+                         size_t headerlen, uint8_t *payload, size_t len) {
   check(packet + headerlen == payload && number == 1, "another packet");
   check(payload[len - 16] == 1 && payload[len - 1] == 1, "another tag");
   turn(payload, len - 16);

@@ -32,8 +32,8 @@ static size_t open_packet(const keys *k, uint8_t *packet,
   int numberlen;
   check(sample != NULL, "too short for a sample");
   make_mask(k, sample, mask);
-  numberlen =
-      quic_wire_unprotect(packet, header->end, header->header_end, mask, 0, number);
+  numberlen = quic_wire_unprotect(packet, header->end, header->header_end, mask,
+                                  0, number);
   check(numberlen > 0, quic_wire_strerror(numberlen));
   begin = header->header_end + (size_t)numberlen;
   check(header->end - begin >= TAG &&
@@ -49,14 +49,15 @@ static size_t seal_packet(const keys *k, const quic_wire_header_fields *fields,
                           const uint8_t *dcid, size_t dcidlen,
                           const uint8_t *payload, size_t len, uint8_t *packet,
                           size_t room) {
-  const int64_t headerlen = quic_wire_header_write(fields, dcid, dcidlen, NULL, 0, NULL,
-                                               0, packet, room);
+  const int64_t headerlen = quic_wire_header_write(fields, dcid, dcidlen, NULL,
+                                                   0, NULL, 0, packet, room);
   const size_t begin = (size_t)headerlen, end = begin + len + TAG;
   const size_t place = begin - fields->numberlen;
   uint8_t mask[5];
   check(headerlen > 0 && end <= room, "no room");
   memcpy(packet + begin, payload, len);
-  check(quic_wire_set_len(packet, end, place, fields->lengthlen) == 0, "too long");
+  check(quic_wire_set_len(packet, end, place, fields->lengthlen) == 0,
+        "too long");
   crypt_payload(k, 1, fields->number, packet, begin, packet + begin, len,
                 packet + begin);
   check(quic_wire_sample(packet, end, place, SAMPLE) != NULL, "too short");
@@ -100,7 +101,8 @@ int main(void) {
   int answer = quic_wire_header_read(packet, len, 0, versions, 1, &header);
   check(quic_wire_check_linked() == 0, "another library is linked");
   check(answer == 0, quic_wire_packet_reason_text((uint32_t)answer));
-  check(header.kind == QUIC_WIRE_INITIAL && header.scidlen + header.tokenlen == 0,
+  check(header.kind == QUIC_WIRE_INITIAL &&
+            header.scidlen + header.tokenlen == 0,
         "no Initial packet of a client's first datagram");
   memcpy(given, packet, len);
   dcid = quic_wire_dcid(given, &header);
@@ -115,7 +117,8 @@ int main(void) {
   print_frames(packet + begin, header.end - begin - TAG);
 
   check(seal_packet(&k, &fields, dcid, header.dcidlen, packet + begin,
-                    header.end - begin - TAG, again, sizeof again) == header.end &&
+                    header.end - begin - TAG, again,
+                    sizeof again) == header.end &&
             !memcmp(again, given, header.end),
         "sealed anew it is another packet");
   printf("sealed anew: the same %" PRIu32 " bytes\n", header.end);

@@ -1,7 +1,7 @@
 /* The keys of Initial packets of versions 1 and 2 (RFC 9001, section 5.2, and RFC
- * 9369, section 3.3), and what is done by them, with libcrypto's ciphers: for the
- * examples initial.c and capture.c.  Both define check, which ends the program
- * where something isn't so. */
+ * 9369, section 3.3), and what is done by them, with libcrypto's ciphers: for
+ * the examples initial.c and capture.c.  Both define check, which ends the
+ * program where something isn't so. */
 #ifndef INITIAL_KEYS_H
 #define INITIAL_KEYS_H
 
@@ -90,7 +90,8 @@ static int crypt_payload(const keys *k, int seal, uint64_t number,
     memcpy(tag, payload + len, TAG);
   }
   check(gcm &&
-            EVP_CipherInit_ex(gcm, EVP_aes_128_gcm(), NULL, k->key, nonce, seal) &&
+            EVP_CipherInit_ex(gcm, EVP_aes_128_gcm(), NULL, k->key, nonce,
+                              seal) &&
             EVP_CipherUpdate(gcm, NULL, &n, header, (int)headerlen) &&
             EVP_CipherUpdate(gcm, out, &n, payload, (int)len),
         "no AES-GCM");

@@ -134,7 +134,7 @@ static void print_packet(const uint8_t *packet, size_t begin,
 
 /* Why no packet begins here, or 0 and its head. */
 static int read_header(const uint8_t *bytes, size_t len, uint32_t cidlen,
-                     quic_wire_header *header) {
+                       quic_wire_header *header) {
   static const uint32_t versions[] = {0x00000001, 0xff00001d, 0xff00001e,
                                       0xff00001f, 0xff000020, 0xff000021,
                                       0xff000022, 0x6b3343cf};

@@ -7,9 +7,12 @@ static void protection_nulls(void) {
   WANT(quic_wire_unprotect(NULL, 4, 0, id, 0, &number) == INVALID);
   WANT(quic_wire_unprotect(out, 4, 0, NULL, 0, &number) == INVALID);
   WANT(quic_wire_unprotect(out, 4, 0, id, 0, NULL) == INVALID);
-  WANT(quic_wire_unprotect_header(NULL, 4, 0, id, 0, out, 16, &number) == INVALID);
-  WANT(quic_wire_unprotect_header(id, 4, 0, NULL, 0, out, 16, &number) == INVALID);
-  WANT(quic_wire_unprotect_header(id, 4, 0, id, 0, NULL, 16, &number) == INVALID);
+  WANT(quic_wire_unprotect_header(NULL, 4, 0, id, 0, out, 16, &number) ==
+       INVALID);
+  WANT(quic_wire_unprotect_header(id, 4, 0, NULL, 0, out, 16, &number) ==
+       INVALID);
+  WANT(quic_wire_unprotect_header(id, 4, 0, id, 0, NULL, 16, &number) ==
+       INVALID);
   WANT(quic_wire_unprotect_header(id, 4, 0, id, 0, out, 16, NULL) == INVALID);
   WANT(quic_wire_protect(NULL, 4, 0, id) == INVALID);
   WANT(quic_wire_protect(out, 4, 0, NULL) == INVALID);
@@ -45,9 +48,10 @@ void long_lengths(void) {
 
 /* What was reported of a packet lies within it. */
 static void header_within(const uint8_t *packet, size_t left,
-                        const quic_wire_header *header) {
+                          const quic_wire_header *header) {
   const uint8_t *sample;
-  WANT(header->header_end && header->header_end <= header->end && header->end <= left);
+  WANT(header->header_end && header->header_end <= header->end &&
+       header->end <= left);
   WANT(quic_wire_dcid(packet, header) + header->dcidlen <=
        packet + header->header_end);
   WANT(header->kind == QUIC_WIRE_1RTT ||
@@ -77,18 +81,21 @@ void packet_rubbish(uint8_t *datagram, size_t len) {
   any_bytes(mask, 5);
   for (; begin < len; begin += header.end) {
     uint8_t *packet = datagram + begin;
-    answer = quic_wire_header_read(packet, len - begin, cidlen, versions, 2, &header);
+    answer = quic_wire_header_read(packet, len - begin, cidlen, versions, 2,
+                                   &header);
     if (cidlen > 20)
       WANT(answer == INVALID);
-    WANT(quic_wire_short_read(packet, len - begin, cidlen) ==
-         (answer == 0 && header.kind == QUIC_WIRE_1RTT ? header.header_end : 0));
+    WANT(
+        quic_wire_short_read(packet, len - begin, cidlen) ==
+        (answer == 0 && header.kind == QUIC_WIRE_1RTT ? header.header_end : 0));
     if (answer != 0 && answer != QUIC_WIRE_PACKET_LENGTH_BEYOND_END)
       break;
     header_within(packet, len - begin, &header);
-    answer = quic_wire_unprotect_header(packet, header.end, header.header_end, mask,
-                                      expected, copy, sizeof copy, &again);
-    WANT(answer == quic_wire_unprotect(packet, header.end, header.header_end, mask,
-                                       expected, &number));
+    answer =
+        quic_wire_unprotect_header(packet, header.end, header.header_end, mask,
+                                   expected, copy, sizeof copy, &again);
+    WANT(answer == quic_wire_unprotect(packet, header.end, header.header_end,
+                                       mask, expected, &number));
     WANT(answer >= 1 ? answer <= 4 && number == again
                      : answer == INVALID || answer == QUIC_WIRE_ERR_MALFORMED);
   }
@@ -127,7 +134,7 @@ static void opened_apart(const uint8_t *packet, size_t len, size_t at) {
   memcpy(before, packet, len);
   memset(header, 0xa5, sizeof header);
   answer = quic_wire_unprotect_header(packet, len, at, mask, expected, header,
-                                    headerlen, &number);
+                                      headerlen, &number);
   if (len < 4 || at > len - 4) {
     WANT(answer == QUIC_WIRE_ERR_MALFORMED);
   } else if (headerlen < at + 4) {
@@ -135,10 +142,11 @@ static void opened_apart(const uint8_t *packet, size_t len, size_t at) {
   } else {
     begin = at + 4;
     memcpy(copy, packet, begin);
-    WANT(quic_wire_unprotect(copy, begin, at, mask, expected, &again) == answer);
+    WANT(quic_wire_unprotect(copy, begin, at, mask, expected, &again) ==
+         answer);
     WANT(!memcmp(header, copy, begin));
-    WANT(answer == INVALID || (at ? answer >= 1 && answer <= 4
-                                  : answer == QUIC_WIRE_ERR_MALFORMED));
+    WANT(answer == INVALID ||
+         (at ? answer >= 1 && answer <= 4 : answer == QUIC_WIRE_ERR_MALFORMED));
   }
   for (; begin < sizeof header; begin++)
     WANT(header[begin] == 0xa5);

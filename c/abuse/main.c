@@ -1,7 +1,8 @@
 /* abuse [ROUNDS]: what a caller may get wrong, and structs of any words over
  * blocks of just their length; what is written is read back; protection that is
- * put on by hand is taken off; sets are what bits say, and ACKs of them what the
- * RFC says.  It ends with 0 where all is as it should be, and is built here by
+ * put on by hand is taken off; sets are what bits say, and ACKs of them what
+ * the RFC says.  It ends with 0 where all is as it should be, and is built here
+ * by
  *
  *   cc -O2 -I.. -o abuse *.c libquic_wire.a
  */

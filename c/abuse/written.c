@@ -21,7 +21,8 @@ void written_nulls(void) {
   WANT(quic_wire_frame_header_write(NULL, 0, out, 8, &n) == INVALID);
   WANT(quic_wire_frame_header_write(&frame, 0, NULL, 8, &n) == INVALID);
   WANT(quic_wire_frame_header_write(&frame, 0, NULL, 0, &n) ==
-           QUIC_WIRE_ERR_NOBUF && n == 3);
+           QUIC_WIRE_ERR_NOBUF &&
+       n == 3);
   WANT(quic_wire_frame_header_write(&frame, 0, out, 8, NULL) == 0);
 }
 
@@ -132,6 +133,7 @@ void header_rubbish(void) {
     WANT(header[k] == 0xa5);
   WANT(answer != 0 || !memcmp(header, whole, n));
   frame.datalen = (size_t)edge();
-  answer = quic_wire_frame_header_write(&frame, last, header, sizeof header, &n);
+  answer =
+      quic_wire_frame_header_write(&frame, last, header, sizeof header, &n);
   WANT(answer == INVALID || (answer == 0 && n <= 25));
 }

@@ -17,10 +17,10 @@ static inline uint64_t quic_wire_ng_expected(int64_t largest) {
 
 /*
  * Takes the protection off the header of |pkt|, whose packet number begins at
- * |place|: the header is copied to |header|, which has room for |place| + 4 bytes,
- * and opened there by the mask that |hp_mask| makes.  |hd| gets the whole
- * number by |largest|, the greatest one that came (-1: none), its length and
- * the key phase.
+ * |place|: the header is copied to |header|, which has room for |place| + 4
+ * bytes, and opened there by the mask that |hp_mask| makes.  |hd| gets the
+ * whole number by |largest|, the greatest one that came (-1: none), its length
+ * and the key phase.
  *
  * Returns where the payload begins; NGTCP2_ERR_PROTO where the packet is too
  * short for a sample; NGTCP2_ERR_CALLBACK_FAILURE.

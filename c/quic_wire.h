@@ -35,7 +35,7 @@
  * the caller's cipher:
  *
  *   while (len != 0 && quic_wire_header_read(packet, len, cidlen, versions,
- *                                          nversions, &header) == 0) {
+ *                                            nversions, &header) == 0) {
  *     const uint8_t *sample =
  *         quic_wire_sample(packet, header.end, header.header_end, 16);
  *     if (sample && header.kind != QUIC_WIRE_RETRY &&

@@ -196,7 +196,7 @@ pub says_ack_of : (delay : ℕ) (words : List CRange) (count : ℕ) (counts : Li
 says_ack_of delay words count counts set some le delayed three counted = record {
   set = set;
   some = some;
-  shortest_varint = all_small words count set some le;
+  short = all_small words count set some le;
   delayed = delayed;
   three = three;
   counted = counted;

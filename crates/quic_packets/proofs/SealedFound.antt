@@ -297,10 +297,10 @@ is_none : (m : ℕ) → m ≡ 0 → nat_eq m 1 ≡ false
 is_none m e = grind (arith, nat_tests)
 
 short_byte : (spin key_phase : Bool) (size b : ℕ) → 1 ≤ size → size ≤ 4 → b / 32 ≡ short_first spin key_phase size / 32 → ShortByte spin key_phase size b
-short_byte true true size b low up h = record { shortest_varint = omega arith; fixed = omega arith; spin_bit = sym (is_one (b / 32 % 2) (omega arith)); phase_bit = is_one (short_first true true size / 4 % 2) (omega arith); low = omega arith }
-short_byte true false size b low up h = record { shortest_varint = omega arith; fixed = omega arith; spin_bit = sym (is_one (b / 32 % 2) (omega arith)); phase_bit = is_none (short_first true false size / 4 % 2) (omega arith); low = omega arith }
-short_byte false true size b low up h = record { shortest_varint = omega arith; fixed = omega arith; spin_bit = sym (is_none (b / 32 % 2) (omega arith)); phase_bit = is_one (short_first false true size / 4 % 2) (omega arith); low = omega arith }
-short_byte false false size b low up h = record { shortest_varint = omega arith; fixed = omega arith; spin_bit = sym (is_none (b / 32 % 2) (omega arith)); phase_bit = is_none (short_first false false size / 4 % 2) (omega arith); low = omega arith }
+short_byte true true size b low up h = record { short = omega arith; fixed = omega arith; spin_bit = sym (is_one (b / 32 % 2) (omega arith)); phase_bit = is_one (short_first true true size / 4 % 2) (omega arith); low = omega arith }
+short_byte true false size b low up h = record { short = omega arith; fixed = omega arith; spin_bit = sym (is_one (b / 32 % 2) (omega arith)); phase_bit = is_none (short_first true false size / 4 % 2) (omega arith); low = omega arith }
+short_byte false true size b low up h = record { short = omega arith; fixed = omega arith; spin_bit = sym (is_none (b / 32 % 2) (omega arith)); phase_bit = is_one (short_first false true size / 4 % 2) (omega arith); low = omega arith }
+short_byte false false size b low up h = record { short = omega arith; fixed = omega arith; spin_bit = sym (is_none (b / 32 % 2) (omega arith)); phase_bit = is_none (short_first false false size / 4 % 2) (omega arith); low = omega arith }
 
 short_sealed : (seal : KeyPair) (key : KeyPair) → Lawful seal key → (context : DecodeOptions) (spin key_phase : Bool) (dst : List ℕ) (number : PacketNumber) (n : ℕ) (payload packet rest : List ℕ)
     → Sealed seal (header.Short spin key_phase dst number) n payload packet → IsReadBack context (header.Short spin key_phase dst number) rest

@@ -117,10 +117,10 @@ is_none : (m : ℕ) → m ≡ 0 → false ≡ nat_eq m 1
 is_none m e = grind (arith, nat_tests)
 
 short_byte : (spin key_phase : Bool) (low : ℕ) → low < 4 → ShortByte spin (short_first spin key_phase low)
-short_byte true true low small = record { shortest_varint = omega arith; fixed = omega arith; spins = is_one (short_first true true low / 32 % 2) (omega arith) }
-short_byte true false low small = record { shortest_varint = omega arith; fixed = omega arith; spins = is_one (short_first true false low / 32 % 2) (omega arith) }
-short_byte false true low small = record { shortest_varint = omega arith; fixed = omega arith; spins = is_none (short_first false true low / 32 % 2) (omega arith) }
-short_byte false false low small = record { shortest_varint = omega arith; fixed = omega arith; spins = is_none (short_first false false low / 32 % 2) (omega arith) }
+short_byte true true low small = record { short = omega arith; fixed = omega arith; spins = is_one (short_first true true low / 32 % 2) (omega arith) }
+short_byte true false low small = record { short = omega arith; fixed = omega arith; spins = is_one (short_first true false low / 32 % 2) (omega arith) }
+short_byte false true low small = record { short = omega arith; fixed = omega arith; spins = is_none (short_first false true low / 32 % 2) (omega arith) }
+short_byte false false low small = record { short = omega arith; fixed = omega arith; spins = is_none (short_first false false low / 32 % 2) (omega arith) }
 
 pub returns-clause-short : goal.returns-clause-short
 returns-clause-short c = λ context whole spin key_phase dst rest number parsed.

@@ -247,5 +247,5 @@ pub record TakesLen (width place size : ℕ) : Type 0 where
   pub known : (width ≡ 2) ⊎ (width ≡ 4)
   pub behind : width ≤ place
   pub within : place ≤ size
-  pub shortest_varint : width ≡ 2 → size < place + 2 ^ 14
+  pub short : width ≡ 2 → size < place + 2 ^ 14
   pub long : width ≡ 4 → size < place + 2 ^ 30

@@ -278,7 +278,7 @@ abbrev short_first : Bool → Bool → ℕ → ℕ
 short_first spin key_phase size = 64 + bit spin 32 + bit key_phase 4 + (size - 1)
 
 record ShortByte (spin key_phase : Bool) (size b : ℕ) : Type 0 where
-  shortest_varint : b < 128
+  short : b < 128
   fixed : b / 64 % 2 ≡ 1
   spin_bit : spin ≡ nat_eq (b / 32 % 2) 1
   phase_bit : nat_eq (short_first spin key_phase size / 4 % 2) 1 ≡ key_phase

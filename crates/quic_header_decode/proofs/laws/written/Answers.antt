@@ -106,7 +106,7 @@ abbrev short_first : Bool → Bool → ℕ → ℕ
 short_first spin key_phase low = 64 + bit spin 32 + bit key_phase 4 + low
 
 record ShortByte (spin : Bool) (first : ℕ) : Type 0 where
-  shortest_varint : first < 128
+  short : first < 128
   fixed : first / 64 % 2 ≡ 1
   spins : spin ≡ nat_eq (first / 32 % 2) 1
 

@@ -12,7 +12,7 @@ mod iter;
 mod put;
 mod reading;
 mod size_bound;
-mod whole;
+mod encode;
 
 pub use iter::Iter;
 pub use quic_errors::frame_type::FrameType;

@@ -93,7 +93,7 @@ number_taken = readings.number_taken
 pub number_again : (n : ℕ) (front rest : List ℕ) → Encodes n front → number_at (front ++ rest) ≡ Some (n, rest)
 number_again = readings.number_again
 
--- where reading finds none, no front is a encoding, and the other way round
+-- where reading finds none, no front is an encoding, and the other way round
 pub none_found : (bytes : List ℕ) → number_at bytes ≡ None → (v : ℕ) → NoFront (Encodes v) bytes
 none_found = readings.none_found
 

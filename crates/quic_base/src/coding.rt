@@ -45,7 +45,7 @@ pub trait Codec: Sized {
     // What is left of bytes that begin with no whole encoding.
     ghost after_cut: { List ℕ → List ℕ } = { λ r. r };
 
-    /// Takes a encoding from the front of the buffer. Answers `UnexpectedEnd` exactly where no front
+    /// Takes an encoding from the front of the buffer. Answers `UnexpectedEnd` exactly where no front
     /// of what is left encodes a value. It takes no memory.
     fn decode<B: Buf>(buf: &mut B) -> Result<Self>
         ensures ok { IfOk result (λ v. Takes (encoded v) (B.unread buf.old) (B.unread buf.new)) }

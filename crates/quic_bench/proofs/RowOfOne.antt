@@ -57,7 +57,7 @@ bytes_same : (bytes : List ℕ) → pointwise nat_eq bytes bytes ≡ true
 bytes_same [] = refl
 bytes_same (b ∷ bytes) = rw (same_number b, bytes_same bytes) refl
 
--- equal bytes are reported to be so
+-- `==` answers true of equal bytes
 pub reported_same : (some others x y : List ℕ) → x ≡ some → y ≡ others → some ≡ others → pointwise nat_eq x y ≡ true
 reported_same some others x y is is' same =
     ap (λ (z : List ℕ). pointwise nat_eq z y) (is ∙ same ∙ sym is') ∙ bytes_same y

@@ -13,7 +13,7 @@ use crate::words::RunWords;
 use quic_frame_fields::frame::put::numbers_at;
 use quic_frame_fields::frame::write::{numbers_len, size_of};
 
-// Whether each number has a encoding.
+// Whether each number has an encoding.
 fn are_numeric(numbers: &[u64]) -> bool
     ensures { IsTrue result ↔ AreNumeric numbers.now }
 {

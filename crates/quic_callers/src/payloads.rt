@@ -50,7 +50,7 @@ pub fn all_stream_data(payload: &[u8]) -> Result<usize, Error>
     Ok(count)
 }
 
-/// Whether no payload that begins with these bytes is without an error: just where they are reported another reason
+/// Whether no payload that begins with these bytes can be valid: exactly where reading them fails for another reason
 /// than `unexpected end`.
 pub fn is_lost(front: &[u8]) -> bool
     ensures lost { IsTrue result → (more : List ℕ) (found : List Found) → AreBytes (front.now ++ more)
@@ -70,7 +70,7 @@ pub fn is_lost(front: &[u8]) -> bool
     false
 }
 
-// Whether what is reported for this reason stands whatever follows.
+// Whether an error with this reason remains one whatever bytes follow.
 fn is_final(reason: &str) -> bool
     ensures { MatchBool result (reason.now ≢ codes "unexpected end") (reason.now ≡ codes "unexpected end") }
 {

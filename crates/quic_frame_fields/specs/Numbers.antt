@@ -7,7 +7,7 @@ abbrev pub all_short : List ℕ → List ℕ
 all_short [] = []
 all_short (n ∷ ns) = short n ++ all_short ns
 
--- numbers that have a encoding
+-- numbers that have an encoding
 abbrev pub AreNumeric : List ℕ → Type 0
 AreNumeric [] = ⊤
 AreNumeric (n ∷ ns) = (n < 2 ^ 62) × AreNumeric ns

@@ -197,8 +197,8 @@ fn pass_short(count: u64, low: u64, bytes: &[u8]) -> (u64, u64, &[u8])
 
 // The least number of the range at the front, below a range that begins at `low`, and how many bytes it takes: sixteen
 // hold its two numbers, whatever their widths. `None` where both numbers have one byte, as those behind them may have,
-// and where they are more than `low`. Widths are reported by branches: in a run of one width the next place is
-// foretold.
+// and where they are more than `low`. Widths are found by branches: in a run of one width the processor
+// predicts the next place.
 #[inline(always)]
 fn wide_front(low: u64, front: &[u8; 16]) -> Option<(u64, usize)>
     ensures within { IfSome result (λ x. x.1 ≤ 16) }

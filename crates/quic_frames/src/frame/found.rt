@@ -20,8 +20,8 @@ pub(super) struct FirstFrame<'a> {
     pub rest: &'a [u8],
 }
 
-/// The frame at the front of bytes, where it is reported whether a type counts in its shortest encoding alone,
-/// and the last type before them.
+/// Reads the frame at the front of `bytes`. With `strict`, a type that is not in its shortest encoding is an error;
+/// `before`, the type of the frame before, is reported where no type can be read.
 #[inline(always)]
 pub(super) fn read_found(
     strict: bool,

@@ -1,4 +1,4 @@
-//! What the tests of all layers share: checks that are counted, the first failed one of which ends the test as failed.
+//! Counted checks for the tests of all layers. A test reports the first that failed.
 #![tactic(auto)]
 
 ghost use Rattle.std.specs.Prelude.{◌≡◌, ◌||◌, false, not, is_err, OnOk, IsTrue};

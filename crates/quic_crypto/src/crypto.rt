@@ -63,24 +63,24 @@ pub trait PacketKey {
     // The sealed payload of a packet number, a header and a payload.
     ghost sealed: { Self → ℕ → List ℕ → List ℕ → List ℕ };
 
-    // The payload of a packet number, a header and a sealed payload, where they belong together.
+    // The plaintext of a packet number, a header and a sealed payload, or none if the tag doesn't match.
     ghost opened: { Self → ℕ → List ℕ → List ℕ → Option (List ℕ) };
 
     /// How many bytes longer a sealed payload is.
     fn tag_len(&self) -> usize
         ensures { result ≡ tag_size self.now };
 
-    /// Seals the payload of a packet, which is what stands behind the header's `header_len` bytes but for the
-    /// last bytes, as many as the tag has: these are room. The caller must ensure that the packet has the header and
-    /// that room. The header stays.
+    /// Seals the payload of a packet, which is what follows the header's `header_len` bytes, without the last
+    /// `tag_len` bytes, which are room for the tag. The caller must ensure that the packet is at least as long as
+    /// the header and the tag together. The header doesn't change.
     fn encrypt(&self, number: u64, packet: &mut [u8], header_len: usize)
         requires { header_len + tag_size self.now ≤ length packet.old }
         ensures { packet.new ≡ take header_len packet.old
             ++ sealed self.now number (take header_len packet.old)
             (payload_in header_len (tag_size self.now) packet.old) };
 
-    /// Opens a sealed payload, which becomes the payload. Answers `CryptoError` exactly where it is none of
-    /// this number, header and key; then the payload's bytes are open.
+    /// Opens a sealed payload in place. Answers `CryptoError` exactly if the tag doesn't match this number, header and
+    /// key; the contents of `payload` are then unspecified.
     fn decrypt(&self, number: u64, header: &[u8], payload: &mut BytesMut) -> Result<(), CryptoError>
         ensures { MatchResult result
             (λ _. opened self.now number header.now payload.old.items ≡ Some payload.new.items)

@@ -12,10 +12,10 @@ use super::{
 };
 use quic_base::ids::{ConnectionId, MAX_CID_SIZE, RESET_TOKEN_SIZE, ResetToken};
 
-/// A frame whose length has a bound, but for its data or reason.
+/// A frame whose encoded size, without its data or reason phrase, has a bound.
 pub trait FrameStruct {
-    /// As many bytes, besides those of its data or reason, as the frame's shortest encoding has at most
-    /// where the length of the data is written.
+    /// The greatest size of the frame's shortest encoding in bytes, without its data or reason phrase, but with the
+    /// length of the data.
     const SIZE_BOUND: usize;
 
     ghost most: { ℕ };

@@ -45,16 +45,16 @@ pub trait Codec: Sized {
     // What is left of bytes that begin with no whole encoding.
     ghost after_cut: { List ℕ → List ℕ } = { λ r. r };
 
-    /// Takes an encoding from the front of the buffer. Answers `UnexpectedEnd` exactly where no front
-    /// of what is left encodes a value. It takes no memory.
+    /// Takes an encoding from the front of the buffer. Answers `UnexpectedEnd` exactly if no prefix
+    /// of the remaining bytes encodes a value. It takes no memory.
     fn decode<B: Buf>(buf: &mut B) -> Result<Self>
         ensures ok { IfOk result (λ v. Takes (encoded v) (B.unread buf.old) (B.unread buf.new)) }
         ensures cut { OnErr result ((v : Self) → NoFront (encoded v) (B.unread buf.old)) }
         ensures left { OnErr result (B.unread buf.new ≡ after_cut (B.unread buf.old)) }
         ensures kept { B.kept buf.new ≡ B.kept buf.old };
 
-    /// Appends the encoding. Answers `NoRoom` only where the buffer's spare room is less than that;
-    /// then what stood there stands, followed by a beginning of the encoding.
+    /// Appends the encoding. Answers `NoRoom` only if the buffer's spare room is less than that: the
+    /// buffer then keeps its contents, and may have a prefix of the encoding after them.
     fn encode<B: BufMut>(&self, buf: &mut B) -> std::result::Result<(), NoRoom>
         ensures encoded { encoded self.now (encoding self.now) }
         ensures ok { OnOk result (B.written buf.new ≡ B.written buf.old ++ encoding self.now) }
@@ -108,7 +108,7 @@ pub fn get_array<B: Buf, const N: usize>(buf: &mut B) -> Result<[u8; N]>
 }
 
 /// Stores an array over the bytes at a place, and answers where it ends. The caller must ensure that there are as
-/// many bytes. What stands before and behind the array stays.
+/// many bytes. Other bytes don't change.
 #[inline(always)]
 pub fn store_array<const N: usize>(bytes: &mut [u8], at: usize, array: [u8; N]) -> usize
     requires { at + N ≤ length bytes.old }

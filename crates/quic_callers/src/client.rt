@@ -41,8 +41,8 @@ pub fn read_reset<B: Buf>(buf: &mut B) -> Result<Reset>
     })
 }
 
-/// Appends a message to any buffer. Answers `NoRoom` only where the spare room is less than that; then
-/// what stood there stands, followed by a beginning of the message.
+/// Appends a message to any buffer. Answers `NoRoom` only if the spare room is less than that: the
+/// buffer then keeps its contents, and may have a prefix of the message after them.
 #[tactic(auto, using(quic_base::proofs::PublicLaws::in_turn))]
 pub fn write_reset<B: BufMut>(reset: &Reset, buf: &mut B) -> std::result::Result<(), NoRoom>
     ensures ok { OnOk result (B.written buf.new ≡ B.written buf.old

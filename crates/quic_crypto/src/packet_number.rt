@@ -58,8 +58,8 @@ impl PacketNumber {
         }
     }
 
-    /// Appends its bytes, the highest first. Answers `NoRoom` only where the buffer's spare room is less than
-    /// that; then what stood there stands. The caller must ensure that a `U24` is below 2^24.
+    /// Appends its bytes, the highest first. Answers `NoRoom` only if the buffer's spare room is less than
+    /// that: the buffer's contents then don't change. The caller must ensure that a `U24` is below 2^24.
     #[tactic(auto, unfolding(quic_base::specs::Number::bytes_of))]
     pub fn encode<W: BufMut>(self, w: &mut W) -> Result<(), NoRoom>
         requires { IsInRange self }

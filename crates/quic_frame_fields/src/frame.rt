@@ -46,7 +46,7 @@ pub struct StopSending {
 /// Bytes of the handshake.
 #[derive(Clone, Copy, Debug)]
 pub struct Crypto<'a> {
-    /// Where in the handshake the bytes stand.
+    /// The offset of the data in the CRYPTO stream.
     pub offset: u64,
     /// A slice of the payload.
     pub bytes: &'a [u8],
@@ -64,7 +64,7 @@ pub struct NewToken<'a> {
 pub struct Stream<'a> {
     /// The stream.
     pub id: StreamId,
-    /// Where in the stream the bytes stand.
+    /// The offset of the data in the stream.
     pub offset: u64,
     /// Whether the stream ends with these bytes.
     pub fin: bool,

@@ -103,9 +103,9 @@ impl TransportParameters {
         }
     }
 
-    /// Stores the bytes that `write` appends at the front of a slice, and answers how many they are; what stands
-    /// behind them stays (RFC 9000, section 18). Where the slice has fewer bytes, and only there, it is as it was,
-    /// and the error is how many are needed. It takes no memory.
+    /// Stores the bytes that `write` appends at the front of a slice, and answers how many they are (RFC 9000, section
+    /// 18); the bytes after them don't change. If the slice is shorter, and only then, nothing changes, and the error
+    /// is how many bytes are needed. It allocates no memory.
     pub fn write_into(&self, dest: &mut [u8]) -> Result<usize, usize>
         ensures count { IfOk result (λ n. n ≡ length (written self.now)) }
         ensures front { IfOk result (λ n. dest.new ≡ written self.now ++ drop n dest.old) }
@@ -130,9 +130,9 @@ impl TransportParameters {
         }
     }
 
-    /// Stores the bytes that `write_one` appends at the front of a slice, and answers how many they are; what stands
-    /// behind them stays (RFC 9000, section 18). Where the slice has fewer bytes, and only there, it is as it was,
-    /// and the error is how many are needed. It takes no memory.
+    /// Stores the bytes that `write_one` appends at the front of a slice, and answers how many they are (RFC 9000,
+    /// section 18); the bytes after them don't change. If the slice is shorter, and only then, nothing changes, and
+    /// the error is how many bytes are needed. It allocates no memory.
     pub fn write_one_into(&self, id: TransportParameterId, dest: &mut [u8]) -> Result<usize, usize>
         ensures count { IfOk result (λ n. n ≡ length (written_for self.now id)) }
         ensures front { IfOk result (λ n. dest.new ≡ written_for self.now id ++ drop n dest.old) }
@@ -161,9 +161,10 @@ fn fill_header(number: u64, len: u64, room: &mut Room<HEADER_ROOM>)
     }
 }
 
-/// Stores an entry in its least widths at the front of a slice, and answers how many bytes it has; what stands behind
-/// them stays (RFC 9000, section 18). The caller must ensure that the number and the length are below 2^62. Where the
-/// slice has fewer bytes, and only there, it is as it was, and the error is how many are needed. It takes no memory.
+/// Stores an entry in its least widths at the front of a slice, and answers how many bytes it has (RFC 9000, section
+/// 18); the bytes after them don't change. The caller must ensure that the number and the length are below 2^62. If
+/// the slice is shorter, and only then, nothing changes, and the error is how many bytes are needed. It allocates no
+/// memory.
 pub fn write_entry_into(number: u64, value: &[u8], dest: &mut [u8]) -> Result<usize, usize>
     requires number { number < 2 ^ 62 }
     requires len { length value.now < 2 ^ 62 }

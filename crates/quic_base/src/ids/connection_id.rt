@@ -98,9 +98,9 @@ impl ConnectionId {
         Some(ConnectionId::from_buf(buf, len))
     }
 
-    /// Appends a byte of length and the bytes (RFC 9000, section 17.2). Answers `NoRoom` only where
-    /// the buffer's spare room is less than that; then what stood there stands, followed by a
-    /// beginning of these bytes.
+    /// Appends a byte of length and the bytes (RFC 9000, section 17.2). Answers `NoRoom` only if
+    /// the buffer's spare room is less than that: the buffer then keeps its contents, and may have a
+    /// prefix of these bytes after them.
     pub fn encode_long<B: BufMut>(&self, buf: &mut B) -> Result<(), NoRoom>
         ensures encoded { IsLongId self.now (long_id self.now) }
         ensures ok { OnOk result (B.written buf.new ≡ B.written buf.old ++ long_id self.now) }

@@ -22,9 +22,9 @@ const CHUNK: usize = 64;
 
 impl Ack<'_> {
     /// Appends an ACK of a set (RFC 9000, section 19.3). The caller must ensure that the set has a number, and
-    /// that its numbers, the delay and the counts are below 2^62. Answers `NoRoom` only where the spare
-    /// room is less than the frame; then what stood there stands, followed by a beginning of the frame.
-    /// It takes no memory.
+    /// that its numbers, the delay and the counts are below 2^62. Answers `NoRoom` only if the spare
+    /// room is less than the frame: the buffer then keeps its contents, and may have a prefix of the frame
+    /// after them. It allocates no memory.
     pub fn encode<B: BufMut>(
         delay: u64,
         ranges: &ArrayRangeSet,

@@ -17,8 +17,8 @@ use quic_base::coding::NoRoom;
 use quic_base::varint::VarInt;
 
 impl ResetStream {
-    /// Appends the frame. Answers `NoRoom` only where the spare room is less than that; then what stood
-    /// there stands, followed by a beginning of the frame.
+    /// Appends the frame. Answers `NoRoom` only if the spare room is less than that: the buffer then keeps its
+    /// contents, and may have a prefix of the frame after them.
     #[tactic(auto, unfolding(crate::specs::Shortest::shortest_frame))]
     pub fn encode<B: BufMut>(&self, out: &mut B) -> Result<(), NoRoom>
         ensures { (last : Bool) → Writes result (shortest_frame last (reset_meaning self.now))

@@ -39,9 +39,9 @@ impl Default for StreamMeta {
 
 impl StreamMeta {
     /// Appends the frame up to its data, with the length of these where `with_length` is set. Answers `NoRoom`
-    /// only where the spare room is less than that; then what stood there stands, followed by a beginning
-    /// of it. The caller must ensure that the range isn't reversed, that it starts below 2^62, and that its
-    /// length is below 2^62 where it is written.
+    /// only if the spare room is less than that: the buffer then keeps its contents, and may have a prefix of
+    /// the frame after them. The caller must ensure that the range isn't reversed, that it starts below 2^62, and that
+    /// its length is below 2^62 where it is written.
     pub fn encode<B: BufMut>(&self, with_length: bool, out: &mut B) -> Result<(), NoRoom>
         requires ordered { self.now.offsets.start ≤ self.now.offsets.end }
         requires start { self.now.offsets.start < 2 ^ 62 }

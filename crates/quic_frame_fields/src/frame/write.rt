@@ -54,8 +54,8 @@ pub(super) fn store_numbers(head: &mut [u8], numbers: &[u64]) -> usize
 }
 
 /// Appends at most five numbers in their shortest encodings, which are put together first, so that the room is
-/// looked at once. Answers `NoRoom` only where the spare room is less than those; then what stood there stands,
-/// followed by a beginning of them.
+/// looked at once. Answers `NoRoom` only if the spare room is less than those: the buffer then keeps its contents, and
+/// may have a prefix of the encodings after them.
 #[inline(always)]
 pub fn numbers<B: BufMut>(out: &mut B, numbers: &[u64]) -> Result<(), NoRoom>
     requires few { length numbers.now ≤ 5 }

@@ -23,8 +23,8 @@ fn bytes_of(n: u64, bytes: &[u8]) -> Result<(&[u8], &[u8]), Fault>
     Ok(bytes.split_at(n as usize))
 }
 
-/// A number of any width, and what follows it, made for numbers of which nearly all have one byte: such a one is read
-/// where the call stands.
+/// A number of any width, and what follows it, made for numbers of which nearly all have one byte: reading such a
+/// one is inlined into the caller.
 #[inline(always)]
 #[tactic(auto, using(quic_frame_fields::proofs::Gaps::one_at))]
 pub(super) fn short_varint(bytes: &[u8]) -> Result<(u64, &[u8]), Fault>
@@ -40,7 +40,8 @@ pub(super) fn short_varint(bytes: &[u8]) -> Result<(u64, &[u8]), Fault>
     Ok((number, rest))
 }
 
-/// A number of any width, read where the call stands, as those of a STREAM are, since most frames are STREAMs.
+/// A number of any width. Reading it is inlined into the caller, as for the fields of a STREAM, since most frames are
+/// STREAMs.
 #[inline(always)]
 #[tactic(auto, using(quic_frame_fields::proofs::Varints::slices))]
 pub(super) fn near_varint(bytes: &[u8]) -> Result<(u64, &[u8]), Fault>

@@ -24,8 +24,8 @@ use quic_frame_fields::frame::write;
 impl Frame<'_> {
     /// Appends the shortest encoding of the frame, which is the last of its payload or not: no offset 0
     /// of a STREAM, and no length of a STREAM or DATAGRAM where it is the last. Answers `NoRoom` only
-    /// where the spare room is less than that; then what stood there stands, followed by a beginning of
-    /// the encoding. It takes no memory of its own. The caller must ensure that the frame is in range, and that
+    /// if the spare room is less than that: the buffer then keeps its contents, and may have a prefix of the
+    /// encoding after them. It allocates no memory. The caller must ensure that the frame is in range, and that
     /// data whose length is written are below 2^62 bytes.
     #[tactic(auto, unfolding(quic_frame_fields::specs::Shortest::shortest_frame))]
     pub fn encode<B: BufMut>(&self, last: bool, out: &mut B) -> Result<(), NoRoom>

@@ -36,8 +36,8 @@ number_bits head.Retry number = 0
 number_bits head.Short number = number_size number - 1
 number_bits head.VersionNegotiate number = 0
 
--- The header that is said. Of its first byte, first is what neither the type nor the number says: 0x20 is the spin bit
--- and 0x04 the key phase of a short header, and a version negotiation has seven bits of it as it likes.
+-- The header of these fields. `first` holds the bits of the first byte other than type and number length: of a short
+-- header 0x20 is the spin bit and 0x04 the key phase; of a version negotiation the low seven bits are free.
 abbrev pub header_of : HeaderKind → ℕ → ℕ → List ℕ → List ℕ → List ℕ → PacketNumber → Header
 header_of head.Initial first version dst src token number =
     header.Initial (record { dst_cid = dst; src_cid = src; token = token; number = number; version = version })
@@ -56,7 +56,7 @@ first_byte_of said = said.first + type_bits said.kind said.version + number_bits
 abbrev pub begun_by : ℕ → List ℕ → List ℕ
 begun_by first bytes = first ∷ drop 1 bytes
 
--- The bytes that are written: those of the header with so many zeros as its length, behind the first byte.
+-- The bytes that are written: those of the header with so many zeros as its length, after the first byte.
 abbrev pub stored_bytes : {I : Type 0} → (I → List ℕ) → HeaderRef I → List ℕ
 stored_bytes id said =
     begun_by (first_byte_of said)

@@ -167,7 +167,7 @@ impl Codec for u32 {
     }
 }
 
-/// Uint64 bytes, the highest one first. Nothing is consumed on `UnexpectedEnd`.
+/// Eight bytes, the highest one first. Nothing is consumed on `UnexpectedEnd`.
 impl Codec for u64 {
     ghost encoded = { IsNumber 8 };
 

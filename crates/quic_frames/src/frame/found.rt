@@ -14,7 +14,7 @@ use quic_frame_fields::frame::write;
 pub(super) struct FirstFrame<'a> {
     /// The type that it has there.
     pub ty: FrameType,
-    /// What it says.
+    /// The frame itself.
     pub frame: Frame<'a>,
     /// What follows it.
     pub rest: &'a [u8],
@@ -54,7 +54,7 @@ pub(super) fn read_found(
     }
 }
 
-// A type of so many bytes is in another encoding than the shortest, where only that counts.
+// Whether a type of so many bytes is an error: with `strict`, if that isn't its shortest encoding.
 fn is_long(strict: bool, ty: FrameType, width: usize) -> bool
     ensures { result ≡ is_long_type strict ty width }
 {

@@ -1,4 +1,4 @@
-//! How long frames are at most beside their data.
+//! How long frames are at most, without their data.
 ghost use Rattle.std.specs.Prelude.{◌≡◌, ◌≤◌, ◌+◌, ℕ, [], List, length, false};
 ghost use Rattle.quic_frames.specs.Meaning.{meaning_of};
 ghost use Rattle.quic_frame_fields.specs.Payload.{Meaning};
@@ -121,7 +121,7 @@ impl FrameStruct for NewConnectionId {
     }
 }
 
-// What the types of an id and a token hold. It does nothing.
+// Tells the prover the bounds of an id's and a token's length. It does nothing at run time.
 fn has_bounds(id: ConnectionId, token: ResetToken)
     ensures id { length id ≤ 20 }
     ensures token { length token ≡ 16 }
@@ -157,5 +157,5 @@ impl FrameStruct for Crypto<'_> {
     }
 }
 
-/// As many bytes as a RETIRE_CONNECTION_ID has at most.
+/// The greatest size of a RETIRE_CONNECTION_ID in bytes.
 pub const RETIRE_CONNECTION_ID_SIZE_BOUND: usize = 1 + 8;

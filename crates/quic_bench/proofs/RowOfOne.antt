@@ -1,7 +1,6 @@
 -- A datagram that is one packet.
-use Rattle.std.specs.Prelude.{◌≡◌, ◌≢◌, ℕ, ◌<◌, List, [], ◌∷◌, ◌++◌, length}
+use Rattle.std.specs.Prelude.{◌≡◌, ◌≢◌, ℕ, ◌<◌, List, [], ◌∷◌, ◌++◌, length, nat_eq}
 use Rattle.std.proofs.Common.{sym, ap, subst, ◌∙◌, arith, refl, true}
-use Rattle.std.specs.Prelude.{nat_eq}
 use Rattle.std.specs.Cmp.Lexicographic.{pointwise}
 use Rattle.std.proofs.lemmas.Bool.Decides.{nat_tests}
 use Rattle.quic_canon.specs.Bytes.{canon_bytes, GivesLeast}

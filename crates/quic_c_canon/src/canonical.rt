@@ -172,7 +172,7 @@ fn write(payload: &[u8], len: usize, dest: &mut [u8])
 /// each in its shortest form, where the last frame of a payload needs no length (RFC 9000, sections 12.4 and 19). It
 /// answers 0 with its length, and what stood behind it stays; -4 with the length where `dest` has less room; -2 just
 /// where the payload is empty; -3 just where something in it is no frame, with the last type that was read and the
-/// reason. `dest` changes with 0 alone, and `out` in the words alone that are reported. It takes no memory.
+/// reason. `dest` changes with 0 alone, and `out` in the words alone that are reported. It allocates no memory.
 #[unsafe(no_mangle)]
 pub extern "C" fn quic_wire_canonical_(
     payload: &[u8],

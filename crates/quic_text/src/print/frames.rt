@@ -80,7 +80,7 @@ fn print_frame(start: usize, end: usize, ty: FrameType, text: &mut String) -> Re
     Ok(())
 }
 
-// The `error` line of something that is no frame.
+// The `error` line of an invalid frame.
 pub(super) fn print_invalid(invalid: &InvalidFrame, text: &mut String) -> Result<(), AllocError>
     ensures { OnOk result (string_bytes text.new ≡ string_bytes text.old
         ++ shown (item_line (Broken (invalid_of invalid.now)))) }

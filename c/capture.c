@@ -3,7 +3,7 @@
  * that the client sends (RFC 9001, section 5.2).  datagrams.h says which captures
  * are read.  A datagram is QUIC's if it begins with a long header of version 1 or 2,
  * of version 0 (a version negotiation) or of a reserved one (RFC 9000, section
- * 15), or if one of its flow did.  What can't be read is reported behind a colon. */
+ * 15), or if one of its flow did.  What can't be read is reported after a colon. */
 #define _DEFAULT_SOURCE
 #include <inttypes.h>
 #include <stdio.h>
@@ -21,7 +21,7 @@ static const uint32_t versions[] = {VERSION_1, VERSION_2};
 /* What is kept of a side, QUIC_WIRE_CLIENT or QUIC_WIRE_SERVER. */
 typedef struct side {
   endpoint end;
-  uint8_t has_id, idlen; /* a long header reported how long its ids are */
+  uint8_t has_id, idlen; /* a long header gave the length of its ids */
   uint64_t expected; /* the next number of its Initial packets */
 } side;
 

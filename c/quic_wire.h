@@ -50,7 +50,7 @@
  *     len -= header.end;
  *   }
  *
- * And a packet is sealed so, with room for a tag of 16 bytes behind it:
+ * And a packet is sealed so, with room for a tag of 16 bytes after it:
  *
  *   quic_wire_header_fields fields = {0};
  *   fields.kind = QUIC_WIRE_HANDSHAKE;
@@ -60,7 +60,7 @@
  *   fields.lengthlen = 2;
  *   int64_t begin = quic_wire_header_write(&fields, dcid, dcidlen, scid,
  *                                          scidlen, NULL, 0, packet, room);
- *   size_t place = (size_t)begin - fields.numberlen; // where the number stands
+ *   size_t place = (size_t)begin - fields.numberlen; // where the number is
  *   quic_wire_frame_write(&frame, data, datalen, 1, packet + begin,
  *                         room - 16 - (size_t)begin, &payloadlen);
  *   size_t end = (size_t)begin + payloadlen + 16;
@@ -140,9 +140,10 @@ extern "C" {
 #define QUIC_WIRE_ERR_INVALID_ARGUMENT (-1)
 /* The payload is empty: a PROTOCOL_VIOLATION of the peer. */
 #define QUIC_WIRE_ERR_EMPTY (-2)
-/* Something in the bytes is no frame (a FRAME_ENCODING_ERROR of the peer, with
- * QUIC_WIRE_REASON_LONG_TYPE a PROTOCOL_VIOLATION), no list of parameters, or
- * too short for a packet's number; a struct tells more of the first two. */
+/* The bytes have an invalid frame (a FRAME_ENCODING_ERROR of the peer, with
+ * QUIC_WIRE_REASON_LONG_TYPE a PROTOCOL_VIOLATION), are not a list of
+ * parameters, or are too short for a packet's number; a struct tells more of the
+ * first two. */
 #define QUIC_WIRE_ERR_MALFORMED (-3)
 /* The buffer has less room than is needed. */
 #define QUIC_WIRE_ERR_NOBUF (-4)
@@ -186,10 +187,10 @@ extern "C" {
 #define QUIC_WIRE_FLAG_MORE 4 /* ACK: of quic_wire_frame_read, which had no
                                  room for all ranges */
 
-/* No type: the word in place of one. */
+/* The value of a type where there is none. */
 #define QUIC_WIRE_NO_TYPE UINT64_MAX
 
-/* Why something is no frame. */
+/* Why a frame is invalid. */
 #define QUIC_WIRE_REASON_UNEXPECTED_END 1
 #define QUIC_WIRE_REASON_INVALID_FRAME_ID 2
 #define QUIC_WIRE_REASON_MALFORMED 3
@@ -199,10 +200,10 @@ extern "C" {
  * harmless, and reads from |offset| on. */
 typedef struct quic_wire_frames {
   size_t offset;      /* the end of the last whole frame, in bytes */
-  uint64_t last_type; /* its type as it stands there, or QUIC_WIRE_NO_TYPE */
-  uint32_t ended;     /* not 0 once something was no frame */
-  uint32_t strict;    /* not 0: a type that isn't in its shortest encoding is no
-                         frame (RFC 9000, section 12.4) */
+  uint64_t last_type; /* its type as in the payload, or QUIC_WIRE_NO_TYPE */
+  uint32_t ended;     /* not 0 once an invalid frame was met */
+  uint32_t strict;    /* not 0: a type that isn't in its shortest encoding is an
+                         error (RFC 9000, section 12.4) */
 } quic_wire_frames;
 
 /* What the kinds of frames say in numbers: the fields of a frame's union. */
@@ -256,7 +257,7 @@ typedef struct quic_wire_ack_frequency {
  * streams are at most 2^60, isn't looked at: that is the connection's. */
 typedef struct quic_wire_frame {
   uint16_t kind;  /* QUIC_WIRE_PADDING and so on */
-  uint16_t type;  /* the type as it stands in the payload: 0x08 to 0x0f of a
+  uint16_t type;  /* the type as it is in the payload: 0x08 to 0x0f of a
                      STREAM, 0x02 and 0x03 of an ACK, 0x30 and 0x31 of a
                      DATAGRAM, of others |kind|.  What writes a frame doesn't
                      look at it */
@@ -265,7 +266,7 @@ typedef struct quic_wire_frame {
   size_t end;     /* where it ends */
   size_t data;    /* where its data begin in the payload: of CRYPTO, NEW_TOKEN,
                      STREAM and DATAGRAM; the reason phrase of a close; the id
-                     of a NEW_CONNECTION_ID, with its token behind it */
+                     of a NEW_CONNECTION_ID, with its token after it */
   size_t datalen; /* how many bytes these are, without that token */
   QUIC_WIRE_EXTENSION union {
     uint64_t numbers[5];
@@ -288,7 +289,7 @@ typedef struct quic_wire_range {
   uint64_t start, end;
 } quic_wire_range;
 
-/* A range of an ACK below another one, as it stands there (RFC 9000, section
+/* A range of an ACK below another one, as it is encoded (RFC 9000, section
  * 19.3.1): how many packet numbers are between the two, and how many it has,
  * both less one. */
 typedef struct quic_wire_gap {
@@ -297,14 +298,14 @@ typedef struct quic_wire_gap {
 
 /* How far the ranges of an ACK have been read. */
 typedef struct quic_wire_ack_ranges {
-  size_t begin, end; /* the bytes that are left, in the payload */
+  size_t begin, end; /* the remaining bytes, in the payload */
   uint64_t largest;  /* the greatest number of the next range */
 } quic_wire_ack_ranges;
 
-/* What is reported of the shortest form of a payload, or of why it has none. */
+/* The length of a payload's shortest form, or why it has none. */
 typedef struct quic_wire_canon {
   size_t len;         /* how many bytes the shortest form has */
-  uint64_t last_type; /* of what is no frame: the last type that was read, its
+  uint64_t last_type; /* of an invalid frame: the last type that was read, its
                          own included, or QUIC_WIRE_NO_TYPE */
   uint64_t reason;    /* QUIC_WIRE_REASON_UNEXPECTED_END and so on */
 } quic_wire_canon;
@@ -340,10 +341,10 @@ typedef struct quic_wire_canon {
 #define QUIC_WIRE_PACKET_LENGTH_BEYOND_END 7
 
 /* The header of a packet, with its protection still on.  Every place is one in
- * the packet, in bytes from its front; what the kind lacks is 0. */
+ * the packet, in bytes from its front; fields that the kind doesn't have are 0. */
 typedef struct quic_wire_header {
   uint8_t kind;    /* QUIC_WIRE_INITIAL and so on */
-  uint8_t first;   /* the first byte as it stands */
+  uint8_t first;   /* the first byte, before protection is taken off */
   uint8_t dcidlen; /* the receiver's id: quic_wire_dcid */
   uint8_t scidlen; /* the sender's id: quic_wire_scid */
   uint32_t version;
@@ -393,8 +394,8 @@ typedef struct quic_wire_header_fields {
                                             come from that side */
 
 /* Transport parameters.  What is absent is 0 in all of its words and bytes, but
- * for the numbers that have a default: these hold it then.  Ids stand at the
- * front of their bytes, with zeros behind them. */
+ * for the numbers that have a default: these hold it then.  Ids are at the
+ * front of their bytes, followed by zeros. */
 typedef struct quic_wire_params {
   uint32_t present; /* QUIC_WIRE_HAS_STATELESS_RESET_TOKEN and so on */
   uint32_t reason;  /* of parameters 0; else why the list was refused */
@@ -431,7 +432,7 @@ typedef struct quic_wire_params {
 typedef struct quic_wire_param {
   uint64_t id;     /* its number, below 2^62 */
   size_t value;    /* the place of its value in the list that was read */
-  size_t valuelen; /* the next entry begins behind so many bytes */
+  size_t valuelen; /* how many bytes it has; the next entry begins after them */
 } quic_wire_param;
 
 /* Numbers of parameters that quic_wire_params has no field for: the versions
@@ -534,9 +535,8 @@ QUIC_WIRE_API int quic_wire_frames_init(quic_wire_frames *frames,
                                         size_t payloadlen);
 
 /*
- * The same with 1 in |frames->strict|: a type that isn't in its shortest
- * encoding is reported with QUIC_WIRE_REASON_LONG_TYPE.  Other fields may have
- * any width.
+ * The same with 1 in |frames->strict|: a type that isn't in its shortest encoding
+ * is an error, with QUIC_WIRE_REASON_LONG_TYPE.  Other fields may have any width.
  */
 QUIC_WIRE_API int quic_wire_frames_init_strict(quic_wire_frames *frames,
                                                const uint8_t *payload,
@@ -545,12 +545,13 @@ QUIC_WIRE_API int quic_wire_frames_init_strict(quic_wire_frames *frames,
 /*
  * Reads the next frame.  |payload| is the one that |frames| began with.
  *
- * Returns QUIC_WIRE_ITEM and the frame; 0 where none is left;
- * QUIC_WIRE_ERR_MALFORMED, once, where something is no frame, and then 0: what
- * is reported of it is in |frame| (quic_wire_error_type,
- * quic_wire_error_reason). QUIC_WIRE_ERR_INVALID_ARGUMENT for NULL, or where
- * |frames->offset| is above |payloadlen|.  |frame| changes only with
- * QUIC_WIRE_ITEM and QUIC_WIRE_ERR_MALFORMED.
+ * Returns QUIC_WIRE_ITEM and the frame; 0 where none remains;
+ * QUIC_WIRE_ERR_MALFORMED, once, where the next frame is invalid, and then 0: its
+ * type and the reason are in |frame| (quic_wire_error_type,
+ * quic_wire_error_reason).
+ * QUIC_WIRE_ERR_INVALID_ARGUMENT for NULL, or where |frames->offset| is above
+ * |payloadlen|.  |frame| changes only with QUIC_WIRE_ITEM and
+ * QUIC_WIRE_ERR_MALFORMED.
  */
 QUIC_WIRE_API int quic_wire_frames_next(quic_wire_frames *frames,
                                         const uint8_t *payload,
@@ -558,10 +559,10 @@ QUIC_WIRE_API int quic_wire_frames_next(quic_wire_frames *frames,
                                         quic_wire_frame *frame);
 
 /*
- * The same where the ACK frequency extension wasn't negotiated: an
- * ACK_FREQUENCY or IMMEDIATE_ACK is reported as a frame of an unknown type,
- * with QUIC_WIRE_REASON_INVALID_FRAME_ID, but one that is broken within its
- * fields for that.  A caller may change between the two at any time.
+ * The same where the ACK frequency extension wasn't negotiated: an ACK_FREQUENCY
+ * or IMMEDIATE_ACK is reported as a frame of an unknown type, with
+ * QUIC_WIRE_REASON_INVALID_FRAME_ID, but one with an invalid field for that
+ * field.  A caller may change between the two at any time.
  */
 QUIC_WIRE_API int quic_wire_frames_next_basic(quic_wire_frames *frames,
                                               const uint8_t *payload,
@@ -571,17 +572,17 @@ QUIC_WIRE_API int quic_wire_frames_next_basic(quic_wire_frames *frames,
 /*
  * Reads the next frames, as many as the |room| entries of |out| hold, with one
  * call.  |payload| is the one that |frames| began with.  A PADDING frame and
- * all the zero bytes behind it are one entry: quic_wire_padding_count.
+ * all the zero bytes after it are one entry: quic_wire_padding_count.
  *
  * Returns QUIC_WIRE_ITEM, and in |*count| how many entries were filled, one at
- * least; 0 where no frame is left; QUIC_WIRE_ERR_MALFORMED, once, where what
- * stands next is no frame, and then 0: what is reported of it is in |out[0]|
+ * least; 0 where no frame remains; QUIC_WIRE_ERR_MALFORMED, once, where the next
+ * frame is invalid, and then 0: its type and the reason are in |out[0]|
  * (quic_wire_error_type, quic_wire_error_reason); QUIC_WIRE_ERR_NOBUF where
  * |room| is 0.  QUIC_WIRE_ERR_INVALID_ARGUMENT for NULL, or where
- * |frames->offset| is above |payloadlen|.  Frames that stand before what is no
- * frame are given first, and the next call tells of it.  Entries behind those
- * that were filled stay, and |*count| changes only with QUIC_WIRE_ITEM.  Once
- * |frames->offset| is |payloadlen| nothing is left, and no call is needed to
+ * |frames->offset| is above |payloadlen|.  Frames before an invalid one are
+ * given first, and the next call reports it.  Entries after those that were
+ * filled don't change, and |*count| changes only with QUIC_WIRE_ITEM.  Once
+ * |frames->offset| is |payloadlen| no frame remains, and no call is needed to
  * learn that.
  */
 QUIC_WIRE_API int quic_wire_frames_fill(quic_wire_frames *frames,
@@ -604,10 +605,10 @@ QUIC_WIRE_API int quic_wire_frames_fill_basic(quic_wire_frames *frames,
  * |frames->offset| is below |payloadlen|.
  *
  * Returns QUIC_WIRE_ITEM, and in |*count| how many entries were filled, one at
- * least; QUIC_WIRE_ERR_EMPTY; QUIC_WIRE_ERR_MALFORMED, and what is reported in
- * |out[0]|, where what stands at the front is no frame; QUIC_WIRE_ERR_NOBUF
- * where |room| is 0; QUIC_WIRE_ERR_INVALID_ARGUMENT for NULL.  |*count| changes
- * only with QUIC_WIRE_ITEM, and nothing changes but with that and
+ * least; QUIC_WIRE_ERR_EMPTY; QUIC_WIRE_ERR_MALFORMED, and its type and the reason
+ * in |out[0]|, if the payload doesn't begin with a valid frame;
+ * QUIC_WIRE_ERR_NOBUF where |room| is 0; QUIC_WIRE_ERR_INVALID_ARGUMENT for NULL.
+ * |*count| changes only with QUIC_WIRE_ITEM, and nothing changes but with that and
  * QUIC_WIRE_ERR_MALFORMED.
  */
 QUIC_WIRE_API int quic_wire_frames_first(quic_wire_frames *frames,
@@ -617,22 +618,22 @@ QUIC_WIRE_API int quic_wire_frames_first(quic_wire_frames *frames,
                                          size_t *count);
 
 /*
- * Reads the frame at the front of what is left of a payload, with no iterator:
- * the caller goes on behind it by what is returned, until nothing is left.
+ * Reads the frame at the front of the rest of a payload, without an iterator: the
+ * caller goes on where it ends, which is returned, until no byte remains.
  * |frame|'s places count from |payload|.  A PADDING frame and the bytes of 0
- * behind it are one frame.  Where |strict| is not 0, a type that isn't in its
- * shortest encoding is no frame (RFC 9000, section 12.4).
+ * after it are one frame.  Where |strict| is not 0, a type that isn't in its
+ * shortest encoding is an error (RFC 9000, section 12.4).
  *
  * Of an ACK |frame->datalen| is its first range, less one, the ranges below it
- * are written to the |room| entries of |gaps| as they stand, and |frame->data|
- * is how many were; where that isn't all, QUIC_WIRE_FLAG_MORE is set, and
- * quic_wire_ack_ranges_init gives all.  For other frames |gaps| stays.
+ * are written to the |room| entries of |gaps| as they are encoded, and
+ * |frame->data| is how many were; where that isn't all, QUIC_WIRE_FLAG_MORE is
+ * set, and quic_wire_ack_ranges_init gives all.  For other frames |gaps| doesn't
+ * change.
  *
- * Returns where the frame ends, which is above 0; QUIC_WIRE_ERR_EMPTY where
- * nothing is left; QUIC_WIRE_ERR_MALFORMED, and what is reported of it in
- * |frame|, where what stands at the front is no frame (its type is
- * QUIC_WIRE_NO_TYPE if it is cut off within that);
- * QUIC_WIRE_ERR_INVALID_ARGUMENT for NULL.
+ * Returns where the frame ends, which is above 0; QUIC_WIRE_ERR_EMPTY where no
+ * byte remains; QUIC_WIRE_ERR_MALFORMED, and its type and the reason in |frame|,
+ * if the bytes don't begin with a valid frame (the type is QUIC_WIRE_NO_TYPE if
+ * they end within that); QUIC_WIRE_ERR_INVALID_ARGUMENT for NULL.
  */
 QUIC_WIRE_API int64_t quic_wire_frame_read(const uint8_t *payload,
                                            size_t payloadlen, int strict,
@@ -647,10 +648,9 @@ QUIC_WIRE_API int64_t quic_wire_frame_read_basic(const uint8_t *payload,
                                                  quic_wire_gap *gaps,
                                                  size_t room);
 
-/* How many PADDING frames an entry of quic_wire_frames_fill stands for that was
- * read of this payload: one whose type may be encoded in up to 8 bytes, and
- * one with each byte behind it.  0 of other kinds, and where there is no such
- * place. */
+/* How many PADDING frames an entry of quic_wire_frames_fill has that was read
+ * from this payload: one whose type may be encoded in up to 8 bytes, and one
+ * for each byte after it.  0 for other kinds, and where there is no such place. */
 QUIC_WIRE_API size_t quic_wire_padding_count(const uint8_t *payload,
                                              size_t payloadlen,
                                              const quic_wire_frame *frame);
@@ -702,8 +702,8 @@ quic_wire_ack_ranges_init_unchecked(quic_wire_ack_ranges *ranges,
 
 /*
  * Reads the next range, the greatest first.  Returns QUIC_WIRE_ITEM and the
- * range, 0 where none is left, QUIC_WIRE_ERR_INVALID_ARGUMENT for words that
- * name no blocks of an ACK.
+ * range, 0 where none remains, QUIC_WIRE_ERR_INVALID_ARGUMENT where |ranges|
+ * has no place of an ACK's blocks.
  */
 QUIC_WIRE_API int quic_wire_ack_ranges_next(quic_wire_ack_ranges *ranges,
                                             const uint8_t *payload,
@@ -713,11 +713,12 @@ QUIC_WIRE_API int quic_wire_ack_ranges_next(quic_wire_ack_ranges *ranges,
 /*
  * Reads the next ranges, the greatest first, as many as the |room| entries of
  * |out| hold, with one call.  Returns QUIC_WIRE_ITEM, and in |*count| how many
- * entries were filled, one at least; 0 where no range is left;
- * QUIC_WIRE_ERR_NOBUF where |room| is 0; QUIC_WIRE_ERR_INVALID_ARGUMENT for
- * words that name no blocks of an ACK.  Entries behind those that were filled
- * stay, and nothing changes but with QUIC_WIRE_ITEM.  Once |ranges->begin| is
- * |ranges->end| none is left, and no call is needed to learn that.
+ * entries were filled, one at least; 0 where no range remains;
+ * QUIC_WIRE_ERR_NOBUF where |room| is 0; QUIC_WIRE_ERR_INVALID_ARGUMENT where
+ * |ranges| has no place of an ACK's blocks.  Entries after those that were filled
+ * don't change, and nothing changes but with QUIC_WIRE_ITEM.  Once
+ * |ranges->begin| is |ranges->end| none remains, and no call is needed to learn
+ * that.
  */
 QUIC_WIRE_API int quic_wire_ack_ranges_fill(quic_wire_ack_ranges *ranges,
                                             const uint8_t *payload,
@@ -731,17 +732,17 @@ QUIC_WIRE_API int quic_wire_ack_ranges_fill(quic_wire_ack_ranges *ranges,
  * Writes |frame|, any but an ACK, in its shortest form at the front of |dest|:
  * as the last frame of its payload (|last| is not 0), where STREAM and
  * DATAGRAM need no length, or as another one.  Its data are |frame->datalen|
- * bytes at |frame->data| of |data|, behind which the token of a
- * NEW_CONNECTION_ID stands.  Where |frame->datalen| is 0, as it is of each kind
+ * bytes at |frame->data| of |data|, followed by the token in a
+ * NEW_CONNECTION_ID.  Where |frame->datalen| is 0, as it is of each kind
  * without data, neither |data| nor that place is looked at, so that a PING is
  * written as it was read, with any |data| or NULL.  type, begin and end are
  * not looked at.
  *
  * Returns 0, and in |*written| how many bytes were written;
  * QUIC_WIRE_ERR_NOBUF where |destlen| is less, and in |*written| how many are
- * needed; QUIC_WIRE_ERR_INVALID_ARGUMENT where the words say no frame that can
- * be written.  What stands in |dest| behind what was written stays, and all of
- * it where nothing was.
+ * needed; QUIC_WIRE_ERR_INVALID_ARGUMENT where |frame| is no frame that can be
+ * written.  Bytes of |dest| after those written don't change, and none if nothing
+ * was written.
  */
 QUIC_WIRE_API int quic_wire_frame_write(const quic_wire_frame *frame,
                                         const uint8_t *data, size_t datalen,
@@ -751,7 +752,7 @@ QUIC_WIRE_API int quic_wire_frame_write(const quic_wire_frame *frame,
 /*
  * Writes |frame|, a STREAM, CRYPTO or DATAGRAM, up to its data, which are
  * |frame->datalen| bytes: the front of what quic_wire_frame_write writes of it,
- * behind which the caller puts the data.  type, data, begin and end are not
+ * after which the caller puts the data.  type, data, begin and end are not
  * looked at.  Answers and |dest| are those of quic_wire_frame_write;
  * QUIC_WIRE_ERR_INVALID_ARGUMENT also for other kinds.
  */
@@ -767,12 +768,12 @@ QUIC_WIRE_API int quic_wire_frame_header_write(const quic_wire_frame *frame,
  * |gaps| are the ranges below it.  Nothing else of |ack| is looked at but its
  * kind.
  *
- * Returns 0, and in |*written| how many bytes were written; QUIC_WIRE_ERR_NOBUF
- * where |destlen| is less, and in |*written| how many are needed;
- * QUIC_WIRE_ERR_INVALID_ARGUMENT for NULL, or where they are no ACK: a range
- * goes below 0, a number is 2^62 or more, or the flags are others, as with
- * QUIC_WIRE_FLAG_MORE, where ranges are lacking.  What stands in |dest| behind
- * what was written stays, and all of it where nothing was.
+ * Returns 0, and in |*written| how many bytes were written;
+ * QUIC_WIRE_ERR_NOBUF where |destlen| is less, and in |*written| how many are
+ * needed; QUIC_WIRE_ERR_INVALID_ARGUMENT for NULL, or where they are no ACK: a
+ * range goes below 0, a number is 2^62 or more, or the flags are others, as with
+ * QUIC_WIRE_FLAG_MORE, where ranges are missing.  Bytes of |dest| after those
+ * written don't change, and none if nothing was written.
  */
 QUIC_WIRE_API int quic_wire_ack_gaps_write(const quic_wire_frame *ack,
                                            const quic_wire_gap *gaps,
@@ -795,10 +796,9 @@ QUIC_WIRE_API int quic_wire_frame_len(const quic_wire_frame *frame,
  * Returns 0, and in |out->len| how many bytes were written, at most
  * |payloadlen|; QUIC_WIRE_ERR_NOBUF where |destlen| is less, and in |out->len|
  * how many are needed; QUIC_WIRE_ERR_EMPTY where the payload is empty;
- * QUIC_WIRE_ERR_MALFORMED where something in it is no frame, with its type and
- * the reason in |out|.  What stands in |dest| behind what was written stays,
- * and all of it where nothing was; |out| changes in the words alone that are
- * reported.
+ * QUIC_WIRE_ERR_MALFORMED where it has an invalid frame, with its type and the
+ * reason in |out|.  Bytes of |dest| after those written don't change, and none if
+ * nothing was written; |out| changes only in the fields that are named here.
  */
 QUIC_WIRE_API int quic_wire_canonical(const uint8_t *payload, size_t payloadlen,
                                       uint8_t *dest, size_t destlen,
@@ -807,12 +807,12 @@ QUIC_WIRE_API int quic_wire_canonical(const uint8_t *payload, size_t payloadlen,
 /* ---- Headers of packets, read */
 
 /*
- * Reads the header of the packet that |bytes| begin with, be it whole or cut
- * off behind its head.  Ids of short headers have |cidlen| bytes; |versions|
- * are those that are read further than their ids.  The fixed bit isn't looked
- * at: who doesn't take packets of RFC 9287 asks for it in |header->first|, but
- * not of a version negotiation, where clients ignore it (RFC 9000, section
- * 17.2.1).
+ * Reads the header of the packet that |bytes| begin with, whether the packet is
+ * complete or ends after its header.  Ids of short headers have |cidlen| bytes; of
+ * versions that are not among |versions| only the ids are read.  The fixed bit
+ * isn't checked: who doesn't accept packets of RFC 9287 looks for it in
+ * |header->first|, but not in a version negotiation, where clients ignore it (RFC
+ * 9000, section 17.2.1).
  *
  * Returns 0 and the header, whose packet ends at |header->end|, where the next
  * one of the datagram begins; QUIC_WIRE_PACKET_LENGTH_BEYOND_END and the
@@ -845,10 +845,10 @@ QUIC_WIRE_API size_t quic_wire_short_read(const uint8_t *packet,
  * what quic_wire_header_read tells where both have at most 20, which refuses
  * longer ones.  The seven low bits of the first byte aren't looked at.
  *
- * Returns 0 and the header, behind which the versions stand from
- * |header->header_end| to |header->end|, four bytes each, the highest first;
- * QUIC_WIRE_ERR_MALFORMED where none begins there: the highest bit of the first
- * byte is clear, the version isn't 0, or the bytes end within the ids;
+ * Returns 0 and the header, after which the versions are, from |header->header_end|
+ * to |header->end|, four bytes each, the highest first; QUIC_WIRE_ERR_MALFORMED
+ * where none begins there: the highest bit of the first byte is clear, the
+ * version isn't 0, or the bytes end within the ids;
  * QUIC_WIRE_ERR_INVALID_ARGUMENT for NULL, or where there are 2^32 bytes or
  * more.  |header| changes with 0 alone.
  */
@@ -856,7 +856,7 @@ QUIC_WIRE_API int quic_wire_negotiation_read(const uint8_t *packet,
                                              size_t packetlen,
                                              quic_wire_header *header);
 
-/* Where the ids stand in a packet of this header, or NULL for NULL. */
+/* Where the ids begin in a packet of this header, or NULL for NULL. */
 QUIC_WIRE_API const uint8_t *quic_wire_dcid(const uint8_t *packet,
                                             const quic_wire_header *header);
 QUIC_WIRE_API const uint8_t *quic_wire_scid(const uint8_t *packet,
@@ -878,7 +878,7 @@ QUIC_WIRE_API const uint8_t *quic_wire_sample(const uint8_t *packet,
  * |place|, by a mask of five bytes (RFC 9001, section 5.4.1), and says its
  * number by the one that is |expected| next, as quic_wire_number_expand does;
  * with 0 it is what is written.  Returns how many bytes the number has, 1 to 4:
- * the payload begins behind them, and packet[0] has the key phase and the
+ * the payload begins after them, and packet[0] has the key phase and the
  * reserved bits.  QUIC_WIRE_ERR_MALFORMED where |place| is 0 or has fewer than
  * four bytes from it on; QUIC_WIRE_ERR_INVALID_ARGUMENT for NULL, or where
  * |expected| is 2^62 or more.  Nothing changes then.
@@ -949,7 +949,7 @@ QUIC_WIRE_API size_t quic_wire_header_len(const quic_wire_header_fields *fields,
  * and the |token|.  The length that an Initial, 0-RTT or Handshake packet has
  * is 0, until quic_wire_set_len.
  *
- * Returns how many bytes were written, at whose end the number stands;
+ * Returns how many bytes were written, the last of which are the number;
  * QUIC_WIRE_ERR_NOBUF where |destlen| is less than quic_wire_header_len;
  * QUIC_WIRE_ERR_INVALID_ARGUMENT for NULL, or where no such header can be
  * written: there is no such kind, an id is longer than 20 bytes, the number is
@@ -988,11 +988,11 @@ QUIC_WIRE_API int64_t quic_wire_header_write(
  * QUIC_WIRE_FIXED_BIT set where QUIC may share its port (RFC 7983), and readers
  * that ask for it refuse a packet without it.
  *
- * Returns 0, and in |*written| how many bytes were written; QUIC_WIRE_ERR_NOBUF
- * where |destlen| is less, and in |*written| how many are needed;
- * QUIC_WIRE_ERR_INVALID_ARGUMENT for NULL, or where an id is longer than 255
- * bytes, and then |*written| stays.  What stands in |dest| behind what was
- * written stays, and all of it where nothing was.
+ * Returns 0, and in |*written| how many bytes were written;
+ * QUIC_WIRE_ERR_NOBUF where |destlen| is less, and in |*written| how many are
+ * needed; QUIC_WIRE_ERR_INVALID_ARGUMENT for NULL, or where an id is longer than
+ * 255 bytes, and then |*written| stays.  Bytes of |dest| after
+ * those written don't change, and none if nothing was written.
  */
 QUIC_WIRE_API int quic_wire_negotiation_write(
     uint8_t first, const uint8_t *dcid, size_t dcidlen, const uint8_t *scid,
@@ -1002,7 +1002,7 @@ QUIC_WIRE_API int quic_wire_negotiation_write(
 /*
  * Sets the length in the header of a packet of |packetlen| bytes whose number
  * begins at |place|, to what there is from there on.  |lengthlen| is that of
- * the head.  Returns 0, or QUIC_WIRE_ERR_INVALID_ARGUMENT where that is neither
+ * the header.  Returns 0, or QUIC_WIRE_ERR_INVALID_ARGUMENT where that is neither
  * 2 nor 4, has no place before |place| or can't hold the length; nothing
  * changes then.
  */
@@ -1069,11 +1069,11 @@ static inline int quic_wire_params_write(uint32_t side,
 /*
  * The same with further entries, in an order.  |further| is a list of entries
  * that quic_wire_params has no fields for, none of them twice, at most 235, as
- * quic_wire_param_write writes them one behind the other.  The parameters of
+ * quic_wire_param_write writes them one after the other.  The parameters of
  * quic_wire_params are numbered as the rows of this table are, whether they are
  * written or not, and the further entries from QUIC_WIRE_PARAM_ROWS on; |order|
  * has each of these numbers once, or |orderlen| is 0, and then the entries
- * stand as they are numbered.
+ * are written in the order of their numbers.
  *
  *    0 max_idle_timeout                     11 (a reserved one, never written)
  *    1 max_udp_payload_size                 12 stateless_reset_token
@@ -1108,7 +1108,7 @@ static inline int quic_wire_params_write_with(
 
 /*
  * Reads the entry at the front of a |list| of transport parameters, be it one
- * that quic_wire_params has a field for or another.  The next one begins behind
+ * that quic_wire_params has a field for or another.  The next one begins after
  * its value.  Whether the value is one of its kind isn't looked at, nor whether
  * an entry is there twice: quic_wire_params_read does that.
  *
@@ -1145,7 +1145,7 @@ QUIC_WIRE_API int quic_wire_param_is_known(uint64_t id);
  * how many entries the set then has; 0 where all of them were in it;
  * QUIC_WIRE_ERR_NOBUF where the set needs one entry more than there are;
  * QUIC_WIRE_ERR_INVALID_ARGUMENT where |*count| is above |room| or the entries
- * are no such runs.  Entries behind the set keep what they hold, and nothing
+ * are no such runs.  Entries after the set don't change, and nothing
  * changes but with QUIC_WIRE_CHANGED.
  */
 QUIC_WIRE_API int quic_wire_set_insert(quic_wire_range *runs, size_t room,
@@ -1176,8 +1176,8 @@ QUIC_WIRE_API int quic_wire_set_contains(const quic_wire_range *runs,
  * Returns 0, and in |*written| how many bytes were written;
  * QUIC_WIRE_ERR_NOBUF where |destlen| is less, and in |*written| how many are
  * needed; QUIC_WIRE_ERR_INVALID_ARGUMENT where the runs are none or no such
- * runs, or a number in them, the delay or a count is 2^62 or more.  What stands
- * in |dest| behind what was written stays, and all of it where nothing was.
+ * runs, or a number in them, the delay or a count is 2^62 or more.  Bytes of
+ * |dest| after those written don't change, and none if nothing was written.
  */
 QUIC_WIRE_API int quic_wire_ack_write(uint64_t delay,
                                       const quic_wire_range *runs, size_t count,
@@ -1189,10 +1189,10 @@ QUIC_WIRE_API int quic_wire_ack_write(uint64_t delay,
 /* What an answer below 0 says, in English; of others "ok". */
 extern const char *quic_wire_strerror(int answer);
 
-/* The name of a type as it stands on the wire, or NULL. */
+/* The name of a frame type, which is as on the wire, or NULL. */
 extern const char *quic_wire_type_name(uint64_t type);
 
-/* Why something is no frame. */
+/* Why a frame is invalid. */
 extern const char *quic_wire_reason_text(uint32_t reason);
 
 /* Why a list of transport parameters is refused. */

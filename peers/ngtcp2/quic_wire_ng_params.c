@@ -120,8 +120,8 @@ static int read_params(ngtcp2_transport_params *params, quic_wire_params *w,
 }
 
 #if QUIC_WIRE_NG_1
-/* Whose parameters they are isn't reported, and what a client may not send is looked
- * at by who asks: so they are read as a server's, which may have all. */
+/* The caller doesn't say whose parameters they are, and itself refuses what a client
+ * may not send: so they are read as a server's, which may have all. */
 int ngtcp2_transport_params_decode_versioned(int transport_params_version,
                                              ngtcp2_transport_params *dest,
                                              const uint8_t *data,
@@ -279,7 +279,7 @@ static ngtcp2_ssize write_params(uint8_t *dest, size_t destlen, uint32_t side,
 }
 
 #if QUIC_WIRE_NG_1
-/* Whose they are isn't reported: a server may send all. */
+/* The caller doesn't say whose they are: a server may send all. */
 ngtcp2_ssize ngtcp2_transport_params_encode_versioned(
     uint8_t *dest, size_t destlen, int transport_params_version,
     const ngtcp2_transport_params *params) {

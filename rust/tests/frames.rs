@@ -24,7 +24,7 @@ fn frames_borrow_the_payload() {
 }
 
 #[test]
-fn an_iterator_is_small_and_reported_apart_by_what_it_gives() {
+fn an_iterator_is_small_and_gives_its_place() {
     assert!(size_of::<Iter<'_>>() == 48, "{}", size_of::<Iter<'_>>());
     // Two PADDING in three bytes, one in eight, two more, and a PING.
     let payload = [0x40, 0x00, 0x00, 0xc0, 0, 0, 0, 0, 0, 0, 0, 0, 0, 0x01];

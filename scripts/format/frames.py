@@ -87,8 +87,8 @@ def several(numbers):
     return ", ".join(f"{number:#04x}" for number in sorted(numbers))
 
 
-def reported_by(some, types):
-    """How some types are reported from the others: by a bit, else by their numbers."""
+def distinguished_by(some, types):
+    """How some types differ from the others: by a bit, else by their numbers."""
     for bit in (1, 2, 4) if len(types) > 2 else ():
         those = {number for number in types if number & bit}
         if some in (those, types - those):
@@ -189,7 +189,7 @@ def ack_note(first):
         " × Encodes (range.1 - range.0) block × AreBelow range.0 ranges others"))
     said(FIELD, "greatest_of", "(Number greatest ∷ values)", "greatest")
     return (
-        f"ACK Range Count counts the ranges behind the first (`Blocks`), which ends at {first}; First ACK Range and ACK"
+        f"ACK Range Count counts the ranges after the first (`Blocks`), which ends at {first}; First ACK Range and ACK"
         " Range Length are a range's greatest number less its least (`AreBlocks`), Gap the least of the range before,"
         f" less {apart}, less the greatest of the next (`AreBelow`). None goes below 0.")
 
@@ -209,9 +209,9 @@ def unwritten_notes(group, types):
     for name, values in unwritten(group).items():
         if set().union(*values.values()) != types:
             continue
-        reported = {value: reported_by(some, types) for value, some in values.items()}
-        first = [f"{value} {by}" for value, by in reported.items() if not by.startswith("without")]
-        others = [f"else {value}" for value, by in reported.items() if by.startswith("without")]
+        found = {value: distinguished_by(some, types) for value, some in values.items()}
+        first = [f"{value} {by}" for value, by in found.items() if not by.startswith("without")]
+        others = [f"else {value}" for value, by in found.items() if by.startswith("without")]
         yield f"{name} (`Implied`) is {', '.join(first + others)}."
 
 
@@ -222,7 +222,7 @@ def notes(group, optional):
     names = {("ECN Counts" if line in COUNTS else line.split(" (")[0]): some for line, some in optional.items()}
     for name, some in names.items():
         other = "".join(f", else {value} (`Implied`)" for value in unwritten(group).get(name, ()))
-        yield f"{name} stands {reported_by(some, types)}{other}."
+        yield f"{name} is present {distinguished_by(some, types)}{other}."
     yield from unwritten_notes(group, types)
     if "Rest" in parts:
         said(PAYLOAD, "AreFrames", "strict (found ∷ others) bytes", (
@@ -232,7 +232,7 @@ def notes(group, optional):
         said(TABLE, "has_rest", "(field ∷ fields)", "is_rest field || has_rest fields")
         said(FIELD, "is_rest", "Rest", "true")
         rest = {frame.type for frame in group if any(part.kind == "Rest" for part in frame.parts)}
-        yield f"{parts['Rest'].name} goes to the payload's end (`Rest`) {reported_by(rest, types)}."
+        yield f"{parts['Rest'].name} goes to the payload's end (`Rest`) {distinguished_by(rest, types)}."
     if "Blocks" in parts:
         yield ack_note(group[0].parts[0].name)
     if "Ordered" in parts:
@@ -282,8 +282,8 @@ def frame_figures(name, group):
         found += figure("ACK Range", ["Gap (i)", "ACK Range Length (i)"])
     if "[ECN Counts (..)]" in counts_as_one(lines):
         found += figure("ECN Counts", COUNTS)
-    reported = " ".join([*meaning_notes(group), *notes(group, optional)])
-    return found + [reported, ""] * bool(reported)
+    text = " ".join([*meaning_notes(group), *notes(group, optional)])
+    return found + [text, ""] * bool(text)
 
 
 def beginning():
@@ -304,7 +304,7 @@ def beginning():
         f" (`IsFrame`, crates/{PAYLOAD}.antt; `IsField`, crates/{FIELD}.antt); a payload is frames to its end"
         " (`AreFrames`). Types without a row are none. What is `Implied` takes no bytes.",
         "",
-        f"Rows are those of crates/{TABLE}.antt (`rows`, by type). Beneath a figure stand the values in the code, by"
+        f"Rows are those of crates/{TABLE}.antt (`rows`, by type). Beneath a figure are the values in the code, by"
         " `meaning_of` or the word in brackets.",
         ""]
 

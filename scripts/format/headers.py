@@ -175,9 +175,9 @@ def behind(head):
 def notes(head):
     """What the figure of a header can't say, beside what is so of all."""
     if head.title == "Version Negotiation":
-        yield "The versions, (..), are reported as bytes."
+        yield "The versions, (..), are given as bytes."
     if head.title == "Retry":
-        yield "Retry Token and Retry Integrity Tag, (..), are reported as bytes."
+        yield "Retry Token and Retry Integrity Tag, (..), are given as bytes."
     if head.title == "1-RTT":
         yield "Destination Connection ID is what the parser of ids takes (`ShortId`)."
 
@@ -209,7 +209,7 @@ def reading():
     types = ", ".join(f"{type_number(head, 'second')} {head.title}" for head in ALL if head.type)
     return (
         "A header is its first byte and its row's fields one after another (`HeaderAt`, `header_row_of`, `row_behind_ids`,"
-        f" `typed_row`, crates/{GRAMMAR}.antt); its packet ends as many bytes behind Length as that says (`Cut`). Any"
+        f" `typed_row`, crates/{GRAMMAR}.antt); its packet ends as many bytes after Length as that says (`Cut`). Any"
         " fixed bit may be clear where `context.grease` holds (RFC 9287; `is_fixed`). Versions but 0 are known ones"
         f" (`Supported`). Version 2 ({version:#x}; RFC 9369, 3.2) has the Long Packet Types {types} (`types_of`).")
 
@@ -222,8 +222,8 @@ def protection():
     return (
         "Packet Number has a byte more than Packet Number Length says (`number_len`); `reserved_zero` tells whether"
         f" Reserved Bits are 0. The low {low['true']} bits of a 1-RTT packet's first byte, {low['false']} of others,"
-        " and the number are under header protection (`first_unit`, `Protects`; RFC 9001, 5.4), whose sample stands"
-        f" {skipped} bytes behind the number's place (`HasSample`, crates/{KEYS}.antt).")
+        " and the number are under header protection (`first_unit`, `Protects`; RFC 9001, 5.4), whose sample is"
+        f" {skipped} bytes after the number's place (`HasSample`, crates/{KEYS}.antt).")
 
 
 def packet_numbers():
@@ -268,12 +268,12 @@ def any_version():
     yield ""
     lines = ["Header Form (1) = 1", "Version-Specific Bits (7)", f"Version ({8 * width})", *ids]
     yield from figure("Long Header Packet", [*lines, "Version-Specific Data (..)"])
-    yield f"`AnyVersion`, crates/{PLACES}.antt; by it unknown versions are reported (`IsUnknown`)."
+    yield f"`AnyVersion`, crates/{PLACES}.antt; by it headers of unknown versions are read (`IsUnknown`)."
     yield from ["", "### Version Negotiation of any version (RFC 8999, 6)", ""]
     lines = ["Header Form (1) = 1", "Unused (7)", f"Version ({8 * width}) = {zero}", *ids]
     yield from figure("Version Negotiation Packet", [*lines, f"Supported Version ({8 * one}) ..."])
     yield (
-        f"`IsNegotiation`, `negotiation_bytes`, crates/{NEGOTIATION}.antt. What is read ends behind the ids; the"
+        f"`IsNegotiation`, `negotiation_bytes`, crates/{NEGOTIATION}.antt. What is read ends after the ids; the"
         " versions are what is written (`version_bytes`).")
     yield ""
 

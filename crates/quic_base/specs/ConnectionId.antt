@@ -1,4 +1,5 @@
--- Connection ids: RFC 9000, sections 5.1 and 17.2. A connection id is a list of at most 20 bytes.
+-- Connection ids: RFC 9000, sections 5.1 and 17.2. A connection id is a list of at most 20 bytes. Proofs are here
+-- because an implementation proves its trait's laws from definitions alone.
 use Rattle.std.specs.Prelude.{◌≡◌, ℕ, ◌-◌, ◌/◌, ◌%◌, ◌≤◌, false, List, [], ◌∷◌, ◌++◌, take, drop, length, replicate}
 use Rattle.std.specs.List.{flat_map}
 use Rattle.std.specs.Fmt.{digit_glyph}
@@ -22,7 +23,7 @@ hex_pair byte = digit_glyph false (byte / 16) ∷ digit_glyph false (byte % 16) 
 abbrev pub id_text : List ℕ → List ℕ
 id_text id = flat_map hex_pair id
 
--- how an id lies in an array: its bytes, and behind them zeros
+-- how an id is kept in an array: its bytes, and then zeros
 pub record IsPadded (len : ℕ) (bytes : List ℕ) : Type 0 where
   pub short : len ≤ 20
   pub width : length bytes ≡ 20

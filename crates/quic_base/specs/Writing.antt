@@ -2,7 +2,7 @@
 use Rattle.std.specs.Prelude.{◌≡◌, ℕ, ◌<◌, List, ◌++◌, length, Result, OnOk, OnErr}
 use Rattle.quic_base.specs.Codec.{IsBegun, KeepsRoom}
 
--- The bytes stand behind what stood there; or there was less room than that, and a beginning of them does.
+-- The bytes are appended; or there was less room than that, and at most a prefix of them is appended.
 pub record Writes {E : Type 0} (result : Result (Unit {0}) E) (bytes written : List ℕ) (spare : ℕ) (written' : List ℕ)
     (spare' : ℕ) : Type 0 where
   pub ok : OnOk result (written' ≡ written ++ bytes)

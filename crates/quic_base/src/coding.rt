@@ -1,4 +1,4 @@
-//! How values are read from the front of a buffer and written to its end.
+//! Reading values from the front of a buffer, and writing them to its end.
 ghost use Rattle.std.specs.Prelude.{◌≡◌, ◌<◌, ◌≤◌, ◌+◌, ◌^◌, ◌++◌, List, ℕ, take, drop, length, slice_index, IfOk, IfSome, IsNone, OnErr, OnOk};
 ghost use Rattle.std.specs.Net.Addr.{ipv4_octets, ipv6_octets};
 ghost use Rattle.quic_base.specs.Codec.{Takes, NoFront, IsBegun, KeepsRoom};
@@ -20,7 +20,7 @@ pub use buffer_cursor::Cursor;
 #[error("unexpected end of buffer")]
 pub struct UnexpectedEnd;
 
-/// A buffer or a growth had no room for what was to be written.
+/// There was no room in a buffer, or no memory, for what was to be written.
 #[derive(Clone, Copy, Debug, PartialEq, Eq, Error)]
 #[error("no room in buffer")]
 pub struct NoRoom;
@@ -42,19 +42,19 @@ pub trait Codec: Sized {
     // The encoding that is written.
     ghost encoding: { Self → List ℕ };
 
-    // What is left of bytes that begin with no whole encoding.
+    // The bytes that remain after an `UnexpectedEnd`.
     ghost after_cut: { List ℕ → List ℕ } = { λ r. r };
 
-    /// Takes a encoding from the front of the buffer. Answers `UnexpectedEnd` exactly where no front
-    /// of what is left encodes a value. It takes no memory.
+    /// Takes an encoding from the front of the buffer. Answers `UnexpectedEnd` exactly if no prefix
+    /// of the remaining bytes encodes a value. It allocates no memory.
     fn decode<B: Buf>(buf: &mut B) -> Result<Self>
         ensures ok { IfOk result (λ v. Takes (encoded v) (B.unread buf.old) (B.unread buf.new)) }
         ensures cut { OnErr result ((v : Self) → NoFront (encoded v) (B.unread buf.old)) }
         ensures left { OnErr result (B.unread buf.new ≡ after_cut (B.unread buf.old)) }
         ensures kept { B.kept buf.new ≡ B.kept buf.old };
 
-    /// Appends the encoding. Answers `NoRoom` only where the buffer's spare room is less than that;
-    /// then what stood there stands, followed by a beginning of the encoding.
+    /// Appends the encoding. Answers `NoRoom` only if the buffer's spare room is less than that: the
+    /// buffer then keeps its contents, and may have a prefix of the encoding after them.
     fn encode<B: BufMut>(&self, buf: &mut B) -> std::result::Result<(), NoRoom>
         ensures encoded { encoded self.now (encoding self.now) }
         ensures ok { OnOk result (B.written buf.new ≡ B.written buf.old ++ encoding self.now) }
@@ -65,7 +65,7 @@ pub trait Codec: Sized {
             (B.written buf.new) (B.spare buf.new) };
 }
 
-// The first byte that is left, which stays.
+// The first remaining byte, which isn't consumed.
 #[inline]
 pub(crate) fn first_byte<B: Buf>(buf: &B) -> Option<u8>
     ensures none { IsNone result → length (B.unread buf.now) ≡ 0 }
@@ -75,13 +75,13 @@ pub(crate) fn first_byte<B: Buf>(buf: &B) -> Option<u8>
     buf.chunk().first().copied()
 }
 
-/// Each element is a byte, which callers learn where their own bound on the elements is lost.
+/// Tells the prover that each element is a byte, where a caller has lost that bound.
 #[inline]
 pub fn are_bytes(bytes: &[u8])
     ensures { AreBytes bytes.now }
 {}
 
-/// The next N bytes, by one load where they lie together. On `UnexpectedEnd` nothing is consumed.
+/// The next N bytes, by one load if they are contiguous. On `UnexpectedEnd` nothing is consumed.
 #[inline]
 pub fn get_array<B: Buf, const N: usize>(buf: &mut B) -> Result<[u8; N]>
     requires { N ≤ 16 }
@@ -108,7 +108,7 @@ pub fn get_array<B: Buf, const N: usize>(buf: &mut B) -> Result<[u8; N]>
 }
 
 /// Stores an array over the bytes at a place, and answers where it ends. The caller must ensure that there are as
-/// many bytes. What stands before and behind the array stays.
+/// many bytes. Other bytes don't change.
 #[inline(always)]
 pub fn store_array<const N: usize>(bytes: &mut [u8], at: usize, array: [u8; N]) -> usize
     requires { at + N ≤ length bytes.old }
@@ -167,7 +167,7 @@ impl Codec for u32 {
     }
 }
 
-/// Uint64 bytes, the highest one first. Nothing is consumed on `UnexpectedEnd`.
+/// Eight bytes, the highest one first. Nothing is consumed on `UnexpectedEnd`.
 impl Codec for u64 {
     ghost encoded = { IsNumber 8 };
 

@@ -16,26 +16,26 @@ mod connection_id;
 
 pub use connection_id::{ConnectionId, MAX_CID_SIZE};
 
-/// How many connection ids an endpoint issues for one connection at most.
+/// The greatest number of connection ids that an endpoint issues for one connection.
 pub const LOC_CID_COUNT: u64 = 8;
 
-/// How many streams there are at most of one side and direction: 2^60 (RFC 9000, section 4.6).
+/// The greatest number of streams of one side and direction: 2^60 (RFC 9000, section 4.6).
 pub const MAX_STREAM_COUNT: u64 = 1 << 60;
 
 /// The length of a stateless reset token in bytes (RFC 9000, section 10.3).
 pub const RESET_TOKEN_SIZE: usize = 16;
 
-/// The least payload in bytes of a datagram with an Initial packet (RFC 9000, section 14.1).
+/// The least payload, in bytes, of a datagram with an Initial packet (RFC 9000, section 14.1).
 pub const MIN_INITIAL_SIZE: u16 = 1200;
 
-/// The payload in bytes that every path carries (RFC 9000, section 14).
+/// The size, in bytes, of a UDP payload that every path carries (RFC 9000, section 14).
 pub const INITIAL_MTU: u16 = 1200;
 
 /// The greatest payload of a UDP datagram in bytes (RFC 9000, section 18.2).
 pub const MAX_UDP_PAYLOAD: u16 = 65527;
 
-/// The versions that an endpoint speaks where it is given no others: version 1 (RFC 9000, section
-/// 15), the drafts 29 to 34, and version 2 (RFC 9369, section 3.1).
+/// The versions that an endpoint supports by default: version 1 (RFC 9000, section 15), the drafts 29 to 34, and
+/// version 2 (RFC 9369, section 3.1).
 pub const DEFAULT_SUPPORTED_VERSIONS: &[u32] = &[
     0x0000_0001,
     0xff00_001d,
@@ -72,12 +72,12 @@ const _: () = prove!(
     DEFAULT_SUPPORTED_VERSIONS[6] == 0xff00_0022 && DEFAULT_SUPPORTED_VERSIONS[7] == 0x6b33_43cf
 );
 
-/// Which end of a connection.
+/// A side of a connection.
 #[derive(Clone, Copy, Debug, PartialEq, Eq, PartialOrd, Ord, Hash)]
 pub enum Side {
-    /// The end that opened the connection.
+    /// The endpoint that opened the connection.
     Client = 0,
-    /// The end that accepted it.
+    /// The endpoint that accepted it.
     Server = 1,
 }
 
@@ -97,7 +97,7 @@ impl Side {
     }
 }
 
-/// The other end.
+/// The other side.
 impl Not for Side {
     type Output = Side;
 
@@ -168,7 +168,7 @@ impl StreamId {
         StreamId(4 * index + 2 * dir as u64 + initiator as u64)
     }
 
-    /// Which end opened the stream.
+    /// Which side opened the stream.
     pub fn initiator(self) -> Side
         ensures { result ≡ initiator_of self }
     {
@@ -261,11 +261,11 @@ impl fmt::Display for StreamId {
 /// section 13.4; RFC 3168, section 5).
 #[derive(Clone, Copy, Debug, PartialEq, Eq)]
 pub enum EcnCodepoint {
-    /// Able to notify, ECT(0).
+    /// ECN-capable transport, ECT(0).
     Ect0 = 0b10,
-    /// Able to notify, ECT(1).
+    /// ECN-capable transport, ECT(1).
     Ect1 = 0b01,
-    /// Congestion was met.
+    /// Congestion experienced, CE.
     Ce = 0b11,
 }
 
@@ -274,7 +274,7 @@ const _: () = prove!(
 );
 
 impl EcnCodepoint {
-    /// The codepoint of the two lowest bits of `x`; none where both are 0.
+    /// The codepoint in the two lowest bits of `x`; `None` if both are 0.
     pub fn from_bits(x: u8) -> Option<EcnCodepoint>
         ensures { MatchOption result (x % 4 ≡ 0) (λ codepoint. x % 4 ≡ ecn_bits codepoint) }
     {
@@ -286,7 +286,7 @@ impl EcnCodepoint {
         }
     }
 
-    /// Whether congestion was met.
+    /// Whether congestion was experienced.
     pub fn is_ce(self) -> bool
         ensures { IsTrue result ↔ (self ≡ EcnCodepoint.Ce) }
     {
@@ -294,7 +294,7 @@ impl EcnCodepoint {
     }
 }
 
-/// The token of a stateless reset, sixteen bytes, as which contracts see it (RFC 9000, section 10.3).
+/// The token of a stateless reset, which contracts see as its sixteen bytes (RFC 9000, section 10.3).
 #[derive(Clone, Copy, Debug, PartialEq, Eq, Hash)]
 pub struct ResetToken([u8; RESET_TOKEN_SIZE]);
 

@@ -1,4 +1,4 @@
-//! Laws of numbers and ids, which no single call carries. The functions do nothing.
+//! Laws of numbers and ids, which no single call states. The functions do nothing at run time.
 ghost use Rattle.std.specs.Prelude.{◌≡◌, ◌<◌, ◌≤◌, ◌^◌, ◌/◌, ◌++◌, ◌↔◌, List, ℕ, None, Some, length, IsTrue};
 ghost use Rattle.std.specs.Cmp.{IsTotalOrder};
 ghost use Rattle.std.specs.Cmp.Lexicographic.{slice_cmp};
@@ -20,15 +20,15 @@ use crate::ids::ConnectionId;
 use std::hash::Hash;
 
 /// Encodings of numbers below 2^62 (RFC 9000, section 16). That decoding the shortest one gives the
-/// number and leaves what follows is a clause of `VarInt::decode`.
+/// number and consumes exactly its bytes is a clause of `VarInt::decode`.
 pub fn encodings()
-    // The shortest encoding is one, of the stated length.
+    // The shortest encoding is an encoding, of the stated length.
     ensures shortest { (v : ℕ) → v < 2 ^ 62 → Encodes v (shortest_varint v) }
     ensures length { (v : ℕ) → length (shortest_varint v) ≡ size v }
-    // No encoding begins another, and none encodes two numbers.
+    // No encoding is a prefix of another, and none encodes two numbers.
     ensures begins_none { (v u : ℕ) (b c r s : List ℕ) → b ++ r ≡ c ++ s → Encodes v b → Encodes u c
         → (v ≡ u) × (b ≡ c) × (r ≡ s) }
-    // No encoding is shorter than the shortest, and no other one as shortest_varint.
+    // No encoding is shorter than the shortest, and no other one is as short.
     ensures least { (v : ℕ) (b : List ℕ) → Encodes v b → length (shortest_varint v) ≤ length b }
     ensures alone { (v : ℕ) (b : List ℕ) → Encodes v b → length b ≡ length (shortest_varint v) → b ≡ shortest_varint v }
     // What can be encoded is below 2^62.
@@ -44,7 +44,7 @@ pub fn readings()
     ensures none { (bytes : List ℕ) → number_at bytes ≡ None → (v : ℕ) → NoFront (Encodes v) bytes }
 {}
 
-/// Of fixed numbers, addresses and ids behind their length no encoding begins another, and none encodes
+/// Of numbers of fixed size, addresses, and ids after their length no encoding is a prefix of another, and none encodes
 /// two values.
 pub fn fixed_encodings()
     ensures numbers { (k : ℕ) → IsPrefixFree (IsNumber k) }
@@ -55,7 +55,7 @@ pub fn fixed_encodings()
 
 /// The number of a stream and its three parts (RFC 9000, section 2.1).
 pub fn stream_ids()
-    // The number gives its parts back, so different parts give different numbers.
+    // The parts can be computed from the number, so different parts give different numbers.
     ensures parts { (side : Side) (dir : Dir) (index : ℕ) →
         (initiator_of (stream_number side dir index) ≡ side)
         × (dir_of (stream_number side dir index) ≡ dir)
@@ -69,15 +69,15 @@ pub fn stream_ids()
 
 /// How connection ids compare, and how they are hashed.
 pub fn connection_ids()
-    // Two ids are equal exactly where their bytes are.
+    // Two ids are equal exactly if their bytes are.
     ensures equal { (x y : List ℕ) → IsTrue (⟦<ConnectionId as PartialEq>⟧.eq x y) ↔ (x ≡ y) }
     // Equal ids are hashed alike.
     ensures hashed { (x y : List ℕ) → IsTrue (⟦<ConnectionId as PartialEq>⟧.eq x y)
         → ⟦<ConnectionId as Hash>⟧.hash_input x ≡ ⟦<ConnectionId as Hash>⟧.hash_input y }
-    // The order is total, and ties exactly the equal ones.
+    // The order is total, and only equal ids tie.
     ensures total { IsTotalOrder ⟦<ConnectionId as Ord>⟧.cmp }
     ensures ties { (x y : List ℕ) → (⟦<ConnectionId as Ord>⟧.cmp x y ≡ Equal) ↔ (x ≡ y) }
-    // A shorter id comes first. Of ids of one length the bytes decide.
+    // A shorter id comes first; the bytes decide between ids of one length.
     ensures shorter { (x y : List ℕ) → length x < length y
         → ⟦<ConnectionId as Ord>⟧.cmp x y ≡ Less }
     ensures as_long { (x y : List ℕ) → length x ≡ length y

@@ -1,5 +1,5 @@
-//! Numbers and identifiers of QUIC as bytes: how they are read from the front of a buffer, and
-//! written to its end (RFC 9000, sections 2.1 and 16).
+//! Numbers, ids and addresses as bytes, and the traits by which values are read from the front of a buffer and written
+//! to its end (RFC 9000, sections 2.1 and 16).
 #![tactic(auto)]
 
 pub mod coding;

@@ -43,7 +43,7 @@ impl VarInt {
         VarInt(x as u64)
     }
 
-    /// The number `x`, refused exactly from 2^62 on.
+    /// The number `x`; an error exactly from 2^62 on.
     pub fn from_u64(x: u64) -> Result<VarInt, VarIntBoundsExceeded>
         ensures { IsBounded x result }
     {
@@ -80,7 +80,7 @@ impl VarInt {
     }
 }
 
-// How many bytes the shortest encoding has of a number whose highest bit is this one, of those from 0 to 61.
+// The size in bytes of the shortest encoding of a number, by its highest bit, from 0 to 61.
 const SIZES: [u8; 62] = [
     1, 1, 1, 1, 1, 1, 2, 2, 2, 2, 2, 2, 2, 2, 4, 4, 4, 4, 4, 4, 4, 4, 4, 4, 4, 4, 4, 4, 4, 4, 8, 8,
     8, 8, 8, 8, 8, 8, 8, 8, 8, 8, 8, 8, 8, 8, 8, 8, 8, 8, 8, 8, 8, 8, 8, 8, 8, 8, 8, 8, 8, 8,
@@ -217,8 +217,8 @@ fn read_number<B: Buf>(buf: &mut B) -> coding::Result<u64>
 }
 
 /// The number that a varint at the front of the bytes encodes, in any width, and what follows it (RFC 9000, section
-/// 16). Answers `None` exactly where the bytes end before it does. It goes into its caller, so that no slice is kept
-/// in memory for it.
+/// 16). Answers `None` exactly if the bytes end before it does. It is inlined into its caller, so that no slice is
+/// kept in memory for it.
 #[inline(always)]
 pub fn split_var(bytes: &[u8]) -> Option<(u64, &[u8])>
     ensures read { MatchOption result ((v : ℕ) → NoFront (Encodes v) bytes.now)
@@ -232,8 +232,8 @@ pub fn split_var(bytes: &[u8]) -> Option<(u64, &[u8])>
     }
 }
 
-// The number at the front of eight bytes, and how many of them encode it. The two bits that tell its width shift the
-// whole word.
+// The number at the front of eight bytes, and how many of them encode it. Its two width bits determine by how
+// much the whole word is shifted.
 #[inline(always)]
 fn number_of_word(front: &[u8; 8]) -> (u64, usize)
     ensures encoded { Encodes result.0 (take result.1 front.now) }
@@ -245,8 +245,8 @@ fn number_of_word(front: &[u8; 8]) -> (u64, usize)
     ((word & VarInt::MAX.0) >> (64 - 8 * width), width)
 }
 
-/// The same by one load of eight bytes, where so many are left: no branch hangs on the width. It serves numbers whose
-/// widths can't be foretold; where most have one width, `split_var` is faster.
+/// The same by one load of eight bytes, if so many remain: no branch depends on the width. It is for numbers whose
+/// widths can't be predicted; if most have one width, `split_var` is faster.
 #[inline(always)]
 pub fn split_var_by_word(bytes: &[u8]) -> Option<(u64, &[u8])>
     ensures read { MatchOption result ((v : ℕ) → NoFront (Encodes v) bytes.now)
@@ -260,8 +260,8 @@ pub fn split_var_by_word(bytes: &[u8]) -> Option<(u64, &[u8])>
     Some((number, &bytes[width..]))
 }
 
-/// All four widths are read, the shortest is written. Where the first byte is there and others are
-/// missing, `decode` has consumed that one byte.
+/// All four widths are read, the shortest is written. If the first byte is there and others are missing, `decode`
+/// consumes that one byte.
 impl Codec for VarInt {
     ghost encoded = { Encodes };
 

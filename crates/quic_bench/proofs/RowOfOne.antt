@@ -1,7 +1,6 @@
 -- A datagram that is one packet.
-use Rattle.std.specs.Prelude.{◌≡◌, ◌≢◌, ℕ, ◌<◌, List, [], ◌∷◌, ◌++◌, length}
+use Rattle.std.specs.Prelude.{◌≡◌, ◌≢◌, ℕ, ◌<◌, List, [], ◌∷◌, ◌++◌, length, nat_eq}
 use Rattle.std.proofs.Common.{sym, ap, subst, ◌∙◌, arith, refl, true}
-use Rattle.std.specs.Prelude.{nat_eq}
 use Rattle.std.specs.Cmp.Lexicographic.{pointwise}
 use Rattle.std.proofs.lemmas.Bool.Decides.{nat_tests}
 use Rattle.quic_canon.specs.Bytes.{canon_bytes, GivesLeast}
@@ -57,7 +56,7 @@ bytes_same : (bytes : List ℕ) → pointwise nat_eq bytes bytes ≡ true
 bytes_same [] = refl
 bytes_same (b ∷ bytes) = rw (same_number b, bytes_same bytes) refl
 
--- equal bytes are reported to be so
+-- `==` answers true of equal bytes
 pub reported_same : (some others x y : List ℕ) → x ≡ some → y ≡ others → some ≡ others → pointwise nat_eq x y ≡ true
 reported_same some others x y is is' same =
     ap (λ (z : List ℕ). pointwise nat_eq z y) (is ∙ same ∙ sym is') ∙ bytes_same y

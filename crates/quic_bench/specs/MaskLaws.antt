@@ -1,4 +1,5 @@
--- The laws of the key that joins one byte of the packet to its first byte and its number.
+-- The laws of the key that joins one byte of the packet to its first byte and its number. Proofs are here because an
+-- implementation proves its trait's laws from definitions alone.
 use Rattle.std.specs.Prelude.{◌≡◌, ℕ, ◌+◌, ◌/◌, ◌%◌, ◌<◌, ◌≤◌, Bool, true, false, List, length, nat_lt, bit_xor, refl, ◌⊎◌}
 use Rattle.std.proofs.Common.{zero, suc, get_or, set, sym, ap, ◌∙◌, arith, length-set, inl, inr, subst}
 use Rattle.std.proofs.lemmas.List.{get_or-set_other, get_or-set_same}

@@ -1,4 +1,5 @@
--- What the parsers of ids of this crate take.
+-- What the parsers of ids of this crate take. Proofs are here because an implementation proves its trait's laws from
+-- definitions alone.
 use Rattle.std.specs.Prelude.{◌≡◌, ◌≢◌, ℕ, ◌+◌, ◌≤◌, List, [], ◌∷◌, length, take, Result, Ok, Err, MatchResult, nat_lt, ◌==◌, ◌||◌, if◌then◌else◌, codes}
 use Rattle.std.proofs.Common.{cond, Bool, true, false, arith, refl}
 use Rattle.std.proofs.lemmas.Bool.Decides.{nat_tests}

@@ -1,4 +1,5 @@
--- The law of a key that adds no tag.
+-- The law of a key that adds no tag. Its proof is here because an implementation proves its trait's laws from
+-- definitions alone.
 use Rattle.std.specs.Prelude.{◌≡◌, ℕ, ◌+◌, List, length}
 use Rattle.std.proofs.Common.{arith}
 

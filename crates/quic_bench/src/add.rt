@@ -1,4 +1,4 @@
-//! A packet key that keeps the laws and leaves nothing as it was: it adds the number's lowest byte to each byte.
+//! A packet key that keeps the laws and changes the payload: it adds the number's lowest byte to each byte.
 ghost use Rattle.std.specs.Prelude.{◌≡◌, ℕ, ◌+◌, ◌%◌, ◌<◌, ◌^◌, map};
 ghost use Rattle.quic_bench.specs.Add.{add_byte, take_byte, add_sealed, add_opened};
 ghost use Rattle.quic_bench.specs.AddLaws.{add_sealed_len, add_opens};

@@ -1,16 +1,16 @@
-//! A header key that keeps the laws: it joins one byte of the packet, the sample, to the others by exclusive or.
+//! A header key that keeps the laws: it combines one byte of the packet, the sample, with others by exclusive or.
 ghost use Rattle.std.specs.Prelude.{◌≡◌, ℕ, ◌+◌, ◌≤◌, length, slice_index};
 ghost use Rattle.quic_bench.specs.Mask.{mask_at, first_masked, mask_protect, mask_unprotect};
 ghost use Rattle.quic_bench.specs.MaskLaws.{mask_protects, mask_unprotects, mask_restores};
 
 use quic_crypto::crypto::HeaderKey;
 
-/// A header key whose sample is one byte, four bytes behind the number's place. It is joined by exclusive or to
-/// each byte of the number, and its low bits to the first byte: four in long headers, five in short ones.
+/// A header key whose sample is one byte, four bytes after the number's place. Each byte of the number is combined with
+/// it by exclusive or, and the first byte with its low bits: four in long headers, five in short ones.
 #[derive(Clone, Copy, Debug)]
 pub struct MaskKey;
 
-// Joins a byte to some bytes by exclusive or.
+// Combines each of some bytes with a byte by exclusive or.
 fn mask(packet: &mut [u8], at: usize, count: usize, sample: u8)
     requires { at + count ≤ length packet.old }
     ensures { packet.new ≡ mask_at at count sample packet.old }
@@ -20,7 +20,7 @@ fn mask(packet: &mut [u8], at: usize, count: usize, sample: u8)
     }
 }
 
-// Joins the low bits of a byte to the first one.
+// Combines the first byte with the low bits of a byte by exclusive or.
 fn mask_first(packet: &mut [u8], sample: u8)
     requires { 1 ≤ length packet.old }
     ensures { packet.new ≡ first_masked sample packet.old }

@@ -71,7 +71,7 @@ impl ConnectionIdParser for SelfSized {
     }
 }
 
-/// Takes no id, for want of memory.
+/// Always answers that memory ran out.
 #[derive(Clone, Copy, Debug)]
 pub struct WithoutMemory;
 

@@ -24,7 +24,7 @@ use quic_header_decode::laws::one_row_of_packets;
 use quic_text::{IdLen, Mode, RunError, Sink, Source, laws, run};
 use std::alloc::Global;
 
-/// Of a datagram the lines of its packets are printed, which it is in one way.
+/// Of a datagram the lines of its packets are printed, into which it can be cut in one way only.
 pub fn packets_printed<R: Source, W: Sink>(
     alloc: Global,
     len: IdLen,
@@ -45,7 +45,7 @@ pub fn packets_printed<R: Source, W: Sink>(
     }
 }
 
-/// Of a payload the lines of its frames are printed, and of what is none.
+/// Of a payload the lines of its frames are printed, and the line of its error.
 pub fn frames_printed<R: Source, W: Sink>(
     alloc: Global,
     source: &mut R,
@@ -67,7 +67,7 @@ pub fn frames_printed<R: Source, W: Sink>(
     }
 }
 
-/// The same where a type counts in its shortest encoding alone.
+/// The same where types must be in their shortest encodings.
 pub fn strict_printed<R: Source, W: Sink>(
     alloc: Global,
     source: &mut R,
@@ -85,7 +85,7 @@ pub fn strict_printed<R: Source, W: Sink>(
     }
 }
 
-/// Of a payload without an error the digits of its least payload are printed.
+/// Of a valid payload the digits of the shortest payload with the same meaning are printed.
 pub fn least_printed<R: Source, W: Sink>(
     alloc: Global,
     source: &mut R,

@@ -20,7 +20,7 @@ use quic_packets::pairs::PairsOfKeys;
 use quic_packets::seal::SealError;
 use std::alloc::Global;
 
-/// Seals a packet twice, and tells whether both times give the same bytes: they do.
+/// Seals a packet twice, and answers whether both times give the same bytes: they do.
 pub fn sealed_alike<H: HeaderKey, P: PacketKey>(
     alloc: Global,
     packet: &Outgoing<'_, '_>,
@@ -39,7 +39,8 @@ pub fn sealed_alike<H: HeaderKey, P: PacketKey>(
     Ok(one.as_slice() == other.as_slice())
 }
 
-/// Seals a packet, and opens the datagram that it is: just that packet is appended. Refused as `sealed_and_opened` is.
+/// Seals a packet, and opens the datagram of it alone: exactly that packet is appended. Errors are those of
+/// `sealed_and_opened`.
 pub fn datagram_opened<C: ConnectionIdParser, H: HeaderKey, P: PacketKey>(
     alloc: Global,
     packet: &Outgoing<'_, '_>,
@@ -70,7 +71,7 @@ pub fn datagram_opened<C: ConnectionIdParser, H: HeaderKey, P: PacketKey>(
     }
 }
 
-/// Tells whether a packet's payload is its own canonical payload: it is, of a packet that was sealed of frames.
+/// Whether a packet's payload is its own canonical payload: it is, if the packet was sealed from frames.
 pub fn is_canonical(alloc: Global, payload: &[u8], frames: &[Frame<'_>]) -> Result<bool, CanonError>
     requires some { 0 < length frames.now }
     requires written { IsPayload frames.now payload.now }

@@ -22,7 +22,7 @@ use std::alloc::Global;
 /// A packet that is to be sealed.
 #[derive(Clone, Copy, Debug)]
 pub struct Outgoing<'a, 'f> {
-    /// The head.
+    /// The header.
     pub header: &'a Header,
     /// The whole packet number.
     pub number: u64,
@@ -35,7 +35,7 @@ pub struct Outgoing<'a, 'f> {
 pub enum Failure {
     /// One of them can't be sealed.
     Seal(SealError),
-    /// One of them is not opened.
+    /// One of them can't be opened.
     Open(OpenError),
 }
 
@@ -80,13 +80,13 @@ fn seal_both<H: HeaderKey, P: PacketKey>(
     Ok(out)
 }
 
-/// Seals two packets in one datagram, each by the keys of its space, and opens both again. What is given has their
-/// headers and numbers, and payloads that mean their frames. Refused with `Seal` where one of them can't be sealed, and
-/// with `Open(OpenError::OutOfMemory)`: no other error of opening comes.
+/// Seals two packets in one datagram, each by the keys of its space, and opens both again. The result has their
+/// headers and numbers, and payloads that mean their frames. The error is `Seal` if one of them can't be sealed, or
+/// `Open(OpenError::OutOfMemory)`: no other error of opening is possible.
 ///
-/// The caller must give packets that `seal_packet` may be asked to seal, and expected numbers below 2^62 by which
-/// theirs are found. The first header must be read back whatever follows its packet, so it must be a long one, and the
-/// second one where nothing does.
+/// The caller must give packets that `seal_packet` accepts, and expected numbers below 2^62 from which theirs are
+/// expanded. The first header must be read back whatever follows its packet, so it must be a long one; the second must
+/// be read back if nothing follows.
 pub fn sealed_and_opened<C: ConnectionIdParser, H: HeaderKey, P: PacketKey>(
     alloc: Global,
     first: &Outgoing<'_, '_>,

@@ -13,7 +13,7 @@ use quic_canon::laws::one_least;
 use quic_frames::frame::{Frame, FrameType, InvalidFrame, Iter};
 use quic_frames::laws::{least_encoding, one_reading, read_back, read_from_a_place};
 
-// The word of a type.
+// The number for a type.
 fn type_word(ty: Option<FrameType>) -> u64
     ensures { result ≡ type_word ty }
 {
@@ -44,8 +44,8 @@ fn frame_len(frame: &Frame<'_>, last: bool, len: usize) -> usize
     frame.encoded_len(last) as usize
 }
 
-// The frames of a payload, as `Iter::new` gives them, whose error owns a text: what could drop one reaches the
-// allocator, and WebAssembly has none.
+// The frames of a payload, as `Iter::new` gives them. The error of `Iter::new` owns a text: code that may drop one
+// calls the allocator, and WebAssembly has none.
 fn begin(payload: &[u8]) -> Result<Iter<'_>, ()>
     ensures empty { IsErr result ↔ (payload.now ≡ []) }
     ensures first { IfOk result (λ it. it ≡ first_of false payload.now) }
@@ -86,7 +86,7 @@ fn shortest_len(payload: &[u8]) -> Result<usize, InvalidFrame>
         let is_last = stop == payload.len();
         let len = frame_len(&frame, is_last, stop - start);
         total += len;
-        // Behind one byte, which PADDING has, all PADDING is passed at once.
+        // After a frame of one byte, as PADDING is, all PADDING that follows is skipped at once.
         if stop - start == 1 {
             let count = iter.pass_padding();
             total += count;
@@ -143,7 +143,7 @@ fn store(payload: &[u8], dest: &mut [u8])
         let stop = iter.offset();
         let is_last = stop == payload.len();
         at = put(&frame, is_last, dest, at);
-        // Behind PADDING, all PADDING is passed at once.
+        // After PADDING, all PADDING that follows is skipped at once.
         if let Frame::Padding = frame {
             at = pad(iter.pass_padding(), dest, at);
         }
@@ -170,9 +170,9 @@ fn write(payload: &[u8], len: usize, dest: &mut [u8])
 
 /// Writes the one shortest payload with the meaning of the payload at the front of `dest`: equal frames in equal order,
 /// each in its shortest form, where the last frame of a payload needs no length (RFC 9000, sections 12.4 and 19). It
-/// answers 0 with its length, and what stood behind it stays; -4 with the length where `dest` has less room; -2 just
-/// where the payload is empty; -3 just where something in it is no frame, with the last type that was read and the
-/// reason. `dest` changes with 0 alone, and `out` in the words alone that are reported. It takes no memory.
+/// answers 0 with its length, and the bytes after it don't change; -4 with the length if `dest` has less room; -2
+/// exactly if the payload is empty; -3 exactly if it has an invalid frame, with the last type that was read and the
+/// reason. `dest` changes with 0 alone, and `out` only in the words that are named here. It allocates no memory.
 #[unsafe(no_mangle)]
 pub extern "C" fn quic_wire_canonical_(payload: &[u8], dest: &mut [u8], out: &mut CCanonical) -> i32
     ensures answers { (result ≡ pos 0) ⊎ (result ≡ negsuc 3) ⊎ (result ≡ negsuc 1) ⊎ (result ≡ negsuc 2) }

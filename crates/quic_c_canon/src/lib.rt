@@ -1,4 +1,5 @@
-//! The shortest payload of each meaning for callers that write C, into their bytes. No memory is taken.
+//! Functions exported to C: the shortest payload with the same meaning as a given one, written into the caller's bytes.
+//! No memory is allocated. Every argument may have every value.
 #![tactic(auto)]
 
 mod canonical;

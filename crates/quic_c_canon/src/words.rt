@@ -1,14 +1,14 @@
-//! The struct that C sees. Each of its words may hold any value, so nothing can be broken by it.
+//! The struct that C sees. Each of its fields may have any value: no call relies on them.
 
-/// What is reported of a payload's shortest form, or of why it has none.
+/// The length of a payload's shortest form, or why it has none.
 #[repr(C)]
 #[derive(Clone, Copy, PartialEq, Eq)]
 pub struct CCanonical {
     /// How many bytes the shortest form has.
     pub len: usize,
-    /// Of what is no frame the last type that was read, its own included; `u64::MAX` if none was.
+    /// Of an invalid frame: the last type that was read, its own included; `u64::MAX` if none was.
     pub last_type: u64,
-    /// Of what is no frame 1 unexpected end, 2 invalid frame ID, 3 malformed.
+    /// Of an invalid frame: 1 unexpected end, 2 invalid frame ID, 3 malformed.
     pub reason: u64,
 }
 

@@ -20,9 +20,9 @@ pub extern "C" fn quic_wire_param_is_known_(id: u64) -> u32
 }
 
 /// Reads the entry at the front of a list of transport parameters, one that the record has or another (RFC 9000,
-/// section 18). It answers 0 with its number, and the place and the length of its value, behind which the next entry
-/// begins; -2 just where the list is empty; -3 just where its first entry is cut off. `entry` changes with 0 alone.
-/// Whether the value is one of its kind isn't looked at.
+/// section 18). It answers 0 with its number, and the place and the length of its value, after which the next entry
+/// begins; -2 exactly if the list is empty; -3 exactly if its first entry is cut off. `entry` changes with 0 alone.
+/// Whether the value is valid for its parameter isn't tested.
 #[unsafe(no_mangle)]
 pub extern "C" fn quic_wire_param_read_(list: &[u8], entry: &mut CEntry) -> i32
     ensures answers { (result ≡ pos 0) ⊎ (result ≡ negsuc 1) ⊎ (result ≡ negsuc 2) }
@@ -47,8 +47,8 @@ pub extern "C" fn quic_wire_param_read_(list: &[u8], entry: &mut CEntry) -> i32
 }
 
 /// Writes an entry in its least widths at the front of `dest`: its number, how many bytes its value has, and these (RFC
-/// 9000, section 18). It answers 0 with how many bytes were written, and what stood behind them stays; -4 with how many
-/// are needed where `dest` has fewer; -1 just where the number, or how many bytes the value has, is 2^62 or more.
+/// 9000, section 18). It answers 0 with how many bytes were written, and the bytes after them don't change; -4 with how
+/// many are needed if `dest` has fewer; -1 exactly if the number, or how many bytes the value has, is 2^62 or more.
 /// `dest` changes with 0 alone, and `written` not with -1.
 #[unsafe(no_mangle)]
 pub extern "C" fn quic_wire_param_write_(

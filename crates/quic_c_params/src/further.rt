@@ -25,7 +25,7 @@ fn has_number(list: &[u8], number: u64) -> bool
     false
 }
 
-// How many entries a list has that may stand among those of a record, if it is one of such.
+// How many entries a list has, if all of them may be written among those of a record.
 pub(crate) fn count_further(list: &[u8]) -> Option<usize>
     ensures some { IfSome result (λ n. (es : List Entry) × IsFurther es list.now × (length es ≡ n)) }
     ensures none { IsNone result → (es : List Entry) → IsFurther es list.now → ⊥ }
@@ -65,7 +65,7 @@ pub(crate) fn nth(list: &[u8], index: usize) -> (u64, &[u8])
     }
 }
 
-// Whether these are as many numbers as a count says, and each index below it is among them.
+// Whether the order has `count` numbers, and each index below that is among them.
 fn has_each(count: usize, order: &[u8]) -> bool
     requires { count ≤ 256 }
     ensures { IsTrue result ↔ IsOrderOf count order.now }
@@ -81,7 +81,7 @@ fn has_each(count: usize, order: &[u8]) -> bool
     true
 }
 
-// Whether they are an order of so many; none of them stands for the order in which all are.
+// Whether they are an order of so many. An empty one means the order of the indices.
 pub(crate) fn is_order(count: usize, order: &[u8]) -> bool
     requires { count ≤ 256 }
     ensures { IsTrue result ↔ IsOrderOf count (asked count order.now) }
@@ -89,7 +89,7 @@ pub(crate) fn is_order(count: usize, order: &[u8]) -> bool
     order.is_empty() || has_each(count, order)
 }
 
-// The index that stands at a place of an order.
+// The index at a place of an order.
 #[inline(always)]
 pub(crate) fn index_at(count: usize, order: &[u8], place: usize) -> usize
     requires order { IsOrderOf count (asked count order.now) }

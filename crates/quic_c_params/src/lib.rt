@@ -1,5 +1,5 @@
-//! The transport parameters of QUIC for callers that write C: a list of them as plain words, such words as a list, and
-//! the entries of a list. Every word may have every value: no export asks for anything.
+//! Functions exported to C: transport parameters, read into a struct and written from it, and a list's single entries.
+//! Every argument may have every value: no function has a precondition.
 #![tactic(auto)]
 
 mod entries;

@@ -48,8 +48,8 @@ fn store_entry(number: u64, value: &[u8], dest: &mut [u8]) -> Result<usize, usiz
     write_entry_into(number, value, dest)
 }
 
-// Stores the piece at an index at the front of a slice: a row of the record, or a further entry. Where the slice has
-// fewer bytes, it is as it was, and the error is how many the piece has.
+// Stores the piece at an index at the front of a slice: a row of the record, or a further entry. If the slice is
+// shorter, it doesn't change, and the error is how many bytes the piece has.
 fn store_piece(
     params: &TransportParameters,
     further: &[u8],
@@ -84,7 +84,7 @@ fn count_pieces(further: &[u8], order: &[u8]) -> Option<usize>
     }
 }
 
-// How many bytes the list has whose pieces stand in an order.
+// How many bytes the list has whose pieces are in an order.
 fn list_len(params: &TransportParameters, further: &[u8], count: usize, order: &[u8]) -> usize
     requires there { (es : List Entry) × IsFurther es further.now × (count ≡ rows + length es) }
     requires order { IsOrderOf count (asked count order.now) }
@@ -126,15 +126,15 @@ fn store_list(
     }
 }
 
-/// Writes the list of the parameters that the words say with further entries, in an order, at the front of `dest`, each
-/// in its least widths (RFC 9000, sections 7.4 and 18): `side` is 0 where a client is to read it, 1 where a server is.
+/// Writes the list of the parameters in a struct, with further entries, in an order, at the front of `dest`, each in
+/// its least widths (RFC 9000, sections 7.4 and 18): `side` is 0 if a client is to read it, 1 if a server is.
 /// `further` is a list of entries that no record has, none of them twice, as `quic_wire_param_write_` writes them. The
 /// rows of the table (quinn-proto's `SUPPORTED`) have the numbers 0 to 20, and the further entries those from 21 on,
-/// 235 at most; `order` has each of these numbers once, or is empty, and then the entries stand as they are numbered.
-/// It answers 0 with how many bytes were written, and what stood behind them stays: reading them for this side gives
-/// the same words. It answers -4 with how many bytes are needed where `dest` has fewer; -1 where
-/// `quic_wire_params_write_` does, or `further` or `order` are none of that, or `further` has 2^40 bytes or more.
-/// `dest` changes with 0 alone, and `written` not with -1.
+/// 235 at most; `order` has each of these numbers once, or is empty, and then the entries are in the order of their
+/// numbers. It answers 0 with how many bytes were written, and the bytes after them don't change: reading them for this
+/// side gives the same words. It answers -4 with how many bytes are needed if `dest` has fewer; -1 where
+/// `quic_wire_params_write_` does, or if `further` or `order` aren't such, or `further` has 2^40 bytes or more. `dest`
+/// changes with 0 alone, and `written` not with -1.
 #[unsafe(no_mangle)]
 pub extern "C" fn quic_wire_params_write_with_(
     side: u32,

@@ -1,4 +1,4 @@
-//! A list of transport parameters, read into words.
+//! Reads a list of transport parameters into a struct of words.
 ghost use Rattle.std.specs.Prelude.{◌≡◌, ◌⊎◌, ◌↔◌, ◌<◌, pos, negsuc, MatchOption};
 ghost use Rattle.quic_c_params.specs.Answers.{IsSide, reason_word_of, GivesParams, GivesRefusal};
 
@@ -29,15 +29,14 @@ fn reason_word_of(error: Error) -> u32
 }
 
 /// Reads a list of transport parameters that a side got from its peer, to the list's end (RFC 9000, sections 7.4 and
-/// 18): `side` is 0 where a client reads the list of a server, 1 where a server reads that of a client. It answers 0
-/// with the words of the record: numbers that are not in the list have their defaults, and what else is not there is 0
-/// in all of its words and bytes, without a bit. It answers -3 with the reason in `out.reason`, and no other word
-/// changes, just where the side refuses the list: 1 malformed, where the first entry that is refused is cut off, no
-/// value of its kind, or a repeat; 2 an illegal value. It answers -1 just where `side` is above 1, and nothing
-/// changes.
+/// 18): `side` is 0 if a client reads the list of a server, 1 if a server reads that of a client. It answers 0 with
+/// the words of the record: numbers that are not in the list have their defaults, and other values that are absent are
+/// 0 in all of their words and bytes, without a bit. It answers -3 with the reason in `out.reason`, and no other word
+/// changes, exactly if the side refuses the list: 1 malformed, if the first entry that is refused is cut off, has an
+/// invalid value, or is a repeat; 2 an illegal value. It answers -1 exactly if `side` is above 1, and nothing changes.
 ///
-/// An integer with a default in a longer encoding than its shortest is no value of its kind, though RFC 9000, section
-/// 16, allows it; `max_datagram_frame_size` and `min_ack_delay` are taken in any.
+/// An integer with a default in a longer encoding than its shortest is an invalid value, though RFC 9000, section 16,
+/// allows it; `max_datagram_frame_size` and `min_ack_delay` may be in any encoding.
 #[unsafe(no_mangle)]
 pub extern "C" fn quic_wire_params_read_(side: u32, bytes: &[u8], out: &mut CParams) -> i32
     ensures answers { (result ≡ pos 0) ⊎ (result ≡ negsuc 2) ⊎ (result ≡ negsuc 0) }

@@ -126,7 +126,7 @@ fn token_in(address: &Option<PreferredAddress>) -> Option<ResetToken>
     }
 }
 
-// What is there of what can be absent.
+// Which of the values that may be absent are present.
 fn present(p: &TransportParameters) -> u32
     ensures { result ≡ bits (present_in p.now) }
 {

@@ -1,17 +1,17 @@
-//! The structs that C sees. Each of their words may hold any value, so nothing can be broken by them.
+//! The structs that C sees. Each of their fields may have any value: no call relies on them.
 
-/// Transport parameters (RFC 9000, section 18.2). What is absent is 0 in all of its words and bytes, but for the
+/// Transport parameters (RFC 9000, section 18.2). Values that are absent are 0 in all of their words and bytes, except
 /// numbers that have a default: these hold it then.
 #[repr(C)]
 #[derive(Clone, Copy, PartialEq, Eq)]
 pub struct CParams {
-    /// What is there, by the bits from the lowest: 0 `stateless_reset_token`, 1 `disable_active_migration`,
+    /// What is present, by the bits from the lowest: 0 `stateless_reset_token`, 1 `disable_active_migration`,
     /// 2 `max_datagram_frame_size`, 3 a preferred address, 4 its address of IPv4, 5 that of IPv6,
     /// 6 `original_dst_cid`, 7 `initial_src_cid`, 8 `retry_src_cid`, 9 `grease_quic_bit`, 10 `min_ack_delay`.
     pub present: u32,
     /// Of a refused list: 1 malformed, 2 an illegal value. Of parameters: 0.
     pub reason: u32,
-    /// In milliseconds; 0 is for ever.
+    /// In milliseconds; 0 means no limit.
     pub max_idle_timeout: u64,
     /// In bytes, at least 1200.
     pub max_udp_payload_size: u64,
@@ -49,13 +49,13 @@ pub struct CParams {
     pub preferred_v4_port: u16,
     /// The port of IPv6.
     pub preferred_v6_port: u16,
-    /// The destination id of the client's first packet, and zeros behind it.
+    /// The destination id of the client's first packet, followed by zeros.
     pub original_dst_cid: [u8; 20],
-    /// The source id of the sender's first packet, and zeros behind it.
+    /// The source id of the sender's first packet, followed by zeros.
     pub initial_src_cid: [u8; 20],
-    /// The source id of the server's Retry, and zeros behind it.
+    /// The source id of the server's Retry, followed by zeros.
     pub retry_src_cid: [u8; 20],
-    /// The id of connections to the preferred address, and zeros behind it.
+    /// The id of connections to the preferred address, followed by zeros.
     pub preferred_id: [u8; 20],
     /// The token by which the server resets the connection.
     pub stateless_reset_token: [u8; 16],
@@ -75,7 +75,7 @@ pub struct CEntry {
     pub id: u64,
     /// Where its value begins in the bytes that were read.
     pub value: usize,
-    /// How many bytes its value has. The next entry begins behind them.
+    /// How many bytes its value has. The next entry begins after them.
     pub value_len: usize,
 }
 

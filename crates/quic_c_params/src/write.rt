@@ -1,4 +1,4 @@
-//! Words, written as a list of transport parameters.
+//! Writes a struct of words as a list of transport parameters.
 ghost use Rattle.std.specs.Prelude.{◌≡◌, ◌⊎◌, ◌<◌, ◌≤◌, ◌^◌, ℕ, List, Bool, Option, pos, negsuc, length, IsTrue, ◌↔◌, IfSome, IsNone, is_some, None, Ok};
 ghost use Rattle.std.specs.declared.net.socket_addr.SocketAddrV4.{SocketAddrV4};
 ghost use Rattle.std.specs.declared.net.socket_addr.SocketAddrV6.{SocketAddrV6};
@@ -26,7 +26,7 @@ fn split(word: u32) -> (bool, u32)
     (word % 2 == 1, word / 2)
 }
 
-// What is there, by the bits of a word.
+// What is present, by the bits of a word.
 #[derive(Clone, Copy)]
 struct Flags {
     token: bool,
@@ -71,7 +71,7 @@ fn flags_in(word: u32) -> Flags
     }
 }
 
-// Each of these gives what is shown by the words, if anything is.
+// Each of these gives the value that the words describe, if they describe one.
 fn varint(n: u64) -> VarInt
     ensures { (m : ℕ) → m < 2 ^ 62 → n ≡ m → result ≡ m }
 {
@@ -154,7 +154,7 @@ fn address_in(words: &CParams, flags: Flags) -> Option<PreferredAddress>
     })
 }
 
-// The record that the words say, if they say one.
+// The record that the words describe, if they describe one.
 fn record_in(words: &CParams) -> TransportParameters
     ensures said { (side : Side) (p : TransportParameters) → DescribesParams words.now p → IsRecordInRange side p
         → result ≡ p }
@@ -203,7 +203,7 @@ fn same_words(a: &CParams, b: &CParams) -> bool
     a == b
 }
 
-// The record that the words say, where the side reads it back.
+// The record that the words describe, if the side reads it back.
 pub(crate) fn said(side: Side, words: &CParams) -> Option<TransportParameters>
     ensures some { IfSome result
         (λ p. DescribesParams words.now p × IsRecordInRange side p × IsReadAnswer side (written p) (Ok p)) }
@@ -219,14 +219,13 @@ pub(crate) fn said(side: Side, words: &CParams) -> Option<TransportParameters>
     Some(params)
 }
 
-/// Writes the list of the parameters that the words say at the front of `dest`, those that differ from their defaults
-/// and those that are there, each in its least widths (RFC 9000, section 18): `side` is 0 where a client is to read
-/// it, 1 where a server is. It answers 0 with how many bytes were written, and what stood behind them stays: reading
-/// them for this side gives the same words. It answers -4 with how many bytes are needed where `dest` has fewer; -1
-/// where `side` is above 1, or the words say no parameters that the side reads back: a number that is out of range, a
-/// bit or a byte that is not 0 where nothing is, an id longer than 20 bytes, what a server alone sends, an address
-/// that is unspecified with port 0, or a preferred address without an address or without an id. `dest` changes with 0
-/// alone, and `written` not with -1.
+/// Writes the list of the parameters in a struct at the front of `dest`, those that differ from their defaults and
+/// those that are present, each in its least widths (RFC 9000, section 18): `side` is 0 if a client is to read it, 1 if
+/// a server is. It answers 0 with how many bytes were written, and the bytes after them don't change: reading them for
+/// this side gives the same words. It answers -4 with how many bytes are needed if `dest` has fewer; -1 if `side` is
+/// above 1, or if the side wouldn't read the struct back: a number is out of range, a bit or a byte of an absent value
+/// is not 0, an id is longer than 20 bytes, a value is there that only servers send, an address is unspecified with
+/// port 0, or a preferred address has no address or no id. `dest` changes with 0 alone, and `written` not with -1.
 #[unsafe(no_mangle)]
 pub extern "C" fn quic_wire_params_write_(
     side: u32,

@@ -1,4 +1,4 @@
-//! ACKs of sets, written into the caller's bytes (RFC 9000, section 19.3).
+//! Writes ACKs of sets into the caller's bytes (RFC 9000, section 19.3).
 ghost use Rattle.std.specs.Prelude.{◌≡◌, ◌<◌, ◌≤◌, ◌+◌, ◌^◌, ◌∷◌, ◌++◌, ◌⊎◌, ◌↔◌, [], Bool, Ok, Err, pos, negsuc, length, IsTrue};
 ghost use Rattle.quic_ranges.specs.Runs.{IsMaximalRuns};
 ghost use Rattle.quic_frame_fields.specs.Numbers.{AreNumeric};
@@ -13,7 +13,7 @@ use crate::words::CRange;
 use quic_frame_fields::frame::put::numbers_at;
 use quic_frame_fields::frame::write::{numbers_len, size_of};
 
-// Whether each number has a encoding.
+// Whether each number has an encoding.
 fn are_numeric(numbers: &[u64]) -> bool
     ensures { IsTrue result ↔ AreNumeric numbers.now }
 {
@@ -25,7 +25,7 @@ fn are_numeric(numbers: &[u64]) -> bool
     true
 }
 
-// Whether the words say an ACK.
+// Whether the words describe an ACK.
 fn says_ack(delay: u64, runs: &[CRange], count: usize, counts: &[u64]) -> bool
     ensures { IsTrue result ↔ DescribesSetAck delay runs.now count counts.now }
 {
@@ -96,7 +96,7 @@ fn store_below(dest: &mut [u8], at: usize, above: CRange, runs: &[CRange]) -> us
     at
 }
 
-// Stores the ACK that the words say at the front of the bytes.
+// Stores the ACK that the words describe at the front of the bytes.
 fn store_ack(
     delay: u64,
     runs: &[CRange],
@@ -133,9 +133,9 @@ fn store_ack(
 
 /// Writes an ACK of the set that the first `count` entries are, in its shortest form, at the front of `dest`.
 /// `counts` has the numbers of packets marked ECT(0), ECT(1) and ECN-CE, or nothing. It answers 0 with how many bytes
-/// were written, and what stood behind them stays; -4 with how many are needed where `dest` has fewer; -1 just where
-/// the entries are no runs, as for `quic_wire_set_insert_`, or none, or a number in them, the delay or a count is
-/// 2^62 or more, or `counts` has another length. `dest` changes with 0 alone, and `written` not with -1.
+/// were written, and the bytes after them don't change; -4 with how many are needed if `dest` has fewer; -1 exactly if
+/// the entries are no runs, as for `quic_wire_set_insert_`, or there are none, or a number in them, the delay or a
+/// count is 2^62 or more, or `counts` has another length. `dest` changes with 0 alone, and `written` not with -1.
 #[unsafe(no_mangle)]
 pub extern "C" fn quic_wire_ack_write_(
     delay: u64,

@@ -1,4 +1,4 @@
-//! What a change does to the runs of a set: which of them go, and what takes their place.
+//! What a change does to the runs of a set: which of them are removed, and which take their place.
 ghost use Rattle.std.specs.Prelude.{◌≡◌, ◌≤◌, ◌<◌, ◌+◌, ◌++◌, length, take, drop, true, false, IfSome, IfNone};
 ghost use Rattle.quic_ranges.specs.Pieces.{piece};
 ghost use Rattle.quic_ranges.specs.Runs.{IsMaximalRuns, IsRunsOf, in_union, in_difference};
@@ -60,7 +60,7 @@ impl Substitute {
     }
 }
 
-// A change of a list of runs: those from `from` to below `to` go, and `by` takes their place.
+// A change of a list of runs: those from `from` to before `to` are replaced by `by`.
 #[derive(Clone, Copy)]
 pub(crate) struct Splice {
     pub from: usize,
@@ -68,7 +68,7 @@ pub(crate) struct Splice {
     pub by: Substitute,
 }
 
-// What an insertion of `x` does to the runs; `None` where every number of `x` is in them.
+// What an insertion of `x` does to the runs; `None` if every number of `x` is in them.
 #[inline(always)]
 pub(crate) fn insertion(runs: &[CRange], x: CRange) -> Option<Splice>
     requires { IsMaximalRuns (runs_of runs.now) }
@@ -101,7 +101,7 @@ pub(crate) fn insertion(runs: &[CRange], x: CRange) -> Option<Splice>
     })
 }
 
-// What a removal of `x` does to the runs; `None` where no number of `x` is in them.
+// What a removal of `x` does to the runs; `None` if no number of `x` is in them.
 #[inline(always)]
 pub(crate) fn removal(runs: &[CRange], x: CRange) -> Option<Splice>
     requires { IsMaximalRuns (runs_of runs.now) }
@@ -129,8 +129,8 @@ pub(crate) fn removal(runs: &[CRange], x: CRange) -> Option<Splice>
     })
 }
 
-// Makes a change of the set that the first words are, and counts its runs anew, if there is room for them. The runs
-// behind the change move at once.
+// Makes a change of the set in the first words, and counts its runs anew, if there is room for them. The runs after the
+// change are moved together.
 #[inline(always)]
 pub(crate) fn make(runs: &mut [CRange], count: &mut usize, change: Splice) -> bool
     requires within { count.old ≤ length runs.old }

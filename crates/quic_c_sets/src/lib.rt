@@ -1,5 +1,5 @@
-//! Sets of packet numbers in an array of runs that the caller owns, and ACKs of such sets, for callers that write C.
-//! Every word may have every value: no export asks for anything.
+//! Functions exported to C: sets of packet numbers in an array that the caller owns, and ACKs of such sets.
+//! Every argument may have every value: no function has a precondition.
 #![tactic(auto)]
 
 mod acks;

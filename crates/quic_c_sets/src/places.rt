@@ -1,4 +1,4 @@
-//! Whether words are the runs of a set, and where a number falls among runs. Each place is found by halving, after a
+//! Whether words are the runs of a set, and where a number is among runs. Each place is found by binary search, after a
 //! look at the last run, where most changes are.
 ghost use Rattle.std.specs.Prelude.{◌≡◌, ◌≤◌, ◌↔◌, length, IsTrue};
 ghost use Rattle.quic_ranges.specs.Runs.{IsMaximalRuns, member};
@@ -31,7 +31,7 @@ fn are_runs(runs: &[CRange]) -> bool
     true
 }
 
-// Whether the first words of an array, so many, are the runs of a set.
+// Whether the first `count` words of an array are the runs of a set.
 #[inline(always)]
 pub(crate) fn is_set(words: &[CRange], count: usize) -> bool
     ensures { IsTrue result ↔ IsSet words.now count }
@@ -67,7 +67,7 @@ pub(crate) fn count_starts_upto(runs: &[CRange], x: u64) -> usize
     runs.partition_point(|run| run.start <= x)
 }
 
-// Whether a number lies in one of the runs.
+// Whether a number is in one of the runs.
 pub(crate) fn contains(runs: &[CRange], x: u64) -> bool
     requires { IsMaximalRuns (runs_of runs.now) }
     ensures { result ≡ member (runs_of runs.now) x }

@@ -7,11 +7,11 @@ use crate::change::{insertion, make, removal};
 use crate::places::{contains, is_set};
 use crate::words::CRange;
 
-/// Puts the numbers from `start` to below `end` into the set that the first `count` entries are: sorted runs, none
-/// empty, none touching another. An empty or reversed range puts in nothing. It answers 1 where the set changed, with
-/// its number of runs in `count`, and what stood behind them stays; 0 where all the numbers were in it; -4 just where
-/// one run more is needed than there are entries; -1 just where `count` is above the number of entries or they are no
-/// such runs. Nothing changes but with 1.
+/// Puts the numbers from `start` to below `end` into the set of the first `count` entries: sorted runs, none empty,
+/// none touching another. An empty or reversed range puts in nothing. It answers 1 if the set changed, with its number
+/// of runs in `count`, and the entries after them don't change; 0 if all the numbers were in it; -4 exactly if one run
+/// more is needed than there are entries; -1 exactly if `count` is above the number of entries or they are no such
+/// runs. Nothing changes but with 1.
 #[unsafe(no_mangle)]
 pub extern "C" fn quic_wire_set_insert_(
     runs: &mut [CRange],
@@ -39,8 +39,8 @@ pub extern "C" fn quic_wire_set_insert_(
     if make(runs, count, change) { 1 } else { -4 }
 }
 
-/// Takes the numbers from `start` to below `end` out of the set, with the answers of `quic_wire_set_insert_`: 0 where
-/// none of them was in it; -4 just where a run falls in two and there is no entry for one more.
+/// Takes the numbers from `start` to below `end` out of the set, with the answers of `quic_wire_set_insert_`: 0 if
+/// none of them was in it; -4 exactly if a run is split in two and there is no entry for one more.
 #[unsafe(no_mangle)]
 pub extern "C" fn quic_wire_set_remove_(
     runs: &mut [CRange],
@@ -69,8 +69,8 @@ pub extern "C" fn quic_wire_set_remove_(
     if make(runs, count, change) { 1 } else { -4 }
 }
 
-/// Whether a number is in the set that the first `count` entries are. It answers 1 where it is, 0 where it isn't, and
-/// -1 just where they are no such runs, as for `quic_wire_set_insert_`.
+/// Whether a number is in the set of the first `count` entries. It answers 1 if it is, 0 if it isn't, and -1 exactly if
+/// they are no such runs, as for `quic_wire_set_insert_`.
 #[unsafe(no_mangle)]
 pub extern "C" fn quic_wire_set_contains_(runs: &[CRange], count: usize, number: u64) -> i32
     ensures answers { (result ≡ pos 1) ⊎ (result ≡ pos 0) ⊎ (result ≡ negsuc 0) }

@@ -1,4 +1,4 @@
-//! The words that go back and forth.
+//! The struct that C sees.
 
 /// A run of packet numbers, from `start` to below `end`.
 #[repr(C)]

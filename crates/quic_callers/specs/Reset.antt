@@ -4,7 +4,7 @@ use Rattle.quic_base.specs.Number.{IsNumber, bytes_of}
 use Rattle.quic_base.specs.Varint.{Encodes, shortest_varint}
 use Rattle.quic_base.specs.Codec.{Follows}
 
--- a encoding of each
+-- an encoding of each
 abbrev pub EncodesReset : ℕ → ℕ → ℕ → List ℕ → Type 0
 EncodesReset id code offset = Follows (Encodes id) (Follows (Encodes code) (IsNumber 8 offset))
 

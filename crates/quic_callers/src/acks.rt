@@ -12,7 +12,7 @@ use quic_ranges::laws::runs;
 use quic_ranges::range_set::ArrayRangeSet;
 use std::alloc::Global;
 
-/// The sum of the numbers that an acknowledgement has, and `None` just where that is 2^64 or more.
+/// The sum of the numbers that an acknowledgement has, and `None` exactly if that is 2^64 or more.
 pub fn sum_of_acked(ack: &Ack<'_>) -> Option<u64>
     ensures { let all = sum (numbers_in (ranges_acked ack.now)) in MatchOption result (2 ^ 64 ≤ all) (λ n. n ≡ all) }
 {

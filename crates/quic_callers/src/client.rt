@@ -21,8 +21,8 @@ pub struct Reset {
     pub final_offset: u64,
 }
 
-/// Takes a message from the front of any buffer. Answers `UnexpectedEnd` exactly where no front of
-/// what is left encodes one.
+/// Takes a message from the front of any buffer. Answers `UnexpectedEnd` exactly if no prefix of
+/// the remaining bytes encodes one.
 #[tactic(auto, using(quic_base::proofs::PublicLaws::in_turn))]
 pub fn read_reset<B: Buf>(buf: &mut B) -> Result<Reset>
     ensures ok { IfOk result (λ r. Takes (EncodesReset r.id r.code r.final_offset)
@@ -41,8 +41,8 @@ pub fn read_reset<B: Buf>(buf: &mut B) -> Result<Reset>
     })
 }
 
-/// Appends a message to any buffer. Answers `NoRoom` only where the spare room is less than that; then
-/// what stood there stands, followed by a beginning of the message.
+/// Appends a message to any buffer. Answers `NoRoom` only if the spare room is less than that: the
+/// buffer then keeps its contents, and may have a prefix of the message after them.
 #[tactic(auto, using(quic_base::proofs::PublicLaws::in_turn))]
 pub fn write_reset<B: BufMut>(reset: &Reset, buf: &mut B) -> std::result::Result<(), NoRoom>
     ensures ok { OnOk result (B.written buf.new ≡ B.written buf.old
@@ -81,7 +81,7 @@ pub fn read_two<T: Codec + Drop, B: Buf>(buf: &mut B) -> Result<(T, T)>
 }
 
 /// A number that was written as a varint is read back, whatever follows it. The caller must ensure that it
-/// is below 2^62, and that its shortest encoding stands in front.
+/// is below 2^62, and that the bytes begin with its shortest encoding.
 pub fn read_back(bytes: &[u8], n: u64, rest: &[u8]) -> Result<u64>
     requires small { n < 2 ^ 62 }
     requires stands { bytes.now ≡ shortest_varint n ++ rest.now }

@@ -10,7 +10,7 @@ use quic_base::coding::NoRoom;
 use quic_frames::frame::{Ack, AckError, AckIter, Frame, Iter};
 use quic_frames::laws;
 
-/// Writes a frame as a payload of its own and gives the frame that is read of it, which says the same.
+/// Writes a frame as a payload of its own and gives the frame that is read from it, which has the same meaning.
 /// The caller must ensure that the frame can be written, and that the buffer is empty.
 pub fn written_and_read<'a>(frame: &Frame<'_>, out: &'a mut Vec<u8>) -> Result<Frame<'a>, NoRoom>
     requires stands { CanStand true frame.now }
@@ -30,8 +30,8 @@ pub fn written_and_read<'a>(frame: &Frame<'_>, out: &'a mut Vec<u8>) -> Result<F
     }
 }
 
-/// The ranges of an ACK's blocks below its largest number, as they come: they are those that the blocks encode, and
-/// no two of them touch; or why the bytes are no blocks. The largest number must be below 2^62.
+/// The ranges of an ACK's blocks below its largest number, in the blocks' order: they are those that the blocks encode,
+/// and no two of them touch; or the reason why the bytes are no blocks. The largest number must be below 2^62.
 pub fn ranges_of_blocks(largest: u64, blocks: &[u8]) -> Result<AckIter<'_>, AckError>
     requires { largest < 2 ^ 62 }
     ensures encoded { IfOk result (λ iter. (ranges : List (ℕ × ℕ)) → AreBlocks largest ranges blocks.now

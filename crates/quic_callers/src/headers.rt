@@ -16,7 +16,7 @@ use quic_header_decode::parser::ConnectionIdParser;
 use quic_header_encode::header::Header;
 use std::alloc::Global;
 
-// Cuts a packet whose header says no length, and that so ends with the datagram.
+// Cuts a packet whose header has no length, and that therefore ends with the datagram.
 fn cut_alone<C: ConnectionIdParser>(
     datagram: BytesMut,
     parser: &C,
@@ -37,7 +37,7 @@ fn cut_alone<C: ConnectionIdParser>(
     }
 }
 
-// Cuts the first packet, and tells how many bytes it has.
+// Cuts the first packet, and answers how many bytes it has.
 fn cut_len<C: ConnectionIdParser>(
     datagram: BytesMut,
     parser: &C,
@@ -67,7 +67,7 @@ fn datagram_of(alloc: Global, header: &Header, behind: &[u8]) -> Option<BytesMut
 }
 
 /// Writes a Retry's header and what follows it, and cuts the packet: its header is what was written, whatever follows,
-/// and only memory can be wanting. The caller must give one of the versions that are known.
+/// and the only error is want of memory. The caller must give a known version.
 pub fn retry_read_back<C: ConnectionIdParser>(
     alloc: Global,
     ids: (ConnectionId, ConnectionId),
@@ -100,8 +100,8 @@ pub fn retry_read_back<C: ConnectionIdParser>(
     }
 }
 
-/// The same of a version negotiation. The caller must give a first byte without its highest bit that has the fixed
-/// bit, 0x40, unless that may be clear.
+/// The same for a version negotiation. The caller must give the first byte without its highest bit; it must have the
+/// fixed bit, 0x40, unless that may be clear.
 pub fn negotiation_read_back<C: ConnectionIdParser>(
     alloc: Global,
     random: u8,
@@ -134,8 +134,8 @@ pub fn negotiation_read_back<C: ConnectionIdParser>(
     }
 }
 
-/// Cuts two datagrams of the same bytes, and tells whether both packets have as many bytes: they have, unless memory
-/// runs out.
+/// Cuts two datagrams of the same bytes, and answers whether both packets have the same length: they have, unless
+/// memory runs out.
 pub fn cut_twice<C: ConnectionIdParser>(
     one: BytesMut,
     other: BytesMut,

@@ -1,4 +1,4 @@
-//! Callers of the layers from sets to frames, each proved from public contracts alone.
+//! Callers of sets, frames, headers and transport parameters, each proved from public contracts alone.
 #![tactic(auto)]
 
 pub mod acks;

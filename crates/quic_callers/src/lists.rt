@@ -9,8 +9,8 @@ use quic_params::laws;
 use quic_params::transport_parameters::TransportParameters;
 use std::alloc::Global;
 
-/// Reads a list that the side has got, and writes its record anew, which takes no more bytes than the list. `None`
-/// where the list is refused, or there is no memory.
+/// Reads a list that the side received, and writes its record anew, which takes no more bytes than the list. `None` if
+/// the list is refused or memory runs out.
 pub fn shortened(alloc: Global, side: Side, list: &[u8]) -> Option<Vec<u8>>
     ensures { IfSome result (λ out. (p : TransportParameters) × IsReadAnswer side list.now (Ok p)
         × (out.items ≡ written p) × (length out.items ≤ length list.now)) }

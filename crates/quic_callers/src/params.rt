@@ -35,8 +35,8 @@ pub fn written_and_read(
     }
 }
 
-/// The number of the first entry of a list that a side takes, of a parameter that is known or another: `None` where it
-/// refuses the list, or there is none. What the record has came of that entry and the ones behind it.
+/// The number of the first entry of a list that a side accepts, of a known parameter or another: `None` if the side
+/// refuses the list, or it has no entry. What the record has came from that entry and the ones after it.
 pub fn first_read(side: Side, list: &[u8]) -> Option<u64>
     ensures { IfSome result (λ number. (p : TransportParameters) × (first : Entry) × (others : List Entry)
         × IsReadAnswer side list.now (Ok p) × (first.number ≡ number) × IsRecordOf (first ∷ others) p) }
@@ -51,7 +51,7 @@ pub fn first_read(side: Side, list: &[u8]) -> Option<u64>
 }
 
 /// Whether the second parameters keep what is remembered of the first, and the third of the second. Then the third
-/// keep what is remembered of the first, which is not asked again.
+/// keep what is remembered of the first, which isn't tested again.
 pub fn kept_twice(
     first: &TransportParameters,
     second: &TransportParameters,

@@ -13,7 +13,7 @@ use quic_frames::frame::{Frame, FrameType, Iter, Stream, StreamMeta};
 use quic_frames::laws::{lasting, stream_header_and_data};
 use quic_frames::transport_error::Error;
 
-/// How many bytes of stream data a payload has, up to its error, and the type of what is no frame.
+/// How many bytes of stream data a payload has, up to its error, and the type that the error names.
 pub fn stream_data(payload: &[u8]) -> (usize, Option<FrameType>) {
     let mut count: usize = 0;
     let Ok(frames) = Iter::new(payload) else {
@@ -29,8 +29,8 @@ pub fn stream_data(payload: &[u8]) -> (usize, Option<FrameType>) {
     (count, None)
 }
 
-/// How many bytes of stream data a payload without an error has, or 2^64 - 1 where that is less; else the error by
-/// which the connection is closed, which is the one that the grammar tells.
+/// How many bytes of stream data a valid payload has, or 2^64 - 1 if that is less; else the error to close the
+/// connection with, which is the one that the grammar gives.
 pub fn all_stream_data(payload: &[u8]) -> Result<usize, Error>
     ensures ok { IfOk result (λ count. (found : List TypedFrame) × AreFrames false found payload.now
         × (count ≡ min (streams_len found) (2 ^ 64 - 1))) }
@@ -50,7 +50,7 @@ pub fn all_stream_data(payload: &[u8]) -> Result<usize, Error>
     Ok(count)
 }
 
-/// Whether no payload that begins with these bytes is without an error: just where they are reported another reason
+/// Whether no payload that begins with these bytes can be valid: exactly where reading them fails for another reason
 /// than `unexpected end`.
 pub fn is_lost(front: &[u8]) -> bool
     ensures lost { IsTrue result → (more : List ℕ) (found : List TypedFrame) → AreBytes (front.now ++ more)
@@ -70,7 +70,7 @@ pub fn is_lost(front: &[u8]) -> bool
     false
 }
 
-// Whether what is reported for this reason stands whatever follows.
+// Whether an error with this reason remains one whatever bytes follow.
 fn is_final(reason: &str) -> bool
     ensures { MatchBool result (reason.now ≢ codes "unexpected end") (reason.now ≡ codes "unexpected end") }
 {
@@ -78,8 +78,8 @@ fn is_final(reason: &str) -> bool
 }
 
 /// Appends a STREAM as a sender of data does: its header, and then the data. That is its shortest encoding, as the last
-/// frame of its payload or as one that others follow. The caller must ensure that its offset is below 2^62, and the
-/// length of its data where that is written.
+/// frame of its payload or as one that others follow. The caller must ensure that its offset is below 2^62, and also
+/// the length of its data if that is written.
 pub fn write_stream(stream: &Stream<'_>, last: bool, out: &mut Vec<u8>) -> Result<(), NoRoom>
     requires offset { stream.now.offset < 2 ^ 62 }
     requires counted { last ≡ false → length stream.now.bytes.now < 2 ^ 62 }

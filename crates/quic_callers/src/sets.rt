@@ -6,7 +6,7 @@ use quic_base::coding::NoRoom;
 use quic_ranges::range_set::RangeSet;
 use std::ops::Range;
 
-/// Puts a range into a set, and takes none of the parts that were there before. After `NoRoom` the set is as it was.
+/// Puts a range into a set, and ignores the parts that were there before. After `NoRoom` the set is unchanged.
 pub fn unite(set: &mut RangeSet, range: Range<u64>) -> Result<(), NoRoom>
     ensures ok { OnOk result (IsRunsOf (in_union set.old range) set.new) }
     ensures err { OnErr result (set.new ≡ set.old) }

@@ -52,7 +52,7 @@ fields_down : (fields : List Field) (before after : List Value) (bytes : List �
 fields_down [] before after bytes h s = subst AreDown (sym s.0) h
 fields_down (field ∷ fields) before after bytes h s = fields_down fields (before ++ s.0) after s.2 (down_join before s.0 h (field_down field before s.0 s.1 s.4)) s.5
 
--- ---- such values that are reported the same are the same
+-- ---- such values that mean the same are equal
 
 value_is : (value other : Value) → IsDown value → IsDown other → IsSameValue value other → value ≡ other
 value_is (Ranges some) (Ranges others) h k same = ap (λ (l : List (ℕ × ℕ)). let v : Value = Ranges l in v) (one_list_of_set some others h k same)

@@ -6,7 +6,7 @@ use Rattle.quic_frame_fields.specs.Payload.{Meaning, TypedFrame, AreFrames}
 use Rattle.quic_frame_fields.specs.Sets.{is_in}
 use Rattle.quic_frames.specs.Least.{frame_in}
 
--- ranges are reported by the numbers in them, other values by themselves
+-- Ranges are the same if the same numbers are in them, other values if they are equal.
 abbrev pub IsSameValue : Value → Value → Type 0
 IsSameValue (Ranges some) (Ranges others) = (n : ℕ) → is_in some n ≡ is_in others n
 IsSameValue value other = value ≡ other
@@ -20,7 +20,8 @@ abbrev pub is_ack : Name → Bool
 is_ack Ack = true
 is_ack name = false
 
--- the values by which a frame is reported: the greatest number of an ACK, its first value, is one of its numbers
+-- The values in which two frames are compared: all, but of an ACK not the first, its greatest number, which its ranges
+-- have too.
 abbrev pub compared_values : Meaning → List Value
 compared_values frame = if is_ack frame.name then drop 1 frame.values else frame.values
 

@@ -1,4 +1,4 @@
-//! The least payload of those that mean the same.
+//! The shortest payload of those that mean the same.
 ghost use Rattle.std.specs.Prelude.{◌≡◌, ◌≢◌, ◌+◌, ◌-◌, ◌<◌, ◌≤◌, ◌==◌, ◌++◌, ℕ, List, [], length, map, OnOk, OnErr, IfOk, IfErr, IsOk, vec_len, vec_capacity, false};
 ghost use Rattle.quic_frames.specs.InRange.{CanStand};
 ghost use Rattle.quic_frames.specs.Least.{frame_in, shortest_frames};
@@ -22,7 +22,7 @@ pub enum CanonError {
     /// The payload has no frame.
     #[error("packet payload is empty")]
     Empty,
-    /// Something in the payload is no frame.
+    /// The payload has an invalid frame.
     #[error("{0}")]
     Invalid(InvalidFrame),
     /// The vector could not grow.
@@ -30,7 +30,7 @@ pub enum CanonError {
     OutOfMemory,
 }
 
-// Reads all of a payload, and tells how many bytes at its front are frames in their shortest encodings.
+// Reads a whole payload, and answers how many bytes at its front are frames in their shortest encodings.
 fn shortest_front(payload: &[u8]) -> Result<usize, CanonError>
     ensures ok { IfOk result (λ n. IsFront payload.now n) }
     ensures err { IfErr result (λ e. IsWrong payload.now e) }
@@ -53,7 +53,7 @@ fn shortest_front(payload: &[u8]) -> Result<usize, CanonError>
         if front == start && is_shortest(&frame, is_last, stop - start) {
             front = stop;
         }
-        // Behind one byte, which PADDING has, all PADDING is passed at once.
+        // After a frame of one byte, as PADDING is, all PADDING that follows is skipped at once.
         if stop - start == 1 {
             iter.pass_padding();
             start = iter.offset();
@@ -67,8 +67,8 @@ fn shortest_front(payload: &[u8]) -> Result<usize, CanonError>
     Ok(front)
 }
 
-// The frame takes this many bytes in its shortest encoding, which has no more. One byte always is that, as
-// for each byte of padding.
+// Whether the frame takes this many bytes in its shortest encoding, which has no more. One byte always is the shortest,
+// as for each byte of PADDING.
 #[inline(always)]
 #[tactic(auto, using(crate::proofs::Spans::one_byte))]
 fn is_shortest(frame: &Frame<'_>, last: bool, len: usize) -> bool
@@ -102,8 +102,8 @@ fn write(frame: &Frame<'_>, last: bool, out: &mut Vec<u8>)
     };
 }
 
-// Appends the frames of a payload in their shortest encodings, for which there is room. Spans that are
-// shortest already are copied as they stand, as many at once as there are.
+// Appends the frames of a payload in their shortest encodings, for which there is room. Frames that are in their
+// shortest encodings already are copied, as many at once as follow each other.
 fn rewrite(payload: &[u8], out: &mut Vec<u8>)
     requires some { payload.now ≢ [] }
     requires whole { (found : List TypedFrame) × AreFrames false found payload.now }
@@ -128,7 +128,7 @@ fn rewrite(payload: &[u8], out: &mut Vec<u8>)
             write(&frame, is_last, out);
             from = stop;
         }
-        // Behind one byte, which PADDING has, all PADDING is passed at once.
+        // After a frame of one byte, as PADDING is, all PADDING that follows is skipped at once.
         if stop - start == 1 {
             iter.pass_padding();
         }
@@ -137,8 +137,7 @@ fn rewrite(payload: &[u8], out: &mut Vec<u8>)
     copy(&payload[from..], out);
 }
 
-// Appends the least payload, for which there is room, where it is known how many of the first bytes stand
-// as they are.
+// Appends the shortest payload, for which there is room. The caller knows how many of the first bytes are copied.
 fn write_least(payload: &[u8], front: usize, out: &mut Vec<u8>)
     requires front { IsFront payload.now front }
     requires room { vec_len out.old + length payload.now ≤ vec_capacity out.old }
@@ -152,9 +151,9 @@ fn write_least(payload: &[u8], front: usize, out: &mut Vec<u8>)
     }
 }
 
-/// Appends the least payload that means what the payload does. The payload is read first; then one
-/// growth of at most its length is made, and where that is refused, or the payload is, `out` is as it was.
-/// A payload that is refused takes no memory.
+/// Appends the shortest payload with the same meaning as the payload. The payload is read first; then room for as many
+/// bytes is reserved at once. If that fails, or the payload is invalid, `out` doesn't change. For an invalid
+/// payload no memory is allocated.
 pub fn canonical(payload: &[u8], out: &mut Vec<u8>) -> Result<(), CanonError>
     ensures ok { OnOk result (AppendsLeast out.old.items out.new.items payload.now) }
     ensures err { IfErr result (λ e. IsRefused payload.now e) }
@@ -174,7 +173,7 @@ pub fn canonical(payload: &[u8], out: &mut Vec<u8>) -> Result<(), CanonError>
     Ok(())
 }
 
-/// The least payload that means what a payload does.
+/// The shortest payload with the same meaning as a payload.
 #[derive(Debug, Drop)]
 pub enum CanonBytes<'a> {
     /// The payload itself.
@@ -197,8 +196,8 @@ impl CanonBytes<'_> {
     }
 }
 
-// The least payload in a vector of its own, for which one growth of the payload's length is made, where it is
-// known how many of the first bytes stand as they are. It isn't inlined: a payload that is canonical goes past it.
+// The shortest payload in a vector of its own, for which room for the payload's length is reserved at once. The caller
+// knows how many of the first bytes are copied. It isn't inlined, since a payload that is canonical doesn't need it.
 #[inline(never)]
 fn rewritten(alloc: Global, payload: &[u8], front: usize) -> Result<Vec<u8>, AllocError>
     requires { IsFront payload.now front }
@@ -210,8 +209,8 @@ fn rewritten(alloc: Global, payload: &[u8], front: usize) -> Result<Vec<u8>, All
     Ok(out)
 }
 
-/// The same as `canonical` appends, without a copy where that is the payload itself: then it takes no
-/// memory. Else one growth of the payload's length is made.
+/// The same as `canonical` appends, without a copy if that is the payload itself: then it allocates no memory. Else
+/// room for the payload's length is reserved at once.
 pub fn canonical_of<'a>(alloc: Global, payload: &'a [u8]) -> Result<CanonBytes<'a>, CanonError>
     ensures ok { IfOk result (λ bytes. GivesLeast payload.now bytes) }
     ensures err { IfErr result (λ e. IsRefused payload.now e) }

@@ -1,4 +1,4 @@
-//! Laws of canonical payloads, which no single call carries. The functions do nothing.
+//! Laws of canonical payloads, which no single call states. The functions do nothing at run time.
 ghost use Rattle.std.specs.Prelude.{◌≡◌, ◌≢◌, ◌<◌, ◌↔◌, ℕ, List, [], length, map, Option, None, true, false};
 ghost use Rattle.quic_base.specs.Number.{AreBytes};
 ghost use Rattle.quic_frame_fields.specs.Field.{AreApart};
@@ -13,27 +13,27 @@ ghost use Rattle.quic_canon.specs.Least.{IsLeast};
 
 use quic_frames::laws::{least_encoding, one_reading};
 
-/// An ACK has one list of ranges: lists of ranges that never touch, with the same numbers in them, are one.
+/// An ACK has one list of ranges: two lists of ranges that never touch are equal if they have the same numbers.
 pub fn one_list_of_a_set()
     ensures one { (some others : List (ℕ × ℕ)) → AreApart some → AreApart others
         → ((n : ℕ) → is_in some n ≡ is_in others n) → some ≡ others }
-    // So payloads mean the same exactly where the frames that they are say the same.
+    // So payloads mean the same exactly if their frames have the same values.
     ensures frames { (found others : List TypedFrame) (payload other : List ℕ) → AreFrames false found payload
         → AreFrames false others other → AreSameFrames (map frame_in found) (map frame_in others)
         → map frame_in found ≡ map frame_in others }
 {}
 
-/// Each payload without an error has one least payload of its meaning, and no other payload has one.
+/// Each valid payload has one shortest payload of the same meaning, and no other payload has one.
 pub fn one_least()
     ensures exists { (found : List TypedFrame) (payload : List ℕ) → payload ≢ [] → AreFrames false found payload
         → IsLeast (shortest_frames (map frame_in found)) payload }
     ensures none { (found : List TypedFrame) (least payload : List ℕ) (type : Option ℕ) (reason : Fault)
         → AreBytes payload → IsBroken false None found payload type reason → IsLeast least payload → ⊥ }
     ensures unique { (one other payload : List ℕ) → IsLeast one payload → IsLeast other payload → one ≡ other }
-    // Two payloads mean the same exactly if their least payloads are equal,
+    // Two payloads mean the same exactly if their shortest payloads are equal,
     ensures same { (payload other least least' : List ℕ) → IsLeast least payload → IsLeast least' other
         → (IsSame payload other ↔ (least ≡ least')) }
-    // the least payload of a least payload is itself,
+    // the shortest payload of a shortest payload is itself,
     ensures again { (payload least : List ℕ) → IsLeast least payload → IsLeast least least }
     // and each other payload of that meaning is longer.
     ensures longer { (payload other least : List ℕ) → IsLeast least payload → IsSame other payload → other ≢ least
@@ -46,8 +46,8 @@ pub fn one_least()
     least_encoding();
 }
 
-/// What is written of frames is its own canonical payload: `canonical` appends just that of it, and `canonical_of`
-/// gives it without a copy. A sealed packet has such a payload.
+/// A payload that is written of frames is canonical: `canonical` appends exactly its bytes, and `canonical_of` gives it
+/// without a copy. A sealed packet has such a payload.
 pub fn written_is_least()
     ensures { (frames : List Frame) (payload : List ℕ) → frames ≢ [] → IsPayload frames payload
         → IsLeast payload payload }

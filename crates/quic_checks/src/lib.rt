@@ -1,4 +1,4 @@
-//! What the tests of all layers share: checks that are counted, the first failed one of which ends the test as failed.
+//! Counted checks for the tests of all layers. A test reports the first that failed.
 #![tactic(auto)]
 
 ghost use Rattle.std.specs.Prelude.{◌≡◌, ◌||◌, false, not, is_err, OnOk, IsTrue};
@@ -17,7 +17,7 @@ pub struct Checks {
     pub count: u64,
     /// Whether one of them failed.
     pub has_failed: bool,
-    /// What the first failed one says.
+    /// The message of the first that failed.
     pub why: String,
 }
 
@@ -33,7 +33,7 @@ impl Checks {
         }
     }
 
-    // Counts a check, and keeps what it says where it is the first that failed.
+    // Counts a check, and keeps its message if it is the first that failed.
     fn check(&mut self, is_so: bool, says: impl Display + Drop)
         ensures { self.new.has_failed ≡ (self.old.has_failed || not is_so) }
     {
@@ -41,7 +41,7 @@ impl Checks {
         if !is_so && !self.has_failed {
             self.has_failed = true;
             let count = self.count;
-            // Without memory for its text the test fails all the same.
+            // If there is no memory for the message, the test fails nevertheless.
             let _ = write!(self.why, "check {count}: {says}");
         }
     }
@@ -90,7 +90,7 @@ impl Checks {
         Ok(())
     }
 
-    /// Checks the text that a value is shown as for those who look for mistakes.
+    /// Checks the text of a value by `Debug`.
     pub fn debugs<T: Debug>(&mut self, alloc: Global, value: &T, text: &str) -> Result<(), Fail>
         ensures { IsTrue self.old.has_failed → IsTrue self.new.has_failed }
     {
@@ -99,7 +99,7 @@ impl Checks {
         Ok(())
     }
 
-    /// The end of a test: a failure where a check failed, which says which of them and why.
+    /// The end of a test: a failure if a check failed, which says which of them and why.
     pub fn verdict(self) -> Result<(), Fail>
         ensures { is_err result ≡ self.has_failed }
     {

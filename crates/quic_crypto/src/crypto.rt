@@ -1,5 +1,5 @@
-//! Keys of packets, as interfaces with laws (RFC 9001, sections 5.3 and 5.4). Which ciphers are behind them is
-//! the caller's affair: what is said of packets holds for every pair of keys that keeps these laws.
+//! Traits of keys, with laws (RFC 9001, sections 5.3 and 5.4). The caller chooses the ciphers: what contracts promise
+//! of packets holds for every pair of keys that keeps these laws.
 ghost use Rattle.std.specs.Prelude.{◌≡◌, ℕ, ◌+◌, ◌-◌, ◌^◌, ◌<◌, ◌≤◌, List, ◌++◌, length, take, Option, Some, None, MatchResult};
 ghost use Rattle.quic_base.specs.Number.{AreBytes};
 ghost use Rattle.quic_crypto.specs.Keys.{HasSample, Protects, Unprotects, payload_in};
@@ -7,7 +7,7 @@ ghost use Rattle.quic_crypto.specs.Keys.{HasSample, Protects, Unprotects, payloa
 use bytes::BytesMut;
 use thiserror::Error;
 
-/// A payload does not belong to the number, the header and the key that are to open it.
+/// A payload's tag doesn't match the number, the header and the key that are to open it.
 #[derive(Clone, Copy, Debug, PartialEq, Eq, Error)]
 #[error("payload does not belong to the packet's number, head and key")]
 pub struct CryptoError;
@@ -24,28 +24,28 @@ pub trait HeaderKey {
     // The packet with its header's protection taken off.
     ghost unprotected: { Self → ℕ → List ℕ → List ℕ };
 
-    /// How many bytes are sampled. They begin four bytes behind the place where the packet number begins,
-    /// however many bytes the number takes.
+    /// How many bytes are sampled. They begin four bytes after the place where the packet number begins, however many
+    /// bytes the number takes.
     fn sample_size(&self) -> usize
         ensures { result ≡ sample_len self.now };
 
-    /// Protects the header of a packet whose number begins at `pn_offset`. The caller must ensure that this is behind
+    /// Protects the header of a packet whose number begins at `pn_offset`. The caller must ensure that this is after
     /// the first byte, and that the packet has four bytes and the sample from there on.
     fn encrypt(&self, pn_offset: usize, packet: &mut [u8])
         requires { HasSample (sample_len self.now) pn_offset packet.old }
         ensures { packet.new ≡ protected self.now pn_offset packet.old };
 
-    /// Takes off the protection of the header of a packet whose number begins at `pn_offset`. The caller must meet
-    /// what `encrypt` asks for.
+    /// Takes off the protection of the header of a packet whose number begins at `pn_offset`. The caller must ensure
+    /// what `encrypt` requires.
     fn decrypt(&self, pn_offset: usize, packet: &mut [u8])
         requires { HasSample (sample_len self.now) pn_offset packet.old }
         ensures { packet.new ≡ unprotected self.now pn_offset packet.old };
 
-    // Protecting changes the low bits of the first byte and the number's bytes alone.
+    // Protecting changes only the low bits of the first byte and the number's bytes.
     ghost protects: { (k : Self) (at : ℕ) (packet : List ℕ) → AreBytes packet → HasSample (sample_len k) at packet
         → Protects at packet (protected k at packet) };
 
-    // Taking protection off changes the low bits of the first byte and four bytes alone.
+    // Taking protection off changes only the low bits of the first byte and four bytes.
     ghost unprotects: { (k : Self) (at : ℕ) (packet : List ℕ) → AreBytes packet → HasSample (sample_len k) at packet
         → Unprotects at packet (unprotected k at packet) };
 
@@ -63,24 +63,24 @@ pub trait PacketKey {
     // The sealed payload of a packet number, a header and a payload.
     ghost sealed: { Self → ℕ → List ℕ → List ℕ → List ℕ };
 
-    // The payload of a packet number, a header and a sealed payload, where they belong together.
+    // The plaintext of a packet number, a header and a sealed payload, or none if the tag doesn't match.
     ghost opened: { Self → ℕ → List ℕ → List ℕ → Option (List ℕ) };
 
     /// How many bytes longer a sealed payload is.
     fn tag_len(&self) -> usize
         ensures { result ≡ tag_size self.now };
 
-    /// Seals the payload of a packet, which is what stands behind the header's `header_len` bytes but for the
-    /// last bytes, as many as the tag has: these are room. The caller must ensure that the packet has the header and
-    /// that room. The header stays.
+    /// Seals the payload of a packet, which is what follows the header's `header_len` bytes, without the last
+    /// `tag_len` bytes, which are room for the tag. The caller must ensure that the packet is at least as long as
+    /// the header and the tag together. The header doesn't change.
     fn encrypt(&self, number: u64, packet: &mut [u8], header_len: usize)
         requires { header_len + tag_size self.now ≤ length packet.old }
         ensures { packet.new ≡ take header_len packet.old
             ++ sealed self.now number (take header_len packet.old)
             (payload_in header_len (tag_size self.now) packet.old) };
 
-    /// Opens a sealed payload, which becomes the payload. Answers `CryptoError` exactly where it is none of
-    /// this number, header and key; then the payload's bytes are open.
+    /// Opens a sealed payload in place. Answers `CryptoError` exactly if the tag doesn't match this number, header and
+    /// key; the contents of `payload` are then unspecified.
     fn decrypt(&self, number: u64, header: &[u8], payload: &mut BytesMut) -> Result<(), CryptoError>
         ensures { MatchResult result
             (λ _. opened self.now number header.now payload.old.items ≡ Some payload.new.items)

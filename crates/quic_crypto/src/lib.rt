@@ -1,5 +1,5 @@
-//! Keys of packets as interfaces with laws (RFC 9001, section 5), and the numbers of packets as they are
-//! written (RFC 9000, section 17.1).
+//! Traits of packet and header keys, with laws, which your cipher implements (RFC 9001, section 5), and truncated
+//! packet numbers (RFC 9000, section 17.1).
 #![tactic(auto)]
 
 pub mod crypto;

@@ -1,4 +1,4 @@
-//! Packet numbers as they are written (RFC 9000, section 17.1).
+//! Truncated packet numbers (RFC 9000, section 17.1).
 ghost use Rattle.std.specs.Prelude.{◌≡◌, ℕ, ◌+◌, ◌-◌, ◌*◌, ◌%◌, ◌^◌, ◌<◌, ◌≤◌, ◌++◌, length, IfOk, OnOk, OnErr};
 ghost use Rattle.quic_base.specs.Codec.{Takes, IsBegun, KeepsRoom};
 ghost use Rattle.quic_crypto.specs.PacketNumbers.{low_part, number_size, window_of, number_bytes, IsInRange, Expands, SizeFor, NumberAt};
@@ -6,7 +6,7 @@ ghost use Rattle.quic_crypto.specs.PacketNumbers.{low_part, number_size, window_
 use bytes::{Buf, BufMut};
 use quic_base::coding::{self, Codec, NoRoom, get_array};
 
-/// A packet number as it is written: its low part, in one to four bytes.
+/// A truncated packet number: its low part, in one to four bytes.
 #[derive(Clone, Copy, Debug, PartialEq, Eq)]
 pub enum PacketNumber {
     /// One byte.
@@ -58,8 +58,8 @@ impl PacketNumber {
         }
     }
 
-    /// Appends its bytes, the highest first. Answers `NoRoom` only where the buffer's spare room is less than
-    /// that; then what stood there stands. The caller must ensure that a `U24` is below 2^24.
+    /// Appends its bytes, the highest first. Answers `NoRoom` only if the buffer's spare room is less than
+    /// that: the buffer's contents then don't change. The caller must ensure that a `U24` is below 2^24.
     #[tactic(auto, unfolding(quic_base::specs::Number::bytes_of))]
     pub fn encode<W: BufMut>(self, w: &mut W) -> Result<(), NoRoom>
         requires { IsInRange self }
@@ -78,8 +78,8 @@ impl PacketNumber {
         .map_err(|_| NoRoom)
     }
 
-    /// Takes a number of `len` bytes from the front of the buffer. Refused exactly where fewer are left, and
-    /// then nothing is consumed. The caller must ensure that `len` is 1 to 4.
+    /// Takes a number of `len` bytes from the front of the buffer. It is an error exactly if fewer remain, and then
+    /// nothing is consumed. The caller must ensure that `len` is 1 to 4.
     pub fn decode<R: Buf>(len: usize, r: &mut R) -> coding::Result<Self>
         requires low { 1 ≤ len }
         requires high { len ≤ 4 }
@@ -107,7 +107,7 @@ impl PacketNumber {
         usize::from(tag % 4) + 1
     }
 
-    /// The lowest two bits of a header's first byte, which say how many bytes the number takes: one less than that.
+    /// The lowest two bits of a header's first byte for this number: how many bytes it takes, less one.
     pub fn tag(self) -> u8
         ensures { result + 1 ≡ number_size self }
     {
@@ -121,8 +121,8 @@ impl PacketNumber {
 
     /// The whole number, by the one that is expected next (RFC 9000, appendix A.3): of the numbers that end in
     /// this low part, the one above `expected` less half the window and at most `expected` and half the window,
-    /// where the window is 2^8, 2^16, 2^24 or 2^32 by the bytes it takes. Where that would be negative it is the
-    /// low part itself. The caller must ensure that a `U24` is below 2^24, and `expected` below 2^62. The answer is not
+    /// where the window is 2^8, 2^16, 2^24 or 2^32 by the bytes it takes. If that would be negative it is the low
+    /// part itself. The caller must ensure that a `U24` is below 2^24, and `expected` below 2^62. The answer is not
     /// tested against 2^62.
     pub fn expand(self, expected: u64) -> u64
         requires valid { IsInRange self }
@@ -138,7 +138,8 @@ impl PacketNumber {
     }
 }
 
-// The number of this residue among as many as the window has, from the least one that is near the expected number.
+// The number with this low part among as many successive numbers as the window has, which begin half a window below
+// the expected one.
 fn nearest(low: u64, window: u64, expected: u64) -> u64
     requires residue { low < window }
     requires even { window % 2 ≡ 0 }

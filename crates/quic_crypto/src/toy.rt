@@ -35,8 +35,8 @@ impl HeaderKey for ToyHeaderKey {
     fn decrypt(&self, _pn_offset: usize, _packet: &mut [u8]) {}
 }
 
-/// A packet key that leaves the payload, and appends the packet number in eight bytes, the highest first, and
-/// eight zeros as the tag. It opens what ends with the number's tag.
+/// A packet key that doesn't change the payload, and appends as the tag the packet number in eight bytes, the highest
+/// first, and eight zeros. It opens a payload that ends with the number's tag.
 #[derive(Clone, Copy, Debug)]
 pub struct ToyPacketKey;
 

@@ -27,7 +27,7 @@ impl Model for FrameType {
 impl FrameType {
     ghost use Rattle.quic_errors.specs.Types.{type_or_zero};
 
-    /// One byte that says nothing (RFC 9000, section 19.1).
+    /// One byte that means nothing (RFC 9000, section 19.1).
     pub const PADDING: FrameType = FrameType(0x00);
 
     /// It asks for an acknowledgement (RFC 9000, section 19.2).
@@ -81,7 +81,7 @@ impl FrameType {
     /// A connection id is used no more (RFC 9000, section 19.16).
     pub const RETIRE_CONNECTION_ID: FrameType = FrameType(0x19);
 
-    /// Uint64 bytes that the peer must send back (RFC 9000, section 19.17).
+    /// Eight bytes that the peer must send back (RFC 9000, section 19.17).
     pub const PATH_CHALLENGE: FrameType = FrameType(0x1a);
 
     /// The eight bytes of a challenge (RFC 9000, section 19.18).
@@ -125,7 +125,7 @@ impl FrameType {
         FrameType(number)
     }
 
-    /// The type of this number, which is below 2^62, and none where it is 0: so a close names the
+    /// The type of this number, which is below 2^62, and `None` if it is 0: so a close names the
     /// frame at fault (RFC 9000, section 19.19).
     pub fn or_none(number: u64) -> Option<FrameType>
         requires { number < 2 ^ 62 }
@@ -142,7 +142,7 @@ impl FrameType {
         self.0
     }
 
-    // The name of the constant, where there is one.
+    // The name of the constant, if there is one.
     fn own_name(self) -> Option<&'static str>
         ensures { MatchOption result (own_name self ≡ None) (λ name. own_name self ≡ Some name.now) }
     {
@@ -177,7 +177,7 @@ impl FrameType {
     }
 }
 
-// No frame that is read is named by it: an ACK with counts is named ACK.
+// No frame that is read has this name: an ACK with counts is named ACK.
 const _: () = prove!(FrameType::ACK_ECN.0 == 0x03);
 
 /// A type is encoded as the varint of its number.

@@ -1,22 +1,22 @@
-//! What is reported of something in a payload that is no frame.
+//! The error for a payload that holds an invalid frame.
 ghost use Rattle.quic_errors.specs.Codes.{IsErrorOf};
 
 use crate::frame_type::FrameType;
 use crate::transport_error::{Code, Error, Reason};
 use std::fmt;
 
-/// What could not be read: the first thing in a payload that is no frame.
+/// Why a payload could not be read: its first invalid frame.
 #[derive(Clone, Copy, Debug, PartialEq, Eq)]
 pub struct InvalidFrame {
     /// The last type that was read, the broken frame's own included; `None` if none was.
     pub ty: Option<FrameType>,
-    /// `unexpected end`, `invalid frame ID` or `malformed`; where types count in their shortest encoding
-    /// alone, also `frame type not in shortest form`.
+    /// `unexpected end`, `invalid frame ID` or `malformed`; where types must be in their shortest encoding, also
+    /// `frame type not in shortest form`.
     pub reason: &'static str,
 }
 
 impl InvalidFrame {
-    /// The error that a peer is told of, as `Error::from` gives it. It takes a reference, so that a caller whose
+    /// The error to close the connection with, as `Error::from` gives it. It takes a reference, so that a caller whose
     /// proof is generated can go on with the error.
     pub fn to_error(&self) -> Error
         ensures { IsErrorOf self.now.ty self.now.reason.now result }
@@ -43,8 +43,8 @@ impl fmt::Display for InvalidFrame {
 
 impl std::error::Error for InvalidFrame {}
 
-/// The error that a peer is told of, with the type and the reason: PROTOCOL_VIOLATION where a type is not in
-/// its shortest form, and FRAME_ENCODING_ERROR for the other reasons (RFC 9000, section 12.4).
+/// The error to close the connection with, with the type and the reason: PROTOCOL_VIOLATION if a type is not in its
+/// shortest form, and FRAME_ENCODING_ERROR for the other reasons (RFC 9000, section 12.4).
 impl From<InvalidFrame> for Error {
     ghost from_gives = { λ e error. IsErrorOf e.ty e.reason.now error };
 
@@ -53,7 +53,7 @@ impl From<InvalidFrame> for Error {
     }
 }
 
-// The error that is reported of what has this type and could not be read for this reason.
+// The error for a frame of this type that could not be read for this reason.
 fn error_of(ty: Option<FrameType>, reason: &'static str) -> Error
     ensures { IsErrorOf ty reason.now result }
 {

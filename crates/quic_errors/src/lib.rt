@@ -1,4 +1,4 @@
-//! Transport errors (RFC 9000, section 20.1), and the types of the frames that they name (section 19).
+//! Types of frames, error codes and transport errors (RFC 9000, sections 19 and 20.1).
 #![tactic(auto)]
 
 pub mod frame_type;

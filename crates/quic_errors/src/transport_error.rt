@@ -61,7 +61,7 @@ impl Code {
     /// More connection ids came than were allowed.
     pub const CONNECTION_ID_LIMIT_ERROR: Code = Code(0x9);
 
-    /// The peer broke the protocol in a way that no other code says.
+    /// The peer broke the protocol in a way that has no other code.
     pub const PROTOCOL_VIOLATION: Code = Code(0xa);
 
     /// The token of a client's Initial was not valid.
@@ -70,7 +70,7 @@ impl Code {
     /// The application closed the connection during the handshake.
     pub const APPLICATION_ERROR: Code = Code(0xc);
 
-    /// More handshake data came than can be kept.
+    /// More handshake data came than can be buffered.
     pub const CRYPTO_BUFFER_EXCEEDED: Code = Code(0xd);
 
     /// A key update went wrong.
@@ -97,7 +97,7 @@ impl Code {
         Code(number)
     }
 
-    // The text of the code, where it has one of its own.
+    // The text of the code, if it has one of its own.
     fn own_text(self) -> Option<&'static str>
         ensures { MatchOption result (own_text self ≡ None) (λ text. own_text self ≡ Some text.now) }
     {
@@ -132,7 +132,7 @@ impl Code {
         })
     }
 
-    // The name of the constant, where there is one.
+    // The name of the constant, if there is one.
     fn own_name(self) -> Option<&'static str> {
         Some(match self.0 {
             0x0 => "NO_ERROR",
@@ -219,12 +219,12 @@ impl fmt::Debug for Code {
     }
 }
 
-/// The text of an error. Two are equal where their texts are.
+/// The text of an error. Two are equal if their texts are.
 #[derive(Debug, Drop)]
 pub enum Reason {
-    /// A text of the program's own.
+    /// A static text.
     Static(&'static str),
-    /// A text that was made.
+    /// An allocated text.
     Owned(String),
 }
 
@@ -241,7 +241,7 @@ impl Reason {
         }
     }
 
-    /// An equal reason. A static one takes no memory.
+    /// An equal reason. A static one allocates no memory.
     pub fn try_clone(&self) -> Result<Reason, NoRoom>
         ensures same { IfOk result (λ r. reason_bytes r ≡ reason_bytes self.now) }
         ensures free { is_static self.now ≡ true → IsOk result }
@@ -294,7 +294,7 @@ pub struct Error {
 impl Error {
     ghost use Rattle.quic_errors.specs.Codes.{IsError, IsSameCode, is_static};
 
-    /// An error with a text that is copied. Answers `NoRoom` where memory is missing.
+    /// An error with a text that is copied. Answers `NoRoom` if memory runs out.
     pub fn with_text(alloc: Global, code: Code, text: &str) -> Result<Error, NoRoom>
         ensures { IfOk result (λ e. IsError e code text.now) }
     {
@@ -304,7 +304,7 @@ impl Error {
         }
     }
 
-    /// An equal error. Answers `NoRoom` where memory is missing; a static reason takes none.
+    /// An equal error. Answers `NoRoom` if memory runs out; a static reason allocates none.
     pub fn try_clone(&self) -> Result<Error, NoRoom>
         ensures same { IfOk result (IsSameCode self.now) }
         ensures free { is_static self.now.reason ≡ true → IsOk result }
@@ -330,7 +330,7 @@ impl Error {
     }
 }
 
-/// One constructor a code, named as the code; no frame is known.
+/// One constructor for each code, named as the code; no frame type is set.
 impl Error {
     ghost use Rattle.quic_errors.specs.Codes.{IsError};
     ghost use Rattle.quic_errors.specs.Codes as codes;

@@ -7,7 +7,7 @@ abbrev pub shortest_varints : List ℕ → List ℕ
 shortest_varints [] = []
 shortest_varints (n ∷ ns) = shortest_varint n ++ shortest_varints ns
 
--- numbers that have a encoding
+-- numbers that have an encoding
 abbrev pub AreNumeric : List ℕ → Type 0
 AreNumeric [] = ⊤
 AreNumeric (n ∷ ns) = (n < 2 ^ 62) × AreNumeric ns

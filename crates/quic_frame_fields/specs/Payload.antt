@@ -1,5 +1,5 @@
--- What a payload means (RFC 9000, section 12.4). The first argument of the relations says whether a type counts in its
--- shortest encoding alone.
+-- What a payload means (RFC 9000, section 12.4). The first argument of the relations says whether a type must be in its
+-- shortest encoding.
 use Rattle.std.specs.Prelude.{◌≡◌, ◌≢◌, ℕ, List, [], ◌∷◌, ◌++◌, Option, Some, None, Bool, true, false, ◌⊎◌}
 use Rattle.quic_base.specs.Varint.{Encodes, shortest_varint}
 use Rattle.quic_frame_fields.specs.declared.frame.fault.Fault.{Fault}
@@ -7,12 +7,13 @@ use Rattle.quic_frame_fields.specs.declared.frame.fault.Fault.TheVariants.{Unexp
 use Rattle.quic_frame_fields.specs.Field.{Value, AreFields, StopsWithin, NoNumber}
 use Rattle.quic_frame_fields.specs.Table.{Name, Row, row_of, is_open}
 
--- a frame: its name, and its values in the order of the wire
+-- A frame: its name, and its values in the order of its row in Table.antt: the order of the wire, but that what the
+-- type implies (FIN, the direction) comes first.
 pub record Meaning : Type 0 where
   pub name : Name
   pub values : List Value
 
--- a frame as it stands: with the type that it has there
+-- a frame in a payload, with the type that it has there
 pub record TypedFrame : Type 0 where
   pub type : ℕ
   pub frame : Meaning

@@ -1,4 +1,4 @@
-//! What frames hold, and how each of them is written (RFC 9000, section 19).
+//! What frames hold, and their encoders (RFC 9000, section 19).
 
 use quic_base::ids::{ConnectionId, ResetToken, StreamId};
 use quic_base::varint::VarInt;
@@ -28,9 +28,9 @@ pub use stream_meta::{StreamMeta, StreamMetaVec};
 pub struct ResetStream {
     /// The stream.
     pub id: StreamId,
-    /// A code of the application.
+    /// The application's error code.
     pub error_code: VarInt,
-    /// How long the stream is.
+    /// The final size of the stream in bytes.
     pub final_offset: VarInt,
 }
 
@@ -39,14 +39,14 @@ pub struct ResetStream {
 pub struct StopSending {
     /// The stream.
     pub id: StreamId,
-    /// A code of the application.
+    /// The application's error code.
     pub error_code: VarInt,
 }
 
 /// Bytes of the handshake.
 #[derive(Clone, Copy, Debug)]
 pub struct Crypto<'a> {
-    /// Where in the handshake the bytes stand.
+    /// The offset of the data in the CRYPTO stream.
     pub offset: u64,
     /// A slice of the payload.
     pub bytes: &'a [u8],
@@ -64,7 +64,7 @@ pub struct NewToken<'a> {
 pub struct Stream<'a> {
     /// The stream.
     pub id: StreamId,
-    /// Where in the stream the bytes stand.
+    /// The offset of the data in the stream.
     pub offset: u64,
     /// Whether the stream ends with these bytes.
     pub fin: bool,
@@ -95,7 +95,7 @@ pub struct Datagram<'a> {
 /// How often acknowledgements are wanted.
 #[derive(Clone, Copy, Debug, PartialEq, Eq)]
 pub struct AckFrequency {
-    /// The number of the frame, by which an older one is known.
+    /// The sequence number of the frame, by which an older one is recognized.
     pub sequence: VarInt,
     /// How many packets that ask for an acknowledgement may come before one is sent.
     pub ack_eliciting_threshold: VarInt,
@@ -106,7 +106,7 @@ pub struct AckFrequency {
 }
 
 impl Crypto<'_> {
-    /// As many bytes, besides those of its data, as the frame's shortest encoding has at most.
+    /// The greatest size of the frame's shortest encoding in bytes, without its data.
     pub const SIZE_BOUND: usize = 1 + 8 + 8;
 }
 

@@ -1,5 +1,5 @@
-//! The parts of frames as values, each with its encoder: acknowledgements, closes, and the structs that frames
-//! hold (RFC 9000, section 19). `quic_frames` stands on it and passes its names on.
+//! What frames hold: ACKs, closes and other structs, each with its encoder (RFC 9000, section 19). `quic_frames` is
+//! built on it, and reexports its names.
 #![tactic(auto)]
 
 pub mod frame;

@@ -6,11 +6,10 @@ use Rattle.quic_base.specs.Varint.{size}
 use Rattle.quic_frame_fields.specs.declared.frame.fault.Fault.{Fault}
 use Rattle.quic_frame_fields.specs.declared.frame.fault.Fault.TheVariants.{UnexpectedEnd, LongType}
 use Rattle.quic_frame_fields.specs.Payload.{Meaning}
-use Rattle.quic_frame_fields.specs.Reading.{frame_at, invalid, is_long_type, found_at}
+use Rattle.quic_frame_fields.specs.Reading.{frame_at, invalid, is_long_type, found_at, row_at, varint_at, blocks_at, or_end}
 use Rattle.quic_base.specs.Reading.{number_at}
 use Rattle.quic_frame_fields.specs.AckPlace.{ReadsBlocks}
 use Rattle.quic_frame_fields.specs.Acks.{AckParts}
-use Rattle.quic_frame_fields.specs.Reading.{row_at, varint_at, blocks_at, or_end}
 use Rattle.quic_frame_fields.specs.declared.frame.ack.EcnCounts.{EcnCounts}
 use Rattle.quic_frame_fields.proofs.Steps.{ok_is}
 use Rattle.quic_frame_fields.proofs.Varints.{varint_fails}

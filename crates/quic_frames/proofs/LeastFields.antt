@@ -48,7 +48,7 @@ eight_once n bytes s =
 
 -- ---- ranges
 
--- Of ranges below a range with the least number low, each number on the wire has a encoding.
+-- Of ranges below a range with the least number low, each number on the wire has an encoding.
 abbrev pub FitBelow : ℕ → List (ℕ × ℕ) → Type 0
 FitBelow low [] = ⊤
 FitBelow low (range ∷ ranges) =
@@ -76,7 +76,7 @@ below_fit range (below ∷ ranges) lt a =
     let small : below.1 < 2 ^ 62 = omega (arith, lt, a.0, a.1) in
     (first, a.1, omega (arith, lt, a.0), omega (arith, small), below_fit below ranges small a.2)
 
--- ranges that never touch, from a number that has a encoding
+-- ranges that never touch, from a number that has an encoding
 pub blocks_fit : (range : ℕ × ℕ) (ranges : List (ℕ × ℕ)) → range.1 < 2 ^ 62 → AreApart (range ∷ ranges) → FitBlocks range.1 (range ∷ ranges)
 blocks_fit range ranges lt a =
     let first = apart_first range ranges a in

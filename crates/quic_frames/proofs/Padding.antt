@@ -66,7 +66,7 @@ behind_some : (n : ℕ) (strict : Bool) (payload : List ℕ) (offset : ℕ) (las
 behind_some zero strict payload offset last some = absurd (omega (arith, some))
 behind_some (suc n) strict payload offset last some = refl
 
--- the same of a walk whose parts are reported apart
+-- the same of a walk whose parts are given separately
 pub passes_here : (strict : Bool) (payload : List ℕ) (offset n : ℕ) (last : Option ℕ) (b : Bool) (old : IterState) (bytes : List ℕ) → walk strict payload offset last b ≡ old → b ≡ false → bytes ≡ drop offset payload → AreBytes bytes
     → offset ≤ length payload → n ≤ length bytes → ((k : ℕ) → k < n → get_or bytes k 0 ≡ 0) → (n < length bytes → 0 < get_or bytes n 0) → 0 < n
     → PassesPadding old n (walk strict payload (offset + n) (Some 0) b)

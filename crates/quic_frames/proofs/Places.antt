@@ -202,7 +202,7 @@ breaks strict payload offset last i some e =
 pub is_over : (strict : Bool) (payload : List ℕ) (offset : ℕ) (last : Option ℕ) → length (drop offset payload) ≡ 0 → left (at_place strict payload offset last) ≡ []
 is_over strict payload offset last none = ap (items_of strict offset last) (nothing (drop offset payload) (omega arith)) ∙ no_items strict offset last
 
--- the same of a walk whose parts are reported apart
+-- the same of a walk whose parts are given separately
 abbrev pub walk : Bool → List ℕ → ℕ → Option ℕ → Bool → IterState
 walk strict payload offset last is_broken = record { strict = strict; payload = payload; offset = offset; last = last; is_broken = is_broken }
 

@@ -23,9 +23,8 @@ use Rattle.quic_frame_fields.specs.Shortest.{written_type, shortest_frame}
 use Rattle.quic_frames.specs.Least.{is_end, shortest_frames, as_written, all_written}
 use Rattle.std.specs.declared.ops.Range.{Range}
 use Rattle.quic_ranges.specs.Runs.{IsMaximalRuns, member}
-use Rattle.quic_frame_fields.specs.Sets.{ends_of, ranges_in, greatest_in, ack_of}
+use Rattle.quic_frame_fields.specs.Sets.{ends_of, ranges_in, greatest_in, ack_of, AreCounts}
 use Rattle.quic_frame_fields.proofs.Sets.{are_apart, is_greatest}
-use Rattle.quic_frame_fields.specs.Sets.{AreCounts}
 use Rattle.quic_frames.specs.InRange.{InRange, IsTypedFrame, AreTyped, CanStand, CanFollow}
 use Rattle.quic_frame_fields.proofs.Steps.{true_is_not_false}
 use Rattle.quic_frame_fields.proofs.Apart.{acked_apart}

@@ -14,9 +14,9 @@ abbrev pub HasNoTypeZero : Frame → Type 0
 HasNoTypeZero (frames.Close (closes.Connection c)) = c.frame_type ≢ Some 0
 HasNoTypeZero frame = ⊤
 
--- The frame has a encoding, by which it is read as it is: numbers of any width are below 2^62, an id has 1 to 20
--- bytes, and what is retired comes before it; type 0 isn't reported from no type (RFC 9000, sections 16, 19.15 and
--- 19.19). Numbers whose type holds the bound are not named.
+-- The frame has an encoding, by which it is read as it is: numbers of any width are below 2^62, an id has 1 to 20
+-- bytes and is not among those that it retires; a close with frame type 0 can't be told from one without a type (RFC
+-- 9000, sections 16, 19.15 and 19.19). Numbers whose type holds the bound are not named.
 abbrev pub InRange : Frame → Type 0
 InRange (frames.Ack a) = IsAckInRange a
 InRange (frames.Crypto c) = AreNumeric (c.offset ∷ length c.bytes.now ∷ [])

@@ -1,4 +1,4 @@
-//! Frames, and how a payload is read frame by frame (RFC 9000, section 19).
+//! Frames, and reading a payload frame by frame (RFC 9000, section 19).
 ghost use Rattle.std.specs.Prelude.{◌≡◌};
 
 use quic_base::ids::{Dir, StreamId};
@@ -24,8 +24,8 @@ pub use quic_frame_fields::frame::{
 };
 pub use size_bound::{FrameStruct, RETIRE_CONNECTION_ID_SIZE_BOUND};
 
-/// A frame of a payload, whose bytes it borrows. Numbers that were read are below 2^62, but for the
-/// eight bytes of a path's challenge and response.
+/// A frame of a payload, whose bytes it borrows. Numbers that were read are below 2^62, except for the eight bytes of
+/// PATH_CHALLENGE and PATH_RESPONSE.
 #[derive(Clone, Copy, Debug)]
 pub enum Frame<'a> {
     /// Nothing (RFC 9000, section 19.1).
@@ -105,9 +105,8 @@ pub enum Frame<'a> {
 impl Frame<'_> {
     ghost use Rattle.quic_frames.specs.Meaning.{meaning_of, type_of, is_eliciting};
 
-    /// The type by which the frame is named: ACK also for one with counts, 0x30 for each DATAGRAM.
-    /// That of a STREAM has the bit for the offset exactly where the offset isn't 0, and never the bit
-    /// for the length.
+    /// The type that names the frame: ACK also if it has counts, 0x30 for each DATAGRAM. That of a STREAM has the bit
+    /// for the offset exactly if the offset isn't 0, and never the bit for the length.
     pub fn ty(&self) -> FrameType
         ensures { result ≡ type_of (meaning_of self.now) }
     {

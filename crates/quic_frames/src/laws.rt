@@ -28,8 +28,8 @@ ghost use Rattle.quic_frame_fields.specs.declared.frame.fault.Fault.TheVariants.
 
 use crate::frame::RETIRE_CONNECTION_ID_SIZE_BOUND;
 
-/// A payload has one reading: it is frames, or frames and then something that is none, and never both.
-/// That holds where types count in any encoding, and where they count in their shortest alone.
+/// A payload has one reading: it is all valid frames, or valid frames followed by an error, and never both. That holds
+/// where types may be in any encoding, and where they must be in their shortest.
 pub fn one_reading()
     ensures either { (strict : Bool) (bytes : List ℕ) → AreBytes bytes → IsEither strict None bytes }
     ensures one { (strict : Bool) (some others : List TypedFrame) (bytes : List ℕ)
@@ -39,13 +39,13 @@ pub fn one_reading()
     // No frame that isn't open begins another one.
     ensures begins_none { (strict : Bool) (one other : TypedFrame) (bytes longer rest : List ℕ) → is_open one.type ≡ false
         → IsFrame strict one bytes → IsFrame strict other longer → longer ≡ bytes ++ rest → bytes ≡ longer }
-    // What is read where only the shortest counts is read so where any does.
+    // What is read where types must be in their shortest encodings is read alike where they may be in any.
     ensures relaxed { (strict : Bool) (found : List TypedFrame) (bytes : List ℕ)
         → AreFrames strict found bytes → AreFrames false found bytes }
 {}
 
-/// Verdicts last. Whatever follows some bytes, each frame of theirs that isn't open stands at its place, and
-/// an error other than `unexpected end` stands with the same frames, type and reason.
+/// Appending bytes changes no result: each frame that isn't open is read again at its place, and an error other than
+/// `unexpected end` is reported again, after the same frames, with the same type and reason.
 pub fn lasting()
     ensures frames { (strict : Bool) (found : List TypedFrame) (bytes more : List ℕ) → AreBytes (bytes ++ more)
         → AreFrames strict found bytes → AreClosed found → items_of strict 0 None (bytes ++ more)
@@ -59,14 +59,14 @@ pub fn lasting()
         → IsBroken strict None others bytes type reason → reason ≡ UnexpectedEnd }
 {}
 
-/// What is reported of a type in another encoding than its shortest is reported of nothing else.
+/// The error for a type that is not in its shortest encoding is reported for nothing else.
 pub fn reasons()
     ensures long { reason_text LongType ≡ long_type_reason }
     ensures others { (reason : Fault) → reason ≢ LongType → reason_text reason ≢ long_type_reason }
 {}
 
-/// Where the bytes are these frames, or these and then something that is none, just these are the items that
-/// the iterator gives, with these places.
+/// If the bytes are these frames, or these and then an error, exactly these are the items that the iterator gives, with
+/// these places.
 pub fn items_in_place()
     ensures frames { (strict : Bool) (frames : List Placed) (bytes : List ℕ) → ArePlaced strict 0 frames bytes
         → items_of strict 0 None bytes ≡ map whole frames }
@@ -75,8 +75,8 @@ pub fn items_in_place()
         → items_of strict 0 None bytes ≡ map whole frames ++ Broken (invalid type reason) ∷ [] }
 {}
 
-/// An iterator that `Iter::resume` gives at a place still gives what the bytes from there on are, whatever stands
-/// before them: just their frames, or those before what is none, and then what is reported of that.
+/// An iterator that `Iter::resume` gives at a place gives the frames of the bytes from there on, whatever comes before:
+/// exactly their frames, or those before an invalid frame, and then the error of that.
 pub fn read_from_a_place()
     ensures either { (strict : Bool) (payload : List ℕ) (offset : ℕ) (last : Option ℕ) → AreBytes payload
         → IsEither strict last (drop offset payload) }
@@ -89,7 +89,7 @@ pub fn read_from_a_place()
         → map unplaced (left (resumed payload offset last strict)) ≡ map given found ++ Err (invalid type reason) ∷ [] }
 {}
 
-/// The blocks of an ACK stand for one list of ranges, and no two of these touch.
+/// Bytes encode at most one list of ranges as the blocks of an ACK, and no two of its ranges touch.
 pub fn one_list_of_ranges()
     ensures one { (greatest : ℕ) (some others : List (ℕ × ℕ)) (bytes : List ℕ)
         → AreBlocks greatest some bytes → AreBlocks greatest others bytes → some ≡ others }
@@ -97,8 +97,8 @@ pub fn one_list_of_ranges()
         → AreBlocks greatest ranges bytes → AreApart ranges }
 {}
 
-/// The ranges of each ACK are those that its blocks encode (RFC 9000, section 19.3.1). What is said to be read as
-/// blocks encodes the ranges that are read, and what encodes ranges is read so.
+/// The ranges of each ACK are those that its blocks encode (RFC 9000, section 19.3.1): bytes are read as some ranges
+/// exactly if they encode them.
 pub fn ranges_encoded()
     ensures held { (ack : Ack) → AreBytes (parts_of ack).additional
         → AreBlocks (parts_of ack).largest (ranges_acked ack) (parts_of ack).additional }
@@ -126,8 +126,8 @@ pub fn set_acknowledged()
         → (ranges_acked ack ≡ ranges_in runs) × ((parts_of ack).delay ≡ delay) × ((parts_of ack).ecn ≡ counts) }
 {}
 
-/// Of all encodings of a frame at its place, and of all payloads of the same frames, the shortest is one,
-/// and any other is longer. Its types are in their least widths, and an open frame stands last only.
+/// Of all encodings of a frame at its place, and of all payloads of the same frames, one is the shortest, and all
+/// others are longer. Its types are in their least widths, and an open frame comes last only.
 pub fn least_encoding()
     ensures least { (last : Bool) (found : TypedFrame) (bytes : List ℕ) → IsFrame false found bytes
         → (is_open found.type ≡ true → last ≡ true) → AreOrExceed bytes (shortest_frame last found.frame) }
@@ -142,8 +142,8 @@ pub fn least_encoding()
     ensures same { (frames : List Meaning) → map frame_in (all_written frames) ≡ frames }
 {}
 
-/// What is written of frames that can be written is read back as these frames, and by `one_reading` as
-/// nothing else. What the types of their parts hold comes of `Frame::type_bounds`.
+/// Frames that can be written are read back as the same frames from what is written of them, and by `one_reading` as
+/// nothing else. The bounds of their fields come from `Frame::type_bounds`.
 pub fn read_back()
     ensures one { (strict last : Bool) (frame : Frame) → IsTypedFrame frame → CanStand last frame
         → IsFrame strict (as_written last (meaning_of frame)) (shortest_frame last (meaning_of frame))

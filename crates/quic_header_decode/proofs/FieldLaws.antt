@@ -17,7 +17,7 @@ use Rattle.quic_header_decode.proofs.Steps.{chosen, none_some, some_same, pair_p
 abbrev pub NoId : List ℕ → Type 0
 NoId bytes = (id : List ℕ) → NoFront (IsLongId id) bytes
 
--- no front of the bytes is a encoding of a number
+-- no front of the bytes is an encoding of a number
 abbrev pub NoNumber : List ℕ → Type 0
 NoNumber bytes = (v : ℕ) → NoFront (Encodes v) bytes
 

@@ -71,7 +71,7 @@ abbrev pub IsVarint : List HeaderValue → List ℕ → Type 0
 IsVarint values bytes = (n : ℕ) × (values ≡ Number n ∷ []) × Encodes n bytes
 
 -- Behind fields with the values before, and in front of rest, the bytes are a field of this kind, with these values.
--- A token is reported by how many bytes follow it.
+-- The value of a token is how many bytes follow it, which gives its place.
 abbrev pub IsHeaderField : DecodeOptions → HeaderField → List HeaderValue → List HeaderValue → List ℕ → List ℕ → Type 0
 IsHeaderField context Version before values bytes rest = (n : ℕ) × (values ≡ Number n ∷ []) × IsNumber 4 n bytes
 IsHeaderField context DestinationId before values bytes rest = IsId values bytes
@@ -85,7 +85,7 @@ IsHeaderField context Length before values bytes rest = IsVarint values bytes
 IsHeaderField context ShortId before values bytes rest =
     (id : List ℕ) × (values ≡ Bytes id ∷ []) × (context.parsed (bytes ++ rest) ≡ Ok (id, length bytes))
 
--- What is reported where no such field stands.
+-- The error where the bytes don't begin with such a field.
 abbrev pub refusal_at : HeaderField → List HeaderValue → Refusal
 refusal_at DestinationId before = Invalid (codes "malformed cid")
 refusal_at SourceId before = Invalid (codes "malformed cid")

@@ -151,8 +151,8 @@ IsUnknownVersion context bytes version dst src =
 abbrev pub any_fixed : ℕ → List ℕ → DecodeOptions
 any_fixed id_len versions = record { parsed = fixed_parsed id_len; versions = versions; grease = true }
 
--- A header and what is left behind it, or a refusal, is what the bytes begin with. A long header of an unknown version
--- is reported by its ids also where they are longer than those of the versions that are known.
+-- The bytes begin with this header and go on with these bytes, or are refused so. A long header of an unknown version
+-- is given with its ids even where these are longer than those of the known versions may be.
 abbrev pub ReadAnswer : DecodeOptions → List ℕ → Result (ProtectedHeader × List ℕ) Refusal → Type 0
 ReadAnswer context bytes (Ok found) = HeaderAt context (length bytes) bytes found.0 found.1
 ReadAnswer context bytes (Err (Unsupported src dst version)) = IsUnknownVersion context bytes version dst src

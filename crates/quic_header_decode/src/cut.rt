@@ -35,13 +35,12 @@ impl Model for PartialDecode {
 }
 
 impl PartialDecode {
-    /// Cuts the first packet from a datagram, and gives what follows it. An Initial, Handshake or 0-RTT packet
-    /// ends where its header says; the others take the whole datagram. Where no header can be read the refusal is
-    /// that of `ProtectedHeader::decode`; a length beyond the end is `InvalidHeader("packet too short to
-    /// contain payload length")`. `OutOfMemory` comes only of a parser that takes memory, and where something
-    /// follows the packet.
+    /// Cuts the first packet from a datagram, and gives the bytes after it. An Initial, Handshake or 0-RTT packet ends
+    /// where the length in its header says; the others take the whole datagram. If no header can be read, the error is
+    /// that of `ProtectedHeader::decode`; a length beyond the end is `InvalidHeader("packet too short to contain
+    /// payload length")`. `OutOfMemory` comes only from a parser that allocates, or if bytes follow the packet.
     ///
-    /// So without `grease` a version negotiation whose fixed bit is clear is refused, though clients ignore that bit
+    /// So without `grease` a version negotiation whose fixed bit is clear is rejected, though clients ignore that bit
     /// (RFC 9000, section 17.2.1).
     #[inline(always)]
     pub fn new<P: ConnectionIdParser>(
@@ -87,7 +86,7 @@ impl PartialDecode {
         let position = buf.position();
         let remaining = buf.remaining() as u64;
         let mut datagram = buf.into_inner();
-        // The refusals meet, so that the datagram is dropped in one place.
+        // All errors go this way, so that the datagram is dropped in one place.
         let refusal = match read {
             Ok(plain_header) => {
                 let len = plain_header.payload_len().unwrap_or(remaining);
@@ -132,7 +131,7 @@ impl PartialDecode {
         self.packet.len()
     }
 
-    /// The head.
+    /// The header, before its protection is taken off.
     pub fn header(&self) -> &ProtectedHeader
         ensures { result.now ≡ self.now.head }
     {

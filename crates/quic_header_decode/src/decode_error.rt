@@ -7,11 +7,11 @@ use quic_base::coding::UnexpectedEnd;
 use quic_base::ids::ConnectionId;
 use thiserror::Error;
 
-/// Why no packet can be read from a datagram, or from what is left of it. Nothing behind the place can be
-/// read then either: the datagram is given up.
+/// Why no packet can be read from the remaining bytes of a datagram. Nothing after them can be read then: the rest of
+/// the datagram is dropped.
 #[derive(Clone, Copy, Debug, PartialEq, Eq, PartialOrd, Ord, Hash, Drop, Error)]
 pub enum PacketDecodeError {
-    /// The version of a long header is none of those that the endpoint speaks (RFC 9000, section 6.1).
+    /// The endpoint doesn't support the version of a long header (RFC 9000, section 6.1).
     #[error("unsupported version {version:x}")]
     UnsupportedVersion {
         /// The sender's id.
@@ -29,7 +29,7 @@ pub enum PacketDecodeError {
     OutOfMemory,
 }
 
-/// Bytes that end within a field of a head.
+/// Bytes that end within a field of a header.
 impl From<UnexpectedEnd> for PacketDecodeError {
     ghost from_gives = { λ _ e. refusal_of e ≡ at_end };
 

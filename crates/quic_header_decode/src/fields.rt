@@ -1,4 +1,4 @@
-//! The fields of headers, taken from bytes at a place, which moves behind what was taken.
+//! The fields of headers, read from bytes at a place, which moves to the end of what was read.
 ghost use Rattle.std.specs.Prelude.{◌≡◌, ◌+◌, ◌<◌, ◌≤◌, Some, None, drop, length, slice_range, IfSome, MatchOption};
 ghost use Rattle.quic_base.specs.Number.{AreBytes};
 ghost use Rattle.quic_base.specs.Reading.{number_at};
@@ -8,12 +8,12 @@ use quic_base::coding::are_bytes;
 use quic_base::ids::MAX_CID_SIZE;
 use quic_base::varint::split_var_by_word;
 
-/// The bytes from `start` to below `end` in others.
+/// A range of bytes within others: from `start` to before `end`.
 #[derive(Clone, Copy, Debug, PartialEq, Eq)]
 pub struct Place {
     /// Where they begin.
     pub start: usize,
-    /// The place behind the last one.
+    /// Where they end.
     pub end: usize,
 }
 
@@ -39,7 +39,7 @@ pub(crate) fn remaining(bytes: &[u8], place: usize) -> usize
     bytes.len() - place
 }
 
-// Passes over the next `count` bytes. The caller must ensure that they are there.
+// Skips the next `count` bytes. The caller must ensure that there are so many.
 #[inline]
 pub(crate) fn pass(bytes: &[u8], place: &mut usize, count: usize)
     requires inside { place.old ≤ length bytes.now }
@@ -67,7 +67,7 @@ pub(crate) fn read_word(bytes: &[u8], place: &mut usize) -> Option<u32>
     Some(u32::from_be_bytes(word))
 }
 
-// The bytes of a connection id behind their length.
+// The bytes of a connection id, after the byte of their length.
 #[inline]
 pub(crate) fn read_id<'a>(bytes: &'a [u8], place: &mut usize) -> Option<&'a [u8]>
     requires { place.old ≤ length bytes.now }
@@ -86,7 +86,7 @@ pub(crate) fn read_id<'a>(bytes: &'a [u8], place: &mut usize) -> Option<&'a [u8]
     Some(&rest[..len])
 }
 
-// A number in one, two, four or eight bytes. It goes into its callers, so that the place stays in a register.
+// A number in one, two, four or eight bytes. It is inlined into its callers, so that the place stays in a register.
 #[inline(always)]
 #[tactic(auto, using(crate::proofs::FieldLaws::reading))]
 pub(crate) fn read_var(bytes: &[u8], place: &mut usize) -> Option<u64>

@@ -1,4 +1,4 @@
-//! Protection is taken off headers (RFC 9001, section 5.4).
+//! Takes the protection off headers (RFC 9001, section 5.4).
 ghost use Rattle.std.specs.Prelude.{◌≡◌, ◌≤◌, ◌<◌, ◌++◌, length, take, drop, IfOk, IfErr, IsTrue, IsSome, IfSome, true, false, slice_range};
 ghost use Rattle.quic_crypto.specs.Keys.{HasSample};
 ghost use Rattle.quic_header_decode.specs.Finish.{sample_refusal, IsUnfinished, IsNumberIn};
@@ -15,11 +15,11 @@ use quic_crypto::packet_number::PacketNumber;
 use quic_header_encode::header::{Header, InitialHeader};
 
 impl PartialDecode {
-    /// Takes the protection off the packet's header, and cuts the packet behind the header, which ends with the
-    /// packet number. Refused with `InvalidHeader("packet too short to extract header protection sample")`
-    /// exactly where fewer than four bytes and the sample follow the place where the number begins; else only
-    /// with `OutOfMemory`. A Retry or version negotiation has no protection: it needs no key, and comes as it
-    /// stands. The caller must give a key for the others, which are those with a `space()`.
+    /// Takes the protection off the packet's header, and cuts the packet after the header, which ends with the packet
+    /// number. The error is `InvalidHeader("packet too short to extract header protection sample")` exactly if fewer
+    /// than four bytes and the sample follow the place where the number begins; else it is only `OutOfMemory`. A Retry
+    /// or version negotiation has no protection: it needs no key, and is given unchanged. The caller must give a key
+    /// for the others, which are those with a `space()`.
     pub fn finish<H: HeaderKey>(self, key: Option<&H>) -> Result<Packet, PacketDecodeError>
         requires { IsTrue (is_protected self.head) → IsSome key }
         ensures opened { IfOk result
@@ -113,7 +113,7 @@ impl PartialDecode {
         }
     }
 
-    // Gives a packet without protection as it stands.
+    // Gives a packet without protection, unchanged.
     fn finish_plain(self) -> Result<Packet, PacketDecodeError>
         requires { is_protected self.head ≡ false }
         ensures opened { IfOk result
@@ -159,7 +159,7 @@ impl PartialDecode {
     }
 }
 
-// Takes the protection off a header whose number stands at a place, and reads the number.
+// Takes the protection off a header whose number begins at a place, and reads the number.
 #[tactic(auto, using(crate::proofs::Finishes::number_at_place))]
 fn decrypt_header<H: HeaderKey>(
     packet: &mut BytesMut,
@@ -208,7 +208,7 @@ fn finish_with(packet: BytesMut, end: usize, header: Header) -> Result<Packet, P
     })
 }
 
-// Cuts a packet behind its head.
+// Cuts a packet after its header.
 fn split_header(mut packet: BytesMut, end: usize) -> Result<(Bytes, BytesMut), PacketDecodeError>
     requires { end ≤ length packet.items }
     ensures head { IfOk result (λ x. x.0 ≡ take end packet.items) }
@@ -221,7 +221,7 @@ fn split_header(mut packet: BytesMut, end: usize) -> Result<(Bytes, BytesMut), P
     }
 }
 
-// An Initial packet, whose token is a part of its head.
+// An Initial packet, whose token is a part of its header.
 fn finish_initial(
     packet: BytesMut,
     end: usize,

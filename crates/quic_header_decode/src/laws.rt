@@ -1,4 +1,4 @@
-//! Laws of headers and cuts, which no single call carries. The functions do nothing.
+//! Laws of headers and cuts, which no single call states. The functions do nothing at run time.
 ghost use Rattle.std.specs.Prelude.{◌≡◌, ◌+◌, ◌<◌, ◌≤◌, ◌++◌, List, ℕ, Result, Ok, Some, None, Option, length, take, drop, codes, slice_index, ◌^◌, IsTrue, [], ◌∷◌, Contains, Bool};
 ghost use Rattle.quic_base.specs.Number.{AreBytes};
 ghost use Rattle.quic_header_decode.specs.Datagram.{PlacedPacket, ArePackets, packets_in};
@@ -16,8 +16,8 @@ use quic_crypto::packet_number::PacketNumber;
 use quic_header_encode::header::{Header, InitialHeader};
 use quic_header_encode::long_type::LongType;
 
-/// Bytes begin with one header or have one refusal, and so has what is cut from them; reading finds that
-/// answer, where the parser of ids takes no more than is there.
+/// Bytes begin with one header or are refused with one error, and the same holds of the packet that is cut from them;
+/// reading finds that answer, if the parser of ids takes no more bytes than there are.
 pub fn one_answer()
     ensures head { (context : DecodeOptions) (whole : ℕ) (bytes : List ℕ) (one other : Result (ProtectedHeader
         × List ℕ) Refusal)
@@ -31,8 +31,8 @@ pub fn one_answer()
         → CutAnswer context bytes (cut_at context bytes) }
 {}
 
-/// Bytes begin with one header, with the ids of one version that isn't known, or with one refusal, where ids of short
-/// headers have one length and the fixed bit isn't looked at.
+/// Bytes begin with one header, or with the ids of one unknown version, or are refused with one error, if all ids of
+/// short headers have the same length and the fixed bit isn't checked.
 pub fn one_reading()
     ensures { (id_len : ℕ) (versions bytes : List ℕ) (one other : Result (ProtectedHeader × List ℕ) Refusal)
         → AreBytes bytes
@@ -40,7 +40,7 @@ pub fn one_reading()
         → one ≡ other }
 {}
 
-/// A datagram is packets in one way, up to its end or to one refusal, and reading finds these.
+/// There is one way to cut a datagram into packets, up to its end or to one error, and reading finds it.
 pub fn one_row_of_packets()
     ensures one { (context : DecodeOptions) (bytes : List ℕ) (some others : List PlacedPacket)
         (refusal other : Option Refusal)
@@ -50,15 +50,15 @@ pub fn one_row_of_packets()
         → ArePackets context 0 bytes (packets_in context bytes).0 (packets_in context bytes).1 }
 {}
 
-/// Where a packet ends, and what doesn't depend on the bytes behind it.
+/// Where a packet ends, and what doesn't depend on the bytes after it.
 pub fn ends()
-    // It takes a byte, so what follows it is shorter than the datagram.
+    // A packet has at least a byte, so what follows it is shorter than the datagram.
     ensures some { (context : DecodeOptions) (bytes : List ℕ) (h : ProtectedHeader) (p q : ℕ)
         → Cut context bytes h p q → 0 < q }
-    // A packet whose header says its length has the same header and the same end, whatever follows it.
+    // A packet whose header has a length has the same header and the same end, whatever follows it.
     ensures alone { (context : DecodeOptions) (bytes other : List ℕ) (h : ProtectedHeader) (p q len : ℕ)
         → Cut context bytes h p q → len_in h ≡ Some len → Cut context (take q bytes ++ other) h p q }
-    // A long header that is refused for its fixed bit or for its version is refused so, whatever follows.
+    // A long header that is refused for its fixed bit or for its version is refused so whatever follows.
     ensures fixed { (context : DecodeOptions) (bytes other : List ℕ) → 128 ≤ slice_index bytes 0
         → Refused context bytes (Invalid (codes "fixed bit unset"))
         → Refused context (bytes ++ other) (Invalid (codes "fixed bit unset")) }
@@ -67,7 +67,7 @@ pub fn ends()
         → Refused context (bytes ++ other) (Unsupported src dst version) }
 {}
 
-/// A header that was read as places begins the packet that `packet_end` says, or one that is cut off.
+/// A header that was read as places begins a packet that ends where `packet_end` says, or one that is cut off.
 pub fn places_cut()
     ensures whole { (context : DecodeOptions) (bytes : List ℕ) (x : HeaderPlaces) (q : ℕ)
         → HeaderAt context (length bytes) bytes (header_in bytes x) (drop x.header_end bytes)
@@ -82,7 +82,7 @@ pub fn places_cut()
 
 /// Headers are read back as they are written, before protection is put on, whatever follows them.
 pub fn written()
-    // The length stands in any encoding, and the number is left.
+    // The length may be in any encoding, and the number isn't read.
     ensures initial { (context : DecodeOptions) (whole start n : ℕ) (h : InitialHeader) (len rest : List ℕ)
         → h.version < 2 ^ 32 → IsKnownVersion context h.version → length h.dst_cid ≤ 20 → length h.src_cid ≤ 20
         → length h.token < 2 ^ 62 → Encodes n len
@@ -120,7 +120,7 @@ pub fn written()
 /// Two datagrams of version 1, by their bytes.
 pub fn examples()
     // The client's first Initial packet (RFC 9001, section A.2): ids of eight bytes and of none, no token, and 1182
-    // bytes behind the head.
+    // bytes after the header.
     ensures initial { (context : DecodeOptions) (rest : List ℕ) → Contains context.versions 1
         → HeaderAt context (18 + length rest)
         (0xc0 ∷ 0x00 ∷ 0x00 ∷ 0x00 ∷ 0x01 ∷ 0x08 ∷ 0x83 ∷ 0x94 ∷ 0xc8 ∷ 0xf0 ∷ 0x3e ∷ 0x51 ∷ 0x57 ∷ 0x08 ∷ 0x00 ∷ 0x00

@@ -9,18 +9,18 @@ use quic_header_encode::header::{Header, InitialHeader};
 /// An Initial packet whose header's protection is taken off. Its payload may still be sealed.
 #[derive(Debug, Drop)]
 pub struct InitialPacket {
-    /// The head.
+    /// The header.
     pub header: InitialHeader,
     /// The header's bytes, the packet number among them.
     pub header_data: Bytes,
-    /// What follows the head.
+    /// What follows the header.
     pub payload: BytesMut,
 }
 
 /// A packet whose header's protection is taken off. Its payload may still be sealed.
 #[derive(Debug, Drop)]
 pub struct Packet {
-    /// The head.
+    /// The header.
     pub header: Header,
     /// The header's bytes, the packet number among them.
     pub header_data: Bytes,

@@ -1,4 +1,4 @@
-//! Parsers of the connection ids of short headers, which say no length.
+//! Parsers of the connection ids of short headers, which don't hold the id's length.
 ghost use Rattle.std.specs.Prelude.{◌≡◌, ℕ, ◌-◌, ◌≤◌, List, length, drop, Bool, IsTrue, false, Result, IfOk, IsErrOf, MatchResult, ◌≢◌};
 ghost use Rattle.quic_header_decode.specs.Refusal.{Refusal, NoMemory, GivesRead};
 
@@ -6,19 +6,19 @@ use crate::decode_error::PacketDecodeError;
 use quic_base::coding::Cursor;
 use quic_base::ids::ConnectionId;
 
-/// Takes the connection id of a short header, which doesn't say the id's length. An endpoint knows its own
-/// ids, so it brings the parser.
+/// Reads the connection id of a short header, which doesn't hold the id's length. An endpoint knows its own ids, so it
+/// brings the parser.
 pub trait ConnectionIdParser {
     ghost use Rattle.quic_base.specs.Cursor.{unread};
 
-    // What the bytes that are left begin with: an id and how many bytes it takes, or a refusal.
+    // What the remaining bytes begin with: an id and how many bytes it takes, or an error.
     ghost parsed: { Self → List ℕ → Result (List ℕ × ℕ) Refusal };
 
-    // It takes memory, so that memory may run out.
+    // It allocates, so that memory may run out.
     ghost takes_memory: { Self → Bool };
 
-    /// Takes an id from the cursor's place. The cursor's bytes stay; after an error its place is open.
-    /// `OutOfMemory` may stand in place of every answer, if the parser takes memory.
+    /// Takes an id from the cursor's place. The cursor's bytes don't change; after an error its place is unspecified.
+    /// If the parser allocates, any call may answer `OutOfMemory`.
     fn parse(&self, buf: &mut Cursor) -> Result<ConnectionId, PacketDecodeError>
         ensures bytes { buf.new.bytes ≡ buf.old.bytes }
         ensures parsed { GivesRead (λ id. (id, length (unread buf.old) - length (unread buf.new))) result
@@ -28,13 +28,13 @@ pub trait ConnectionIdParser {
         ensures forward { IfOk result (λ _. buf.old.position ≤ buf.new.position) }
         ensures memory { IsErrOf result PacketDecodeError.OutOfMemory → IsTrue (takes_memory self.now) };
 
-    // An id takes bytes that are there, and want of memory is no refusal of bytes.
+    // An id takes no more bytes than there are, and `OutOfMemory` never depends on the bytes.
     ghost lawful: { (p : Self) (bytes : List ℕ)
         → MatchResult (parsed p bytes) (λ x. x.1 ≤ length bytes) (λ e. e ≢ NoMemory) };
 }
 
-/// A parser of ids that all have one length, of at most 20 bytes. Where fewer bytes are left it answers
-/// `InvalidHeader("packet too small")`. It takes no memory.
+/// A parser of ids that all have one length, of at most 20 bytes. If fewer bytes remain it answers
+/// `InvalidHeader("packet too small")`. It allocates no memory.
 #[derive(Clone, Copy, Debug)]
 pub struct FixedLengthConnectionIdParser {
     expected_len: usize,
@@ -72,8 +72,8 @@ impl ConnectionIdParser for FixedLengthConnectionIdParser {
 
     ghost lawful = { λ p bytes. fixed_lawful (id_len p) bytes };
 
-    /// Takes an id from the cursor's place. The cursor's bytes stay; after an error its place is open.
-    /// `OutOfMemory` may stand in place of every answer, if the parser takes memory.
+    /// Takes an id from the cursor's place. The cursor's bytes don't change; after an error its place is unspecified.
+    /// If the parser allocates, any call may answer `OutOfMemory`.
     #[inline]
     fn parse(&self, buf: &mut Cursor) -> Result<ConnectionId, PacketDecodeError> {
         let len = self.expected_len;

@@ -1,4 +1,4 @@
-//! Headers are read as places in bytes that stay where they are: nothing is copied.
+//! Reads headers as places in the caller's bytes: nothing is copied.
 ghost use Rattle.std.specs.Prelude.{◌≡◌, ◌+◌, ◌<◌, ◌≤◌, ◌∷◌, ℕ, Some, None, length, drop, slice_index, slice_range, IfOk, IfSome, MatchOption, ◌==◌};
 ghost use Rattle.std.specs.List.{list_any};
 ghost use Rattle.quic_header_encode.specs.Storing.{IsTyped};
@@ -12,54 +12,54 @@ use quic_base::coding::are_bytes;
 use quic_base::ids::MAX_CID_SIZE;
 pub use quic_header_encode::long_type::HeaderKind;
 
-/// A packet's header as places in the bytes that the packet begins. What its kind lacks is 0.
+/// A packet's header as places in bytes that begin with the packet. Fields that its kind doesn't have are 0.
 #[derive(Clone, Copy, Debug, PartialEq, Eq)]
 pub struct HeaderPlaces {
     /// The kind.
     pub kind: HeaderKind,
-    /// The first byte as it stands.
+    /// The first byte, before protection is taken off.
     pub first: u8,
-    /// The version of QUIC: 0 of short headers, which say none, and of a version negotiation.
+    /// The version of QUIC: 0 for short headers, which have none, and for a version negotiation.
     pub version: u32,
     /// How many bytes the receiver's id has, which begins at 6 in a long header and at 1 in a short one.
     pub dst_len: usize,
-    /// How many bytes the sender's id has, which begins behind the receiver's and its own length. Short headers have
+    /// How many bytes the sender's id has, which begins after the receiver's and its own length. Short headers have
     /// none.
     pub src_len: usize,
     /// The token of an Initial packet.
     pub token: Place,
-    /// How many bytes an Initial, Handshake or 0-RTT packet has behind its header, the number's bytes among them.
+    /// How many bytes an Initial, Handshake or 0-RTT packet has after its header, including those of the packet number.
     pub len: u64,
-    /// Where the header ends; where the number begins, if the packet has one.
+    /// Where the header ends: if the packet has a number, where that begins.
     pub header_end: usize,
 }
 
-/// Why no header can be read. Nothing behind the place can be read then either: the datagram is given up.
+/// Why no header can be read. Nothing after it can be read then: the rest of the datagram is dropped.
 #[derive(Clone, Copy, Debug, PartialEq, Eq)]
 pub enum ReadError {
-    /// The version of a long header is none of those that the endpoint speaks (RFC 9000, section 6.1). Its ids may have
-    /// up to 255 bytes (RFC 8999, section 5.1).
+    /// The endpoint doesn't support the version of a long header (RFC 9000, section 6.1). Its ids may have up to 255
+    /// bytes (RFC 8999, section 5.1).
     UnsupportedVersion {
         /// The version.
         version: u32,
         /// How many bytes the receiver's id has, which begins at 6.
         dst_len: usize,
-        /// How many bytes the sender's id has, which begins behind the receiver's and its own length.
+        /// How many bytes the sender's id has, which begins after the receiver's and its own length.
         src_len: usize,
     },
     /// The bytes end within the header: "unexpected end of packet".
     UnexpectedEnd,
     /// The bytes end within a short header's id: "packet too small".
     SmallPacket,
-    /// An id of a long header isn't whole, or has more than 20 bytes in a version that is spoken: "malformed cid".
+    /// An id of a long header isn't whole, or has more than 20 bytes in a supported version: "malformed cid".
     MalformedCid,
     /// The bytes end within the token: "token out of bounds".
     TokenOutOfBounds,
 }
 
 impl HeaderPlaces {
-    /// Where the packet ends in so many bytes: where its header says, or with the bytes. None where they end before
-    /// that.
+    /// Where the packet ends in `whole` bytes: where the length in its header says, else where the bytes end. `None` if
+    /// the bytes end before that.
     #[inline(always)]
     pub fn packet_end(&self, whole: usize) -> Option<usize>
         ensures value { result ≡ ends_at self.now whole }
@@ -75,12 +75,13 @@ impl HeaderPlaces {
     }
 }
 
-/// Reads the header at the front of bytes, in the order of its fields, also where the packet is cut off behind it. Ids
-/// of short headers have `id_len` bytes, of which the caller must ensure that they are at most 20; `versions` are those
-/// that are read further than their ids. The first field that can't be read is the refusal. Nothing is allocated.
+/// Reads the header at the front of bytes, in the order of its fields, even if the packet is cut off after it. Ids of
+/// short headers have `id_len` bytes, and the caller must ensure that this is at most 20. Of versions that are not
+/// among
+/// `versions` only the ids are read. The first field that can't be read gives the error. It allocates no memory.
 ///
-/// The fixed bit is not looked at: it stands in `first`. In a version negotiation clients ignore it (RFC 9000, section
-/// 17.2.1).
+/// The fixed bit is not checked: the caller finds it in `first`. In a version negotiation clients ignore it (RFC 9000,
+/// section 17.2.1).
 #[inline(always)]
 pub fn read_header(bytes: &[u8], id_len: usize, versions: &[u32]) -> Result<HeaderPlaces, ReadError>
     requires { id_len ≤ MAX_CID_SIZE }
@@ -105,7 +106,7 @@ pub fn read_long(bytes: &[u8], first: u8, versions: &[u32]) -> Result<HeaderPlac
     scan_long(bytes, first, versions)
 }
 
-// Reads a head.
+// Reads a header.
 #[inline(always)]
 #[tactic(auto, unfolding(crate::specs::Reading::wide_header_at))]
 fn scan_header(bytes: &[u8], id_len: usize, versions: &[u32]) -> Result<HeaderPlaces, ReadError>
@@ -136,7 +137,7 @@ fn scan_header(bytes: &[u8], id_len: usize, versions: &[u32]) -> Result<HeaderPl
     })
 }
 
-// Whether a version is among those that are spoken. The first is looked at where this stands.
+// Whether a version is among the supported ones. The test of the first is inlined into the caller.
 #[inline(always)]
 fn is_among(version: u32, versions: &[u32]) -> bool
     ensures { result ≡ list_any (λ known. known == version) versions.now }
@@ -149,7 +150,7 @@ fn is_among(version: u32, versions: &[u32]) -> bool
     versions.contains(&version)
 }
 
-// The version of a long head.
+// The version of a long header.
 #[inline(always)]
 fn read_version(bytes: &[u8]) -> Option<u32>
     requires { 1 ≤ length bytes.now }
@@ -160,7 +161,7 @@ fn read_version(bytes: &[u8]) -> Option<u32>
     read_word(bytes, &mut place)
 }
 
-// How many bytes a connection id has, up to 255, whose length stands at a place, where they are there.
+// How many bytes, up to 255, a connection id has whose length is at a place. `None` if the bytes end before its end.
 #[inline(always)]
 fn read_id_len(bytes: &[u8], at: usize) -> Option<usize>
     requires { at ≤ length bytes.now }
@@ -223,7 +224,7 @@ fn scan_long(bytes: &[u8], first: u8, versions: &[u32]) -> Result<HeaderPlaces, 
     read_typed(bytes, HeaderKind::of_long(first, version), front)
 }
 
-// Reads what follows the ids in a long header of a type.
+// Reads the fields after the ids of a long header, by its type.
 #[inline(always)]
 #[tactic(auto, unfolding(crate::specs::Reading::typed_at))]
 fn read_typed(

@@ -1,4 +1,4 @@
-//! Headers of packets as they are read before their protection is taken off (RFC 9000, section 17).
+//! Headers of packets, before their protection is taken off (RFC 9000, section 17).
 ghost use Rattle.std.specs.Prelude.{◌≡◌, ◌<◌, ◌≤◌, length, IsTrue, Err, IfOk, IsErrOf, ◌≢◌, drop};
 ghost use Rattle.quic_header_decode.specs.Refusal.{GivesRead, Answers};
 ghost use Rattle.quic_header_decode.specs.Grammar.{HeaderAnswer};
@@ -13,22 +13,22 @@ use quic_base::ids::ConnectionId;
 use quic_header_encode::long_type::{LongHeaderType, LongType};
 use std::ops::Range;
 
-/// What an Initial packet's header says before its protection is taken off (RFC 9000, section 17.2.2).
+/// The header of an Initial packet, before its protection is taken off (RFC 9000, section 17.2.2).
 #[derive(Clone, Debug, Drop)]
 pub struct ProtectedInitialHeader {
     /// The receiver's id.
     pub dst_cid: ConnectionId,
     /// The sender's id.
     pub src_cid: ConnectionId,
-    /// Where the token stands in the bytes of the cursor; after `PartialDecode::new`, in the packet.
+    /// The place of the token in the cursor's bytes; after `PartialDecode::new`, in the packet.
     pub token_pos: Range<usize>,
-    /// How many bytes the packet has behind its header, the number's bytes among them.
+    /// How many bytes the packet has after its header, including those of the packet number.
     pub len: u64,
     /// The version of QUIC.
     pub version: u32,
 }
 
-/// What a packet's header says before its protection is taken off.
+/// The header of a packet, before its protection is taken off.
 #[derive(Clone, Debug, Drop)]
 pub enum ProtectedHeader {
     /// The header of an Initial packet.
@@ -41,7 +41,7 @@ pub enum ProtectedHeader {
         dst_cid: ConnectionId,
         /// The sender's id.
         src_cid: ConnectionId,
-        /// How many bytes the packet has behind its header, the number's bytes among them.
+        /// How many bytes the packet has after its header, including those of the packet number.
         len: u64,
         /// The version of QUIC.
         version: u32,
@@ -57,7 +57,7 @@ pub enum ProtectedHeader {
     },
     /// The header of a 1-RTT packet (RFC 9000, section 17.3.1).
     Short {
-        /// The bit for measuring round trips.
+        /// The spin bit, for measuring round trips.
         spin: bool,
         /// The receiver's id.
         dst_cid: ConnectionId,
@@ -76,14 +76,14 @@ pub enum ProtectedHeader {
 impl ProtectedHeader {
     ghost use Rattle.quic_base.specs.Cursor.{unread};
 
-    /// Reads the header at the cursor's place, in the order of its fields: the first that can't be read is the
-    /// refusal. Afterwards the cursor stands at the header's end; after an error its place is open. Its bytes
-    /// stay. `versions` are those that are read further than their ids; with `grease` the fixed bit may be
-    /// clear (RFC 9287). `OutOfMemory` comes only of a parser that takes memory.
+    /// Reads the header at the cursor's place, in the order of its fields: the first that can't be read gives the
+    /// error. Afterwards the cursor is at the header's end; after an error its place is unspecified. Its bytes don't
+    /// change. Of versions that are not among `versions` only the ids are read; with `grease` the fixed bit may be
+    /// clear (RFC 9287). `OutOfMemory` comes only from a parser that allocates.
     ///
-    /// Without `grease` every header whose fixed bit is clear is refused, as in quinn-proto, though clients ignore that
-    /// bit in a version negotiation (RFC 9000, section 17.2.1), and a version that isn't known may use it for anything
-    /// (RFC 8999, section 5.1).
+    /// Without `grease` every header whose fixed bit is clear is rejected, as in quinn-proto, though clients ignore
+    /// that bit in a version negotiation (RFC 9000, section 17.2.1), and a version that isn't known may use it for
+    /// anything (RFC 8999, section 5.1).
     #[inline(always)]
     pub fn decode<P: ConnectionIdParser>(
         buf: &mut Cursor,
@@ -104,7 +104,7 @@ impl ProtectedHeader {
         Self::decode_header(buf, parser, versions, grease)
     }
 
-    // Short headers are read where this stands, long ones by a call.
+    // Reading a short header is inlined into the caller; a long one takes a call.
     #[inline(always)]
     #[tactic(auto, unfolding(crate::specs::Reading::header_at))]
     pub(crate) fn decode_header<P: ConnectionIdParser>(
@@ -138,7 +138,7 @@ impl ProtectedHeader {
         Self::decode_long(buf, first, versions)
     }
 
-    // Reads a long header behind its first byte at the cursor's place.
+    // Reads the rest of a long header, after its first byte, at the cursor's place.
     #[inline(always)]
     fn decode_long(buf: &mut Cursor, first: u8, versions: &[u32]) -> Result<Self, PacketDecodeError>
         requires long { 128 ≤ first }
@@ -155,9 +155,10 @@ impl ProtectedHeader {
         head
     }
 
-    // Reads a long header behind its first byte, and moves the place behind what was read. It is one function, so that
-    // each header is put together once, and not once for each call that it goes through. Each kind returns by itself,
-    // and builds the sender's id itself, so that its words go from where they are read to their places in the answer.
+    // Reads the rest of a long header, after its first byte, and moves the place to its end. It is one function, so
+    // that each header is put together once, and not once for each call that it goes through. Each kind returns by
+    // itself, and builds the sender's id itself, so that its words go from where they are read to their places in the
+    // answer.
     #[inline(never)]
     #[tactic(auto, unfolding(crate::specs::Reading::long_at, crate::specs::Reading::typed_at))]
     fn read_long(
@@ -249,7 +250,7 @@ impl ProtectedHeader {
 }
 
 impl ProtectedHeader {
-    // The length that the header says.
+    // The value of the header's Length field.
     #[inline]
     pub(crate) fn payload_len(&self) -> Option<u64>
         ensures { result ≡ len_in self.now }

@@ -50,8 +50,8 @@ header_with len (header.VersionNegotiate random src dst) = header_front (header.
 abbrev pub header_bytes : Header → List ℕ
 header_bytes h = header_with no_length h
 
--- what is asked of a header that is written: a token whose length has a encoding, and a number that takes no more bytes
--- than it says
+-- What can be written as a header: its token's length has an encoding, and its packet number takes no more bytes than
+-- it says.
 abbrev pub IsWritable : Header → Type 0
 IsWritable (header.Initial h) = (length h.token < 2 ^ 62) × IsInRange h.number
 IsWritable (header.Long ty dst src number version) = IsInRange number

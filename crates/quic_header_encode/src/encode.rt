@@ -1,4 +1,4 @@
-//! Headers are written, and packets finished (RFC 9000, section 17; RFC 9001, sections 5.3 and 5.4).
+//! Writes headers, and finishes packets (RFC 9000, section 17; RFC 9001, sections 5.3 and 5.4).
 ghost use Rattle.std.specs.Prelude.{◌≡◌, ◌+◌, ◌-◌, ◌≤◌, ◌<◌, ◌^◌, ◌++◌, length, vec_len, vec_capacity, IfOk, OnErr, OnOk, IfSome, IfNone, IsOk, IsTrue, ◌↔◌, ◌⊎◌, option_map, take, drop};
 ghost use Rattle.quic_base.specs.Number.{AreBytes, bytes_of};
 ghost use Rattle.quic_crypto.specs.PacketNumbers.{IsInRange};
@@ -15,15 +15,15 @@ use quic_base::ids::ConnectionId;
 use quic_crypto::crypto::{HeaderKey, PacketKey};
 use quic_crypto::packet_number::PacketNumber;
 
-/// Where a header was written: what `finish` has to know once the payload stands behind it.
+/// Where a header was written: what `finish` needs after the payload was appended.
 #[derive(Clone, Copy, Debug)]
 pub struct PartialEncode {
     /// Where the header begins in its buffer.
     pub start: usize,
     /// How many bytes the header has.
     pub header_len: usize,
-    /// How many bytes the number has, which stands at the header's end, and whether the header has a length, which
-    /// stands before the number; none for Retry and version negotiation.
+    /// How many bytes the packet number has, which ends the header, and whether the header has a length, which comes
+    /// before the number; `None` for Retry and version negotiation.
     pub pn: Option<(usize, bool)>,
 }
 
@@ -40,21 +40,21 @@ pub(crate) fn append(out: &mut Vec<u8>, bytes: &[u8])
     }
 }
 
-// Over how many bytes a short header is written, one that has no token, and an Initial one whose token has at most 32
-// bytes.
+// How many bytes of room suffice for a short header, for a long one without a token, and for an Initial one whose token
+// has at most 32 bytes.
 const SHORT_ROOM: usize = 32;
 
 const LONG_ROOM: usize = 64;
 
 const INITIAL_ROOM: usize = 96;
 
-// What the first byte of a long header has beside its type and number.
+// The bits of a long header's first byte other than its type and number length.
 const LONG_FIRST: u8 = 0xc0;
 
-// What stands in place of a number where there is none.
+// The number of headers that have none.
 const NO_NUMBER: PacketNumber = PacketNumber::U8(0);
 
-// Whether a token is written without a call: one of 16 to 32 bytes, or an empty one.
+// Whether a token is written without a call: if it has 16 to 32 bytes, or none.
 #[inline(always)]
 fn is_stored_by_stores(token: &[u8]) -> bool
     ensures { IsTrue result ↔ IsShortToken token.now }
@@ -62,8 +62,8 @@ fn is_stored_by_stores(token: &[u8]) -> bool
     token.len() == 0 || token.len() >= 16 && token.len() <= 32
 }
 
-// Appends a header where there is spare room for the longest of its kind: zeros are appended, the header is written
-// over them, and what is left of them goes. Answers whether there was room.
+// Appends a header if there is spare room for the longest of its kind: zeros are appended, the header is written over
+// them, and the remaining ones are removed. Answers whether there was room.
 #[inline(always)]
 fn put<const ROOM: usize>(head: HeaderRef<'_, Padded<'_>>, out: &mut Vec<u8>) -> bool
     requires storable { IsStorable padded_id head }
@@ -83,7 +83,7 @@ fn put<const ROOM: usize>(head: HeaderRef<'_, Padded<'_>>, out: &mut Vec<u8>) ->
     true
 }
 
-// An id that is written with what makes it 20 bytes.
+// An id that is written with zeros up to 20 bytes.
 #[inline(always)]
 fn padded(id: &ConnectionId) -> Padded<'_>
     ensures same { padded_id result ≡ id.now }
@@ -93,7 +93,7 @@ fn padded(id: &ConnectionId) -> Padded<'_>
     Padded(id)
 }
 
-// The kind of a Handshake or 0-RTT head.
+// The kind of a Handshake or 0-RTT header.
 #[inline(always)]
 fn long_kind(ty: LongType) -> HeaderKind
     ensures { result ≡ kind_of (kind.Standard ty) }
@@ -104,7 +104,7 @@ fn long_kind(ty: LongType) -> HeaderKind
     }
 }
 
-// What the first byte of a short header has beside its number.
+// The bits of a short header's first byte other than its number length.
 #[inline(always)]
 fn short_first(spin: bool, key_phase: bool) -> u8
     ensures value { result ≡ 64 + bit spin 32 + bit key_phase 4 }
@@ -184,7 +184,7 @@ fn short_ref<'a>(
 }
 
 impl Header {
-    // The same header, with ids and a token that stay where they are.
+    // The same header, with ids and a token that are borrowed.
     fn borrowed(&self) -> HeaderRef<'_, Padded<'_>>
         requires { IsWritable self.now }
         ensures { StoresHeader padded_id result self.now }
@@ -235,7 +235,7 @@ impl Header {
         }
     }
 
-    /// How many bytes `encode` appends. The caller must meet what `encode` asks for.
+    /// How many bytes `encode` appends. The caller must ensure what `encode` requires.
     pub fn encoded_len(&self) -> usize
         requires { IsWritable self.now }
         ensures value { result ≡ header_size self.now }
@@ -243,7 +243,7 @@ impl Header {
         self.borrowed().encoded_len()
     }
 
-    // Makes room for just the header, and writes it there.
+    // Makes room for exactly the header, and writes it there.
     #[inline(never)]
     fn put_with_room(&self, out: &mut Vec<u8>) -> Result<(), NoRoom>
         requires { IsWritable self.now }
@@ -278,7 +278,7 @@ impl Header {
         Ok(())
     }
 
-    // Appends a short head.
+    // Appends a short header.
     #[inline(never)]
     fn put_short(&self, out: &mut Vec<u8>) -> Result<(), NoRoom>
         requires { IsWritable self.now }
@@ -303,7 +303,7 @@ impl Header {
         self.put_with_room(out)
     }
 
-    // Appends an Initial head.
+    // Appends an Initial header.
     #[inline(never)]
     fn put_initial(&self, out: &mut Vec<u8>) -> Result<(), NoRoom>
         requires { IsWritable self.now }
@@ -365,8 +365,8 @@ impl Header {
         }
     }
 
-    /// How many bytes the number takes, and whether the header has a length; none for Retry and version
-    /// negotiation, which have neither.
+    /// How many bytes the number takes, and whether the header has a length; `None` for Retry and version negotiation,
+    /// which have neither.
     #[inline]
     pub fn number_place(&self) -> Option<(usize, bool)>
         ensures { result ≡ place_in self.now }
@@ -380,7 +380,7 @@ impl Header {
         }
     }
 
-    /// How many bytes the number takes, at most 4: none where there is no number.
+    /// How many bytes the number takes, at most 4: 0 if there is no number.
     pub fn number_size(&self) -> usize
         ensures value { result ≡ size_in self.now }
         ensures small { result ≤ 4 }
@@ -394,7 +394,7 @@ impl Header {
         }
     }
 
-    /// Whether the header says the packet's length: just those of Initial, Handshake and 0-RTT packets do.
+    /// Whether the header has the packet's length: only those of Initial, Handshake and 0-RTT packets do.
     pub fn has_len(&self) -> bool
         ensures { result ≡ has_length self.now }
     {
@@ -407,10 +407,10 @@ impl Header {
         }
     }
 
-    /// Appends the header, and answers where it begins and ends. The two bytes of its length, where it has one, are
-    /// zeros, which `PartialEncode::finish` fills in. Answers `NoRoom` only where the spare room of `out` is less
-    /// than the header and there is no memory for more; then the bytes of `out` are as they were, and its room still is
-    /// less. The caller must give a token below 2^62 bytes, and that a `U24` is below 2^24.
+    /// Appends the header, and answers where it begins and ends. The two bytes of its length, if it has one, are zeros,
+    /// which `PartialEncode::finish` fills in. Answers `NoRoom` only if the spare room of `out` is less than the header
+    /// and there is no memory for more: the bytes of `out` then don't change, and its spare room is still less. The
+    /// caller must ensure that the token has fewer than 2^62 bytes, and that a `U24` is below 2^24.
     #[inline]
     pub fn encode(&self, out: &mut Vec<u8>) -> Result<PartialEncode, NoRoom>
         requires { IsWritable self.now }
@@ -441,11 +441,11 @@ impl Header {
 }
 
 impl PartialEncode {
-    /// Finishes a packet, which is `buf`: fills in its length, where its header has one, seals its payload by the
-    /// number and key of `crypto`, if there is one, and protects the header by `header_key`. The payload's last
-    /// bytes are room for the tag. Retry and version negotiation stay as they are. The caller must ensure that the
-    /// packet has its header, the tag's room, and four bytes and the sample from its number's place on; and fewer
-    /// than 2^14 bytes from there on where the header has a length.
+    /// Finishes a packet, which is `buf`: fills in its length, if its header has one, seals its payload by the number
+    /// and key of `crypto`, if there is one, and protects the header by `header_key`. The payload's last bytes are room
+    /// for the tag. Retry and version negotiation don't change. The caller must ensure that the packet has its header
+    /// and the tag's room; from the number on, at least four bytes and the sample; and, if the header has a length,
+    /// fewer than 2^14 bytes from there on.
     pub fn finish<H: HeaderKey, P: PacketKey>(
         self,
         buf: &mut [u8],
@@ -479,7 +479,7 @@ impl PartialEncode {
     }
 }
 
-// Writes the count of the bytes from a place on before that place.
+// Writes the count of the bytes from a place on into the two bytes before that place.
 #[tactic(auto, unfolding(quic_base::specs::Number::bytes_of))]
 fn write_length(buf: &mut [u8], pn_pos: usize)
     requires place { 2 ≤ pn_pos }

@@ -6,7 +6,7 @@ ghost use Rattle.quic_crypto.specs.PacketNumbers.{number_bytes, number_size, IsI
 use quic_base::coding::store_array;
 use quic_crypto::packet_number::PacketNumber;
 
-// Stores bytes by their first N and their last N.
+// Stores bytes by two stores: of their first N and of their last N.
 #[inline(always)]
 pub(crate) fn store_ends<const N: usize>(out: &mut [u8], at: usize, bytes: &[u8]) -> usize
     requires many { N ≤ length bytes.now }
@@ -112,7 +112,7 @@ pub fn store_low(out: &mut [u8], at: usize, number: u64, len: usize) -> usize
     }
 }
 
-/// Stores the part of a number that is written, and answers where it ends. The caller must ensure that there is room,
+/// Stores a truncated number, and answers where it ends. The caller must ensure that there is room,
 /// and that a `U24` is below 2^24.
 #[inline(always)]
 #[tactic(auto, using(crate::proofs::Stores::numbers), unfolding(quic_base::specs::Number::bytes_of))]

@@ -8,7 +8,7 @@ use bytes::Bytes;
 use quic_base::ids::{ConnectionId, SpaceId};
 use quic_crypto::packet_number::PacketNumber;
 
-/// What the header of an Initial packet says (RFC 9000, section 17.2.2).
+/// The header of an Initial packet (RFC 9000, section 17.2.2).
 #[derive(Debug, Drop)]
 pub struct InitialHeader {
     /// The receiver's id.
@@ -23,8 +23,8 @@ pub struct InitialHeader {
     pub version: u32,
 }
 
-/// What a packet's header says, with no protection on it. The length of an Initial, Handshake or 0-RTT packet is
-/// not a part of it: `PartialEncode::finish` fills it in.
+/// The header of a packet, without protection. The length of an Initial, Handshake or 0-RTT packet is not a part of it:
+/// `PartialEncode::finish` fills it in.
 #[derive(Debug, Drop)]
 pub enum Header {
     /// The header of an Initial packet.
@@ -53,9 +53,9 @@ pub enum Header {
     },
     /// The header of a 1-RTT packet (RFC 9000, section 17.3.1).
     Short {
-        /// The bit for measuring round trips.
+        /// The spin bit, for measuring round trips.
         spin: bool,
-        /// The bit that changes with the keys.
+        /// The key phase: the bit that changes with the keys.
         key_phase: bool,
         /// The receiver's id.
         dst_cid: ConnectionId,
@@ -87,7 +87,7 @@ impl Header {
         }
     }
 
-    /// The packet's number as it is written: none for Retry and version negotiation.
+    /// The truncated packet number: `None` for Retry and version negotiation.
     pub fn number(&self) -> Option<PacketNumber>
         ensures { result ≡ number_in self.now }
     {
@@ -139,7 +139,7 @@ impl Header {
         }
     }
 
-    /// Whether the packet has frames: just the protected ones have.
+    /// Whether the packet has frames: only the protected ones have.
     pub fn has_frames(&self) -> bool
         ensures { result ≡ has_number self.now }
     {
@@ -153,7 +153,7 @@ impl Header {
         matches!(self, Self::Short { .. })
     }
 
-    /// Whether it is a 1-RTT packet: just those with a short header are.
+    /// Whether it is a 1-RTT packet: only those with a short header are.
     pub fn is_1rtt(&self) -> bool
         ensures { IsTrue result ↔ IsShortHeader self.now }
     {

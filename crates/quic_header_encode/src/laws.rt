@@ -1,12 +1,12 @@
-//! Laws of headers as they are written, which no single call carries. The function does nothing.
+//! Laws of written headers, which no single call states. The function does nothing at run time.
 ghost use Rattle.std.specs.Prelude.{◌≡◌, ◌+◌, ◌-◌, ◌⊎◌, ◌++◌, List, ℕ, IsTrue, length, replicate};
 ghost use Rattle.quic_header_encode.specs.Storing.{begun_by, length_in, with_len};
 ghost use Rattle.quic_header_encode.specs.Writing.{has_length, header_bytes, header_size, header_with, size_in, with_length};
 
 use crate::header::Header;
 
-/// A header whose length is filled in once the payload stands behind it is the header that is written with its length
-/// at once. It counts the number's bytes and the payload's.
+/// A header whose length is filled in after the payload was appended equals the header that is written with its length
+/// at once. The length counts the bytes of the number and of the payload.
 pub fn length_later()
     // By `PartialEncode::finish`.
     ensures finished { (h : Header) (body : List ℕ) → IsTrue (has_length h)

@@ -1,4 +1,4 @@
-//! Headers of packets as values, and how they are written (RFC 9000, section 17; RFC 9369, section 3).
+//! Packet headers as values, and their encoder (RFC 9000, section 17; RFC 9369, section 3).
 #![tactic(auto)]
 
 pub mod encode;

@@ -9,7 +9,7 @@ pub const LONG_HEADER_FORM: u8 = 0x80;
 /// The bit of a first byte that is set in all headers, but for greased ones.
 pub const FIXED_BIT: u8 = 0x40;
 
-/// The bit of a short header's first byte that is for measuring round trips.
+/// The spin bit of a short header's first byte, for measuring round trips.
 pub const SPIN_BIT: u8 = 0x20;
 
 /// Version 2 of QUIC.
@@ -38,7 +38,7 @@ pub enum HeaderKind {
 }
 
 impl HeaderKind {
-    /// The kind of a long header of a version, by its first byte.
+    /// The kind of a long header, by its first byte in a version.
     #[inline(always)]
     pub fn of_long(first: u8, version: u32) -> HeaderKind
         ensures { result ≡ kind_of (long_type version first) }
@@ -52,8 +52,8 @@ impl HeaderKind {
         }
     }
 
-    /// The bits of a long header's first byte that say its type under a version. The caller must ensure that it says
-    /// one.
+    /// The bits of a long header's first byte that hold its type in a version. The caller must ensure that the header
+    /// is long and has a type.
     #[inline(always)]
     pub fn type_bits(self, version: u32) -> u8
         requires { IsTyped self }
@@ -82,7 +82,7 @@ impl HeaderKind {
         }
     }
 
-    /// Whether the header says a length.
+    /// Whether the header has a length.
     #[inline(always)]
     pub fn has_len(self) -> bool
         ensures { result ≡ carries_length self }
@@ -117,7 +117,7 @@ pub enum LongHeaderType {
 }
 
 impl LongHeaderType {
-    /// The type that a long header's first byte says under a version.
+    /// The type in a long header's first byte in a version.
     #[inline]
     pub fn from_byte(first: u8, version: u32) -> Self
         ensures { result ≡ long_type version first }
@@ -142,7 +142,7 @@ impl LongHeaderType {
         }
     }
 
-    /// The first byte of a long header under a version, but for its number's length.
+    /// The first byte of a long header in a version, without its number length.
     pub fn byte(self, version: u32) -> u8
         ensures { result ≡ first_byte version self }
     {
@@ -163,7 +163,7 @@ impl LongHeaderType {
     }
 }
 
-/// The first byte under version 1, but for the number's length.
+/// The first byte in version 1, without the number length.
 impl From<LongHeaderType> for u8 {
     ghost from_gives = { λ ty first. first ≡ first_byte 1 ty };
 

@@ -1,5 +1,5 @@
-//! The one writer of headers: what a header says is written at the front of bytes, field behind field, by stores of
-//! whole arrays whose ends the next field covers.
+//! The one writer of headers: a header is written at the front of bytes, one field after another, by stores of whole
+//! arrays, whose ends the next field overwrites.
 ghost use Rattle.std.specs.Prelude.{◌≡◌, ◌+◌, ◌*◌, ◌^◌, ◌<◌, ◌≤◌, ◌⊎◌, ◌∷◌, ◌++◌, List, ℕ, length, take, drop, replicate, true, ◌↔◌, IsTrue};
 ghost use Rattle.quic_base.specs.ConnectionId.{long_id};
 ghost use Rattle.quic_base.specs.Varint.{shortest_varint, size};
@@ -36,7 +36,7 @@ pub trait StoredId: Copy {
         ensures len { length out.new ≡ length out.old };
 }
 
-/// An id with room for 20 bytes where it is written: it is written with what makes it 20 bytes.
+/// An id with room for 20 bytes where it is written: it is written with zeros up to 20 bytes.
 #[derive(Clone, Copy)]
 pub struct Padded<'a>(pub &'a ConnectionId);
 
@@ -57,7 +57,7 @@ impl StoredId for Padded<'_> {
     }
 }
 
-/// An id of which just its own bytes are written.
+/// An id of which only its own bytes are written.
 #[derive(Clone, Copy)]
 pub struct Exact<'a>(pub &'a [u8]);
 
@@ -77,16 +77,16 @@ impl StoredId for Exact<'_> {
     }
 }
 
-/// What a header says, with ids and a token that stay where they are.
+/// The fields of a header, with ids and a token that are borrowed.
 #[derive(Clone, Copy)]
 pub struct HeaderRef<'a, I> {
     /// The kind.
     pub kind: HeaderKind,
-    /// What the first byte has beside the bits of the type and of the number's length. Of long headers 0xc0, or 0x80
-    /// where the fixed bit is clear (RFC 9287). Of shortest_varint ones 0x40 and 0 in the same way, 0x20 for the spin bit and
-    /// 0x04 for the key phase. Of a version negotiation all of it, with 0x80.
+    /// The bits of the first byte other than the type and the number length. In long headers 0xc0, or 0x80 if the
+    /// fixed bit is clear (RFC 9287). In short ones likewise 0x40 or 0, and 0x20 for the spin bit and 0x04 for the key
+    /// phase. In a version negotiation the whole byte, with 0x80.
     pub first: u8,
-    /// The version of QUIC. Short headers and version negotiations say none.
+    /// The version of QUIC. Short headers and version negotiations have none.
     pub version: u32,
     /// The receiver's id.
     pub dst_cid: I,
@@ -94,13 +94,13 @@ pub struct HeaderRef<'a, I> {
     pub src_cid: I,
     /// The token of an Initial packet.
     pub token: &'a [u8],
-    /// The packet's number as it is written, but of Retry and version negotiation.
+    /// The truncated packet number. Retry and version negotiation have none.
     pub number: &'a PacketNumber,
     /// How many bytes the length takes that Initial, Handshake and 0-RTT have, 2 or 4.
     pub length_len: usize,
 }
 
-/// Stores a shortest_varint header up to its number at the front, and answers where the number begins. The caller must ensure
+/// Stores a short header up to its number at the front, and answers where the number begins. The caller must ensure
 /// that the id has at most 20 bytes, and that there is room for it.
 #[inline(always)]
 pub fn store_short<I: StoredId>(out: &mut [u8], first: u8, dst_cid: I) -> usize
@@ -116,7 +116,7 @@ pub fn store_short<I: StoredId>(out: &mut [u8], first: u8, dst_cid: I) -> usize
     dst_cid.store(out, at)
 }
 
-// Stores an id behind its length.
+// Stores an id after its length.
 #[inline(always)]
 fn store_long_id<I: StoredId>(out: &mut [u8], at: usize, id: I) -> usize
     requires few { length (I.id id) ≤ 20 }
@@ -131,7 +131,7 @@ fn store_long_id<I: StoredId>(out: &mut [u8], at: usize, id: I) -> usize
     id.store(out, at)
 }
 
-/// Stores what each long header begins with, up to the end of the sender's id, at the front, and answers where it ends.
+/// Stores the beginning of a long header, up to the end of the sender's id, at the front, and answers where it ends.
 /// The caller must ensure that each id has at most 20 bytes, and that there is room for it.
 #[inline(always)]
 #[tactic(auto, unfolding(quic_base::specs::Number::bytes_of))]
@@ -158,8 +158,8 @@ pub fn store_long_start<I: StoredId>(
     store_long_id(out, at, src)
 }
 
-/// Stores a token behind its length, and answers where it ends. The caller must ensure that there is room for it, that
-/// it has fewer than 2^62 bytes, and where SHORT is true that it is empty or has 16 to 32.
+/// Stores a token after its length, and answers where it ends. The caller must ensure that there is room for it, that
+/// it has fewer than 2^62 bytes and, if SHORT is true, that it is empty or has 16 to 32.
 #[inline(always)]
 pub fn store_token<const SHORT: bool>(out: &mut [u8], at: usize, token: &[u8]) -> usize
     requires shortest_varint { SHORT ≡ true → IsShortToken token.now }
@@ -270,7 +270,7 @@ pub fn store_no_length(out: &mut [u8], at: usize, len: usize) -> usize
 }
 
 impl<I: StoredId> HeaderRef<'_, I> {
-    // The first byte of a header that isn't shortest_varint.
+    // The first byte of a header that isn't short.
     #[inline(always)]
     fn long_first(&self) -> u8
         requires long { IsLong self.now.kind }
@@ -284,7 +284,7 @@ impl<I: StoredId> HeaderRef<'_, I> {
         }
     }
 
-    // The version that a long header says.
+    // The version in a long header.
     #[inline(always)]
     fn said_version(&self) -> u32
         ensures { result ≡ version_said self.now }
@@ -318,7 +318,7 @@ impl<I: StoredId> HeaderRef<'_, I> {
         }
     }
 
-    /// Whether so many bytes have room for the head. That they have room for the longest ids is seen first.
+    /// Whether so many bytes have room for the header. Whether they have room for the longest ids is looked at first.
     #[inline(always)]
     #[tactic(auto, using(crate::proofs::Sizes::stored_within))]
     pub fn fits(&self, room: usize) -> bool
@@ -331,7 +331,7 @@ impl<I: StoredId> HeaderRef<'_, I> {
         self.encoded_len() <= room
     }
 
-    // Stores the token of an Initial header behind its length.
+    // Stores the token of an Initial header after its length.
     #[inline(always)]
     fn store_its_token<const SHORT_TOKEN: bool>(&self, out: &mut [u8], at: usize) -> usize
         requires shortest_varint { SHORT_TOKEN ≡ true → IsShortToken self.now.token.now }
@@ -348,7 +348,7 @@ impl<I: StoredId> HeaderRef<'_, I> {
         }
     }
 
-    // Stores what stands behind the ids and the token: a length that isn't said yet, and the number.
+    // Stores the fields after the ids and the token: zeros for the length, and the number.
     #[inline(always)]
     fn store_end(&self, out: &mut [u8], at: usize) -> usize
         requires known { (self.now.length_len ≡ 2) ⊎ (self.now.length_len ≡ 4) }
@@ -366,9 +366,9 @@ impl<I: StoredId> HeaderRef<'_, I> {
         store_number(out, at, *self.number)
     }
 
-    /// Stores a header that isn't shortest_varint at the front, and answers how many bytes it has. Its length, where it has one,
-    /// is 0, which `set_len` or `PartialEncode::finish` fill in. The caller must ensure that there is room for it, and
-    /// where SHORT_TOKEN is true that the token is empty or has 16 to 32 bytes.
+    /// Stores a header that isn't short at the front, and answers how many bytes it has. Its length, if it has one, is
+    /// 0, which `set_len` or `PartialEncode::finish` fill in. The caller must ensure that there is room for it and, if
+    /// SHORT_TOKEN is true, that the token is empty or has 16 to 32 bytes.
     #[inline(always)]
     pub fn store_long<const SHORT_TOKEN: bool>(&self, out: &mut [u8]) -> usize
         requires long { IsLong self.now.kind }
@@ -391,7 +391,7 @@ impl<I: StoredId> HeaderRef<'_, I> {
         self.store_end(out, at)
     }
 
-    /// Stores a header at the front, and answers how many bytes it has, likewise.
+    /// Stores a header of any kind in the same way.
     #[inline(always)]
     pub fn store<const SHORT_TOKEN: bool>(&self, out: &mut [u8]) -> usize
         requires storable { IsStorable I.id self.now }
@@ -433,8 +433,8 @@ fn var_len(n: u64) -> usize
 }
 
 /// Writes how many bytes a packet has from a place on, where its number begins, into the length before it, which has
-/// 2 or 4 bytes (RFC 9000, section 17.2). Answers false where it has another count of them, where there is no such
-/// place, or where what is to be counted doesn't fit: 2^14 or more, or 2^30 or more; then nothing changes.
+/// 2 or 4 bytes (RFC 9000, section 17.2). Answers false, and changes nothing, if the length is to have another size, if
+/// there is no such place, or if the count doesn't fit: 2^14 or more in 2 bytes, 2^30 or more in 4.
 pub fn set_len(packet: &mut [u8], place: usize, length_len: usize) -> bool
     ensures set { IsTrue result → packet.new ≡ with_len length_len place packet.old }
     ensures taken { IsTrue result ↔ TakesLen length_len place (length packet.old) }

@@ -271,9 +271,9 @@ initial_sealed seal key laws context i n payload packet rest sealed read =
       back = it.back ∙ sym same;
     }
 
--- ---- shortest_varint headers
+-- ---- short headers
 
--- the bits of a shortest_varint header's first byte
+-- the bits of a short header's first byte
 abbrev short_first : Bool → Bool → ℕ → ℕ
 short_first spin key_phase size = 64 + bit spin 32 + bit key_phase 4 + (size - 1)
 

@@ -1,4 +1,4 @@
-//! What a record holds by the types of its fields.
+//! The bounds that the types of a record's fields set.
 ghost use Rattle.std.specs.Prelude.{◌≤◌, IfSome, length};
 ghost use Rattle.std.specs.Net.Socket.{IsSocketAddrV4, IsSocketAddrV6};
 ghost use Rattle.quic_base.specs.Number.{AreBytes};
@@ -14,7 +14,7 @@ use quic_base::ids::{ConnectionId, MAX_CID_SIZE};
 use std::net::{SocketAddrV4, SocketAddrV6};
 
 impl TransportParameters {
-    /// The bounds that the types of the fields hold, as a fact of the record. It only reads.
+    /// Tells the prover that each field is within its type's bound. It changes nothing at run time.
     pub fn type_bounds(&self)
         ensures { IsTypedRecord self.now }
     {
@@ -27,7 +27,7 @@ impl TransportParameters {
 }
 
 impl PreferredAddress {
-    // The bounds that the types of the parts hold.
+    // The bounds that the types of the parts set.
     pub(crate) fn type_bounds(&self)
         ensures { IsTypedAddress self.now }
     {

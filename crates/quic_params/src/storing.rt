@@ -1,4 +1,4 @@
-//! A list of parameters, written at the front of a slice.
+//! Writes a list of parameters at the front of a slice.
 ghost use Rattle.std.specs.Prelude.{◌≡◌, ◌+◌, ◌<◌, ◌≤◌, ◌^◌, ◌++◌, length, take, drop, IfOk, IfErr, OnErr};
 ghost use Rattle.quic_base.specs.Varint.{shortest_varint};
 ghost use Rattle.quic_params.specs.Writing.{entry, written, written_for};
@@ -9,15 +9,15 @@ use crate::writing::write_header_by_parts;
 use bytes::BufMut;
 use std::alloc::AllocError;
 
-// No list that is written of a record has more bytes: 21 entries, each of at most 77.
+// The greatest size of a list that is written of a record: 21 entries, each of at most 77 bytes.
 const ROOM: usize = 21 * 77;
 
-// No entry of a record has more bytes than that, and what an entry begins with no more than these.
+// The greatest size of an entry of a record, and of the number and length that an entry begins with.
 const ENTRY_ROOM: usize = 77;
 
 const HEADER_ROOM: usize = 16;
 
-// Room for bytes that are written, which are the first `len` ones.
+// Room for bytes; the first `len` ones are written.
 #[derive(Drop)]
 struct Room<const N: usize> {
     bytes: [u8; N],
@@ -74,7 +74,7 @@ impl<const N: usize> Room<N> {
     }
 }
 
-// Stores bytes at the front of a slice. Where it has fewer, it is as it was, and the error is how many are needed.
+// Stores bytes at the front of a slice. If it is shorter, it doesn't change, and the error is how many are needed.
 fn store(dest: &mut [u8], bytes: &[u8]) -> Result<usize, usize>
     ensures count { IfOk result (λ n. n ≡ length bytes.now) }
     ensures front { IfOk result (λ n. dest.new ≡ bytes.now ++ drop n dest.old) }
@@ -103,9 +103,9 @@ impl TransportParameters {
         }
     }
 
-    /// Stores the bytes that `write` appends at the front of a slice, and answers how many they are; what stands
-    /// behind them stays (RFC 9000, section 18). Where the slice has fewer bytes, and only there, it is as it was,
-    /// and the error is how many are needed. It takes no memory.
+    /// Stores the bytes that `write` appends at the front of a slice, and answers how many they are (RFC 9000, section
+    /// 18); the bytes after them don't change. If the slice is shorter, and only then, nothing changes, and the error
+    /// is how many bytes are needed. It allocates no memory.
     pub fn write_into(&self, dest: &mut [u8]) -> Result<usize, usize>
         ensures count { IfOk result (λ n. n ≡ length (written self.now)) }
         ensures front { IfOk result (λ n. dest.new ≡ written self.now ++ drop n dest.old) }
@@ -130,9 +130,9 @@ impl TransportParameters {
         }
     }
 
-    /// Stores the bytes that `write_one` appends at the front of a slice, and answers how many they are; what stands
-    /// behind them stays (RFC 9000, section 18). Where the slice has fewer bytes, and only there, it is as it was,
-    /// and the error is how many are needed. It takes no memory.
+    /// Stores the bytes that `write_one` appends at the front of a slice, and answers how many they are (RFC 9000,
+    /// section 18); the bytes after them don't change. If the slice is shorter, and only then, nothing changes, and
+    /// the error is how many bytes are needed. It allocates no memory.
     pub fn write_one_into(&self, id: TransportParameterId, dest: &mut [u8]) -> Result<usize, usize>
         ensures count { IfOk result (λ n. n ≡ length (written_for self.now id)) }
         ensures front { IfOk result (λ n. dest.new ≡ written_for self.now id ++ drop n dest.old) }
@@ -148,7 +148,7 @@ impl TransportParameters {
     }
 }
 
-// Fills an empty room with what an entry begins with.
+// Fills an empty room with the number and length that an entry begins with.
 fn fill_header(number: u64, len: u64, room: &mut Room<HEADER_ROOM>)
     requires number { number < 2 ^ 62 }
     requires len { len < 2 ^ 62 }
@@ -161,9 +161,10 @@ fn fill_header(number: u64, len: u64, room: &mut Room<HEADER_ROOM>)
     }
 }
 
-/// Stores an entry in its least widths at the front of a slice, and answers how many bytes it has; what stands behind
-/// them stays (RFC 9000, section 18). The caller must ensure that the number and the length are below 2^62. Where the
-/// slice has fewer bytes, and only there, it is as it was, and the error is how many are needed. It takes no memory.
+/// Stores an entry in its least widths at the front of a slice, and answers how many bytes it has (RFC 9000, section
+/// 18); the bytes after them don't change. The caller must ensure that the number and the length are below 2^62. If
+/// the slice is shorter, and only then, nothing changes, and the error is how many bytes are needed. It allocates no
+/// memory.
 pub fn write_entry_into(number: u64, value: &[u8], dest: &mut [u8]) -> Result<usize, usize>
     requires number { number < 2 ^ 62 }
     requires len { length value.now < 2 ^ 62 }

@@ -1,4 +1,4 @@
-//! The limits and options that two endpoints tell each other while they shake hands (RFC 9000, section 7.4).
+//! The limits and options that endpoints declare in the handshake (RFC 9000, section 7.4).
 
 pub use crate::error::Error;
 pub use crate::order::WriteOrder;

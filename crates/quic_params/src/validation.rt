@@ -1,4 +1,4 @@
-//! Which records a side takes (RFC 9000, sections 7.4 and 18.2).
+//! Which records a side accepts (RFC 9000, sections 7.4 and 18.2).
 ghost use Rattle.std.specs.Prelude.{◌≡◌, ◌↔◌, IsTrue, IfSome, MatchResult};
 ghost use Rattle.quic_params.specs.Meaning.{IsValid};
 ghost use Rattle.quic_params.specs.Range.{IsRecordInRange, IsEncodableAddress, IsEncodableV4, IsEncodableV6};
@@ -10,7 +10,7 @@ use quic_base::ids::Side;
 use std::net::{SocketAddrV4, SocketAddrV6};
 
 impl TransportParameters {
-    // Whether a side takes the record: `IllegalValue` where it does not.
+    // Whether a side accepts the record: `IllegalValue` if it doesn't.
     pub(crate) fn check(&self, side: Side) -> Result<(), Error>
         ensures { MatchResult result (λ _. IsValid side self.now)
             (λ e. ¬ (IsValid side self.now) × (e ≡ Error.IllegalValue)) }
@@ -63,9 +63,9 @@ impl TransportParameters {
         }
     }
 
-    /// Whether a peer of this side reads back what is written of the record: the side takes it, and its
-    /// preferred address has an address, none that is unspecified with port 0, and neither a flow label
-    /// nor a scope, which are not written (RFC 9000, section 18.2). It takes no memory.
+    /// Whether this side reads the record back from what is written of it: the side accepts it, and its preferred
+    /// address has an address, none that is unspecified with port 0, and neither a flow label nor a scope, which are
+    /// not written (RFC 9000, section 18.2). It allocates no memory.
     pub fn in_range(&self, side: Side) -> bool
         ensures { IsTrue result ↔ IsRecordInRange side self.now }
     {

@@ -39,7 +39,7 @@ fn varint(bytes: &[u8]) -> Option<VarInt>
     }
 }
 
-// The number that the bytes encode in the shortest way.
+// The number of which the bytes are the shortest encoding.
 fn integer(bytes: &[u8]) -> Option<VarInt>
     ensures { MatchOption result ((n : ℕ) → n < 2 ^ 62 → bytes.now ≢ shortest_varint n)
         (λ n. (n < 2 ^ 62) × (bytes.now ≡ shortest_varint n)) }
@@ -54,7 +54,7 @@ fn integer(bytes: &[u8]) -> Option<VarInt>
 }
 
 impl TransportParameters {
-    // PutsParameter the value that the bytes are into its place.
+    // Puts the value that the bytes encode into its field.
     #[tactic(auto, using(crate::proofs::Values::values))]
     pub(crate) fn put(
         &mut self,
@@ -106,7 +106,7 @@ impl TransportParameters {
         Ok(())
     }
 
-    // PutsParameter the connection id that the bytes are into its place.
+    // Puts the connection id of these bytes into its field.
     #[inline(never)]
     fn put_cid(&mut self, id: TransportParameterId, bytes: &[u8])
         requires kind { (row id).kind ≡ Kind.Id }
@@ -117,7 +117,7 @@ impl TransportParameters {
     }
 }
 
-// Bytes16 bytes.
+// Sixteen bytes.
 fn token(bytes: &[u8]) -> Option<ResetToken>
     ensures { MatchOption result (length bytes.now ≢ 16) (λ t. (bytes.now ≡ t) × (length t ≡ 16)) }
 {
@@ -129,7 +129,7 @@ fn token(bytes: &[u8]) -> Option<ResetToken>
     Some(ResetToken::from(token))
 }
 
-// The address and port of IPv4, none where all is zero.
+// The address and port of IPv4, `None` if all is zero.
 #[tactic(auto, using(crate::proofs::Hosts::v4_hosts))]
 fn v4_of(ip: Ipv4Addr, port: u16) -> Option<SocketAddrV4>
     ensures { (i p : List ℕ) → IsOctets 4 (ipv4_octets ip) i → IsNumber 2 port p → IsV4 result (i ++ p) }
@@ -140,7 +140,7 @@ fn v4_of(ip: Ipv4Addr, port: u16) -> Option<SocketAddrV4>
     Some(SocketAddrV4::new(ip, port))
 }
 
-// Those of IPv6.
+// Those of IPv6, likewise.
 #[tactic(auto, using(crate::proofs::Hosts::v6_hosts))]
 fn v6_of(ip: Ipv6Addr, port: u16) -> Option<SocketAddrV6>
     ensures { (i p : List ℕ) → IsOctets 16 (ipv6_octets ip) i → IsNumber 2 port p → IsV6 result (i ++ p) }
@@ -164,7 +164,7 @@ fn take_token<B: Buf>(buf: &mut B) -> Option<ResetToken>
     Some(ResetToken::from(token))
 }
 
-// The fields of an address at the front, and how many bytes follow them.
+// The fields of a preferred address at the front, and how many bytes follow them.
 #[tactic(auto, using(crate::proofs::Addresses::fields))]
 fn fields_of(bytes: &[u8]) -> Option<(PreferredAddress, usize)>
     ensures some { IfSome result (λ x. (front rest : List ℕ) × (bytes.now ≡ front ++ rest) × AreAddressFields x.0 front
@@ -199,7 +199,7 @@ fn fields_of(bytes: &[u8]) -> Option<(PreferredAddress, usize)>
     Some((address, rest.len()))
 }
 
-// The address that the bytes are.
+// The preferred address that the bytes encode.
 #[tactic(auto, using(crate::proofs::Addresses::addresses))]
 fn address_of(bytes: &[u8]) -> Result<PreferredAddress, Error>
     ensures ok { IfOk result (λ a. IsAddress a bytes.now) }

@@ -1,4 +1,4 @@
-//! Laws of lists of runs, which no single call carries. The functions do nothing.
+//! Laws of lists of runs, which no single call states. The functions do nothing at run time.
 ghost use Rattle.std.specs.Prelude.{◌≡◌, ◌+◌, ◌<◌, ◌&&◌, ◌||◌, Bool, List, ℕ, false, length, nat_eq, not, slice_index_or};
 ghost use Rattle.std.specs.List.{list_any};
 ghost use Rattle.std.specs.declared.ops.Range.{Range};
@@ -20,8 +20,8 @@ pub fn runs()
         → i < length rs → member rs (slice_index_or rs i d).end ≡ false }
 {}
 
-/// What `add` and `subtract` leave is the union and the difference of the sets, whichever tests say
-/// what is in them.
+/// After `add` and `subtract` a set is the union and the difference of both sets, whichever functions decide what is in
+/// them.
 pub fn sums_and_differences()
     ensures union { (p q : ℕ → Bool) (rs ss ts : List (Range ℕ)) → IsRunsOf p rs → IsRunsOf q ss
         → IsRunsOf (in_sum rs ss) ts → IsRunsOf (λ y. p y || q y) ts }
@@ -29,7 +29,7 @@ pub fn sums_and_differences()
         → IsRunsOf (in_subtraction rs ss) ts → IsRunsOf (λ y. p y && not (q y)) ts }
 {}
 
-/// What `elts` gives are the members, each once, ascending.
+/// `elts` gives the numbers of the set, each once, ascending.
 pub fn elements()
     ensures ascending { (rs : List (Range ℕ)) → IsMaximalRuns rs → AscendFrom 0 (numbers_of rs) }
     ensures members { (rs : List (Range ℕ)) (y : ℕ)

@@ -1,5 +1,5 @@
-//! Finite sets of packet numbers, kept as ranges that ascend and never touch. Acknowledgements list
-//! such ranges (RFC 9000, section 19.3).
+//! Sets of packet numbers, kept as ascending ranges that never touch: `RangeSet` and `ArrayRangeSet`. An ACK lists such
+//! ranges (RFC 9000, section 19.3).
 #![tactic(auto)]
 
 pub mod laws;

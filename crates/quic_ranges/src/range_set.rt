@@ -1,4 +1,4 @@
-//! Two sets of numbers below 2^64 - 1. Each is seen as the list of its maximal runs.
+//! Two sets of numbers below 2^64 - 1. Contracts see each as the list of its maximal runs.
 mod array_range_set;
 mod run_vec;
 mod runs_iter;

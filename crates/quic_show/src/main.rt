@@ -23,7 +23,7 @@ fn main(rt: HostRuntime) -> ExitCode {
     })
 }
 
-// The mode that the arguments ask for. A word that is no text is a wrong argument.
+// The mode that the arguments ask for. A word that isn't UTF-8 is a wrong argument.
 fn asked_mode(rt: &HostRuntime) -> Result<Option<Mode>, AllocError> {
     let args = match env::args(rt) {
         Ok(args) => args,
@@ -45,7 +45,7 @@ fn show(rt: &HostRuntime, mode: Mode) -> u8 {
     report(rt, run(rt.alloc(), mode, &mut source, &mut sink))
 }
 
-// Says why a run ended early, and answers its exit status.
+// Prints why a run failed, and answers its exit status.
 fn report(rt: &HostRuntime, outcome: Result<bool, RunError>) -> u8
     ensures { result ≡ status_of outcome }
 {

@@ -1,4 +1,4 @@
-//! Tests of numbers, ids and error codes of the base.
+//! Tests of numbers, addresses, ids and tokens as bytes.
 #![tactic(auto)]
 
 #[cfg(test)]

@@ -1,4 +1,4 @@
-//! Tests of canonical payloads and of types that count in their shortest form alone.
+//! Tests of shortest payloads, and of the readers that refuse a frame type longer than its shortest encoding.
 #![tactic(auto)]
 
 #[cfg(test)]

@@ -15,7 +15,7 @@ pub fn status(outcome: &Result<bool, RunError>) -> u8
     }
 }
 
-/// What is said of a run that ended early.
+/// The message for a run that failed.
 pub fn message(error: RunError) -> &'static str
     ensures { result.now ≡ message_of error }
 {
@@ -33,7 +33,7 @@ pub fn wrong_arguments() -> u8
     2
 }
 
-/// What is said of a call with wrong arguments.
+/// The usage line.
 pub fn usage() -> &'static str
     ensures { result.now ≡ codes "usage: quic-show frames|strict|canon|datagram LEN|params client|server" }
 {

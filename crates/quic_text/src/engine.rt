@@ -1,4 +1,4 @@
-//! From all that a source gives to the text that a sink takes.
+//! Reads all that a source gives, and writes its text to a sink.
 ghost use Rattle.std.specs.Prelude.{◌≡◌, ◌++◌, ◌↔◌, ℕ, List, ◌||◌, true, false, IsTrue, IfOk, OnOk, OnErr, IsErrOf, is_err, MatchResult};
 ghost use Rattle.quic_text.specs.Text.{text_of, is_clean};
 ghost use Rattle.quic_text.specs.Whole.{AppendsBeginning, WritesText, WritesBeginning};
@@ -18,10 +18,10 @@ pub enum RunError {
     /// A read failed. Nothing was written.
     #[error("read failed")]
     Read,
-    /// A write failed, or the last flush. A beginning of the text was written.
+    /// A write failed, or the last flush. A prefix of the text was written.
     #[error("write failed")]
     Write,
-    /// A growth was refused. A beginning of the text was written.
+    /// Memory ran out. A prefix of the text was written.
     #[error("out of memory")]
     OutOfMemory,
 }
@@ -42,7 +42,7 @@ impl From<Failed> for RunError {
     }
 }
 
-/// Writes the text of all that the source gives, and answers whether no `error` line stands in it.
+/// Writes the text of all that the source gives, and answers whether it has no `error` line.
 pub fn run<R: Source, W: Sink>(
     alloc: Global,
     mode: Mode,

@@ -1,4 +1,4 @@
-//! Laws of what is printed, which no single call carries. The functions do nothing.
+//! Laws of what is printed, which no single call states. The functions do nothing at run time.
 ghost use Rattle.std.specs.Prelude.{◌≡◌, ◌≢◌, ◌++◌, [], ◌∷◌, List, ℕ, Bool, true, false, None, Option, Result, map};
 ghost use Rattle.std.specs.List.{list_all};
 ghost use Rattle.hex.specs.Hex.{encode_lower};
@@ -26,8 +26,8 @@ use crate::mode::Mode;
 use quic_canon::laws as canonical;
 use quic_params::laws;
 
-/// Where a datagram is these packets, or these and then a refusal, `datagram` prints just their lines, with
-/// these places. Each datagram is so, in one way.
+/// If a datagram is these packets, or these and then an error, `datagram` prints exactly their lines, with these
+/// places. Each datagram is one or the other.
 pub fn packets_printed()
     ensures lines { (len : IdLen) (bytes : List ℕ) (packets : List PlacedPacket) (refusal : Option Refusal)
         → AreBytes bytes
@@ -38,8 +38,8 @@ pub fn packets_printed()
         × ArePackets (with_ids_of (count len)) 0 bytes packets refusal }
 {}
 
-/// Where a payload is these frames, or these and then something that is none, `frames` prints just their lines,
-/// with these places.
+/// If a payload is these frames, or these and then an invalid one, `frames` prints exactly their lines, with these
+/// places.
 pub fn frames_printed()
     ensures frames { (some : List frames.Placed) (bytes : List ℕ) → bytes ≢ [] → frames.ArePlaced false 0 some bytes
         → payload_lines Mode.Frames bytes ≡ map (λ p. item_line (frames.whole p)) some }
@@ -49,7 +49,7 @@ pub fn frames_printed()
         ++ item_line (Broken (invalid type reason)) ∷ [] }
 {}
 
-/// `strict` prints the same where a type counts in its shortest encoding alone.
+/// `strict` prints the same, but a type that is not in its shortest encoding is an error.
 pub fn strict_printed()
     ensures frames { (some : List frames.Placed) (bytes : List ℕ) → bytes ≢ [] → frames.ArePlaced true 0 some bytes
         → payload_lines Mode.Strict bytes ≡ map (λ p. item_line (frames.whole p)) some }
@@ -59,8 +59,8 @@ pub fn strict_printed()
         ++ item_line (Broken (invalid type reason)) ∷ [] }
 {}
 
-/// `canon` prints the digits of the least payload that means what a payload does, and the line of what is none
-/// where there is such a thing.
+/// `canon` prints the digits of the shortest payload with the same meaning, or the line of the error if the payload is
+/// invalid.
 pub fn canonical_printed()
     ensures least { (payload least : List ℕ) → IsLeast least payload
         → payload_lines Mode.Canon payload ≡ Plain (encode_lower least) ∷ [] }
@@ -75,7 +75,7 @@ pub fn canonical_printed()
     canonical::one_least();
 }
 
-/// What `params` prints of a list is what is printed for the answer that the grammar gives to it.
+/// `params` prints of a list the lines of the answer that the grammar gives to it.
 pub fn parameter_lines()
     ensures { (side : Side) (list : List ℕ) (answer : Result TransportParameters Error) → AreBytes list
         → IsReadAnswer side list answer

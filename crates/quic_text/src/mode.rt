@@ -11,13 +11,13 @@ use quic_base::ids::Side;
 pub enum Mode {
     /// The frames of a payload.
     Frames,
-    /// The same, where a type counts in its shortest encoding alone.
+    /// The same, but a type that is not in its shortest encoding is an error.
     Strict,
     /// The shortest payload of the same frames.
     Canon,
     /// The packets of a datagram, whose short headers have ids of this length.
     Datagram(IdLen),
-    /// The transport parameters that an endpoint of this side gets.
+    /// The transport parameters that an endpoint of this side receives.
     Params(Side),
 }
 
@@ -45,7 +45,7 @@ pub fn mode_of(words: &[&str]) -> Option<Mode>
     }
 }
 
-// The mode `datagram` with the length that the word says.
+// The mode `datagram` with the length in the word.
 fn datagram_mode(word: &str) -> Option<Mode>
     ensures frames { result ≢ Some Mode.Frames }
     ensures strict { result ≢ Some Mode.Strict }

@@ -1,4 +1,4 @@
-//! Text on its way to a sink: what is printed is held back, and passed on in pieces.
+//! Text on its way to a sink: it is buffered, and passed on in pieces.
 ghost use Rattle.std.specs.Prelude.{◌≡◌, ◌++◌, ◌||◌, [], OnOk, OnErr, is_err};
 ghost use Rattle.std.specs.String.{string_bytes};
 ghost use Rattle.quic_text.specs.Whole.{AppendsAllBut, AppendsBeginning};
@@ -8,7 +8,7 @@ use crate::transfer::{Failed, Sink};
 // How much is read at once, and from how much on text is passed on.
 pub(crate) const PIECE: usize = 16384;
 
-// Passes on the text that is held back, where it is as long as a piece.
+// Passes on the buffered text, if it is as long as a piece.
 pub(crate) fn pass_on_pieces<W: Sink>(text: &mut String, sink: &mut W) -> Result<(), Failed>
     ensures ok { OnOk result (AppendsAllBut (W.taken sink.old) (W.taken sink.new) (string_bytes text.new)
         (string_bytes text.old)) }

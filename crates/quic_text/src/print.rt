@@ -23,8 +23,8 @@ use frames::print_frames;
 use params::print_params;
 use std::alloc::{AllocError, Global};
 
-// Adds what is printed of a line of the input behind the text that is held back, of which pieces may be passed on.
-// The answer is whether none of it is an `error` line. The line's bytes are decoded into `bytes`, whatever that holds.
+// Appends the text of a line of the input to the buffered text, of which pieces may be passed on. Answers whether it
+// has no `error` line. The line's bytes are decoded into `bytes`, whose contents are overwritten.
 pub(crate) fn print_line<W: Sink>(
     alloc: Global,
     mode: Mode,
@@ -51,7 +51,7 @@ pub(crate) fn print_line<W: Sink>(
     }
 }
 
-// The bytes that a line encodes, if it encodes any. They are put in place of what the vector holds.
+// The bytes that a line encodes, if it is hexadecimal. They replace the vector's contents.
 fn decoded<'a>(line: &[u8], bytes: &'a mut Vec<u8>) -> Result<Option<&'a [u8]>, AllocError>
     ensures some { IfOk result (λ payload. IfSome payload (λ bytes. decode_of line.now ≡ Ok bytes.now)) }
     ensures none { IfOk result (λ payload. payload ≡ None → IsErr (decode_of line.now)) }

@@ -77,7 +77,7 @@ impl<'a> Iter<'a> {
     }
 
     /// The same frames, but that ACK_FREQUENCY and IMMEDIATE_ACK are of unknown types, as they are where the ACK
-    /// frequency extension wasn't negotiated. One that is broken within its fields is reported for that.
+    /// frequency extension wasn't negotiated. One with an invalid field is reported for that field instead.
     ///
     /// ```
     /// use quic_wire::frame::{Frame, Iter, Reason};

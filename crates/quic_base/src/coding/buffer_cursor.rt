@@ -6,7 +6,7 @@ use crate::coding::are_bytes;
 use bytes::{Buf, BytesMut};
 use std::marker::Model;
 
-/// A buffer and the place up to which it is read, as contracts see it too. Reading leaves its bytes.
+/// A buffer and the place up to which it is read, which contracts see too. Reading doesn't change its bytes.
 #[derive(Drop)]
 pub struct Cursor {
     buffer: BytesMut,
@@ -45,7 +45,7 @@ impl Cursor {
         self.place
     }
 
-    /// How many bytes are left.
+    /// How many bytes remain.
     #[inline]
     pub fn remaining(&self) -> usize
         ensures value { result ≡ length (unread self.now) }
@@ -55,7 +55,7 @@ impl Cursor {
         self.buffer.len() - self.place
     }
 
-    /// The bytes that are left.
+    /// The remaining bytes.
     #[inline]
     pub fn rest(&self) -> &[u8]
         ensures value { result.now ≡ unread self.now }
@@ -66,7 +66,7 @@ impl Cursor {
         rest
     }
 
-    /// Passes over the next `count` bytes. The caller must ensure that they are there.
+    /// Skips the next `count` bytes. The caller must ensure that there are so many.
     #[inline]
     pub fn advance(&mut self, count: usize)
         requires { count ≤ length (unread self.old) }
@@ -97,7 +97,7 @@ impl Cursor {
     }
 }
 
-/// What is left is read.
+/// The remaining bytes are what is read.
 impl Buf for Cursor {
     ghost use Rattle.quic_base.specs.Cursor.{unread};
 

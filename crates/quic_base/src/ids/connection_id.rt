@@ -61,7 +61,7 @@ impl ConnectionId {
         id
     }
 
-    /// Takes the next `len` bytes. The caller must ensure that they are there, and at most 20.
+    /// Takes the next `len` bytes. The caller must ensure that there are so many, and that they are at most 20.
     pub fn from_buf<B: Buf>(buf: &mut B, len: usize) -> ConnectionId
         requires short { len ≤ MAX_CID_SIZE }
         requires enough { len ≤ length (B.unread buf.old) }
@@ -80,8 +80,8 @@ impl ConnectionId {
     }
 
     /// Takes a byte of length and that many bytes (RFC 9000, section 17.2). Answers `None` exactly
-    /// where a byte is missing or the length is above 20; then the length byte is consumed where
-    /// there was one, and nothing else.
+    /// if a byte is missing or the length is above 20; then the length byte is consumed if there was one, and
+    /// nothing else.
     pub fn decode_long<B: Buf>(buf: &mut B) -> Option<ConnectionId>
         ensures some { MatchOption result ((id : List ℕ) → NoFront (IsLongId id) (B.unread buf.old))
             (λ id. Takes (IsLongId id) (B.unread buf.old) (B.unread buf.new)) }
@@ -98,9 +98,9 @@ impl ConnectionId {
         Some(ConnectionId::from_buf(buf, len))
     }
 
-    /// Appends a byte of length and the bytes (RFC 9000, section 17.2). Answers `NoRoom` only where
-    /// the buffer's spare room is less than that; then what stood there stands, followed by a
-    /// beginning of these bytes.
+    /// Appends a byte of length and the bytes (RFC 9000, section 17.2). Answers `NoRoom` only if
+    /// the buffer's spare room is less than that: the buffer then keeps its contents, and may have a
+    /// prefix of these bytes after them.
     pub fn encode_long<B: BufMut>(&self, buf: &mut B) -> Result<(), NoRoom>
         ensures encoded { IsLongId self.now (long_id self.now) }
         ensures ok { OnOk result (B.written buf.new ≡ B.written buf.old ++ long_id self.now) }
@@ -124,7 +124,7 @@ impl ConnectionId {
         &self.bytes[..self.len as usize]
     }
 
-    /// The bytes, and behind them as many zeros as make 20 bytes: an id of any length in one array.
+    /// The bytes, and then zeros up to 20 bytes: an id of any length in one array.
     pub fn padded(&self) -> &[u8; MAX_CID_SIZE]
         ensures value { result.now ≡ self.now ++ replicate (MAX_CID_SIZE - length self.now) 0 }
         ensures short { length self.now ≤ MAX_CID_SIZE }
@@ -132,7 +132,7 @@ impl ConnectionId {
         &self.bytes
     }
 
-    /// The bytes, for writing. Once the borrow ends, the id is what was written through it.
+    /// The bytes, to be changed. Once the borrow ends, the id has the bytes that were written through it.
     pub fn as_mut_slice(&mut self) -> &mut [u8]
         ensures* writes_back { sem 𝓛 (LendsBytes self.entry result) }
         ensures value { result.now ≡ self.old }
@@ -140,12 +140,12 @@ impl ConnectionId {
         &mut self.bytes[..self.len as usize]
     }
 
-    /// Replaces the bytes by as many others. The caller must ensure that the lengths are equal.
+    /// Replaces the bytes with as many others. The caller must ensure that the lengths are equal.
     pub fn copy_from_slice(&mut self, bytes: &[u8])
         requires { length bytes.now ≡ length self.old }
         ensures { self.new ≡ bytes.now }
     {
-        // By this the bound on the length is known.
+        // This tells the prover the bound on the length.
         let _ = &self.len;
         *self = ConnectionId::new(bytes);
     }
@@ -185,7 +185,7 @@ fn copy_ends<const N: usize>(to: &mut [u8; MAX_CID_SIZE], bytes: &[u8])
     to[len - N..len].copy_from_slice(&bytes[len - N..]);
 }
 
-/// Equal exactly where the bytes are.
+/// Two ids are equal exactly if their bytes are.
 impl PartialEq for ConnectionId {
     ghost eq = { pointwise nat_eq };
 

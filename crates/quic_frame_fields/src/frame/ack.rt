@@ -21,13 +21,13 @@ pub struct Ack<'a> {
     ghost valid: { IsBlocks largest additional.now },
 }
 
-/// Why bytes are not the blocks of an acknowledgement, by whichever comes first.
+/// Why bytes are not the blocks of an acknowledgement: the first reason that a reader meets.
 #[derive(Clone, Copy, Debug, PartialEq, Eq, Error)]
 pub enum AckError {
     /// A number is missing or cut off.
     #[error("unexpected end")]
     UnexpectedEnd,
-    /// A block or a gap is larger than the numbers that are left.
+    /// A block or a gap would go below 0.
     #[error("malformed")]
     Malformed,
 }
@@ -35,8 +35,8 @@ pub enum AckError {
 impl<'a> Ack<'a> {
     ghost use Rattle.quic_frame_fields.specs.Acks.{parts_of, ranges_acked, ranges_left, fault_of};
 
-    /// An acknowledgement of its parts, of which numbers below 2^62 are asked. `blocks` is a first
-    /// block and any number of pairs of gap and block, and nothing else. It takes no memory.
+    /// An acknowledgement of these fields, whose numbers the caller must ensure to be below 2^62. `blocks` is a first
+    /// block and any number of pairs of gap and block, and nothing else. It allocates no memory.
     #[tactic(auto, using(crate::proofs::Blocks::acked))]
     pub fn from_parts(
         largest: u64,
@@ -64,7 +64,7 @@ impl<'a> Ack<'a> {
         }
     }
 
-    /// The same where the blocks are known to encode ranges below the greatest number.
+    /// The same if the caller knows that the blocks encode ranges below the greatest number.
     #[tactic(auto, using(crate::proofs::Blocks::read_again))]
     pub fn of_blocks(largest: u64, delay: u64, blocks: &'a [u8], ecn: Option<EcnCounts>) -> Self
         requires { (ranges : List (ℕ × ℕ)) × AreBlocks largest ranges blocks.now }
@@ -99,7 +99,7 @@ impl<'a> Ack<'a> {
         self.additional
     }
 
-    /// The counts of marked packets, where they were sent.
+    /// The counts of marked packets, if the frame has them.
     pub fn ecn(&self) -> Option<EcnCounts>
         ensures { result ≡ (parts_of self.now).ecn }
     {
@@ -107,7 +107,7 @@ impl<'a> Ack<'a> {
     }
 
     /// The ranges of acknowledged numbers, the greatest first: those that the blocks encode below the greatest
-    /// number (RFC 9000, section 19.3.1). It takes no memory.
+    /// number (RFC 9000, section 19.3.1). It allocates no memory.
     #[tactic(auto, using(crate::proofs::Blocks::acked))]
     pub fn iter(&self) -> AckIter<'a>
         ensures ranges { ranges_left result ≡ ranges_acked self.now }
@@ -145,7 +145,7 @@ const _: () = prove!(
     EcnCounts::ZERO.ect0 == 0 && EcnCounts::ZERO.ect1 == 0 && EcnCounts::ZERO.ce == 0
 );
 
-/// One more packet of a codepoint. The caller must ensure that its count is below 2^64 - 1.
+/// Counts one more packet of a codepoint. The caller must ensure that its count is below 2^64 - 1.
 impl AddAssign<EcnCodepoint> for EcnCounts {
     ghost use Rattle.quic_frame_fields.specs.Acks.{count_of, CountsOne};
     ghost use Rattle.std.specs.Prelude.{◌<◌, ◌^◌, ◌+◌};

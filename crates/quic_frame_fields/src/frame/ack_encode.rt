@@ -17,14 +17,14 @@ use quic_base::coding::NoRoom;
 use quic_ranges::range_set::{ArrayRangeSet, Iter, RangeSet};
 use std::ops::Range;
 
-// How many bytes the array has in which numbers are put together, so that the room is looked at once for many.
+// The size of the array in which numbers are collected, so that the room is tested once for many.
 const CHUNK: usize = 64;
 
 impl Ack<'_> {
     /// Appends an ACK of a set (RFC 9000, section 19.3). The caller must ensure that the set has a number, and
-    /// that its numbers, the delay and the counts are below 2^62. Answers `NoRoom` only where the spare
-    /// room is less than the frame; then what stood there stands, followed by a beginning of the frame.
-    /// It takes no memory.
+    /// that its numbers, the delay and the counts are below 2^62. Answers `NoRoom` only if the spare
+    /// room is less than the frame: the buffer then keeps its contents, and may have a prefix of the frame
+    /// after them. It allocates no memory.
     pub fn encode<B: BufMut>(
         delay: u64,
         ranges: &ArrayRangeSet,
@@ -42,7 +42,7 @@ impl Ack<'_> {
         encode_runs(delay, ranges.iter(), ranges.len(), ecn.copied(), out)
     }
 
-    /// Appends an ACK of a set that keeps its runs in a vector, with the conditions, the bytes and the refusal of
+    /// Appends an ACK of a set that keeps its runs in a vector, with the conditions, the bytes and the error of
     /// `Ack::encode`.
     pub fn encode_from<B: BufMut>(
         delay: u64,
@@ -98,7 +98,7 @@ fn type_of(ecn: Option<EcnCounts>) -> u64
     if ecn.is_some() { 0x03 } else { 0x02 }
 }
 
-// Appends what is held where two numbers more may have no room behind it, and answers where these go.
+// Appends the chunk's contents if two more numbers may not fit after them, and answers where these go.
 #[inline(always)]
 fn make_room<B: BufMut>(chunk: &[u8; CHUNK], at: usize, out: &mut B) -> Result<usize, NoRoom>
     requires { at ≤ CHUNK }
@@ -113,7 +113,7 @@ fn make_room<B: BufMut>(chunk: &[u8; CHUNK], at: usize, out: &mut B) -> Result<u
     Ok(0)
 }
 
-// Stores two numbers, one behind the other.
+// Stores two numbers, one after the other.
 #[inline(always)]
 fn store_two(chunk: &mut [u8; CHUNK], at: usize, gap: u64, len: u64) -> usize
     requires room { at + 16 ≤ CHUNK }
@@ -126,8 +126,9 @@ fn store_two(chunk: &mut [u8; CHUNK], at: usize, gap: u64, len: u64) -> usize
     write::store_number(chunk, at, len)
 }
 
-// Appends what is held, the front of the chunk, and the runs below another one, the greatest first: for each the
-// numbers between it and the one above it, less one, and its numbers, less one. They are put together in the chunk.
+// Appends the first bytes of the chunk, which hold numbers already, and then the runs below another one, the greatest
+// first: for each the count of numbers between it and the one above it, less one, and the count of its numbers, less
+// one. They are collected in the chunk.
 fn encode_below<B: BufMut>(
     chunk: &mut [u8; CHUNK],
     at: usize,
@@ -153,7 +154,7 @@ fn encode_below<B: BufMut>(
     write::bytes(out, &chunk[..at])
 }
 
-// Appends the counts, where they are given.
+// Appends the counts, if they are given.
 #[inline(always)]
 fn encode_counts<B: BufMut>(ecn: Option<EcnCounts>, out: &mut B) -> Result<(), NoRoom>
     requires { AreCounts ecn }
@@ -178,8 +179,8 @@ fn counts_len(ecn: Option<EcnCounts>) -> u128
     }
 }
 
-// The numbers in front of the blocks: the type, the greatest number, the delay, and how many ranges are
-// below the first, where it is known how many numbers the blocks are.
+// The numbers before the blocks: the type, the greatest number, the delay, and how many ranges are below the first,
+// from how many numbers the blocks are.
 #[inline(always)]
 pub(super) fn header_of(ack: &Ack<'_>, numbers: u64) -> [u64; 4]
     requires { numbers / 2 ≡ length (ranges_acked ack.now) - 1 }
@@ -188,8 +189,8 @@ pub(super) fn header_of(ack: &Ack<'_>, numbers: u64) -> [u64; 4]
     [type_of(ack.ecn()), ack.largest(), ack.delay(), numbers / 2]
 }
 
-/// Appends an acknowledgement that is held, whose numbers may have been encoded in any widths, as
-/// `Ack::encode` appends that of a set. It takes no memory.
+/// Appends an acknowledgement that was read, whose numbers may have been encoded in any widths, as `Ack::encode`
+/// appends that of a set. It allocates no memory.
 pub fn encode_ack<B: BufMut>(ack: &Ack<'_>, out: &mut B) -> Result<(), NoRoom>
     requires { IsAckInRange ack.now }
     ensures { (last : Bool) → Writes result (shortest_frame last (ack_meaning ack.now))

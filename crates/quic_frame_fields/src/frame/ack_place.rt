@@ -1,4 +1,4 @@
-//! Where the blocks of an ACK stand in the bytes of its frame (RFC 9000, section 19.3).
+//! Finds the blocks of an ACK in the bytes of its frame (RFC 9000, section 19.3).
 ghost use Rattle.std.specs.Prelude.{◌≡◌, ◌<◌, ◌^◌, ◌++◌, List, ℕ, Ok, IfOk, IfSome, OnSome, IsNone, IsErr};
 ghost use Rattle.quic_frame_fields.specs.AckPlace.{ack_at};
 ghost use Rattle.quic_frame_fields.specs.Reading.{Gives, IsBlocks};
@@ -6,16 +6,16 @@ ghost use Rattle.quic_frame_fields.specs.Reading.{Gives, IsBlocks};
 use super::fault::Fault;
 use super::field::{blocks, varint};
 
-/// The greatest number of the ACK that the bytes begin with, the bytes of its blocks, and what follows these.
-/// `None` just where the type is another one, a number up to there is missing or cut off, or a block or a gap
-/// is too large. Counts aren't read. It takes no memory.
+/// The greatest number of the ACK that the bytes begin with, the bytes of its blocks, and what follows these. `None`
+/// exactly if the type is another one, a number up to there is missing or cut off, or a block or a gap is too large.
+/// Counts aren't read. It allocates no memory.
 pub fn split_ack(bytes: &[u8]) -> Option<(u64, &[u8], &[u8])>
     ensures none { IsNone result → IsErr (ack_at bytes.now) }
     ensures gives { IfSome result (λ x. ack_at bytes.now ≡ Ok (x.0, x.1.now, x.2.now)) }
     ensures bound { IfSome result (λ x. x.0 < 2 ^ 62) }
     ensures valid { IfSome result (λ x. IsBlocks x.0 x.1.now) }
 
-    // The blocks stand before what follows, at the end of the bytes.
+    // The blocks are followed by the rest of the bytes.
     ensures stand { IfSome result (λ x. (front : List ℕ) × (bytes.now ≡ front ++ (x.1.now ++ x.2.now))) }
 {
     match read_ack(bytes) {
@@ -24,7 +24,7 @@ pub fn split_ack(bytes: &[u8]) -> Option<(u64, &[u8], &[u8])>
     }
 }
 
-// The same, or why none is read.
+// The same, or the reason why no ACK can be read.
 #[tactic(auto, unfolding(crate::specs::AckPlace::ack_at))]
 fn read_ack(bytes: &[u8]) -> Result<(u64, &[u8], &[u8]), Fault>
     ensures gives { Gives (λ x. (x.0, x.1.now, x.2.now)) result (ack_at bytes.now) }

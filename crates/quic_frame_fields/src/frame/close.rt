@@ -33,18 +33,18 @@ impl Close<'_> {
 pub struct ConnectionClose<'a> {
     /// The kind of error.
     pub error_code: Code,
-    /// The type of the frame that caused it, where one is known.
+    /// The type of the frame that caused it, if it is known.
     pub frame_type: Option<FrameType>,
-    /// What else is reported, which should be text.
+    /// The reason phrase, which should be text.
     pub reason: &'a [u8],
 }
 
 /// The application closes the connection.
 #[derive(Clone, Copy, Debug, PartialEq, Eq)]
 pub struct ApplicationClose<'a> {
-    /// A code of the application.
+    /// The application's error code.
     pub error_code: VarInt,
-    /// What else is reported, which should be text.
+    /// The reason phrase, which should be text.
     pub reason: &'a [u8],
 }
 
@@ -102,7 +102,7 @@ impl<'a> From<&'a Error> for Close<'a> {
     }
 }
 
-/// The text of the code, and the reason where there is one. What is no UTF-8 is shown as U+FFFD.
+/// The text of the code, and the reason if there is one. Bytes that are not UTF-8 are shown as U+FFFD.
 impl fmt::Display for ConnectionClose<'_> {
     ghost output = { λ c. Some (connection_close_text c) };
 
@@ -116,7 +116,7 @@ impl fmt::Display for ConnectionClose<'_> {
     }
 }
 
-/// The reason and the code, or the code alone. What is no UTF-8 is shown as U+FFFD.
+/// The reason and the code, or the code alone. Bytes that are not UTF-8 are shown as U+FFFD.
 impl fmt::Display for ApplicationClose<'_> {
     ghost output = { λ c. Some (application_close_text c) };
 

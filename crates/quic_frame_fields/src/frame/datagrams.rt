@@ -1,4 +1,4 @@
-//! DATAGRAM frames, written (RFC 9221, section 4).
+//! Writes DATAGRAM frames (RFC 9221, section 4).
 ghost use Rattle.std.specs.Prelude.{◌≡◌, ◌<◌, ◌≤◌, ◌+◌, ◌^◌, ◌++◌, length, not, true, IsOk, OnOk, OnErr, vec_len, vec_capacity};
 ghost use Rattle.quic_frame_fields.specs.Parts.{datagram_meaning};
 ghost use Rattle.quic_frame_fields.specs.Shortest.{shortest_frame};
@@ -7,10 +7,10 @@ use super::{Datagram, write};
 use quic_base::coding::NoRoom;
 
 impl Datagram<'_> {
-    /// Appends the frame, with the length of its data where `with_length` is set; without it the frame has to
-    /// be the last of its payload. One growth of at most `size` bytes is made, and where that is
-    /// refused `out` is as it was. It can't be where there is spare room for the frame. The caller must ensure
-    /// that the data is below 2^62 bytes where its length is written.
+    /// Appends the frame, with the length of its data if `with_length` is set; without it the frame must be the last
+    /// of its payload. It reserves room for `size` bytes at once, which can't fail if there is spare room for them.
+    /// Answers `NoRoom` if that fails; `out` then doesn't change. The caller must ensure that the data is below
+    /// 2^62 bytes if its length is written.
     #[tactic(auto, using(crate::proofs::Encoding::datagram_counted))]
     pub fn encode(&self, with_length: bool, out: &mut Vec<u8>) -> Result<(), NoRoom>
         requires { with_length ≡ true → length self.now.bytes.now < 2 ^ 62 }
@@ -29,8 +29,8 @@ impl Datagram<'_> {
         }
     }
 
-    /// How many bytes `encode` appends. The caller must ensure that the data is below 2^62 bytes where its
-    /// length is written.
+    /// How many bytes `encode` appends. The caller must ensure that the data is below 2^62 bytes if its length is
+    /// written.
     #[tactic(auto, using(crate::proofs::Encoding::datagram_counted_length, crate::proofs::Encoding::datagram_open_length))]
     pub fn size(&self, with_length: bool) -> usize
         requires { with_length ≡ true → length self.now.bytes.now < 2 ^ 62 }

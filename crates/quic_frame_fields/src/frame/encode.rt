@@ -1,4 +1,4 @@
-//! Frames, written in their shortest form (RFC 9000, section 19).
+//! Writes frames in their shortest form (RFC 9000, section 19).
 ghost use Rattle.std.specs.Prelude.{◌≡◌, ◌<◌, ◌≤◌, ◌^◌, ◌++◌, max, ◌∷◌, [], ℕ, List, length, take, Bool};
 ghost use Rattle.quic_base.specs.Varint.{size};
 ghost use Rattle.quic_frame_fields.specs.Parts.{application_close, connection_close, crypto_meaning, frequency_meaning, new_id_meaning, reset_meaning, stop_meaning, token_meaning};
@@ -17,8 +17,8 @@ use quic_base::coding::NoRoom;
 use quic_base::varint::VarInt;
 
 impl ResetStream {
-    /// Appends the frame. Answers `NoRoom` only where the spare room is less than that; then what stood
-    /// there stands, followed by a beginning of the frame.
+    /// Appends the frame. Answers `NoRoom` only if the spare room is less than that: the buffer then keeps its
+    /// contents, and may have a prefix of the frame after them.
     #[tactic(auto, unfolding(crate::specs::Shortest::shortest_frame))]
     pub fn encode<B: BufMut>(&self, out: &mut B) -> Result<(), NoRoom>
         ensures { (last : Bool) → Writes result (shortest_frame last (reset_meaning self.now))
@@ -146,7 +146,7 @@ impl NewConnectionId {
     }
 }
 
-// The code's size where it is above two, and two bytes where not.
+// The size of the code, but at least two bytes.
 #[tactic(auto, using(crate::proofs::Encoding::size_small))]
 fn code_room(code: VarInt) -> usize
     ensures value { result ≡ max 2 (size code) }
@@ -155,7 +155,7 @@ fn code_room(code: VarInt) -> usize
     code.size().max(2)
 }
 
-/// The number of a frame's type, 0 where there is none.
+/// The number of a frame's type, 0 if there is none.
 pub fn type_or_zero(ty: Option<FrameType>) -> u64
     ensures value { result ≡ type_or_zero ty }
     ensures bound { result < 2 ^ 62 }
@@ -176,7 +176,7 @@ fn cut(reason: &[u8], room: usize) -> &[u8]
 }
 
 impl ConnectionClose<'_> {
-    /// The least room that `encode` asks for. The caller must ensure that the reason's length is below 2^62.
+    /// The least `max_len` that `encode` accepts. The caller must ensure that the reason's length is below 2^62.
     pub fn min_len(&self) -> usize
         requires { length self.now.reason.now < 2 ^ 62 }
         ensures { result ≡ least_room (closes.Connection self.now) }
@@ -217,7 +217,7 @@ impl ConnectionClose<'_> {
 }
 
 impl ApplicationClose<'_> {
-    /// The least room that `encode` asks for. The caller must ensure that the reason's length is below 2^62.
+    /// The least `max_len` that `encode` accepts. The caller must ensure that the reason's length is below 2^62.
     pub fn min_len(&self) -> usize
         requires { length self.now.reason.now < 2 ^ 62 }
         ensures { result ≡ least_room (closes.Application self.now) }
@@ -252,7 +252,7 @@ impl ApplicationClose<'_> {
 }
 
 impl Close<'_> {
-    /// The least room that `encode` asks for. The caller must ensure that the reason's length is below 2^62.
+    /// The least `max_len` that `encode` accepts. The caller must ensure that the reason's length is below 2^62.
     pub fn min_len(&self) -> usize
         requires { length (close_reason self.now) < 2 ^ 62 }
         ensures { result ≡ least_room self.now }

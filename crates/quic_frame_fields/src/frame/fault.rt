@@ -4,13 +4,13 @@ ghost use Rattle.std.specs.Prelude.{◌≡◌};
 /// Why a frame could not be read.
 #[derive(Clone, Copy, Debug, PartialEq, Eq)]
 pub enum Fault {
-    /// A field, or the type, passes the end of the payload.
+    /// A field, or the type, goes beyond the end of the payload.
     UnexpectedEnd,
     /// No frame has this type.
     InvalidFrameId,
-    /// A field has a value that it may not have.
+    /// A field has a forbidden value.
     Malformed,
-    /// The type is not in its shortest encoding, where only that counts.
+    /// The type is not in its shortest encoding, where it must be.
     LongType,
 }
 

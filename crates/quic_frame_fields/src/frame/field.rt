@@ -22,7 +22,7 @@ pub fn varint(bytes: &[u8]) -> Result<(u64, &[u8]), Fault>
     }
 }
 
-// The same, where most have one width, read where the call stands.
+// The same, inlined into the caller, for fields of which most have one width.
 #[inline(always)]
 #[tactic(auto, using(crate::proofs::Varints::slices))]
 fn varint_inline(bytes: &[u8]) -> Result<(u64, &[u8]), Fault>
@@ -35,7 +35,7 @@ fn varint_inline(bytes: &[u8]) -> Result<(u64, &[u8]), Fault>
     }
 }
 
-/// The same, made for numbers of which most have one byte.
+/// The same, for numbers of which most have one byte.
 #[inline(always)]
 #[tactic(auto, using(crate::proofs::Gaps::one_at))]
 pub fn varint_mostly_one_byte(bytes: &[u8]) -> Result<(u64, &[u8]), Fault>
@@ -64,7 +64,7 @@ fn block(greatest: u64, bytes: &[u8]) -> Result<(u64, &[u8]), Fault>
     Ok((greatest - n, rest))
 }
 
-// The same, read where the call stands, whatever width its number has.
+// The same, inlined into the caller, whatever width its number has.
 #[inline(always)]
 #[tactic(auto, unfolding(crate::specs::Reading::block_at))]
 fn near_block(greatest: u64, bytes: &[u8]) -> Result<(u64, &[u8]), Fault>
@@ -92,7 +92,7 @@ fn gap(low: u64, bytes: &[u8]) -> Result<(u64, &[u8]), Fault>
     Ok((low - 2 - n, rest))
 }
 
-// The two numbers at the front, where each has one byte, and what follows them: most blocks and gaps of an ACK.
+// The two numbers at the front, if each has one byte, as most blocks and gaps of an ACK have, and what follows them.
 #[inline(always)]
 fn two_short(bytes: &[u8]) -> Option<(u64, u64, &[u8])>
     ensures { IfSome result (λ x. (bytes.now ≡ x.0 ∷ x.1 ∷ x.2.now) × (x.0 < 64) × (x.1 < 64)) }
@@ -148,7 +148,7 @@ fn sum_of(word: u64) -> u64
     pairs.wrapping_mul(0x0001_0001_0001_0001) >> 48
 }
 
-// How many whole ranges whose numbers have one byte each stand at the front of eight bytes, and how many packet numbers
+// How many whole ranges whose numbers have one byte each are at the front of eight bytes, and how many packet numbers
 // they span, with the gaps above them. A byte of 64 or more begins a longer number.
 #[inline(always)]
 fn short_ranges(front: &[u8; 8]) -> (u64, u64)
@@ -167,8 +167,8 @@ fn short_ranges(front: &[u8; 8]) -> (u64, u64)
     (ranges, sum_of(short) + 2 * ranges)
 }
 
-// Passes ranges whose numbers have one byte each, four at a time, and then those before a longer number: how many are
-// left to read, the least number of the last one that was passed, and what follows it.
+// Skips ranges whose numbers have one byte each, four at a time, and then those before a longer number: how many ranges
+// remain, the least number of the last one that was skipped, and what follows it.
 #[inline(always)]
 fn pass_short(count: u64, low: u64, bytes: &[u8]) -> (u64, u64, &[u8])
     ensures fewer { result.0 ≤ count }
@@ -196,9 +196,9 @@ fn pass_short(count: u64, low: u64, bytes: &[u8]) -> (u64, u64, &[u8])
 }
 
 // The least number of the range at the front, below a range that begins at `low`, and how many bytes it takes: sixteen
-// hold its two numbers, whatever their widths. `None` where both numbers have one byte, as those behind them may have,
-// and where they are more than `low`. Widths are reported by branches: in a run of one width the next place is
-// foretold.
+// hold its two numbers, whatever their widths. `None` if both numbers have one byte, as those after them may have, and
+// if the range would go below 0. Widths are found by branches: in a run of one width the processor
+// predicts the next place.
 #[inline(always)]
 fn wide_front(low: u64, front: &[u8; 16]) -> Option<(u64, usize)>
     ensures within { IfSome result (λ x. x.1 ≤ 16) }
@@ -221,8 +221,8 @@ fn wide_front(low: u64, front: &[u8; 16]) -> Option<(u64, usize)>
     Some((low - all, 16 - rest.len()))
 }
 
-// Passes ranges of which a number is longer than one byte, one after the other, up to one of two short numbers: how
-// many are left to read, and so on, as `pass_short`. The last three, and those in the last fifteen bytes, are left too.
+// Skips ranges of which a number is longer than one byte, one after the other, up to one of two short numbers, and
+// answers what `pass_short` does. The last three, and those in the last fifteen bytes, aren't skipped either.
 #[inline(always)]
 fn pass_wide(count: u64, low: u64, bytes: &[u8]) -> (u64, u64, &[u8])
     ensures fewer { result.0 ≤ count }
@@ -245,8 +245,8 @@ fn pass_wide(count: u64, low: u64, bytes: &[u8]) -> (u64, u64, &[u8])
     (left, low, rest)
 }
 
-// What follows so many ranges below `low`: short ones are passed at once, then wide ones in a row, and what ended both
-// is read by itself. Each range takes bytes, so a count beyond those ends soon.
+// What follows so many ranges below `low`: short ones are skipped together, then wide ones in a row, and the range that
+// ended both is read by itself. Each range takes bytes, so a count that is too large ends soon.
 fn each_below(count: u64, low: u64, bytes: &[u8]) -> Result<&[u8], Fault>
     ensures { Gives (λ x. x.now) result (below_at count low bytes.now) }
 {
@@ -266,8 +266,8 @@ fn each_below(count: u64, low: u64, bytes: &[u8]) -> Result<&[u8], Fault>
     }
 }
 
-/// The ranges of an ACK: the bytes of their blocks and gaps, behind the count of those below the first;
-/// and what follows them.
+/// The ranges of an ACK: the bytes of their blocks and gaps, after the count of those below the first; and what follows
+/// them.
 #[inline(always)]
 #[tactic(auto, unfolding(crate::specs::Reading::blocks_at, crate::specs::Reading::after_blocks))]
 pub fn blocks(greatest: u64, bytes: &[u8]) -> Result<(&[u8], &[u8]), Fault>
@@ -281,7 +281,7 @@ pub fn blocks(greatest: u64, bytes: &[u8]) -> Result<(&[u8], &[u8]), Fault>
     Ok(bytes.split_at(bytes.len() - rest.len()))
 }
 
-// Whether the bytes are a first block and any number of pairs of gap and block, and nothing else.
+// Whether the bytes are exactly a first block and any number of pairs of gap and block.
 pub(super) fn all_blocks(greatest: u64, bytes: &[u8]) -> Result<(), Fault>
     ensures ok { OnOk result (IsBlocks greatest bytes.now) }
     ensures err { IfErr result (λ e. AreNoBlocks greatest bytes.now e
@@ -297,8 +297,8 @@ pub(super) fn all_blocks(greatest: u64, bytes: &[u8]) -> Result<(), Fault>
     Ok(())
 }
 
-// The least number of the first range of blocks, the greatest of the next one, and the blocks of
-// that one and those below it, where there are any.
+// The least number of the first range of blocks, and, if there are more, the greatest number of the next range, and the
+// blocks of that one and those below it.
 #[inline(always)]
 pub(super) fn first_range(greatest: u64, blocks: &[u8]) -> (u64, u64, &[u8])
     requires some { 0 < length blocks.now }
@@ -334,8 +334,8 @@ fn wide_range(greatest: u64, blocks: &[u8]) -> (u64, u64, &[u8])
     (least, next, others)
 }
 
-// The same of bytes of which nothing is known, or why no range stands first. A gap and a block of one byte each, as
-// most are, are read where the call stands.
+// The same of any bytes, or the reason why they don't begin with a range. Reading a gap and a block of one byte each,
+// as most are, is inlined into the caller.
 #[inline(always)]
 pub(super) fn checked_range(greatest: u64, blocks: &[u8]) -> Result<(u64, u64, &[u8]), Fault>
     ensures gives { Gives (λ x. (x.0, x.1, x.2.now)) result (first_range_at greatest blocks.now) }

@@ -1,4 +1,4 @@
-//! The first range of an acknowledgement in bytes of which nothing is known (RFC 9000, section 19.3.1).
+//! Reads the first range of an acknowledgement from any bytes (RFC 9000, section 19.3.1).
 ghost use Rattle.std.specs.Prelude.{◌≡◌, ◌⊎◌, ◌-◌, ◌<◌, ◌≤◌, [], ◌∷◌, Ok, Err, IfErr, IfOk, OnErr, MatchResult, length, drop};
 ghost use Rattle.quic_frame_fields.specs.Acks.{fault_of};
 ghost use Rattle.quic_frame_fields.specs.Reading.{IsBlocks, blocks_left, first_range_at, ranges_of};
@@ -8,26 +8,26 @@ use super::ack::AckError;
 use super::fault::Fault;
 use super::field;
 
-/// One step of `AckIter` over bytes of which nothing is known (RFC 9000, section 19.3.1): the least number
-/// of the range that `greatest` ends, the greatest number of the next range, and the blocks of that one and
-/// those below it. Where no byte is left, there is no next range, and its number is 0. Just the bytes are
-/// refused that no block begins, or that go on with no gap; what follows the gap isn't read. It takes no memory.
+/// One step of `AckIter` over any bytes (RFC 9000, section 19.3.1): the least number of the range that ends with
+/// `greatest`, the greatest number of the next range, and the blocks of that one and those below it. If no byte
+/// remains, there is no next range, and its number is 0. Bytes are refused exactly if they don't begin with a block, or
+/// if more follow it and these don't begin with a gap; what follows the gap isn't read. It allocates no memory.
 #[inline(always)]
 pub fn split_first_range(greatest: u64, blocks: &[u8]) -> Result<(u64, u64, &[u8]), AckError>
     ensures gives { MatchResult result (λ x. first_range_at greatest blocks.now ≡ Ok (x.0, x.1, x.2.now))
         (λ e. first_range_at greatest blocks.now ≡ Err (fault_of e)) }
     ensures least { IfOk result (λ x. x.0 ≤ greatest) }
 
-    // What is left is the end of the bytes, and shorter.
+    // The remaining bytes are the end of the given ones, and shorter.
     ensures shorter { IfOk result (λ x. length x.2.now < length blocks.now) }
     ensures left { IfOk result (λ x. drop (length blocks.now - length x.2.now) blocks.now ≡ x.2.now) }
 
-    // The ranges of blocks of an ACK are the first one and those of what is left, which are blocks too.
+    // The ranges of an ACK's blocks are the first one and those of the remaining bytes, which are blocks too.
     ensures first { IfOk result (λ x. IsBlocks greatest blocks.now
         → ranges_of greatest blocks.now ≡ (x.0, greatest) ∷ ranges_of x.1 x.2.now) }
     ensures valid { IfOk result (λ x. IsBlocks greatest blocks.now → blocks_left x.1 x.2.now ≡ Ok []) }
 
-    // What is refused is no blocks.
+    // Bytes that are refused are no blocks.
     ensures refused { IfErr result (λ e. AreNoBlocks greatest blocks.now (fault_of e)) }
     ensures taken { OnErr result (IsBlocks greatest blocks.now → ⊥) }
 {
@@ -37,7 +37,7 @@ pub fn split_first_range(greatest: u64, blocks: &[u8]) -> Result<(u64, u64, &[u8
     }
 }
 
-// What is reported of a number that is cut off or too large.
+// The error for a number that is cut off or too large.
 fn reported(fault: Fault) -> AckError
     requires { (fault ≡ Fault.UnexpectedEnd) ⊎ (fault ≡ Fault.Malformed) }
     ensures { fault_of result ≡ fault }

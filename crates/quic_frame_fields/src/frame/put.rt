@@ -1,4 +1,4 @@
-//! Numbers and bytes, written at the front of a slice.
+//! Writes numbers and bytes at the front of a slice.
 ghost use Rattle.std.specs.Prelude.{◌≡◌, ◌<◌, ◌≤◌, ◌+◌, ◌^◌, ◌++◌, ℕ, List, Bool, length, take, drop, IfSome};
 ghost use Rattle.quic_frame_fields.specs.Numbers.{AreNumeric, AreEncoded, shortest_varints};
 ghost use Rattle.quic_frame_fields.specs.Parts.{ack_meaning};
@@ -11,8 +11,8 @@ use super::write::{HEADER_ROOM, count_and_len, store_number, store_numbers};
 use super::{Ack, EcnCounts, FrameType, Stream, field};
 
 /// Stores at most five numbers in their shortest encodings at the front of the slice, and answers how many bytes they
-/// have. Where the slice has fewer, and only there, it is as it was, and the error is how many are needed. The room is
-/// looked at once.
+/// have. If the slice is shorter, and only then, it doesn't change, and the error is how many bytes are needed. The
+/// room is tested once.
 #[inline(always)]
 pub fn numbers(dest: &mut [u8], numbers: &[u64]) -> Result<usize, usize>
     requires few { length numbers.now ≤ 5 }
@@ -77,7 +77,7 @@ fn bytes(dest: &mut [u8], bytes: &[u8]) -> Result<usize, usize>
     Ok(store_bytes(dest, 0, bytes))
 }
 
-// Stores bytes at the front, and others behind them.
+// Stores bytes at the front, and others after them.
 fn two(dest: &mut [u8], front: &[u8], end: &[u8]) -> Result<usize, usize>
     ensures { Puts result (front.now ++ end.now) dest.old dest.new }
 {
@@ -89,7 +89,7 @@ fn two(dest: &mut [u8], front: &[u8], end: &[u8]) -> Result<usize, usize>
     Ok(store_bytes(dest, at, end))
 }
 
-// Stores bytes at the front, and others behind them, twice.
+// Stores bytes at the front, others after them, and others after these.
 fn three(dest: &mut [u8], front: &[u8], middle: &[u8], end: &[u8]) -> Result<usize, usize>
     requires front { length front.now ≤ 64 }
     requires end { length end.now ≤ 64 }
@@ -118,7 +118,7 @@ fn store_bytes(dest: &mut [u8], at: usize, bytes: &[u8]) -> usize
     end
 }
 
-/// Stores a STREAM without its data, and then these, in the same way. Their length is written where it is given. The
+/// Stores a STREAM without its data, and then these, in the same way. Their length is written if it is given. The
 /// caller must ensure that the offset and the length are below 2^62.
 pub fn stream(dest: &mut [u8], stream: &Stream<'_>, counted: Option<u64>) -> Result<usize, usize>
     requires offset { stream.now.offset < 2 ^ 62 }
@@ -142,8 +142,8 @@ pub fn stream(dest: &mut [u8], stream: &Stream<'_>, counted: Option<u64>) -> Res
     }
 }
 
-/// Stores an acknowledgement that is held, whose numbers may have been encoded in any widths, in its shortest encoding,
-/// in the same way. Blocks that are in their shortest encoding are copied.
+/// Stores an acknowledgement that was read, whose numbers may have been encoded in any widths, in its shortest
+/// encoding, in the same way. Blocks that are in their shortest encoding are copied.
 pub fn ack(dest: &mut [u8], ack: &Ack<'_>) -> Result<usize, usize>
     requires { IsAckInRange ack.now }
     ensures { (last : Bool) → Puts result (shortest_frame last (ack_meaning ack.now)) dest.old dest.new }
@@ -162,7 +162,7 @@ pub fn ack(dest: &mut [u8], ack: &Ack<'_>) -> Result<usize, usize>
     Ok(store_bytes(dest, at, &counts[..counts_len]))
 }
 
-// Stores the counts of an acknowledgement, where they are given, and answers where they end.
+// Stores the counts of an acknowledgement, if they are given, and answers where they end.
 fn store_counts(counts: &mut [u8; HEADER_ROOM], ecn: Option<EcnCounts>) -> usize
     requires { AreCounts ecn }
     ensures within { result ≤ HEADER_ROOM }
@@ -174,7 +174,7 @@ fn store_counts(counts: &mut [u8; HEADER_ROOM], ecn: Option<EcnCounts>) -> usize
     }
 }
 
-// Stores the numbers that the bytes encode, in their shortest encodings of so many bytes, over those at a place, and
+// Stores the numbers that the bytes encode, in their shortest encodings, which have so many bytes, at a place, and
 // answers where they end.
 fn store_shortened(dest: &mut [u8], at: usize, encoded: &[u8], len: usize) -> usize
     requires shortens { Shortens encoded.now len }

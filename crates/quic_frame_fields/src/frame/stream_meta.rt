@@ -1,4 +1,4 @@
-//! STREAM frames, whose data the writer appends by itself (RFC 9000, section 19.8).
+//! STREAM frames whose data the caller appends (RFC 9000, section 19.8).
 ghost use Rattle.std.specs.Prelude.{◌≡◌, ◌≤◌, ◌<◌, ◌-◌, ◌^◌, ◌++◌, ℕ, List, length, Some, None, IfSome, true, false, if◌then◌else◌};
 ghost use Rattle.quic_frame_fields.specs.Shortest.{shortest_frame, stream_header};
 ghost use Rattle.quic_base.specs.Writing.{Writes};
@@ -15,16 +15,16 @@ use std::ops::Range;
 pub struct StreamMeta {
     /// The stream.
     pub id: StreamId,
-    /// Where in the stream the data stand.
+    /// The range of the data's offsets in the stream.
     pub offsets: Range<u64>,
-    /// Whether the stream ends with them.
+    /// Whether the stream ends with the data.
     pub fin: bool,
 }
 
-/// Several of them, of which one is held without memory.
+/// Several of them. One is kept inline, without an allocation.
 pub type StreamMetaVec = SmallVec<StreamMeta, 1>;
 
-/// No data of the client's first stream of both directions.
+/// No data, in the client's first bidirectional stream.
 impl Default for StreamMeta {
     ghost is_default = { λ meta. meta ≡ record { id = 0; offsets = record { start = 0; end = 0 }; fin = false } };
 
@@ -38,10 +38,10 @@ impl Default for StreamMeta {
 }
 
 impl StreamMeta {
-    /// Appends the frame up to its data, with the length of these where `with_length` is set. Answers `NoRoom`
-    /// only where the spare room is less than that; then what stood there stands, followed by a beginning
-    /// of it. The caller must ensure that the range isn't reversed, that it starts below 2^62, and that its
-    /// length is below 2^62 where it is written.
+    /// Appends the frame up to its data, with their length if `with_length` is set. Answers `NoRoom`
+    /// only if the spare room is less than that: the buffer then keeps its contents, and may have a prefix of
+    /// the frame after them. The caller must ensure that the range isn't reversed, that it starts below 2^62, and that
+    /// its length is below 2^62 where it is written.
     pub fn encode<B: BufMut>(&self, with_length: bool, out: &mut B) -> Result<(), NoRoom>
         requires ordered { self.now.offsets.start ≤ self.now.offsets.end }
         requires start { self.now.offsets.start < 2 ^ 62 }
@@ -57,8 +57,8 @@ impl StreamMeta {
     }
 }
 
-/// A STREAM up to its data, whose length is written where it is given. The caller must ensure that the numbers
-/// are below 2^62. Answers `NoRoom` as `StreamMeta::encode` does.
+/// Appends a STREAM up to its data, whose length is written if it is given. The caller must ensure that the numbers are
+/// below 2^62. Answers `NoRoom` as `StreamMeta::encode` does.
 pub fn encode_header<B: BufMut>(
     out: &mut B,
     id: StreamId,

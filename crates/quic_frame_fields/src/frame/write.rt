@@ -1,4 +1,4 @@
-//! Numbers and bytes, appended to a buffer.
+//! Appends numbers and bytes to a buffer.
 ghost use Rattle.std.specs.Prelude.{◌≡◌, ◌<◌, ◌≤◌, ◌+◌, ◌*◌, ◌^◌, ◌++◌, ℕ, List, take, length, get_or, IsOk, OnOk, OnErr, vec_len, vec_capacity};
 ghost use Rattle.quic_base.specs.ConnectionId.{long_id};
 ghost use Rattle.quic_base.specs.Varint.{shortest_varint, size};
@@ -12,7 +12,7 @@ use quic_base::coding::{BufMutExt, NoRoom, store_array};
 use quic_base::ids::ConnectionId;
 use quic_base::varint::VarInt;
 
-// How many bytes the array has that numbers are written into: five of them, each by a store of eight bytes at most.
+// The size of the array that numbers are written into: five of them, each by a store of at most eight bytes.
 pub(super) const HEADER_ROOM: usize = 40;
 
 // Stores a number in its shortest encoding at a place, and answers where it ends.
@@ -37,7 +37,7 @@ pub(super) fn store_number(head: &mut [u8], at: usize, n: u64) -> usize
     }
 }
 
-// Stores numbers, one behind the other, and answers where they end.
+// Stores numbers, one after the other, and answers where they end.
 #[inline(always)]
 pub(super) fn store_numbers(head: &mut [u8], numbers: &[u64]) -> usize
     requires room { 8 * length numbers.now ≤ length head.old }
@@ -53,9 +53,9 @@ pub(super) fn store_numbers(head: &mut [u8], numbers: &[u64]) -> usize
     at
 }
 
-/// Appends at most five numbers in their shortest encodings, which are put together first, so that the room is
-/// looked at once. Answers `NoRoom` only where the spare room is less than those; then what stood there stands,
-/// followed by a beginning of them.
+/// Appends at most five numbers in their shortest encodings, which are collected first, so that the room is
+/// tested once. Answers `NoRoom` only if the spare room is less than those: the buffer then keeps its contents, and
+/// may have a prefix of the encodings after them.
 #[inline(always)]
 pub fn numbers<B: BufMut>(out: &mut B, numbers: &[u64]) -> Result<(), NoRoom>
     requires few { length numbers.now ≤ 5 }
@@ -89,7 +89,7 @@ pub fn numbers_and_bytes<B: BufMut>(out: &mut B, head: &[u64], tail: &[u8]) -> R
     bytes(out, tail)
 }
 
-/// Appends an id behind its length, and bytes, in the same way.
+/// Appends an id after its length, and bytes, in the same way.
 pub fn id_and_bytes<B: BufMut>(out: &mut B, id: &ConnectionId, tail: &[u8]) -> Result<(), NoRoom>
     ensures { Writes result (long_id id.now ++ tail.now) (B.written out.old) (B.spare out.old) (B.written out.new)
         (B.spare out.new) }
@@ -110,7 +110,7 @@ pub fn size_of(n: u64) -> usize
 }
 
 /// Appends the numbers that the bytes encode, in their shortest encodings, in the same way. The caller must know how
-/// many bytes these have: where the bytes are as many, they are the shortest, and go as they are.
+/// many bytes these have: if the given bytes are as many, they are the shortest already, and are copied.
 pub fn shortened<B: BufMut>(out: &mut B, encoded: &[u8], len: u64) -> Result<(), NoRoom>
     requires { (ns : List ℕ) → AreEncoded ns encoded.now → len ≡ length (shortest_varints ns) }
     ensures { (ns : List ℕ) → AreEncoded ns encoded.now
@@ -136,7 +136,7 @@ fn each_shortened<B: BufMut>(out: &mut B, encoded: &[u8]) -> Result<(), NoRoom>
     Ok(())
 }
 
-// How many bytes at the front are below 64, and so a number of one byte each.
+// How many bytes at the front are below 64: each of them is a number of one byte.
 fn ones(bytes: &[u8]) -> usize
     ensures within { result ≤ length bytes.now }
     ensures ones { (i : ℕ) → i < result → get_or bytes.now i 0 < 64 }
@@ -194,8 +194,8 @@ pub fn numbers_and_bytes_len(head: &[u64], tail: &[u8]) -> u128
     numbers_len(head) + tail.len() as u128
 }
 
-/// Appends numbers and then bytes to a vector. One growth of at most these bytes is made, and where that
-/// is refused `out` is as it was; it can't be where there is spare room for them.
+/// Appends numbers and then bytes to a vector. It reserves room for all of them at once, which can't fail if there is
+/// spare room for them. Answers `NoRoom` if that fails; `out` then doesn't change.
 pub fn append(out: &mut Vec<u8>, head: &[u64], tail: &[u8]) -> Result<(), NoRoom>
     requires few { length head.now ≤ 5 }
     requires numeric { AreNumeric head.now }

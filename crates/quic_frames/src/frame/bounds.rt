@@ -1,11 +1,11 @@
-//! What a frame holds by the types of its parts.
+//! The bounds that the types of a frame's fields set.
 ghost use Rattle.quic_frames.specs.InRange.{IsTypedFrame};
 
 use super::{Close, Frame};
 use quic_frame_fields::frame::encode::type_or_zero;
 
 impl Frame<'_> {
-    /// The bounds that the types of the frame's parts hold, as a fact of the frame. It does nothing.
+    /// Tells the prover that each number is within its type's bound. It does nothing at run time.
     pub fn type_bounds(&self)
         ensures { IsTypedFrame self.now }
     {

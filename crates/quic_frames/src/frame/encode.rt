@@ -24,8 +24,8 @@ use quic_frame_fields::frame::write;
 impl Frame<'_> {
     /// Appends the shortest encoding of the frame, which is the last of its payload or not: no offset 0
     /// of a STREAM, and no length of a STREAM or DATAGRAM where it is the last. Answers `NoRoom` only
-    /// where the spare room is less than that; then what stood there stands, followed by a beginning of
-    /// the encoding. It takes no memory of its own. The caller must ensure that the frame is in range, and that
+    /// if the spare room is less than that: the buffer then keeps its contents, and may have a prefix of the
+    /// encoding after them. It allocates no memory. The caller must ensure that the frame is in range, and that
     /// data whose length is written are below 2^62 bytes.
     #[tactic(auto, unfolding(quic_frame_fields::specs::Shortest::shortest_frame))]
     pub fn encode<B: BufMut>(&self, last: bool, out: &mut B) -> Result<(), NoRoom>
@@ -68,7 +68,7 @@ impl Frame<'_> {
         }
     }
 
-    /// How many bytes `encode` appends, which asks for the same. It takes no memory.
+    /// How many bytes `encode` appends, under the same conditions. It allocates no memory.
     #[inline(always)]
     #[tactic(auto, unfolding(quic_frame_fields::specs::Shortest::shortest_frame), using(crate::proofs::Encoding::crypto_parts))]
     pub fn encoded_len(&self, last: bool) -> u128
@@ -185,7 +185,7 @@ fn stream_len(stream: &Stream<'_>, last: bool) -> u128
     head as u128 + length as u128
 }
 
-// The size of a number, where it isn't left out.
+// The size of a number, 0 if it is left out.
 fn size_unless(is_left_out: bool, n: u64) -> usize
     requires { is_left_out ≡ false → n < 2 ^ 62 }
     ensures value { result ≡ (if is_left_out then 0 else size n) }

@@ -1,4 +1,4 @@
-//! The other fields of frames, read from the front of a slice.
+//! Fields of frames, other than ACK blocks, read from the front of a slice.
 ghost use Rattle.std.specs.Prelude.{◌≡◌, ◌<◌, ◌≤◌, ◌^◌, List, [], ◌∷◌, length, IfOk};
 ghost use Rattle.quic_frame_fields.specs.Reading.{Gives, varint_at, bytes_at, counted_at, id_at, eight_at, field_at};
 ghost use Rattle.quic_frame_fields.specs.Field.{Value, Number, Bytes};
@@ -23,8 +23,8 @@ fn bytes_of(n: u64, bytes: &[u8]) -> Result<(&[u8], &[u8]), Fault>
     Ok(bytes.split_at(n as usize))
 }
 
-/// A number of any width, and what follows it, made for numbers of which nearly all have one byte: such a one is read
-/// where the call stands.
+/// A number of any width, and what follows it, made for numbers of which nearly all have one byte: reading such a
+/// one is inlined into the caller.
 #[inline(always)]
 #[tactic(auto, using(quic_frame_fields::proofs::Gaps::one_at))]
 pub(super) fn varint_mostly_one_byte(bytes: &[u8]) -> Result<(u64, &[u8]), Fault>
@@ -40,7 +40,8 @@ pub(super) fn varint_mostly_one_byte(bytes: &[u8]) -> Result<(u64, &[u8]), Fault
     Ok((number, rest))
 }
 
-/// A number of any width, read where the call stands, as those of a STREAM are, since most frames are STREAMs.
+/// A number of any width. Reading it is inlined into the caller, as for the fields of a STREAM, since most frames are
+/// STREAMs.
 #[inline(always)]
 #[tactic(auto, using(quic_frame_fields::proofs::Varints::slices))]
 pub(super) fn varint_by_word(bytes: &[u8]) -> Result<(u64, &[u8]), Fault>
@@ -63,7 +64,7 @@ pub(super) fn counted(bytes: &[u8]) -> Result<(&[u8], &[u8]), Fault>
     bytes_of(n, rest)
 }
 
-// The same, read where the call stands.
+// The same, inlined into the caller.
 #[inline(always)]
 #[tactic(auto, unfolding(quic_frame_fields::specs::Reading::counted_at))]
 fn near_counted(bytes: &[u8]) -> Result<(&[u8], &[u8]), Fault>
@@ -73,7 +74,7 @@ fn near_counted(bytes: &[u8]) -> Result<(&[u8], &[u8]), Fault>
     bytes_of(n, rest)
 }
 
-/// The offset of a STREAM, 0 where it is left out, and what follows it.
+/// The offset of a STREAM, 0 if it is left out, and what follows it.
 #[inline(always)]
 pub(super) fn offset(is_written: bool, bytes: &[u8]) -> Result<(u64, &[u8]), Fault>
     ensures { (before : List Value)
@@ -86,7 +87,8 @@ pub(super) fn offset(is_written: bool, bytes: &[u8]) -> Result<(u64, &[u8]), Fau
     }
 }
 
-/// The data of a STREAM or a DATAGRAM, all that is left where their length is left out, and what follows them.
+/// The data of a STREAM or a DATAGRAM, and what follows them. If their length is left out, they are all remaining
+/// bytes.
 #[inline(always)]
 pub(super) fn data(is_counted: bool, bytes: &[u8]) -> Result<(&[u8], &[u8]), Fault>
     ensures { (before : List Value)
@@ -99,7 +101,7 @@ pub(super) fn data(is_counted: bool, bytes: &[u8]) -> Result<(&[u8], &[u8]), Fau
     }
 }
 
-/// The data of a STREAM, whose length is read where the call stands.
+/// The data of a STREAM. Reading their length is inlined into the caller.
 #[inline(always)]
 pub(super) fn near_data(is_counted: bool, bytes: &[u8]) -> Result<(&[u8], &[u8]), Fault>
     ensures { (before : List Value)
@@ -112,7 +114,7 @@ pub(super) fn near_data(is_counted: bool, bytes: &[u8]) -> Result<(&[u8], &[u8])
     }
 }
 
-/// The bytes of a connection id behind its length, which is from 1 to 20, and what follows them.
+/// The bytes of a connection id, after its length, which is from 1 to 20, and what follows them.
 #[tactic(auto, unfolding(quic_frame_fields::specs::Reading::id_at))]
 pub(super) fn connection_id(bytes: &[u8]) -> Result<(&[u8], &[u8]), Fault>
     ensures gives { Gives (λ x. (x.0.now, x.1.now)) result (id_at bytes.now) }

@@ -14,14 +14,14 @@ use quic_frame_fields::frame::write;
 pub(super) struct FirstFrame<'a> {
     /// The type that it has there.
     pub ty: FrameType,
-    /// What it says.
+    /// The frame itself.
     pub frame: Frame<'a>,
     /// What follows it.
     pub rest: &'a [u8],
 }
 
-/// The frame at the front of bytes, where it is reported whether a type counts in its shortest encoding alone,
-/// and the last type before them.
+/// Reads the frame at the front of `bytes`. With `strict`, a type that is not in its shortest encoding is an error;
+/// `before`, the type of the frame before, is reported where no type can be read.
 #[inline(always)]
 pub(super) fn read_typed_frame(
     strict: bool,
@@ -54,7 +54,7 @@ pub(super) fn read_typed_frame(
     }
 }
 
-// A type of so many bytes is in another encoding than the shortest, where only that counts.
+// Whether a type of so many bytes is an error: with `strict`, if that isn't its shortest encoding.
 fn is_long(strict: bool, ty: FrameType, width: usize) -> bool
     ensures { result ≡ is_long_type strict ty width }
 {

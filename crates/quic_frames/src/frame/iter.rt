@@ -11,8 +11,8 @@ use super::{Frame, FrameType, InvalidFrame};
 use crate::transport_error::Error;
 use std::marker::Model;
 
-/// Reads a payload frame by frame. Contracts see whether a type counts in its shortest encoding alone, the
-/// payload, the end of the last whole frame, the last type that was read, and whether something was no frame.
+/// Reads a payload frame by frame. Contracts see whether types must be in their shortest encodings, the payload, the
+/// end of the last whole frame, the last type that was read, and whether an invalid frame was met.
 #[derive(Drop)]
 pub struct Iter<'a> {
     strict: bool,
@@ -35,19 +35,19 @@ impl<'a> Model for Iter<'a> {
 }
 
 impl<'a> Iter<'a> {
-    /// The frames of a payload. An empty one is refused with `PROTOCOL_VIOLATION`. It takes no memory.
+    /// The frames of a payload. An empty one is refused with `PROTOCOL_VIOLATION`. It allocates no memory.
     pub fn new(payload: &'a [u8]) -> Result<Self, Error>
         ensures empty { IsErr result ↔ (payload.now ≡ []) }
         ensures refusal { IfErr result (λ e. IsError e protocol_violation (codes "packet payload is empty")) }
         ensures first { IfOk result (λ it. it ≡ first_of false payload.now) }
 
-        // Each payload is frames, or frames and then something that is none.
+        // Each payload is all valid frames, or valid frames followed by an error.
         ensures either { IsEither false None payload.now }
 
-        // It gives just the frames that the payload is,
+        // It gives exactly the frames of a valid payload,
         ensures frames { IfOk result (λ it. GivesFrames false payload.now it) }
 
-        // or those before what is none, and then what is reported of that.
+        // or those before an invalid frame, and then the error of that.
         ensures broken { IfOk result (λ it. GivesBroken false payload.now it) }
 
         // At most as many items as bytes.
@@ -56,8 +56,8 @@ impl<'a> Iter<'a> {
         Iter::begin(payload, false)
     }
 
-    /// The same, where a type in another encoding than its shortest is no frame (RFC 9000, section 12.4):
-    /// that is reported as soon as the type is read. Other fields may have any width.
+    /// The same, but a frame type that is not in its shortest encoding is an error (RFC 9000, section 12.4), which is
+    /// reported as soon as the type is read. Other fields may have any width.
     pub fn strict(payload: &'a [u8]) -> Result<Self, Error>
         ensures empty { IsErr result ↔ (payload.now ≡ []) }
         ensures refusal { IfErr result (λ e. IsError e protocol_violation (codes "packet payload is empty")) }
@@ -70,7 +70,7 @@ impl<'a> Iter<'a> {
         Iter::begin(payload, true)
     }
 
-    // Both of them, by the flag.
+    // `new`, or `strict` if the flag is set.
     fn begin(payload: &'a [u8], strict: bool) -> Result<Self, Error>
         ensures empty { IsErr result ↔ (payload.now ≡ []) }
         ensures refusal { IfErr result (λ e. IsError e protocol_violation (codes "packet payload is empty")) }
@@ -92,9 +92,9 @@ impl<'a> Iter<'a> {
         })
     }
 
-    /// An iterator as `new` or, where `strict` is true, as `strict` gives it, at a later place: the end of a
-    /// whole frame, in bytes, with the type of that frame, which is reported if the next type is cut off. `None`
-    /// just where the place lies past the payload. What stands before it isn't read. It takes no memory.
+    /// An iterator as `new` gives it or, if `strict` is true, as `strict` does, at a later place: the end of a whole
+    /// frame, in bytes, with the type of that frame, which is reported if the next type is cut off. `None` exactly if
+    /// the place is past the payload's end. Bytes before that place aren't read. It allocates no memory.
     pub fn resume(
         payload: &'a [u8],
         offset: usize,
@@ -116,15 +116,15 @@ impl<'a> Iter<'a> {
         })
     }
 
-    /// The type of the last frame that was given, as it stands in the payload.
+    /// The type of the last frame that was given, as it is in the payload.
     pub fn last_type(&self) -> Option<FrameType>
         ensures { result ≡ self.now.last }
     {
         self.last
     }
 
-    /// Passes the PADDING that stands next, a frame with each byte of 0, and tells how many these are
-    /// (RFC 9000, section 19.1). Behind what was no frame there are none. It takes no memory.
+    /// Skips the PADDING frames that come next, each a byte of 0, and answers how many they are (RFC 9000, section
+    /// 19.1). After an invalid frame it answers 0. It allocates no memory.
     #[inline(always)]
     pub fn pass_padding(&mut self) -> usize
         ensures { PassesPadding self.old result self.new }
@@ -149,7 +149,7 @@ impl<'a> Iter<'a> {
     }
 }
 
-// Whether a byte of PADDING stands at the front.
+// Whether the bytes begin with a byte of PADDING.
 #[inline(always)]
 fn is_padding(bytes: &[u8]) -> bool
     ensures front { IsTrue result ↔ (bytes.now ≡ 0 ∷ drop 1 bytes.now) }
@@ -161,7 +161,7 @@ fn is_padding(bytes: &[u8]) -> bool
     }
 }
 
-// How many bytes of 0 stand at the front: eight at a time, and then one by one.
+// How many bytes of 0 the bytes begin with: eight at a time, and then one by one.
 #[inline(always)]
 fn zeros(bytes: &[u8]) -> usize
     ensures within { result ≤ length bytes.now }
@@ -182,9 +182,9 @@ fn zeros(bytes: &[u8]) -> usize
     count
 }
 
-/// Gives each frame, and then one `InvalidFrame` where something is none; after that nothing. It takes
-/// no memory. The bytes of a frame are a slice of the payload that ends at `offset`; those of an ACK's blocks
-/// stand behind its type, its greatest number, its delay and the count of its ranges (RFC 9000, section 19.3).
+/// Gives each frame, then one `InvalidFrame` if the rest isn't a valid frame, then nothing. It allocates no memory. The
+/// bytes of a frame are a slice of the payload that ends at `offset`; those of an ACK's blocks come after its type, its
+/// greatest number, its delay and the count of its ranges (RFC 9000, section 19.3).
 impl<'a> Iterator for Iter<'a> {
     ghost use Rattle.std.specs.Iterator.{item_count};
     ghost use Rattle.quic_frames.specs.Walk.{left, Advances};

@@ -16,10 +16,10 @@ use quic_frame_fields::frame::put;
 
 impl Frame<'_> {
     /// Stores the shortest encoding of the frame, which is the last of its payload or not, at the front of the slice,
-    /// and answers how many bytes it has; these are the bytes that `encode` appends, and what stands behind them
-    /// stays. Where the slice has fewer, and only there, it is as it was, and the error is how many bytes are needed.
+    /// and answers how many bytes it has. These are the bytes that `encode` appends; the bytes after them don't
+    /// change. If the slice is shorter, and only then, nothing changes, and the error is how many bytes are needed.
     /// The caller must ensure that the frame is in range, and that data whose length is written are below 2^62 bytes.
-    /// It takes no memory.
+    /// It allocates no memory.
     #[tactic(auto, unfolding(quic_frame_fields::specs::Shortest::shortest_frame))]
     pub fn encode_into(&self, last: bool, dest: &mut [u8]) -> Result<usize, usize>
         requires { CanStand last self.now }

@@ -316,7 +316,7 @@ fn read_ack_frequency(bytes: &[u8]) -> Result<(Frame<'_>, &[u8]), Fault>
 pub(super) fn read_frame(ty: u64, bytes: &[u8]) -> Result<(Frame<'_>, &[u8]), Fault>
     ensures { GivesFrame (λ rest. rest.now) bytes.now result (frame_at ty bytes.now) }
 {
-    // The two ranges are asked for first, since what a `match` compares stands behind what it looks up.
+    // The two ranges are tested first, since a `match` compares ranges only after it has looked single types up.
     match ty {
         0x08..=0x0f => return read_stream(ty & 4 != 0, ty & 2 != 0, ty & 1 != 0, bytes),
         0x10..=0x17 => return read_limit(ty, bytes),

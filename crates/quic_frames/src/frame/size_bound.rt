@@ -1,4 +1,4 @@
-//! How long frames are at most beside their data.
+//! How long frames are at most, without their data.
 ghost use Rattle.std.specs.Prelude.{◌≡◌, ◌≤◌, ◌+◌, ℕ, [], List, length, false};
 ghost use Rattle.quic_frames.specs.Meaning.{meaning_of};
 ghost use Rattle.quic_frame_fields.specs.Payload.{Meaning};
@@ -12,10 +12,10 @@ use super::{
 };
 use quic_base::ids::{ConnectionId, MAX_CID_SIZE, RESET_TOKEN_SIZE, ResetToken};
 
-/// A frame whose length has a bound, but for its data or reason.
+/// A frame whose encoded size, without its data or reason phrase, has a bound.
 pub trait FrameStruct {
-    /// As many bytes, besides those of its data or reason, as the frame's shortest encoding has at most
-    /// where the length of the data is written.
+    /// The greatest size of the frame's shortest encoding in bytes, without its data or reason phrase, but with the
+    /// length of the data.
     const SIZE_BOUND: usize;
 
     ghost most: { ℕ };
@@ -121,7 +121,7 @@ impl FrameStruct for NewConnectionId {
     }
 }
 
-// What the types of an id and a token hold. It does nothing.
+// Tells the prover the bounds of an id's and a token's length. It does nothing at run time.
 fn has_bounds(id: ConnectionId, token: ResetToken)
     ensures id { length id ≤ 20 }
     ensures token { length token ≡ 16 }
@@ -157,5 +157,5 @@ impl FrameStruct for Crypto<'_> {
     }
 }
 
-/// As many bytes as a RETIRE_CONNECTION_ID has at most.
+/// The greatest size of a RETIRE_CONNECTION_ID in bytes.
 pub const RETIRE_CONNECTION_ID_SIZE_BOUND: usize = 1 + 8;

@@ -1,4 +1,4 @@
-//! A set of numbers for few runs, which keeps two of them inline.
+//! A set of numbers with few runs, which keeps two of them inline.
 ghost use Rattle.std.specs.Prelude.{◌≡◌, ◌≢◌, [], ◌≤◌, ◌<◌, ◌+◌, ◌-◌, ◌^◌, ◌∷◌, ◌++◌, ◌↔◌, ℕ, List, length, take, drop, IfSome, IfNone, IfOk, OnOk, OnErr, IsTrue, IsOk};
 ghost use Rattle.std.specs.declared.ops.Range.{Range};
 ghost use Rattle.smallvec.specs.SmallVec.{small_vec_len, HasRoomFor};
@@ -16,7 +16,7 @@ use std::fmt;
 use std::marker::Model;
 use std::ops::Range;
 
-/// A finite set of numbers below 2^64 - 1. Up to two runs take no memory.
+/// A finite set of numbers below 2^64 - 1. Up to two runs need no allocation.
 #[derive(Drop)]
 pub struct ArrayRangeSet {
     runs: SmallVec<Range<u64>, 2>,
@@ -110,9 +110,8 @@ impl ArrayRangeSet {
         Ok(ArrayRangeSet { runs })
     }
 
-    /// Puts a range into the set. True exactly if that changed the set, which an empty or reversed
-    /// range never does. Answers `NoRoom` only where the union has more runs than the set and more
-    /// than two; the set is then unchanged.
+    /// Puts a range into the set. True exactly if that changed the set, which an empty or reversed range never does.
+    /// Answers `NoRoom` only if the union has more runs than the set and more than two; the set is then unchanged.
     pub fn insert(&mut self, x: Range<u64>) -> Result<bool, NoRoom>
         ensures union { OnOk result (IsRunsOf (in_union self.old x) self.new) }
         ensures changed { IfOk result (λ changed. IsTrue changed ↔ (self.new ≢ self.old)) }
@@ -142,8 +141,8 @@ impl ArrayRangeSet {
         self.insert(x..x + 1)
     }
 
-    /// Takes a range out of the set. True exactly if that changed the set. Answers `NoRoom` only
-    /// where the difference has more runs than the set and more than two; the set is then unchanged.
+    /// Takes a range out of the set. True exactly if that changed the set. Answers `NoRoom` only if the difference has
+    /// more runs than the set and more than two; the set is then unchanged.
     pub fn remove(&mut self, x: Range<u64>) -> Result<bool, NoRoom>
         ensures difference { OnOk result (IsRunsOf (in_difference self.old x) self.new) }
         ensures changed { IfOk result (λ changed. IsTrue changed ↔ (self.new ≢ self.old)) }
@@ -160,8 +159,8 @@ impl ArrayRangeSet {
         Ok(true)
     }
 
-    /// Takes the numbers of another set out of this one. What is left is built apart, so that the set
-    /// is unchanged after `NoRoom`, which comes only where more than two runs are left.
+    /// Takes the numbers of another set out of this one. The difference is built separately, so that the set is
+    /// unchanged after `NoRoom`, which comes only if the difference has more than two runs.
     pub fn subtract(&mut self, other: &Self) -> Result<(), NoRoom>
         ensures difference { OnOk result (IsRunsOf (in_subtraction self.old other.now) self.new) }
         ensures err { OnErr result (self.new ≡ self.old) }
@@ -177,7 +176,7 @@ impl ArrayRangeSet {
         Ok(())
     }
 
-    /// The first run, which leaves the set.
+    /// Removes the first run, and gives it.
     pub fn pop_min(&mut self) -> Option<Range<u64>>
         ensures some { IfSome result (λ run. self.old ≡ run ∷ self.new) }
         ensures none { IfNone result (self.old ≡ []) }
@@ -202,7 +201,7 @@ impl fmt::Debug for ArrayRangeSet {
     }
 }
 
-// Puts a range into the runs. The one growth comes before the first change.
+// Puts a range into the runs. Memory is allocated at most once, before the first change.
 fn join(runs: &mut SmallVec<Range<u64>, 2>, x: &Range<u64>) -> Result<bool, NoRoom>
     requires { IsMaximalRuns runs.old.items }
     ensures union { OnOk result (IsRunsOf (in_union runs.old.items x.now) runs.new.items) }
@@ -244,7 +243,7 @@ fn join_among(runs: &mut SmallVec<Range<u64>, 2>, x: &Range<u64>) -> Result<bool
     Ok(true)
 }
 
-// Makes a change of the runs. Only a change to one run more takes memory, before anything changes.
+// Makes a change of the runs. Only a change that adds a run allocates memory, before anything changes.
 fn apply(runs: &mut SmallVec<Range<u64>, 2>, change: Splice) -> Result<(), NoRoom>
     requires { Fits runs.old.items change }
     ensures ok { OnOk result (runs.new.items ≡ after_splice runs.old.items change) }
@@ -266,7 +265,7 @@ fn apply(runs: &mut SmallVec<Range<u64>, 2>, change: Splice) -> Result<(), NoRoo
     Ok(())
 }
 
-// Puts what of a run lies outside the runs of another set behind what is there.
+// Appends the parts of a run that are outside the runs of another set.
 fn push_outside(
     left: &mut SmallVec<Range<u64>, 2>,
     run: &Range<u64>,
@@ -294,7 +293,7 @@ fn push_outside(
     Ok(())
 }
 
-// What of the runs lies outside those of another set, in a list of its own.
+// The parts of the runs that are outside those of another set, in a new list.
 fn runs_outside(
     alloc: Global,
     runs: &[Range<u64>],

@@ -1,4 +1,4 @@
-//! Runs in a vector, whose first can be taken without a move of the others.
+//! Runs in a vector, from which the first can be taken without moving the others.
 ghost use Rattle.std.specs.Prelude.{◌≡◌, [], ◌∷◌, ◌++◌, ◌+◌, ◌≤◌, ◌<◌, length, IfSome, IfNone, IfOk, OnOk, OnErr};
 ghost use Rattle.std.specs.declared.ops.Range.{Range};
 ghost use Rattle.quic_ranges.specs.Runs.{IsMaximalRuns};
@@ -10,8 +10,8 @@ use std::alloc::Global;
 use std::marker::Model;
 use std::ops::Range;
 
-// Runs, of which the first were taken. Their places are given up together, once they are more than
-// half of all, so that a run is moved at most once for each that is taken.
+// Runs, of which the first ones were taken. Their places are freed together, once they are more than half of all, so
+// that a run is moved at most once for each that is taken.
 #[derive(Drop)]
 pub(crate) struct RunVec {
     items: Vec<Range<u64>>,
@@ -76,7 +76,7 @@ impl RunVec {
         sorted_runs::extend_last(&mut self.items[self.taken..], x)
     }
 
-    // Puts a run behind the others.
+    // Appends a run.
     pub(crate) fn push(&mut self, run: Range<u64>) -> Result<(), NoRoom>
         ensures ok { OnOk result (self.new ≡ self.old ++ run ∷ []) }
         ensures err { OnErr result (self.new ≡ self.old) }
@@ -84,7 +84,7 @@ impl RunVec {
         self.items.push(run).map_err(|_| NoRoom)
     }
 
-    // Makes a change of the runs. Only a change to one run more takes memory, before anything changes.
+    // Makes a change of the runs. Only a change that adds a run allocates memory, before anything changes.
     pub(crate) fn apply(&mut self, change: Splice) -> Result<(), NoRoom>
         requires { Fits self.old change }
         ensures ok { OnOk result (self.new ≡ after_splice self.old change) }
@@ -104,7 +104,7 @@ impl RunVec {
         Ok(())
     }
 
-    // The first run, which goes.
+    // Removes the first run, and gives it.
     pub(crate) fn pop_first(&mut self) -> Option<Range<u64>>
         ensures some { IfSome result (λ run. self.old ≡ run ∷ self.new) }
         ensures none { IfNone result (self.old ≡ []) }

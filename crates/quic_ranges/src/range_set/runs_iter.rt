@@ -16,7 +16,7 @@ pub struct Iter<'a> {
 }
 
 impl<'a> Iter<'a> {
-    // The runs that lie in a slice.
+    // The runs in a slice.
     pub(crate) fn of(runs: &'a [Range<u64>]) -> Self
         ensures { result ≡ runs.now }
     {
@@ -59,14 +59,14 @@ impl<'a> DoubleEndedIterator for Iter<'a> {
 /// The numbers of a set, ascending, from both ends.
 #[derive(Drop)]
 pub struct EltIter<'a> {
-    // What is left of the run that `next` reads, and of that which `next_back` reads.
+    // The remaining parts of the run that `next` reads, and of the one that `next_back` reads.
     front: Range<u64>,
     runs: Iter<'a>,
     back: Range<u64>,
 }
 
 impl<'a> EltIter<'a> {
-    // The numbers of the runs that lie in a slice.
+    // The numbers of the runs in a slice.
     pub(crate) fn of(runs: &'a [Range<u64>]) -> Self
         requires { IsMaximalRuns runs.now }
         ensures { result ≡ numbers_of runs.now }

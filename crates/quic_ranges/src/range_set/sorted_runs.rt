@@ -1,5 +1,5 @@
-//! What a change does to runs that lie in a slice: which of them go, and what takes their place. Each
-//! place is found by halving, after a look at the last run, where most changes are.
+//! What a change does to the runs in a slice: which of them are removed, and which take their place. Each place is
+//! found by binary search, after a look at the last run, where most changes are.
 ghost use Rattle.std.specs.Prelude.{◌≡◌, ◌<◌, ◌≤◌, ◌+◌, ◌^◌, ◌++◌, length, take, drop, IfSome, IfNone};
 ghost use Rattle.std.specs.declared.ops.Range.{Range};
 ghost use Rattle.quic_ranges.specs.Runs.{IsMaximalRuns, IsRunsOf, member, in_union, in_difference};
@@ -35,7 +35,7 @@ fn count_starts_upto(runs: &[Range<u64>], x: u64) -> usize
     runs.partition_point(|run| run.start <= x)
 }
 
-// Whether a number lies in one of the runs.
+// Whether a number is in one of the runs.
 pub(crate) fn contains(runs: &[Range<u64>], x: u64) -> bool
     requires { IsMaximalRuns runs.now }
     ensures { result ≡ member runs.now x }
@@ -96,8 +96,8 @@ impl Substitute {
     }
 }
 
-// The same place, so that the compiler sees that the one behind it does not wrap: it then moves the
-// runs from there on by one call, and not one by one.
+// The same place, so that the compiler sees that the place after it doesn't wrap: it then moves the runs from there on
+// by one call, and not one by one.
 pub(crate) fn place(runs: &[Range<u64>], at: usize) -> usize
     requires { at ≤ length runs.now }
     ensures { result ≡ at }
@@ -105,7 +105,7 @@ pub(crate) fn place(runs: &[Range<u64>], at: usize) -> usize
     at % (1 << 63)
 }
 
-// A change of a list of runs: those from `from` to below `to` go, and `by` takes their place.
+// A change of a list of runs: those from `from` to before `to` are replaced by `by`.
 #[derive(Drop)]
 pub(crate) struct Splice {
     pub from: usize,
@@ -113,14 +113,14 @@ pub(crate) struct Splice {
     pub by: Substitute,
 }
 
-// What became of a range that was to go into the last run.
+// What became of a range that was tried on the last run.
 #[derive(Clone, Copy)]
 pub(crate) enum Extension {
     // Every number of it is in the runs already.
     Kept,
     // The last run took it in, and ends with it now.
     Grown,
-    // It lies behind every run and touches none, so it is to be a run of its own.
+    // It is after every run and touches none, so it must become a run of its own.
     Behind,
     // It begins before the last run, so its place is still to be found.
     Before,
@@ -148,7 +148,7 @@ pub(crate) fn extend_last(runs: &mut [Range<u64>], x: &Range<u64>) -> Extension
     Extension::Grown
 }
 
-// What an insertion of `x` does to the runs; `None` where every number of `x` is in them.
+// What an insertion of `x` does to the runs; `None` if every number of `x` is in them.
 pub(crate) fn insertion(runs: &[Range<u64>], x: &Range<u64>) -> Option<Splice>
     requires { IsMaximalRuns runs.now }
     ensures none { IfNone result (IsRunsOf (in_union runs.now x.now) runs.now) }
@@ -178,7 +178,7 @@ pub(crate) fn insertion(runs: &[Range<u64>], x: &Range<u64>) -> Option<Splice>
     })
 }
 
-// What a removal of `x` does to the runs; `None` where no number of `x` is in them.
+// What a removal of `x` does to the runs; `None` if no number of `x` is in them.
 pub(crate) fn removal(runs: &[Range<u64>], x: &Range<u64>) -> Option<Splice>
     requires { IsMaximalRuns runs.now }
     ensures none { IfNone result (IsRunsOf (in_difference runs.now x.now) runs.now) }

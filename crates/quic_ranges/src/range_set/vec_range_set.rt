@@ -21,8 +21,7 @@ use std::{fmt, slice};
 #[derive(Drop)]
 pub struct RangeSet {
     runs: RunVec,
-    // What the last `replace` found in its range. A `Replace` reads it, and the next call takes its
-    // memory again.
+    // What the last `replace` found in its range. A `Replace` reads it, and the next call reuses its memory.
     replaced: Vec<Range<u64>>,
 }
 
@@ -121,9 +120,8 @@ impl RangeSet {
         })
     }
 
-    /// Puts a range into the set. True exactly if that changed the set, which an empty or reversed
-    /// range never does. Answers `NoRoom` only where the union has more runs than the set; the set is
-    /// then unchanged.
+    /// Puts a range into the set. True exactly if that changed the set, which an empty or reversed range never does.
+    /// Answers `NoRoom` only if the union has more runs than the set; the set is then unchanged.
     pub fn insert(&mut self, x: Range<u64>) -> Result<bool, NoRoom>
         ensures union { OnOk result (IsRunsOf (in_union self.old x) self.new) }
         ensures changed { IfOk result (λ changed. IsTrue changed ↔ (self.new ≢ self.old)) }
@@ -151,8 +149,8 @@ impl RangeSet {
         self.insert(x..x + 1)
     }
 
-    /// Takes a range out of the set. True exactly if that changed the set. Answers `NoRoom` only
-    /// where the difference has more runs than the set; the set is then unchanged.
+    /// Takes a range out of the set. True exactly if that changed the set. Answers `NoRoom` only if the difference has
+    /// more runs than the set; the set is then unchanged.
     pub fn remove(&mut self, x: Range<u64>) -> Result<bool, NoRoom>
         ensures difference { OnOk result (IsRunsOf (in_difference self.old x) self.new) }
         ensures changed { IfOk result (λ changed. IsTrue changed ↔ (self.new ≢ self.old)) }
@@ -165,8 +163,8 @@ impl RangeSet {
     }
 
     /// Puts a range into the set, and gives the nonempty parts of it that were there before. The set
-    /// is the union from this call on, however much of the answer is taken. After `NoRoom`, which an
-    /// empty or reversed range never meets, the set is unchanged.
+    /// is the union from this call on, however much of the answer is read. After `NoRoom`, which never comes for an
+    /// empty or reversed range, the set is unchanged.
     pub fn replace(&mut self, x: Range<u64>) -> Result<Replace<'_>, NoRoom>
         ensures* union { sem 𝓛 (Ends self.entry
             (λ after. OnOk result (IsRunsOf (in_union self.old x) after)
@@ -182,8 +180,8 @@ impl RangeSet {
         })
     }
 
-    /// Puts the numbers of another set into this one. After `NoRoom`, which never comes where that would
-    /// change nothing, the first of the other's runs were put in.
+    /// Puts the numbers of another set into this one. After `NoRoom`, which never comes if that would change nothing,
+    /// some of the other's runs, from the first on, were put in.
     pub fn add(&mut self, other: &Self) -> Result<(), NoRoom>
         ensures union { OnOk result (IsRunsOf (in_sum self.old other.now) self.new) }
         ensures err { OnErr result (TreatsBeginning in_sum self.old other.now self.new) }
@@ -202,8 +200,8 @@ impl RangeSet {
         Ok(())
     }
 
-    /// Takes the numbers of another set out of this one. After `NoRoom`, which never comes where that would
-    /// change nothing, the first of the other's runs were taken out.
+    /// Takes the numbers of another set out of this one. After `NoRoom`, which never comes if that would change
+    /// nothing, some of the other's runs, from the first on, were taken out.
     pub fn subtract(&mut self, other: &Self) -> Result<(), NoRoom>
         ensures difference { OnOk result (IsRunsOf (in_subtraction self.old other.now) self.new) }
         ensures err { OnErr result (TreatsBeginning in_subtraction self.old other.now self.new) }
@@ -222,7 +220,7 @@ impl RangeSet {
         Ok(())
     }
 
-    /// The first run, which leaves the set.
+    /// Removes the first run, and gives it.
     pub fn pop_min(&mut self) -> Option<Range<u64>>
         ensures some { IfSome result (λ run. self.old ≡ run ∷ self.new) }
         ensures none { IfNone result (self.old ≡ []) }
@@ -264,8 +262,7 @@ impl<'a> IntoIterator for &'a RangeSet {
     }
 }
 
-/// The parts of a range that were in a set before `replace`, ascending. The set is borrowed as long
-/// as they are read.
+/// The parts of a range that were in a set before `replace`, ascending. The set is borrowed while they are read.
 #[derive(Drop)]
 pub struct Replace<'a> {
     pieces: slice::Iter<'a, Range<u64>>,
@@ -284,7 +281,7 @@ impl<'a> Iterator for Replace<'a> {
     }
 }
 
-// Puts a range into the runs. The one growth comes before the first change.
+// Puts a range into the runs. Memory is allocated at most once, before the first change.
 fn join(runs: &mut RunVec, x: &Range<u64>) -> Result<bool, NoRoom>
     requires { IsMaximalRuns runs.old }
     ensures union { OnOk result (IsRunsOf (in_union runs.old x.now) runs.new) }
@@ -320,7 +317,7 @@ fn join_among(runs: &mut RunVec, x: &Range<u64>) -> Result<bool, NoRoom>
     Ok(true)
 }
 
-// Takes a range out of the runs. The one growth comes before the first change.
+// Takes a range out of the runs. Memory is allocated at most once, before the first change.
 fn cut(runs: &mut RunVec, x: &Range<u64>) -> Result<bool, NoRoom>
     requires { IsMaximalRuns runs.old }
     ensures difference { OnOk result (IsRunsOf (in_difference runs.old x.now) runs.new) }
@@ -336,12 +333,12 @@ fn cut(runs: &mut RunVec, x: &Range<u64>) -> Result<bool, NoRoom>
     Ok(true)
 }
 
-// Whether one walk over all runs costs less than a search and a move for each of the others may.
+// Whether one walk over all runs costs less than a search and a move for each of the others.
 fn pays_to_merge(runs: &[Range<u64>], others: &[Range<u64>]) -> bool {
     others.len() >= 8 && others.len() >= runs.len() / 32
 }
 
-// The runs of both lists together, from the front on, so that each is joined at the end.
+// The runs of both lists together, merged from the front on, so that each is joined at the end.
 fn sum_of(alloc: Global, runs: &[Range<u64>], others: &[Range<u64>]) -> Result<RunVec, NoRoom>
     ensures { IfOk result (λ sum. IsRunsOf (in_sum runs.now others.now) sum) }
 {
@@ -360,7 +357,7 @@ fn sum_of(alloc: Global, runs: &[Range<u64>], others: &[Range<u64>]) -> Result<R
     Ok(sum)
 }
 
-// What of the runs lies outside the others. `next` is the first of these that ends behind the run.
+// The parts of the runs that are outside the others. `next` is the first of these that ends after the run.
 fn difference_of(
     alloc: Global,
     runs: &[Range<u64>],

@@ -19,8 +19,8 @@ use std::io::Cursor;
 use std::net::{Ipv4Addr, Ipv6Addr};
 use std::test::Fail;
 
-// Functions here answer whether all was as it has to be, missing memory included: so no test has a way out while its
-// checks are alive.
+// Helpers return whether every fact held, and `false` if memory runs out: so no test returns early while its `Checks`
+// are alive.
 
 fn displays<T: Display>(alloc: Global, value: &T, text: &str) -> bool {
     match format!(in alloc; "{value}") {

@@ -16,7 +16,7 @@ use quic_canon::canonical::{CanonError, canonical_of};
 use quic_canon::laws;
 use std::alloc::Global;
 
-// The digits of the shortest payload of the same frames, or why there is none.
+// The digits of the shortest payload of the same frames, or the error of the payload.
 pub(super) fn print_canon<W: Sink>(
     alloc: Global,
     payload: &[u8],

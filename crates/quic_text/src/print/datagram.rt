@@ -23,7 +23,8 @@ use quic_header_decode::protected::ProtectedHeader;
 use quic_header_encode::long_type::LongType;
 use std::alloc::{AllocError, Global};
 
-// A line for each packet, and one for what is refused. Ids of short headers have the length given.
+// Prints a line for each packet, and an `error` line if the rest is refused. Ids of short headers have the given
+// length.
 pub(super) fn print_datagram<W: Sink>(
     alloc: Global,
     id_len: IdLen,
@@ -80,7 +81,7 @@ fn print_packet(
     text.push('\n')
 }
 
-// What a header says.
+// The fields of a header.
 fn print_header(head: &ProtectedHeader, text: &mut String) -> Result<(), AllocError>
     ensures { OnOk result (string_bytes text.new ≡ string_bytes text.old ++ header_text head.now) }
 {
@@ -126,7 +127,7 @@ fn print_header(head: &ProtectedHeader, text: &mut String) -> Result<(), AllocEr
     Ok(())
 }
 
-// Where an Initial packet's token stands in the packet.
+// The place of an Initial packet's token in the packet.
 fn print_token(start: usize, end: usize, text: &mut String) -> Result<(), AllocError>
     ensures { OnOk result (string_bytes text.new ≡ string_bytes text.old
         ++ (codes " token " ++ decimal start ++ codes ".." ++ decimal end)) }
@@ -134,7 +135,7 @@ fn print_token(start: usize, end: usize, text: &mut String) -> Result<(), AllocE
     write!(text, " token {start}..{end}")
 }
 
-// What every long header says.
+// The fields that every long header has.
 fn print_long(
     kind: &str,
     dst_cid: &ConnectionId,

@@ -17,8 +17,8 @@ use quic_frames::frame::{FrameType, InvalidFrame, Iter};
 use quic_frames::transport_error::Error;
 use std::alloc::AllocError;
 
-// A line for each frame, and one for what is none, where it is reported whether a type counts in its shortest
-// encoding alone.
+// Prints a line for each frame, and an `error` line if the payload is invalid. With `strict`, a type that is not in
+// its shortest encoding is an error.
 pub(super) fn print_frames<W: Sink>(
     strict: bool,
     payload: &[u8],
@@ -80,7 +80,7 @@ fn print_frame(start: usize, end: usize, ty: FrameType, text: &mut String) -> Re
     Ok(())
 }
 
-// The `error` line of something that is no frame.
+// The `error` line of an invalid frame.
 pub(super) fn print_invalid(invalid: &InvalidFrame, text: &mut String) -> Result<(), AllocError>
     ensures { OnOk result (string_bytes text.new ≡ string_bytes text.old
         ++ shown (item_line (Broken (invalid_of invalid.now)))) }

@@ -16,7 +16,7 @@ use quic_params::transport_parameters::{
 };
 use std::alloc::{AllocError, Global};
 
-// A line for each parameter that differs from its default, and then `ok`; or why the list is refused.
+// Prints a line for each parameter that differs from its default, and then `ok`; or the error of the list.
 pub(super) fn print_params(
     alloc: Global,
     side: Side,
@@ -126,7 +126,7 @@ fn print_digits(alloc: Global, bytes: &[u8], text: &mut String) -> Result<(), Al
     Ok(())
 }
 
-// The digits of a preferred address as it stands in a list, and the end of the line.
+// The digits of a preferred address as it is encoded in a list, and the end of the line.
 fn print_address(
     alloc: Global,
     address: &PreferredAddress,

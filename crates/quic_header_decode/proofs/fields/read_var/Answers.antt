@@ -1,4 +1,4 @@
--- Where no front is a encoding, reading finds none.
+-- Where no front is an encoding, reading finds none.
 use Rattle.std.proofs.Common.{arith, ◌∙◌}
 use Rattle.quic_header_decode.proofs.FieldLaws.{var_without, reading}
 use Rattle.quic_header_decode.proofs.fields.read_var.Goals as goal

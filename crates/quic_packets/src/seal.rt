@@ -134,14 +134,15 @@ pub fn seal_packet<H: HeaderKey, P: PacketKey>(
     requires small { number < 2 ^ 62 }
     requires some { 0 < length frames.now }
     requires follow { CanFollow frames.now }
-    ensures sealed { IfOk result (λ len. IsAppended (λ packet. SealedFrames (⟦<Keys<H, P> as PairOfKeys>⟧.pair keys.now)
-        header.now number frames.now packet) out.old.items out.new.items) }
+    ensures sealed { IfOk result (λ _. IsAppended (SealedFrames (⟦<Keys<H, P> as PairOfKeys>⟧.pair keys.now)
+        header.now number frames.now) out.old.items out.new.items) }
     ensures len { IfOk result (λ len. len ≡ header_size header.now + length (payload_of frames.now) + P.tag_size keys.now.packet) }
     ensures unchanged { OnErr result (out.new.items ≡ out.old.items) }
     // Where the lengths are refused nothing is grown, and where a growth is refused the room stays.
     ensures untouched { IfErr result (λ e. e ≢ SealError.NoRoom → out.new ≡ out.old) }
     ensures capacity { OnErr result (vec_capacity out.new ≡ vec_capacity out.old) }
-    ensures refused { IfErr result (λ e. SealRefused e (P.tag_size keys.now.packet) header.now (H.sample_len keys.now.header) (payload_of frames.now) (vec_capacity out.old - vec_len out.old)) }
+    ensures refused { IfErr result (SealRefused (⟦<Keys<H, P> as PairOfKeys>⟧.pair keys.now)
+        header.now (payload_of frames.now) (vec_capacity out.old - vec_len out.old)) }
 {
     let tag = keys.packet.tag_len();
     let payload = payload_len(frames);

@@ -150,13 +150,15 @@ pub record OpensFirst (opening : Opening) (bytes : List ℕ) (opened : Opened) (
 -- these packets are opened one after another, and then these bytes are left
 pub data OpensSome (opening : Opening) : List ℕ → List OpenedPacket → List ℕ → Type 0 where
   start : (bytes : List ℕ) → OpensSome opening bytes [] bytes
-  step : (bytes rest left : List ℕ) (opened : OpenedPacket) (others : List OpenedPacket) → Opens opening bytes opened rest → 0 < length rest
+  step : (bytes rest left : List ℕ) (opened : OpenedPacket) (others : List OpenedPacket)
+      → Opens opening bytes opened rest → 0 < length rest
       → OpensSome opening rest others left → OpensSome opening bytes (opened ∷ others) left
 
 -- these packets are opened one after another, and nothing follows the last
 pub data OpensAll (opening : Opening) : List ℕ → List OpenedPacket → Type 0 where
   only : (bytes : List ℕ) (opened : OpenedPacket) → Opens opening bytes opened [] → OpensAll opening bytes (opened ∷ [])
-  followed : (bytes rest : List ℕ) (opened : OpenedPacket) (others : List OpenedPacket) → Opens opening bytes opened rest → 0 < length rest
+  followed : (bytes rest : List ℕ) (opened : OpenedPacket) (others : List OpenedPacket)
+      → Opens opening bytes opened rest → 0 < length rest
       → OpensAll opening rest others → OpensAll opening bytes (opened ∷ others)
 
 -- ---- sealed bytes
@@ -172,8 +174,8 @@ IsReadBack options (header.Short spin key_phase dst number) rest =
     (rest ≡ []) × ((tail : List ℕ) → options.parsed (dst ++ tail) ≡ Ok (dst, length dst))
 IsReadBack options (header.VersionNegotiate random src dst) rest = ⊥
 
--- The bytes begin with a packet that was sealed by the keys of its space, whose header is read back, and whose number is
--- found from the one that is expected; rest follows it.
+-- The bytes begin with a packet that was sealed by the keys of its space, whose header is read back, and whose number
+-- is found from the one that is expected; rest follows it.
 pub record BeginsSealed (opening : Opening) (bytes : List ℕ) (contents : PacketContents) (rest : List ℕ) : Type 0 where
   pub packet : List ℕ
   pub sealed : Sealed (opening.keys (space_in contents.header)) contents packet
@@ -194,24 +196,33 @@ abbrev pub returned_by : Opening → PacketContents → OpenedPacket
 returned_by opening contents = returned (opening.keys (space_in contents.header)) contents
 
 -- a sealed packet comes back, and what follows it is left
-pub record ReturnsSealed (opening : Opening) (contents : PacketContents) (rest : List ℕ) (opened : Opened) (left : Option Filled) : Type 0 where
+pub record ReturnsSealed (opening : Opening) (contents : PacketContents) (rest : List ℕ) (opened : Opened)
+    (left : Option Filled) : Type 0 where
   pub packet : packet_of opened ≡ returned_by opening contents
   pub left_is : IsRest left rest
 
 -- the bytes are sealed packets in a row
 pub data SealedRow (opening : Opening) : List PacketContents → List ℕ → Type 0 where
-  last : (contents : PacketContents) (bytes : List ℕ) → BeginsSealed opening bytes contents [] → SealedRow opening (contents ∷ []) bytes
-  more : (contents : PacketContents) (bytes rest : List ℕ) (others : List PacketContents) → BeginsSealed opening bytes contents rest → 0 < length rest
+  last : (contents : PacketContents) (bytes : List ℕ) → BeginsSealed opening bytes contents []
+      → SealedRow opening (contents ∷ []) bytes
+  more : (contents : PacketContents) (bytes rest : List ℕ) (others : List PacketContents)
+      → BeginsSealed opening bytes contents rest → 0 < length rest
       → SealedRow opening others rest → SealedRow opening (contents ∷ others) bytes
 
 -- what was opened is these contents, in order
 abbrev pub AreReturned : Opening → List PacketContents → List Opened → Type 0
 AreReturned opening packets opened = map packet_of opened ≡ map (returned_by opening) packets
 
+-- the first of these packets came back, and were appended
+abbrev pub ReturnsFront : Opening → List PacketContents → List Opened → List Opened → Type 0
+ReturnsFront opening packets old new = (front back : List PacketContents) × (packets ≡ front ++ back)
+    × IsAppended (AreReturned opening front) old new
+
 -- ---- what the calls say
 
 -- a call that opens the first packet
-pub record PacketAnswer (opening : Opening) (bytes : List ℕ) (result : Result (Opened × Option Filled) OpenError) : Type 0 where
+pub record PacketAnswer (opening : Opening) (bytes : List ℕ)
+    (result : Result (Opened × Option Filled) OpenError) : Type 0 where
   pub opened : IfOk result (λ x. OpensFirst opening bytes x.0 x.1)
   pub shorter : IfOk result (λ x. IfSome x.1 (λ rest. length rest.items < length bytes))
   pub refused : IfErr result (λ e. Refuses opening bytes e)
@@ -237,17 +248,20 @@ left_size None = 0
 left_size (Some left) = 1 + length left.items
 
 -- a call that opens the next packet
-pub record NextAnswer (opening : Opening) (old : Option Filled) (result : Option (Result Opened OpenError)) (new : Option Filled) : Type 0 where
+pub record NextAnswer (opening : Opening) (old : Option Filled) (result : Option (Result Opened OpenError))
+    (new : Option Filled) : Type 0 where
   pub next : OpensNext opening old result new
   pub shorter : IsSome result → left_size new < left_size old
-  pub sealed : IfSome old (λ left. (contents : PacketContents) (rest : List ℕ) → BeginsSealed opening left.items contents rest
+  pub sealed : IfSome old (λ left. (contents : PacketContents) (rest : List ℕ)
+      → BeginsSealed opening left.items contents rest
       → ReturnsNext opening contents rest result new)
 
 -- a call that opens all packets, and appends them: where one is refused, those before it
-pub record DatagramAnswer {X : Type 0} (opening : Opening) (bytes : List ℕ) (result : Result X OpenError) (old new : List Opened) : Type 0 where
+pub record DatagramAnswer {X : Type 0} (opening : Opening) (bytes : List ℕ) (result : Result X OpenError)
+    (old new : List Opened) : Type 0 where
   pub opened : IfOk result (λ _. IsAppended (λ added. OpensAll opening bytes (map packet_of added)) old new)
   pub refused : IfErr result (λ e. (left : List ℕ) × Refuses opening left e
       × IsAppended (λ added. OpensSome opening bytes (map packet_of added) left) old new)
   pub sealed : (packets : List PacketContents) → SealedRow opening packets bytes
-      → MatchResult result (λ _. IsAppended (AreReturned opening packets) old new) (λ e. (e ≡ error.OutOfMemory)
-      × ((front back : List PacketContents) × (packets ≡ front ++ back) × IsAppended (AreReturned opening front) old new))
+      → MatchResult result (λ _. IsAppended (AreReturned opening packets) old new)
+      (λ e. (e ≡ error.OutOfMemory) × ReturnsFront opening packets old new)

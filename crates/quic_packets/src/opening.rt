@@ -201,8 +201,8 @@ fn open_first<C: ConnectionIdParser, H: HeaderKey, P: PacketKey>(
 /// Refused with `Decode` only where `PartialDecode::new` or `PartialDecode::finish` refuses the packet, and with
 /// `Unsealed` only where the packet key answers `CryptoError`. Once a packet was cut, `OutOfMemory` may stand in place
 /// of every answer; before, where the parser takes memory. What was sealed by the keys handed in, with a number that is
-/// found from the expected one, is opened to the same header, number and payload, or memory ran out. The caller must give
-/// expected numbers below 2^62.
+/// found from the expected one, is opened to the same header, number and payload, or memory ran out. The caller must
+/// give expected numbers below 2^62.
 pub fn open_packet<C: ConnectionIdParser, H: HeaderKey, P: PacketKey>(
     bytes: BytesMut,
     parser: &C,

@@ -41,6 +41,7 @@ extern size_t varint_len(uint64_t n);
 
 /* frames.c: frames that are read. */
 extern void frames_nulls(void);
+extern void padding_any(void);
 extern void read_rubbish(const uint8_t *payload, size_t len);
 extern void fill_rubbish(const uint8_t *payload, size_t len);
 extern void first_rubbish(const uint8_t *payload, size_t len);
@@ -105,6 +106,7 @@ extern void place_any(uint8_t *packet, size_t len);
 
 /* headers_written.c: headers of packets that are written. */
 extern void headers_written_nulls(void);
+extern void long_tokens(void);
 extern int header_written(void);
 
 /* negotiation.c: version negotiations. */

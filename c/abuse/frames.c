@@ -69,6 +69,55 @@ static void path_bytes(const uint8_t *payload, size_t len,
   WANT(!bytes || number == frame->path.data);
 }
 
+/* How many frames of PADDING an entry has, by reading them one by one; 0 for
+ * another frame. */
+static size_t padding_in(const uint8_t *payload, const quic_wire_frame *entry) {
+  const uint8_t *run = payload + entry->begin;
+  const size_t len = entry->end - entry->begin;
+  quic_wire_frames frames;
+  quic_wire_frame frame;
+  size_t count = 0;
+  if (entry->kind != QUIC_WIRE_PADDING)
+    return 0;
+  WANT(quic_wire_frames_init(&frames, run, len) == QUIC_WIRE_OK);
+  while (quic_wire_frames_next(&frames, run, len, &frame) == QUIC_WIRE_ITEM) {
+    WANT(frame.kind == QUIC_WIRE_PADDING);
+    count++;
+  }
+  WANT(frames.offset == len && count);
+  return count;
+}
+
+/* Runs of PADDING whose first types have 1, 2, 4 and 8 bytes, some with a PING
+ * behind them: what either call gives of them has as many frames as are read. */
+void padding_any(void) {
+  quic_wire_frames frames;
+  quic_wire_frame filled[4];
+  uint8_t bytes[160], *payload;
+  size_t len = 0, count, k, room = 1 + any() % 4;
+  memset(bytes, 0, sizeof bytes);
+  for (k = 1 + any() % 4; k; k--) {
+    const unsigned width = any() % 4;
+    bytes[len] = (uint8_t)(width << 6);
+    len += ((size_t)1 << width) + any() % 24;
+    if (any() % 2)
+      bytes[len++] = QUIC_WIRE_PING;
+  }
+  payload = block(len);
+  memcpy(payload, bytes, len);
+  WANT(quic_wire_frames_init(&frames, payload, len) == QUIC_WIRE_OK);
+  while (any() % 4 ? fill_by((int)(any() % 2), &frames, payload, len, filled,
+                             room, &count) == QUIC_WIRE_ITEM
+                   : next_by((int)(any() % 2), &frames, payload, len, filled) ==
+                             QUIC_WIRE_ITEM &&
+                         (count = 1))
+    for (k = 0; k < count; k++)
+      WANT(quic_wire_padding_count(payload, len, &filled[k]) ==
+           padding_in(payload, &filled[k]));
+  WANT(frames.offset == len);
+  free(payload);
+}
+
 uint32_t any_strict(void) {
   return (uint32_t)(any() % 4 ? any() % 4 : edge());
 }
@@ -102,6 +151,8 @@ static void read_on_rubbish(const uint8_t *payload, size_t len,
          frame->type == type && type == frames.last_type);
     WANT(quic_wire_padding_count(payload, len, frame) ==
          (frame->kind == QUIC_WIRE_PADDING));
+    WANT(quic_wire_padding_count(payload, len, frame) ==
+         padding_in(payload, frame));
     token = quic_wire_reset_token(payload, len, frame);
     WANT(frame->kind == QUIC_WIRE_NEW_CONNECTION_ID
              ? token + 16 == payload + frame->end
@@ -126,6 +177,8 @@ void read_rubbish(const uint8_t *payload, size_t len) {
   frame.datalen = place();
   token = quic_wire_path_data(payload, len, &frame);
   WANT(!token || (payload <= token && token + 8 <= payload + len));
+  if (any() % 2)
+    frame.kind = QUIC_WIRE_PADDING;
   WANT(quic_wire_padding_count(payload, len, &frame) <= len);
   token = quic_wire_reset_token(payload, len, &frame);
   WANT(!token || token + 16 <= payload + len);
@@ -168,8 +221,11 @@ void fill_rubbish(const uint8_t *payload, size_t len) {
     if (answer != QUIC_WIRE_ITEM)
       break;
     WANT(0 < count && count <= room);
-    for (k = 0; k < count; k++)
+    for (k = 0; k < count; k++) {
       next_is(basic, &one, payload, len, &filled[k]);
+      WANT(quic_wire_padding_count(payload, len, &filled[k]) ==
+           padding_in(payload, &filled[k]));
+    }
     WANT(!memcmp(&one, &many, sizeof one));
     WANT(!memcmp(filled + count, before, (6 - count) * sizeof frame));
   }

@@ -19,7 +19,6 @@ use Rattle.quic_c_headers.specs.declared.words.HeaderFields.{HeaderFields}
 use Rattle.quic_c_headers.specs.Headers.{part_of, said_bytes, CanWriteHeader}
 use Rattle.quic_c_headers.specs.Reading.{kind_word}
 use Rattle.quic_c_headers.specs.Shapes.{first_word, numbered_bytes, numbered_first, IsNumbered, IsShaped}
-use Rattle.quic_c_headers.specs.Written.{short_words}
 
 -- whether the fixed bit is cleared
 abbrev pub clear_by : HeaderKind → ℕ → Bool
@@ -229,18 +228,9 @@ written n old new bytes said within front back same = (
 
 -- ---- short headers by their first byte
 
-pub short_shaped : (first number : ℕ) (dst : List ℕ) → number < 2 ^ 62 → length dst ≤ 20 → IsShaped (short_words first number) dst [] []
-short_shaped first number dst small few = record {
-  known = omega arith;
-  numbered = record { number = λ _. (omega arith, omega arith, small); len = λ e. absurd (omega (arith, e)) };
-  named = λ e. absurd (omega (arith, e));
-  parts = record { dst_few = few; src_few = λ _. omega arith; token_short = λ _. omega arith };
-}
-
-pub short_can : (first number : ℕ) (dst : List ℕ) → number < 2 ^ 62 → length dst ≤ 20
-    → CanWriteHeader (short_words first number) dst [] [] (clear_by kind.Short (short_words first number).flags) (header_said kind.Short (short_words first number) dst [] [])
-short_can first number dst small few =
-    can_said kind.Short (short_words first number) dst [] [] [] [] (short_shaped first number dst small few) refl (λ _. refl) (λ _. refl)
+pub short_can : (words : HeaderFields) (dst : List ℕ) → IsShaped words dst [] [] → words.kind ≡ 4
+    → CanWriteHeader words dst [] [] (clear_by kind.Short words.flags) (header_said kind.Short words dst [] [])
+short_can words dst s e = can_said kind.Short words dst [] [] [] [] s (sym e) (λ _. refl) (λ _. refl)
 
 low_bytes : (len number : ℕ) → 1 ≤ len → len ≤ 4 → number_bytes (part_of len number) ≡ bytes_of len number
 unfolding bytes_of
@@ -260,18 +250,18 @@ low_bytes len number some few =
     ]
 
 -- what is written of a short header is what its words say
-pub short_bytes : (first number : ℕ) (dst : List ℕ) → first < 128 → first / 8 % 4 ≡ 0 → number < 2 ^ 62 → length dst ≤ 20
-    → (first ∷ dst) ++ bytes_of (first % 4 + 1) number
-    ≡ said_bytes 0 (clear_by kind.Short (short_words first number).flags) (header_said kind.Short (short_words first number) dst [] [])
-short_bytes first number dst low clear small few =
-    let count : ℕ = first % 4 + 1 in
-    let words : HeaderFields = short_words first number in
-    let part : PacketNumber = part_of count number in
-    let size : count ≡ number_size part = (part_says count number (omega arith) (omega arith)).0 in
-    let byte : first ≡ first_word kind.Short words.flags + 0 + (number_size part - 1) = omega (arith, low, size) in
-    ap (λ (xs : List ℕ). (first ∷ dst) ++ xs) (sym (low_bytes count number (omega arith) (omega arith)))
+pub short_bytes : (first : ℕ) (words : HeaderFields) (dst : List ℕ) → IsShaped words dst [] [] → words.kind ≡ 4
+    → first ≡ first_word kind.Short words.flags + (words.number_len - 1)
+    → (first ∷ dst) ++ bytes_of words.number_len words.number
+    ≡ said_bytes words.length_len (clear_by kind.Short words.flags) (header_said kind.Short words dst [] [])
+short_bytes first words dst s e is =
+    let n = s.numbered.number (inr e) in
+    let part : PacketNumber = part_of words.number_len words.number in
+    let size : words.number_len ≡ number_size part = (part_says words.number_len words.number n.0 n.1).0 in
+    let byte : first ≡ first_word kind.Short words.flags + 0 + (number_size part - 1) = omega (arith, is, size) in
+    ap (λ (xs : List ℕ). (first ∷ dst) ++ xs) (sym (low_bytes words.number_len words.number n.0 n.1))
     ∙ ap (λ (f : ℕ). f ∷ (dst ++ number_bytes part)) byte
-    ∙ bytes_said kind.Short 0 words dst [] [] (short_shaped first number dst small few).numbered refl (λ _. refl)
+    ∙ bytes_said kind.Short words.length_len words dst [] [] s.numbered (sym e) (λ _. refl)
 
 -- ---- headers of packets with a number and a length
 

@@ -1,13 +1,14 @@
 //! Headers, written from words into the caller's bytes.
-ghost use Rattle.std.specs.Prelude.{◌≡◌, ◌≢◌, ◌+◌, ◌%◌, ◌^◌, ◌<◌, ◌≤◌, ◌⊎◌, ◌↔◌, ◌++◌, ℕ, [], IsTrue, length, take, drop, replicate, pos, negsuc};
+ghost use Rattle.std.specs.Prelude.{◌≡◌, ◌≢◌, ◌+◌, ◌-◌, ◌%◌, ◌^◌, ◌<◌, ◌≤◌, ◌⊎◌, ◌↔◌, ◌++◌, ℕ, [], IsTrue, length, take, drop, replicate, pos, negsuc};
 ghost use Rattle.quic_base.specs.Number.{bytes_of};
 ghost use Rattle.quic_crypto.specs.PacketNumbers.{IsInRange};
+ghost use Rattle.quic_header_encode.specs.declared.long_type.HeaderKind.TheVariants as kind;
 ghost use Rattle.quic_header_encode.specs.Storing.{token_by, token_size, IsTyped};
 ghost use Rattle.quic_header_encode.specs.Starts.{long_front};
 ghost use Rattle.quic_c_headers.specs.Headers.{part_of};
 ghost use Rattle.quic_c_headers.specs.Reading.{kind_word};
 ghost use Rattle.quic_c_headers.specs.Shapes.{first_word, numbered_bytes, numbered_first, numbered_size, AreParts, IsNumbered, IsShaped};
-ghost use Rattle.quic_c_headers.specs.Written.{short_words, HasReserved, PacketHeaderNeedsMore, DescribesNoHeader, WrotePacketHeader};
+ghost use Rattle.quic_c_headers.specs.Written.{PacketHeaderNeedsMore, DescribesNoHeader, WrotePacketHeader};
 
 use crate::words::HeaderFields;
 use quic_crypto::packet_number::PacketNumber;
@@ -103,34 +104,49 @@ fn stored_length_len(said: &HeaderFields) -> usize
     if said.length_len == 4 { 4 } else { 2 }
 }
 
-/// Writes a short header of a first byte, whose lowest two bits say how many bytes of the number are written, at the
-/// front of `dest`, as `quic_wire_header_write_` does, and answers how many bytes it has. It answers -4 where `dest`
-/// has fewer; -1 just where no such header can be written: the first byte is above 0x7f or has a reserved bit, the id
-/// has more than 20 bytes, or the number is 2^62 or more. What stood behind the header stays, and all of it where
-/// nothing was written.
+// The first byte of a short header. All its flags are taken over at once, and the fixed bit, which is clear where its
+// flag is set, is turned by a sum: so this takes few instructions.
+#[inline(always)]
+fn short_first(flags: u8, number_len: u8) -> u8
+    requires some { 1 ≤ number_len }
+    requires few { number_len ≤ 4 }
+    ensures value { result ≡ first_word kind.Short flags + (number_len - 1) }
+    ensures low { result % 4 + 1 ≡ number_len }
+{
+    let bits = 64 * (flags / 64 % 2) + 32 * (flags / 32 % 2) + 4 * (flags / 4 % 2);
+    (64 + bits) % 128 + (number_len - 1)
+}
+
+/// Writes the short header that the words say with the receiver's id at the front of `dest`, as
+/// `quic_wire_header_write_` does, in fewer instructions, and answers how many bytes it has. It answers -4 where `dest`
+/// has fewer; -1 just where they say no header of this kind that can be written: the kind is another than 4, the id has
+/// more than 20 bytes, or the number is 2^62 or more or is written in no or more than four bytes. What stood behind the
+/// header stays, and all of it where nothing was written.
 #[unsafe(no_mangle)]
-pub extern "C" fn quic_wire_short_write_(
-    first: u32,
-    number: u64,
-    dst: &[u8],
-    dest: &mut [u8],
-) -> i32
+pub extern "C" fn quic_wire_short_write_(said: &HeaderFields, dst: &[u8], dest: &mut [u8]) -> i64
     ensures wrote { (result ≡ negsuc 3) ⊎ (result ≡ negsuc 0) ⊎ ((count : ℕ) × (result ≡ pos count)
-        × WrotePacketHeader (short_words first number) dst.now [] [] dest.old dest.new count) }
-    ensures room { result ≡ negsuc 3 → PacketHeaderNeedsMore (short_words first number) dst.now [] [] (length dest.old) }
-    ensures refused { result ≡ negsuc 0 → HasReserved first ⊎ DescribesNoHeader (short_words first number) dst.now [] [] }
-    ensures plain { (result ≡ negsuc 0) ⊎ (HasReserved first → ⊥) }
+        × WrotePacketHeader said.now dst.now [] [] dest.old dest.new count) }
+    ensures room { result ≡ negsuc 3 → PacketHeaderNeedsMore said.now dst.now [] [] (length dest.old) }
+    ensures refused { result ≡ negsuc 0 → (said.now.kind ≢ 4) ⊎ DescribesNoHeader said.now dst.now [] [] }
+    ensures short { (result ≡ negsuc 0) ⊎ (said.now.kind ≡ 4) }
     ensures same { (result ≡ negsuc 3) ⊎ (result ≡ negsuc 0) → dest.new ≡ dest.old }
 {
-    let count = (first % 4 + 1) as usize;
-    if first >= 128 || first / 8 % 4 != 0 || number >= 1 << 62 || dst.len() > 20 {
+    let HeaderFields {
+        kind,
+        flags,
+        number_len,
+        number,
+        ..
+    } = *said;
+    if kind != 4 || !is_shaped(said, dst, &[], &[]) {
         return -1;
     }
-    if dest.len() < 1 + dst.len() + count {
+    if dest.len() <= dst.len() + number_len as usize {
         return -4;
     }
-    let at = store_short(dest, first as u8, Exact(dst));
-    store_low(dest, at, number, count) as i32
+    let first = short_first(flags, number_len);
+    let at = store_short(dest, first, Exact(dst));
+    store_low(dest, at, number, (first % 4) as usize + 1) as i64
 }
 
 // Stores a long header up to its ids' end at the front.

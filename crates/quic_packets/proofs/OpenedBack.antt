@@ -15,7 +15,7 @@ use Rattle.quic_header_decode.specs.declared.decode_error.PacketDecodeError.{Pac
 use Rattle.quic_header_decode.specs.declared.decode_error.PacketDecodeError.TheVariants as decode
 use Rattle.quic_header_decode.specs.Refusal.{Refusal, RefusesHeader, refusal_of}
 use Rattle.quic_header_decode.specs.Grammar.{Cut, CutAnswer, Uncut}
-use Rattle.quic_header_decode.specs.Reading.{Context, IsRest}
+use Rattle.quic_header_decode.specs.Reading.{DecodeOptions, IsRest}
 use Rattle.quic_header_decode.specs.Headers.{IsOpenedBy}
 use Rattle.quic_header_decode.specs.Packet.{CutPacket}
 use Rattle.quic_header_encode.specs.Queries.{space_in}
@@ -46,7 +46,7 @@ cut_equal a b head end bytes =
     ∙ ap (λ (x : List ℕ). let p : CutPacket = record { head = b.head; header_end = b.header_end; bytes = x } in p) bytes
 
 -- bytes begin with one packet
-one_cut : (options : Context) (bytes : List ℕ) (one other : CutPacket) (a b : List ℕ) → CutsFirst options bytes one a → CutsFirst options bytes other b → (one ≡ other) × (a ≡ b)
+one_cut : (options : DecodeOptions) (bytes : List ℕ) (one other : CutPacket) (a b : List ℕ) → CutsFirst options bytes one a → CutsFirst options bytes other b → (one ≡ other) × (a ≡ b)
 one_cut options bytes one other a b x y =
     let same : (let r : Result (ProtectedHeader × ℕ × ℕ) Refusal = Ok (one.head, one.header_end, length one.bytes) in r) ≡ Ok (other.head, other.header_end, length other.bytes) =
     sym (cut_again options bytes one.head one.header_end (length one.bytes) x.cut) ∙ cut_again options bytes other.head other.header_end (length other.bytes) y.cut in
@@ -71,20 +71,20 @@ abbrev pub sealed_cut : ProtectedHeader → PacketContents → List ℕ → CutP
 sealed_cut found contents packet = record { head = found; header_end = header_size contents.header - size_in contents.header; bytes = packet }
 
 -- all that is known of what was sealed
-record Given (key : KeyPair) (options : Context) (expected : ℕ) (contents : PacketContents) (packet rest : List ℕ) : Type 0 where
+record Given (key : KeyPair) (options : DecodeOptions) (expected : ℕ) (contents : PacketContents) (packet rest : List ℕ) : Type 0 where
   laws : IsLawful key
   sealed : Sealed key contents packet
   read : IsReadBack options contents.header rest
   number : ExpandsIn contents.header expected contents.number
 
-abbrev FoundOf : KeyPair → Context → PacketContents → List ℕ → List ℕ → Type 0
+abbrev FoundOf : KeyPair → DecodeOptions → PacketContents → List ℕ → List ℕ → Type 0
 FoundOf key options contents packet rest = Found key key options contents.header contents.number contents.payload packet rest
 
-found_of : (key : KeyPair) (options : Context) (expected : ℕ) (contents : PacketContents) (packet rest : List ℕ) → Given key options expected contents packet rest → FoundOf key options contents packet rest
+found_of : (key : KeyPair) (options : DecodeOptions) (expected : ℕ) (contents : PacketContents) (packet rest : List ℕ) → Given key options expected contents packet rest → FoundOf key options contents packet rest
 found_of key options expected contents packet rest given =
     sealed_found key key (lawful key given.laws) options contents.header contents.number contents.payload packet rest given.sealed given.read
 
-top_length : (key : KeyPair) (options : Context) (contents : PacketContents) (rest : List ℕ) → IsReadBack options contents.header rest
+top_length : (key : KeyPair) (options : DecodeOptions) (contents : PacketContents) (rest : List ℕ) → IsReadBack options contents.header rest
     → length (sealed_header key.tag_size contents.header contents.payload) ≡ header_size contents.header
 top_length key options contents rest read =
     header_length contents.header (bytes_of 2 (2 ^ 14 + protected_len key.tag_size contents.header contents.payload)) (read_numbered options contents.header rest read)
@@ -104,7 +104,7 @@ sealed_payload_opens key contents packet laws sealed =
     laws.opens contents.number top contents.payload (let fits : contents.number < 2 ^ 62 = sealed.fits in omega arith)
     (front_bytes top (key.sealed contents.number top contents.payload) sealed.are_bytes) sealed.payload_bytes
 
-unlocked_same : (key : KeyPair) (options : Context) (expected : ℕ) (contents : PacketContents) (packet rest : List ℕ)
+unlocked_same : (key : KeyPair) (options : DecodeOptions) (expected : ℕ) (contents : PacketContents) (packet rest : List ℕ)
     → (given : Given key options expected contents packet rest) → (found : FoundOf key options contents packet rest)
     → (got : UnlockedPacket) → Unlocks key expected (sealed_cut found.cut.0 contents packet) got → Same key contents got
 unlocked_same key options expected contents packet rest given found got u =
@@ -130,7 +130,7 @@ none_some x e = cc
 some_same : {A : Type 0} (x y : A) → (let o : Option A = Some x in o) ≡ Some y → x ≡ y
 some_same x y e = cc
 
-key_returns : (key : KeyPair) (options : Context) (expected : ℕ) (contents : PacketContents) (packet rest : List ℕ)
+key_returns : (key : KeyPair) (options : DecodeOptions) (expected : ℕ) (contents : PacketContents) (packet rest : List ℕ)
     → (given : Given key options expected contents packet rest) → (found : FoundOf key options contents packet rest)
     → (opened : OpenedPacket) → OpensWithKey key expected (sealed_cut found.cut.0 contents packet) opened → opened ≡ returned key contents
 key_returns key options expected contents packet rest given found opened o =
@@ -138,7 +138,7 @@ key_returns key options expected contents packet rest given found opened o =
     opened_same opened (returned key contents) (o.header ∙ same.header_same) (o.header_bytes ∙ same.bytes_same)
     (o.number ∙ ap (λ (k : ℕ). let m : Option ℕ = Some k in m) same.number_same) (some_same opened.payload contents.payload (sym o.payload ∙ same.opened))
 
-key_refuses : (key : KeyPair) (options : Context) (expected : ℕ) (contents : PacketContents) (packet rest : List ℕ)
+key_refuses : (key : KeyPair) (options : DecodeOptions) (expected : ℕ) (contents : PacketContents) (packet rest : List ℕ)
     → (given : Given key options expected contents packet rest) → (found : FoundOf key options contents packet rest)
     → (e : OpenError) → RefusesWithKey key expected (sealed_cut found.cut.0 contents packet) e → e ≡ error.OutOfMemory
 key_refuses key options expected contents packet rest given found (error.Decode f) part = absurd (part.1 found.sample)
@@ -255,7 +255,7 @@ pub answers_uncut : {opening : Opening} {bytes : List ℕ} {f : OpenError} → (
 answers_uncut {opening} {bytes} {f} laws fits e same answer memory = refused_first opening bytes f laws fits (uncut_refused opening bytes e f same answer memory)
 
 -- a packet is cut
-abbrev pub IsCutBy : Context → List ℕ → CutPacket → Type 0
+abbrev pub IsCutBy : DecodeOptions → List ℕ → CutPacket → Type 0
 IsCutBy options bytes packet =
     ((a : Result (ProtectedHeader × ℕ × ℕ) Refusal) × CutAnswer options bytes a × (a ≡ Ok (packet.head, packet.header_end, length packet.bytes)))
     × (packet.bytes ≡ take (length packet.bytes) bytes)

@@ -10,7 +10,7 @@ use Rattle.quic_header_decode.specs.declared.decode_error.PacketDecodeError.TheV
 use Rattle.quic_header_decode.specs.Grammar.{Cut, Uncut, CutAnswer}
 use Rattle.quic_header_decode.specs.Packet.{CutPacket}
 use Rattle.quic_header_decode.specs.Queries.{space_of}
-use Rattle.quic_header_decode.specs.Reading.{Context}
+use Rattle.quic_header_decode.specs.Reading.{DecodeOptions}
 use Rattle.quic_packets.specs.declared.opening.OpenError.{OpenError}
 use Rattle.quic_packets.specs.declared.opening.OpenError.TheVariants as refused
 use Rattle.quic_packets.specs.Pairs.{KeyPair}
@@ -23,7 +23,7 @@ refuses_same (error.UnsupportedVersion src dst version) a same other = same
 refuses_same (error.InvalidHeader text) a same other = same
 refuses_same error.OutOfMemory a same other = absurd (other refl)
 
-uncut_given : (context : Context) (bytes : List ℕ) (e : PacketDecodeError) → (answer : (a : Result (ProtectedHeader × ℕ × ℕ) Refusal) × CutAnswer context bytes a × RefusesHeader e a)
+uncut_given : (context : DecodeOptions) (bytes : List ℕ) (e : PacketDecodeError) → (answer : (a : Result (ProtectedHeader × ℕ × ℕ) Refusal) × CutAnswer context bytes a × RefusesHeader e a)
     → refusal_of e ≢ NoMemory → Uncut context bytes (refusal_of e)
 uncut_given context bytes e answer other = subst (CutAnswer context bytes) (refuses_same e answer.0 answer.2 other) answer.1
 
@@ -32,11 +32,11 @@ no_memory (error.UnsupportedVersion src dst version) same = absurd cc
 no_memory (error.InvalidHeader text) same = absurd cc
 no_memory error.OutOfMemory same = refl
 
-cut_given : (context : Context) (bytes : List ℕ) (cut : ProtectedHeader × ℕ × ℕ) → (answer : (a : Result (ProtectedHeader × ℕ × ℕ) Refusal) × CutAnswer context bytes a × (a ≡ Ok cut)) → Cut context bytes cut.0 cut.1 cut.2
+cut_given : (context : DecodeOptions) (bytes : List ℕ) (cut : ProtectedHeader × ℕ × ℕ) → (answer : (a : Result (ProtectedHeader × ℕ × ℕ) Refusal) × CutAnswer context bytes a × (a ≡ Ok cut)) → Cut context bytes cut.0 cut.1 cut.2
 cut_given context bytes cut answer = subst (CutAnswer context bytes) answer.2 answer.1
 
 -- a packet that was cut
-pub cuts_first : (context : Context) (bytes : List ℕ) (packet : CutPacket)
+pub cuts_first : (context : DecodeOptions) (bytes : List ℕ) (packet : CutPacket)
     → ((a : Result (ProtectedHeader × ℕ × ℕ) Refusal) × CutAnswer context bytes a × (a ≡ Ok (packet.head, packet.header_end, length packet.bytes)))
     → packet.bytes ≡ take (length packet.bytes) bytes → CutsFirst context bytes packet (drop (length packet.bytes) bytes)
 cuts_first context bytes packet answer is = record {

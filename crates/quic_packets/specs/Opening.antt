@@ -10,7 +10,7 @@ use Rattle.quic_header_decode.specs.Grammar.{Cut, Uncut, IsKnownVersion}
 use Rattle.quic_header_decode.specs.Headers.{IsOpenedBy, without_number}
 use Rattle.quic_header_decode.specs.Packet.{CutPacket}
 use Rattle.quic_header_decode.specs.Queries.{space_of}
-use Rattle.quic_header_decode.specs.Reading.{Context, IsRest}
+use Rattle.quic_header_decode.specs.Reading.{DecodeOptions, IsRest}
 use Rattle.quic_header_decode.specs.Refusal.{refusal_of, NoMemory}
 use Rattle.quic_header_encode.specs.declared.header.Header.{Header}
 use Rattle.quic_header_encode.specs.declared.header.Header.TheVariants as header
@@ -28,7 +28,7 @@ use Rattle.quic_packets.specs.Sealing.{IsAppended, PacketContents, Sealed, seale
 pub record Opening : Type 0 where
   pub keys : SpaceId → KeyPair
   -- the parser of ids, the versions that are known, and whether the fixed bit may be clear
-  pub options : Context
+  pub options : DecodeOptions
   -- the parser takes memory
   pub takes_memory : Bool
   -- the number that is expected next in each space
@@ -54,7 +54,7 @@ packet_of x = record { header = x.header; header_bytes = x.header_data; number =
 -- ---- a packet that was cut
 
 -- the bytes begin with this packet, and rest follows it
-pub record CutsFirst (options : Context) (bytes : List ℕ) (packet : CutPacket) (rest : List ℕ) : Type 0 where
+pub record CutsFirst (options : DecodeOptions) (bytes : List ℕ) (packet : CutPacket) (rest : List ℕ) : Type 0 where
   pub cut : Cut options bytes packet.head packet.header_end (length packet.bytes)
   pub text : bytes ≡ packet.bytes ++ rest
 
@@ -164,7 +164,7 @@ pub data OpensAll (opening : Opening) : List ℕ → List OpenedPacket → Type 
 -- ---- sealed bytes
 
 -- a header that is read back where these bytes follow its packet
-abbrev pub IsReadBack : Context → Header → List ℕ → Type 0
+abbrev pub IsReadBack : DecodeOptions → Header → List ℕ → Type 0
 IsReadBack options (header.Initial h) rest =
     (h.version < 2 ^ 32) × IsKnownVersion options h.version × (length h.dst_cid ≤ 20) × (length h.src_cid ≤ 20)
 IsReadBack options (header.Long ty dst src number version) rest =

@@ -1,0 +1,463 @@
+//! The header of a packet as places in it.
+use super::{LongType, PacketPlace, ProtectedHeader};
+use crate::sys;
+use crate::text::Hex32;
+use core::fmt;
+use core::ops::Range;
+
+/// The header of a packet as places in it, before its protection is taken off: 32 bytes that borrow nothing.
+///
+/// ```
+/// use quic_wire::packet::{HeaderPlaces, ProtectedHeader};
+/// let packet = [0x41, 0xaa, 0xbb, 9, 9, 9, 9, 9];
+/// let header = HeaderPlaces::read(&packet, 2, &[1])?;
+/// assert_eq!(header.header(&packet), ProtectedHeader::Short { spin: false, dst_cid: &[0xaa, 0xbb] });
+/// assert_eq!((header.header_end(), header.end(), header.is_protected(), header.fixed_bit()), (3, 8, true, true));
+/// # Ok::<(), quic_wire::Error>(())
+/// ```
+#[derive(Clone, Copy, PartialEq, Eq, Hash)]
+pub struct HeaderPlaces(sys::HeaderPlaces);
+
+/// Why no header was read, or not of a whole packet.
+///
+/// ```
+/// use quic_wire::packet::{HeaderPlaces, HeaderError};
+/// // A Handshake packet of 100 bytes, of which one came.
+/// let bytes = [0xe0, 0, 0, 0, 1, 1, 0xaa, 0, 0x40, 100, 7];
+/// let error = HeaderPlaces::read(&bytes, 0, &[1]).unwrap_err();
+/// assert_eq!(error.to_string(), "packet too short to contain payload length");
+/// let HeaderError::CutOff(header) = error else { panic!() };
+/// assert_eq!((header.dst_cid(&bytes), header.header_end(), header.end()), (&[0xaa][..], 10, 11));
+/// ```
+#[derive(Clone, Copy, Debug, PartialEq, Eq, Hash)]
+pub enum HeaderError {
+    /// The version is none of those that were given. Its version and its ids are reported, of up to 255 bytes (RFC 8999).
+    UnsupportedVersion(HeaderPlaces),
+    /// The bytes end within the packet. All of its header is reported.
+    CutOff(HeaderPlaces),
+    /// No header can be read.
+    InvalidHeader(&'static str),
+}
+
+impl HeaderError {
+    pub(crate) fn reason(&self) -> &'static str {
+        match self {
+            HeaderError::UnsupportedVersion(_) => "unsupported version",
+            HeaderError::CutOff(_) => "packet too short to contain payload length",
+            HeaderError::InvalidHeader(reason) => reason,
+        }
+    }
+}
+
+impl fmt::Display for HeaderError {
+    fn fmt(&self, f: &mut fmt::Formatter<'_>) -> fmt::Result {
+        match self {
+            HeaderError::UnsupportedVersion(head) => write!(f, "unsupported version {:x}", head.version()),
+            _ => f.write_str(self.reason()),
+        }
+    }
+}
+
+impl core::error::Error for HeaderError {}
+
+// The kinds that the library tells.
+const INITIAL: u8 = 0;
+const ZERO_RTT: u8 = 1;
+const HANDSHAKE: u8 = 2;
+const RETRY: u8 = 3;
+const ONE_RTT: u8 = 4;
+const VERSION_NEGOTIATION: u8 = 5;
+
+impl HeaderPlaces {
+    /// Reads the header of the packet that bytes begin with. Ids of short headers have `cid_len` bytes; `versions` are
+    /// those that are read further than their ids. The fixed bit isn't looked at: see [`HeaderPlaces::fixed_bit`]. Ids of a
+    /// version negotiation that are longer than 20 bytes are reported by [`HeaderPlaces::read_version_negotiation`] alone.
+    ///
+    /// ```
+    /// use quic_wire::packet::{HeaderPlaces, HeaderError};
+    /// let packet = [0xc0, 0, 0, 0, 1, 1, 0xaa, 1, 0xbb, 1, 0x77, 2, 9, 9];
+    /// let header = HeaderPlaces::read(&packet, 0, &[1])?;
+    /// assert_eq!(header.end(), 14);
+    /// assert!(matches!(HeaderPlaces::read(&packet, 0, &[]), Err(HeaderError::UnsupportedVersion(_))));
+    /// # Ok::<(), quic_wire::Error>(())
+    /// ```
+    ///
+    /// # Errors
+    ///
+    /// Where no header can be read, or its packet isn't whole or of another version; then what was read is reported.
+    ///
+    /// # Panics
+    ///
+    /// Where `cid_len` is above 20.
+    #[inline]
+    pub fn read(bytes: &[u8], cid_len: usize, versions: &[u32]) -> Result<HeaderPlaces, HeaderError> {
+        let mut head = sys::HeaderPlaces::default();
+        match sys::header_read(bytes, u32::try_from(cid_len).unwrap_or(u32::MAX), versions, &mut head) {
+            0 => Ok(HeaderPlaces(head)),
+            reason => Err(HeaderPlaces(head).error(reason, cid_len)),
+        }
+    }
+
+    /// Where the short header ends that a packet begins with, whose id has `cid_len` bytes: where its number begins. It
+    /// is what [`HeaderPlaces::read`] tells of such a packet as [`HeaderPlaces::header_end`], with fewer instructions; `None` where no
+    /// short header begins there.
+    ///
+    /// ```
+    /// use quic_wire::packet::HeaderPlaces;
+    /// let packet = [0x40, 0xaa, 0xbb, 7];
+    /// assert_eq!(HeaderPlaces::short_header_end(&packet, 2), Some(3));
+    /// assert_eq!(HeaderPlaces::short_header_end(&packet, 4), None);
+    /// assert_eq!(HeaderPlaces::short_header_end(&[0xc0, 0xaa, 0xbb, 7], 2), None);
+    /// ```
+    #[inline]
+    pub fn short_header_end(packet: &[u8], cid_len: usize) -> Option<usize> {
+        match sys::short_read(packet, u32::try_from(cid_len).ok()?) {
+            0 => None,
+            end => Some(end),
+        }
+    }
+
+    /// Reads the header of the version negotiation that a packet is. Its ids are those of the packet that it answers,
+    /// which may be of any version, so they have up to 255 bytes (RFC 8999, section 6). [`HeaderPlaces::read`] tells the same
+    /// where both have at most 20, and refuses longer ones. `None` where no version negotiation begins there, or where
+    /// there are 4 GiB or more. The fixed bit isn't looked at.
+    ///
+    /// ```
+    /// use quic_wire::packet::{HeaderPlaces, VersionNegotiation};
+    /// let (dst_cid, src_cid) = (&[7; 30][..], &[][..]);
+    /// let mut packet = [0; 41];
+    /// VersionNegotiation { random: 0x40, dst_cid, src_cid, versions: &[1] }.encode(&mut packet)?;
+    /// let header = HeaderPlaces::read_version_negotiation(&packet).unwrap();
+    /// assert_eq!((header.dst_cid(&packet), header.src_cid(&packet)), (dst_cid, src_cid));
+    /// assert_eq!(header.versions(&packet).collect::<Vec<_>>(), [1]);
+    /// assert!(HeaderPlaces::read(&packet, 0, &[]).is_err());
+    /// # Ok::<(), quic_wire::WriteError>(())
+    /// ```
+    pub fn read_version_negotiation(packet: &[u8]) -> Option<HeaderPlaces> {
+        let mut head = sys::HeaderPlaces::default();
+        match sys::negotiation_read(packet, &mut head) {
+            0 => Some(HeaderPlaces(head)),
+            _ => None,
+        }
+    }
+
+    #[cold]
+    fn error(self, reason: i32, cid_len: usize) -> HeaderError {
+        assert!(cid_len <= crate::ids::MAX_CID_SIZE, "the ids of short headers have at most 20 bytes");
+        HeaderError::InvalidHeader(match reason {
+            1 => return HeaderError::UnsupportedVersion(self),
+            2 => "unexpected end of packet",
+            4 => "packet too small",
+            5 => "malformed cid",
+            6 => "token out of bounds",
+            7 => return HeaderError::CutOff(self),
+            // Places have 32 bits.
+            _ => "packet of 4 GiB or more",
+        })
+    }
+
+    /// The first byte as it stands.
+    ///
+    /// ```
+    /// use quic_wire::packet::HeaderPlaces;
+    /// let packet = [0xc0, 0, 0, 0, 1, 1, 0xaa, 1, 0xbb, 1, 0x77, 2, 9, 9];
+    /// let header = HeaderPlaces::read(&packet, 0, &[1])?;
+    /// assert_eq!(header.first(), 0xc0);
+    /// # Ok::<(), quic_wire::Error>(())
+    /// ```
+    #[inline]
+    pub fn first(&self) -> u8 {
+        self.0.first
+    }
+
+    /// Whether the fixed bit is set, as in all packets but those of RFC 9287. In a version negotiation clients ignore
+    /// it (RFC 9000, section 17.2.1).
+    ///
+    /// ```
+    /// use quic_wire::packet::HeaderPlaces;
+    /// let packet = [0xc0, 0, 0, 0, 1, 1, 0xaa, 1, 0xbb, 1, 0x77, 2, 9, 9];
+    /// let header = HeaderPlaces::read(&packet, 0, &[1])?;
+    /// assert!(header.fixed_bit());
+    /// # Ok::<(), quic_wire::Error>(())
+    /// ```
+    #[inline]
+    pub fn fixed_bit(&self) -> bool {
+        self.0.first & 0x40 != 0
+    }
+
+    /// Whether it is a short header (RFC 9000, section 17.3).
+    ///
+    /// ```
+    /// use quic_wire::packet::HeaderPlaces;
+    /// let packet = [0xc0, 0, 0, 0, 1, 1, 0xaa, 1, 0xbb, 1, 0x77, 2, 9, 9];
+    /// let header = HeaderPlaces::read(&packet, 0, &[1])?;
+    /// assert!(!header.is_short());
+    /// # Ok::<(), quic_wire::Error>(())
+    /// ```
+    #[inline]
+    pub fn is_short(&self) -> bool {
+        self.0.first < 0x80
+    }
+
+    /// Whether the packet has a number, under protection: all but Retry and version negotiation do.
+    ///
+    /// ```
+    /// use quic_wire::packet::HeaderPlaces;
+    /// let packet = [0xc0, 0, 0, 0, 1, 1, 0xaa, 1, 0xbb, 1, 0x77, 2, 9, 9];
+    /// let header = HeaderPlaces::read(&packet, 0, &[1])?;
+    /// assert!(header.is_protected());
+    /// # Ok::<(), quic_wire::Error>(())
+    /// ```
+    #[inline]
+    pub fn is_protected(&self) -> bool {
+        matches!(self.0.kind, INITIAL | ZERO_RTT | HANDSHAKE | ONE_RTT)
+    }
+
+    /// The version of QUIC; 0 of 1-RTT and of a version negotiation.
+    ///
+    /// ```
+    /// use quic_wire::packet::HeaderPlaces;
+    /// let packet = [0xc0, 0, 0, 0, 1, 1, 0xaa, 1, 0xbb, 1, 0x77, 2, 9, 9];
+    /// let header = HeaderPlaces::read(&packet, 0, &[1])?;
+    /// assert_eq!(header.version(), 1);
+    /// # Ok::<(), quic_wire::Error>(())
+    /// ```
+    #[inline]
+    pub fn version(&self) -> u32 {
+        self.0.version
+    }
+
+    /// The receiver's id in the packet.
+    ///
+    /// ```
+    /// use quic_wire::packet::HeaderPlaces;
+    /// let packet = [0xc0, 0, 0, 0, 1, 1, 0xaa, 1, 0xbb, 1, 0x77, 2, 9, 9];
+    /// let header = HeaderPlaces::read(&packet, 0, &[1])?;
+    /// assert_eq!(header.dst_cid(&packet), [0xaa]);
+    /// # Ok::<(), quic_wire::Error>(())
+    /// ```
+    ///
+    /// # Panics
+    ///
+    /// Where the bytes end before it does: they aren't those that the header was read of.
+    #[inline]
+    pub fn dst_cid<'a>(&self, packet: &'a [u8]) -> &'a [u8] {
+        let start = if self.is_short() { 1 } else { 6 };
+        &packet[start..start + usize::from(self.0.dcidlen)]
+    }
+
+    /// The sender's id in the packet, empty in a short header.
+    ///
+    /// ```
+    /// use quic_wire::packet::HeaderPlaces;
+    /// let packet = [0xc0, 0, 0, 0, 1, 1, 0xaa, 1, 0xbb, 1, 0x77, 2, 9, 9];
+    /// let header = HeaderPlaces::read(&packet, 0, &[1])?;
+    /// assert_eq!(header.src_cid(&packet), [0xbb]);
+    /// # Ok::<(), quic_wire::Error>(())
+    /// ```
+    ///
+    /// # Panics
+    ///
+    /// Where the bytes end before it does: they aren't those that the header was read of.
+    #[inline]
+    pub fn src_cid<'a>(&self, packet: &'a [u8]) -> &'a [u8] {
+        let start = if self.is_short() { 1 } else { 7 + usize::from(self.0.dcidlen) };
+        &packet[start..start + usize::from(self.0.scidlen)]
+    }
+
+    /// Where the token of an Initial packet stands in it; an empty range in others.
+    ///
+    /// ```
+    /// use quic_wire::packet::HeaderPlaces;
+    /// let packet = [0xc0, 0, 0, 0, 1, 1, 0xaa, 1, 0xbb, 1, 0x77, 2, 9, 9];
+    /// let header = HeaderPlaces::read(&packet, 0, &[1])?;
+    /// assert_eq!(header.token_pos(), 10..11);
+    /// # Ok::<(), quic_wire::Error>(())
+    /// ```
+    #[inline]
+    pub fn token_pos(&self) -> Range<usize> {
+        let start = self.0.token as usize;
+        start..start + self.0.tokenlen as usize
+    }
+
+    /// The token of an Initial packet; empty in others.
+    ///
+    /// ```
+    /// use quic_wire::packet::HeaderPlaces;
+    /// let packet = [0xc0, 0, 0, 0, 1, 1, 0xaa, 1, 0xbb, 1, 0x77, 2, 9, 9];
+    /// let header = HeaderPlaces::read(&packet, 0, &[1])?;
+    /// assert_eq!(header.token(&packet), [0x77]);
+    /// # Ok::<(), quic_wire::Error>(())
+    /// ```
+    ///
+    /// # Panics
+    ///
+    /// Where the bytes end before it does: they aren't those that the header was read of.
+    #[inline]
+    pub fn token<'a>(&self, packet: &'a [u8]) -> &'a [u8] {
+        &packet[self.token_pos()]
+    }
+
+    /// The token of a Retry and the 16 bytes of its integrity tag (RFC 9000, section 17.2.5; RFC 9001, section 5.8).
+    /// None of another packet, and where it is too short.
+    ///
+    /// ```
+    /// use quic_wire::packet::HeaderPlaces;
+    /// let mut packet = vec![0xf0, 0, 0, 0, 1, 0, 0, b't', b'o', b'k'];
+    /// packet.extend([9; 16]);
+    /// let header = HeaderPlaces::read(&packet, 0, &[1])?;
+    /// assert_eq!(header.retry(&packet), Some((&b"tok"[..], &[9; 16])));
+    /// # Ok::<(), quic_wire::Error>(())
+    /// ```
+    pub fn retry<'a>(&self, packet: &'a [u8]) -> Option<(&'a [u8], &'a [u8; 16])> {
+        if self.0.kind != RETRY {
+            return None;
+        }
+        packet.get(self.header_end()..self.end())?.split_last_chunk()
+    }
+
+    /// The versions that a version negotiation names (RFC 9000, section 17.2.1); none of another packet.
+    ///
+    /// ```
+    /// use quic_wire::packet::HeaderPlaces;
+    /// let packet = [0xc0, 0, 0, 0, 0, 0, 0, 0, 0, 0, 1, 0x6b, 0x33, 0x43, 0xcf];
+    /// let header = HeaderPlaces::read(&packet, 0, &[1])?;
+    /// assert_eq!(header.versions(&packet).collect::<Vec<_>>(), [1, 0x6b33_43cf]);
+    /// # Ok::<(), quic_wire::Error>(())
+    /// ```
+    pub fn versions<'a>(&self, packet: &'a [u8]) -> Versions<'a> {
+        let named = self.0.kind == VERSION_NEGOTIATION;
+        Versions(if named { packet.get(self.header_end()..self.end()).unwrap_or_default() } else { &[] })
+    }
+
+    /// How many bytes an Initial, Handshake or 0-RTT packet has from [`HeaderPlaces::header_end`] on, as it says; 0 of others.
+    ///
+    /// ```
+    /// use quic_wire::packet::HeaderPlaces;
+    /// let packet = [0xc0, 0, 0, 0, 1, 1, 0xaa, 1, 0xbb, 1, 0x77, 2, 9, 9];
+    /// let header = HeaderPlaces::read(&packet, 0, &[1])?;
+    /// assert_eq!(header.len_field(), 2);
+    /// # Ok::<(), quic_wire::Error>(())
+    /// ```
+    #[inline]
+    pub fn len_field(&self) -> u64 {
+        self.0.len
+    }
+
+    /// Where the packet ends in its bytes; where they end, if it is cut off.
+    ///
+    /// ```
+    /// use quic_wire::packet::HeaderPlaces;
+    /// let packet = [0xc0, 0, 0, 0, 1, 1, 0xaa, 1, 0xbb, 1, 0x77, 2, 9, 9];
+    /// let header = HeaderPlaces::read(&packet, 0, &[1])?;
+    /// assert_eq!(header.end(), 14);
+    /// # Ok::<(), quic_wire::Error>(())
+    /// ```
+    #[inline]
+    pub fn end(&self) -> usize {
+        self.0.end as usize
+    }
+
+    /// Where the header ends; where the number begins, if the packet has one.
+    ///
+    /// ```
+    /// use quic_wire::packet::HeaderPlaces;
+    /// let packet = [0xc0, 0, 0, 0, 1, 1, 0xaa, 1, 0xbb, 1, 0x77, 2, 9, 9];
+    /// let header = HeaderPlaces::read(&packet, 0, &[1])?;
+    /// assert_eq!(header.header_end(), 12);
+    /// # Ok::<(), quic_wire::Error>(())
+    /// ```
+    #[inline]
+    pub fn header_end(&self) -> usize {
+        self.0.header_end as usize
+    }
+
+    /// Where the packet stands that begins at a place of its datagram. One without a number has no room for protection.
+    ///
+    /// ```
+    /// use quic_wire::packet::HeaderPlaces;
+    /// let packet = [0xc0, 0, 0, 0, 1, 1, 0xaa, 1, 0xbb, 1, 0x77, 2, 9, 9];
+    /// let header = HeaderPlaces::read(&packet, 0, &[1])?;
+    /// assert_eq!(header.place(100).range(), 100..114);
+    /// # Ok::<(), quic_wire::Error>(())
+    /// ```
+    ///
+    /// # Panics
+    ///
+    /// Where the packet would end at 4 GiB or behind.
+    #[inline]
+    pub fn place(&self, begin: usize) -> PacketPlace {
+        let number = if self.is_protected() { self.header_end() } else { self.end() };
+        PacketPlace::of(begin, number, self.end())
+    }
+
+    /// What it says.
+    ///
+    /// ```
+    /// use quic_wire::packet::{HeaderPlaces, ProtectedHeader};
+    /// let packet = [0xc0, 0, 0, 0, 1, 1, 0xaa, 1, 0xbb, 1, 0x77, 2, 9, 9];
+    /// let header = HeaderPlaces::read(&packet, 0, &[1])?;
+    /// assert!(matches!(header.header(&packet), ProtectedHeader::Initial { len: 2, .. }));
+    /// # Ok::<(), quic_wire::Error>(())
+    /// ```
+    ///
+    /// # Panics
+    ///
+    /// Where the bytes end before its ids do: they aren't those that the header was read of.
+    #[inline]
+    pub fn header<'a>(&self, packet: &'a [u8]) -> ProtectedHeader<'a> {
+        let (dst_cid, src_cid) = (self.dst_cid(packet), self.src_cid(packet));
+        let (len, version) = (self.0.len, self.0.version);
+        match self.0.kind {
+            INITIAL => ProtectedHeader::Initial { dst_cid, src_cid, token_pos: self.token_pos(), len, version },
+            ZERO_RTT => ProtectedHeader::Long { ty: LongType::ZeroRtt, dst_cid, src_cid, len, version },
+            HANDSHAKE => ProtectedHeader::Long { ty: LongType::Handshake, dst_cid, src_cid, len, version },
+            RETRY => ProtectedHeader::Retry { dst_cid, src_cid, version },
+            ONE_RTT => ProtectedHeader::Short { spin: self.0.first & 0x20 != 0, dst_cid },
+            _ => ProtectedHeader::VersionNegotiate { random: self.0.first & 0x7f, dst_cid, src_cid },
+        }
+    }
+}
+
+impl fmt::Debug for HeaderPlaces {
+    fn fmt(&self, f: &mut fmt::Formatter<'_>) -> fmt::Result {
+        f.debug_struct("HeaderPlaces")
+            .field("first", &format_args!("{:02x}", self.0.first))
+            .field("version", &format_args!("{:08x}", self.0.version))
+            .field("dst_cid_len", &self.0.dcidlen)
+            .field("src_cid_len", &self.0.scidlen)
+            .field("token_pos", &self.token_pos())
+            .field("header_end", &self.header_end())
+            .field("end", &self.end())
+            .finish()
+    }
+}
+
+/// The versions that a version negotiation names.
+///
+/// ```
+/// use quic_wire::packet::HeaderPlaces;
+/// let packet = [0xc0, 0, 0, 0, 0, 0, 0, 0, 0, 0, 1];
+/// assert_eq!(HeaderPlaces::read(&packet, 0, &[])?.versions(&packet).next(), Some(1));
+/// # Ok::<(), quic_wire::Error>(())
+/// ```
+#[derive(Clone)]
+pub struct Versions<'a>(&'a [u8]);
+
+impl Iterator for Versions<'_> {
+    type Item = u32;
+
+    fn next(&mut self) -> Option<u32> {
+        let (version, rest) = self.0.split_first_chunk()?;
+        self.0 = rest;
+        Some(u32::from_be_bytes(*version))
+    }
+}
+
+impl core::iter::FusedIterator for Versions<'_> {}
+
+impl fmt::Debug for Versions<'_> {
+    fn fmt(&self, f: &mut fmt::Formatter<'_>) -> fmt::Result {
+        f.debug_list().entries(self.clone().map(Hex32)).finish()
+    }
+}

@@ -51,7 +51,8 @@ pub fn datagram_opened<C: ConnectionIdParser, H: HeaderKey, P: PacketKey>(
     requires packet { CanBeSealed packet.now }
     requires expected { AreExpected expected.now }
     requires found { IsFoundAgain
-        (⟦<SpaceKeys<H, P> as OpeningKeys<C>>⟧.opening keys.now parser.now versions.now false expected.now) packet.now [] }
+        (⟦<SpaceKeys<H, P> as OpeningKeys<C>>⟧.opening keys.now parser.now versions.now false expected.now)
+        packet.now [] }
     ensures opened { OnOk result ((opened : Opened)
         × (out.new.items ≡ out.old.items ++ (opened ∷ [])) × Carries opened packet.now) }
     ensures refused { IfErr result (λ e. IsFailure (⟦<SpaceKeys<H, P> as PairsOfKeys>⟧.pairs keys.now)

@@ -101,7 +101,8 @@ pub fn sealed_and_opened<C: ConnectionIdParser, H: HeaderKey, P: PacketKey>(
     requires front { (rest : List ℕ) → IsFoundAgain
         (⟦<SpaceKeys<H, P> as OpeningKeys<C>>⟧.opening keys.now parser.now versions.now false expected.now) first.now rest }
     requires back { IsFoundAgain
-        (⟦<SpaceKeys<H, P> as OpeningKeys<C>>⟧.opening keys.now parser.now versions.now false expected.now) second.now [] }
+        (⟦<SpaceKeys<H, P> as OpeningKeys<C>>⟧.opening keys.now parser.now versions.now false expected.now)
+        second.now [] }
     ensures opened { IfOk result (λ x. Carries x.0 first.now × Carries x.1 second.now) }
     ensures refused { IfErr result
         (λ e. IsFailure (⟦<SpaceKeys<H, P> as PairsOfKeys>⟧.pairs keys.now) first.now second.now e) }

@@ -95,7 +95,7 @@ kept_step opening before bytes now left new opened next it opens returns same =
       steps = (
         it.steps.0 ++ (opened ∷ []),
         subst (λ (xs : List OpenedPacket). OpensSome opening bytes xs next.items) (sym (map-append packet_of it.steps.0 (opened ∷ [])))
-        (steps_more opening bytes (map packet_of it.steps.0) left (packet_of opened) next.items it.steps.1 there some),
+            (steps_more opening bytes (map packet_of it.steps.0) left (packet_of opened) next.items it.steps.1 there some),
         appended_one before now new it.steps.0 opened it.steps.2 same,
       );
       progress = λ packets row.
@@ -123,7 +123,7 @@ kept_end opening before bytes now left new opened it opens returns same = record
   opened = (
     it.steps.0 ++ (opened ∷ []),
     subst (OpensAll opening bytes) (sym (map-append packet_of it.steps.0 (opened ∷ [])))
-    (steps_all opening bytes (map packet_of it.steps.0) left (packet_of opened) it.steps.1 (subst (Opens opening left (packet_of opened)) opens.left_is opens.opens)),
+        (steps_all opening bytes (map packet_of it.steps.0) left (packet_of opened) it.steps.1 (subst (Opens opening left (packet_of opened)) opens.left_is opens.opens)),
     appended_one before now new it.steps.0 opened it.steps.2 same,
   );
   returned = λ packets row.
@@ -131,7 +131,7 @@ kept_end opening before bytes now left new opened it opens returns same = record
       let s = row_end opening p.others left opened p.row returns in (
         p.returned.0 ++ (opened ∷ []),
         subst (λ (xs : List PacketContents). AreReturned opening xs (p.returned.0 ++ (opened ∷ []))) (sym (p.all ∙ ap (λ (xs : List PacketContents). p.done ++ xs) s.1))
-        (returned_one opening p.done s.0 p.returned.0 opened p.returned.1 s.2),
+            (returned_one opening p.done s.0 p.returned.0 opened p.returned.1 s.2),
         appended_one before now new p.returned.0 opened p.returned.2 same,
       );
 }

@@ -284,7 +284,9 @@ pub fn open_datagram<C: ConnectionIdParser, H: HeaderKey, P: PacketKey>(
     let mut left = Some(bytes);
     while let Some(bytes) = left.take() {
         let room = out.reserve(1).is_ok();
-        let (opened, rest) = match open_first(bytes, parser, versions, grease, keys, expected, room) {
+        let (opened, rest) = match open_first(
+            bytes, parser, versions, grease, keys, expected, room,
+        ) {
             Ok(parts) => parts,
             Err(e) => return Err(e),
         };

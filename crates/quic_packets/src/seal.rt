@@ -100,10 +100,10 @@ fn finish_last<H: HeaderKey, P: PacketKey>(
         (λ pn. out.new.items ≡ take partial.start out.old.items
         ++ H.protected keys.now.header (partial.header_len - pn.0)
         (finished pn partial.header_len (Some (P.tag_size keys.now.packet, P.sealed keys.now.packet number))
-            (drop partial.start out.old.items))) }
+        (drop partial.start out.old.items))) }
     ensures plain_bytes { IfSome partial.pn (λ pn. AreBytes
         (finished pn partial.header_len (Some (P.tag_size keys.now.packet, P.sealed keys.now.packet number))
-            (drop partial.start out.old.items))) }
+        (drop partial.start out.old.items))) }
 {
     partial.finish(
         &mut out.as_mut_slice()[partial.start..],

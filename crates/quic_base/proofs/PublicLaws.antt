@@ -78,7 +78,7 @@ length-short = encodings.length-short
 pub encodes_unique : (v u : ℕ) (b c r s : List ℕ) → b ++ r ≡ c ++ s → Encodes v b → Encodes u c → (v ≡ u) × (b ≡ c) × (r ≡ s)
 encodes_unique = encodings.encodes_unique
 
--- the shortest is as shortest_varint as any other, and alone in that
+-- the shortest is as short as any other, and alone in that
 pub short_least : (v : ℕ) (b : List ℕ) → Encodes v b → (length (shortest_varint v) ≤ length b) × (length b ≡ length (shortest_varint v) → b ≡ shortest_varint v)
 short_least = encodings.short_least
 

@@ -28,7 +28,7 @@ pub fn encodings()
     // No encoding begins another, and none encodes two numbers.
     ensures begins_none { (v u : ℕ) (b c r s : List ℕ) → b ++ r ≡ c ++ s → Encodes v b → Encodes u c
         → (v ≡ u) × (b ≡ c) × (r ≡ s) }
-    // No encoding is shorter than the shortest, and no other one as shortest_varint.
+    // No encoding is shorter than the shortest, and no other one as short.
     ensures least { (v : ℕ) (b : List ℕ) → Encodes v b → length (shortest_varint v) ≤ length b }
     ensures alone { (v : ℕ) (b : List ℕ) → Encodes v b → length b ≡ length (shortest_varint v) → b ≡ shortest_varint v }
     // What can be encoded is below 2^62.

@@ -83,7 +83,7 @@ pub struct HeaderRef<'a, I> {
     /// The kind.
     pub kind: HeaderKind,
     /// What the first byte has beside the bits of the type and of the number's length. Of long headers 0xc0, or 0x80
-    /// where the fixed bit is clear (RFC 9287). Of shortest_varint ones 0x40 and 0 in the same way, 0x20 for the spin bit and
+    /// where the fixed bit is clear (RFC 9287). Of short ones 0x40 and 0 in the same way, 0x20 for the spin bit and
     /// 0x04 for the key phase. Of a version negotiation all of it, with 0x80.
     pub first: u8,
     /// The version of QUIC. Short headers and version negotiations say none.
@@ -100,7 +100,7 @@ pub struct HeaderRef<'a, I> {
     pub length_len: usize,
 }
 
-/// Stores a shortest_varint header up to its number at the front, and answers where the number begins. The caller must ensure
+/// Stores a short header up to its number at the front, and answers where the number begins. The caller must ensure
 /// that the id has at most 20 bytes, and that there is room for it.
 #[inline(always)]
 pub fn store_short<I: StoredId>(out: &mut [u8], first: u8, dst_cid: I) -> usize
@@ -270,7 +270,7 @@ pub fn store_no_length(out: &mut [u8], at: usize, len: usize) -> usize
 }
 
 impl<I: StoredId> HeaderRef<'_, I> {
-    // The first byte of a header that isn't shortest_varint.
+    // The first byte of a header that isn't short.
     #[inline(always)]
     fn long_first(&self) -> u8
         requires long { IsLong self.now.kind }
@@ -366,7 +366,7 @@ impl<I: StoredId> HeaderRef<'_, I> {
         store_number(out, at, *self.number)
     }
 
-    /// Stores a header that isn't shortest_varint at the front, and answers how many bytes it has. Its length, where it has one,
+    /// Stores a header that isn't short at the front, and answers how many bytes it has. Its length, where it has one,
     /// is 0, which `set_len` or `PartialEncode::finish` fill in. The caller must ensure that there is room for it, and
     /// where SHORT_TOKEN is true that the token is empty or has 16 to 32 bytes.
     #[inline(always)]

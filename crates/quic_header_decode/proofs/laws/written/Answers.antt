@@ -100,7 +100,7 @@ returns-clause-negotiation c = λ context whole random dst src rest free fixed d
     negotiation_header context whole (long_front (bit_or 128 random) 0 dst src ++ rest) random dst src rest
     (record { long = omega arith; fixed = fixed; range = omega arith; dst_len = dst_len; src_len = src_len; text = ap (λ (n : ℕ). long_front n 0 dst src ++ rest) (or_shifted 1 7 random free) })
 
--- ---- shortest_varint headers
+-- ---- short headers
 
 abbrev short_first : Bool → Bool → ℕ → ℕ
 short_first spin key_phase low = 64 + bit spin 32 + bit key_phase 4 + low

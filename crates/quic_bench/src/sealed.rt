@@ -2,8 +2,7 @@
 //! pair of keys and every lawful parser of ids.
 ghost use Rattle.std.specs.Prelude.{◌≡◌, ◌++◌, ◌<◌, ◌∷◌, false, true, [], IfErr, IfOk, Ok, OnOk, length};
 ghost use Rattle.quic_frames.specs.Written.{IsPayload};
-ghost use Rattle.quic_packets.specs.Opening.{read_by, AreExpected};
-ghost use Rattle.quic_packets.specs.Spaces.{expected_in};
+ghost use Rattle.quic_packets.specs.Opening.{AreExpected};
 ghost use Rattle.quic_bench.specs.Outgoing.{CanBeSealed, Carries, IsFailure, IsFoundAgain, IsRefusedPacket};
 
 use crate::two_packets::{Failure, Outgoing, seal};
@@ -16,7 +15,7 @@ use quic_header_decode::parser::ConnectionIdParser;
 use quic_packets::keys::{Expected, SpaceKeys};
 use quic_packets::laws::one_packet;
 use quic_packets::opening::{Opened, open_datagram};
-use quic_packets::pairs::PairsOfKeys;
+use quic_packets::pairs::{OpeningKeys, PairsOfKeys};
 use quic_packets::seal::SealError;
 use std::alloc::Global;
 
@@ -52,7 +51,8 @@ pub fn datagram_opened<C: ConnectionIdParser, H: HeaderKey, P: PacketKey>(
 ) -> Result<(), Failure>
     requires packet { CanBeSealed packet.now }
     requires expected { AreExpected expected.now }
-    requires found { IsFoundAgain (read_by (C.parsed parser.now) versions.now false) (expected_in expected.now)
+    requires found { IsFoundAgain
+        (⟦<SpaceKeys<H, P> as OpeningKeys<C>>⟧.opening keys.now parser.now versions.now false expected.now)
         packet.now [] }
     ensures opened { OnOk result ((opened : Opened)
         × (out.new.items ≡ out.old.items ++ (opened ∷ [])) × Carries opened packet.now) }

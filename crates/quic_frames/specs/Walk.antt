@@ -1,13 +1,15 @@
 -- How far an iterator has come over its payload, and what it still gives.
-use Rattle.std.specs.Prelude.{◌≡◌, ⊤, ◌↔◌, ℕ, ◌-◌, ◌<◌, ◌≤◌, List, [], ◌∷◌, ◌++◌, length, map, drop, slice_range, Option, Some, None, Result, Ok, Err, Bool, true, false, if◌then◌else◌}
+use Rattle.std.specs.Prelude.{◌≡◌, ⊤, ◌↔◌, ℕ, ◌-◌, ◌<◌, ◌≤◌, List, [], ◌∷◌, ◌++◌, length, map, drop, slice_range, Option, Some, None, Result, Ok, Err, IsErr, IfErr, IfOk, codes, Bool, true, false, if◌then◌else◌}
 use Rattle.quic_frames.specs.declared.frame.Frame.{Frame}
 use Rattle.quic_frames.specs.declared.frame.Frame.TheVariants as frames
 use Rattle.quic_errors.specs.declared.invalid_frame.InvalidFrame.{InvalidFrame}
+use Rattle.quic_errors.specs.declared.transport_error.Error.{Error}
+use Rattle.quic_errors.specs.Codes.{IsError, protocol_violation}
 use Rattle.quic_frame_fields.specs.AckPlace.{BlocksStand}
 use Rattle.quic_frame_fields.specs.Field.{Value, Number, Bytes, Ranges}
 use Rattle.quic_frame_fields.specs.Table.{is_open}
 use Rattle.quic_frame_fields.specs.declared.frame.fault.Fault.{Fault}
-use Rattle.quic_frame_fields.specs.Payload.{TypedFrame, IsFrame, AreFrames, IsBroken}
+use Rattle.quic_frame_fields.specs.Payload.{TypedFrame, IsFrame, AreFrames, IsBroken, IsEither}
 use Rattle.quic_frame_fields.specs.Reading.{Item, Whole, Broken, Invalid, invalid, items_of}
 use Rattle.quic_frames.specs.Meaning.{meaning_of}
 use Rattle.quic_frames.specs.InRange.{HasNoTypeZero}
@@ -88,3 +90,16 @@ abbrev pub Advances : IterState → Option (Result Frame InvalidFrame) → IterS
 Advances old None new = (left old ≡ []) × (new ≡ old)
 Advances old (Some (Ok frame)) new = Finds old frame new
 Advances old (Some (Err i)) new = (left old ≡ Broken (invalid_of i) ∷ []) × (new ≡ record old { is_broken = true })
+
+-- ---- No public clause cites what follows.
+
+-- An iterator begins at the front of a payload, which is frames, or frames and then something that is none, and gives
+-- just these; or the payload is empty, and that is reported.
+pub record BeginsWalk (strict : Bool) (payload : List ℕ) (result : Result IterState Error) : Type 0 where
+  pub empty : IsErr result ↔ (payload ≡ [])
+  pub refusal : IfErr result (λ e. IsError e protocol_violation (codes "packet payload is empty"))
+  pub first : IfOk result (λ it. it ≡ first_of strict payload)
+  pub either : IsEither strict None payload
+  pub frames : IfOk result (λ it. GivesFrames strict payload it)
+  pub broken : IfOk result (λ it. GivesBroken strict payload it)
+  pub few : IfOk result (λ it. length (left it) ≤ length payload)

@@ -9,14 +9,13 @@ use crate::two_packets::{Failure, Outgoing, seal};
 use bytes::BytesMut;
 use quic_canon::canonical::{CanonError, canonical_of};
 use quic_canon::laws::{one_least, written_is_least};
-use quic_crypto::crypto::{HeaderKey, PacketKey};
 use quic_frames::frame::Frame;
-use quic_header_decode::parser::ConnectionIdParser;
-use quic_packets::keys::{Expected, SpaceKeys};
+use quic_packets::crypto::{HeaderKey, PacketKey};
 use quic_packets::laws::one_packet;
-use quic_packets::opening::{Opened, open_datagram};
+use quic_packets::packet::{
+    ConnectionIdParser, Expected, Opened, SealError, SpaceKeys, open_datagram,
+};
 use quic_packets::pairs::{OpeningKeys, PairsOfKeys};
-use quic_packets::seal::SealError;
 use std::alloc::Global;
 
 /// Seals a packet twice, and answers whether both times give the same bytes: they do.

@@ -7,15 +7,14 @@ ghost use Rattle.quic_packets.specs.Sealing.{IsAppended, SealedFrames};
 ghost use Rattle.quic_bench.specs.Outgoing.{AreSealed, CanBeSealed, Carries, IsFailure, IsFoundAgain, IsRefusedPacket};
 
 use bytes::BytesMut;
-use quic_crypto::crypto::{HeaderKey, PacketKey};
 use quic_frames::frame::Frame;
-use quic_header_decode::parser::ConnectionIdParser;
-use quic_header_encode::header::Header;
-use quic_packets::keys::{Expected, SpaceKeys};
+use quic_packets::crypto::{HeaderKey, PacketKey};
 use quic_packets::laws;
-use quic_packets::opening::{OpenError, Opened, open_packet};
+use quic_packets::packet::{
+    ConnectionIdParser, Expected, Header, OpenError, Opened, SealError, SpaceKeys, open_packet,
+    seal_packet,
+};
 use quic_packets::pairs::{OpeningKeys, PairsOfKeys};
-use quic_packets::seal::{SealError, seal_packet};
 use std::alloc::Global;
 
 /// A packet that is to be sealed.

@@ -12,8 +12,8 @@ ghost use Rattle.quic_c.specs.declared.words.CFrame.{CFrame};
 
 use crate::ack_gaps::store;
 use crate::words::CFrame;
-use quic_errors::frame_type::FrameType;
 use quic_frame_fields::frame::put;
+use quic_frames::frame::FrameType;
 
 // Whether the words say a frame that has a head.
 fn has_header(words: &CFrame, last: bool) -> bool

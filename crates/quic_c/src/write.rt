@@ -13,12 +13,11 @@ use crate::show::parts_of;
 use crate::words::CFrame;
 use quic_base::ids::{ConnectionId, Dir, ResetToken, StreamId};
 use quic_base::varint::VarInt;
-use quic_errors::frame_type::FrameType;
-use quic_errors::transport_error::Code;
 use quic_frames::frame::{
-    AckFrequency, ApplicationClose, Close, ConnectionClose, Crypto, Datagram, Frame,
+    AckFrequency, ApplicationClose, Close, ConnectionClose, Crypto, Datagram, Frame, FrameType,
     NewConnectionId, NewToken, ResetStream, StopSending, Stream,
 };
+use quic_frames::transport_error::Code;
 
 fn are_varints(numbers: [u64; 5]) -> bool
     ensures { IsTrue result ↔ AreNumeric numbers }

@@ -38,17 +38,17 @@ static void frames(void) {
 }
 
 static void headers(void) {
-  STRUCT(head);
-  FIELD(head, kind);
-  FIELD(head, first);
-  FIELD(head, dcidlen);
-  FIELD(head, scidlen);
-  FIELD(head, version);
-  FIELD(head, header_end);
-  FIELD(head, end);
-  FIELD(head, token);
-  FIELD(head, tokenlen);
-  FIELD(head, len);
+  STRUCT(header);
+  FIELD(header, kind);
+  FIELD(header, first);
+  FIELD(header, dcidlen);
+  FIELD(header, scidlen);
+  FIELD(header, version);
+  FIELD(header, header_end);
+  FIELD(header, end);
+  FIELD(header, token);
+  FIELD(header, tokenlen);
+  FIELD(header, len);
 }
 
 static void params(void) {

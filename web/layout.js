@@ -14,7 +14,7 @@ export const LAYOUT = {
   range: { size: 16, fields: { start: [0, 8], end: [8, 8] } },
   ack_ranges: { size: 24, fields: { begin: [0, 8], end: [8, 8], largest: [16, 8] } },
   canon: { size: 24, fields: { len: [0, 8], last_type: [8, 8], reason: [16, 8] } },
-  head: {
+  header: {
     size: 32,
     fields: {
       kind: [0, 1], first: [1, 1], dcidlen: [2, 1], scidlen: [3, 1], version: [4, 4], header_end: [8, 4], end: [12, 4],

@@ -52,7 +52,7 @@ export class Library {
     this.calls = calls;
     this.memory = calls.memory;
     this.free = aligned(Number(calls.__heap_base.value));
-    for (const name of ["frames", "frame", "ack_ranges", "canon", "head", "params"]) {
+    for (const name of ["frames", "frame", "ack_ranges", "canon", "header", "params"]) {
       this[name] = new Struct(this.memory, name, this.take(LAYOUT[name].size));
     }
     this.count = this.take(8);
@@ -230,13 +230,13 @@ export class Library {
     }
     const spoken = this.speak(versions);
     const answer = this.call(
-      "head_read", this.at(this.input + offset), BigInt(this.length - offset), idLength, this.at(this.versions), spoken,
-      this.at(this.head.place),
+      "header_read", this.at(this.input + offset), BigInt(this.length - offset), idLength, this.at(this.versions), spoken,
+      this.at(this.header.place),
     );
     if (answer < OK) {
       throw new Error(`quic_wire_header_read_ answered ${answer}`);
     }
-    const hasLongId = () => this.head.number("dcidlen") > MAX_ID || this.head.number("scidlen") > MAX_ID;
+    const hasLongId = () => this.header.number("dcidlen") > MAX_ID || this.header.number("scidlen") > MAX_ID;
     return answer === PACKET_UNSUPPORTED_VERSION && hasLongId() ? PACKET_MALFORMED_CID : answer;
   }
 
@@ -250,8 +250,8 @@ export class Library {
       reason = this.cutPacket(end, choices);
       if (reason === OK) {
         begins.push(end);
-        kinds.push(this.head.number("kind"));
-        end += this.head.number("end");
+        kinds.push(this.header.number("kind"));
+        end += this.header.number("end");
       }
     } while (reason === OK && end < this.length);
     begins.push(end);
@@ -265,12 +265,12 @@ export class Library {
 
   // What is shown of the packet at |offset|: its places in the datagram.
   packetWords(offset, reason) {
-    const word = (field) => this.head.number(field);
+    const word = (field) => this.header.number(field);
     const dcid = offset + (word("first") & LONG_FORM ? 6 : 1);
     return {
       kind: word("kind"), version: word("version"), reason, begin: offset, end: offset + word("end"),
       dcid, dcidlen: word("dcidlen"), scid: dcid + word("dcidlen") + 1, scidlen: word("scidlen"),
-      token: offset + word("token"), tokenlen: word("tokenlen"), number: offset + word("head_end"),
+      token: offset + word("token"), tokenlen: word("tokenlen"), number: offset + word("header_end"),
     };
   }
 

@@ -177,7 +177,7 @@ static void headers_and_sets(void) {
     static const struct { const char *name; size_t len; } acks[] = {{"runs4", 2}, {"packets", 100}};
     static const char *const orders[] = {"order", "packets", "packets-r", "down", "up-r", "hole", "any"};
     for (kind_of_header = 0; kind_of_header < 3; kind_of_header++)
-        COMPARE("a head that is written", headers[kind_of_header], 10000.0, {"ours", head}, {"crate", PEER(quinn_header)});
+        COMPARE("a header that is written", headers[kind_of_header], 10000.0, {"ours", head}, {"crate", PEER(quinn_header)});
     for (size_t k = 0; k < LENGTH(acks); k++) {
         generate(acks[k].name, acks[k].len);
         COMPARE("an ACK of a set", acks[k].name, 1000.0, {"ours", ack_written, ack_set},
@@ -209,7 +209,7 @@ static int ends_in_hex(const struct dirent *entry) {
 
 int main(int argc, char **argv) {
     static const struct { char kind; const char *name; } kinds[] = {
-        {'a', "all datagrams"}, {'s', "short heads"}, {'i', "Initial heads"}, {'h', "Handshake heads"}};
+        {'a', "all datagrams"}, {'s', "short headers"}, {'i', "Initial headers"}, {'h', "Handshake headers"}};
     struct dirent **files;
     if (argc != 3) return 2;
     rounds = (u32)atoi(argv[1]);

@@ -18,16 +18,16 @@ PLACES = "quic_header_decode/specs/Places"
 NEGOTIATION = "quic_c_headers/specs/Negotiation"
 
 # A header: its section in RFC 9000, its name in ProtectedHeader and in Header with what they hold, its type.
-HeaderAt = collections.namedtuple("HeaderAt", "title section read written type")
+Figure = collections.namedtuple("Figure", "title section read written type")
 LONG = ("(head.Long ty dst src len version)", "(header.Long ty dst src number version)")
 ALL = [
-    HeaderAt("Version Negotiation", "17.2.1", "(head.VersionNegotiate random dst src)",
+    Figure("Version Negotiation", "17.2.1", "(head.VersionNegotiate random dst src)",
          "(header.VersionNegotiate random src dst)", None),
-    HeaderAt("Initial", "17.2.2", "(head.Initial h)", "(header.Initial h)", "kind.Initial"),
-    HeaderAt("0-RTT", "17.2.3", *LONG, "kind.Standard ZeroRtt"),
-    HeaderAt("Handshake", "17.2.4", *LONG, "kind.Standard Handshake"),
-    HeaderAt("Retry", "17.2.5", "(head.Retry dst src version)", "(header.Retry dst src version)", "kind.Retry"),
-    HeaderAt("1-RTT", "17.3.1", "(head.Short spin dst)", "(header.Short spin key_phase dst number)", None),
+    Figure("Initial", "17.2.2", "(head.Initial h)", "(header.Initial h)", "kind.Initial"),
+    Figure("0-RTT", "17.2.3", *LONG, "kind.Standard ZeroRtt"),
+    Figure("Handshake", "17.2.4", *LONG, "kind.Standard Handshake"),
+    Figure("Retry", "17.2.5", "(head.Retry dst src version)", "(header.Retry dst src version)", "kind.Retry"),
+    Figure("1-RTT", "17.3.1", "(head.Short spin dst)", "(header.Short spin key_phase dst number)", None),
 ]
 # The RFC's names of fields.
 NAMES = {
@@ -48,7 +48,7 @@ KINDS = {
 WRITTEN = {
     "Version Negotiation": ("long_front (bit_or 128 random) 0 dst src", "<front..>"),
     "Initial": ("long_front (long_first h.version kind.Initial (number_size h.number)) h.version h.dst_cid h.src_cid"
-                " ++ (short (length h.token) ++ h.token)", "<front..> ++ (len ++ number_bytes h.number)"),
+                " ++ (shortest_varint (length h.token) ++ h.token)", "<front..> ++ (len ++ number_bytes h.number)"),
     "0-RTT": ("long_front (long_first version (kind.Standard ty) (number_size number)) version dst src",
               "<front..> ++ (len ++ number_bytes number)"),
     "Retry": ("long_front (first_byte version kind.Retry) version dst src", "<front..>"),

@@ -36,9 +36,9 @@ class Server(http.server.SimpleHTTPRequestHandler):
     # What was asked for.
     asked = []
 
-    def send_header(self):
+    def send_head(self):
         self.asked.append(self.path)
-        return super().send_header()
+        return super().send_head()
 
     def do_POST(self):
         self.asked.append(self.path)

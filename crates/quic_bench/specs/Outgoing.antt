@@ -4,7 +4,7 @@ use Rattle.quic_base.specs.declared.ids.SpaceId.{SpaceId}
 use Rattle.quic_frames.specs.InRange.{CanFollow}
 use Rattle.quic_header_encode.specs.Queries.{space_in}
 use Rattle.quic_header_encode.specs.Writing.{IsWritable, has_number}
-use Rattle.quic_header_decode.specs.Reading.{Context}
+use Rattle.quic_header_decode.specs.Reading.{DecodeOptions}
 use Rattle.quic_packets.specs.declared.opening.OpenError.TheVariants as error
 use Rattle.quic_packets.specs.declared.opening.Opened.{Opened}
 use Rattle.quic_packets.specs.declared.seal.SealError.{SealError}
@@ -28,7 +28,7 @@ pub record CanBeSealed (packet : Outgoing) : Type 0 where
 
 -- A packet that is found again where these bytes follow it: its header is read back, and its number is found by the one
 -- that is expected in its space.
-pub record IsFoundAgain (context : Context) (expected : SpaceId → ℕ) (packet : Outgoing) (rest : List ℕ) : Type 0 where
+pub record IsFoundAgain (context : DecodeOptions) (expected : SpaceId → ℕ) (packet : Outgoing) (rest : List ℕ) : Type 0 where
   pub head : IsReadBack context packet.header.now rest
   pub number : ExpandsIn packet.header.now (expected (space_in packet.header.now)) packet.number
 

@@ -4,4 +4,4 @@
 mod canonical;
 mod words;
 
-pub use words::CanonicalWords;
+pub use words::CCanonical;

@@ -7,7 +7,7 @@ use Rattle.quic_frame_fields.specs.AckPlace.{BlocksStand}
 use Rattle.quic_frame_fields.specs.Field.{Value, Number, Bytes, Ranges}
 use Rattle.quic_frame_fields.specs.Table.{is_open}
 use Rattle.quic_frame_fields.specs.declared.frame.fault.Fault.{Fault}
-use Rattle.quic_frame_fields.specs.Payload.{Found, IsFrame, AreFrames, IsBroken}
+use Rattle.quic_frame_fields.specs.Payload.{TypedFrame, IsFrame, AreFrames, IsBroken}
 use Rattle.quic_frame_fields.specs.Reading.{Item, Whole, Broken, Invalid, invalid, items_of}
 use Rattle.quic_frames.specs.Meaning.{meaning_of}
 use Rattle.quic_frames.specs.InRange.{HasNoTypeZero}
@@ -31,22 +31,22 @@ resumed payload offset last strict = record
     { strict = strict; payload = payload; offset = offset; last = last; is_broken = false }
 
 -- an item without its place
-abbrev pub unplaced : Item → Result Found Invalid
+abbrev pub unplaced : Item → Result TypedFrame Invalid
 unplaced (Whole start stop found) = Ok found
 unplaced (Broken i) = Err i
 
-abbrev pub given : Found → Result Found Invalid
+abbrev pub given : TypedFrame → Result TypedFrame Invalid
 given found = Ok found
 
 -- It still gives just the frames that the payload is,
 abbrev pub GivesFrames : Bool → List ℕ → IterState → Type 0
-GivesFrames strict payload state = (found : List Found) → AreFrames strict found payload
+GivesFrames strict payload state = (found : List TypedFrame) → AreFrames strict found payload
     → map unplaced (left state) ≡ map given found
 
 -- or those before what is none, and then what is reported of that.
 abbrev pub GivesBroken : Bool → List ℕ → IterState → Type 0
 GivesBroken strict payload state =
-    (found : List Found) (type : Option ℕ) (reason : Fault) → IsBroken strict None found payload type reason
+    (found : List TypedFrame) (type : Option ℕ) (reason : Fault) → IsBroken strict None found payload type reason
     → map unplaced (left state) ≡ map given found ++ Err (invalid type reason) ∷ []
 
 abbrev pub bytes_of_value : Value → Option (List ℕ)
@@ -59,7 +59,7 @@ last_bytes before [] = before
 last_bytes before (value ∷ values) = last_bytes (bytes_of_value value) values
 
 -- The frame stands in the payload from start to stop, and where its last value is bytes, they end there too.
-pub record Stands (strict : Bool) (payload : List ℕ) (start stop : ℕ) (found : Found) : Type 0 where
+pub record Stands (strict : Bool) (payload : List ℕ) (start stop : ℕ) (found : TypedFrame) : Type 0 where
   pub some : start < stop
   pub within : stop ≤ length payload
   pub encoded : IsFrame strict found (slice_range payload start stop)
@@ -73,7 +73,7 @@ StandsAsRead type frame bytes = ⊤
 
 -- A frame was found, from the place before to the place after.
 pub record Finds (old : IterState) (frame : Frame) (new : IterState) : Type 0 where
-  pub found : Found
+  pub found : TypedFrame
   pub says : found.frame ≡ meaning_of frame
   pub distinct : HasNoTypeZero frame
   pub comes : new ≡ record old { offset = new.offset; last = Some found.type }

@@ -2,7 +2,7 @@
 -- 9287), and with as many zeros in place of its length as are asked for.
 use Rattle.std.specs.Prelude.{◌≡◌, ℕ, ◌+◌, ◌-◌, ◌*◌, ◌/◌, ◌%◌, ◌<◌, ◌≤◌, ◌^◌, ◌⊎◌, Bool, true, false, List, [], ◌∷◌, ◌++◌, length, take, drop, replicate, ◌==◌, if◌then◌else◌}
 use Rattle.quic_base.specs.Number.{has_bit, bytes_of}
-use Rattle.quic_base.specs.Varint.{short, size}
+use Rattle.quic_base.specs.Varint.{shortest_varint, size}
 use Rattle.quic_crypto.specs.declared.packet_number.PacketNumber.{PacketNumber}
 use Rattle.quic_crypto.specs.PacketNumbers.{IsInRange, number_bytes, number_size}
 use Rattle.quic_header_encode.specs.declared.header.Header.{Header}
@@ -17,7 +17,7 @@ use Rattle.quic_header_encode.specs.declared.long_type.LongType.TheVariants.{Han
 use Rattle.quic_header_encode.specs.Types.{type_number}
 use Rattle.quic_header_encode.specs.Writing.{header_with, header_bytes, header_size}
 
--- the bits that say a long header's type under a version, and a short header's or a version negotiation's, which have
+-- the bits that say a long header's type under a version, and a shortest_varint header's or a version negotiation's, which have
 -- none
 abbrev pub type_bits : HeaderKind → ℕ → ℕ
 type_bits head.Initial version = 16 * type_number version kind.Initial
@@ -37,7 +37,7 @@ number_bits head.Short number = number_size number - 1
 number_bits head.VersionNegotiate number = 0
 
 -- The header that is said. Of its first byte, first is what neither the type nor the number says: 0x20 is the spin bit
--- and 0x04 the key phase of a short header, and a version negotiation has seven bits of it as it likes.
+-- and 0x04 the key phase of a shortest_varint header, and a version negotiation has seven bits of it as it likes.
 abbrev pub header_of : HeaderKind → ℕ → ℕ → List ℕ → List ℕ → List ℕ → PacketNumber → Header
 header_of head.Initial first version dst src token number =
     header.Initial (record { dst_cid = dst; src_cid = src; token = token; number = number; version = version })
@@ -119,7 +119,7 @@ pub record IsStorable {I : Type 0} (id : I → List ℕ) (said : HeaderRef I) : 
 abbrev pub IsShortToken : List ℕ → Type 0
 IsShortToken token = (length token ≡ 0) ⊎ ((16 ≤ length token) × (length token ≤ 32))
 
--- all headers but short ones
+-- all headers but shortest_varint ones
 abbrev pub IsLong : HeaderKind → Type 0
 IsLong head.Initial = Unit {0}
 IsLong head.ZeroRtt = Unit {0}
@@ -175,7 +175,7 @@ version_said said = version_by said.kind said.version
 
 -- a token behind its length, which an Initial header has
 abbrev pub token_by : HeaderKind → List ℕ → List ℕ
-token_by head.Initial token = short (length token) ++ token
+token_by head.Initial token = shortest_varint (length token) ++ token
 token_by head.ZeroRtt token = []
 token_by head.Handshake token = []
 token_by head.Retry token = []
@@ -197,19 +197,19 @@ end_by head.VersionNegotiate len number = []
 abbrev pub end_bytes : {I : Type 0} → HeaderRef I → List ℕ
 end_bytes said = end_by said.kind said.length_len said.number.now
 
--- So many bytes have room for the header, and for what its ids are written with. A short header has no sender's id.
+-- So many bytes have room for the header, and for what its ids are written with. A shortest_varint header has no sender's id.
 pub record HasLongRoom {I : Type 0} (id : I → List ℕ) (room : I → ℕ) (said : HeaderRef I) (size : ℕ) : Type 0 where
   pub whole : stored_len id said ≤ size
   pub dst : 6 + room said.dst_cid ≤ size
   pub src : 7 + length (id said.dst_cid) + room said.src_cid ≤ size
 
 abbrev pub room_by : HeaderKind → ℕ → ℕ → ℕ
-room_by head.Initial short long = long
-room_by head.ZeroRtt short long = long
-room_by head.Handshake short long = long
-room_by head.Retry short long = long
-room_by head.Short short long = short
-room_by head.VersionNegotiate short long = long
+room_by head.Initial shortest_varint long = long
+room_by head.ZeroRtt shortest_varint long = long
+room_by head.Handshake shortest_varint long = long
+room_by head.Retry shortest_varint long = long
+room_by head.Short shortest_varint long = shortest_varint
+room_by head.VersionNegotiate shortest_varint long = long
 
 pub record HasStoreRoom {I : Type 0} (id : I → List ℕ) (room : I → ℕ) (said : HeaderRef I) (size : ℕ) : Type 0 where
   pub whole : stored_len id said ≤ size
@@ -247,5 +247,5 @@ pub record TakesLen (width place size : ℕ) : Type 0 where
   pub known : (width ≡ 2) ⊎ (width ≡ 4)
   pub behind : width ≤ place
   pub within : place ≤ size
-  pub short : width ≡ 2 → size < place + 2 ^ 14
+  pub shortest_varint : width ≡ 2 → size < place + 2 ^ 14
   pub long : width ≡ 4 → size < place + 2 ^ 30

@@ -2,7 +2,7 @@
 -- RFC 9001, sections 5.3 and 5.4).
 use Rattle.std.specs.Prelude.{IsTrue, ◌≤◌, take, drop, ℕ, ◌+◌, ◌-◌, ◌<◌, ◌^◌, Bool, true, false, Option, Some, None, List, [], ◌∷◌, ◌++◌, length, bit_or, if◌then◌else◌}
 use Rattle.quic_base.specs.Number.{bytes_of}
-use Rattle.quic_base.specs.Varint.{short, size}
+use Rattle.quic_base.specs.Varint.{shortest_varint, size}
 use Rattle.quic_crypto.specs.Keys.{payload_in}
 use Rattle.quic_crypto.specs.PacketNumbers.{IsInRange, number_bytes, number_size}
 use Rattle.quic_header_encode.specs.declared.header.Header.{Header}
@@ -28,7 +28,7 @@ bit b n = if b then n else 0
 abbrev pub header_front : Header → List ℕ
 header_front (header.Initial h) =
     long_front (long_first h.version kind.Initial (number_size h.number)) h.version h.dst_cid h.src_cid
-    ++ (short (length h.token) ++ h.token)
+    ++ (shortest_varint (length h.token) ++ h.token)
 header_front (header.Long ty dst src number version) = long_front
     (long_first version (kind.Standard ty) (number_size number)) version dst src
 header_front (header.Retry dst src version) = long_front (first_byte version kind.Retry) version dst src

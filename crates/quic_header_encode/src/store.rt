@@ -2,7 +2,7 @@
 //! whole arrays whose ends the next field covers.
 ghost use Rattle.std.specs.Prelude.{◌≡◌, ◌+◌, ◌*◌, ◌^◌, ◌<◌, ◌≤◌, ◌⊎◌, ◌∷◌, ◌++◌, List, ℕ, length, take, drop, replicate, true, ◌↔◌, IsTrue};
 ghost use Rattle.quic_base.specs.ConnectionId.{long_id};
-ghost use Rattle.quic_base.specs.Varint.{short, size};
+ghost use Rattle.quic_base.specs.Varint.{shortest_varint, size};
 ghost use Rattle.quic_crypto.specs.PacketNumbers.{IsInRange};
 ghost use Rattle.quic_header_encode.specs.Starts.{long_front};
 ghost use Rattle.quic_header_encode.specs.Storing.{end_bytes, end_size, first_byte_of, stored_bytes, stored_len, token_bytes, token_size, version_said, with_len, HasStoreRoom, HasLongRoom, HasLow, IsExact, IsStorable, IsLong, IsShortToken, TakesLen};
@@ -83,7 +83,7 @@ pub struct HeaderRef<'a, I> {
     /// The kind.
     pub kind: HeaderKind,
     /// What the first byte has beside the bits of the type and of the number's length. Of long headers 0xc0, or 0x80
-    /// where the fixed bit is clear (RFC 9287). Of short ones 0x40 and 0 in the same way, 0x20 for the spin bit and
+    /// where the fixed bit is clear (RFC 9287). Of shortest_varint ones 0x40 and 0 in the same way, 0x20 for the spin bit and
     /// 0x04 for the key phase. Of a version negotiation all of it, with 0x80.
     pub first: u8,
     /// The version of QUIC. Short headers and version negotiations say none.
@@ -100,7 +100,7 @@ pub struct HeaderRef<'a, I> {
     pub length_len: usize,
 }
 
-/// Stores a short header up to its number at the front, and answers where the number begins. The caller must ensure
+/// Stores a shortest_varint header up to its number at the front, and answers where the number begins. The caller must ensure
 /// that the id has at most 20 bytes, and that there is room for it.
 #[inline(always)]
 pub fn store_short<I: StoredId>(out: &mut [u8], first: u8, dst_cid: I) -> usize
@@ -162,11 +162,11 @@ pub fn store_long_start<I: StoredId>(
 /// it has fewer than 2^62 bytes, and where SHORT is true that it is empty or has 16 to 32.
 #[inline(always)]
 pub fn store_token<const SHORT: bool>(out: &mut [u8], at: usize, token: &[u8]) -> usize
-    requires short { SHORT ≡ true → IsShortToken token.now }
+    requires shortest_varint { SHORT ≡ true → IsShortToken token.now }
     requires numeric { length token.now < 2 ^ 62 }
     requires room { at + (size (length token.now) + length token.now) ≤ length out.old }
     ensures end { result ≡ at + (size (length token.now) + length token.now) }
-    ensures front { take result out.new ≡ take at out.old ++ (short (length token.now) ++ token.now) }
+    ensures front { take result out.new ≡ take at out.old ++ (shortest_varint (length token.now) ++ token.now) }
     ensures back { drop result out.new ≡ drop result out.old }
     ensures len { length out.new ≡ length out.old }
 {
@@ -181,11 +181,11 @@ pub fn store_token<const SHORT: bool>(out: &mut [u8], at: usize, token: &[u8]) -
 #[inline(always)]
 #[tactic(auto, using(crate::proofs::Stores::size_small))]
 fn store_short_token<const SHORT: bool>(out: &mut [u8], at: usize, token: &[u8]) -> usize
-    requires short { SHORT ≡ true → IsShortToken token.now }
+    requires shortest_varint { SHORT ≡ true → IsShortToken token.now }
     requires small { length token.now < 2 ^ 6 }
     requires room { at + (size (length token.now) + length token.now) ≤ length out.old }
     ensures end { result ≡ at + (size (length token.now) + length token.now) }
-    ensures front { take result out.new ≡ take at out.old ++ (short (length token.now) ++ token.now) }
+    ensures front { take result out.new ≡ take at out.old ++ (shortest_varint (length token.now) ++ token.now) }
     ensures back { drop result out.new ≡ drop result out.old }
     ensures len { length out.new ≡ length out.old }
 {
@@ -200,7 +200,7 @@ fn store_short_token<const SHORT: bool>(out: &mut [u8], at: usize, token: &[u8])
 // Stores bytes, of which there are some: 16 to 32 by stores.
 #[inline(always)]
 fn store_some<const SHORT: bool>(out: &mut [u8], at: usize, bytes: &[u8]) -> usize
-    requires short { SHORT ≡ true → IsShortToken bytes.now }
+    requires shortest_varint { SHORT ≡ true → IsShortToken bytes.now }
     requires some { 0 < length bytes.now }
     requires room { at + length bytes.now ≤ length out.old }
     ensures end { result ≡ at + length bytes.now }
@@ -217,13 +217,13 @@ fn store_some<const SHORT: bool>(out: &mut [u8], at: usize, bytes: &[u8]) -> usi
 
 // Stores a number of 2^6 or more in its shortest encoding, and answers where it ends.
 #[inline(always)]
-#[tactic(auto, unfolding(quic_base::specs::Varint::short, quic_base::specs::Varint::size, quic_base::specs::Number::bytes_of))]
+#[tactic(auto, unfolding(quic_base::specs::Varint::shortest_varint, quic_base::specs::Varint::size, quic_base::specs::Number::bytes_of))]
 fn store_var(out: &mut [u8], at: usize, n: u64) -> usize
     requires large { 2 ^ 6 ≤ n }
     requires numeric { n < 2 ^ 62 }
     requires room { at + size n ≤ length out.old }
     ensures end { result ≡ at + size n }
-    ensures front { take result out.new ≡ take at out.old ++ short n }
+    ensures front { take result out.new ≡ take at out.old ++ shortest_varint n }
     ensures back { drop result out.new ≡ drop result out.old }
     ensures len { length out.new ≡ length out.old }
 {
@@ -243,7 +243,7 @@ fn store_long_token(out: &mut [u8], at: usize, token: &[u8]) -> usize
     requires numeric { length token.now < 2 ^ 62 }
     requires room { at + (size (length token.now) + length token.now) ≤ length out.old }
     ensures end { result ≡ at + (size (length token.now) + length token.now) }
-    ensures front { take result out.new ≡ take at out.old ++ (short (length token.now) ++ token.now) }
+    ensures front { take result out.new ≡ take at out.old ++ (shortest_varint (length token.now) ++ token.now) }
     ensures back { drop result out.new ≡ drop result out.old }
     ensures len { length out.new ≡ length out.old }
 {
@@ -270,7 +270,7 @@ pub fn store_no_length(out: &mut [u8], at: usize, len: usize) -> usize
 }
 
 impl<I: StoredId> HeaderRef<'_, I> {
-    // The first byte of a header that isn't short.
+    // The first byte of a header that isn't shortest_varint.
     #[inline(always)]
     fn long_first(&self) -> u8
         requires long { IsLong self.now.kind }
@@ -334,7 +334,7 @@ impl<I: StoredId> HeaderRef<'_, I> {
     // Stores the token of an Initial header behind its length.
     #[inline(always)]
     fn store_its_token<const SHORT_TOKEN: bool>(&self, out: &mut [u8], at: usize) -> usize
-        requires short { SHORT_TOKEN ≡ true → IsShortToken self.now.token.now }
+        requires shortest_varint { SHORT_TOKEN ≡ true → IsShortToken self.now.token.now }
         requires numeric { length self.now.token.now < 2 ^ 62 }
         requires room { at + token_size self.now.kind self.now.token.now ≤ length out.old }
         ensures end { result ≡ at + token_size self.now.kind self.now.token.now }
@@ -366,14 +366,14 @@ impl<I: StoredId> HeaderRef<'_, I> {
         store_number(out, at, *self.number)
     }
 
-    /// Stores a header that isn't short at the front, and answers how many bytes it has. Its length, where it has one,
+    /// Stores a header that isn't shortest_varint at the front, and answers how many bytes it has. Its length, where it has one,
     /// is 0, which `set_len` or `PartialEncode::finish` fill in. The caller must ensure that there is room for it, and
     /// where SHORT_TOKEN is true that the token is empty or has 16 to 32 bytes.
     #[inline(always)]
     pub fn store_long<const SHORT_TOKEN: bool>(&self, out: &mut [u8]) -> usize
         requires long { IsLong self.now.kind }
         requires storable { IsStorable I.id self.now }
-        requires short { SHORT_TOKEN ≡ true → IsShortToken self.now.token.now }
+        requires shortest_varint { SHORT_TOKEN ≡ true → IsShortToken self.now.token.now }
         requires room { HasLongRoom I.id I.room self.now (length out.old) }
         ensures end { result ≡ stored_len I.id self.now }
         ensures front { take result out.new ≡ stored_bytes I.id self.now }
@@ -395,7 +395,7 @@ impl<I: StoredId> HeaderRef<'_, I> {
     #[inline(always)]
     pub fn store<const SHORT_TOKEN: bool>(&self, out: &mut [u8]) -> usize
         requires storable { IsStorable I.id self.now }
-        requires short { SHORT_TOKEN ≡ true → IsShortToken self.now.token.now }
+        requires shortest_varint { SHORT_TOKEN ≡ true → IsShortToken self.now.token.now }
         requires room { HasStoreRoom I.id I.room self.now (length out.old) }
         ensures end { result ≡ stored_len I.id self.now }
         ensures front { take result out.new ≡ stored_bytes I.id self.now }

@@ -12,7 +12,7 @@ use Rattle.quic_packets.specs.declared.opening.OpenError.{OpenError}
 use Rattle.quic_packets.specs.declared.opening.OpenError.TheVariants as error
 use Rattle.quic_header_decode.specs.Refusal.{Refusal, refusal_of}
 use Rattle.quic_header_decode.specs.Grammar.{Cut, Uncut}
-use Rattle.quic_header_decode.specs.Reading.{Context, IsRest}
+use Rattle.quic_header_decode.specs.Reading.{DecodeOptions, IsRest}
 use Rattle.quic_header_decode.specs.Headers.{IsOpenedBy}
 use Rattle.quic_header_decode.specs.Queries.{space_of}
 use Rattle.quic_header_encode.specs.Queries.{space_in}
@@ -35,7 +35,7 @@ expands_in_same (header.Short spin key_phase dst number) expected m n a b = expa
 expands_in_same (header.VersionNegotiate random src dst) expected m n a b = absurd a
 
 -- all that is known of what was sealed, and of the bytes that begin with it
-pub record Given (seal : KeyPair) (key : KeyPair) (context : Context) (expected : ℕ) (bytes : List ℕ) (h : Header) (n : ℕ) (payload packet rest : List ℕ) : Type 0 where
+pub record Given (seal : KeyPair) (key : KeyPair) (context : DecodeOptions) (expected : ℕ) (bytes : List ℕ) (h : Header) (n : ℕ) (payload packet rest : List ℕ) : Type 0 where
   pub laws : Lawful seal key
   pub sealed : Sealed seal h n payload packet
   pub read : IsReadBack context h rest
@@ -49,7 +49,7 @@ record Same (seal : KeyPair) (key : KeyPair) (h : Header) (n : ℕ) (payload : L
   number_same : m ≡ n
   opened : key.opened m head body ≡ Some payload
 
-unlocked_same : (seal : KeyPair) (key : KeyPair) (context : Context) (expected : ℕ) (bytes : List ℕ) (h : Header) (n : ℕ) (payload packet rest : List ℕ)
+unlocked_same : (seal : KeyPair) (key : KeyPair) (context : DecodeOptions) (expected : ℕ) (bytes : List ℕ) (h : Header) (n : ℕ) (payload packet rest : List ℕ)
     → (given : Given seal key context expected bytes h n payload packet rest) → (found : Found seal key context h n payload packet rest)
     → (got : Header) (head body : List ℕ) (m : ℕ) → Unlocked key expected found.cut.0 (header_size h - size_in h) packet got head body m → Same seal key h n payload got head body m
 unlocked_same seal key context expected bytes h n payload packet rest given found got head body m u =
@@ -74,7 +74,7 @@ record SameCut (h found : ProtectedHeader) (p at q len : ℕ) : Type 0 where
   place : p ≡ at
   end : q ≡ len
 
-same_cut : (context : Context) (bytes : List ℕ) (h found : ProtectedHeader) (p at q len : ℕ) → Cut context bytes h p q → Cut context bytes found at len → SameCut h found p at q len
+same_cut : (context : DecodeOptions) (bytes : List ℕ) (h found : ProtectedHeader) (p at q len : ℕ) → Cut context bytes h p q → Cut context bytes found at len → SameCut h found p at q len
 same_cut context bytes h found p at q len one other =
     let same : (let r : Result (ProtectedHeader × ℕ × ℕ) Refusal = Ok (h, p, q) in r) ≡ Ok (found, at, len) = sym (cut_again context bytes h p q one) ∙ cut_again context bytes found at len other in
     let parts : (let x : ProtectedHeader × ℕ × ℕ = (h, p, q) in x) ≡ (found, at, len) = cc in
@@ -87,7 +87,7 @@ some_same : {A : Type 0} (x y : A) → (let o : Option A = Some x in o) ≡ Some
 some_same x y e = cc
 
 -- the keys and the expected number of a packet's space
-key_gives : (seal : KeyPair) (key : KeyPair) (context : Context) (expected : ℕ) (bytes : List ℕ) (h : Header) (n : ℕ) (payload packet rest : List ℕ)
+key_gives : (seal : KeyPair) (key : KeyPair) (context : DecodeOptions) (expected : ℕ) (bytes : List ℕ) (h : Header) (n : ℕ) (payload packet rest : List ℕ)
     → (given : Given seal key context expected bytes h n payload packet rest) → (found : Found seal key context h n payload packet rest)
     → (got : Header) (head : List ℕ) (m : ℕ) (opened : List ℕ) → KeyGives key expected found.cut.0 (header_size h - size_in h) packet got head (Some m) opened
     → (got ≡ h) × (head ≡ sealed_header seal.tag_size h payload) × ((let o : Option ℕ = Some m in o) ≡ Some n) × (opened ≡ payload)
@@ -95,7 +95,7 @@ key_gives seal key context expected bytes h n payload packet rest given found go
     let same = unlocked_same seal key context expected bytes h n payload packet rest given found got head part.0 m part.1 in
     (same.header_same, same.bytes_same, ap (λ (k : ℕ). let o : Option ℕ = Some k in o) same.number_same, some_same opened payload (sym part.2 ∙ same.opened))
 
-key_refuses : (seal : KeyPair) (key : KeyPair) (context : Context) (expected : ℕ) (bytes : List ℕ) (h : Header) (n : ℕ) (payload packet rest : List ℕ)
+key_refuses : (seal : KeyPair) (key : KeyPair) (context : DecodeOptions) (expected : ℕ) (bytes : List ℕ) (h : Header) (n : ℕ) (payload packet rest : List ℕ)
     → (given : Given seal key context expected bytes h n payload packet rest) → (found : Found seal key context h n payload packet rest)
     → (e : OpenError) → KeyRefuses key expected found.cut.0 (header_size h - size_in h) packet e → e ≡ error.OutOfMemory
 key_refuses seal key context expected bytes h n payload packet rest given found (error.Decode f) part = absurd (part.1 found.sample)
@@ -113,10 +113,10 @@ space_none a (Some c) e f = cc
 space_none a None e f = cc
 
 -- all that is known of what was sealed by the keys of its space, and of the bytes that begin with it
-abbrev pub Known : (SpaceId → KeyPair) → (SpaceId → KeyPair) → Context → (SpaceId → ℕ) → List ℕ → Header → ℕ → List ℕ → List ℕ → List ℕ → Type 0
+abbrev pub Known : (SpaceId → KeyPair) → (SpaceId → KeyPair) → DecodeOptions → (SpaceId → ℕ) → List ℕ → Header → ℕ → List ℕ → List ℕ → List ℕ → Type 0
 Known seal key context expected bytes h n payload packet rest = Given (seal (space_in h)) (key (space_in h)) context (expected (space_in h)) bytes h n payload packet rest
 
-part_gives : (seal : SpaceId → KeyPair) (key : SpaceId → KeyPair) (context : Context) (expected : SpaceId → ℕ) (bytes : List ℕ) (h : Header) (n : ℕ) (payload packet rest : List ℕ)
+part_gives : (seal : SpaceId → KeyPair) (key : SpaceId → KeyPair) (context : DecodeOptions) (expected : SpaceId → ℕ) (bytes : List ℕ) (h : Header) (n : ℕ) (payload packet rest : List ℕ)
     → (given : Known seal key context expected bytes h n payload packet rest) → (found : Found (seal (space_in h)) (key (space_in h)) context h n payload packet rest)
     → (got : Header) (head : List ℕ) (number : Option ℕ) (opened : List ℕ) → PartGives key expected found.cut.0 (header_size h - size_in h) packet got head number opened
     → (got ≡ h) × (head ≡ sealed_header (seal (space_in h)).tag_size h payload) × (number ≡ Some n) × (opened ≡ payload)
@@ -126,7 +126,7 @@ part_gives seal key context expected bytes h n payload packet rest given found g
     key_gives (seal (space_in h)) (key (space_in h)) context (expected (space_in h)) bytes h n payload packet rest given found got head m opened
     (subst (λ (s : SpaceId). KeyGives (key s) (expected s) found.cut.0 (header_size h - size_in h) packet got head (Some m) opened) (space_same (space_in h) part.0 (space_of found.cut.0) found.cut.2 part.1) part.2)
 
-pub gives_back : (seal : SpaceId → KeyPair) (key : SpaceId → KeyPair) (context : Context) (expected : SpaceId → ℕ) (bytes : List ℕ) (h : Header) (n : ℕ) (payload packet rest : List ℕ)
+pub gives_back : (seal : SpaceId → KeyPair) (key : SpaceId → KeyPair) (context : DecodeOptions) (expected : SpaceId → ℕ) (bytes : List ℕ) (h : Header) (n : ℕ) (payload packet rest : List ℕ)
     → Known seal key context expected bytes h n payload packet rest
     → (got : Header) (head : List ℕ) (number : Option ℕ) (opened : List ℕ) (left : Option Filled) → PacketGives key context expected bytes got head number opened left
     → IsBack (seal (space_in h)).tag_size h n payload rest got head number opened left
@@ -143,7 +143,7 @@ gives_back seal key context expected bytes h n payload packet rest given got hea
     let back = part_gives seal key context expected bytes h n payload packet rest given found got head number opened p3 in
     record { header_back = back.0; bytes_back = back.1; number_back = back.2; payload_back = back.3; rest_back = subst (IsRest left) behind gives.5 }
 
-part_refuses : (seal : SpaceId → KeyPair) (key : SpaceId → KeyPair) (context : Context) (expected : SpaceId → ℕ) (bytes : List ℕ) (h : Header) (n : ℕ) (payload packet rest : List ℕ)
+part_refuses : (seal : SpaceId → KeyPair) (key : SpaceId → KeyPair) (context : DecodeOptions) (expected : SpaceId → ℕ) (bytes : List ℕ) (h : Header) (n : ℕ) (payload packet rest : List ℕ)
     → (given : Known seal key context expected bytes h n payload packet rest) → (found : Found (seal (space_in h)) (key (space_in h)) context h n payload packet rest)
     → (e : OpenError) → PartRefuses key expected found.cut.0 (header_size h - size_in h) packet e → e ≡ error.OutOfMemory
 part_refuses seal key context expected bytes h n payload packet rest given found (error.Decode f) part =
@@ -154,7 +154,7 @@ part_refuses seal key context expected bytes h n payload packet rest given found
     (subst (λ (s : SpaceId). KeyRefuses (key s) (expected s) found.cut.0 (header_size h - size_in h) packet error.Unsealed) (space_same (space_in h) part.0 (space_of found.cut.0) found.cut.2 part.1) part.2)
 part_refuses seal key context expected bytes h n payload packet rest given found error.OutOfMemory part = refl
 
-uncut_back : (seal : KeyPair) (key : KeyPair) (context : Context) (expected : ℕ) (bytes : List ℕ) (h : Header) (n : ℕ) (payload packet rest : List ℕ)
+uncut_back : (seal : KeyPair) (key : KeyPair) (context : DecodeOptions) (expected : ℕ) (bytes : List ℕ) (h : Header) (n : ℕ) (payload packet rest : List ℕ)
     → AreBytes bytes → (given : Given seal key context expected bytes h n payload packet rest) → (r : Refusal) → Uncut context bytes r → ⊥
 uncut_back seal key context expected bytes h n payload packet rest fits given r uncut =
     let found = sealed_found seal key given.laws context h n payload packet rest given.sealed given.read in
@@ -164,7 +164,7 @@ uncut_back seal key context expected bytes h n payload packet rest fits given r 
     let never = uncut_again context bytes r fits uncut in
     let clash : (let x : Result (ProtectedHeader × ℕ × ℕ) Refusal = Ok (found.cut.0, at, length packet) in x) ≡ Err r = sym yes ∙ never in cc
 
-pub refuses_back : (seal : SpaceId → KeyPair) (key : SpaceId → KeyPair) (context : Context) (expected : SpaceId → ℕ) (bytes : List ℕ) (h : Header) (n : ℕ) (payload packet rest : List ℕ)
+pub refuses_back : (seal : SpaceId → KeyPair) (key : SpaceId → KeyPair) (context : DecodeOptions) (expected : SpaceId → ℕ) (bytes : List ℕ) (h : Header) (n : ℕ) (payload packet rest : List ℕ)
     → AreBytes bytes → Known seal key context expected bytes h n payload packet rest
     → (takes_memory : Bool) (e : OpenError) → PacketRefuses takes_memory key context expected bytes e → e ≡ error.OutOfMemory
 refuses_back seal key context expected bytes h n payload packet rest fits given takes_memory (error.Decode f) (inl uncut) =
@@ -183,7 +183,7 @@ refuses_back seal key context expected bytes h n payload packet rest fits given 
     part_refuses seal key context expected bytes h n payload packet rest given found e p3
 
 -- what follows a packet is shorter than the datagram
-pub gives_shorter : (key : SpaceId → KeyPair) (context : Context) (expected : SpaceId → ℕ) (bytes : List ℕ) (got : Header) (head : List ℕ) (number : Option ℕ) (opened : List ℕ) (left : Option Filled)
+pub gives_shorter : (key : SpaceId → KeyPair) (context : DecodeOptions) (expected : SpaceId → ℕ) (bytes : List ℕ) (got : Header) (head : List ℕ) (number : Option ℕ) (opened : List ℕ) (left : Option Filled)
     → PacketGives key context expected bytes got head number opened left → IfSome left (λ f. length f.items < length bytes)
 gives_shorter key context expected bytes got head number opened None gives = tt
 gives_shorter key context expected bytes got head number opened (Some f) gives =
@@ -191,7 +191,7 @@ gives_shorter key context expected bytes got head number opened (Some f) gives =
     omega (arith, cut_positive context bytes gives.0 gives.1 gives.2 gives.3, ap length part, length-drop gives.2 bytes, gives.5.1)
 
 -- what was sealed can be opened
-pub sealed_opens : (keys : KeyPair) (context : Context) (expected n : ℕ) (h : Header) (payload packet rest : List ℕ)
+pub sealed_opens : (keys : KeyPair) (context : DecodeOptions) (expected n : ℕ) (h : Header) (payload packet rest : List ℕ)
     → IsLawful keys → Sealed keys h n payload packet → IsReadBack context h rest → ExpandsIn h expected n
     → Opens keys context expected (packet ++ rest) (length packet) h n payload
 sealed_opens keys context expected n h payload packet rest lawful sealed read number =

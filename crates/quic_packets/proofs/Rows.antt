@@ -6,26 +6,26 @@ use Rattle.quic_base.specs.declared.ids.SpaceId.{SpaceId}
 use Rattle.quic_header_encode.specs.Queries.{space_in}
 use Rattle.quic_header_encode.specs.declared.header.Header.{Header}
 use Rattle.quic_packets.specs.declared.opening.Opened.{Opened}
-use Rattle.quic_header_decode.specs.Reading.{Context}
+use Rattle.quic_header_decode.specs.Reading.{DecodeOptions}
 use Rattle.quic_packets.specs.Pairs.{KeyPair}
 use Rattle.quic_packets.specs.Sealing.{IsAppended, Sealed}
 use Rattle.quic_packets.specs.Opening.{PacketRefuses, IsReadBack, ExpandsIn, IsBack}
 use Rattle.quic_packets.specs.declared.opening.OpenError.TheVariants as error
 use Rattle.quic_packets.specs.Rows.{Row, last, more, AreBack, IsPacket, Progress, Gives, Steps, start, step, Ends, IsFront}
 
-pub record Kept (seal : SpaceId → KeyPair) (key : SpaceId → KeyPair) (context : Context) (expected : SpaceId → ℕ) (before : List Opened) (bytes : List ℕ) (now : List Opened) (left : List ℕ) : Type 0 where
+pub record Kept (seal : SpaceId → KeyPair) (key : SpaceId → KeyPair) (context : DecodeOptions) (expected : SpaceId → ℕ) (before : List Opened) (bytes : List ℕ) (now : List Opened) (left : List ℕ) : Type 0 where
   pub steps : IsAppended (λ added. Steps key context expected bytes added left) before now
   pub progress : Progress seal context expected before bytes now left
 
 -- what a call that opens a packet promises of sealed bytes
-abbrev pub Opens : (SpaceId → KeyPair) → Context → (SpaceId → ℕ) → List ℕ → Opened → Option Filled → Type 0
+abbrev pub Opens : (SpaceId → KeyPair) → DecodeOptions → (SpaceId → ℕ) → List ℕ → Opened → Option Filled → Type 0
 Opens seal context expected bytes opened left = (h : Header) (n : ℕ) (payload packet rest : List ℕ) → Sealed (seal (space_in h)) h n payload packet → IsReadBack context h rest
     → ExpandsIn h (expected (space_in h)) n → bytes ≡ packet ++ rest → IsBack (seal (space_in h)).tag_size h n payload rest opened.header opened.header_data opened.number opened.payload.items left
 
 is_packet : (seal : SpaceId → KeyPair) (h : Header) (n : ℕ) (payload rest : List ℕ) (opened : Opened) (left : Option Filled) → IsBack (seal (space_in h)).tag_size h n payload rest opened.header opened.header_data opened.number opened.payload.items left → IsPacket seal opened (h, n, payload)
 is_packet seal h n payload rest opened left back = record { header = back.header_back; head = back.bytes_back; number = back.number_back; payload = back.payload_back }
 
-row_step : (seal : SpaceId → KeyPair) (context : Context) (expected : SpaceId → ℕ) (others : List (Header × ℕ × List ℕ)) (bytes : List ℕ) (opened : Opened) (next : Filled)
+row_step : (seal : SpaceId → KeyPair) (context : DecodeOptions) (expected : SpaceId → ℕ) (others : List (Header × ℕ × List ℕ)) (bytes : List ℕ) (opened : Opened) (next : Filled)
     → Row seal context expected others bytes → Opens seal context expected bytes opened (Some next)
     → (packet : Header × ℕ × List ℕ) × (after : List (Header × ℕ × List ℕ)) × (others ≡ packet ∷ after) × IsPacket seal opened packet × Row seal context expected after next.items
 row_step seal context expected _ bytes opened next (last h n payload packet sealed read number) opens =
@@ -35,7 +35,7 @@ row_step seal context expected _ _ opened next (more h n payload packet rest pac
     let back = opens h n payload packet rest sealed read number refl in
     ((h, n, payload), packets, refl, is_packet seal h n payload rest opened (Some next) back, subst (Row seal context expected packets) (sym back.rest_back.0) row)
 
-row_end : (seal : SpaceId → KeyPair) (context : Context) (expected : SpaceId → ℕ) (others : List (Header × ℕ × List ℕ)) (bytes : List ℕ) (opened : Opened)
+row_end : (seal : SpaceId → KeyPair) (context : DecodeOptions) (expected : SpaceId → ℕ) (others : List (Header × ℕ × List ℕ)) (bytes : List ℕ) (opened : Opened)
     → Row seal context expected others bytes → Opens seal context expected bytes opened None
     → (packet : Header × ℕ × List ℕ) × (others ≡ packet ∷ []) × IsPacket seal opened packet
 row_end seal context expected _ bytes opened (last h n payload packet sealed read number) opens =
@@ -52,7 +52,7 @@ are_back_more seal [] (p ∷ ps) opened packet are is = absurd are
 are_back_more seal (o ∷ os) [] opened packet are is = absurd are
 are_back_more seal (o ∷ os) (p ∷ ps) opened packet are is = (are.0, are_back_more seal os ps opened packet are.1 is)
 
-pub kept_start : (seal : SpaceId → KeyPair) (key : SpaceId → KeyPair) (context : Context) (expected : SpaceId → ℕ) (before : List Opened) (bytes : List ℕ) → Kept seal key context expected before bytes before bytes
+pub kept_start : (seal : SpaceId → KeyPair) (key : SpaceId → KeyPair) (context : DecodeOptions) (expected : SpaceId → ℕ) (before : List Opened) (bytes : List ℕ) → Kept seal key context expected before bytes before bytes
 kept_start seal key context expected before bytes = record {
   steps = ([], start bytes, sym (append-nil before));
   progress = λ packets row. ([], packets, refl, ([], tt, sym (append-nil before)), row);
@@ -62,13 +62,13 @@ appended_more : (before now new : List Opened) (opened : Opened) → IsAppended 
 appended_more before now new opened it same =
     (it.0 ++ (opened ∷ []), tt, same ∙ ap (λ (xs : List Opened). xs ++ (opened ∷ [])) it.2 ∙ append_assoc before it.0 (opened ∷ []))
 
-pub steps_more : (key : SpaceId → KeyPair) (context : Context) (expected : SpaceId → ℕ) (bytes : List ℕ) (added : List Opened) (left : List ℕ) (opened : Opened) (next : Filled)
+pub steps_more : (key : SpaceId → KeyPair) (context : DecodeOptions) (expected : SpaceId → ℕ) (bytes : List ℕ) (added : List Opened) (left : List ℕ) (opened : Opened) (next : Filled)
     → Steps key context expected bytes added left → Gives key context expected left opened (Some next) → Steps key context expected bytes (added ++ (opened ∷ [])) next.items
 steps_more key context expected _ _ _ opened next (start bytes) gives = step bytes opened next [] next.items gives (start next.items)
 steps_more key context expected _ _ _ opened next (step bytes first after others left found rest) gives =
     step bytes first after (others ++ (opened ∷ [])) next.items found (steps_more key context expected after.items others left opened next rest gives)
 
-pub kept_step : (seal : SpaceId → KeyPair) (key : SpaceId → KeyPair) (context : Context) (expected : SpaceId → ℕ) (before : List Opened) (bytes : List ℕ) (now : List Opened) (left : List ℕ) (new : List Opened) (opened : Opened) (next : Filled)
+pub kept_step : (seal : SpaceId → KeyPair) (key : SpaceId → KeyPair) (context : DecodeOptions) (expected : SpaceId → ℕ) (before : List Opened) (bytes : List ℕ) (now : List Opened) (left : List ℕ) (new : List Opened) (opened : Opened) (next : Filled)
     → Kept seal key context expected before bytes now left → Gives key context expected left opened (Some next) → Opens seal context expected left opened (Some next) → new ≡ now ++ (opened ∷ [])
     → Kept seal key context expected before bytes new next.items
 unfolding appended_more
@@ -86,7 +86,7 @@ kept_step seal key context expected before bytes now left new opened next it giv
       );
 }
 
-pub kept_end : (seal : SpaceId → KeyPair) (key : SpaceId → KeyPair) (context : Context) (expected : SpaceId → ℕ) (before : List Opened) (bytes : List ℕ) (now : List Opened) (left : List ℕ) (new : List Opened) (opened : Opened)
+pub kept_end : (seal : SpaceId → KeyPair) (key : SpaceId → KeyPair) (context : DecodeOptions) (expected : SpaceId → ℕ) (before : List Opened) (bytes : List ℕ) (now : List Opened) (left : List ℕ) (new : List Opened) (opened : Opened)
     → Kept seal key context expected before bytes now left → Opens seal context expected left opened None → new ≡ now ++ (opened ∷ [])
     → (packets : List (Header × ℕ × List ℕ)) → Row seal context expected packets bytes → IsAppended (λ added. AreBack seal added packets) before new
 unfolding appended_more
@@ -97,13 +97,13 @@ kept_end seal key context expected before bytes now left new opened it opens sam
     (grown.0, subst (AreBack seal grown.0) (sym (p.2 ∙ ap (λ xs. p.0 ++ xs) s.1)) (are_back_more seal p.3.0 p.0 opened s.0 p.3.1 s.2), grown.2)
 
 -- a row begins with a packet
-pub row_first : (seal : SpaceId → KeyPair) (context : Context) (expected : SpaceId → ℕ) (others : List (Header × ℕ × List ℕ)) (bytes : List ℕ) → Row seal context expected others bytes
+pub row_first : (seal : SpaceId → KeyPair) (context : DecodeOptions) (expected : SpaceId → ℕ) (others : List (Header × ℕ × List ℕ)) (bytes : List ℕ) → Row seal context expected others bytes
     → (h : Header) × (n : ℕ) × (payload : List ℕ) × (packet : List ℕ) × (rest : List ℕ) × Sealed (seal (space_in h)) h n payload packet × IsReadBack context h rest × ExpandsIn h (expected (space_in h)) n × (bytes ≡ packet ++ rest)
 row_first seal context expected _ bytes (last h n payload packet sealed read number) = (h, n, payload, packet, [], sealed, read, number, sym (append-nil packet))
 row_first seal context expected _ _ (more h n payload packet rest packets sealed read number some row) = (h, n, payload, packet, rest, sealed, read, number, refl)
 
 -- the last packet ends the steps
-pub steps_end : (seal : SpaceId → KeyPair) (key : SpaceId → KeyPair) (context : Context) (expected : SpaceId → ℕ) (before : List Opened) (bytes : List ℕ) (now : List Opened) (left : List ℕ) (new : List Opened) (opened : Opened)
+pub steps_end : (seal : SpaceId → KeyPair) (key : SpaceId → KeyPair) (context : DecodeOptions) (expected : SpaceId → ℕ) (before : List Opened) (bytes : List ℕ) (now : List Opened) (left : List ℕ) (new : List Opened) (opened : Opened)
     → Kept seal key context expected before bytes now left → Gives key context expected left opened None → new ≡ now ++ (opened ∷ [])
     → IsAppended (λ added. Ends key context expected bytes added) before new
 steps_end seal key context expected before bytes now left new opened it gives same = (
@@ -113,6 +113,6 @@ steps_end seal key context expected before bytes now left new opened it gives sa
 )
 
 -- of a row that was not opened to its end the first packets were
-pub row_front : (seal : SpaceId → KeyPair) (key : SpaceId → KeyPair) (context : Context) (expected : SpaceId → ℕ) (before : List Opened) (bytes : List ℕ) (now : List Opened) (left : List ℕ)
+pub row_front : (seal : SpaceId → KeyPair) (key : SpaceId → KeyPair) (context : DecodeOptions) (expected : SpaceId → ℕ) (before : List Opened) (bytes : List ℕ) (now : List Opened) (left : List ℕ)
     → Kept seal key context expected before bytes now left → (packets : List (Header × ℕ × List ℕ)) → Row seal context expected packets bytes → IsFront seal packets before now
 row_front seal key context expected before bytes now left it packets row = let p = it.progress packets row in (p.0, p.1, p.2, p.3)

@@ -1,7 +1,7 @@
 -- A sealed packet is cut from the bytes that it begins.
 use Rattle.std.specs.Prelude.{◌≡◌, ℕ, ◌+◌, ◌-◌, ◌*◌, ◌/◌, ◌%◌, ◌<◌, ◌≤◌, ◌^◌, Bool, true, false, IsTrue, List, [], ◌∷◌, ◌++◌, length, drop, Some, nat_lt, nat_eq, slice_index, slice_range, slice_index_or}
 use Rattle.std.proofs.Common.{cond, sym, ap, ◌∙◌, arith, refl, subst, get_or, length-append, append_assoc, length-drop}
-use Rattle.quic_base.specs.Varint.{short}
+use Rattle.quic_base.specs.Varint.{shortest_varint}
 use Rattle.quic_base.specs.ConnectionId.{long_id}
 use Rattle.quic_base.proofs.PublicLaws as law
 use Rattle.std.proofs.lemmas.Bool.Decides.{nat_tests}
@@ -22,7 +22,7 @@ use Rattle.quic_header_encode.specs.declared.header.InitialHeader.{InitialHeader
 use Rattle.quic_header_encode.specs.declared.header.Header.TheVariants as header
 use Rattle.quic_header_decode.specs.Grammar.{Cut}
 use Rattle.quic_header_decode.proofs.Made.{LongStart, fixed_set, long_header, initial_header, short_header}
-use Rattle.quic_header_decode.specs.Reading.{Context}
+use Rattle.quic_header_decode.specs.Reading.{DecodeOptions}
 use Rattle.quic_header_encode.specs.Types.{types_of, long_type, version_2, type_number, place_of}
 use Rattle.quic_header_decode.specs.Headers.{IsOpenedBy}
 use Rattle.quic_header_decode.specs.Queries.{space_of}
@@ -37,7 +37,7 @@ use Rattle.quic_packets.proofs.Parts.{length_encoded}
 use Rattle.quic_packets.proofs.Opened.{Lawful, Shape, shape, front_bytes, number_known, number_there}
 
 -- what there is to know of a sealed packet before its payload is opened
-pub record Found (seal : KeyPair) (key : KeyPair) (context : Context) (h : Header) (n : ℕ) (payload packet rest : List ℕ) : Type 0 where
+pub record Found (seal : KeyPair) (key : KeyPair) (context : DecodeOptions) (h : Header) (n : ℕ) (payload packet rest : List ℕ) : Type 0 where
   pub cut : (found : ProtectedHeader) × Cut context (packet ++ rest) found (header_size h - size_in h) (length packet) × (space_of found ≡ Some (space_in h))
       × ((got : Header) (end : ℕ) → IsOpenedBy true found (header_size h - size_in h) got (plain_packet seal h n payload) end → (got ≡ h) × (end ≡ header_size h))
       × IsOpenedBy true found (header_size h - size_in h) h (plain_packet seal h n payload) (header_size h)
@@ -69,7 +69,7 @@ high_long b first long h =
     subst (λ (s : Bool). b / first_unit s ≡ first / first_unit s) test h
 
 high_short : (b first : ℕ) → first < 128 → b / first_unit (nat_lt first 128) ≡ first / first_unit (nat_lt first 128) → b / 32 ≡ first / 32
-high_short b first short h =
+high_short b first shortest_varint h =
     let test : nat_lt first 128 ≡ true = grind (arith, nat_tests) in
     subst (λ (s : Bool). b / first_unit s ≡ first / first_unit s) test h
 
@@ -128,7 +128,7 @@ joined front len behind rest = append_assoc (front ++ len) behind rest ∙ appen
 
 -- ---- 0-RTT and Handshake
 
-long_sealed : (seal : KeyPair) (key : KeyPair) → Lawful seal key → (context : Context) (ty : LongType) (dst src : List ℕ) (number : PacketNumber) (version n : ℕ) (payload packet rest : List ℕ)
+long_sealed : (seal : KeyPair) (key : KeyPair) → Lawful seal key → (context : DecodeOptions) (ty : LongType) (dst src : List ℕ) (number : PacketNumber) (version n : ℕ) (payload packet rest : List ℕ)
     → Sealed seal (header.Long ty dst src number version) n payload packet → IsReadBack context (header.Long ty dst src number version) rest
     → Found seal key context (header.Long ty dst src number version) n payload packet rest
 long_sealed seal key laws context ty dst src number version n payload packet rest sealed read =
@@ -189,7 +189,7 @@ long_sealed seal key laws context ty dst src number version n payload packet res
 
 -- ---- Initial
 
-initial_sealed : (seal : KeyPair) (key : KeyPair) → Lawful seal key → (context : Context) (i : InitialHeader) (n : ℕ) (payload packet rest : List ℕ)
+initial_sealed : (seal : KeyPair) (key : KeyPair) → Lawful seal key → (context : DecodeOptions) (i : InitialHeader) (n : ℕ) (payload packet rest : List ℕ)
     → Sealed seal (header.Initial i) n payload packet → IsReadBack context (header.Initial i) rest
     → Found seal key context (header.Initial i) n payload packet rest
 initial_sealed seal key laws context i n payload packet rest sealed read =
@@ -201,7 +201,7 @@ initial_sealed seal key laws context i n payload packet rest sealed read =
     let bounds = size_bounds number in
     let count : ℕ = protected_len seal.tag_size h payload in
     let len : List ℕ = bytes_of 2 (2 ^ 14 + count) in
-    let var : List ℕ = short (length token) in
+    let var : List ℕ = shortest_varint (length token) in
     let first : ℕ = long_first version kind.Initial size in
     let tail : List ℕ = bytes_of 4 version ++ (long_id i.dst_cid ++ long_id i.src_cid) in
     let front : List ℕ = tail ++ (var ++ token) in
@@ -271,14 +271,14 @@ initial_sealed seal key laws context i n payload packet rest sealed read =
       back = it.back ∙ sym same;
     }
 
--- ---- short headers
+-- ---- shortest_varint headers
 
--- the bits of a short header's first byte
+-- the bits of a shortest_varint header's first byte
 abbrev short_first : Bool → Bool → ℕ → ℕ
 short_first spin key_phase size = 64 + bit spin 32 + bit key_phase 4 + (size - 1)
 
 record ShortByte (spin key_phase : Bool) (size b : ℕ) : Type 0 where
-  short : b < 128
+  shortest_varint : b < 128
   fixed : b / 64 % 2 ≡ 1
   spin_bit : spin ≡ nat_eq (b / 32 % 2) 1
   phase_bit : nat_eq (short_first spin key_phase size / 4 % 2) 1 ≡ key_phase
@@ -297,12 +297,12 @@ is_none : (m : ℕ) → m ≡ 0 → nat_eq m 1 ≡ false
 is_none m e = grind (arith, nat_tests)
 
 short_byte : (spin key_phase : Bool) (size b : ℕ) → 1 ≤ size → size ≤ 4 → b / 32 ≡ short_first spin key_phase size / 32 → ShortByte spin key_phase size b
-short_byte true true size b low up h = record { short = omega arith; fixed = omega arith; spin_bit = sym (is_one (b / 32 % 2) (omega arith)); phase_bit = is_one (short_first true true size / 4 % 2) (omega arith); low = omega arith }
-short_byte true false size b low up h = record { short = omega arith; fixed = omega arith; spin_bit = sym (is_one (b / 32 % 2) (omega arith)); phase_bit = is_none (short_first true false size / 4 % 2) (omega arith); low = omega arith }
-short_byte false true size b low up h = record { short = omega arith; fixed = omega arith; spin_bit = sym (is_none (b / 32 % 2) (omega arith)); phase_bit = is_one (short_first false true size / 4 % 2) (omega arith); low = omega arith }
-short_byte false false size b low up h = record { short = omega arith; fixed = omega arith; spin_bit = sym (is_none (b / 32 % 2) (omega arith)); phase_bit = is_none (short_first false false size / 4 % 2) (omega arith); low = omega arith }
+short_byte true true size b low up h = record { shortest_varint = omega arith; fixed = omega arith; spin_bit = sym (is_one (b / 32 % 2) (omega arith)); phase_bit = is_one (short_first true true size / 4 % 2) (omega arith); low = omega arith }
+short_byte true false size b low up h = record { shortest_varint = omega arith; fixed = omega arith; spin_bit = sym (is_one (b / 32 % 2) (omega arith)); phase_bit = is_none (short_first true false size / 4 % 2) (omega arith); low = omega arith }
+short_byte false true size b low up h = record { shortest_varint = omega arith; fixed = omega arith; spin_bit = sym (is_none (b / 32 % 2) (omega arith)); phase_bit = is_one (short_first false true size / 4 % 2) (omega arith); low = omega arith }
+short_byte false false size b low up h = record { shortest_varint = omega arith; fixed = omega arith; spin_bit = sym (is_none (b / 32 % 2) (omega arith)); phase_bit = is_none (short_first false false size / 4 % 2) (omega arith); low = omega arith }
 
-short_sealed : (seal : KeyPair) (key : KeyPair) → Lawful seal key → (context : Context) (spin key_phase : Bool) (dst : List ℕ) (number : PacketNumber) (n : ℕ) (payload packet rest : List ℕ)
+short_sealed : (seal : KeyPair) (key : KeyPair) → Lawful seal key → (context : DecodeOptions) (spin key_phase : Bool) (dst : List ℕ) (number : PacketNumber) (n : ℕ) (payload packet rest : List ℕ)
     → Sealed seal (header.Short spin key_phase dst number) n payload packet → IsReadBack context (header.Short spin key_phase dst number) rest
     → Found seal key context (header.Short spin key_phase dst number) n payload packet rest
 short_sealed seal key laws context spin key_phase dst number n payload packet rest sealed read =
@@ -351,7 +351,7 @@ short_sealed seal key laws context spin key_phase dst number n payload packet re
       back = it.back ∙ sym same;
     }
 
-pub sealed_found : (seal : KeyPair) (key : KeyPair) → Lawful seal key → (context : Context) (h : Header) (n : ℕ) (payload packet rest : List ℕ)
+pub sealed_found : (seal : KeyPair) (key : KeyPair) → Lawful seal key → (context : DecodeOptions) (h : Header) (n : ℕ) (payload packet rest : List ℕ)
     → Sealed seal h n payload packet → IsReadBack context h rest → Found seal key context h n payload packet rest
 sealed_found seal key laws context (header.Initial i) n payload packet rest sealed read = initial_sealed seal key laws context i n payload packet rest sealed read
 sealed_found seal key laws context (header.Long ty dst src number version) n payload packet rest sealed read = long_sealed seal key laws context ty dst src number version n payload packet rest sealed read
@@ -359,7 +359,7 @@ sealed_found seal key laws context (header.Retry dst src version) n payload pack
 sealed_found seal key laws context (header.Short spin key_phase dst number) n payload packet rest sealed read = short_sealed seal key laws context spin key_phase dst number n payload packet rest sealed read
 sealed_found seal key laws context (header.VersionNegotiate random src dst) n payload packet rest sealed read = absurd read
 
-pub read_numbered : (context : Context) (h : Header) (rest : List ℕ) → IsReadBack context h rest → IsTrue (has_number h)
+pub read_numbered : (context : DecodeOptions) (h : Header) (rest : List ℕ) → IsReadBack context h rest → IsTrue (has_number h)
 read_numbered context (header.Initial i) rest read = refl
 read_numbered context (header.Long ty dst src number version) rest read = refl
 read_numbered context (header.Retry dst src version) rest read = absurd read

@@ -1,7 +1,7 @@
 -- What is written behind a header, and sealed, is a sealed packet.
 use Rattle.std.specs.Prelude.{◌≡◌, ℕ, ◌+◌, ◌-◌, ◌≤◌, ◌^◌, Bool, IsTrue, List, ◌∷◌, ◌++◌, length, take, drop, Option, Some, None, slice_range, replicate, IfSome}
 use Rattle.std.proofs.Common.{sym, ap, ◌∙◌, arith, refl, subst, length-append, append_assoc}
-use Rattle.quic_base.specs.Varint.{short, size}
+use Rattle.quic_base.specs.Varint.{shortest_varint, size}
 use Rattle.quic_base.specs.ConnectionId.{long_id}
 use Rattle.quic_base.proofs.PublicLaws.{length-short, length-bytes_of}
 use Rattle.std.proofs.Math.ListN.{length-replicate}
@@ -46,7 +46,7 @@ pub front_length : (h : Header) → IsTrue (has_length h) → header_size h ≡ 
 front_length (header.Initial h) e =
     let first : ℕ = long_first h.version kind.Initial (number_size h.number) in
     let front : List ℕ = long_front first h.version h.dst_cid h.src_cid in
-    omega (arith, length-append front (short (length h.token) ++ h.token), length-append (short (length h.token)) h.token, length-short (length h.token), long_length first h.version h.dst_cid h.src_cid)
+    omega (arith, length-append front (shortest_varint (length h.token) ++ h.token), length-append (shortest_varint (length h.token)) h.token, length-short (length h.token), long_length first h.version h.dst_cid h.src_cid)
 front_length (header.Long ty dst src number version) e = omega (arith, long_length (long_first version (kind.Standard ty) (number_size number)) version dst src)
 front_length (header.Retry dst src version) e = absurd cc
 front_length (header.Short spin key_phase dst number) e = absurd cc

@@ -7,7 +7,7 @@ use Rattle.quic_header_decode.specs.Refusal.{Refusal, RefusesHeader, refusal_of,
 use Rattle.quic_header_decode.specs.declared.decode_error.PacketDecodeError.{PacketDecodeError}
 use Rattle.quic_header_decode.specs.declared.decode_error.PacketDecodeError.TheVariants as error
 use Rattle.quic_header_decode.specs.Grammar.{Cut, Uncut, CutAnswer}
-use Rattle.quic_header_decode.specs.Reading.{Context}
+use Rattle.quic_header_decode.specs.Reading.{DecodeOptions}
 use Rattle.quic_packets.specs.declared.opening.OpenError.{OpenError}
 use Rattle.quic_packets.specs.declared.opening.OpenError.TheVariants as refused
 use Rattle.quic_packets.specs.Pairs.{KeyPair}
@@ -19,7 +19,7 @@ refuses_same (error.UnsupportedVersion src dst version) a same other = same
 refuses_same (error.InvalidHeader text) a same other = same
 refuses_same error.OutOfMemory a same other = absurd (other refl)
 
-pub uncut_given : (context : Context) (bytes : List ℕ) (e : PacketDecodeError) → (answer : (a : Result (ProtectedHeader × ℕ × ℕ) Refusal) × CutAnswer context bytes a × RefusesHeader e a)
+pub uncut_given : (context : DecodeOptions) (bytes : List ℕ) (e : PacketDecodeError) → (answer : (a : Result (ProtectedHeader × ℕ × ℕ) Refusal) × CutAnswer context bytes a × RefusesHeader e a)
     → refusal_of e ≢ NoMemory → Uncut context bytes (refusal_of e)
 uncut_given context bytes e answer other = subst (CutAnswer context bytes) (refuses_same e answer.0 answer.2 other) answer.1
 
@@ -28,10 +28,10 @@ no_memory (error.UnsupportedVersion src dst version) same = absurd cc
 no_memory (error.InvalidHeader text) same = absurd cc
 no_memory error.OutOfMemory same = refl
 
-pub cut_given : (context : Context) (bytes : List ℕ) (cut : ProtectedHeader × ℕ × ℕ) → (answer : (a : Result (ProtectedHeader × ℕ × ℕ) Refusal) × CutAnswer context bytes a × (a ≡ Ok cut)) → Cut context bytes cut.0 cut.1 cut.2
+pub cut_given : (context : DecodeOptions) (bytes : List ℕ) (cut : ProtectedHeader × ℕ × ℕ) → (answer : (a : Result (ProtectedHeader × ℕ × ℕ) Refusal) × CutAnswer context bytes a × (a ≡ Ok cut)) → Cut context bytes cut.0 cut.1 cut.2
 cut_given context bytes cut answer = subst (CutAnswer context bytes) answer.2 answer.1
 
-pub uncut_refused : (takes_memory : Bool) (keys : SpaceId → KeyPair) (context : Context) (expected : SpaceId → ℕ) (bytes : List ℕ) (e : PacketDecodeError) (f : OpenError) → IsDecode e f
+pub uncut_refused : (takes_memory : Bool) (keys : SpaceId → KeyPair) (context : DecodeOptions) (expected : SpaceId → ℕ) (bytes : List ℕ) (e : PacketDecodeError) (f : OpenError) → IsDecode e f
     → (answer : (a : Result (ProtectedHeader × ℕ × ℕ) Refusal) × CutAnswer context bytes a × RefusesHeader e a)
     → (e ≡ error.OutOfMemory → IsTrue takes_memory ⊎ ((h : ProtectedHeader) × (p : ℕ) × (q : ℕ) × Cut context bytes h p q × (q < length bytes)))
     → PacketRefuses takes_memory keys context expected bytes f

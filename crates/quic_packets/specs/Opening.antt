@@ -11,7 +11,7 @@ use Rattle.quic_packets.specs.declared.opening.OpenError.TheVariants as error
 use Rattle.quic_header_decode.specs.Refusal.{Refusal, refusal_of, NoMemory}
 use Rattle.quic_header_decode.specs.Finish.{sample_refusal}
 use Rattle.quic_header_decode.specs.Grammar.{Cut, Uncut, IsKnownVersion}
-use Rattle.quic_header_decode.specs.Reading.{Context, IsRest}
+use Rattle.quic_header_decode.specs.Reading.{DecodeOptions, IsRest}
 use Rattle.bytes.specs.Filled.{Filled}
 use Rattle.quic_header_decode.specs.Headers.{IsOpenedBy, without_number}
 use Rattle.quic_header_decode.specs.Queries.{space_of}
@@ -22,7 +22,7 @@ use Rattle.quic_packets.specs.Pairs.{KeyPair}
 use Rattle.quic_packets.specs.Sealing.{sealed_header}
 
 -- what headers are read by: a parser of ids, the versions that are known, and whether the fixed bit may be clear
-abbrev pub read_by : (List ℕ → Result (List ℕ × ℕ) Refusal) → List ℕ → Bool → Context
+abbrev pub read_by : (List ℕ → Result (List ℕ × ℕ) Refusal) → List ℕ → Bool → DecodeOptions
 read_by parsed versions grease = record { parsed = parsed; versions = versions; grease = grease }
 
 -- the number for which the one in the header stands
@@ -89,25 +89,25 @@ HasNumber (header.Short spin key_phase dst number) = IsInRange number
 HasNumber (header.VersionNegotiate random src dst) = ⊥
 
 -- a packet was cut, and this was given of it
-abbrev pub PacketGives : (SpaceId → KeyPair) → Context → (SpaceId → ℕ) → List ℕ → Header → List ℕ → Option ℕ → List ℕ → Option Filled → Type 0
+abbrev pub PacketGives : (SpaceId → KeyPair) → DecodeOptions → (SpaceId → ℕ) → List ℕ → Header → List ℕ → Option ℕ → List ℕ → Option Filled → Type 0
 PacketGives keys context expected bytes header head number payload rest =
     (h : ProtectedHeader) × (p : ℕ) × (q : ℕ) × Cut context bytes h p q
     × PartGives keys expected h p (take q bytes) header head number payload × IsRest rest (drop q bytes)
 
 -- no packet was cut
-abbrev pub IsUncut : Bool → Context → List ℕ → OpenError → Type 0
+abbrev pub IsUncut : Bool → DecodeOptions → List ℕ → OpenError → Type 0
 IsUncut takes_memory context bytes (error.Decode e) = Uncut context bytes (refusal_of e)
 IsUncut takes_memory context bytes error.Unsealed = ⊥
 IsUncut takes_memory context bytes error.OutOfMemory = IsTrue takes_memory
 
 -- why a datagram's first packet is not opened: none can be cut, or the packet is not opened
-abbrev pub PacketRefuses : Bool → (SpaceId → KeyPair) → Context → (SpaceId → ℕ) → List ℕ → OpenError → Type 0
+abbrev pub PacketRefuses : Bool → (SpaceId → KeyPair) → DecodeOptions → (SpaceId → ℕ) → List ℕ → OpenError → Type 0
 PacketRefuses takes_memory keys context expected bytes e =
     IsUncut takes_memory context bytes e
     ⊎ ((h : ProtectedHeader) × (p : ℕ) × (q : ℕ) × Cut context bytes h p q × PartRefuses keys expected h p (take q bytes) e)
 
 -- a header that is read back where these bytes follow its packet
-abbrev pub IsReadBack : Context → Header → List ℕ → Type 0
+abbrev pub IsReadBack : DecodeOptions → Header → List ℕ → Type 0
 IsReadBack context (header.Initial h) rest = (h.version < 2 ^ 32) × IsKnownVersion context h.version × (length h.dst_cid ≤ 20) × (length h.src_cid ≤ 20)
 IsReadBack context (header.Long ty dst src number version) rest = (version < 2 ^ 32) × IsKnownVersion context version × (length dst ≤ 20) × (length src ≤ 20)
 IsReadBack context (header.Retry dst src version) rest = ⊥
@@ -116,7 +116,7 @@ IsReadBack context (header.VersionNegotiate random src dst) rest = ⊥
 
 -- The first packet of the bytes is cut behind so many bytes, and the key of its space gives this header, number and
 -- payload of it.
-pub record Opens (keys : KeyPair) (context : Context) (expected : ℕ) (bytes : List ℕ) (count : ℕ) (h : Header) (n : ℕ) (payload : List ℕ) : Type 0 where
+pub record Opens (keys : KeyPair) (context : DecodeOptions) (expected : ℕ) (bytes : List ℕ) (count : ℕ) (h : Header) (n : ℕ) (payload : List ℕ) : Type 0 where
   pub found : ProtectedHeader
   pub at : ℕ
   pub cut : Cut context bytes found at count

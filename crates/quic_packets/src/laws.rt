@@ -2,7 +2,7 @@
 ghost use Rattle.std.specs.Prelude.{◌≡◌, ◌++◌, List, ℕ, length};
 ghost use Rattle.quic_crypto.specs.PacketNumbers.{Expands, low_part, window_of};
 ghost use Rattle.quic_frames.specs.Written.{IsPayload};
-ghost use Rattle.quic_header_decode.specs.Reading.{Context};
+ghost use Rattle.quic_header_decode.specs.Reading.{DecodeOptions};
 ghost use Rattle.quic_packets.specs.Opening.{ExpandsIn, IsReadBack, Opens};
 ghost use Rattle.quic_packets.specs.Pairs.{IsLawful, KeyPair};
 ghost use Rattle.quic_packets.specs.Sealing.{Sealed};
@@ -28,7 +28,7 @@ pub fn one_packet()
 /// What was sealed by lawful keys can be opened by them, whatever follows it: it is cut where it ends, and gives its
 /// header, its number and its payload.
 pub fn sealed_opens()
-    ensures { (keys : KeyPair) (context : Context) (expected n : ℕ) (h : Header) (payload packet rest : List ℕ)
+    ensures { (keys : KeyPair) (context : DecodeOptions) (expected n : ℕ) (h : Header) (payload packet rest : List ℕ)
         → IsLawful keys → Sealed keys h n payload packet → IsReadBack context h rest → ExpandsIn h expected n
         → Opens keys context expected (packet ++ rest) (length packet) h n payload }
 {}

@@ -1,5 +1,5 @@
 //! Replays stored lists of lines, each with its mode, and writes what `quic-show` prints of them, one list
-//! after another. The lists lie in `data/`, and `stdout` is what must come of them.
+//! after another, each under a heading. The lists lie in `data/`, and `stdout` is what must come of them.
 //!
 //! The lists are seeded random, damaged, cut-off and hostile lines, and their answers come from elsewhere: those
 //! on `datagrams.in`, with ids of 0, 8 and 20 bytes in short headers, from a plain model in which versions 1 and 2
@@ -11,25 +11,46 @@
 
 use quic_text::{FromRead, Mode, ToWrite, mode_of, run};
 use std::fs::File;
+use std::io::Write;
 use std::process::ExitCode;
 
-// The words of a mode, and the file that holds its lines.
-const LISTS: [(&[&str], &str); 7] = [
-    (&["datagram", "0"], "datagrams.in"),
-    (&["datagram", "8"], "datagrams.in"),
-    (&["datagram", "20"], "datagrams.in"),
-    (&["params", "client"], "params.in"),
-    (&["params", "server"], "params.in"),
-    (&["canon"], "payloads.in"),
-    (&["strict"], "payloads.in"),
+// The heading of a list, the words of its mode, and the file that holds its lines.
+const LISTS: [(&str, &[&str], &str); 7] = [
+    (
+        "== datagrams.in datagram 0\n",
+        &["datagram", "0"],
+        "datagrams.in",
+    ),
+    (
+        "== datagrams.in datagram 8\n",
+        &["datagram", "8"],
+        "datagrams.in",
+    ),
+    (
+        "== datagrams.in datagram 20\n",
+        &["datagram", "20"],
+        "datagrams.in",
+    ),
+    (
+        "== params.in params client\n",
+        &["params", "client"],
+        "params.in",
+    ),
+    (
+        "== params.in params server\n",
+        &["params", "server"],
+        "params.in",
+    ),
+    ("== payloads.in canon\n", &["canon"], "payloads.in"),
+    ("== payloads.in strict\n", &["strict"], "payloads.in"),
 ];
 
 fn main(rt: HostRuntime) -> ExitCode {
-    for (words, file) in LISTS {
+    for (heading, words, file) in LISTS {
         let Some(mode) = mode_of(words) else {
             return ExitCode::from(2);
         };
-        if !replayed(&rt, mode, file) {
+        if rt.stdout().write_all(heading.as_bytes()).is_err() || !replayed(&rt, mode, file) {
             return ExitCode::from(3);
         }
     }

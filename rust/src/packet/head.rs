@@ -11,8 +11,8 @@ use core::ops::Range;
 /// use quic_wire::packet::{HeaderPlaces, ProtectedHeader};
 /// let packet = [0x41, 0xaa, 0xbb, 9, 9, 9, 9, 9];
 /// let header = HeaderPlaces::read(&packet, 2, &[1])?;
-/// assert_eq!(head.header(&packet), ProtectedHeader::Short { spin: false, dst_cid: &[0xaa, 0xbb] });
-/// assert_eq!((head.header_end(), head.end(), head.is_protected(), head.fixed_bit()), (3, 8, true, true));
+/// assert_eq!(header.header(&packet), ProtectedHeader::Short { spin: false, dst_cid: &[0xaa, 0xbb] });
+/// assert_eq!((header.header_end(), header.end(), header.is_protected(), header.fixed_bit()), (3, 8, true, true));
 /// # Ok::<(), quic_wire::Error>(())
 /// ```
 #[derive(Clone, Copy, PartialEq, Eq, Hash)]
@@ -26,8 +26,8 @@ pub struct HeaderPlaces(sys::HeaderPlaces);
 /// let bytes = [0xe0, 0, 0, 0, 1, 1, 0xaa, 0, 0x40, 100, 7];
 /// let error = HeaderPlaces::read(&bytes, 0, &[1]).unwrap_err();
 /// assert_eq!(error.to_string(), "packet too short to contain payload length");
-/// let HeaderError::CutOff(head) = error else { panic!() };
-/// assert_eq!((head.dst_cid(&bytes), head.header_end(), head.end()), (&[0xaa][..], 10, 11));
+/// let HeaderError::CutOff(header) = error else { panic!() };
+/// assert_eq!((header.dst_cid(&bytes), header.header_end(), header.end()), (&[0xaa][..], 10, 11));
 /// ```
 #[derive(Clone, Copy, Debug, PartialEq, Eq, Hash)]
 pub enum HeaderError {
@@ -77,7 +77,7 @@ impl HeaderPlaces {
     /// use quic_wire::packet::{HeaderPlaces, HeaderError};
     /// let packet = [0xc0, 0, 0, 0, 1, 1, 0xaa, 1, 0xbb, 1, 0x77, 2, 9, 9];
     /// let header = HeaderPlaces::read(&packet, 0, &[1])?;
-    /// assert_eq!(head.end(), 14);
+    /// assert_eq!(header.end(), 14);
     /// assert!(matches!(HeaderPlaces::read(&packet, 0, &[]), Err(HeaderError::UnsupportedVersion(_))));
     /// # Ok::<(), quic_wire::Error>(())
     /// ```
@@ -128,8 +128,8 @@ impl HeaderPlaces {
     /// let mut packet = [0; 41];
     /// VersionNegotiation { random: 0x40, dst_cid, src_cid, versions: &[1] }.encode(&mut packet)?;
     /// let header = HeaderPlaces::read_version_negotiation(&packet).unwrap();
-    /// assert_eq!((head.dst_cid(&packet), head.src_cid(&packet)), (dst_cid, src_cid));
-    /// assert_eq!(head.versions(&packet).collect::<Vec<_>>(), [1]);
+    /// assert_eq!((header.dst_cid(&packet), header.src_cid(&packet)), (dst_cid, src_cid));
+    /// assert_eq!(header.versions(&packet).collect::<Vec<_>>(), [1]);
     /// assert!(HeaderPlaces::read(&packet, 0, &[]).is_err());
     /// # Ok::<(), quic_wire::WriteError>(())
     /// ```
@@ -162,7 +162,7 @@ impl HeaderPlaces {
     /// use quic_wire::packet::HeaderPlaces;
     /// let packet = [0xc0, 0, 0, 0, 1, 1, 0xaa, 1, 0xbb, 1, 0x77, 2, 9, 9];
     /// let header = HeaderPlaces::read(&packet, 0, &[1])?;
-    /// assert_eq!(head.first(), 0xc0);
+    /// assert_eq!(header.first(), 0xc0);
     /// # Ok::<(), quic_wire::Error>(())
     /// ```
     #[inline]
@@ -177,7 +177,7 @@ impl HeaderPlaces {
     /// use quic_wire::packet::HeaderPlaces;
     /// let packet = [0xc0, 0, 0, 0, 1, 1, 0xaa, 1, 0xbb, 1, 0x77, 2, 9, 9];
     /// let header = HeaderPlaces::read(&packet, 0, &[1])?;
-    /// assert!(head.fixed_bit());
+    /// assert!(header.fixed_bit());
     /// # Ok::<(), quic_wire::Error>(())
     /// ```
     #[inline]
@@ -191,7 +191,7 @@ impl HeaderPlaces {
     /// use quic_wire::packet::HeaderPlaces;
     /// let packet = [0xc0, 0, 0, 0, 1, 1, 0xaa, 1, 0xbb, 1, 0x77, 2, 9, 9];
     /// let header = HeaderPlaces::read(&packet, 0, &[1])?;
-    /// assert!(!head.is_short());
+    /// assert!(!header.is_short());
     /// # Ok::<(), quic_wire::Error>(())
     /// ```
     #[inline]
@@ -205,7 +205,7 @@ impl HeaderPlaces {
     /// use quic_wire::packet::HeaderPlaces;
     /// let packet = [0xc0, 0, 0, 0, 1, 1, 0xaa, 1, 0xbb, 1, 0x77, 2, 9, 9];
     /// let header = HeaderPlaces::read(&packet, 0, &[1])?;
-    /// assert!(head.is_protected());
+    /// assert!(header.is_protected());
     /// # Ok::<(), quic_wire::Error>(())
     /// ```
     #[inline]
@@ -219,7 +219,7 @@ impl HeaderPlaces {
     /// use quic_wire::packet::HeaderPlaces;
     /// let packet = [0xc0, 0, 0, 0, 1, 1, 0xaa, 1, 0xbb, 1, 0x77, 2, 9, 9];
     /// let header = HeaderPlaces::read(&packet, 0, &[1])?;
-    /// assert_eq!(head.version(), 1);
+    /// assert_eq!(header.version(), 1);
     /// # Ok::<(), quic_wire::Error>(())
     /// ```
     #[inline]
@@ -233,7 +233,7 @@ impl HeaderPlaces {
     /// use quic_wire::packet::HeaderPlaces;
     /// let packet = [0xc0, 0, 0, 0, 1, 1, 0xaa, 1, 0xbb, 1, 0x77, 2, 9, 9];
     /// let header = HeaderPlaces::read(&packet, 0, &[1])?;
-    /// assert_eq!(head.dst_cid(&packet), [0xaa]);
+    /// assert_eq!(header.dst_cid(&packet), [0xaa]);
     /// # Ok::<(), quic_wire::Error>(())
     /// ```
     ///
@@ -252,7 +252,7 @@ impl HeaderPlaces {
     /// use quic_wire::packet::HeaderPlaces;
     /// let packet = [0xc0, 0, 0, 0, 1, 1, 0xaa, 1, 0xbb, 1, 0x77, 2, 9, 9];
     /// let header = HeaderPlaces::read(&packet, 0, &[1])?;
-    /// assert_eq!(head.src_cid(&packet), [0xbb]);
+    /// assert_eq!(header.src_cid(&packet), [0xbb]);
     /// # Ok::<(), quic_wire::Error>(())
     /// ```
     ///
@@ -271,7 +271,7 @@ impl HeaderPlaces {
     /// use quic_wire::packet::HeaderPlaces;
     /// let packet = [0xc0, 0, 0, 0, 1, 1, 0xaa, 1, 0xbb, 1, 0x77, 2, 9, 9];
     /// let header = HeaderPlaces::read(&packet, 0, &[1])?;
-    /// assert_eq!(head.token_pos(), 10..11);
+    /// assert_eq!(header.token_pos(), 10..11);
     /// # Ok::<(), quic_wire::Error>(())
     /// ```
     #[inline]
@@ -286,7 +286,7 @@ impl HeaderPlaces {
     /// use quic_wire::packet::HeaderPlaces;
     /// let packet = [0xc0, 0, 0, 0, 1, 1, 0xaa, 1, 0xbb, 1, 0x77, 2, 9, 9];
     /// let header = HeaderPlaces::read(&packet, 0, &[1])?;
-    /// assert_eq!(head.token(&packet), [0x77]);
+    /// assert_eq!(header.token(&packet), [0x77]);
     /// # Ok::<(), quic_wire::Error>(())
     /// ```
     ///
@@ -306,7 +306,7 @@ impl HeaderPlaces {
     /// let mut packet = vec![0xf0, 0, 0, 0, 1, 0, 0, b't', b'o', b'k'];
     /// packet.extend([9; 16]);
     /// let header = HeaderPlaces::read(&packet, 0, &[1])?;
-    /// assert_eq!(head.retry(&packet), Some((&b"tok"[..], &[9; 16])));
+    /// assert_eq!(header.retry(&packet), Some((&b"tok"[..], &[9; 16])));
     /// # Ok::<(), quic_wire::Error>(())
     /// ```
     pub fn retry<'a>(&self, packet: &'a [u8]) -> Option<(&'a [u8], &'a [u8; 16])> {
@@ -322,7 +322,7 @@ impl HeaderPlaces {
     /// use quic_wire::packet::HeaderPlaces;
     /// let packet = [0xc0, 0, 0, 0, 0, 0, 0, 0, 0, 0, 1, 0x6b, 0x33, 0x43, 0xcf];
     /// let header = HeaderPlaces::read(&packet, 0, &[1])?;
-    /// assert_eq!(head.versions(&packet).collect::<Vec<_>>(), [1, 0x6b33_43cf]);
+    /// assert_eq!(header.versions(&packet).collect::<Vec<_>>(), [1, 0x6b33_43cf]);
     /// # Ok::<(), quic_wire::Error>(())
     /// ```
     pub fn versions<'a>(&self, packet: &'a [u8]) -> Versions<'a> {
@@ -336,7 +336,7 @@ impl HeaderPlaces {
     /// use quic_wire::packet::HeaderPlaces;
     /// let packet = [0xc0, 0, 0, 0, 1, 1, 0xaa, 1, 0xbb, 1, 0x77, 2, 9, 9];
     /// let header = HeaderPlaces::read(&packet, 0, &[1])?;
-    /// assert_eq!(head.len_field(), 2);
+    /// assert_eq!(header.len_field(), 2);
     /// # Ok::<(), quic_wire::Error>(())
     /// ```
     #[inline]
@@ -350,7 +350,7 @@ impl HeaderPlaces {
     /// use quic_wire::packet::HeaderPlaces;
     /// let packet = [0xc0, 0, 0, 0, 1, 1, 0xaa, 1, 0xbb, 1, 0x77, 2, 9, 9];
     /// let header = HeaderPlaces::read(&packet, 0, &[1])?;
-    /// assert_eq!(head.end(), 14);
+    /// assert_eq!(header.end(), 14);
     /// # Ok::<(), quic_wire::Error>(())
     /// ```
     #[inline]
@@ -364,7 +364,7 @@ impl HeaderPlaces {
     /// use quic_wire::packet::HeaderPlaces;
     /// let packet = [0xc0, 0, 0, 0, 1, 1, 0xaa, 1, 0xbb, 1, 0x77, 2, 9, 9];
     /// let header = HeaderPlaces::read(&packet, 0, &[1])?;
-    /// assert_eq!(head.header_end(), 12);
+    /// assert_eq!(header.header_end(), 12);
     /// # Ok::<(), quic_wire::Error>(())
     /// ```
     #[inline]
@@ -378,7 +378,7 @@ impl HeaderPlaces {
     /// use quic_wire::packet::HeaderPlaces;
     /// let packet = [0xc0, 0, 0, 0, 1, 1, 0xaa, 1, 0xbb, 1, 0x77, 2, 9, 9];
     /// let header = HeaderPlaces::read(&packet, 0, &[1])?;
-    /// assert_eq!(head.place(100).range(), 100..114);
+    /// assert_eq!(header.place(100).range(), 100..114);
     /// # Ok::<(), quic_wire::Error>(())
     /// ```
     ///
@@ -397,7 +397,7 @@ impl HeaderPlaces {
     /// use quic_wire::packet::{HeaderPlaces, ProtectedHeader};
     /// let packet = [0xc0, 0, 0, 0, 1, 1, 0xaa, 1, 0xbb, 1, 0x77, 2, 9, 9];
     /// let header = HeaderPlaces::read(&packet, 0, &[1])?;
-    /// assert!(matches!(head.header(&packet), ProtectedHeader::Initial { len: 2, .. }));
+    /// assert!(matches!(header.header(&packet), ProtectedHeader::Initial { len: 2, .. }));
     /// # Ok::<(), quic_wire::Error>(())
     /// ```
     ///
@@ -421,13 +421,13 @@ impl HeaderPlaces {
 
 impl fmt::Debug for HeaderPlaces {
     fn fmt(&self, f: &mut fmt::Formatter<'_>) -> fmt::Result {
-        f.debug_struct("Head")
+        f.debug_struct("HeaderPlaces")
             .field("first", &format_args!("{:02x}", self.0.first))
             .field("version", &format_args!("{:08x}", self.0.version))
             .field("dst_cid_len", &self.0.dcidlen)
             .field("src_cid_len", &self.0.scidlen)
             .field("token_pos", &self.token_pos())
-            .field("head_end", &self.header_end())
+            .field("header_end", &self.header_end())
             .field("end", &self.end())
             .finish()
     }

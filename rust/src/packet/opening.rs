@@ -83,7 +83,7 @@ impl<'a> PacketMut<'a> {
     /// let mut datagram = [0xc0, 0, 0, 0, 0, 0, 0, 0, 0, 0, 1];
     /// let packet = PacketsMut::new(&mut datagram, 0, &[1], false).next().unwrap()?;
     /// let header = *packet.head();
-    /// assert_eq!(head.versions(packet.into_data()).collect::<Vec<_>>(), [1]);
+    /// assert_eq!(header.versions(packet.into_data()).collect::<Vec<_>>(), [1]);
     /// # Ok::<(), quic_wire::Error>(())
     /// ```
     pub fn into_data(self) -> &'a mut [u8] {

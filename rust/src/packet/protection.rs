@@ -294,7 +294,7 @@ impl PacketPlace {
     /// let datagram = [0x5f, 0xaa, 0xbb, 0x2c ^ 0x05, 1, 2, 3];
     /// let mut header = [0; 7];
     /// let opened = PacketPlace::new(0..7, 3).unprotect_header(&datagram, &[0x1f, 5, 5, 5, 5], 300, &mut header)?;
-    /// assert_eq!((opened.number, &head[..opened.payload]), (300, &[0x40, 0xaa, 0xbb, 0x2c][..]));
+    /// assert_eq!((opened.number, &header[..opened.payload]), (300, &[0x40, 0xaa, 0xbb, 0x2c][..]));
     /// # Ok::<(), quic_wire::Error>(())
     /// ```
     ///

@@ -27,7 +27,7 @@ fn bytes_of(n: u64, bytes: &[u8]) -> Result<(&[u8], &[u8]), Fault>
 /// where the call stands.
 #[inline(always)]
 #[tactic(auto, using(quic_frame_fields::proofs::Gaps::one_at))]
-pub(super) fn short_varint(bytes: &[u8]) -> Result<(u64, &[u8]), Fault>
+pub(super) fn varint_mostly_one_byte(bytes: &[u8]) -> Result<(u64, &[u8]), Fault>
     ensures gives { Gives (λ x. (x.0, x.1.now)) result (varint_at bytes.now) }
     ensures bound { IfOk result (λ x. x.0 < 2 ^ 62) }
 {
@@ -43,7 +43,7 @@ pub(super) fn short_varint(bytes: &[u8]) -> Result<(u64, &[u8]), Fault>
 /// A number of any width, read where the call stands, as those of a STREAM are, since most frames are STREAMs.
 #[inline(always)]
 #[tactic(auto, using(quic_frame_fields::proofs::Varints::slices))]
-pub(super) fn near_varint(bytes: &[u8]) -> Result<(u64, &[u8]), Fault>
+pub(super) fn varint_by_word(bytes: &[u8]) -> Result<(u64, &[u8]), Fault>
     ensures gives { Gives (λ x. (x.0, x.1.now)) result (varint_at bytes.now) }
     ensures bound { IfOk result (λ x. x.0 < 2 ^ 62) }
 {
@@ -69,7 +69,7 @@ pub(super) fn counted(bytes: &[u8]) -> Result<(&[u8], &[u8]), Fault>
 fn near_counted(bytes: &[u8]) -> Result<(&[u8], &[u8]), Fault>
     ensures { Gives (λ x. (x.0.now, x.1.now)) result (counted_at bytes.now) }
 {
-    let (n, rest) = near_varint(bytes)?;
+    let (n, rest) = varint_by_word(bytes)?;
     bytes_of(n, rest)
 }
 
@@ -80,7 +80,7 @@ pub(super) fn offset(is_written: bool, bytes: &[u8]) -> Result<(u64, &[u8]), Fau
         → Gives (λ x. (Number x.0 ∷ [], x.1.now)) result (field_at (offset_field is_written) before bytes.now) }
 {
     if is_written {
-        near_varint(bytes)
+        varint_by_word(bytes)
     } else {
         Ok((0, bytes))
     }

@@ -6,7 +6,7 @@ ghost use Rattle.quic_frame_fields.specs.Payload.{IsEither};
 ghost use Rattle.quic_frames.specs.Padding.{PassesPadding};
 ghost use Rattle.quic_frames.specs.Walk.{left, first_of, resumed, GivesFrames, GivesBroken};
 
-use super::found::read_found;
+use super::found::read_typed_frame;
 use super::{Frame, FrameType, InvalidFrame};
 use crate::transport_error::Error;
 use std::marker::Model;
@@ -207,7 +207,7 @@ impl<'a> Iterator for Iter<'a> {
             self.offset += 1;
             return Some(Ok(Frame::Padding));
         }
-        match read_found(self.strict, self.last, rest) {
+        match read_typed_frame(self.strict, self.last, rest) {
             Ok(first) => {
                 self.last = Some(first.ty);
                 self.offset = self.payload.len() - first.rest.len();

@@ -1,7 +1,7 @@
 -- By what is said of a row of packets, which is one.
 use Rattle.std.proofs.Common.{◌≡◌, ℕ, List, [], ◌∷◌, ◌++◌, false, subst, sym, ap, ◌∙◌, rules}
 use Rattle.quic_base.specs.declared.ids.SpaceId.{SpaceId}
-use Rattle.quic_header_decode.specs.Reading.{Context}
+use Rattle.quic_header_decode.specs.Reading.{DecodeOptions}
 use Rattle.quic_packets.specs.Pairs.{KeyPair}
 use Rattle.quic_packets.specs.Rows.{Row, last}
 use Rattle.quic_packets.specs.Spaces.{keys_in, expected_in}
@@ -10,7 +10,7 @@ use Rattle.quic_bench.proofs.sealed.datagram_opened.Goals as goal
 
 pub returns-in-Ok-open_datagram-clause-opened : goal.returns-in-Ok-open_datagram-clause-opened
 returns-in-Ok-open_datagram-clause-opened g c =
-    let context : Context = record { parsed = g.C.ConnectionIdParser.parsed c.args.parser.now; versions = c.args.versions.now; grease = false } in
+    let context : DecodeOptions = record { parsed = g.C.ConnectionIdParser.parsed c.args.parser.now; versions = c.args.versions.now; grease = false } in
     let keys : SpaceId → KeyPair = (λ space. record { sample_len = g.H.HeaderKey.sample_len (keys_in c.args.keys.now space).header; tag_size = g.P.PacketKey.tag_size (keys_in c.args.keys.now space).packet; protected = g.H.HeaderKey.protected (keys_in c.args.keys.now space).header; unprotected = g.H.HeaderKey.unprotected (keys_in c.args.keys.now space).header; sealed = g.P.PacketKey.sealed (keys_in c.args.keys.now space).packet; opened = g.P.PacketKey.opened (keys_in c.args.keys.now space).packet }) in
     let packet = c.args.packet.now in
     let s = c.in-Ok.ensures.sealed in
@@ -23,7 +23,7 @@ returns-in-Ok-open_datagram-clause-opened g c =
 
 pub returns-in-Err-open_datagram-clause-refused : goal.returns-in-Err-open_datagram-clause-refused
 returns-in-Err-open_datagram-clause-refused g c =
-    let context : Context = record { parsed = g.C.ConnectionIdParser.parsed c.args.parser.now; versions = c.args.versions.now; grease = false } in
+    let context : DecodeOptions = record { parsed = g.C.ConnectionIdParser.parsed c.args.parser.now; versions = c.args.versions.now; grease = false } in
     let keys : SpaceId → KeyPair = (λ space. record { sample_len = g.H.HeaderKey.sample_len (keys_in c.args.keys.now space).header; tag_size = g.P.PacketKey.tag_size (keys_in c.args.keys.now space).packet; protected = g.H.HeaderKey.protected (keys_in c.args.keys.now space).header; unprotected = g.H.HeaderKey.unprotected (keys_in c.args.keys.now space).header; sealed = g.P.PacketKey.sealed (keys_in c.args.keys.now space).packet; opened = g.P.PacketKey.opened (keys_in c.args.keys.now space).packet }) in
     let packet = c.args.packet.now in
     let s = c.in-Ok.ensures.sealed in

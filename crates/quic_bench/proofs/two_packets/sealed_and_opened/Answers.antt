@@ -3,7 +3,7 @@ use Rattle.std.specs.Prelude.{◌<◌, false, [], ◌++◌, length}
 use Rattle.std.proofs.Common.{◌∙◌}
 use Rattle.quic_base.specs.declared.ids.SpaceId.{SpaceId}
 use Rattle.quic_header_encode.specs.Queries.{space_in}
-use Rattle.quic_header_decode.specs.Reading.{Context}
+use Rattle.quic_header_decode.specs.Reading.{DecodeOptions}
 use Rattle.quic_packets.specs.Pairs.{KeyPair, IsLawful}
 use Rattle.quic_packets.specs.Spaces.{keys_in, expected_in}
 use Rattle.quic_bench.proofs.Carried.{carries, left_is, some_left}
@@ -20,7 +20,7 @@ unreachable-requires g c =
     let s = c.in-Ok.ensures.sealed in
     let first = c.args.first.now in
     let second = c.args.second.now in
-    let context : Context = record { parsed = g.C.ConnectionIdParser.parsed c.args.parser.now; versions = c.args.versions.now; grease = false } in
+    let context : DecodeOptions = record { parsed = g.C.ConnectionIdParser.parsed c.args.parser.now; versions = c.args.versions.now; grease = false } in
     let space : SpaceId = space_in second.header.now in
     let keys = keys_in c.args.keys.now space in
     let pair : KeyPair = record { sample_len = g.H.HeaderKey.sample_len keys.header; tag_size = g.P.PacketKey.tag_size keys.packet; protected = g.H.HeaderKey.protected keys.header; unprotected = g.H.HeaderKey.unprotected keys.header; sealed = g.P.PacketKey.sealed keys.packet; opened = g.P.PacketKey.opened keys.packet } in

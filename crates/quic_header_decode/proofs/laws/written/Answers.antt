@@ -3,7 +3,7 @@ use Rattle.std.specs.Prelude.{◌<◌, length}
 use Rattle.std.proofs.Common.{◌≡◌, ℕ, ◌+◌, ◌-◌, ◌/◌, ◌%◌, ◌≤◌, ◌∙◌, ◌++◌, Bool, true, false, List, [], ◌∷◌, cond, nat_eq, slice_index_or, bit_or, refl, ap, arith, append_assoc}
 use Rattle.std.proofs.lemmas.Nat.{or_shifted}
 use Rattle.std.proofs.lemmas.Bool.Decides.{nat_tests}
-use Rattle.quic_base.specs.Varint.{short}
+use Rattle.quic_base.specs.Varint.{shortest_varint}
 use Rattle.quic_base.proofs.PublicLaws as law
 use Rattle.quic_crypto.specs.declared.packet_number.PacketNumber.{PacketNumber}
 use Rattle.quic_crypto.specs.declared.packet_number.PacketNumber.TheVariants.{U8, U16, U24, U32}
@@ -67,7 +67,7 @@ returns-clause-initial c = λ context whole start n h len rest range known dst_l
     let first : ℕ = long_first h.version kind.Initial size in
     let byte = long_byte h.version first (size - 1) kind.Initial (omega (arith, bounds.0, bounds.1)) refl in
     let front : List ℕ = long_front first h.version h.dst_cid h.src_cid in
-    let count : List ℕ = short (length h.token) in
+    let count : List ℕ = shortest_varint (length h.token) in
     let behind : List ℕ = number_bytes h.number ++ rest in
     let text : ((front ++ (count ++ h.token)) ++ (len ++ number_bytes h.number)) ++ rest ≡ front ++ (count ++ (h.token ++ (len ++ behind))) =
     apart (front ++ (count ++ h.token)) len (number_bytes h.number) rest ∙ append_assoc front (count ++ h.token) (len ++ behind)
@@ -100,13 +100,13 @@ returns-clause-negotiation c = λ context whole random dst src rest free fixed d
     negotiation_header context whole (long_front (bit_or 128 random) 0 dst src ++ rest) random dst src rest
     (record { long = omega arith; fixed = fixed; range = omega arith; dst_len = dst_len; src_len = src_len; text = ap (λ (n : ℕ). long_front n 0 dst src ++ rest) (or_shifted 1 7 random free) })
 
--- ---- short headers
+-- ---- shortest_varint headers
 
 abbrev short_first : Bool → Bool → ℕ → ℕ
 short_first spin key_phase low = 64 + bit spin 32 + bit key_phase 4 + low
 
 record ShortByte (spin : Bool) (first : ℕ) : Type 0 where
-  short : first < 128
+  shortest_varint : first < 128
   fixed : first / 64 % 2 ≡ 1
   spins : spin ≡ nat_eq (first / 32 % 2) 1
 
@@ -117,10 +117,10 @@ is_none : (m : ℕ) → m ≡ 0 → false ≡ nat_eq m 1
 is_none m e = grind (arith, nat_tests)
 
 short_byte : (spin key_phase : Bool) (low : ℕ) → low < 4 → ShortByte spin (short_first spin key_phase low)
-short_byte true true low small = record { short = omega arith; fixed = omega arith; spins = is_one (short_first true true low / 32 % 2) (omega arith) }
-short_byte true false low small = record { short = omega arith; fixed = omega arith; spins = is_one (short_first true false low / 32 % 2) (omega arith) }
-short_byte false true low small = record { short = omega arith; fixed = omega arith; spins = is_none (short_first false true low / 32 % 2) (omega arith) }
-short_byte false false low small = record { short = omega arith; fixed = omega arith; spins = is_none (short_first false false low / 32 % 2) (omega arith) }
+short_byte true true low small = record { shortest_varint = omega arith; fixed = omega arith; spins = is_one (short_first true true low / 32 % 2) (omega arith) }
+short_byte true false low small = record { shortest_varint = omega arith; fixed = omega arith; spins = is_one (short_first true false low / 32 % 2) (omega arith) }
+short_byte false true low small = record { shortest_varint = omega arith; fixed = omega arith; spins = is_none (short_first false true low / 32 % 2) (omega arith) }
+short_byte false false low small = record { shortest_varint = omega arith; fixed = omega arith; spins = is_none (short_first false false low / 32 % 2) (omega arith) }
 
 pub returns-clause-short : goal.returns-clause-short
 returns-clause-short c = λ context whole spin key_phase dst rest number parsed.

@@ -2,7 +2,7 @@
 use Rattle.std.proofs.Common.{rules, ◌≡◌, ℕ, ◌++◌, [], ◌∷◌, None, Some, Ok, Err, refl, subst}
 use Rattle.bytes.specs.Filled.{Filled}
 use Rattle.quic_base.specs.declared.ids.SpaceId.{SpaceId}
-use Rattle.quic_header_decode.specs.Reading.{Context}
+use Rattle.quic_header_decode.specs.Reading.{DecodeOptions}
 use Rattle.quic_packets.specs.Pairs.{KeyPair}
 use Rattle.quic_packets.specs.Spaces.{keys_in, expected_in}
 use Rattle.quic_packets.proofs.Nexts.{Reached, reached_first, with_room, reached_step, reached_all, reached_refused, sealed_refused}
@@ -10,14 +10,14 @@ use Rattle.quic_packets.proofs.opening.open_datagram.Goals as goal
 
 pub loop-bytes-init : goal.loop-bytes-init
 loop-bytes-init g c =
-    let context : Context = record { parsed = g.C.ConnectionIdParser.parsed c.args.parser.now; versions = c.args.versions.now; grease = c.args.grease } in
+    let context : DecodeOptions = record { parsed = g.C.ConnectionIdParser.parsed c.args.parser.now; versions = c.args.versions.now; grease = c.args.grease } in
     let keys : SpaceId → KeyPair = (λ space. record { sample_len = g.H.HeaderKey.sample_len (keys_in c.args.keys.now space).header; tag_size = g.P.PacketKey.tag_size (keys_in c.args.keys.now space).packet; protected = g.H.HeaderKey.protected (keys_in c.args.keys.now space).header; unprotected = g.H.HeaderKey.unprotected (keys_in c.args.keys.now space).header; sealed = g.P.PacketKey.sealed (keys_in c.args.keys.now space).packet; opened = g.P.PacketKey.opened (keys_in c.args.keys.now space).packet }) in
     let expected : SpaceId → ℕ = expected_in c.args.expected.now in
     reached_first keys context expected c.args.out.now.items c.args.bytes
 
 pub loop-bytes-preserved : goal.loop-bytes-preserved
 loop-bytes-preserved g c =
-    let context : Context = record { parsed = g.C.ConnectionIdParser.parsed c.args.parser.now; versions = c.args.versions.now; grease = c.args.grease } in
+    let context : DecodeOptions = record { parsed = g.C.ConnectionIdParser.parsed c.args.parser.now; versions = c.args.versions.now; grease = c.args.grease } in
     let keys : SpaceId → KeyPair = (λ space. record { sample_len = g.H.HeaderKey.sample_len (keys_in c.args.keys.now space).header; tag_size = g.P.PacketKey.tag_size (keys_in c.args.keys.now space).packet; protected = g.H.HeaderKey.protected (keys_in c.args.keys.now space).header; unprotected = g.H.HeaderKey.unprotected (keys_in c.args.keys.now space).header; sealed = g.P.PacketKey.sealed (keys_in c.args.keys.now space).packet; opened = g.P.PacketKey.opened (keys_in c.args.keys.now space).packet }) in
     let expected : SpaceId → ℕ = expected_in c.args.expected.now in
     let is : c.loop-bytes.left ≡ Some c.in-Some.bytes = cc in
@@ -28,7 +28,7 @@ loop-bytes-preserved g c =
 
 pub returns-in-Err-clause-refused : goal.returns-in-Err-clause-refused
 returns-in-Err-clause-refused g c =
-    let context : Context = record { parsed = g.C.ConnectionIdParser.parsed c.args.parser.now; versions = c.args.versions.now; grease = c.args.grease } in
+    let context : DecodeOptions = record { parsed = g.C.ConnectionIdParser.parsed c.args.parser.now; versions = c.args.versions.now; grease = c.args.grease } in
     let keys : SpaceId → KeyPair = (λ space. record { sample_len = g.H.HeaderKey.sample_len (keys_in c.args.keys.now space).header; tag_size = g.P.PacketKey.tag_size (keys_in c.args.keys.now space).packet; protected = g.H.HeaderKey.protected (keys_in c.args.keys.now space).header; unprotected = g.H.HeaderKey.unprotected (keys_in c.args.keys.now space).header; sealed = g.P.PacketKey.sealed (keys_in c.args.keys.now space).packet; opened = g.P.PacketKey.opened (keys_in c.args.keys.now space).packet }) in
     let expected : SpaceId → ℕ = expected_in c.args.expected.now in
     let is : c.loop-bytes.left ≡ Some c.in-Some.bytes = cc in
@@ -38,7 +38,7 @@ returns-in-Err-clause-refused g c =
 
 pub returns-in-Err-clause-sealed : goal.returns-in-Err-clause-sealed
 returns-in-Err-clause-sealed g c =
-    let context : Context = record { parsed = g.C.ConnectionIdParser.parsed c.args.parser.now; versions = c.args.versions.now; grease = c.args.grease } in
+    let context : DecodeOptions = record { parsed = g.C.ConnectionIdParser.parsed c.args.parser.now; versions = c.args.versions.now; grease = c.args.grease } in
     let keys : SpaceId → KeyPair = (λ space. record { sample_len = g.H.HeaderKey.sample_len (keys_in c.args.keys.now space).header; tag_size = g.P.PacketKey.tag_size (keys_in c.args.keys.now space).packet; protected = g.H.HeaderKey.protected (keys_in c.args.keys.now space).header; unprotected = g.H.HeaderKey.unprotected (keys_in c.args.keys.now space).header; sealed = g.P.PacketKey.sealed (keys_in c.args.keys.now space).packet; opened = g.P.PacketKey.opened (keys_in c.args.keys.now space).packet }) in
     let expected : SpaceId → ℕ = expected_in c.args.expected.now in
     let is : c.loop-bytes.left ≡ Some c.in-Some.bytes = cc in
@@ -48,7 +48,7 @@ returns-in-Err-clause-sealed g c =
 
 pub returns-clause-sealed : goal.returns-clause-sealed
 returns-clause-sealed g c =
-    let context : Context = record { parsed = g.C.ConnectionIdParser.parsed c.args.parser.now; versions = c.args.versions.now; grease = c.args.grease } in
+    let context : DecodeOptions = record { parsed = g.C.ConnectionIdParser.parsed c.args.parser.now; versions = c.args.versions.now; grease = c.args.grease } in
     let keys : SpaceId → KeyPair = (λ space. record { sample_len = g.H.HeaderKey.sample_len (keys_in c.args.keys.now space).header; tag_size = g.P.PacketKey.tag_size (keys_in c.args.keys.now space).packet; protected = g.H.HeaderKey.protected (keys_in c.args.keys.now space).header; unprotected = g.H.HeaderKey.unprotected (keys_in c.args.keys.now space).header; sealed = g.P.PacketKey.sealed (keys_in c.args.keys.now space).packet; opened = g.P.PacketKey.opened (keys_in c.args.keys.now space).packet }) in
     let expected : SpaceId → ℕ = expected_in c.args.expected.now in
     let none : c.loop-bytes.left ≡ None = cc in

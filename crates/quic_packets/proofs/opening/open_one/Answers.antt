@@ -3,7 +3,7 @@ use Rattle.std.proofs.Common.{ℕ, refl, subst}
 use Rattle.quic_base.specs.Number.{AreBytes}
 use Rattle.quic_base.specs.declared.ids.SpaceId.{SpaceId}
 use Rattle.quic_header_encode.specs.Queries.{space_in}
-use Rattle.quic_header_decode.specs.Reading.{Context}
+use Rattle.quic_header_decode.specs.Reading.{DecodeOptions}
 use Rattle.quic_packets.specs.Pairs.{KeyPair}
 use Rattle.quic_packets.specs.Spaces.{keys_in, expected_in}
 use Rattle.quic_packets.proofs.Opened.{Lawful}
@@ -12,7 +12,7 @@ use Rattle.quic_packets.proofs.opening.open_one.Goals as goal
 
 pub returns-in-Ok-clause-sealed : goal.returns-in-Ok-clause-sealed
 returns-in-Ok-clause-sealed g c = λ h n payload packet rest sealed read expands whole.
-    let context : Context = record { parsed = g.C.ConnectionIdParser.parsed c.args.parser.now; versions = c.args.versions.now; grease = c.args.grease } in
+    let context : DecodeOptions = record { parsed = g.C.ConnectionIdParser.parsed c.args.parser.now; versions = c.args.versions.now; grease = c.args.grease } in
     let seal : SpaceId → KeyPair = (λ space. record { sample_len = g.H.HeaderKey.sample_len (keys_in c.args.keys.now space).header; tag_size = g.P.PacketKey.tag_size (keys_in c.args.keys.now space).packet; protected = g.H.HeaderKey.protected (keys_in c.args.keys.now space).header; unprotected = g.H.HeaderKey.unprotected (keys_in c.args.keys.now space).header; sealed = g.P.PacketKey.sealed (keys_in c.args.keys.now space).packet; opened = g.P.PacketKey.opened (keys_in c.args.keys.now space).packet }) in
     let key : SpaceId → KeyPair = seal in
     let expected : SpaceId → ℕ = expected_in c.args.expected.now in
@@ -29,7 +29,7 @@ returns-in-Ok-clause-sealed g c = λ h n payload packet rest sealed read expands
 
 pub returns-in-Err-clause-sealed : goal.returns-in-Err-clause-sealed
 returns-in-Err-clause-sealed g c = λ h n payload packet rest sealed read expands whole.
-    let context : Context = record { parsed = g.C.ConnectionIdParser.parsed c.args.parser.now; versions = c.args.versions.now; grease = c.args.grease } in
+    let context : DecodeOptions = record { parsed = g.C.ConnectionIdParser.parsed c.args.parser.now; versions = c.args.versions.now; grease = c.args.grease } in
     let seal : SpaceId → KeyPair = (λ space. record { sample_len = g.H.HeaderKey.sample_len (keys_in c.args.keys.now space).header; tag_size = g.P.PacketKey.tag_size (keys_in c.args.keys.now space).packet; protected = g.H.HeaderKey.protected (keys_in c.args.keys.now space).header; unprotected = g.H.HeaderKey.unprotected (keys_in c.args.keys.now space).header; sealed = g.P.PacketKey.sealed (keys_in c.args.keys.now space).packet; opened = g.P.PacketKey.opened (keys_in c.args.keys.now space).packet }) in
     let key : SpaceId → KeyPair = seal in
     let expected : SpaceId → ℕ = expected_in c.args.expected.now in
@@ -47,7 +47,7 @@ returns-in-Err-clause-sealed g c = λ h n payload packet rest sealed read expand
 
 pub returns-in-Ok-clause-shorter : goal.returns-in-Ok-clause-shorter
 returns-in-Ok-clause-shorter g c =
-    let context : Context = record { parsed = g.C.ConnectionIdParser.parsed c.args.parser.now; versions = c.args.versions.now; grease = c.args.grease } in
+    let context : DecodeOptions = record { parsed = g.C.ConnectionIdParser.parsed c.args.parser.now; versions = c.args.versions.now; grease = c.args.grease } in
     let seal : SpaceId → KeyPair = (λ space. record { sample_len = g.H.HeaderKey.sample_len (keys_in c.args.keys.now space).header; tag_size = g.P.PacketKey.tag_size (keys_in c.args.keys.now space).packet; protected = g.H.HeaderKey.protected (keys_in c.args.keys.now space).header; unprotected = g.H.HeaderKey.unprotected (keys_in c.args.keys.now space).header; sealed = g.P.PacketKey.sealed (keys_in c.args.keys.now space).packet; opened = g.P.PacketKey.opened (keys_in c.args.keys.now space).packet }) in
     let key : SpaceId → KeyPair = seal in
     let expected : SpaceId → ℕ = expected_in c.args.expected.now in

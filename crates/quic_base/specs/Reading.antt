@@ -1,6 +1,12 @@
--- The number at the front of a list, as a function: what readers compute. The grammar stands in `Varint`.
-use Rattle.std.specs.Prelude.{ℕ, ◌+◌, ◌-◌, ◌*◌, ◌/◌, ◌%◌, ◌^◌, List, [], ◌∷◌, length, take, drop, nat_lt, Option, None, Some, if◌then◌else◌}
+-- The number at the front of a list, as a function: what readers compute. The grammar is in `Varint`.
+use Rattle.std.specs.Prelude.{ℕ, Result, Ok, Err, ◌+◌, ◌-◌, ◌*◌, ◌/◌, ◌%◌, ◌^◌, List, [], ◌∷◌, length, take, drop, nat_lt, Option, None, Some, if◌then◌else◌}
 use Rattle.quic_base.specs.Number.{num}
+
+-- one step of reading and then the next, unless the first one fails
+infixl 10 ◌>>=◌
+abbrev pub ◌>>=◌ : {A B E : Type 0} → Result A E → (A → Result B E) → Result B E
+(Ok x) >>= f = f x
+(Err e) >>= f = Err e
 
 -- the number that a varint at the front encodes, and what follows it, if there is one
 unfoldable pub number_at : List ℕ → Option (ℕ × List ℕ)

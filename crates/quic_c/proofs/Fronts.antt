@@ -10,7 +10,8 @@ use Rattle.quic_frame_fields.specs.AckPlace.{ack_at}
 use Rattle.quic_frame_fields.specs.declared.frame.fault.Fault.{Fault}
 use Rattle.quic_frame_fields.specs.declared.frame.fault.Fault.TheVariants.{UnexpectedEnd}
 use Rattle.quic_frame_fields.specs.Field.{NoNumber}
-use Rattle.quic_frame_fields.specs.Reading.{◌>>=◌, varint_at, after_blocks, blocks_at}
+use Rattle.quic_base.specs.Reading.{◌>>=◌}
+use Rattle.quic_frame_fields.specs.Reading.{varint_at, after_blocks, blocks_at}
 use Rattle.quic_frame_fields.proofs.Steps.{bind_ok, ok_is}
 use Rattle.quic_frame_fields.proofs.Varints.{varint_takes, varint_read, varint_cut}
 use Rattle.quic_frame_fields.proofs.Blocks.{blocks_valid}

@@ -6,7 +6,8 @@ use Rattle.quic_frames.specs.declared.frame.Frame.{Frame}
 use Rattle.quic_frame_fields.specs.declared.frame.fault.Fault.{Fault}
 use Rattle.quic_frame_fields.specs.AckPlace.{ack_at}
 use Rattle.quic_frame_fields.specs.declared.frame.fault.Fault.TheVariants.{InvalidFrameId}
-use Rattle.quic_frame_fields.specs.Reading.{◌>>=◌, varint_at, Invalid, invalid, Broken, IsBlocks, blocks_left, ranges_of, first_range_at}
+use Rattle.quic_base.specs.Reading.{◌>>=◌}
+use Rattle.quic_frame_fields.specs.Reading.{varint_at, Invalid, invalid, Broken, IsBlocks, blocks_left, ranges_of, first_range_at}
 use Rattle.quic_frames.specs.IterState.{IterState}
 use Rattle.quic_frames.specs.Walk.{left, Finds}
 use Rattle.quic_c.specs.declared.words.CFrameIter.{CFrameIter}

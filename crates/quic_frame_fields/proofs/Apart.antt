@@ -4,7 +4,8 @@ use Rattle.std.proofs.lemmas.Bool.{ltb-false}
 use Rattle.quic_frame_fields.specs.declared.frame.fault.Fault.{Fault}
 use Rattle.quic_frame_fields.specs.declared.frame.fault.Fault.TheVariants.{Malformed}
 use Rattle.quic_frame_fields.specs.Field.{AreBelow, AreBlocks, AreApart}
-use Rattle.quic_frame_fields.specs.Reading.{◌>>=◌, varint_at, block_at, gap_at, below_at, after_blocks, range_at, range_and, ranges_below, first_and, ranges_of, IsBlocks}
+use Rattle.quic_base.specs.Reading.{◌>>=◌}
+use Rattle.quic_frame_fields.specs.Reading.{varint_at, block_at, gap_at, below_at, after_blocks, range_at, range_and, ranges_below, first_and, ranges_of, IsBlocks}
 use Rattle.quic_frame_fields.proofs.Steps.{bind_ok, guard_ok, ok_is}
 use Rattle.quic_frame_fields.proofs.Blocks.{ranges_are}
 

@@ -11,8 +11,8 @@ use Rattle.quic_frame_fields.specs.declared.frame.fault.Fault.{Fault}
 use Rattle.quic_frame_fields.specs.declared.frame.fault.Fault.TheVariants.{Malformed, UnexpectedEnd}
 use Rattle.quic_frame_fields.specs.Field.{AreBelow, AreBlocks, NumberStops, BelowStops, RangesStop, BlocksStop}
 use Rattle.quic_frame_fields.specs.Refusal.{AreNoBlocks}
-use Rattle.quic_base.specs.Reading.{number_at}
-use Rattle.quic_frame_fields.specs.Reading.{◌>>=◌, varint_at, block_at, gap_at, below_at, after_blocks, blocks_at, range_at, ranges_below, ranges_of, IsBlocks, blocks_left}
+use Rattle.quic_base.specs.Reading.{◌>>=◌, number_at}
+use Rattle.quic_frame_fields.specs.Reading.{varint_at, block_at, gap_at, below_at, after_blocks, blocks_at, range_at, ranges_below, ranges_of, IsBlocks, blocks_left}
 use Rattle.quic_frame_fields.proofs.Steps.{bind_ok, bind_err, mapped_err, guard_ok, ok_is, ok_is_not_err, err_of, failure}
 use Rattle.quic_frame_fields.proofs.Varints.{varint_takes, varint_again, varint_fails, varint_some}
 

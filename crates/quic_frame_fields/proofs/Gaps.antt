@@ -1,9 +1,9 @@
 -- Ranges of an ACK one after the other, as a loop reads them.
 use Rattle.std.proofs.Common.{◌≡◌, ℕ, suc, ◌-◌, ◌+◌, ◌/◌, ◌%◌, ◌≤◌, ◌<◌, List, ◌∷◌, Result, Ok, Err, refl, sym, ap, ◌∙◌, arith, rules, nat_lt, false}
 use Rattle.std.proofs.lemmas.Bool.Decides.{nat_tests}
-use Rattle.quic_base.specs.Reading.{number_at}
+use Rattle.quic_base.specs.Reading.{◌>>=◌, number_at}
 use Rattle.quic_frame_fields.specs.declared.frame.fault.Fault.{Fault}
-use Rattle.quic_frame_fields.specs.Reading.{◌>>=◌, varint_at, block_at, gap_at, range_at, below_at}
+use Rattle.quic_frame_fields.specs.Reading.{varint_at, block_at, gap_at, range_at, below_at}
 
 abbrev as_range : ℕ → ℕ × List ℕ → (ℕ × ℕ) × List ℕ
 as_range high block = ((block.0, high), block.1)

@@ -5,7 +5,8 @@ use Rattle.quic_frame_fields.specs.Acks.{AckParts, parts_of, ranges_acked}
 use Rattle.quic_frame_fields.specs.Numbers.{AreEncoded}
 use Rattle.quic_frame_fields.specs.declared.frame.fault.Fault.{Fault}
 use Rattle.quic_frame_fields.specs.declared.frame.fault.Fault.TheVariants.{InvalidFrameId}
-use Rattle.quic_frame_fields.specs.Reading.{◌>>=◌, varint_at, blocks_at}
+use Rattle.quic_base.specs.Reading.{◌>>=◌}
+use Rattle.quic_frame_fields.specs.Reading.{varint_at, blocks_at}
 
 -- The blocks of an ACK stand in the bytes of its frame: behind the type, the greatest number, the delay, and how many
 -- ranges are below the first.

@@ -11,7 +11,8 @@ use Rattle.quic_frame_fields.specs.declared.frame.fault.Fault.{Fault}
 use Rattle.quic_frame_fields.specs.declared.frame.fault.Fault.TheVariants.{UnexpectedEnd, Malformed}
 use Rattle.quic_frame_fields.specs.Field.{Value, is_rest, Number, Bytes, Ranges, Field, Varint, Counted, Id, Uint64, Bytes16, Blocks, Rest, Implied, Ordered, is_ordered, greatest_of, IsField, AreFields, Stops, StopsWithin, IsReason}
 use Rattle.quic_frame_fields.specs.Table.{has_rest}
-use Rattle.quic_frame_fields.specs.Reading.{◌>>=◌, varint_at, bytes_at, counted_at, id_at, eight_at, blocks_at, of_number, of_bytes, of_ranges, ranges_of, field_at, fields_at}
+use Rattle.quic_base.specs.Reading.{◌>>=◌}
+use Rattle.quic_frame_fields.specs.Reading.{varint_at, bytes_at, counted_at, id_at, eight_at, blocks_at, of_number, of_bytes, of_ranges, ranges_of, field_at, fields_at}
 use Rattle.quic_frame_fields.proofs.Steps.{bind_ok, bind_err, mapped_err, err_of, only_fault, only_fault_else, true_is_not_false, ok_is_not_err, append_is_nil, guard_ok, ok_is}
 use Rattle.quic_frame_fields.proofs.Varints.{varint_takes, varint_again, varint_fails}
 use Rattle.quic_frame_fields.proofs.Blocks.{blocks_take, blocks_again, blocks_fail, blocks_reason, ranges_are}

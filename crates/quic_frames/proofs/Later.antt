@@ -9,7 +9,8 @@ use Rattle.quic_frame_fields.specs.declared.frame.fault.Fault.TheVariants.{Unexp
 use Rattle.quic_frame_fields.specs.Field.{Value, Field, Varint, Counted, Id, Uint64, Bytes16, Blocks, Rest, Implied, Ordered, is_ordered, greatest_of, NumberStops, BelowStops, BlocksStop, StopsWithin}
 use Rattle.quic_frame_fields.specs.Table.{is_open}
 use Rattle.quic_frame_fields.specs.Payload.{TypedFrame, AreFrames, AreClosed, last_type, BeginsWithType, IsNoFrame, IsBroken}
-use Rattle.quic_frame_fields.specs.Reading.{id_at, field_at, found_at, of_ranges, ◌>>=◌, Item, Whole, items_of}
+use Rattle.quic_base.specs.Reading.{◌>>=◌}
+use Rattle.quic_frame_fields.specs.Reading.{id_at, field_at, found_at, of_ranges, Item, Whole, items_of}
 use Rattle.quic_frame_fields.proofs.Steps.{true_is_not_false}
 use Rattle.quic_frame_fields.proofs.Blocks.{blocks_stop}
 use Rattle.quic_frames.proofs.Fields.{field_fails, field_stops, stops_again}

@@ -6,13 +6,13 @@ use Rattle.std.specs.Option.{ok_or}
 use Rattle.std.proofs.lemmas.List.{take-append-drop, length-take}
 use Rattle.std.proofs.lemmas.Bool.Decides.{nat_tests}
 use Rattle.quic_base.specs.Number.{AreBytes, bytes_of}
-use Rattle.quic_base.specs.Reading.{number_at}
+use Rattle.quic_base.specs.Reading.{◌>>=◌, number_at}
 use Rattle.quic_base.specs.ConnectionId.{long_id}
 use Rattle.quic_base.proofs.PublicLaws as law
 use Rattle.quic_header_decode.specs.Refusal.{Refusal, Invalid}
 use Rattle.quic_header_decode.specs.Fields.{word_at, long_id_at}
 use Rattle.quic_header_decode.specs.Grammar.{HeaderField, Version, DestinationId, SourceId, Supported, TokenLength, Token, Length, ShortId, HeaderValue, Number, Bytes, token_length_of, IsHeaderField, refusal_at, IsRefusal, BeginsWithField, StopsAtField, AreHeaderFields, StopsWithinRow}
-use Rattle.quic_header_decode.specs.Reading.{◌>>=◌, DecodeOptions, TakesWithin, at_end, bad_id}
+use Rattle.quic_header_decode.specs.Reading.{DecodeOptions, TakesWithin, at_end, bad_id}
 use Rattle.quic_header_decode.proofs.Steps.{bind_ok, bind_err, option_ok, chosen, then_ok, then_err, otherwise, some_of, drop_front, step, err_same, ok_err, err_ok, ok_pair}
 use Rattle.quic_header_decode.proofs.FieldLaws.{back_fits, word_of, word_found, id_again, id_found, var_again, var_found}
 

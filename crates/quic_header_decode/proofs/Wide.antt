@@ -8,7 +8,7 @@ use Rattle.std.proofs.lemmas.List.{take-append-drop}
 use Rattle.std.proofs.lemmas.Bool.Decides.{nat_tests}
 use Rattle.quic_base.specs.ConnectionId.{long_id}
 use Rattle.quic_base.specs.Number.{AreBytes, IsNumber, bytes_of}
-use Rattle.quic_base.specs.Reading.{number_at}
+use Rattle.quic_base.specs.Reading.{◌>>=◌, number_at}
 use Rattle.quic_base.proofs.PublicLaws as law
 use Rattle.quic_header_encode.specs.declared.long_type.LongHeaderType.{LongHeaderType}
 use Rattle.quic_header_encode.specs.declared.long_type.LongHeaderType.TheVariants as kind
@@ -19,7 +19,7 @@ use Rattle.quic_header_decode.specs.Fields.{long_id_at, wide_id_at, word_at}
 use Rattle.quic_header_decode.specs.Grammar.{is_long, Refused}
 use Rattle.quic_header_decode.specs.Parsers.{fixed_parsed, fixed_lawful}
 use Rattle.quic_header_decode.specs.Places.{any_fixed, IsUnknownVersion, ReadAnswer}
-use Rattle.quic_header_decode.specs.Reading.{TakesWithin, ◌>>=◌, at_end, bad_id, header_at, long_at, typed_at, wide_at, wide_header_at}
+use Rattle.quic_header_decode.specs.Reading.{TakesWithin, at_end, bad_id, header_at, long_at, typed_at, wide_at, wide_header_at}
 use Rattle.quic_header_decode.specs.Refusal.{Refusal, Unsupported, Invalid, NoMemory}
 use Rattle.quic_header_decode.proofs.FieldLaws.{word_found, word_of}
 use Rattle.quic_header_decode.proofs.Headers.{header_found, header_again, refused_found, refused_again}

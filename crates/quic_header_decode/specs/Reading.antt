@@ -10,13 +10,8 @@ use Rattle.quic_header_encode.specs.declared.long_type.LongHeaderType.TheVariant
 use Rattle.quic_header_decode.specs.Refusal.{Refusal, Unsupported, Invalid}
 use Rattle.quic_header_decode.specs.Fields.{byte_at, word_at, long_id_at, wide_id_at}
 use Rattle.quic_header_decode.specs.Parsers.{fixed_parsed}
-use Rattle.quic_base.specs.Reading.{number_at}
+use Rattle.quic_base.specs.Reading.{◌>>=◌, number_at}
 use Rattle.bytes.specs.Filled.{Filled}
-
-infixl 10 ◌>>=◌
-abbrev pub ◌>>=◌ : {A B : Type 0} → Result A Refusal → (A → Result B Refusal) → Result B Refusal
-(Ok x) >>= f = f x
-(Err e) >>= f = Err e
 
 -- what headers are read by: the ids of short headers, the versions that are known, and whether the fixed bit may be
 -- clear

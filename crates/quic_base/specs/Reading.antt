@@ -1,4 +1,4 @@
--- The number at the front of a list, as a function: what readers compute. The grammar stands in `Varint`.
+-- The number at the front of a list, as a function: what readers compute. The grammar is in `Varint`.
 use Rattle.std.specs.Prelude.{ℕ, ◌+◌, ◌-◌, ◌*◌, ◌/◌, ◌%◌, ◌^◌, List, [], ◌∷◌, length, take, drop, nat_lt, Option, None, Some, if◌then◌else◌}
 use Rattle.quic_base.specs.Number.{num}
 

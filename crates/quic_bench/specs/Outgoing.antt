@@ -32,7 +32,7 @@ pub record IsFoundAgain (context : Context) (expected : SpaceId → ℕ) (packet
   pub head : IsReadBack context packet.header.now rest
   pub number : ExpandsIn packet.header.now (expected (space_in packet.header.now)) packet.number
 
--- bytes are two sealed packets, one behind the other
+-- bytes are two sealed packets, one after the other
 pub record AreSealed (keys : SpaceId → KeyPair) (first second : Outgoing) (bytes : List ℕ) : Type 0 where
   pub front : List ℕ
   pub back : List ℕ

@@ -16,15 +16,15 @@ abbrev pub TellsKnown : ℕ → ℕ → Type 0
 TellsKnown known number = ((known ≡ 1) × (id : TransportParameterId) × IsKnownParameter id number) ⊎ (known ≡ 0)
     × ((id : TransportParameterId) → ¬ (IsKnownParameter id number))
 
--- The words tell the entry at the front of a list: its number, the place of its value, behind which the next one
--- begins.
+-- The words describe the entry at the front of a list: its number, and the place of its value, after which the next
+-- entry begins.
 pub record GivesParameter (list : List ℕ) (words : EntryWords) : Type 0 where
   pub entry : Takes (IsEntry words.id (take words.value_len (drop words.value list))) list
       (drop (words.value + words.value_len) list)
   pub within : words.value + words.value_len ≤ length list
 
--- Bytes are written at the front, with what stood behind them, and are counted; or there is less room than that, how
--- much they need is reported, and nothing changes.
+-- The bytes were written at the front, those after them didn't change, and their count is given; or there is less room
+-- than that, how much they need is reported, and nothing changed.
 pub record Lies (result : Result ℕ ℕ) (bytes old new : List ℕ) : Type 0 where
   pub count : IfOk result (λ n. n ≡ length bytes)
   pub front : IfOk result (λ n. new ≡ bytes ++ drop n old)
@@ -32,7 +32,7 @@ pub record Lies (result : Result ℕ ℕ) (bytes old new : List ℕ) : Type 0 wh
   pub full : OnErr result (length old < length bytes)
   pub same : OnErr result (new ≡ old)
 
--- Bytes stand at the front, with what stood behind them, and are counted.
+-- The bytes were written at the front, those after them didn't change, and their count is given.
 pub record StandsInList (bytes old new : List ℕ) (count : ℕ) : Type 0 where
   pub count_is : count ≡ length bytes
   pub front : new ≡ bytes ++ drop count old
@@ -46,7 +46,8 @@ pub record Lacks (bytes old : List ℕ) (needed : ℕ) : Type 0 where
 abbrev pub any_entry : Entry
 any_entry = record { number = 0; bytes = [] }
 
--- These are the entries of a list that may stand among those of a record, so many that a byte counts all of them.
+-- These are the entries of a list, all of which may be written among those of a record, and so few that a byte counts
+-- them together with the record's.
 pub record IsFurther (es : List Entry) (list : List ℕ) : Type 0 where
   pub entries : AreInOrder es list
   pub others : AreOthers es
@@ -60,7 +61,7 @@ pub record CanList (side : ℕ) (words : ParamsWords) (further order : List ℕ)
   pub further_are : IsFurther es further
   pub order_is : IsOrderOf (rows + length es) (asked (rows + length es) order)
 
--- The list of a record with further entries stands at the front, and the side reads that record of it.
+-- The list of a record with further entries was written at the front, and the side reads that record from it.
 pub record WroteList (side : ℕ) (words : ParamsWords) (further order old new : List ℕ) (count : ℕ) : Type 0 where
   pub params : TransportParameters
   pub es : List Entry

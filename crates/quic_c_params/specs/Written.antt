@@ -26,7 +26,7 @@ pub record CanWriteParams (side : ℕ) (words : ParamsWords) (p : TransportParam
   pub in_range : IsRecordInRange reader p
   pub read_back : IsReadAnswer reader (written p) (Ok p)
 
--- The list of such a record stands at the front, with what stood behind it, and is counted.
+-- The list of such a record was written at the front, the bytes after it didn't change, and its length is given.
 pub record WroteParams (side : ℕ) (words : ParamsWords) (old new : List ℕ) (count : ℕ) : Type 0 where
   pub params : TransportParameters
   pub can : CanWriteParams side words params

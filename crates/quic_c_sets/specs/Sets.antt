@@ -25,8 +25,8 @@ pub record IsSet (words : List RunWords) (count : ℕ) : Type 0 where
   pub within : count ≤ length words
   pub maximal : IsMaximalRuns (first_runs count words)
 
--- The first words were a set, and now the first are the set of the numbers that pass the test, which is another; what
--- stands behind these stood there.
+-- The first words were a set, and now the first are the set of the numbers that pass the test, which is another; the
+-- words after these didn't change.
 pub record Becomes (test : ℕ → Bool) (old : List RunWords) (before : ℕ) (new : List RunWords) (after : ℕ) : Type 0 where
   pub set : IsSet old before
   pub runs : BecomesRunsOf test (first_runs before old) (first_runs after new)

@@ -1,5 +1,4 @@
--- What stands between the bytes of a frame: kinds of fields, and the bytes that encode each (RFC 9000, sections 16 and
--- 19).
+-- The fields of frames: their kinds, and the bytes that encode each (RFC 9000, sections 16 and 19).
 use Rattle.std.specs.Prelude.{◌≡◌, ⊤, ℕ, zero, suc, ◌+◌, ◌-◌, ◌≤◌, ◌<◌, List, [], ◌∷◌, ◌++◌, length, nat_lt, nat_le, ◌==◌, ◌||◌, Bool, true, false, if◌then◌else◌, ◌⊎◌}
 use Rattle.quic_base.specs.Codec.{NoFront}
 use Rattle.quic_base.specs.Number.{IsNumber}
@@ -62,7 +61,7 @@ AreBlocks greatest (range ∷ ranges) bytes =
     (block others : List ℕ) × (bytes ≡ block ++ others) × (range.1 ≡ greatest) × (range.0 ≤ range.1)
     × Encodes (range.1 - range.0) block × AreBelow range.0 ranges others
 
--- Each range stands below the one before it, and a number of neither is between them.
+-- Each range is below the one before it, and a number of neither is between them.
 abbrev pub AreApart : List (ℕ × ℕ) → Type 0
 AreApart [] = ⊤
 AreApart (range ∷ []) = range.0 ≤ range.1
@@ -89,7 +88,7 @@ IsField Ordered before values bytes = (values ≡ []) × (bytes ≡ []) × (is_o
 abbrev pub NoNumber : List ℕ → Type 0
 NoNumber bytes = (n : ℕ) → NoFront (Encodes n) bytes
 
--- A number stands first, and the rest is as P says.
+-- A number comes first, and P holds of it and the rest.
 abbrev pub Begins : List ℕ → (ℕ → List ℕ → Type 0) → Type 0
 Begins bytes P = (n : ℕ) × (front back : List ℕ) × (bytes ≡ front ++ back) × Encodes n front × P n back
 
@@ -119,7 +118,7 @@ abbrev pub BlocksStop : ℕ → List ℕ → Fault → Type 0
 BlocksStop greatest bytes reason = NumberStops bytes reason (λ count. false)
     (λ count rest. RangesStop count greatest rest reason)
 
--- why a field can't be read where it stands
+-- why a field can't be read here
 abbrev pub reason_of : Field → List ℕ → Fault
 reason_of Ordered bytes = Malformed
 reason_of Id [] = UnexpectedEnd

@@ -50,7 +50,7 @@ abbrev pub AreClosed : List Found → Type 0
 AreClosed [] = Unit {0}
 AreClosed (found ∷ others) = (is_open found.type ≡ false) × AreClosed others
 
--- A type stands first, and the rest is as P says.
+-- A type comes first, and P holds of the rest.
 pub record BeginsWithType (strict : Bool) (bytes : List ℕ) (t : ℕ) (P : List ℕ → Type 0) : Type 0 where
   pub front : List ℕ
   pub back : List ℕ
@@ -81,7 +81,7 @@ abbrev pub HasBrokenField : Bool → List ℕ → ℕ → Fault → Type 0
 HasBrokenField strict bytes t reason = BeginsWithType strict bytes t
     (λ back. (r : Row) × (row_of t ≡ Some r) × StopsWithin r.fields [] back reason)
 
--- The type and the reason that are reported of what can't be read, where the last type before was the one given.
+-- The type and the reason of the error for bytes that can't be read, after a frame of the given type.
 abbrev pub IsNoFrame : Bool → Option ℕ → List ℕ → Option ℕ → Fault → Type 0
 IsNoFrame strict before bytes type reason =
     (LacksType bytes × (type ≡ before) × (reason ≡ UnexpectedEnd))

@@ -18,7 +18,7 @@ substitutes (Two r s) = r ∷ s ∷ []
 abbrev pub after_splice : List (Range ℕ) → Splice → List (Range ℕ)
 after_splice rs s = take s.from rs ++ (substitutes s.by ++ drop s.to rs)
 
--- the splice lies inside the runs, and leaves at most one more
+-- the splice is within the runs, and adds at most one
 pub record Fits (rs : List (Range ℕ)) (s : Splice) : Type 0 where
   pub ordered : s.from ≤ s.to
   pub within : s.to ≤ length rs

@@ -7,7 +7,7 @@ use core::mem::MaybeUninit;
 /// So what a `Vec` holds is written over only by way of a slice of it, `&mut vec[..]`.
 ///
 /// A slice of bytes that aren't initialised serves as well, such as a buffer's spare capacity; the answer says how many
-/// of them are then. What stands behind what is written stays, and everything where nothing is written.
+/// of them are then. Bytes after those that are written don't change, and none if nothing is written.
 ///
 /// ```
 /// use quic_wire::frame::Frame;

@@ -62,17 +62,17 @@ impl core::error::Error for WriteError {}
 pub enum Error {
     /// A payload has no frame.
     EmptyPayload,
-    /// Something in a payload is no frame.
+    /// A payload has an invalid frame.
     Frame(InvalidFrame),
-    /// A packet's version is none of those that are spoken.
+    /// A packet's version isn't supported.
     UnsupportedVersion(u32),
-    /// No packet begins at its place in a datagram, or none that is whole.
+    /// No packet begins at this place of a datagram, or it isn't whole.
     Packet(&'static str),
     /// The protection of a header can't be taken off or put on.
     Protection(UnprotectError),
     /// A list of transport parameters is refused.
     TransportParameters(transport_parameters::Error),
-    /// A set has no room left, or is none.
+    /// A set has no room left, or its entries are no set.
     Set(range_set::Error),
     /// Nothing was written.
     Write(WriteError),

@@ -169,7 +169,7 @@ pub const MAX_CID_SIZE: usize = 20;
 /// ```
 #[derive(Clone, Copy, Default)]
 pub struct ConnectionId {
-    // At most 20; the bytes behind these are 0.
+    // At most 20; the bytes after these are 0.
     pub(crate) len: u32,
     pub(crate) bytes: [u8; MAX_CID_SIZE],
 }

@@ -54,7 +54,7 @@ pub struct Ack<'a> {
     largest: u64,
     delay: u64,
     ecn: Option<EcnCounts>,
-    // The frame as it stands in its payload.
+    // The frame as it is in its payload.
     bytes: &'a [u8],
 }
 

@@ -9,7 +9,7 @@ use core::mem::MaybeUninit;
 pub(super) const NO_FRAME: sys::Frame =
     sys::Frame { kind: 0, ty: 0, flags: 0, begin: 0, end: 0, data: 0, datalen: 0, numbers: [0; 5] };
 
-// An id and a token, as they stand one behind the other.
+// An id, and the token after it.
 type IdAndToken = [u8; MAX_CID_SIZE + 16];
 
 impl<'a> Frame<'a> {

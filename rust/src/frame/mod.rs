@@ -117,7 +117,8 @@ pub enum Frame<'a> {
 
 impl Frame<'_> {
     /// The type that names the frame: ACK also with counts, 0x30 of each DATAGRAM. That of a STREAM has the bit for the
-    /// offset where it isn't 0, and never the one for the length; [`Iter::last_type`] has it as it stands.
+    /// offset where it isn't 0, and never the one for the length; [`Iter::last_type`] has the type as it is in the
+    /// payload.
     ///
     /// ```
     /// use quic_wire::frame::{Frame, FrameType};

@@ -147,7 +147,7 @@ impl<'a> PartialDecode<'a> {
         &self.head
     }
 
-    /// Where the packet stands in its datagram, by which its protection is taken off.
+    /// The place of the packet in its datagram, by which its protection is taken off.
     ///
     /// ```
     /// use quic_wire::packet::Packets;
@@ -159,7 +159,7 @@ impl<'a> PartialDecode<'a> {
     ///
     /// # Panics
     ///
-    /// Where the packet ends at 4 GiB of its datagram or behind.
+    /// If the packet ends at 4 GiB of its datagram or later.
     pub fn place(&self) -> PacketPlace {
         self.head.place(self.begin)
     }
@@ -197,7 +197,7 @@ impl fmt::Debug for PartialDecode<'_> {
     }
 }
 
-/// The packets of a datagram that is opened where it stands. Each owns its part of it, so they are opened in a loop.
+/// The packets of a datagram that is opened in place. Each owns its part of it, so they are opened in a loop.
 ///
 /// ```
 /// use quic_wire::packet::PacketsMut;

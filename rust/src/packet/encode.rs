@@ -143,7 +143,7 @@ impl PartialEncode {
         }
     }
 
-    /// Where the packet stands that these bytes are, and its number.
+    /// The place of the packet that these bytes are, and of its number.
     ///
     /// ```
     /// use quic_wire::packet::{Header, PacketNumber};
@@ -178,7 +178,7 @@ impl Header<'_> {
     /// ```
     #[inline]
     pub fn encoded_len(&self) -> usize {
-        // Any length may stand in a `PacketNumber`, though only some are written.
+        // A `PacketNumber` may have any length, though only some are written.
         match *self {
             Header::Initial { dst_cid, src_cid, token, number, .. } => {
                 let size = varint::len(token.len() as u64).unwrap_or(8);

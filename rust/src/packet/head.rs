@@ -31,9 +31,9 @@ pub struct HeaderPlaces(sys::HeaderPlaces);
 /// ```
 #[derive(Clone, Copy, Debug, PartialEq, Eq, Hash)]
 pub enum HeaderError {
-    /// The version is none of those that were given. Its version and its ids are reported, of up to 255 bytes (RFC 8999).
+    /// The version isn't among those that were given. It is given with the ids, of up to 255 bytes (RFC 8999).
     UnsupportedVersion(HeaderPlaces),
-    /// The bytes end within the packet. All of its header is reported.
+    /// The bytes end within the packet. All of its header is given.
     CutOff(HeaderPlaces),
     /// No header can be read.
     InvalidHeader(&'static str),
@@ -69,9 +69,10 @@ const ONE_RTT: u8 = 4;
 const VERSION_NEGOTIATION: u8 = 5;
 
 impl HeaderPlaces {
-    /// Reads the header of the packet that bytes begin with. Ids of short headers have `cid_len` bytes; `versions` are
-    /// those that are read further than their ids. The fixed bit isn't looked at: see [`HeaderPlaces::fixed_bit`]. Ids of a
-    /// version negotiation that are longer than 20 bytes are reported by [`HeaderPlaces::read_version_negotiation`] alone.
+    /// Reads the header of the packet that bytes begin with. Ids of short headers have `cid_len` bytes; of versions
+    /// that are not among `versions` only the ids are read. The fixed bit isn't checked: see
+    /// [`HeaderPlaces::fixed_bit`]. Only [`HeaderPlaces::read_version_negotiation`] reads ids of a version negotiation
+    /// that are longer than 20 bytes.
     ///
     /// ```
     /// use quic_wire::packet::{HeaderPlaces, HeaderError};
@@ -84,7 +85,7 @@ impl HeaderPlaces {
     ///
     /// # Errors
     ///
-    /// Where no header can be read, or its packet isn't whole or of another version; then what was read is reported.
+    /// If no header can be read, or its packet isn't whole or of another version; the fields that were read are given.
     ///
     /// # Panics
     ///
@@ -156,7 +157,7 @@ impl HeaderPlaces {
         })
     }
 
-    /// The first byte as it stands.
+    /// The first byte, before protection is taken off.
     ///
     /// ```
     /// use quic_wire::packet::HeaderPlaces;
@@ -265,7 +266,7 @@ impl HeaderPlaces {
         &packet[start..start + usize::from(self.0.scidlen)]
     }
 
-    /// Where the token of an Initial packet stands in it; an empty range in others.
+    /// The place of an Initial packet's token in the packet; an empty range for others.
     ///
     /// ```
     /// use quic_wire::packet::HeaderPlaces;
@@ -372,7 +373,8 @@ impl HeaderPlaces {
         self.0.header_end as usize
     }
 
-    /// Where the packet stands that begins at a place of its datagram. One without a number has no room for protection.
+    /// The place of the packet, which begins at a place of its datagram. One without a number has no room for
+    /// protection.
     ///
     /// ```
     /// use quic_wire::packet::HeaderPlaces;
@@ -384,7 +386,7 @@ impl HeaderPlaces {
     ///
     /// # Panics
     ///
-    /// Where the packet would end at 4 GiB or behind.
+    /// If the packet would end at 4 GiB or later.
     #[inline]
     pub fn place(&self, begin: usize) -> PacketPlace {
         let number = if self.is_protected() { self.header_end() } else { self.end() };

@@ -1,9 +1,9 @@
-//! A packet that is opened where it stands (RFC 9001, section 5.4).
+//! A packet that is opened in place (RFC 9001, section 5.4).
 use super::{HeaderPlaces, Opened, ProtectedHeader, UnprotectError};
 use crate::text::Short;
 use core::fmt;
 
-/// A packet of a datagram that is opened where it stands.
+/// A packet of a datagram that is opened in place.
 ///
 /// ```
 /// use quic_wire::packet::PacketsMut;
@@ -169,7 +169,7 @@ pub struct Packet<'a> {
     /// The header with the number, which the AEAD authenticates. Where fewer bytes are put in its place, what reads the
     /// header panics.
     pub header_data: &'a [u8],
-    /// The payload with its tag, to be opened where it stands.
+    /// The payload with its tag, to be opened in place.
     pub payload: &'a mut [u8],
     head: HeaderPlaces,
     opened: Opened,

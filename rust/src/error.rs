@@ -79,7 +79,7 @@ pub enum Error {
 }
 
 impl Error {
-    /// The code with which a connection is closed for what its peer sent; none where a packet is dropped (RFC 9000,
+    /// The code to close the connection with if the peer caused the error; `None` if a packet is dropped (RFC 9000,
     /// sections 5.2 and 12.2) or the peer has no part in it.
     ///
     /// ```

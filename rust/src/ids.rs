@@ -175,7 +175,7 @@ pub struct ConnectionId {
 }
 
 impl ConnectionId {
-    /// The id of these bytes; `None` where they are more than 20.
+    /// The id of these bytes; `None` if they are more than 20.
     ///
     /// ```
     /// use quic_wire::ConnectionId;

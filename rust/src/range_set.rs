@@ -197,8 +197,8 @@ impl<const N: usize> ArrayRangeSet<N> {
         self.insert(number..number.saturating_add(1))
     }
 
-    /// Puts numbers into the set; where there is no room for one run more, the run of the least numbers goes, theirs or
-    /// one that was there, and is answered.
+    /// Puts numbers into the set. If there is no room for one run more, the run of the least numbers, theirs or one
+    /// that was there, is dropped, and answered.
     ///
     /// ```
     /// use quic_wire::range_set::ArrayRangeSet;

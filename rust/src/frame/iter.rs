@@ -48,8 +48,8 @@ impl<'a> Iter<'a> {
         Iter::begin(payload, false)
     }
 
-    /// The same, where a type in another encoding than its shortest is no frame (RFC 9000, section 12.4). Other fields
-    /// may have any width.
+    /// The same, but a type that is not in its shortest encoding is an error (RFC 9000, section 12.4). Other fields may
+    /// have any width.
     ///
     /// ```
     /// use quic_wire::frame::{Frame, Iter, Reason};

@@ -100,8 +100,8 @@ impl HeaderPlaces {
     }
 
     /// Where the short header ends that a packet begins with, whose id has `cid_len` bytes: where its number begins. It
-    /// is what [`HeaderPlaces::read`] tells of such a packet as [`HeaderPlaces::header_end`], with fewer instructions; `None` where no
-    /// short header begins there.
+    /// equals [`HeaderPlaces::header_end`] of [`HeaderPlaces::read`], with fewer instructions; `None` if no short
+    /// header begins there.
     ///
     /// ```
     /// use quic_wire::packet::HeaderPlaces;
@@ -119,9 +119,9 @@ impl HeaderPlaces {
     }
 
     /// Reads the header of the version negotiation that a packet is. Its ids are those of the packet that it answers,
-    /// which may be of any version, so they have up to 255 bytes (RFC 8999, section 6). [`HeaderPlaces::read`] tells the same
-    /// where both have at most 20, and refuses longer ones. `None` where no version negotiation begins there, or where
-    /// there are 4 GiB or more. The fixed bit isn't looked at.
+    /// which may be of any version, so they have up to 255 bytes (RFC 8999, section 6). [`HeaderPlaces::read`] gives
+    /// the same if both have at most 20, and refuses longer ones. `None` if no version negotiation begins there, or if
+    /// there are 4 GiB or more. The fixed bit isn't checked.
     ///
     /// ```
     /// use quic_wire::packet::{HeaderPlaces, VersionNegotiation};
@@ -300,7 +300,7 @@ impl HeaderPlaces {
     }
 
     /// The token of a Retry and the 16 bytes of its integrity tag (RFC 9000, section 17.2.5; RFC 9001, section 5.8).
-    /// None of another packet, and where it is too short.
+    /// `None` for another packet, and if it is too short.
     ///
     /// ```
     /// use quic_wire::packet::HeaderPlaces;
@@ -331,7 +331,8 @@ impl HeaderPlaces {
         Versions(if named { packet.get(self.header_end()..self.end()).unwrap_or_default() } else { &[] })
     }
 
-    /// How many bytes an Initial, Handshake or 0-RTT packet has from [`HeaderPlaces::header_end`] on, as it says; 0 of others.
+    /// The length in the header of an Initial, Handshake or 0-RTT packet: how many bytes it has from
+    /// [`HeaderPlaces::header_end`] on; 0 for others.
     ///
     /// ```
     /// use quic_wire::packet::HeaderPlaces;
@@ -345,7 +346,7 @@ impl HeaderPlaces {
         self.0.len
     }
 
-    /// Where the packet ends in its bytes; where they end, if it is cut off.
+    /// Where the packet ends in its bytes, or where they end if it is cut off.
     ///
     /// ```
     /// use quic_wire::packet::HeaderPlaces;
@@ -359,7 +360,7 @@ impl HeaderPlaces {
         self.0.end as usize
     }
 
-    /// Where the header ends; where the number begins, if the packet has one.
+    /// Where the header ends: if the packet has a number, where that begins.
     ///
     /// ```
     /// use quic_wire::packet::HeaderPlaces;

@@ -68,7 +68,7 @@ pub enum LongType {
     ZeroRtt,
 }
 
-/// What a header says before its protection is taken off.
+/// The fields of a header, before its protection is taken off.
 ///
 /// ```
 /// use quic_wire::packet::{HeaderPlaces, ProtectedHeader};

@@ -49,7 +49,7 @@ impl<'a> PacketMut<'a> {
         &self.head
     }
 
-    /// What its header says.
+    /// The fields of its header.
     ///
     /// ```
     /// use quic_wire::packet::{PacketsMut, ProtectedHeader};
@@ -90,8 +90,8 @@ impl<'a> PacketMut<'a> {
         self.packet
     }
 
-    /// Takes the protection off its header by the mask that is made of a sample of so many bytes, and says its number
-    /// by the one that is expected next.
+    /// Takes the protection off its header by the mask that is made of a sample of so many bytes, and gives its number,
+    /// expanded by the one that is expected next.
     ///
     /// ```
     /// use quic_wire::packet::PacketsMut;
@@ -176,7 +176,7 @@ pub struct Packet<'a> {
 }
 
 impl<'a> Packet<'a> {
-    /// What its header says that was never under protection.
+    /// The fields of its header that were never under protection.
     ///
     /// ```
     /// use quic_wire::packet::{PacketsMut, ProtectedHeader};

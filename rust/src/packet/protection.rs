@@ -174,8 +174,8 @@ impl PacketPlace {
         packet.get(start..start.saturating_add(len)).ok_or(UnprotectError::TooShort)
     }
 
-    /// Takes the protection off the packet's header by a mask (RFC 9001, section 5.4.1), and says its number by the one
-    /// that is expected next (RFC 9000, appendix A.3); with 0 it is what is written.
+    /// Takes the protection off the packet's header by a mask (RFC 9001, section 5.4.1), and gives its number, expanded
+    /// by the one that is expected next (RFC 9000, appendix A.3); with 0 it is the truncated number.
     ///
     /// ```
     /// use quic_wire::packet::PacketPlace;

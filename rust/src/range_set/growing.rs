@@ -29,7 +29,7 @@ enum Runs<const N: usize> {
 }
 
 impl<const N: usize> GrowingRangeSet<N> {
-    /// The empty set, which takes no memory.
+    /// The empty set, which allocates no memory.
     ///
     /// ```
     /// use quic_wire::range_set::GrowingRangeSet;

@@ -84,7 +84,7 @@ pub struct HeaderPlaces {
     pub len: u64,
 }
 
-/// What a header says beside its ids and its token.
+/// The fields of a header other than its ids and its token.
 #[repr(C)]
 #[derive(Clone, Copy, Debug, Default, PartialEq, Eq, Hash)]
 pub struct Said {

@@ -22,8 +22,8 @@ pub struct Entry<'a> {
 }
 
 impl<'a> Entry<'a> {
-    /// The nth of the parameters that have no meaning and that peers must pass, of the number `31 * n + 27` (RFC 9000,
-    /// section 18.1). None where that is 2^62 or more.
+    /// The nth of the parameters that have no meaning and that peers must ignore, of the number `31 * n + 27` (RFC
+    /// 9000, section 18.1). `None` if that is 2^62 or more.
     ///
     /// ```
     /// use quic_wire::transport_parameters::Entry;

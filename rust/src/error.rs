@@ -89,7 +89,7 @@ impl Error {
     /// assert_eq!(Error::Packet("fixed bit unset").code(), None);
     /// ```
     ///
-    /// What is no frame is a `FRAME_ENCODING_ERROR`, but for a type that isn't in its shortest encoding (RFC 9000,
+    /// An invalid frame is a `FRAME_ENCODING_ERROR`, but for a type that isn't in its shortest encoding (RFC 9000,
     /// section 12.4), which strict iterators alone refuse ([`Iter::strict`](crate::frame::Iter::strict)).
     pub fn code(&self) -> Option<Code> {
         match self {

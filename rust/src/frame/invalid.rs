@@ -1,4 +1,4 @@
-//! What is no frame.
+//! Invalid frames.
 use super::FrameType;
 use core::fmt;
 
@@ -19,7 +19,7 @@ impl fmt::Display for EmptyPayload {
 
 impl core::error::Error for EmptyPayload {}
 
-/// The first thing in a payload that is no frame (`FRAME_ENCODING_ERROR`; RFC 9000, section 12.4).
+/// The first invalid frame of a payload (`FRAME_ENCODING_ERROR`; RFC 9000, section 12.4).
 ///
 /// ```
 /// use quic_wire::frame::{FrameType, InvalidFrame, Iter, Reason};

@@ -197,7 +197,7 @@ impl<'a> Iterator for Iter<'a> {
     #[inline(always)]
     fn next(&mut self) -> Option<Self::Item> {
         let first = *self.payload.get(self.state.offset)?;
-        // PADDING in its shortest encoding needs no call. What is no frame doesn't begin so.
+        // PADDING in its shortest encoding needs no call. An invalid frame doesn't begin so.
         if first == 0x00 {
             self.state.offset += 1;
             self.state.last_type = 0x00;

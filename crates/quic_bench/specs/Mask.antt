@@ -17,7 +17,7 @@ abbrev pub mask_protect : ℕ → List ℕ → List ℕ
 mask_protect at packet =
     let s = slice_index packet (at + 4) in first_masked s (mask_at at (number_len (slice_index packet 0)) s packet)
 
--- the same, the first byte first, which tells how long the number is
+-- the same, beginning with the first byte, which has the number's length
 abbrev pub mask_unprotect : ℕ → List ℕ → List ℕ
 mask_unprotect at packet =
     let s = slice_index packet (at + 4) in

@@ -54,7 +54,8 @@ pub record IsFurther (es : List Entry) (list : List ℕ) : Type 0 where
   pub few : rows + length es ≤ 256
   pub short : length list < 2 ^ 40
 
--- The words say a record that the side reads back, the list further entries, and the order one of all of them, or none.
+-- The words describe a record that the side reads back, the list has further entries, and the order is one of all of
+-- them, or empty.
 pub record CanList (side : ℕ) (words : ParamsWords) (further order : List ℕ) (p : TransportParameters)
     (es : List Entry) : Type 0 where
   pub record_is : CanWriteParams side words p

@@ -1,4 +1,4 @@
--- The parameters that words say, and what the call answers that writes them.
+-- The parameters that words describe, and the answers of the call that writes them.
 use Rattle.std.specs.Prelude.{◌≡◌, ℕ, ◌<◌, List, ◌++◌, length, drop, Ok, None, is_some}
 use Rattle.quic_base.specs.declared.ids.Side.{Side}
 use Rattle.quic_params.specs.Meaning.{IsReadAnswer}
@@ -18,7 +18,7 @@ pub record DescribesParams (words : ParamsWords) (p : TransportParameters) : Typ
   pub no_grease : p.grease_transport_parameter ≡ None
   pub no_order : p.write_order ≡ None
 
--- The words say a record that the side reads back.
+-- The words describe a record that the side reads back.
 pub record CanWriteParams (side : ℕ) (words : ParamsWords) (p : TransportParameters) : Type 0 where
   pub reader : Side
   pub is_side : IsSide side reader
@@ -40,7 +40,7 @@ pub record ParamsNeedMore (side : ℕ) (words : ParamsWords) (old : List ℕ) (n
   pub count_is : needed ≡ length (written params)
   pub full : length old < needed
 
--- The words say no such record.
+-- The words describe no such record.
 abbrev pub DescribesNoParams : ℕ → ParamsWords → Type 0
 DescribesNoParams side words = (p : TransportParameters) → CanWriteParams side words p → ⊥
 

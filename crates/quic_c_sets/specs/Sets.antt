@@ -1,4 +1,4 @@
--- Sets of packet numbers, as the words of a caller's array say them.
+-- Sets of packet numbers, as the words of a caller's array describe them.
 use Rattle.std.specs.Prelude.{◌≡◌, ℕ, ◌+◌, ◌≤◌, Bool, List, length, take, drop, map}
 use Rattle.std.specs.declared.ops.Range.{Range}
 use Rattle.quic_ranges.specs.Runs.{IsMaximalRuns, IsRunsOf}
@@ -9,7 +9,7 @@ use Rattle.quic_c_sets.specs.declared.words.RunWords.{RunWords}
 abbrev pub span : ℕ → ℕ → Range ℕ
 span start end = record { start = start; end = end }
 
--- the range that the words of a run say
+-- the range that the words of a run describe
 abbrev pub range_of : RunWords → Range ℕ
 range_of words = record { start = words.start; end = words.end }
 

@@ -101,7 +101,7 @@ abbrev pub reason_bytes : Reason → List ℕ
 reason_bytes (Static text) = text.now
 reason_bytes (Owned text) = string_bytes text
 
--- a reason that takes no memory
+-- a reason that needs no allocation
 abbrev pub is_static : Reason → Bool
 is_static (Static text) = true
 is_static (Owned text) = false

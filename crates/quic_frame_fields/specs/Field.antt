@@ -32,7 +32,7 @@ pub data Field : Type 0 where
   -- no bytes and no value: of the two numbers before, the second is at most the first
   Ordered : Field
 
--- a field that takes all that is left
+-- a field that takes all remaining bytes
 abbrev pub is_rest : Field → Bool
 is_rest Rest = true
 is_rest _ = false
@@ -84,7 +84,7 @@ IsField Rest before values bytes = values ≡ Bytes bytes ∷ []
 IsField (Implied n) before values bytes = (values ≡ Number n ∷ []) × (bytes ≡ [])
 IsField Ordered before values bytes = (values ≡ []) × (bytes ≡ []) × (is_ordered before ≡ true)
 
--- no front of the bytes is a number
+-- no prefix of the bytes encodes a number
 abbrev pub NoNumber : List ℕ → Type 0
 NoNumber bytes = (n : ℕ) → NoFront (Encodes n) bytes
 
@@ -92,8 +92,7 @@ NoNumber bytes = (n : ℕ) → NoFront (Encodes n) bytes
 abbrev pub Begins : List ℕ → (ℕ → List ℕ → Type 0) → Type 0
 Begins bytes P = (n : ℕ) × (front back : List ℕ) × (bytes ≡ front ++ back) × Encodes n front × P n back
 
--- A number can't be read: it is cut off, or one by which a bound would be negative, or what comes after it can't be
--- read.
+-- A number can't be read: it is cut off, or it would make a bound negative, or what comes after it can't be read.
 abbrev pub NumberStops : List ℕ → Fault → (ℕ → Bool) → (ℕ → List ℕ → Type 0) → Type 0
 NumberStops bytes reason is_large After =
     (NoNumber bytes × (reason ≡ UnexpectedEnd))
@@ -129,7 +128,7 @@ abbrev pub IsReason : Field → List Value → List ℕ → Fault → Type 0
 IsReason Blocks before bytes reason = BlocksStop (greatest_of before) bytes reason
 IsReason field before bytes reason = reason ≡ reason_of field bytes
 
--- No front of the bytes encodes such a field.
+-- No prefix of the bytes encodes such a field.
 pub record Stops (field : Field) (before : List Value) (bytes : List ℕ) (reason : Fault) : Type 0 where
   pub no_front : (values : List Value) (front back : List ℕ) → bytes ≡ front ++ back → IsField field before values front
       → ⊥

@@ -18,7 +18,7 @@ pub record Found : Type 0 where
   pub type : ℕ
   pub frame : Meaning
 
--- The bytes encode a type, where it is strict in no other width than the least.
+-- The bytes encode a type; if strict, in its shortest encoding.
 pub record IsType (strict : Bool) (t : ℕ) (bytes : List ℕ) : Type 0 where
   pub encoded : Encodes t bytes
   pub shortest : strict ≡ true → bytes ≡ short t
@@ -63,7 +63,7 @@ pub record LacksType (bytes : List ℕ) : Type 0 where
   pub some : bytes ≢ []
   pub no_front : NoNumber bytes
 
--- or one in another width than the least, where that counts,
+-- or the type is not in its shortest encoding, if strict,
 pub record HasLongType (strict : Bool) (bytes : List ℕ) (t : ℕ) : Type 0 where
   pub counts : strict ≡ true
   pub front : List ℕ
@@ -89,7 +89,7 @@ IsNoFrame strict before bytes type reason =
     ⊎ ((t : ℕ) × HasUnknownType strict bytes t × (type ≡ Some t) × (reason ≡ InvalidFrameId))
     ⊎ ((t : ℕ) × HasBrokenField strict bytes t reason × (type ≡ Some t))
 
--- The bytes are these frames, and then something that isn't a frame.
+-- The bytes are these frames, followed by an invalid one.
 pub record IsBroken (strict : Bool) (before : Option ℕ) (found : List Found) (bytes : List ℕ) (type : Option ℕ)
     (reason : Fault) : Type 0 where
   pub front : List ℕ
@@ -99,7 +99,7 @@ pub record IsBroken (strict : Bool) (before : Option ℕ) (found : List Found) (
   pub closed : AreClosed found
   pub no_frame : IsNoFrame strict (last_type before found) back type reason
 
--- The bytes are frames, or frames and then something that isn't one.
+-- The bytes are frames, or frames followed by an invalid one.
 abbrev pub IsEither : Bool → Option ℕ → List ℕ → Type 0
 IsEither strict before bytes =
     ((found : List Found) × AreFrames strict found bytes)

@@ -83,53 +83,53 @@ static flow *flow_of(const datagram *d, unsigned *from) {
 /* Opens an Initial packet of a side by the keys of an id.  Returns NULL, or why it
  * can't be opened. */
 static const char *open_by(const uint8_t *id, size_t idlen, unsigned from, uint64_t expected,
-                           const uint8_t *packet, const quic_wire_header *head, opened *out) {
+                           const uint8_t *packet, const quic_wire_header *header, opened *out) {
   static uint8_t bare[MOST];
-  const keys k = initial_keys(head->version, from, id, idlen);
-  const uint8_t *sample = quic_wire_sample(packet, head->end, head->header_end, SAMPLE);
+  const keys k = initial_keys(header->version, from, id, idlen);
+  const uint8_t *sample = quic_wire_sample(packet, header->end, header->header_end, SAMPLE);
   uint8_t mask[5];
   size_t begin;
   int numberlen;
   if (!sample)
     return "too short for a sample";
   make_mask(&k, sample, mask);
-  numberlen = quic_wire_unprotect_header(packet, head->end, head->header_end, mask, expected, bare,
-                                       sizeof bare, &out->number);
+  numberlen = quic_wire_unprotect_header(packet, header->end, header->header_end, mask, expected,
+                                         bare, sizeof bare, &out->number);
   if (numberlen < 0)
     return quic_wire_strerror(numberlen);
-  begin = head->header_end + (size_t)numberlen;
-  if (out->number >> 62 || head->end - begin < TAG ||
-      !crypt_payload(&k, 0, out->number, bare, begin, packet + begin, head->end - begin,
+  begin = header->header_end + (size_t)numberlen;
+  if (out->number >> 62 || header->end - begin < TAG ||
+      !crypt_payload(&k, 0, out->number, bare, begin, packet + begin, header->end - begin,
                      out->payload))
     return "the tag is wrong";
   out->first = bare[0];
-  out->len = head->end - begin - TAG;
+  out->len = header->end - begin - TAG;
   return NULL;
 }
 
 /* Takes the id of a packet for the one that the keys of its flow come from. */
-static void take_id(flow *f, const uint8_t *packet, const quic_wire_header *head) {
+static void take_id(flow *f, const uint8_t *packet, const quic_wire_header *header) {
   f->has_keys = 1;
-  f->idlen = head->dcidlen;
-  memcpy(f->id, quic_wire_dcid(packet, head), head->dcidlen);
+  f->idlen = header->dcidlen;
+  memcpy(f->id, quic_wire_dcid(packet, header), header->dcidlen);
 }
 
 /* Opens an Initial packet by the keys of its flow, or else by those of its own id:
  * then it is a client's first one, or its first one after a Retry, and the keys
  * are the flow's from there on.  Returns NULL, or why it can't be opened. */
 static const char *open_initial(flow *f, unsigned *from, const uint8_t *packet,
-                                const quic_wire_header *head, opened *out) {
+                                const quic_wire_header *header, opened *out) {
   const char *why = "no first Initial packet of the client";
   if (f->has_keys)
-    why = open_by(f->id, f->idlen, *from, f->sides[*from].expected, packet, head, out);
-  if (why && !open_by(quic_wire_dcid(packet, head), head->dcidlen, QUIC_WIRE_CLIENT, 0, packet,
-                      head, out)) {
+    why = open_by(f->id, f->idlen, *from, f->sides[*from].expected, packet, header, out);
+  if (why && !open_by(quic_wire_dcid(packet, header), header->dcidlen, QUIC_WIRE_CLIENT, 0, packet,
+                      header, out)) {
     const side client = f->sides[*from];
     f->sides[QUIC_WIRE_SERVER] = f->sides[!*from];
     f->sides[QUIC_WIRE_CLIENT] = client;
     f->sides[QUIC_WIRE_CLIENT].expected = f->sides[QUIC_WIRE_SERVER].expected = 0;
     *from = QUIC_WIRE_CLIENT;
-    take_id(f, packet, head);
+    take_id(f, packet, header);
     why = NULL;
   }
   if (!why && out->number >= f->sides[*from].expected && (out->number + 1) >> 62 == 0)
@@ -145,15 +145,15 @@ static void print_id(const char *name, const uint8_t *id, size_t len) {
 
 /* A packet's line up to its number. */
 static void print_header(const datagram *d, unsigned from, const uint8_t *packet,
-                       const quic_wire_header *head) {
+                         const quic_wire_header *header) {
   static const char *const kinds[] = {"initial", "0rtt", "handshake", "retry", "short",
                                       "version-negotiation", "unknown"};
-  printf("%lu %c %s", d->frame, "cs"[from], kinds[head->kind]);
-  if (head->kind != QUIC_WIRE_1RTT)
-    printf(" version %08" PRIx32, head->version);
-  print_id("dst", quic_wire_dcid(packet, head), head->dcidlen);
-  if (head->kind != QUIC_WIRE_1RTT)
-    print_id("src", quic_wire_scid(packet, head), head->scidlen);
+  printf("%lu %c %s", d->frame, "cs"[from], kinds[header->kind]);
+  if (header->kind != QUIC_WIRE_1RTT)
+    printf(" version %08" PRIx32, header->version);
+  print_id("dst", quic_wire_dcid(packet, header), header->dcidlen);
+  if (header->kind != QUIC_WIRE_1RTT)
+    print_id("src", quic_wire_scid(packet, header), header->scidlen);
 }
 
 /* The ranges of an ACK, from its greatest number down, and its counts. */
@@ -205,25 +205,25 @@ static void print_frames(const uint8_t *payload, size_t len) {
 }
 
 /* The versions that a version negotiation offers.  Returns whether all are whole. */
-static int print_versions(const uint8_t *packet, const quic_wire_header *head) {
-  uint32_t i = head->header_end;
+static int print_versions(const uint8_t *packet, const quic_wire_header *header) {
+  uint32_t i = header->header_end;
   printf(" versions");
-  for (; head->end - i >= 4; i += 4)
+  for (; header->end - i >= 4; i += 4)
     printf(" %08" PRIx32, four_bytes(packet + i));
-  return i == head->end;
+  return i == header->end;
 }
 
 /* The lines of a packet; |why| is what is wrong with its header, or NULL. */
 static void print_packet(const datagram *d, flow *f, unsigned *from, const uint8_t *packet,
-                         const quic_wire_header *head, const char *why) {
+                         const quic_wire_header *header, const char *why) {
   static opened o;
-  const int is_tried = !why && head->kind == QUIC_WIRE_INITIAL;
-  const int is_open = is_tried && !(why = open_initial(f, from, packet, head, &o));
-  print_header(d, *from, packet, head);
+  const int is_tried = !why && header->kind == QUIC_WIRE_INITIAL;
+  const int is_open = is_tried && !(why = open_initial(f, from, packet, header, &o));
+  print_header(d, *from, packet, header);
   if (is_open)
     printf(" number %" PRIu64, o.number);
-  printf(" length %" PRIu32, head->end);
-  if (head->kind == QUIC_WIRE_VERSION_NEGOTIATION && !print_versions(packet, head))
+  printf(" length %" PRIu32, header->end);
+  if (header->kind == QUIC_WIRE_VERSION_NEGOTIATION && !print_versions(packet, header))
     why = "the last version is cut off";
   if (is_open && o.first & QUIC_WIRE_RESERVED_LONG)
     why = "reserved bits are set";
@@ -235,17 +235,18 @@ static void print_packet(const datagram *d, flow *f, unsigned *from, const uint8
 /* Reads the header that |len| bytes begin with, where ids of short headers have |cidlen|
  * bytes, or it isn't known how many (-1).  Returns whether there is one, and through
  * |why| what is wrong with it, or why there is none. */
-static int read_header(const uint8_t *packet, size_t len, int cidlen, quic_wire_header *head,
-                     const char **why) {
-  int answer = quic_wire_negotiation_read(packet, len, head);
+static int read_header(const uint8_t *packet, size_t len, int cidlen, quic_wire_header *header,
+                       const char **why) {
+  int answer = quic_wire_negotiation_read(packet, len, header);
   *why = "the length of its id isn't known";
   if (!(packet[0] & QUIC_WIRE_LONG_FORM) && cidlen < 0)
     return 0;
   if (answer != QUIC_WIRE_OK)
-    answer = quic_wire_header_read(packet, len, cidlen < 0 ? 0 : (uint32_t)cidlen, versions, 2, head);
+    answer =
+        quic_wire_header_read(packet, len, cidlen < 0 ? 0 : (uint32_t)cidlen, versions, 2, header);
   *why = answer ? quic_wire_packet_reason_text((uint32_t)answer) : NULL;
   if (answer == QUIC_WIRE_PACKET_UNSUPPORTED_VERSION)
-    head->end = (uint32_t)len; /* where such a packet ends only its version says */
+    header->end = (uint32_t)len; /* where such a packet ends only its version says */
   return !answer || answer == QUIC_WIRE_PACKET_UNSUPPORTED_VERSION ||
          answer == QUIC_WIRE_PACKET_LENGTH_BEYOND_END;
 }
@@ -254,12 +255,12 @@ static int read_header(const uint8_t *packet, size_t len, int cidlen, quic_wire_
 static void print_datagram(const datagram *d, flow *f, unsigned from) {
   const uint8_t *packet = d->bytes, *const end = d->bytes + d->len, *id = NULL;
   int idlen = f->sides[!from].has_id ? f->sides[!from].idlen : -1;
-  quic_wire_header head;
+  quic_wire_header header;
   const char *why;
-  for (; packet < end; packet += head.end) {
-    int is_one = read_header(packet, (size_t)(end - packet), idlen, &head, &why);
+  for (; packet < end; packet += header.end) {
+    int is_one = read_header(packet, (size_t)(end - packet), idlen, &header, &why);
     if (is_one && id &&
-        (head.dcidlen != idlen || memcmp(quic_wire_dcid(packet, &head), id, head.dcidlen))) {
+        (header.dcidlen != idlen || memcmp(quic_wire_dcid(packet, &header), id, header.dcidlen))) {
       is_one = 0;
       why = "no packet with the id of the first one";
     }
@@ -267,15 +268,15 @@ static void print_datagram(const datagram *d, flow *f, unsigned from) {
       printf("%lu %c rest length %td: %s\n", d->frame, "cs"[from], end - packet, why);
       break;
     }
-    print_packet(d, f, &from, packet, &head, why);
-    id = quic_wire_dcid(packet, &head);
-    idlen = head.dcidlen;
-    if (head.kind <= QUIC_WIRE_RETRY) { /* a long header, which tells its sender's id */
+    print_packet(d, f, &from, packet, &header, why);
+    id = quic_wire_dcid(packet, &header);
+    idlen = header.dcidlen;
+    if (header.kind <= QUIC_WIRE_RETRY) { /* a long header, which tells its sender's id */
       f->sides[from].has_id = 1;
-      f->sides[from].idlen = head.scidlen;
+      f->sides[from].idlen = header.scidlen;
     }
-    if (head.kind == QUIC_WIRE_INITIAL && from == QUIC_WIRE_CLIENT && !f->has_keys)
-      take_id(f, packet, &head); /* a packet that is cut off has it too */
+    if (header.kind == QUIC_WIRE_INITIAL && from == QUIC_WIRE_CLIENT && !f->has_keys)
+      take_id(f, packet, &header); /* a packet that is cut off has it too */
   }
   if (d->lost)
     printf("%lu %c rest: %zu bytes are missing\n", d->frame, "cs"[from], d->lost);

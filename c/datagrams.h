@@ -1,8 +1,8 @@
 /* The UDP datagrams of a capture file, pcap or pcapng, which libpcap reads, for the
- * example capture.c: of Ethernet with its tags of VLANs, Linux cooked captures, raw
- * IP and loopback; of IPv4, and of IPv6 without extension headers.  Of a datagram
- * in fragments the first one is reported alone.  The program defines check, which ends
- * it where something isn't so. */
+ * example capture.c: of Ethernet with its tags of VLANs, Linux cooked captures,
+ * raw IP and loopback; of IPv4, and of IPv6 without extension headers.  Of a
+ * datagram in fragments the first one is reported alone.  The program defines
+ * check, which ends it where something isn't so. */
 #ifndef DATAGRAMS_H
 #define DATAGRAMS_H
 
@@ -41,7 +41,8 @@ typedef struct link_header {
 
 /* Goes past the header of the link and tags of VLANs.  Returns where the IP packet
  * begins, or |len| where none is there. */
-static size_t skip_link(const link_header *link, const uint8_t *bytes, size_t len) {
+static size_t skip_link(const link_header *link, const uint8_t *bytes,
+                        size_t len) {
   size_t type = link->type, end = link->len;
   if (type == end)
     return end < len ? end : len;
@@ -58,15 +59,16 @@ static size_t skip_link(const link_header *link, const uint8_t *bytes, size_t le
  * first part if it came in fragments. */
 static int read_ip(const uint8_t *ip, size_t len, datagram *out) {
   const int is_4 = len >= 20 && ip[0] >> 4 == 4, is_6 = len >= 40 && ip[0] >> 4 == 6;
-  const size_t head = is_4 ? (size_t)(ip[0] & 15) * 4 : 40, address = is_4 ? 4 : 16;
+  const size_t header = is_4 ? (size_t)(ip[0] & 15) * 4 : 40,
+               address = is_4 ? 4 : 16;
   const uint8_t *from, *udp;
   size_t udplen;
-  if ((!is_4 && !is_6) || head < 20 || len < head + 8 || ip[is_4 ? 9 : 6] != 17 ||
-      (is_4 && two_bytes(ip + 6) & 0x1fff))
+  if ((!is_4 && !is_6) || header < 20 || len < header + 8 ||
+      ip[is_4 ? 9 : 6] != 17 || (is_4 && two_bytes(ip + 6) & 0x1fff))
     return 0;
   from = ip + (is_4 ? 12 : 8);
-  udp = ip + head;
-  len -= head;
+  udp = ip + header;
+  len -= header;
   udplen = two_bytes(udp + 4);
   if (udplen <= 8)
     return 0;
@@ -110,13 +112,13 @@ static capture open_capture(const char *name) {
 /* Finds the next datagram.  Returns whether there is one; the file is closed at
  * its end. */
 static int next_datagram(capture *c, datagram *out) {
-  struct pcap_pkthdr *head;
+  struct pcap_pkthdr *header;
   const uint8_t *bytes;
   int answer;
-  while ((answer = pcap_next_ex(c->file, &head, &bytes)) == 1) {
-    const size_t ip = skip_link(&c->link, bytes, head->caplen);
+  while ((answer = pcap_next_ex(c->file, &header, &bytes)) == 1) {
+    const size_t ip = skip_link(&c->link, bytes, header->caplen);
     out->frame = ++c->frame;
-    if (read_ip(bytes + ip, head->caplen - ip, out))
+    if (read_ip(bytes + ip, header->caplen - ip, out))
       return 1;
   }
   check(answer == PCAP_ERROR_BREAK, pcap_geterr(c->file));

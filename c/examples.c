@@ -39,15 +39,15 @@ static void turn(uint8_t *bytes, size_t len) {
     bytes[i] ^= 0xff;
 }
 
-static void seal_payload(uint64_t number, const uint8_t *packet, size_t headerlen,
-                         uint8_t *payload, size_t len) {
+static void seal_payload(uint64_t number, const uint8_t *packet,
+                         size_t headerlen, uint8_t *payload, size_t len) {
   check(packet + headerlen == payload, "another place");
   turn(payload, len);
   memset(payload + len, (int)number, 16);
 }
 
-static void open_payload(uint64_t number, const uint8_t *packet, size_t headerlen,
-                         uint8_t *payload, size_t len) {
+static void open_payload(uint64_t number, const uint8_t *packet,
+                         size_t headerlen, uint8_t *payload, size_t len) {
   check(packet + headerlen == payload && number == 1, "another packet");
   check(payload[len - 16] == 1 && payload[len - 1] == 1, "another tag");
   turn(payload, len - 16);
@@ -60,7 +60,7 @@ static void open_packets(uint8_t *packet, size_t len) {
   const size_t nversions = 1;
   const uint32_t cidlen = 4;
   const uint64_t expected = 1;
-  quic_wire_header head;
+  quic_wire_header header;
   uint64_t number;
   uint8_t mask[5];
   int numberlen;

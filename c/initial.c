@@ -24,40 +24,41 @@ static void check(int is_so, const char *what) {
 /* Opens a packet in its place.  Returns where its payload begins, and its number
  * through |number|. */
 static size_t open_packet(const keys *k, uint8_t *packet,
-                          const quic_wire_header *head, uint64_t *number) {
+                          const quic_wire_header *header, uint64_t *number) {
   const uint8_t *sample =
-      quic_wire_sample(packet, head->end, head->header_end, SAMPLE);
+      quic_wire_sample(packet, header->end, header->header_end, SAMPLE);
   uint8_t mask[5];
   size_t begin;
   int numberlen;
   check(sample != NULL, "too short for a sample");
   make_mask(k, sample, mask);
-  numberlen =
-      quic_wire_unprotect(packet, head->end, head->header_end, mask, 0, number);
+  numberlen = quic_wire_unprotect(packet, header->end, header->header_end, mask,
+                                  0, number);
   check(numberlen > 0, quic_wire_strerror(numberlen));
-  begin = head->header_end + (size_t)numberlen;
-  check(head->end - begin >= TAG &&
+  begin = header->header_end + (size_t)numberlen;
+  check(header->end - begin >= TAG &&
             crypt_payload(k, 0, *number, packet, begin, packet + begin,
-                          head->end - begin, packet + begin),
+                          header->end - begin, packet + begin),
         "the tag is wrong");
   return begin;
 }
 
 /* Seals a payload after the header of these fields.  Returns how long the packet
  * is. */
-static size_t seal_packet(const keys *k, const quic_wire_header_fields *said,
+static size_t seal_packet(const keys *k, const quic_wire_header_fields *fields,
                           const uint8_t *dcid, size_t dcidlen,
                           const uint8_t *payload, size_t len, uint8_t *packet,
                           size_t room) {
-  const int64_t headerlen = quic_wire_header_write(said, dcid, dcidlen, NULL, 0, NULL,
-                                               0, packet, room);
+  const int64_t headerlen = quic_wire_header_write(fields, dcid, dcidlen, NULL,
+                                                   0, NULL, 0, packet, room);
   const size_t begin = (size_t)headerlen, end = begin + len + TAG;
-  const size_t place = begin - said->numberlen;
+  const size_t place = begin - fields->numberlen;
   uint8_t mask[5];
   check(headerlen > 0 && end <= room, "no room");
   memcpy(packet + begin, payload, len);
-  check(quic_wire_set_len(packet, end, place, said->lengthlen) == 0, "too long");
-  crypt_payload(k, 1, said->number, packet, begin, packet + begin, len,
+  check(quic_wire_set_len(packet, end, place, fields->lengthlen) == 0,
+        "too long");
+  crypt_payload(k, 1, fields->number, packet, begin, packet + begin, len,
                 packet + begin);
   check(quic_wire_sample(packet, end, place, SAMPLE) != NULL, "too short");
   make_mask(k, quic_wire_sample(packet, end, place, SAMPLE), mask);
@@ -91,33 +92,35 @@ static size_t read_hex(FILE *file, uint8_t *out, size_t room) {
 int main(void) {
   static const uint32_t versions[] = {VERSION_1};
   static uint8_t packet[MOST], given[MOST], again[MOST];
-  quic_wire_header_fields said = {QUIC_WIRE_INITIAL, 0, 0, 2, 1, 0};
-  quic_wire_header head;
+  quic_wire_header_fields fields = {QUIC_WIRE_INITIAL, 0, 0, 2, 1, 0};
+  quic_wire_header header;
   const uint8_t *dcid;
   const size_t len = read_hex(stdin, packet, sizeof packet);
   size_t begin, i;
   keys k;
-  int answer = quic_wire_header_read(packet, len, 0, versions, 1, &head);
+  int answer = quic_wire_header_read(packet, len, 0, versions, 1, &header);
   check(quic_wire_check_linked() == 0, "another library is linked");
   check(answer == 0, quic_wire_packet_reason_text((uint32_t)answer));
-  check(head.kind == QUIC_WIRE_INITIAL && head.scidlen + head.tokenlen == 0,
+  check(header.kind == QUIC_WIRE_INITIAL &&
+            header.scidlen + header.tokenlen == 0,
         "no Initial packet of a client's first datagram");
   memcpy(given, packet, len);
-  dcid = quic_wire_dcid(given, &head);
-  k = initial_keys(VERSION_1, QUIC_WIRE_CLIENT, dcid, head.dcidlen);
+  dcid = quic_wire_dcid(given, &header);
+  k = initial_keys(VERSION_1, QUIC_WIRE_CLIENT, dcid, header.dcidlen);
 
-  begin = open_packet(&k, packet, &head, &said.number);
-  said.numberlen = (uint8_t)(begin - head.header_end);
-  printf("initial, number %" PRIu64 ", id ", said.number);
-  for (i = 0; i < head.dcidlen; i++)
+  begin = open_packet(&k, packet, &header, &fields.number);
+  fields.numberlen = (uint8_t)(begin - header.header_end);
+  printf("initial, number %" PRIu64 ", id ", fields.number);
+  for (i = 0; i < header.dcidlen; i++)
     printf("%02x", dcid[i]);
   putchar('\n');
-  print_frames(packet + begin, head.end - begin - TAG);
+  print_frames(packet + begin, header.end - begin - TAG);
 
-  check(seal_packet(&k, &said, dcid, head.dcidlen, packet + begin,
-                    head.end - begin - TAG, again, sizeof again) == head.end &&
-            !memcmp(again, given, head.end),
+  check(seal_packet(&k, &fields, dcid, header.dcidlen, packet + begin,
+                    header.end - begin - TAG, again,
+                    sizeof again) == header.end &&
+            !memcmp(again, given, header.end),
         "sealed anew it is another packet");
-  printf("sealed anew: the same %" PRIu32 " bytes\n", head.end);
+  printf("sealed anew: the same %" PRIu32 " bytes\n", header.end);
   return 0;
 }

@@ -1,7 +1,7 @@
 /* The keys of Initial packets of versions 1 and 2 (RFC 9001, section 5.2, and RFC
- * 9369, section 3.3), and what is done by them, with libcrypto's ciphers: for the
- * examples initial.c and capture.c.  Both define check, which ends the program
- * where something isn't so. */
+ * 9369, section 3.3), and what is done by them, with libcrypto's ciphers: for
+ * the examples initial.c and capture.c.  Both define check, which ends the
+ * program where something isn't so. */
 #ifndef INITIAL_KEYS_H
 #define INITIAL_KEYS_H
 
@@ -77,7 +77,7 @@ static void make_mask(const keys *k, const uint8_t *sample, uint8_t mask[5]) {
  * place, and puts the tag after them; or opens them, of which the tag is then
  * the last.  Returns whether the tag is right. */
 static int crypt_payload(const keys *k, int seal, uint64_t number,
-                         const uint8_t *head, size_t headerlen,
+                         const uint8_t *header, size_t headerlen,
                          const uint8_t *payload, size_t len, uint8_t *out) {
   EVP_CIPHER_CTX *gcm = EVP_CIPHER_CTX_new();
   uint8_t nonce[12], tag[TAG], end[TAG];
@@ -90,8 +90,9 @@ static int crypt_payload(const keys *k, int seal, uint64_t number,
     memcpy(tag, payload + len, TAG);
   }
   check(gcm &&
-            EVP_CipherInit_ex(gcm, EVP_aes_128_gcm(), NULL, k->key, nonce, seal) &&
-            EVP_CipherUpdate(gcm, NULL, &n, head, (int)headerlen) &&
+            EVP_CipherInit_ex(gcm, EVP_aes_128_gcm(), NULL, k->key, nonce,
+                              seal) &&
+            EVP_CipherUpdate(gcm, NULL, &n, header, (int)headerlen) &&
             EVP_CipherUpdate(gcm, out, &n, payload, (int)len),
         "no AES-GCM");
   if (!seal)

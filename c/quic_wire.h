@@ -7,10 +7,10 @@
  * the ACK frequency extension.  Ciphers are the caller's.
  *
  * No call takes memory or keeps anything: what is kept between calls is a
- * struct of the caller's, and the bytes are given anew with each call.  What
- * a packet or a frame holds is reported by its offset and length in these bytes.
- * No call is made back, and no error is global, so each function may be
- * called from several threads at once on different structs.
+ * struct of the caller's, and the bytes are given anew with each call.  What a
+ * packet or a frame holds is reported by its offset and length in these bytes.
+ * No call is made back, and no error is global, so each function may be called
+ * from several threads at once on different structs.
  *
  * The caller must ensure what is so anywhere in C: each pointer that isn't
  * NULL leads to as many items as the length beside it says (or to one
@@ -35,36 +35,36 @@
  * the caller's cipher:
  *
  *   while (len != 0 && quic_wire_header_read(packet, len, cidlen, versions,
- *                                          nversions, &head) == 0) {
+ *                                            nversions, &header) == 0) {
  *     const uint8_t *sample =
- *         quic_wire_sample(packet, head.end, head.header_end, 16);
- *     if (sample && head.kind != QUIC_WIRE_RETRY &&
- *         head.kind != QUIC_WIRE_VERSION_NEGOTIATION) {
+ *         quic_wire_sample(packet, header.end, header.header_end, 16);
+ *     if (sample && header.kind != QUIC_WIRE_RETRY &&
+ *         header.kind != QUIC_WIRE_VERSION_NEGOTIATION) {
  *       make_mask(mask, sample);
- *       numberlen = quic_wire_unprotect(packet, head.end, head.header_end, mask,
- *                                       expected, &number);
- *       size_t begin = head.header_end + (size_t)numberlen;
- *       open_payload(number, packet, begin, packet + begin, head.end - begin);
+ *       numberlen = quic_wire_unprotect(packet, header.end, header.header_end,
+ *                                       mask, expected, &number);
+ *       size_t begin = header.header_end + (size_t)numberlen;
+ *       open_payload(number, packet, begin, packet + begin, header.end - begin);
  *     }
- *     packet += head.end;
- *     len -= head.end;
+ *     packet += header.end;
+ *     len -= header.end;
  *   }
  *
  * And a packet is sealed so, with room for a tag of 16 bytes after it:
  *
- *   quic_wire_header_fields said = {0};
- *   said.kind = QUIC_WIRE_HANDSHAKE;
- *   said.version = 1;
- *   said.number = number;
- *   said.numberlen = (uint8_t)quic_wire_number_len(number, largest_acked);
- *   said.lengthlen = 2;
- *   int64_t begin = quic_wire_header_write(&said, dcid, dcidlen, scid, scidlen,
- *                                        NULL, 0, packet, room);
- *   size_t place = (size_t)begin - said.numberlen; // where the number is
+ *   quic_wire_header_fields fields = {0};
+ *   fields.kind = QUIC_WIRE_HANDSHAKE;
+ *   fields.version = 1;
+ *   fields.number = number;
+ *   fields.numberlen = (uint8_t)quic_wire_number_len(number, largest_acked);
+ *   fields.lengthlen = 2;
+ *   int64_t begin = quic_wire_header_write(&fields, dcid, dcidlen, scid,
+ *                                          scidlen, NULL, 0, packet, room);
+ *   size_t place = (size_t)begin - fields.numberlen; // where the number is
  *   quic_wire_frame_write(&frame, data, datalen, 1, packet + begin,
  *                         room - 16 - (size_t)begin, &payloadlen);
  *   size_t end = (size_t)begin + payloadlen + 16;
- *   quic_wire_set_len(packet, end, place, said.lengthlen);
+ *   quic_wire_set_len(packet, end, place, fields.lengthlen);
  *   seal_payload(number, packet, (size_t)begin, packet + begin, payloadlen);
  *   make_mask(mask, quic_wire_sample(packet, end, place, 16));
  *   quic_wire_protect(packet, end, place, mask);
@@ -479,7 +479,8 @@ QUIC_WIRE_ASSERT(offsetof(quic_wire_canon, reason) == 16, "64-bit words");
 QUIC_WIRE_ASSERT(sizeof(quic_wire_header) == 32, "no room between the fields");
 QUIC_WIRE_ASSERT(offsetof(quic_wire_header, version) == 4, "no room");
 QUIC_WIRE_ASSERT(offsetof(quic_wire_header, len) == 24, "no room");
-QUIC_WIRE_ASSERT(sizeof(quic_wire_header_fields) == 16, "no room between the fields");
+QUIC_WIRE_ASSERT(sizeof(quic_wire_header_fields) == 16,
+                 "no room between the fields");
 QUIC_WIRE_ASSERT(sizeof(quic_wire_params) == 264, "no room between the fields");
 QUIC_WIRE_ASSERT(offsetof(quic_wire_params, max_idle_timeout) == 8, "no room");
 QUIC_WIRE_ASSERT(offsetof(quic_wire_params, original_dst_cidlen) == 112,
@@ -502,8 +503,8 @@ QUIC_WIRE_ASSERT(offsetof(quic_wire_param, value) == 8, "64-bit words");
    (uint64_t)(sizeof(quic_wire_range) / 8) << 16 |                             \
    (uint64_t)(sizeof(quic_wire_ack_ranges) / 8) << 24 |                        \
    (uint64_t)(sizeof(quic_wire_canon) / 8) << 32 |                             \
-   (uint64_t)(sizeof(quic_wire_header) / 8) << 40 |                              \
-   (uint64_t)(sizeof(quic_wire_header_fields) / 8) << 48 |                              \
+   (uint64_t)(sizeof(quic_wire_header) / 8) << 40 |                            \
+   (uint64_t)(sizeof(quic_wire_header_fields) / 8) << 48 |                     \
    (uint64_t)(sizeof(quic_wire_params) / 8) << 56)
 
 /* QUIC_WIRE_VERSION and QUIC_WIRE_LAYOUT of the library that is linked. */
@@ -756,15 +757,16 @@ QUIC_WIRE_API int quic_wire_frame_write(const quic_wire_frame *frame,
  * QUIC_WIRE_ERR_INVALID_ARGUMENT also for other kinds.
  */
 QUIC_WIRE_API int quic_wire_frame_header_write(const quic_wire_frame *frame,
-                                             int last, uint8_t *dest,
-                                             size_t destlen, size_t *written);
+                                               int last, uint8_t *dest,
+                                               size_t destlen, size_t *written);
 
 /*
  * Writes an ACK in its shortest form at the front of |dest|, as
  * quic_wire_frame_read tells one: |ack->ack| has the greatest number, the delay
  * and, where |ack->flags| is QUIC_WIRE_FLAG_ECN and not 0, the counts;
- * |ack->datalen| is the first range, less one, and the |ngaps| entries of |gaps|
- * are the ranges below it.  Nothing else of |ack| is looked at but its kind.
+ * |ack->datalen| is the first range, less one, and the |ngaps| entries of
+ * |gaps| are the ranges below it.  Nothing else of |ack| is looked at but its
+ * kind.
  *
  * Returns 0, and in |*written| how many bytes were written;
  * QUIC_WIRE_ERR_NOBUF where |destlen| is less, and in |*written| how many are
@@ -809,61 +811,63 @@ QUIC_WIRE_API int quic_wire_canonical(const uint8_t *payload, size_t payloadlen,
  * complete or ends after its header.  Ids of short headers have |cidlen| bytes; of
  * versions that are not among |versions| only the ids are read.  The fixed bit
  * isn't checked: who doesn't accept packets of RFC 9287 looks for it in
- * |head->first|, but not in a version negotiation, where clients ignore it (RFC
+ * |header->first|, but not in a version negotiation, where clients ignore it (RFC
  * 9000, section 17.2.1).
  *
- * Returns 0 and the header, whose packet ends at |head->end|, where the next one
- * of the datagram begins; QUIC_WIRE_PACKET_LENGTH_BEYOND_END and the header, of a
- * packet that is cut off; QUIC_WIRE_PACKET_UNSUPPORTED_VERSION and of the header
- * its kind, its version and its ids, which may have up to 255 bytes; another
- * reason where there is no header, or where a version negotiation has longer ids
- * than 20 bytes, which quic_wire_negotiation_read tells;
- * QUIC_WIRE_ERR_INVALID_ARGUMENT for NULL, or where |cidlen| is above 20 or
- * there are 2^32 bytes or more.  |head| stays with the last two.
+ * Returns 0 and the header, whose packet ends at |header->end|, where the next
+ * one of the datagram begins; QUIC_WIRE_PACKET_LENGTH_BEYOND_END and the
+ * header, of a packet that is cut off; QUIC_WIRE_PACKET_UNSUPPORTED_VERSION and
+ * of the header its kind, its version and its ids, which may have up to 255
+ * bytes; another reason where there is no header, or where a version
+ * negotiation has longer ids than 20 bytes, which quic_wire_negotiation_read
+ * tells; QUIC_WIRE_ERR_INVALID_ARGUMENT for NULL, or where |cidlen| is above 20
+ * or there are 2^32 bytes or more.  |header| stays with the last two.
  */
 QUIC_WIRE_API int quic_wire_header_read(const uint8_t *bytes, size_t len,
-                                      uint32_t cidlen, const uint32_t *versions,
-                                      size_t nversions, quic_wire_header *head);
+                                        uint32_t cidlen,
+                                        const uint32_t *versions,
+                                        size_t nversions,
+                                        quic_wire_header *header);
 
 /*
  * Where the short header ends that |packet| begins with, whose id has |cidlen|
- * bytes: where the number begins.  It is what quic_wire_header_read tells of such
- * a packet, and the quickest way to it.  0 where no short header begins there, or
- * |cidlen| is above 20, and for NULL.  The fixed bit isn't looked at.
+ * bytes: where the number begins.  It is what quic_wire_header_read tells of
+ * such a packet, and the quickest way to it.  0 where no short header begins
+ * there, or |cidlen| is above 20, and for NULL.  The fixed bit isn't looked at.
  */
 QUIC_WIRE_API size_t quic_wire_short_read(const uint8_t *packet,
                                           size_t packetlen, uint32_t cidlen);
 
 /*
- * Reads the header of the version negotiation that |packet| is (RFC 9000, section
- * 17.2.1).  Its ids are those of the packet that it answers, which may be of any
- * version, so they have up to 255 bytes (RFC 8999, section 6).  It is what
- * quic_wire_header_read tells where both have at most 20, which refuses longer
- * ones.  The seven low bits of the first byte aren't looked at.
+ * Reads the header of the version negotiation that |packet| is (RFC 9000,
+ * section 17.2.1).  Its ids are those of the packet that it answers, which may
+ * be of any version, so they have up to 255 bytes (RFC 8999, section 6).  It is
+ * what quic_wire_header_read tells where both have at most 20, which refuses
+ * longer ones.  The seven low bits of the first byte aren't looked at.
  *
- * Returns 0 and the header, after which the versions are, from |head->header_end|
- * to |head->end|, four bytes each, the highest first; QUIC_WIRE_ERR_MALFORMED
+ * Returns 0 and the header, after which the versions are, from |header->header_end|
+ * to |header->end|, four bytes each, the highest first; QUIC_WIRE_ERR_MALFORMED
  * where none begins there: the highest bit of the first byte is clear, the
  * version isn't 0, or the bytes end within the ids;
  * QUIC_WIRE_ERR_INVALID_ARGUMENT for NULL, or where there are 2^32 bytes or
- * more.  |head| changes with 0 alone.
+ * more.  |header| changes with 0 alone.
  */
 QUIC_WIRE_API int quic_wire_negotiation_read(const uint8_t *packet,
                                              size_t packetlen,
-                                             quic_wire_header *head);
+                                             quic_wire_header *header);
 
 /* Where the ids begin in a packet of this header, or NULL for NULL. */
 QUIC_WIRE_API const uint8_t *quic_wire_dcid(const uint8_t *packet,
-                                            const quic_wire_header *head);
+                                            const quic_wire_header *header);
 QUIC_WIRE_API const uint8_t *quic_wire_scid(const uint8_t *packet,
-                                            const quic_wire_header *head);
+                                            const quic_wire_header *header);
 
 /* ---- The protection of headers */
 
 /*
  * The sample of |samplelen| bytes from which the caller makes the mask of the
- * header (RFC 9001, section 5.4.2), in a packet whose number begins at |number|,
- * or NULL where the packet is too short.
+ * header (RFC 9001, section 5.4.2), in a packet whose number begins at
+ * |number|, or NULL where the packet is too short.
  */
 QUIC_WIRE_API const uint8_t *quic_wire_sample(const uint8_t *packet,
                                               size_t packetlen, size_t number,
@@ -885,19 +889,18 @@ QUIC_WIRE_API int quic_wire_unprotect(uint8_t *packet, size_t packetlen,
 
 /*
  * The same of a packet that stays as it is: its header and the four bytes from
- * |place| on are copied to |head|, which has room for |headerlen| bytes, and
+ * |place| on are copied to |header|, which has room for |headerlen| bytes, and
  * opened there.  QUIC_WIRE_ERR_NOBUF where that is less.  With an answer below
- * 0 |number| stays, and |head| may hold the copy.
+ * 0 |number| stays, and |header| may hold the copy.
  */
-QUIC_WIRE_API int quic_wire_unprotect_header(const uint8_t *packet,
-                                           size_t packetlen, size_t place,
-                                           const uint8_t *mask,
-                                           uint64_t expected, uint8_t *head,
-                                           size_t headerlen, uint64_t *number);
+QUIC_WIRE_API int
+quic_wire_unprotect_header(const uint8_t *packet, size_t packetlen,
+                           size_t place, const uint8_t *mask, uint64_t expected,
+                           uint8_t *header, size_t headerlen, uint64_t *number);
 
 /*
- * Puts the protection on the header of a packet whose payload is sealed and whose
- * number begins at |place|.  Returns how many bytes the number has;
+ * Puts the protection on the header of a packet whose payload is sealed and
+ * whose number begins at |place|.  Returns how many bytes the number has;
  * QUIC_WIRE_ERR_MALFORMED where |place| is 0 or has fewer than four bytes from
  * it on; QUIC_WIRE_ERR_INVALID_ARGUMENT for NULL.  Nothing changes then.
  */
@@ -936,15 +939,15 @@ QUIC_WIRE_API size_t quic_wire_varint_write(uint64_t value, uint32_t width,
 /* ---- Headers of packets, written */
 
 /* How many bytes a header has whose token has |tokenlen|; 0 for NULL. */
-QUIC_WIRE_API size_t quic_wire_header_len(const quic_wire_header_fields *said,
-                                        size_t dcidlen, size_t scidlen,
-                                        size_t tokenlen);
+QUIC_WIRE_API size_t quic_wire_header_len(const quic_wire_header_fields *fields,
+                                          size_t dcidlen, size_t scidlen,
+                                          size_t tokenlen);
 
 /*
- * Writes the header of a packet at the front of |dest|, with no protection on it:
- * what |said| says, with the receiver's id |dcid|, the sender's id |scid| and
- * the |token|.  The length that an Initial, 0-RTT or Handshake packet has is 0,
- * until quic_wire_set_len.
+ * Writes the header of a packet at the front of |dest|, with no protection on
+ * it: what |fields| says, with the receiver's id |dcid|, the sender's id |scid|
+ * and the |token|.  The length that an Initial, 0-RTT or Handshake packet has
+ * is 0, until quic_wire_set_len.
  *
  * Returns how many bytes were written, the last of which are the number;
  * QUIC_WIRE_ERR_NOBUF where |destlen| is less than quic_wire_header_len;
@@ -952,10 +955,10 @@ QUIC_WIRE_API size_t quic_wire_header_len(const quic_wire_header_fields *said,
  * written: there is no such kind, an id is longer than 20 bytes, the number is
  * 2^62 or more or has not 1 to 4 bytes, the length has not 2 or 4, or an
  * Initial, 0-RTT, Handshake or Retry packet has version 0, which would be a
- * version negotiation (RFC 9000, section 17.2.1).  |dest| changes where a header
- * was written alone.
+ * version negotiation (RFC 9000, section 17.2.1).  |dest| changes where a
+ * header was written alone.
  *
- * What is looked at, and nothing else, so that one |said| serves all kinds:
+ * What is looked at, and nothing else, so that one |fields| serves all kinds:
  *
  *   Initial          |flags|, |version|, both ids, |token|, |number|,
  *                    |numberlen|, |lengthlen|
@@ -967,23 +970,23 @@ QUIC_WIRE_API size_t quic_wire_header_len(const quic_wire_header_fields *said,
  * and of |flags| QUIC_WIRE_FIXED_BIT, with 1-RTT also QUIC_WIRE_SPIN_BIT and
  * QUIC_WIRE_KEY_PHASE, and with a version negotiation the seven low bits.
  *
- * A version negotiation is written also where |said->flags| lacks
+ * A version negotiation is written also where |fields->flags| lacks
  * QUIC_WIRE_FIXED_BIT: RFC 9000, section 17.2.1, has that bit set where QUIC
  * may share its port (RFC 7983), and readers that ask for it refuse it.
  */
 QUIC_WIRE_API int64_t quic_wire_header_write(
-    const quic_wire_header_fields *said, const uint8_t *dcid, size_t dcidlen,
+    const quic_wire_header_fields *fields, const uint8_t *dcid, size_t dcidlen,
     const uint8_t *scid, size_t scidlen, const uint8_t *token, size_t tokenlen,
     uint8_t *dest, size_t destlen);
 
 /*
- * Writes a version negotiation at the front of |dest|, all of it: the first byte
- * |first| with its highest bit set, version 0, the ids, which may have 255 bytes
- * (RFC 8999, section 6), and the versions.  |dcid| is the source id of the packet
- * that it answers, |scid| its destination id (RFC 9000, section 17.2.1).  The
- * seven low bits of |first| are free; that section has QUIC_WIRE_FIXED_BIT set
- * where QUIC may share its port (RFC 7983), and readers that ask for it refuse a
- * packet without it.
+ * Writes a version negotiation at the front of |dest|, all of it: the first
+ * byte |first| with its highest bit set, version 0, the ids, which may have 255
+ * bytes (RFC 8999, section 6), and the versions.  |dcid| is the source id of
+ * the packet that it answers, |scid| its destination id (RFC 9000, section
+ * 17.2.1).  The seven low bits of |first| are free; that section has
+ * QUIC_WIRE_FIXED_BIT set where QUIC may share its port (RFC 7983), and readers
+ * that ask for it refuse a packet without it.
  *
  * Returns 0, and in |*written| how many bytes were written;
  * QUIC_WIRE_ERR_NOBUF where |destlen| is less, and in |*written| how many are
@@ -1120,9 +1123,9 @@ QUIC_WIRE_API int quic_wire_param_read(const uint8_t *list, size_t listlen,
  * Writes an entry of a list at the front of |dest| in its least widths.
  *
  * Returns 0 and how many bytes were written; QUIC_WIRE_ERR_NOBUF and how many
- * are needed where |dest| has fewer; QUIC_WIRE_ERR_INVALID_ARGUMENT for NULL, or
- * where |id| is 2^62 or more.  |dest| changes only with 0, and then only in the
- * bytes that were written.
+ * are needed where |dest| has fewer; QUIC_WIRE_ERR_INVALID_ARGUMENT for NULL,
+ * or where |id| is 2^62 or more.  |dest| changes only with 0, and then only in
+ * the bytes that were written.
  */
 QUIC_WIRE_API int quic_wire_param_write(uint64_t id, const uint8_t *value,
                                         size_t valuelen, uint8_t *dest,

@@ -1,14 +1,14 @@
 /* SPDX-License-Identifier: MIT OR Apache-2.0 */
 /*
- * What the functions of quic_wire.h do: they look at their pointers, and call the
- * proved library with what they were given.  Without a call, each by one
+ * What the functions of quic_wire.h do: they look at their pointers, and call
+ * the proved library with what they were given.  Without a call, each by one
  * expression, are those that give a part of what was read,
  * quic_wire_padding_count and quic_wire_header_len.  quic_wire_unprotect_header
  * looks at two lengths and copies, quic_wire_frame_len asks for a frame where
  * there is no room, and quic_wire_header_write chooses one of two proved calls
  * of one meaning.  c/abuse/ holds these against the proved calls.  quic_wire.h
- * includes this file where QUIC_WIRE_INLINE is defined, and so does the library's
- * own quic_wire.c, which makes symbols of them.
+ * includes this file where QUIC_WIRE_INLINE is defined, and so does the
+ * library's own quic_wire.c, which makes symbols of them.
  */
 #ifndef QUIC_WIRE_INLINE_H
 #define QUIC_WIRE_INLINE_H
@@ -46,23 +46,25 @@ int32_t quic_wire_ack_ranges_fill_(quic_wire_ack_ranges *, const uint8_t *,
 int32_t quic_wire_frame_write_(const quic_wire_frame *, const uint8_t *,
                                size_t, uint32_t, uint8_t *, size_t, size_t *);
 int32_t quic_wire_frame_header_write_(const quic_wire_frame *, uint32_t,
-                                    uint8_t *, size_t, size_t *);
+                                      uint8_t *, size_t, size_t *);
 int32_t quic_wire_ack_gaps_write_(const quic_wire_frame *, const quic_wire_gap *,
                                   size_t, uint8_t *, size_t, size_t *);
 int32_t quic_wire_canonical_(const uint8_t *, size_t, uint8_t *, size_t,
                              quic_wire_canon *);
 int32_t quic_wire_header_read_(const uint8_t *, size_t, uint32_t,
-                             const uint32_t *, size_t, quic_wire_header *);
+                               const uint32_t *, size_t, quic_wire_header *);
 size_t quic_wire_short_read_(const uint8_t *, size_t, uint32_t);
-int32_t quic_wire_negotiation_read_(const uint8_t *, size_t, quic_wire_header *);
+int32_t quic_wire_negotiation_read_(const uint8_t *, size_t,
+                                    quic_wire_header *);
 int32_t quic_wire_unprotect_(uint8_t *, size_t, size_t, const uint8_t *,
                              uint64_t, uint64_t *);
 int32_t quic_wire_protect_(uint8_t *, size_t, size_t, const uint8_t *);
-int64_t quic_wire_short_write_(const quic_wire_header_fields *, const uint8_t *, size_t,
-                               uint8_t *, size_t);
-int64_t quic_wire_header_write_(const quic_wire_header_fields *, const uint8_t *, size_t,
-                              const uint8_t *, size_t, const uint8_t *, size_t,
-                              uint8_t *, size_t);
+int64_t quic_wire_short_write_(const quic_wire_header_fields *, const uint8_t *,
+                               size_t, uint8_t *, size_t);
+int64_t quic_wire_header_write_(const quic_wire_header_fields *,
+                                const uint8_t *, size_t, const uint8_t *,
+                                size_t, const uint8_t *, size_t, uint8_t *,
+                                size_t);
 int32_t quic_wire_negotiation_write_(uint8_t, const uint8_t *, size_t,
                                      const uint8_t *, size_t, const uint32_t *,
                                      size_t, uint8_t *, size_t, size_t *);
@@ -318,15 +320,16 @@ QUIC_WIRE_API int quic_wire_frame_write(const quic_wire_frame *frame,
 }
 
 QUIC_WIRE_API int quic_wire_frame_header_write(const quic_wire_frame *frame,
-                                             int last, uint8_t *dest,
-                                             size_t destlen, size_t *written) {
+                                               int last, uint8_t *dest,
+                                               size_t destlen,
+                                               size_t *written) {
   size_t unused;
   if (!frame || (!dest && destlen))
     return QUIC_WIRE_ERR_INVALID_ARGUMENT;
   if (!dest)
     dest = (uint8_t *)quic_wire_nothing_();
   return quic_wire_frame_header_write_(frame, last != 0, dest, destlen,
-                                     written ? written : &unused);
+                                       written ? written : &unused);
 }
 
 QUIC_WIRE_API int quic_wire_frame_len(const quic_wire_frame *frame,
@@ -365,13 +368,15 @@ QUIC_WIRE_API int quic_wire_canonical(const uint8_t *payload, size_t payloadlen,
 }
 
 QUIC_WIRE_API int quic_wire_header_read(const uint8_t *bytes, size_t len,
-                                      uint32_t cidlen, const uint32_t *versions,
-                                      size_t nversions, quic_wire_header *head) {
+                                        uint32_t cidlen,
+                                        const uint32_t *versions,
+                                        size_t nversions,
+                                        quic_wire_header *header) {
   static const uint32_t none = 0;
-  if (!bytes || !head || (!versions && nversions))
+  if (!bytes || !header || (!versions && nversions))
     return QUIC_WIRE_ERR_INVALID_ARGUMENT;
   return quic_wire_header_read_(bytes, len, cidlen, versions ? versions : &none,
-                              nversions, head);
+                                nversions, header);
 }
 
 QUIC_WIRE_API size_t quic_wire_short_read(const uint8_t *packet,
@@ -381,21 +386,22 @@ QUIC_WIRE_API size_t quic_wire_short_read(const uint8_t *packet,
 
 QUIC_WIRE_API int quic_wire_negotiation_read(const uint8_t *packet,
                                              size_t packetlen,
-                                             quic_wire_header *head) {
-  if (!packet || !head)
+                                             quic_wire_header *header) {
+  if (!packet || !header)
     return QUIC_WIRE_ERR_INVALID_ARGUMENT;
-  return quic_wire_negotiation_read_(packet, packetlen, head);
+  return quic_wire_negotiation_read_(packet, packetlen, header);
 }
 
 QUIC_WIRE_API const uint8_t *quic_wire_dcid(const uint8_t *packet,
-                                            const quic_wire_header *head) {
-  return packet && head ? packet + (head->first & QUIC_WIRE_LONG_FORM ? 6 : 1)
-                        : NULL;
+                                            const quic_wire_header *header) {
+  return packet && header
+             ? packet + (header->first & QUIC_WIRE_LONG_FORM ? 6 : 1)
+             : NULL;
 }
 
 QUIC_WIRE_API const uint8_t *quic_wire_scid(const uint8_t *packet,
-                                            const quic_wire_header *head) {
-  return packet && head ? packet + 7 + head->dcidlen : NULL; /* of a long header */
+                                            const quic_wire_header *header) {
+  return packet && header ? packet + 7 + header->dcidlen : NULL; /* of a long header */
 }
 
 QUIC_WIRE_API const uint8_t *quic_wire_sample(const uint8_t *packet,
@@ -415,18 +421,17 @@ QUIC_WIRE_API int quic_wire_unprotect(uint8_t *packet, size_t packetlen,
   return quic_wire_unprotect_(packet, packetlen, place, mask, expected, number);
 }
 
-QUIC_WIRE_API int quic_wire_unprotect_header(const uint8_t *packet,
-                                           size_t packetlen, size_t place,
-                                           const uint8_t *mask,
-                                           uint64_t expected, uint8_t *head,
-                                           size_t headerlen, uint64_t *number) {
-  if (!packet || !mask || !head || !number)
+QUIC_WIRE_API int quic_wire_unprotect_header(
+    const uint8_t *packet, size_t packetlen, size_t place, const uint8_t *mask,
+    uint64_t expected, uint8_t *header, size_t headerlen, uint64_t *number) {
+  if (!packet || !mask || !header || !number)
     return QUIC_WIRE_ERR_INVALID_ARGUMENT;
   return packetlen < 4 || packetlen - 4 < place ? QUIC_WIRE_ERR_MALFORMED
          : headerlen < place + 4
              ? QUIC_WIRE_ERR_NOBUF
-             : quic_wire_unprotect_((uint8_t *)memcpy(head, packet, place + 4),
-                                    place + 4, place, mask, expected, number);
+             : quic_wire_unprotect_(
+                   (uint8_t *)memcpy(header, packet, place + 4), place + 4,
+                   place, mask, expected, number);
 }
 
 QUIC_WIRE_API int quic_wire_protect(uint8_t *packet, size_t packetlen,
@@ -457,17 +462,17 @@ QUIC_WIRE_API size_t quic_wire_varint_write(uint64_t value, uint32_t width,
   return dest ? quic_wire_varint_write_(value, width, dest, destlen) : 0;
 }
 
-QUIC_WIRE_API size_t quic_wire_header_len(const quic_wire_header_fields *said,
-                                        size_t dcidlen, size_t scidlen,
-                                        size_t tokenlen) {
-  return !said ? 0
-         : said->kind == QUIC_WIRE_1RTT
-             ? 1 + dcidlen + said->numberlen
+QUIC_WIRE_API size_t quic_wire_header_len(const quic_wire_header_fields *fields,
+                                          size_t dcidlen, size_t scidlen,
+                                          size_t tokenlen) {
+  return !fields ? 0
+         : fields->kind == QUIC_WIRE_1RTT
+             ? 1 + dcidlen + fields->numberlen
              : 7 + dcidlen + scidlen +
-                   (said->kind <= QUIC_WIRE_HANDSHAKE
-                        ? (size_t)said->lengthlen + said->numberlen
+                   (fields->kind <= QUIC_WIRE_HANDSHAKE
+                        ? (size_t)fields->lengthlen + fields->numberlen
                         : 0) +
-                   (said->kind == QUIC_WIRE_INITIAL
+                   (fields->kind == QUIC_WIRE_INITIAL
                         ? tokenlen + (tokenlen < 64        ? 1
                                       : tokenlen < 16384   ? 2
                                       : tokenlen < 1 << 30 ? 4
@@ -476,22 +481,23 @@ QUIC_WIRE_API size_t quic_wire_header_len(const quic_wire_header_fields *said,
 }
 
 QUIC_WIRE_API int64_t quic_wire_header_write(
-    const quic_wire_header_fields *said, const uint8_t *dcid, size_t dcidlen,
+    const quic_wire_header_fields *fields, const uint8_t *dcid, size_t dcidlen,
     const uint8_t *scid, size_t scidlen, const uint8_t *token, size_t tokenlen,
     uint8_t *dest, size_t destlen) {
   static const uint8_t none = 0;
-  if (!said || (!dcid && dcidlen) || !dest)
+  if (!fields || (!dcid && dcidlen) || !dest)
     return QUIC_WIRE_ERR_INVALID_ARGUMENT;
   if (!dcid)
     dcid = &none;
-  if (said->kind == QUIC_WIRE_1RTT)
-    return quic_wire_short_write_(said, dcid, dcidlen, dest, destlen);
-  if (said->kind != QUIC_WIRE_INITIAL)
+  if (fields->kind == QUIC_WIRE_1RTT)
+    return quic_wire_short_write_(fields, dcid, dcidlen, dest, destlen);
+  if (fields->kind != QUIC_WIRE_INITIAL)
     tokenlen = 0;
   if ((!scid && scidlen) || (!token && tokenlen))
     return QUIC_WIRE_ERR_INVALID_ARGUMENT;
-  return quic_wire_header_write_(said, dcid, dcidlen, scid ? scid : &none, scidlen,
-                               token ? token : &none, tokenlen, dest, destlen);
+  return quic_wire_header_write_(fields, dcid, dcidlen, scid ? scid : &none,
+                                 scidlen, token ? token : &none, tokenlen, dest,
+                                 destlen);
 }
 
 QUIC_WIRE_API int quic_wire_negotiation_write(

@@ -116,56 +116,56 @@ static void print_id(const uint8_t *datagram, size_t place, size_t len) {
 
 /* A packet that begins at |begin| of its datagram. */
 static void print_packet(const uint8_t *packet, size_t begin,
-                         const quic_wire_header *head) {
+                         const quic_wire_header *header) {
   static const char *const kinds[] = {"initial", "0rtt",  "handshake",
                                       "retry",   "short", "version-negotiation"};
-  printf("%zu..%zu %s dst ", begin, begin + head->end, kinds[head->kind]);
-  print_id(quic_wire_dcid(packet, head), 0, head->dcidlen);
-  if (head->kind != QUIC_WIRE_1RTT) {
+  printf("%zu..%zu %s dst ", begin, begin + header->end, kinds[header->kind]);
+  print_id(quic_wire_dcid(packet, header), 0, header->dcidlen);
+  if (header->kind != QUIC_WIRE_1RTT) {
     printf(" src ");
-    print_id(quic_wire_scid(packet, head), 0, head->scidlen);
-    printf(" version %08" PRIx32, head->version);
+    print_id(quic_wire_scid(packet, header), 0, header->scidlen);
+    printf(" version %08" PRIx32, header->version);
   }
-  if (head->kind == QUIC_WIRE_INITIAL)
-    printf(" token %" PRIu32 "..%" PRIu32, head->token,
-           head->token + head->tokenlen);
+  if (header->kind == QUIC_WIRE_INITIAL)
+    printf(" token %" PRIu32 "..%" PRIu32, header->token,
+           header->token + header->tokenlen);
   putchar('\n');
 }
 
 /* Why no packet begins here, or 0 and its head. */
 static int read_header(const uint8_t *bytes, size_t len, uint32_t cidlen,
-                     quic_wire_header *head) {
+                       quic_wire_header *header) {
   static const uint32_t versions[] = {0x00000001, 0xff00001d, 0xff00001e,
                                       0xff00001f, 0xff000020, 0xff000021,
                                       0xff000022, 0x6b3343cf};
   int answer;
   if (len && !(bytes[0] & QUIC_WIRE_FIXED_BIT))
     return QUIC_WIRE_PACKET_FIXED_BIT_UNSET;
-  answer = quic_wire_header_read(bytes, len, cidlen, versions, 8, head);
+  answer = quic_wire_header_read(bytes, len, cidlen, versions, 8, header);
   if (answer == QUIC_WIRE_PACKET_UNSUPPORTED_VERSION &&
-      (head->dcidlen > 20 || head->scidlen > 20))
+      (header->dcidlen > 20 || header->scidlen > 20))
     return QUIC_WIRE_PACKET_MALFORMED_CID;
   return answer;
 }
 
 static int print_packets(const uint8_t *datagram, size_t len, uint32_t cidlen) {
   static const uint8_t none = 0;
-  quic_wire_header head;
+  quic_wire_header header;
   size_t begin = 0;
   int answer;
   do {
     const uint8_t *packet = datagram ? datagram + begin : &none;
-    answer = read_header(packet, len - begin, cidlen, &head);
+    answer = read_header(packet, len - begin, cidlen, &header);
     if (answer == 0) {
-      print_packet(packet, begin, &head);
-      begin += head.end;
+      print_packet(packet, begin, &header);
+      begin += header.end;
     }
   } while (answer == 0 && begin < len);
   if (answer == 0)
     return 1;
   printf("error %s", quic_wire_packet_reason_text((uint32_t)answer));
   if (answer == QUIC_WIRE_PACKET_UNSUPPORTED_VERSION)
-    printf(" %" PRIx32, head.version);
+    printf(" %" PRIx32, header.version);
   putchar('\n');
   return 0;
 }

@@ -109,7 +109,8 @@ void padding_any(void) {
   while (any() % 4 ? fill_by((int)(any() % 2), &frames, payload, len, filled,
                              room, &count) == QUIC_WIRE_ITEM
                    : next_by((int)(any() % 2), &frames, payload, len, filled) ==
-                             QUIC_WIRE_ITEM && (count = 1))
+                             QUIC_WIRE_ITEM &&
+                         (count = 1))
     for (k = 0; k < count; k++)
       WANT(quic_wire_padding_count(payload, len, &filled[k]) ==
            padding_in(payload, &filled[k]));

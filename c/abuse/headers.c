@@ -7,9 +7,12 @@ static void protection_nulls(void) {
   WANT(quic_wire_unprotect(NULL, 4, 0, id, 0, &number) == INVALID);
   WANT(quic_wire_unprotect(out, 4, 0, NULL, 0, &number) == INVALID);
   WANT(quic_wire_unprotect(out, 4, 0, id, 0, NULL) == INVALID);
-  WANT(quic_wire_unprotect_header(NULL, 4, 0, id, 0, out, 16, &number) == INVALID);
-  WANT(quic_wire_unprotect_header(id, 4, 0, NULL, 0, out, 16, &number) == INVALID);
-  WANT(quic_wire_unprotect_header(id, 4, 0, id, 0, NULL, 16, &number) == INVALID);
+  WANT(quic_wire_unprotect_header(NULL, 4, 0, id, 0, out, 16, &number) ==
+       INVALID);
+  WANT(quic_wire_unprotect_header(id, 4, 0, NULL, 0, out, 16, &number) ==
+       INVALID);
+  WANT(quic_wire_unprotect_header(id, 4, 0, id, 0, NULL, 16, &number) ==
+       INVALID);
   WANT(quic_wire_unprotect_header(id, 4, 0, id, 0, out, 16, NULL) == INVALID);
   WANT(quic_wire_protect(NULL, 4, 0, id) == INVALID);
   WANT(quic_wire_protect(out, 4, 0, NULL) == INVALID);
@@ -18,16 +21,16 @@ static void protection_nulls(void) {
 
 void headers_nulls(void) {
   static const uint32_t one[] = {1};
-  quic_wire_header head;
+  quic_wire_header header;
   uint8_t id[4] = {1, 2, 3, 4};
-  WANT(quic_wire_header_read(NULL, 1, 0, one, 1, &head) == INVALID);
-  WANT(quic_wire_header_read(id, 4, 0, NULL, 1, &head) == INVALID);
+  WANT(quic_wire_header_read(NULL, 1, 0, one, 1, &header) == INVALID);
+  WANT(quic_wire_header_read(id, 4, 0, NULL, 1, &header) == INVALID);
   WANT(quic_wire_header_read(id, 4, 0, one, 1, NULL) == INVALID);
-  WANT(quic_wire_header_read(id, 4, 21, one, 1, &head) == INVALID);
-  WANT(quic_wire_header_read(id, 0, 0, NULL, 0, &head) ==
+  WANT(quic_wire_header_read(id, 4, 21, one, 1, &header) == INVALID);
+  WANT(quic_wire_header_read(id, 0, 0, NULL, 0, &header) ==
        QUIC_WIRE_PACKET_UNEXPECTED_END);
-  WANT(!quic_wire_dcid(NULL, &head) && !quic_wire_dcid(id, NULL));
-  WANT(!quic_wire_scid(NULL, &head) && !quic_wire_scid(id, NULL));
+  WANT(!quic_wire_dcid(NULL, &header) && !quic_wire_dcid(id, NULL));
+  WANT(!quic_wire_scid(NULL, &header) && !quic_wire_scid(id, NULL));
   WANT(!quic_wire_sample(NULL, 40, 0, 16) && !quic_wire_sample(id, 4, 5, 0));
   WANT(quic_wire_short_read(NULL, 5, 4) == 0);
   protection_nulls();
@@ -45,19 +48,20 @@ void long_lengths(void) {
 
 /* The places that were given of a packet are within it. */
 static void header_within(const uint8_t *packet, size_t left,
-                        const quic_wire_header *head) {
+                          const quic_wire_header *header) {
   const uint8_t *sample;
-  WANT(head->header_end && head->header_end <= head->end && head->end <= left);
-  WANT(quic_wire_dcid(packet, head) + head->dcidlen <=
-       packet + head->header_end);
-  WANT(head->kind == QUIC_WIRE_1RTT ||
-       quic_wire_scid(packet, head) + head->scidlen <=
-           packet + head->header_end);
-  WANT(head->token + head->tokenlen <= head->header_end);
-  sample = quic_wire_sample(packet, head->end, head->header_end, 16);
-  WANT(head->end - head->header_end < 20
+  WANT(header->header_end && header->header_end <= header->end &&
+       header->end <= left);
+  WANT(quic_wire_dcid(packet, header) + header->dcidlen <=
+       packet + header->header_end);
+  WANT(header->kind == QUIC_WIRE_1RTT ||
+       quic_wire_scid(packet, header) + header->scidlen <=
+           packet + header->header_end);
+  WANT(header->token + header->tokenlen <= header->header_end);
+  sample = quic_wire_sample(packet, header->end, header->header_end, 16);
+  WANT(header->end - header->header_end < 20
            ? !sample
-           : sample == packet + head->header_end + 4);
+           : sample == packet + header->header_end + 4);
 }
 
 /* Reads any bytes as packets, and takes protection off any of them: in place, and
@@ -65,7 +69,7 @@ static void header_within(const uint8_t *packet, size_t left,
 void packet_rubbish(uint8_t *datagram, size_t len) {
   static const uint32_t versions[] = {1, 0x6b3343cf};
   uint8_t mask[5], copy[40];
-  quic_wire_header head;
+  quic_wire_header header;
   uint64_t number = 0, expected = edge() >> 2, again = 0;
   size_t begin = 0, at;
   uint32_t cidlen = (uint32_t)(any() % 22);
@@ -75,20 +79,23 @@ void packet_rubbish(uint8_t *datagram, size_t len) {
     datagram[0] |= 0xc0;
   }
   any_bytes(mask, 5);
-  for (; begin < len; begin += head.end) {
+  for (; begin < len; begin += header.end) {
     uint8_t *packet = datagram + begin;
-    answer = quic_wire_header_read(packet, len - begin, cidlen, versions, 2, &head);
+    answer = quic_wire_header_read(packet, len - begin, cidlen, versions, 2,
+                                   &header);
     if (cidlen > 20)
       WANT(answer == INVALID);
-    WANT(quic_wire_short_read(packet, len - begin, cidlen) ==
-         (answer == 0 && head.kind == QUIC_WIRE_1RTT ? head.header_end : 0));
+    WANT(
+        quic_wire_short_read(packet, len - begin, cidlen) ==
+        (answer == 0 && header.kind == QUIC_WIRE_1RTT ? header.header_end : 0));
     if (answer != 0 && answer != QUIC_WIRE_PACKET_LENGTH_BEYOND_END)
       break;
-    header_within(packet, len - begin, &head);
-    answer = quic_wire_unprotect_header(packet, head.end, head.header_end, mask,
-                                      expected, copy, sizeof copy, &again);
-    WANT(answer == quic_wire_unprotect(packet, head.end, head.header_end, mask,
-                                       expected, &number));
+    header_within(packet, len - begin, &header);
+    answer =
+        quic_wire_unprotect_header(packet, header.end, header.header_end, mask,
+                                   expected, copy, sizeof copy, &again);
+    WANT(answer == quic_wire_unprotect(packet, header.end, header.header_end,
+                                       mask, expected, &number));
     WANT(answer >= 1 ? answer <= 4 && number == again
                      : answer == INVALID || answer == QUIC_WIRE_ERR_MALFORMED);
   }
@@ -119,15 +126,15 @@ void protect_rubbish(uint8_t *datagram, size_t len) {
 static void opened_apart(const uint8_t *packet, size_t len, size_t at) {
   const size_t headerlen = any() % 40;
   const uint64_t expected = any() % 2 ? edge() : any() >> 34;
-  uint8_t before[40], head[40], copy[40], mask[5];
+  uint8_t before[40], header[40], copy[40], mask[5];
   uint64_t number = 77, again = 77;
   size_t begin = 0;
   int answer;
   any_bytes(mask, 5);
   memcpy(before, packet, len);
-  memset(head, 0xa5, sizeof head);
-  answer = quic_wire_unprotect_header(packet, len, at, mask, expected, head,
-                                    headerlen, &number);
+  memset(header, 0xa5, sizeof header);
+  answer = quic_wire_unprotect_header(packet, len, at, mask, expected, header,
+                                      headerlen, &number);
   if (len < 4 || at > len - 4) {
     WANT(answer == QUIC_WIRE_ERR_MALFORMED);
   } else if (headerlen < at + 4) {
@@ -135,13 +142,14 @@ static void opened_apart(const uint8_t *packet, size_t len, size_t at) {
   } else {
     begin = at + 4;
     memcpy(copy, packet, begin);
-    WANT(quic_wire_unprotect(copy, begin, at, mask, expected, &again) == answer);
-    WANT(!memcmp(head, copy, begin));
-    WANT(answer == INVALID || (at ? answer >= 1 && answer <= 4
-                                  : answer == QUIC_WIRE_ERR_MALFORMED));
+    WANT(quic_wire_unprotect(copy, begin, at, mask, expected, &again) ==
+         answer);
+    WANT(!memcmp(header, copy, begin));
+    WANT(answer == INVALID ||
+         (at ? answer >= 1 && answer <= 4 : answer == QUIC_WIRE_ERR_MALFORMED));
   }
-  for (; begin < sizeof head; begin++)
-    WANT(head[begin] == 0xa5);
+  for (; begin < sizeof header; begin++)
+    WANT(header[begin] == 0xa5);
   WANT(number == again && (answer > 0 || number == 77));
   WANT(!memcmp(packet, before, len));
 }

@@ -3,61 +3,68 @@
 #include "abuse.h"
 
 void headers_written_nulls(void) {
-  quic_wire_header_fields said = {QUIC_WIRE_RETRY, 0, 0, 0, 1, 0};
+  quic_wire_header_fields fields = {QUIC_WIRE_RETRY, 0, 0, 0, 1, 0};
   uint8_t id[4] = {1, 2, 3, 4}, out[16];
   WANT(quic_wire_header_write(NULL, id, 4, id, 4, NULL, 0, out, 16) == INVALID);
-  WANT(quic_wire_header_write(&said, NULL, 4, id, 4, NULL, 0, out, 16) == INVALID);
-  WANT(quic_wire_header_write(&said, id, 4, NULL, 4, NULL, 0, out, 16) == INVALID);
-  WANT(quic_wire_header_write(&said, id, 4, id, 4, NULL, 1, out, 16) == 15);
-  said.kind = QUIC_WIRE_1RTT;
-  WANT(quic_wire_header_write(&said, id, 4, NULL, 4, NULL, 1, out, 16) == INVALID);
-  said.numberlen = 1;
-  WANT(quic_wire_header_write(&said, id, 4, NULL, 4, NULL, 1, out, 16) == 6);
-  said.kind = QUIC_WIRE_INITIAL;
-  said.lengthlen = 2;
-  WANT(quic_wire_header_write(&said, id, 2, id, 2, NULL, 1, out, 16) == INVALID);
-  WANT(quic_wire_header_write(&said, id, 2, id, 2, id, 1, out, 16) == 16);
-  said.kind = QUIC_WIRE_RETRY;
-  WANT(quic_wire_header_write(&said, id, 4, id, 4, NULL, 0, NULL, 16) == INVALID);
-  WANT(quic_wire_header_write(&said, NULL, 0, NULL, 0, NULL, 0, out, 6) ==
+  WANT(quic_wire_header_write(&fields, NULL, 4, id, 4, NULL, 0, out, 16) ==
+       INVALID);
+  WANT(quic_wire_header_write(&fields, id, 4, NULL, 4, NULL, 0, out, 16) ==
+       INVALID);
+  WANT(quic_wire_header_write(&fields, id, 4, id, 4, NULL, 1, out, 16) == 15);
+  fields.kind = QUIC_WIRE_1RTT;
+  WANT(quic_wire_header_write(&fields, id, 4, NULL, 4, NULL, 1, out, 16) ==
+       INVALID);
+  fields.numberlen = 1;
+  WANT(quic_wire_header_write(&fields, id, 4, NULL, 4, NULL, 1, out, 16) == 6);
+  fields.kind = QUIC_WIRE_INITIAL;
+  fields.lengthlen = 2;
+  WANT(quic_wire_header_write(&fields, id, 2, id, 2, NULL, 1, out, 16) ==
+       INVALID);
+  WANT(quic_wire_header_write(&fields, id, 2, id, 2, id, 1, out, 16) == 16);
+  fields.kind = QUIC_WIRE_RETRY;
+  WANT(quic_wire_header_write(&fields, id, 4, id, 4, NULL, 0, NULL, 16) ==
+       INVALID);
+  WANT(quic_wire_header_write(&fields, NULL, 0, NULL, 0, NULL, 0, out, 6) ==
        QUIC_WIRE_ERR_NOBUF);
-  WANT(quic_wire_header_write(&said, id, 4, id, 4, NULL, 0, out, 16) == 15);
+  WANT(quic_wire_header_write(&fields, id, 4, id, 4, NULL, 0, out, 16) == 15);
   WANT(out[0] == 0xf0 && out[4] == 1 && out[5] == 4 && out[10] == 4);
-  said.version = 0;
-  WANT(quic_wire_header_write(&said, id, 4, id, 4, NULL, 0, out, 16) == INVALID);
+  fields.version = 0;
+  WANT(quic_wire_header_write(&fields, id, 4, id, 4, NULL, 0, out, 16) ==
+       INVALID);
   WANT(quic_wire_header_len(NULL, 4, 4, 0) == 0);
 }
 
 /* Headers of each kind with tokens of each length's class: each is as long as reported.
- * Where no token of such a length is at hand, its length has as many bytes as it
- * is written in. */
+ * Where no token of such a length is at hand, its length has as many bytes as
+ * it is written in. */
 void long_tokens(void) {
-  static const uint64_t lens[] = {0, 1, 63, 64, 16383, 16384, (1u << 30) - 1,
-                                  1u << 30, (1ull << 62) - 1};
+  static const uint64_t lens[] = {
+      0, 1, 63, 64, 16383, 16384, (1u << 30) - 1, 1u << 30, (1ull << 62) - 1};
   static uint8_t token[16384], dest[16500];
-  quic_wire_header_fields said = {0, 0, 3, 4, 1, 99};
+  quic_wire_header_fields fields = {0, 0, 3, 4, 1, 99};
   uint8_t id[20], bytes[8];
   size_t k, len;
   memset(id, 7, sizeof id);
   for (k = 0; k < sizeof lens / sizeof *lens; k++) {
     len = quic_wire_varint_write(lens[k], 0, bytes, 8) + 7 + 8 + 20 + 4 + 3;
-    said.kind = QUIC_WIRE_INITIAL;
-    WANT(quic_wire_header_len(&said, 8, 20, lens[k]) == len + lens[k]);
-    for (; said.kind <= QUIC_WIRE_VERSION_NEGOTIATION; said.kind++) {
-      if (lens[k] > sizeof token && said.kind == QUIC_WIRE_INITIAL)
+    fields.kind = QUIC_WIRE_INITIAL;
+    WANT(quic_wire_header_len(&fields, 8, 20, lens[k]) == len + lens[k]);
+    for (; fields.kind <= QUIC_WIRE_VERSION_NEGOTIATION; fields.kind++) {
+      if (lens[k] > sizeof token && fields.kind == QUIC_WIRE_INITIAL)
         continue;
-      len = quic_wire_header_len(&said, 8, 20, lens[k]);
-      WANT(quic_wire_header_write(&said, id, 8, id, 20, token, lens[k], dest,
-                                len) == (int64_t)len);
-      WANT(quic_wire_header_write(&said, id, 8, id, 20, token, lens[k], dest,
-                                len - 1) == QUIC_WIRE_ERR_NOBUF);
+      len = quic_wire_header_len(&fields, 8, 20, lens[k]);
+      WANT(quic_wire_header_write(&fields, id, 8, id, 20, token, lens[k], dest,
+                                  len) == (int64_t)len);
+      WANT(quic_wire_header_write(&fields, id, 8, id, 20, token, lens[k], dest,
+                                  len - 1) == QUIC_WIRE_ERR_NOBUF);
     }
   }
 }
 
 /* The bytes of a long header up to its number, by the same model. */
-static size_t model_long(const quic_wire_header_fields *h, const uint8_t *const parts[3],
-                         const size_t lens[3], uint8_t first, uint8_t *out) {
+static size_t model_long(const quic_wire_header_fields *h,
+                         const uint8_t *const parts[3], const size_t lens[3],
+                         uint8_t first, uint8_t *out) {
   const int vn = h->kind == QUIC_WIRE_VERSION_NEGOTIATION;
   const int is_long = h->kind <= QUIC_WIRE_HANDSHAKE;
   size_t n = 0, i, k;
@@ -84,8 +91,9 @@ static size_t model_long(const quic_wire_header_fields *h, const uint8_t *const 
 
 /* A header as RFC 9000, section 17, and RFC 9369 draw it, by a plain model: its
  * length, or 0 where there is no such head. */
-static size_t model_header(const quic_wire_header_fields *h, const uint8_t *const parts[3],
-                         const size_t lens[3], uint8_t *out) {
+static size_t model_header(const quic_wire_header_fields *h,
+                           const uint8_t *const parts[3], const size_t lens[3],
+                           uint8_t *out) {
   const int is_long = h->kind <= QUIC_WIRE_HANDSHAKE;
   const int numbered = is_long || h->kind == QUIC_WIRE_1RTT;
   const uint8_t fixed = (h->flags & QUIC_WIRE_FIXED_BIT) ^ 0x40;
@@ -112,8 +120,8 @@ static size_t model_header(const quic_wire_header_fields *h, const uint8_t *cons
 /* Puts protection on a packet, and sees that it is put on as by hand: on the
  * low bits of the first byte, and on the number.  Returns its answer. */
 static int header_protected(const quic_wire_header_fields *h, uint8_t *packet,
-                          const uint8_t *plain, size_t whole, size_t len,
-                          size_t at, const uint8_t mask[5]) {
+                            const uint8_t *plain, size_t whole, size_t len,
+                            size_t at, const uint8_t mask[5]) {
   const int numbered =
       h->kind <= QUIC_WIRE_HANDSHAKE || h->kind == QUIC_WIRE_1RTT;
   size_t k;
@@ -147,7 +155,7 @@ static void header_cut(const quic_wire_header_fields *h,
   const size_t whole = len + any() % 64;
   const size_t at = len - (numbered ? h->numberlen : 0);
   uint8_t *packet = block(whole), *plain = block(whole), mask[5];
-  quic_wire_header head;
+  quic_wire_header header;
   uint64_t number = 0;
   int answer;
   memcpy(packet, written, len);
@@ -158,16 +166,17 @@ static void header_cut(const quic_wire_header_fields *h,
   any_bytes(mask, 5);
   answer = header_protected(h, packet, plain, whole, len, at, mask);
   WANT(quic_wire_header_read(packet, whole, (uint32_t)lens[0], &h->version, 1,
-                           &head) == 0);
-  WANT(head.kind == h->kind && head.first == packet[0]);
-  WANT(head.version == (h->kind <= QUIC_WIRE_RETRY ? h->version : 0));
-  WANT(head.dcidlen == lens[0] && head.end == whole && head.header_end == at);
-  WANT(h->kind == QUIC_WIRE_1RTT || head.scidlen == lens[1]);
-  WANT(!memcmp(quic_wire_dcid(packet, &head), parts[0], lens[0]));
+                             &header) == 0);
+  WANT(header.kind == h->kind && header.first == packet[0]);
+  WANT(header.version == (h->kind <= QUIC_WIRE_RETRY ? h->version : 0));
+  WANT(header.dcidlen == lens[0] && header.end == whole &&
+       header.header_end == at);
+  WANT(h->kind == QUIC_WIRE_1RTT || header.scidlen == lens[1]);
+  WANT(!memcmp(quic_wire_dcid(packet, &header), parts[0], lens[0]));
   WANT(h->kind == QUIC_WIRE_1RTT ||
-       !memcmp(quic_wire_scid(packet, &head), parts[1], lens[1]));
-  WANT(head.tokenlen == (h->kind == QUIC_WIRE_INITIAL ? lens[2] : 0));
-  WANT(head.len == (is_long ? whole - at : 0));
+       !memcmp(quic_wire_scid(packet, &header), parts[1], lens[1]));
+  WANT(header.tokenlen == (h->kind == QUIC_WIRE_INITIAL ? lens[2] : 0));
+  WANT(header.len == (is_long ? whole - at : 0));
   if (numbered && answer > 0 && h->number >> 62 == 0) {
     WANT(quic_wire_unprotect(packet, whole, at, mask, h->number, &number) ==
          h->numberlen);
@@ -178,7 +187,7 @@ static void header_cut(const quic_wire_header_fields *h,
 }
 
 /* Words that are mostly a header's, and sometimes any. */
-static void any_said(quic_wire_header_fields *h) {
+static void any_fields(quic_wire_header_fields *h) {
   static const uint32_t versions[] = {1, 0x6b3343cf, 0xff00001d};
   memset(h, 0, sizeof *h);
   h->kind = (uint8_t)(any() % 60 ? any() % 6 : any());
@@ -197,7 +206,7 @@ int header_written(void) {
   const uint8_t *given[3];
   size_t lens[3], room, want, k, i;
   int64_t answer;
-  any_said(&h);
+  any_fields(&h);
   lens[0] = any() % 40 ? any() % 21 : 21;
   lens[1] = any() % 40 ? any() % 21 : 21;
   lens[2] = any() % 4 ? any() % 40 : any() % 300;
@@ -211,7 +220,7 @@ int header_written(void) {
   dest = block(room);
   memset(dest, 0xa5, room);
   answer = quic_wire_header_write(&h, parts[0], lens[0], parts[1], lens[1],
-                                parts[2], lens[2], dest, room);
+                                  parts[2], lens[2], dest, room);
   if (!want) {
     WANT(answer == INVALID);
   } else if (room < want) {

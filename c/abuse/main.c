@@ -1,7 +1,8 @@
 /* abuse [ROUNDS]: what a caller may get wrong, and structs of any words over
  * blocks of just their length; what is written is read back; protection that is
- * put on by hand is taken off; sets are what bits say, and ACKs of them what the
- * RFC says.  It ends with 0 where all is as it should be, and is built here by
+ * put on by hand is taken off; sets are what bits say, and ACKs of them what
+ * the RFC says.  It ends with 0 where all is as it should be, and is built here
+ * by
  *
  *   cc -O2 -I.. -o abuse *.c libquic_wire.a
  */
@@ -61,7 +62,7 @@ static void nulls(void) {
 }
 
 static void rubbish(int rounds) {
-  int i, said = 0, headers = 0, forms = 0, longs = 0, extensions = 0;
+  int i, fields = 0, headers = 0, forms = 0, longs = 0, extensions = 0;
   for (i = 0; i < rounds; i++) {
     size_t len = any() % 40, k;
     uint8_t *bytes = block(len);
@@ -91,10 +92,10 @@ static void rubbish(int rounds) {
     if (i % 8 == 0)
       sets();
     for (k = 0; k < 2; k++)
-      said += params_written((uint32_t)k);
+      fields += params_written((uint32_t)k);
     free(bytes);
   }
-  WANT(said > rounds / 20 && headers > rounds / 3 && forms > rounds / 50);
+  WANT(fields > rounds / 20 && headers > rounds / 3 && forms > rounds / 50);
   WANT(longs > rounds / 5 && extensions > rounds / 5);
 }
 

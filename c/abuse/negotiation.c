@@ -3,10 +3,10 @@
 
 void negotiation_nulls(void) {
   static const uint32_t one[] = {1};
-  quic_wire_header head;
+  quic_wire_header header;
   uint8_t id[4] = {1, 2, 3, 4}, out[16] = {0};
   size_t n = 77;
-  WANT(quic_wire_negotiation_read(NULL, 0, &head) == INVALID);
+  WANT(quic_wire_negotiation_read(NULL, 0, &header) == INVALID);
   WANT(quic_wire_negotiation_read(out, 7, NULL) == INVALID);
   WANT(quic_wire_negotiation_write(0, NULL, 1, id, 4, one, 1, out, 16, &n) ==
        INVALID);
@@ -32,7 +32,7 @@ void negotiation_nulls(void) {
  * quic_wire_header_read gives where it gives any. */
 static void negotiation_read(uint8_t *packet, size_t len, size_t cut) {
   static const uint32_t one[] = {1};
-  quic_wire_header head, same;
+  quic_wire_header header, same;
   size_t i, dcidlen, scidlen;
   int answer, is;
   for (i = 0; i < 3; i++) {
@@ -44,22 +44,23 @@ static void negotiation_read(uint8_t *packet, size_t len, size_t cut) {
     is = is && whole > 6 + dcidlen;
     scidlen = is ? packet[6 + dcidlen] : 0;
     is = is && whole >= 7 + dcidlen + scidlen;
-    memset(&head, 0x5a, sizeof head);
-    same = head;
-    answer = quic_wire_negotiation_read(packet, whole, &head);
+    memset(&header, 0x5a, sizeof header);
+    same = header;
+    answer = quic_wire_negotiation_read(packet, whole, &header);
     WANT(answer == (is ? 0 : QUIC_WIRE_ERR_MALFORMED));
     if (!is) {
-      WANT(!memcmp(&head, &same, sizeof head));
+      WANT(!memcmp(&header, &same, sizeof header));
       continue;
     }
-    WANT(head.kind == QUIC_WIRE_VERSION_NEGOTIATION && head.first == packet[0]);
-    WANT(head.dcidlen == dcidlen && head.scidlen == scidlen);
-    WANT(head.version == 0 && head.end == whole);
-    WANT(head.header_end == 7 + dcidlen + scidlen);
-    WANT(head.token == 0 && head.tokenlen == 0 && head.len == 0);
+    WANT(header.kind == QUIC_WIRE_VERSION_NEGOTIATION &&
+         header.first == packet[0]);
+    WANT(header.dcidlen == dcidlen && header.scidlen == scidlen);
+    WANT(header.version == 0 && header.end == whole);
+    WANT(header.header_end == 7 + dcidlen + scidlen);
+    WANT(header.token == 0 && header.tokenlen == 0 && header.len == 0);
     answer = quic_wire_header_read(packet, whole, 0, one, 1, &same);
     if (dcidlen <= 20 && scidlen <= 20)
-      WANT(answer == 0 && !memcmp(&head, &same, sizeof head));
+      WANT(answer == 0 && !memcmp(&header, &same, sizeof header));
     else
       WANT(answer == QUIC_WIRE_PACKET_MALFORMED_CID);
   }

@@ -21,7 +21,8 @@ void written_nulls(void) {
   WANT(quic_wire_frame_header_write(NULL, 0, out, 8, &n) == INVALID);
   WANT(quic_wire_frame_header_write(&frame, 0, NULL, 8, &n) == INVALID);
   WANT(quic_wire_frame_header_write(&frame, 0, NULL, 0, &n) ==
-           QUIC_WIRE_ERR_NOBUF && n == 3);
+           QUIC_WIRE_ERR_NOBUF &&
+       n == 3);
   WANT(quic_wire_frame_header_write(&frame, 0, out, 8, NULL) == 0);
 }
 
@@ -102,7 +103,7 @@ void header_rubbish(void) {
   static const uint16_t kinds[] = {QUIC_WIRE_CRYPTO, QUIC_WIRE_STREAM,
                                    QUIC_WIRE_DATAGRAM};
   static uint8_t data[70], whole[128];
-  uint8_t head[48];
+  uint8_t header[48];
   size_t room = any() % 48, n = 77, all = 77, told = 77, k;
   int last = (int)(any() % 2), answer, written;
   quic_wire_frame frame;
@@ -113,8 +114,8 @@ void header_rubbish(void) {
   frame.datalen = any() % 70;
   for (k = 0; k < 5; k++)
     frame.numbers[k] = any() % 3 ? 0 : edge();
-  memset(head, 0xa5, sizeof head);
-  answer = quic_wire_frame_header_write(&frame, last, head, room, &n);
+  memset(header, 0xa5, sizeof header);
+  answer = quic_wire_frame_header_write(&frame, last, header, room, &n);
   written = quic_wire_frame_write(&frame, data, sizeof data, last, whole,
                                   sizeof whole, &all);
   WANT(quic_wire_frame_len(&frame, data, sizeof data, last, &told) == written);
@@ -128,10 +129,11 @@ void header_rubbish(void) {
     WANT(answer == (room < n ? QUIC_WIRE_ERR_NOBUF : 0));
     WANT(n == all - frame.datalen);
   }
-  for (k = answer == 0 ? n : 0; k < sizeof head; k++)
-    WANT(head[k] == 0xa5);
-  WANT(answer != 0 || !memcmp(head, whole, n));
+  for (k = answer == 0 ? n : 0; k < sizeof header; k++)
+    WANT(header[k] == 0xa5);
+  WANT(answer != 0 || !memcmp(header, whole, n));
   frame.datalen = (size_t)edge();
-  answer = quic_wire_frame_header_write(&frame, last, head, sizeof head, &n);
+  answer =
+      quic_wire_frame_header_write(&frame, last, header, sizeof header, &n);
   WANT(answer == INVALID || (answer == 0 && n <= 25));
 }

@@ -17,16 +17,16 @@ static inline uint64_t quic_wire_ng_expected(int64_t largest) {
 
 /*
  * Takes the protection off the header of |pkt|, whose packet number begins at
- * |place|: the header is copied to |head|, which has room for |place| + 4 bytes,
- * and opened there by the mask that |hp_mask| makes.  |hd| gets the whole
- * number by |largest|, the greatest one that came (-1: none), its length and
- * the key phase.
+ * |place|: the header is copied to |header|, which has room for |place| + 4
+ * bytes, and opened there by the mask that |hp_mask| makes.  |hd| gets the
+ * whole number by |largest|, the greatest one that came (-1: none), its length
+ * and the key phase.
  *
  * Returns where the payload begins; NGTCP2_ERR_PROTO where the packet is too
  * short for a sample; NGTCP2_ERR_CALLBACK_FAILURE.
  */
 static inline ngtcp2_ssize
-quic_wire_ng_unprotect(ngtcp2_pkt_hd *hd, uint8_t *head, const uint8_t *pkt,
+quic_wire_ng_unprotect(ngtcp2_pkt_hd *hd, uint8_t *header, const uint8_t *pkt,
                        size_t pktlen, size_t place, int64_t largest,
                        ngtcp2_hp_mask hp_mask, const ngtcp2_crypto_cipher *hp,
                        const ngtcp2_crypto_cipher_ctx *hp_ctx) {
@@ -43,13 +43,13 @@ quic_wire_ng_unprotect(ngtcp2_pkt_hd *hd, uint8_t *head, const uint8_t *pkt,
     return NGTCP2_ERR_CALLBACK_FAILURE;
   }
   /* What quic_wire_unprotect_header does; the sample is after the header. */
-  memcpy(head, pkt, place + 4);
-  len = quic_wire_unprotect(head, place + 4, place, mask,
+  memcpy(header, pkt, place + 4);
+  len = quic_wire_unprotect(header, place + 4, place, mask,
                             quic_wire_ng_expected(largest), &number);
   if (len < 0) {
     return NGTCP2_ERR_PROTO;
   }
-  if (!(head[0] & QUIC_WIRE_LONG_FORM) && (head[0] & QUIC_WIRE_KEY_PHASE)) {
+  if (!(header[0] & QUIC_WIRE_LONG_FORM) && (header[0] & QUIC_WIRE_KEY_PHASE)) {
     hd->flags |= NGTCP2_PKT_FLAG_KEY_PHASE;
   }
   hd->pkt_num = (int64_t)number;

@@ -334,7 +334,7 @@ static inline ngtcp2_ssize put_pieces(uint8_t *out, size_t outlen,
 
 /* What is looked at of a frame whose header alone is written. */
 static inline void header_of(quic_wire_frame *f, uint16_t kind, uint32_t flags,
-                           uint64_t id, uint64_t offset) {
+                             uint64_t id, uint64_t offset) {
   f->kind = kind;
   f->flags = flags;
   f->numbers[0] = id;
@@ -348,7 +348,7 @@ ngtcp2_ssize ngtcp2_pkt_encode_stream_frame(uint8_t *out, size_t outlen,
   ngtcp2_ssize n;
 
   header_of(&f, QUIC_WIRE_STREAM, fr->fin ? QUIC_WIRE_FLAG_FIN : 0,
-          (uint64_t)fr->stream_id, fr->offset);
+            (uint64_t)fr->stream_id, fr->offset);
   n = put_pieces(out, outlen, &f, 0, fr->data, fr->datacnt);
   if (n > 0) {
     fr->flags = out[0] & 0x7;

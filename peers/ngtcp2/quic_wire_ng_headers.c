@@ -20,8 +20,8 @@ static const uint32_t versions[] = {NGTCP2_PROTO_VER_V1, 0xff00001du,
 
 #if !QUIC_WIRE_NG_1
 /*
- * A draft of version 2 is no version to the library: of its headers it tells the
- * ids.  Reads what follows them; 0, or -1 where they end within it.
+ * A draft of version 2 is no version to the library: of its headers it tells
+ * the ids.  Reads what follows them; 0, or -1 where they end within it.
  */
 static int read_draft(quic_wire_header *h, const uint8_t *pkt, size_t pktlen) {
   static const uint8_t kinds[] = {QUIC_WIRE_RETRY, QUIC_WIRE_INITIAL,
@@ -131,8 +131,8 @@ int ngtcp2_pkt_decode_version_cid(ngtcp2_version_cid *dest, const uint8_t *data,
     dest->scidlen = 0;
     return 0;
   }
-  answer = quic_wire_header_read(data, datalen, (uint32_t)short_dcidlen, NULL, 0,
-                               &h);
+  answer = quic_wire_header_read(data, datalen, (uint32_t)short_dcidlen, NULL,
+                                 0, &h);
   if (answer == QUIC_WIRE_PACKET_MALFORMED_CID) {
     answer = quic_wire_negotiation_read(data, datalen, &h);
   }
@@ -160,19 +160,20 @@ int ngtcp2_pkt_decode_version_cid(ngtcp2_version_cid *dest, const uint8_t *data,
 /* ---- Written */
 
 /* One struct for all kinds: what a kind lacks isn't looked at. */
-static quic_wire_header_fields said_of(const ngtcp2_pkt_hd *hd, uint8_t kind) {
-  quic_wire_header_fields said = {.kind = kind,
-                         .numberlen = (uint8_t)hd->pkt_numlen,
-                         .lengthlen = NGTCP2_PKT_LENGTHLEN,
-                         .version = hd->version,
-                         .number = (uint64_t)hd->pkt_num};
+static quic_wire_header_fields fields_of(const ngtcp2_pkt_hd *hd,
+                                         uint8_t kind) {
+  quic_wire_header_fields fields = {.kind = kind,
+                                    .numberlen = (uint8_t)hd->pkt_numlen,
+                                    .lengthlen = NGTCP2_PKT_LENGTHLEN,
+                                    .version = hd->version,
+                                    .number = (uint64_t)hd->pkt_num};
   if (hd->flags & NGTCP2_PKT_FLAG_FIXED_BIT_CLEAR) {
-    said.flags |= QUIC_WIRE_FIXED_BIT;
+    fields.flags |= QUIC_WIRE_FIXED_BIT;
   }
   if (hd->flags & NGTCP2_PKT_FLAG_KEY_PHASE) {
-    said.flags |= QUIC_WIRE_KEY_PHASE;
+    fields.flags |= QUIC_WIRE_KEY_PHASE;
   }
-  return said;
+  return fields;
 }
 
 static uint8_t kind_of(uint8_t type) {
@@ -190,10 +191,10 @@ static uint8_t kind_of(uint8_t type) {
 
 ngtcp2_ssize ngtcp2_pkt_encode_hd_long(uint8_t *out, size_t outlen,
                                        const ngtcp2_pkt_hd *hd) {
-  quic_wire_header_fields said = said_of(hd, kind_of(hd->type));
-  int64_t n = quic_wire_header_write(&said, hd->dcid.data, hd->dcid.datalen,
-                                   hd->scid.data, hd->scid.datalen,
-                                   NG_TOKEN(hd), NG_TOKENLEN(hd), out, outlen);
+  quic_wire_header_fields fields = fields_of(hd, kind_of(hd->type));
+  int64_t n = quic_wire_header_write(
+      &fields, hd->dcid.data, hd->dcid.datalen, hd->scid.data, hd->scid.datalen,
+      NG_TOKEN(hd), NG_TOKENLEN(hd), out, outlen);
   if (n < 0) {
     return n == QUIC_WIRE_ERR_NOBUF ? NGTCP2_ERR_NOBUF
                                     : NGTCP2_ERR_INVALID_ARGUMENT;
@@ -215,9 +216,9 @@ ngtcp2_ssize ngtcp2_pkt_encode_hd_long(uint8_t *out, size_t outlen,
 
 ngtcp2_ssize ngtcp2_pkt_encode_hd_short(uint8_t *out, size_t outlen,
                                         const ngtcp2_pkt_hd *hd) {
-  quic_wire_header_fields said = said_of(hd, QUIC_WIRE_1RTT);
-  int64_t n = quic_wire_header_write(&said, hd->dcid.data, hd->dcid.datalen, NULL,
-                                   0, NULL, 0, out, outlen);
+  quic_wire_header_fields fields = fields_of(hd, QUIC_WIRE_1RTT);
+  int64_t n = quic_wire_header_write(&fields, hd->dcid.data, hd->dcid.datalen,
+                                     NULL, 0, NULL, 0, out, outlen);
   if (n < 0) {
     return n == QUIC_WIRE_ERR_NOBUF ? NGTCP2_ERR_NOBUF
                                     : NGTCP2_ERR_INVALID_ARGUMENT;

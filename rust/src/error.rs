@@ -159,7 +159,7 @@ impl From<PacketDecodeError<'_>> for Error {
 impl From<HeaderError> for Error {
     fn from(error: HeaderError) -> Error {
         match error {
-            HeaderError::UnsupportedVersion(head) => Error::UnsupportedVersion(head.version()),
+            HeaderError::UnsupportedVersion(header) => Error::UnsupportedVersion(header.version()),
             _ => Error::Packet(error.reason()),
         }
     }

@@ -139,13 +139,13 @@ fn headers_come_before_their_data() {
             (written(|out| DatagramMeta { len }.encode(true, out)), Frame::Datagram(Datagram { data: &data }), false),
             (written(|out| DatagramMeta { len }.encode(false, out)), Frame::Datagram(Datagram { data: &data }), true),
         ];
-        for (head, frame, last) in headers {
-            assert_eq!([&head[..], &data].concat(), written(|out| frame.encode(last, out)));
+        for (header, frame, last) in headers {
+            assert_eq!([&header[..], &data].concat(), written(|out| frame.encode(last, out)));
         }
         let crypto = Frame::Crypto(quic_wire::frame::Crypto { offset: start, data: &data });
-        let head = written(|out| CryptoMeta { offsets: offsets.clone() }.encode(out));
-        assert_eq!(CryptoMeta { offsets }.encoded_len(), Ok(head.len()));
-        assert_eq!([&head[..], &data].concat(), written(|out| crypto.encode(false, out)));
+        let header = written(|out| CryptoMeta { offsets: offsets.clone() }.encode(out));
+        assert_eq!(CryptoMeta { offsets }.encoded_len(), Ok(header.len()));
+        assert_eq!([&header[..], &data].concat(), written(|out| crypto.encode(false, out)));
         assert_eq!(meta.encoded_len(true), Ok(written(|out| meta.encode(true, out)).len()));
     }
 }
@@ -191,9 +191,9 @@ fn data_that_end_at_2_62_have_no_header() {
     let whole = |data| Frame::Stream(Stream { id, offset, fin: false, data });
     is_read_back(whole(&[1]));
     is_read_back(whole(&[1, 2]));
-    let head = |end| StreamMeta { id, offsets: offset..end, fin: false }.encode(true, &mut [0; 32]);
+    let header = |end| StreamMeta { id, offsets: offset..end, fin: false }.encode(true, &mut [0; 32]);
     let refused = WriteError::OutOfRange("data end at 2^62 or behind it");
-    assert_eq!((head(offset + 1), head(offset + 2)), (Ok(11), Err(refused)));
+    assert_eq!((header(offset + 1), header(offset + 2)), (Ok(11), Err(refused)));
     assert_eq!(CryptoMeta { offsets: offset..offset + 2 }.encode(&mut [0; 32]), Err(refused));
 }
 

@@ -293,7 +293,7 @@ def beginning():
     said(PAYLOAD, "IsFrame", "in_table", "row_of found.type ≡ Some row")
     said(PAYLOAD, "IsFrame", "fields", "AreFields row.fields [] found.frame.values field_bytes")
     said(PAYLOAD, "IsType", "encoded", "Encodes t bytes")
-    said(PAYLOAD, "IsType", "shortest", "strict ≡ true → bytes ≡ short t")
+    said(PAYLOAD, "IsType", "shortest", "strict ≡ true → bytes ≡ shortest_varint t")
     said(PAYLOAD, "AreFrames", "strict [] bytes", "bytes ≡ []")
     said(FIELD, "AreFields", "(field ∷ fields) before after bytes", (
         "(values : List Value) × (front back : List ℕ) × (bytes ≡ front ++ back) × IsField field before values front"

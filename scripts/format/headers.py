@@ -48,7 +48,7 @@ KINDS = {
 WRITTEN = {
     "Version Negotiation": ("long_front (bit_or 128 random) 0 dst src", "<front..>"),
     "Initial": ("long_front (long_first h.version kind.Initial (number_size h.number)) h.version h.dst_cid h.src_cid"
-                " ++ (short (length h.token) ++ h.token)", "<front..> ++ (len ++ number_bytes h.number)"),
+                " ++ (shortest_varint (length h.token) ++ h.token)", "<front..> ++ (len ++ number_bytes h.number)"),
     "0-RTT": ("long_front (long_first version (kind.Standard ty) (number_size number)) version dst src",
               "<front..> ++ (len ++ number_bytes number)"),
     "Retry": ("long_front (first_byte version kind.Retry) version dst src", "<front..>"),

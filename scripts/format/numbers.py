@@ -13,7 +13,7 @@ def varints():
     said(VARINT, "Encodes", "width", "length b ≡ 2 ^ tag")
     less = said(VARINT, "Encodes", "fits", "v < 2 ^ (8 * 2 ^ tag - <bits>)")["bits"]
     said(VARINT, "Encodes", "value", f"num b ≡ tag * 2 ^ (8 * 2 ^ tag - {less}) + v")
-    said(VARINT, "short", "v", (
+    said(VARINT, "shortest_varint", "v", (
         "if nat_lt v (2 ^ 6) then v ∷ [] else if nat_lt v (2 ^ 14) then bytes_of 2 (2 ^ 14 + v) else if nat_lt v"
         " (2 ^ 30) then bytes_of 4 (2 * 2 ^ 30 + v) else bytes_of 8 (3 * 2 ^ 62 + v)"))
     for tag in range(said(VARINT, "Encodes", "tag_fits", "tag < <count>")["count"]):
@@ -44,7 +44,7 @@ def page():
     yield from ["## Numbers", ""]
     yield (
         f"A number (i) has one of these widths (16; `Encodes`, crates/{VARINT}.antt), at its shortest the first that has"
-        " it (`short`):")
+        " it (`shortest_varint`):")
     yield ""
     yield from columns([("2MSB", "Length", "Usable Bits", "Range"), *varints()])
     yield f"The low two bits of stream IDs (2.1; `stream_number`, crates/{IDS}.antt):"

@@ -20,7 +20,7 @@ SECTIONS = {
 }
 # What a value is by its kind, from the clause of IsEncoded of a kind with such a value.
 KINDS = {
-    "(n < 2 ^ 62) × (b ≡ short n)": lambda: "(i)",
+    "(n < 2 ^ 62) × (b ≡ shortest_varint n)": lambda: "(i)",
     "Encodes n b": lambda: "(i), any width",
     "b ≡ []": lambda: "(0)",
     "(b ≡ t) × (length t ≡ <width>)": lambda width: f"({8 * width})",

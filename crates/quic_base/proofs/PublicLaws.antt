@@ -6,7 +6,7 @@ use Rattle.std.specs.declared.net.ipv6_addr.Ipv6Addr.{Ipv6Addr}
 use Rattle.quic_base.specs.Number.{AreBytes, num, IsNumber, IsOctets, bytes_of}
 use Rattle.quic_base.specs.Codec.{Takes, NoFront, IsBegun, Follows, IsPrefixFree}
 use Rattle.quic_base.specs.ConnectionId.{IsLongId}
-use Rattle.quic_base.specs.Varint.{Encodes, size, short}
+use Rattle.quic_base.specs.Varint.{Encodes, size, shortest_varint}
 use Rattle.quic_base.specs.Reading.{number_at}
 use Rattle.quic_base.proofs.Codecs as codecs
 use Rattle.quic_base.proofs.LongIds as long_ids
@@ -68,10 +68,10 @@ pub long_id_unique : IsPrefixFree IsLongId
 long_id_unique = long_ids.long_id_unique
 
 -- the shortest encoding is one, of the stated length
-pub shortest_encodes : (v : ℕ) → v < 2 ^ 62 → Encodes v (short v)
+pub shortest_encodes : (v : ℕ) → v < 2 ^ 62 → Encodes v (shortest_varint v)
 shortest_encodes = encodings.shortest_encodes
 
-pub length-short : (v : ℕ) → length (short v) ≡ size v
+pub length-short : (v : ℕ) → length (shortest_varint v) ≡ size v
 length-short = encodings.length-short
 
 -- no encoding begins another, and none encodes two numbers
@@ -79,7 +79,7 @@ pub encodes_unique : (v u : ℕ) (b c r s : List ℕ) → b ++ r ≡ c ++ s → 
 encodes_unique = encodings.encodes_unique
 
 -- the shortest is as short as any other, and alone in that
-pub short_least : (v : ℕ) (b : List ℕ) → Encodes v b → (length (short v) ≤ length b) × (length b ≡ length (short v) → b ≡ short v)
+pub short_least : (v : ℕ) (b : List ℕ) → Encodes v b → (length (shortest_varint v) ≤ length b) × (length b ≡ length (shortest_varint v) → b ≡ shortest_varint v)
 short_least = encodings.short_least
 
 -- what is encoded is below 2^62, and no encoding is empty

@@ -3,7 +3,7 @@ ghost use Rattle.std.specs.Prelude.{◌≡◌, ◌<◌, ◌≤◌, ◌+◌, ◌^
 ghost use Rattle.std.specs.Net.Addr.{ipv4_octets, ipv6_octets};
 ghost use Rattle.quic_base.specs.Codec.{Takes, NoFront, IsBegun, KeepsRoom};
 ghost use Rattle.quic_base.specs.Number.{AreBytes, IsNumber, IsOctets, bytes_of};
-ghost use Rattle.quic_base.specs.Varint.{Encodes, short};
+ghost use Rattle.quic_base.specs.Varint.{Encodes, shortest_varint};
 
 use crate::varint::VarInt;
 use bytes::{Buf, BufMut};
@@ -271,11 +271,11 @@ pub trait BufMutExt: BufMut {
     where
         Self: Sized,
         requires { x < 2 ^ 62 }
-        ensures encoded { Encodes x (short x) }
-        ensures ok { OnOk result (Self.written self.new ≡ Self.written self.old ++ short x) }
+        ensures encoded { Encodes x (shortest_varint x) }
+        ensures ok { OnOk result (Self.written self.new ≡ Self.written self.old ++ shortest_varint x) }
         ensures err { OnErr result
-            (IsBegun (Self.written self.old) (short x) (Self.written self.new)) }
-        ensures full { OnErr result (Self.spare self.old < length (short x)) }
+            (IsBegun (Self.written self.old) (shortest_varint x) (Self.written self.new)) }
+        ensures full { OnErr result (Self.spare self.old < length (shortest_varint x)) }
         ensures room { KeepsRoom (Self.written self.old) (Self.spare self.old)
             (Self.written self.new) (Self.spare self.new) }
     {

@@ -3,7 +3,7 @@
 ghost use Rattle.std.specs.Prelude.{◌≡◌, ◌<◌, ◌^◌, ◌/◌, ◌%◌, ◌↔◌, List, ℕ, [], ◌∷◌, Some, drop, length, IsTrue, MatchOption};
 ghost use Rattle.std.specs.Array.Iter.{array_into_iter_items};
 ghost use Rattle.quic_base.specs.Ids.{side_number, dir_number, stream_number, other_side, dir_text, initiator_of, dir_of, stream_text, ecn_bits};
-ghost use Rattle.quic_base.specs.Varint.{Encodes, short};
+ghost use Rattle.quic_base.specs.Varint.{Encodes, shortest_varint};
 
 use crate::coding::{self, Codec, NoRoom};
 use crate::varint::VarInt;
@@ -227,7 +227,7 @@ impl From<StreamId> for u64 {
 impl Codec for StreamId {
     ghost encoded = { Encodes };
 
-    ghost encoding = { short };
+    ghost encoding = { shortest_varint };
 
     ghost after_cut = { drop 1 };
 

@@ -12,7 +12,7 @@ ghost use Rattle.quic_base.specs.ConnectionId.{IsLongId};
 ghost use Rattle.quic_base.specs.Ids.{stream_number, initiator_of, dir_of};
 ghost use Rattle.quic_base.specs.Number.{AreBytes, IsNumber, IsOctets};
 ghost use Rattle.quic_base.specs.Reading.{number_at};
-ghost use Rattle.quic_base.specs.Varint.{Encodes, short, size};
+ghost use Rattle.quic_base.specs.Varint.{Encodes, shortest_varint, size};
 ghost use Rattle.quic_base.specs.declared.ids.Dir.{Dir};
 ghost use Rattle.quic_base.specs.declared.ids.Side.{Side};
 
@@ -23,14 +23,14 @@ use std::hash::Hash;
 /// number and consumes exactly its bytes is a clause of `VarInt::decode`.
 pub fn encodings()
     // The shortest encoding is an encoding, of the stated length.
-    ensures shortest { (v : ℕ) → v < 2 ^ 62 → Encodes v (short v) }
-    ensures length { (v : ℕ) → length (short v) ≡ size v }
+    ensures shortest { (v : ℕ) → v < 2 ^ 62 → Encodes v (shortest_varint v) }
+    ensures length { (v : ℕ) → length (shortest_varint v) ≡ size v }
     // No encoding is a prefix of another, and none encodes two numbers.
     ensures begins_none { (v u : ℕ) (b c r s : List ℕ) → b ++ r ≡ c ++ s → Encodes v b → Encodes u c
         → (v ≡ u) × (b ≡ c) × (r ≡ s) }
     // No encoding is shorter than the shortest, and no other one is as short.
-    ensures least { (v : ℕ) (b : List ℕ) → Encodes v b → length (short v) ≤ length b }
-    ensures alone { (v : ℕ) (b : List ℕ) → Encodes v b → length b ≡ length (short v) → b ≡ short v }
+    ensures least { (v : ℕ) (b : List ℕ) → Encodes v b → length (shortest_varint v) ≤ length b }
+    ensures alone { (v : ℕ) (b : List ℕ) → Encodes v b → length b ≡ length (shortest_varint v) → b ≡ shortest_varint v }
     // What can be encoded is below 2^62.
     ensures bound { (v : ℕ) (b : List ℕ) → Encodes v b → v < 2 ^ 62 }
 {}

@@ -2,7 +2,7 @@
 ghost use Rattle.std.specs.Prelude.{◌≡◌, ◌+◌, ◌<◌, ◌≤◌, ◌^◌, ◌++◌, List, ℕ, Ok, Some, drop, take, length, IfOk, IfSome, MatchOption, OnErr, OnOk};
 ghost use Rattle.std.specs.Fmt.{decimal};
 ghost use Rattle.quic_base.specs.Codec.{Takes, NoFront, IsBegun, KeepsRoom};
-ghost use Rattle.quic_base.specs.Varint.{Encodes, IsBounded, short, size};
+ghost use Rattle.quic_base.specs.Varint.{Encodes, IsBounded, shortest_varint, size};
 
 use crate::coding::{self, Codec, NoRoom, UnexpectedEnd, first_byte, get_array};
 use bytes::{Buf, BufMut};
@@ -265,7 +265,7 @@ pub fn split_var_by_word(bytes: &[u8]) -> Option<(u64, &[u8])>
 impl Codec for VarInt {
     ghost encoded = { Encodes };
 
-    ghost encoding = { short };
+    ghost encoding = { shortest_varint };
 
     ghost after_cut = { drop 1 };
 
@@ -275,7 +275,7 @@ impl Codec for VarInt {
         ensures left { OnErr result (B.unread buf.new ≡ drop 1 (B.unread buf.old)) }
         ensures kept { B.kept buf.new ≡ B.kept buf.old }
         // What was written is read back, whatever follows it.
-        ensures own { (n : ℕ) (rest : List ℕ) → n < 2 ^ 62 → B.unread buf.old ≡ short n ++ rest
+        ensures own { (n : ℕ) (rest : List ℕ) → n < 2 ^ 62 → B.unread buf.old ≡ shortest_varint n ++ rest
             → (result ≡ Ok n) × (B.unread buf.new ≡ rest) }
     {
         Ok(VarInt(read_number(buf)?))
@@ -283,11 +283,11 @@ impl Codec for VarInt {
 
     fn encode<B: BufMut>(&self, buf: &mut B) -> Result<(), NoRoom>
         ensures bound { self.now < 2 ^ 62 }
-        ensures encoded { Encodes self.now (short self.now) }
-        ensures ok { OnOk result (B.written buf.new ≡ B.written buf.old ++ short self.now) }
+        ensures encoded { Encodes self.now (shortest_varint self.now) }
+        ensures ok { OnOk result (B.written buf.new ≡ B.written buf.old ++ shortest_varint self.now) }
         ensures err { OnErr result
-            (IsBegun (B.written buf.old) (short self.now) (B.written buf.new)) }
-        ensures full { OnErr result (B.spare buf.old < length (short self.now)) }
+            (IsBegun (B.written buf.old) (shortest_varint self.now) (B.written buf.new)) }
+        ensures full { OnErr result (B.spare buf.old < length (shortest_varint self.now)) }
         ensures room { KeepsRoom (B.written buf.old) (B.spare buf.old)
             (B.written buf.new) (B.spare buf.new) }
     {

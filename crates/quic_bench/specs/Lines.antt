@@ -3,7 +3,7 @@ use Rattle.std.specs.Prelude.{◌≡◌, ℕ, List, [], ◌∷◌, ◌++◌, Opt
 use Rattle.std.specs.List.{flat_map}
 use Rattle.hex.specs.Hex.{decode_of}
 use Rattle.quic_header_decode.specs.Datagram.{PlacedPacket, ArePackets}
-use Rattle.quic_header_decode.specs.Reading.{Context}
+use Rattle.quic_header_decode.specs.Reading.{DecodeOptions}
 use Rattle.quic_header_decode.specs.Refusal.{Refusal}
 use Rattle.quic_text.specs.Lines.{lines_of, without_return}
 use Rattle.quic_text.specs.Printed.{Printed, shown}
@@ -16,7 +16,7 @@ Prints bytes lines given given' taken taken' =
     → taken' ≡ taken ++ flat_map shown lines
 
 -- the datagram is these packets, up to its end or to this refusal, and no others
-pub record IsOneRow (context : Context) (bytes : List ℕ) (packets : List PlacedPacket)
+pub record IsOneRow (context : DecodeOptions) (bytes : List ℕ) (packets : List PlacedPacket)
     (refusal : Option Refusal) : Type 0 where
   pub are : ArePackets context 0 bytes packets refusal
   pub alone : (others : List PlacedPacket) (other : Option Refusal) → ArePackets context 0 bytes others other

@@ -4,11 +4,10 @@ use Rattle.quic_base.specs.declared.ids.SpaceId.{SpaceId}
 use Rattle.quic_frames.specs.InRange.{CanFollow}
 use Rattle.quic_header_encode.specs.Queries.{space_in}
 use Rattle.quic_header_encode.specs.Writing.{IsWritable, has_number}
-use Rattle.quic_header_decode.specs.Reading.{Context}
 use Rattle.quic_packets.specs.declared.opening.OpenError.TheVariants as error
 use Rattle.quic_packets.specs.declared.opening.Opened.{Opened}
 use Rattle.quic_packets.specs.declared.seal.SealError.{SealError}
-use Rattle.quic_packets.specs.Opening.{ExpandsIn, IsReadBack}
+use Rattle.quic_packets.specs.Opening.{ExpandsIn, IsReadBack, Opening}
 use Rattle.quic_packets.specs.Pairs.{KeyPair}
 use Rattle.quic_frames.specs.Written.{IsPayload}
 use Rattle.quic_packets.specs.Sealing.{IsLowPart, SealedFrames, SealRefused, payload_of}
@@ -28,9 +27,9 @@ pub record CanBeSealed (packet : Outgoing) : Type 0 where
 
 -- A packet that is found again where these bytes follow it: its header is read back, and its number is found by the one
 -- that is expected in its space.
-pub record IsFoundAgain (context : Context) (expected : SpaceId → ℕ) (packet : Outgoing) (rest : List ℕ) : Type 0 where
-  pub head : IsReadBack context packet.header.now rest
-  pub number : ExpandsIn packet.header.now (expected (space_in packet.header.now)) packet.number
+pub record IsFoundAgain (opening : Opening) (packet : Outgoing) (rest : List ℕ) : Type 0 where
+  pub head : IsReadBack opening.options packet.header.now rest
+  pub number : ExpandsIn packet.header.now (opening.expected (space_in packet.header.now)) packet.number
 
 -- bytes are two sealed packets, one after the other
 pub record AreSealed (keys : SpaceId → KeyPair) (first second : Outgoing) (bytes : List ℕ) : Type 0 where
@@ -50,9 +49,8 @@ pub record Carries (opened : Opened) (packet : Outgoing) : Type 0 where
 
 -- why a packet isn't sealed, where there is so much room
 abbrev pub IsRefusedPacket : (SpaceId → KeyPair) → Outgoing → SealError → Type 0
-IsRefusedPacket keys packet e =
-    let pair = keys (space_in packet.header.now) in
-    (spare : ℕ) × SealRefused e pair.tag_size packet.header.now pair.sample_len (payload_of packet.frames.now) spare
+IsRefusedPacket keys packet e = (spare : ℕ)
+    × SealRefused (keys (space_in packet.header.now)) packet.header.now (payload_of packet.frames.now) spare e
 
 -- why two packets are not sealed and opened: one of them can't be sealed, or memory ran out
 abbrev pub IsFailure : (SpaceId → KeyPair) → Outgoing → Outgoing → Failure → Type 0

@@ -4,7 +4,7 @@ ghost use Rattle.quic_bench.specs.Add.{add_byte, take_byte, add_sealed, add_open
 ghost use Rattle.quic_bench.specs.AddLaws.{add_sealed_len, add_opens};
 
 use bytes::BytesMut;
-use quic_crypto::crypto::{CryptoError, PacketKey};
+use quic_packets::crypto::{CryptoError, PacketKey};
 
 /// How many bytes the tag has.
 pub const TAG_LEN: usize = 2;

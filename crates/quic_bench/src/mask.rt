@@ -3,7 +3,7 @@ ghost use Rattle.std.specs.Prelude.{◌≡◌, ℕ, ◌+◌, ◌≤◌, length, 
 ghost use Rattle.quic_bench.specs.Mask.{mask_at, first_masked, mask_protect, mask_unprotect};
 ghost use Rattle.quic_bench.specs.MaskLaws.{mask_protects, mask_unprotects, mask_restores};
 
-use quic_crypto::crypto::HeaderKey;
+use quic_packets::crypto::HeaderKey;
 
 /// A header key whose sample is one byte, four bytes after the number's place. Each byte of the number is combined with
 /// it by exclusive or, and the first byte with its low bits: four in long headers, five in short ones.

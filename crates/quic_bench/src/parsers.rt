@@ -5,8 +5,7 @@ ghost use Rattle.quic_bench.specs.Parsers.{none_parsed, none_lawful, self_sized_
 
 use quic_base::coding::Cursor;
 use quic_base::ids::ConnectionId;
-use quic_header_decode::decode_error::PacketDecodeError;
-use quic_header_decode::parser::ConnectionIdParser;
+use quic_packets::packet::{ConnectionIdParser, PacketDecodeError};
 
 /// Ids of no bytes, as an endpoint has that knows its peers by their addresses.
 #[derive(Clone, Copy, Debug)]

@@ -4,7 +4,7 @@ ghost use Rattle.quic_bench.specs.Plain.{plain_sealed_len};
 ghost use Rattle.quic_crypto.specs.ToyLaws.{toy_protects, toy_unprotects};
 
 use bytes::BytesMut;
-use quic_crypto::crypto::{CryptoError, HeaderKey, PacketKey};
+use quic_packets::crypto::{CryptoError, HeaderKey, PacketKey};
 
 /// A key that changes nothing, samples nothing and adds no tag.
 #[derive(Clone, Copy, Debug)]

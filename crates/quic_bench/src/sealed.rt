@@ -2,22 +2,20 @@
 //! pair of keys and every lawful parser of ids.
 ghost use Rattle.std.specs.Prelude.{◌≡◌, ◌++◌, ◌<◌, ◌∷◌, false, true, [], IfErr, IfOk, Ok, OnOk, length};
 ghost use Rattle.quic_frames.specs.Written.{IsPayload};
-ghost use Rattle.quic_packets.specs.Opening.{read_by, AreExpected};
-ghost use Rattle.quic_packets.specs.Spaces.{expected_in};
+ghost use Rattle.quic_packets.specs.Opening.{AreExpected};
 ghost use Rattle.quic_bench.specs.Outgoing.{CanBeSealed, Carries, IsFailure, IsFoundAgain, IsRefusedPacket};
 
 use crate::two_packets::{Failure, Outgoing, seal};
 use bytes::BytesMut;
 use quic_canon::canonical::{CanonError, canonical_of};
 use quic_canon::laws::{one_least, written_is_least};
-use quic_crypto::crypto::{HeaderKey, PacketKey};
 use quic_frames::frame::Frame;
-use quic_header_decode::parser::ConnectionIdParser;
-use quic_packets::keys::{Expected, SpaceKeys};
+use quic_packets::crypto::{HeaderKey, PacketKey};
 use quic_packets::laws::one_packet;
-use quic_packets::opening::{Opened, open_datagram};
-use quic_packets::pairs::PairsOfKeys;
-use quic_packets::seal::SealError;
+use quic_packets::packet::{
+    ConnectionIdParser, Expected, Opened, SealError, SpaceKeys, open_datagram,
+};
+use quic_packets::pairs::{OpeningKeys, PairsOfKeys};
 use std::alloc::Global;
 
 /// Seals a packet twice, and answers whether both times give the same bytes: they do.
@@ -52,7 +50,8 @@ pub fn datagram_opened<C: ConnectionIdParser, H: HeaderKey, P: PacketKey>(
 ) -> Result<(), Failure>
     requires packet { CanBeSealed packet.now }
     requires expected { AreExpected expected.now }
-    requires found { IsFoundAgain (read_by (C.parsed parser.now) versions.now false) (expected_in expected.now)
+    requires found { IsFoundAgain
+        (⟦<SpaceKeys<H, P> as OpeningKeys<C>>⟧.opening keys.now parser.now versions.now false expected.now)
         packet.now [] }
     ensures opened { OnOk result ((opened : Opened)
         × (out.new.items ≡ out.old.items ++ (opened ∷ [])) × Carries opened packet.now) }

@@ -2,21 +2,19 @@
 //! every lawful pair of keys and every lawful parser of ids.
 ghost use Rattle.std.specs.Prelude.{◌⊎◌, false, List, [], ℕ, IfErr, IfOk};
 ghost use Rattle.quic_header_encode.specs.Queries.{space_in};
-ghost use Rattle.quic_packets.specs.Opening.{read_by, AreExpected};
+ghost use Rattle.quic_packets.specs.Opening.{AreExpected};
 ghost use Rattle.quic_packets.specs.Sealing.{IsAppended, SealedFrames};
-ghost use Rattle.quic_packets.specs.Spaces.{expected_in};
 ghost use Rattle.quic_bench.specs.Outgoing.{AreSealed, CanBeSealed, Carries, IsFailure, IsFoundAgain, IsRefusedPacket};
 
 use bytes::BytesMut;
-use quic_crypto::crypto::{HeaderKey, PacketKey};
 use quic_frames::frame::Frame;
-use quic_header_decode::parser::ConnectionIdParser;
-use quic_header_encode::header::Header;
-use quic_packets::keys::{Expected, SpaceKeys};
+use quic_packets::crypto::{HeaderKey, PacketKey};
 use quic_packets::laws;
-use quic_packets::opening::{OpenError, Opened, open_packet};
-use quic_packets::pairs::PairsOfKeys;
-use quic_packets::seal::{SealError, seal_packet};
+use quic_packets::packet::{
+    ConnectionIdParser, Expected, Header, OpenError, Opened, SealError, SpaceKeys, open_packet,
+    seal_packet,
+};
+use quic_packets::pairs::{OpeningKeys, PairsOfKeys};
 use std::alloc::Global;
 
 /// A packet that is to be sealed.
@@ -99,10 +97,11 @@ pub fn sealed_and_opened<C: ConnectionIdParser, H: HeaderKey, P: PacketKey>(
     requires first { CanBeSealed first.now }
     requires second { CanBeSealed second.now }
     requires expected { AreExpected expected.now }
-    requires front { (rest : List ℕ)
-        → IsFoundAgain (read_by (C.parsed parser.now) versions.now false) (expected_in expected.now) first.now rest }
-    requires back { IsFoundAgain (read_by (C.parsed parser.now) versions.now false)
-        (expected_in expected.now) second.now [] }
+    requires front { (rest : List ℕ) → IsFoundAgain
+        (⟦<SpaceKeys<H, P> as OpeningKeys<C>>⟧.opening keys.now parser.now versions.now false expected.now) first.now rest }
+    requires back { IsFoundAgain
+        (⟦<SpaceKeys<H, P> as OpeningKeys<C>>⟧.opening keys.now parser.now versions.now false expected.now)
+        second.now [] }
     ensures opened { IfOk result (λ x. Carries x.0 first.now × Carries x.1 second.now) }
     ensures refused { IfErr result
         (λ e. IsFailure (⟦<SpaceKeys<H, P> as PairsOfKeys>⟧.pairs keys.now) first.now second.now e) }

@@ -11,7 +11,7 @@ use Rattle.quic_frames.specs.declared.frame.Frame.{Frame}
 use Rattle.quic_frames.specs.declared.frame.Frame.TheVariants as frames
 use Rattle.quic_frame_fields.specs.declared.frame.Datagram.{Datagram}
 use Rattle.quic_frames.specs.Meaning.{meaning_of}
-use Rattle.quic_c.specs.declared.words.FrameWords.{FrameWords}
+use Rattle.quic_c.specs.declared.words.CFrame.{CFrame}
 use Rattle.quic_c.specs.Shown.{data_of}
 use Rattle.quic_c.specs.Written.{CanWriteFrame}
 use Rattle.quic_c.specs.Headers.{IsHeaded, HasHeader, AreTwo, IsCounted, first_in, second_in, data_header_by, data_header_bytes}
@@ -34,7 +34,7 @@ never kind other h e apart =
     cc
 
 -- what the law says of a frame
-abbrev IsCut : FrameWords → Bool → Frame → Type 0
+abbrev IsCut : CFrame → Bool → Frame → Type 0
 IsCut words last frame = HasHeader words last × (shortest_frame last (meaning_of frame) ≡ data_header_bytes words last ++ data_of frame)
 
 fin_is : (fin : Bool) → ◌≡◌ {A = Bool} ((if fin then 1 else 0) == 1) fin
@@ -53,7 +53,7 @@ datagram_parts : (last : Bool) (d : Datagram) → shortest_frame last (meaning_o
 datagram_parts true d = datagram_open d.bytes.now
 datagram_parts false d = datagram_counted d.bytes.now
 
-pub header_and : (words : FrameWords) (bytes : List ℕ) (last : Bool) (frame : Frame) → IsHeaded words.kind → CanWriteFrame words bytes last frame → IsCut words last frame
+pub header_and : (words : CFrame) (bytes : List ℕ) (last : Bool) (frame : Frame) → IsHeaded words.kind → CanWriteFrame words bytes last frame → IsCut words last frame
 header_and words bytes last (frames.Crypto x) h can =
     let s = can.said in
     let same : data_header_bytes words last ≡ data_header_by 0x06 0 (0 ∷ x.offset ∷ 0 ∷ 0 ∷ 0 ∷ []) (length x.bytes.now) last = rw (s.kind, s.numbers, s.count) refl in

@@ -8,7 +8,7 @@ use Rattle.quic_frames.specs.declared.frame.Frame.{Frame}
 use Rattle.quic_frames.specs.IterState.{IterState}
 use Rattle.quic_frames.specs.Walk.{Finds}
 use Rattle.quic_frames.specs.Padding.{PassesPadding, behind}
-use Rattle.quic_c.specs.declared.words.FrameWords.{FrameWords}
+use Rattle.quic_c.specs.declared.words.CFrame.{CFrame}
 use Rattle.quic_c.specs.Shown.{frame_kind_of, shown, IsExtension}
 use Rattle.quic_c.specs.Answers.{IsRefusedFrame}
 use Rattle.quic_frame_fields.specs.Reading.{Invalid}
@@ -43,7 +43,7 @@ passed_payload old new count p = ap (λ (w : IterState). w.payload) (passed_furt
 -- ---- the loop
 
 -- So many entries are filled, from a place up to one that ends there.
-pub record Filling (basic : Bool) (old : IterState) (before : List FrameWords) (here : IterState) (after : List FrameWords) (count end : ℕ) : Type 0 where
+pub record Filling (basic : Bool) (old : IterState) (before : List CFrame) (here : IterState) (after : List CFrame) (count end : ℕ) : Type 0 where
   pub few : count ≤ length after
   pub all : length after ≡ length before
   pub place : here.offset ≡ end
@@ -51,7 +51,7 @@ pub record Filling (basic : Bool) (old : IterState) (before : List FrameWords) (
   pub shows : Shows (GivesEntry basic) old (take count after) here
   pub kept : drop count after ≡ drop count before
 
-pub filling_begins : (basic : Bool) (old : IterState) (before : List FrameWords) (end : ℕ) → end ≡ old.offset → Filling basic old before old before 0 end
+pub filling_begins : (basic : Bool) (old : IterState) (before : List CFrame) (end : ℕ) → end ≡ old.offset → Filling basic old before old before 0 end
 filling_begins basic old before end e = record { few = omega arith; all = refl; place = sym e; comes = refl; shows = refl; kept = refl }
 
 pub kinds : (n : ℕ) → (n ≡ 0) ⊎ (0 < n)
@@ -65,7 +65,7 @@ next_further here next new frame f run one =
       | inr is ↦ subst (λ (w : IterState). IsFurther here w) (sym (one is)) (found_further here next frame f)
     ]
 
-pub filling_goes_on : (basic : Bool) (old : IterState) (before : List FrameWords) (here : IterState) (after : List FrameWords) (count end : ℕ) (next new : IterState) (frame : Frame) (entry : FrameWords) (stop type : ℕ)
+pub filling_goes_on : (basic : Bool) (old : IterState) (before : List CFrame) (here : IterState) (after : List CFrame) (count end : ℕ) (next new : IterState) (frame : Frame) (entry : CFrame) (stop type : ℕ)
     → Filling basic old before here after count end → count < length after → (finds : Finds here frame next) → ((basic ≡ true) × IsExtension (frame_kind_of frame) → ⊥) → (frame_kind_of frame ≡ 0 → (more : ℕ) × PassesPadding next more new) → (0 < frame_kind_of frame → new ≡ next)
     → stop ≡ new.offset → type ≡ finds.found.type → entry ≡ shown end stop type frame → Filling basic old before new (set after count entry) (count + 1) stop
 filling_goes_on basic old before here after count end next new frame entry stop type s room f known run one e begins words =
@@ -83,7 +83,7 @@ filling_goes_on basic old before here after count end next new frame entry stop 
     }
 
 -- where it ends
-pub filling_ends : (basic : Bool) (old : IterState) (before : List FrameWords) (here : IterState) (after : List FrameWords) (count end : ℕ) (last : Option ℕ) → Filling basic old before here after count end → last ≡ here.last
+pub filling_ends : (basic : Bool) (old : IterState) (before : List CFrame) (here : IterState) (after : List CFrame) (count end : ℕ) (last : Option ℕ) → Filling basic old before here after count end → last ≡ here.last
     → (count ≡ length before) ⊎ HasNoFrame basic here → Fills basic old before (further old end last) after count
 filling_ends basic old before here after count end last s e full =
     let is : here ≡ further old end last = s.comes ∙ ap (λ (n : ℕ). further old n here.last) s.place ∙ ap (further old end) (sym e) in
@@ -91,14 +91,14 @@ filling_ends basic old before here after count end last s e full =
     subst (λ (w : IterState). Fills basic old before w after count) is fills
 
 -- where nothing was filled
-pub filling_none : (basic : Bool) (old : IterState) (before : List FrameWords) (here : IterState) (after : List FrameWords) (count end : ℕ) → Filling basic old before here after count end → count ≡ 0 → (old ≡ here) × (after ≡ before)
+pub filling_none : (basic : Bool) (old : IterState) (before : List CFrame) (here : IterState) (after : List CFrame) (count end : ℕ) → Filling basic old before here after count end → count ≡ 0 → (old ≡ here) × (after ≡ before)
 filling_none basic old before here after count end s none =
     let shows : Shows (GivesEntry basic) old (take 0 after) here = rw none at s.shows in
     let kept : drop 0 after ≡ drop 0 before = rw none at s.kept in
     (shows, kept)
 
 -- where it stops in front of what isn't given, which is reported if no entry was filled
-pub filling_stops : (basic : Bool) (old : IterState) (before : List FrameWords) (here : IterState) (after : List FrameWords) (count end : ℕ) (reported : Invalid) → Filling basic old before here after count end
+pub filling_stops : (basic : Bool) (old : IterState) (before : List CFrame) (here : IterState) (after : List CFrame) (count end : ℕ) (reported : Invalid) → Filling basic old before here after count end
     → IsRefusedFrame basic here reported → count ≡ 0 → IsRefusedFrame basic old reported × (after ≡ before)
 filling_stops basic old before here after count end reported s refused none =
     let n = filling_none basic old before here after count end s none in

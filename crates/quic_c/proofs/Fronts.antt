@@ -14,7 +14,7 @@ use Rattle.quic_frame_fields.specs.Reading.{◌>>=◌, varint_at, after_blocks, 
 use Rattle.quic_frame_fields.proofs.Steps.{bind_ok, ok_is}
 use Rattle.quic_frame_fields.proofs.Varints.{varint_takes, varint_read, varint_cut}
 use Rattle.quic_frame_fields.proofs.Blocks.{blocks_valid}
-use Rattle.quic_c.specs.declared.words.FrameWords.{FrameWords}
+use Rattle.quic_c.specs.declared.words.CFrame.{CFrame}
 use Rattle.quic_c.specs.Answers.{GivesFront, GivesPlace, IsWholeAck, ack_front_at, frame_of_words}
 use Rattle.quic_c.proofs.Places.{at_place, place_given, stands_in}
 
@@ -104,7 +104,7 @@ lacks_count bytes a b c largest delay fits one two three cut =
     behind bytes 2 a _ fits one (λ f e fits1. behind a largest b _ fits1 two (λ g h fits2. behind b delay c _ fits2 three (λ i j fits3. is_err (ack_front_at bytes) (no_count bytes a b c largest delay one two three (varint_cut c fits3 cut)))))
 
 -- what is said of the words of an ACK whose blocks end where it ends
-pub front_given : (payload : List ℕ) (frame : FrameWords) (largest : ℕ) (blocks : List ℕ) → frame.begin ≤ frame.end → frame.end ≤ length payload → ack_front_at (frame_of_words frame payload) ≡ Ok (largest, blocks)
+pub front_given : (payload : List ℕ) (frame : CFrame) (largest : ℕ) (blocks : List ℕ) → frame.begin ≤ frame.end → frame.end ≤ length payload → ack_front_at (frame_of_words frame payload) ≡ Ok (largest, blocks)
     → largest < 2 ^ 62 → (front : List ℕ) × (frame_of_words frame payload ≡ front ++ blocks) → IsWholeAck (frame_of_words frame payload) largest blocks → GivesFront frame payload (at_place (frame.end - length blocks) frame.end largest)
 front_given payload frame largest blocks ordered within reads small parts is_whole =
     let stand : frame_of_words frame payload ≡ parts.0 ++ (blocks ++ []) = parts.1 ∙ ap (λ (l : List ℕ). parts.0 ++ l) (sym (append-nil blocks)) in

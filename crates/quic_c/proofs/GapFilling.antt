@@ -15,7 +15,7 @@ use Rattle.quic_frame_fields.specs.declared.frame.ack.EcnCounts.{EcnCounts}
 use Rattle.quic_frame_fields.specs.Acks.{ranges_acked}
 use Rattle.quic_frame_fields.proofs.Blocks.{acked}
 use Rattle.quic_frame_fields.proofs.Varints.{varint_again, varint_some}
-use Rattle.quic_c.specs.declared.words.GapWords.{GapWords}
+use Rattle.quic_c.specs.declared.words.CGap.{CGap}
 use Rattle.quic_c.specs.Front.{gap_of, gaps_below, FillsGaps, more_flag}
 use Rattle.quic_c.specs.Shown.{counts_flag}
 
@@ -26,14 +26,14 @@ lowest low (range ∷ ranges) = lowest range.0 ranges
 
 gaps-append : (low : ℕ) (done : List (ℕ × ℕ)) (range : ℕ × ℕ) → gaps_below low (done ++ range ∷ []) ≡ gaps_below low done ++ gap_of (lowest low done) range ∷ []
 gaps-append low [] range = refl
-gaps-append low (first ∷ done) range = ap (λ (l : List GapWords). gap_of low first ∷ l) (gaps-append first.0 done range)
+gaps-append low (first ∷ done) range = ap (λ (l : List CGap). gap_of low first ∷ l) (gaps-append first.0 done range)
 
 lowest-append : (low : ℕ) (done : List (ℕ × ℕ)) (range : ℕ × ℕ) → lowest low (done ++ range ∷ []) ≡ range.0
 lowest-append low [] range = refl
 lowest-append low (first ∷ done) range = lowest-append first.0 done range
 
 -- So many entries are filled, up to the blocks that are left.
-pub record GapFilling (least : ℕ) (ranges : List (ℕ × ℕ)) (before : List GapWords) (left : List ℕ) (after : List GapWords) (count : ℕ) : Type 0 where
+pub record GapFilling (least : ℕ) (ranges : List (ℕ × ℕ)) (before : List CGap) (left : List ℕ) (after : List CGap) (count : ℕ) : Type 0 where
   pub few : count ≤ length after
   pub all : length after ≡ length before
   pub done : List (ℕ × ℕ)
@@ -44,7 +44,7 @@ pub record GapFilling (least : ℕ) (ranges : List (ℕ × ℕ)) (before : List 
   pub filled : take count after ≡ gaps_below least done
   pub kept : drop count after ≡ drop count before
 
-pub gaps_begin : (least : ℕ) (ranges : List (ℕ × ℕ)) (blocks : List ℕ) (before : List GapWords) → AreBelow least ranges blocks → GapFilling least ranges before blocks before 0
+pub gaps_begin : (least : ℕ) (ranges : List (ℕ × ℕ)) (blocks : List ℕ) (before : List CGap) → AreBelow least ranges blocks → GapFilling least ranges before blocks before 0
 gaps_begin least ranges blocks before encoded = record {
   few = omega arith;
   all = refl;
@@ -81,7 +81,7 @@ next_gap low (range ∷ ranges) left some s = record {
   encoded = s.8;
 }
 
-pub gaps_go_on : (least : ℕ) (ranges : List (ℕ × ℕ)) (before : List GapWords) (left : List ℕ) (after : List GapWords) (count gap len : ℕ) (behind rest : List ℕ)
+pub gaps_go_on : (least : ℕ) (ranges : List (ℕ × ℕ)) (before : List CGap) (left : List ℕ) (after : List CGap) (count gap len : ℕ) (behind rest : List ℕ)
     → GapFilling least ranges before left after count → count < length after → 0 < length left → varint_at left ≡ Ok (gap, behind) → varint_at behind ≡ Ok (len, rest)
     → GapFilling least ranges before rest (set after count (record { gap = gap; len = len })) (count + 1)
 gaps_go_on least ranges before left after count gap len behind rest s room some one two =
@@ -89,7 +89,7 @@ gaps_go_on least ranges before left after count gap len behind rest s room some 
     let first : ◌≡◌ {A = ℕ × List ℕ} (lowest least s.done - (n.range.1 + 2), n.behind) (gap, behind) = ok_is (lowest least s.done - (n.range.1 + 2), n.behind) (gap, behind) (sym n.gap ∙ one) in
     let again : varint_at n.behind ≡ Ok (len, rest) = ap varint_at (ap (λ (x : ℕ × List ℕ). x.1) first) ∙ two in
     let second : ◌≡◌ {A = ℕ × List ℕ} (n.range.1 - n.range.0, n.rest) (len, rest) = ok_is (n.range.1 - n.range.0, n.rest) (len, rest) (sym n.len ∙ again) in
-    let entry : GapWords = record { gap = gap; len = len } in
+    let entry : CGap = record { gap = gap; len = len } in
     let is : gap_of (lowest least s.done) n.range ≡ entry = ap (λ (x : ℕ). record { gap = x; len = n.range.1 - n.range.0 }) (ap (λ (x : ℕ × List ℕ). x.0) first) ∙ ap (λ (x : ℕ). record { gap = gap; len = x }) (ap (λ (x : ℕ × List ℕ). x.0) second) in
     let front : take (count + 1) (set after count entry) ≡ take count after ++ entry ∷ [] = take_more_set after count entry room in
     let below : AreBelow n.range.0 n.ranges rest = subst (AreBelow n.range.0 n.ranges) (ap (λ (x : ℕ × List ℕ). x.1) second) n.encoded in
@@ -101,7 +101,7 @@ gaps_go_on least ranges before left after count gap len behind rest s room some 
       parts = s.parts ∙ ap (λ (l : List (ℕ × ℕ)). s.done ++ l) n.are ∙ sym (append_assoc s.done (n.range ∷ []) n.ranges);
       encoded = subst (λ (k : ℕ). AreBelow k n.ranges rest) (sym (lowest-append least s.done n.range)) below;
       counted = length-append s.done (n.range ∷ []) ∙ ap (λ (k : ℕ). k + 1) s.counted;
-      filled = front ∙ ap (λ (l : List GapWords). l ++ entry ∷ []) s.filled ∙ ap (λ (g : GapWords). gaps_below least s.done ++ g ∷ []) (sym is) ∙ sym (gaps-append least s.done n.range);
+      filled = front ∙ ap (λ (l : List CGap). l ++ entry ∷ []) s.filled ∙ ap (λ (g : CGap). gaps_below least s.done ++ g ∷ []) (sym is) ∙ sym (gaps-append least s.done n.range);
       kept = drop-set-lt (count + 1) after count entry (omega arith) ∙ drop_more_same after before count s.kept;
     }
 
@@ -116,19 +116,19 @@ some_left : (low : ℕ) (others : List (ℕ × ℕ)) (left : List ℕ) → AreBe
 some_left low [] left s some = absurd (omega (arith, some, ap length s))
 some_left low (range ∷ ranges) left s some = omega arith
 
-sizes : (least : ℕ) (ranges : List (ℕ × ℕ)) (before : List GapWords) (left : List ℕ) (after : List GapWords) (count : ℕ) (s : GapFilling least ranges before left after count)
+sizes : (least : ℕ) (ranges : List (ℕ × ℕ)) (before : List CGap) (left : List ℕ) (after : List CGap) (count : ℕ) (s : GapFilling least ranges before left after count)
     → length ranges ≡ count + length s.others
 sizes least ranges before left after count s = ap length s.parts ∙ length-append s.done s.others ∙ ap (λ (k : ℕ). k + length s.others) s.counted
 
-pub all_filled : (least : ℕ) (ranges : List (ℕ × ℕ)) (before : List GapWords) (left : List ℕ) (after : List GapWords) (count : ℕ) → GapFilling least ranges before left after count → length left ≡ 0 → count ≡ length ranges
+pub all_filled : (least : ℕ) (ranges : List (ℕ × ℕ)) (before : List CGap) (left : List ℕ) (after : List CGap) (count : ℕ) → GapFilling least ranges before left after count → length left ≡ 0 → count ≡ length ranges
 all_filled least ranges before left after count s none =
     omega (arith, sizes least ranges before left after count s, none_left (lowest least s.done) s.others left s.encoded none)
 
-pub some_unfilled : (least : ℕ) (ranges : List (ℕ × ℕ)) (before : List GapWords) (left : List ℕ) (after : List GapWords) (count : ℕ) → GapFilling least ranges before left after count → 0 < length left → count < length ranges
+pub some_unfilled : (least : ℕ) (ranges : List (ℕ × ℕ)) (before : List CGap) (left : List ℕ) (after : List CGap) (count : ℕ) → GapFilling least ranges before left after count → 0 < length left → count < length ranges
 some_unfilled least ranges before left after count s some =
     omega (arith, sizes least ranges before left after count s, some_left (lowest least s.done) s.others left s.encoded some)
 
-pub gaps_end : (least : ℕ) (ranges : List (ℕ × ℕ)) (before : List GapWords) (left : List ℕ) (after : List GapWords) (count : ℕ) → GapFilling least ranges before left after count
+pub gaps_end : (least : ℕ) (ranges : List (ℕ × ℕ)) (before : List CGap) (left : List ℕ) (after : List CGap) (count : ℕ) → GapFilling least ranges before left after count
     → (count < length ranges → count ≡ length before) → FillsGaps least ranges before after count
 gaps_end least ranges before left after count s full =
     let front : take count ranges ≡ s.done = ap (take count) s.parts ∙ take_at s.done s.others count s.counted in
@@ -141,13 +141,13 @@ gaps_end least ranges before left after count s full =
     }
 
 -- no number is cut off where a gap or a block stands
-pub gap_stands : (least : ℕ) (ranges : List (ℕ × ℕ)) (before : List GapWords) (left : List ℕ) (after : List GapWords) (count : ℕ) (e : Fault) → GapFilling least ranges before left after count → 0 < length left
+pub gap_stands : (least : ℕ) (ranges : List (ℕ × ℕ)) (before : List CGap) (left : List ℕ) (after : List CGap) (count : ℕ) (e : Fault) → GapFilling least ranges before left after count → 0 < length left
     → varint_at left ≡ Err e → ⊥
 gap_stands least ranges before left after count e s some h =
     let n = next_gap (lowest least s.done) s.others left some s.encoded in
     ok_is_not_err (sym n.gap ∙ h)
 
-pub len_stands : (least : ℕ) (ranges : List (ℕ × ℕ)) (before : List GapWords) (left : List ℕ) (after : List GapWords) (count gap : ℕ) (behind : List ℕ) (e : Fault) → GapFilling least ranges before left after count → 0 < length left
+pub len_stands : (least : ℕ) (ranges : List (ℕ × ℕ)) (before : List CGap) (left : List ℕ) (after : List CGap) (count gap : ℕ) (behind : List ℕ) (e : Fault) → GapFilling least ranges before left after count → 0 < length left
     → varint_at left ≡ Ok (gap, behind) → varint_at behind ≡ Err e → ⊥
 len_stands least ranges before left after count gap behind e s some one h =
     let n = next_gap (lowest least s.done) s.others left some s.encoded in
@@ -161,7 +161,7 @@ zero_test : (n : ℕ) → n ≡ 0 → true ≡ (n == 0)
 zero_test n e = grind (arith, nat_tests)
 
 -- whether all were filled
-pub gaps_whole : (least : ℕ) (ranges : List (ℕ × ℕ)) (before : List GapWords) (left : List ℕ) (after : List GapWords) (count : ℕ) (is_empty : Bool) → GapFilling least ranges before left after count
+pub gaps_whole : (least : ℕ) (ranges : List (ℕ × ℕ)) (before : List CGap) (left : List ℕ) (after : List CGap) (count : ℕ) (is_empty : Bool) → GapFilling least ranges before left after count
     → is_empty ≡ (length left == 0) → IsTrue is_empty ↔ (count ≡ length ranges)
 gaps_whole least ranges before [] after count is_empty s e =
     let all : count ≡ length ranges = all_filled least ranges before [] after count s refl in
@@ -171,7 +171,7 @@ gaps_whole least ranges before (b ∷ left) after count is_empty s e =
     (λ t. absurd (omega (arith, zero_of (length (b ∷ left)) (sym (sym e ∙ t)))), λ same. absurd (omega (arith, fewer, same)))
 
 -- where no byte is left, no range is
-pub gaps_full : (least : ℕ) (ranges : List (ℕ × ℕ)) (before : List GapWords) (left : List ℕ) (after : List GapWords) (count : ℕ) → GapFilling least ranges before left after count → true ≡ (length left == 0) → count < length ranges
+pub gaps_full : (least : ℕ) (ranges : List (ℕ × ℕ)) (before : List CGap) (left : List ℕ) (after : List CGap) (count : ℕ) → GapFilling least ranges before left after count → true ≡ (length left == 0) → count < length ranges
     → count ≡ length before
 gaps_full least ranges before [] after count s e fewer = absurd (omega (arith, fewer, all_filled least ranges before [] after count s refl))
 gaps_full least ranges before (b ∷ left) after count s e fewer = absurd (omega (arith, zero_of (length (b ∷ left)) e))

@@ -10,7 +10,7 @@ use Rattle.quic_frames.specs.declared.frame.Frame.{Frame}
 use Rattle.quic_frames.specs.declared.frame.Frame.TheVariants as frames
 use Rattle.quic_frames.specs.InRange.{IsNoAck}
 use Rattle.quic_frames.specs.Meaning.{meaning_of, frame_of}
-use Rattle.quic_c.specs.declared.words.FrameWords.{FrameWords}
+use Rattle.quic_c.specs.declared.words.CFrame.{CFrame}
 use Rattle.quic_c.specs.Headers.{first_in, second_in}
 use Rattle.quic_c.specs.Shapes.{token_room}
 use Rattle.quic_c.specs.Shown.{frame_kind_of, flags_of, frame_numbers_of, data_of, tail_of}
@@ -91,7 +91,7 @@ same_parts : (f : ℕ → ℕ → List ℕ → List ℕ → List ℕ → Meaning
     → f a b c d e ≡ f a' b' c' d' e'
 same_parts f a a' b b' c c' d d' e e' p q r s t = cc
 
-pub one_meaning : (words : FrameWords) (bytes : List ℕ) (last : Bool) (one other : Frame) → CanWriteFrame words bytes last one → CanWriteFrame words bytes last other
+pub one_meaning : (words : CFrame) (bytes : List ℕ) (last : Bool) (one other : Frame) → CanWriteFrame words bytes last one → CanWriteFrame words bytes last other
     → meaning_of one ≡ meaning_of other
 one_meaning words bytes last one other a b =
     let kinds : frame_kind_of one ≡ frame_kind_of other = sym a.said.kind ∙ b.said.kind in

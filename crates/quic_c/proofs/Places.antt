@@ -3,9 +3,9 @@ use Rattle.std.proofs.Common.{◌≡◌, ℕ, ◌+◌, ◌-◌, ◌≤◌, ◌<�
 use Rattle.std.proofs.lemmas.List.{length-take-le, length-drop, length-append, drop-take, drop-drop, drop_at, take-take, take_at}
 use Rattle.std.specs.Prelude.{slice_range}
 use Rattle.quic_frame_fields.specs.Reading.{first_range_at, ranges_of, blocks_left, IsBlocks}
-use Rattle.quic_c.specs.declared.words.RangeWords.{RangeWords}
-use Rattle.quic_c.specs.declared.words.RangesWords.{RangesWords}
-use Rattle.quic_c.specs.declared.words.FrameWords.{FrameWords}
+use Rattle.quic_c.specs.declared.words.CRange.{CRange}
+use Rattle.quic_c.specs.declared.words.CRangeIter.{CRangeIter}
+use Rattle.quic_c.specs.declared.words.CFrame.{CFrame}
 use Rattle.quic_c.specs.Answers.{GivesRange, GivesPlace, frame_of_words}
 use Rattle.quic_frame_fields.specs.AckPlace.{ack_at}
 
@@ -20,10 +20,10 @@ part_of_part bytes start stop k le =
     let n : stop - start ≡ k + (stop - (start + k)) = omega arith in
     ap (λ (i : ℕ). drop k (take i (drop start bytes))) n ∙ drop-take k (stop - (start + k)) (drop start bytes) ∙ ap (take (stop - (start + k))) (drop-drop k start bytes)
 
-abbrev pub at_place : ℕ → ℕ → ℕ → RangesWords
+abbrev pub at_place : ℕ → ℕ → ℕ → CRangeIter
 at_place begin end largest = record { begin = begin; end = end; largest = largest }
 
-abbrev pub range_words : ℕ → ℕ → RangeWords
+abbrev pub range_words : ℕ → ℕ → CRange
 range_words start end = record { start = start; end = end }
 
 -- what a step over the blocks at a place says of the words
@@ -65,7 +65,7 @@ stands_in payload begin end front blocks rest ordered within parts =
     (all, ap (λ (n : ℕ). slice_range payload n (end - length rest)) start ∙ ap (λ (n : ℕ). take n (drop (begin + length front) payload)) width ∙ cut)
 
 -- what is said of the words of an ACK, where its blocks stand in it
-pub place_given : (payload : List ℕ) (frame : FrameWords) (largest : ℕ) (blocks rest : List ℕ) → frame.begin ≤ frame.end → frame.end ≤ length payload → ack_at (frame_of_words frame payload) ≡ Ok (largest, blocks, rest)
+pub place_given : (payload : List ℕ) (frame : CFrame) (largest : ℕ) (blocks rest : List ℕ) → frame.begin ≤ frame.end → frame.end ≤ length payload → ack_at (frame_of_words frame payload) ≡ Ok (largest, blocks, rest)
     → largest < 2 ^ 62 → IsBlocks largest blocks → (front : List ℕ) × (frame_of_words frame payload ≡ front ++ (blocks ++ rest)) → GivesPlace frame payload (at_place (frame.end - length rest - length blocks) (frame.end - length rest) largest)
 place_given payload frame largest blocks rest ordered within reads small valid parts =
     let s = stands_in payload frame.begin frame.end parts.0 blocks rest ordered within parts.1 in

@@ -6,22 +6,22 @@ use Rattle.quic_frame_fields.specs.Reading.{first_range_at, ranges_of, blocks_le
 use Rattle.std.proofs.lemmas.List.{take_more_set, drop-set-lt}
 use Rattle.std.proofs.Math.ListN.{length-set}
 use Rattle.std.proofs.lemmas.Grind.{drop_more_same}
-use Rattle.quic_c.specs.declared.words.RangeWords.{RangeWords}
-use Rattle.quic_c.specs.declared.words.RangesWords.{RangesWords}
+use Rattle.quic_c.specs.declared.words.CRange.{CRange}
+use Rattle.quic_c.specs.declared.words.CRangeIter.{CRangeIter}
 use Rattle.quic_c.specs.Answers.{GivesRange, IsWithin, LacksRange}
 use Rattle.quic_c.specs.Filling.{Shows, FillsRanges, StepsOver, HasNoRange}
 use Rattle.quic_c.proofs.Filling.{shows-append}
 use Rattle.quic_c.proofs.Places.{length-part, part_of_part, range_given, range_words}
 
-abbrev pub blocks_at : ℕ → ℕ → ℕ → RangesWords
+abbrev pub blocks_at : ℕ → ℕ → ℕ → CRangeIter
 blocks_at begin end largest = record { begin = begin; end = end; largest = largest }
 
 -- what is left of the bytes up to a place, by how many they are
-abbrev pub left_at : ℕ → List ℕ → ℕ → RangesWords
+abbrev pub left_at : ℕ → List ℕ → ℕ → CRangeIter
 left_at end left largest = blocks_at (end - length left) end largest
 
 -- So many entries are filled, up to the blocks that are left.
-pub record RangeFilling (old : RangesWords) (payload : List ℕ) (before : List RangeWords) (left : List ℕ) (largest : ℕ) (after : List RangeWords) (count : ℕ) : Type 0 where
+pub record RangeFilling (old : CRangeIter) (payload : List ℕ) (before : List CRange) (left : List ℕ) (largest : ℕ) (after : List CRange) (count : ℕ) : Type 0 where
   pub few : count ≤ length after
   pub all : length after ≡ length before
   pub ends : old.end ≤ length payload
@@ -45,7 +45,7 @@ none_of_left payload end largest left reason some short stands step refused =
     let lacks : LacksRange (left_at end left largest) payload = record { some = omega arith; reason = reason; step = rw stands step; refused = rw stands refused } in
     inr (inr (inr (inr lacks)))
 
-pub ranges_begin : (old : RangesWords) (payload : List ℕ) (before : List RangeWords) → IsWithin old payload
+pub ranges_begin : (old : CRangeIter) (payload : List ℕ) (before : List CRange) → IsWithin old payload
     → RangeFilling old payload before (slice_range payload old.begin old.end) old.largest before 0
 ranges_begin old payload before within =
     let len = length-part payload old.begin old.end within.ends in
@@ -61,7 +61,7 @@ ranges_begin old payload before within =
       kept = refl;
     }
 
-pub ranges_go_on : (old : RangesWords) (payload : List ℕ) (before : List RangeWords) (left : List ℕ) (largest : ℕ) (after : List RangeWords) (count : ℕ) (rest : List ℕ) (next : ℕ) (entry : RangeWords)
+pub ranges_go_on : (old : CRangeIter) (payload : List ℕ) (before : List CRange) (left : List ℕ) (largest : ℕ) (after : List CRange) (count : ℕ) (rest : List ℕ) (next : ℕ) (entry : CRange)
     → RangeFilling old payload before left largest after count → count < length after → length rest < length left → drop (length left - length rest) left ≡ rest
     → GivesRange (left_at old.end left largest) payload (left_at old.end rest next) entry → RangeFilling old payload before rest next (set after count entry) (count + 1)
 ranges_go_on old payload before left largest after count rest next entry s room shorter tail gives =
@@ -78,6 +78,6 @@ ranges_go_on old payload before left largest after count rest next entry s room 
       kept = drop-set-lt (count + 1) after count entry (omega arith) ∙ drop_more_same after before count s.kept;
     }
 
-pub ranges_end : (old : RangesWords) (payload : List ℕ) (before : List RangeWords) (left : List ℕ) (largest : ℕ) (after : List RangeWords) (count : ℕ) → RangeFilling old payload before left largest after count
+pub ranges_end : (old : CRangeIter) (payload : List ℕ) (before : List CRange) (left : List ℕ) (largest : ℕ) (after : List CRange) (count : ℕ) → RangeFilling old payload before left largest after count
     → (count ≡ length before) ⊎ HasNoRange (left_at old.end left largest) payload → FillsRanges old payload before (left_at old.end left largest) after count
 ranges_end old payload before left largest after count s full = record { few = rw (← s.all) s.few; shows = s.shows; kept = s.kept; full = full }

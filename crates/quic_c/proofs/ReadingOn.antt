@@ -3,7 +3,7 @@ use Rattle.std.proofs.Common.{◌≡◌, ℕ, zero, suc, ◌+◌, ◌-◌, Bool,
 use Rattle.std.specs.Prelude.{if◌then◌else◌}
 use Rattle.quic_frame_fields.specs.declared.frame.fault.Fault.{Fault}
 use Rattle.quic_frame_fields.specs.declared.frame.fault.Fault.TheVariants.{LongType}
-use Rattle.quic_frame_fields.specs.Payload.{Meaning, Found}
+use Rattle.quic_frame_fields.specs.Payload.{Meaning, TypedFrame}
 use Rattle.quic_frame_fields.specs.Reading.{Invalid, invalid, Item, Whole, varint_at, frame_at, found_at, at_type, after_type, is_long_type, items_after, items_from, items_of}
 use Rattle.quic_frames.specs.Walk.{left, first_of, resumed}
 use Rattle.quic_c.specs.Front.{behind, reported_behind}
@@ -15,7 +15,7 @@ items_behind strict zero count start before bytes = refl
 items_behind strict (suc n) count start before [] = refl
 items_behind strict (suc n) count start before (b ∷ bytes) = by_found (λ m type rest. items_behind strict n count m type rest) (found_at strict before (b ∷ bytes))
   where
-    by_found : ((m : ℕ) (type : Option ℕ) (rest : List ℕ) → items_from strict n (count + m) type rest ≡ map (behind count) (items_from strict n m type rest)) → (read : Result (Found × List ℕ) Invalid)
+    by_found : ((m : ℕ) (type : Option ℕ) (rest : List ℕ) → items_from strict n (count + m) type rest ≡ map (behind count) (items_from strict n m type rest)) → (read : Result (TypedFrame × List ℕ) Invalid)
         → items_after (items_from strict n) (count + start) (length (b ∷ bytes)) read ≡ map (behind count) (items_after (items_from strict n) start (length (b ∷ bytes)) read)
     by_found again (Err reported) = refl
     by_found again (Ok x) =

@@ -5,32 +5,32 @@ use Rattle.std.proofs.lemmas.Bool.{cases_eq}
 use Rattle.std.proofs.lemmas.Bool.Decides.{nat_tests}
 use Rattle.quic_frames.specs.declared.frame.Frame.{Frame}
 use Rattle.quic_frames.specs.InRange.{IsNoAck, IsTypedFrame}
-use Rattle.quic_c.specs.declared.words.FrameWords.{FrameWords}
+use Rattle.quic_c.specs.declared.words.CFrame.{CFrame}
 use Rattle.quic_c.specs.Shown.{frame_kind_of, data_of, tail_of}
 use Rattle.quic_c.specs.Shapes.{Shape, IsSound, FillsShape, HasPieces, IsShown, LacksData, LacksPieces, shape_of, shows_data, kept_numbers, kept_data, kept_token, token_room}
 use Rattle.quic_c.specs.Written.{DescribesFrame, CanWriteFrame, DescribesNoFrame, IsAnswer}
 use Rattle.quic_c.proofs.Shapes.{sound, keeps, open_short, counted_short}
 
-pub not_sound : (words : FrameWords) (bytes : List ℕ) (last : Bool) → (IsSound words.kind words.numbers words.data_len → ⊥) → DescribesNoFrame words bytes last
+pub not_sound : (words : CFrame) (bytes : List ℕ) (last : Bool) → (IsSound words.kind words.numbers words.data_len → ⊥) → DescribesNoFrame words bytes last
 not_sound words bytes last never frame can =
     let s = can.said in
     never (rw (s.kind, s.numbers, s.count) (sound frame can.kind can.typed can.stands.in_range))
 
-pub not_counted : (words : FrameWords) (bytes : List ℕ) (last : Bool) → last ≡ false → 2 ^ 62 ≤ words.data_len → DescribesNoFrame words bytes last
+pub not_counted : (words : CFrame) (bytes : List ℕ) (last : Bool) → last ≡ false → 2 ^ 62 ≤ words.data_len → DescribesNoFrame words bytes last
 not_counted words bytes last inner long frame can =
     let short = counted_short frame can.kind can.stands.in_range (can.stands.counted inner) in
     absurd (omega (arith, short, long, can.said.count))
 
-pub not_within : (words : FrameWords) (bytes : List ℕ) (last : Bool) → LacksPieces words bytes → DescribesNoFrame words bytes last
+pub not_within : (words : CFrame) (bytes : List ℕ) (last : Bool) → LacksPieces words bytes → DescribesNoFrame words bytes last
 not_within words bytes last lacks frame can =
     let tail : token_room words.kind ≡ tail_of frame = ap token_room can.said.kind ∙ sym (keeps frame can.kind).tail in
     let within = can.said.within (omega (arith, lacks.some, tail)) in
     absurd (omega (arith, lacks.past, tail, within))
 
-pub not_known : (words : FrameWords) (bytes : List ℕ) (last : Bool) → shape_of words.kind ≡ None → DescribesNoFrame words bytes last
+pub not_known : (words : CFrame) (bytes : List ℕ) (last : Bool) → shape_of words.kind ≡ None → DescribesNoFrame words bytes last
 not_known words bytes last none frame can = (keeps frame can.kind).known (sym (ap shape_of can.said.kind) ∙ none)
 
-pub shown_by : (words : FrameWords) (bytes front token : List ℕ) (built frame : Frame) → HasPieces words bytes front token → FillsShape words.kind (words.flags == 1) words.numbers front token built
+pub shown_by : (words : CFrame) (bytes front token : List ℕ) (built frame : Frame) → HasPieces words bytes front token → FillsShape words.kind (words.flags == 1) words.numbers front token built
     → IsNoAck frame → DescribesFrame words bytes frame → IsShown words built
 shown_by words bytes front token built frame p f here s =
     let k = keeps frame here in
@@ -44,7 +44,7 @@ shown_by words bytes front token built frame p f here s =
       numbers = f.numbers ∙ numbers;
     }
 
-pub not_shown : (words : FrameWords) (bytes front token : List ℕ) (last : Bool) (built : Frame) → HasPieces words bytes front token
+pub not_shown : (words : CFrame) (bytes front token : List ℕ) (last : Bool) (built : Frame) → HasPieces words bytes front token
     → FillsShape words.kind (words.flags == 1) words.numbers front token built → (IsShown words built → ⊥) → DescribesNoFrame words bytes last
 not_shown words bytes front token last built p f never frame can = never (shown_by words bytes front token built frame p f can.kind can.said)
 
@@ -60,7 +60,7 @@ kept_whole : (shape : Option Shape) (bytes : List ℕ) → length (kept_data sha
 kept_whole None bytes e = empty bytes e
 kept_whole (Some s) bytes e = kept_by s.has_data bytes e
 
-pub says : (words : FrameWords) (bytes front token : List ℕ) (frame : Frame) → HasPieces words bytes front token → FillsShape words.kind (words.flags == 1) words.numbers front token frame
+pub says : (words : CFrame) (bytes front token : List ℕ) (frame : Frame) → HasPieces words bytes front token → FillsShape words.kind (words.flags == 1) words.numbers front token frame
     → IsShown words frame → DescribesFrame words bytes frame
 says words bytes front token frame p f s =
     let whole : kept_data (shape_of words.kind) front ≡ front = kept_whole (shape_of words.kind) front (sym (ap length f.content) ∙ s.count ∙ sym p.width) in
@@ -74,7 +74,7 @@ says words bytes front token frame p f s =
       token = rw f.tail (sym p.token ∙ sym f.token);
     }
 
-pub can_write : (words : FrameWords) (bytes front token : List ℕ) (last : Bool) (frame : Frame) → HasPieces words bytes front token
+pub can_write : (words : CFrame) (bytes front token : List ℕ) (last : Bool) (frame : Frame) → HasPieces words bytes front token
     → FillsShape words.kind (words.flags == 1) words.numbers front token frame → IsShown words frame → IsTypedFrame frame → (last ≡ false → words.data_len < 2 ^ 62)
     → CanWriteFrame words bytes last frame
 can_write words bytes front token last frame p f s typed short = record {
@@ -93,7 +93,7 @@ same_branches false = refl
 none_taken : (n : ℕ) (xs : List ℕ) → n ≡ 0 → [] ≡ take n xs
 none_taken n xs e = subst (λ (k : ℕ). [] ≡ take k xs) (sym e) refl
 
-pub no_pieces : (words : FrameWords) (payload bytes behind : List ℕ) → words.data_len ≡ 0 → token_room words.kind ≡ 0 → length bytes ≡ 0 → length behind ≡ 0
+pub no_pieces : (words : CFrame) (payload bytes behind : List ℕ) → words.data_len ≡ 0 → token_room words.kind ≡ 0 → length bytes ≡ 0 → length behind ≡ 0
     → HasPieces words payload bytes behind
 no_pieces words payload bytes behind none roomless b t = record {
   within = λ some. absurd (omega (arith, some, none, roomless));
@@ -108,7 +108,7 @@ data_kept : (shape : Option Shape) (bytes : List ℕ) → shows_data shape ≡ f
 data_kept None bytes e = refl
 data_kept (Some s) bytes e = ap (λ (b : Bool). if b then bytes else []) e
 
-no_data : (words : FrameWords) (bytes : List ℕ) (last : Bool) (frame : Frame) → LacksData words → CanWriteFrame words bytes last frame → words.data_len ≡ 0
+no_data : (words : CFrame) (bytes : List ℕ) (last : Bool) (frame : Frame) → LacksData words → CanWriteFrame words bytes last frame → words.data_len ≡ 0
 no_data words bytes last frame (inl none) can = none
 no_data words bytes last frame (inr e) can =
     let lacks : shows_data (shape_of (frame_kind_of frame)) ≡ false = ap (λ (k : ℕ). shows_data (shape_of k)) (sym can.said.kind) ∙ e in
@@ -117,13 +117,13 @@ no_data words bytes last frame (inr e) can =
 no_room : (kind : ℕ) → (kind ≡ 0x18 → ⊥) → token_room kind ≡ 0
 no_room kind other = grind (arith, nat_tests)
 
-no_tail : (words : FrameWords) (bytes : List ℕ) (last : Bool) (frame : Frame) → words.data_len ≡ 0 → CanWriteFrame words bytes last frame → tail_of frame ≡ 0
+no_tail : (words : CFrame) (bytes : List ℕ) (last : Bool) (frame : Frame) → words.data_len ≡ 0 → CanWriteFrame words bytes last frame → tail_of frame ≡ 0
 no_tail words bytes last frame none can = elim (cases_eq (frame_kind_of frame) 0x18) [
   | inl e ↦ absurd (omega (arith, (sound frame can.kind can.typed can.stands.in_range).some e, can.said.count, none))
   | inr other ↦ (keeps frame can.kind).tail ∙ no_room (frame_kind_of frame) other
 ]
 
-pub elsewhere : (words : FrameWords) (bytes others : List ℕ) (last : Bool) (frame : Frame) → LacksData words → CanWriteFrame words bytes last frame → CanWriteFrame words others last frame
+pub elsewhere : (words : CFrame) (bytes others : List ℕ) (last : Bool) (frame : Frame) → LacksData words → CanWriteFrame words bytes last frame → CanWriteFrame words others last frame
 elsewhere words bytes others last frame lacks can =
     let s = can.said in
     let none : words.data_len ≡ 0 = no_data words bytes last frame lacks can in
@@ -147,7 +147,7 @@ elsewhere words bytes others last frame lacks can =
     }
 
 -- an answer that is right of some bytes is right of all others
-pub answer_elsewhere : (words : FrameWords) (bytes others : List ℕ) (last : Bool) (answer : ℤ) (old new : List ℕ) (written : ℕ) → LacksData words
+pub answer_elsewhere : (words : CFrame) (bytes others : List ℕ) (last : Bool) (answer : ℤ) (old new : List ℕ) (written : ℕ) → LacksData words
     → IsAnswer words bytes last answer old new written → IsAnswer words others last answer old new written
 answer_elsewhere words bytes others last answer old new written lacks is = record {
   wrote = λ e. let w = is.wrote e in record { frame = w.frame; can = elsewhere words bytes others last w.frame lacks w.can; count = w.count; front = w.front };

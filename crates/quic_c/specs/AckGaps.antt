@@ -2,23 +2,23 @@
 use Rattle.std.specs.Prelude.{◌≡◌, ⊤, ℕ, ◌+◌, ◌-◌, ◌<◌, ◌≤◌, ◌^◌, ◌⊎◌, List, [], ◌∷◌, ◌++◌, length, slice_index, Option, Some, None, ◌==◌, if◌then◌else◌}
 use Rattle.quic_frame_fields.specs.declared.frame.ack.EcnCounts.{EcnCounts}
 use Rattle.quic_frame_fields.specs.Field.{Number, Ranges}
-use Rattle.quic_frame_fields.specs.Numbers.{AreNumeric, all_short}
+use Rattle.quic_frame_fields.specs.Numbers.{AreNumeric, shortest_varints}
 use Rattle.quic_frame_fields.specs.Parts.{counts_of, frame_of}
 use Rattle.quic_frame_fields.specs.Payload.{Meaning}
 use Rattle.quic_frame_fields.specs.Table.{Ack}
-use Rattle.quic_c.specs.declared.words.FrameWords.{FrameWords}
-use Rattle.quic_c.specs.declared.words.GapWords.{GapWords}
+use Rattle.quic_c.specs.declared.words.CFrame.{CFrame}
+use Rattle.quic_c.specs.declared.words.CGap.{CGap}
 use Rattle.quic_c.specs.Front.{gaps_below}
 
 -- the greatest number and the delay
-abbrev pub greatest_of_words : FrameWords → ℕ
+abbrev pub greatest_of_words : CFrame → ℕ
 greatest_of_words words = slice_index words.numbers 0
 
-abbrev pub delay_in : FrameWords → ℕ
+abbrev pub delay_in : CFrame → ℕ
 delay_in words = slice_index words.numbers 1
 
 -- the counts of ECT(0), ECT(1) and ECN-CE, with flag 2
-abbrev pub counts_list : FrameWords → List ℕ
+abbrev pub counts_list : CFrame → List ℕ
 counts_list words =
     if words.flags == 2 then slice_index words.numbers 2 ∷ slice_index words.numbers 3 ∷ slice_index words.numbers 4 ∷ [] else []
 
@@ -32,7 +32,7 @@ AreUnder low [] = ⊤
 AreUnder low (range ∷ ranges) = (range.0 ≤ range.1) × (range.1 + 2 ≤ low) × AreUnder range.0 ranges
 
 -- The words and the gaps say an ACK, whose first range goes down to low, and whose others stand below it.
-pub record DescribesAck (words : FrameWords) (gaps : List GapWords) (low : ℕ) (below : List (ℕ × ℕ)) : Type 0 where
+pub record DescribesAck (words : CFrame) (gaps : List CGap) (low : ℕ) (below : List (ℕ × ℕ)) : Type 0 where
   pub kind : words.kind ≡ 0x02
   pub flags : (words.flags ≡ 0) ⊎ (words.flags ≡ 2)
   pub first : low + words.data_len ≡ greatest_of_words words
@@ -43,24 +43,24 @@ pub record DescribesAck (words : FrameWords) (gaps : List GapWords) (low : ℕ) 
   pub counts : AreNumeric (counts_list words)
 
 -- the ACK
-abbrev pub ack_said : FrameWords → ℕ → List (ℕ × ℕ) → Meaning
+abbrev pub ack_said : CFrame → ℕ → List (ℕ × ℕ) → Meaning
 ack_said words low below =
     frame_of Ack (Number (greatest_of_words words) ∷ Number (delay_in words) ∷ Ranges ((low, greatest_of_words words) ∷ below) ∷ counts_of (counts_said (counts_list words)))
 
 -- ---- No public clause cites what follows.
 
 -- the numbers of gaps, as they stand on the wire
-abbrev pub gap_numbers : List GapWords → List ℕ
+abbrev pub gap_numbers : List CGap → List ℕ
 gap_numbers [] = []
 gap_numbers (g ∷ gaps) = g.gap ∷ g.len ∷ gap_numbers gaps
 
 -- the ranges below one with the least number low are numbers from 0 on
-abbrev pub Fit : ℕ → List GapWords → Type 0
+abbrev pub Fit : ℕ → List CGap → Type 0
 Fit low [] = ⊤
 Fit low (g ∷ gaps) = (g.gap + 2 + g.len ≤ low) × Fit (low - 2 - g.gap - g.len) gaps
 
 -- Such words and gaps say an ACK.
-pub record IsAck (words : FrameWords) (gaps : List GapWords) : Type 0 where
+pub record IsAck (words : CFrame) (gaps : List CGap) : Type 0 where
   pub kind : words.kind ≡ 0x02
   pub flags : (words.flags ≡ 0) ⊎ (words.flags ≡ 2)
   pub first : words.data_len ≤ greatest_of_words words
@@ -70,13 +70,13 @@ pub record IsAck (words : FrameWords) (gaps : List GapWords) : Type 0 where
   pub counts : AreNumeric (counts_list words)
 
 -- their numbers in front of the gaps, behind the type
-abbrev pub behind_type : FrameWords → List GapWords → List ℕ
+abbrev pub behind_type : CFrame → List CGap → List ℕ
 behind_type words gaps = greatest_of_words words ∷ delay_in words ∷ length gaps ∷ words.data_len ∷ []
 
 -- these with the type
-abbrev pub front_numbers : FrameWords → List GapWords → List ℕ
+abbrev pub front_numbers : CFrame → List CGap → List ℕ
 front_numbers words gaps = (if words.flags == 2 then 0x03 else 0x02) ∷ behind_type words gaps
 
 -- the bytes that are written
-abbrev pub ack_bytes : FrameWords → List GapWords → List ℕ
-ack_bytes words gaps = all_short (front_numbers words gaps) ++ (all_short (gap_numbers gaps) ++ all_short (counts_list words))
+abbrev pub ack_bytes : CFrame → List CGap → List ℕ
+ack_bytes words gaps = shortest_varints (front_numbers words gaps) ++ (shortest_varints (gap_numbers gaps) ++ shortest_varints (counts_list words))

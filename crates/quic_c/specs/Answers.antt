@@ -9,10 +9,10 @@ use Rattle.quic_frame_fields.specs.declared.frame.fault.Fault.TheVariants.{Inval
 use Rattle.quic_frame_fields.specs.Reading.{◌>>=◌, varint_at, Invalid, invalid, Broken, IsBlocks, blocks_left, ranges_of, first_range_at}
 use Rattle.quic_frames.specs.IterState.{IterState}
 use Rattle.quic_frames.specs.Walk.{left, Finds}
-use Rattle.quic_c.specs.declared.words.FramesWords.{FramesWords}
-use Rattle.quic_c.specs.declared.words.FrameWords.{FrameWords}
-use Rattle.quic_c.specs.declared.words.RangeWords.{RangeWords}
-use Rattle.quic_c.specs.declared.words.RangesWords.{RangesWords}
+use Rattle.quic_c.specs.declared.words.CFrameIter.{CFrameIter}
+use Rattle.quic_c.specs.declared.words.CFrame.{CFrame}
+use Rattle.quic_c.specs.declared.words.CRange.{CRange}
+use Rattle.quic_c.specs.declared.words.CRangeIter.{CRangeIter}
 use Rattle.quic_c.specs.Shown.{state_of, type_word, shown, shown_invalid, frame_kind_of, IsExtension}
 
 -- the number of a reason: 1 unexpected end, 2 invalid frame ID, 3 malformed, 4 frame type not in shortest form
@@ -37,14 +37,14 @@ abbrev pub IsRefusedFrame : Bool → IterState → Invalid → Type 0
 IsRefusedFrame basic state reported = (left state ≡ Broken reported ∷ []) ⊎ (basic ≡ true) × IsUnknown state reported
 
 -- A frame was found where the words stand, and its words were given: one of that extension only where these are known.
-pub record GivesFrameWords (basic : Bool) (old : FramesWords) (payload : List ℕ) (new : FramesWords) (out : FrameWords) : Type 0 where
+pub record GivesFrameWords (basic : Bool) (old : CFrameIter) (payload : List ℕ) (new : CFrameIter) (out : CFrame) : Type 0 where
   pub frame : Frame
   pub finds : Finds (state_of old payload) frame (state_of new payload)
   pub known : (basic ≡ true) × IsExtension (frame_kind_of frame) → ⊥
   pub words : out ≡ shown old.offset new.offset finds.found.type frame
 
 -- What stands there isn't given, and that is reported; nothing is left.
-pub record GivesInvalid (basic : Bool) (old : FramesWords) (payload : List ℕ) (new : FramesWords) (out : FrameWords) : Type 0 where
+pub record GivesInvalid (basic : Bool) (old : CFrameIter) (payload : List ℕ) (new : CFrameIter) (out : CFrame) : Type 0 where
   pub reported : Invalid
   pub first : IsRefusedFrame basic (state_of old payload) reported
   pub over : new ≡ record old { ended = 1 }
@@ -53,7 +53,7 @@ pub record GivesInvalid (basic : Bool) (old : FramesWords) (payload : List ℕ) 
 -- What a call for the next frame answers and leaves, where frames of that extension are of unknown types if `basic` is
 -- true: 1 with the frame; 0 where none is left; -3 with what is reported of something that isn't given; -1 just where the
 -- place lies outside the payload. Nothing changes with 0 and -1.
-pub record AnswersNext (basic : Bool) (old : FramesWords) (payload : List ℕ) (before : FrameWords) (answer : ℤ) (new : FramesWords) (after : FrameWords) : Type 0 where
+pub record AnswersNext (basic : Bool) (old : CFrameIter) (payload : List ℕ) (before : CFrame) (answer : ℤ) (new : CFrameIter) (after : CFrame) : Type 0 where
   pub answers : (answer ≡ pos 1) ⊎ (answer ≡ pos 0) ⊎ (answer ≡ negsuc 2) ⊎ (answer ≡ negsuc 0)
   pub frame : answer ≡ pos 1 → GivesFrameWords basic old payload new after
   pub end : answer ≡ pos 0 → left (state_of old payload) ≡ []
@@ -62,20 +62,20 @@ pub record AnswersNext (basic : Bool) (old : FramesWords) (payload : List ℕ) (
   pub same : (answer ≡ pos 1) ⊎ (answer ≡ negsuc 2) ⊎ ((new ≡ old) × (after ≡ before))
 
 -- the bytes between two places
-abbrev pub blocks_in : RangesWords → List ℕ → List ℕ
+abbrev pub blocks_in : CRangeIter → List ℕ → List ℕ
 blocks_in ranges payload = slice_range payload ranges.begin ranges.end
 
 -- The place of some blocks lies in the payload.
-pub record IsWithin (ranges : RangesWords) (payload : List ℕ) : Type 0 where
+pub record IsWithin (ranges : CRangeIter) (payload : List ℕ) : Type 0 where
   pub ordered : ranges.begin ≤ ranges.end
   pub ends : ranges.end ≤ length payload
 
 -- the bytes of a frame
-abbrev pub frame_of_words : FrameWords → List ℕ → List ℕ
+abbrev pub frame_of_words : CFrame → List ℕ → List ℕ
 frame_of_words frame payload = slice_range payload frame.begin frame.end
 
 -- The frame is an ACK, and its greatest number and the place of its blocks were given.
-pub record GivesPlace (frame : FrameWords) (payload : List ℕ) (new : RangesWords) : Type 0 where
+pub record GivesPlace (frame : CFrame) (payload : List ℕ) (new : CRangeIter) : Type 0 where
   pub ordered : frame.begin ≤ frame.end
   pub ends : frame.end ≤ length payload
   pub rest : List ℕ
@@ -105,7 +105,7 @@ IsWholeAck bytes largest blocks = (greatest : ℕ) (others : List ℕ) → ack_a
 
 -- The frame begins as an ACK without counts, and its greatest number and the place of all that follows the count of
 -- its ranges were given. Where it is an ACK to its end, that is the place of its blocks.
-pub record GivesFront (frame : FrameWords) (payload : List ℕ) (new : RangesWords) : Type 0 where
+pub record GivesFront (frame : CFrame) (payload : List ℕ) (new : CRangeIter) : Type 0 where
   pub ordered : frame.begin ≤ frame.end
   pub ends : frame.end ≤ length payload
   pub front : ack_front_at (frame_of_words frame payload) ≡ Ok (new.largest, blocks_in new payload)
@@ -116,15 +116,15 @@ pub record GivesFront (frame : FrameWords) (payload : List ℕ) (new : RangesWor
   pub ack : (greatest : ℕ) (others : List ℕ) → ack_at (frame_of_words frame payload) ≡ Ok (greatest, others, []) → GivesPlace frame payload new
 
 -- The place of the frame lies outside the payload, or no front of an ACK without counts is read there.
-abbrev pub LacksFront : FrameWords → List ℕ → Type 0
+abbrev pub LacksFront : CFrame → List ℕ → Type 0
 LacksFront frame payload = (frame.end < frame.begin) ⊎ (length payload < frame.end) ⊎ IsErr (ack_front_at (frame_of_words frame payload))
 
 -- The place of the frame lies outside the payload, or no ACK is read there.
-abbrev pub LacksAck : FrameWords → List ℕ → Type 0
+abbrev pub LacksAck : CFrame → List ℕ → Type 0
 LacksAck frame payload = (frame.end < frame.begin) ⊎ (length payload < frame.end) ⊎ IsErr (ack_at (frame_of_words frame payload))
 
 -- The first range of the blocks was given, and what is left of the bytes are the blocks of the others.
-pub record GivesRange (old : RangesWords) (payload : List ℕ) (new : RangesWords) (out : RangeWords) : Type 0 where
+pub record GivesRange (old : CRangeIter) (payload : List ℕ) (new : CRangeIter) (out : CRange) : Type 0 where
   pub some : old.begin < old.end
   pub small : old.largest < 2 ^ 62
   pub step : first_range_at old.largest (blocks_in old payload) ≡ Ok (out.start, new.largest, blocks_in new payload)
@@ -136,7 +136,7 @@ pub record GivesRange (old : RangesWords) (payload : List ℕ) (new : RangesWord
   pub valid : IsBlocks old.largest (blocks_in old payload) → blocks_left new.largest (blocks_in new payload) ≡ Ok []
 
 -- No range stands first, and why.
-pub record LacksRange (ranges : RangesWords) (payload : List ℕ) : Type 0 where
+pub record LacksRange (ranges : CRangeIter) (payload : List ℕ) : Type 0 where
   pub some : ranges.begin < ranges.end
   pub reason : Fault
   pub step : first_range_at ranges.largest (blocks_in ranges payload) ≡ Err reason
@@ -144,6 +144,6 @@ pub record LacksRange (ranges : RangesWords) (payload : List ℕ) : Type 0 where
 
 -- The words name no blocks: the place lies outside the payload, or it has bytes, and the number is too large or no
 -- range stands first.
-abbrev pub NamesNone : RangesWords → List ℕ → Type 0
+abbrev pub NamesNone : CRangeIter → List ℕ → Type 0
 NamesNone ranges payload =
     (ranges.end < ranges.begin) ⊎ (length payload < ranges.end) ⊎ ((ranges.begin < ranges.end) × (2 ^ 62 ≤ ranges.largest)) ⊎ LacksRange ranges payload

@@ -5,16 +5,16 @@ use Rattle.quic_frame_fields.specs.Reading.{Invalid}
 use Rattle.quic_frames.specs.IterState.{IterState}
 use Rattle.quic_frames.specs.Walk.{left, Finds}
 use Rattle.quic_frames.specs.Padding.{PassesPadding}
-use Rattle.quic_c.specs.declared.words.FramesWords.{FramesWords}
-use Rattle.quic_c.specs.declared.words.FrameWords.{FrameWords}
+use Rattle.quic_c.specs.declared.words.CFrameIter.{CFrameIter}
+use Rattle.quic_c.specs.declared.words.CFrame.{CFrame}
 use Rattle.quic_c.specs.Shown.{state_of, frame_kind_of, shown, IsExtension}
-use Rattle.quic_c.specs.declared.words.RangeWords.{RangeWords}
-use Rattle.quic_c.specs.declared.words.RangesWords.{RangesWords}
+use Rattle.quic_c.specs.declared.words.CRange.{CRange}
+use Rattle.quic_c.specs.declared.words.CRangeIter.{CRangeIter}
 use Rattle.quic_c.specs.Answers.{GivesInvalid, GivesRange, IsRefusedFrame, NamesNone}
 
 -- One entry shows a frame, one of the extension for ACK frequency only where these are known; one of PADDING (RFC 9000,
 -- section 19.1) shows also the PADDING that follows, a frame with each byte.
-pub record GivesEntry (basic : Bool) (old : IterState) (entry : FrameWords) (new : IterState) : Type 0 where
+pub record GivesEntry (basic : Bool) (old : IterState) (entry : CFrame) (new : IterState) : Type 0 where
   pub frame : Frame
   pub next : IterState
   pub finds : Finds old frame next
@@ -33,15 +33,15 @@ abbrev pub HasNoFrame : Bool → IterState → Type 0
 HasNoFrame basic state = (left state ≡ []) ⊎ ((reported : Invalid) × IsRefusedFrame basic state reported)
 
 -- So many entries were filled, and those behind them kept; more were not, for want of room or of a frame.
-pub record Fills (basic : Bool) (old : IterState) (before : List FrameWords) (new : IterState) (after : List FrameWords) (count : ℕ) : Type 0 where
+pub record Fills (basic : Bool) (old : IterState) (before : List CFrame) (new : IterState) (after : List CFrame) (count : ℕ) : Type 0 where
   pub few : count ≤ length before
   pub shows : Shows (GivesEntry basic) old (take count after) new
   pub kept : drop count after ≡ drop count before
   pub full : (count ≡ length before) ⊎ HasNoFrame basic new
 
 -- What stands there isn't given: the first entry tells that, and the others were kept.
-pub record TellsInvalid (basic : Bool) (old : FramesWords) (payload : List ℕ) (before : List FrameWords) (new : FramesWords) (after : List FrameWords) : Type 0 where
-  pub entry : FrameWords
+pub record TellsInvalid (basic : Bool) (old : CFrameIter) (payload : List ℕ) (before : List CFrame) (new : CFrameIter) (after : List CFrame) : Type 0 where
+  pub entry : CFrame
   pub invalid : GivesInvalid basic old payload new entry
   pub entries : after ≡ entry ∷ drop 1 before
 
@@ -49,7 +49,7 @@ pub record TellsInvalid (basic : Bool) (old : FramesWords) (payload : List ℕ) 
 -- true: 1 with how many entries were filled, one at least; 0 where no frame is left; -3 with what is reported of something
 -- that isn't given; -4 just where there is no entry and the place lies in the payload; -1 just where it lies outside.
 -- Nothing changes with 0, -4 and -1, and the count with 1 alone.
-pub record AnswersFill (basic : Bool) (old : FramesWords) (payload : List ℕ) (before : List FrameWords) (count_before : ℕ) (answer : ℤ) (new : FramesWords) (after : List FrameWords) (count : ℕ) : Type 0 where
+pub record AnswersFill (basic : Bool) (old : CFrameIter) (payload : List ℕ) (before : List CFrame) (count_before : ℕ) (answer : ℤ) (new : CFrameIter) (after : List CFrame) (count : ℕ) : Type 0 where
   pub answers : (answer ≡ pos 1) ⊎ (answer ≡ pos 0) ⊎ (answer ≡ negsuc 2) ⊎ (answer ≡ negsuc 3) ⊎ (answer ≡ negsuc 0)
   pub frames : answer ≡ pos 1 → (0 < count) × Fills basic (state_of old payload) before (state_of new payload) after count
   pub end : answer ≡ pos 0 → left (state_of old payload) ≡ []
@@ -64,16 +64,16 @@ abbrev pub further : IterState → ℕ → Option ℕ → IterState
 further state offset last = record state { offset = offset; last = last }
 
 -- one range of an ACK
-abbrev pub StepsOver : List ℕ → RangesWords → RangeWords → RangesWords → Type 0
+abbrev pub StepsOver : List ℕ → CRangeIter → CRange → CRangeIter → Type 0
 StepsOver payload old range new = GivesRange old payload new range
 
 -- No byte is left, or no range stands next.
-abbrev pub HasNoRange : RangesWords → List ℕ → Type 0
+abbrev pub HasNoRange : CRangeIter → List ℕ → Type 0
 HasNoRange ranges payload = (ranges.begin ≡ ranges.end) ⊎ NamesNone ranges payload
 
 -- So many entries were filled with ranges (RFC 9000, section 19.3.1), and those behind them kept; more were not, for
 -- want of room or of a range.
-pub record FillsRanges (old : RangesWords) (payload : List ℕ) (before : List RangeWords) (new : RangesWords) (after : List RangeWords) (count : ℕ) : Type 0 where
+pub record FillsRanges (old : CRangeIter) (payload : List ℕ) (before : List CRange) (new : CRangeIter) (after : List CRange) (count : ℕ) : Type 0 where
   pub few : count ≤ length before
   pub shows : Shows (StepsOver payload) old (take count after) new
   pub kept : drop count after ≡ drop count before

@@ -8,24 +8,24 @@ use Rattle.quic_frame_fields.specs.Reading.{Invalid, Item, Whole, Broken}
 use Rattle.quic_frames.specs.IterState.{IterState}
 use Rattle.quic_frames.specs.Padding.{PassesPadding}
 use Rattle.quic_frames.specs.Walk.{first_of, Finds}
-use Rattle.quic_c.specs.declared.words.FrameWords.{FrameWords}
-use Rattle.quic_c.specs.declared.words.GapWords.{GapWords}
+use Rattle.quic_c.specs.declared.words.CFrame.{CFrame}
+use Rattle.quic_c.specs.declared.words.CGap.{CGap}
 use Rattle.quic_c.specs.Answers.{IsRefusedFrame, reason_in}
 use Rattle.quic_c.specs.Shown.{frame_kind_of, shown, shown_invalid, type_word, counts_flag, IsExtension}
 
 -- a range, by its least and its greatest number, below one with the least number low: the numbers between the two,
 -- less one, and its numbers, less one (RFC 9000, section 19.3.1)
-abbrev pub gap_of : ℕ → ℕ × ℕ → GapWords
+abbrev pub gap_of : ℕ → ℕ × ℕ → CGap
 gap_of low range = record { gap = low - (range.1 + 2); len = range.1 - range.0 }
 
 -- the same of ranges, each of which stands below the one before it
-abbrev pub gaps_below : ℕ → List (ℕ × ℕ) → List GapWords
+abbrev pub gaps_below : ℕ → List (ℕ × ℕ) → List CGap
 gaps_below low [] = []
 gaps_below low (range ∷ ranges) = gap_of low range ∷ gaps_below range.0 ranges
 
 -- So many entries were filled with the first of the ranges below one with the least number low, and those behind them
 -- kept; more were not, for want of room or of a range.
-pub record FillsGaps (low : ℕ) (ranges : List (ℕ × ℕ)) (before after : List GapWords) (count : ℕ) : Type 0 where
+pub record FillsGaps (low : ℕ) (ranges : List (ℕ × ℕ)) (before after : List CGap) (count : ℕ) : Type 0 where
   pub few : count ≤ length before
   pub one_each : count ≤ length ranges
   pub filled : take count after ≡ gaps_below low (take count ranges)
@@ -38,7 +38,7 @@ more_flag count ranges = if nat_lt count (length ranges) then 4 else 0
 
 -- The words of an ACK of this type up to a place: its first range, less one, in the place of its data's length, and in that of
 -- their offset how many entries were filled with the ranges below it.
-pub record ShowsAck (stop type : ℕ) (ack : Ack) (before : List GapWords) (words : FrameWords) (after : List GapWords) : Type 0 where
+pub record ShowsAck (stop type : ℕ) (ack : Ack) (before : List CGap) (words : CFrame) (after : List CGap) : Type 0 where
   pub least : ℕ
   pub below : List (ℕ × ℕ)
   pub ranges : ranges_acked ack ≡ (least, ack.largest) ∷ below
@@ -48,14 +48,14 @@ pub record ShowsAck (stop type : ℕ) (ack : Ack) (before : List GapWords) (word
   pub others : words ≡ record (shown 0 stop type (frames.Ack ack)) { flags = words.flags; data_offset = words.data_offset; data_len = words.data_len }
 
 -- The words of a frame of this type up to a place; entries are filled for an ACK alone.
-abbrev pub ShowsFront : ℕ → ℕ → Frame → List GapWords → FrameWords → List GapWords → Type 0
+abbrev pub ShowsFront : ℕ → ℕ → Frame → List CGap → CFrame → List CGap → Type 0
 ShowsFront stop type (frames.Ack a) before words after = ShowsAck stop type a before words after
 ShowsFront stop type frame before words after = (words ≡ shown 0 stop type frame) × (after ≡ before)
 
 -- The frame at the front is reported, as the iterator over the payload gives it, and where just the frames of RFC 9000 and
 -- DATAGRAM count it is one of these. One of PADDING (RFC 9000, section 19.1) stands also for the PADDING that follows, a
 -- frame with each byte. What is left begins where it ends.
-pub record ReadsFront (strict basic : Bool) (payload : List ℕ) (before : List GapWords) (stop : ℕ) (words : FrameWords) (after : List GapWords) : Type 0 where
+pub record ReadsFront (strict basic : Bool) (payload : List ℕ) (before : List CGap) (stop : ℕ) (words : CFrame) (after : List CGap) : Type 0 where
   pub frame : Frame
   pub next : IterState
   pub rest : IterState
@@ -67,14 +67,14 @@ pub record ReadsFront (strict basic : Bool) (payload : List ℕ) (before : List 
   pub shows : ShowsFront stop finds.found.type frame before words after
 
 -- No frame stands at the front, or just one of that extension where only those count, and that is reported.
-pub record TellsNone (strict basic : Bool) (payload : List ℕ) (words : FrameWords) : Type 0 where
+pub record TellsNone (strict basic : Bool) (payload : List ℕ) (words : CFrame) : Type 0 where
   pub reported : Invalid
   pub first : IsRefusedFrame basic (first_of strict payload) reported
   pub is : words ≡ shown_invalid 0 (type_word reported.type) (reason_in reported.reason)
 
 -- What a call for the frame at the front answers and leaves: where it ends, with its words; -2 just where there is no
 -- byte, and nothing changes; -3 with what is reported of something that isn't given, and no entry changes.
-pub record AnswersRead (strict basic : Bool) (payload : List ℕ) (before : FrameWords) (room : List GapWords) (answer : ℤ) (after : FrameWords) (gaps : List GapWords) : Type 0 where
+pub record AnswersRead (strict basic : Bool) (payload : List ℕ) (before : CFrame) (room : List CGap) (answer : ℤ) (after : CFrame) (gaps : List CGap) : Type 0 where
   pub answers : (answer ≡ negsuc 1) ⊎ (answer ≡ negsuc 2) ⊎ ((stop : ℕ) × (answer ≡ pos stop) × ReadsFront strict basic payload room stop after gaps)
   pub empty : (answer ≡ negsuc 1) ↔ (payload ≡ [])
   pub invalid : answer ≡ negsuc 2 → TellsNone strict basic payload after

@@ -1,8 +1,8 @@
 -- The bytes of a frame up to its data.
 use Rattle.std.specs.Prelude.{◌≡◌, ℕ, ◌<◌, ◌^◌, ◌==◌, ◌⊎◌, List, [], ◌∷◌, ◌++◌, length, drop, Bool, false, None, Some, if◌then◌else◌}
-use Rattle.quic_frame_fields.specs.Numbers.{AreNumeric, all_short}
+use Rattle.quic_frame_fields.specs.Numbers.{AreNumeric, shortest_varints}
 use Rattle.quic_frame_fields.specs.Shortest.{stream_header}
-use Rattle.quic_c.specs.declared.words.FrameWords.{FrameWords}
+use Rattle.quic_c.specs.declared.words.CFrame.{CFrame}
 
 -- CRYPTO, STREAM and DATAGRAM
 abbrev pub IsHeaded : ℕ → Type 0
@@ -28,7 +28,7 @@ second_in numbers = 0
 
 -- The words say such a frame, which can be written as the last of its payload or not; where its data stand isn't
 -- looked at.
-pub record HasHeader (words : FrameWords) (last : Bool) : Type 0 where
+pub record HasHeader (words : CFrame) (last : Bool) : Type 0 where
   pub kind : IsHeaded words.kind
   pub two : AreTwo words.numbers
   pub numeric : AreNumeric words.numbers
@@ -40,21 +40,21 @@ pub record HasHeader (words : FrameWords) (last : Bool) : Type 0 where
 -- its shortest encoding up to its data
 abbrev pub data_header_by : (kind flags : ℕ) (numbers : List ℕ) (len : ℕ) (last : Bool) → List ℕ
 data_header_by kind flags numbers len last =
-    if kind == 0x06 then all_short (0x06 ∷ second_in numbers ∷ len ∷ [])
+    if kind == 0x06 then shortest_varints (0x06 ∷ second_in numbers ∷ len ∷ [])
     else if kind == 0x08 then stream_header (first_in numbers) (second_in numbers) (flags == 1) (if last then None else Some len)
-    else if last then all_short (0x30 ∷ []) else all_short (0x31 ∷ len ∷ [])
+    else if last then shortest_varints (0x30 ∷ []) else shortest_varints (0x31 ∷ len ∷ [])
 
-abbrev pub data_header_bytes : FrameWords → Bool → List ℕ
+abbrev pub data_header_bytes : CFrame → Bool → List ℕ
 data_header_bytes words last = data_header_by words.kind words.flags words.numbers words.data_len last
 
 -- These bytes stand at the front, with what stood behind them, and are counted.
-pub record WroteHeader (words : FrameWords) (last : Bool) (old new : List ℕ) (written : ℕ) : Type 0 where
+pub record WroteHeader (words : CFrame) (last : Bool) (old new : List ℕ) (written : ℕ) : Type 0 where
   pub can : HasHeader words last
   pub count : written ≡ length (data_header_bytes words last)
   pub front : new ≡ data_header_bytes words last ++ drop written old
 
 -- There is less room than they need, and how much that is was reported.
-pub record HeaderNeedsMore (words : FrameWords) (last : Bool) (old : List ℕ) (needed : ℕ) : Type 0 where
+pub record HeaderNeedsMore (words : CFrame) (last : Bool) (old : List ℕ) (needed : ℕ) : Type 0 where
   pub can : HasHeader words last
   pub count : needed ≡ length (data_header_bytes words last)
   pub full : length old < needed

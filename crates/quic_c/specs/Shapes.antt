@@ -4,7 +4,7 @@ use Rattle.std.specs.Map.{lookup}
 use Rattle.quic_frame_fields.specs.Numbers.{AreNumeric}
 use Rattle.quic_frames.specs.declared.frame.Frame.{Frame}
 use Rattle.quic_frames.specs.InRange.{IsNoAck, InRange}
-use Rattle.quic_c.specs.declared.words.FrameWords.{FrameWords}
+use Rattle.quic_c.specs.declared.words.CFrame.{CFrame}
 use Rattle.quic_c.specs.Shown.{frame_kind_of, flags_of, frame_numbers_of, data_of, tail_of}
 use Rattle.quic_c.specs.Written.{token_of}
 
@@ -46,7 +46,7 @@ shows_data None = false
 shows_data (Some s) = s.has_data
 
 -- The words say no data, or a kind that has none.
-abbrev pub LacksData : FrameWords → Type 0
+abbrev pub LacksData : CFrame → Type 0
 LacksData words = (words.data_len ≡ 0) ⊎ (shows_data (shape_of words.kind) ≡ false)
 
 abbrev pub masked : List Bool → List ℕ → List ℕ
@@ -100,7 +100,7 @@ pub record FillsShape (type : ℕ) (is_fin : Bool) (given bytes behind : List �
   pub in_range : InRange frame
 
 -- The bytes and the token stand where the words say; where there are neither, that may be anywhere.
-pub record HasPieces (words : FrameWords) (payload bytes behind : List ℕ) : Type 0 where
+pub record HasPieces (words : CFrame) (payload bytes behind : List ℕ) : Type 0 where
   pub within : 0 < words.data_len + token_room words.kind → words.data_offset + words.data_len + token_room words.kind ≤ length payload
   pub content : bytes ≡ take words.data_len (drop words.data_offset payload)
   pub width : length bytes ≡ words.data_len
@@ -108,12 +108,12 @@ pub record HasPieces (words : FrameWords) (payload bytes behind : List ℕ) : Ty
   pub token : kept_token words.kind behind ≡ take (token_room words.kind) (drop words.data_len (drop words.data_offset payload))
 
 -- There is something to stand there, and the payload ends before.
-pub record LacksPieces (words : FrameWords) (payload : List ℕ) : Type 0 where
+pub record LacksPieces (words : CFrame) (payload : List ℕ) : Type 0 where
   pub some : 0 < words.data_len + token_room words.kind
   pub past : length payload < words.data_offset + words.data_len + token_room words.kind
 
 -- The frame has the flags, the numbers and the length of the words.
-pub record IsShown (words : FrameWords) (frame : Frame) : Type 0 where
+pub record IsShown (words : CFrame) (frame : Frame) : Type 0 where
   pub flags : flags_of frame ≡ words.flags
   pub count : length (data_of frame) ≡ words.data_len
   pub numbers : frame_numbers_of frame ≡ words.numbers

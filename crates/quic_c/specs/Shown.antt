@@ -7,8 +7,8 @@ use Rattle.quic_frames.specs.declared.frame.Frame.TheVariants as frames
 use Rattle.quic_frame_fields.specs.declared.frame.close.Close.TheVariants as closes
 use Rattle.quic_frame_fields.specs.declared.frame.ack.EcnCounts.{EcnCounts}
 use Rattle.quic_frames.specs.IterState.{IterState}
-use Rattle.quic_c.specs.declared.words.FramesWords.{FramesWords}
-use Rattle.quic_c.specs.declared.words.FrameWords.{FrameWords}
+use Rattle.quic_c.specs.declared.words.CFrameIter.{CFrameIter}
+use Rattle.quic_c.specs.declared.words.CFrame.{CFrame}
 
 -- the word of a type
 abbrev pub type_word : Option ℕ → ℕ
@@ -20,7 +20,7 @@ abbrev pub is_strict : ℕ → Bool
 is_strict strict = not (strict == 0)
 
 -- the words at the front of a payload, with that word
-abbrev pub at_front : ℕ → FramesWords
+abbrev pub at_front : ℕ → CFrameIter
 at_front strict = record { offset = 0; last_type = 2 ^ 64 - 1; ended = 0; strict = strict }
 
 -- a type in a word: every word from 2^62 on stands for none
@@ -28,7 +28,7 @@ abbrev pub type_in : ℕ → Option ℕ
 type_in n = if nat_lt n (2 ^ 62) then Some n else None
 
 -- how far an iterator has come over a payload, by the words that are kept of it
-abbrev pub state_of : FramesWords → List ℕ → IterState
+abbrev pub state_of : CFrameIter → List ℕ → IterState
 state_of f payload = record { strict = is_strict f.strict; payload = payload; offset = f.offset; last = type_in f.last_type; is_broken = not (f.ended == 0) }
 
 -- the kind of a frame: its type, 8 for every STREAM, 2 for every ACK and 0x30 for every DATAGRAM
@@ -114,9 +114,9 @@ data_of (frames.Close (closes.Application c)) = c.reason.now
 data_of frame = []
 
 -- the words of a frame that stands in a payload from start to stop and begins with this type
-abbrev pub shown : ℕ → ℕ → ℕ → Frame → FrameWords
+abbrev pub shown : ℕ → ℕ → ℕ → Frame → CFrame
 shown start stop type frame = record { kind = frame_kind_of frame; ty = type; flags = flags_of frame; begin = start; end = stop; data_offset = stop - tail_of frame - length (data_of frame); data_len = length (data_of frame); numbers = frame_numbers_of frame }
 
 -- what is no frame, by the word of the last type and the number of its reason, at the end of the last frame
-abbrev pub shown_invalid : ℕ → ℕ → ℕ → FrameWords
+abbrev pub shown_invalid : ℕ → ℕ → ℕ → CFrame
 shown_invalid start ty reason = record { kind = 2 ^ 16 - 1; ty = 0; flags = reason; begin = start; end = start; data_offset = start; data_len = 0; numbers = ty ∷ 0 ∷ 0 ∷ 0 ∷ 0 ∷ [] }

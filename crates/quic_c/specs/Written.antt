@@ -5,7 +5,7 @@ use Rattle.quic_frames.specs.declared.frame.Frame.{Frame}
 use Rattle.quic_frames.specs.declared.frame.Frame.TheVariants as frames
 use Rattle.quic_frames.specs.InRange.{IsNoAck, IsTypedFrame, CanStand}
 use Rattle.quic_frames.specs.Meaning.{meaning_of}
-use Rattle.quic_c.specs.declared.words.FrameWords.{FrameWords}
+use Rattle.quic_c.specs.declared.words.CFrame.{CFrame}
 use Rattle.quic_c.specs.Shown.{frame_kind_of, flags_of, frame_numbers_of, data_of, tail_of}
 
 -- what stands behind the data of a NEW_CONNECTION_ID, its id: the token of a reset
@@ -15,7 +15,7 @@ token_of frame = []
 
 -- The words say the frame, whose data stand in the bytes where the words say, with the token of a reset behind them.
 -- Where there are neither, their place says nothing, nor does ever where the frame begins and ends in a payload.
-pub record DescribesFrame (words : FrameWords) (bytes : List ℕ) (frame : Frame) : Type 0 where
+pub record DescribesFrame (words : CFrame) (bytes : List ℕ) (frame : Frame) : Type 0 where
   pub kind : words.kind ≡ frame_kind_of frame
   pub flags : words.flags ≡ flags_of frame
   pub numbers : words.numbers ≡ frame_numbers_of frame
@@ -25,7 +25,7 @@ pub record DescribesFrame (words : FrameWords) (bytes : List ℕ) (frame : Frame
   pub token : take (tail_of frame) (drop words.data_len (drop words.data_offset bytes)) ≡ token_of frame
 
 -- The words say a frame that can be written there, the last of its payload or not, and is no ACK.
-pub record CanWriteFrame (words : FrameWords) (bytes : List ℕ) (last : Bool) (frame : Frame) : Type 0 where
+pub record CanWriteFrame (words : CFrame) (bytes : List ℕ) (last : Bool) (frame : Frame) : Type 0 where
   pub said : DescribesFrame words bytes frame
   pub kind : IsNoAck frame
   pub typed : IsTypedFrame frame
@@ -36,25 +36,25 @@ abbrev pub flag_of : ℕ → Bool
 flag_of n = not (n == 0)
 
 -- The bytes of such a frame stand at the front, with what stood behind them, and are counted.
-pub record WroteFrame (words : FrameWords) (bytes : List ℕ) (last : Bool) (old new : List ℕ) (written : ℕ) : Type 0 where
+pub record WroteFrame (words : CFrame) (bytes : List ℕ) (last : Bool) (old new : List ℕ) (written : ℕ) : Type 0 where
   pub frame : Frame
   pub can : CanWriteFrame words bytes last frame
   pub count : written ≡ length (shortest_frame last (meaning_of frame))
   pub front : new ≡ shortest_frame last (meaning_of frame) ++ drop written old
 
 -- There is less room than such a frame needs, and how much that is was reported.
-pub record FrameNeedsMore (words : FrameWords) (bytes : List ℕ) (last : Bool) (old : List ℕ) (needed : ℕ) : Type 0 where
+pub record FrameNeedsMore (words : CFrame) (bytes : List ℕ) (last : Bool) (old : List ℕ) (needed : ℕ) : Type 0 where
   pub frame : Frame
   pub can : CanWriteFrame words bytes last frame
   pub count : needed ≡ length (shortest_frame last (meaning_of frame))
   pub full : length old < needed
 
 -- The words say no such frame.
-abbrev pub DescribesNoFrame : FrameWords → List ℕ → Bool → Type 0
+abbrev pub DescribesNoFrame : CFrame → List ℕ → Bool → Type 0
 DescribesNoFrame words bytes last = (frame : Frame) → CanWriteFrame words bytes last frame → ⊥
 
 -- The answer, and what the call leaves, are right of the words and these bytes.
-pub record IsAnswer (words : FrameWords) (bytes : List ℕ) (last : Bool) (answer : ℤ) (old new : List ℕ) (written : ℕ) : Type 0 where
+pub record IsAnswer (words : CFrame) (bytes : List ℕ) (last : Bool) (answer : ℤ) (old new : List ℕ) (written : ℕ) : Type 0 where
   pub wrote : answer ≡ pos 0 → WroteFrame words bytes last old new written
   pub room : answer ≡ negsuc 3 → FrameNeedsMore words bytes last old written
   pub refused : answer ≡ negsuc 0 → DescribesNoFrame words bytes last

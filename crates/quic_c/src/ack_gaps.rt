@@ -1,18 +1,18 @@
 //! ACKs written by gap and length, as they stand on the wire (RFC 9000, section 19.3).
 ghost use Rattle.std.specs.Prelude.{◌≡◌, ◌⊎◌, ◌↔◌, ◌+◌, ◌*◌, ◌<◌, ◌≤◌, ◌^◌, ◌++◌, ◌∷◌, ℕ, List, [], Bool, Ok, Err, IsTrue, length, pos, negsuc, ◌==◌, if◌then◌else◌};
-ghost use Rattle.quic_base.specs.Varint.{short};
-ghost use Rattle.quic_frame_fields.specs.Numbers.{AreNumeric, all_short};
+ghost use Rattle.quic_base.specs.Varint.{shortest_varint};
+ghost use Rattle.quic_frame_fields.specs.Numbers.{AreNumeric, shortest_varints};
 ghost use Rattle.quic_frame_fields.specs.Putting.{Stores, Puts};
 ghost use Rattle.quic_frame_fields.specs.Shortest.{shortest_frame};
 ghost use Rattle.quic_c.specs.AckGaps.{ack_bytes, ack_said, behind_type, counts_list, delay_in, gap_numbers, greatest_of_words, Fit, IsAck, DescribesAck};
 
-use crate::words::{FrameWords, GapWords};
+use crate::words::{CFrame, CGap};
 use quic_base::coding::store_array;
 use quic_frame_fields::frame::write::{numbers_len, size_of};
 
 // The type, which tells whether there are counts.
 #[inline(always)]
-fn type_of(ack: &FrameWords) -> u64
+fn type_of(ack: &CFrame) -> u64
     ensures { result ≡ (if ack.now.flags == 2 then 0x03 else 0x02) }
 {
     if ack.flags == 2 { 0x03 } else { 0x02 }
@@ -31,11 +31,11 @@ fn store_bytes(dest: &mut [u8], at: usize, one: u8, other: u8) -> usize
 
 // Stores a number in its shortest encoding over the bytes at a place, and answers where it ends.
 #[inline(always)]
-#[tactic(auto, unfolding(quic_base::specs::Varint::short, quic_base::specs::Varint::size, quic_base::specs::Number::bytes_of))]
+#[tactic(auto, unfolding(quic_base::specs::Varint::shortest_varint, quic_base::specs::Varint::size, quic_base::specs::Number::bytes_of))]
 pub(crate) fn store(dest: &mut [u8], at: usize, n: u64) -> usize
     requires numeric { n < 2 ^ 62 }
-    requires room { at + length (short n) ≤ length dest.old }
-    ensures stores { Stores (short n) at dest.old result dest.new }
+    requires room { at + length (shortest_varint n) ≤ length dest.old }
+    ensures stores { Stores (shortest_varint n) at dest.old result dest.new }
     ensures len { length dest.new ≡ length dest.old }
 {
     if n < 1 << 6 {
@@ -51,7 +51,7 @@ pub(crate) fn store(dest: &mut [u8], at: usize, n: u64) -> usize
 
 // Whether all ranges that stand below one with the least number low are numbers from 0 on.
 #[inline(always)]
-fn fit(low: u64, gaps: &[GapWords]) -> bool
+fn fit(low: u64, gaps: &[CGap]) -> bool
     ensures { IsTrue result ↔ Fit low gaps.now }
 {
     let mut low = low;
@@ -65,10 +65,10 @@ fn fit(low: u64, gaps: &[GapWords]) -> bool
 }
 
 // How many bytes the gaps and lengths have.
-fn gaps_len(low: u64, gaps: &[GapWords]) -> usize
+fn gaps_len(low: u64, gaps: &[CGap]) -> usize
     requires fit { Fit low gaps.now }
     requires small { low < 2 ^ 62 }
-    ensures value { result ≡ length (all_short (gap_numbers gaps.now)) }
+    ensures value { result ≡ length (shortest_varints (gap_numbers gaps.now)) }
     ensures few { result ≤ low }
 {
     let mut len = 0;
@@ -83,8 +83,8 @@ fn gaps_len(low: u64, gaps: &[GapWords]) -> usize
 fn store_two(dest: &mut [u8], at: usize, one: u64, other: u64) -> usize
     requires one { one < 2 ^ 62 }
     requires other { other < 2 ^ 62 }
-    requires room { at + length (all_short (one ∷ other ∷ [])) ≤ length dest.old }
-    ensures stores { Stores (all_short (one ∷ other ∷ [])) at dest.old result dest.new }
+    requires room { at + length (shortest_varints (one ∷ other ∷ [])) ≤ length dest.old }
+    ensures stores { Stores (shortest_varints (one ∷ other ∷ [])) at dest.old result dest.new }
     ensures len { length dest.new ≡ length dest.old }
 {
     if (one | other) < 1 << 6 {
@@ -96,10 +96,10 @@ fn store_two(dest: &mut [u8], at: usize, one: u64, other: u64) -> usize
 
 // Stores the gaps and lengths over the bytes at a place, and answers where they end.
 #[inline(always)]
-fn store_gaps(dest: &mut [u8], at: usize, gaps: &[GapWords]) -> usize
+fn store_gaps(dest: &mut [u8], at: usize, gaps: &[CGap]) -> usize
     requires numeric { AreNumeric (gap_numbers gaps.now) }
-    requires room { at + length (all_short (gap_numbers gaps.now)) ≤ length dest.old }
-    ensures stores { Stores (all_short (gap_numbers gaps.now)) at dest.old result dest.new }
+    requires room { at + length (shortest_varints (gap_numbers gaps.now)) ≤ length dest.old }
+    ensures stores { Stores (shortest_varints (gap_numbers gaps.now)) at dest.old result dest.new }
     ensures len { length dest.new ≡ length dest.old }
 {
     let mut at = at;
@@ -111,10 +111,10 @@ fn store_gaps(dest: &mut [u8], at: usize, gaps: &[GapWords]) -> usize
 
 // Stores the numbers between the type and the gaps behind the first byte.
 #[inline(always)]
-fn store_front(dest: &mut [u8], ack: &FrameWords, gaps: &[GapWords]) -> usize
+fn store_front(dest: &mut [u8], ack: &CFrame, gaps: &[CGap]) -> usize
     requires ack { IsAck ack.now gaps.now }
-    requires room { 1 + length (all_short (behind_type ack.now gaps.now)) ≤ length dest.old }
-    ensures stores { Stores (all_short (behind_type ack.now gaps.now)) 1 dest.old result dest.new }
+    requires room { 1 + length (shortest_varints (behind_type ack.now gaps.now)) ≤ length dest.old }
+    ensures stores { Stores (shortest_varints (behind_type ack.now gaps.now)) 1 dest.old result dest.new }
     ensures len { length dest.new ≡ length dest.old }
 {
     let at = store(dest, 1, ack.numbers[0]);
@@ -124,11 +124,11 @@ fn store_front(dest: &mut [u8], ack: &FrameWords, gaps: &[GapWords]) -> usize
 
 // Stores the counts.
 #[inline(always)]
-fn store_counts(dest: &mut [u8], at: usize, ack: &FrameWords) -> usize
+fn store_counts(dest: &mut [u8], at: usize, ack: &CFrame) -> usize
     requires some { ack.now.flags ≡ 2 }
     requires counts { AreNumeric (counts_list ack.now) }
-    requires room { at + length (all_short (counts_list ack.now)) ≤ length dest.old }
-    ensures stores { Stores (all_short (counts_list ack.now)) at dest.old result dest.new }
+    requires room { at + length (shortest_varints (counts_list ack.now)) ≤ length dest.old }
+    ensures stores { Stores (shortest_varints (counts_list ack.now)) at dest.old result dest.new }
     ensures len { length dest.new ≡ length dest.old }
 {
     let at = store(dest, at, ack.numbers[2]);
@@ -137,7 +137,7 @@ fn store_counts(dest: &mut [u8], at: usize, ack: &FrameWords) -> usize
 
 // Stores the ACK at the front, and its type last, where the flags are looked at for the counts.
 #[inline(always)]
-fn store_ack(ack: &FrameWords, gaps: &[GapWords], dest: &mut [u8]) -> usize
+fn store_ack(ack: &CFrame, gaps: &[CGap], dest: &mut [u8]) -> usize
     requires ack { IsAck ack.now gaps.now }
     requires room { length (ack_bytes ack.now gaps.now) ≤ length dest.old }
     ensures { Puts (Ok result) (ack_bytes ack.now gaps.now) dest.old dest.new }
@@ -154,7 +154,7 @@ fn store_ack(ack: &FrameWords, gaps: &[GapWords], dest: &mut [u8]) -> usize
 
 // How many bytes the ACK has.
 #[inline(never)]
-fn ack_len(ack: &FrameWords, gaps: &[GapWords]) -> usize
+fn ack_len(ack: &CFrame, gaps: &[CGap]) -> usize
     requires { IsAck ack.now gaps.now }
     ensures { result ≡ length (ack_bytes ack.now gaps.now) }
 {
@@ -171,7 +171,7 @@ fn ack_len(ack: &FrameWords, gaps: &[GapWords]) -> usize
 
 // Whether so many bytes have room for the ACK, were each of its numbers a longest one.
 #[inline(always)]
-fn has_room(gaps: &[GapWords], room: usize) -> bool
+fn has_room(gaps: &[CGap], room: usize) -> bool
     ensures { IsTrue result → 64 + 16 * length gaps.now ≤ room }
 {
     room / 16 >= gaps.len() + 4
@@ -179,7 +179,7 @@ fn has_room(gaps: &[GapWords], room: usize) -> bool
 
 // Whether the words and the gaps say an ACK.
 #[inline(always)]
-fn is_ack(ack: &FrameWords, gaps: &[GapWords]) -> bool
+fn is_ack(ack: &CFrame, gaps: &[CGap]) -> bool
     ensures { IsTrue result ↔ IsAck ack.now gaps.now }
 {
     let (greatest, first) = (ack.numbers[0], ack.data_len as u64);
@@ -188,7 +188,7 @@ fn is_ack(ack: &FrameWords, gaps: &[GapWords]) -> bool
 
 // The bits of all counts in one word, which is below 2^62 just where they are.
 #[inline(always)]
-fn bits_of_counts(ack: &FrameWords) -> u64
+fn bits_of_counts(ack: &CFrame) -> u64
     ensures { result < 2 ^ 62 ↔ AreNumeric (counts_list ack.now) }
 {
     if ack.flags == 2 {
@@ -200,7 +200,7 @@ fn bits_of_counts(ack: &FrameWords) -> u64
 
 // Whether the flags say counts or none, and these, the greatest number and the delay are numbers.
 #[inline(always)]
-fn are_numeric(ack: &FrameWords) -> bool
+fn are_numeric(ack: &CFrame) -> bool
     ensures { IsTrue result ↔ ((ack.now.flags ≡ 0) ⊎ (ack.now.flags ≡ 2))
         × AreNumeric (greatest_of_words ack.now ∷ delay_in ack.now ∷ counts_list ack.now) }
 {
@@ -212,7 +212,7 @@ fn are_numeric(ack: &FrameWords) -> bool
 
 // Writes the ACK where it fits, for which its bytes are counted first, or refuses it.
 #[inline(never)]
-fn write_counted(ack: &FrameWords, gaps: &[GapWords], out: &mut [u8], written: &mut usize) -> i32
+fn write_counted(ack: &CFrame, gaps: &[CGap], out: &mut [u8], written: &mut usize) -> i32
     ensures answers { (result ≡ pos 0) ⊎ (result ≡ negsuc 3) ⊎ (result ≡ negsuc 0) }
     ensures says { (result ≡ negsuc 0) ⊎ IsAck ack.now gaps.now }
     ensures wrote { result ≡ pos 0 → Puts (Ok written.new) (ack_bytes ack.now gaps.now) out.old out.new }
@@ -241,8 +241,8 @@ fn write_counted(ack: &FrameWords, gaps: &[GapWords], out: &mut [u8], written: &
 /// alone, and `written` not with -1.
 #[unsafe(no_mangle)]
 pub extern "C" fn quic_wire_ack_gaps_write_(
-    ack: &FrameWords,
-    gaps: &[GapWords],
+    ack: &CFrame,
+    gaps: &[CGap],
     out: &mut [u8],
     written: &mut usize,
 ) -> i32

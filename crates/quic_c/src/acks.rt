@@ -2,7 +2,7 @@
 ghost use Rattle.std.specs.Prelude.{◌≡◌, ◌⊎◌, ◌↔◌, ◌<◌, ◌≤◌, ◌^◌, ◌++◌, List, ℕ, Ok, IfSome, IsErr, IsNone, pos, negsuc, length};
 ghost use Rattle.quic_c.specs.Answers.{GivesFront, GivesPlace, GivesRange, IsWholeAck, IsWithin, LacksAck, LacksFront, NamesNone, ack_front_at};
 
-use crate::words::{FrameWords, RangeWords, RangesWords};
+use crate::words::{CFrame, CRange, CRangeIter};
 use quic_base::varint::split_var;
 use quic_frames::frame::{split_ack, split_first_range};
 
@@ -10,9 +10,9 @@ use quic_frames::frame::{split_ack, split_first_range};
 /// answers 0, or -1 where the place lies outside the payload or no ACK is read there; then nothing changes.
 #[unsafe(no_mangle)]
 pub extern "C" fn quic_wire_ack_ranges_init_(
-    ranges: &mut RangesWords,
+    ranges: &mut CRangeIter,
     payload: &[u8],
-    frame: &FrameWords,
+    frame: &CFrame,
 ) -> i32
     ensures answers { (result ≡ pos 0) ⊎ (result ≡ negsuc 0) }
     ensures place { result ≡ pos 0 → GivesPlace frame.now payload.now ranges.new }
@@ -26,7 +26,7 @@ pub extern "C" fn quic_wire_ack_ranges_init_(
         return -1;
     };
     let stop = end - rest.len();
-    *ranges = RangesWords {
+    *ranges = CRangeIter {
         begin: stop - blocks.len(),
         end: stop,
         largest,
@@ -40,9 +40,9 @@ pub extern "C" fn quic_wire_ack_ranges_init_(
 /// payload or no ACK is read there; then nothing changes.
 #[unsafe(no_mangle)]
 pub extern "C" fn quic_wire_ack_ranges_init_unchecked_(
-    ranges: &mut RangesWords,
+    ranges: &mut CRangeIter,
     payload: &[u8],
-    frame: &FrameWords,
+    frame: &CFrame,
 ) -> i32
     ensures answers { (result ≡ pos 0) ⊎ (result ≡ negsuc 0) }
     ensures place { result ≡ pos 0
@@ -58,7 +58,7 @@ pub extern "C" fn quic_wire_ack_ranges_init_unchecked_(
     let Some((largest, blocks)) = split_front(&payload[begin..end]) else {
         return quic_wire_ack_ranges_init_(ranges, payload, frame);
     };
-    *ranges = RangesWords {
+    *ranges = CRangeIter {
         begin: end - blocks.len(),
         end,
         largest,
@@ -91,9 +91,9 @@ fn split_front(bytes: &[u8]) -> Option<(u64, &[u8])>
 /// the payload, or the greatest number is 2^62 or more, or no block and gap stand first. Nothing changes but with 1.
 #[unsafe(no_mangle)]
 pub extern "C" fn quic_wire_ack_ranges_next_(
-    ranges: &mut RangesWords,
+    ranges: &mut CRangeIter,
     payload: &[u8],
-    out: &mut RangeWords,
+    out: &mut CRange,
 ) -> i32
     ensures answers { (result ≡ pos 1) ⊎ (result ≡ pos 0) ⊎ (result ≡ negsuc 0) }
     ensures range { result ≡ pos 1 → GivesRange ranges.old payload.now ranges.new out.new }
@@ -115,7 +115,7 @@ pub extern "C" fn quic_wire_ack_ranges_next_(
     let Ok((least, next, rest)) = split_first_range(largest, &payload[begin..end]) else {
         return -1;
     };
-    *out = RangeWords {
+    *out = CRange {
         start: least,
         end: largest + 1,
     };

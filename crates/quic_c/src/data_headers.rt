@@ -1,6 +1,6 @@
 //! The headers of STREAM, CRYPTO and DATAGRAM frames, whose data the caller puts behind them.
 ghost use Rattle.std.specs.Prelude.{◌≡◌, ◌⊎◌, ◌↔◌, ◌<◌, ◌≤◌, ◌^◌, ◌++◌, List, ℕ, Bool, pos, negsuc, length, IsTrue, IfSome};
-ghost use Rattle.quic_frame_fields.specs.Numbers.{AreNumeric, all_short};
+ghost use Rattle.quic_frame_fields.specs.Numbers.{AreNumeric, shortest_varints};
 ghost use Rattle.quic_frame_fields.specs.Putting.{Puts};
 ghost use Rattle.quic_frame_fields.specs.Shortest.{shortest_frame, stream_header};
 ghost use Rattle.quic_frames.specs.declared.frame.Frame.{Frame};
@@ -8,15 +8,15 @@ ghost use Rattle.quic_frames.specs.Meaning.{meaning_of};
 ghost use Rattle.quic_c.specs.Headers.{IsHeaded, HasHeader, WroteHeader, HeaderNeedsMore, data_header_bytes};
 ghost use Rattle.quic_c.specs.Shown.{data_of};
 ghost use Rattle.quic_c.specs.Written.{CanWriteFrame, flag_of};
-ghost use Rattle.quic_c.specs.declared.words.FrameWords.{FrameWords};
+ghost use Rattle.quic_c.specs.declared.words.CFrame.{CFrame};
 
 use crate::ack_gaps::store;
-use crate::words::FrameWords;
-use quic_errors::frame_type::FrameType;
+use crate::words::CFrame;
 use quic_frame_fields::frame::put;
+use quic_frames::frame::FrameType;
 
 // Whether the words say a frame that has a head.
-fn has_header(words: &FrameWords, last: bool) -> bool
+fn has_header(words: &CFrame, last: bool) -> bool
     ensures { IsTrue result ↔ HasHeader words.now last }
 {
     let (flags, len) = (words.flags, words.data_len as u64);
@@ -39,7 +39,7 @@ fn has_header(words: &FrameWords, last: bool) -> bool
 fn put_numbers(dest: &mut [u8], numbers: &[u64]) -> Result<usize, usize>
     requires few { length numbers.now ≤ 5 }
     requires numeric { AreNumeric numbers.now }
-    ensures { Puts result (all_short numbers.now) dest.old dest.new }
+    ensures { Puts result (shortest_varints numbers.now) dest.old dest.new }
 {
     if dest.len() < 40 {
         return put::numbers(dest, numbers);
@@ -74,7 +74,7 @@ fn put_stream(
 }
 
 // Stores the header that the words say at the front.
-fn put_header(words: &FrameWords, last: bool, dest: &mut [u8]) -> Result<usize, usize>
+fn put_header(words: &CFrame, last: bool, dest: &mut [u8]) -> Result<usize, usize>
     requires { HasHeader words.now last }
     ensures { Puts result (data_header_bytes words.now last) dest.old dest.new }
 {
@@ -95,7 +95,7 @@ fn put_header(words: &FrameWords, last: bool, dest: &mut [u8]) -> Result<usize, 
 /// frame that can be written. `out` changes with 0 alone, and `written` not with -1.
 #[unsafe(no_mangle)]
 pub extern "C" fn quic_wire_frame_header_write_(
-    frame: &FrameWords,
+    frame: &CFrame,
     last: u32,
     out: &mut [u8],
     written: &mut usize,
@@ -125,7 +125,7 @@ pub extern "C" fn quic_wire_frame_header_write_(
 
 /// A header and then the data are the frame: what can be written whole has a header, and is that with its data behind it.
 pub fn header_and_data()
-    ensures { (words : FrameWords) (bytes : List ℕ) (last : Bool) (frame : Frame) → IsHeaded words.kind
+    ensures { (words : CFrame) (bytes : List ℕ) (last : Bool) (frame : Frame) → IsHeaded words.kind
         → CanWriteFrame words bytes last frame
         → HasHeader words last × (shortest_frame last (meaning_of frame) ≡ data_header_bytes words last ++ data_of frame) }
 {}

@@ -7,7 +7,7 @@ ghost use Rattle.quic_c.specs.Filling.{AnswersFill, Fills, TellsInvalid, further
 
 use crate::frames::{is_unknown, show_invalid, type_in, type_read, type_word, unknown};
 use crate::show::{parts_of, show_parts};
-use crate::words::{FrameWords, FramesWords};
+use crate::words::{CFrame, CFrameIter};
 use quic_frames::frame::{FrameType, InvalidFrame, Iter};
 
 // How far entries were filled.
@@ -27,7 +27,7 @@ struct Filled {
 fn fill<const COPY: usize>(
     iter: &mut Iter<'_>,
     basic: bool,
-    out: &mut [FrameWords],
+    out: &mut [CFrame],
 ) -> Result<Filled, InvalidFrame>
     ensures filled { IfOk result (λ f. Fills basic iter.old out.old (further iter.old f.end f.last) out.new f.count) }
     ensures none { IfOk result (λ f. f.count ≡ 0 → 0 < length out.old → left iter.old ≡ []) }
@@ -71,10 +71,10 @@ fn fill<const COPY: usize>(
 // Fills entries with what stands next where the words say.
 #[inline(always)]
 fn fill_on<const COPY: usize>(
-    frames: &mut FramesWords,
+    frames: &mut CFrameIter,
     payload: &[u8],
     basic: bool,
-    out: &mut [FrameWords],
+    out: &mut [CFrame],
     count: &mut usize,
 ) -> i32
     ensures { AnswersFill basic frames.old payload.now out.old count.old result frames.new out.new count.new }
@@ -115,9 +115,9 @@ fn fill_on<const COPY: usize>(
 /// and nothing changes with 0, -4 and -1.
 #[unsafe(no_mangle)]
 pub extern "C" fn quic_wire_frames_fill_(
-    frames: &mut FramesWords,
+    frames: &mut CFrameIter,
     payload: &[u8],
-    out: &mut [FrameWords],
+    out: &mut [CFrame],
     count: &mut usize,
 ) -> i32
     ensures answers { AnswersFill false frames.old payload.now out.old count.old result frames.new out.new count.new }
@@ -128,9 +128,9 @@ pub extern "C" fn quic_wire_frames_fill_(
 /// The same, where a frame of the extension for ACK frequency is one of an unknown type: -3 is reported of it.
 #[unsafe(no_mangle)]
 pub extern "C" fn quic_wire_frames_fill_basic_(
-    frames: &mut FramesWords,
+    frames: &mut CFrameIter,
     payload: &[u8],
-    out: &mut [FrameWords],
+    out: &mut [CFrame],
     count: &mut usize,
 ) -> i32
     ensures answers { AnswersFill true frames.old payload.now out.old count.old result frames.new out.new count.new }
@@ -145,9 +145,9 @@ pub extern "C" fn quic_wire_frames_fill_basic_(
 /// entry. `count` changes with 1 alone, and nothing changes with -2 and -4.
 #[unsafe(no_mangle)]
 pub extern "C" fn quic_wire_frames_first_(
-    frames: &mut FramesWords,
+    frames: &mut CFrameIter,
     payload: &[u8],
-    out: &mut [FrameWords],
+    out: &mut [CFrame],
     count: &mut usize,
 ) -> i32
     ensures answers { (result ≡ pos 1) ⊎ (result ≡ negsuc 1) ⊎ (result ≡ negsuc 2) ⊎ (result ≡ negsuc 3) }
@@ -170,7 +170,7 @@ pub extern "C" fn quic_wire_frames_first_(
     }
     match fill::<0>(&mut iter, false, out) {
         Ok(filled) => {
-            *frames = FramesWords {
+            *frames = CFrameIter {
                 offset: filled.end,
                 last_type: type_word(filled.last),
                 ended: 0,
@@ -180,7 +180,7 @@ pub extern "C" fn quic_wire_frames_first_(
             1
         }
         Err(invalid) => {
-            *frames = FramesWords {
+            *frames = CFrameIter {
                 offset: 0,
                 last_type: u64::MAX,
                 ended: 1,

@@ -3,12 +3,12 @@ ghost use Rattle.std.specs.Prelude.{◌≡◌, ◌⊎◌, ◌↔◌, ◌-◌, �
 ghost use Rattle.quic_c.specs.Answers.{IsWithin, NamesNone};
 ghost use Rattle.quic_c.specs.Filling.{FillsRanges};
 
-use crate::words::{RangeWords, RangesWords};
+use crate::words::{CRange, CRangeIter};
 use quic_frames::frame::split_first_range;
 
 // Fills entries with the ranges that stand first in blocks: how many, and the blocks that are left.
 #[inline(always)]
-fn fill_ranges(from: RangesWords, payload: &[u8], out: &mut [RangeWords]) -> (usize, RangesWords)
+fn fill_ranges(from: CRangeIter, payload: &[u8], out: &mut [CRange]) -> (usize, CRangeIter)
     requires { IsWithin from payload.now }
     ensures { FillsRanges from payload.now out.old result.1 out.new result.0 }
 {
@@ -20,7 +20,7 @@ fn fill_ranges(from: RangesWords, payload: &[u8], out: &mut [RangeWords]) -> (us
         let Ok((least, next, rest)) = split_first_range(largest, left) else {
             return (count, words_at(end, left, largest));
         };
-        out[count] = RangeWords {
+        out[count] = CRange {
             start: least,
             end: largest + 1,
         };
@@ -33,11 +33,11 @@ fn fill_ranges(from: RangesWords, payload: &[u8], out: &mut [RangeWords]) -> (us
 
 // The words of blocks that end at a place.
 #[inline(always)]
-fn words_at(end: usize, left: &[u8], largest: u64) -> RangesWords
+fn words_at(end: usize, left: &[u8], largest: u64) -> CRangeIter
     requires { length left.now ≤ end }
     ensures { result ≡ record { begin = end - length left.now; end = end; largest = largest } }
 {
-    RangesWords {
+    CRangeIter {
         begin: end - left.len(),
         end,
         largest,
@@ -50,9 +50,9 @@ fn words_at(end: usize, left: &[u8], largest: u64) -> RangesWords
 /// it. Ranges that stand before what is none are given first. Nothing changes but with 1.
 #[unsafe(no_mangle)]
 pub extern "C" fn quic_wire_ack_ranges_fill_(
-    ranges: &mut RangesWords,
+    ranges: &mut CRangeIter,
     payload: &[u8],
-    out: &mut [RangeWords],
+    out: &mut [CRange],
     count: &mut usize,
 ) -> i32
     ensures answers { (result ≡ pos 1) ⊎ (result ≡ pos 0) ⊎ (result ≡ negsuc 3) ⊎ (result ≡ negsuc 0) }

@@ -8,7 +8,7 @@ ghost use Rattle.quic_c.specs.Shown.{state_of, at_front, is_strict, frame_kind_o
 ghost use Rattle.quic_c.specs.Answers.{AnswersNext, reason_in, unknown_type};
 
 use crate::show::{parts_of, show};
-use crate::words::{FrameWords, FramesWords};
+use crate::words::{CFrame, CFrameIter};
 use quic_frames::frame::{Frame, FrameType, InvalidFrame, Iter};
 
 // The type in a word.
@@ -82,7 +82,7 @@ pub(crate) fn unknown(kind: u16) -> InvalidFrame
 
 // Begins at the front of a payload, by the word for strict reading.
 #[inline(always)]
-fn begin(frames: &mut FramesWords, payload: &[u8], strict: u32) -> i32
+fn begin(frames: &mut CFrameIter, payload: &[u8], strict: u32) -> i32
     ensures answers { (result ≡ pos 0) ⊎ (result ≡ negsuc 1) }
     ensures empty { (result ≡ negsuc 1) ↔ (payload.now ≡ []) }
     ensures front { result ≡ pos 0 → frames.new ≡ at_front strict }
@@ -92,7 +92,7 @@ fn begin(frames: &mut FramesWords, payload: &[u8], strict: u32) -> i32
     if payload.is_empty() {
         return -2;
     }
-    *frames = FramesWords {
+    *frames = CFrameIter {
         offset: 0,
         last_type: u64::MAX,
         ended: 0,
@@ -104,7 +104,7 @@ fn begin(frames: &mut FramesWords, payload: &[u8], strict: u32) -> i32
 /// Begins at the front of a payload. It answers 0, or -2 just where the payload is empty, which is refused with
 /// PROTOCOL_VIOLATION (RFC 9000, section 12.4); then nothing changes.
 #[unsafe(no_mangle)]
-pub extern "C" fn quic_wire_frames_init_(frames: &mut FramesWords, payload: &[u8]) -> i32
+pub extern "C" fn quic_wire_frames_init_(frames: &mut CFrameIter, payload: &[u8]) -> i32
     ensures answers { (result ≡ pos 0) ⊎ (result ≡ negsuc 1) }
     ensures empty { (result ≡ negsuc 1) ↔ (payload.now ≡ []) }
     ensures front { result ≡ pos 0 → frames.new ≡ at_front 0 }
@@ -117,7 +117,7 @@ pub extern "C" fn quic_wire_frames_init_(frames: &mut FramesWords, payload: &[u8
 /// The same, where a type in another encoding than its shortest is no frame (RFC 9000, section 12.4). Other fields may
 /// have any width.
 #[unsafe(no_mangle)]
-pub extern "C" fn quic_wire_frames_init_strict_(frames: &mut FramesWords, payload: &[u8]) -> i32
+pub extern "C" fn quic_wire_frames_init_strict_(frames: &mut CFrameIter, payload: &[u8]) -> i32
     ensures answers { (result ≡ pos 0) ⊎ (result ≡ negsuc 1) }
     ensures empty { (result ≡ negsuc 1) ↔ (payload.now ≡ []) }
     ensures front { result ≡ pos 0 → frames.new ≡ at_front 1 }
@@ -128,10 +128,10 @@ pub extern "C" fn quic_wire_frames_init_strict_(frames: &mut FramesWords, payloa
 }
 
 // What is no frame, reported as words.
-pub(crate) fn show_invalid(begin: usize, invalid: &InvalidFrame) -> FrameWords
+pub(crate) fn show_invalid(begin: usize, invalid: &InvalidFrame) -> CFrame
     ensures { result ≡ shown_invalid begin (type_word invalid.now.ty) (reason_in invalid.now.reason.now) }
 {
-    FrameWords {
+    CFrame {
         kind: u16::MAX,
         ty: 0,
         flags: reason_in(invalid.reason),
@@ -145,12 +145,7 @@ pub(crate) fn show_invalid(begin: usize, invalid: &InvalidFrame) -> FrameWords
 
 // Tells, once, what stands at a place and isn't given.
 #[inline(always)]
-fn refuse(
-    begin: usize,
-    invalid: &InvalidFrame,
-    frames: &mut FramesWords,
-    out: &mut FrameWords,
-) -> i32
+fn refuse(begin: usize, invalid: &InvalidFrame, frames: &mut CFrameIter, out: &mut CFrame) -> i32
     ensures answer { result ≡ negsuc 2 }
     ensures over { frames.new ≡ record frames.old { ended = 1 } }
     ensures words { out.new ≡ shown_invalid begin (type_word invalid.now.ty) (reason_in invalid.now.reason.now) }
@@ -167,8 +162,8 @@ fn refuse(
 fn give_next<const COPY: usize>(
     iter: &mut Iter<'_>,
     basic: bool,
-    frames: &mut FramesWords,
-    out: &mut FrameWords,
+    frames: &mut CFrameIter,
+    out: &mut CFrame,
 ) -> i32
     requires state { state_of frames.old iter.old.payload ≡ iter.old }
     requires within { frames.old.offset ≤ length iter.old.payload }
@@ -194,10 +189,10 @@ fn give_next<const COPY: usize>(
 // The next frame where the words stand, by a copy for PADDING and one for others.
 #[inline(always)]
 fn next_on<const PADDING: usize, const OTHER: usize>(
-    frames: &mut FramesWords,
+    frames: &mut CFrameIter,
     payload: &[u8],
     basic: bool,
-    out: &mut FrameWords,
+    out: &mut CFrame,
 ) -> i32
     ensures { AnswersNext basic frames.old payload.now out.old result frames.new out.new }
 {
@@ -220,9 +215,9 @@ fn next_on<const PADDING: usize, const OTHER: usize>(
 /// outside the payload, and nothing changes.
 #[unsafe(no_mangle)]
 pub extern "C" fn quic_wire_frames_next_(
-    frames: &mut FramesWords,
+    frames: &mut CFrameIter,
     payload: &[u8],
-    out: &mut FrameWords,
+    out: &mut CFrame,
 ) -> i32
     ensures answers { AnswersNext false frames.old payload.now out.old result frames.new out.new }
 {
@@ -232,9 +227,9 @@ pub extern "C" fn quic_wire_frames_next_(
 /// The same, where a frame of the extension for ACK frequency is one of an unknown type: -3 is reported of it.
 #[unsafe(no_mangle)]
 pub extern "C" fn quic_wire_frames_next_basic_(
-    frames: &mut FramesWords,
+    frames: &mut CFrameIter,
     payload: &[u8],
-    out: &mut FrameWords,
+    out: &mut CFrame,
 ) -> i32
     ensures answers { AnswersNext true frames.old payload.now out.old result frames.new out.new }
 {

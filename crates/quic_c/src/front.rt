@@ -10,7 +10,7 @@ ghost use Rattle.quic_c.specs.Front.{AnswersRead, FillsGaps, ShowsAck, ShowsFron
 
 use crate::frames::{is_unknown, show_invalid, type_read, unknown};
 use crate::show::{parts_of, show};
-use crate::words::{FrameWords, GapWords};
+use crate::words::{CFrame, CGap};
 use quic_base::coding::are_bytes;
 use quic_base::varint::split_var;
 use quic_frame_fields::frame::fault::Fault;
@@ -36,7 +36,7 @@ fn number(bytes: &[u8]) -> Result<(u64, &[u8]), Fault>
 
 // Fills entries with the ranges that stand below another one, as they stand: how many, and whether none is left.
 #[inline(always)]
-fn fill_gaps(blocks: &[u8], gaps: &mut [GapWords]) -> (usize, bool)
+fn fill_gaps(blocks: &[u8], gaps: &mut [CGap]) -> (usize, bool)
     requires { (least : ℕ) × (ranges : List (ℕ × ℕ)) × AreBelow least ranges blocks.now }
     ensures fills { (least : ℕ) (ranges : List (ℕ × ℕ)) → AreBelow least ranges blocks.now
         → FillsGaps least ranges gaps.old gaps.new result.0 }
@@ -52,7 +52,7 @@ fn fill_gaps(blocks: &[u8], gaps: &mut [GapWords]) -> (usize, bool)
         let Ok((len, rest)) = number(behind) else {
             unreachable!()
         };
-        gaps[count] = GapWords { gap, len };
+        gaps[count] = CGap { gap, len };
         left = rest;
         count += 1;
     }
@@ -70,7 +70,7 @@ fn more_flag(is_whole: bool) -> u32
 
 // The words of an ACK that stands at the front, and as many of the ranges below its first as there are entries.
 #[inline(always)]
-fn show_ack(words: FrameWords, ack: &Ack<'_>, gaps: &mut [GapWords]) -> FrameWords
+fn show_ack(words: CFrame, ack: &Ack<'_>, gaps: &mut [CGap]) -> CFrame
     requires { words ≡ shown 0 words.end words.ty (frames.Ack ack.now) }
     ensures { ShowsAck words.end words.ty ack.now gaps.old result gaps.new }
 {
@@ -81,7 +81,7 @@ fn show_ack(words: FrameWords, ack: &Ack<'_>, gaps: &mut [GapWords]) -> FrameWor
     };
     let (count, is_whole) = fill_gaps(below, gaps);
     let numbers = words.numbers;
-    FrameWords {
+    CFrame {
         kind: words.kind,
         ty: words.ty,
         flags: words.flags + more_flag(is_whole),
@@ -95,7 +95,7 @@ fn show_ack(words: FrameWords, ack: &Ack<'_>, gaps: &mut [GapWords]) -> FrameWor
 
 // The words of a frame of this type that stands at the front.
 #[inline(always)]
-fn show_front(end: usize, ty: u16, frame: &Frame<'_>, gaps: &mut [GapWords]) -> FrameWords
+fn show_front(end: usize, ty: u16, frame: &Frame<'_>, gaps: &mut [CGap]) -> CFrame
     ensures { ShowsFront end ty frame.now gaps.old result gaps.new }
 {
     let words = show(0, end, ty, frame);
@@ -126,8 +126,8 @@ fn read_front<const COPY: usize>(
     payload: &[u8],
     strict: bool,
     basic: bool,
-    out: &mut FrameWords,
-    gaps: &mut [GapWords],
+    out: &mut CFrame,
+    gaps: &mut [CGap],
 ) -> i64
     ensures { AnswersRead strict basic payload.now out.old gaps.old result out.new gaps.new }
 {
@@ -158,13 +158,7 @@ fn read_front<const COPY: usize>(
 
 // An ACK, or what else begins as one, by a call.
 #[inline(never)]
-fn read_ack(
-    payload: &[u8],
-    strict: bool,
-    basic: bool,
-    out: &mut FrameWords,
-    gaps: &mut [GapWords],
-) -> i64
+fn read_ack(payload: &[u8], strict: bool, basic: bool, out: &mut CFrame, gaps: &mut [CGap]) -> i64
     ensures { AnswersRead strict basic payload.now out.old gaps.old result out.new gaps.new }
 {
     if !payload.is_empty() && payload[0] & 0xfe == 0x02 {
@@ -179,8 +173,8 @@ fn read_by<const STREAM: usize>(
     payload: &[u8],
     strict: bool,
     basic: bool,
-    out: &mut FrameWords,
-    gaps: &mut [GapWords],
+    out: &mut CFrame,
+    gaps: &mut [CGap],
 ) -> i64
     ensures { AnswersRead strict basic payload.now out.old gaps.old result out.new gaps.new }
 {
@@ -204,8 +198,8 @@ fn read_by<const STREAM: usize>(
 pub extern "C" fn quic_wire_frame_read_(
     payload: &[u8],
     strict: u32,
-    out: &mut FrameWords,
-    gaps: &mut [GapWords],
+    out: &mut CFrame,
+    gaps: &mut [CGap],
 ) -> i64
     ensures answers { AnswersRead (is_strict strict) false payload.now out.old gaps.old result out.new gaps.new }
 {
@@ -217,8 +211,8 @@ pub extern "C" fn quic_wire_frame_read_(
 pub extern "C" fn quic_wire_frame_read_basic_(
     payload: &[u8],
     strict: u32,
-    out: &mut FrameWords,
-    gaps: &mut [GapWords],
+    out: &mut CFrame,
+    gaps: &mut [CGap],
 ) -> i64
     ensures answers { AnswersRead (is_strict strict) true payload.now out.old gaps.old result out.new gaps.new }
 {

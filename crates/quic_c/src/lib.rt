@@ -14,4 +14,4 @@ mod show;
 mod words;
 mod write;
 
-pub use words::{FrameWords, FramesWords, GapWords, RangeWords, RangesWords};
+pub use words::{CFrame, CFrameIter, CGap, CRange, CRangeIter};

@@ -2,7 +2,7 @@
 ghost use Rattle.std.specs.Prelude.{◌≡◌, ◌-◌, length};
 ghost use Rattle.quic_c.specs.Shown.{frame_kind_of, flags_of, frame_numbers_of, data_of, tail_of, shown};
 
-use crate::words::FrameWords;
+use crate::words::CFrame;
 use quic_base::ids::Dir;
 use quic_frames::frame::{Close, Frame};
 
@@ -139,11 +139,11 @@ pub(crate) fn parts_of(frame: &Frame<'_>) -> Parts
 
 // The words that begin and end there, of this type, with what is taken from a frame.
 #[inline(always)]
-pub(crate) fn show_parts(begin: usize, end: usize, ty: u16, of_frame: Parts) -> FrameWords
+pub(crate) fn show_parts(begin: usize, end: usize, ty: u16, of_frame: Parts) -> CFrame
     ensures { result ≡ record { kind = of_frame.kind; ty = ty; flags = of_frame.flags; begin = begin; end = end; data_offset = end - of_frame.tail - of_frame.data_len; data_len = of_frame.data_len; numbers = of_frame.numbers } }
 {
     let numbers = of_frame.numbers;
-    FrameWords {
+    CFrame {
         kind: of_frame.kind,
         ty,
         flags: of_frame.flags,
@@ -159,7 +159,7 @@ pub(crate) fn show_parts(begin: usize, end: usize, ty: u16, of_frame: Parts) -> 
 
 /// The words of a frame of this type that stands in a payload from `begin` to `end`.
 #[inline(always)]
-pub(crate) fn show(begin: usize, end: usize, ty: u16, frame: &Frame<'_>) -> FrameWords
+pub(crate) fn show(begin: usize, end: usize, ty: u16, frame: &Frame<'_>) -> CFrame
     ensures { result ≡ shown begin end ty frame.now }
 {
     show_parts(begin, end, ty, parts_of(frame))

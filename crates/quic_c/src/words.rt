@@ -3,7 +3,7 @@
 /// How far an iterator over a payload has come. The caller keeps it and gives the payload with each call.
 #[repr(C)]
 #[derive(Clone, Copy)]
-pub struct FramesWords {
+pub struct CFrameIter {
     /// The end of the last whole frame.
     pub offset: usize,
     /// The type of the last frame as it stands there; from 2^62 on: none.
@@ -17,7 +17,7 @@ pub struct FramesWords {
 /// A frame.
 #[repr(C)]
 #[derive(Clone, Copy)]
-pub struct FrameWords {
+pub struct CFrame {
     /// Its type, the same one for every STREAM, ACK and DATAGRAM.
     pub kind: u16,
     /// Its type as it stands there; 0 of what is no frame. Writing doesn't look at it.
@@ -39,7 +39,7 @@ pub struct FrameWords {
 /// Numbers from `start` to below `end`.
 #[repr(C)]
 #[derive(Clone, Copy)]
-pub struct RangeWords {
+pub struct CRange {
     /// The least number.
     pub start: u64,
     /// The number above the greatest.
@@ -49,7 +49,7 @@ pub struct RangeWords {
 /// A range of an ACK below another one, as it stands there (RFC 9000, section 19.3.1).
 #[repr(C)]
 #[derive(Clone, Copy)]
-pub struct GapWords {
+pub struct CGap {
     /// How many numbers stand between the two, less one.
     pub gap: u64,
     /// How many numbers it has, less one.
@@ -59,7 +59,7 @@ pub struct GapWords {
 /// How far the ranges of an ACK have been read.
 #[repr(C)]
 #[derive(Clone, Copy)]
-pub struct RangesWords {
+pub struct CRangeIter {
     /// Where the blocks that are left begin in the payload.
     pub begin: usize,
     /// Where they end.
@@ -69,12 +69,12 @@ pub struct RangesWords {
 }
 
 // The sizes that every declaration of these structs in C must have.
-const _: () = prove!(std::mem::size_of::<FramesWords>() == 24);
+const _: () = prove!(std::mem::size_of::<CFrameIter>() == 24);
 
-const _: () = prove!(std::mem::size_of::<FrameWords>() == 80);
+const _: () = prove!(std::mem::size_of::<CFrame>() == 80);
 
-const _: () = prove!(std::mem::size_of::<RangeWords>() == 16);
+const _: () = prove!(std::mem::size_of::<CRange>() == 16);
 
-const _: () = prove!(std::mem::size_of::<GapWords>() == 16);
+const _: () = prove!(std::mem::size_of::<CGap>() == 16);
 
-const _: () = prove!(std::mem::size_of::<RangesWords>() == 24);
+const _: () = prove!(std::mem::size_of::<CRangeIter>() == 24);

@@ -7,18 +7,17 @@ ghost use Rattle.quic_frames.specs.Meaning.{meaning_of};
 ghost use Rattle.quic_frame_fields.specs.declared.frame.close.Close.TheVariants as closes;
 ghost use Rattle.quic_c.specs.Shapes.{IsSound, FillsShape, HasPieces, IsShown, LacksData, LacksPieces, shape_of, token_room};
 ghost use Rattle.quic_c.specs.Written.{CanWriteFrame, DescribesNoFrame, WroteFrame, FrameNeedsMore, IsAnswer, flag_of};
-ghost use Rattle.quic_c.specs.declared.words.FrameWords.{FrameWords};
+ghost use Rattle.quic_c.specs.declared.words.CFrame.{CFrame};
 
 use crate::show::parts_of;
-use crate::words::FrameWords;
+use crate::words::CFrame;
 use quic_base::ids::{ConnectionId, Dir, ResetToken, StreamId};
 use quic_base::varint::VarInt;
-use quic_errors::frame_type::FrameType;
-use quic_errors::transport_error::Code;
 use quic_frames::frame::{
-    AckFrequency, ApplicationClose, Close, ConnectionClose, Crypto, Datagram, Frame,
+    AckFrequency, ApplicationClose, Close, ConnectionClose, Crypto, Datagram, Frame, FrameType,
     NewConnectionId, NewToken, ResetStream, StopSending, Stream,
 };
+use quic_frames::transport_error::Code;
 
 fn are_varints(numbers: [u64; 5]) -> bool
     ensures { IsTrue result ↔ AreNumeric numbers }
@@ -244,7 +243,7 @@ fn token_room(kind: u16) -> usize
 
 // The data that the words say, and the token of a reset behind them, which a NEW_CONNECTION_ID alone has. Where there
 // are neither, nothing of `data` is looked at.
-fn pieces<'a>(words: &FrameWords, data: &'a [u8]) -> Option<(&'a [u8], &'a [u8])>
+fn pieces<'a>(words: &CFrame, data: &'a [u8]) -> Option<(&'a [u8], &'a [u8])>
     ensures some { IfSome result (λ p. HasPieces words.now data.now p.0.now p.1.now) }
     ensures none { IsNone result → LacksPieces words.now data.now }
 {
@@ -264,7 +263,7 @@ fn pieces<'a>(words: &FrameWords, data: &'a [u8]) -> Option<(&'a [u8], &'a [u8])
 }
 
 // Whether the frame has the flags, the numbers and the length of the words.
-fn is_shown(frame: &Frame<'_>, words: &FrameWords) -> bool
+fn is_shown(frame: &Frame<'_>, words: &CFrame) -> bool
     ensures { IsTrue result ↔ IsShown words.now frame.now }
 {
     let parts = parts_of(frame);
@@ -274,7 +273,7 @@ fn is_shown(frame: &Frame<'_>, words: &FrameWords) -> bool
 }
 
 // The frame that the words say, where it can be written.
-fn said<'a>(words: &FrameWords, data: &'a [u8], last: bool) -> Option<Frame<'a>>
+fn said<'a>(words: &CFrame, data: &'a [u8], last: bool) -> Option<Frame<'a>>
     ensures some { IfSome result (CanWriteFrame words.now data.now last) }
     ensures none { IsNone result → DescribesNoFrame words.now data.now last }
 {
@@ -305,7 +304,7 @@ fn said<'a>(words: &FrameWords, data: &'a [u8], last: bool) -> Option<Frame<'a>>
 /// `written` not with -1.
 #[unsafe(no_mangle)]
 pub extern "C" fn quic_wire_frame_write_(
-    frame: &FrameWords,
+    frame: &CFrame,
     data: &[u8],
     last: u32,
     out: &mut [u8],
@@ -338,6 +337,6 @@ pub extern "C" fn quic_wire_frame_write_(
 /// Words say one frame at most: each that the same words and bytes say has the same meaning, and so the same encoding.
 /// So an answer that is right of some words and bytes is the only one.
 pub fn one_frame()
-    ensures { (words : FrameWords) (bytes : List ℕ) (last : Bool) (one other : Frame) → CanWriteFrame words bytes last one
+    ensures { (words : CFrame) (bytes : List ℕ) (last : Bool) (one other : Frame) → CanWriteFrame words bytes last one
         → CanWriteFrame words bytes last other → meaning_of one ≡ meaning_of other }
 {}

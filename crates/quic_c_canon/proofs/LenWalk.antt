@@ -3,7 +3,7 @@ use Rattle.std.proofs.Common.{◌≡◌, ◌≢◌, ℕ, zero, suc, ◌+◌, ◌
 use Rattle.std.proofs.lemmas.List.{length-append}
 use Rattle.quic_frames.specs.declared.frame.Frame.{Frame}
 use Rattle.quic_frames.specs.declared.frame.Frame.TheVariants as frames
-use Rattle.quic_frame_fields.specs.Payload.{Found, AreFrames, IsEither}
+use Rattle.quic_frame_fields.specs.Payload.{TypedFrame, AreFrames, IsEither}
 use Rattle.quic_frame_fields.specs.Reading.{Invalid, invalid, Broken}
 use Rattle.quic_frame_fields.specs.Shortest.{shortest_frame}
 use Rattle.quic_frames.specs.Least.{frame_in, shortest_frames}
@@ -16,8 +16,8 @@ use Rattle.quic_c_canon.specs.Answers.{IsReportedOf, HasLength}
 use Rattle.quic_c_canon.proofs.PaddingBytes.{EachPads, padding_is}
 
 -- So many bytes are those of the frames so far, and the others are still to come.
-pub record Sums (payload : List ℕ) (total start : ℕ) (state : IterState) (found : List Found) : Type 0 where
-  pub rest : List Found
+pub record Sums (payload : List ℕ) (total start : ℕ) (state : IterState) (found : List TypedFrame) : Type 0 where
+  pub rest : List TypedFrame
   pub left_are : map unplaced (left state) ≡ map given rest
   pub encoded : AreFrames false rest (drop start payload)
   pub len : length (shortest_frames (map frame_in found)) ≡ total + length (shortest_frames (map frame_in rest))
@@ -25,7 +25,7 @@ pub record Sums (payload : List ℕ) (total start : ℕ) (state : IterState) (fo
 pub record LenWalk (payload : List ℕ) (total start : ℕ) (state : IterState) : Type 0 where
   pub walks : Walks payload start state
   pub low : total ≤ start
-  pub sums : (found : List Found) → AreFrames false found payload → Sums payload total start state found
+  pub sums : (found : List TypedFrame) → AreFrames false found payload → Sums payload total start state found
 
 pub len_begins : (payload : List ℕ) (state : IterState) → state ≡ first_of false payload → IsEither false None payload → GivesFrames false payload state → GivesBroken false payload state → LenWalk payload 0 0 state
 len_begins payload state first e whole broken = record {
@@ -82,19 +82,19 @@ len_as payload total sum start later state there w sum-is is at =
     let here : LenWalk payload sum start there = subst (λ (n : ℕ). LenWalk payload n start there) (sym sum-is) (subst (LenWalk payload total start) (sym is) w) in
     subst (λ (n : ℕ). LenWalk payload sum n there) (sym here.walks.start_is ∙ sym at) here
 
-none_given : (rest : List Found) → [] ≡ map given rest → rest ≡ []
+none_given : (rest : List TypedFrame) → [] ≡ map given rest → rest ≡ []
 none_given [] e = refl
 none_given (f ∷ rest) e = absurd cc
 
-not_empty : (found : List Found) (i : Invalid) → [] ≡ map given found ++ Err i ∷ [] → ⊥
+not_empty : (found : List TypedFrame) (i : Invalid) → [] ≡ map given found ++ Err i ∷ [] → ⊥
 not_empty [] i e = cc
 not_empty (f ∷ found) i e = cc
 
-no_error : (rest : List Found) (i : Invalid) → Err i ∷ [] ≡ map given rest → ⊥
+no_error : (rest : List TypedFrame) (i : Invalid) → Err i ∷ [] ≡ map given rest → ⊥
 no_error [] i e = cc
 no_error (f ∷ rest) i e = cc
 
-error_is : (rest : List Found) (i j : Invalid) → Err i ∷ [] ≡ map given rest ++ Err j ∷ [] → i ≡ j
+error_is : (rest : List TypedFrame) (i j : Invalid) → Err i ∷ [] ≡ map given rest ++ Err j ∷ [] → i ≡ j
 error_is [] i j e = cc
 error_is (f ∷ rest) i j e = absurd cc
 
@@ -107,7 +107,7 @@ len_done payload total start state some (inl a) w none =
       some = some;
       found = a.0;
       encoded = a.1;
-      len = omega (arith, s.len, ap (λ (l : List Found). length (shortest_frames (map frame_in l))) rest);
+      len = omega (arith, s.len, ap (λ (l : List TypedFrame). length (shortest_frames (map frame_in l))) rest);
     }
 len_done payload total start state some (inr b) w none =
     let r = w.walks.broken b.0 b.1 b.2 b.3 in absurd (not_empty r.0 (invalid b.1 b.2) (sym (ap (map unplaced) none) ∙ r.1))

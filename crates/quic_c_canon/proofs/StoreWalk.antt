@@ -5,7 +5,7 @@ use Rattle.std.proofs.lemmas.List.{append-nil, length-append, length-take, lengt
 use Rattle.quic_errors.specs.declared.invalid_frame.InvalidFrame.{InvalidFrame}
 use Rattle.quic_frames.specs.declared.frame.Frame.{Frame}
 use Rattle.quic_frames.specs.declared.frame.Frame.TheVariants as frames
-use Rattle.quic_frame_fields.specs.Payload.{Found, AreFrames, IsEither}
+use Rattle.quic_frame_fields.specs.Payload.{TypedFrame, AreFrames, IsEither}
 use Rattle.quic_frame_fields.specs.Reading.{Invalid}
 use Rattle.quic_frame_fields.specs.Shortest.{shortest_frame}
 use Rattle.quic_frames.specs.Least.{AreOrExceed, frame_in, shortest_frames}
@@ -18,8 +18,8 @@ use Rattle.quic_canon.proofs.Steps.{BeginsNone, Walks, walk_on, next_frame, fram
 use Rattle.quic_c_canon.proofs.PaddingBytes.{EachPads, padding_is}
 
 -- The bytes of the frames so far are at the front, and the bytes after them didn't change.
-pub record Stores (payload old new : List ℕ) (at start : ℕ) (state : IterState) (found : List Found) : Type 0 where
-  pub rest : List Found
+pub record Stores (payload old new : List ℕ) (at start : ℕ) (state : IterState) (found : List TypedFrame) : Type 0 where
+  pub rest : List TypedFrame
   pub left_are : map unplaced (left state) ≡ map given rest
   pub encoded : AreFrames false rest (drop start payload)
   pub bytes : List ℕ
@@ -30,7 +30,7 @@ pub record Stores (payload old new : List ℕ) (at start : ℕ) (state : IterSta
 pub record StoreWalk (payload old new : List ℕ) (at : ℕ) (state : IterState) : Type 0 where
   pub walks : Walks payload state.offset state
   pub same_len : length new ≡ length old
-  pub stores : (found : List Found) → AreFrames false found payload → Stores payload old new at state.offset state found
+  pub stores : (found : List TypedFrame) → AreFrames false found payload → Stores payload old new at state.offset state found
 
 pub store_begins : (payload old : List ℕ) (state : IterState) → state ≡ first_of false payload → IsEither false None payload → GivesFrames false payload state → GivesBroken false payload state → StoreWalk payload old old 0 state
 store_begins payload old state first e whole broken =
@@ -49,19 +49,19 @@ store_begins payload old state first e whole broken =
       };
     }
 
-no_error : (rest : List Found) (i : Invalid) → Err i ∷ [] ≡ map given rest → ⊥
+no_error : (rest : List TypedFrame) (i : Invalid) → Err i ∷ [] ≡ map given rest → ⊥
 no_error [] i e = cc
 no_error (f ∷ rest) i e = cc
 
-pub never_fails : (payload old new : List ℕ) (at : ℕ) (state next : IterState) (item : Result Frame InvalidFrame) (i : InvalidFrame) → ((found : List Found) × AreFrames false found payload) → StoreWalk payload old new at state
+pub never_fails : (payload old new : List ℕ) (at : ℕ) (state next : IterState) (item : Result Frame InvalidFrame) (i : InvalidFrame) → ((found : List TypedFrame) × AreFrames false found payload) → StoreWalk payload old new at state
     → item ≡ Err i → Advances state (Some item) next → ⊥
 never_fails payload old new at state next item i s w e a =
     let l = w.stores s.0 s.1 in
     no_error l.rest (invalid_of i) (sym (ap (map unplaced) (fails_err state next item i e a)) ∙ l.left_are)
 
 -- there is room for the frame that was found
-pub store_room : (payload old new : List ℕ) (at stop : ℕ) (state next : IterState) (frame : Frame) → BeginsNone → ((found : List Found) × AreFrames false found payload)
-    → ((found : List Found) → AreFrames false found payload → length (shortest_frames (map frame_in found)) ≤ length old) → StoreWalk payload old new at state → Finds state frame next → stop ≡ next.offset
+pub store_room : (payload old new : List ℕ) (at stop : ℕ) (state next : IterState) (frame : Frame) → BeginsNone → ((found : List TypedFrame) × AreFrames false found payload)
+    → ((found : List TypedFrame) → AreFrames false found payload → length (shortest_frames (map frame_in found)) ≤ length old) → StoreWalk payload old new at state → Finds state frame next → stop ≡ next.offset
     → at + length (shortest_frame (eqb stop (length payload)) (meaning_of frame)) ≤ length new
 store_room payload old new at stop state next frame begins s room w f there =
     let size = length payload in
@@ -142,10 +142,10 @@ padded_on bytes at k le =
     (subst (λ (n : ℕ). drop n (padded bytes at k) ≡ drop n bytes) (omega arith) (further (at + k) 1 (padded bytes at k) bytes back)) (same_on k 0)
 
 abbrev HasRoom : List ℕ → List ℕ → Type 0
-HasRoom payload old = (found : List Found) → AreFrames false found payload → length (shortest_frames (map frame_in found)) ≤ length old
+HasRoom payload old = (found : List TypedFrame) → AreFrames false found payload → length (shortest_frames (map frame_in found)) ≤ length old
 
 -- each frame of PADDING is written as a byte of 0
-all_stored : (payload old new : List ℕ) (at count k : ℕ) (state : IterState) → BeginsNone → ((found : List Found) × AreFrames false found payload) → HasRoom payload old → StoreWalk payload old new at state → EachPads count state → k ≤ count
+all_stored : (payload old new : List ℕ) (at count k : ℕ) (state : IterState) → BeginsNone → ((found : List TypedFrame) × AreFrames false found payload) → HasRoom payload old → StoreWalk payload old new at state → EachPads count state → k ≤ count
     → (at + k ≤ length new) × StoreWalk payload old (padded new at k) (at + k) (behind k state)
 all_stored payload old new at count zero state begins s room w each le =
     let l = w.stores s.0 s.1 in
@@ -163,11 +163,11 @@ all_stored payload old new at count (suc k) state begins s room w each le =
     let size_kept : length (padded new at (suc k)) ≡ length (padded new at k) = omega (arith, same, length-padded new at (suc k) on) in
     (on, store_on payload old (padded new at k) (padded new at (suc k)) (at + k) (at + suc k) next.offset (behind k state) next frames.Padding begins so_far.1 f refl (omega (arith, ap length one)) wrote size_kept)
 
-pub pad_room : (payload old new : List ℕ) (at count : ℕ) (state next : IterState) → BeginsNone → ((found : List Found) × AreFrames false found payload) → HasRoom payload old → StoreWalk payload old new at state → PassesPadding state count next
+pub pad_room : (payload old new : List ℕ) (at count : ℕ) (state next : IterState) → BeginsNone → ((found : List TypedFrame) × AreFrames false found payload) → HasRoom payload old → StoreWalk payload old new at state → PassesPadding state count next
     → at + count ≤ length new
 pad_room payload old new at count state next begins s room w p = (all_stored payload old new at count count state begins s room w p.each (omega arith)).0
 
-pub store_pads : (payload old new out : List ℕ) (at end count : ℕ) (state next : IterState) → BeginsNone → ((found : List Found) × AreFrames false found payload) → HasRoom payload old → StoreWalk payload old new at state → PassesPadding state count next
+pub store_pads : (payload old new out : List ℕ) (at end count : ℕ) (state next : IterState) → BeginsNone → ((found : List TypedFrame) × AreFrames false found payload) → HasRoom payload old → StoreWalk payload old new at state → PassesPadding state count next
     → end ≡ at + count → out ≡ take at new ++ (replicate count 0 ++ drop end new) → StoreWalk payload old out end next
 store_pads payload old new out at end count state next begins s room w p ends wrote =
     let stored_all = (all_stored payload old new at count count state begins s room w p.each (omega arith)).1 in
@@ -175,21 +175,21 @@ store_pads payload old new out at end count state next begins s room w p ends wr
     let is : out ≡ padded new at count = wrote ∙ ap (λ (n : ℕ). take at new ++ (replicate count 0 ++ drop n new)) ends in
     subst (λ (n : ℕ). StoreWalk payload old out n next) (sym ends) (subst (λ (x : List ℕ). StoreWalk payload old x (at + count) next) (sym is) there)
 
-none_given : (rest : List Found) → [] ≡ map given rest → rest ≡ []
+none_given : (rest : List TypedFrame) → [] ≡ map given rest → rest ≡ []
 none_given [] e = refl
 none_given (f ∷ rest) e = absurd cc
 
 -- all is written
-pub store_done : (payload old new : List ℕ) (at : ℕ) (state : IterState) → StoreWalk payload old new at state → left state ≡ [] → (found : List Found) → AreFrames false found payload
+pub store_done : (payload old new : List ℕ) (at : ℕ) (state : IterState) → StoreWalk payload old new at state → left state ≡ [] → (found : List TypedFrame) → AreFrames false found payload
     → new ≡ shortest_frames (map frame_in found) ++ drop (length (shortest_frames (map frame_in found))) old
 store_done payload old new at state w none found s =
     let l = w.stores found s in
     let rest = none_given l.rest (sym (ap (map unplaced) none) ∙ l.left_are) in
-    let whole : shortest_frames (map frame_in found) ≡ l.bytes = l.parts ∙ ap (λ (x : List Found). l.bytes ++ shortest_frames (map frame_in x)) rest ∙ append-nil l.bytes in
+    let whole : shortest_frames (map frame_in found) ≡ l.bytes = l.parts ∙ ap (λ (x : List TypedFrame). l.bytes ++ shortest_frames (map frame_in x)) rest ∙ append-nil l.bytes in
     l.front ∙ ap (λ (n : ℕ). l.bytes ++ drop n old) l.at_is ∙ ap (λ (x : List ℕ). x ++ drop (length x) old) (sym whole)
 
 -- a payload of the length of its shortest form is that
-pub itself : (payload : List ℕ) (n : ℕ) (found : List Found) → Shortest → AreFrames false found payload → n ≡ length (shortest_frames (map frame_in found)) → n ≡ length payload → payload ≡ shortest_frames (map frame_in found)
+pub itself : (payload : List ℕ) (n : ℕ) (found : List TypedFrame) → Shortest → AreFrames false found payload → n ≡ length (shortest_frames (map frame_in found)) → n ≡ length payload → payload ≡ shortest_frames (map frame_in found)
 itself payload n found all s len same = is (all found payload s)
   where
     is : AreOrExceed payload (shortest_frames (map frame_in found)) → payload ≡ shortest_frames (map frame_in found)

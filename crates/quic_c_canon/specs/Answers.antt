@@ -2,11 +2,11 @@
 use Rattle.std.specs.Prelude.{◌≡◌, ◌≢◌, ℕ, ◌-◌, ◌<◌, ◌^◌, List, [], ◌++◌, length, map, drop, Option, None, Some, false, codes, nat_eq, if◌then◌else◌}
 use Rattle.std.specs.Cmp.Lexicographic.{pointwise}
 use Rattle.quic_frame_fields.specs.declared.frame.fault.Fault.{Fault}
-use Rattle.quic_frame_fields.specs.Payload.{Found, AreFrames, IsBroken}
+use Rattle.quic_frame_fields.specs.Payload.{TypedFrame, AreFrames, IsBroken}
 use Rattle.quic_frame_fields.specs.Reading.{Invalid, invalid}
 use Rattle.quic_frames.specs.Least.{frame_in, shortest_frames}
 use Rattle.quic_canon.specs.Least.{IsLeast}
-use Rattle.quic_c_canon.specs.declared.words.CanonicalWords.{CanonicalWords}
+use Rattle.quic_c_canon.specs.declared.words.CCanonical.{CCanonical}
 
 -- the word of a type
 abbrev pub type_word : Option ℕ → ℕ
@@ -20,14 +20,14 @@ reason_word reason = if pointwise nat_eq reason (codes "unexpected end") then 1
 
 -- The shortest payload of the meaning was written at the front, the bytes after it didn't change, and its length was
 -- reported.
-pub record GivesLeastLen (payload before after : List ℕ) (old new : CanonicalWords) : Type 0 where
+pub record GivesLeastLen (payload before after : List ℕ) (old new : CCanonical) : Type 0 where
   pub least : List ℕ
   pub is_least : IsLeast least payload
   pub front : after ≡ least ++ drop (length least) before
   pub words : new ≡ record old { len = length least }
 
 -- There is less room than the least payload of the meaning needs, and how much that is was reported.
-pub record LeastNeedsMore (payload before : List ℕ) (old new : CanonicalWords) : Type 0 where
+pub record LeastNeedsMore (payload before : List ℕ) (old new : CCanonical) : Type 0 where
   pub least : List ℕ
   pub is_least : IsLeast least payload
   pub full : length before < length least
@@ -35,14 +35,14 @@ pub record LeastNeedsMore (payload before : List ℕ) (old new : CanonicalWords)
 
 -- Frames and then an invalid one: the type and the reason that reading gives for it.
 pub record IsReportedOf (payload : List ℕ) (reported : Invalid) : Type 0 where
-  pub found : List Found
+  pub found : List TypedFrame
   pub type : Option ℕ
   pub reason : Fault
   pub broken : IsBroken false None found payload type reason
   pub reported_is : reported ≡ invalid type reason
 
 -- Something in the payload is no frame, and that is reported.
-pub record TellsInvalidPayload (payload : List ℕ) (old new : CanonicalWords) : Type 0 where
+pub record TellsInvalidPayload (payload : List ℕ) (old new : CCanonical) : Type 0 where
   pub reported : Invalid
   pub of_it : IsReportedOf payload reported
   pub words : new ≡ record old { last_type = type_word reported.type; reason = reason_word reported.reason }
@@ -50,6 +50,6 @@ pub record TellsInvalidPayload (payload : List ℕ) (old new : CanonicalWords) :
 -- The payload has frames and nothing else, which take so many bytes in their shortest encodings.
 pub record HasLength (payload : List ℕ) (n : ℕ) : Type 0 where
   pub some : payload ≢ []
-  pub found : List Found
+  pub found : List TypedFrame
   pub encoded : AreFrames false found payload
   pub len : n ≡ length (shortest_frames (map frame_in found))

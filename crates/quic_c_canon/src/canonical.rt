@@ -1,6 +1,6 @@
 //! The shortest payload of each meaning, written into the caller's bytes.
 ghost use Rattle.std.specs.Prelude.{◌≡◌, ◌≢◌, ◌+◌, ◌<◌, ◌≤◌, ◌⊎◌, ◌↔◌, ◌++◌, [], List, pos, negsuc, length, map, take, drop, replicate, IfOk, IfErr, IsErr, None, false};
-ghost use Rattle.quic_frame_fields.specs.Payload.{Found, AreFrames, IsEither};
+ghost use Rattle.quic_frame_fields.specs.Payload.{TypedFrame, AreFrames, IsEither};
 ghost use Rattle.quic_frame_fields.specs.Shortest.{shortest_frame};
 ghost use Rattle.quic_frames.specs.InRange.{CanStand};
 ghost use Rattle.quic_frames.specs.Least.{frame_in, shortest_frames};
@@ -8,7 +8,7 @@ ghost use Rattle.quic_frames.specs.Meaning.{meaning_of};
 ghost use Rattle.quic_frames.specs.Walk.{invalid_of, first_of, GivesFrames, GivesBroken};
 ghost use Rattle.quic_c_canon.specs.Answers.{type_word, reason_word, GivesLeastLen, LeastNeedsMore, IsReportedOf, TellsInvalidPayload, HasLength};
 
-use crate::words::CanonicalWords;
+use crate::words::CCanonical;
 use quic_canon::laws::one_least;
 use quic_frames::frame::{Frame, FrameType, InvalidFrame, Iter};
 use quic_frames::laws::{least_encoding, one_reading, read_back, read_from_a_place};
@@ -125,10 +125,10 @@ fn pad(count: usize, dest: &mut [u8], at: usize) -> usize
 // Stores the frames of a payload in their shortest encodings, for which there is room, at the front.
 fn store(payload: &[u8], dest: &mut [u8])
     requires some { payload.now ≢ [] }
-    requires whole { (found : List Found) × AreFrames false found payload.now }
-    requires room { (found : List Found) → AreFrames false found payload.now
+    requires whole { (found : List TypedFrame) × AreFrames false found payload.now }
+    requires room { (found : List TypedFrame) → AreFrames false found payload.now
         → length (shortest_frames (map frame_in found)) ≤ length dest.old }
-    ensures { (found : List Found) → AreFrames false found payload.now
+    ensures { (found : List TypedFrame) → AreFrames false found payload.now
         → dest.new ≡ shortest_frames (map frame_in found)
         ++ drop (length (shortest_frames (map frame_in found))) dest.old }
 {
@@ -155,7 +155,7 @@ fn store(payload: &[u8], dest: &mut [u8])
 fn write(payload: &[u8], len: usize, dest: &mut [u8])
     requires known { HasLength payload.now len }
     requires room { len ≤ length dest.old }
-    ensures { (found : List Found) → AreFrames false found payload.now
+    ensures { (found : List TypedFrame) → AreFrames false found payload.now
         → dest.new ≡ shortest_frames (map frame_in found)
         ++ drop (length (shortest_frames (map frame_in found))) dest.old }
 {
@@ -174,11 +174,7 @@ fn write(payload: &[u8], len: usize, dest: &mut [u8])
 /// exactly if the payload is empty; -3 exactly if it has an invalid frame, with the last type that was read and the
 /// reason. `dest` changes with 0 alone, and `out` only in the words that are named here. It allocates no memory.
 #[unsafe(no_mangle)]
-pub extern "C" fn quic_wire_canonical_(
-    payload: &[u8],
-    dest: &mut [u8],
-    out: &mut CanonicalWords,
-) -> i32
+pub extern "C" fn quic_wire_canonical_(payload: &[u8], dest: &mut [u8], out: &mut CCanonical) -> i32
     ensures answers { (result ≡ pos 0) ⊎ (result ≡ negsuc 3) ⊎ (result ≡ negsuc 1) ⊎ (result ≡ negsuc 2) }
     ensures least { result ≡ pos 0 → GivesLeastLen payload.now dest.old dest.new out.old out.new }
     ensures room { result ≡ negsuc 3 → LeastNeedsMore payload.now dest.old out.old out.new }

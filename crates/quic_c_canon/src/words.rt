@@ -3,7 +3,7 @@
 /// The length of a payload's shortest form, or why it has none.
 #[repr(C)]
 #[derive(Clone, Copy, PartialEq, Eq)]
-pub struct CanonicalWords {
+pub struct CCanonical {
     /// How many bytes the shortest form has.
     pub len: usize,
     /// Of an invalid frame: the last type that was read, its own included; `u64::MAX` if none was.
@@ -13,4 +13,4 @@ pub struct CanonicalWords {
 }
 
 // The size that every declaration of this struct in C must have.
-const _: () = prove!(std::mem::size_of::<CanonicalWords>() == 24);
+const _: () = prove!(std::mem::size_of::<CCanonical>() == 24);

@@ -13,9 +13,9 @@ use Rattle.quic_header_decode.specs.declared.protected.ProtectedHeader.TheVarian
 use Rattle.quic_header_decode.specs.declared.protected.ProtectedInitialHeader.{ProtectedInitialHeader}
 use Rattle.quic_header_decode.specs.Grammar.{Cut, HeaderAt}
 use Rattle.quic_header_decode.specs.Places.{any_fixed, dst_part, src_part, dst_place, ends_at, header_placed, ids_end, header_in, refusal_in, seen_in, ArePlaces, IsNowhere, ArePlacesWithin, IsSeen, ReadAnswer}
-use Rattle.quic_header_decode.specs.Reading.{Context}
+use Rattle.quic_header_decode.specs.Reading.{DecodeOptions}
 use Rattle.quic_header_decode.specs.Refusal.{Refusal, Unsupported, Invalid, NoMemory}
-use Rattle.quic_c_headers.specs.declared.words.HeaderWords.{HeaderWords}
+use Rattle.quic_c_headers.specs.declared.words.CHeader.{CHeader}
 use Rattle.quic_c_headers.specs.Reading.{answer_word, header_words, whole_word, HasFirst, Reported}
 
 -- ---- what a header says of its places
@@ -202,7 +202,7 @@ has_first (Ok x) packet is = is
 has_first (Err e) packet is = tt
 
 -- what is reported of one packet is one answer
-pub one_answer : (id_len : ℕ) (versions packet : List ℕ) (old new words : HeaderWords) (answer other : ℕ)
+pub one_answer : (id_len : ℕ) (versions packet : List ℕ) (old new words : CHeader) (answer other : ℕ)
     → ((id_len : ℕ) (versions bytes : List ℕ) (one other : Result (ProtectedHeader × List ℕ) Refusal) → AreBytes bytes
     → ReadAnswer (any_fixed id_len versions) bytes one → ReadAnswer (any_fixed id_len versions) bytes other → one ≡ other)
     → AreBytes packet → Reported id_len versions packet old answer new → Reported id_len versions packet old other words → (answer ≡ other) × (new ≡ words)
@@ -216,22 +216,22 @@ one_answer id_len versions packet old new words answer other law fits t u =
 -- ---- where a whole packet ends
 
 -- a packet is cut where the words say
-abbrev IsCut : Context → List ℕ → HeaderWords → Type 0
+abbrev IsCut : DecodeOptions → List ℕ → CHeader → Type 0
 IsCut context packet words = (h : ProtectedHeader) × Cut context packet h words.header_end words.end
 
 abbrev Law : Type 0
-Law = (context : Context) (bytes : List ℕ) (x : HeaderPlaces) (q : ℕ) → HeaderAt context (length bytes) bytes (header_in bytes x) (drop x.header_end bytes) → x.header_end ≤ length bytes
+Law = (context : DecodeOptions) (bytes : List ℕ) (x : HeaderPlaces) (q : ℕ) → HeaderAt context (length bytes) bytes (header_in bytes x) (drop x.header_end bytes) → x.header_end ≤ length bytes
     → ends_at x (length bytes) ≡ Some q → Cut context bytes (header_in bytes x) x.header_end q
 
-ended : (context : Context) (packet : List ℕ) (x : HeaderPlaces) (end : Option ℕ) (old new : HeaderWords) → Law → HeaderAt context (length packet) packet (header_in packet x) (drop x.header_end packet)
+ended : (context : DecodeOptions) (packet : List ℕ) (x : HeaderPlaces) (end : Option ℕ) (old new : CHeader) → Law → HeaderAt context (length packet) packet (header_in packet x) (drop x.header_end packet)
     → x.header_end ≤ length packet → ends_at x (length packet) ≡ end → 0 ≡ whole_word end → new ≡ header_words packet (Ok x) old → IsCut context packet new
 ended context packet x None old new law head within ends zero words = absurd (omega (arith, zero))
 ended context packet x (Some q) old new law head within ends zero words =
-    let stop : new.end ≡ q = ap (λ (w : HeaderWords). w.end) words ∙ ap (λ (o : Option ℕ). unwrap_or o (length packet)) ends in
-    let start : new.header_end ≡ x.header_end = ap (λ (w : HeaderWords). w.header_end) words in
+    let stop : new.end ≡ q = ap (λ (w : CHeader). w.end) words ∙ ap (λ (o : Option ℕ). unwrap_or o (length packet)) ends in
+    let start : new.header_end ≡ x.header_end = ap (λ (w : CHeader). w.header_end) words in
     (header_in packet x, rw (start, stop) (law context packet x q head within ends))
 
-cut_there : (context : Context) (packet : List ℕ) (read : Result HeaderPlaces ReadError) (old new : HeaderWords) → Law → ReadAnswer context packet (seen_in packet read) → IsSeen read (length packet)
+cut_there : (context : DecodeOptions) (packet : List ℕ) (read : Result HeaderPlaces ReadError) (old new : CHeader) → Law → ReadAnswer context packet (seen_in packet read) → IsSeen read (length packet)
     → 0 ≡ answer_word read (length packet) → new ≡ header_words packet read old → IsCut context packet new
 cut_there context packet (Ok x) old new law right stored zero words = ended context packet x (ends_at x (length packet)) old new law right stored.head refl zero words
 cut_there context packet (Err (error.UnsupportedVersion version dst_len src_len)) old new law right stored zero words = absurd (omega (arith, zero))
@@ -241,7 +241,7 @@ cut_there context packet (Err error.MalformedCid) old new law right stored zero 
 cut_there context packet (Err error.TokenOutOfBounds) old new law right stored zero words = absurd (omega (arith, zero))
 
 -- a packet that is reported to be whole is cut where the words say
-pub whole_cut : (id_len : ℕ) (versions packet : List ℕ) (old new : HeaderWords) (answer : ℕ) → Law → Reported id_len versions packet old answer new → answer ≡ 0
+pub whole_cut : (id_len : ℕ) (versions packet : List ℕ) (old new : CHeader) (answer : ℕ) → Law → Reported id_len versions packet old answer new → answer ≡ 0
     → (h : ProtectedHeader) × Cut (any_fixed id_len versions) packet h new.header_end new.end
 whole_cut id_len versions packet old new answer law t zero =
     cut_there (any_fixed id_len versions) packet t.read old new law t.right t.stored (sym zero ∙ t.answers) t.words

@@ -16,10 +16,10 @@ use Rattle.quic_header_decode.specs.declared.places.HeaderPlaces.{HeaderPlaces}
 use Rattle.quic_header_decode.specs.declared.protected.ProtectedHeader.TheVariants as head
 use Rattle.quic_header_decode.specs.Grammar.{HeaderAt}
 use Rattle.quic_header_decode.specs.Places.{any_fixed}
-use Rattle.quic_header_decode.specs.Reading.{Context}
+use Rattle.quic_header_decode.specs.Reading.{DecodeOptions}
 use Rattle.quic_header_decode.proofs.Made.{negotiation_header, LongStart}
 use Rattle.quic_header_decode.proofs.Steps.{drop_front, take_front}
-use Rattle.quic_c_headers.specs.declared.words.HeaderWords.{HeaderWords}
+use Rattle.quic_c_headers.specs.declared.words.CHeader.{CHeader}
 use Rattle.quic_c_headers.specs.Negotiation.{negotiation_bytes, negotiation_words, version_bytes, IsNegotiation}
 use Rattle.quic_c_headers.specs.Reading.{Reported}
 
@@ -113,15 +113,15 @@ places packet dst src = record {
 }
 
 -- the header that stands there, by its parts
-header_at : (context : Context) (packet dst src rest d s left : List ℕ) (random : ℕ) → d ≡ dst → s ≡ src → left ≡ rest
+header_at : (context : DecodeOptions) (packet dst src rest d s left : List ℕ) (random : ℕ) → d ≡ dst → s ≡ src → left ≡ rest
     → HeaderAt context (length packet) packet (head.VersionNegotiate random dst src) rest → HeaderAt context (length packet) packet (head.VersionNegotiate random d s) left
 header_at context packet dst src rest d s left random e f g h = rw (e, f, g) h
 
-pub reported : (id_len : ℕ) (versions packet dst src rest : List ℕ) (old : HeaderWords) → IsNegotiation packet dst src rest → length dst ≤ 20 → length src ≤ 20
+pub reported : (id_len : ℕ) (versions packet dst src rest : List ℕ) (old : CHeader) → IsNegotiation packet dst src rest → length dst ≤ 20 → length src ≤ 20
     → Reported id_len versions packet old 0 (negotiation_words packet dst src)
 unfolding places
 reported id_len versions packet dst src rest old (first, number, whole, long, word) few less =
-    let context : Context = any_fixed id_len versions in
+    let context : DecodeOptions = any_fixed id_len versions in
     let zero_word = law.is_number_4 0 (omega arith) in
     let zeros : number ≡ bytes_of 4 0 = law.num_injective number (bytes_of 4 0) word.bytes zero_word.bytes (word.width ∙ sym zero_word.width) (word.value ∙ sym zero_word.value) in
     let random : ℕ = slice_index packet 0 - 128 in

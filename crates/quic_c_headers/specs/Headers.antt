@@ -1,6 +1,6 @@
 -- The headers that words say (RFC 9000, section 17).
 use Rattle.quic_base.specs.Number.{has_bit}
-use Rattle.std.specs.Prelude.{◌≡◌, ℕ, ◌+◌, ◌-◌, ◌%◌, ◌<◌, ◌≤◌, ◌^◌, ◌⊎◌, Bool, false, List, [], length, replicate, slice_index, Option, None, Some, ◌==◌, if◌then◌else◌}
+use Rattle.std.specs.Prelude.{◌≡◌, ℕ, ◌-◌, ◌%◌, ◌<◌, ◌≤◌, ◌^◌, ◌⊎◌, Bool, false, List, length, replicate, slice_index, Option, None, Some, ◌==◌, if◌then◌else◌}
 use Rattle.quic_crypto.specs.declared.packet_number.PacketNumber.{PacketNumber}
 use Rattle.quic_crypto.specs.declared.packet_number.PacketNumber.TheVariants.{U8, U16, U24, U32}
 use Rattle.quic_crypto.specs.PacketNumbers.{low_part, number_size, window_of}

@@ -6,14 +6,14 @@ use Rattle.quic_base.specs.Number.{bytes_of}
 use Rattle.quic_header_encode.specs.declared.header.Header.TheVariants as header
 use Rattle.quic_header_encode.specs.Writing.{header_bytes}
 use Rattle.quic_header_decode.specs.Places.{AnyVersion}
-use Rattle.quic_c_headers.specs.declared.words.HeaderWords.{HeaderWords}
+use Rattle.quic_c_headers.specs.declared.words.CHeader.{CHeader}
 
 -- The bytes begin with the header of one: a long header of version 0, and rest is left behind its ids.
 abbrev pub IsNegotiation : List ℕ → List ℕ → List ℕ → List ℕ → Type 0
 IsNegotiation bytes dst src rest = AnyVersion bytes 0 dst src rest
 
 -- what is reported of a packet with these ids
-abbrev pub negotiation_words : List ℕ → List ℕ → List ℕ → HeaderWords
+abbrev pub negotiation_words : List ℕ → List ℕ → List ℕ → CHeader
 negotiation_words packet dst src = record {
   kind = 5;
   first = slice_index packet 0;

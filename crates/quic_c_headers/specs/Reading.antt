@@ -6,7 +6,7 @@ use Rattle.quic_header_decode.specs.declared.places.HeaderPlaces.{HeaderPlaces}
 use Rattle.quic_header_decode.specs.declared.places.ReadError.{ReadError}
 use Rattle.quic_header_decode.specs.declared.places.ReadError.TheVariants as error
 use Rattle.quic_header_decode.specs.Places.{any_fixed, ends_at, seen_in, IsSeen, ReadAnswer}
-use Rattle.quic_c_headers.specs.declared.words.HeaderWords.{HeaderWords}
+use Rattle.quic_c_headers.specs.declared.words.CHeader.{CHeader}
 
 -- the word of a kind: 0 Initial, 1 0-RTT, 2 Handshake, 3 Retry, 4 1-RTT, 5 version negotiation
 abbrev pub kind_word : HeaderKind → ℕ
@@ -31,7 +31,7 @@ answer_word (Err error.MalformedCid) whole = 5
 answer_word (Err error.TokenOutOfBounds) whole = 6
 
 -- the words of what was read; where no header was, they stay
-abbrev pub header_words : List ℕ → Result HeaderPlaces ReadError → HeaderWords → HeaderWords
+abbrev pub header_words : List ℕ → Result HeaderPlaces ReadError → CHeader → CHeader
 header_words packet (Ok x) old = record {
   kind = kind_word x.kind;
   first = x.first;
@@ -67,7 +67,7 @@ HasFirst (Ok x) packet = x.first ≡ slice_index packet 0
 HasFirst (Err e) packet = Unit {0}
 
 -- What the bytes begin with was read, and reported by the answer and the words.
-pub record Reported (id_len : ℕ) (versions packet : List ℕ) (old : HeaderWords) (answer : ℕ) (new : HeaderWords) : Type 0 where
+pub record Reported (id_len : ℕ) (versions packet : List ℕ) (old : CHeader) (answer : ℕ) (new : CHeader) : Type 0 where
   pub read : Result HeaderPlaces ReadError
   pub right : ReadAnswer (any_fixed id_len versions) packet (seen_in packet read)
   pub stored : IsSeen read (length packet)

@@ -5,7 +5,7 @@ ghost use Rattle.quic_header_decode.specs.Places.{any_fixed, ArePlacesWithin, Is
 ghost use Rattle.quic_header_decode.specs.declared.protected.ProtectedHeader.{ProtectedHeader};
 ghost use Rattle.quic_c_headers.specs.Reading.{answer_word, header_words, kind_word, Reported};
 
-use crate::words::HeaderWords;
+use crate::words::CHeader;
 use quic_base::coding::are_bytes;
 use quic_header_decode::laws::{one_reading, places_cut};
 use quic_header_decode::places::{HeaderKind, HeaderPlaces, ReadError, read_header, read_long};
@@ -27,7 +27,7 @@ fn kind_word(kind: HeaderKind) -> u8
 
 // The words of a header, and whether its packet is whole: 0 or 7.
 #[inline(always)]
-fn show_header(packet: &[u8], places: HeaderPlaces, head: &mut HeaderWords) -> u32
+fn show_header(packet: &[u8], places: HeaderPlaces, head: &mut CHeader) -> u32
     requires whole { length packet.now < 2 ^ 32 }
     requires placed { ArePlacesWithin places (length packet.now) }
     ensures answer { result ≡ answer_word (Ok places) (length packet.now) }
@@ -39,7 +39,7 @@ fn show_header(packet: &[u8], places: HeaderPlaces, head: &mut HeaderWords) -> u
         Some(end) => (end, 0),
         None => (whole, 7),
     };
-    *head = HeaderWords {
+    *head = CHeader {
         kind: kind_word(places.kind),
         first: places.first,
         dst_len: places.dst_len as u8,
@@ -56,7 +56,7 @@ fn show_header(packet: &[u8], places: HeaderPlaces, head: &mut HeaderWords) -> u
 
 // Shows what was read, and answers 0, 7 or the reason.
 #[inline(always)]
-fn show(packet: &[u8], read: Result<HeaderPlaces, ReadError>, head: &mut HeaderWords) -> u32
+fn show(packet: &[u8], read: Result<HeaderPlaces, ReadError>, head: &mut CHeader) -> u32
     requires whole { length packet.now < 2 ^ 32 }
     requires seen { IsSeen read (length packet.now) }
     ensures answer { result ≡ answer_word read (length packet.now) }
@@ -72,7 +72,7 @@ fn show(packet: &[u8], read: Result<HeaderPlaces, ReadError>, head: &mut HeaderW
                 src_len,
             },
         ) => {
-            *head = HeaderWords {
+            *head = CHeader {
                 kind: 6,
                 first: packet[0],
                 dst_len: dst_len as u8,
@@ -95,7 +95,7 @@ fn show(packet: &[u8], read: Result<HeaderPlaces, ReadError>, head: &mut HeaderW
 
 // Shows a long head. It is a function of its own, so that a short header's caller saves no registers.
 #[inline(never)]
-fn show_long(packet: &[u8], first: u8, versions: &[u32], head: &mut HeaderWords) -> u32
+fn show_long(packet: &[u8], first: u8, versions: &[u32], head: &mut CHeader) -> u32
     requires whole { length packet.now < 2 ^ 32 }
     requires begins { packet.now ≡ first ∷ drop 1 packet.now }
     requires long { 128 ≤ first }
@@ -118,7 +118,7 @@ pub extern "C" fn quic_wire_header_read_(
     packet: &[u8],
     id_len: u32,
     versions: &[u32],
-    head: &mut HeaderWords,
+    head: &mut CHeader,
 ) -> i32
     ensures invalid { (result ≡ negsuc 0) ↔ ((2 ^ 32 ≤ length packet.now) ⊎ (20 < id_len)) }
     ensures reported { (result ≡ negsuc 0)
@@ -126,7 +126,7 @@ pub extern "C" fn quic_wire_header_read_(
     ensures same { result ≡ negsuc 0 → head.new ≡ head.old }
     // There is one answer, and one way to tell it.
     ensures one { (result ≡ negsuc 0)
-        ⊎ ((answer : ℕ) (words : HeaderWords) → Reported id_len versions.now packet.now head.old answer words
+        ⊎ ((answer : ℕ) (words : CHeader) → Reported id_len versions.now packet.now head.old answer words
         → (result ≡ pos answer) × (head.new ≡ words)) }
     // The packet that is whole is the one that is cut from the bytes.
     ensures whole { result ≡ pos 0

@@ -9,4 +9,4 @@ mod protection;
 mod words;
 mod write;
 
-pub use words::{HeaderFields, HeaderWords};
+pub use words::{CHeader, HeaderFields};

@@ -4,7 +4,7 @@ ghost use Rattle.quic_base.specs.ConnectionId.{long_id};
 ghost use Rattle.quic_c_headers.specs.Negotiation.{negotiation_bytes, negotiation_words, version_bytes, IsNegotiation};
 ghost use Rattle.quic_c_headers.specs.Reading.{Reported};
 
-use crate::words::HeaderWords;
+use crate::words::CHeader;
 use crate::write::first_word;
 use quic_base::coding::{are_bytes, store_array};
 use quic_header_encode::long_type::HeaderKind;
@@ -45,7 +45,7 @@ fn ids_of(packet: &[u8]) -> Option<(&[u8], &[u8])>
 /// are 2^32 bytes or more. `head` changes with 0 alone. Where both ids have at most 20 bytes, it is what
 /// `quic_wire_header_read_` tells.
 #[unsafe(no_mangle)]
-pub extern "C" fn quic_wire_negotiation_read_(packet: &[u8], head: &mut HeaderWords) -> i32
+pub extern "C" fn quic_wire_negotiation_read_(packet: &[u8], head: &mut CHeader) -> i32
     ensures answers { (result ≡ pos 0) ⊎ (result ≡ negsuc 2) ⊎ (result ≡ negsuc 0) }
     ensures invalid { (result ≡ negsuc 0) ↔ (2 ^ 32 ≤ length packet.now) }
     ensures read { result ≡ pos 0 → (dst src rest : List ℕ) × IsNegotiation packet.now dst src rest }
@@ -63,7 +63,7 @@ pub extern "C" fn quic_wire_negotiation_read_(packet: &[u8], head: &mut HeaderWo
     let Some((dst, src)) = ids_of(packet) else {
         return -3;
     };
-    *head = HeaderWords {
+    *head = CHeader {
         kind: 5,
         first: packet[0],
         dst_len: dst.len() as u8,

@@ -5,7 +5,7 @@
 /// short one; the sender's behind it and its own length. What the kind lacks is 0.
 #[repr(C)]
 #[derive(Clone, Copy)]
-pub struct HeaderWords {
+pub struct CHeader {
     /// 0 Initial, 1 0-RTT, 2 Handshake, 3 Retry, 4 1-RTT, 5 version negotiation, 6 of a version that is none of those
     /// given.
     pub kind: u8,

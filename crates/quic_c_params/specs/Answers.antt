@@ -6,7 +6,7 @@ use Rattle.quic_params.specs.Meaning.{IsReadAnswer}
 use Rattle.quic_params.specs.declared.error.Error.{Error}
 use Rattle.quic_params.specs.declared.error.Error.TheVariants.{IllegalValue, Malformed}
 use Rattle.quic_params.specs.declared.record.TransportParameters.{TransportParameters}
-use Rattle.quic_c_params.specs.declared.words.ParamsWords.{ParamsWords}
+use Rattle.quic_c_params.specs.declared.words.CParams.{CParams}
 use Rattle.quic_c_params.specs.Shown.{params_words}
 
 -- the word of a side
@@ -20,7 +20,7 @@ reason_word_of Malformed = 1
 reason_word_of IllegalValue = 2
 
 -- The side takes the list, and the words of its record were given.
-pub record GivesParams (side : ℕ) (bytes : List ℕ) (new : ParamsWords) : Type 0 where
+pub record GivesParams (side : ℕ) (bytes : List ℕ) (new : CParams) : Type 0 where
   pub reader : Side
   pub is_side : IsSide side reader
   pub params : TransportParameters
@@ -28,7 +28,7 @@ pub record GivesParams (side : ℕ) (bytes : List ℕ) (new : ParamsWords) : Typ
   pub words : new ≡ params_words params
 
 -- The side refuses the list, and why was reported; no other word changes.
-pub record GivesRefusal (side : ℕ) (bytes : List ℕ) (old new : ParamsWords) : Type 0 where
+pub record GivesRefusal (side : ℕ) (bytes : List ℕ) (old new : CParams) : Type 0 where
   pub reader : Side
   pub is_side : IsSide side reader
   pub reason : Error

@@ -7,8 +7,8 @@ use Rattle.quic_params.specs.Entry.{Entry, IsEntry, IsKnownParameter}
 use Rattle.quic_params.specs.Further.{AreInOrder, AreOthers, IsOrderOf, asked, listed}
 use Rattle.quic_params.specs.Meaning.{IsReadAnswer}
 use Rattle.quic_params.specs.Table.{rows}
-use Rattle.quic_c_params.specs.declared.words.EntryWords.{EntryWords}
-use Rattle.quic_c_params.specs.declared.words.ParamsWords.{ParamsWords}
+use Rattle.quic_c_params.specs.declared.words.CEntry.{CEntry}
+use Rattle.quic_c_params.specs.declared.words.CParams.{CParams}
 use Rattle.quic_c_params.specs.Written.{CanWriteParams}
 
 -- 1 where a record has the parameter of this number, and 0 where it doesn't
@@ -18,7 +18,7 @@ TellsKnown known number = ((known ≡ 1) × (id : TransportParameterId) × IsKno
 
 -- The words describe the entry at the front of a list: its number, and the place of its value, after which the next
 -- entry begins.
-pub record GivesParameter (list : List ℕ) (words : EntryWords) : Type 0 where
+pub record GivesParameter (list : List ℕ) (words : CEntry) : Type 0 where
   pub entry : Takes (IsEntry words.id (take words.value_len (drop words.value list))) list
       (drop (words.value + words.value_len) list)
   pub within : words.value + words.value_len ≤ length list
@@ -56,14 +56,14 @@ pub record IsFurther (es : List Entry) (list : List ℕ) : Type 0 where
 
 -- The words describe a record that the side reads back, the list has further entries, and the order is one of all of
 -- them, or empty.
-pub record CanList (side : ℕ) (words : ParamsWords) (further order : List ℕ) (p : TransportParameters)
+pub record CanList (side : ℕ) (words : CParams) (further order : List ℕ) (p : TransportParameters)
     (es : List Entry) : Type 0 where
   pub record_is : CanWriteParams side words p
   pub further_are : IsFurther es further
   pub order_is : IsOrderOf (rows + length es) (asked (rows + length es) order)
 
 -- The list of a record with further entries was written at the front, and the side reads that record from it.
-pub record WroteList (side : ℕ) (words : ParamsWords) (further order old new : List ℕ) (count : ℕ) : Type 0 where
+pub record WroteList (side : ℕ) (words : CParams) (further order old new : List ℕ) (count : ℕ) : Type 0 where
   pub params : TransportParameters
   pub es : List Entry
   pub can : CanList side words further order params es
@@ -71,13 +71,13 @@ pub record WroteList (side : ℕ) (words : ParamsWords) (further order old new :
   pub read_back : IsReadAnswer can.record_is.reader (listed params es order) (Ok params)
 
 -- There is less room than that list needs, and how much that is was reported.
-pub record ListLacks (side : ℕ) (words : ParamsWords) (further order old : List ℕ) (needed : ℕ) : Type 0 where
+pub record ListLacks (side : ℕ) (words : CParams) (further order old : List ℕ) (needed : ℕ) : Type 0 where
   pub params : TransportParameters
   pub es : List Entry
   pub can : CanList side words further order params es
   pub lacks : Lacks (listed params es order) old needed
 
 -- There is no such list.
-abbrev pub DescribesNoList : ℕ → ParamsWords → List ℕ → List ℕ → Type 0
+abbrev pub DescribesNoList : ℕ → CParams → List ℕ → List ℕ → Type 0
 DescribesNoList side words further order = (p : TransportParameters) (es : List Entry)
     → CanList side words further order p es → ⊥

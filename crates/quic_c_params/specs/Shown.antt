@@ -6,7 +6,7 @@ use Rattle.std.specs.declared.net.socket_addr.SocketAddrV4.{SocketAddrV4}
 use Rattle.std.specs.declared.net.socket_addr.SocketAddrV6.{SocketAddrV6}
 use Rattle.quic_params.specs.declared.value.PreferredAddress.{PreferredAddress}
 use Rattle.quic_params.specs.declared.record.TransportParameters.{TransportParameters}
-use Rattle.quic_c_params.specs.declared.words.ParamsWords.{ParamsWords}
+use Rattle.quic_c_params.specs.declared.words.CParams.{CParams}
 
 -- a bit with others above it
 abbrev pub bit : Bool → ℕ → ℕ
@@ -89,7 +89,7 @@ present_in p =
     ∷ []
 
 -- the words of a record; what is never read, grease and an order of writing, isn't reported
-abbrev pub params_words : TransportParameters → ParamsWords
+abbrev pub params_words : TransportParameters → CParams
 params_words p = record {
   present = bits (present_in p);
   reason = 0;

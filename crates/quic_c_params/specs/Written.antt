@@ -5,21 +5,21 @@ use Rattle.quic_params.specs.Meaning.{IsReadAnswer}
 use Rattle.quic_params.specs.Range.{IsTypedRecord, IsRecordInRange}
 use Rattle.quic_params.specs.Writing.{written}
 use Rattle.quic_params.specs.declared.record.TransportParameters.{TransportParameters}
-use Rattle.quic_c_params.specs.declared.words.ParamsWords.{ParamsWords}
+use Rattle.quic_c_params.specs.declared.words.CParams.{CParams}
 use Rattle.quic_c_params.specs.declared.write.Flags.{Flags}
 use Rattle.quic_c_params.specs.Answers.{IsSide}
 use Rattle.quic_c_params.specs.Shown.{params_words, v4_in, v6_in}
 
 -- The words are those of the record, whose fields hold what their types do; it has neither grease nor an order of
 -- writing.
-pub record DescribesParams (words : ParamsWords) (p : TransportParameters) : Type 0 where
+pub record DescribesParams (words : CParams) (p : TransportParameters) : Type 0 where
   pub words_are : words ≡ params_words p
   pub typed : IsTypedRecord p
   pub no_grease : p.grease_transport_parameter ≡ None
   pub no_order : p.write_order ≡ None
 
 -- The words describe a record that the side reads back.
-pub record CanWriteParams (side : ℕ) (words : ParamsWords) (p : TransportParameters) : Type 0 where
+pub record CanWriteParams (side : ℕ) (words : CParams) (p : TransportParameters) : Type 0 where
   pub reader : Side
   pub is_side : IsSide side reader
   pub said : DescribesParams words p
@@ -27,21 +27,21 @@ pub record CanWriteParams (side : ℕ) (words : ParamsWords) (p : TransportParam
   pub read_back : IsReadAnswer reader (written p) (Ok p)
 
 -- The list of such a record was written at the front, the bytes after it didn't change, and its length is given.
-pub record WroteParams (side : ℕ) (words : ParamsWords) (old new : List ℕ) (count : ℕ) : Type 0 where
+pub record WroteParams (side : ℕ) (words : CParams) (old new : List ℕ) (count : ℕ) : Type 0 where
   pub params : TransportParameters
   pub can : CanWriteParams side words params
   pub count_is : count ≡ length (written params)
   pub front : new ≡ written params ++ drop count old
 
 -- There is less room than such a list needs, and how much that is was reported.
-pub record ParamsNeedMore (side : ℕ) (words : ParamsWords) (old : List ℕ) (needed : ℕ) : Type 0 where
+pub record ParamsNeedMore (side : ℕ) (words : CParams) (old : List ℕ) (needed : ℕ) : Type 0 where
   pub params : TransportParameters
   pub can : CanWriteParams side words params
   pub count_is : needed ≡ length (written params)
   pub full : length old < needed
 
 -- The words describe no such record.
-abbrev pub DescribesNoParams : ℕ → ParamsWords → Type 0
+abbrev pub DescribesNoParams : ℕ → CParams → Type 0
 DescribesNoParams side words = (p : TransportParameters) → CanWriteParams side words p → ⊥
 
 -- the bits are those of what the record has

@@ -4,7 +4,7 @@ ghost use Rattle.quic_params.specs.Entry.{IsCutEntry};
 ghost use Rattle.quic_params.specs.Writing.{entry};
 ghost use Rattle.quic_c_params.specs.Lists.{GivesParameter, Lacks, StandsInList, TellsKnown};
 
-use crate::words::EntryWords;
+use crate::words::CEntry;
 use quic_params::transport_parameters::{known, split_entry, write_entry_into};
 
 /// Whether a record has the parameter of this number: 1 or 0 (RFC 9000, section 18.2). It has none of a number that is
@@ -24,7 +24,7 @@ pub extern "C" fn quic_wire_param_is_known_(id: u64) -> u32
 /// begins; -2 exactly if the list is empty; -3 exactly if its first entry is cut off. `entry` changes with 0 alone.
 /// Whether the value is valid for its parameter isn't tested.
 #[unsafe(no_mangle)]
-pub extern "C" fn quic_wire_param_read_(list: &[u8], entry: &mut EntryWords) -> i32
+pub extern "C" fn quic_wire_param_read_(list: &[u8], entry: &mut CEntry) -> i32
     ensures answers { (result ≡ pos 0) ⊎ (result ≡ negsuc 1) ⊎ (result ≡ negsuc 2) }
     ensures read { result ≡ pos 0 → GivesParameter list.now entry.new }
     ensures empty { (result ≡ negsuc 1) ↔ (list.now ≡ []) }
@@ -38,7 +38,7 @@ pub extern "C" fn quic_wire_param_read_(list: &[u8], entry: &mut EntryWords) -> 
         return -3;
     };
     let end = list.len() - rest.len();
-    *entry = EntryWords {
+    *entry = CEntry {
         id,
         value: end - value.len(),
         value_len: value.len(),

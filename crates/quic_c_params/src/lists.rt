@@ -11,7 +11,7 @@ ghost use Rattle.quic_c_params.specs.Lists.{CanList, IsFurther, Lies, ListLacks,
 
 use crate::further::{ROWS, count_further, index_at, is_order, nth};
 use crate::read::side_of;
-use crate::words::ParamsWords;
+use crate::words::CParams;
 use crate::write::said;
 use quic_params::laws;
 use quic_params::transport_parameters::{
@@ -138,7 +138,7 @@ fn store_list(
 #[unsafe(no_mangle)]
 pub extern "C" fn quic_wire_params_write_with_(
     side: u32,
-    words: &ParamsWords,
+    words: &CParams,
     further: &[u8],
     order: &[u8],
     dest: &mut [u8],

@@ -3,7 +3,7 @@ ghost use Rattle.std.specs.Prelude.{◌≡◌, ◌⊎◌, ◌↔◌, ◌<◌, po
 ghost use Rattle.quic_c_params.specs.Answers.{IsSide, reason_word_of, GivesParams, GivesRefusal};
 
 use crate::show::show;
-use crate::words::ParamsWords;
+use crate::words::CParams;
 use quic_base::ids::Side;
 use quic_params::transport_parameters::{Error, TransportParameters};
 
@@ -38,7 +38,7 @@ fn reason_word_of(error: Error) -> u32
 /// An integer with a default in a longer encoding than its shortest is an invalid value, though RFC 9000, section 16,
 /// allows it; `max_datagram_frame_size` and `min_ack_delay` may be in any encoding.
 #[unsafe(no_mangle)]
-pub extern "C" fn quic_wire_params_read_(side: u32, bytes: &[u8], out: &mut ParamsWords) -> i32
+pub extern "C" fn quic_wire_params_read_(side: u32, bytes: &[u8], out: &mut CParams) -> i32
     ensures answers { (result ≡ pos 0) ⊎ (result ≡ negsuc 2) ⊎ (result ≡ negsuc 0) }
     ensures params { result ≡ pos 0 → GivesParams side bytes.now out.new }
     ensures refused { result ≡ negsuc 2 → GivesRefusal side bytes.now out.old out.new }

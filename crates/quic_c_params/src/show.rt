@@ -2,7 +2,7 @@
 ghost use Rattle.std.specs.Prelude.{◌≡◌, ◌+◌, ◌*◌, ◌<◌, ◌≤◌, ◌^◌};
 ghost use Rattle.quic_c_params.specs.Shown.{bit, number_of, reset_token_of, id_of, len_of, octets_of_v4, port_of_v4, octets_of_v6, port_of_v6, v4_in, v6_in, id_in, token_in, bits, present_in, params_words};
 
-use crate::words::ParamsWords;
+use crate::words::CParams;
 use quic_base::ids::{ConnectionId, ResetToken};
 use quic_base::varint::VarInt;
 use quic_params::transport_parameters::{PreferredAddress, TransportParameters};
@@ -144,13 +144,13 @@ fn present(p: &TransportParameters) -> u32
 }
 
 // The words of a record.
-pub(crate) fn show(p: &TransportParameters) -> ParamsWords
+pub(crate) fn show(p: &TransportParameters) -> CParams
     ensures { result ≡ params_words p.now }
 {
     let address = &p.preferred_address;
     let (v4, v6) = (v4_in(address), v6_in(address));
     let preferred_id = id_in(address);
-    ParamsWords {
+    CParams {
         present: present(p),
         reason: 0,
         max_idle_timeout: p.max_idle_timeout.into_inner(),

@@ -4,7 +4,7 @@
 /// numbers that have a default: these hold it then.
 #[repr(C)]
 #[derive(Clone, Copy, PartialEq, Eq)]
-pub struct ParamsWords {
+pub struct CParams {
     /// What is present, by the bits from the lowest: 0 `stateless_reset_token`, 1 `disable_active_migration`,
     /// 2 `max_datagram_frame_size`, 3 a preferred address, 4 its address of IPv4, 5 that of IPv6,
     /// 6 `original_dst_cid`, 7 `initial_src_cid`, 8 `retry_src_cid`, 9 `grease_quic_bit`, 10 `min_ack_delay`.
@@ -70,7 +70,7 @@ pub struct ParamsWords {
 /// An entry of a list of parameters (RFC 9000, section 18).
 #[repr(C)]
 #[derive(Clone, Copy, PartialEq, Eq)]
-pub struct EntryWords {
+pub struct CEntry {
     /// Its number, below 2^62.
     pub id: u64,
     /// Where its value begins in the bytes that were read.
@@ -80,6 +80,6 @@ pub struct EntryWords {
 }
 
 // The sizes that every declaration of these structs in C must have.
-const _: () = prove!(std::mem::size_of::<ParamsWords>() == 264);
+const _: () = prove!(std::mem::size_of::<CParams>() == 264);
 
-const _: () = prove!(std::mem::size_of::<EntryWords>() == 24);
+const _: () = prove!(std::mem::size_of::<CEntry>() == 24);

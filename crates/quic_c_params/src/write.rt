@@ -12,7 +12,7 @@ ghost use Rattle.quic_c_params.specs.Written.{DescribesParams, CanWriteParams, W
 
 use crate::read::side_of;
 use crate::show::show;
-use crate::words::ParamsWords;
+use crate::words::CParams;
 use quic_base::ids::{ConnectionId, ResetToken, Side};
 use quic_base::varint::VarInt;
 use quic_params::laws;
@@ -136,7 +136,7 @@ fn maybe_id(there: bool, len: u32, bytes: &[u8; 20]) -> Option<ConnectionId>
     if there { Some(id_in(len, bytes)) } else { None }
 }
 
-fn address_in(words: &ParamsWords, flags: Flags) -> Option<PreferredAddress>
+fn address_in(words: &CParams, flags: Flags) -> Option<PreferredAddress>
     ensures { (p : TransportParameters) → words.now ≡ params_words p → HasFlags flags p
         → IfSome p.preferred_address IsTypedAddress → IfSome p.preferred_address IsEncodableAddress
         → result ≡ p.preferred_address }
@@ -155,7 +155,7 @@ fn address_in(words: &ParamsWords, flags: Flags) -> Option<PreferredAddress>
 }
 
 // The record that the words describe, if they describe one.
-fn record_in(words: &ParamsWords) -> TransportParameters
+fn record_in(words: &CParams) -> TransportParameters
     ensures said { (side : Side) (p : TransportParameters) → DescribesParams words.now p → IsRecordInRange side p
         → result ≡ p }
     ensures no_grease { result.grease_transport_parameter ≡ None }
@@ -197,14 +197,14 @@ fn record_in(words: &ParamsWords) -> TransportParameters
     }
 }
 
-fn same_words(a: &ParamsWords, b: &ParamsWords) -> bool
+fn same_words(a: &CParams, b: &CParams) -> bool
     ensures { IsTrue result ↔ (a.now ≡ b.now) }
 {
     a == b
 }
 
 // The record that the words describe, if the side reads it back.
-pub(crate) fn said(side: Side, words: &ParamsWords) -> Option<TransportParameters>
+pub(crate) fn said(side: Side, words: &CParams) -> Option<TransportParameters>
     ensures some { IfSome result
         (λ p. DescribesParams words.now p × IsRecordInRange side p × IsReadAnswer side (written p) (Ok p)) }
     ensures none { IsNone result → (p : TransportParameters) → DescribesParams words.now p → IsRecordInRange side p
@@ -229,7 +229,7 @@ pub(crate) fn said(side: Side, words: &ParamsWords) -> Option<TransportParameter
 #[unsafe(no_mangle)]
 pub extern "C" fn quic_wire_params_write_(
     side: u32,
-    words: &ParamsWords,
+    words: &CParams,
     dest: &mut [u8],
     written: &mut usize,
 ) -> i32

@@ -5,24 +5,24 @@ use Rattle.std.proofs.Math.Seq.{take-append_seam, drop-append_seam}
 use Rattle.std.proofs.lemmas.List.{length-append, length-take, length-drop, take-append-drop, take-append-le, take-take, drop-take, drop-drop}
 use Rattle.std.proofs.lemmas.List.Edits.{paste_none, take-paste, drop-paste}
 use Rattle.quic_ranges.proofs.RunsLemmas.{IsRunsOf-unique}
-use Rattle.quic_c_sets.specs.declared.words.RunWords.{RunWords}
+use Rattle.quic_c_sets.specs.declared.words.CRange.{CRange}
 use Rattle.quic_c_sets.specs.declared.change.Splice.{Splice}
 use Rattle.quic_c_sets.specs.Sets.{IsSet, Becomes, LacksRoom, runs_of}
 use Rattle.quic_c_sets.specs.Changes.{FitsRoom, Made, SetNeedsMore, Plans, after_change, words_of}
 use Rattle.quic_c_sets.proofs.Placing.{many}
 
-take_seam : (xs zs : List RunWords) (n : ℕ) → n ≡ length xs → take n (xs ++ zs) ≡ xs
+take_seam : (xs zs : List CRange) (n : ℕ) → n ≡ length xs → take n (xs ++ zs) ≡ xs
 take_seam xs zs n e = ap (λ (k : ℕ). take k (xs ++ zs)) e ∙ take-append_seam xs zs
 
-drop_seam : (xs zs : List RunWords) (n : ℕ) → n ≡ length xs → drop n (xs ++ zs) ≡ zs
+drop_seam : (xs zs : List CRange) (n : ℕ) → n ≡ length xs → drop n (xs ++ zs) ≡ zs
 drop_seam xs zs n e = ap (λ (k : ℕ). drop k (xs ++ zs)) e ∙ drop-append_seam xs zs
 
 -- no move is one of nothing
-pub moved_none : (old : List RunWords) (at from to : ℕ) → to ≤ from → old ≡ copy_within old from to at
+pub moved_none : (old : List CRange) (at from to : ℕ) → to ≤ from → old ≡ copy_within old from to at
 moved_none old at from to le = let none : to - from ≡ 0 = omega (arith, le) in rw none (paste_none old at (drop from old))
 
 -- the runs from `to` on were moved after those that take the place of others, and these were written
-module _ (old ys new vs : List RunWords) (before from to after : ℕ) (some : before ≤ length old) (ordered : from ≤ to) (within : to ≤ before)
+module _ (old ys new vs : List CRange) (before from to after : ℕ) (some : before ≤ length old) (ordered : from ≤ to) (within : to ≤ before)
     (count : after ≡ from + length vs + (before - to)) (room : after ≤ length old) (moved : ys ≡ copy_within old to before (from + length vs))
     (is : new ≡ take from ys ++ (vs ++ drop (from + length vs) ys)) where
   kept : take (from + length vs + (before - to)) ys ≡ take (from + length vs) old ++ take (before - to) (drop to old)
@@ -46,13 +46,13 @@ module _ (old ys new vs : List RunWords) (before from to after : ℕ) (some : be
 
   behind : drop (from + length vs) ys ≡ take (before - to) (drop to old) ++ drop (from + length vs + (before - to)) old
   behind =
-      sym (take-append-drop (before - to) (drop (from + length vs) ys)) ∙ ap (λ (l : List RunWords). l ++ drop (before - to) (drop (from + length vs) ys)) next
-      ∙ ap (λ (l : List RunWords). take (before - to) (drop to old) ++ l) (drop-drop (before - to) (from + length vs) ys ∙ stays)
+      sym (take-append-drop (before - to) (drop (from + length vs) ys)) ∙ ap (λ (l : List CRange). l ++ drop (before - to) (drop (from + length vs) ys)) next
+      ∙ ap (λ (l : List CRange). take (before - to) (drop to old) ++ l) (drop-drop (before - to) (from + length vs) ys ∙ stays)
 
   parts : new ≡ (take from old ++ (vs ++ take (before - to) (drop to old))) ++ drop after old
   parts =
-      is ∙ ap (λ (l : List RunWords). l ++ (vs ++ drop (from + length vs) ys)) in_front ∙ ap (λ (l : List RunWords). take from old ++ (vs ++ l)) behind
-      ∙ ap (λ (l : List RunWords). take from old ++ l) (sym (append_assoc vs (take (before - to) (drop to old)) (drop (from + length vs + (before - to)) old)))
+      is ∙ ap (λ (l : List CRange). l ++ (vs ++ drop (from + length vs) ys)) in_front ∙ ap (λ (l : List CRange). take from old ++ (vs ++ l)) behind
+      ∙ ap (λ (l : List CRange). take from old ++ l) (sym (append_assoc vs (take (before - to) (drop to old)) (drop (from + length vs + (before - to)) old)))
       ∙ sym (append_assoc (take from old) (vs ++ take (before - to) (drop to old)) (drop (from + length vs + (before - to)) old))
       ∙ ap (λ (k : ℕ). (take from old ++ (vs ++ take (before - to) (drop to old))) ++ drop k old) (sym count)
 
@@ -65,7 +65,7 @@ module _ (old ys new vs : List RunWords) (before from to after : ℕ) (some : be
       let sum : before ≡ to + (before - to) = omega (arith, within) in
       let two : drop to (take before old) ≡ take (before - to) (drop to old) = ap (λ (k : ℕ). drop to (take k old)) sum ∙ drop-take to (before - to) old in
       ap (take after) parts ∙ take_seam (take from old ++ (vs ++ take (before - to) (drop to old))) (drop after old) after long
-      ∙ ap (λ (l : List RunWords). l ++ (vs ++ take (before - to) (drop to old))) (sym one) ∙ ap (λ (l : List RunWords). take from (take before old) ++ (vs ++ l)) (sym two)
+      ∙ ap (λ (l : List CRange). l ++ (vs ++ take (before - to) (drop to old))) (sym one) ∙ ap (λ (l : List CRange). take from (take before old) ++ (vs ++ l)) (sym two)
 
   moved_behind : drop after new ≡ drop after old
   moved_behind = ap (drop after) parts ∙ drop_seam (take from old ++ (vs ++ take (before - to) (drop to old))) (drop after old) after long
@@ -73,7 +73,7 @@ module _ (old ys new vs : List RunWords) (before from to after : ℕ) (some : be
   moved_length : length new ≡ length old
   moved_length = omega (arith, ap length parts, length-append (take from old ++ (vs ++ take (before - to) (drop to old))) (drop after old), long, length-drop after old, room)
 
-pub made : (old ys new : List RunWords) (before after more : ℕ) (change : Splice) → before ≤ length old → FitsRoom (take before old) change → more ≡ length (words_of change.by)
+pub made : (old ys new : List CRange) (before after more : ℕ) (change : Splice) → before ≤ length old → FitsRoom (take before old) change → more ≡ length (words_of change.by)
     → after ≡ change.from + more + (before - change.to) → after ≤ length old → ys ≡ copy_within old change.to before (change.from + more)
     → new ≡ take change.from ys ++ (words_of change.by ++ drop (change.from + length (words_of change.by)) ys) → Made old before change new after
 made old ys new before after more change some fits more_is count room moved is =
@@ -90,13 +90,13 @@ made old ys new before after more change some fits more_is count room moved is =
     }
 
 -- how many runs there are after a change
-length_after : (words : List RunWords) (s : Splice) → FitsRoom words s → length (after_change words s) ≡ s.from + length (words_of s.by) + (length words - s.to)
+length_after : (words : List CRange) (s : Splice) → FitsRoom words s → length (after_change words s) ≡ s.from + length (words_of s.by) + (length words - s.to)
 length_after words s fits =
     let ordered = fits.ordered in
     let within = fits.within in
     omega (arith, ordered, within, length-append (take s.from words) (words_of s.by ++ drop s.to words), length-append (words_of s.by) (drop s.to words), length-take s.from words, length-drop s.to words)
 
-pub needs_more : (old : List RunWords) (before after more : ℕ) (change : Splice) → before ≤ length old → FitsRoom (take before old) change → more ≡ length (words_of change.by)
+pub needs_more : (old : List CRange) (before after more : ℕ) (change : Splice) → before ≤ length old → FitsRoom (take before old) change → more ≡ length (words_of change.by)
     → after ≡ change.from + more + (before - change.to) → length old < after → SetNeedsMore old before change
 needs_more old before after more change some fits more_is count lt =
     let ordered = fits.ordered in
@@ -109,7 +109,7 @@ needs_more old before after more change some fits more_is count lt =
 
 -- ---- what the calls answer
 
-pub becomes : (test : ℕ → Bool) (old new : List RunWords) (before after : ℕ) (change : Splice) → IsSet old before → Plans test (take before old) change → Made old before change new after → Becomes test old before new after
+pub becomes : (test : ℕ → Bool) (old new : List CRange) (before after : ℕ) (change : Splice) → IsSet old before → Plans test (take before old) change → Made old before change new after → Becomes test old before new after
 becomes test old new before after change set plan made = record {
   set = set;
   runs = rw made.runs plan.runs;
@@ -117,7 +117,7 @@ becomes test old new before after change set plan made = record {
   behind = made.behind;
 }
 
-pub lacks_room : (test : ℕ → Bool) (old : List RunWords) (before : ℕ) (change : Splice) → IsSet old before → Plans test (take before old) change → SetNeedsMore old before change → LacksRoom test old before
+pub lacks_room : (test : ℕ → Bool) (old : List CRange) (before : ℕ) (change : Splice) → IsSet old before → Plans test (take before old) change → SetNeedsMore old before change → LacksRoom test old before
 lacks_room test old before change set plan needs = record {
   set = set;
   full = needs.full;

@@ -9,7 +9,7 @@ use Rattle.quic_ranges.specs.Runs.{in_range, member, in_union, in_difference, Is
 use Rattle.quic_ranges.specs.Splices.{BecomesRunsOf}
 use Rattle.quic_ranges.proofs.RunsLemmas.{range, inserted, removed, IsRunsOf-inserted, IsRunsOf-removed}
 use Rattle.quic_ranges.proofs.PlacesLemmas.{IsRunsOf-inside, covered, ends_below-at, ends_below-length, ends_below-starts_upto, hull-at, hull-none, inserted-places, member-at, removed-places, rest, rest-at, run-at, starts_upto-above, starts_upto-at, starts_upto-length}
-use Rattle.quic_c_sets.specs.declared.words.RunWords.{RunWords}
+use Rattle.quic_c_sets.specs.declared.words.CRange.{CRange}
 use Rattle.quic_c_sets.specs.declared.change.Splice.{Splice}
 use Rattle.quic_c_sets.specs.declared.change.Substitute.{Substitute}
 use Rattle.quic_c_sets.specs.declared.change.Substitute.TheVariants.{Nothing, One, Two}
@@ -18,13 +18,13 @@ use Rattle.quic_c_sets.specs.Changes.{FitsRoom, Plans, after_change, words_of}
 use Rattle.quic_c_sets.proofs.Placing.{many, nowhere, run_at}
 
 -- the ranges after a change
-after_ranges : (words : List RunWords) (s : Splice) → runs_of (after_change words s) ≡ take s.from (runs_of words) ++ (runs_of (words_of s.by) ++ drop s.to (runs_of words))
+after_ranges : (words : List CRange) (s : Splice) → runs_of (after_change words s) ≡ take s.from (runs_of words) ++ (runs_of (words_of s.by) ++ drop s.to (runs_of words))
 after_ranges words s =
     map-append range_of (take s.from words) (words_of s.by ++ drop s.to words)
     ∙ ap (λ (l : List (Range ℕ)). runs_of (take s.from words) ++ l) (map-append range_of (words_of s.by) (drop s.to words))
     ∙ rw (take-map range_of s.from words, drop-map range_of s.to words) refl
 
-plans : (test : ℕ → Bool) (words : List RunWords) (s : Splice) → FitsRoom words s → BecomesRunsOf test (runs_of words) (take s.from (runs_of words) ++ (runs_of (words_of s.by) ++ drop s.to (runs_of words))) → Plans test words s
+plans : (test : ℕ → Bool) (words : List CRange) (s : Splice) → FitsRoom words s → BecomesRunsOf test (runs_of words) (take s.from (runs_of words) ++ (runs_of (words_of s.by) ++ drop s.to (runs_of words))) → Plans test words s
 plans test words s fits runs = record { fits = fits; runs = subst (BecomesRunsOf test (runs_of words)) (sym (after_ranges words s)) runs }
 
 -- ---- insertions
@@ -67,14 +67,14 @@ becomes_touching rs x d i j start end h lt ei ej le es ee out =
           out (at c).0 (at c).1;
     }
 
-pub plan_plain : (words : List RunWords) (x : RunWords) (i j : ℕ) → IsMaximalRuns (runs_of words) → x.start < x.end → i ≡ ends_below (runs_of words) x.start → j ≡ starts_upto (runs_of words) x.end → j ≤ i
+pub plan_plain : (words : List CRange) (x : CRange) (i j : ℕ) → IsMaximalRuns (runs_of words) → x.start < x.end → i ≡ ends_below (runs_of words) x.start → j ≡ starts_upto (runs_of words) x.end → j ≤ i
     → Plans (in_union (runs_of words) (range_of x)) words (record { from = i; to = i; by = One x })
 plan_plain words x i j h lt ei ej le =
     let within = ends_below-length x.start (runs_of words) in
     plans _ words (record { from = i; to = i; by = One x }) (record { ordered = omega arith; within = omega (arith, ei, within, many words); one_more = omega arith })
     (becomes_plain (runs_of words) (range_of x) i j h lt ei ej le)
 
-pub plan_touching : (words : List RunWords) (x : RunWords) (i j start end : ℕ) → IsMaximalRuns (runs_of words) → x.start < x.end → i ≡ ends_below (runs_of words) x.start → j ≡ starts_upto (runs_of words) x.end → i < j
+pub plan_touching : (words : List CRange) (x : CRange) (i j start end : ℕ) → IsMaximalRuns (runs_of words) → x.start < x.end → i ≡ ends_below (runs_of words) x.start → j ≡ starts_upto (runs_of words) x.end → i < j
     → start ≡ min x.start (get_or words i nowhere).start → end ≡ max x.end (get_or words (j - 1) nowhere).end
     → ((get_or words i nowhere).start ≤ x.start → x.end ≤ (get_or words i nowhere).end → ⊥)
     → Plans (in_union (runs_of words) (range_of x)) words (record { from = i; to = j; by = One (record { start = start; end = end }) })
@@ -88,7 +88,7 @@ plan_touching words x i j start end h lt ei ej le es ee out =
     (record { ordered = omega (arith, le); within = omega (arith, ej, within, many words); one_more = omega (arith, le) })
     (becomes_touching (runs_of words) (range_of x) d i j start end h lt ei ej le first last outside)
 
-pub plan_inside : (words : List RunWords) (x : RunWords) (i : ℕ) → IsMaximalRuns (runs_of words) → x.start < x.end → i ≡ ends_below (runs_of words) x.start → i < length words
+pub plan_inside : (words : List CRange) (x : CRange) (i : ℕ) → IsMaximalRuns (runs_of words) → x.start < x.end → i ≡ ends_below (runs_of words) x.start → i < length words
     → (get_or words i nowhere).start ≤ x.start → x.end ≤ (get_or words i nowhere).end → IsRunsOf (in_union (runs_of words) (range_of x)) (runs_of words)
 plan_inside words x i h lt ei in' lo hi =
     let d = range 0 0 in
@@ -129,7 +129,7 @@ most Nothing = omega arith
 most (One run) = omega arith
 most (Two front back) = omega arith
 
-pub plan_removal : (words : List RunWords) (x : RunWords) (i j start end : ℕ) (by : Substitute) → IsMaximalRuns (runs_of words) → x.start < x.end → i ≡ ends_below (runs_of words) (x.start + 1) → j ≡ starts_upto (runs_of words) (x.end - 1)
+pub plan_removal : (words : List CRange) (x : CRange) (i j start end : ℕ) (by : Substitute) → IsMaximalRuns (runs_of words) → x.start < x.end → i ≡ ends_below (runs_of words) (x.start + 1) → j ≡ starts_upto (runs_of words) (x.end - 1)
     → i < j → start ≡ (get_or words i nowhere).start → end ≡ (get_or words (j - 1) nowhere).end → runs_of (words_of by) ≡ piece start x.start ++ piece x.end end
     → Plans (in_difference (runs_of words) (range_of x)) words (record { from = i; to = j; by = by })
 plan_removal words x i j start end by h lt ei ej le es ee eb =

@@ -3,7 +3,7 @@ use Rattle.std.specs.Prelude.{◌≡◌, ℕ, ◌<◌, ◌^◌, ◌⊎◌, true,
 use Rattle.quic_ranges.specs.Runs.{member}
 use Rattle.quic_frame_fields.specs.declared.frame.ack.EcnCounts.{EcnCounts}
 use Rattle.quic_frame_fields.specs.Numbers.{AreNumeric}
-use Rattle.quic_c_sets.specs.declared.words.RunWords.{RunWords}
+use Rattle.quic_c_sets.specs.declared.words.CRange.{CRange}
 use Rattle.quic_c_sets.specs.Sets.{IsSet, first_runs}
 
 -- the counts of ECT(0), ECT(1) and ECN-CE, or none
@@ -13,7 +13,7 @@ counts_in counts = None
 
 -- The first words of an array are a set that has a number, and there is an ACK of it: its numbers, the delay and
 -- three counts or none have encodings.
-pub record DescribesSetAck (delay : ℕ) (words : List RunWords) (count : ℕ) (counts : List ℕ) : Type 0 where
+pub record DescribesSetAck (delay : ℕ) (words : List CRange) (count : ℕ) (counts : List ℕ) : Type 0 where
   pub set : IsSet words count
   pub some : 0 < count
   pub short : (n : ℕ) → member (first_runs count words) n ≡ true → n < 2 ^ 62

@@ -3,43 +3,43 @@ use Rattle.std.specs.Prelude.{◌≡◌, ℕ, ◌+◌, ◌≤◌, Bool, List, le
 use Rattle.std.specs.declared.ops.Range.{Range}
 use Rattle.quic_ranges.specs.Runs.{IsMaximalRuns, IsRunsOf}
 use Rattle.quic_ranges.specs.Splices.{BecomesRunsOf}
-use Rattle.quic_c_sets.specs.declared.words.RunWords.{RunWords}
+use Rattle.quic_c_sets.specs.declared.words.CRange.{CRange}
 
 -- the range from a number to below another
 abbrev pub span : ℕ → ℕ → Range ℕ
 span start end = record { start = start; end = end }
 
 -- the range that the words of a run describe
-abbrev pub range_of : RunWords → Range ℕ
+abbrev pub range_of : CRange → Range ℕ
 range_of words = record { start = words.start; end = words.end }
 
-abbrev pub runs_of : List RunWords → List (Range ℕ)
+abbrev pub runs_of : List CRange → List (Range ℕ)
 runs_of words = map range_of words
 
 -- the ranges that the first words of an array say, so many
-abbrev pub first_runs : ℕ → List RunWords → List (Range ℕ)
+abbrev pub first_runs : ℕ → List CRange → List (Range ℕ)
 first_runs count words = runs_of (take count words)
 
 -- The first words of an array, so many, are the maximal runs of a set.
-pub record IsSet (words : List RunWords) (count : ℕ) : Type 0 where
+pub record IsSet (words : List CRange) (count : ℕ) : Type 0 where
   pub within : count ≤ length words
   pub maximal : IsMaximalRuns (first_runs count words)
 
 -- The first words were a set, and now the first are the set of the numbers that pass the test, which is another; the
 -- words after these didn't change.
-pub record Becomes (test : ℕ → Bool) (old : List RunWords) (before : ℕ) (new : List RunWords) (after : ℕ) : Type 0 where
+pub record Becomes (test : ℕ → Bool) (old : List CRange) (before : ℕ) (new : List CRange) (after : ℕ) : Type 0 where
   pub set : IsSet old before
   pub runs : BecomesRunsOf test (first_runs before old) (first_runs after new)
   pub within : after ≤ length new
   pub behind : drop after new ≡ drop after old
 
 -- They are the set of the numbers that pass the test.
-pub record Stays (test : ℕ → Bool) (words : List RunWords) (count : ℕ) : Type 0 where
+pub record Stays (test : ℕ → Bool) (words : List CRange) (count : ℕ) : Type 0 where
   pub set : IsSet words count
   pub runs : IsRunsOf test (first_runs count words)
 
 -- They are a set and fill the array, and the set of the numbers that pass the test has one run more.
-pub record LacksRoom (test : ℕ → Bool) (words : List RunWords) (count : ℕ) : Type 0 where
+pub record LacksRoom (test : ℕ → Bool) (words : List CRange) (count : ℕ) : Type 0 where
   pub set : IsSet words count
   pub full : count ≡ length words
   pub more : (runs : List (Range ℕ)) → IsRunsOf test runs → length runs ≡ count + 1

@@ -9,7 +9,7 @@ ghost use Rattle.quic_c_sets.specs.Acks.{DescribesSetAck, counts_in};
 ghost use Rattle.quic_c_sets.specs.Sets.{first_runs, range_of, runs_of};
 
 use crate::places::is_set;
-use crate::words::RunWords;
+use crate::words::CRange;
 use quic_frame_fields::frame::put::numbers_at;
 use quic_frame_fields::frame::write::{numbers_len, size_of};
 
@@ -26,7 +26,7 @@ fn are_numeric(numbers: &[u64]) -> bool
 }
 
 // Whether the words describe an ACK.
-fn says_ack(delay: u64, runs: &[RunWords], count: usize, counts: &[u64]) -> bool
+fn says_ack(delay: u64, runs: &[CRange], count: usize, counts: &[u64]) -> bool
     ensures { IsTrue result ↔ DescribesSetAck delay runs.now count counts.now }
 {
     if !is_set(runs, count) || count == 0 || delay >= 1 << 62 {
@@ -54,7 +54,7 @@ fn type_of(counts: &[u64]) -> u64
 
 // How many bytes the runs below another one have, of which each is written as the numbers between it and the one above
 // it, less one, and its own numbers, less one.
-fn below_len(above: RunWords, runs: &[RunWords]) -> usize
+fn below_len(above: CRange, runs: &[CRange]) -> usize
     requires runs { IsMaximalRuns (runs_of runs.now ++ range_of above ∷ []) }
     requires bound { above.start < 2 ^ 62 }
     ensures value { result ≡ length (shortest_below above.start (ranges_in (runs_of runs.now))) }
@@ -75,7 +75,7 @@ fn below_len(above: RunWords, runs: &[RunWords]) -> usize
 }
 
 // Stores the runs below another one, the greatest first, over the bytes at a place, and answers where they end.
-fn store_below(dest: &mut [u8], at: usize, above: RunWords, runs: &[RunWords]) -> usize
+fn store_below(dest: &mut [u8], at: usize, above: CRange, runs: &[CRange]) -> usize
     requires runs { IsMaximalRuns (runs_of runs.now ++ range_of above ∷ []) }
     requires bound { above.start < 2 ^ 62 }
     requires room { at + length (shortest_below above.start (ranges_in (runs_of runs.now))) ≤ length dest.old }
@@ -99,7 +99,7 @@ fn store_below(dest: &mut [u8], at: usize, above: RunWords, runs: &[RunWords]) -
 // Stores the ACK that the words describe at the front of the bytes.
 fn store_ack(
     delay: u64,
-    runs: &[RunWords],
+    runs: &[CRange],
     count: usize,
     counts: &[u64],
     dest: &mut [u8],
@@ -139,7 +139,7 @@ fn store_ack(
 #[unsafe(no_mangle)]
 pub extern "C" fn quic_wire_ack_write_(
     delay: u64,
-    runs: &[RunWords],
+    runs: &[CRange],
     count: usize,
     counts: &[u64],
     dest: &mut [u8],

@@ -6,20 +6,20 @@ ghost use Rattle.quic_c_sets.specs.Sets.{range_of, runs_of};
 ghost use Rattle.quic_c_sets.specs.Changes.{FitsRoom, Made, SetNeedsMore, Plans, words_of};
 
 use crate::places::{count_ends_below, count_starts_upto};
-use crate::words::RunWords;
+use crate::words::CRange;
 
 // The runs that take the place of others.
 #[derive(Clone, Copy)]
 pub(crate) enum Substitute {
     Nothing,
-    One(RunWords),
-    Two(RunWords, RunWords),
+    One(CRange),
+    Two(CRange, CRange),
 }
 
 impl Substitute {
     // Both runs, without an empty or reversed one.
     #[inline(always)]
-    fn of(front: RunWords, back: RunWords) -> Self
+    fn of(front: CRange, back: CRange) -> Self
         ensures { runs_of (words_of result) ≡ piece front.start front.end ++ piece back.start back.end }
     {
         match (front.start < front.end, back.start < back.end) {
@@ -45,7 +45,7 @@ impl Substitute {
 
     // Writes them over the runs from `at` on.
     #[inline(always)]
-    fn write(self, runs: &mut [RunWords], at: usize)
+    fn write(self, runs: &mut [CRange], at: usize)
         requires { at + length (words_of self) ≤ length runs.old }
         ensures { runs.new ≡ take at runs.old ++ (words_of self ++ drop (at + length (words_of self)) runs.old) }
     {
@@ -70,7 +70,7 @@ pub(crate) struct Splice {
 
 // What an insertion of `x` does to the runs; `None` if every number of `x` is in them.
 #[inline(always)]
-pub(crate) fn insertion(runs: &[RunWords], x: RunWords) -> Option<Splice>
+pub(crate) fn insertion(runs: &[CRange], x: CRange) -> Option<Splice>
     requires { IsMaximalRuns (runs_of runs.now) }
     ensures none { IfNone result (IsRunsOf (in_union (runs_of runs.now) (range_of x)) (runs_of runs.now)) }
     ensures some { IfSome result (Plans (in_union (runs_of runs.now) (range_of x)) runs.now) }
@@ -97,13 +97,13 @@ pub(crate) fn insertion(runs: &[RunWords], x: RunWords) -> Option<Splice>
     Some(Splice {
         from,
         to,
-        by: Substitute::One(RunWords { start, end }),
+        by: Substitute::One(CRange { start, end }),
     })
 }
 
 // What a removal of `x` does to the runs; `None` if no number of `x` is in them.
 #[inline(always)]
-pub(crate) fn removal(runs: &[RunWords], x: RunWords) -> Option<Splice>
+pub(crate) fn removal(runs: &[CRange], x: CRange) -> Option<Splice>
     requires { IsMaximalRuns (runs_of runs.now) }
     ensures none { IfNone result (IsRunsOf (in_difference (runs_of runs.now) (range_of x)) (runs_of runs.now)) }
     ensures some { IfSome result (Plans (in_difference (runs_of runs.now) (range_of x)) runs.now) }
@@ -117,11 +117,11 @@ pub(crate) fn removal(runs: &[RunWords], x: RunWords) -> Option<Splice>
         return None;
     }
     let (start, end) = (runs[from].start, runs[to - 1].end);
-    let front = RunWords {
+    let front = CRange {
         start,
         end: x.start,
     };
-    let back = RunWords { start: x.end, end };
+    let back = CRange { start: x.end, end };
     Some(Splice {
         from,
         to,
@@ -132,7 +132,7 @@ pub(crate) fn removal(runs: &[RunWords], x: RunWords) -> Option<Splice>
 // Makes a change of the set in the first words, and counts its runs anew, if there is room for them. The runs after the
 // change are moved together.
 #[inline(always)]
-pub(crate) fn make(runs: &mut [RunWords], count: &mut usize, change: Splice) -> bool
+pub(crate) fn make(runs: &mut [CRange], count: &mut usize, change: Splice) -> bool
     requires within { count.old ≤ length runs.old }
     requires fits { FitsRoom (take count.old runs.old) change }
     ensures made { result ≡ true → Made runs.old count.old change runs.new count.new }

@@ -8,4 +8,4 @@ mod places;
 mod sets;
 mod words;
 
-pub use words::RunWords;
+pub use words::CRange;

@@ -5,10 +5,10 @@ ghost use Rattle.quic_ranges.specs.Runs.{IsMaximalRuns, member};
 ghost use Rattle.quic_ranges.specs.Places.{ends_below, starts_upto};
 ghost use Rattle.quic_c_sets.specs.Sets.{IsSet, runs_of};
 
-use crate::words::RunWords;
+use crate::words::CRange;
 
 // Whether the words are maximal runs.
-fn are_runs(runs: &[RunWords]) -> bool
+fn are_runs(runs: &[CRange]) -> bool
     ensures { IsTrue result ↔ IsMaximalRuns (runs_of runs.now) }
 {
     if runs.is_empty() {
@@ -33,7 +33,7 @@ fn are_runs(runs: &[RunWords]) -> bool
 
 // Whether the first `count` words of an array are the runs of a set.
 #[inline(always)]
-pub(crate) fn is_set(words: &[RunWords], count: usize) -> bool
+pub(crate) fn is_set(words: &[CRange], count: usize) -> bool
     ensures { IsTrue result ↔ IsSet words.now count }
 {
     count <= words.len() && are_runs(&words[..count])
@@ -41,7 +41,7 @@ pub(crate) fn is_set(words: &[RunWords], count: usize) -> bool
 
 // How many runs, from the first on, end below `x`.
 #[inline(always)]
-pub(crate) fn count_ends_below(runs: &[RunWords], x: u64) -> usize
+pub(crate) fn count_ends_below(runs: &[CRange], x: u64) -> usize
     requires { IsMaximalRuns (runs_of runs.now) }
     ensures count { result ≡ ends_below (runs_of runs.now) x }
     ensures within { result ≤ length runs.now }
@@ -55,7 +55,7 @@ pub(crate) fn count_ends_below(runs: &[RunWords], x: u64) -> usize
 
 // How many runs, from the first on, start at `x` or before.
 #[inline(always)]
-pub(crate) fn count_starts_upto(runs: &[RunWords], x: u64) -> usize
+pub(crate) fn count_starts_upto(runs: &[CRange], x: u64) -> usize
     requires { IsMaximalRuns (runs_of runs.now) }
     ensures count { result ≡ starts_upto (runs_of runs.now) x }
     ensures within { result ≤ length runs.now }
@@ -68,7 +68,7 @@ pub(crate) fn count_starts_upto(runs: &[RunWords], x: u64) -> usize
 }
 
 // Whether a number is in one of the runs.
-pub(crate) fn contains(runs: &[RunWords], x: u64) -> bool
+pub(crate) fn contains(runs: &[CRange], x: u64) -> bool
     requires { IsMaximalRuns (runs_of runs.now) }
     ensures { result ≡ member (runs_of runs.now) x }
 {

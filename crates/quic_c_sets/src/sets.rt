@@ -5,7 +5,7 @@ ghost use Rattle.quic_c_sets.specs.Sets.{Becomes, IsSet, LacksRoom, Stays, first
 
 use crate::change::{insertion, make, removal};
 use crate::places::{contains, is_set};
-use crate::words::RunWords;
+use crate::words::CRange;
 
 /// Puts the numbers from `start` to below `end` into the set of the first `count` entries: sorted runs, none empty,
 /// none touching another. An empty or reversed range puts in nothing. It answers 1 if the set changed, with its number
@@ -14,7 +14,7 @@ use crate::words::RunWords;
 /// runs. Nothing changes but with 1.
 #[unsafe(no_mangle)]
 pub extern "C" fn quic_wire_set_insert_(
-    runs: &mut [RunWords],
+    runs: &mut [CRange],
     count: &mut usize,
     start: u64,
     end: u64,
@@ -33,7 +33,7 @@ pub extern "C" fn quic_wire_set_insert_(
     if !is_set(runs, len) {
         return -1;
     }
-    let Some(change) = insertion(&runs[..len], RunWords { start, end }) else {
+    let Some(change) = insertion(&runs[..len], CRange { start, end }) else {
         return 0;
     };
     if make(runs, count, change) { 1 } else { -4 }
@@ -43,7 +43,7 @@ pub extern "C" fn quic_wire_set_insert_(
 /// none of them was in it; -4 exactly if a run is split in two and there is no entry for one more.
 #[unsafe(no_mangle)]
 pub extern "C" fn quic_wire_set_remove_(
-    runs: &mut [RunWords],
+    runs: &mut [CRange],
     count: &mut usize,
     start: u64,
     end: u64,
@@ -63,7 +63,7 @@ pub extern "C" fn quic_wire_set_remove_(
     if !is_set(runs, len) {
         return -1;
     }
-    let Some(change) = removal(&runs[..len], RunWords { start, end }) else {
+    let Some(change) = removal(&runs[..len], CRange { start, end }) else {
         return 0;
     };
     if make(runs, count, change) { 1 } else { -4 }
@@ -72,7 +72,7 @@ pub extern "C" fn quic_wire_set_remove_(
 /// Whether a number is in the set of the first `count` entries. It answers 1 if it is, 0 if it isn't, and -1 exactly if
 /// they are no such runs, as for `quic_wire_set_insert_`.
 #[unsafe(no_mangle)]
-pub extern "C" fn quic_wire_set_contains_(runs: &[RunWords], count: usize, number: u64) -> i32
+pub extern "C" fn quic_wire_set_contains_(runs: &[CRange], count: usize, number: u64) -> i32
     ensures answers { (result ≡ pos 1) ⊎ (result ≡ pos 0) ⊎ (result ≡ negsuc 0) }
     ensures set { (result ≡ negsuc 0) ⊎ IsSet runs.now count }
     ensures present { result ≡ pos 1 → member (first_runs count runs.now) number ≡ true }

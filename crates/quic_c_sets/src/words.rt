@@ -3,7 +3,7 @@
 /// A run of packet numbers, from `start` to below `end`.
 #[repr(C)]
 #[derive(Clone, Copy)]
-pub struct RunWords {
+pub struct CRange {
     /// The least number.
     pub start: u64,
     /// The number above the greatest.
@@ -11,4 +11,4 @@ pub struct RunWords {
 }
 
 // The size that every declaration of the struct in C must have.
-const _: () = prove!(std::mem::size_of::<RunWords>() == 16);
+const _: () = prove!(std::mem::size_of::<CRange>() == 16);

@@ -3,7 +3,7 @@ use Rattle.std.proofs.Common.{◌≡◌, ℕ, ◌+◌, ◌-◌, ◌^◌, min, No
 use Rattle.std.proofs.lemmas.List.Sums.{sum_by_push}
 use Rattle.quic_callers.specs.Data.{data_len, stream_len, streams_len}
 use Rattle.quic_callers.proofs.Walks.{IsOnTheWay, on_the_way_first, on_the_way_next, those_frames}
-use Rattle.quic_frame_fields.specs.Payload.{Meaning, Found, AreFrames, IsEither}
+use Rattle.quic_frame_fields.specs.Payload.{Meaning, TypedFrame, AreFrames, IsEither}
 use Rattle.quic_frame_fields.specs.declared.frame.close.Close.TheVariants as closes
 use Rattle.quic_frame_fields.specs.declared.frame.Stream.{Stream}
 use Rattle.quic_frames.specs.declared.frame.Frame.{Frame}
@@ -26,7 +26,7 @@ unfolding on_the_way_first
 counted_first payload state e = record { came = on_the_way_first payload state e; count = refl }
 
 -- the data of a frame that came
-came_len : (found : Found) (frame : Frame) → found.frame ≡ meaning_of frame → stream_len found ≡ data_len (meaning_of frame).name (meaning_of frame).values
+came_len : (found : TypedFrame) (frame : Frame) → found.frame ≡ meaning_of frame → stream_len found ≡ data_len (meaning_of frame).name (meaning_of frame).values
 came_len found frame says = ap (λ (m : Meaning). data_len m.name m.values) says
 
 other_len : (frame : Frame) → ((s : Stream) → frame ≡ frames.Stream s → ⊥) → data_len (meaning_of frame).name (meaning_of frame).values ≡ 0
@@ -35,7 +35,7 @@ other_len (frames.Close (closes.Connection c)) other = refl
 other_len (frames.Close (closes.Application c)) other = refl
 other_len frame other = refl
 
-more : (found : List Found) (one : Found) (n m len : ℕ) → n ≡ min (streams_len found) most → stream_len one ≡ len → m ≡ min (n + len) most → m ≡ min (streams_len (found ++ one ∷ [])) most
+more : (found : List TypedFrame) (one : TypedFrame) (n m len : ℕ) → n ≡ min (streams_len found) most → stream_len one ≡ len → m ≡ min (n + len) most → m ≡ min (streams_len (found ++ one ∷ [])) most
 more found one n m len so_far is then = omega (arith, so_far, is, then, sum_by_push stream_len found one)
 
 pub counted_other : (payload : List ℕ) (state next : IterState) (frame : Frame) (n : ℕ) → IsCounted payload state n → Finds state frame next → ((s : Stream) → frame ≡ frames.Stream s → ⊥) → IsCounted payload next n
@@ -56,6 +56,6 @@ counted_stream payload state next frame s n m w f is then = record {
 
 -- nothing is left, and no frame was invalid: all data were counted
 pub all_counted : (payload : List ℕ) (start state : IterState) (n : ℕ) → start ≡ first_of false payload → IsCounted payload state n → left state ≡ [] → IsEither false None payload → GivesFrames false payload start
-    → GivesBroken false payload start → (found : List Found) × AreFrames false found payload × (n ≡ min (streams_len found) most)
+    → GivesBroken false payload start → (found : List TypedFrame) × AreFrames false found payload × (n ≡ min (streams_len found) most)
 all_counted payload start state n first w none either frames broken =
     (w.came.found, those_frames payload start state first w.came none either frames broken, w.count)

@@ -5,11 +5,11 @@ use Rattle.quic_header_decode.specs.declared.decode_error.PacketDecodeError.{Pac
 use Rattle.quic_header_decode.specs.declared.decode_error.PacketDecodeError.TheVariants as error
 use Rattle.quic_header_decode.specs.declared.protected.ProtectedHeader.{ProtectedHeader}
 use Rattle.quic_header_decode.specs.Grammar.{HeaderAt, Cut, CutAnswer}
-use Rattle.quic_header_decode.specs.Reading.{Context, len_in}
+use Rattle.quic_header_decode.specs.Reading.{DecodeOptions, len_in}
 use Rattle.quic_header_decode.specs.Refusal.{Refusal, RefusesHeader}
 
 -- a header without a length, and all that follows, are one packet
-pub alone : (context : Context) (bytes front rest : List ℕ) (h : ProtectedHeader) → bytes ≡ front ++ rest → HeaderAt context (length bytes) bytes h rest → len_in h ≡ None
+pub alone : (context : DecodeOptions) (bytes front rest : List ℕ) (h : ProtectedHeader) → bytes ≡ front ++ rest → HeaderAt context (length bytes) bytes h rest → len_in h ≡ None
     → Cut context bytes h (length front) (length bytes)
 alone context bytes front rest h parts is none =
     let whole : length front + length rest ≡ length bytes = sym (ap length parts ∙ length-append front rest) in
@@ -37,7 +37,7 @@ pub as_reported : {T : Type 0} (e : PacketDecodeError) → e ≡ error.OutOfMemo
 as_reported {T} e same = ap (λ (x : PacketDecodeError). let r : Result T PacketDecodeError = Err x in r) same
 
 -- which is the parser's, since nothing follows the packet
-pub parsers_memory : (context : Context) (takes : Bool) (bytes : List ℕ) (h : ProtectedHeader) (p : ℕ)
+pub parsers_memory : (context : DecodeOptions) (takes : Bool) (bytes : List ℕ) (h : ProtectedHeader) (p : ℕ)
     → ((one other : Result (ProtectedHeader × ℕ × ℕ) Refusal) → CutAnswer context bytes one → CutAnswer context bytes other → one ≡ other) → Cut context bytes h p (length bytes)
     → IsTrue takes ⊎ ((g : ProtectedHeader) × (a : ℕ) × (q : ℕ) × Cut context bytes g a q × (q < length bytes)) → IsTrue takes
 parsers_memory context takes bytes h p same cut (inl is) = is
@@ -54,7 +54,7 @@ fixed false random low (inr set) =
     let P : ℕ → Type 0 = λ n. IsTrue (nat_eq n 1) in subst P (sym one) refl
 
 -- equal bytes are cut to packets of one length
-pub as_long : (context : Context) (bytes : List ℕ) (one other : ℕ)
+pub as_long : (context : DecodeOptions) (bytes : List ℕ) (one other : ℕ)
     → ((a b : Result (ProtectedHeader × ℕ × ℕ) Refusal) → CutAnswer context bytes a → CutAnswer context bytes b → a ≡ b)
     → (h : ProtectedHeader) × (end : ℕ) × Cut context bytes h end one → (h : ProtectedHeader) × (end : ℕ) × Cut context bytes h end other → one ≡ other
 as_long context bytes one other same a b =

@@ -8,7 +8,7 @@ use Rattle.quic_frame_fields.specs.declared.frame.close.Close.TheVariants as clo
 use Rattle.quic_frame_fields.specs.declared.frame.ack.Ack.{Ack}
 use Rattle.quic_frame_fields.specs.Table as names
 use Rattle.quic_errors.specs.declared.invalid_frame.InvalidFrame.{InvalidFrame}
-use Rattle.quic_frame_fields.specs.Payload.{Found, IsFrame, AreFrames}
+use Rattle.quic_frame_fields.specs.Payload.{TypedFrame, IsFrame, AreFrames}
 use Rattle.quic_frame_fields.specs.Reading.{Whole, Invalid}
 use Rattle.quic_frames.specs.Meaning.{meaning_of}
 use Rattle.quic_frames.specs.IterState.{IterState}
@@ -21,7 +21,7 @@ two_power (suc (suc zero)) lt = omega arith
 two_power (suc (suc (suc zero))) lt = omega arith
 two_power (suc (suc (suc (suc t)))) lt = absurd (omega (arith, lt))
 
-pub not_empty : (found : Found) (bytes : List ℕ) → IsFrame false found bytes → bytes ≢ []
+pub not_empty : (found : TypedFrame) (bytes : List ℕ) → IsFrame false found bytes → bytes ≢ []
 not_empty found bytes f none =
     let s = f.type_encoded.encoded in
     absurd (omega (arith, ap length (sym f.parts ∙ none), length-append f.type_bytes f.field_bytes, s.width, two_power s.tag s.tag_fits))
@@ -35,22 +35,22 @@ content_is (Err f) x old new content bytes is wrote e empty = absurd (err_is_not
     err_is_not_ok e = cc
 
 -- An iterator over a payload of one frame has that frame left.
-pub one_left : (found : Found) (bytes payload : List ℕ) (it : IterState) → IsFrame false found bytes → payload ≡ bytes → ((fs : List Found) → AreFrames false fs payload → map unplaced (left it) ≡ map given fs)
+pub one_left : (found : TypedFrame) (bytes payload : List ℕ) (it : IterState) → IsFrame false found bytes → payload ≡ bytes → ((fs : List TypedFrame) → AreFrames false fs payload → map unplaced (left it) ≡ map given fs)
     → map unplaced (left it) ≡ map given (found ∷ [])
 one_left found bytes payload it f is gives =
     let one : AreFrames false (found ∷ []) bytes = (bytes, [], sym (append-nil bytes), f, λ opens. refl, refl) in
     gives (found ∷ []) (subst (AreFrames false (found ∷ [])) (sym is) one)
 
 -- The first item that it gives is that frame.
-pub gives_it : (found : Found) (it new : IterState) (item : Option (Result Frame InvalidFrame)) → map unplaced (left it) ≡ map given (found ∷ []) → Advances it item new
+pub gives_it : (found : TypedFrame) (it new : IterState) (item : Option (Result Frame InvalidFrame)) → map unplaced (left it) ≡ map given (found ∷ []) → Advances it item new
     → (frame : Frame) × (item ≡ Some (Ok frame)) × (meaning_of frame ≡ found.frame)
 gives_it found it new None one a = absurd (omega (arith, ap length (ap (map unplaced) (sym a.0) ∙ one)))
 gives_it found it new (Some (Err e)) one a = cc (ap (map unplaced) (sym a.0) ∙ one)
 gives_it found it new (Some (Ok frame)) one a =
     let here : map unplaced (Whole it.offset new.offset a.found ∷ left new) ≡ map given (found ∷ []) = ap (map unplaced) (sym a.first) ∙ one in
-    (frame, refl, sym a.says ∙ ap (λ (f : Found). f.frame) (same here))
+    (frame, refl, sym a.says ∙ ap (λ (f : TypedFrame). f.frame) (same here))
   where
-    same : {f g : Found} {rs : List (Result Found Invalid)} → given f ∷ rs ≡ given g ∷ [] → f ≡ g
+    same : {f g : TypedFrame} {rs : List (Result TypedFrame Invalid)} → given f ∷ rs ≡ given g ∷ [] → f ≡ g
     same e = cc
 
 -- a frame with the name of an ACK is one

@@ -7,7 +7,7 @@ use Rattle.quic_callers.specs.Reported.{IsReported, MayGoOn}
 use Rattle.quic_errors.specs.Codes.{IsErrorOf}
 use Rattle.quic_errors.specs.declared.transport_error.Error.{Error}
 use Rattle.quic_errors.specs.declared.invalid_frame.InvalidFrame.{InvalidFrame}
-use Rattle.quic_frame_fields.specs.Payload.{Found, AreFrames, IsBroken, IsEither}
+use Rattle.quic_frame_fields.specs.Payload.{TypedFrame, AreFrames, IsBroken, IsEither}
 use Rattle.quic_frame_fields.specs.Reading.{Invalid, invalid, reason_text, Broken}
 use Rattle.quic_frame_fields.specs.declared.frame.fault.Fault.{Fault}
 use Rattle.quic_frame_fields.specs.declared.frame.fault.Fault.TheVariants.{UnexpectedEnd, InvalidFrameId, Malformed, LongType}
@@ -17,15 +17,15 @@ use Rattle.quic_frames.specs.IterState.{IterState}
 
 -- Frames came, and what is left from here on is still to come.
 pub record IsOnTheWay (payload : List ℕ) (state : IterState) : Type 0 where
-  pub found : List Found
+  pub found : List TypedFrame
   pub items : map unplaced (left (first_of false payload)) ≡ map given found ++ map unplaced (left state)
 
 unfoldable pub on_the_way_first : (payload : List ℕ) (state : IterState) → state ≡ first_of false payload → IsOnTheWay payload state
 on_the_way_first payload state e = record { found = []; items = ap (λ (w : IterState). map unplaced (left w)) (sym e) }
 
-pub push : (found : List Found) (one : Found) (rest : List (Result Found Invalid)) → map given found ++ given one ∷ rest ≡ map given (found ++ one ∷ []) ++ rest
+pub push : (found : List TypedFrame) (one : TypedFrame) (rest : List (Result TypedFrame Invalid)) → map given found ++ given one ∷ rest ≡ map given (found ++ one ∷ []) ++ rest
 push [] one rest = refl
-push (first ∷ found) one rest = ap (λ (l : List (Result Found Invalid)). given first ∷ l) (push found one rest)
+push (first ∷ found) one rest = ap (λ (l : List (Result TypedFrame Invalid)). given first ∷ l) (push found one rest)
 
 unfoldable pub on_the_way_next : (payload : List ℕ) (state next : IterState) (frame : Frame) → IsOnTheWay payload state → Finds state frame next → IsOnTheWay payload next
 on_the_way_next payload state next frame w f = record {
@@ -33,14 +33,14 @@ on_the_way_next payload state next frame w f = record {
   items = w.items ∙ ap (λ l. map given w.found ++ map unplaced l) f.first ∙ push w.found f.found (map unplaced (left next));
 }
 
-no_error : (found others : List Found) (i : Invalid) → map given found ≡ map given others ++ Err i ∷ [] → {P : Type 0} → P
+no_error : (found others : List TypedFrame) (i : Invalid) → map given found ≡ map given others ++ Err i ∷ [] → {P : Type 0} → P
 no_error [] [] i e = cc
 no_error [] (other ∷ others) i e = cc
 no_error (first ∷ found) [] i e = cc
 no_error (first ∷ found) (other ∷ others) i e =
     let rest : map given found ≡ map given others ++ Err i ∷ [] = cc in no_error found others i rest
 
-same_error : (found others : List Found) (i j : Invalid) → map given found ++ Err i ∷ [] ≡ map given others ++ Err j ∷ [] → i ≡ j
+same_error : (found others : List TypedFrame) (i j : Invalid) → map given found ++ Err i ∷ [] ≡ map given others ++ Err j ∷ [] → i ≡ j
 same_error [] [] i j e = cc
 same_error [] (other ∷ others) i j e = cc
 same_error (first ∷ found) [] i j e = cc
@@ -49,7 +49,7 @@ same_error (first ∷ found) (other ∷ others) i j e =
 
 -- what is reported of the payload is what the walk met
 pub record IsMet (payload : List ℕ) (i : Invalid) : Type 0 where
-  pub found : List Found
+  pub found : List TypedFrame
   pub type : Option ℕ
   pub reason : Fault
   pub broken : IsBroken false None found payload type reason
@@ -78,8 +78,8 @@ tells payload i error m e = inr (m.found, m.type, m.reason, m.broken, subst (λ 
 
 -- What follows can't mend what the walk met, where it was reported for another reason than the end of the bytes.
 pub lost : (front : List ℕ) (i : InvalidFrame)
-    → ((strict : Bool) (found others : List Found) (bytes more : List ℕ) (type : Option ℕ) (reason : Fault) → AreBytes (bytes ++ more) → AreFrames strict found (bytes ++ more) → IsBroken strict None others bytes type reason → reason ≡ UnexpectedEnd)
-    → IsMet front (invalid_of i) → i.reason.now ≢ codes "unexpected end" → (more : List ℕ) (found : List Found) → AreBytes (front ++ more) → AreFrames false found (front ++ more) → ⊥
+    → ((strict : Bool) (found others : List TypedFrame) (bytes more : List ℕ) (type : Option ℕ) (reason : Fault) → AreBytes (bytes ++ more) → AreFrames strict found (bytes ++ more) → IsBroken strict None others bytes type reason → reason ≡ UnexpectedEnd)
+    → IsMet front (invalid_of i) → i.reason.now ≢ codes "unexpected end" → (more : List ℕ) (found : List TypedFrame) → AreBytes (front ++ more) → AreFrames false found (front ++ more) → ⊥
 lost front i last m final more found fits frames =
     let cut : m.reason ≡ UnexpectedEnd = last false found m.found front more m.type m.reason fits frames m.broken in
     let text : reason_text m.reason ≡ i.reason.now = ap (λ (x : Invalid). x.reason) m.reported in
@@ -97,7 +97,7 @@ may_go_on front i m cut =
     let end : m.reason ≡ UnexpectedEnd = reason_is_end m.reason (ap (λ (x : Invalid). x.reason) m.reported ∙ cut) in
     inr (inr (m.found, m.type, subst (λ (r : Fault). IsBroken false None m.found front m.type r) end m.broken))
 
-same_frames : (found others : List Found) → map given found ≡ map given others → found ≡ others
+same_frames : (found others : List TypedFrame) → map given found ≡ map given others → found ≡ others
 same_frames [] [] e = refl
 same_frames [] (other ∷ others) e = cc
 same_frames (first ∷ found) [] e = cc
@@ -120,13 +120,13 @@ those_frames payload start state first w none either frames broken = by_case eit
 
 -- nothing is left, and no frame was invalid
 pub all_frames : (payload : List ℕ) (start state : IterState) → start ≡ first_of false payload → IsOnTheWay payload state → left state ≡ [] → IsEither false None payload → GivesBroken false payload start
-    → (found : List Found) × AreFrames false found payload
+    → (found : List TypedFrame) × AreFrames false found payload
 all_frames payload start state first w none either broken = by_case either
   where
     items : map unplaced (left start) ≡ map given w.found
     items = ap (λ (o : IterState). map unplaced (left o)) first ∙ w.items ∙ ap (λ l. map given w.found ++ map unplaced l) none ∙ append-nil (map given w.found)
 
-    by_case : IsEither false None payload → (found : List Found) × AreFrames false found payload
+    by_case : IsEither false None payload → (found : List TypedFrame) × AreFrames false found payload
     by_case (inl s) = s
     by_case (inr s) = no_error w.found s.0 (invalid s.1 s.2) (sym items ∙ broken s.0 s.1 s.2 s.3)
 

@@ -1,7 +1,7 @@
 -- Three numbers in a row: two varints and one of eight bytes.
 use Rattle.std.specs.Prelude.{ℕ, List, ◌++◌}
 use Rattle.quic_base.specs.Number.{IsNumber, bytes_of}
-use Rattle.quic_base.specs.Varint.{Encodes, short}
+use Rattle.quic_base.specs.Varint.{Encodes, shortest_varint}
 use Rattle.quic_base.specs.Codec.{Follows}
 
 -- an encoding of each
@@ -10,4 +10,4 @@ EncodesReset id code offset = Follows (Encodes id) (Follows (Encodes code) (IsNu
 
 -- the one that is written
 abbrev pub reset_bytes : ℕ → ℕ → ℕ → List ℕ
-reset_bytes id code offset = short id ++ (short code ++ bytes_of 8 offset)
+reset_bytes id code offset = shortest_varint id ++ (shortest_varint code ++ bytes_of 8 offset)

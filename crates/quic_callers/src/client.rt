@@ -2,7 +2,7 @@
 //! over `Buf` and `BufMut` learn from the codecs.
 ghost use Rattle.std.specs.Prelude.{◌≡◌, ◌<◌, ◌^◌, ◌++◌, List, ℕ, Ok, length, IfOk, OnErr, OnOk};
 ghost use Rattle.quic_base.specs.Codec.{Takes, NoFront, Follows, IsBegun, KeepsRoom};
-ghost use Rattle.quic_base.specs.Varint.{Encodes, short};
+ghost use Rattle.quic_base.specs.Varint.{Encodes, shortest_varint};
 ghost use Rattle.quic_callers.specs.Reset.{EncodesReset, reset_bytes};
 
 use bytes::{Buf, BufMut};
@@ -84,7 +84,7 @@ pub fn read_two<T: Codec + Drop, B: Buf>(buf: &mut B) -> Result<(T, T)>
 /// is below 2^62, and that the bytes begin with its shortest encoding.
 pub fn read_back(bytes: &[u8], n: u64, rest: &[u8]) -> Result<u64>
     requires small { n < 2 ^ 62 }
-    requires stands { bytes.now ≡ short n ++ rest.now }
+    requires stands { bytes.now ≡ shortest_varint n ++ rest.now }
     ensures { result ≡ Ok n }
 {
     let mut left = bytes;

@@ -10,7 +10,7 @@ ghost use Rattle.quic_params.specs.declared.record.TransportParameters.{Transpor
 
 use quic_base::coding::NoRoom;
 use quic_base::ids::Side;
-use quic_errors::transport_error::Error;
+use quic_frames::transport_error::Error;
 use quic_params::laws;
 use quic_params::transport_parameters::{TransportParameters, split_entry};
 

@@ -3,7 +3,7 @@ ghost use Rattle.std.specs.Prelude.{◌≡◌, ◌≢◌, ◌<◌, ◌^◌, ◌-
 ghost use Rattle.quic_base.specs.Number.{AreBytes};
 ghost use Rattle.quic_callers.specs.Data.{streams_len};
 ghost use Rattle.quic_callers.specs.Reported.{IsReported, MayGoOn};
-ghost use Rattle.quic_frame_fields.specs.Payload.{Found, AreFrames};
+ghost use Rattle.quic_frame_fields.specs.Payload.{TypedFrame, AreFrames};
 ghost use Rattle.quic_frame_fields.specs.Shortest.{shortest_frame};
 ghost use Rattle.quic_frames.specs.Meaning.{meaning_of};
 ghost use Rattle.quic_frames.specs.declared.frame.Frame.TheVariants as frames;
@@ -32,7 +32,7 @@ pub fn stream_data(payload: &[u8]) -> (usize, Option<FrameType>) {
 /// How many bytes of stream data a valid payload has, or 2^64 - 1 if that is less; else the error to close the
 /// connection with, which is the one that the grammar gives.
 pub fn all_stream_data(payload: &[u8]) -> Result<usize, Error>
-    ensures ok { IfOk result (λ count. (found : List Found) × AreFrames false found payload.now
+    ensures ok { IfOk result (λ count. (found : List TypedFrame) × AreFrames false found payload.now
         × (count ≡ min (streams_len found) (2 ^ 64 - 1))) }
     ensures err { IfErr result (λ e. IsReported payload.now e) }
 {
@@ -53,7 +53,7 @@ pub fn all_stream_data(payload: &[u8]) -> Result<usize, Error>
 /// Whether no payload that begins with these bytes can be valid: exactly where reading them fails for another reason
 /// than `unexpected end`.
 pub fn is_lost(front: &[u8]) -> bool
-    ensures lost { IsTrue result → (more : List ℕ) (found : List Found) → AreBytes (front.now ++ more)
+    ensures lost { IsTrue result → (more : List ℕ) (found : List TypedFrame) → AreBytes (front.now ++ more)
         → AreFrames false found (front.now ++ more) → ⊥ }
     ensures going { result ≡ false → MayGoOn front.now }
 {

@@ -4,7 +4,7 @@ use Rattle.std.specs.Prelude.{◌⊎◌, slice_range}
 use Rattle.std.proofs.lemmas.List.{length-append, length-drop}
 use Rattle.quic_frames.specs.declared.frame.Frame.{Frame}
 use Rattle.quic_frame_fields.specs.declared.frame.fault.Fault.{Fault}
-use Rattle.quic_frame_fields.specs.Payload.{Found, AreFrames, IsBroken, IsEither}
+use Rattle.quic_frame_fields.specs.Payload.{TypedFrame, AreFrames, IsBroken, IsEither}
 use Rattle.quic_frame_fields.specs.Reading.{Invalid, invalid, Broken}
 use Rattle.quic_frame_fields.specs.Shortest.{shortest_frame}
 use Rattle.quic_frames.specs.Least.{frame_in, shortest_frames}
@@ -16,20 +16,20 @@ use Rattle.quic_canon.proofs.Cuts.{take_on}
 use Rattle.quic_canon.proofs.Steps.{BeginsNone, OneShortest, Walks, here, given_on, walk_on, next_frame, at_most, span_of, Tested, shortest_there, longer_there, shortest_next, walk_begins}
 
 -- The first n bytes are in their shortest encoding, and either all frames so far are, or the next one isn't.
-pub record InFront (payload : List ℕ) (n : ℕ) (state : IterState) (found : List Found) : Type 0 where
-  pub others : List Found
+pub record InFront (payload : List ℕ) (n : ℕ) (state : IterState) (found : List TypedFrame) : Type 0 where
+  pub others : List TypedFrame
   pub cut : IsCut payload n found others
-  pub rest : List Found
+  pub rest : List TypedFrame
   pub left_are : map unplaced (left state) ≡ map given rest
   pub is_there : ((n ≡ state.offset) × (rest ≡ others)) ⊎ ((n < state.offset) × (length (shortest_frames (map frame_in others)) < length payload - n))
 
 pub record FrontWalk (payload : List ℕ) (front start : ℕ) (state : IterState) : Type 0 where
   pub walks : Walks payload start state
   pub before : front ≤ start
-  pub in_front : (found : List Found) → AreFrames false found payload → InFront payload front state found
+  pub in_front : (found : List TypedFrame) → AreFrames false found payload → InFront payload front state found
 
 -- where the walk begins
-pub front_begins : (payload : List ℕ) (state : IterState) (found : List Found) → state ≡ first_of false payload → map unplaced (left state) ≡ map given found → AreFrames false found payload → InFront payload 0 state found
+pub front_begins : (payload : List ℕ) (state : IterState) (found : List TypedFrame) → state ≡ first_of false payload → map unplaced (left state) ≡ map given found → AreFrames false found payload → InFront payload 0 state found
 front_begins payload state found first are s = record {
   others = found;
   cut = record { back = s; parts = refl; within = omega arith };
@@ -47,7 +47,7 @@ front_walk_begins payload state first e whole broken = record {
 }
 
 -- the frames that are left where all before are in their shortest encodings
-all_so_far : (payload : List ℕ) (n : ℕ) (state : IterState) (found : List Found) → (f : InFront payload n state found) → n ≡ state.offset → f.rest ≡ f.others
+all_so_far : (payload : List ℕ) (n : ℕ) (state : IterState) (found : List TypedFrame) → (f : InFront payload n state found) → n ≡ state.offset → f.rest ≡ f.others
 all_so_far payload n state found f e = is f.is_there
   where
     is : ((n ≡ state.offset) × (f.rest ≡ f.others)) ⊎ ((n < state.offset) × (length (shortest_frames (map frame_in f.others)) < length payload - n)) → f.rest ≡ f.others
@@ -132,12 +132,12 @@ front_stays payload front start old new frame differs w f =
           };
     }
   where
-    later : old.offset ≡ start → start < new.offset → (others rest : List Found) → ((front ≡ old.offset) × (rest ≡ others)) ⊎ ((front < old.offset) × (length (shortest_frames (map frame_in others)) < length payload - front))
-        → {more : List Found} → ((front ≡ new.offset) × (more ≡ others)) ⊎ ((front < new.offset) × (length (shortest_frames (map frame_in others)) < length payload - front))
+    later : old.offset ≡ start → start < new.offset → (others rest : List TypedFrame) → ((front ≡ old.offset) × (rest ≡ others)) ⊎ ((front < old.offset) × (length (shortest_frames (map frame_in others)) < length payload - front))
+        → {more : List TypedFrame} → ((front ≡ new.offset) × (more ≡ others)) ⊎ ((front < new.offset) × (length (shortest_frames (map frame_in others)) < length payload - front))
     later is some others rest (inl a) = absurd (differs (a.0 ∙ is))
     later is some others rest (inr a) = inr (let lt = a.0 in omega (arith, lt, is, some), a.1)
 
-not_empty : (found : List Found) (i : Invalid) → [] ≡ map given found ++ Err i ∷ [] → ⊥
+not_empty : (found : List TypedFrame) (i : Invalid) → [] ≡ map given found ++ Err i ∷ [] → ⊥
 not_empty [] i e = cc
 not_empty (f ∷ found) i e = cc
 
@@ -155,7 +155,7 @@ front_done payload front start state some (inl a) w none =
       shorter = λ lt. shorter (w.walks.start_is ∙ at) f.others f.rest lt f.is_there;
     }
   where
-    shorter : state.offset ≡ length payload → (others rest : List Found) → front < length payload → ((front ≡ state.offset) × (rest ≡ others)) ⊎ ((front < state.offset) × (length (shortest_frames (map frame_in others)) < length payload - front))
+    shorter : state.offset ≡ length payload → (others rest : List TypedFrame) → front < length payload → ((front ≡ state.offset) × (rest ≡ others)) ⊎ ((front < state.offset) × (length (shortest_frames (map frame_in others)) < length payload - front))
         → length (shortest_frames (map frame_in others)) < length payload - front
     shorter is others rest lt (inl b) = let e = b.0 in absurd (omega (arith, lt, e, is))
     shorter is others rest lt (inr b) = b.1
@@ -164,17 +164,17 @@ front_done payload front start state some (inr b) w none =
 
 -- an invalid frame
 pub front_fails : (payload : List ℕ) (front start : ℕ) (state : IterState) (i : Invalid) → IsEither false None payload → FrontWalk payload front start state → left state ≡ Broken i ∷ []
-    → (found : List Found) × (type : Option ℕ) × (reason : Fault) × IsBroken false None found payload type reason × (i ≡ invalid type reason)
+    → (found : List TypedFrame) × (type : Option ℕ) × (reason : Fault) × IsBroken false None found payload type reason × (i ≡ invalid type reason)
 front_fails payload front start state i (inl a) w is =
     let f = w.in_front a.0 a.1 in absurd (no_error f.rest i (sym (ap (map unplaced) is) ∙ f.left_are))
   where
-    no_error : (rest : List Found) (i : Invalid) → Err i ∷ [] ≡ map given rest → ⊥
+    no_error : (rest : List TypedFrame) (i : Invalid) → Err i ∷ [] ≡ map given rest → ⊥
     no_error [] i e = cc
     no_error (f ∷ rest) i e = cc
 front_fails payload front start state i (inr b) w is =
     let r = w.walks.broken b.0 b.1 b.2 b.3 in (b.0, b.1, b.2, b.3, error_is r.0 i (invalid b.1 b.2) (sym (ap (map unplaced) is) ∙ r.1))
   where
-    error_is : (rest : List Found) (i j : Invalid) → Err i ∷ [] ≡ map given rest ++ Err j ∷ [] → i ≡ j
+    error_is : (rest : List TypedFrame) (i j : Invalid) → Err i ∷ [] ≡ map given rest ++ Err j ∷ [] → i ≡ j
     error_is [] i j e = cc
     error_is (f ∷ rest) i j e = absurd cc
 

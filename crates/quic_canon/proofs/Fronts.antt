@@ -5,7 +5,7 @@ use Rattle.std.proofs.lemmas.Bool.Decides.{nat_tests}
 use Rattle.std.proofs.lemmas.List.{append-nil, length-append, length-take, length-drop, take-append-drop}
 use Rattle.quic_base.specs.Number.{AreBytes}
 use Rattle.quic_frame_fields.specs.declared.frame.fault.Fault.{Fault}
-use Rattle.quic_frame_fields.specs.Payload.{Found, AreFrames, IsBroken}
+use Rattle.quic_frame_fields.specs.Payload.{TypedFrame, AreFrames, IsBroken}
 use Rattle.quic_frames.specs.Least.{frame_in, shortest_frames}
 use Rattle.quic_canon.specs.Front.{IsFront}
 use Rattle.quic_canon.specs.Least.{IsLeast}
@@ -19,7 +19,7 @@ use Rattle.quic_canon.proofs.Steps.{from_test}
 -- ---- the least payload of one whose front is known
 
 abbrev pub HasLeast : Type 0
-HasLeast = (found : List Found) (payload : List ℕ) → payload ≢ [] → AreFrames false found payload → IsLeast (shortest_frames (map frame_in found)) payload
+HasLeast = (found : List TypedFrame) (payload : List ℕ) → payload ≢ [] → AreFrames false found payload → IsLeast (shortest_frames (map frame_in found)) payload
 
 pub front_least : (payload : List ℕ) (n : ℕ) → HasLeast → (f : IsFront payload n) → IsLeast (take n payload ++ shortest_frames (map frame_in f.others)) payload
 front_least payload n has f = subst (λ (l : List ℕ). IsLeast l payload) f.cut.parts (has f.found payload f.some f.encoded)
@@ -31,7 +31,7 @@ drop_end payload n le = nothing (drop n payload) (omega (arith, length-drop n pa
     nothing [] le = refl
     nothing (x ∷ l) le = absurd (omega (arith, le))
 
-no_others : (others : List Found) (bytes : List ℕ) → bytes ≡ [] → AreFrames false others bytes → others ≡ []
+no_others : (others : List TypedFrame) (bytes : List ℕ) → bytes ≡ [] → AreFrames false others bytes → others ≡ []
 no_others [] bytes e s = refl
 no_others (f ∷ others) bytes e s = absurd (no_frame f s.0 s.3 (front_nil s.0 s.1 (sym s.2 ∙ e)))
   where
@@ -42,7 +42,7 @@ no_others (f ∷ others) bytes e s = absurd (no_frame f s.0 s.3 (front_nil s.0 s
 pub front_whole : (payload : List ℕ) (n : ℕ) → HasLeast → IsFront payload n → drop n payload ≡ [] → IsLeast (take n payload) payload
 front_whole payload n has f e =
     let none = no_others f.others (drop n payload) e f.cut.back in
-    subst (λ (l : List ℕ). IsLeast l payload) (ap (λ (l : List Found). take n payload ++ shortest_frames (map frame_in l)) none ∙ append-nil (take n payload)) (front_least payload n has f)
+    subst (λ (l : List ℕ). IsLeast l payload) (ap (λ (l : List TypedFrame). take n payload ++ shortest_frames (map frame_in l)) none ∙ append-nil (take n payload)) (front_least payload n has f)
 
 pub itself_least : (payload : List ℕ) (n : ℕ) → HasLeast → IsFront payload n → n ≡ length payload → IsLeast payload payload
 itself_least payload n has f e =
@@ -69,7 +69,7 @@ is_not_itself payload n has f differs l = let lt = is_shorter payload payload n 
 -- ---- what is refused has none
 
 pub wrong_has_none : (payload least : List ℕ) (e : CanonError) → AreBytes payload
-    → ((found : List Found) (least payload : List ℕ) (type : Option ℕ) (reason : Fault) → AreBytes payload → IsBroken false None found payload type reason → IsLeast least payload → ⊥)
+    → ((found : List TypedFrame) (least payload : List ℕ) (type : Option ℕ) (reason : Fault) → AreBytes payload → IsBroken false None found payload type reason → IsLeast least payload → ⊥)
     → IsWrong payload e → IsLeast least payload → ⊥
 wrong_has_none payload least Empty fits none w l = other_some least payload l.same w.0
 wrong_has_none payload least (Invalid i) fits none w l = let b = w.0 in none b.0 least payload b.1 b.2 fits b.3 l
@@ -84,7 +84,7 @@ no_bytes l e = none l (from_test (length l) 0 e)
 
 -- what was written in two parts, and in one
 pub appends_two : (old mid new payload front back : List ℕ) (n : ℕ) → HasLeast → IsFront payload n → front ≡ take n payload → back ≡ drop n payload → mid ≡ old ++ front
-    → ((found : List Found) → AreFrames false found back → new ≡ mid ++ shortest_frames (map frame_in found)) → AppendsLeast old new payload
+    → ((found : List TypedFrame) → AreFrames false found back → new ≡ mid ++ shortest_frames (map frame_in found)) → AppendsLeast old new payload
 appends_two old mid new payload front back n has f is is_back copied written =
     let others = shortest_frames (map frame_in f.others) in
     let wrote = written f.others (subst (AreFrames false f.others) (sym is_back) f.cut.back) in

@@ -3,7 +3,7 @@ use Rattle.std.proofs.Common.{◌≡◌, ◌≢◌, ℕ, Bool, true, false, List
 use Rattle.quic_base.specs.Number.{AreBytes}
 use Rattle.quic_base.proofs.PublicLaws.{encoded_bound}
 use Rattle.quic_frame_fields.specs.declared.frame.fault.Fault.{Fault}
-use Rattle.quic_frame_fields.specs.Payload.{Meaning, Found, IsFrame, AreFrames, IsBroken}
+use Rattle.quic_frame_fields.specs.Payload.{Meaning, TypedFrame, IsFrame, AreFrames, IsBroken}
 use Rattle.quic_frames.specs.Least.{AreOrExceed, frame_in, all_written, shortest_frames}
 use Rattle.quic_canon.specs.Same.{AreSameFrames, IsSame}
 use Rattle.quic_canon.specs.Least.{IsLeast}
@@ -11,13 +11,13 @@ use Rattle.quic_canon.proofs.SameFrames.{frames_same, frames_themselves}
 
 -- what is used of the laws of payloads
 abbrev pub OneReading : Type 0
-OneReading = (some others : List Found) (bytes : List ℕ) → AreFrames false some bytes → AreFrames false others bytes → some ≡ others
+OneReading = (some others : List TypedFrame) (bytes : List ℕ) → AreFrames false some bytes → AreFrames false others bytes → some ≡ others
 
 abbrev pub Shortest : Type 0
-Shortest = (found : List Found) (bytes : List ℕ) → AreFrames false found bytes → AreOrExceed bytes (shortest_frames (map frame_in found))
+Shortest = (found : List TypedFrame) (bytes : List ℕ) → AreFrames false found bytes → AreOrExceed bytes (shortest_frames (map frame_in found))
 
 abbrev pub Encoded : Type 0
-Encoded = (strict : Bool) (found : List Found) (bytes : List ℕ) → AreFrames false found bytes → AreFrames strict (all_written (map frame_in found)) (shortest_frames (map frame_in found))
+Encoded = (strict : Bool) (found : List TypedFrame) (bytes : List ℕ) → AreFrames false found bytes → AreFrames strict (all_written (map frame_in found)) (shortest_frames (map frame_in found))
 
 abbrev pub Written : Type 0
 Written = (frames : List Meaning) → map frame_in (all_written frames) ≡ frames
@@ -25,14 +25,14 @@ Written = (frames : List Meaning) → map frame_in (all_written frames) ≡ fram
 -- ---- meaning the same
 
 -- the frames of one payload, where those of the other are given
-along : (payload other : List ℕ) (found : List Found) → OneReading → IsSame payload other → AreFrames false found other
-    → (frames : List Found) × AreFrames false frames payload × (map frame_in frames ≡ map frame_in found)
+along : (payload other : List ℕ) (found : List TypedFrame) → OneReading → IsSame payload other → AreFrames false found other
+    → (frames : List TypedFrame) × AreFrames false frames payload × (map frame_in frames ≡ map frame_in found)
 along payload other found one s f =
     let are = one s.others found other s.other_encoded f in
     let same = frames_same s.frames s.others payload other s.encoded s.other_encoded s.same in
     (s.frames, s.encoded, same ∙ ap (map frame_in) are)
 
-make_same : (payload other : List ℕ) (frames others : List Found) → payload ≢ [] → AreFrames false frames payload → AreFrames false others other → map frame_in frames ≡ map frame_in others → IsSame payload other
+make_same : (payload other : List ℕ) (frames others : List TypedFrame) → payload ≢ [] → AreFrames false frames payload → AreFrames false others other → map frame_in frames ≡ map frame_in others → IsSame payload other
 make_same payload other frames others some s t e = record {
   some = some;
   frames = frames;
@@ -46,12 +46,12 @@ front_nil : (front back : List ℕ) → front ++ back ≡ [] → front ≡ []
 front_nil [] back e = refl
 front_nil (b ∷ front) back e = absurd cc
 
-pub no_frame : (found : Found) (bytes : List ℕ) → IsFrame false found bytes → bytes ≢ []
+pub no_frame : (found : TypedFrame) (bytes : List ℕ) → IsFrame false found bytes → bytes ≢ []
 no_frame found bytes f none =
     let some = (encoded_bound found.type f.type_bytes f.type_encoded.encoded).1 in
     absurd (omega (arith, some, ap length (front_nil f.type_bytes f.field_bytes (sym f.parts ∙ none))))
 
-filled : (frames others : List Found) (payload other : List ℕ) → payload ≢ [] → AreFrames false frames payload → AreFrames false others other → AreSameFrames (map frame_in frames) (map frame_in others) → other ≢ []
+filled : (frames others : List TypedFrame) (payload other : List ℕ) → payload ≢ [] → AreFrames false frames payload → AreFrames false others other → AreSameFrames (map frame_in frames) (map frame_in others) → other ≢ []
 filled [] others payload other some s t same none = some s
 filled (f ∷ frames) [] payload other some s t same none = absurd same
 filled (f ∷ frames) (g ∷ others) payload other some s t same none = no_frame g t.0 t.3 (front_nil t.0 t.1 (sym t.2 ∙ none))
@@ -70,15 +70,15 @@ join first second third one s t =
 
 -- ---- the least payload
 
-encoded_some : (frames : List Found) (payload : List ℕ) → payload ≢ [] → AreFrames false frames payload → map frame_in frames ≢ []
+encoded_some : (frames : List TypedFrame) (payload : List ℕ) → payload ≢ [] → AreFrames false frames payload → map frame_in frames ≢ []
 encoded_some [] payload some s e = some s
 encoded_some (f ∷ frames) payload some s e = cc
 
-some_encoded : (frames : List Found) (payload : List ℕ) → map frame_in frames ≢ [] → AreFrames false frames payload → payload ≢ []
+some_encoded : (frames : List TypedFrame) (payload : List ℕ) → map frame_in frames ≢ [] → AreFrames false frames payload → payload ≢ []
 some_encoded [] payload some s none = some refl
 some_encoded (f ∷ frames) payload some s none = no_frame f s.0 s.3 (front_nil s.0 s.1 (sym s.2 ∙ none))
 
-pub has_least : (found : List Found) (payload : List ℕ) → OneReading → Shortest → Encoded → Written → payload ≢ [] → AreFrames false found payload → IsLeast (shortest_frames (map frame_in found)) payload
+pub has_least : (found : List TypedFrame) (payload : List ℕ) → OneReading → Shortest → Encoded → Written → payload ≢ [] → AreFrames false found payload → IsLeast (shortest_frames (map frame_in found)) payload
 has_least found payload one shortest encoded written some s =
     let frames = map frame_in found in
     let least = shortest_frames frames in
@@ -118,7 +118,7 @@ pub least_of_least : (payload least : List ℕ) → OneReading → IsLeast least
 least_of_least payload least one l = least_along least payload least one l (flip least payload l.same)
 
 -- Its types are in their least widths.
-pub least_is_strict : (payload least : List ℕ) → OneReading → Shortest → Encoded → Written → IsLeast least payload → (found : List Found) × AreFrames true found least × AreFrames false found least
+pub least_is_strict : (payload least : List ℕ) → OneReading → Shortest → Encoded → Written → IsLeast least payload → (found : List TypedFrame) × AreFrames true found least × AreFrames false found least
 least_is_strict payload least one shortest encoded written l =
     let s = l.same in
     let found = s.others in
@@ -131,7 +131,7 @@ least_is_strict payload least one shortest encoded written l =
     )
 
 -- a payload with an error has none
-pub broken_has_none : (found : List Found) (least payload : List ℕ) (type : Option ℕ) (reason : Fault)
-    → ((some others : List Found) (bytes : List ℕ) (type : Option ℕ) (reason : Fault) → AreBytes bytes → AreFrames false some bytes → IsBroken false None others bytes type reason → ⊥)
+pub broken_has_none : (found : List TypedFrame) (least payload : List ℕ) (type : Option ℕ) (reason : Fault)
+    → ((some others : List TypedFrame) (bytes : List ℕ) (type : Option ℕ) (reason : Fault) → AreBytes bytes → AreFrames false some bytes → IsBroken false None others bytes type reason → ⊥)
     → AreBytes payload → IsBroken false None found payload type reason → IsLeast least payload → ⊥
 broken_has_none found least payload type reason never_both fits b l = never_both l.same.others found payload type reason fits l.same.other_encoded b

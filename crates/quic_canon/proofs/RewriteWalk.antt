@@ -4,7 +4,7 @@ use Rattle.std.specs.Prelude.{slice_range, Vec, vec_len, vec_capacity}
 use Rattle.std.specs.declared.alloc.Global.{Global}
 use Rattle.std.proofs.lemmas.List.{append-nil, length-append}
 use Rattle.quic_frames.specs.declared.frame.Frame.{Frame}
-use Rattle.quic_frame_fields.specs.Payload.{Found, AreFrames, IsEither}
+use Rattle.quic_frame_fields.specs.Payload.{TypedFrame, AreFrames, IsEither}
 use Rattle.quic_frame_fields.specs.Reading.{Invalid}
 use Rattle.quic_frames.specs.Meaning.{meaning_of}
 use Rattle.quic_frame_fields.specs.Shortest.{shortest_frame}
@@ -17,8 +17,8 @@ use Rattle.quic_canon.proofs.Cuts.{slice_on, slice_none}
 use Rattle.quic_canon.proofs.Steps.{BeginsNone, OneShortest, Walks, walk_on, next_frame, at_most, span_of, Tested, frame_length, shortest_there, shortest_next, walk_begins, fails_err}
 
 -- What was written, and the bytes from a place on that stand as they are, are what the frames so far become.
-pub record Rewrites (old new : Vec ℕ Global) (payload : List ℕ) (from start : ℕ) (state : IterState) (found : List Found) : Type 0 where
-  pub rest : List Found
+pub record Rewrites (old new : Vec ℕ Global) (payload : List ℕ) (from start : ℕ) (state : IterState) (found : List TypedFrame) : Type 0 where
+  pub rest : List TypedFrame
   pub left_are : map unplaced (left state) ≡ map given rest
   pub encoded : AreFrames false rest (drop start payload)
   pub bytes : List ℕ
@@ -29,7 +29,7 @@ pub record Rewrites (old new : Vec ℕ Global) (payload : List ℕ) (from start 
 pub record RewriteWalk (old new : Vec ℕ Global) (payload : List ℕ) (from start : ℕ) (state : IterState) : Type 0 where
   pub walks : Walks payload start state
   pub capacity : vec_capacity old ≤ vec_capacity new
-  pub rewrites : (found : List Found) → AreFrames false found payload → Rewrites old new payload from start state found
+  pub rewrites : (found : List TypedFrame) → AreFrames false found payload → Rewrites old new payload from start state found
 
 pub rewrite_walk_begins : (old : Vec ℕ Global) (payload : List ℕ) (state : IterState) → state ≡ first_of false payload → IsEither false None payload → GivesFrames false payload state → GivesBroken false payload state
     → RewriteWalk old old payload 0 0 state
@@ -47,34 +47,34 @@ rewrite_walk_begins old payload state first e whole broken = record {
   };
 }
 
-no_error : (rest : List Found) (i : Invalid) → Err i ∷ [] ≡ map given rest → ⊥
+no_error : (rest : List TypedFrame) (i : Invalid) → Err i ∷ [] ≡ map given rest → ⊥
 no_error [] i e = cc
 no_error (f ∷ rest) i e = cc
 
-pub never_fails : (old new : Vec ℕ Global) (payload : List ℕ) (from start : ℕ) (state next : IterState) (item : Result Frame InvalidFrame) (i : InvalidFrame) → ((found : List Found) × AreFrames false found payload) → RewriteWalk old new payload from start state
+pub never_fails : (old new : Vec ℕ Global) (payload : List ℕ) (from start : ℕ) (state next : IterState) (item : Result Frame InvalidFrame) (i : InvalidFrame) → ((found : List TypedFrame) × AreFrames false found payload) → RewriteWalk old new payload from start state
     → item ≡ Err i → Advances state (Some item) next → ⊥
 never_fails old new payload from start state next item i s w e a =
     let r = w.rewrites s.0 s.1 in
     no_error r.rest (invalid_of i) (sym (ap (map unplaced) (fails_err state next item i e a)) ∙ r.left_are)
 
 -- the bytes so far are no more than the payload has
-few_bytes : (old new : Vec ℕ Global) (payload : List ℕ) (from start : ℕ) (state : IterState) (found : List Found) → Shortest → AreFrames false found payload → (r : Rewrites old new payload from start state found)
+few_bytes : (old new : Vec ℕ Global) (payload : List ℕ) (from start : ℕ) (state : IterState) (found : List TypedFrame) → Shortest → AreFrames false found payload → (r : Rewrites old new payload from start state found)
     → length r.bytes + length (shortest_frames (map frame_in r.rest)) ≤ length payload
 few_bytes old new payload from start state found all s r =
     let fewer = at_most payload (shortest_frames (map frame_in found)) (all found payload s) in
     omega (arith, fewer, ap length r.parts, length-append r.bytes (shortest_frames (map frame_in r.rest)))
 
-stand_len : (old new : Vec ℕ Global) (payload : List ℕ) (from start : ℕ) (state : IterState) (found : List Found) → (r : Rewrites old new payload from start state found) → vec_len new + length (slice_range payload from start) ≡ vec_len old + length r.bytes
+stand_len : (old new : Vec ℕ Global) (payload : List ℕ) (from start : ℕ) (state : IterState) (found : List TypedFrame) → (r : Rewrites old new payload from start state found) → vec_len new + length (slice_range payload from start) ≡ vec_len old + length r.bytes
 stand_len old new payload from start state found r =
     omega (arith, ap length r.wrote, length-append new.items (slice_range payload from start), length-append old.items r.bytes, old.ok.0, new.ok.0)
 
-pub room_to_copy : (old new : Vec ℕ Global) (payload : List ℕ) (from start : ℕ) (state : IterState) → Shortest → ((found : List Found) × AreFrames false found payload) → RewriteWalk old new payload from start state → vec_len old + length payload ≤ vec_capacity old
+pub room_to_copy : (old new : Vec ℕ Global) (payload : List ℕ) (from start : ℕ) (state : IterState) → Shortest → ((found : List TypedFrame) × AreFrames false found payload) → RewriteWalk old new payload from start state → vec_len old + length payload ≤ vec_capacity old
     → vec_len new + length (slice_range payload from start) ≤ vec_capacity new
 room_to_copy old new payload from start state all s w room =
     let r = w.rewrites s.0 s.1 in
     omega (arith, stand_len old new payload from start state s.0 r, few_bytes old new payload from start state s.0 all s.1 r, room, w.capacity)
 
-pub room_to_write : (old new mid : Vec ℕ Global) (payload : List ℕ) (from start stop : ℕ) (state next : IterState) (frame : Frame) → BeginsNone → Shortest → ((found : List Found) × AreFrames false found payload) → RewriteWalk old new payload from start state
+pub room_to_write : (old new mid : Vec ℕ Global) (payload : List ℕ) (from start stop : ℕ) (state next : IterState) (frame : Frame) → BeginsNone → Shortest → ((found : List TypedFrame) × AreFrames false found payload) → RewriteWalk old new payload from start state
     → vec_len old + length payload ≤ vec_capacity old → Finds state frame next → stop ≡ next.offset → mid.items ≡ new.items ++ slice_range payload from start → vec_capacity new ≤ vec_capacity mid
     → vec_len mid + length (shortest_frame (eqb stop (length payload)) (meaning_of frame)) ≤ vec_capacity mid
 room_to_write old new mid payload from start stop state next frame begins all s w room f at copied capacity =
@@ -155,20 +155,20 @@ rewrite_writes old new mid out payload from start stop state next frame begins w
     } in
     subst (λ (n : ℕ). RewriteWalk old out payload n n next) (sym at) written
 
-no_rest : (rest : List Found) → [] ≡ map given rest → rest ≡ []
+no_rest : (rest : List TypedFrame) → [] ≡ map given rest → rest ≡ []
 no_rest [] e = refl
 no_rest (f ∷ rest) e = absurd cc
 
 -- all is written
 pub rewrite_done : (old new out : Vec ℕ Global) (payload : List ℕ) (from start : ℕ) (state : IterState) → RewriteWalk old new payload from start state → left state ≡ [] → out.items ≡ new.items ++ slice_range payload from (length payload)
-    → (found : List Found) → AreFrames false found payload → out.items ≡ old.items ++ shortest_frames (map frame_in found)
+    → (found : List TypedFrame) → AreFrames false found payload → out.items ≡ old.items ++ shortest_frames (map frame_in found)
 rewrite_done old new out payload from start state w none copied found s =
     let r = w.rewrites found s in
     let rest = no_rest r.rest (sym (ap (map unplaced) none) ∙ r.left_are) in
-    let whole : shortest_frames (map frame_in found) ≡ r.bytes = r.parts ∙ ap (λ (l : List Found). r.bytes ++ shortest_frames (map frame_in l)) rest ∙ append-nil r.bytes in
+    let whole : shortest_frames (map frame_in found) ≡ r.bytes = r.parts ∙ ap (λ (l : List TypedFrame). r.bytes ++ shortest_frames (map frame_in l)) rest ∙ append-nil r.bytes in
     copied ∙ ap (λ (n : ℕ). new.items ++ slice_range payload from n) (sym (w.walks.done none)) ∙ r.wrote ∙ ap (λ (l : List ℕ). old.items ++ l) (sym whole)
 
-pub room_to_end : (old new : Vec ℕ Global) (payload : List ℕ) (from start : ℕ) (state : IterState) → Shortest → ((found : List Found) × AreFrames false found payload) → RewriteWalk old new payload from start state → left state ≡ [] → vec_len old + length payload ≤ vec_capacity old
+pub room_to_end : (old new : Vec ℕ Global) (payload : List ℕ) (from start : ℕ) (state : IterState) → Shortest → ((found : List TypedFrame) × AreFrames false found payload) → RewriteWalk old new payload from start state → left state ≡ [] → vec_len old + length payload ≤ vec_capacity old
     → vec_len new + length (slice_range payload from (length payload)) ≤ vec_capacity new
 room_to_end old new payload from start state all s w none room =
     subst (λ (n : ℕ). vec_len new + length (slice_range payload from n) ≤ vec_capacity new) (w.walks.done none) (room_to_copy old new payload from start state all s w room)

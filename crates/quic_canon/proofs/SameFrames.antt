@@ -6,7 +6,7 @@ use Rattle.std.proofs.lemmas.List.{append-nil}
 use Rattle.quic_frame_fields.specs.Field.{Value, Number, Bytes, Ranges, Field, AreApart, AreBelow, AreBlocks, IsField, AreFields, greatest_of}
 use Rattle.quic_frame_fields.specs.Field as kinds
 use Rattle.quic_frame_fields.specs.Table.{Name, Row, rows, row_of}
-use Rattle.quic_frame_fields.specs.Payload.{Meaning, Found, IsFrame, AreFrames}
+use Rattle.quic_frame_fields.specs.Payload.{Meaning, TypedFrame, IsFrame, AreFrames}
 use Rattle.quic_frames.specs.Least.{frame_in}
 use Rattle.quic_canon.specs.Same.{IsSameValue, AreSameValues, is_ack, compared_values, IsSameFrame, AreSameFrames}
 use Rattle.quic_canon.proofs.SameSets.{one_list_of_set}
@@ -199,7 +199,7 @@ record IsKnown (frame : Meaning) : Type 0 where
   down : AreDown frame.values
   acks : is_ack frame.name ≡ true → IsAckOf frame.values
 
-frame_known : (found : Found) (bytes : List ℕ) → IsFrame false found bytes → IsKnown found.frame
+frame_known : (found : TypedFrame) (bytes : List ℕ) → IsFrame false found bytes → IsKnown found.frame
 frame_known found bytes f = record {
   down = fields_down f.row.fields [] found.frame.values f.field_bytes tt f.fields;
   acks = λ e.
@@ -239,7 +239,7 @@ frame_same frame other h k s =
     meaning_is frame other s.name (values_same (is_ack frame.name) frame.values other.values h.down k.down h.acks (λ e. k.acks (ack ∙ e)) reported)
 
 -- Payloads that mean the same are the same frames.
-pub frames_same : (found others : List Found) (payload other : List ℕ) → AreFrames false found payload → AreFrames false others other → AreSameFrames (map frame_in found) (map frame_in others)
+pub frames_same : (found others : List TypedFrame) (payload other : List ℕ) → AreFrames false found payload → AreFrames false others other → AreSameFrames (map frame_in found) (map frame_in others)
     → map frame_in found ≡ map frame_in others
 frames_same [] [] payload other s t same = refl
 frames_same [] (g ∷ others) payload other s t same = absurd same

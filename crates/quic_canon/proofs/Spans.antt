@@ -3,7 +3,7 @@ use Rattle.std.proofs.Common.{◌≡◌, ℕ, ◌<◌, ◌≤◌, eqb, Bool, tru
 use Rattle.std.specs.Prelude.{if◌then◌else◌, nat_lt, ◌^◌}
 use Rattle.std.proofs.lemmas.Bool.Decides.{nat_tests}
 use Rattle.std.proofs.lemmas.List.{length-append}
-use Rattle.quic_base.specs.Varint.{size, short}
+use Rattle.quic_base.specs.Varint.{size, shortest_varint}
 use Rattle.quic_base.proofs.PublicLaws.{length-short}
 use Rattle.quic_frame_fields.specs.Table.{row_of}
 use Rattle.quic_frame_fields.specs.Payload.{Meaning}
@@ -23,7 +23,7 @@ shortest_some : (last : Bool) (frame : Meaning) → 0 < length (shortest_frame l
 unfolding shortest_frame
 shortest_some last frame =
     let t = written_type last frame.name frame.values in
-    omega (arith, length-append (short t) (shortest_row (row_of t) frame.values), length-short t, size_some t)
+    omega (arith, length-append (shortest_varint t) (shortest_row (row_of t) frame.values), length-short t, size_some t)
 
 pub one_byte : (last : Bool) (frame : Meaning) (len : ℕ) → len ≡ 1 → length (shortest_frame last frame) ≤ len → true ≡ eqb (length (shortest_frame last frame)) len
 one_byte last frame len e le = let some = shortest_some last frame in grind (arith, nat_tests)

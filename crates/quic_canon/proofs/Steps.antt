@@ -7,7 +7,7 @@ use Rattle.quic_base.proofs.PublicLaws.{same_back}
 use Rattle.quic_frames.specs.declared.frame.Frame.{Frame}
 use Rattle.quic_frame_fields.specs.declared.frame.fault.Fault.{Fault}
 use Rattle.quic_frame_fields.specs.Table.{is_open}
-use Rattle.quic_frame_fields.specs.Payload.{Meaning, Found, IsFrame, AreFrames, IsBroken, IsEither}
+use Rattle.quic_frame_fields.specs.Payload.{Meaning, TypedFrame, IsFrame, AreFrames, IsBroken, IsEither}
 use Rattle.quic_frame_fields.specs.Reading.{Invalid, invalid, Item, Broken}
 use Rattle.quic_frames.specs.Meaning.{meaning_of}
 use Rattle.quic_frames.specs.InRange.{HasNoTypeZero, CanStand}
@@ -21,43 +21,43 @@ use Rattle.quic_canon.proofs.Cuts.{cut_there, length-slice_range, split_front, c
 
 -- what is used of the laws of payloads, beside those
 abbrev pub BeginsNone : Type 0
-BeginsNone = (one other : Found) (bytes longer rest : List ℕ) → is_open one.type ≡ false → IsFrame false one bytes → IsFrame false other longer → longer ≡ bytes ++ rest → bytes ≡ longer
+BeginsNone = (one other : TypedFrame) (bytes longer rest : List ℕ) → is_open one.type ≡ false → IsFrame false one bytes → IsFrame false other longer → longer ≡ bytes ++ rest → bytes ≡ longer
 
 abbrev pub OneShortest : Type 0
-OneShortest = (last : Bool) (found : Found) (bytes : List ℕ) → IsFrame false found bytes → (is_open found.type ≡ true → last ≡ true) → AreOrExceed bytes (shortest_frame last found.frame)
+OneShortest = (last : Bool) (found : TypedFrame) (bytes : List ℕ) → IsFrame false found bytes → (is_open found.type ≡ true → last ≡ true) → AreOrExceed bytes (shortest_frame last found.frame)
 
 abbrev pub Exact : Type 0
 Exact = (last : Bool) (t : ℕ) (frame : Frame) (bytes : List ℕ) → HasNoTypeZero frame → IsFrame false (found_as t frame) bytes → (is_open t ≡ true → last ≡ true) → CanStand last frame
 
 -- ---- a frame that was found can be written
 
-meaning_is : (frame : Frame) (found : Found) → found.frame ≡ meaning_of frame → found ≡ found_as found.type frame
-meaning_is frame found e = ap (λ (m : Meaning). let f : Found = record { type = found.type; frame = m } in f) e
+meaning_is : (frame : Frame) (found : TypedFrame) → found.frame ≡ meaning_of frame → found ≡ found_as found.type frame
+meaning_is frame found e = ap (λ (m : Meaning). let f : TypedFrame = record { type = found.type; frame = m } in f) e
 
 at_end : (m n : ℕ) → m ≡ n → eqb m n ≡ true
 at_end m n e = grind (arith, nat_tests)
 
 pub can_stand : (old new : IterState) (frame : Frame) (size : ℕ) → Exact → old.strict ≡ false → size ≡ length old.payload → Finds old frame new → CanStand (eqb new.offset size) frame
 can_stand old new frame size exact any len f =
-    let s = subst (λ (x : Found). IsFrame false x (slice_range old.payload old.offset new.offset)) (meaning_is frame f.found f.says) (subst (λ (b : Bool). IsFrame b f.found (slice_range old.payload old.offset new.offset)) any f.stands.encoded) in
+    let s = subst (λ (x : TypedFrame). IsFrame false x (slice_range old.payload old.offset new.offset)) (meaning_is frame f.found f.says) (subst (λ (b : Bool). IsFrame b f.found (slice_range old.payload old.offset new.offset)) any f.stands.encoded) in
     exact (eqb new.offset size) f.found.type frame (slice_range old.payload old.offset new.offset) f.distinct s (λ opens. at_end new.offset size (f.ends opens ∙ sym len))
 
 -- ---- what is left of a payload
 
 abbrev pub Reported : Type 0
-Reported = Result Found Invalid
+Reported = Result TypedFrame Invalid
 
 pub record Walks (payload : List ℕ) (start : ℕ) (state : IterState) : Type 0 where
   pub strict_is : state.strict ≡ false
   pub payload_is : state.payload ≡ payload
   pub start_is : state.offset ≡ start
   pub within : start ≤ length payload
-  pub broken : (found : List Found) (type : Option ℕ) (reason : Fault) → IsBroken false None found payload type reason
-      → (rest : List Found) × (map unplaced (left state) ≡ map given rest ++ Err (invalid type reason) ∷ [])
+  pub broken : (found : List TypedFrame) (type : Option ℕ) (reason : Fault) → IsBroken false None found payload type reason
+      → (rest : List TypedFrame) × (map unplaced (left state) ≡ map given rest ++ Err (invalid type reason) ∷ [])
   pub done : left state ≡ [] → start ≡ length payload
 
 -- One frame has one encoding at the front of bytes.
-front_is : (f : Found) (a b c d : List ℕ) → BeginsNone → a ++ b ≡ c ++ d → IsFrame false f a → IsFrame false f c → (is_open f.type ≡ true → b ≡ []) → (is_open f.type ≡ true → d ≡ []) → a ≡ c
+front_is : (f : TypedFrame) (a b c d : List ℕ) → BeginsNone → a ++ b ≡ c ++ d → IsFrame false f a → IsFrame false f c → (is_open f.type ≡ true → b ≡ []) → (is_open f.type ≡ true → d ≡ []) → a ≡ c
 front_is f a b c d begins e one other opens opens' =
     elim (cases_bool (is_open f.type)) [
       | inl open_type ↦
@@ -75,7 +75,7 @@ front_is f a b c d begins e one other opens opens' =
 
 -- ---- one step
 
-pub record Here (payload : List ℕ) (start stop : ℕ) (found : Found) (old new : IterState) : Type 0 where
+pub record Here (payload : List ℕ) (start stop : ℕ) (found : TypedFrame) (old new : IterState) : Type 0 where
   pub stands : Stands false payload start stop found
   pub opens : is_open found.type ≡ true → stop ≡ length payload
   pub first : map unplaced (left old) ≡ Ok found ∷ map unplaced (left new)
@@ -89,14 +89,14 @@ here payload start old new frame w f = record {
   done = ((λ e. f.is_done.0 e ∙ ap length w.payload_is), (λ e. f.is_done.1 (e ∙ sym (ap length w.payload_is))));
 }
 
-pub given_on : (found : Found) (items : List Reported) (rest : List Found) → Ok found ∷ items ≡ map given rest → (more : List Found) × (rest ≡ found ∷ more) × (items ≡ map given more)
+pub given_on : (found : TypedFrame) (items : List Reported) (rest : List TypedFrame) → Ok found ∷ items ≡ map given rest → (more : List TypedFrame) × (rest ≡ found ∷ more) × (items ≡ map given more)
 given_on found items [] e = absurd cc
 given_on found items (r ∷ rest) e =
     let head : found ≡ r = cc in
     let tails : items ≡ map given rest = cc in
-    (rest, ap (λ (f : Found). f ∷ rest) (sym head), tails)
+    (rest, ap (λ (f : TypedFrame). f ∷ rest) (sym head), tails)
 
-broken_on : (found : Found) (i : Invalid) (items : List Reported) (rest : List Found) → Ok found ∷ items ≡ map given rest ++ Err i ∷ [] → (more : List Found) × (items ≡ map given more ++ Err i ∷ [])
+broken_on : (found : TypedFrame) (i : Invalid) (items : List Reported) (rest : List TypedFrame) → Ok found ∷ items ≡ map given rest ++ Err i ∷ [] → (more : List TypedFrame) × (items ≡ map given more ++ Err i ∷ [])
 broken_on found i items [] e = absurd cc
 broken_on found i items (r ∷ rest) e = let tails : items ≡ map given rest ++ Err i ∷ [] = cc in (rest, tails)
 
@@ -118,14 +118,14 @@ nothing_left : (items : List Item) → map unplaced items ≡ [] → items ≡ [
 nothing_left [] e = refl
 nothing_left (i ∷ items) e = absurd cc
 
-end_if : (more : List Found) (new : IterState) (b : Bool) → map unplaced (left new) ≡ map given more → (left new ≡ [] → b ≡ true) → (b ≡ true → left new ≡ []) → is_end (map frame_in more) ≡ b
+end_if : (more : List TypedFrame) (new : IterState) (b : Bool) → map unplaced (left new) ≡ map given more → (left new ≡ [] → b ≡ true) → (b ≡ true → left new ≡ []) → is_end (map frame_in more) ≡ b
 end_if [] new b e to from = sym (to (nothing_left (left new) e))
 end_if (m ∷ more) new true e to from = absurd (let none : map unplaced (left new) ≡ [] = ap (map unplaced) (from refl) in cc (none, e))
 end_if (m ∷ more) new false e to from = refl
 
 -- the frame that was found, in front of the others
-pub record Next (payload : List ℕ) (start stop size : ℕ) (new : IterState) (found : Found) (rest : List Found) : Type 0 where
-  pub more : List Found
+pub record Next (payload : List ℕ) (start stop size : ℕ) (new : IterState) (found : TypedFrame) (rest : List TypedFrame) : Type 0 where
+  pub more : List TypedFrame
   pub rest_is : rest ≡ found ∷ more
   pub left_are : map unplaced (left new) ≡ map given more
   pub encoded : AreFrames false more (drop stop payload)
@@ -134,12 +134,12 @@ pub record Next (payload : List ℕ) (start stop size : ℕ) (new : IterState) (
 pub from_test : (m n : ℕ) → eqb m n ≡ true → m ≡ n
 from_test m n e = grind (arith, nat_tests)
 
-pub next_frame : (payload : List ℕ) (start size : ℕ) (old new : IterState) (frame : Frame) (rest : List Found) → BeginsNone → size ≡ length payload → Walks payload start old → (f : Finds old frame new)
+pub next_frame : (payload : List ℕ) (start size : ℕ) (old new : IterState) (frame : Frame) (rest : List TypedFrame) → BeginsNone → size ≡ length payload → Walks payload start old → (f : Finds old frame new)
     → map unplaced (left old) ≡ map given rest → AreFrames false rest (drop start payload) → Next payload start new.offset size new f.found rest
 next_frame payload start size old new frame rest begins len w f are s =
     let h = here payload start old new frame w f in
     let g = given_on f.found (map unplaced (left new)) rest (sym h.first ∙ are) in
-    let t : AreFrames false (f.found ∷ g.0) (drop start payload) = subst (λ (l : List Found). AreFrames false l (drop start payload)) g.1 s in
+    let t : AreFrames false (f.found ∷ g.0) (drop start payload) = subst (λ (l : List TypedFrame). AreFrames false l (drop start payload)) g.1 s in
     let stop = new.offset in
     let some = h.stands.some in
     let cut = cut_there payload start stop (omega (arith, some)) in
@@ -164,14 +164,14 @@ next_frame payload start size old new frame rest begins len w f are s =
 -- ---- the frames at the front that are in their shortest encodings
 
 -- a span of the length of the shortest encoding is that
-span_is : (last : Bool) (found : Found) (bytes : List ℕ) → OneShortest → IsFrame false found bytes → (is_open found.type ≡ true → last ≡ true) → length (shortest_frame last found.frame) ≡ length bytes → bytes ≡ shortest_frame last found.frame
+span_is : (last : Bool) (found : TypedFrame) (bytes : List ℕ) → OneShortest → IsFrame false found bytes → (is_open found.type ≡ true → last ≡ true) → length (shortest_frame last found.frame) ≡ length bytes → bytes ≡ shortest_frame last found.frame
 span_is last found bytes one f opens len = is (one last found bytes f opens)
   where
     is : AreOrExceed bytes (shortest_frame last found.frame) → bytes ≡ shortest_frame last found.frame
     is (inl e) = e
     is (inr lt) = absurd (omega (arith, lt, len))
 
-span_exceeds : (last : Bool) (found : Found) (bytes : List ℕ) → OneShortest → IsFrame false found bytes → (is_open found.type ≡ true → last ≡ true) → length (shortest_frame last found.frame) ≢ length bytes → length (shortest_frame last found.frame) < length bytes
+span_exceeds : (last : Bool) (found : TypedFrame) (bytes : List ℕ) → OneShortest → IsFrame false found bytes → (is_open found.type ≡ true → last ≡ true) → length (shortest_frame last found.frame) ≢ length bytes → length (shortest_frame last found.frame) < length bytes
 span_exceeds last found bytes one f opens len = is (one last found bytes f opens)
   where
     is : AreOrExceed bytes (shortest_frame last found.frame) → length (shortest_frame last found.frame) < length bytes
@@ -183,7 +183,7 @@ at_most bytes least (inl e) = omega (arith, ap length e)
 at_most bytes least (inr lt) = omega (arith, lt)
 
 -- the span of a frame that was found
-pub record Span (payload : List ℕ) (start stop size : ℕ) (found : Found) : Type 0 where
+pub record Span (payload : List ℕ) (start stop size : ℕ) (found : TypedFrame) : Type 0 where
   pub some : start < stop
   pub within : stop ≤ length payload
   pub len : length (slice_range payload start stop) ≡ stop - start
@@ -206,7 +206,7 @@ span_of payload start size old new frame len w f =
 abbrev pub Tested : Bool → Frame → ℕ → ℕ → ℕ → Type 0
 Tested b frame start stop size = b ≡ eqb (length (shortest_frame (eqb stop size) (meaning_of frame))) (stop - start)
 
-pub frame_length : (frame : Frame) (found : Found) (last : Bool) → found.frame ≡ meaning_of frame → length (shortest_frame last (meaning_of frame)) ≡ length (shortest_frame last found.frame)
+pub frame_length : (frame : Frame) (found : TypedFrame) (last : Bool) → found.frame ≡ meaning_of frame → length (shortest_frame last (meaning_of frame)) ≡ length (shortest_frame last found.frame)
 frame_length frame found last e = ap (λ (m : Meaning). length (shortest_frame last m)) (sym e)
 
 pub shortest_there : (payload : List ℕ) (start size : ℕ) (old new : IterState) (frame : Frame) (b : Bool) → OneShortest → size ≡ length payload → Walks payload start old → (f : Finds old frame new) → Tested b frame start new.offset size → b ≡ true
@@ -229,21 +229,21 @@ longer_there payload start size old new frame b one len w f tested e =
     true_is_not_false : true ≡ false → ⊥
     true_is_not_false h = cc
 
-pub shortest_next : (found : Found) (rest more : List Found) (last : Bool) → rest ≡ found ∷ more → is_end (map frame_in more) ≡ last
+pub shortest_next : (found : TypedFrame) (rest more : List TypedFrame) (last : Bool) → rest ≡ found ∷ more → is_end (map frame_in more) ≡ last
     → shortest_frames (map frame_in rest) ≡ shortest_frame last found.frame ++ shortest_frames (map frame_in more)
 shortest_next found rest more last is end =
-    ap (λ (l : List Found). shortest_frames (map frame_in l)) is ∙ ap (λ (b : Bool). shortest_frame b found.frame ++ shortest_frames (map frame_in more)) end
+    ap (λ (l : List TypedFrame). shortest_frames (map frame_in l)) is ∙ ap (λ (b : Bool). shortest_frame b found.frame ++ shortest_frames (map frame_in more)) end
 
 not_done : (payload : List ℕ) (state : IterState) → IsEither false None payload → GivesFrames false payload state → GivesBroken false payload state
     → left state ≡ [] → 0 ≡ length payload
 not_done payload state (inl a) whole broken none = sym (ap length (empty a.0 payload a.1 (sym (ap (map unplaced) none) ∙ whole a.0 a.1)))
   where
-    empty : (found : List Found) (bytes : List ℕ) → AreFrames false found bytes → [] ≡ map given found → bytes ≡ []
+    empty : (found : List TypedFrame) (bytes : List ℕ) → AreFrames false found bytes → [] ≡ map given found → bytes ≡ []
     empty [] bytes s e = s
     empty (f ∷ found) bytes s e = absurd cc
 not_done payload state (inr a) whole broken none = absurd (some a.0 (invalid a.1 a.2) (sym (ap (map unplaced) none) ∙ broken a.0 a.1 a.2 a.3))
   where
-    some : (found : List Found) (i : Invalid) → [] ≡ map given found ++ Err i ∷ [] → ⊥
+    some : (found : List TypedFrame) (i : Invalid) → [] ≡ map given found ++ Err i ∷ [] → ⊥
     some [] i e = cc
     some (f ∷ found) i e = cc
 

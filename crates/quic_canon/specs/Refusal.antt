@@ -1,7 +1,7 @@
 -- What is reported where there is no canonical payload.
 use Rattle.std.specs.Prelude.{◌≡◌, ◌≢◌, ℕ, List, [], ◌++◌, ◌⊎◌, Option, None, false}
 use Rattle.quic_frame_fields.specs.declared.frame.fault.Fault.{Fault}
-use Rattle.quic_frame_fields.specs.Payload.{Found, AreFrames, IsBroken}
+use Rattle.quic_frame_fields.specs.Payload.{TypedFrame, AreFrames, IsBroken}
 use Rattle.quic_frame_fields.specs.Reading.{invalid}
 use Rattle.quic_frames.specs.Walk.{invalid_of}
 use Rattle.quic_canon.specs.declared.canonical.CanonError.{CanonError}
@@ -12,9 +12,9 @@ use Rattle.quic_canon.specs.Least.{IsLeast, HasMeaning}
 abbrev pub IsRefused : List ℕ → CanonError → Type 0
 IsRefused payload Empty = payload ≡ []
 IsRefused payload (Invalid i) =
-    (found : List Found) × (type : Option ℕ) × (reason : Fault) × IsBroken false None found payload type reason
+    (found : List TypedFrame) × (type : Option ℕ) × (reason : Fault) × IsBroken false None found payload type reason
     × (invalid_of i ≡ invalid type reason)
-IsRefused payload OutOfMemory = (payload ≢ []) × (found : List Found) × AreFrames false found payload
+IsRefused payload OutOfMemory = (payload ≢ []) × (found : List TypedFrame) × AreFrames false found payload
 
 -- It is refused because it is empty or invalid, and not for want of memory.
 abbrev pub IsWrong : List ℕ → CanonError → Type 0

@@ -2,7 +2,7 @@
 use Rattle.std.specs.Prelude.{◌≡◌, ◌≢◌, ⊤, ℕ, List, [], ◌∷◌, drop, map, Bool, true, false, if◌then◌else◌}
 use Rattle.quic_frame_fields.specs.Field.{Value, Ranges}
 use Rattle.quic_frame_fields.specs.Table.{Name, Ack}
-use Rattle.quic_frame_fields.specs.Payload.{Meaning, Found, AreFrames}
+use Rattle.quic_frame_fields.specs.Payload.{Meaning, TypedFrame, AreFrames}
 use Rattle.quic_frame_fields.specs.Sets.{is_in}
 use Rattle.quic_frames.specs.Least.{frame_in}
 
@@ -37,8 +37,8 @@ AreSameFrames frames others = ⊥
 -- Both are payloads, and mean the same.
 pub record IsSame (payload other : List ℕ) : Type 0 where
   pub some : payload ≢ []
-  pub frames : List Found
+  pub frames : List TypedFrame
   pub encoded : AreFrames false frames payload
-  pub others : List Found
+  pub others : List TypedFrame
   pub other_encoded : AreFrames false others other
   pub same : AreSameFrames (map frame_in frames) (map frame_in others)

@@ -3,7 +3,7 @@ ghost use Rattle.std.specs.Prelude.{◌≡◌, ◌≢◌, ◌+◌, ◌-◌, ◌<
 ghost use Rattle.quic_frames.specs.InRange.{CanStand};
 ghost use Rattle.quic_frames.specs.Least.{frame_in, shortest_frames};
 ghost use Rattle.quic_frames.specs.Meaning.{meaning_of};
-ghost use Rattle.quic_frame_fields.specs.Payload.{Found, AreFrames};
+ghost use Rattle.quic_frame_fields.specs.Payload.{TypedFrame, AreFrames};
 ghost use Rattle.quic_frame_fields.specs.Shortest.{shortest_frame};
 ghost use Rattle.quic_canon.specs.Bytes.{GivesLeast};
 ghost use Rattle.quic_canon.specs.Front.{IsFront};
@@ -106,9 +106,9 @@ fn write(frame: &Frame<'_>, last: bool, out: &mut Vec<u8>)
 // shortest encodings already are copied, as many at once as follow each other.
 fn rewrite(payload: &[u8], out: &mut Vec<u8>)
     requires some { payload.now ≢ [] }
-    requires whole { (found : List Found) × AreFrames false found payload.now }
+    requires whole { (found : List TypedFrame) × AreFrames false found payload.now }
     requires room { vec_len out.old + length payload.now ≤ vec_capacity out.old }
-    ensures { (found : List Found) → AreFrames false found payload.now
+    ensures { (found : List TypedFrame) → AreFrames false found payload.now
         → out.new.items ≡ out.old.items ++ shortest_frames (map frame_in found) }
 {
     one_reading();

@@ -5,7 +5,7 @@ ghost use Rattle.quic_frame_fields.specs.Field.{AreApart};
 ghost use Rattle.quic_frames.specs.Least.{frame_in, shortest_frames};
 ghost use Rattle.quic_frames.specs.Written.{IsPayload};
 ghost use Rattle.quic_frames.specs.declared.frame.Frame.{Frame};
-ghost use Rattle.quic_frame_fields.specs.Payload.{Found, AreFrames, IsBroken};
+ghost use Rattle.quic_frame_fields.specs.Payload.{TypedFrame, AreFrames, IsBroken};
 ghost use Rattle.quic_frame_fields.specs.Sets.{is_in};
 ghost use Rattle.quic_frame_fields.specs.declared.frame.fault.Fault.{Fault};
 ghost use Rattle.quic_canon.specs.Same.{AreSameFrames, IsSame};
@@ -18,16 +18,16 @@ pub fn one_list_of_a_set()
     ensures one { (some others : List (ℕ × ℕ)) → AreApart some → AreApart others
         → ((n : ℕ) → is_in some n ≡ is_in others n) → some ≡ others }
     // So payloads mean the same exactly if their frames have the same values.
-    ensures frames { (found others : List Found) (payload other : List ℕ) → AreFrames false found payload
+    ensures frames { (found others : List TypedFrame) (payload other : List ℕ) → AreFrames false found payload
         → AreFrames false others other → AreSameFrames (map frame_in found) (map frame_in others)
         → map frame_in found ≡ map frame_in others }
 {}
 
 /// Each valid payload has one shortest payload of the same meaning, and no other payload has one.
 pub fn one_least()
-    ensures exists { (found : List Found) (payload : List ℕ) → payload ≢ [] → AreFrames false found payload
+    ensures exists { (found : List TypedFrame) (payload : List ℕ) → payload ≢ [] → AreFrames false found payload
         → IsLeast (shortest_frames (map frame_in found)) payload }
-    ensures none { (found : List Found) (least payload : List ℕ) (type : Option ℕ) (reason : Fault)
+    ensures none { (found : List TypedFrame) (least payload : List ℕ) (type : Option ℕ) (reason : Fault)
         → AreBytes payload → IsBroken false None found payload type reason → IsLeast least payload → ⊥ }
     ensures unique { (one other payload : List ℕ) → IsLeast one payload → IsLeast other payload → one ≡ other }
     // Two payloads mean the same exactly if their shortest payloads are equal,
@@ -40,7 +40,7 @@ pub fn one_least()
         → length least < length other }
     // Its types are in their least widths, so the strict reading is the same.
     ensures strict { (payload least : List ℕ) → IsLeast least payload
-        → (found : List Found) × AreFrames true found least × AreFrames false found least }
+        → (found : List TypedFrame) × AreFrames true found least × AreFrames false found least }
 {
     one_reading();
     least_encoding();

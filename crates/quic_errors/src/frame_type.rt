@@ -1,6 +1,6 @@
 //! The types of frames, and their names.
 ghost use Rattle.std.specs.Prelude.{◌≡◌, ◌≢◌, ◌+◌, ◌<◌, ◌^◌, ℕ, None, Some, drop, MatchOption, if◌then◌else◌};
-ghost use Rattle.quic_base.specs.Varint.{Encodes, short};
+ghost use Rattle.quic_base.specs.Varint.{Encodes, shortest_varint};
 ghost use Rattle.quic_errors.specs.Names.{name_of, own_name, shared_name};
 
 use bytes::{Buf, BufMut};
@@ -184,7 +184,7 @@ const _: () = prove!(FrameType::ACK_ECN.0 == 0x03);
 impl Codec for FrameType {
     ghost encoded = { Encodes };
 
-    ghost encoding = { short };
+    ghost encoding = { shortest_varint };
 
     ghost after_cut = { drop 1 };
 

@@ -4,7 +4,7 @@ ghost use Rattle.std.specs.Cmp.Lexicographic.{pointwise};
 ghost use Rattle.std.specs.Ordering.{on};
 ghost use Rattle.std.proofs.Common.{rules};
 ghost use Rattle.std.specs.Cmp.Rules.{comparing};
-ghost use Rattle.quic_base.specs.Varint.{Encodes, short};
+ghost use Rattle.quic_base.specs.Varint.{Encodes, shortest_varint};
 
 use crate::frame_type::FrameType;
 use bytes::{Buf, BufMut};
@@ -169,7 +169,7 @@ impl From<Code> for u64 {
 impl Codec for Code {
     ghost encoded = { Encodes };
 
-    ghost encoding = { short };
+    ghost encoding = { shortest_varint };
 
     ghost after_cut = { drop 1 };
 

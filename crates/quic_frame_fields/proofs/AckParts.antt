@@ -3,7 +3,7 @@ use Rattle.std.proofs.Common.{◌≡◌, ℕ, ◌+◌, ◌-◌, ◌<◌, ◌^◌
 use Rattle.std.specs.Prelude.{Option, Some, None, Result, Ok, Err, take}
 use Rattle.std.proofs.lemmas.List.{append-nil, length-append}
 use Rattle.std.specs.declared.ops.Range.{Range}
-use Rattle.quic_base.specs.Varint.{short}
+use Rattle.quic_base.specs.Varint.{shortest_varint}
 use Rattle.quic_ranges.specs.Runs.{IsMaximalRuns, member}
 use Rattle.quic_frame_fields.specs.declared.frame.ack.EcnCounts.{EcnCounts}
 use Rattle.quic_frame_fields.specs.Field.{Number, Ranges}
@@ -14,14 +14,14 @@ use Rattle.quic_frame_fields.specs.Sets.{ends_of, ranges_in, ack_of, ack_type, c
 use Rattle.quic_frame_fields.specs.Shortest.{shortest_below, shortest_frame}
 use Rattle.quic_base.specs.Codec.{IsBegun, KeepsRoom}
 use Rattle.quic_base.specs.Writing.{Writes}
-use Rattle.quic_frame_fields.specs.Numbers.{AreNumeric, all_short}
+use Rattle.quic_frame_fields.specs.Numbers.{AreNumeric, shortest_varints}
 use Rattle.quic_frame_fields.specs.Putting.{Flushes}
 use Rattle.quic_base.proofs.Encoders.{Wrote, wrote_nothing, wrote_more, writes_last, writes_within}
 use Rattle.quic_frame_fields.proofs.Sets.{bounded, ranges_in-last, length-ranges_in, HasBelow, has_below}
 
 pub ack_parts : (last : Bool) (greatest delay : ℕ) (range : ℕ × ℕ) (ranges : List (ℕ × ℕ)) (counts : Option EcnCounts)
     → shortest_frame last (frame_of Ack (Number greatest ∷ Number delay ∷ Ranges (range ∷ ranges) ∷ counts_of counts))
-    ≡ all_short (ack_type counts ∷ greatest ∷ delay ∷ length ranges ∷ (range.1 - range.0) ∷ []) ++ (shortest_below range.0 ranges ++ all_short (count_numbers counts))
+    ≡ shortest_varints (ack_type counts ∷ greatest ∷ delay ∷ length ranges ∷ (range.1 - range.0) ∷ []) ++ (shortest_below range.0 ranges ++ shortest_varints (count_numbers counts))
 unfolding shortest_frame
 ack_parts last greatest delay range ranges None = simp (append_assoc, append-nil)
 ack_parts last greatest delay range ranges (Some counts) = simp (append_assoc, append-nil)
@@ -47,7 +47,7 @@ run_numbers above run = (above.start - run.end - 1) ∷ (run.end - 1 - run.start
 pub record NextRun (all before : List ℕ) (above : Range ℕ) (run : Range ℕ) (runs : List (Range ℕ)) : Type 0 where
   pub below : HasBelow runs run above
   pub numeric : AreNumeric (run_numbers above run)
-  pub parts : all ≡ before ++ (all_short (run_numbers above run) ++ shortest_below run.start (ranges_in runs))
+  pub parts : all ≡ before ++ (shortest_varints (run_numbers above run) ++ shortest_below run.start (ranges_in runs))
 
 pub next_run : (all : List ℕ) (above run : Range ℕ) (runs left : List (Range ℕ)) (w w1 : List ℕ) (s s1 : ℕ) (x : WroteRuns all above left w s w1 s1) → left ≡ runs ++ run ∷ []
     → NextRun all x.before above run runs
@@ -55,9 +55,9 @@ next_run all above run runs left w w1 s s1 x e =
     let below = has_below runs left run above e x.maximal in
     let bytes = shortest_below run.start (ranges_in runs) in
     let gap : above.start - ((run.end - 1) + 2) ≡ above.start - run.end - 1 = omega (arith, below.some) in
-    let one : shortest_below above.start (ranges_in left) ≡ short (above.start - ((run.end - 1) + 2)) ++ (short (run.end - 1 - run.start) ++ bytes) =
+    let one : shortest_below above.start (ranges_in left) ≡ shortest_varint (above.start - ((run.end - 1) + 2)) ++ (shortest_varint (run.end - 1 - run.start) ++ bytes) =
     ap (λ (l : List (Range ℕ)). shortest_below above.start (ranges_in l)) e ∙ ap (shortest_below above.start) (ranges_in-last runs run) in
-    let two : short (above.start - ((run.end - 1) + 2)) ++ (short (run.end - 1 - run.start) ++ bytes) ≡ all_short (run_numbers above run) ++ bytes = rw gap (simp (append_assoc, append-nil)) in
+    let two : shortest_varint (above.start - ((run.end - 1) + 2)) ++ (shortest_varint (run.end - 1 - run.start) ++ bytes) ≡ shortest_varints (run_numbers above run) ++ bytes = rw gap (simp (append_assoc, append-nil)) in
     record {
       below = below;
       numeric = (omega (arith, x.bound), (omega (arith, below.apart, x.bound), tt));
@@ -65,10 +65,10 @@ next_run all above run runs left w w1 s s1 x e =
     }
 
 pub wrote_run : {E : Type 0} (r : Result (Unit {0}) E) (all : List ℕ) (above run : Range ℕ) (runs left : List (Range ℕ)) (w w1 w2 : List ℕ) (s s1 s2 : ℕ) → WroteRuns all above left w s w1 s1 → left ≡ runs ++ run ∷ []
-    → Writes r (all_short (run_numbers above run)) w1 s1 w2 s2 → r ≡ Ok tt → WroteRuns all run runs w s w2 s2
+    → Writes r (shortest_varints (run_numbers above run)) w1 s1 w2 s2 → r ≡ Ok tt → WroteRuns all run runs w s w2 s2
 wrote_run r all above run runs left w w1 w2 s s1 s2 x e y ok =
     let n = next_run all above run runs left w w1 s s1 x e in
-    let now = all_short (run_numbers above run) in
+    let now = shortest_varints (run_numbers above run) in
     record {
       before = x.before ++ now;
       wrote = wrote_more r x.before now w w1 w2 s s1 s2 x.wrote y ok;
@@ -78,16 +78,16 @@ wrote_run r all above run runs left w w1 w2 s s1 s2 x e y ok =
     }
 
 pub refused_run : {D E : Type 0} (r : Result (Unit {0}) E) (refused : Result (Unit {0}) D) (d : D) (error : E) (all : List ℕ) (above run : Range ℕ) (runs left : List (Range ℕ)) (w w1 w2 : List ℕ) (s s1 s2 : ℕ)
-    → WroteRuns all above left w s w1 s1 → left ≡ runs ++ run ∷ [] → Writes r (all_short (run_numbers above run)) w1 s1 w2 s2 → r ≡ Err error → refused ≡ Err d → Writes refused all w s w2 s2
+    → WroteRuns all above left w s w1 s1 → left ≡ runs ++ run ∷ [] → Writes r (shortest_varints (run_numbers above run)) w1 s1 w2 s2 → r ≡ Err error → refused ≡ Err d → Writes refused all w s w2 s2
 refused_run r refused d error all above run runs left w w1 w2 s s1 s2 x e y is was =
     let n = next_run all above run runs left w w1 s s1 x e in
-    writes_within r refused d x.before (all_short (run_numbers above run)) (shortest_below run.start (ranges_in runs)) all w w1 w2 s s1 s2 error n.parts x.wrote y is was
+    writes_within r refused d x.before (shortest_varints (run_numbers above run)) (shortest_below run.start (ranges_in runs)) all w w1 w2 s s1 s2 error n.parts x.wrote y is was
 
 -- an ACK of a set, by its greatest run and the runs below that
 pub record SetParts (delay : ℕ) (whole runs : List (Range ℕ)) (run : Range ℕ) (counts : Option EcnCounts) (ty count : ℕ) : Type 0 where
   pub numeric : AreNumeric (ty ∷ (run.end - 1) ∷ delay ∷ count ∷ (run.end - 1 - run.start) ∷ [])
   pub parts : (last : Bool) → shortest_frame last (ack_of delay whole counts)
-      ≡ all_short (ty ∷ (run.end - 1) ∷ delay ∷ count ∷ (run.end - 1 - run.start) ∷ []) ++ (shortest_below run.start (ranges_in runs) ++ all_short (count_numbers counts))
+      ≡ shortest_varints (ty ∷ (run.end - 1) ∷ delay ∷ count ∷ (run.end - 1 - run.start) ∷ []) ++ (shortest_below run.start (ranges_in runs) ++ shortest_varints (count_numbers counts))
 
 pub small_type : (counts : Option EcnCounts) → ack_type counts < 2 ^ 62
 small_type None = omega arith
@@ -156,11 +156,11 @@ next_held all held above run runs left w w1 s s1 x e = next_run all above run ru
 
 -- a beginning of what was held was appended, and the next run is written after the rest
 pub holds_more : (all held held' : List ℕ) (above run : Range ℕ) (runs left : List (Range ℕ)) (w w1 w2 : List ℕ) (s s1 s2 : ℕ) → HoldsRuns all held above left w s w1 s1 → left ≡ runs ++ run ∷ []
-    → (b : IsBegun w1 held w2) → KeepsRoom w1 s1 w2 s2 → held' ≡ b.left ++ all_short (run_numbers above run) → HoldsRuns all held' run runs w s w2 s2
+    → (b : IsBegun w1 held w2) → KeepsRoom w1 s1 w2 s2 → held' ≡ b.left ++ shortest_varints (run_numbers above run) → HoldsRuns all held' run runs w s w2 s2
 holds_more all held held' above run runs left w w1 w2 s s1 s2 x e b room is =
     let n = next_held all held above run runs left w w1 s s1 x e in
     let bytes : List ℕ = shortest_below run.start (ranges_in runs) in
-    let numbers : List ℕ = all_short (run_numbers above run) in
+    let numbers : List ℕ = shortest_varints (run_numbers above run) in
     let stands : w2 ≡ w ++ (x.before ++ b.done) = b.stands ∙ ap (λ (l : List ℕ). l ++ b.done) x.wrote.stands ∙ append_assoc w x.before b.done in
     let kept = x.wrote.room in
     let moved : (x.before ++ (b.done ++ b.left)) ++ (numbers ++ bytes) ≡ ((x.before ++ b.done) ++ (b.left ++ numbers)) ++ bytes = simp (append_assoc) in

@@ -4,12 +4,12 @@ use Rattle.std.specs.Prelude.{slice_range}
 use Rattle.std.proofs.lemmas.Bool.Decides.{nat_tests}
 use Rattle.std.proofs.lemmas.List.{length-append, length-drop, append-nil, take-append-drop}
 use Rattle.quic_base.specs.Number.{AreBytes}
-use Rattle.quic_base.specs.Varint.{Encodes, short, size}
+use Rattle.quic_base.specs.Varint.{Encodes, shortest_varint, size}
 use Rattle.quic_base.proofs.PublicLaws.{back_bytes, length-short, short_least, shortest_encodes}
 use Rattle.quic_frame_fields.specs.declared.frame.fault.Fault.{Fault}
 use Rattle.quic_frame_fields.specs.Reading.{varint_at}
 use Rattle.quic_base.specs.Writing.{Writes}
-use Rattle.quic_frame_fields.specs.Numbers.{AreEncoded, all_short}
+use Rattle.quic_frame_fields.specs.Numbers.{AreEncoded, shortest_varints}
 use Rattle.quic_frame_fields.proofs.Steps.{ok_is, ok_is_not_err}
 use Rattle.quic_frame_fields.proofs.Varints.{varint_takes, varint_again, varint_some}
 use Rattle.quic_base.proofs.Encoders.{Wrote, wrote_more, writes_within}
@@ -79,17 +79,17 @@ read_all P rest ns f r e =
 
 -- ---- what is kept of the numbers before
 
-pub all_short-append : (some others : List ℕ) → all_short (some ++ others) ≡ all_short some ++ all_short others
+pub all_short-append : (some others : List ℕ) → shortest_varints (some ++ others) ≡ shortest_varints some ++ shortest_varints others
 all_short-append [] others = refl
-all_short-append (n ∷ some) others = ap (λ (l : List ℕ). short n ++ l) (all_short-append some others) ∙ sym (append_assoc (short n) (all_short some) (all_short others))
+all_short-append (n ∷ some) others = ap (λ (l : List ℕ). shortest_varint n ++ l) (all_short-append some others) ∙ sym (append_assoc (shortest_varint n) (shortest_varints some) (shortest_varints others))
 
-pub all_short-last : (ns : List ℕ) (n : ℕ) → all_short (ns ++ n ∷ []) ≡ all_short ns ++ short n
-all_short-last ns n = all_short-append ns (n ∷ []) ∙ ap (λ (l : List ℕ). all_short ns ++ l) (append-nil (short n))
+pub all_short-last : (ns : List ℕ) (n : ℕ) → shortest_varints (ns ++ n ∷ []) ≡ shortest_varints ns ++ shortest_varint n
+all_short-last ns n = all_short-append ns (n ∷ []) ∙ ap (λ (l : List ℕ). shortest_varints ns ++ l) (append-nil (shortest_varint n))
 
 -- how many they are, and how long their shortest encodings
 pub record AreCounted (count total : ℕ) (ns : List ℕ) : Type 0 where
   pub many : count ≡ length ns
-  pub long : total ≡ length (all_short ns)
+  pub long : total ≡ length (shortest_varints ns)
 
 pub count_none : AreCounted 0 0 []
 count_none = record { many = refl; long = refl }
@@ -97,7 +97,7 @@ count_none = record { many = refl; long = refl }
 one_counted : (count total n more count' total' : ℕ) → more ≡ size n → count' ≡ count + 1 → total' ≡ total + more → (ns : List ℕ) → AreCounted count total ns → AreCounted count' total' (ns ++ n ∷ [])
 one_counted count total n more count' total' more_is c t ns a = record {
   many = let many = a.many in omega (arith, c, many, length-append ns (n ∷ []));
-  long = let long = a.long in omega (arith, t, long, more_is, ap length (all_short-last ns n), length-append (all_short ns) (short n), length-short n);
+  long = let long = a.long in omega (arith, t, long, more_is, ap length (all_short-last ns n), length-append (shortest_varints ns) (shortest_varint n), length-short n);
 }
 
 same_counted : (count total count' total' : ℕ) → count' ≡ count + 0 → total' ≡ total + 0 → (ns : List ℕ) → AreCounted count total ns → AreCounted count' total' ns
@@ -114,8 +114,8 @@ one_size : (n : ℕ) → n < 64 → size n ≡ 1
 unfolding size
 one_size n lt = grind (arith, nat_tests)
 
-one_short : (n : ℕ) → n < 64 → short n ≡ n ∷ []
-unfolding short
+one_short : (n : ℕ) → n < 64 → shortest_varint n ≡ n ∷ []
+unfolding shortest_varint
 one_short n lt = grind (arith, nat_tests)
 
 one_at : (n : ℕ) (rest : List ℕ) → n < 64 → varint_at (n ∷ rest) ≡ Ok (n, rest)
@@ -142,39 +142,39 @@ after_least rest n after fits e =
     let t = varint_takes rest n after fits e in
     omega (arith, (short_least n t.front t.is).0, length-short n, ap length t.split, length-append t.front after)
 
-pub longer_at : (ns : List ℕ) (i total more : ℕ) → i < length ns → more ≡ size (get_or ns i 0) → total ≡ length (all_short (take i ns)) → total + more ≡ length (all_short (take (i + 1) ns))
+pub longer_at : (ns : List ℕ) (i total more : ℕ) → i < length ns → more ≡ size (get_or ns i 0) → total ≡ length (shortest_varints (take i ns)) → total + more ≡ length (shortest_varints (take (i + 1) ns))
 longer_at ns i total more lt more_is e =
     let next : i + 1 ≡ suc i = omega arith in
-    let parts : all_short (take (i + 1) ns) ≡ all_short (take i ns) ++ short (get_or ns i 0) = ap (λ (k : ℕ). all_short (take k ns)) next ∙ all_short-at ns i lt in
-    omega (arith, e, more_is, ap length parts, length-append (all_short (take i ns)) (short (get_or ns i 0)), length-short (get_or ns i 0))
+    let parts : shortest_varints (take (i + 1) ns) ≡ shortest_varints (take i ns) ++ shortest_varint (get_or ns i 0) = ap (λ (k : ℕ). shortest_varints (take k ns)) next ∙ all_short-at ns i lt in
+    omega (arith, e, more_is, ap length parts, length-append (shortest_varints (take i ns)) (shortest_varint (get_or ns i 0)), length-short (get_or ns i 0))
 
 -- bytes that are as long as the shortest encodings are these
-pub short_already : (ns bytes : List ℕ) → AreEncoded ns bytes → (length (all_short ns) ≤ length bytes) × (length bytes ≡ length (all_short ns) → bytes ≡ all_short ns)
+pub short_already : (ns bytes : List ℕ) → AreEncoded ns bytes → (length (shortest_varints ns) ≤ length bytes) × (length bytes ≡ length (shortest_varints ns) → bytes ≡ shortest_varints ns)
 short_already [] bytes s = (omega (arith, ap length s), λ _. s)
 short_already (n ∷ ns) bytes s =
     let first = short_least n s.0 s.3 in
     let others = short_already ns s.1 s.4 in
     let parts : length bytes ≡ length s.0 + length s.1 = ap length s.2 ∙ length-append s.0 s.1 in
-    let wanted : length (all_short (n ∷ ns)) ≡ length (short n) + length (all_short ns) = length-append (short n) (all_short ns) in (
+    let wanted : length (shortest_varints (n ∷ ns)) ≡ length (shortest_varint n) + length (shortest_varints ns) = length-append (shortest_varint n) (shortest_varints ns) in (
       omega (arith, first.0, others.0, parts, wanted),
       λ same.
           s.2 ∙ ap (λ (l : List ℕ). l ++ s.1) (first.1 (omega (arith, same, parts, wanted, first.0, others.0)))
-          ∙ ap (λ (l : List ℕ). short n ++ l) (others.1 (omega (arith, same, parts, wanted, first.0, others.0))),
+          ∙ ap (λ (l : List ℕ). shortest_varint n ++ l) (others.1 (omega (arith, same, parts, wanted, first.0, others.0))),
     )
 
 -- They were written.
 abbrev pub WroteThem : List ℕ → ℕ → List ℕ → ℕ → List ℕ → Type 0
-WroteThem w s w' s' ns = Wrote (all_short ns) w s w' s'
+WroteThem w s w' s' ns = Wrote (shortest_varints ns) w s w' s'
 
-pub wrote_one : {E : Type 0} (r : Result (Unit {0}) E) (n : ℕ) (w w1 w2 : List ℕ) (s s1 s2 : ℕ) → Writes r (short n) w1 s1 w2 s2 → r ≡ Ok tt → (ns : List ℕ) → WroteThem w s w1 s1 ns → WroteThem w s w2 s2 (ns ++ n ∷ [])
-wrote_one r n w w1 w2 s s1 s2 x ok ns so_far = subst (λ (l : List ℕ). Wrote l w s w2 s2) (sym (all_short-last ns n)) (wrote_more r (all_short ns) (short n) w w1 w2 s s1 s2 so_far x ok)
+pub wrote_one : {E : Type 0} (r : Result (Unit {0}) E) (n : ℕ) (w w1 w2 : List ℕ) (s s1 s2 : ℕ) → Writes r (shortest_varint n) w1 s1 w2 s2 → r ≡ Ok tt → (ns : List ℕ) → WroteThem w s w1 s1 ns → WroteThem w s w2 s2 (ns ++ n ∷ [])
+wrote_one r n w w1 w2 s s1 s2 x ok ns so_far = subst (λ (l : List ℕ). Wrote l w s w2 s2) (sym (all_short-last ns n)) (wrote_more r (shortest_varints ns) (shortest_varint n) w w1 w2 s s1 s2 so_far x ok)
 
-pub wrote_them : {E : Type 0} (ns w w1 : List ℕ) (s s1 : ℕ) → WroteThem w s w1 s1 ns → Writes {E = E} (Ok tt) (all_short ns) w s w1 s1
+pub wrote_them : {E : Type 0} (ns w w1 : List ℕ) (s s1 : ℕ) → WroteThem w s w1 s1 ns → Writes {E = E} (Ok tt) (shortest_varints ns) w s w1 s1
 wrote_them ns w w1 s s1 x = record { ok = x.stands; err = tt; full = tt; room = x.room }
 
 pub refused_one : {D E : Type 0} (r : Result (Unit {0}) E) (refused : Result (Unit {0}) D) (d : D) (error : E) (rest ns : List ℕ) (n : ℕ) (after : List ℕ) (w w1 w2 : List ℕ) (s s1 s2 : ℕ)
-    → AreBytes rest → ReadSome (WroteThem w s w1 s1) rest ns → varint_at rest ≡ Ok (n, after) → Writes r (short n) w1 s1 w2 s2 → r ≡ Err error → refused ≡ Err d → Writes refused (all_short ns) w s w2 s2
+    → AreBytes rest → ReadSome (WroteThem w s w1 s1) rest ns → varint_at rest ≡ Ok (n, after) → Writes r (shortest_varint n) w1 s1 w2 s2 → r ≡ Err error → refused ≡ Err d → Writes refused (shortest_varints ns) w s w2 s2
 refused_one r refused d error rest ns n after w w1 w2 s s1 s2 fits x e y is was =
     let next = next_number x.left rest n after fits x.numbers e in
-    let parts : all_short ns ≡ all_short x.before ++ (short n ++ all_short next.others) = ap all_short (x.are ∙ ap (λ (l : List ℕ). x.before ++ l) next.are) ∙ all_short-append x.before (n ∷ next.others) in
-    writes_within r refused d (all_short x.before) (short n) (all_short next.others) (all_short ns) w w1 w2 s s1 s2 error parts x.holds y is was
+    let parts : shortest_varints ns ≡ shortest_varints x.before ++ (shortest_varint n ++ shortest_varints next.others) = ap shortest_varints (x.are ∙ ap (λ (l : List ℕ). x.before ++ l) next.are) ∙ all_short-append x.before (n ∷ next.others) in
+    writes_within r refused d (shortest_varints x.before) (shortest_varint n) (shortest_varints next.others) (shortest_varints ns) w w1 w2 s s1 s2 error parts x.holds y is was

@@ -3,7 +3,7 @@ use Rattle.std.proofs.Common.{◌≡◌, ℕ, ◌+◌, ◌-◌, ◌*◌, ◌/◌
 use Rattle.std.specs.Prelude.{Option}
 use Rattle.std.proofs.lemmas.List.{length-append, append-nil}
 use Rattle.quic_base.specs.Number.{AreBytes}
-use Rattle.quic_base.specs.Varint.{short}
+use Rattle.quic_base.specs.Varint.{shortest_varint}
 use Rattle.quic_frame_fields.specs.declared.frame.ack.Ack.{Ack}
 use Rattle.quic_frame_fields.specs.declared.frame.ack.EcnCounts.{EcnCounts}
 use Rattle.quic_frame_fields.specs.Acks.{ranges_acked}
@@ -11,7 +11,7 @@ use Rattle.quic_frame_fields.specs.Field.{AreBelow, AreBlocks}
 use Rattle.quic_frame_fields.specs.Parts.{ack_meaning}
 use Rattle.quic_frame_fields.specs.Sets.{IsAckInRange, ack_type, count_numbers, header_numbers}
 use Rattle.quic_frame_fields.specs.Shortest.{shortest_below, shortest_frame}
-use Rattle.quic_frame_fields.specs.Numbers.{AreNumeric, AreEncoded, all_short}
+use Rattle.quic_frame_fields.specs.Numbers.{AreNumeric, AreEncoded, shortest_varints}
 use Rattle.quic_frame_fields.proofs.AckParts.{ack_parts, small_type}
 use Rattle.quic_frame_fields.proofs.Apart.{blocks_apart}
 use Rattle.quic_frame_fields.proofs.Blocks.{blocks_of}
@@ -36,22 +36,22 @@ below_count : (low : ℕ) (ranges : List (ℕ × ℕ)) → length (below_numbers
 below_count low [] = refl
 below_count low (range ∷ ranges) = omega (arith, below_count range.0 ranges)
 
-below_short : (low : ℕ) (ranges : List (ℕ × ℕ)) → all_short (below_numbers low ranges) ≡ shortest_below low ranges
+below_short : (low : ℕ) (ranges : List (ℕ × ℕ)) → shortest_varints (below_numbers low ranges) ≡ shortest_below low ranges
 below_short low [] = refl
-below_short low (range ∷ ranges) = ap (λ (l : List ℕ). short (low - (range.1 + 2)) ++ (short (range.1 - range.0) ++ l)) (below_short range.0 ranges)
+below_short low (range ∷ ranges) = ap (λ (l : List ℕ). shortest_varint (low - (range.1 + 2)) ++ (shortest_varint (range.1 - range.0) ++ l)) (below_short range.0 ranges)
 
 -- a number in front of the second part
-moved : (ns : List ℕ) (n : ℕ) (below rest : List ℕ) → all_short (ns ++ n ∷ []) ++ (below ++ rest) ≡ all_short ns ++ ((short n ++ below) ++ rest)
+moved : (ns : List ℕ) (n : ℕ) (below rest : List ℕ) → shortest_varints (ns ++ n ∷ []) ++ (below ++ rest) ≡ shortest_varints ns ++ ((shortest_varint n ++ below) ++ rest)
 moved [] n below rest = simp (append_assoc, append-nil)
 moved (m ∷ ns) n below rest =
-    append_assoc (short m) (all_short (ns ++ n ∷ [])) (below ++ rest) ∙ ap (λ (l : List ℕ). short m ++ l) (moved ns n below rest) ∙ sym (append_assoc (short m) (all_short ns) ((short n ++ below) ++ rest))
+    append_assoc (shortest_varint m) (shortest_varints (ns ++ n ∷ [])) (below ++ rest) ∙ ap (λ (l : List ℕ). shortest_varint m ++ l) (moved ns n below rest) ∙ sym (append_assoc (shortest_varint m) (shortest_varints ns) ((shortest_varint n ++ below) ++ rest))
 
 pub record HeldParts (a : Ack) : Type 0 where
   pub numbers : List ℕ
   pub encoded : AreEncoded numbers a.additional.now
   pub many : length numbers / 2 ≡ length (ranges_acked a) - 1
   pub numeric : AreNumeric (header_numbers a)
-  pub parts : (last : Bool) → shortest_frame last (ack_meaning a) ≡ all_short (header_numbers a) ++ (all_short numbers ++ all_short (count_numbers a.ecn))
+  pub parts : (last : Bool) → shortest_frame last (ack_meaning a) ≡ shortest_varints (header_numbers a) ++ (shortest_varints numbers ++ shortest_varints (count_numbers a.ecn))
 
 pub held_parts : (a : Ack) → AreBytes a.additional.now → IsAckInRange a → HeldParts a
 held_parts a fits q =
@@ -69,7 +69,7 @@ held_parts a fits q =
       numeric = (small_type a.ecn, (q.0.0, (q.0.1.0, (omega (arith, count, few, ends, ordered, q.0.0), tt))));
       parts = λ last.
           rw (b.are, others, below_short b.range.0 b.ranges) (ack_parts last a.largest a.delay b.range b.ranges a.ecn
-          ∙ moved (ack_type a.ecn ∷ a.largest ∷ a.delay ∷ length b.ranges ∷ []) (b.range.1 - b.range.0) (shortest_below b.range.0 b.ranges) (all_short (count_numbers a.ecn)));
+          ∙ moved (ack_type a.ecn ∷ a.largest ∷ a.delay ∷ length b.ranges ∷ []) (b.range.1 - b.range.0) (shortest_below b.range.0 b.ranges) (shortest_varints (count_numbers a.ecn)));
     }
 
 -- how many ranges are below the first, by how many numbers were counted
@@ -78,15 +78,15 @@ held_many a h encoded count is counted = ap (λ (n : ℕ). n / 2) (counted h.num
 
 -- the same of a header and counts that were computed
 pub held_whole : (a : Ack) (h : HeldParts a) (last : Bool) (head : List ℕ) (counts : Option EcnCounts) → head ≡ header_numbers a → counts ≡ a.ecn
-    → shortest_frame last (ack_meaning a) ≡ all_short head ++ (all_short h.numbers ++ all_short (count_numbers counts))
+    → shortest_frame last (ack_meaning a) ≡ shortest_varints head ++ (shortest_varints h.numbers ++ shortest_varints (count_numbers counts))
 held_whole a h last head counts header_is counts_are =
-    h.parts last ∙ ap (λ (l : List ℕ). all_short l ++ (all_short h.numbers ++ all_short (count_numbers a.ecn))) (sym header_is)
-    ∙ ap (λ (k : Option EcnCounts). all_short head ++ (all_short h.numbers ++ all_short (count_numbers k))) (sym counts_are)
+    h.parts last ∙ ap (λ (l : List ℕ). shortest_varints l ++ (shortest_varints h.numbers ++ shortest_varints (count_numbers a.ecn))) (sym header_is)
+    ∙ ap (λ (k : Option EcnCounts). shortest_varints head ++ (shortest_varints h.numbers ++ shortest_varints (count_numbers k))) (sym counts_are)
 
-pub held_length : (a : Ack) (h : HeldParts a) (last : Bool) (head : List ℕ) (counts : Option EcnCounts) (first second third : ℕ) → head ≡ header_numbers a → counts ≡ a.ecn → first ≡ length (all_short head)
-    → second ≡ length (all_short h.numbers) → third ≡ length (all_short (count_numbers counts)) → first + second + third ≡ length (shortest_frame last (ack_meaning a))
+pub held_length : (a : Ack) (h : HeldParts a) (last : Bool) (head : List ℕ) (counts : Option EcnCounts) (first second third : ℕ) → head ≡ header_numbers a → counts ≡ a.ecn → first ≡ length (shortest_varints head)
+    → second ≡ length (shortest_varints h.numbers) → third ≡ length (shortest_varints (count_numbers counts)) → first + second + third ≡ length (shortest_frame last (ack_meaning a))
 held_length a h last head counts first second third header_is counts_are one two three =
     let whole = ap length (held_whole a h last head counts header_is counts_are) in
-    let front = length-append (all_short head) (all_short h.numbers ++ all_short (count_numbers counts)) in
-    let back = length-append (all_short h.numbers) (all_short (count_numbers counts)) in
+    let front = length-append (shortest_varints head) (shortest_varints h.numbers ++ shortest_varints (count_numbers counts)) in
+    let back = length-append (shortest_varints h.numbers) (shortest_varints (count_numbers counts)) in
     omega (arith, whole, front, back, one, two, three)

@@ -2,8 +2,8 @@
 use Rattle.std.proofs.Common.{◌≡◌, ℕ, ◌+◌, ◌<◌, ◌≤◌, List, [], ◌∷◌, ◌++◌, length, take, drop, Ok, Err, refl, sym, ap, subst, ◌∙◌, append_assoc, arith}
 use Rattle.std.proofs.lemmas.List.{length-append, length-take, append-nil, take-append-drop, drop-drop}
 use Rattle.quic_base.specs.Number.{AreBytes}
-use Rattle.quic_base.specs.Varint.{short}
-use Rattle.quic_frame_fields.specs.Numbers.{AreEncoded, all_short}
+use Rattle.quic_base.specs.Varint.{shortest_varint}
+use Rattle.quic_frame_fields.specs.Numbers.{AreEncoded, shortest_varints}
 use Rattle.quic_frame_fields.specs.Putting.{Stores, Puts, Shortens}
 use Rattle.quic_frame_fields.specs.Reading.{varint_at}
 use Rattle.quic_frame_fields.proofs.Encoded.{ReadSome, all_short-append, all_short-last, next_number}
@@ -69,19 +69,19 @@ puts_refused bytes old n count lt = record { count = tt; front = tt; needed = co
 
 -- They were written.
 abbrev pub StoredThem : ℕ → List ℕ → ℕ → List ℕ → List ℕ → Type 0
-StoredThem at old end new ns = Stores (all_short ns) at old end new
+StoredThem at old end new ns = Stores (shortest_varints ns) at old end new
 
-pub stored_one : (n at place end : ℕ) (old one new : List ℕ) → Stores (short n) place one end new → (ns : List ℕ) → StoredThem at old place one ns → StoredThem at old end new (ns ++ n ∷ [])
+pub stored_one : (n at place end : ℕ) (old one new : List ℕ) → Stores (shortest_varint n) place one end new → (ns : List ℕ) → StoredThem at old place one ns → StoredThem at old end new (ns ++ n ∷ [])
 stored_one n at place end old one new x ns so_far =
-    subst (λ (l : List ℕ). Stores l at old end new) (sym (all_short-last ns n)) (stores_more (all_short ns) (short n) old one new at place end so_far x)
+    subst (λ (l : List ℕ). Stores l at old end new) (sym (all_short-last ns n)) (stores_more (shortest_varints ns) (shortest_varint n) old one new at place end so_far x)
 
 -- the next number has room
 pub room_for_one : (encoded rest after old one : List ℕ) (n len at place : ℕ) → AreBytes rest → (s : Shortens encoded len) → ((ns : List ℕ) → AreEncoded ns encoded → ReadSome (StoredThem at old place one) rest ns)
-    → varint_at rest ≡ Ok (n, after) → place + length (short n) ≤ at + len
+    → varint_at rest ≡ Ok (n, after) → place + length (shortest_varint n) ≤ at + len
 room_for_one encoded rest after old one n len at place fits s read e =
     let r = read s.numbers s.encodes in
     let next = next_number r.left rest n after fits r.numbers e in
-    let parts : all_short s.numbers ≡ all_short r.before ++ (short n ++ all_short next.others) = ap all_short (r.are ∙ ap (λ (l : List ℕ). r.before ++ l) next.are) ∙ all_short-append r.before (n ∷ next.others) in
+    let parts : shortest_varints s.numbers ≡ shortest_varints r.before ++ (shortest_varint n ++ shortest_varints next.others) = ap shortest_varints (r.are ∙ ap (λ (l : List ℕ). r.before ++ l) next.are) ∙ all_short-append r.before (n ∷ next.others) in
     let long = s.long s.numbers s.encodes in
     let so_far = r.holds.count in
-    omega (arith, long, so_far, ap length parts, length-append (all_short r.before) (short n ++ all_short next.others), length-append (short n) (all_short next.others))
+    omega (arith, long, so_far, ap length parts, length-append (shortest_varints r.before) (shortest_varint n ++ shortest_varints next.others), length-append (shortest_varint n) (shortest_varints next.others))

@@ -3,7 +3,7 @@ use Rattle.std.proofs.Common.{◌≡◌, ℕ, Bool, Option, true, false, List, [
 use Rattle.std.specs.Prelude.{not, if◌then◌else◌}
 use Rattle.std.specs.Bool.{then_some}
 use Rattle.std.proofs.lemmas.List.{append-nil, length-append}
-use Rattle.quic_base.specs.Varint.{short, size}
+use Rattle.quic_base.specs.Varint.{shortest_varint, size}
 use Rattle.quic_base.proofs.PublicLaws.{length-short}
 use Rattle.quic_frame_fields.specs.Field.{Number, Bytes}
 use Rattle.quic_frame_fields.specs.Table.{Stream}
@@ -50,7 +50,7 @@ counted_type true false = refl
 counted_type false true = refl
 counted_type false false = refl
 
-offset_length : (b : Bool) (offset : ℕ) → length (if b then [] else short offset) ≡ (if b then 0 else size offset)
+offset_length : (b : Bool) (offset : ℕ) → length (if b then [] else shortest_varint offset) ≡ (if b then 0 else size offset)
 offset_length true offset = refl
 offset_length false offset = length-short offset
 
@@ -64,8 +64,8 @@ stream_length true fin id offset bytes =
       arith,
       ap length (stream_parts true fin id offset bytes),
       length-append (stream_header id offset fin None) bytes,
-      length-append (short t) (short id ++ back),
-      length-append (short id) back,
+      length-append (shortest_varint t) (shortest_varint id ++ back),
+      length-append (shortest_varint id) back,
       length-short t,
       length-short id,
       open_type (eqb offset 0) (eqb (if fin then 1 else 0) 1),
@@ -74,14 +74,14 @@ stream_length true fin id offset bytes =
 stream_length false fin id offset bytes =
     let t = 0x08 + (if eqb offset 0 then 0 else 4) + (if eqb (if fin then 1 else 0) 1 then 1 else 0) + 2 in
     let n = length bytes in
-    let back = written_offset offset ++ short n in
+    let back = written_offset offset ++ shortest_varint n in
     omega (
       arith,
       ap length (stream_parts false fin id offset bytes),
       length-append (stream_header id offset fin (Some n)) bytes,
-      length-append (short t) (short id ++ back),
-      length-append (short id) back,
-      length-append (written_offset offset) (short n),
+      length-append (shortest_varint t) (shortest_varint id ++ back),
+      length-append (shortest_varint id) back,
+      length-append (written_offset offset) (shortest_varint n),
       length-short t,
       length-short id,
       length-short n,

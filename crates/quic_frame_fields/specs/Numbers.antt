@@ -1,11 +1,11 @@
 -- Numbers as varints, one after the other.
 use Rattle.std.specs.Prelude.{◌≡◌, ⊤, ℕ, ◌<◌, ◌^◌, List, [], ◌∷◌, ◌++◌}
-use Rattle.quic_base.specs.Varint.{Encodes, short}
+use Rattle.quic_base.specs.Varint.{Encodes, shortest_varint}
 
 -- numbers in their shortest encodings
-abbrev pub all_short : List ℕ → List ℕ
-all_short [] = []
-all_short (n ∷ ns) = short n ++ all_short ns
+abbrev pub shortest_varints : List ℕ → List ℕ
+shortest_varints [] = []
+shortest_varints (n ∷ ns) = shortest_varint n ++ shortest_varints ns
 
 -- numbers that have an encoding
 abbrev pub AreNumeric : List ℕ → Type 0

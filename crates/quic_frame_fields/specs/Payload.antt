@@ -1,7 +1,7 @@
 -- What a payload means (RFC 9000, section 12.4). The first argument of the relations says whether a type must be in its
 -- shortest encoding.
 use Rattle.std.specs.Prelude.{◌≡◌, ◌≢◌, ℕ, List, [], ◌∷◌, ◌++◌, Option, Some, None, Bool, true, false, ◌⊎◌}
-use Rattle.quic_base.specs.Varint.{Encodes, short}
+use Rattle.quic_base.specs.Varint.{Encodes, shortest_varint}
 use Rattle.quic_frame_fields.specs.declared.frame.fault.Fault.{Fault}
 use Rattle.quic_frame_fields.specs.declared.frame.fault.Fault.TheVariants.{UnexpectedEnd, InvalidFrameId, LongType}
 use Rattle.quic_frame_fields.specs.Field.{Value, AreFields, StopsWithin, NoNumber}
@@ -14,17 +14,17 @@ pub record Meaning : Type 0 where
   pub values : List Value
 
 -- a frame in a payload, with the type that it has there
-pub record Found : Type 0 where
+pub record TypedFrame : Type 0 where
   pub type : ℕ
   pub frame : Meaning
 
 -- The bytes encode a type; if strict, in its shortest encoding.
 pub record IsType (strict : Bool) (t : ℕ) (bytes : List ℕ) : Type 0 where
   pub encoded : Encodes t bytes
-  pub shortest : strict ≡ true → bytes ≡ short t
+  pub shortest : strict ≡ true → bytes ≡ shortest_varint t
 
 -- The bytes encode the frame: its type, and then each field of the type's row.
-pub record IsFrame (strict : Bool) (found : Found) (bytes : List ℕ) : Type 0 where
+pub record IsFrame (strict : Bool) (found : TypedFrame) (bytes : List ℕ) : Type 0 where
   pub type_bytes : List ℕ
   pub field_bytes : List ℕ
   pub parts : bytes ≡ type_bytes ++ field_bytes
@@ -35,18 +35,18 @@ pub record IsFrame (strict : Bool) (found : Found) (bytes : List ℕ) : Type 0 w
   pub fields : AreFields row.fields [] found.frame.values field_bytes
 
 -- The bytes are these frames, an open one last only.
-abbrev pub AreFrames : Bool → List Found → List ℕ → Type 0
+abbrev pub AreFrames : Bool → List TypedFrame → List ℕ → Type 0
 AreFrames strict [] bytes = bytes ≡ []
 AreFrames strict (found ∷ others) bytes =
     (front back : List ℕ) × (bytes ≡ front ++ back) × IsFrame strict found front
     × (is_open found.type ≡ true → back ≡ []) × AreFrames strict others back
 
 -- the last type, if there is one
-abbrev pub last_type : Option ℕ → List Found → Option ℕ
+abbrev pub last_type : Option ℕ → List TypedFrame → Option ℕ
 last_type before [] = before
 last_type before (found ∷ others) = last_type (Some found.type) others
 
-abbrev pub AreClosed : List Found → Type 0
+abbrev pub AreClosed : List TypedFrame → Type 0
 AreClosed [] = Unit {0}
 AreClosed (found ∷ others) = (is_open found.type ≡ false) × AreClosed others
 
@@ -70,7 +70,7 @@ pub record HasLongType (strict : Bool) (bytes : List ℕ) (t : ℕ) : Type 0 whe
   pub back : List ℕ
   pub parts : bytes ≡ front ++ back
   pub encoded : Encodes t front
-  pub long : front ≢ short t
+  pub long : front ≢ shortest_varint t
 
 -- or the type has no row,
 abbrev pub HasUnknownType : Bool → List ℕ → ℕ → Type 0
@@ -90,7 +90,7 @@ IsNoFrame strict before bytes type reason =
     ⊎ ((t : ℕ) × HasBrokenField strict bytes t reason × (type ≡ Some t))
 
 -- The bytes are these frames, followed by an invalid one.
-pub record IsBroken (strict : Bool) (before : Option ℕ) (found : List Found) (bytes : List ℕ) (type : Option ℕ)
+pub record IsBroken (strict : Bool) (before : Option ℕ) (found : List TypedFrame) (bytes : List ℕ) (type : Option ℕ)
     (reason : Fault) : Type 0 where
   pub front : List ℕ
   pub back : List ℕ
@@ -102,5 +102,5 @@ pub record IsBroken (strict : Bool) (before : Option ℕ) (found : List Found) (
 -- The bytes are frames, or frames followed by an invalid one.
 abbrev pub IsEither : Bool → Option ℕ → List ℕ → Type 0
 IsEither strict before bytes =
-    ((found : List Found) × AreFrames strict found bytes)
-    ⊎ ((found : List Found) × (type : Option ℕ) × (reason : Fault) × IsBroken strict before found bytes type reason)
+    ((found : List TypedFrame) × AreFrames strict found bytes)
+    ⊎ ((found : List TypedFrame) × (type : Option ℕ) × (reason : Fault) × IsBroken strict before found bytes type reason)

@@ -1,7 +1,7 @@
 -- What an encoder does to the front of a slice.
 use Rattle.std.specs.Prelude.{◌≡◌, ℕ, ◌+◌, ◌<◌, List, ◌++◌, length, take, drop, Result, IfOk, OnErr, IfErr}
 use Rattle.quic_base.specs.Codec.{IsBegun, KeepsRoom}
-use Rattle.quic_frame_fields.specs.Numbers.{AreEncoded, all_short}
+use Rattle.quic_frame_fields.specs.Numbers.{AreEncoded, shortest_varints}
 
 -- The bytes were written at the front, those after them didn't change, and their count is given; or there is less room
 -- than that, how much they need is reported, and nothing changed.
@@ -24,7 +24,7 @@ pub record Stores (bytes : List ℕ) (at : ℕ) (old : List ℕ) (end : ℕ) (ne
 pub record Shortens (encoded : List ℕ) (len : ℕ) : Type 0 where
   pub numbers : List ℕ
   pub encodes : AreEncoded numbers encoded
-  pub long : (ns : List ℕ) → AreEncoded ns encoded → len ≡ length (all_short ns)
+  pub long : (ns : List ℕ) → AreEncoded ns encoded → len ≡ length (shortest_varints ns)
 
 -- Of the bytes in a chunk up to a place a prefix was appended, and the rest of them are now at the chunk's front, up to
 -- the answer; or there was less room than that.

@@ -7,7 +7,7 @@ use Rattle.quic_frame_fields.specs.declared.frame.fault.Fault.{Fault}
 use Rattle.quic_frame_fields.specs.declared.frame.fault.Fault.TheVariants.{UnexpectedEnd, InvalidFrameId, Malformed, LongType}
 use Rattle.quic_frame_fields.specs.Field.{Value, Number, Bytes, Ranges, Field, Varint, Counted, Id, Uint64, Bytes16, Blocks, Rest, Implied, Ordered, is_ordered, greatest_of}
 use Rattle.quic_frame_fields.specs.Table.{Row, row_of}
-use Rattle.quic_frame_fields.specs.Payload.{Meaning, Found}
+use Rattle.quic_frame_fields.specs.Payload.{Meaning, TypedFrame}
 
 infixl 10 ◌>>=◌
 abbrev pub ◌>>=◌ : {A B : Type 0} → Result A Fault → (A → Result B Fault) → Result B Fault
@@ -171,7 +171,7 @@ reason_text LongType = codes "frame type not in shortest form"
 abbrev pub invalid : Option ℕ → Fault → Invalid
 invalid type reason = record { type = type; reason = reason_text reason }
 
-abbrev pub after_type : ℕ → Result (Meaning × List ℕ) Fault → Result (Found × List ℕ) Invalid
+abbrev pub after_type : ℕ → Result (Meaning × List ℕ) Fault → Result (TypedFrame × List ℕ) Invalid
 after_type t (Ok x) = Ok (record { type = t; frame = x.0 }, x.1)
 after_type t (Err e) = Err (invalid (Some t) e)
 
@@ -179,21 +179,21 @@ after_type t (Err e) = Err (invalid (Some t) e)
 abbrev pub is_long_type : Bool → ℕ → ℕ → Bool
 is_long_type strict t width = strict && not (width == size t)
 
-abbrev pub at_type : Bool → Option ℕ → ℕ → Result (ℕ × List ℕ) Fault → Result (Found × List ℕ) Invalid
+abbrev pub at_type : Bool → Option ℕ → ℕ → Result (ℕ × List ℕ) Fault → Result (TypedFrame × List ℕ) Invalid
 at_type strict before total (Ok x) = if is_long_type strict x.0 (total - length x.1)
     then Err (invalid (Some x.0) LongType) else after_type x.0 (frame_at x.0 x.1)
 at_type strict before total (Err e) = Err (invalid before e)
 
 -- the frame at the front, where the last type before it is given
-unfoldable pub found_at : Bool → Option ℕ → List ℕ → Result (Found × List ℕ) Invalid
+unfoldable pub found_at : Bool → Option ℕ → List ℕ → Result (TypedFrame × List ℕ) Invalid
 found_at strict before bytes = at_type strict before (length bytes) (varint_at bytes)
 
 -- an item of a payload: a frame from one place to another, or the error
 pub data Item : Type 0 where
-  Whole : (start stop : ℕ) → Found → Item
+  Whole : (start stop : ℕ) → TypedFrame → Item
   Broken : Invalid → Item
 
-abbrev pub items_after : (ℕ → Option ℕ → List ℕ → List Item) → ℕ → ℕ → Result (Found × List ℕ) Invalid → List Item
+abbrev pub items_after : (ℕ → Option ℕ → List ℕ → List Item) → ℕ → ℕ → Result (TypedFrame × List ℕ) Invalid → List Item
 items_after others start total (Err e) = Broken e ∷ []
 items_after others start total (Ok x) =
     let stop = start + (total - length x.1) in Whole start stop x.0 ∷ others stop (Some x.0.type) x.1

@@ -1,7 +1,7 @@
 -- The shortest encoding of a frame at its place.
 use Rattle.std.specs.Prelude.{ℕ, ◌+◌, ◌-◌, List, [], ◌∷◌, ◌++◌, ◌==◌, length, take, max, Option, Some, None, Bool, if◌then◌else◌}
 use Rattle.quic_base.specs.Number.{bytes_of}
-use Rattle.quic_base.specs.Varint.{short, size}
+use Rattle.quic_base.specs.Varint.{shortest_varint, size}
 use Rattle.quic_frame_fields.specs.Field.{Value, Number, Bytes, Ranges, Field, Varint, Counted, Id, Uint64, Bytes16, Blocks, Rest, Ordered}
 use Rattle.quic_frame_fields.specs.Table.{Name, Ack, Stream, Datagram, Row, row_of}
 use Rattle.quic_frame_fields.specs.Payload.{Meaning}
@@ -13,17 +13,17 @@ use Rattle.quic_frame_fields.specs.declared.frame.close.Close.TheVariants as clo
 -- the blocks of ranges below one with the least number low, and of all ranges of an ACK after their count
 abbrev pub shortest_below : ℕ → List (ℕ × ℕ) → List ℕ
 shortest_below low [] = []
-shortest_below low (range ∷ ranges) = short (low - (range.1 + 2))
-    ++ (short (range.1 - range.0) ++ shortest_below range.0 ranges)
+shortest_below low (range ∷ ranges) = shortest_varint (low - (range.1 + 2))
+    ++ (shortest_varint (range.1 - range.0) ++ shortest_below range.0 ranges)
 
 abbrev pub shortest_blocks : List (ℕ × ℕ) → List ℕ
 shortest_blocks [] = []
-shortest_blocks (range ∷ ranges) = short (length ranges) ++ (short (range.1 - range.0) ++ shortest_below range.0 ranges)
+shortest_blocks (range ∷ ranges) = shortest_varint (length ranges) ++ (shortest_varint (range.1 - range.0) ++ shortest_below range.0 ranges)
 
 -- a field with the first of these values
 abbrev pub shortest_of : Field → List Value → List ℕ
-shortest_of Varint (Number n ∷ values) = short n
-shortest_of Counted (Bytes bytes ∷ values) = short (length bytes) ++ bytes
+shortest_of Varint (Number n ∷ values) = shortest_varint n
+shortest_of Counted (Bytes bytes ∷ values) = shortest_varint (length bytes) ++ bytes
 shortest_of Id (Bytes bytes ∷ values) = length bytes ∷ bytes
 shortest_of Uint64 (Number n ∷ values) = bytes_of 8 n
 shortest_of Bytes16 (Bytes bytes ∷ values) = bytes
@@ -57,18 +57,18 @@ shortest_row (Some r) values = shortest_fields r.fields values
 -- a frame, the last of its payload or not
 unfoldable pub shortest_frame : Bool → Meaning → List ℕ
 shortest_frame last frame = let t = written_type last frame.name frame.values
-    in short t ++ shortest_row (row_of t) frame.values
+    in shortest_varint t ++ shortest_row (row_of t) frame.values
 
 abbrev pub written_offset : ℕ → List ℕ
-written_offset offset = if offset == 0 then [] else short offset
+written_offset offset = if offset == 0 then [] else shortest_varint offset
 
 -- the bytes of a STREAM before its data: its type, its id, its offset where that isn't 0, and the length of the data
 -- where it is written
 abbrev pub stream_header : ℕ → ℕ → Bool → Option ℕ → List ℕ
-stream_header id offset fin None = short (named_type Stream (flag fin ∷ Number id ∷ Number offset ∷ []))
-    ++ (short id ++ written_offset offset)
-stream_header id offset fin (Some n) = short (named_type Stream (flag fin ∷ Number id ∷ Number offset ∷ []) + 2)
-    ++ (short id ++ (written_offset offset ++ short n))
+stream_header id offset fin None = shortest_varint (named_type Stream (flag fin ∷ Number id ∷ Number offset ∷ []))
+    ++ (shortest_varint id ++ written_offset offset)
+stream_header id offset fin (Some n) = shortest_varint (named_type Stream (flag fin ∷ Number id ∷ Number offset ∷ []) + 2)
+    ++ (shortest_varint id ++ (written_offset offset ++ shortest_varint n))
 
 -- ---- closes that are cut to their room
 

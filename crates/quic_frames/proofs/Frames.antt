@@ -4,12 +4,12 @@ use Rattle.std.specs.Prelude.{◌⊎◌, not}
 use Rattle.std.proofs.lemmas.List.{length-append}
 use Rattle.std.proofs.lemmas.Bool.Decides.{nat_tests}
 use Rattle.quic_base.specs.Number.{AreBytes}
-use Rattle.quic_base.specs.Varint.{Encodes, short, size}
+use Rattle.quic_base.specs.Varint.{Encodes, shortest_varint, size}
 use Rattle.quic_base.proofs.PublicLaws.{back_bytes, length-short, short_least}
 use Rattle.quic_frame_fields.specs.declared.frame.fault.Fault.{Fault}
 use Rattle.quic_frame_fields.specs.declared.frame.fault.Fault.TheVariants.{InvalidFrameId, LongType}
 use Rattle.quic_frame_fields.specs.Table.{Row, row_of, has_rest, is_open, is_open_row}
-use Rattle.quic_frame_fields.specs.Payload.{Meaning, Found, IsType, IsFrame, LacksType, IsNoFrame}
+use Rattle.quic_frame_fields.specs.Payload.{Meaning, TypedFrame, IsType, IsFrame, LacksType, IsNoFrame}
 use Rattle.quic_frame_fields.specs.Reading.{varint_at, fields_at, row_at, in_row, frame_at, Invalid, invalid, after_type, is_long_type, at_type, found_at}
 use Rattle.quic_frame_fields.proofs.Steps.{bind_ok, mapped_err, err_of, ok_is, true_is_not_false}
 use Rattle.quic_frame_fields.proofs.Varints.{varint_takes, varint_again, varint_fails}
@@ -51,7 +51,7 @@ is_not_long true t front s =
 
 record IsLong (strict : Bool) (t : ℕ) (front : List ℕ) : Type 0 where
   counts : strict ≡ true
-  long : front ≢ short t
+  long : front ≢ shortest_varint t
 
 is_long : (strict : Bool) (t : ℕ) (front : List ℕ) → Encodes t front → is_long_type strict t (length front) ≡ true → IsLong strict t front
 is_long false t front s e = absurd cc
@@ -92,10 +92,10 @@ in_row_err : (o : Option Row) (bytes : List ℕ) (f : Fault) → in_row o bytes 
 in_row_err None bytes f e = inl (refl, cc)
 in_row_err (Some r) bytes f e = inr (r, refl, e)
 
-abbrev found_with : ℕ → Meaning → Found
+abbrev found_with : ℕ → Meaning → TypedFrame
 found_with t frame = record { type = t; frame = frame }
 
-after_type_ok : (t : ℕ) (r : Result (Meaning × List ℕ) Fault) (x : Found × List ℕ) → after_type t r ≡ Ok x → (y : Meaning × List ℕ) × (r ≡ Ok y) × ((found_with t y.0, y.1) ≡ x)
+after_type_ok : (t : ℕ) (r : Result (Meaning × List ℕ) Fault) (x : TypedFrame × List ℕ) → after_type t r ≡ Ok x → (y : Meaning × List ℕ) × (r ≡ Ok y) × ((found_with t y.0, y.1) ≡ x)
 after_type_ok t (Ok y) x e = (y, refl, cc)
 after_type_ok t (Err f) x e = absurd cc
 
@@ -104,10 +104,10 @@ after_type_err t (Ok y) i e = absurd cc
 after_type_err t (Err f) i e = (f, refl, cc)
 
 -- what reading does with a number that it found
-abbrev with_type : Bool → ℕ → ℕ × List ℕ → Result (Found × List ℕ) Invalid
+abbrev with_type : Bool → ℕ → ℕ × List ℕ → Result (TypedFrame × List ℕ) Invalid
 with_type long total y = cond long (Err (invalid (Some y.0) LongType)) (after_type y.0 (frame_at y.0 y.1))
 
-with_type_ok : (long : Bool) (total : ℕ) (y : ℕ × List ℕ) (x : Found × List ℕ) → with_type long total y ≡ Ok x → (long ≡ false) × (after_type y.0 (frame_at y.0 y.1) ≡ Ok x)
+with_type_ok : (long : Bool) (total : ℕ) (y : ℕ × List ℕ) (x : TypedFrame × List ℕ) → with_type long total y ≡ Ok x → (long ≡ false) × (after_type y.0 (frame_at y.0 y.1) ≡ Ok x)
 with_type_ok true total y x e = absurd cc
 with_type_ok false total y x e = (refl, e)
 
@@ -116,7 +116,7 @@ with_type_err : (long : Bool) (total : ℕ) (y : ℕ × List ℕ) (i : Invalid) 
 with_type_err true total y i e = inl (refl, cc)
 with_type_err false total y i e = inr (refl, e)
 
-at_type_ok : (strict : Bool) (before : Option ℕ) (total : ℕ) (v : Result (ℕ × List ℕ) Fault) (x : Found × List ℕ) → at_type strict before total v ≡ Ok x
+at_type_ok : (strict : Bool) (before : Option ℕ) (total : ℕ) (v : Result (ℕ × List ℕ) Fault) (x : TypedFrame × List ℕ) → at_type strict before total v ≡ Ok x
     → (y : ℕ × List ℕ) × (v ≡ Ok y) × (with_type (is_long_type strict y.0 (total - length y.1)) total y ≡ Ok x)
 at_type_ok strict before total (Ok y) x e = (y, refl, e)
 at_type_ok strict before total (Err f) x e = absurd cc
@@ -128,13 +128,13 @@ at_type_err strict before total (Err f) i e = inl (f, refl, cc)
 
 -- ---- frames
 
-pub record TakesFound (strict : Bool) (found : Found) (bytes left : List ℕ) : Type 0 where
+pub record TakesFound (strict : Bool) (found : TypedFrame) (bytes left : List ℕ) : Type 0 where
   pub front : List ℕ
   pub parts : bytes ≡ front ++ left
   pub frame : IsFrame strict found front
   pub opens : is_open found.type ≡ true → left ≡ []
 
-pub found_takes : (strict : Bool) (before : Option ℕ) (bytes : List ℕ) (x : Found × List ℕ) → AreBytes bytes → found_at strict before bytes ≡ Ok x → TakesFound strict x.0 bytes x.1
+pub found_takes : (strict : Bool) (before : Option ℕ) (bytes : List ℕ) (x : TypedFrame × List ℕ) → AreBytes bytes → found_at strict before bytes ≡ Ok x → TakesFound strict x.0 bytes x.1
 unfolding found_at frame_at
 found_takes strict before bytes x fits e =
     let a = at_type_ok strict before (length bytes) (varint_at bytes) x e in
@@ -144,7 +144,7 @@ found_takes strict before bytes x fits e =
     let t = varint_takes bytes a.0.0 a.0.1 fits a.1 in
     let short_enough : is_long_type strict a.0.0 (length t.front) ≡ false = ap (is_long_type strict a.0.0) (sym (front_width bytes t.front a.0.1 t.split)) ∙ w.0 in
     let u = row_takes c.0 a.0.1 b.0 (back_bytes t.front a.0.1 (subst AreBytes t.split fits)) c.2 in
-    subst (λ (y : Found × List ℕ). TakesFound strict y.0 bytes y.1) b.2
+    subst (λ (y : TypedFrame × List ℕ). TakesFound strict y.0 bytes y.1) b.2
     (record {
       front = t.front ++ u.fields.front;
       parts = t.split ∙ ap (λ (l : List ℕ). t.front ++ l) u.fields.parts ∙ sym (append_assoc t.front u.fields.front b.0.1);
@@ -170,7 +170,7 @@ type_again strict before t front back s =
     ap (is_long_type strict t) (front_width (front ++ back) front back refl) ∙ is_not_long strict t front s in
     rw (one, wide) refl
 
-pub found_again : (strict : Bool) (before : Option ℕ) (found : Found) (front back : List ℕ) → IsFrame strict found front → (is_open found.type ≡ true → back ≡ []) → found_at strict before (front ++ back) ≡ Ok (found, back)
+pub found_again : (strict : Bool) (before : Option ℕ) (found : TypedFrame) (front back : List ℕ) → IsFrame strict found front → (is_open found.type ≡ true → back ≡ []) → found_at strict before (front ++ back) ≡ Ok (found, back)
 unfolding frame_at row_at
 found_again strict before found front back frame closed =
     let regrouped : front ++ back ≡ frame.type_bytes ++ (frame.field_bytes ++ back) = ap (λ (l : List ℕ). l ++ back) frame.parts ∙ append_assoc frame.type_bytes frame.field_bytes back in

@@ -5,7 +5,7 @@ use Rattle.quic_base.specs.Number.{AreBytes}
 use Rattle.quic_base.proofs.PublicLaws.{back_bytes}
 use Rattle.quic_frame_fields.specs.declared.frame.fault.Fault.{Fault}
 use Rattle.quic_frame_fields.specs.Table.{is_open}
-use Rattle.quic_frame_fields.specs.Payload.{Found, IsFrame, AreFrames, last_type, BeginsWithType, IsNoFrame, IsBroken, IsEither}
+use Rattle.quic_frame_fields.specs.Payload.{TypedFrame, IsFrame, AreFrames, last_type, BeginsWithType, IsNoFrame, IsBroken, IsEither}
 use Rattle.quic_frame_fields.specs.Reading.{Invalid, invalid, found_at, Item, Whole, Broken, items_after, items_from, items_of}
 use Rattle.quic_frames.specs.Walk.{unplaced, given}
 use Rattle.quic_frame_fields.proofs.Steps.{true_is_not_false}
@@ -13,9 +13,9 @@ use Rattle.quic_frame_fields.proofs.Varints.{varint_some}
 use Rattle.quic_frames.proofs.Frames.{found_takes, found_again, found_fails, no_frame_again}
 
 abbrev Reported : Type 0
-Reported = Result Found Invalid
+Reported = Result TypedFrame Invalid
 
-pub frame_some : (strict : Bool) (found : Found) (bytes : List ℕ) → IsFrame strict found bytes → 0 < length bytes
+pub frame_some : (strict : Bool) (found : TypedFrame) (bytes : List ℕ) → IsFrame strict found bytes → 0 < length bytes
 frame_some strict found bytes frame =
     let some = varint_some found.type frame.type_bytes frame.type_encoded.encoded in
     omega (arith, ap length frame.parts, length-append frame.type_bytes frame.field_bytes)
@@ -32,7 +32,7 @@ some_length (b ∷ bytes) some = omega arith
 abbrev pub end_of : ℕ → List ℕ → List ℕ → ℕ
 end_of start bytes rest = start + (length bytes - length rest)
 
-pub items_ok : (strict : Bool) (n start : ℕ) (before : Option ℕ) (bytes : List ℕ) (x : Found × List ℕ) → bytes ≢ [] → found_at strict before bytes ≡ Ok x
+pub items_ok : (strict : Bool) (n start : ℕ) (before : Option ℕ) (bytes : List ℕ) (x : TypedFrame × List ℕ) → bytes ≢ [] → found_at strict before bytes ≡ Ok x
     → items_from strict (suc n) start before bytes ≡ Whole start (end_of start bytes x.1) x.0 ∷ items_from strict n (end_of start bytes x.1) (Some x.0.type) x.1
 unfolding items_from
 items_ok strict n start before [] x some e = absurd (some refl)
@@ -55,10 +55,10 @@ nothing (b ∷ bytes) le = absurd (omega (arith, le))
 -- what reading says of bytes that are left
 pub data Reads (strict : Bool) (before : Option ℕ) (bytes : List ℕ) : Type 0 where
   ends : bytes ≡ [] → Reads strict before bytes
-  finds : (x : Found × List ℕ) → bytes ≢ [] → found_at strict before bytes ≡ Ok x → Reads strict before bytes
+  finds : (x : TypedFrame × List ℕ) → bytes ≢ [] → found_at strict before bytes ≡ Ok x → Reads strict before bytes
   fails : (i : Invalid) → bytes ≢ [] → found_at strict before bytes ≡ Err i → Reads strict before bytes
 
-result_of : (strict : Bool) (before : Option ℕ) (bytes : List ℕ) (r : Result (Found × List ℕ) Invalid) → bytes ≢ [] → found_at strict before bytes ≡ r → Reads strict before bytes
+result_of : (strict : Bool) (before : Option ℕ) (bytes : List ℕ) (r : Result (TypedFrame × List ℕ) Invalid) → bytes ≢ [] → found_at strict before bytes ≡ r → Reads strict before bytes
 result_of strict before bytes (Ok x) some e = finds x some e
 result_of strict before bytes (Err i) some e = fails i some e
 
@@ -71,7 +71,7 @@ record Shorter (bytes rest : List ℕ) : Type 0 where
   less : length rest < length bytes
   fits : AreBytes rest
 
-shorter : (strict : Bool) (before : Option ℕ) (bytes : List ℕ) (x : Found × List ℕ) → AreBytes bytes → found_at strict before bytes ≡ Ok x → Shorter bytes x.1
+shorter : (strict : Bool) (before : Option ℕ) (bytes : List ℕ) (x : TypedFrame × List ℕ) → AreBytes bytes → found_at strict before bytes ≡ Ok x → Shorter bytes x.1
 shorter strict before bytes x fits e =
     let t = found_takes strict before bytes x fits e in
     let some = frame_some strict x.0 t.front t.frame in
@@ -107,7 +107,7 @@ items_few strict (suc n) start before bytes fits le =
     ]
 
 -- the frames that a payload means are its items
-frames_give : (strict : Bool) (ps : List Found) (n start : ℕ) (before : Option ℕ) (bytes : List ℕ) → length bytes ≤ n → AreFrames strict ps bytes → map unplaced (items_from strict n start before bytes) ≡ map given ps
+frames_give : (strict : Bool) (ps : List TypedFrame) (n start : ℕ) (before : Option ℕ) (bytes : List ℕ) → length bytes ≤ n → AreFrames strict ps bytes → map unplaced (items_from strict n start before bytes) ≡ map given ps
 frames_give strict [] n start before bytes le s = rw (s, items_none strict n start before) refl
 frames_give strict (p ∷ ps) zero start before bytes le s =
     let some = frame_some strict p s.0 s.3 in
@@ -136,7 +136,7 @@ stops_at strict zero start before bytes i le some e = absurd (some (nothing byte
 stops_at strict (suc m) start before bytes i le some e = items_err strict m start before bytes i some e
 
 -- the frames before what is none, and what is reported of it, are the items
-broken_gives : (strict : Bool) (ps : List Found) (n start : ℕ) (before : Option ℕ) (bytes : List ℕ) (type : Option ℕ) (reason : Fault) → AreBytes bytes → length bytes ≤ n → IsBroken strict before ps bytes type reason
+broken_gives : (strict : Bool) (ps : List TypedFrame) (n start : ℕ) (before : Option ℕ) (bytes : List ℕ) (type : Option ℕ) (reason : Fault) → AreBytes bytes → length bytes ≤ n → IsBroken strict before ps bytes type reason
     → map unplaced (items_from strict n start before bytes) ≡ map given ps ++ Err (invalid type reason) ∷ []
 broken_gives strict [] n start before bytes type reason fits le s =
     let whole : bytes ≡ s.back = s.parts ∙ ap (λ (l : List ℕ). l ++ s.back) s.frames in
@@ -167,7 +167,7 @@ back_is_nil [] back e = e
 back_is_nil (b ∷ front) back e = absurd cc
 
 -- what is broken is something
-pub broken_some : (strict : Bool) (before : Option ℕ) (ps : List Found) (bytes : List ℕ) (type : Option ℕ) (reason : Fault) → IsBroken strict before ps bytes type reason → bytes ≢ []
+pub broken_some : (strict : Bool) (before : Option ℕ) (ps : List TypedFrame) (bytes : List ℕ) (type : Option ℕ) (reason : Fault) → IsBroken strict before ps bytes type reason → bytes ≢ []
 broken_some strict before ps bytes type reason s none = no_frame_some strict (last_type before ps) s.back type reason s.no_frame (back_is_nil s.front s.back (sym s.parts ∙ none))
 
 closed_or : (b : Bool) (left : List ℕ) → (b ≡ true → left ≡ []) → left ≢ [] → b ≡ false
@@ -212,11 +212,11 @@ is_either strict before bytes fits = either_in strict (length bytes) before byte
 
 -- ---- the items of a payload
 
-pub frames_are_items : (strict : Bool) (ps : List Found) (start : ℕ) (before : Option ℕ) (bytes : List ℕ) → AreFrames strict ps bytes → map unplaced (items_of strict start before bytes) ≡ map given ps
+pub frames_are_items : (strict : Bool) (ps : List TypedFrame) (start : ℕ) (before : Option ℕ) (bytes : List ℕ) → AreFrames strict ps bytes → map unplaced (items_of strict start before bytes) ≡ map given ps
 unfolding items_of
 frames_are_items strict ps start before bytes s = frames_give strict ps (length bytes) start before bytes (omega arith) s
 
-pub broken_are_items : (strict : Bool) (ps : List Found) (start : ℕ) (before : Option ℕ) (bytes : List ℕ) (type : Option ℕ) (reason : Fault) → AreBytes bytes → IsBroken strict before ps bytes type reason
+pub broken_are_items : (strict : Bool) (ps : List TypedFrame) (start : ℕ) (before : Option ℕ) (bytes : List ℕ) (type : Option ℕ) (reason : Fault) → AreBytes bytes → IsBroken strict before ps bytes type reason
     → map unplaced (items_of strict start before bytes) ≡ map given ps ++ Err (invalid type reason) ∷ []
 unfolding items_of
 broken_are_items strict ps start before bytes type reason fits s = broken_gives strict ps (length bytes) start before bytes type reason fits (omega arith) s
@@ -225,7 +225,7 @@ pub items_are_few : (strict : Bool) (start : ℕ) (before : Option ℕ) (bytes :
 unfolding items_of
 items_are_few strict start before bytes fits = items_few strict (length bytes) start before bytes fits (omega arith)
 
-pub items_found : (strict : Bool) (start : ℕ) (before : Option ℕ) (bytes : List ℕ) (x : Found × List ℕ) → AreBytes bytes → bytes ≢ [] → found_at strict before bytes ≡ Ok x
+pub items_found : (strict : Bool) (start : ℕ) (before : Option ℕ) (bytes : List ℕ) (x : TypedFrame × List ℕ) → AreBytes bytes → bytes ≢ [] → found_at strict before bytes ≡ Ok x
     → items_of strict start before bytes ≡ Whole start (end_of start bytes x.1) x.0 ∷ items_of strict (end_of start bytes x.1) (Some x.0.type) x.1
 unfolding items_of
 items_found strict start before bytes x fits some e =
@@ -255,7 +255,7 @@ all_read strict start before bytes fits none = some_of strict start before bytes
 
 -- ---- the payload has one reading
 
-reported_same : (ps qs : List Found) → map given ps ≡ map given qs → ps ≡ qs
+reported_same : (ps qs : List TypedFrame) → map given ps ≡ map given qs → ps ≡ qs
 reported_same [] [] e = refl
 reported_same [] (q ∷ qs) e = absurd cc
 reported_same (p ∷ ps) [] e = absurd cc
@@ -264,27 +264,27 @@ reported_same (p ∷ ps) (q ∷ qs) e =
     let tails : map given ps ≡ map given qs = cc in
     cc (head, reported_same ps qs tails)
 
-pub one_reading : (strict : Bool) (ps qs : List Found) (bytes : List ℕ) → AreFrames strict ps bytes → AreFrames strict qs bytes → ps ≡ qs
+pub one_reading : (strict : Bool) (ps qs : List TypedFrame) (bytes : List ℕ) → AreFrames strict ps bytes → AreFrames strict qs bytes → ps ≡ qs
 one_reading strict ps qs bytes s t = reported_same ps qs (sym (frames_are_items strict ps 0 None bytes s) ∙ frames_are_items strict qs 0 None bytes t)
 
-reported_differ : (ps qs : List Found) (i : Invalid) → map given ps ≡ map given qs ++ Err i ∷ [] → ⊥
+reported_differ : (ps qs : List TypedFrame) (i : Invalid) → map given ps ≡ map given qs ++ Err i ∷ [] → ⊥
 reported_differ [] [] i e = cc
 reported_differ [] (q ∷ qs) i e = cc
 reported_differ (p ∷ ps) [] i e = cc
 reported_differ (p ∷ ps) (q ∷ qs) i e = let tails : map given ps ≡ map given qs ++ Err i ∷ [] = cc in reported_differ ps qs i tails
 
-pub never_both : (strict : Bool) (ps qs : List Found) (bytes : List ℕ) (type : Option ℕ) (reason : Fault) → AreBytes bytes → AreFrames strict ps bytes → IsBroken strict None qs bytes type reason → ⊥
+pub never_both : (strict : Bool) (ps qs : List TypedFrame) (bytes : List ℕ) (type : Option ℕ) (reason : Fault) → AreBytes bytes → AreFrames strict ps bytes → IsBroken strict None qs bytes type reason → ⊥
 never_both strict ps qs bytes type reason fits s t =
     reported_differ ps qs (invalid type reason) (sym (frames_are_items strict ps 0 None bytes s) ∙ broken_are_items strict qs 0 None bytes type reason fits t)
 
-abbrev found_of : Found × List ℕ → Result (Found × List ℕ) Invalid
+abbrev found_of : TypedFrame × List ℕ → Result (TypedFrame × List ℕ) Invalid
 found_of x = Ok x
 
-left_is : (f g : Found) (x y : List ℕ) → found_of (f, x) ≡ found_of (g, y) → x ≡ y
-left_is f g x y e = ap (λ (p : Found × List ℕ). p.1) (let same : (let q : Found × List ℕ = (f, x) in q) ≡ (g, y) = cc in same)
+left_is : (f g : TypedFrame) (x y : List ℕ) → found_of (f, x) ≡ found_of (g, y) → x ≡ y
+left_is f g x y e = ap (λ (p : TypedFrame × List ℕ). p.1) (let same : (let q : TypedFrame × List ℕ = (f, x) in q) ≡ (g, y) = cc in same)
 
 -- a frame that is not open begins no other
-pub begins_none : (strict : Bool) (f g : Found) (a b x : List ℕ) → is_open f.type ≡ false → IsFrame strict f a → IsFrame strict g b → b ≡ a ++ x → a ≡ b
+pub begins_none : (strict : Bool) (f g : TypedFrame) (a b x : List ℕ) → is_open f.type ≡ false → IsFrame strict f a → IsFrame strict g b → b ≡ a ++ x → a ≡ b
 begins_none strict f g a b x closed first second e =
     let one = found_again strict None f a x first (λ opens. absurd (true_is_not_false (sym opens ∙ closed))) in
     let two = found_again strict None g b [] second (λ _. refl) in
@@ -294,7 +294,7 @@ begins_none strict f g a b x closed first second e =
 
 -- ---- what is read where only the shortest types count
 
-frame_relaxed : (strict : Bool) (found : Found) (bytes : List ℕ) → IsFrame strict found bytes → IsFrame false found bytes
+frame_relaxed : (strict : Bool) (found : TypedFrame) (bytes : List ℕ) → IsFrame strict found bytes → IsFrame false found bytes
 frame_relaxed strict found bytes f = record {
   type_bytes = f.type_bytes;
   field_bytes = f.field_bytes;
@@ -306,6 +306,6 @@ frame_relaxed strict found bytes f = record {
   fields = f.fields;
 }
 
-pub frames_relaxed : (strict : Bool) (found : List Found) (bytes : List ℕ) → AreFrames strict found bytes → AreFrames false found bytes
+pub frames_relaxed : (strict : Bool) (found : List TypedFrame) (bytes : List ℕ) → AreFrames strict found bytes → AreFrames false found bytes
 frames_relaxed strict [] bytes s = s
 frames_relaxed strict (f ∷ found) bytes s = (s.0, s.1, s.2, frame_relaxed strict f s.0 s.3, s.4, frames_relaxed strict found s.1 s.5)

@@ -8,7 +8,7 @@ use Rattle.quic_frame_fields.specs.declared.frame.fault.Fault.{Fault}
 use Rattle.quic_frame_fields.specs.declared.frame.fault.Fault.TheVariants.{UnexpectedEnd, InvalidFrameId, Malformed, LongType}
 use Rattle.quic_frame_fields.specs.Field.{Value, Field, Varint, Counted, Id, Uint64, Bytes16, Blocks, Rest, Implied, Ordered, is_ordered, greatest_of, NumberStops, BelowStops, BlocksStop, StopsWithin}
 use Rattle.quic_frame_fields.specs.Table.{is_open}
-use Rattle.quic_frame_fields.specs.Payload.{Found, AreFrames, AreClosed, last_type, BeginsWithType, IsNoFrame, IsBroken}
+use Rattle.quic_frame_fields.specs.Payload.{TypedFrame, AreFrames, AreClosed, last_type, BeginsWithType, IsNoFrame, IsBroken}
 use Rattle.quic_frame_fields.specs.Reading.{id_at, field_at, found_at, of_ranges, ◌>>=◌, Item, Whole, items_of}
 use Rattle.quic_frame_fields.proofs.Steps.{true_is_not_false}
 use Rattle.quic_frame_fields.proofs.Blocks.{blocks_stop}
@@ -93,7 +93,7 @@ no_frame_lasts strict before bytes more type reason fits known (inr (inr (inr a)
     inr (inr (inr (a.0, begins_on strict bytes more a.0 _ _ fits (λ back bounds s. (s.0, s.1, fields_last s.0.fields [] back more reason bounds known s.2)) a.1, a.2)))
 
 -- An error that isn't a cut stays, whatever follows.
-pub error_lasts : (strict : Bool) (found : List Found) (bytes more : List ℕ) (type : Option ℕ) (reason : Fault) → AreBytes (bytes ++ more) → reason ≢ UnexpectedEnd → IsBroken strict None found bytes type reason → IsBroken strict None found (bytes ++ more) type reason
+pub error_lasts : (strict : Bool) (found : List TypedFrame) (bytes more : List ℕ) (type : Option ℕ) (reason : Fault) → AreBytes (bytes ++ more) → reason ≢ UnexpectedEnd → IsBroken strict None found bytes type reason → IsBroken strict None found (bytes ++ more) type reason
 error_lasts strict found bytes more type reason fits known b =
     let parts : bytes ++ more ≡ b.front ++ (b.back ++ more) = ap (λ (l : List ℕ). l ++ more) b.parts ∙ append_assoc b.front b.back more in
     record {
@@ -106,7 +106,7 @@ error_lasts strict found bytes more type reason fits known b =
     }
 
 -- A front of a payload without an error is cut, if it has one.
-pub only_cut : (strict : Bool) (found others : List Found) (bytes more : List ℕ) (type : Option ℕ) (reason : Fault) → AreBytes (bytes ++ more) → AreFrames strict found (bytes ++ more) → IsBroken strict None others bytes type reason → reason ≡ UnexpectedEnd
+pub only_cut : (strict : Bool) (found others : List TypedFrame) (bytes more : List ℕ) (type : Option ℕ) (reason : Fault) → AreBytes (bytes ++ more) → AreFrames strict found (bytes ++ more) → IsBroken strict None others bytes type reason → reason ≡ UnexpectedEnd
 only_cut strict found others bytes more type UnexpectedEnd fits s b = refl
 only_cut strict found others bytes more type InvalidFrameId fits s b = absurd (never_both strict found others (bytes ++ more) type InvalidFrameId fits s (error_lasts strict others bytes more type InvalidFrameId fits (λ e. cc) b))
 only_cut strict found others bytes more type Malformed fits s b = absurd (never_both strict found others (bytes ++ more) type Malformed fits s (error_lasts strict others bytes more type Malformed fits (λ e. cc) b))
@@ -121,7 +121,7 @@ some_front a b some e = absurd (omega (arith, some, length-append a b, ap length
 stop_is : (start : ℕ) (bytes front back : List ℕ) → bytes ≡ front ++ back → start + (length bytes - length back) ≡ start + length front
 stop_is start bytes front back e = omega (arith, ap length e, length-append front back)
 
-frames_on : (strict : Bool) (found : List Found) (start : ℕ) (before : Option ℕ) (bytes more : List ℕ) → AreBytes (bytes ++ more) → AreFrames strict found bytes → AreClosed found
+frames_on : (strict : Bool) (found : List TypedFrame) (start : ℕ) (before : Option ℕ) (bytes more : List ℕ) → AreBytes (bytes ++ more) → AreFrames strict found bytes → AreClosed found
     → items_of strict start before (bytes ++ more) ≡ items_of strict start before bytes ++ items_of strict (start + length bytes) (last_type before found) more
 frames_on strict [] start before bytes more fits s closed =
     let none : items_of strict start before bytes ≡ [] = ap (items_of strict start before) s ∙ no_items strict start before in
@@ -146,7 +146,7 @@ frames_on strict (p ∷ ps) start before bytes more fits s closed =
     ∙ ap (λ (l : List Item). l ++ items_of strict (start + length bytes) (last_type (Some p.type) ps) more) (sym (two ∙ ap (λ (n : ℕ). Whole start n p ∷ items_of strict n (Some p.type) s.1) stop_here))
 
 -- Frames that aren't open stay in their places, whatever follows.
-pub frames_stay : (strict : Bool) (found : List Found) (bytes more : List ℕ) → AreBytes (bytes ++ more) → AreFrames strict found bytes → AreClosed found
+pub frames_stay : (strict : Bool) (found : List TypedFrame) (bytes more : List ℕ) → AreBytes (bytes ++ more) → AreFrames strict found bytes → AreClosed found
     → items_of strict 0 None (bytes ++ more) ≡ items_of strict 0 None bytes ++ items_of strict (length bytes) (last_type None found) more
 frames_stay strict found bytes more fits s closed =
     let e : 0 + length bytes ≡ length bytes = omega arith in

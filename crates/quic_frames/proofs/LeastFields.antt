@@ -4,7 +4,7 @@ use Rattle.std.specs.Prelude.{⊤}
 use Rattle.std.proofs.lemmas.Bool.{cases_lt}
 use Rattle.std.proofs.lemmas.List.{length-append, append-nil}
 use Rattle.quic_base.specs.Number.{IsNumber, num, bytes_of}
-use Rattle.quic_base.specs.Varint.{Encodes, short}
+use Rattle.quic_base.specs.Varint.{Encodes, shortest_varint}
 use Rattle.quic_base.proofs.PublicLaws.{shortest_encodes, short_least, encoded_bound, is_number_8, num_injective, num_below}
 use Rattle.quic_frame_fields.specs.Field.{Value, Number, Bytes, Ranges, Field, Varint, Counted, Id, Uint64, Bytes16, Blocks, Rest, Implied, Ordered, is_ordered, greatest_of, AreBelow, AreBlocks, AreApart, IsField, AreFields}
 use Rattle.quic_frame_fields.specs.Shortest.{shortest_below, shortest_of, values_after, shortest_fields}
@@ -25,11 +25,11 @@ at_most bytes least (inr lt) = omega (arith, lt)
 -- ---- numbers
 
 -- A number's encoding is the shortest one, or longer.
-pub number_least : (n : ℕ) (bytes : List ℕ) → Encodes n bytes → Encodes n (short n) × AreOrExceed bytes (short n)
+pub number_least : (n : ℕ) (bytes : List ℕ) → Encodes n bytes → Encodes n (shortest_varint n) × AreOrExceed bytes (shortest_varint n)
 number_least n bytes s =
     let l = short_least n bytes s in (
       shortest_encodes n (encoded_bound n bytes s).0,
-      elim (cases_lt (length (short n)) (length bytes)) [
+      elim (cases_lt (length (shortest_varint n)) (length bytes)) [
         | inl lt ↦ inr lt
         | inr le ↦ inl (l.1 (omega (arith, l.0, le)))
       ],
@@ -85,8 +85,8 @@ blocks_fit range ranges lt a =
 below_encoded : (low : ℕ) (ranges : List (ℕ × ℕ)) → FitBelow low ranges → AreBelow low ranges (shortest_below low ranges)
 below_encoded low [] f = refl
 below_encoded low (range ∷ ranges) f = (
-  short (low - (range.1 + 2)),
-  short (range.1 - range.0),
+  shortest_varint (low - (range.1 + 2)),
+  shortest_varint (range.1 - range.0),
   shortest_below range.0 ranges,
   refl,
   f.0,
@@ -102,8 +102,8 @@ below_least low (range ∷ ranges) bytes s =
     let gap = number_least (low - (range.1 + 2)) s.0 s.6 in
     let block = number_least (range.1 - range.0) s.1 s.7 in
     let others = below_least range.0 ranges s.2 s.8 in
-    let short_gap = short (low - (range.1 + 2)) in
-    let short_block = short (range.1 - range.0) in
+    let short_gap = shortest_varint (low - (range.1 + 2)) in
+    let short_block = shortest_varint (range.1 - range.0) in
     let short_others = shortest_below range.0 ranges in (
       (s.4, s.5, (encoded_bound (low - (range.1 + 2)) s.0 s.6).0, (encoded_bound (range.1 - range.0) s.1 s.7).0, others.0),
       subst (λ (l : List ℕ). AreOrExceed l (short_gap ++ (short_block ++ short_others))) (sym s.3)
@@ -135,15 +135,15 @@ AllFit (field ∷ fields) before (value ∷ values) = Fits field before value ×
 pub value_encoded : (field : Field) (before : List Value) (value : Value) (others : List Value) → Fits field before value
     → IsField field before (value ∷ []) (shortest_of field (value ∷ others)) × (values_after field (value ∷ others) ≡ others)
 value_encoded Varint before (Number n) others f = ((n, refl, shortest_encodes n f), refl)
-value_encoded Counted before (Bytes bytes) others f = ((short (length bytes), bytes, refl, shortest_encodes (length bytes) f, refl), refl)
+value_encoded Counted before (Bytes bytes) others f = ((shortest_varint (length bytes), bytes, refl, shortest_encodes (length bytes) f, refl), refl)
 value_encoded Id before (Bytes bytes) others f = ((bytes, refl, f.0, f.1, refl), refl)
 value_encoded Uint64 before (Number n) others f = ((n, refl, is_number_8 n f), refl)
 value_encoded Bytes16 before (Bytes bytes) others f = ((refl, f), refl)
 value_encoded Blocks before (Ranges (range ∷ ranges)) others f =
-    let block = short (range.1 - range.0) in
+    let block = shortest_varint (range.1 - range.0) in
     let below = shortest_below range.0 ranges in
     let encoded : AreBlocks (greatest_of before) (range ∷ ranges) (block ++ below) = (block, below, refl, f.1, f.2, shortest_encodes (range.1 - range.0) f.3, below_encoded range.0 ranges f.4) in
-    ((short (length ranges), block ++ below, range, ranges, refl, refl, shortest_encodes (length ranges) f.0, encoded), refl)
+    ((shortest_varint (length ranges), block ++ below, range, ranges, refl, refl, shortest_encodes (length ranges) f.0, encoded), refl)
 value_encoded Rest before (Bytes bytes) others f = (refl, refl)
 value_encoded (Implied n) before (Number m) others f = ((ap (λ (k : ℕ). Number k ∷ []) f, refl), refl)
 value_encoded field before value others f = absurd f
@@ -184,7 +184,7 @@ field_least Counted before values others bytes s =
     subst (λ (v : List Value). LeastField Counted before v others bytes) (sym s.2)
     (record {
       fits = λ fields f. ((encoded_bound (length s.1) s.0 s.3).0, f);
-      least = subst (λ (l : List ℕ). AreOrExceed l (short (length s.1) ++ s.1)) (sym s.4) (both_least (short (length s.1)) s.1 s.0 s.1 a.1 (inl refl));
+      least = subst (λ (l : List ℕ). AreOrExceed l (shortest_varint (length s.1) ++ s.1)) (sym s.4) (both_least (shortest_varint (length s.1)) s.1 s.0 s.1 a.1 (inl refl));
       others_left = refl;
     })
 field_least Id before values others bytes s =
@@ -204,8 +204,8 @@ field_least Blocks before values others bytes s =
     let count = number_least (length ranges) s.0 s.6 in
     let block = number_least (range.1 - range.0) b.0 b.5 in
     let below = below_least range.0 ranges b.1 b.6 in
-    let short_count = short (length ranges) in
-    let short_block = short (range.1 - range.0) in
+    let short_count = shortest_varint (length ranges) in
+    let short_block = shortest_varint (range.1 - range.0) in
     let short_below = shortest_below range.0 ranges in
     subst (λ (v : List Value). LeastField Blocks before v others bytes) (sym s.4)
     (record {

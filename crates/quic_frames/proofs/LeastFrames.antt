@@ -4,14 +4,14 @@ use Rattle.std.specs.Prelude.{⊤, ◌⊎◌, not}
 use Rattle.std.specs.Map.{lookup}
 use Rattle.std.proofs.lemmas.List.{length-append, append-nil}
 use Rattle.std.proofs.lemmas.Bool.Decides.{nat_tests}
-use Rattle.quic_base.specs.Varint.{Encodes, short, size}
+use Rattle.quic_base.specs.Varint.{Encodes, shortest_varint, size}
 use Rattle.quic_base.proofs.PublicLaws.{shortest_encodes, length-short, encoded_bound}
 use Rattle.quic_base.specs.declared.ids.Dir.{Dir}
 use Rattle.quic_base.specs.declared.ids.Dir.TheVariants.{Bi, Uni}
 use Rattle.quic_base.specs.Ids.{dir_number}
 use Rattle.quic_frame_fields.specs.Field.{Value, Number, Bytes, IsField, AreFields}
 use Rattle.quic_frame_fields.specs.Table.{Name, Ack, Stream, Datagram, MaxStreams, StreamsBlocked, Row, rows, row_of, is_open, offset_field, data_field, stream_row, datagram_row, max_streams_row, streams_blocked_row, ack_row, ack_ecn_row}
-use Rattle.quic_frame_fields.specs.Payload.{Meaning, Found, IsFrame}
+use Rattle.quic_frame_fields.specs.Payload.{Meaning, TypedFrame, IsFrame}
 use Rattle.quic_frame_fields.specs.Parts.{frame_of, flag}
 use Rattle.quic_frame_fields.specs.Shortest.{shortest_fields, shortest_row, written_type, shortest_frame}
 use Rattle.quic_frames.specs.Least.{AreOrExceed, as_written}
@@ -36,7 +36,7 @@ frame_encoded strict last frame f =
     let t = written_type last frame.name frame.values in
     let fields = fields_encoded f.row.fields [] frame.values f.fields in
     record {
-      type_bytes = short t;
+      type_bytes = shortest_varint t;
       field_bytes = shortest_row (row_of t) frame.values;
       parts = refl;
       type_encoded = record { encoded = shortest_encodes t f.small; shortest = λ _. refl };
@@ -89,12 +89,12 @@ same_type last t r values type_bytes field_bytes s e =
     let n = number_least t type_bytes s.type_encoded in
     let least : AreOrExceed field_bytes (shortest_fields r.fields values) = subst (λ (v : List Value). AreOrExceed field_bytes (shortest_fields r.fields v)) (sym a.grown) a.least in
     let fits : AllFit r.fields [] values = subst (AllFit r.fields []) (sym a.grown) a.fits in
-    let whole : shortest_frame last (frame_of r.name values) ≡ short t ++ shortest_fields r.fields values =
-    ap (λ (u : ℕ). short u ++ shortest_row (row_of u) values) e ∙ ap (λ (o : Option Row). short t ++ shortest_row o values) s.in_table in
+    let whole : shortest_frame last (frame_of r.name values) ≡ shortest_varint t ++ shortest_fields r.fields values =
+    ap (λ (u : ℕ). shortest_varint u ++ shortest_row (row_of u) values) e ∙ ap (λ (o : Option Row). shortest_varint t ++ shortest_row o values) s.in_table in
     record {
       fits = subst (λ (u : ℕ). FitsRow last u (frame_of r.name values)) (sym e)
           (record { small = (encoded_bound t type_bytes s.type_encoded).0; closed = s.closed; row = r; in_table = s.in_table; name = refl; fields = fits });
-      least = subst (AreOrExceed (type_bytes ++ field_bytes)) (sym whole) (both_least (short t) (shortest_fields r.fields values) type_bytes field_bytes n.1 least);
+      least = subst (AreOrExceed (type_bytes ++ field_bytes)) (sym whole) (both_least (shortest_varint t) (shortest_fields r.fields values) type_bytes field_bytes n.1 least);
     }
 
 -- a type of one byte, whose frames take all that is left where they are the last
@@ -112,9 +112,9 @@ other_type : (last : Bool) (t : ℕ) (r : Row) (values : List Value) (type_bytes
     → 0 < length type_bytes → length (shortest_fields r.fields values) < length field_bytes → LeastFrame last (frame_of r.name values) (type_bytes ++ field_bytes)
 unfolding shortest_frame
 other_type last t r values type_bytes field_bytes e h fields some lt =
-    let whole : shortest_frame last (frame_of r.name values) ≡ short t ++ shortest_fields r.fields values =
-    ap (λ (u : ℕ). short u ++ shortest_row (row_of u) values) e ∙ ap (λ (o : Option Row). short t ++ shortest_row o values) h.in_table in
-    let sizes = ap length whole ∙ length-append (short t) (shortest_fields r.fields values) in
+    let whole : shortest_frame last (frame_of r.name values) ≡ shortest_varint t ++ shortest_fields r.fields values =
+    ap (λ (u : ℕ). shortest_varint u ++ shortest_row (row_of u) values) e ∙ ap (λ (o : Option Row). shortest_varint t ++ shortest_row o values) h.in_table in
+    let sizes = ap length whole ∙ length-append (shortest_varint t) (shortest_fields r.fields values) in
     record {
       fits = subst (λ (u : ℕ). FitsRow last u (frame_of r.name values)) (sym e) (fits_row last t r values h fields);
       least = inr (omega (arith, sizes, length-append type_bytes field_bytes, length-short t, h.one_byte, some, lt));
@@ -139,18 +139,18 @@ content_stands true before values bytes s = (bytes, s, refl)
 content_stands false before values bytes s = (s.1, s.2, (s.0, s.3, s.4))
 
 abbrev least_offset : Bool → ℕ → List ℕ
-least_offset at_start offset = cond at_start [] (short offset)
+least_offset at_start offset = cond at_start [] (shortest_varint offset)
 
 abbrev least_content : Bool → List ℕ → List ℕ
-least_content end content = cond end content (short (length content) ++ content)
+least_content end content = cond end content (shortest_varint (length content) ++ content)
 
 -- what is written is no longer than what stands, and shorter where it isn't written in the same way
 record Better (stood : Bool) (written : Bool) (least bytes : List ℕ) : Type 0 where
   no_longer : length least ≤ length bytes
   shorter : (stood ≡ written) ⊎ (length least < length bytes)
 
-short_enough : (n : ℕ) (bytes : List ℕ) → Encodes n bytes → length (short n) ≤ length bytes
-short_enough n bytes s = at_most bytes (short n) (number_least n bytes s).1
+short_enough : (n : ℕ) (bytes : List ℕ) → Encodes n bytes → length (shortest_varint n) ≤ length bytes
+short_enough n bytes s = at_most bytes (shortest_varint n) (number_least n bytes s).1
 
 better_offset : (at_start : Bool) (offset : ℕ) (bytes : List ℕ) → IsOffset at_start offset bytes → (offset < 2 ^ 62) × Better at_start (eqb offset 0) (least_offset (eqb offset 0) offset) bytes
 better_offset true offset bytes s = (omega (arith, s.0), subst (λ (k : ℕ). Better true (eqb k 0) (least_offset (eqb k 0) k) bytes) (sym s.0) (record { no_longer = omega arith; shorter = inl refl }))
@@ -171,7 +171,7 @@ better_content false false content bytes closed s =
     let le = short_enough (length content) s.0 s.1 in
     let sizes = ap length s.2 ∙ length-append s.0 content in (
       λ e. (encoded_bound (length content) s.0 s.1).0,
-      record { no_longer = omega (arith, le, sizes, length-append (short (length content)) content); shorter = inl refl },
+      record { no_longer = omega (arith, le, sizes, length-append (shortest_varint (length content)) content); shorter = inl refl },
     )
 
 -- ---- STREAM
@@ -231,11 +231,11 @@ stream_parts at_start end fin values bytes s =
     four : (a b c d after : List Value) (x y z w : Value) → after ≡ ((a ++ b) ++ c) ++ d → a ≡ x ∷ [] → b ≡ y ∷ [] → c ≡ z ∷ [] → d ≡ w ∷ [] → after ≡ x ∷ y ∷ z ∷ w ∷ []
     four a b c d after x y z w e p q r t = rw (e, p, q, r, t) refl
 
-stream_bytes : (at_start last fin : Bool) (id offset : ℕ) (content : List ℕ) → shortest_fields (stream_row (not at_start) (not last) fin).fields (stream_values fin id offset content) ≡ short id ++ (least_offset at_start offset ++ least_content last content)
-stream_bytes true true fin id offset content = ap (λ (l : List ℕ). short id ++ l) (append-nil content)
-stream_bytes true false fin id offset content = ap (λ (l : List ℕ). short id ++ l) (append-nil (short (length content) ++ content))
-stream_bytes false true fin id offset content = ap (λ (l : List ℕ). short id ++ (short offset ++ l)) (append-nil content)
-stream_bytes false false fin id offset content = ap (λ (l : List ℕ). short id ++ (short offset ++ l)) (append-nil (short (length content) ++ content))
+stream_bytes : (at_start last fin : Bool) (id offset : ℕ) (content : List ℕ) → shortest_fields (stream_row (not at_start) (not last) fin).fields (stream_values fin id offset content) ≡ shortest_varint id ++ (least_offset at_start offset ++ least_content last content)
+stream_bytes true true fin id offset content = ap (λ (l : List ℕ). shortest_varint id ++ l) (append-nil content)
+stream_bytes true false fin id offset content = ap (λ (l : List ℕ). shortest_varint id ++ l) (append-nil (shortest_varint (length content) ++ content))
+stream_bytes false true fin id offset content = ap (λ (l : List ℕ). shortest_varint id ++ (shortest_varint offset ++ l)) (append-nil content)
+stream_bytes false false fin id offset content = ap (λ (l : List ℕ). shortest_varint id ++ (shortest_varint offset ++ l)) (append-nil (shortest_varint (length content) ++ content))
 
 is_zero : (n : ℕ) → eqb n 0 ≡ true → n ≡ 0
 is_zero n e = grind (arith, nat_tests)
@@ -280,9 +280,9 @@ stream_least at_start end fin last values type_bytes field_bytes s =
     let type_is : written_type last Stream values ≡ stream_type start last fin = ap (written_type last Stream) p.are in
     let fields : AllFit row.fields [] values =
     subst (AllFit row.fields []) (sym p.are) (stream_fits start last fin p.id p.offset p.content refl (encoded_bound p.id p.id_bytes p.id_is).0 o.0 d.0) in
-    let sizes : length (shortest_fields row.fields values) ≡ length (short p.id) + (length (least_offset start p.offset) + length (least_content last p.content)) =
+    let sizes : length (shortest_fields row.fields values) ≡ length (shortest_varint p.id) + (length (least_offset start p.offset) + length (least_content last p.content)) =
     ap (λ (v : List Value). length (shortest_fields row.fields v)) p.are ∙ ap length (stream_bytes start last fin p.id p.offset p.content)
-    ∙ lengths (short p.id) (least_offset start p.offset) (least_content last p.content) in
+    ∙ lengths (shortest_varint p.id) (least_offset start p.offset) (least_content last p.content) in
     let stood : length field_bytes ≡ length p.id_bytes + (length p.offset_bytes + length p.content_bytes) = ap length p.parts ∙ lengths p.id_bytes p.offset_bytes p.content_bytes in
     let id_le = short_enough p.id p.id_bytes p.id_is in
     let other : length (shortest_fields row.fields values) < length field_bytes → LeastFrame last (frame_of Stream values) (type_bytes ++ field_bytes) =
@@ -311,7 +311,7 @@ datagram_type_is false = record { in_table = refl; opens = refl; small = omega a
 
 datagram_bytes : (last : Bool) (content : List ℕ) → shortest_fields (datagram_row (not last)).fields (Bytes content ∷ []) ≡ least_content last content
 datagram_bytes true content = append-nil content
-datagram_bytes false content = append-nil (short (length content) ++ content)
+datagram_bytes false content = append-nil (shortest_varint (length content) ++ content)
 
 datagram_fits : (last : Bool) (content : List ℕ) → (last ≡ false → length content < 2 ^ 62) → AllFit (datagram_row (not last)).fields [] (Bytes content ∷ [])
 datagram_fits true content d = (tt, refl)
@@ -383,7 +383,7 @@ each_least =
     & plain refl (λ last values. refl) & plain refl (λ last values. refl) & plain refl (λ last values. refl) & plain refl (λ last values. refl)
     & datagram_least true & datagram_least false & plain refl (λ last values. refl) & tt
 
-pub frame_least : (last : Bool) (found : Found) (bytes : List ℕ) → IsFrame false found bytes → (is_open found.type ≡ true → last ≡ true) → LeastFrame last found.frame bytes
+pub frame_least : (last : Bool) (found : TypedFrame) (bytes : List ℕ) → IsFrame false found bytes → (is_open found.type ≡ true → last ≡ true) → LeastFrame last found.frame bytes
 frame_least last found bytes f closed =
     let least = found_row IsLeastRow found.type f.row rows each_least f.in_table in
     let stands : Stands last found.type f.row found.frame.values f.type_bytes f.field_bytes =

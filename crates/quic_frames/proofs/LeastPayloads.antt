@@ -2,7 +2,7 @@
 use Rattle.std.proofs.Common.{◌≡◌, ℕ, Bool, true, false, List, [], ◌∷◌, ◌++◌, length, map, refl, sym, ap, subst, inl, arith}
 use Rattle.std.specs.Prelude.{⊤}
 use Rattle.std.proofs.lemmas.List.{length-append}
-use Rattle.quic_frame_fields.specs.Payload.{Meaning, Found, AreFrames}
+use Rattle.quic_frame_fields.specs.Payload.{Meaning, TypedFrame, AreFrames}
 use Rattle.quic_frame_fields.specs.Shortest.{written_type, shortest_frame}
 use Rattle.quic_frames.specs.Least.{AreOrExceed, is_end, shortest_frames, frame_in, all_written}
 use Rattle.quic_frames.proofs.Items.{frame_some}
@@ -36,7 +36,7 @@ frames_written [] = refl
 frames_written (frame ∷ frames) = ap (λ (l : List Meaning). frame ∷ l) (frames_written frames)
 
 -- a frame with nothing after it is the last
-ends_if : (others : List Found) (back : List ℕ) → AreFrames false others back → back ≡ [] → is_end (map frame_in others) ≡ true
+ends_if : (others : List TypedFrame) (back : List ℕ) → AreFrames false others back → back ≡ [] → is_end (map frame_in others) ≡ true
 ends_if [] back s e = refl
 ends_if (found ∷ others) back s e = absurd (omega (arith, frame_some false found s.0 s.3, ap length e, ap length s.2, length-append s.0 s.1))
 
@@ -45,7 +45,7 @@ pub record LeastFrames (frames : List Meaning) (bytes : List ℕ) : Type 0 where
   pub least : AreOrExceed bytes (shortest_frames frames)
 
 -- Frames that are encoded fit their rows, and no other encoding is as short as the shortest.
-pub frames_least : (found : List Found) (bytes : List ℕ) → AreFrames false found bytes → LeastFrames (map frame_in found) bytes
+pub frames_least : (found : List TypedFrame) (bytes : List ℕ) → AreFrames false found bytes → LeastFrames (map frame_in found) bytes
 frames_least [] bytes s = record { fit = tt; least = inl s }
 frames_least (found ∷ others) bytes s =
     let frames = map frame_in others in

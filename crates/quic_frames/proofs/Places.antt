@@ -9,7 +9,7 @@ use Rattle.quic_frames.specs.declared.frame.Frame.{Frame}
 use Rattle.quic_frame_fields.specs.Field.{Value, Number, Bytes, Ranges, Field, IsField, AreFields}
 use Rattle.quic_frame_fields.specs.Field as kinds
 use Rattle.quic_frame_fields.specs.Table.{is_open}
-use Rattle.quic_frame_fields.specs.Payload.{Found, IsFrame}
+use Rattle.quic_frame_fields.specs.Payload.{TypedFrame, IsFrame}
 use Rattle.quic_frame_fields.specs.Reading.{Invalid, found_at, Whole, Broken, items_of}
 use Rattle.quic_frame_fields.proofs.AckPlaces.{stand_in_frame}
 use Rattle.quic_frames.specs.declared.frame.Frame.TheVariants as frames
@@ -80,7 +80,7 @@ middle_is a b c start stop begins stops =
     rw (drop_at a (b ++ c) start begins, take_at b c (stop - start) long) refl
 
 -- a payload cut at an offset and at the end of the frame there
-record Cut (strict : Bool) (payload : List ℕ) (offset stop : ℕ) (found : Found) (rest : List ℕ) : Type 0 where
+record Cut (strict : Bool) (payload : List ℕ) (offset stop : ℕ) (found : TypedFrame) (rest : List ℕ) : Type 0 where
   first : List ℕ
   front : List ℕ
   whole : payload ≡ first ++ (front ++ rest)
@@ -92,7 +92,7 @@ record Cut (strict : Bool) (payload : List ℕ) (offset stop : ℕ) (found : Fou
   frame : IsFrame strict found front
   opens : is_open found.type ≡ true → rest ≡ []
 
-cut_at : (strict : Bool) (payload : List ℕ) (offset : ℕ) (found : Found) (rest : List ℕ) → offset ≤ length payload → TakesFound strict found (drop offset payload) rest → Cut strict payload offset (length payload - length rest) found rest
+cut_at : (strict : Bool) (payload : List ℕ) (offset : ℕ) (found : TypedFrame) (rest : List ℕ) → offset ≤ length payload → TakesFound strict found (drop offset payload) rest → Cut strict payload offset (length payload - length rest) found rest
 cut_at strict payload offset found rest le t =
     let first : List ℕ = take offset payload in
     let whole : payload ≡ first ++ (t.front ++ rest) = sym (take-append-drop offset payload) ∙ ap (λ (l : List ℕ). take offset payload ++ l) t.parts in
@@ -112,7 +112,7 @@ cut_at strict payload offset found rest le t =
       opens = t.opens;
     }
 
-cut_stands : (strict : Bool) (payload : List ℕ) (offset stop : ℕ) (found : Found) (rest : List ℕ) → Cut strict payload offset stop found rest → Stands strict payload offset stop found
+cut_stands : (strict : Bool) (payload : List ℕ) (offset stop : ℕ) (found : TypedFrame) (rest : List ℕ) → Cut strict payload offset stop found rest → Stands strict payload offset stop found
 cut_stands strict payload offset stop found rest c =
     let here : slice_range payload offset stop ≡ c.front = ap (λ (l : List ℕ). slice_range l offset stop) c.whole ∙ middle_is c.first c.front rest offset stop c.begins c.ends in
     record {
@@ -134,7 +134,7 @@ cut_stands strict payload offset stop found rest c =
           ];
     }
 
-cut_rest : (strict : Bool) (payload : List ℕ) (offset stop : ℕ) (found : Found) (rest : List ℕ) → Cut strict payload offset stop found rest → drop stop payload ≡ rest
+cut_rest : (strict : Bool) (payload : List ℕ) (offset stop : ℕ) (found : TypedFrame) (rest : List ℕ) → Cut strict payload offset stop found rest → drop stop payload ≡ rest
 cut_rest strict payload offset stop found rest c =
     let whole : payload ≡ (c.first ++ c.front) ++ rest = c.whole ∙ sym (append_assoc c.first c.front rest) in
     let len : length (c.first ++ c.front) ≡ stop = length-append c.first c.front ∙ c.ends in
@@ -215,7 +215,7 @@ some_bytes payload offset e =
     let some : eqb (length payload - offset) 0 ≡ false = rw size at e in
     grind (arith, nat_tests)
 
-pub fewer_left : (strict : Bool) (payload : List ℕ) (offset : ℕ) (last : Option ℕ) (found : Found) (rest : List ℕ) → AreBytes (take (length payload - offset) (drop offset payload))
+pub fewer_left : (strict : Bool) (payload : List ℕ) (offset : ℕ) (last : Option ℕ) (found : TypedFrame) (rest : List ℕ) → AreBytes (take (length payload - offset) (drop offset payload))
     → found_at strict last (take (length payload - offset) (drop offset payload)) ≡ Ok (found, rest) → length rest ≤ length payload
 fewer_left strict payload offset last found rest fits e =
     let t = found_takes strict last _ (found, rest) fits e in

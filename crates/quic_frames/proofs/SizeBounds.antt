@@ -2,26 +2,26 @@
 use Rattle.std.proofs.Common.{◌≡◌, ℕ, Bool, true, false, List, [], ◌∷◌, ◌++◌, length, ◌+◌, ◌*◌, ◌≤◌, refl, eqb, ap, arith}
 use Rattle.std.specs.Prelude.{if◌then◌else◌}
 use Rattle.std.proofs.lemmas.List.{length-append}
-use Rattle.quic_base.specs.Varint.{short, size}
+use Rattle.quic_base.specs.Varint.{shortest_varint, size}
 use Rattle.quic_base.proofs.PublicLaws.{length-short}
 use Rattle.quic_frame_fields.specs.Field.{Number, Bytes}
 use Rattle.quic_frame_fields.specs.Table.{ResetStream, StopSending, Crypto, Stream, NewConnectionId, RetireConnectionId, ConnectionClose, ApplicationClose, Datagram}
 use Rattle.quic_frame_fields.specs.Parts.{frame_of, flag}
 use Rattle.quic_frame_fields.specs.Shortest.{shortest_frame}
-use Rattle.quic_frame_fields.specs.Numbers.{all_short}
+use Rattle.quic_frame_fields.specs.Numbers.{shortest_varints}
 use Rattle.quic_frame_fields.proofs.Encoding.{size_small, connection_close_parts, application_close_parts, crypto_parts, datagram_counted, id_parts}
 use Rattle.quic_frame_fields.proofs.StreamParts.{stream_length}
 
 -- numbers after a type of one byte
-numbers_bound : (ns : List ℕ) → length (all_short ns) ≤ 8 * length ns
+numbers_bound : (ns : List ℕ) → length (shortest_varints ns) ≤ 8 * length ns
 numbers_bound [] = omega arith
-numbers_bound (n ∷ ns) = omega (arith, length-append (short n) (all_short ns), length-short n, size_small n, numbers_bound ns)
+numbers_bound (n ∷ ns) = omega (arith, length-append (shortest_varint n) (shortest_varints ns), length-short n, size_small n, numbers_bound ns)
 
-typed_bound : (t : ℕ) (ns : List ℕ) → size t ≡ 1 → length (all_short (t ∷ ns)) ≤ 1 + 8 * length ns
-typed_bound t ns one = omega (arith, length-append (short t) (all_short ns), length-short t, one, numbers_bound ns)
+typed_bound : (t : ℕ) (ns : List ℕ) → size t ≡ 1 → length (shortest_varints (t ∷ ns)) ≤ 1 + 8 * length ns
+typed_bound t ns one = omega (arith, length-append (shortest_varint t) (shortest_varints ns), length-short t, one, numbers_bound ns)
 
-bound : (t : ℕ) (ns bytes whole : List ℕ) → size t ≡ 1 → whole ≡ all_short (t ∷ ns) ++ bytes → length whole ≤ 1 + 8 * length ns + length bytes
-bound t ns bytes whole one parts = omega (arith, ap length parts, length-append (all_short (t ∷ ns)) bytes, typed_bound t ns one)
+bound : (t : ℕ) (ns bytes whole : List ℕ) → size t ≡ 1 → whole ≡ shortest_varints (t ∷ ns) ++ bytes → length whole ≤ 1 + 8 * length ns + length bytes
+bound t ns bytes whole one parts = omega (arith, ap length parts, length-append (shortest_varints (t ∷ ns)) bytes, typed_bound t ns one)
 
 pub connection_close_bound : (last : Bool) (code ty : ℕ) (bytes : List ℕ) → length (shortest_frame last (frame_of ConnectionClose (Number code ∷ Number ty ∷ Bytes bytes ∷ []))) ≤ 25 + length bytes
 unfolding size
@@ -40,7 +40,7 @@ unfolding size
 datagram_bound bytes = bound 0x31 (length bytes ∷ []) bytes _ refl (datagram_counted bytes)
 
 -- frames of numbers alone
-numbers_alone : (t : ℕ) (ns whole : List ℕ) → size t ≡ 1 → whole ≡ all_short (t ∷ ns) → length whole ≤ 1 + 8 * length ns
+numbers_alone : (t : ℕ) (ns whole : List ℕ) → size t ≡ 1 → whole ≡ shortest_varints (t ∷ ns) → length whole ≤ 1 + 8 * length ns
 numbers_alone t ns whole one parts = omega (arith, ap length parts, typed_bound t ns one)
 
 pub reset_bound : (last : Bool) (id code offset : ℕ) → length (shortest_frame last (frame_of ResetStream (Number id ∷ Number code ∷ Number offset ∷ []))) ≤ 25

@@ -7,13 +7,13 @@ use Rattle.quic_errors.specs.declared.invalid_frame.InvalidFrame.{InvalidFrame}
 use Rattle.quic_frame_fields.specs.declared.frame.fault.Fault.{Fault}
 use Rattle.quic_frame_fields.specs.AckPlace.{ReadsBlocks}
 use Rattle.quic_frame_fields.specs.Acks.{parts_of}
-use Rattle.quic_frame_fields.specs.Payload.{Meaning, Found}
+use Rattle.quic_frame_fields.specs.Payload.{Meaning, TypedFrame}
 use Rattle.quic_frame_fields.specs.Reading.{Invalid, Gives, varint_at}
 use Rattle.quic_frames.specs.Meaning.{meaning_of}
 use Rattle.quic_frames.specs.InRange.{HasNoTypeZero}
 use Rattle.quic_frames.specs.Walk.{invalid_of}
 
-abbrev pub found_as : ℕ → Frame → Found
+abbrev pub found_as : ℕ → Frame → TypedFrame
 found_as ty frame = record { type = ty; frame = meaning_of frame }
 
 -- The blocks of an ACK are those that are read in the bytes of its fields, of which these are left.
@@ -36,7 +36,7 @@ HasItsBlocksBehind type (frames.Ack a) bytes left = (behind : List ℕ) × (vari
 HasItsBlocksBehind type frame bytes left = ⊤
 
 -- The same of the frame at the front.
-abbrev pub GivesFound : List ℕ → Result FirstFrame InvalidFrame → Result (Found × List ℕ) Invalid → Type 0
+abbrev pub GivesFound : List ℕ → Result FirstFrame InvalidFrame → Result (TypedFrame × List ℕ) Invalid → Type 0
 GivesFound bytes (Ok x) read = (read ≡ Ok (found_as x.ty x.frame, x.rest.now)) × HasNoTypeZero x.frame
     × HasItsBlocksBehind x.ty x.frame bytes x.rest.now
 GivesFound bytes (Err i) read = read ≡ Err (invalid_of i)

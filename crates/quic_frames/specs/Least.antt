@@ -1,6 +1,6 @@
 -- The least of the encodings of frames.
 use Rattle.std.specs.Prelude.{◌≡◌, ◌⊎◌, ℕ, ◌<◌, List, [], ◌∷◌, ◌++◌, length, Bool, true, false}
-use Rattle.quic_frame_fields.specs.Payload.{Meaning, Found}
+use Rattle.quic_frame_fields.specs.Payload.{Meaning, TypedFrame}
 use Rattle.quic_frame_fields.specs.Shortest.{written_type, shortest_frame}
 
 -- The bytes are these, or more.
@@ -17,13 +17,13 @@ shortest_frames [] = []
 shortest_frames (frame ∷ frames) = shortest_frame (is_end frames) frame ++ shortest_frames frames
 
 -- a frame without the type that it has in a payload, and with the type by which it is written
-abbrev pub frame_in : Found → Meaning
+abbrev pub frame_in : TypedFrame → Meaning
 frame_in found = found.frame
 
-abbrev pub as_written : Bool → Meaning → Found
+abbrev pub as_written : Bool → Meaning → TypedFrame
 as_written last frame = record { type = written_type last frame.name frame.values; frame = frame }
 
 -- the same of frames one after the other
-abbrev pub all_written : List Meaning → List Found
+abbrev pub all_written : List Meaning → List TypedFrame
 all_written [] = []
 all_written (frame ∷ frames) = as_written (is_end frames) frame ∷ all_written frames

@@ -1,7 +1,7 @@
 -- Frames at their places in a payload.
 use Rattle.std.specs.Prelude.{◌≡◌, ℕ, ◌+◌, List, [], ◌∷◌, ◌++◌, Option, None, Bool, true, length, map}
 use Rattle.quic_frame_fields.specs.declared.frame.fault.Fault.{Fault}
-use Rattle.quic_frame_fields.specs.Payload.{Found, IsFrame, AreClosed, IsNoFrame, last_type}
+use Rattle.quic_frame_fields.specs.Payload.{TypedFrame, IsFrame, AreClosed, IsNoFrame, last_type}
 use Rattle.quic_frame_fields.specs.Reading.{Item, Whole}
 use Rattle.quic_frame_fields.specs.Table.{is_open}
 
@@ -9,9 +9,9 @@ use Rattle.quic_frame_fields.specs.Table.{is_open}
 pub record Placed : Type 0 where
   pub start : ℕ
   pub stop : ℕ
-  pub found : Found
+  pub found : TypedFrame
 
-abbrev pub found_in : Placed → Found
+abbrev pub found_in : Placed → TypedFrame
 found_in p = p.found
 
 -- as the iterator gives it

@@ -5,6 +5,7 @@ use quic_base::ids::{Dir, StreamId};
 use quic_base::varint::VarInt;
 
 mod bounds;
+mod encode;
 mod field;
 mod found;
 mod in_range;
@@ -12,7 +13,6 @@ mod iter;
 mod put;
 mod reading;
 mod size_bound;
-mod whole;
 
 pub use iter::Iter;
 pub use quic_errors::frame_type::FrameType;

@@ -10,7 +10,7 @@ ghost use Rattle.quic_frame_fields.specs.Sets.{AreCounts};
 ghost use Rattle.quic_frames.specs.InRange.{IsTypedFrame, AreTyped, HasNoTypeZero, CanStand, CanFollow};
 ghost use Rattle.quic_frames.specs.Least.{AreOrExceed, shortest_frames, frame_in, as_written, all_written};
 ghost use Rattle.quic_frames.specs.Meaning.{meaning_of};
-ghost use Rattle.quic_frame_fields.specs.Payload.{Meaning, Found, IsFrame, AreFrames, AreClosed, IsBroken, IsEither, last_type};
+ghost use Rattle.quic_frame_fields.specs.Payload.{Meaning, TypedFrame, IsFrame, AreFrames, AreClosed, IsBroken, IsEither, last_type};
 ghost use Rattle.quic_frame_fields.specs.Reading.{Broken, IsBlocks, invalid, items_of, ranges_of, reason_text};
 ghost use Rattle.quic_errors.specs.Codes.{long_type_reason};
 ghost use Rattle.quic_frames.specs.Placed.{Placed, ArePlaced, IsPlacedBroken, whole};
@@ -32,29 +32,29 @@ use crate::frame::RETIRE_CONNECTION_ID_SIZE_BOUND;
 /// where types may be in any encoding, and where they must be in their shortest.
 pub fn one_reading()
     ensures either { (strict : Bool) (bytes : List ℕ) → AreBytes bytes → IsEither strict None bytes }
-    ensures one { (strict : Bool) (some others : List Found) (bytes : List ℕ)
+    ensures one { (strict : Bool) (some others : List TypedFrame) (bytes : List ℕ)
         → AreFrames strict some bytes → AreFrames strict others bytes → some ≡ others }
-    ensures never_both { (strict : Bool) (some others : List Found) (bytes : List ℕ) (type : Option ℕ) (reason : Fault)
+    ensures never_both { (strict : Bool) (some others : List TypedFrame) (bytes : List ℕ) (type : Option ℕ) (reason : Fault)
         → AreBytes bytes → AreFrames strict some bytes → IsBroken strict None others bytes type reason → ⊥ }
     // No frame that isn't open begins another one.
-    ensures begins_none { (strict : Bool) (one other : Found) (bytes longer rest : List ℕ) → is_open one.type ≡ false
+    ensures begins_none { (strict : Bool) (one other : TypedFrame) (bytes longer rest : List ℕ) → is_open one.type ≡ false
         → IsFrame strict one bytes → IsFrame strict other longer → longer ≡ bytes ++ rest → bytes ≡ longer }
     // What is read where types must be in their shortest encodings is read alike where they may be in any.
-    ensures relaxed { (strict : Bool) (found : List Found) (bytes : List ℕ)
+    ensures relaxed { (strict : Bool) (found : List TypedFrame) (bytes : List ℕ)
         → AreFrames strict found bytes → AreFrames false found bytes }
 {}
 
 /// Appending bytes changes no result: each frame that isn't open is read again at its place, and an error other than
 /// `unexpected end` is reported again, after the same frames, with the same type and reason.
 pub fn lasting()
-    ensures frames { (strict : Bool) (found : List Found) (bytes more : List ℕ) → AreBytes (bytes ++ more)
+    ensures frames { (strict : Bool) (found : List TypedFrame) (bytes more : List ℕ) → AreBytes (bytes ++ more)
         → AreFrames strict found bytes → AreClosed found → items_of strict 0 None (bytes ++ more)
         ≡ items_of strict 0 None bytes ++ items_of strict (length bytes) (last_type None found) more }
-    ensures error { (strict : Bool) (found : List Found) (bytes more : List ℕ) (type : Option ℕ) (reason : Fault)
+    ensures error { (strict : Bool) (found : List TypedFrame) (bytes more : List ℕ) (type : Option ℕ) (reason : Fault)
         → AreBytes (bytes ++ more) → reason ≢ UnexpectedEnd
         → IsBroken strict None found bytes type reason → IsBroken strict None found (bytes ++ more) type reason }
     // So no front of a payload without an error is `malformed`, has an `invalid frame ID`, or a long type.
-    ensures front { (strict : Bool) (found others : List Found) (bytes more : List ℕ) (type : Option ℕ) (reason : Fault)
+    ensures front { (strict : Bool) (found others : List TypedFrame) (bytes more : List ℕ) (type : Option ℕ) (reason : Fault)
         → AreBytes (bytes ++ more) → AreFrames strict found (bytes ++ more)
         → IsBroken strict None others bytes type reason → reason ≡ UnexpectedEnd }
 {}
@@ -80,10 +80,10 @@ pub fn items_in_place()
 pub fn read_from_a_place()
     ensures either { (strict : Bool) (payload : List ℕ) (offset : ℕ) (last : Option ℕ) → AreBytes payload
         → IsEither strict last (drop offset payload) }
-    ensures frames { (strict : Bool) (payload : List ℕ) (offset : ℕ) (last : Option ℕ) (found : List Found)
+    ensures frames { (strict : Bool) (payload : List ℕ) (offset : ℕ) (last : Option ℕ) (found : List TypedFrame)
         → AreFrames strict found (drop offset payload)
         → map unplaced (left (resumed payload offset last strict)) ≡ map given found }
-    ensures broken { (strict : Bool) (payload : List ℕ) (offset : ℕ) (last : Option ℕ) (found : List Found)
+    ensures broken { (strict : Bool) (payload : List ℕ) (offset : ℕ) (last : Option ℕ) (found : List TypedFrame)
         (type : Option ℕ) (reason : Fault) → AreBytes payload
         → IsBroken strict last found (drop offset payload) type reason
         → map unplaced (left (resumed payload offset last strict)) ≡ map given found ++ Err (invalid type reason) ∷ [] }
@@ -129,15 +129,15 @@ pub fn set_acknowledged()
 /// Of all encodings of a frame at its place, and of all payloads of the same frames, one is the shortest, and all
 /// others are longer. Its types are in their least widths, and an open frame comes last only.
 pub fn least_encoding()
-    ensures least { (last : Bool) (found : Found) (bytes : List ℕ) → IsFrame false found bytes
+    ensures least { (last : Bool) (found : TypedFrame) (bytes : List ℕ) → IsFrame false found bytes
         → (is_open found.type ≡ true → last ≡ true) → AreOrExceed bytes (shortest_frame last found.frame) }
-    ensures encoded { (strict last : Bool) (found : Found) (bytes : List ℕ) → IsFrame false found bytes
+    ensures encoded { (strict last : Bool) (found : TypedFrame) (bytes : List ℕ) → IsFrame false found bytes
         → (is_open found.type ≡ true → last ≡ true)
         → IsFrame strict (as_written last found.frame) (shortest_frame last found.frame)
         × (is_open (as_written last found.frame).type ≡ true → last ≡ true) }
-    ensures all_least { (found : List Found) (bytes : List ℕ) → AreFrames false found bytes
+    ensures all_least { (found : List TypedFrame) (bytes : List ℕ) → AreFrames false found bytes
         → AreOrExceed bytes (shortest_frames (map frame_in found)) }
-    ensures all_encoded { (strict : Bool) (found : List Found) (bytes : List ℕ) → AreFrames false found bytes
+    ensures all_encoded { (strict : Bool) (found : List TypedFrame) (bytes : List ℕ) → AreFrames false found bytes
         → AreFrames strict (all_written (map frame_in found)) (shortest_frames (map frame_in found)) }
     ensures same { (frames : List Meaning) → map frame_in (all_written frames) ≡ frames }
 {}

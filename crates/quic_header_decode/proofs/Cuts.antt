@@ -6,7 +6,7 @@ use Rattle.std.proofs.lemmas.List.{length-drop, take-take}
 use Rattle.std.proofs.lemmas.Bool.Decides.{nat_tests}
 use Rattle.quic_header_decode.specs.declared.protected.ProtectedHeader.{ProtectedHeader}
 use Rattle.quic_header_decode.specs.Refusal.{Refusal, Invalid}
-use Rattle.quic_header_decode.specs.Reading.{Context, header_at, cut_at, len_in}
+use Rattle.quic_header_decode.specs.Reading.{DecodeOptions, header_at, cut_at, len_in}
 
 fits : (h : ProtectedHeader) (e : Refusal) (whole left len at : ℕ) → at + left ≡ whole → len ≤ left
     → cond {A = Result (ProtectedHeader × ℕ × ℕ) Refusal} (nat_lt left len) (Err e) (Ok (h, whole - left, whole - left + len)) ≡ Ok (h, at, at + len)
@@ -16,7 +16,7 @@ fits h e whole left len at sum le =
     rw (test, place)
 
 -- what a cursor read is what the datagram begins with
-pub header_read : (context : Context) (bytes before after : List ℕ) (start stop : ℕ) (h : ProtectedHeader)
+pub header_read : (context : DecodeOptions) (bytes before after : List ℕ) (start stop : ℕ) (h : ProtectedHeader)
     → before ≡ bytes → start ≡ 0 → after ≡ before
     → header_at context (length before) (drop start before) ≡ Ok (h, drop stop after)
     → header_at context (length bytes) bytes ≡ Ok (h, drop stop bytes)
@@ -24,7 +24,7 @@ header_read context bytes before after start stop h whole at_front kept read =
     let shown : header_at context (length bytes) bytes ≡ header_at context (length before) (drop start before) = rw (whole, at_front) in
     shown ∙ read ∙ ap (λ (xs : List ℕ). let r : Result (ProtectedHeader × List ℕ) Refusal = Ok (h, drop stop xs) in r) (kept ∙ whole)
 
-pub cut_read : (context : Context) (bytes : List ℕ) (stop remaining len : ℕ) (h : ProtectedHeader)
+pub cut_read : (context : DecodeOptions) (bytes : List ℕ) (stop remaining len : ℕ) (h : ProtectedHeader)
     → header_at context (length bytes) bytes ≡ Ok (h, drop stop bytes)
     → stop + remaining ≡ length bytes → len ≡ unwrap_or (len_in h) remaining → len ≤ remaining
     → cut_at context bytes ≡ Ok (h, stop, stop + len)

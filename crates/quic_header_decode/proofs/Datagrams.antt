@@ -9,7 +9,7 @@ use Rattle.quic_base.proofs.PublicLaws.{back_bytes}
 use Rattle.quic_header_decode.specs.declared.protected.ProtectedHeader.{ProtectedHeader}
 use Rattle.quic_header_decode.specs.Refusal.{Refusal}
 use Rattle.quic_header_decode.specs.Grammar.{Cut, CutAnswer}
-use Rattle.quic_header_decode.specs.Reading.{Context, cut_at}
+use Rattle.quic_header_decode.specs.Reading.{DecodeOptions, cut_at}
 use Rattle.quic_header_decode.specs.Datagram.{PlacedPacket, ArePackets, last, more, refused, and_then, packets_from, packets_in}
 use Rattle.quic_header_decode.proofs.Steps.{otherwise, taken}
 use Rattle.quic_header_decode.proofs.CutAnswers.{Takes, cut_answer, cut_positive, cut_again, uncut_again}
@@ -32,7 +32,7 @@ at_more : (others : ℕ → List ℕ → Answer) (start : ℕ) (bytes : List ℕ
 at_more others start bytes h p q lt = taken (nat_lt q (length bytes)) _ _ _ (grind (arith, nat_tests)) refl
 
 -- what the grammar calls the packets of a datagram is what reading finds
-again : (context : Context) (n start : ℕ) (bytes : List ℕ) (ps : List PlacedPacket) (end : Option Refusal) → AreBytes bytes → length bytes < n → ArePackets context start bytes ps end
+again : (context : DecodeOptions) (n start : ℕ) (bytes : List ℕ) (ps : List PlacedPacket) (end : Option Refusal) → AreBytes bytes → length bytes < n → ArePackets context start bytes ps end
     → packets_from context n start bytes ≡ (ps, end)
 unfolding packets_from
 again context zero start bytes ps end fits le are = absurd (omega (arith, le))
@@ -45,15 +45,15 @@ again context (suc n) start bytes _ end fits le (more _ _ h p q others _ cut lt 
     ∙ ap (λ (r : Answer). let a : Answer = (record { start = start; stop = start + q; header = h } ∷ r.0, r.1) in a) inner
 again context (suc n) start bytes _ _ fits le (refused _ _ e uncut) = ap (and_then (packets_from context n) start bytes) (uncut_again context bytes e fits uncut)
 
-pub packets_again : (context : Context) (bytes : List ℕ) (ps : List PlacedPacket) (end : Option Refusal) → AreBytes bytes → ArePackets context 0 bytes ps end → packets_in context bytes ≡ (ps, end)
+pub packets_again : (context : DecodeOptions) (bytes : List ℕ) (ps : List PlacedPacket) (end : Option Refusal) → AreBytes bytes → ArePackets context 0 bytes ps end → packets_in context bytes ≡ (ps, end)
 unfolding packets_in
 packets_again context bytes ps end fits are = again context (suc (length bytes)) 0 bytes ps end fits (omega arith) are
 
 -- and what reading finds is what the grammar calls so
-abbrev Found : Context → ℕ → List ℕ → Answer → Type 0
+abbrev Found : DecodeOptions → ℕ → List ℕ → Answer → Type 0
 Found context start bytes answer = ArePackets context start bytes answer.0 answer.1
 
-found_after : (context : Context) (others : ℕ → List ℕ → Answer) (start : ℕ) (bytes : List ℕ) (r : Result (ProtectedHeader × ℕ × ℕ) Refusal) → CutAnswer context bytes r
+found_after : (context : DecodeOptions) (others : ℕ → List ℕ → Answer) (start : ℕ) (bytes : List ℕ) (r : Result (ProtectedHeader × ℕ × ℕ) Refusal) → CutAnswer context bytes r
     → ((q : ℕ) → 0 < q → q < length bytes → Found context (start + q) (drop q bytes) (others (start + q) (drop q bytes)))
     → Found context start bytes (and_then others start bytes r)
 found_after context others start bytes (Err e) right rest = refused start bytes e right
@@ -68,19 +68,19 @@ found_after context others start bytes (Ok cut) right rest =
           (last start bytes cut.0 cut.1 (subst (λ (q : ℕ). Cut context bytes cut.0 cut.1 q) all right))
     ]
 
-found : (context : Context) (n start : ℕ) (bytes : List ℕ) → AreBytes bytes → Takes context → length bytes < n → Found context start bytes (packets_from context n start bytes)
+found : (context : DecodeOptions) (n start : ℕ) (bytes : List ℕ) → AreBytes bytes → Takes context → length bytes < n → Found context start bytes (packets_from context n start bytes)
 unfolding packets_from
 found context zero start bytes fits takes le = absurd (omega (arith, le))
 found context (suc n) start bytes fits takes le =
     found_after context (packets_from context n) start bytes (cut_at context bytes) (cut_answer context bytes fits takes)
     (λ q some lt. found context n (start + q) (drop q bytes) (rest_bytes q bytes fits) takes (omega (arith, le, some, lt, length-drop q bytes)))
 
-pub packets_found : (context : Context) (bytes : List ℕ) → AreBytes bytes → Takes context → ArePackets context 0 bytes (packets_in context bytes).0 (packets_in context bytes).1
+pub packets_found : (context : DecodeOptions) (bytes : List ℕ) → AreBytes bytes → Takes context → ArePackets context 0 bytes (packets_in context bytes).0 (packets_in context bytes).1
 unfolding packets_in
 packets_found context bytes fits takes = found context (suc (length bytes)) 0 bytes fits takes (omega arith)
 
 -- wherever its first packet is said to start
-pub some_packets : (context : Context) (start : ℕ) (bytes : List ℕ) → AreBytes bytes → Takes context → (ps : List PlacedPacket) × (end : Option Refusal) × ArePackets context start bytes ps end
+pub some_packets : (context : DecodeOptions) (start : ℕ) (bytes : List ℕ) → AreBytes bytes → Takes context → (ps : List PlacedPacket) × (end : Option Refusal) × ArePackets context start bytes ps end
 some_packets context start bytes fits takes =
     let answer : Answer = packets_from context (suc (length bytes)) start bytes in
     (answer.0, answer.1, found context (suc (length bytes)) start bytes fits takes (omega arith))

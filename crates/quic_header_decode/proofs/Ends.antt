@@ -13,7 +13,7 @@ use Rattle.quic_header_encode.specs.declared.long_type.LongHeaderType.TheVariant
 use Rattle.quic_header_encode.specs.Types.{long_type}
 use Rattle.quic_header_decode.specs.Refusal.{Refusal, Invalid, Unsupported, NoMemory}
 use Rattle.quic_header_decode.specs.Grammar.{is_long, HeaderField, Supported, ShortId, HeaderValue, Number, Bytes, typed_row, row_behind_ids, header_row_of, StopsAtField, AreHeaderFields, StopsWithinRow, IsHeader, Refused, Cut}
-use Rattle.quic_header_decode.specs.Reading.{Context, len_in, at_end, bad_id}
+use Rattle.quic_header_decode.specs.Reading.{DecodeOptions, len_in, at_end, bad_id}
 use Rattle.quic_header_decode.proofs.Steps.{take_front, drop_front}
 use Rattle.quic_header_decode.proofs.Headers.{Ids, id_values, long_row, ids_of, of_ids, stops_behind_ids, version_is}
 
@@ -73,13 +73,13 @@ shifted whole whole' first v count left left' n len d s values (head.Initial h) 
     (count0, left', start, omega (arith, stop, moved, same), (let all : six v d s count left' n ≡ six h.version h.dst_cid h.src_cid count0 left' h.len = cc in all))
 
 -- The bytes are a front and then rest, and other bytes after that front leave the header as it is.
-record Moves (context : Context) (fields : List HeaderField) (before : List HeaderValue) (whole first : ℕ) (bytes rest : List ℕ) (h : ProtectedHeader) : Type 0 where
+record Moves (context : DecodeOptions) (fields : List HeaderField) (before : List HeaderValue) (whole first : ℕ) (bytes rest : List ℕ) (h : ProtectedHeader) : Type 0 where
   front : List ℕ
   split : bytes ≡ front ++ rest
   moved : (other : List ℕ) (whole' : ℕ) → whole' + length rest ≡ whole + length other
       → (values : List HeaderValue) × AreHeaderFields context fields before values (front ++ other) other × IsHeader whole' first values h
 
-typed_moves : (context : Context) (whole first len version : ℕ) (dst src left rest : List ℕ) (values : List HeaderValue) (h : ProtectedHeader) → IsHeader whole first values h → len_in h ≡ Some len
+typed_moves : (context : DecodeOptions) (whole first len version : ℕ) (dst src left rest : List ℕ) (values : List HeaderValue) (h : ProtectedHeader) → IsHeader whole first values h → len_in h ≡ Some len
     → (ty : LongHeaderType) → AreHeaderFields context (typed_row ty) (id_values version dst src) values left rest → Moves context (typed_row ty) (id_values version dst src) whole first left rest h
 typed_moves context whole first len version dst src left rest values h is has kind.Retry (said, same) = absurd (no_ids whole first len version dst src values h is has said)
 typed_moves context whole first len version dst src left rest values h is has (kind.Standard ty) (v, back, (f, split, (n, is1, encoded)), (said, same)) =
@@ -118,7 +118,7 @@ typed_moves context whole first len version dst src left rest values h is has ki
       );
     }
 
-behind_moves : (context : Context) (whole first len version : ℕ) (dst src left rest : List ℕ) (values : List HeaderValue) (h : ProtectedHeader) → IsHeader whole first values h → len_in h ≡ Some len
+behind_moves : (context : DecodeOptions) (whole first len version : ℕ) (dst src left rest : List ℕ) (values : List HeaderValue) (h : ProtectedHeader) → IsHeader whole first values h → len_in h ≡ Some len
     → (none : Bool) (ty : LongHeaderType) → AreHeaderFields context (cond none [] (Supported version ∷ typed_row ty)) (id_values version dst src) values left rest
     → Moves context (cond none [] (Supported version ∷ typed_row ty)) (id_values version dst src) whole first left rest h
 behind_moves context whole first len version dst src left rest values h is has true ty (said, same) = absurd (no_ids whole first len version dst src values h is has said)
@@ -132,7 +132,7 @@ behind_moves context whole first len version dst src left rest values h is has f
       moved = λ other whole' sum. (let x = m.moved other whole' sum in (x.0, ([], m.front ++ other, ([], refl, (refl, refl, known)), x.1), x.2));
     }
 
-row_moves : (context : Context) (whole first len : ℕ) (text rest : List ℕ) (values : List HeaderValue) (h : ProtectedHeader) → IsHeader whole first values h → len_in h ≡ Some len
+row_moves : (context : DecodeOptions) (whole first len : ℕ) (text rest : List ℕ) (values : List HeaderValue) (h : ProtectedHeader) → IsHeader whole first values h → len_in h ≡ Some len
     → (long : Bool) → is_long first ≡ long → AreHeaderFields context (cond long (long_row (row_behind_ids first (num (take 4 text)))) (ShortId ∷ [])) [] values text rest
     → (front : List ℕ) × (text ≡ front ++ rest) × ((other : List ℕ) (whole' : ℕ) → whole' + length rest ≡ whole + length other
     → (values : List HeaderValue) × AreHeaderFields context (header_row_of first (num (take 4 (front ++ other)))) [] values (front ++ other) other × IsHeader whole' first values h)
@@ -173,7 +173,7 @@ ends_of : (o : Option ℕ) (len p q whole : ℕ) → o ≡ Some len → q ≡ p 
 ends_of None len p q whole is stop = absurd cc
 ends_of (Some n) len p q whole is stop = (let same : n ≡ len = cc in stop ∙ ap (λ (k : ℕ). p + k) (sym same))
 
-pub cut_alone : (context : Context) (bytes other : List ℕ) (h : ProtectedHeader) (p q len : ℕ) → Cut context bytes h p q → len_in h ≡ Some len → Cut context (take q bytes ++ other) h p q
+pub cut_alone : (context : DecodeOptions) (bytes other : List ℕ) (h : ProtectedHeader) (p q len : ℕ) → Cut context bytes h p q → len_in h ≡ Some len → Cut context (take q bytes ++ other) h p q
 cut_alone context bytes other h p q len (rest, (first, text, values, split, fixed, fields, is), sum, ends, within) has =
     let m = row_moves context (length bytes) first len text rest values h is has (is_long first) refl fields in
     let front : List ℕ = first ∷ m.0 in
@@ -208,7 +208,7 @@ past_token = Invalid (codes "token out of bounds")
 abbrev IsPlain : Refusal → Type 0
 IsPlain e = (e ≡ at_end) ⊎ (e ≡ bad_id) ⊎ (e ≡ past_token)
 
-typed_reported : (context : Context) (before : List HeaderValue) (bytes : List ℕ) (e : Refusal) (ty : LongHeaderType) → StopsWithinRow context (typed_row ty) before bytes e → IsPlain e
+typed_reported : (context : DecodeOptions) (before : List HeaderValue) (bytes : List ℕ) (e : Refusal) (ty : LongHeaderType) → StopsWithinRow context (typed_row ty) before bytes e → IsPlain e
 typed_reported context before bytes e kind.Retry stops = absurd stops
 typed_reported context before bytes e (kind.Standard ty) (inl stops) = inl stops.why
 typed_reported context before bytes e (kind.Standard ty) (inr d) = absurd d.3
@@ -218,17 +218,17 @@ typed_reported context before bytes e kind.Initial (inr (v1, t1, b1, inr (v2, t2
 typed_reported context before bytes e kind.Initial (inr (v1, t1, b1, inr (v2, t2, b2, inr d))) = absurd d.3
 
 -- the ids are there, and the version is unknown
-abbrev IsUnknown : Context → List ℕ → Refusal → Type 0
+abbrev IsUnknown : DecodeOptions → List ℕ → Refusal → Type 0
 IsUnknown context text e = (version : ℕ) × (dst src left : List ℕ) × Ids text version dst src left × (version ≢ 0) × StopsAtField context (Supported version) (id_values version dst src) left e
 
-behind_reported : (context : Context) (first version : ℕ) (text dst src left : List ℕ) (e : Refusal) → Ids text version dst src left
+behind_reported : (context : DecodeOptions) (first version : ℕ) (text dst src left : List ℕ) (e : Refusal) → Ids text version dst src left
     → (none : Bool) → nat_eq version 0 ≡ none → (ty : LongHeaderType) → StopsWithinRow context (cond none [] (Supported version ∷ typed_row ty)) (id_values version dst src) left e
     → IsPlain e ⊎ IsUnknown context text e
 behind_reported context first version text dst src left e ids true zero ty stops = absurd stops
 behind_reported context first version text dst src left e ids false some ty (inl stops) = inr (version, dst, src, left, ids, (let other : version ≢ 0 = grind (arith, nat_tests) in other), stops)
 behind_reported context first version text dst src left e ids false some ty (inr d) = inl (typed_reported context (id_values version dst src ++ d.0) d.1 e ty d.3)
 
-long_reported : (context : Context) (first : ℕ) (text : List ℕ) (e : Refusal) → StopsWithinRow context (long_row (row_behind_ids first (num (take 4 text)))) [] text e → IsPlain e ⊎ IsUnknown context text e
+long_reported : (context : DecodeOptions) (first : ℕ) (text : List ℕ) (e : Refusal) → StopsWithinRow context (long_row (row_behind_ids first (num (take 4 text)))) [] text e → IsPlain e ⊎ IsUnknown context text e
 long_reported context first text e (inl stops) = inl (inl stops.why)
 long_reported context first text e (inr (v1, t1, b1, inl stops)) = inl (inr (inl stops.why))
 long_reported context first text e (inr (v1, t1, b1, inr (v2, t2, b2, inl stops))) = inl (inr (inl stops.why))
@@ -246,7 +246,7 @@ long_reported context first text e
     (subst (λ (n : ℕ). StopsWithinRow context (row_behind_ids first n) (id_values version dst src) left e) (version_is text version dst src left ids)
     (subst (λ (xs : List HeaderValue). StopsWithinRow context (row_behind_ids first (num (take 4 text))) xs left e) said stops))
 
-row_reported : (context : Context) (first : ℕ) (text : List ℕ) (e : Refusal) → 128 ≤ first → StopsWithinRow context (header_row_of first (num (take 4 text))) [] text e → IsPlain e ⊎ IsUnknown context text e
+row_reported : (context : DecodeOptions) (first : ℕ) (text : List ℕ) (e : Refusal) → 128 ≤ first → StopsWithinRow context (header_row_of first (num (take 4 text))) [] text e → IsPlain e ⊎ IsUnknown context text e
 row_reported context first text e long stops =
     let test : is_long first ≡ true = grind (arith, nat_tests) in
     long_reported context first text e (subst (λ (b : Bool). StopsWithinRow context (cond b (long_row (row_behind_ids first (num (take 4 text)))) (ShortId ∷ [])) [] text e) test stops)
@@ -265,7 +265,7 @@ other_size e n (inr (inr is)) size small = elim small [
   | inr eq ↦ omega (arith, eq, size, ap text_size is)
 ]
 
-pub fixed_alone : (context : Context) (bytes other : List ℕ) → 128 ≤ slice_index bytes 0 → Refused context bytes (Invalid (codes "fixed bit unset")) → Refused context (bytes ++ other) (Invalid (codes "fixed bit unset"))
+pub fixed_alone : (context : DecodeOptions) (bytes other : List ℕ) → 128 ≤ slice_index bytes 0 → Refused context bytes (Invalid (codes "fixed bit unset")) → Refused context (bytes ++ other) (Invalid (codes "fixed bit unset"))
 fixed_alone context [] other long is = absurd (omega (arith, long))
 fixed_alone context (first ∷ text) other long (inl unset) = inl unset
 fixed_alone context (first ∷ text) other long (inr (set, stops)) = elim (row_reported context first text (Invalid (codes "fixed bit unset")) long stops) [
@@ -273,7 +273,7 @@ fixed_alone context (first ∷ text) other long (inr (set, stops)) = elim (row_r
   | inr unknown ↦ absurd (let n : 15 ≡ 0 = ap text_size unknown.6.why in omega (arith, n))
 ]
 
-pub version_alone : (context : Context) (bytes other src dst : List ℕ) (version : ℕ) → 128 ≤ slice_index bytes 0 → Refused context bytes (Unsupported src dst version) → Refused context (bytes ++ other) (Unsupported src dst version)
+pub version_alone : (context : DecodeOptions) (bytes other src dst : List ℕ) (version : ℕ) → 128 ≤ slice_index bytes 0 → Refused context bytes (Unsupported src dst version) → Refused context (bytes ++ other) (Unsupported src dst version)
 version_alone context [] other src dst version long is = absurd (omega (arith, long))
 version_alone context (first ∷ text) other src dst version long (inl unset) = absurd (let n : 0 ≡ 15 = ap text_size unset.1 in omega (arith, n))
 version_alone context (first ∷ text) other src dst version long (inr (set, stops)) = elim (row_reported context first text (Unsupported src dst version) long stops) [

@@ -16,7 +16,7 @@ use Rattle.quic_header_encode.specs.Types.{long_type}
 use Rattle.quic_header_decode.specs.Refusal.{Refusal, Unsupported, Invalid}
 use Rattle.quic_header_decode.specs.Fields.{word_at, long_id_at}
 use Rattle.quic_header_decode.specs.Grammar.{is_long, is_fixed, HeaderField, Version, DestinationId, SourceId, Supported, ShortId, HeaderValue, Number, Bytes, typed_row, row_behind_ids, header_row_of, AreHeaderFields, StopsWithinRow, IsHeader, HeaderAt, Refused, token_length_of}
-use Rattle.quic_header_decode.specs.Reading.{◌>>=◌, Context, TakesWithin, header_at, long_at, typed_at, at_end, bad_id}
+use Rattle.quic_header_decode.specs.Reading.{◌>>=◌, DecodeOptions, TakesWithin, header_at, long_at, typed_at, at_end, bad_id}
 use Rattle.quic_header_decode.proofs.Steps.{chosen, otherwise, taken, option_ok, ok_pair, ok_err, err_ok, err_same, bool_cases, some_same, none_some, take_front}
 use Rattle.quic_header_decode.proofs.Rows.{Taken, row_at, row_again, row_found, row_refused, row_stops, row_room}
 
@@ -37,7 +37,7 @@ id_values version dst src = Number version ∷ Bytes dst ∷ Bytes src ∷ []
 abbrev pub long_row : List HeaderField → List HeaderField
 long_row fields = Version ∷ DestinationId ∷ SourceId ∷ fields
 
-pub ids_of : (context : Context) (fields : List HeaderField) (after : List HeaderValue) (text rest : List ℕ) → AreHeaderFields context (long_row fields) [] after text rest
+pub ids_of : (context : DecodeOptions) (fields : List HeaderField) (after : List HeaderValue) (text rest : List ℕ) → AreHeaderFields context (long_row fields) [] after text rest
     → (version : ℕ) × (dst src left : List ℕ) × Ids text version dst src left × AreHeaderFields context fields (id_values version dst src) after left rest
 ids_of context fields after text rest (v, t1, (word, split1, (version, is1, number)), (d, t2, (f2, split2, (dst, is2, len2, text2)), (s, left, (f3, split3, (src, is3, len3, text3)), others))) = (
   version,
@@ -54,7 +54,7 @@ ids_of context fields after text rest (v, t1, (word, split1, (version, is1, numb
   (let said : (v ++ d) ++ s ≡ id_values version dst src = rw (is1, is2, is3) in subst (λ (xs : List HeaderValue). AreHeaderFields context fields xs after left rest) said others),
 )
 
-pub of_ids : (context : Context) (fields : List HeaderField) (after : List HeaderValue) (text rest : List ℕ) (version : ℕ) (dst src left : List ℕ) → Ids text version dst src left
+pub of_ids : (context : DecodeOptions) (fields : List HeaderField) (after : List HeaderValue) (text rest : List ℕ) (version : ℕ) (dst src left : List ℕ) → Ids text version dst src left
     → AreHeaderFields context fields (id_values version dst src) after left rest → AreHeaderFields context (long_row fields) [] after text rest
 of_ids context fields after text rest version dst src left ids others = (
   Number version ∷ [],
@@ -68,7 +68,7 @@ of_ids context fields after text rest version dst src left ids others = (
   ),
 )
 
-pub stops_behind_ids : (context : Context) (fields : List HeaderField) (text : List ℕ) (e : Refusal) (version : ℕ) (dst src left : List ℕ) → Ids text version dst src left
+pub stops_behind_ids : (context : DecodeOptions) (fields : List HeaderField) (text : List ℕ) (e : Refusal) (version : ℕ) (dst src left : List ℕ) → Ids text version dst src left
     → StopsWithinRow context fields (id_values version dst src) left e → StopsWithinRow context (long_row fields) [] text e
 stops_behind_ids context fields text e version dst src left ids stops = inr (
   Number version ∷ [],
@@ -120,7 +120,7 @@ made_is whole first values (head.Initial h) (count, left, start, stop, said) =
     ap (made whole first) said ∙ ap (λ (n : ℕ). at n (n + count)) begins ∙ ap (λ (n : ℕ). at h.token_pos.start n) start
 
 -- the values of a row make the header that they are
-typed_is : (context : Context) (whole first version : ℕ) (dst src left rest : List ℕ) (values : List HeaderValue) → length left ≤ whole → version ≢ 0
+typed_is : (context : DecodeOptions) (whole first version : ℕ) (dst src left rest : List ℕ) (values : List HeaderValue) → length left ≤ whole → version ≢ 0
     → (ty : LongHeaderType) → long_type version first ≡ ty → AreHeaderFields context (typed_row ty) (id_values version dst src) values left rest
     → IsHeader whole first values (made whole first values)
 typed_is context whole first version dst src left rest values room some kind.Retry is (said, same) =
@@ -139,7 +139,7 @@ typed_is context whole first version dst src left rest values room some kind.Ini
     let inner : count + length t2 ≤ whole = omega (arith, room, size, ap length split1, length-append f1 t1, ap length split2, length-append token t2) in
     subst (λ (xs : List HeaderValue). IsHeader whole first xs (made whole first xs)) (sym all) (count, length t2, refl, omega (arith, inner), refl)
 
-behind_is : (context : Context) (whole first version : ℕ) (dst src left rest : List ℕ) (values : List HeaderValue) → length left ≤ whole → 128 ≤ first
+behind_is : (context : DecodeOptions) (whole first version : ℕ) (dst src left rest : List ℕ) (values : List HeaderValue) → length left ≤ whole → 128 ≤ first
     → (none : Bool) → nat_eq version 0 ≡ none → AreHeaderFields context (cond none [] (Supported version ∷ typed_row (long_type version first))) (id_values version dst src) values left rest
     → IsHeader whole first values (made whole first values)
 behind_is context whole first version dst src left rest values room long true is (said, same) =
@@ -156,7 +156,7 @@ pub ids_room : (text : List ℕ) (version : ℕ) (dst src left : List ℕ) → I
 ids_room text version dst src left ids =
     omega (arith, ap length ids.text_is, length-append ids.word (long_id dst ++ (long_id src ++ left)), length-append dst (long_id src ++ left), length-append src left)
 
-row_is : (context : Context) (whole first : ℕ) (text rest : List ℕ) (values : List HeaderValue) → length text ≤ whole
+row_is : (context : DecodeOptions) (whole first : ℕ) (text rest : List ℕ) (values : List HeaderValue) → length text ≤ whole
     → (long : Bool) → is_long first ≡ long → AreHeaderFields context (cond long (long_row (row_behind_ids first (num (take 4 text)))) (ShortId ∷ [])) [] values text rest
     → IsHeader whole first values (made whole first values)
 row_is context whole first text rest values room false is (v, back, (f, split, (dst, is1, parsed)), (said, same)) =
@@ -186,7 +186,7 @@ cond_bind false e x k y same = same refl
 number_value : ℕ × List ℕ → Taken
 number_value x = (Number x.0 ∷ [], x.1)
 
-typed_same : (context : Context) (whole first version : ℕ) (dst src left : List ℕ) → nat_eq version 0 ≡ false → (ty : LongHeaderType) → long_type version first ≡ ty
+typed_same : (context : DecodeOptions) (whole first version : ℕ) (dst src left : List ℕ) → nat_eq version 0 ≡ false → (ty : LongHeaderType) → long_type version first ≡ ty
     → typed_at ty whole dst src version left ≡ row_at context (typed_row ty) (id_values version dst src) left (finish whole first)
 unfolding typed_at
 typed_same context whole first version dst src left some kind.Retry is =
@@ -204,7 +204,7 @@ typed_same context whole first version dst src left some kind.Initial is =
     let sum : length token.1 ≡ token.0 + length (drop token.0 token.1) = omega (arith, length-drop token.0 token.1) in
     ap (λ (n : ℕ). let r : Result (ProtectedHeader × List ℕ) Refusal = Ok (at (whole - n), len.1) in r) sum)))
 
-behind_same : (context : Context) (whole first version : ℕ) (dst src left : List ℕ) (none : Bool) → nat_eq version 0 ≡ none
+behind_same : (context : DecodeOptions) (whole first version : ℕ) (dst src left : List ℕ) (none : Bool) → nat_eq version 0 ≡ none
     → cond none (Ok (head.VersionNegotiate (first - 128) dst src, left))
     (cond (not (list_any (λ known. nat_eq known version) context.versions)) (Err (Unsupported src dst version)) (typed_at (long_type version first) whole dst src version left))
     ≡ row_at context (cond none [] (Supported version ∷ typed_row (long_type version first))) (id_values version dst src) left (finish whole first)
@@ -220,7 +220,7 @@ word_says text x e = elim (chosen (nat_lt (length text) 4) _ _ (Some x) e) [
   | inr long ↦ ap (λ (p : ℕ × List ℕ). p.0) (some_same long.1)
 ]
 
-long_same : (context : Context) (whole first : ℕ) (text : List ℕ)
+long_same : (context : DecodeOptions) (whole first : ℕ) (text : List ℕ)
     → long_at context.versions whole first text ≡ row_at context (long_row (row_behind_ids first (num (take 4 text)))) [] text (finish whole first)
 unfolding long_at
 long_same context whole first text =
@@ -230,7 +230,7 @@ long_same context whole first text =
     (λ src g. behind_same context whole first version.0 dst.0 src.0 src.1 (nat_eq version.0 0) refl
     ∙ ap (λ (n : ℕ). row_at context (row_behind_ids first n) (id_values version.0 dst.0 src.0) src.1 (finish whole first)) (sym (word_says text version (option_ok (word_at text) at_end version e))))))
 
-form_same : (context : Context) (whole first : ℕ) (text : List ℕ) (long : Bool) → is_long first ≡ long
+form_same : (context : DecodeOptions) (whole first : ℕ) (text : List ℕ) (long : Bool) → is_long first ≡ long
     → cond (nat_lt first 128) (context.parsed text >>= λ id. Ok (head.Short (nat_eq (first / 32 % 2) 1) id.0, drop id.1 text)) (long_at context.versions whole first text)
     ≡ row_at context (cond long (long_row (row_behind_ids first (num (take 4 text)))) (ShortId ∷ [])) [] text (finish whole first)
 form_same context whole first text true is = otherwise (nat_lt first 128) _ _ _ (grind (arith, nat_tests)) (long_same context whole first text)
@@ -250,7 +250,7 @@ turned true false x y e = refl
 turned false true x y e = refl
 turned false false x y e = absurd cc
 
-by_rows : (context : Context) (whole first : ℕ) (text : List ℕ)
+by_rows : (context : DecodeOptions) (whole first : ℕ) (text : List ℕ)
     → header_at context whole (first ∷ text)
     ≡ cond (is_fixed context first) (row_at context (header_row_of first (num (take 4 text))) [] text (finish whole first)) (Err (Invalid (codes "fixed bit unset")))
 unfolding header_at
@@ -260,13 +260,13 @@ by_rows context whole first text =
 
 -- ---- each way
 
-pub header_again : (context : Context) (whole : ℕ) (bytes : List ℕ) (h : ProtectedHeader) (rest : List ℕ) → HeaderAt context whole bytes h rest → header_at context whole bytes ≡ Ok (h, rest)
+pub header_again : (context : DecodeOptions) (whole : ℕ) (bytes : List ℕ) (h : ProtectedHeader) (rest : List ℕ) → HeaderAt context whole bytes h rest → header_at context whole bytes ≡ Ok (h, rest)
 header_again context whole bytes h rest (first, text, values, split, fixed, fields, is) =
     ap (header_at context whole) split ∙ by_rows context whole first text
     ∙ taken (is_fixed context first) _ _ _ fixed (row_again context (header_row_of first (num (take 4 text))) [] values text rest (finish whole first) fields)
     ∙ ap (λ (g : ProtectedHeader). let r : Result (ProtectedHeader × List ℕ) Refusal = Ok (g, rest) in r) (made_is whole first values h is)
 
-pub header_found : (context : Context) (whole : ℕ) (bytes rest : List ℕ) (h : ProtectedHeader) → AreBytes bytes → length bytes ≤ whole → TakesWithin context
+pub header_found : (context : DecodeOptions) (whole : ℕ) (bytes rest : List ℕ) (h : ProtectedHeader) → AreBytes bytes → length bytes ≤ whole → TakesWithin context
     → header_at context whole bytes ≡ Ok (h, rest) → HeaderAt context whole bytes h rest
 unfolding header_at
 header_found context whole [] rest h fits room takes e = absurd cc
@@ -286,7 +286,7 @@ header_found context whole (first ∷ text) rest h fits room takes e =
           )
     ]
 
-pub refused_again : (context : Context) (whole : ℕ) (bytes : List ℕ) (e : Refusal) → AreBytes bytes → Refused context bytes e → header_at context whole bytes ≡ Err e
+pub refused_again : (context : DecodeOptions) (whole : ℕ) (bytes : List ℕ) (e : Refusal) → AreBytes bytes → Refused context bytes e → header_at context whole bytes ≡ Err e
 unfolding header_at
 refused_again context whole [] e fits is = ap (λ (r : Refusal). let q : Result (ProtectedHeader × List ℕ) Refusal = Err r in q) (sym is)
 refused_again context whole (first ∷ text) e fits (inl (unset, is)) =
@@ -295,7 +295,7 @@ refused_again context whole (first ∷ text) e fits (inr (set, stops)) =
     by_rows context whole first text ∙ taken (is_fixed context first) _ _ _ set
     (row_stops context (header_row_of first (num (take 4 text))) [] text (finish whole first) e (λ i. fits (suc i)) stops)
 
-pub refused_found : (context : Context) (whole : ℕ) (bytes : List ℕ) (e : Refusal) → AreBytes bytes → TakesWithin context → header_at context whole bytes ≡ Err e → Refused context bytes e
+pub refused_found : (context : DecodeOptions) (whole : ℕ) (bytes : List ℕ) (e : Refusal) → AreBytes bytes → TakesWithin context → header_at context whole bytes ≡ Err e → Refused context bytes e
 unfolding header_at
 refused_found context whole [] e fits takes h = sym (err_same _ e h)
 refused_found context whole (first ∷ text) e fits takes h =
@@ -305,6 +305,6 @@ refused_found context whole (first ∷ text) e fits takes h =
     ]
 
 -- a header takes a byte
-pub header_strict : (context : Context) (whole : ℕ) (bytes : List ℕ) (h : ProtectedHeader) (rest : List ℕ) → HeaderAt context whole bytes h rest → length rest < length bytes
+pub header_strict : (context : DecodeOptions) (whole : ℕ) (bytes : List ℕ) (h : ProtectedHeader) (rest : List ℕ) → HeaderAt context whole bytes h rest → length rest < length bytes
 header_strict context whole bytes h rest (first, text, values, split, fixed, fields, is) =
     omega (arith, ap length split, row_room context (header_row_of first (num (take 4 text))) [] values text rest fields)

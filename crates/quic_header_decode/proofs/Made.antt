@@ -15,12 +15,12 @@ use Rattle.quic_header_encode.specs.declared.long_type.LongType.{LongType}
 use Rattle.quic_header_encode.specs.Starts.{long_front}
 use Rattle.quic_header_encode.specs.Types.{long_type}
 use Rattle.quic_header_decode.specs.Grammar.{is_long, is_fixed, HeaderField, Supported, ShortId, HeaderValue, Number, Bytes, typed_row, row_behind_ids, header_row_of, AreHeaderFields, IsHeader, HeaderAt, IsKnownVersion}
-use Rattle.quic_header_decode.specs.Reading.{Context}
+use Rattle.quic_header_decode.specs.Reading.{DecodeOptions}
 use Rattle.quic_header_decode.proofs.Rows.{or_right}
 use Rattle.quic_header_decode.proofs.Headers.{Ids, id_values, long_row, of_ids, version_is}
 
 -- the bytes are a long header's first byte, version and ids, and rest
-pub record LongStart (context : Context) (bytes : List ℕ) (first version : ℕ) (dst src rest : List ℕ) : Type 0 where
+pub record LongStart (context : DecodeOptions) (bytes : List ℕ) (first version : ℕ) (dst src rest : List ℕ) : Type 0 where
   pub long : 128 ≤ first
   pub fixed : is_fixed context first ≡ true
   pub range : version < 2 ^ 32
@@ -28,7 +28,7 @@ pub record LongStart (context : Context) (bytes : List ℕ) (first version : ℕ
   pub src_len : length src ≤ 20
   pub text : bytes ≡ long_front first version dst src ++ rest
 
-pub fixed_set : (context : Context) (first : ℕ) → first / 64 % 2 ≡ 1 → is_fixed context first ≡ true
+pub fixed_set : (context : DecodeOptions) (first : ℕ) → first / 64 % 2 ≡ 1 → is_fixed context first ≡ true
 fixed_set context first is = or_right context.grease (has_bit 0x40 first) (grind (arith, nat_tests))
 
 -- what is after the first byte
@@ -41,7 +41,7 @@ joined first version dst src rest =
     append_assoc (first ∷ bytes_of 4 version) (long_id dst ++ long_id src) rest
     ∙ ap (λ (xs : List ℕ). (first ∷ bytes_of 4 version) ++ xs) (append_assoc (long_id dst) (long_id src) rest)
 
-made : (context : Context) (whole : ℕ) (bytes : List ℕ) (first version : ℕ) (dst src left rest : List ℕ) (values : List HeaderValue) (h : ProtectedHeader)
+made : (context : DecodeOptions) (whole : ℕ) (bytes : List ℕ) (first version : ℕ) (dst src left rest : List ℕ) (values : List HeaderValue) (h : ProtectedHeader)
     → LongStart context bytes first version dst src left → AreHeaderFields context (row_behind_ids first version) (id_values version dst src) values left rest
     → IsHeader whole first values h → HeaderAt context whole bytes h rest
 made context whole bytes first version dst src left rest values h start others is =
@@ -62,13 +62,13 @@ made context whole bytes first version dst src left rest values h start others i
     )
 
 -- the row of a type, after a version that is known
-typed : (context : Context) (first version : ℕ) (ty : LongHeaderType) → IsKnownVersion context version → long_type version first ≡ ty → row_behind_ids first version ≡ Supported version ∷ typed_row ty
+typed : (context : DecodeOptions) (first version : ℕ) (ty : LongHeaderType) → IsKnownVersion context version → long_type version first ≡ ty → row_behind_ids first version ≡ Supported version ∷ typed_row ty
 typed context first version ty known is =
     let other : version ≢ 0 = known.0 in
     let test : nat_eq version 0 ≡ false = grind (arith, nat_tests) in
     ap (λ (b : Bool). cond b [] (Supported version ∷ typed_row (long_type version first))) test ∙ ap (λ (k : LongHeaderType). Supported version ∷ typed_row k) is
 
-typed_made : (context : Context) (whole : ℕ) (bytes : List ℕ) (first version : ℕ) (dst src left rest : List ℕ) (values : List HeaderValue) (h : ProtectedHeader) (ty : LongHeaderType)
+typed_made : (context : DecodeOptions) (whole : ℕ) (bytes : List ℕ) (first version : ℕ) (dst src left rest : List ℕ) (values : List HeaderValue) (h : ProtectedHeader) (ty : LongHeaderType)
     → LongStart context bytes first version dst src left → IsKnownVersion context version → long_type version first ≡ ty
     → AreHeaderFields context (typed_row ty) (id_values version dst src) values left rest → IsHeader whole first values h → HeaderAt context whole bytes h rest
 typed_made context whole bytes first version dst src left rest values h ty start known type others is =
@@ -79,14 +79,14 @@ typed_made context whole bytes first version dst src left rest values h ty start
 
 -- ---- each header
 
-pub long_header : (context : Context) (whole : ℕ) (bytes : List ℕ) (first version : ℕ) (dst src text rest : List ℕ) (ty : LongType) (len : ℕ)
+pub long_header : (context : DecodeOptions) (whole : ℕ) (bytes : List ℕ) (first version : ℕ) (dst src text rest : List ℕ) (ty : LongType) (len : ℕ)
     → LongStart context bytes first version dst src (text ++ rest) → IsKnownVersion context version → long_type version first ≡ kind.Standard ty → Encodes len text
     → HeaderAt context whole bytes (head.Long ty dst src len version) rest
 long_header context whole bytes first version dst src text rest ty len start known type encoded =
     typed_made context whole bytes first version dst src (text ++ rest) rest (Number version ∷ Bytes dst ∷ Bytes src ∷ Number len ∷ []) (head.Long ty dst src len version) (kind.Standard ty) start known type
     (Number len ∷ [], rest, (text, refl, (len, refl, encoded)), (refl, refl)) (type, refl)
 
-pub initial_header : (context : Context) (whole : ℕ) (bytes : List ℕ) (first : ℕ) (count token text rest : List ℕ) (h : ProtectedInitialHeader)
+pub initial_header : (context : DecodeOptions) (whole : ℕ) (bytes : List ℕ) (first : ℕ) (count token text rest : List ℕ) (h : ProtectedInitialHeader)
     → LongStart context bytes first h.version h.dst_cid h.src_cid (count ++ (token ++ (text ++ rest))) → IsKnownVersion context h.version → long_type h.version first ≡ kind.Initial
     → Encodes (length token) count → Encodes h.len text → h.token_pos.end + length (text ++ rest) ≡ whole → h.token_pos.start + length token ≡ h.token_pos.end
     → HeaderAt context whole bytes (head.Initial h) rest
@@ -100,17 +100,17 @@ initial_header context whole bytes first count token text rest h start known typ
       (Number left ∷ [], text ++ rest, (token, refl, (refl, refl)), (Number h.len ∷ [], rest, (text, refl, (h.len, refl, encoded)), (refl, refl))),
     ) (length token, left, from, stop, refl)
 
-pub retry_header : (context : Context) (whole : ℕ) (bytes : List ℕ) (first version : ℕ) (dst src rest : List ℕ)
+pub retry_header : (context : DecodeOptions) (whole : ℕ) (bytes : List ℕ) (first version : ℕ) (dst src rest : List ℕ)
     → LongStart context bytes first version dst src rest → IsKnownVersion context version → long_type version first ≡ kind.Retry → HeaderAt context whole bytes (head.Retry dst src version) rest
 retry_header context whole bytes first version dst src rest start known type =
     typed_made context whole bytes first version dst src rest rest (id_values version dst src) (head.Retry dst src version) kind.Retry start known type (refl, refl) (known.0, type, refl)
 
-pub negotiation_header : (context : Context) (whole : ℕ) (bytes : List ℕ) (random : ℕ) (dst src rest : List ℕ)
+pub negotiation_header : (context : DecodeOptions) (whole : ℕ) (bytes : List ℕ) (random : ℕ) (dst src rest : List ℕ)
     → LongStart context bytes (128 + random) 0 dst src rest → HeaderAt context whole bytes (head.VersionNegotiate random dst src) rest
 negotiation_header context whole bytes random dst src rest start =
     made context whole bytes (128 + random) 0 dst src rest rest (id_values 0 dst src) (head.VersionNegotiate random dst src) start (refl, refl) (refl, refl)
 
-pub short_header : (context : Context) (whole : ℕ) (bytes : List ℕ) (first : ℕ) (spin : Bool) (dst text rest : List ℕ) → first < 128 → is_fixed context first ≡ true
+pub short_header : (context : DecodeOptions) (whole : ℕ) (bytes : List ℕ) (first : ℕ) (spin : Bool) (dst text rest : List ℕ) → first < 128 → is_fixed context first ≡ true
     → bytes ≡ first ∷ (text ++ rest) → context.parsed (text ++ rest) ≡ Ok (dst, length text) → spin ≡ nat_eq (first / 32 % 2) 1 → HeaderAt context whole bytes (head.Short spin dst) rest
 short_header context whole bytes first spin dst text rest short fixed split parsed is =
     let test : is_long first ≡ false = grind (arith, nat_tests) in

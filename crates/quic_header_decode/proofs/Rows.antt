@@ -12,7 +12,7 @@ use Rattle.quic_base.proofs.PublicLaws as law
 use Rattle.quic_header_decode.specs.Refusal.{Refusal, Invalid}
 use Rattle.quic_header_decode.specs.Fields.{word_at, long_id_at}
 use Rattle.quic_header_decode.specs.Grammar.{HeaderField, Version, DestinationId, SourceId, Supported, TokenLength, Token, Length, ShortId, HeaderValue, Number, Bytes, token_length_of, IsHeaderField, refusal_at, IsRefusal, BeginsWithField, StopsAtField, AreHeaderFields, StopsWithinRow}
-use Rattle.quic_header_decode.specs.Reading.{◌>>=◌, Context, TakesWithin, at_end, bad_id}
+use Rattle.quic_header_decode.specs.Reading.{◌>>=◌, DecodeOptions, TakesWithin, at_end, bad_id}
 use Rattle.quic_header_decode.proofs.Steps.{bind_ok, bind_err, option_ok, chosen, then_ok, then_err, otherwise, some_of, drop_front, step, err_same, ok_err, err_ok, ok_pair}
 use Rattle.quic_header_decode.proofs.FieldLaws.{back_fits, word_of, word_found, id_again, id_found, var_again, var_found}
 
@@ -67,7 +67,7 @@ number_next bytes = ok_or (number_at bytes) at_end >>= λ x. Ok (Number x.0 ∷ 
 abbrev pub id_next : List ℕ → Result Taken Refusal
 id_next bytes = ok_or (long_id_at bytes) bad_id >>= λ x. Ok (Bytes x.0 ∷ [], x.1)
 
-abbrev pub field_at : Context → HeaderField → List HeaderValue → List ℕ → Result Taken Refusal
+abbrev pub field_at : DecodeOptions → HeaderField → List HeaderValue → List ℕ → Result Taken Refusal
 field_at context Version before bytes = ok_or (word_at bytes) at_end >>= λ x. Ok (Number x.0 ∷ [], x.1)
 field_at context DestinationId before bytes = id_next bytes
 field_at context SourceId before bytes = id_next bytes
@@ -90,7 +90,7 @@ id_next_again : (values : List HeaderValue) (front rest id : List ℕ) → value
 id_next_again values front rest id is short text =
     then_ok _ _ (id, rest) _ (some_of _ bad_id _ (ap (λ (xs : List ℕ). long_id_at (xs ++ rest)) text ∙ id_again id rest short)) (shown _ values rest rest (sym is) refl)
 
-field_again : (context : Context) (field : HeaderField) (before values : List HeaderValue) (front rest : List ℕ)
+field_again : (context : DecodeOptions) (field : HeaderField) (before values : List HeaderValue) (front rest : List ℕ)
     → IsHeaderField context field before values front rest → field_at context field before (front ++ rest) ≡ Ok (values, rest)
 field_again context Version before values front rest d =
     then_ok _ _ (d.0, rest) _ (some_of _ at_end _ (word_of front rest d.0 d.2.width d.2.value)) (shown _ values rest rest (sym d.1) refl)
@@ -114,7 +114,7 @@ field_again context ShortId before values front rest d =
 
 -- and a field that is read comes first
 
-field_found : (context : Context) (field : HeaderField) (before values : List HeaderValue) (bytes rest : List ℕ) → AreBytes bytes → (field ≡ ShortId → TakesWithin context)
+field_found : (context : DecodeOptions) (field : HeaderField) (before values : List HeaderValue) (bytes rest : List ℕ) → AreBytes bytes → (field ≡ ShortId → TakesWithin context)
     → field_at context field before bytes ≡ Ok (values, rest) → BeginsWithField context field before values bytes rest
 field_found context Version before values bytes rest fits takes e =
     let s = bind_ok (ok_or (word_at bytes) at_end) _ (values, rest) e in
@@ -168,7 +168,7 @@ field_found context ShortId before values bytes rest fits takes e =
     (front, split, (s.0.0, sym parts.0, ap context.parsed (sym split) ∙ s.1 ∙ ap (λ (k : ℕ). let r : Result (List ℕ × ℕ) Refusal = Ok (s.0.0, k) in r) width))
 
 -- a field that can't be read has this refusal
-field_reported : (context : Context) (field : HeaderField) (before : List HeaderValue) (bytes : List ℕ) (e : Refusal) → field_at context field before bytes ≡ Err e → IsRefusal context field before bytes e
+field_reported : (context : DecodeOptions) (field : HeaderField) (before : List HeaderValue) (bytes : List ℕ) (e : Refusal) → field_at context field before bytes ≡ Err e → IsRefusal context field before bytes e
 field_reported context Version before bytes e h = elim (step (word_at bytes) at_end _ e h) [
   | inl bad ↦ sym bad.1
   | inr good ↦ absurd (ok_err _ e good.2)
@@ -202,14 +202,14 @@ field_reported context ShortId before bytes e h = elim (bind_err (context.parsed
   | inr good ↦ absurd (ok_err _ e good.2)
 ]
 
-field_stops : (context : Context) (field : HeaderField) (before : List HeaderValue) (bytes : List ℕ) (e : Refusal) → field_at context field before bytes ≡ Err e → StopsAtField context field before bytes e
+field_stops : (context : DecodeOptions) (field : HeaderField) (before : List HeaderValue) (bytes : List ℕ) (e : Refusal) → field_at context field before bytes ≡ Err e → StopsAtField context field before bytes e
 field_stops context field before bytes e h = record {
   none = λ values rest (front, split, is). err_ok e (values, rest) (sym h ∙ ap (field_at context field before) split ∙ field_again context field before values front rest is);
   why = field_reported context field before bytes e h;
 }
 
 -- where no such field stands, none is read
-none_of_other : (context : Context) (field : HeaderField) (before : List HeaderValue) (bytes : List ℕ) (e : Refusal) → AreBytes bytes → (field ≡ ShortId → TakesWithin context)
+none_of_other : (context : DecodeOptions) (field : HeaderField) (before : List HeaderValue) (bytes : List ℕ) (e : Refusal) → AreBytes bytes → (field ≡ ShortId → TakesWithin context)
     → StopsAtField context field before bytes e → ((d : Refusal) → IsRefusal context field before bytes d → d ≡ e)
     → (read : Result Taken Refusal) → field_at context field before bytes ≡ read → read ≡ Err e
 none_of_other context field before bytes e fits takes stops same (Ok x) h =
@@ -217,7 +217,7 @@ none_of_other context field before bytes e fits takes stops same (Ok x) h =
 none_of_other context field before bytes e fits takes stops same (Err d) h =
     ap (λ (r : Refusal). let q : Result Taken Refusal = Err r in q) (same d (field_reported context field before bytes d h))
 
-pub field_refused : (context : Context) (field : HeaderField) (before : List HeaderValue) (bytes : List ℕ) (e : Refusal) → AreBytes bytes
+pub field_refused : (context : DecodeOptions) (field : HeaderField) (before : List HeaderValue) (bytes : List ℕ) (e : Refusal) → AreBytes bytes
     → StopsAtField context field before bytes e → field_at context field before bytes ≡ Err e
 field_refused context Version before bytes e fits stops = none_of_other context Version before bytes e fits (λ s. absurd cc) stops (λ d w. w ∙ sym stops.why) _ refl
 field_refused context DestinationId before bytes e fits stops = none_of_other context DestinationId before bytes e fits (λ s. absurd cc) stops (λ d w. w ∙ sym stops.why) _ refl
@@ -231,18 +231,18 @@ field_refused context ShortId before bytes e fits stops = then_err _ _ e stops.w
 -- ---- a row
 
 -- its values and what is left go to finish
-abbrev pub row_at : {B : Type 0} → Context → List HeaderField → List HeaderValue → List ℕ → (List HeaderValue → List ℕ → Result B Refusal) → Result B Refusal
+abbrev pub row_at : {B : Type 0} → DecodeOptions → List HeaderField → List HeaderValue → List ℕ → (List HeaderValue → List ℕ → Result B Refusal) → Result B Refusal
 row_at context [] before bytes finish = finish before bytes
 row_at context (field ∷ fields) before bytes finish = field_at context field before bytes >>= λ x. row_at context fields (before ++ x.0) x.1 finish
 
-pub row_again : {B : Type 0} (context : Context) (fields : List HeaderField) (before after : List HeaderValue) (bytes rest : List ℕ) (finish : List HeaderValue → List ℕ → Result B Refusal)
+pub row_again : {B : Type 0} (context : DecodeOptions) (fields : List HeaderField) (before after : List HeaderValue) (bytes rest : List ℕ) (finish : List HeaderValue → List ℕ → Result B Refusal)
     → AreHeaderFields context fields before after bytes rest → row_at context fields before bytes finish ≡ finish after rest
 row_again context [] before after bytes rest finish d = ap (finish before) d.1 ∙ ap (λ (xs : List HeaderValue). finish xs rest) (sym d.0)
 row_again context (field ∷ fields) before after bytes rest finish (values, left, (front, split, is), others) =
     ap (λ (xs : List ℕ). row_at context (field ∷ fields) before xs finish) split
     ∙ then_ok _ _ (values, left) _ (field_again context field before values front left is) (row_again context fields (before ++ values) after left rest finish others)
 
-pub row_found : {B : Type 0} (context : Context) (fields : List HeaderField) (before : List HeaderValue) (bytes : List ℕ) (finish : List HeaderValue → List ℕ → Result B Refusal) (y : B)
+pub row_found : {B : Type 0} (context : DecodeOptions) (fields : List HeaderField) (before : List HeaderValue) (bytes : List ℕ) (finish : List HeaderValue → List ℕ → Result B Refusal) (y : B)
     → AreBytes bytes → TakesWithin context → row_at context fields before bytes finish ≡ Ok y
     → (after : List HeaderValue) × (rest : List ℕ) × AreHeaderFields context fields before after bytes rest × (finish after rest ≡ Ok y)
 row_found context [] before bytes finish y fits takes e = (before, bytes, (refl, refl), e)
@@ -252,7 +252,7 @@ row_found context (field ∷ fields) before bytes finish y fits takes e =
     let later = row_found context fields (before ++ s.0.0) s.0.1 finish y (back_fits bytes here.0 s.0.1 fits here.1) takes s.2 in
     (later.0, later.1, (s.0.0, s.0.1, here, later.2), later.3)
 
-pub row_refused : {B : Type 0} (context : Context) (fields : List HeaderField) (before : List HeaderValue) (bytes : List ℕ) (finish : List HeaderValue → List ℕ → Result B Refusal) (e : Refusal)
+pub row_refused : {B : Type 0} (context : DecodeOptions) (fields : List HeaderField) (before : List HeaderValue) (bytes : List ℕ) (finish : List HeaderValue → List ℕ → Result B Refusal) (e : Refusal)
     → AreBytes bytes → TakesWithin context → ((after : List HeaderValue) (rest : List ℕ) → finish after rest ≡ Err e → ⊥)
     → row_at context fields before bytes finish ≡ Err e → StopsWithinRow context fields before bytes e
 row_refused context [] before bytes finish e fits takes ends h = ends before bytes h
@@ -269,7 +269,7 @@ row_refused context (field ∷ fields) before bytes finish e fits takes ends h =
           )
     ]
 
-pub row_stops : {B : Type 0} (context : Context) (fields : List HeaderField) (before : List HeaderValue) (bytes : List ℕ) (finish : List HeaderValue → List ℕ → Result B Refusal) (e : Refusal)
+pub row_stops : {B : Type 0} (context : DecodeOptions) (fields : List HeaderField) (before : List HeaderValue) (bytes : List ℕ) (finish : List HeaderValue → List ℕ → Result B Refusal) (e : Refusal)
     → AreBytes bytes → StopsWithinRow context fields before bytes e → row_at context fields before bytes finish ≡ Err e
 row_stops context [] before bytes finish e fits stops = absurd stops
 row_stops context (field ∷ fields) before bytes finish e fits (inl stops) = then_err _ _ e (field_refused context field before bytes e fits stops)
@@ -279,7 +279,7 @@ row_stops context (field ∷ fields) before bytes finish e fits (inr (values, le
     (row_stops context fields (before ++ values) left finish e (back_fits bytes front left fits split) others)
 
 -- a row takes a front
-pub row_room : (context : Context) (fields : List HeaderField) (before after : List HeaderValue) (bytes rest : List ℕ) → AreHeaderFields context fields before after bytes rest → length rest ≤ length bytes
+pub row_room : (context : DecodeOptions) (fields : List HeaderField) (before after : List HeaderValue) (bytes rest : List ℕ) → AreHeaderFields context fields before after bytes rest → length rest ≤ length bytes
 row_room context [] before after bytes rest d = omega (arith, ap length d.1)
 row_room context (field ∷ fields) before after bytes rest (values, left, (front, split, is), others) =
     omega (arith, ap length split, length-append front left, row_room context fields (before ++ values) after left rest others)

@@ -3,7 +3,7 @@ use Rattle.std.specs.Prelude.{ℕ, zero, suc, ◌+◌, ◌<◌, List, [], ◌∷
 use Rattle.quic_header_decode.specs.declared.protected.ProtectedHeader.{ProtectedHeader}
 use Rattle.quic_header_decode.specs.Refusal.{Refusal}
 use Rattle.quic_header_decode.specs.Grammar.{Cut, Uncut}
-use Rattle.quic_header_decode.specs.Reading.{Context, cut_at}
+use Rattle.quic_header_decode.specs.Reading.{DecodeOptions, cut_at}
 
 -- a packet in its datagram: where it begins and ends, and its header
 pub record PlacedPacket : Type 0 where
@@ -13,7 +13,7 @@ pub record PlacedPacket : Type 0 where
 
 -- The bytes that begin at start are these packets, one after another up to their end; or these, and then bytes from
 -- which no packet can be cut, with their refusal.
-pub data ArePackets (context : Context) : ℕ → List ℕ → List PlacedPacket → Option Refusal → Type 0 where
+pub data ArePackets (context : DecodeOptions) : ℕ → List ℕ → List PlacedPacket → Option Refusal → Type 0 where
   last : (start : ℕ) (bytes : List ℕ) (h : ProtectedHeader) (p : ℕ) → Cut context bytes h p (length bytes)
       → ArePackets context start bytes (record { start = start; stop = start + length bytes; header = h } ∷ []) None
   more : (start : ℕ) (bytes : List ℕ) (h : ProtectedHeader) (p q : ℕ) (others : List PlacedPacket)
@@ -35,10 +35,10 @@ and_then others start bytes (Ok cut) =
     else (first ∷ [], None)
 
 -- at most so many packets
-unfoldable pub packets_from : Context → ℕ → ℕ → List ℕ → List PlacedPacket × Option Refusal
+unfoldable pub packets_from : DecodeOptions → ℕ → ℕ → List ℕ → List PlacedPacket × Option Refusal
 packets_from context zero start bytes = ([], None)
 packets_from context (suc n) start bytes = and_then (packets_from context n) start bytes (cut_at context bytes)
 
 -- the packets of a datagram, and the refusal of what is left, if anything is refused
-unfoldable pub packets_in : Context → List ℕ → List PlacedPacket × Option Refusal
+unfoldable pub packets_in : DecodeOptions → List ℕ → List PlacedPacket × Option Refusal
 packets_in context bytes = packets_from context (suc (length bytes)) 0 bytes

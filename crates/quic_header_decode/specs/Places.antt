@@ -16,7 +16,7 @@ use Rattle.quic_header_decode.specs.declared.protected.ProtectedHeader.{Protecte
 use Rattle.quic_header_decode.specs.declared.protected.ProtectedHeader.TheVariants as head
 use Rattle.quic_header_decode.specs.Grammar.{is_long, HeaderAt, Refused}
 use Rattle.quic_header_decode.specs.Parsers.{fixed_parsed}
-use Rattle.quic_header_decode.specs.Reading.{Context}
+use Rattle.quic_header_decode.specs.Reading.{DecodeOptions}
 use Rattle.quic_header_decode.specs.Refusal.{Refusal, Unsupported, Invalid, NoMemory}
 
 -- the type of a kind that has one
@@ -142,17 +142,17 @@ AnyVersion bytes version dst src rest =
     × (is_long first ≡ true) × IsNumber 4 version number
 
 -- They do, and the version isn't known.
-abbrev pub IsUnknownVersion : Context → List ℕ → ℕ → List ℕ → List ℕ → Type 0
+abbrev pub IsUnknownVersion : DecodeOptions → List ℕ → ℕ → List ℕ → List ℕ → Type 0
 IsUnknownVersion context bytes version dst src =
     (rest : List ℕ) × AnyVersion bytes version dst src rest × (version ≢ 0) × (Contains context.versions version → ⊥)
 
 -- what headers are read by where the fixed bit isn't looked at: the ids of short headers have so many bytes
-abbrev pub any_fixed : ℕ → List ℕ → Context
+abbrev pub any_fixed : ℕ → List ℕ → DecodeOptions
 any_fixed id_len versions = record { parsed = fixed_parsed id_len; versions = versions; grease = true }
 
 -- The bytes begin with this header and go on with these bytes, or are refused so. A long header of an unknown version
 -- is given with its ids even where these are longer than those of the known versions may be.
-abbrev pub ReadAnswer : Context → List ℕ → Result (ProtectedHeader × List ℕ) Refusal → Type 0
+abbrev pub ReadAnswer : DecodeOptions → List ℕ → Result (ProtectedHeader × List ℕ) Refusal → Type 0
 ReadAnswer context bytes (Ok found) = HeaderAt context (length bytes) bytes found.0 found.1
 ReadAnswer context bytes (Err (Unsupported src dst version)) = IsUnknownVersion context bytes version dst src
 ReadAnswer context bytes (Err (Invalid text)) =

@@ -20,13 +20,13 @@ abbrev pub ◌>>=◌ : {A B : Type 0} → Result A Refusal → (A → Result B R
 
 -- what headers are read by: the ids of short headers, the versions that are known, and whether the fixed bit may be
 -- clear
-pub record Context : Type 0 where
+pub record DecodeOptions : Type 0 where
   pub parsed : List ℕ → Result (List ℕ × ℕ) Refusal
   pub versions : List ℕ
   pub grease : Bool
 
 -- the ids of short headers are among the bytes that are there
-abbrev pub TakesWithin : Context → Type 0
+abbrev pub TakesWithin : DecodeOptions → Type 0
 TakesWithin context = (text id : List ℕ) (count : ℕ) → context.parsed text ≡ Ok (id, count) → count ≤ length text
 
 abbrev pub at_end : Refusal
@@ -78,7 +78,7 @@ wide_at versions whole first bytes = do
       else (if nat_eq version.0 0 then Ok (head.VersionNegotiate (first - 128) dst.0 src.0, src.1)
       else typed_at (long_type version.0 first) whole dst.0 src.0 version.0 src.1))
 
-unfoldable pub header_at : Context → ℕ → List ℕ → Result (ProtectedHeader × List ℕ) Refusal
+unfoldable pub header_at : DecodeOptions → ℕ → List ℕ → Result (ProtectedHeader × List ℕ) Refusal
 header_at context whole bytes = do
   first ← ok_or (byte_at bytes) at_end
   if not context.grease && nat_eq (first.0 / 64 % 2) 0 then Err (Invalid (codes "fixed bit unset"))
@@ -103,7 +103,7 @@ len_in (head.Short spin dst) = None
 len_in (head.VersionNegotiate random dst src) = None
 
 -- a header, where it ends, and where its packet ends
-unfoldable pub cut_at : Context → List ℕ → Result (ProtectedHeader × ℕ × ℕ) Refusal
+unfoldable pub cut_at : DecodeOptions → List ℕ → Result (ProtectedHeader × ℕ × ℕ) Refusal
 cut_at context bytes = do
   read ← header_at context (length bytes) bytes
   let len = unwrap_or (len_in read.0) (length read.1) in

@@ -7,7 +7,7 @@ ghost use Rattle.quic_base.specs.Varint.{Encodes};
 ghost use Rattle.quic_crypto.specs.PacketNumbers.{number_bytes};
 ghost use Rattle.quic_header_encode.specs.Writing.{header_bytes, header_with};
 ghost use Rattle.quic_header_decode.specs.Places.{any_fixed, ends_at, header_in, ReadAnswer};
-ghost use Rattle.quic_header_decode.specs.Reading.{Context, TakesWithin, cut_at, header_at, len_in};
+ghost use Rattle.quic_header_decode.specs.Reading.{DecodeOptions, TakesWithin, cut_at, header_at, len_in};
 ghost use Rattle.quic_header_decode.specs.Refusal.{Refusal, Invalid, Unsupported};
 
 use crate::places::HeaderPlaces;
@@ -19,15 +19,15 @@ use quic_header_encode::long_type::LongType;
 /// Bytes begin with one header or are refused with one error, and the same holds of the packet that is cut from them;
 /// reading finds that answer, if the parser of ids takes no more bytes than there are.
 pub fn one_answer()
-    ensures head { (context : Context) (whole : ℕ) (bytes : List ℕ) (one other : Result (ProtectedHeader
+    ensures head { (context : DecodeOptions) (whole : ℕ) (bytes : List ℕ) (one other : Result (ProtectedHeader
         × List ℕ) Refusal)
         → AreBytes bytes → HeaderAnswer context whole bytes one → HeaderAnswer context whole bytes other → one ≡ other }
-    ensures cut { (context : Context) (bytes : List ℕ) (one other : Result (ProtectedHeader × ℕ × ℕ) Refusal)
+    ensures cut { (context : DecodeOptions) (bytes : List ℕ) (one other : Result (ProtectedHeader × ℕ × ℕ) Refusal)
         → AreBytes bytes → CutAnswer context bytes one → CutAnswer context bytes other → one ≡ other }
-    ensures header_found { (context : Context) (whole : ℕ) (bytes : List ℕ) → AreBytes bytes → length bytes ≤ whole
+    ensures header_found { (context : DecodeOptions) (whole : ℕ) (bytes : List ℕ) → AreBytes bytes → length bytes ≤ whole
         → TakesWithin context
         → HeaderAnswer context whole bytes (header_at context whole bytes) }
-    ensures cut_found { (context : Context) (bytes : List ℕ) → AreBytes bytes → TakesWithin context
+    ensures cut_found { (context : DecodeOptions) (bytes : List ℕ) → AreBytes bytes → TakesWithin context
         → CutAnswer context bytes (cut_at context bytes) }
 {}
 
@@ -42,38 +42,38 @@ pub fn one_reading()
 
 /// There is one way to cut a datagram into packets, up to its end or to one error, and reading finds it.
 pub fn one_row_of_packets()
-    ensures one { (context : Context) (bytes : List ℕ) (some others : List PlacedPacket)
+    ensures one { (context : DecodeOptions) (bytes : List ℕ) (some others : List PlacedPacket)
         (refusal other : Option Refusal)
         → AreBytes bytes → ArePackets context 0 bytes some refusal → ArePackets context 0 bytes others other
         → (some ≡ others) × (refusal ≡ other) }
-    ensures found { (context : Context) (bytes : List ℕ) → AreBytes bytes → TakesWithin context
+    ensures found { (context : DecodeOptions) (bytes : List ℕ) → AreBytes bytes → TakesWithin context
         → ArePackets context 0 bytes (packets_in context bytes).0 (packets_in context bytes).1 }
 {}
 
 /// Where a packet ends, and what doesn't depend on the bytes after it.
 pub fn ends()
     // A packet has at least a byte, so what follows it is shorter than the datagram.
-    ensures some { (context : Context) (bytes : List ℕ) (h : ProtectedHeader) (p q : ℕ)
+    ensures some { (context : DecodeOptions) (bytes : List ℕ) (h : ProtectedHeader) (p q : ℕ)
         → Cut context bytes h p q → 0 < q }
     // A packet whose header has a length has the same header and the same end, whatever follows it.
-    ensures alone { (context : Context) (bytes other : List ℕ) (h : ProtectedHeader) (p q len : ℕ)
+    ensures alone { (context : DecodeOptions) (bytes other : List ℕ) (h : ProtectedHeader) (p q len : ℕ)
         → Cut context bytes h p q → len_in h ≡ Some len → Cut context (take q bytes ++ other) h p q }
     // A long header that is refused for its fixed bit or for its version is refused so whatever follows.
-    ensures fixed { (context : Context) (bytes other : List ℕ) → 128 ≤ slice_index bytes 0
+    ensures fixed { (context : DecodeOptions) (bytes other : List ℕ) → 128 ≤ slice_index bytes 0
         → Refused context bytes (Invalid (codes "fixed bit unset"))
         → Refused context (bytes ++ other) (Invalid (codes "fixed bit unset")) }
-    ensures version { (context : Context) (bytes other src dst : List ℕ) (version : ℕ) → 128 ≤ slice_index bytes 0
+    ensures version { (context : DecodeOptions) (bytes other src dst : List ℕ) (version : ℕ) → 128 ≤ slice_index bytes 0
         → Refused context bytes (Unsupported src dst version)
         → Refused context (bytes ++ other) (Unsupported src dst version) }
 {}
 
 /// A header that was read as places begins a packet that ends where `packet_end` says, or one that is cut off.
 pub fn places_cut()
-    ensures whole { (context : Context) (bytes : List ℕ) (x : HeaderPlaces) (q : ℕ)
+    ensures whole { (context : DecodeOptions) (bytes : List ℕ) (x : HeaderPlaces) (q : ℕ)
         → HeaderAt context (length bytes) bytes (header_in bytes x) (drop x.header_end bytes)
         → x.header_end ≤ length bytes
         → ends_at x (length bytes) ≡ Some q → Cut context bytes (header_in bytes x) x.header_end q }
-    ensures cut_off { (context : Context) (bytes : List ℕ) (x : HeaderPlaces)
+    ensures cut_off { (context : DecodeOptions) (bytes : List ℕ) (x : HeaderPlaces)
         → HeaderAt context (length bytes) bytes (header_in bytes x) (drop x.header_end bytes)
         → x.header_end ≤ length bytes
         → ends_at x (length bytes) ≡ None
@@ -83,7 +83,7 @@ pub fn places_cut()
 /// Headers are read back as they are written, before protection is put on, whatever follows them.
 pub fn written()
     // The length may be in any encoding, and the number isn't read.
-    ensures initial { (context : Context) (whole start n : ℕ) (h : InitialHeader) (len rest : List ℕ)
+    ensures initial { (context : DecodeOptions) (whole start n : ℕ) (h : InitialHeader) (len rest : List ℕ)
         → h.version < 2 ^ 32 → IsKnownVersion context h.version → length h.dst_cid ≤ 20 → length h.src_cid ≤ 20
         → length h.token < 2 ^ 62 → Encodes n len
         → start + length h.token + length (len ++ (number_bytes h.number ++ rest)) ≡ whole
@@ -97,21 +97,21 @@ pub fn written()
           version = h.version;
         }))
         (number_bytes h.number ++ rest) }
-    ensures long { (context : Context) (whole n version : ℕ) (ty : LongType) (dst src len rest : List ℕ)
+    ensures long { (context : DecodeOptions) (whole n version : ℕ) (ty : LongType) (dst src len rest : List ℕ)
         (number : PacketNumber)
         → version < 2 ^ 32 → IsKnownVersion context version → length dst ≤ 20 → length src ≤ 20 → Encodes n len
         → HeaderAt context whole (header_with len (Header.Long ty dst src number version) ++ rest)
         (ProtectedHeader.Long ty dst src n version) (number_bytes number ++ rest) }
-    ensures retry { (context : Context) (whole version : ℕ) (dst src rest : List ℕ) → version < 2 ^ 32
+    ensures retry { (context : DecodeOptions) (whole version : ℕ) (dst src rest : List ℕ) → version < 2 ^ 32
         → IsKnownVersion context version → length dst ≤ 20 → length src ≤ 20
         → HeaderAt context whole (header_bytes (Header.Retry dst src version) ++ rest)
         (ProtectedHeader.Retry dst src version) rest }
-    ensures short { (context : Context) (whole : ℕ) (spin key_phase : Bool) (dst rest : List ℕ) (number : PacketNumber)
+    ensures short { (context : DecodeOptions) (whole : ℕ) (spin key_phase : Bool) (dst rest : List ℕ) (number : PacketNumber)
         → context.parsed (dst ++ (number_bytes number ++ rest)) ≡ Ok (dst, length dst)
         → HeaderAt context whole (header_bytes (Header.Short spin key_phase dst number) ++ rest)
         (ProtectedHeader.Short spin dst) (number_bytes number ++ rest) }
     // Of the first byte, only the bits below the highest are free.
-    ensures negotiation { (context : Context) (whole random : ℕ) (dst src rest : List ℕ) → random < 128
+    ensures negotiation { (context : DecodeOptions) (whole random : ℕ) (dst src rest : List ℕ) → random < 128
         → IsTrue (is_fixed context (128 + random)) → length dst ≤ 20 → length src ≤ 20
         → HeaderAt context whole (header_bytes (Header.VersionNegotiate random src dst) ++ rest)
         (ProtectedHeader.VersionNegotiate random dst src) rest }
@@ -121,7 +121,7 @@ pub fn written()
 pub fn examples()
     // The client's first Initial packet (RFC 9001, section A.2): ids of eight bytes and of none, no token, and 1182
     // bytes after the header.
-    ensures initial { (context : Context) (rest : List ℕ) → Contains context.versions 1
+    ensures initial { (context : DecodeOptions) (rest : List ℕ) → Contains context.versions 1
         → HeaderAt context (18 + length rest)
         (0xc0 ∷ 0x00 ∷ 0x00 ∷ 0x00 ∷ 0x01 ∷ 0x08 ∷ 0x83 ∷ 0x94 ∷ 0xc8 ∷ 0xf0 ∷ 0x3e ∷ 0x51 ∷ 0x57 ∷ 0x08 ∷ 0x00 ∷ 0x00
         ∷ 0x44 ∷ 0x9e ∷ rest)
@@ -134,7 +134,7 @@ pub fn examples()
           version = 1;
         })) rest }
     // An Initial packet that ends within its token of five bytes.
-    ensures no_token { (context : Context) → Contains context.versions 1
+    ensures no_token { (context : DecodeOptions) → Contains context.versions 1
         → Refused context (0xc0 ∷ 0x00 ∷ 0x00 ∷ 0x00 ∷ 0x01 ∷ 0x00 ∷ 0x00 ∷ 0x05 ∷ 0xaa ∷ [])
         (Invalid (codes "token out of bounds")) }
 {}

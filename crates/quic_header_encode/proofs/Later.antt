@@ -4,7 +4,7 @@ use Rattle.std.proofs.lemmas.List.{length-append, length-replicate, take_at, dro
 use Rattle.quic_base.proofs.PublicLaws.{length-short, length-bytes_of}
 use Rattle.quic_base.specs.ConnectionId.{long_id}
 use Rattle.quic_base.specs.Number.{bytes_of}
-use Rattle.quic_base.specs.Varint.{short}
+use Rattle.quic_base.specs.Varint.{shortest_varint}
 use Rattle.quic_crypto.specs.declared.packet_number.PacketNumber.{PacketNumber}
 use Rattle.quic_crypto.specs.PacketNumbers.{number_bytes, number_size}
 use Rattle.std.specs.Prelude.{bit_or, ◌%◌}
@@ -78,7 +78,7 @@ front_length : (h : Header) → IsTrue (has_length h) → header_size h ≡ leng
 front_length (header.Initial h) has =
     let first : ℕ = long_first h.version kind.Initial (number_size h.number) in
     let front : List ℕ = long_front first h.version h.dst_cid h.src_cid in
-    omega (arith, length-append front (short (length h.token) ++ h.token), length-append (short (length h.token)) h.token, length-short (length h.token), long_length first h.version h.dst_cid h.src_cid)
+    omega (arith, length-append front (shortest_varint (length h.token) ++ h.token), length-append (shortest_varint (length h.token)) h.token, length-short (length h.token), long_length first h.version h.dst_cid h.src_cid)
 front_length (header.Long ty dst src number version) has =
     omega (arith, long_length (long_first version (kind.Standard ty) (number_size number)) version dst src)
 front_length (header.Retry dst src version) has = absurd (search (rules, has))

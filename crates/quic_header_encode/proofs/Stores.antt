@@ -5,12 +5,12 @@ use Rattle.std.proofs.lemmas.Bool.Decides.{nat_tests}
 use Rattle.std.proofs.lemmas.List.{append-nil, append_assoc, length-append, length-take-le, drop-drop, take-append-drop, take-append-le, take-take}
 use Rattle.std.specs.Int.{byte_at, to_be_bytes, w32}
 use Rattle.quic_base.specs.Number.{bytes_of}
-use Rattle.quic_base.specs.Varint.{short, size}
+use Rattle.quic_base.specs.Varint.{shortest_varint, size}
 use Rattle.quic_header_encode.specs.Storing.{length_in, with_len}
 
 -- a number below 64 is encoded by itself
-pub short_small : (n : ℕ) → n < 64 → short n ≡ n ∷ []
-unfolding short
+pub short_small : (n : ℕ) → n < 64 → shortest_varint n ≡ n ∷ []
+unfolding shortest_varint
 short_small n h = grind (arith, nat_tests)
 
 pub size_small : (n : ℕ) → n < 64 → size n ≡ 1
@@ -41,7 +41,7 @@ len_stored width place end old new bytes at is front back =
 
 -- what was written at a place has its first k elements there
 pub shorter_stored : (k n at : ℕ) (head stored bytes : List ℕ) → k ≤ n → at ≤ length head → take (at + n) stored ≡ take at head ++ bytes → take (at + k) stored ≡ take at head ++ take k bytes
-shorter_stored k n at head stored bytes short within is =
+shorter_stored k n at head stored bytes shortest_varint within is =
     sym (take-take (at + k) (at + n) stored (omega arith)) ∙ ap (take (at + k)) is
     ∙ ap (λ (i : ℕ). take (i + k) (take at head ++ bytes)) (sym (length-take-le at head within)) ∙ take-append-add (take at head) bytes k
 
@@ -58,12 +58,12 @@ both_ends k n at xs head once twice is enough covers within first last =
     ∙ append_assoc (take at head) (take m xs) (drop m xs) ∙ ap (λ (ys : List ℕ). take at head ++ ys) (take-append-drop m xs)
 
 -- a token that is written is after its length in one byte
-pub token_stored : (n : ℕ) (token front stored : List ℕ) → n ≡ length token → n < 64 → stored ≡ front ++ n ∷ [] → stored ++ token ≡ front ++ (short (length token) ++ token)
+pub token_stored : (n : ℕ) (token front stored : List ℕ) → n ≡ length token → n < 64 → stored ≡ front ++ n ∷ [] → stored ++ token ≡ front ++ (shortest_varint (length token) ++ token)
 token_stored n token front stored is small e =
     ap (λ (ys : List ℕ). ys ++ token) e ∙ append_assoc front (n ∷ []) token
-    ∙ ap (λ (ys : List ℕ). front ++ (ys ++ token)) (sym (short_small n small) ∙ ap short is)
+    ∙ ap (λ (ys : List ℕ). front ++ (ys ++ token)) (sym (short_small n small) ∙ ap shortest_varint is)
 
-pub no_token_stored : (n : ℕ) (token front stored : List ℕ) → n ≡ length token → n ≡ 0 → stored ≡ front ++ n ∷ [] → stored ≡ front ++ (short (length token) ++ token)
+pub no_token_stored : (n : ℕ) (token front stored : List ℕ) → n ≡ length token → n ≡ 0 → stored ≡ front ++ n ∷ [] → stored ≡ front ++ (shortest_varint (length token) ++ token)
 no_token_stored n [] front stored is none e = sym (append-nil stored) ∙ token_stored n [] front stored is (omega (arith, none)) e
 no_token_stored n (x ∷ xs) front stored is none e = absurd (omega arith)
 

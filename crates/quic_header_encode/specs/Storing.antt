@@ -2,7 +2,7 @@
 -- 9287), and with as many zeros in place of its length as are asked for.
 use Rattle.std.specs.Prelude.{◌≡◌, ℕ, ◌+◌, ◌-◌, ◌*◌, ◌/◌, ◌%◌, ◌<◌, ◌≤◌, ◌^◌, ◌⊎◌, Bool, true, false, List, [], ◌∷◌, ◌++◌, length, take, drop, replicate, ◌==◌, if◌then◌else◌}
 use Rattle.quic_base.specs.Number.{has_bit, bytes_of}
-use Rattle.quic_base.specs.Varint.{short, size}
+use Rattle.quic_base.specs.Varint.{shortest_varint, size}
 use Rattle.quic_crypto.specs.declared.packet_number.PacketNumber.{PacketNumber}
 use Rattle.quic_crypto.specs.PacketNumbers.{IsInRange, number_bytes, number_size}
 use Rattle.quic_header_encode.specs.declared.header.Header.{Header}
@@ -175,7 +175,7 @@ version_said said = version_by said.kind said.version
 
 -- a token after its length, which an Initial header has
 abbrev pub token_by : HeaderKind → List ℕ → List ℕ
-token_by head.Initial token = short (length token) ++ token
+token_by head.Initial token = shortest_varint (length token) ++ token
 token_by head.ZeroRtt token = []
 token_by head.Handshake token = []
 token_by head.Retry token = []
@@ -204,12 +204,12 @@ pub record HasLongRoom {I : Type 0} (id : I → List ℕ) (room : I → ℕ) (sa
   pub src : 7 + length (id said.dst_cid) + room said.src_cid ≤ size
 
 abbrev pub room_by : HeaderKind → ℕ → ℕ → ℕ
-room_by head.Initial short long = long
-room_by head.ZeroRtt short long = long
-room_by head.Handshake short long = long
-room_by head.Retry short long = long
-room_by head.Short short long = short
-room_by head.VersionNegotiate short long = long
+room_by head.Initial shortest_varint long = long
+room_by head.ZeroRtt shortest_varint long = long
+room_by head.Handshake shortest_varint long = long
+room_by head.Retry shortest_varint long = long
+room_by head.Short shortest_varint long = shortest_varint
+room_by head.VersionNegotiate shortest_varint long = long
 
 pub record HasStoreRoom {I : Type 0} (id : I → List ℕ) (room : I → ℕ) (said : HeaderRef I) (size : ℕ) : Type 0 where
   pub whole : stored_len id said ≤ size

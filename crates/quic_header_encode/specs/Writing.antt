@@ -1,8 +1,10 @@
 -- The bytes of headers, and a packet that is finished after its payload was appended to its header (RFC 9000, section
 -- 17; RFC 9001, sections 5.3 and 5.4).
-use Rattle.std.specs.Prelude.{IsTrue, ◌≤◌, take, drop, ℕ, ◌+◌, ◌-◌, ◌<◌, ◌^◌, Bool, true, false, Option, Some, None, List, [], ◌∷◌, ◌++◌, length, bit_or, if◌then◌else◌}
+use Rattle.std.specs.Prelude.{◌≡◌, IsTrue, IsOk, OnOk, OnErr, Result, Vec, vec_len, vec_capacity, ◌≤◌, take, drop, ℕ, ◌+◌, ◌-◌, ◌<◌, ◌^◌, Bool, true, false, Option, Some, None, List, [], ◌∷◌, ◌++◌, length, bit_or, if◌then◌else◌}
+use Rattle.std.specs.declared.alloc.Global.{Global}
+use Rattle.quic_base.specs.declared.coding.NoRoom.{NoRoom}
 use Rattle.quic_base.specs.Number.{bytes_of}
-use Rattle.quic_base.specs.Varint.{short, size}
+use Rattle.quic_base.specs.Varint.{shortest_varint, size}
 use Rattle.quic_crypto.specs.Keys.{payload_in}
 use Rattle.quic_crypto.specs.PacketNumbers.{IsInRange, number_bytes, number_size}
 use Rattle.quic_header_encode.specs.declared.header.Header.{Header}
@@ -28,7 +30,7 @@ bit b n = if b then n else 0
 abbrev pub header_front : Header → List ℕ
 header_front (header.Initial h) =
     long_front (long_first h.version kind.Initial (number_size h.number)) h.version h.dst_cid h.src_cid
-    ++ (short (length h.token) ++ h.token)
+    ++ (shortest_varint (length h.token) ++ h.token)
 header_front (header.Long ty dst src number version) = long_front
     (long_first version (kind.Standard ty) (number_size number)) version dst src
 header_front (header.Retry dst src version) = long_front (first_byte version kind.Retry) version dst src
@@ -126,3 +128,15 @@ pub record HasRoom (pn_len : ℕ) (write_len : Bool) (header_len sample_len size
   pub length_fits : IsTrue write_len → size + pn_len < header_len + 2 ^ 14
   pub within : header_len ≤ size
   pub sample : header_len + 4 + sample_len ≤ size + pn_len
+
+-- ---- No public clause cites what follows.
+
+-- The header is appended, always where there is room for it; or the items stay as they are, and there still is less
+-- room than that.
+pub record AppendsHeader (head : Header) (old new : Vec ℕ Global) (result : Result (Unit {0}) NoRoom) : Type 0 where
+  pub ok : OnOk result (new.items ≡ old.items ++ header_bytes head)
+  pub len : OnOk result (vec_len new ≡ vec_len old + header_size head)
+  pub capacity : vec_capacity old ≤ vec_capacity new
+  pub err : OnErr result (new.items ≡ old.items)
+  pub full : OnErr result (vec_capacity new < vec_len old + header_size head)
+  pub spare : vec_len old + header_size head ≤ vec_capacity old → IsOk result

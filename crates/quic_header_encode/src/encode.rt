@@ -5,7 +5,7 @@ ghost use Rattle.quic_crypto.specs.PacketNumbers.{IsInRange};
 ghost use Rattle.quic_header_encode.specs.declared.header.Header.TheVariants as header;
 ghost use Rattle.quic_header_encode.specs.declared.long_type.LongHeaderType.TheVariants as kind;
 ghost use Rattle.quic_header_encode.specs.Storing.{kind_of, stored_bytes, stored_len, padded_id, padded_room, HasStoreRoom, IsStorable, IsShortToken, StoresHeader};
-ghost use Rattle.quic_header_encode.specs.Writing.{bit, header_size, place_in, header_bytes, IsWritable, size_in, has_length, finished, HasRoom};
+ghost use Rattle.quic_header_encode.specs.Writing.{bit, header_size, place_in, header_bytes, AppendsHeader, IsWritable, size_in, has_length, finished, HasRoom};
 
 use crate::header::{Header, InitialHeader};
 use crate::long_type::{HeaderKind, LongType};
@@ -247,12 +247,7 @@ impl Header {
     #[inline(never)]
     fn put_with_room(&self, out: &mut Vec<u8>) -> Result<(), NoRoom>
         requires { IsWritable self.now }
-        ensures ok { OnOk result (out.new.items ≡ out.old.items ++ header_bytes self.now) }
-        ensures len { OnOk result (vec_len out.new ≡ vec_len out.old + header_size self.now) }
-        ensures capacity { vec_capacity out.old ≤ vec_capacity out.new }
-        ensures err { OnErr result (out.new.items ≡ out.old.items) }
-        ensures full { OnErr result (vec_capacity out.new < vec_len out.old + header_size self.now) }
-        ensures spare { vec_len out.old + header_size self.now ≤ vec_capacity out.old → IsOk result }
+        ensures { AppendsHeader self.now out.old out.new result }
     {
         let head = self.borrowed();
         let head = HeaderRef {
@@ -282,12 +277,7 @@ impl Header {
     #[inline(never)]
     fn put_short(&self, out: &mut Vec<u8>) -> Result<(), NoRoom>
         requires { IsWritable self.now }
-        ensures ok { OnOk result (out.new.items ≡ out.old.items ++ header_bytes self.now) }
-        ensures len { OnOk result (vec_len out.new ≡ vec_len out.old + header_size self.now) }
-        ensures capacity { vec_capacity out.old ≤ vec_capacity out.new }
-        ensures err { OnErr result (out.new.items ≡ out.old.items) }
-        ensures full { OnErr result (vec_capacity out.new < vec_len out.old + header_size self.now) }
-        ensures spare { vec_len out.old + header_size self.now ≤ vec_capacity out.old → IsOk result }
+        ensures { AppendsHeader self.now out.old out.new result }
     {
         if let Self::Short {
             spin,
@@ -307,12 +297,7 @@ impl Header {
     #[inline(never)]
     fn put_initial(&self, out: &mut Vec<u8>) -> Result<(), NoRoom>
         requires { IsWritable self.now }
-        ensures ok { OnOk result (out.new.items ≡ out.old.items ++ header_bytes self.now) }
-        ensures len { OnOk result (vec_len out.new ≡ vec_len out.old + header_size self.now) }
-        ensures capacity { vec_capacity out.old ≤ vec_capacity out.new }
-        ensures err { OnErr result (out.new.items ≡ out.old.items) }
-        ensures full { OnErr result (vec_capacity out.new < vec_len out.old + header_size self.now) }
-        ensures spare { vec_len out.old + header_size self.now ≤ vec_capacity out.old → IsOk result }
+        ensures { AppendsHeader self.now out.old out.new result }
     {
         if let Self::Initial(initial) = self {
             if put::<INITIAL_ROOM>(initial_ref(initial), out) {
@@ -326,12 +311,7 @@ impl Header {
     #[inline(never)]
     fn put_long(&self, out: &mut Vec<u8>) -> Result<(), NoRoom>
         requires { IsWritable self.now }
-        ensures ok { OnOk result (out.new.items ≡ out.old.items ++ header_bytes self.now) }
-        ensures len { OnOk result (vec_len out.new ≡ vec_len out.old + header_size self.now) }
-        ensures capacity { vec_capacity out.old ≤ vec_capacity out.new }
-        ensures err { OnErr result (out.new.items ≡ out.old.items) }
-        ensures full { OnErr result (vec_capacity out.new < vec_len out.old + header_size self.now) }
-        ensures spare { vec_len out.old + header_size self.now ≤ vec_capacity out.old → IsOk result }
+        ensures { AppendsHeader self.now out.old out.new result }
     {
         if let Self::Long {
             ty,
@@ -352,12 +332,7 @@ impl Header {
     #[inline(never)]
     fn put_other(&self, out: &mut Vec<u8>) -> Result<(), NoRoom>
         requires { IsWritable self.now }
-        ensures ok { OnOk result (out.new.items ≡ out.old.items ++ header_bytes self.now) }
-        ensures len { OnOk result (vec_len out.new ≡ vec_len out.old + header_size self.now) }
-        ensures capacity { vec_capacity out.old ≤ vec_capacity out.new }
-        ensures err { OnErr result (out.new.items ≡ out.old.items) }
-        ensures full { OnErr result (vec_capacity out.new < vec_len out.old + header_size self.now) }
-        ensures spare { vec_len out.old + header_size self.now ≤ vec_capacity out.old → IsOk result }
+        ensures { AppendsHeader self.now out.old out.new result }
     {
         match self {
             Self::Initial(_) => self.put_initial(out),

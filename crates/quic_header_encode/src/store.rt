@@ -2,7 +2,7 @@
 //! arrays, whose ends the next field overwrites.
 ghost use Rattle.std.specs.Prelude.{◌≡◌, ◌+◌, ◌*◌, ◌^◌, ◌<◌, ◌≤◌, ◌⊎◌, ◌∷◌, ◌++◌, List, ℕ, length, take, drop, replicate, true, ◌↔◌, IsTrue};
 ghost use Rattle.quic_base.specs.ConnectionId.{long_id};
-ghost use Rattle.quic_base.specs.Varint.{short, size};
+ghost use Rattle.quic_base.specs.Varint.{shortest_varint, size};
 ghost use Rattle.quic_crypto.specs.PacketNumbers.{IsInRange};
 ghost use Rattle.quic_header_encode.specs.Starts.{long_front};
 ghost use Rattle.quic_header_encode.specs.Storing.{end_bytes, end_size, first_byte_of, stored_bytes, stored_len, token_bytes, token_size, version_said, with_len, HasStoreRoom, HasLongRoom, HasLow, IsExact, IsStorable, IsLong, IsShortToken, TakesLen};
@@ -162,11 +162,11 @@ pub fn store_long_start<I: StoredId>(
 /// it has fewer than 2^62 bytes and, if SHORT is true, that it is empty or has 16 to 32.
 #[inline(always)]
 pub fn store_token<const SHORT: bool>(out: &mut [u8], at: usize, token: &[u8]) -> usize
-    requires short { SHORT ≡ true → IsShortToken token.now }
+    requires shortest_varint { SHORT ≡ true → IsShortToken token.now }
     requires numeric { length token.now < 2 ^ 62 }
     requires room { at + (size (length token.now) + length token.now) ≤ length out.old }
     ensures end { result ≡ at + (size (length token.now) + length token.now) }
-    ensures front { take result out.new ≡ take at out.old ++ (short (length token.now) ++ token.now) }
+    ensures front { take result out.new ≡ take at out.old ++ (shortest_varint (length token.now) ++ token.now) }
     ensures back { drop result out.new ≡ drop result out.old }
     ensures len { length out.new ≡ length out.old }
 {
@@ -181,11 +181,11 @@ pub fn store_token<const SHORT: bool>(out: &mut [u8], at: usize, token: &[u8]) -
 #[inline(always)]
 #[tactic(auto, using(crate::proofs::Stores::size_small))]
 fn store_short_token<const SHORT: bool>(out: &mut [u8], at: usize, token: &[u8]) -> usize
-    requires short { SHORT ≡ true → IsShortToken token.now }
+    requires shortest_varint { SHORT ≡ true → IsShortToken token.now }
     requires small { length token.now < 2 ^ 6 }
     requires room { at + (size (length token.now) + length token.now) ≤ length out.old }
     ensures end { result ≡ at + (size (length token.now) + length token.now) }
-    ensures front { take result out.new ≡ take at out.old ++ (short (length token.now) ++ token.now) }
+    ensures front { take result out.new ≡ take at out.old ++ (shortest_varint (length token.now) ++ token.now) }
     ensures back { drop result out.new ≡ drop result out.old }
     ensures len { length out.new ≡ length out.old }
 {
@@ -200,7 +200,7 @@ fn store_short_token<const SHORT: bool>(out: &mut [u8], at: usize, token: &[u8])
 // Stores bytes, of which there are some: 16 to 32 by stores.
 #[inline(always)]
 fn store_some<const SHORT: bool>(out: &mut [u8], at: usize, bytes: &[u8]) -> usize
-    requires short { SHORT ≡ true → IsShortToken bytes.now }
+    requires shortest_varint { SHORT ≡ true → IsShortToken bytes.now }
     requires some { 0 < length bytes.now }
     requires room { at + length bytes.now ≤ length out.old }
     ensures end { result ≡ at + length bytes.now }
@@ -217,13 +217,13 @@ fn store_some<const SHORT: bool>(out: &mut [u8], at: usize, bytes: &[u8]) -> usi
 
 // Stores a number of 2^6 or more in its shortest encoding, and answers where it ends.
 #[inline(always)]
-#[tactic(auto, unfolding(quic_base::specs::Varint::short, quic_base::specs::Varint::size, quic_base::specs::Number::bytes_of))]
+#[tactic(auto, unfolding(quic_base::specs::Varint::shortest_varint, quic_base::specs::Varint::size, quic_base::specs::Number::bytes_of))]
 fn store_var(out: &mut [u8], at: usize, n: u64) -> usize
     requires large { 2 ^ 6 ≤ n }
     requires numeric { n < 2 ^ 62 }
     requires room { at + size n ≤ length out.old }
     ensures end { result ≡ at + size n }
-    ensures front { take result out.new ≡ take at out.old ++ short n }
+    ensures front { take result out.new ≡ take at out.old ++ shortest_varint n }
     ensures back { drop result out.new ≡ drop result out.old }
     ensures len { length out.new ≡ length out.old }
 {
@@ -243,7 +243,7 @@ fn store_long_token(out: &mut [u8], at: usize, token: &[u8]) -> usize
     requires numeric { length token.now < 2 ^ 62 }
     requires room { at + (size (length token.now) + length token.now) ≤ length out.old }
     ensures end { result ≡ at + (size (length token.now) + length token.now) }
-    ensures front { take result out.new ≡ take at out.old ++ (short (length token.now) ++ token.now) }
+    ensures front { take result out.new ≡ take at out.old ++ (shortest_varint (length token.now) ++ token.now) }
     ensures back { drop result out.new ≡ drop result out.old }
     ensures len { length out.new ≡ length out.old }
 {
@@ -334,7 +334,7 @@ impl<I: StoredId> HeaderRef<'_, I> {
     // Stores the token of an Initial header after its length.
     #[inline(always)]
     fn store_its_token<const SHORT_TOKEN: bool>(&self, out: &mut [u8], at: usize) -> usize
-        requires short { SHORT_TOKEN ≡ true → IsShortToken self.now.token.now }
+        requires shortest_varint { SHORT_TOKEN ≡ true → IsShortToken self.now.token.now }
         requires numeric { length self.now.token.now < 2 ^ 62 }
         requires room { at + token_size self.now.kind self.now.token.now ≤ length out.old }
         ensures end { result ≡ at + token_size self.now.kind self.now.token.now }
@@ -373,7 +373,7 @@ impl<I: StoredId> HeaderRef<'_, I> {
     pub fn store_long<const SHORT_TOKEN: bool>(&self, out: &mut [u8]) -> usize
         requires long { IsLong self.now.kind }
         requires storable { IsStorable I.id self.now }
-        requires short { SHORT_TOKEN ≡ true → IsShortToken self.now.token.now }
+        requires shortest_varint { SHORT_TOKEN ≡ true → IsShortToken self.now.token.now }
         requires room { HasLongRoom I.id I.room self.now (length out.old) }
         ensures end { result ≡ stored_len I.id self.now }
         ensures front { take result out.new ≡ stored_bytes I.id self.now }
@@ -395,7 +395,7 @@ impl<I: StoredId> HeaderRef<'_, I> {
     #[inline(always)]
     pub fn store<const SHORT_TOKEN: bool>(&self, out: &mut [u8]) -> usize
         requires storable { IsStorable I.id self.now }
-        requires short { SHORT_TOKEN ≡ true → IsShortToken self.now.token.now }
+        requires shortest_varint { SHORT_TOKEN ≡ true → IsShortToken self.now.token.now }
         requires room { HasStoreRoom I.id I.room self.now (length out.old) }
         ensures end { result ≡ stored_len I.id self.now }
         ensures front { take result out.new ≡ stored_bytes I.id self.now }

@@ -1,5 +1,5 @@
 -- What was sealed is cut and opened.
-use Rattle.std.specs.Prelude.{◌≡◌, ℕ, ◌+◌, ◌/◌, ◌%◌, ◌<◌, ◌^◌, true, List, [], ◌∷◌, ◌++◌, length, take, drop, Some, nat_lt, slice_range}
+use Rattle.std.specs.Prelude.{◌≡◌, ℕ, ◌+◌, ◌/◌, ◌%◌, ◌<◌, ◌^◌, true, List, [], ◌∷◌, ◌++◌, length, take, drop, Some, MatchOption, nat_lt, slice_range}
 use Rattle.std.proofs.Common.{sym, ap, ◌∙◌, arith, refl, subst, get_or, length-append}
 use Rattle.quic_base.specs.Number.{AreBytes}
 use Rattle.quic_crypto.specs.Keys.{HasSample, Protects, first_unit}
@@ -8,10 +8,10 @@ use Rattle.quic_crypto.specs.declared.packet_number.PacketNumber.TheVariants.{U8
 use Rattle.quic_crypto.specs.PacketNumbers.{number_size, number_bytes, low_part, IsInRange, NumberAt}
 use Rattle.quic_header_decode.specs.Finish.{IsNumberIn}
 use Rattle.quic_packets.specs.Pairs.{KeyPair}
-use Rattle.quic_packets.specs.Opening.{HasNumber}
 use Rattle.quic_header_decode.specs.declared.protected.ProtectedHeader.{ProtectedHeader}
 use Rattle.quic_header_decode.specs.declared.protected.ProtectedHeader.TheVariants as head
 use Rattle.quic_header_encode.specs.declared.header.Header.{Header}
+use Rattle.quic_header_encode.specs.Queries.{number_in}
 use Rattle.quic_header_decode.specs.Headers.{IsOpenedBy}
 use Rattle.quic_packets.proofs.Sealings.{middle, number_length}
 use Rattle.quic_packets.proofs.Parts.{same_front, number_same}
@@ -104,6 +104,9 @@ number_valid (U8 x) text t = let below : num text < 256 ^ 1 = subst (λ (k : ℕ
 number_valid (U16 x) text t = let below : num text < 256 ^ 2 = subst (λ (k : ℕ). num text < 256 ^ k) t.width (law.num_below text t.bytes) in omega (arith, below, t.value)
 number_valid (U24 x) text t = let below : num text < 256 ^ 3 = subst (λ (k : ℕ). num text < 256 ^ k) t.width (law.num_below text t.bytes) in omega (arith, below, t.value)
 number_valid (U32 x) text t = let below : num text < 256 ^ 4 = subst (λ (k : ℕ). num text < 256 ^ k) t.width (law.num_below text t.bytes) in omega (arith, below, t.value)
+
+abbrev pub HasNumber : Header → Type 0
+HasNumber h = MatchOption (number_in h) ⊥ IsInRange
 
 -- the number of an open header is in range
 pub opened_number : (h : ProtectedHeader) (at : ℕ) (got : Header) (packet : List ℕ) (end : ℕ) → IsOpenedBy true h at got packet end → HasNumber got

@@ -1,6 +1,6 @@
 -- What was sealed is opened.
-use Rattle.std.specs.Prelude.{◌≡◌, ℕ, ◌+◌, ◌-◌, ◌<◌, ◌^◌, Bool, true, List, ◌++◌, length, take, drop, Option, Some, None, Result, Ok, Err, IfSome}
-use Rattle.std.proofs.Common.{sym, ap, ◌∙◌, arith, refl, subst, inl, inr, length-drop}
+use Rattle.std.specs.Prelude.{◌≡◌, ℕ, ◌+◌, ◌-◌, ◌<◌, ◌^◌, ◌⊎◌, true, IsTrue, List, ◌++◌, length, take, drop, Option, Some, None, MatchOption, Result, Ok, Err, IfSome}
+use Rattle.std.proofs.Common.{sym, ap, ◌∙◌, arith, refl, subst, inl, inr, length-append}
 use Rattle.quic_base.specs.declared.ids.SpaceId.{SpaceId}
 use Rattle.quic_base.proofs.PublicLaws as law
 use Rattle.quic_base.specs.Number.{AreBytes, bytes_of}
@@ -8,24 +8,53 @@ use Rattle.bytes.specs.Filled.{Filled}
 use Rattle.quic_header_decode.specs.declared.protected.ProtectedHeader.{ProtectedHeader}
 use Rattle.quic_header_encode.specs.declared.header.Header.{Header}
 use Rattle.quic_header_encode.specs.declared.header.Header.TheVariants as header
+use Rattle.quic_packets.specs.declared.opening.Opened.{Opened}
 use Rattle.quic_packets.specs.declared.opening.OpenError.{OpenError}
 use Rattle.quic_packets.specs.declared.opening.OpenError.TheVariants as error
-use Rattle.quic_header_decode.specs.Refusal.{Refusal, refusal_of}
-use Rattle.quic_header_decode.specs.Grammar.{Cut, Uncut}
-use Rattle.quic_header_decode.specs.Reading.{Context, IsRest}
+use Rattle.quic_header_decode.specs.declared.decode_error.PacketDecodeError.{PacketDecodeError}
+use Rattle.quic_header_decode.specs.declared.decode_error.PacketDecodeError.TheVariants as decode
+use Rattle.quic_header_decode.specs.Refusal.{Refusal, RefusesHeader, refusal_of}
+use Rattle.quic_header_decode.specs.Grammar.{Cut, CutAnswer, Uncut}
+use Rattle.quic_header_decode.specs.Reading.{DecodeOptions, IsRest}
 use Rattle.quic_header_decode.specs.Headers.{IsOpenedBy}
-use Rattle.quic_header_decode.specs.Queries.{space_of}
+use Rattle.quic_header_decode.specs.Packet.{CutPacket}
 use Rattle.quic_header_encode.specs.Queries.{space_in}
 use Rattle.quic_header_encode.specs.Writing.{header_size, size_in}
 use Rattle.quic_packets.specs.Pairs.{IsLawful, KeyPair}
-use Rattle.quic_packets.specs.Sealing.{Sealed, plain_packet, sealed_header, protected_len}
-use Rattle.quic_packets.specs.Opening.{Opens, IsBack, IsReadBack, ExpandsIn, Unlocked, KeyGives, KeyRefuses, PartGives, PartRefuses, PacketGives, PacketRefuses}
+use Rattle.quic_packets.specs.Sealing.{PacketContents, Sealed, plain_packet, sealed_header, protected_len}
+use Rattle.quic_packets.specs.Opening.{PacketAnswer, BeginsSealed, CutsFirst, ExpandsIn, IsDecode, IsReadBack, OpenedPacket, Opening, Opens, OpensFirst, OpensPacket, OpensPlain, OpensWithKey, Refuses, RefusesPacket, RefusesWithKey, ReturnsSealed, UnlockedPacket, Unlocks, packet_of, payload_opened, returned, returned_by}
 use Rattle.quic_packets.proofs.Sealings.{header_length}
 use Rattle.quic_packets.proofs.Parts.{expands_same}
 use Rattle.quic_packets.proofs.Opened.{Lawful, front_bytes, cut_same}
 use Rattle.quic_packets.proofs.SealedFound.{Found, sealed_found, read_numbered}
+use Rattle.quic_packets.proofs.Uncuts.{uncut_refused, cuts_first, memory_refused}
 use Rattle.quic_header_decode.proofs.CutAnswers.{cut_positive, cut_again, uncut_again}
-use Rattle.quic_header_decode.proofs.Steps.{take_front, drop_front}
+
+-- ---- records of the same parts
+
+opened_same : (a b : OpenedPacket) → a.header ≡ b.header → a.header_bytes ≡ b.header_bytes → a.number ≡ b.number → a.payload ≡ b.payload → a ≡ b
+opened_same a b head bytes number payload =
+    ap (λ (x : Header). let p : OpenedPacket = record { header = x; header_bytes = a.header_bytes; number = a.number; payload = a.payload } in p) head
+    ∙ ap (λ (x : List ℕ). let p : OpenedPacket = record { header = b.header; header_bytes = x; number = a.number; payload = a.payload } in p) bytes
+    ∙ ap (λ (x : Option ℕ). let p : OpenedPacket = record { header = b.header; header_bytes = b.header_bytes; number = x; payload = a.payload } in p) number
+    ∙ ap (λ (x : List ℕ). let p : OpenedPacket = record { header = b.header; header_bytes = b.header_bytes; number = b.number; payload = x } in p) payload
+
+cut_equal : (a b : CutPacket) → a.head ≡ b.head → a.header_end ≡ b.header_end → a.bytes ≡ b.bytes → a ≡ b
+cut_equal a b head end bytes =
+    ap (λ (x : ProtectedHeader). let p : CutPacket = record { head = x; header_end = a.header_end; bytes = a.bytes } in p) head
+    ∙ ap (λ (x : ℕ). let p : CutPacket = record { head = b.head; header_end = x; bytes = a.bytes } in p) end
+    ∙ ap (λ (x : List ℕ). let p : CutPacket = record { head = b.head; header_end = b.header_end; bytes = x } in p) bytes
+
+-- bytes begin with one packet
+one_cut : (options : DecodeOptions) (bytes : List ℕ) (one other : CutPacket) (a b : List ℕ) → CutsFirst options bytes one a → CutsFirst options bytes other b → (one ≡ other) × (a ≡ b)
+one_cut options bytes one other a b x y =
+    let same : (let r : Result (ProtectedHeader × ℕ × ℕ) Refusal = Ok (one.head, one.header_end, length one.bytes) in r) ≡ Ok (other.head, other.header_end, length other.bytes) =
+    sym (cut_again options bytes one.head one.header_end (length one.bytes) x.cut) ∙ cut_again options bytes other.head other.header_end (length other.bytes) y.cut in
+    let parts : (let p : ProtectedHeader × ℕ × ℕ = (one.head, one.header_end, length one.bytes) in p) ≡ (other.head, other.header_end, length other.bytes) = cc in
+    let split = cut_same one.bytes a other.bytes b (sym x.text ∙ y.text) (ap (λ p. p.2) parts) in
+    (cut_equal one other (ap (λ p. p.0) parts) (ap (λ p. p.1) parts) split.0, split.1)
+
+-- ---- by a key
 
 expands_in_same : (h : Header) (expected m n : ℕ) → ExpandsIn h expected m → ExpandsIn h expected n → m ≡ n
 expands_in_same (header.Initial i) expected m n a b = expands_same i.number expected m n a b
@@ -34,51 +63,66 @@ expands_in_same (header.Retry dst src version) expected m n a b = absurd a
 expands_in_same (header.Short spin key_phase dst number) expected m n a b = expands_same number expected m n a b
 expands_in_same (header.VersionNegotiate random src dst) expected m n a b = absurd a
 
--- all that is known of what was sealed, and of the bytes that begin with it
-pub record Given (seal : KeyPair) (key : KeyPair) (context : Context) (expected : ℕ) (bytes : List ℕ) (h : Header) (n : ℕ) (payload packet rest : List ℕ) : Type 0 where
-  pub laws : Lawful seal key
-  pub sealed : Sealed seal h n payload packet
-  pub read : IsReadBack context h rest
-  pub number : ExpandsIn h expected n
-  pub whole : bytes ≡ packet ++ rest
+lawful : (key : KeyPair) → IsLawful key → Lawful key key
+lawful key laws = record { sample_same = refl; protects = laws.protects; restores = laws.restores; sealed_len = laws.sealed_len; opens = laws.opens }
+
+-- a sealed packet, as it is cut
+abbrev pub sealed_cut : ProtectedHeader → PacketContents → List ℕ → CutPacket
+sealed_cut found contents packet = record { head = found; header_end = header_size contents.header - size_in contents.header; bytes = packet }
+
+-- all that is known of what was sealed
+record Given (key : KeyPair) (options : DecodeOptions) (expected : ℕ) (contents : PacketContents) (packet rest : List ℕ) : Type 0 where
+  laws : IsLawful key
+  sealed : Sealed key contents packet
+  read : IsReadBack options contents.header rest
+  number : ExpandsIn contents.header expected contents.number
+
+abbrev FoundOf : KeyPair → DecodeOptions → PacketContents → List ℕ → List ℕ → Type 0
+FoundOf key options contents packet rest = Found key key options contents.header contents.number contents.payload packet rest
+
+found_of : (key : KeyPair) (options : DecodeOptions) (expected : ℕ) (contents : PacketContents) (packet rest : List ℕ) → Given key options expected contents packet rest → FoundOf key options contents packet rest
+found_of key options expected contents packet rest given =
+    sealed_found key key (lawful key given.laws) options contents.header contents.number contents.payload packet rest given.sealed given.read
+
+top_length : (key : KeyPair) (options : DecodeOptions) (contents : PacketContents) (rest : List ℕ) → IsReadBack options contents.header rest
+    → length (sealed_header key.tag_size contents.header contents.payload) ≡ header_size contents.header
+top_length key options contents rest read =
+    header_length contents.header (bytes_of 2 (2 ^ 14 + protected_len key.tag_size contents.header contents.payload)) (read_numbered options contents.header rest read)
+    (law.length-bytes_of 2 (2 ^ 14 + protected_len key.tag_size contents.header contents.payload))
 
 -- a packet that was unlocked has the parts that were sealed
-record Same (seal : KeyPair) (key : KeyPair) (h : Header) (n : ℕ) (payload : List ℕ) (got : Header) (head body : List ℕ) (m : ℕ) : Type 0 where
-  header_same : got ≡ h
-  bytes_same : head ≡ sealed_header seal.tag_size h payload
-  number_same : m ≡ n
-  opened : key.opened m head body ≡ Some payload
+record Same (key : KeyPair) (contents : PacketContents) (got : UnlockedPacket) : Type 0 where
+  header_same : got.header ≡ contents.header
+  bytes_same : got.header_bytes ≡ sealed_header key.tag_size contents.header contents.payload
+  number_same : got.number ≡ contents.number
+  opened : payload_opened key got ≡ Some contents.payload
 
-unlocked_same : (seal : KeyPair) (key : KeyPair) (context : Context) (expected : ℕ) (bytes : List ℕ) (h : Header) (n : ℕ) (payload packet rest : List ℕ)
-    → (given : Given seal key context expected bytes h n payload packet rest) → (found : Found seal key context h n payload packet rest)
-    → (got : Header) (head body : List ℕ) (m : ℕ) → Unlocked key expected found.cut.0 (header_size h - size_in h) packet got head body m → Same seal key h n payload got head body m
-unlocked_same seal key context expected bytes h n payload packet rest given found got head body m u =
-    let at : ℕ = header_size h - size_in h in
-    let top : List ℕ = sealed_header seal.tag_size h payload in
-    let whole : head ++ body ≡ plain_packet seal h n payload = u.whole ∙ found.back in
-    let is = found.cut.3 got (length head) (subst (λ (xs : List ℕ). IsOpenedBy true found.cut.0 at got xs (length head)) whole u.is_header) in
-    let parts = cut_same head body top (seal.sealed n top payload) whole
-    (is.1 ∙ sym (header_length h (bytes_of 2 (2 ^ 14 + protected_len seal.tag_size h payload)) (read_numbered context h rest given.read) (law.length-bytes_of 2 (2 ^ 14 + protected_len seal.tag_size h payload)))) in
-    let same : m ≡ n = expands_in_same h expected m n (subst (λ (x : Header). ExpandsIn x expected m) is.0 u.number) given.number in
+sealed_payload_opens : (key : KeyPair) (contents : PacketContents) (packet : List ℕ) → IsLawful key → Sealed key contents packet
+    → key.opened contents.number (sealed_header key.tag_size contents.header contents.payload) (key.sealed contents.number (sealed_header key.tag_size contents.header contents.payload) contents.payload) ≡ Some contents.payload
+sealed_payload_opens key contents packet laws sealed =
+    let top : List ℕ = sealed_header key.tag_size contents.header contents.payload in
+    laws.opens contents.number top contents.payload (let fits : contents.number < 2 ^ 62 = sealed.fits in omega arith)
+    (front_bytes top (key.sealed contents.number top contents.payload) sealed.are_bytes) sealed.payload_bytes
+
+unlocked_same : (key : KeyPair) (options : DecodeOptions) (expected : ℕ) (contents : PacketContents) (packet rest : List ℕ)
+    → (given : Given key options expected contents packet rest) → (found : FoundOf key options contents packet rest)
+    → (got : UnlockedPacket) → Unlocks key expected (sealed_cut found.cut.0 contents packet) got → Same key contents got
+unlocked_same key options expected contents packet rest given found got u =
+    let at : ℕ = header_size contents.header - size_in contents.header in
+    let top : List ℕ = sealed_header key.tag_size contents.header contents.payload in
+    let body : List ℕ = key.sealed contents.number top contents.payload in
+    let whole : got.header_bytes ++ got.sealed_payload ≡ plain_packet key contents = u.whole ∙ found.back in
+    let is = found.cut.3 got.header (length got.header_bytes) (subst (λ (xs : List ℕ). IsOpenedBy true found.cut.0 at got.header xs (length got.header_bytes)) whole u.is_header) in
+    let parts = cut_same got.header_bytes got.sealed_payload top body whole (is.1 ∙ sym (top_length key options contents rest given.read)) in
+    let same : got.number ≡ contents.number =
+    expands_in_same contents.header expected got.number contents.number (subst (λ (x : Header). ExpandsIn x expected got.number) is.0 u.number) given.number in
     record {
       header_same = is.0;
       bytes_same = parts.0;
       number_same = same;
-      opened = ap (λ (k : ℕ). key.opened k head body) same ∙ ap (λ (xs : List ℕ). key.opened n xs body) parts.0 ∙ ap (key.opened n top) parts.1
-          ∙ given.laws.opens n top payload (let fits : n < 2 ^ 62 = given.sealed.fits in omega arith) (front_bytes top (seal.sealed n top payload) given.sealed.are_bytes) given.sealed.payload_bytes;
+      opened = ap (λ (k : ℕ). key.opened k got.header_bytes got.sealed_payload) same ∙ ap (λ (xs : List ℕ). key.opened contents.number xs got.sealed_payload) parts.0
+          ∙ ap (key.opened contents.number top) parts.1 ∙ sealed_payload_opens key contents packet given.laws given.sealed;
     }
-
--- where a packet is cut
-record SameCut (h found : ProtectedHeader) (p at q len : ℕ) : Type 0 where
-  head : h ≡ found
-  place : p ≡ at
-  end : q ≡ len
-
-same_cut : (context : Context) (bytes : List ℕ) (h found : ProtectedHeader) (p at q len : ℕ) → Cut context bytes h p q → Cut context bytes found at len → SameCut h found p at q len
-same_cut context bytes h found p at q len one other =
-    let same : (let r : Result (ProtectedHeader × ℕ × ℕ) Refusal = Ok (h, p, q) in r) ≡ Ok (found, at, len) = sym (cut_again context bytes h p q one) ∙ cut_again context bytes found at len other in
-    let parts : (let x : ProtectedHeader × ℕ × ℕ = (h, p, q) in x) ≡ (found, at, len) = cc in
-    record { head = ap (λ x. x.0) parts; place = ap (λ x. x.1) parts; end = ap (λ x. x.2) parts }
 
 none_some : {A : Type 0} (x : A) → (let o : Option A = None in o) ≡ Some x → ⊥
 none_some x e = cc
@@ -86,136 +130,183 @@ none_some x e = cc
 some_same : {A : Type 0} (x y : A) → (let o : Option A = Some x in o) ≡ Some y → x ≡ y
 some_same x y e = cc
 
--- the keys and the expected number of a packet's space
-key_gives : (seal : KeyPair) (key : KeyPair) (context : Context) (expected : ℕ) (bytes : List ℕ) (h : Header) (n : ℕ) (payload packet rest : List ℕ)
-    → (given : Given seal key context expected bytes h n payload packet rest) → (found : Found seal key context h n payload packet rest)
-    → (got : Header) (head : List ℕ) (m : ℕ) (opened : List ℕ) → KeyGives key expected found.cut.0 (header_size h - size_in h) packet got head (Some m) opened
-    → (got ≡ h) × (head ≡ sealed_header seal.tag_size h payload) × ((let o : Option ℕ = Some m in o) ≡ Some n) × (opened ≡ payload)
-key_gives seal key context expected bytes h n payload packet rest given found got head m opened part =
-    let same = unlocked_same seal key context expected bytes h n payload packet rest given found got head part.0 m part.1 in
-    (same.header_same, same.bytes_same, ap (λ (k : ℕ). let o : Option ℕ = Some k in o) same.number_same, some_same opened payload (sym part.2 ∙ same.opened))
+key_returns : (key : KeyPair) (options : DecodeOptions) (expected : ℕ) (contents : PacketContents) (packet rest : List ℕ)
+    → (given : Given key options expected contents packet rest) → (found : FoundOf key options contents packet rest)
+    → (opened : OpenedPacket) → OpensWithKey key expected (sealed_cut found.cut.0 contents packet) opened → opened ≡ returned key contents
+key_returns key options expected contents packet rest given found opened o =
+    let same = unlocked_same key options expected contents packet rest given found o.unlocked o.unlocks in
+    opened_same opened (returned key contents) (o.header ∙ same.header_same) (o.header_bytes ∙ same.bytes_same)
+    (o.number ∙ ap (λ (k : ℕ). let m : Option ℕ = Some k in m) same.number_same) (some_same opened.payload contents.payload (sym o.payload ∙ same.opened))
 
-key_refuses : (seal : KeyPair) (key : KeyPair) (context : Context) (expected : ℕ) (bytes : List ℕ) (h : Header) (n : ℕ) (payload packet rest : List ℕ)
-    → (given : Given seal key context expected bytes h n payload packet rest) → (found : Found seal key context h n payload packet rest)
-    → (e : OpenError) → KeyRefuses key expected found.cut.0 (header_size h - size_in h) packet e → e ≡ error.OutOfMemory
-key_refuses seal key context expected bytes h n payload packet rest given found (error.Decode f) part = absurd (part.1 found.sample)
-key_refuses seal key context expected bytes h n payload packet rest given found error.Unsealed part =
-    let same = unlocked_same seal key context expected bytes h n payload packet rest given found part.0 part.1 part.2 part.3 part.4 in
-    absurd (none_some payload (sym part.5 ∙ same.opened))
-key_refuses seal key context expected bytes h n payload packet rest given found error.OutOfMemory part = refl
+key_refuses : (key : KeyPair) (options : DecodeOptions) (expected : ℕ) (contents : PacketContents) (packet rest : List ℕ)
+    → (given : Given key options expected contents packet rest) → (found : FoundOf key options contents packet rest)
+    → (e : OpenError) → RefusesWithKey key expected (sealed_cut found.cut.0 contents packet) e → e ≡ error.OutOfMemory
+key_refuses key options expected contents packet rest given found (error.Decode f) part = absurd (part.1 found.sample)
+key_refuses key options expected contents packet rest given found error.Unsealed part =
+    let same = unlocked_same key options expected contents packet rest given found part.0 part.1 in
+    absurd (none_some contents.payload (sym part.2 ∙ same.opened))
+key_refuses key options expected contents packet rest given found error.OutOfMemory part = refl
 
-space_same : (a b : SpaceId) (o : Option SpaceId) → o ≡ Some a → o ≡ Some b → b ≡ a
-space_same a b (Some c) e f = cc
-space_same a b None e f = absurd cc
+-- ---- by the key of its space
 
-space_none : (a : SpaceId) (o : Option SpaceId) → o ≡ Some a → o ≡ None → ⊥
-space_none a (Some c) e f = cc
-space_none a None e f = cc
+abbrev GivenIn : Opening → PacketContents → List ℕ → List ℕ → Type 0
+GivenIn opening contents packet rest =
+    Given (opening.keys (space_in contents.header)) opening.options (opening.expected (space_in contents.header)) contents packet rest
 
--- all that is known of what was sealed by the keys of its space, and of the bytes that begin with it
-abbrev pub Known : (SpaceId → KeyPair) → (SpaceId → KeyPair) → Context → (SpaceId → ℕ) → List ℕ → Header → ℕ → List ℕ → List ℕ → List ℕ → Type 0
-Known seal key context expected bytes h n payload packet rest = Given (seal (space_in h)) (key (space_in h)) context (expected (space_in h)) bytes h n payload packet rest
+abbrev FoundIn : Opening → PacketContents → List ℕ → List ℕ → Type 0
+FoundIn opening contents packet rest = FoundOf (opening.keys (space_in contents.header)) opening.options contents packet rest
 
-part_gives : (seal : SpaceId → KeyPair) (key : SpaceId → KeyPair) (context : Context) (expected : SpaceId → ℕ) (bytes : List ℕ) (h : Header) (n : ℕ) (payload packet rest : List ℕ)
-    → (given : Known seal key context expected bytes h n payload packet rest) → (found : Found (seal (space_in h)) (key (space_in h)) context h n payload packet rest)
-    → (got : Header) (head : List ℕ) (number : Option ℕ) (opened : List ℕ) → PartGives key expected found.cut.0 (header_size h - size_in h) packet got head number opened
-    → (got ≡ h) × (head ≡ sealed_header (seal (space_in h)).tag_size h payload) × (number ≡ Some n) × (opened ≡ payload)
-part_gives seal key context expected bytes h n payload packet rest given found got head None opened part =
-    absurd (space_none (space_in h) (space_of found.cut.0) found.cut.2 part.0)
-part_gives seal key context expected bytes h n payload packet rest given found got head (Some m) opened part =
-    key_gives (seal (space_in h)) (key (space_in h)) context (expected (space_in h)) bytes h n payload packet rest given found got head m opened
-    (subst (λ (s : SpaceId). KeyGives (key s) (expected s) found.cut.0 (header_size h - size_in h) packet got head (Some m) opened) (space_same (space_in h) part.0 (space_of found.cut.0) found.cut.2 part.1) part.2)
+given_in : (opening : Opening) (bytes : List ℕ) (contents : PacketContents) (rest : List ℕ) → IsLawful (opening.keys (space_in contents.header))
+    → (begins : BeginsSealed opening bytes contents rest) → GivenIn opening contents begins.packet rest
+given_in opening bytes contents rest laws begins = record { laws = laws; sealed = begins.sealed; read = begins.read; number = begins.number }
 
-pub gives_back : (seal : SpaceId → KeyPair) (key : SpaceId → KeyPair) (context : Context) (expected : SpaceId → ℕ) (bytes : List ℕ) (h : Header) (n : ℕ) (payload packet rest : List ℕ)
-    → Known seal key context expected bytes h n payload packet rest
-    → (got : Header) (head : List ℕ) (number : Option ℕ) (opened : List ℕ) (left : Option Filled) → PacketGives key context expected bytes got head number opened left
-    → IsBack (seal (space_in h)).tag_size h n payload rest got head number opened left
-gives_back seal key context expected bytes h n payload packet rest given got head number opened left gives =
-    let found = sealed_found (seal (space_in h)) (key (space_in h)) given.laws context h n payload packet rest given.sealed given.read in
-    let at : ℕ = header_size h - size_in h in
-    let cut : Cut context bytes found.cut.0 at (length packet) = subst (λ (xs : List ℕ). Cut context xs found.cut.0 at (length packet)) (sym given.whole) found.cut.1 in
-    let same = same_cut context bytes gives.0 found.cut.0 gives.1 at gives.2 (length packet) gives.3 cut in
-    let front : take gives.2 bytes ≡ packet = ap (λ (k : ℕ). take k bytes) same.end ∙ ap (take (length packet)) given.whole ∙ take_front packet rest (length packet) refl in
-    let behind : drop gives.2 bytes ≡ rest = ap (λ (k : ℕ). drop k bytes) same.end ∙ ap (drop (length packet)) given.whole ∙ drop_front packet rest (length packet) refl in
-    let p1 = subst (λ (x : ProtectedHeader). PartGives key expected x gives.1 (take gives.2 bytes) got head number opened) same.head gives.4 in
-    let p2 = subst (λ (k : ℕ). PartGives key expected found.cut.0 k (take gives.2 bytes) got head number opened) same.place p1 in
-    let p3 = subst (λ (xs : List ℕ). PartGives key expected found.cut.0 at xs got head number opened) front p2 in
-    let back = part_gives seal key context expected bytes h n payload packet rest given found got head number opened p3 in
-    record { header_back = back.0; bytes_back = back.1; number_back = back.2; payload_back = back.3; rest_back = subst (IsRest left) behind gives.5 }
+found_in : (opening : Opening) (contents : PacketContents) (packet rest : List ℕ) → GivenIn opening contents packet rest → FoundIn opening contents packet rest
+found_in opening contents packet rest given =
+    found_of (opening.keys (space_in contents.header)) opening.options (opening.expected (space_in contents.header)) contents packet rest given
 
-part_refuses : (seal : SpaceId → KeyPair) (key : SpaceId → KeyPair) (context : Context) (expected : SpaceId → ℕ) (bytes : List ℕ) (h : Header) (n : ℕ) (payload packet rest : List ℕ)
-    → (given : Known seal key context expected bytes h n payload packet rest) → (found : Found (seal (space_in h)) (key (space_in h)) context h n payload packet rest)
-    → (e : OpenError) → PartRefuses key expected found.cut.0 (header_size h - size_in h) packet e → e ≡ error.OutOfMemory
-part_refuses seal key context expected bytes h n payload packet rest given found (error.Decode f) part =
-    key_refuses (seal (space_in h)) (key (space_in h)) context (expected (space_in h)) bytes h n payload packet rest given found (error.Decode f)
-    (subst (λ (s : SpaceId). KeyRefuses (key s) (expected s) found.cut.0 (header_size h - size_in h) packet (error.Decode f)) (space_same (space_in h) part.0 (space_of found.cut.0) found.cut.2 part.1) part.2)
-part_refuses seal key context expected bytes h n payload packet rest given found error.Unsealed part =
-    key_refuses (seal (space_in h)) (key (space_in h)) context (expected (space_in h)) bytes h n payload packet rest given found error.Unsealed
-    (subst (λ (s : SpaceId). KeyRefuses (key s) (expected s) found.cut.0 (header_size h - size_in h) packet error.Unsealed) (space_same (space_in h) part.0 (space_of found.cut.0) found.cut.2 part.1) part.2)
-part_refuses seal key context expected bytes h n payload packet rest given found error.OutOfMemory part = refl
+sealed_first : (opening : Opening) (bytes : List ℕ) (contents : PacketContents) (rest : List ℕ) (begins : BeginsSealed opening bytes contents rest)
+    → (found : FoundIn opening contents begins.packet rest) → CutsFirst opening.options bytes (sealed_cut found.cut.0 contents begins.packet) rest
+sealed_first opening bytes contents rest begins found = record {
+  cut = subst (λ (xs : List ℕ). Cut opening.options xs found.cut.0 (header_size contents.header - size_in contents.header) (length begins.packet)) (sym begins.text) found.cut.1;
+  text = begins.text;
+}
 
-uncut_back : (seal : KeyPair) (key : KeyPair) (context : Context) (expected : ℕ) (bytes : List ℕ) (h : Header) (n : ℕ) (payload packet rest : List ℕ)
-    → AreBytes bytes → (given : Given seal key context expected bytes h n payload packet rest) → (r : Refusal) → Uncut context bytes r → ⊥
-uncut_back seal key context expected bytes h n payload packet rest fits given r uncut =
-    let found = sealed_found seal key given.laws context h n payload packet rest given.sealed given.read in
-    let at : ℕ = header_size h - size_in h in
-    let cut : Cut context bytes found.cut.0 at (length packet) = subst (λ (xs : List ℕ). Cut context xs found.cut.0 at (length packet)) (sym given.whole) found.cut.1 in
-    let yes = cut_again context bytes found.cut.0 at (length packet) cut in
-    let never = uncut_again context bytes r fits uncut in
-    let clash : (let x : Result (ProtectedHeader × ℕ × ℕ) Refusal = Ok (found.cut.0, at, length packet) in x) ≡ Err r = sym yes ∙ never in cc
+packet_returns : (opening : Opening) (contents : PacketContents) (packet rest : List ℕ) → GivenIn opening contents packet rest → (found : FoundIn opening contents packet rest)
+    → (opened : OpenedPacket) → OpensPacket opening.keys opening.expected (sealed_cut found.cut.0 contents packet) opened → opened ≡ returned_by opening contents
+packet_returns opening contents packet rest given found opened part =
+    let cut : CutPacket = sealed_cut found.cut.0 contents packet in
+    key_returns (opening.keys (space_in contents.header)) opening.options (opening.expected (space_in contents.header)) contents packet rest given found opened
+    (subst (λ (o : Option SpaceId). MatchOption o (OpensPlain cut opened) (λ space. OpensWithKey (opening.keys space) (opening.expected space) cut opened)) found.cut.2 part)
 
-pub refuses_back : (seal : SpaceId → KeyPair) (key : SpaceId → KeyPair) (context : Context) (expected : SpaceId → ℕ) (bytes : List ℕ) (h : Header) (n : ℕ) (payload packet rest : List ℕ)
-    → AreBytes bytes → Known seal key context expected bytes h n payload packet rest
-    → (takes_memory : Bool) (e : OpenError) → PacketRefuses takes_memory key context expected bytes e → e ≡ error.OutOfMemory
-refuses_back seal key context expected bytes h n payload packet rest fits given takes_memory (error.Decode f) (inl uncut) =
-    absurd (uncut_back (seal (space_in h)) (key (space_in h)) context (expected (space_in h)) bytes h n payload packet rest fits given (refusal_of f) uncut)
-refuses_back seal key context expected bytes h n payload packet rest fits given takes_memory error.Unsealed (inl uncut) = absurd uncut
-refuses_back seal key context expected bytes h n payload packet rest fits given takes_memory error.OutOfMemory (inl uncut) = refl
-refuses_back seal key context expected bytes h n payload packet rest fits given takes_memory e (inr refuses) =
-    let found = sealed_found (seal (space_in h)) (key (space_in h)) given.laws context h n payload packet rest given.sealed given.read in
-    let at : ℕ = header_size h - size_in h in
-    let cut : Cut context bytes found.cut.0 at (length packet) = subst (λ (xs : List ℕ). Cut context xs found.cut.0 at (length packet)) (sym given.whole) found.cut.1 in
-    let same = same_cut context bytes refuses.0 found.cut.0 refuses.1 at refuses.2 (length packet) refuses.3 cut in
-    let front : take refuses.2 bytes ≡ packet = ap (λ (k : ℕ). take k bytes) same.end ∙ ap (take (length packet)) given.whole ∙ take_front packet rest (length packet) refl in
-    let p1 = subst (λ (x : ProtectedHeader). PartRefuses key expected x refuses.1 (take refuses.2 bytes) e) same.head refuses.4 in
-    let p2 = subst (λ (k : ℕ). PartRefuses key expected found.cut.0 k (take refuses.2 bytes) e) same.place p1 in
-    let p3 = subst (λ (xs : List ℕ). PartRefuses key expected found.cut.0 at xs e) front p2 in
-    part_refuses seal key context expected bytes h n payload packet rest given found e p3
+packet_refuses : (opening : Opening) (contents : PacketContents) (packet rest : List ℕ) → GivenIn opening contents packet rest → (found : FoundIn opening contents packet rest)
+    → (e : OpenError) → RefusesPacket opening.keys opening.expected (sealed_cut found.cut.0 contents packet) e → e ≡ error.OutOfMemory
+packet_refuses opening contents packet rest given found e part =
+    let cut : CutPacket = sealed_cut found.cut.0 contents packet in
+    key_refuses (opening.keys (space_in contents.header)) opening.options (opening.expected (space_in contents.header)) contents packet rest given found e
+    (subst (λ (o : Option SpaceId). MatchOption o (e ≡ error.OutOfMemory) (λ space. RefusesWithKey (opening.keys space) (opening.expected space) cut e)) found.cut.2 part)
+
+-- ---- the first packet
+
+pub first_returns : (opening : Opening) (bytes : List ℕ) (contents : PacketContents) (rest : List ℕ) → IsLawful (opening.keys (space_in contents.header))
+    → BeginsSealed opening bytes contents rest → (opened : Opened) (left : Option Filled) → OpensFirst opening bytes opened left → ReturnsSealed opening contents rest opened left
+first_returns opening bytes contents rest laws begins opened left o =
+    let given = given_in opening bytes contents rest laws begins in
+    let found = found_in opening contents begins.packet rest given in
+    let same = one_cut opening.options bytes o.opens.packet (sealed_cut found.cut.0 contents begins.packet) o.rest rest o.opens.first (sealed_first opening bytes contents rest begins found) in
+    record {
+      packet = packet_returns opening contents begins.packet rest given found (packet_of opened)
+          (subst (λ (x : CutPacket). OpensPacket opening.keys opening.expected x (packet_of opened)) same.0 o.opens.opens);
+      left_is = subst (IsRest left) same.1 o.left_is;
+    }
+
+uncut_back : (opening : Opening) (bytes : List ℕ) (contents : PacketContents) (rest : List ℕ) → IsLawful (opening.keys (space_in contents.header)) → AreBytes bytes
+    → BeginsSealed opening bytes contents rest → (r : Refusal) → Uncut opening.options bytes r → ⊥
+uncut_back opening bytes contents rest laws fits begins r uncut =
+    let found = found_in opening contents begins.packet rest (given_in opening bytes contents rest laws begins) in
+    let at : ℕ = header_size contents.header - size_in contents.header in
+    let yes = cut_again opening.options bytes found.cut.0 at (length begins.packet) (sealed_first opening bytes contents rest begins found).cut in
+    let never = uncut_again opening.options bytes r fits uncut in
+    let clash : (let x : Result (ProtectedHeader × ℕ × ℕ) Refusal = Ok (found.cut.0, at, length begins.packet) in x) ≡ Err r = sym yes ∙ never in cc
+
+pub first_refuses : (opening : Opening) (bytes : List ℕ) (contents : PacketContents) (rest : List ℕ) → IsLawful (opening.keys (space_in contents.header)) → AreBytes bytes
+    → BeginsSealed opening bytes contents rest → (e : OpenError) → Refuses opening bytes e → e ≡ error.OutOfMemory
+first_refuses opening bytes contents rest laws fits begins (error.Decode f) (inl uncut) = absurd (uncut_back opening bytes contents rest laws fits begins (refusal_of f) uncut)
+first_refuses opening bytes contents rest laws fits begins error.Unsealed (inl uncut) = absurd uncut
+first_refuses opening bytes contents rest laws fits begins error.OutOfMemory (inl uncut) = refl
+first_refuses opening bytes contents rest laws fits begins e (inr refuses) =
+    let given = given_in opening bytes contents rest laws begins in
+    let found = found_in opening contents begins.packet rest given in
+    let same = one_cut opening.options bytes refuses.0 (sealed_cut found.cut.0 contents begins.packet) refuses.1 rest refuses.2 (sealed_first opening bytes contents rest begins found) in
+    packet_refuses opening contents begins.packet rest given found e (subst (λ (x : CutPacket). RefusesPacket opening.keys opening.expected x e) same.0 refuses.3)
 
 -- what follows a packet is shorter than the datagram
-pub gives_shorter : (key : SpaceId → KeyPair) (context : Context) (expected : SpaceId → ℕ) (bytes : List ℕ) (got : Header) (head : List ℕ) (number : Option ℕ) (opened : List ℕ) (left : Option Filled)
-    → PacketGives key context expected bytes got head number opened left → IfSome left (λ f. length f.items < length bytes)
-gives_shorter key context expected bytes got head number opened None gives = tt
-gives_shorter key context expected bytes got head number opened (Some f) gives =
-    let part : f.items ≡ drop gives.2 bytes = gives.5.0 in
-    omega (arith, cut_positive context bytes gives.0 gives.1 gives.2 gives.3, ap length part, length-drop gives.2 bytes, gives.5.1)
+first_shorter : (opening : Opening) (bytes : List ℕ) (opened : Opened) (left : Option Filled) → OpensFirst opening bytes opened left → IfSome left (λ f. length f.items < length bytes)
+first_shorter opening bytes opened None o = tt
+first_shorter opening bytes opened (Some f) o =
+    let is : f.items ≡ o.rest = o.left_is.0 in
+    let packet : CutPacket = o.opens.packet in
+    omega (arith, cut_positive opening.options bytes packet.head packet.header_end (length packet.bytes) o.opens.first.cut, ap length o.opens.first.text, length-append packet.bytes o.rest, ap length is)
+
+opened_first : (opening : Opening) (bytes : List ℕ) (opened : Opened) (left : Option Filled) → ((space : SpaceId) → IsLawful (opening.keys space))
+    → OpensFirst opening bytes opened left → PacketAnswer opening bytes (Ok (opened, left))
+opened_first opening bytes opened left laws o = record {
+  opened = o;
+  shorter = first_shorter opening bytes opened left o;
+  refused = tt;
+  sealed = λ contents rest begins. first_returns opening bytes contents rest (laws (space_in contents.header)) begins opened left o;
+}
+
+refused_first : (opening : Opening) (bytes : List ℕ) (e : OpenError) → ((space : SpaceId) → IsLawful (opening.keys space)) → AreBytes bytes
+    → Refuses opening bytes e → PacketAnswer opening bytes (Err e)
+refused_first opening bytes e laws fits refuses = record {
+  opened = tt;
+  shorter = tt;
+  refused = refuses;
+  sealed = λ contents rest begins. first_refuses opening bytes contents rest (laws (space_in contents.header)) fits begins e refuses;
+}
+
+-- ---- what a call answers
+
+-- no packet is cut
+pub answers_uncut : {opening : Opening} {bytes : List ℕ} {f : OpenError} → ((space : SpaceId) → IsLawful (opening.keys space)) → AreBytes bytes
+    → (e : PacketDecodeError) → IsDecode e f → ((a : Result (ProtectedHeader × ℕ × ℕ) Refusal) × CutAnswer opening.options bytes a × RefusesHeader e a)
+    → (e ≡ decode.OutOfMemory → IsTrue opening.takes_memory ⊎ ((h : ProtectedHeader) × (p : ℕ) × (q : ℕ) × Cut opening.options bytes h p q × (q < length bytes)))
+    → PacketAnswer opening bytes (Err f)
+answers_uncut {opening} {bytes} {f} laws fits e same answer memory = refused_first opening bytes f laws fits (uncut_refused opening bytes e f same answer memory)
+
+-- a packet is cut
+abbrev pub IsCutBy : DecodeOptions → List ℕ → CutPacket → Type 0
+IsCutBy options bytes packet =
+    ((a : Result (ProtectedHeader × ℕ × ℕ) Refusal) × CutAnswer options bytes a × (a ≡ Ok (packet.head, packet.header_end, length packet.bytes)))
+    × (packet.bytes ≡ take (length packet.bytes) bytes)
+
+-- and there is no room for it
+pub answers_no_room : {opening : Opening} {bytes : List ℕ} → ((space : SpaceId) → IsLawful (opening.keys space)) → AreBytes bytes
+    → (packet : CutPacket) → IsCutBy opening.options bytes packet → PacketAnswer opening bytes (Err error.OutOfMemory)
+answers_no_room {opening} {bytes} laws fits packet is =
+    refused_first opening bytes error.OutOfMemory laws fits (memory_refused opening bytes packet (drop (length packet.bytes) bytes) (cuts_first opening.options bytes packet is.0 is.1))
+
+-- and refused
+pub answers_refused : {opening : Opening} {bytes : List ℕ} {e : OpenError} → ((space : SpaceId) → IsLawful (opening.keys space)) → AreBytes bytes
+    → (packet : CutPacket) → IsCutBy opening.options bytes packet → RefusesPacket opening.keys opening.expected packet e → PacketAnswer opening bytes (Err e)
+answers_refused {opening} {bytes} {e} laws fits packet is refuses =
+    refused_first opening bytes e laws fits (inr (packet, drop (length packet.bytes) bytes, cuts_first opening.options bytes packet is.0 is.1, refuses))
+
+-- and opened
+pub answers_opened : {opening : Opening} {bytes : List ℕ} {opened : Opened} {left : Option Filled} → ((space : SpaceId) → IsLawful (opening.keys space))
+    → (packet : CutPacket) → IsCutBy opening.options bytes packet → IsRest left (drop (length packet.bytes) bytes)
+    → OpensPacket opening.keys opening.expected packet (packet_of opened) → PacketAnswer opening bytes (Ok (opened, left))
+answers_opened {opening} {bytes} {opened} {left} laws packet is rest opens = opened_first opening bytes opened left laws (record {
+  rest = drop (length packet.bytes) bytes;
+  opens = record { packet = packet; first = cuts_first opening.options bytes packet is.0 is.1; opens = opens };
+  left_is = rest;
+})
 
 -- what was sealed can be opened
-pub sealed_opens : (keys : KeyPair) (context : Context) (expected n : ℕ) (h : Header) (payload packet rest : List ℕ)
-    → IsLawful keys → Sealed keys h n payload packet → IsReadBack context h rest → ExpandsIn h expected n
-    → Opens keys context expected (packet ++ rest) (length packet) h n payload
-sealed_opens keys context expected n h payload packet rest lawful sealed read number =
-    let laws : Lawful keys keys = record { sample_same = refl; protects = lawful.protects; restores = lawful.restores; sealed_len = lawful.sealed_len; opens = lawful.opens } in
-    let found = sealed_found keys keys laws context h n payload packet rest sealed read in
-    let at : ℕ = header_size h - size_in h in
-    let top : List ℕ = sealed_header keys.tag_size h payload in
-    let body : List ℕ = keys.sealed n top payload in
-    let end : length top ≡ header_size h = header_length h (bytes_of 2 (2 ^ 14 + protected_len keys.tag_size h payload)) (read_numbered context h rest read) (law.length-bytes_of 2 (2 ^ 14 + protected_len keys.tag_size h payload)) in
-    let whole : take (length packet) (packet ++ rest) ≡ packet = take_front packet rest (length packet) refl in
-    let gives : KeyGives keys expected found.cut.0 at packet h top (Some n) payload = (
-      body,
-      record {
+pub sealed_opens : (opening : Opening) (bytes : List ℕ) (contents : PacketContents) (rest : List ℕ) → IsLawful (opening.keys (space_in contents.header))
+    → BeginsSealed opening bytes contents rest → Opens opening bytes (returned_by opening contents) rest
+sealed_opens opening bytes contents rest laws begins =
+    let found = found_in opening contents begins.packet rest (given_in opening bytes contents rest laws begins) in
+    let space : SpaceId = space_in contents.header in
+    let key : KeyPair = opening.keys space in
+    let cut : CutPacket = sealed_cut found.cut.0 contents begins.packet in
+    let top : List ℕ = sealed_header key.tag_size contents.header contents.payload in
+    let body : List ℕ = key.sealed contents.number top contents.payload in
+    let opened : OpensWithKey key (opening.expected space) cut (returned key contents) = record {
+      unlocked = record { header = contents.header; header_bytes = top; sealed_payload = body; number = contents.number };
+      unlocks = record {
         sample = found.sample;
         whole = sym found.back;
-        is_header = subst (λ (k : ℕ). IsOpenedBy true found.cut.0 at h (top ++ body) k) (sym end) found.cut.4;
-        number = number;
-      },
-      lawful.opens n top payload (let fits : n < 2 ^ 62 = sealed.fits in omega arith) (front_bytes top body sealed.are_bytes) sealed.payload_bytes,
-    ) in
+        is_header = subst (λ (k : ℕ). IsOpenedBy true found.cut.0 (header_size contents.header - size_in contents.header) contents.header (top ++ body) k) (sym (top_length key opening.options contents rest begins.read)) found.cut.4;
+        number = begins.number;
+      };
+      header = refl;
+      header_bytes = refl;
+      number = refl;
+      payload = sealed_payload_opens key contents begins.packet laws begins.sealed;
+    } in
     record {
-      found = found.cut.0;
-      at = at;
-      cut = found.cut.1;
-      space = found.cut.2;
-      gives = subst (λ (xs : List ℕ). KeyGives keys expected found.cut.0 at xs h top (Some n) payload) (sym whole) gives;
+      packet = cut;
+      first = sealed_first opening bytes contents rest begins found;
+      opens = subst (λ (o : Option SpaceId). MatchOption o (OpensPlain cut (returned key contents)) (λ s. OpensWithKey (opening.keys s) (opening.expected s) cut (returned key contents))) (sym found.cut.2) opened;
     }

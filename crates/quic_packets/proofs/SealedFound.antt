@@ -1,7 +1,7 @@
 -- A sealed packet is cut from the bytes that it begins.
 use Rattle.std.specs.Prelude.{◌≡◌, ℕ, ◌+◌, ◌-◌, ◌*◌, ◌/◌, ◌%◌, ◌<◌, ◌≤◌, ◌^◌, Bool, true, false, IsTrue, List, [], ◌∷◌, ◌++◌, length, drop, Some, nat_lt, nat_eq, slice_index, slice_range, slice_index_or}
 use Rattle.std.proofs.Common.{cond, sym, ap, ◌∙◌, arith, refl, subst, get_or, length-append, append_assoc, length-drop}
-use Rattle.quic_base.specs.Varint.{short}
+use Rattle.quic_base.specs.Varint.{shortest_varint}
 use Rattle.quic_base.specs.ConnectionId.{long_id}
 use Rattle.quic_base.proofs.PublicLaws as law
 use Rattle.std.proofs.lemmas.Bool.Decides.{nat_tests}
@@ -22,7 +22,7 @@ use Rattle.quic_header_encode.specs.declared.header.InitialHeader.{InitialHeader
 use Rattle.quic_header_encode.specs.declared.header.Header.TheVariants as header
 use Rattle.quic_header_decode.specs.Grammar.{Cut}
 use Rattle.quic_header_decode.proofs.Made.{LongStart, fixed_set, long_header, initial_header, short_header}
-use Rattle.quic_header_decode.specs.Reading.{Context}
+use Rattle.quic_header_decode.specs.Reading.{DecodeOptions}
 use Rattle.quic_header_encode.specs.Types.{types_of, long_type, version_2, type_number, place_of}
 use Rattle.quic_header_decode.specs.Headers.{IsOpenedBy}
 use Rattle.quic_header_decode.specs.Queries.{space_of}
@@ -30,30 +30,30 @@ use Rattle.quic_header_encode.specs.Queries.{space_in}
 use Rattle.quic_header_decode.specs.Finish.{IsNumberIn}
 use Rattle.quic_header_encode.specs.Writing.{header_size, long_first, bit, size_in, has_number}
 use Rattle.quic_packets.specs.Pairs.{KeyPair}
-use Rattle.quic_packets.specs.Sealing.{Sealed, plain_packet, sealed_header, protected_len}
+use Rattle.quic_packets.specs.Sealing.{sealed_header, protected_len}
 use Rattle.quic_packets.specs.Opening.{IsReadBack}
-use Rattle.quic_packets.proofs.Sealings.{long_length, front_length, header_length, size_within, middle}
+use Rattle.quic_packets.proofs.Sealings.{SealedOf, plain_of, long_length, front_length, header_length, size_within, middle}
 use Rattle.quic_packets.proofs.Parts.{length_encoded}
 use Rattle.quic_packets.proofs.Opened.{Lawful, Shape, shape, front_bytes, number_known, number_there}
 
 -- what there is to know of a sealed packet before its payload is opened
-pub record Found (seal : KeyPair) (key : KeyPair) (context : Context) (h : Header) (n : ℕ) (payload packet rest : List ℕ) : Type 0 where
+pub record Found (seal : KeyPair) (key : KeyPair) (context : DecodeOptions) (h : Header) (n : ℕ) (payload packet rest : List ℕ) : Type 0 where
   pub cut : (found : ProtectedHeader) × Cut context (packet ++ rest) found (header_size h - size_in h) (length packet) × (space_of found ≡ Some (space_in h))
-      × ((got : Header) (end : ℕ) → IsOpenedBy true found (header_size h - size_in h) got (plain_packet seal h n payload) end → (got ≡ h) × (end ≡ header_size h))
-      × IsOpenedBy true found (header_size h - size_in h) h (plain_packet seal h n payload) (header_size h)
+      × ((got : Header) (end : ℕ) → IsOpenedBy true found (header_size h - size_in h) got (plain_of seal h n payload) end → (got ≡ h) × (end ≡ header_size h))
+      × IsOpenedBy true found (header_size h - size_in h) h (plain_of seal h n payload) (header_size h)
   pub sample : HasSample key.sample_len (header_size h - size_in h) packet
-  pub back : key.unprotected (header_size h - size_in h) packet ≡ plain_packet seal h n payload
+  pub back : key.unprotected (header_size h - size_in h) packet ≡ plain_of seal h n payload
 
-pub plain_length : (seal : KeyPair) (key : KeyPair) → Lawful seal key → (h : Header) (n : ℕ) (payload packet : List ℕ) → Sealed seal h n payload packet → IsTrue (has_number h)
-    → length (plain_packet seal h n payload) ≡ header_size h + (length payload + seal.tag_size)
+pub plain_length : (seal : KeyPair) (key : KeyPair) → Lawful seal key → (h : Header) (n : ℕ) (payload packet : List ℕ) → SealedOf seal h n payload packet → IsTrue (has_number h)
+    → length (plain_of seal h n payload) ≡ header_size h + (length payload + seal.tag_size)
 plain_length seal key laws h n payload packet sealed numbered =
     let top : List ℕ = sealed_header seal.tag_size h payload in
     length-append top (seal.sealed n top payload)
     ∙ ap (λ (k : ℕ). k + length (seal.sealed n top payload)) (header_length h (bytes_of 2 (2 ^ 14 + protected_len seal.tag_size h payload)) numbered (law.length-bytes_of 2 (2 ^ 14 + protected_len seal.tag_size h payload)))
     ∙ ap (λ (k : ℕ). header_size h + k) (laws.sealed_len n top payload (let fits : n < 2 ^ 62 = sealed.fits in omega arith) (front_bytes top (seal.sealed n top payload) sealed.are_bytes) sealed.payload_bytes)
 
-pub sealed_shape : (seal : KeyPair) (key : KeyPair) → Lawful seal key → (h : Header) (n : ℕ) (payload packet : List ℕ) → Sealed seal h n payload packet → IsTrue (has_number h)
-    → (first : ℕ) (front numbers : List ℕ) → plain_packet seal h n payload ≡ (first ∷ front) ++ numbers → header_size h - size_in h ≡ length (first ∷ front)
+pub sealed_shape : (seal : KeyPair) (key : KeyPair) → Lawful seal key → (h : Header) (n : ℕ) (payload packet : List ℕ) → SealedOf seal h n payload packet → IsTrue (has_number h)
+    → (first : ℕ) (front numbers : List ℕ) → plain_of seal h n payload ≡ (first ∷ front) ++ numbers → header_size h - size_in h ≡ length (first ∷ front)
     → Shape key packet front ((first ∷ front) ++ numbers) first (header_size h - size_in h)
 sealed_shape seal key laws h n payload packet sealed numbered first front numbers same at_is =
     let at : ℕ = header_size h - size_in h in
@@ -128,8 +128,8 @@ joined front len behind rest = append_assoc (front ++ len) behind rest ∙ appen
 
 -- ---- 0-RTT and Handshake
 
-long_sealed : (seal : KeyPair) (key : KeyPair) → Lawful seal key → (context : Context) (ty : LongType) (dst src : List ℕ) (number : PacketNumber) (version n : ℕ) (payload packet rest : List ℕ)
-    → Sealed seal (header.Long ty dst src number version) n payload packet → IsReadBack context (header.Long ty dst src number version) rest
+long_sealed : (seal : KeyPair) (key : KeyPair) → Lawful seal key → (context : DecodeOptions) (ty : LongType) (dst src : List ℕ) (number : PacketNumber) (version n : ℕ) (payload packet rest : List ℕ)
+    → SealedOf seal (header.Long ty dst src number version) n payload packet → IsReadBack context (header.Long ty dst src number version) rest
     → Found seal key context (header.Long ty dst src number version) n payload packet rest
 long_sealed seal key laws context ty dst src number version n payload packet rest sealed read =
     let h : Header = header.Long ty dst src number version in
@@ -141,7 +141,7 @@ long_sealed seal key laws context ty dst src number version n payload packet res
     let tail : List ℕ = bytes_of 4 version ++ (long_id dst ++ long_id src) in
     let body : List ℕ = seal.sealed n (sealed_header seal.tag_size h payload) payload in
     let at : ℕ = header_size h - size_in h in
-    let same : plain_packet seal h n payload ≡ (first ∷ (tail ++ len)) ++ (number_bytes number ++ body) = regroup (first ∷ tail) len (number_bytes number) body in
+    let same : plain_of seal h n payload ≡ (first ∷ (tail ++ len)) ++ (number_bytes number ++ body) = regroup (first ∷ tail) len (number_bytes number) body in
     let at_is : at ≡ length (first ∷ (tail ++ len)) = omega (arith, front_length h refl, length-append (first ∷ tail) len, law.length-bytes_of 2 (2 ^ 14 + count)) in
     let it = sealed_shape seal key laws h n payload packet sealed refl first (tail ++ len) (number_bytes number ++ body) same at_is in
     let b : ℕ = get_or packet 0 0 in
@@ -189,8 +189,8 @@ long_sealed seal key laws context ty dst src number version n payload packet res
 
 -- ---- Initial
 
-initial_sealed : (seal : KeyPair) (key : KeyPair) → Lawful seal key → (context : Context) (i : InitialHeader) (n : ℕ) (payload packet rest : List ℕ)
-    → Sealed seal (header.Initial i) n payload packet → IsReadBack context (header.Initial i) rest
+initial_sealed : (seal : KeyPair) (key : KeyPair) → Lawful seal key → (context : DecodeOptions) (i : InitialHeader) (n : ℕ) (payload packet rest : List ℕ)
+    → SealedOf seal (header.Initial i) n payload packet → IsReadBack context (header.Initial i) rest
     → Found seal key context (header.Initial i) n payload packet rest
 initial_sealed seal key laws context i n payload packet rest sealed read =
     let h : Header = header.Initial i in
@@ -201,13 +201,13 @@ initial_sealed seal key laws context i n payload packet rest sealed read =
     let bounds = size_bounds number in
     let count : ℕ = protected_len seal.tag_size h payload in
     let len : List ℕ = bytes_of 2 (2 ^ 14 + count) in
-    let var : List ℕ = short (length token) in
+    let var : List ℕ = shortest_varint (length token) in
     let first : ℕ = long_first version kind.Initial size in
     let tail : List ℕ = bytes_of 4 version ++ (long_id i.dst_cid ++ long_id i.src_cid) in
     let front : List ℕ = tail ++ (var ++ token) in
     let body : List ℕ = seal.sealed n (sealed_header seal.tag_size h payload) payload in
     let at : ℕ = header_size h - size_in h in
-    let same : plain_packet seal h n payload ≡ (first ∷ (front ++ len)) ++ (number_bytes number ++ body) = regroup (first ∷ front) len (number_bytes number) body in
+    let same : plain_of seal h n payload ≡ (first ∷ (front ++ len)) ++ (number_bytes number ++ body) = regroup (first ∷ front) len (number_bytes number) body in
     let at_is : at ≡ length (first ∷ (front ++ len)) = omega (arith, front_length h refl, length-append (first ∷ front) len, law.length-bytes_of 2 (2 ^ 14 + count)) in
     let it = sealed_shape seal key laws h n payload packet sealed refl first (front ++ len) (number_bytes number ++ body) same at_is in
     let b : ℕ = get_or packet 0 0 in
@@ -230,7 +230,7 @@ initial_sealed seal key laws context i n payload packet rest sealed read =
     let left : length behind ≡ length packet - at = length-drop at packet in
     let top : length (b ∷ tail) ≡ 7 + length i.dst_cid + length i.src_cid = long_length b version i.dst_cid i.src_cid in
     let token_at : ℕ = 7 + length i.dst_cid + length i.src_cid + length var in
-    let token_found : slice_range (plain_packet seal h n payload) token_at (token_at + length token) ≡ token =
+    let token_found : slice_range (plain_of seal h n payload) token_at (token_at + length token) ≡ token =
     ap (λ (xs : List ℕ). slice_range xs token_at (token_at + length token))
     (ap (λ (xs : List ℕ). (xs ++ (len ++ number_bytes number)) ++ body) (sym (append_assoc (first ∷ tail) var token))
     ∙ append_assoc (((first ∷ tail) ++ var) ++ token) (len ++ number_bytes number) body
@@ -302,8 +302,8 @@ short_byte true false size b low up h = record { short = omega arith; fixed = om
 short_byte false true size b low up h = record { short = omega arith; fixed = omega arith; spin_bit = sym (is_none (b / 32 % 2) (omega arith)); phase_bit = is_one (short_first false true size / 4 % 2) (omega arith); low = omega arith }
 short_byte false false size b low up h = record { short = omega arith; fixed = omega arith; spin_bit = sym (is_none (b / 32 % 2) (omega arith)); phase_bit = is_none (short_first false false size / 4 % 2) (omega arith); low = omega arith }
 
-short_sealed : (seal : KeyPair) (key : KeyPair) → Lawful seal key → (context : Context) (spin key_phase : Bool) (dst : List ℕ) (number : PacketNumber) (n : ℕ) (payload packet rest : List ℕ)
-    → Sealed seal (header.Short spin key_phase dst number) n payload packet → IsReadBack context (header.Short spin key_phase dst number) rest
+short_sealed : (seal : KeyPair) (key : KeyPair) → Lawful seal key → (context : DecodeOptions) (spin key_phase : Bool) (dst : List ℕ) (number : PacketNumber) (n : ℕ) (payload packet rest : List ℕ)
+    → SealedOf seal (header.Short spin key_phase dst number) n payload packet → IsReadBack context (header.Short spin key_phase dst number) rest
     → Found seal key context (header.Short spin key_phase dst number) n payload packet rest
 short_sealed seal key laws context spin key_phase dst number n payload packet rest sealed read =
     let h : Header = header.Short spin key_phase dst number in
@@ -312,7 +312,7 @@ short_sealed seal key laws context spin key_phase dst number n payload packet re
     let first : ℕ = short_first spin key_phase size in
     let body : List ℕ = seal.sealed n (sealed_header seal.tag_size h payload) payload in
     let at : ℕ = header_size h - size_in h in
-    let same : plain_packet seal h n payload ≡ (first ∷ dst) ++ (number_bytes number ++ body) = append_assoc (first ∷ dst) (number_bytes number) body in
+    let same : plain_of seal h n payload ≡ (first ∷ dst) ++ (number_bytes number ++ body) = append_assoc (first ∷ dst) (number_bytes number) body in
     let at_is : at ≡ length (first ∷ dst) = omega arith in
     let it = sealed_shape seal key laws h n payload packet sealed refl first dst (number_bytes number ++ body) same at_is in
     let b : ℕ = get_or packet 0 0 in
@@ -336,7 +336,7 @@ short_sealed seal key laws context spin key_phase dst number n payload packet re
         λ got end opened.
             let known : opened.0 ≡ number = number_known opened.0 number first dst body at at_is byte.low sealed.writable
             (subst (IsNumberIn opened.0 at) same opened.1) in
-            let phase : nat_eq (slice_index (plain_packet seal h n payload) 0 / 4 % 2) 1 ≡ key_phase = byte.phase_bit in (
+            let phase : nat_eq (slice_index (plain_of seal h n payload) 0 / 4 % 2) 1 ≡ key_phase = byte.phase_bit in (
               opened.2 ∙ ap (λ (p : Bool). header.Short spin p dst opened.0) phase ∙ ap (λ (k : PacketNumber). header.Short spin key_phase dst k) known,
               opened.3 ∙ ap (λ (k : PacketNumber). at + number_size k) known ∙ omega arith,
             ),
@@ -351,15 +351,15 @@ short_sealed seal key laws context spin key_phase dst number n payload packet re
       back = it.back ∙ sym same;
     }
 
-pub sealed_found : (seal : KeyPair) (key : KeyPair) → Lawful seal key → (context : Context) (h : Header) (n : ℕ) (payload packet rest : List ℕ)
-    → Sealed seal h n payload packet → IsReadBack context h rest → Found seal key context h n payload packet rest
+pub sealed_found : (seal : KeyPair) (key : KeyPair) → Lawful seal key → (context : DecodeOptions) (h : Header) (n : ℕ) (payload packet rest : List ℕ)
+    → SealedOf seal h n payload packet → IsReadBack context h rest → Found seal key context h n payload packet rest
 sealed_found seal key laws context (header.Initial i) n payload packet rest sealed read = initial_sealed seal key laws context i n payload packet rest sealed read
 sealed_found seal key laws context (header.Long ty dst src number version) n payload packet rest sealed read = long_sealed seal key laws context ty dst src number version n payload packet rest sealed read
 sealed_found seal key laws context (header.Retry dst src version) n payload packet rest sealed read = absurd read
 sealed_found seal key laws context (header.Short spin key_phase dst number) n payload packet rest sealed read = short_sealed seal key laws context spin key_phase dst number n payload packet rest sealed read
 sealed_found seal key laws context (header.VersionNegotiate random src dst) n payload packet rest sealed read = absurd read
 
-pub read_numbered : (context : Context) (h : Header) (rest : List ℕ) → IsReadBack context h rest → IsTrue (has_number h)
+pub read_numbered : (context : DecodeOptions) (h : Header) (rest : List ℕ) → IsReadBack context h rest → IsTrue (has_number h)
 read_numbered context (header.Initial i) rest read = refl
 read_numbered context (header.Long ty dst src number version) rest read = refl
 read_numbered context (header.Retry dst src version) rest read = absurd read

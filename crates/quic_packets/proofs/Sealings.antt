@@ -1,7 +1,7 @@
 -- What is written behind a header, and sealed, is a sealed packet.
 use Rattle.std.specs.Prelude.{◌≡◌, ℕ, ◌+◌, ◌-◌, ◌≤◌, ◌^◌, Bool, IsTrue, List, ◌∷◌, ◌++◌, length, take, drop, Option, Some, None, slice_range, replicate, IfSome}
 use Rattle.std.proofs.Common.{sym, ap, ◌∙◌, arith, refl, subst, length-append, append_assoc}
-use Rattle.quic_base.specs.Varint.{short, size}
+use Rattle.quic_base.specs.Varint.{shortest_varint, size}
 use Rattle.quic_base.specs.ConnectionId.{long_id}
 use Rattle.quic_base.proofs.PublicLaws.{length-short, length-bytes_of}
 use Rattle.std.proofs.Math.ListN.{length-replicate}
@@ -16,8 +16,15 @@ use Rattle.quic_header_encode.specs.Starts.{long_front}
 use Rattle.quic_header_encode.specs.declared.long_type.LongHeaderType.TheVariants as kind
 use Rattle.quic_header_encode.specs.Writing.{long_first, header_front, header_with, header_bytes, header_size, no_length, place_in, size_in, has_length, has_number, with_length, sealed_packet}
 use Rattle.quic_packets.specs.Pairs.{KeyPair}
-use Rattle.quic_packets.specs.Sealing.{plain_packet, sealed_header, protected_len}
+use Rattle.quic_packets.specs.Sealing.{Sealed, plain_packet, sealed_header, protected_len}
 use Rattle.quic_header_decode.proofs.Steps.{take_front, drop_front}
+
+-- a sealed packet, and what it is before its header is protected, by its parts
+abbrev pub SealedOf : KeyPair → Header → ℕ → List ℕ → List ℕ → Type 0
+SealedOf keys h n payload bytes = Sealed keys (record { header = h; number = n; payload = payload }) bytes
+
+abbrev pub plain_of : KeyPair → Header → ℕ → List ℕ → List ℕ
+plain_of keys h n payload = plain_packet keys (record { header = h; number = n; payload = payload })
 
 pub place_is : (h : Header) → IsTrue (has_number h) → place_in h ≡ Some (size_in h, has_length h)
 place_is (header.Initial h) e = refl
@@ -46,7 +53,7 @@ pub front_length : (h : Header) → IsTrue (has_length h) → header_size h ≡ 
 front_length (header.Initial h) e =
     let first : ℕ = long_first h.version kind.Initial (number_size h.number) in
     let front : List ℕ = long_front first h.version h.dst_cid h.src_cid in
-    omega (arith, length-append front (short (length h.token) ++ h.token), length-append (short (length h.token)) h.token, length-short (length h.token), long_length first h.version h.dst_cid h.src_cid)
+    omega (arith, length-append front (shortest_varint (length h.token) ++ h.token), length-append (shortest_varint (length h.token)) h.token, length-short (length h.token), long_length first h.version h.dst_cid h.src_cid)
 front_length (header.Long ty dst src number version) e = omega (arith, long_length (long_first version (kind.Standard ty) (number_size number)) version dst src)
 front_length (header.Retry dst src version) e = absurd cc
 front_length (header.Short spin key_phase dst number) e = absurd cc
@@ -134,14 +141,14 @@ pub sealed_end : (keys : KeyPair) (h : Header) (n : ℕ) (payload before old new
     → header_len ≡ header_size h → start ≡ length before → old ≡ before ++ (header_bytes h ++ (payload ++ replicate keys.tag_size 0))
     → IfSome pn (λ p. new ≡ take start old ++ keys.protected (header_len - p.0) (sealed_packet header_len (Some (keys.tag_size, keys.sealed n)) (with_length p.0 p.1 header_len (drop start old))))
     → IfSome pn (λ p. AreBytes (sealed_packet header_len (Some (keys.tag_size, keys.sealed n)) (with_length p.0 p.1 header_len (drop start old))))
-    → (new ≡ before ++ keys.protected (header_size h - size_in h) (plain_packet keys h n payload)) × AreBytes (plain_packet keys h n payload)
+    → (new ≡ before ++ keys.protected (header_size h - size_in h) (plain_of keys h n payload)) × AreBytes (plain_of keys h n payload)
 sealed_end keys h n payload before old new start header_len pn numbered pn_is len_is start_is old_is text fits =
     let written : List ℕ = header_bytes h ++ (payload ++ replicate keys.tag_size 0) in
     let seal : Option (ℕ × (List ℕ → List ℕ → List ℕ)) = Some (keys.tag_size, keys.sealed n) in
     let place = pn_is ∙ place_is h numbered in
     let front : take start old ≡ before = ap (take start) old_is ∙ take_front before written start (sym start_is) in
     let back : drop start old ≡ written = ap (drop start) old_is ∙ drop_front before written start (sym start_is) in
-    let whole : sealed_packet header_len seal (with_length (size_in h) (has_length h) header_len (drop start old)) ≡ plain_packet keys h n payload =
+    let whole : sealed_packet header_len seal (with_length (size_in h) (has_length h) header_len (drop start old)) ≡ plain_of keys h n payload =
     ap (λ (len : ℕ). sealed_packet len seal (with_length (size_in h) (has_length h) len (drop start old))) len_is
     ∙ ap (λ (xs : List ℕ). sealed_packet (header_size h) seal (with_length (size_in h) (has_length h) (header_size h) xs)) back
     ∙ packet_sealed (keys.sealed n) h payload keys.tag_size numbered in
@@ -149,6 +156,6 @@ sealed_end keys h n payload before old new start header_len pn numbered pn_is le
     let bytes = if_some (λ p. AreBytes (sealed_packet header_len (Some (keys.tag_size, keys.sealed n)) (with_length p.0 p.1 header_len (drop start old)))) pn (size_in h, has_length h) place fits in (
       shown ∙ ap (λ (xs : List ℕ). xs ++ keys.protected (header_len - size_in h) (sealed_packet header_len seal (with_length (size_in h) (has_length h) header_len (drop start old)))) front
           ∙ ap (λ (xs : List ℕ). before ++ keys.protected (header_len - size_in h) xs) whole
-          ∙ ap (λ (len : ℕ). before ++ keys.protected (len - size_in h) (plain_packet keys h n payload)) len_is,
+          ∙ ap (λ (len : ℕ). before ++ keys.protected (len - size_in h) (plain_of keys h n payload)) len_is,
       subst AreBytes whole bytes,
     )

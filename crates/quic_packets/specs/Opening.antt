@@ -1,72 +1,38 @@
--- Packets that are opened.
-use Rattle.std.specs.Prelude.{◌≡◌, ◌≢◌, ℕ, ◌<◌, ◌≤◌, ◌⊎◌, Bool, true, IsTrue, List, ◌++◌, length, take, drop, Option, Some, None, [], ◌^◌, Result, Ok}
+-- Packets that are opened: the first one of a datagram, the next one, and all of them.
+use Rattle.std.specs.Prelude.{◌≡◌, ◌≢◌, ℕ, ◌+◌, ◌<◌, ◌≤◌, ◌⊎◌, Bool, true, IsTrue, List, [], ◌∷◌, ◌++◌, length, map, Option, Some, None, ◌^◌, Result, Ok, Err, IfOk, IfErr, IfSome, IsSome, MatchOption, MatchResult}
+use Rattle.bytes.specs.Filled.{Filled}
+use Rattle.quic_base.specs.declared.ids.SpaceId.{SpaceId}
 use Rattle.quic_crypto.specs.Keys.{HasSample}
-use Rattle.quic_crypto.specs.PacketNumbers.{low_part, window_of, Expands, IsInRange}
+use Rattle.quic_crypto.specs.PacketNumbers.{low_part, window_of, Expands}
 use Rattle.quic_header_decode.specs.declared.decode_error.PacketDecodeError.{PacketDecodeError}
-use Rattle.quic_header_decode.specs.declared.protected.ProtectedHeader.{ProtectedHeader}
-use Rattle.quic_header_encode.specs.declared.header.Header.{Header}
-use Rattle.quic_header_encode.specs.declared.header.Header.TheVariants as header
-use Rattle.quic_packets.specs.declared.opening.OpenError.{OpenError}
-use Rattle.quic_packets.specs.declared.opening.OpenError.TheVariants as error
-use Rattle.quic_header_decode.specs.Refusal.{Refusal, refusal_of, NoMemory}
 use Rattle.quic_header_decode.specs.Finish.{sample_refusal}
 use Rattle.quic_header_decode.specs.Grammar.{Cut, Uncut, IsKnownVersion}
-use Rattle.quic_header_decode.specs.Reading.{Context, IsRest}
-use Rattle.bytes.specs.Filled.{Filled}
 use Rattle.quic_header_decode.specs.Headers.{IsOpenedBy, without_number}
+use Rattle.quic_header_decode.specs.Packet.{CutPacket}
 use Rattle.quic_header_decode.specs.Queries.{space_of}
-use Rattle.quic_header_encode.specs.Queries.{space_in}
-use Rattle.quic_base.specs.declared.ids.SpaceId.{SpaceId}
+use Rattle.quic_header_decode.specs.Reading.{DecodeOptions, IsRest}
+use Rattle.quic_header_decode.specs.Refusal.{refusal_of, NoMemory}
+use Rattle.quic_header_encode.specs.declared.header.Header.{Header}
+use Rattle.quic_header_encode.specs.declared.header.Header.TheVariants as header
+use Rattle.quic_header_encode.specs.Queries.{number_in, space_in}
 use Rattle.quic_packets.specs.declared.keys.Expected.{Expected}
+use Rattle.quic_packets.specs.declared.opening.OpenError.{OpenError}
+use Rattle.quic_packets.specs.declared.opening.OpenError.TheVariants as error
+use Rattle.quic_packets.specs.declared.opening.Opened.{Opened}
 use Rattle.quic_packets.specs.Pairs.{KeyPair}
-use Rattle.quic_packets.specs.Sealing.{sealed_header}
+use Rattle.quic_packets.specs.Sealing.{IsAppended, PacketContents, Sealed, sealed_header}
 
--- what headers are read by: a parser of ids, the versions that are known, and whether the fixed bit may be clear
-abbrev pub read_by : (List ℕ → Result (List ℕ × ℕ) Refusal) → List ℕ → Bool → Context
-read_by parsed versions grease = record { parsed = parsed; versions = versions; grease = grease }
+-- ---- what is handed in, and what comes out
 
--- the number for which the one in the header stands
-abbrev pub ExpandsIn : Header → ℕ → ℕ → Type 0
-ExpandsIn (header.Initial h) expected n = Expands (low_part h.number) (window_of h.number) expected n
-ExpandsIn (header.Long ty dst src number version) expected n = Expands (low_part number) (window_of number) expected n
-ExpandsIn (header.Retry dst src version) expected n = ⊥
-ExpandsIn (header.Short spin key_phase dst number) expected n = Expands (low_part number) (window_of number) expected n
-ExpandsIn (header.VersionNegotiate random src dst) expected n = ⊥
-
--- a protected packet has this header, number and sealed payload
-pub record Unlocked (keys : KeyPair) (expected : ℕ) (h : ProtectedHeader) (at : ℕ) (packet : List ℕ) (header : Header) (head body : List ℕ) (n : ℕ) : Type 0 where
-  pub sample : HasSample keys.sample_len at packet
-  pub whole : head ++ body ≡ keys.unprotected at packet
-  pub is_header : IsOpenedBy true h at header (head ++ body) (length head)
-  pub number : ExpandsIn header expected n
-
--- what a key gives of a packet
-abbrev pub KeyGives : KeyPair → ℕ → ProtectedHeader → ℕ → List ℕ → Header → List ℕ → Option ℕ → List ℕ → Type 0
-KeyGives key expected h at packet header head (Some n) payload =
-    (body : List ℕ) × Unlocked key expected h at packet header head body n × (key.opened n head body ≡ Some payload)
-KeyGives key expected h at packet header head None payload = ⊥
-
--- what is given of a packet: opened by the key of its space, or as it stands
-abbrev pub PartGives : (SpaceId → KeyPair) → (SpaceId → ℕ) → ProtectedHeader → ℕ → List ℕ → Header → List ℕ → Option ℕ → List ℕ → Type 0
-PartGives keys expected h at packet header head (Some n) payload =
-    (space : SpaceId) × (space_of h ≡ Some space) × KeyGives (keys space) (expected space) h at packet header head (Some n) payload
-PartGives keys expected h at packet header head None payload =
-    (space_of h ≡ None) × without_number h header × (head ++ payload ≡ packet) × (length head ≡ at)
-
--- why a key does not open a packet: there is no sample, or it is not sealed by that key
-abbrev pub KeyRefuses : KeyPair → ℕ → ProtectedHeader → ℕ → List ℕ → OpenError → Type 0
-KeyRefuses key expected h at packet (error.Decode e) = (refusal_of e ≡ sample_refusal) × (HasSample key.sample_len at packet → ⊥)
-KeyRefuses key expected h at packet error.Unsealed =
-    (header : Header) × (head : List ℕ) × (body : List ℕ) × (n : ℕ) × Unlocked key expected h at packet header head body n × (key.opened n head body ≡ None)
-KeyRefuses key expected h at packet error.OutOfMemory = Unit {0}
-
--- why a packet is not opened: the key of its space does not open it, or memory ran out
-abbrev pub PartRefuses : (SpaceId → KeyPair) → (SpaceId → ℕ) → ProtectedHeader → ℕ → List ℕ → OpenError → Type 0
-PartRefuses keys expected h at packet (error.Decode e) =
-    (space : SpaceId) × (space_of h ≡ Some space) × KeyRefuses (keys space) (expected space) h at packet (error.Decode e)
-PartRefuses keys expected h at packet error.Unsealed =
-    (space : SpaceId) × (space_of h ≡ Some space) × KeyRefuses (keys space) (expected space) h at packet error.Unsealed
-PartRefuses keys expected h at packet error.OutOfMemory = Unit {0}
+-- what packets are opened with
+pub record Opening : Type 0 where
+  pub keys : SpaceId → KeyPair
+  -- the parser of ids, the versions that are known, and whether the fixed bit may be clear
+  pub options : DecodeOptions
+  -- the parser takes memory
+  pub takes_memory : Bool
+  -- the number that is expected next in each space
+  pub expected : SpaceId → ℕ
 
 -- expected numbers are below 2^62
 pub record AreExpected (expected : Expected) : Type 0 where
@@ -74,60 +40,228 @@ pub record AreExpected (expected : Expected) : Type 0 where
   pub handshake : expected.handshake < 2 ^ 62
   pub app : expected.app < 2 ^ 62
 
--- the same refusal, which says want of memory in a word of its own
+-- a packet that was opened
+pub record OpenedPacket : Type 0 where
+  pub header : Header
+  pub header_bytes : List ℕ
+  -- the whole number, where the packet has one
+  pub number : Option ℕ
+  pub payload : List ℕ
+
+abbrev pub packet_of : Opened → OpenedPacket
+packet_of x = record { header = x.header; header_bytes = x.header_data; number = x.number; payload = x.payload.items }
+
+-- ---- a packet that was cut
+
+-- the bytes begin with this packet, and rest follows it
+pub record CutsFirst (options : DecodeOptions) (bytes : List ℕ) (packet : CutPacket) (rest : List ℕ) : Type 0 where
+  pub cut : Cut options bytes packet.head packet.header_end (length packet.bytes)
+  pub text : bytes ≡ packet.bytes ++ rest
+
+-- the number for which the one in the header stands
+abbrev pub ExpandsIn : Header → ℕ → ℕ → Type 0
+ExpandsIn h expected n = MatchOption (number_in h) ⊥ (λ number. Expands (low_part number) (window_of number) expected n)
+
+-- a packet without its header's protection
+pub record UnlockedPacket : Type 0 where
+  pub header : Header
+  pub header_bytes : List ℕ
+  pub sealed_payload : List ℕ
+  pub number : ℕ
+
+-- a key takes the protection off, and the number is found from the one that is expected
+pub record Unlocks (key : KeyPair) (expected : ℕ) (cut : CutPacket) (packet : UnlockedPacket) : Type 0 where
+  pub sample : HasSample key.sample_len cut.header_end cut.bytes
+  pub whole : packet.header_bytes ++ packet.sealed_payload ≡ key.unprotected cut.header_end cut.bytes
+  pub is_header : IsOpenedBy true cut.head cut.header_end packet.header
+      (packet.header_bytes ++ packet.sealed_payload) (length packet.header_bytes)
+  pub number : ExpandsIn packet.header expected packet.number
+
+-- the payload that a key opens, if it was sealed by it
+abbrev pub payload_opened : KeyPair → UnlockedPacket → Option (List ℕ)
+payload_opened key packet = key.opened packet.number packet.header_bytes packet.sealed_payload
+
+-- a key opens the packet
+pub record OpensWithKey (key : KeyPair) (expected : ℕ) (cut : CutPacket) (opened : OpenedPacket) : Type 0 where
+  pub unlocked : UnlockedPacket
+  pub unlocks : Unlocks key expected cut unlocked
+  pub header : opened.header ≡ unlocked.header
+  pub header_bytes : opened.header_bytes ≡ unlocked.header_bytes
+  pub number : opened.number ≡ Some unlocked.number
+  pub payload : payload_opened key unlocked ≡ Some opened.payload
+
+-- a Retry or version negotiation is given as it stands
+pub record OpensPlain (cut : CutPacket) (opened : OpenedPacket) : Type 0 where
+  pub header : without_number cut.head opened.header
+  pub bytes : opened.header_bytes ++ opened.payload ≡ cut.bytes
+  pub header_end : length opened.header_bytes ≡ cut.header_end
+  pub number : opened.number ≡ None
+
+-- the key of its space opens the packet; without a space it is given as it stands
+abbrev pub OpensPacket : (SpaceId → KeyPair) → (SpaceId → ℕ) → CutPacket → OpenedPacket → Type 0
+OpensPacket keys expected cut opened = MatchOption (space_of cut.head) (OpensPlain cut opened)
+    (λ space. OpensWithKey (keys space) (expected space) cut opened)
+
+-- why a key does not open the packet: there is no sample, or it was not sealed by that key; memory may run out
+abbrev pub RefusesWithKey : KeyPair → ℕ → CutPacket → OpenError → Type 0
+RefusesWithKey key expected cut (error.Decode e) =
+    (refusal_of e ≡ sample_refusal) × (HasSample key.sample_len cut.header_end cut.bytes → ⊥)
+RefusesWithKey key expected cut error.Unsealed =
+    (packet : UnlockedPacket) × Unlocks key expected cut packet × (payload_opened key packet ≡ None)
+RefusesWithKey key expected cut error.OutOfMemory = Unit {0}
+
+-- why the packet is not opened: the key of its space does not open it, or memory ran out
+abbrev pub RefusesPacket : (SpaceId → KeyPair) → (SpaceId → ℕ) → CutPacket → OpenError → Type 0
+RefusesPacket keys expected cut e = MatchOption (space_of cut.head) (e ≡ error.OutOfMemory)
+    (λ space. RefusesWithKey (keys space) (expected space) cut e)
+
+-- the same refusal of a cut, which says want of memory in a word of its own
 abbrev pub IsDecode : PacketDecodeError → OpenError → Type 0
 IsDecode e (error.Decode f) = (refusal_of f ≡ refusal_of e) × (refusal_of e ≢ NoMemory)
 IsDecode e error.Unsealed = ⊥
 IsDecode e error.OutOfMemory = refusal_of e ≡ NoMemory
 
--- the header's number is in range
-abbrev pub HasNumber : Header → Type 0
-HasNumber (header.Initial h) = IsInRange h.number
-HasNumber (header.Long ty dst src number version) = IsInRange number
-HasNumber (header.Retry dst src version) = ⊥
-HasNumber (header.Short spin key_phase dst number) = IsInRange number
-HasNumber (header.VersionNegotiate random src dst) = ⊥
-
--- a packet was cut, and this was given of it
-abbrev pub PacketGives : (SpaceId → KeyPair) → Context → (SpaceId → ℕ) → List ℕ → Header → List ℕ → Option ℕ → List ℕ → Option Filled → Type 0
-PacketGives keys context expected bytes header head number payload rest =
-    (h : ProtectedHeader) × (p : ℕ) × (q : ℕ) × Cut context bytes h p q
-    × PartGives keys expected h p (take q bytes) header head number payload × IsRest rest (drop q bytes)
-
 -- no packet was cut
-abbrev pub IsUncut : Bool → Context → List ℕ → OpenError → Type 0
-IsUncut takes_memory context bytes (error.Decode e) = Uncut context bytes (refusal_of e)
-IsUncut takes_memory context bytes error.Unsealed = ⊥
-IsUncut takes_memory context bytes error.OutOfMemory = IsTrue takes_memory
+abbrev pub IsUncut : Opening → List ℕ → OpenError → Type 0
+IsUncut opening bytes (error.Decode e) = Uncut opening.options bytes (refusal_of e)
+IsUncut opening bytes error.Unsealed = ⊥
+IsUncut opening bytes error.OutOfMemory = IsTrue opening.takes_memory
 
--- why a datagram's first packet is not opened: none can be cut, or the packet is not opened
-abbrev pub PacketRefuses : Bool → (SpaceId → KeyPair) → Context → (SpaceId → ℕ) → List ℕ → OpenError → Type 0
-PacketRefuses takes_memory keys context expected bytes e =
-    IsUncut takes_memory context bytes e
-    ⊎ ((h : ProtectedHeader) × (p : ℕ) × (q : ℕ) × Cut context bytes h p q × PartRefuses keys expected h p (take q bytes) e)
+-- ---- any bytes
+
+-- the first packet is opened, and rest follows it
+pub record Opens (opening : Opening) (bytes : List ℕ) (opened : OpenedPacket) (rest : List ℕ) : Type 0 where
+  pub packet : CutPacket
+  pub first : CutsFirst opening.options bytes packet rest
+  pub opens : OpensPacket opening.keys opening.expected packet opened
+
+-- why the first packet is not opened: none can be cut, or it is not opened
+abbrev pub Refuses : Opening → List ℕ → OpenError → Type 0
+Refuses opening bytes e = IsUncut opening bytes e
+    ⊎ ((packet : CutPacket) × (rest : List ℕ) × CutsFirst opening.options bytes packet rest
+    × RefusesPacket opening.keys opening.expected packet e)
+
+-- the first packet is opened, and what follows it is left, if anything does
+pub record OpensFirst (opening : Opening) (bytes : List ℕ) (opened : Opened) (left : Option Filled) : Type 0 where
+  pub rest : List ℕ
+  pub opens : Opens opening bytes (packet_of opened) rest
+  pub left_is : IsRest left rest
+
+-- these packets are opened one after another, and then these bytes are left
+pub data OpensSome (opening : Opening) : List ℕ → List OpenedPacket → List ℕ → Type 0 where
+  start : (bytes : List ℕ) → OpensSome opening bytes [] bytes
+  step : (bytes rest left : List ℕ) (opened : OpenedPacket) (others : List OpenedPacket)
+      → Opens opening bytes opened rest → 0 < length rest
+      → OpensSome opening rest others left → OpensSome opening bytes (opened ∷ others) left
+
+-- these packets are opened one after another, and nothing follows the last
+pub data OpensAll (opening : Opening) : List ℕ → List OpenedPacket → Type 0 where
+  only : (bytes : List ℕ) (opened : OpenedPacket) → Opens opening bytes opened [] → OpensAll opening bytes (opened ∷ [])
+  followed : (bytes rest : List ℕ) (opened : OpenedPacket) (others : List OpenedPacket)
+      → Opens opening bytes opened rest → 0 < length rest
+      → OpensAll opening rest others → OpensAll opening bytes (opened ∷ others)
+
+-- ---- sealed bytes
 
 -- a header that is read back where these bytes follow its packet
-abbrev pub IsReadBack : Context → Header → List ℕ → Type 0
-IsReadBack context (header.Initial h) rest = (h.version < 2 ^ 32) × IsKnownVersion context h.version × (length h.dst_cid ≤ 20) × (length h.src_cid ≤ 20)
-IsReadBack context (header.Long ty dst src number version) rest = (version < 2 ^ 32) × IsKnownVersion context version × (length dst ≤ 20) × (length src ≤ 20)
-IsReadBack context (header.Retry dst src version) rest = ⊥
-IsReadBack context (header.Short spin key_phase dst number) rest = (rest ≡ []) × ((tail : List ℕ) → context.parsed (dst ++ tail) ≡ Ok (dst, length dst))
-IsReadBack context (header.VersionNegotiate random src dst) rest = ⊥
+abbrev pub IsReadBack : DecodeOptions → Header → List ℕ → Type 0
+IsReadBack options (header.Initial h) rest =
+    (h.version < 2 ^ 32) × IsKnownVersion options h.version × (length h.dst_cid ≤ 20) × (length h.src_cid ≤ 20)
+IsReadBack options (header.Long ty dst src number version) rest =
+    (version < 2 ^ 32) × IsKnownVersion options version × (length dst ≤ 20) × (length src ≤ 20)
+IsReadBack options (header.Retry dst src version) rest = ⊥
+IsReadBack options (header.Short spin key_phase dst number) rest =
+    (rest ≡ []) × ((tail : List ℕ) → options.parsed (dst ++ tail) ≡ Ok (dst, length dst))
+IsReadBack options (header.VersionNegotiate random src dst) rest = ⊥
 
--- The first packet of the bytes is cut behind so many bytes, and the key of its space gives this header, number and
--- payload of it.
-pub record Opens (keys : KeyPair) (context : Context) (expected : ℕ) (bytes : List ℕ) (count : ℕ) (h : Header) (n : ℕ) (payload : List ℕ) : Type 0 where
-  pub found : ProtectedHeader
-  pub at : ℕ
-  pub cut : Cut context bytes found at count
-  pub space : space_of found ≡ Some (space_in h)
-  pub gives : KeyGives keys expected found at (take count bytes) h (sealed_header keys.tag_size h payload) (Some n) payload
+-- The bytes begin with a packet that was sealed by the keys of its space, whose header is read back, and whose number
+-- is found from the one that is expected; rest follows it.
+pub record BeginsSealed (opening : Opening) (bytes : List ℕ) (contents : PacketContents) (rest : List ℕ) : Type 0 where
+  pub packet : List ℕ
+  pub sealed : Sealed (opening.keys (space_in contents.header)) contents packet
+  pub read : IsReadBack opening.options contents.header rest
+  pub number : ExpandsIn contents.header (opening.expected (space_in contents.header)) contents.number
+  pub text : bytes ≡ packet ++ rest
 
--- what is given of a packet that was sealed with a tag of that many bytes: its header with the header's bytes, its
--- number, its payload, and what follows it
-pub record IsBack (tag_size : ℕ) (h : Header) (n : ℕ) (payload rest : List ℕ) (got : Header) (head : List ℕ) (number : Option ℕ) (opened : List ℕ) (left : Option Filled) : Type 0 where
-  pub header_back : got ≡ h
-  pub bytes_back : head ≡ sealed_header tag_size h payload
-  pub number_back : number ≡ Some n
-  pub payload_back : opened ≡ payload
-  pub rest_back : IsRest left rest
+-- the packet that comes back of sealed contents
+abbrev pub returned : KeyPair → PacketContents → OpenedPacket
+returned keys contents = record {
+  header = contents.header;
+  header_bytes = sealed_header keys.tag_size contents.header contents.payload;
+  number = Some contents.number;
+  payload = contents.payload;
+}
+
+abbrev pub returned_by : Opening → PacketContents → OpenedPacket
+returned_by opening contents = returned (opening.keys (space_in contents.header)) contents
+
+-- a sealed packet comes back, and what follows it is left
+pub record ReturnsSealed (opening : Opening) (contents : PacketContents) (rest : List ℕ) (opened : Opened)
+    (left : Option Filled) : Type 0 where
+  pub packet : packet_of opened ≡ returned_by opening contents
+  pub left_is : IsRest left rest
+
+-- the bytes are sealed packets in a row
+pub data SealedRow (opening : Opening) : List PacketContents → List ℕ → Type 0 where
+  last : (contents : PacketContents) (bytes : List ℕ) → BeginsSealed opening bytes contents []
+      → SealedRow opening (contents ∷ []) bytes
+  more : (contents : PacketContents) (bytes rest : List ℕ) (others : List PacketContents)
+      → BeginsSealed opening bytes contents rest → 0 < length rest
+      → SealedRow opening others rest → SealedRow opening (contents ∷ others) bytes
+
+-- what was opened is these contents, in order
+abbrev pub AreReturned : Opening → List PacketContents → List Opened → Type 0
+AreReturned opening packets opened = map packet_of opened ≡ map (returned_by opening) packets
+
+-- the first of these packets came back, and were appended
+abbrev pub ReturnsFront : Opening → List PacketContents → List Opened → List Opened → Type 0
+ReturnsFront opening packets old new = (front back : List PacketContents) × (packets ≡ front ++ back)
+    × IsAppended (AreReturned opening front) old new
+
+-- ---- what the calls say
+
+-- a call that opens the first packet
+pub record PacketAnswer (opening : Opening) (bytes : List ℕ)
+    (result : Result (Opened × Option Filled) OpenError) : Type 0 where
+  pub opened : IfOk result (λ x. OpensFirst opening bytes x.0 x.1)
+  pub shorter : IfOk result (λ x. IfSome x.1 (λ rest. length rest.items < length bytes))
+  pub refused : IfErr result (λ e. Refuses opening bytes e)
+  pub sealed : (contents : PacketContents) (rest : List ℕ) → BeginsSealed opening bytes contents rest
+      → MatchResult result (λ x. ReturnsSealed opening contents rest x.0 x.1) (λ e. e ≡ error.OutOfMemory)
+
+-- the next packet is opened of what is left, if anything is; after a refusal nothing is left
+abbrev pub OpensNext : Opening → Option Filled → Option (Result Opened OpenError) → Option Filled → Type 0
+OpensNext opening None result new = (result ≡ None) × (new ≡ None)
+OpensNext opening (Some left) None new = ⊥
+OpensNext opening (Some left) (Some (Ok opened)) new = OpensFirst opening left.items opened new
+OpensNext opening (Some left) (Some (Err e)) new = Refuses opening left.items e × (new ≡ None)
+
+-- the same where a sealed packet is next
+abbrev pub ReturnsNext : Opening → PacketContents → List ℕ → Option (Result Opened OpenError) → Option Filled → Type 0
+ReturnsNext opening contents rest None new = ⊥
+ReturnsNext opening contents rest (Some (Ok opened)) new = ReturnsSealed opening contents rest opened new
+ReturnsNext opening contents rest (Some (Err e)) new = e ≡ error.OutOfMemory
+
+-- how much is left, which each packet makes less
+abbrev pub left_size : Option Filled → ℕ
+left_size None = 0
+left_size (Some left) = 1 + length left.items
+
+-- a call that opens the next packet
+pub record NextAnswer (opening : Opening) (old : Option Filled) (result : Option (Result Opened OpenError))
+    (new : Option Filled) : Type 0 where
+  pub next : OpensNext opening old result new
+  pub shorter : IsSome result → left_size new < left_size old
+  pub sealed : IfSome old (λ left. (contents : PacketContents) (rest : List ℕ)
+      → BeginsSealed opening left.items contents rest
+      → ReturnsNext opening contents rest result new)
+
+-- a call that opens all packets, and appends them: where one is refused, those before it
+pub record DatagramAnswer {X : Type 0} (opening : Opening) (bytes : List ℕ) (result : Result X OpenError)
+    (old new : List Opened) : Type 0 where
+  pub opened : IfOk result (λ _. IsAppended (λ added. OpensAll opening bytes (map packet_of added)) old new)
+  pub refused : IfErr result (λ e. (left : List ℕ) × Refuses opening left e
+      × IsAppended (λ added. OpensSome opening bytes (map packet_of added) left) old new)
+  pub sealed : (packets : List PacketContents) → SealedRow opening packets bytes
+      → MatchResult result (λ _. IsAppended (AreReturned opening packets) old new)
+      (λ e. (e ≡ error.OutOfMemory) × ReturnsFront opening packets old new)

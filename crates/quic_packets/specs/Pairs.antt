@@ -1,12 +1,18 @@
--- A pair of keys, as what is said of packets names it.
+-- Pairs of keys, as what is said of packets names them, and keys and expected numbers by the space of a packet's number
+-- (RFC 9000, section 12.3).
 use Rattle.std.specs.Prelude.{◌≡◌, ℕ, ◌+◌, ◌<◌, ◌^◌, List, length, Option, Some}
 use Rattle.quic_base.specs.Number.{AreBytes}
+use Rattle.quic_base.specs.declared.ids.SpaceId.{SpaceId}
+use Rattle.quic_base.specs.declared.ids.SpaceId.TheVariants as space
 use Rattle.quic_crypto.specs.Keys.{HasSample, Protects}
+use Rattle.quic_packets.specs.declared.keys.Keys.{Keys}
+use Rattle.quic_packets.specs.declared.keys.SpaceKeys.{SpaceKeys}
+use Rattle.quic_packets.specs.declared.keys.Expected.{Expected}
 
 -- What a header key and a packet key do (RFC 9001, sections 5.3 and 5.4): how many bytes are sampled; how many bytes
 -- longer a sealed payload is; a packet with its header protected, whose number begins at a place, and with that taken
--- off; the sealed payload of a number, a header and a payload, and the payload of a number, a header and a sealed payload
--- where they belong together.
+-- off; the sealed payload of a number, a header and a payload, and the payload of a number, a header and a sealed
+-- payload where they belong together.
 pub record KeyPair : Type 0 where
   pub sample_len : ℕ
   pub tag_size : ℕ
@@ -18,7 +24,23 @@ pub record KeyPair : Type 0 where
 -- What a pair of keys must keep, as the traits of keys say: protecting changes a header's low bits and its number
 -- alone, and is undone; a sealed payload is longer by the tag, and opens with its number and head.
 pub record IsLawful (keys : KeyPair) : Type 0 where
-  pub protects : (at : ℕ) (packet : List ℕ) → AreBytes packet → HasSample keys.sample_len at packet → Protects at packet (keys.protected at packet)
-  pub restores : (at : ℕ) (packet : List ℕ) → AreBytes packet → HasSample keys.sample_len at packet → keys.unprotected at (keys.protected at packet) ≡ packet
-  pub sealed_len : (n : ℕ) (head payload : List ℕ) → n < 2 ^ 64 → AreBytes head → AreBytes payload → length (keys.sealed n head payload) ≡ length payload + keys.tag_size
-  pub opens : (n : ℕ) (head payload : List ℕ) → n < 2 ^ 64 → AreBytes head → AreBytes payload → keys.opened n head (keys.sealed n head payload) ≡ Some payload
+  pub protects : (at : ℕ) (packet : List ℕ) → AreBytes packet → HasSample keys.sample_len at packet
+      → Protects at packet (keys.protected at packet)
+  pub restores : (at : ℕ) (packet : List ℕ) → AreBytes packet → HasSample keys.sample_len at packet
+      → keys.unprotected at (keys.protected at packet) ≡ packet
+  pub sealed_len : (n : ℕ) (head payload : List ℕ) → n < 2 ^ 64 → AreBytes head → AreBytes payload
+      → length (keys.sealed n head payload) ≡ length payload + keys.tag_size
+  pub opens : (n : ℕ) (head payload : List ℕ) → n < 2 ^ 64 → AreBytes head → AreBytes payload
+      → keys.opened n head (keys.sealed n head payload) ≡ Some payload
+
+-- the keys of a space; 0-RTT packets share that of short ones
+abbrev pub keys_in : {H P : Type 0} → SpaceKeys H P → SpaceId → Keys H P
+keys_in keys space.Initial = keys.initial
+keys_in keys space.Handshake = keys.handshake
+keys_in keys space.Data = keys.app
+
+-- the number that is expected next in a space
+abbrev pub expected_in : Expected → SpaceId → ℕ
+expected_in expected space.Initial = expected.initial
+expected_in expected space.Handshake = expected.handshake
+expected_in expected space.Data = expected.app

@@ -1,6 +1,6 @@
 //! Keys and expected numbers by the space of a packet's number (RFC 9000, section 12.3; RFC 9001, section 5).
 ghost use Rattle.std.specs.Prelude.{◌≡◌};
-ghost use Rattle.quic_packets.specs.Spaces.{keys_in, expected_in};
+ghost use Rattle.quic_packets.specs.Pairs.{keys_in, expected_in};
 
 use quic_base::ids::SpaceId;
 

@@ -1,15 +1,14 @@
 //! Packets are opened (RFC 9001, sections 5.3 and 5.4).
-ghost use Rattle.std.specs.Prelude.{◌≡◌, ℕ, ◌<◌, ◌^◌, List, ◌++◌, length, IfOk, IfErr, IfSome, IsSome, MatchResult, IsTrue, false, None, Some};
+ghost use Rattle.std.specs.Prelude.{◌≡◌, ℕ, ◌<◌, ◌^◌, List, ◌++◌, length, IfOk, IfErr, IfSome, IsTrue, false, MatchOption, None, Some};
+ghost use Rattle.quic_crypto.specs.PacketNumbers.{IsInRange};
 ghost use Rattle.quic_header_decode.specs.Headers.{is_protected};
 ghost use Rattle.quic_header_decode.specs.Queries.{space_of};
-ghost use Rattle.quic_header_encode.specs.Queries.{space_in};
-ghost use Rattle.quic_packets.specs.Opening.{read_by, AreExpected, IsReadBack, HasNumber, ExpandsIn, KeyGives, KeyRefuses, PacketRefuses, PartGives, PartRefuses, IsDecode};
-ghost use Rattle.quic_packets.specs.Rows.{Row, AreBack, Ends, Gives, GivesBack, IsFront, OpensBack, OpensNext, Steps, left_size};
-ghost use Rattle.quic_packets.specs.Sealing.{IsAppended, Sealed};
-ghost use Rattle.quic_packets.specs.Spaces.{expected_in};
+ghost use Rattle.quic_header_encode.specs.Queries.{number_in};
+ghost use Rattle.quic_packets.specs.Opening.{DatagramAnswer, PacketAnswer, NextAnswer, AreExpected, ExpandsIn, IsDecode, OpensPacket, OpensWithKey, RefusesPacket, RefusesWithKey, packet_of};
+ghost use Rattle.quic_packets.specs.Pairs.{expected_in};
 
 use crate::keys::{Expected, Keys, SpaceKeys};
-use crate::pairs::{PairOfKeys, PairsOfKeys};
+use crate::pairs::{OpeningKeys, PairOfKeys, PairsOfKeys};
 use bytes::{Bytes, BytesMut};
 use quic_base::coding::are_bytes;
 use quic_crypto::crypto::{HeaderKey, PacketKey};
@@ -71,7 +70,7 @@ fn decode_error(e: &PacketDecodeError) -> OpenError
 
 // The number for which the one in a header stands.
 fn expand(header: &Header, expected: u64) -> u64
-    requires valid { HasNumber header.now }
+    requires valid { MatchOption (number_in header.now) ⊥ IsInRange }
     requires small { expected < 2 ^ 62 }
     ensures { ExpandsIn header.now expected result }
 {
@@ -92,10 +91,9 @@ fn open_protected<H: HeaderKey, P: PacketKey>(
 ) -> Result<Opened, OpenError>
     requires protected { IsTrue (is_protected partial.head) }
     requires small { expected < 2 ^ 62 }
-    ensures opened { IfOk result (λ x. KeyGives (⟦<Keys<H, P> as PairOfKeys>⟧.pair keys.now)
-        expected partial.head partial.header_end partial.bytes x.header x.header_data x.number x.payload.items) }
-    ensures refused { IfErr result (λ e. KeyRefuses (⟦<Keys<H, P> as PairOfKeys>⟧.pair keys.now)
-        expected partial.head partial.header_end partial.bytes e) }
+    ensures opened { IfOk result (λ x. OpensWithKey (⟦<Keys<H, P> as PairOfKeys>⟧.pair keys.now) expected partial
+        (packet_of x)) }
+    ensures refused { IfErr result (RefusesWithKey (⟦<Keys<H, P> as PairOfKeys>⟧.pair keys.now) expected partial) }
 {
     let packet = match partial.finish(Some(&keys.header)) {
         Ok(packet) => packet,
@@ -129,10 +127,10 @@ fn open_plain<H: HeaderKey, P: PacketKey>(
 ) -> Result<Opened, OpenError>
     requires plain { is_protected partial.head ≡ false }
     requires none { space_of partial.head ≡ None }
-    ensures opened { IfOk result (λ x. PartGives (⟦<SpaceKeys<H, P> as PairsOfKeys>⟧.pairs keys.now)
-        (expected_in expected.now) partial.head partial.header_end partial.bytes x.header x.header_data x.number x.payload.items) }
-    ensures refused { IfErr result (λ e. PartRefuses (⟦<SpaceKeys<H, P> as PairsOfKeys>⟧.pairs keys.now)
-        (expected_in expected.now) partial.head partial.header_end partial.bytes e) }
+    ensures opened { IfOk result (λ x. OpensPacket (⟦<SpaceKeys<H, P> as PairsOfKeys>⟧.pairs keys.now)
+        (expected_in expected.now) partial (packet_of x)) }
+    ensures refused { IfErr result (RefusesPacket (⟦<SpaceKeys<H, P> as PairsOfKeys>⟧.pairs keys.now)
+        (expected_in expected.now) partial) }
 {
     // It is read without a key, so any would do.
     let packet = match partial.finish(Some(&keys.initial.header)) {
@@ -154,10 +152,10 @@ fn open_part<H: HeaderKey, P: PacketKey>(
     expected: &Expected,
 ) -> Result<Opened, OpenError>
     requires { AreExpected expected.now }
-    ensures opened { IfOk result (λ x. PartGives (⟦<SpaceKeys<H, P> as PairsOfKeys>⟧.pairs keys.now)
-        (expected_in expected.now) partial.head partial.header_end partial.bytes x.header x.header_data x.number x.payload.items) }
-    ensures refused { IfErr result (λ e. PartRefuses (⟦<SpaceKeys<H, P> as PairsOfKeys>⟧.pairs keys.now)
-        (expected_in expected.now) partial.head partial.header_end partial.bytes e) }
+    ensures opened { IfOk result (λ x. OpensPacket (⟦<SpaceKeys<H, P> as PairsOfKeys>⟧.pairs keys.now)
+        (expected_in expected.now) partial (packet_of x)) }
+    ensures refused { IfErr result (RefusesPacket (⟦<SpaceKeys<H, P> as PairsOfKeys>⟧.pairs keys.now)
+        (expected_in expected.now) partial) }
 {
     match partial.space() {
         Some(space) => open_protected(partial, keys.of(space), expected.of(space)),
@@ -177,12 +175,12 @@ fn open_first<C: ConnectionIdParser, H: HeaderKey, P: PacketKey>(
     room: bool,
 ) -> Result<(Opened, Option<BytesMut>), OpenError>
     requires { AreExpected expected.now }
-    ensures opened { IfOk result (λ x. Gives (⟦<SpaceKeys<H, P> as PairsOfKeys>⟧.pairs keys.now)
-        (read_by (C.parsed parser.now) versions.now grease) (expected_in expected.now) bytes.items x.0 x.1) }
-    ensures refused { IfErr result (λ e. PacketRefuses (C.takes_memory parser.now) (⟦<SpaceKeys<H, P> as PairsOfKeys>⟧.pairs keys.now)
-        (read_by (C.parsed parser.now) versions.now grease) (expected_in expected.now) bytes.items e) }
+    ensures first { PacketAnswer
+        (⟦<SpaceKeys<H, P> as OpeningKeys<C>>⟧.opening keys.now parser.now versions.now grease expected.now)
+        bytes.items result }
     ensures roomy { IfOk result (λ _. IsTrue room) }
 {
+    are_bytes(bytes.as_slice());
     let (partial, rest) = match PartialDecode::new(bytes, parser, versions, grease) {
         Ok(parts) => parts,
         Err(e) => return Err(decode_error(&e)),
@@ -196,36 +194,6 @@ fn open_first<C: ConnectionIdParser, H: HeaderKey, P: PacketKey>(
     }
 }
 
-// The same, where what was sealed by the keys is opened to what it was.
-fn open_one<C: ConnectionIdParser, H: HeaderKey, P: PacketKey>(
-    bytes: BytesMut,
-    parser: &C,
-    versions: &[u32],
-    grease: bool,
-    keys: &SpaceKeys<H, P>,
-    expected: &Expected,
-    room: bool,
-) -> Result<(Opened, Option<BytesMut>), OpenError>
-    requires { AreExpected expected.now }
-    ensures opened { IfOk result (λ x. Gives (⟦<SpaceKeys<H, P> as PairsOfKeys>⟧.pairs keys.now)
-        (read_by (C.parsed parser.now) versions.now grease) (expected_in expected.now) bytes.items x.0 x.1) }
-    ensures refused { IfErr result (λ e. PacketRefuses (C.takes_memory parser.now) (⟦<SpaceKeys<H, P> as PairsOfKeys>⟧.pairs keys.now)
-        (read_by (C.parsed parser.now) versions.now grease) (expected_in expected.now) bytes.items e) }
-    ensures shorter { IfOk result (λ x. IfSome x.1 (λ rest. length rest.items < length bytes.items)) }
-    ensures sealed { (h : Header) (n : ℕ) (payload packet rest : List ℕ)
-        → Sealed (⟦<SpaceKeys<H, P> as PairsOfKeys>⟧.pairs keys.now (space_in h)) h n payload packet
-        → IsReadBack (read_by (C.parsed parser.now) versions.now grease) h rest
-        → ExpandsIn h (expected_in expected.now (space_in h)) n → bytes.items ≡ packet ++ rest
-        → MatchResult result (λ x. GivesBack (⟦<SpaceKeys<H, P> as PairsOfKeys>⟧.pairs keys.now) h n payload rest x.0 x.1) (λ e. e ≡ OpenError.OutOfMemory) }
-    ensures roomy { IfOk result (λ _. IsTrue room) }
-{
-    are_bytes(bytes.as_slice());
-    match open_first(bytes, parser, versions, grease, keys, expected, room) {
-        Ok(opened) => Ok(opened),
-        Err(e) => Err(e),
-    }
-}
-
 /// Opens a datagram's first packet by the keys and the expected number of its space, and gives what follows it.
 /// Ids of short headers are taken by `parser`; headers of other versions than `versions` are refused; with `grease`
 /// the fixed bit may be clear. A Retry or version negotiation is given as it stands, with no number.
@@ -233,8 +201,8 @@ fn open_one<C: ConnectionIdParser, H: HeaderKey, P: PacketKey>(
 /// Refused with `Decode` only where `PartialDecode::new` or `PartialDecode::finish` refuses the packet, and with
 /// `Unsealed` only where the packet key answers `CryptoError`. Once a packet was cut, `OutOfMemory` may stand in place
 /// of every answer; before, where the parser takes memory. What was sealed by the keys handed in, with a number that is
-/// found from the expected one, is opened to the same header, number and payload, or memory ran out. The caller must give
-/// expected numbers below 2^62.
+/// found from the expected one, is opened to the same header, number and payload, or memory ran out. The caller must
+/// give expected numbers below 2^62.
 pub fn open_packet<C: ConnectionIdParser, H: HeaderKey, P: PacketKey>(
     bytes: BytesMut,
     parser: &C,
@@ -244,18 +212,11 @@ pub fn open_packet<C: ConnectionIdParser, H: HeaderKey, P: PacketKey>(
     expected: &Expected,
 ) -> Result<(Opened, Option<BytesMut>), OpenError>
     requires { AreExpected expected.now }
-    ensures opened { IfOk result (λ x. Gives (⟦<SpaceKeys<H, P> as PairsOfKeys>⟧.pairs keys.now)
-        (read_by (C.parsed parser.now) versions.now grease) (expected_in expected.now) bytes.items x.0 x.1) }
-    ensures refused { IfErr result (λ e. PacketRefuses (C.takes_memory parser.now) (⟦<SpaceKeys<H, P> as PairsOfKeys>⟧.pairs keys.now)
-        (read_by (C.parsed parser.now) versions.now grease) (expected_in expected.now) bytes.items e) }
-    ensures shorter { IfOk result (λ x. IfSome x.1 (λ rest. length rest.items < length bytes.items)) }
-    ensures sealed { (h : Header) (n : ℕ) (payload packet rest : List ℕ)
-        → Sealed (⟦<SpaceKeys<H, P> as PairsOfKeys>⟧.pairs keys.now (space_in h)) h n payload packet
-        → IsReadBack (read_by (C.parsed parser.now) versions.now grease) h rest
-        → ExpandsIn h (expected_in expected.now (space_in h)) n → bytes.items ≡ packet ++ rest
-        → MatchResult result (λ x. GivesBack (⟦<SpaceKeys<H, P> as PairsOfKeys>⟧.pairs keys.now) h n payload rest x.0 x.1) (λ e. e ≡ OpenError.OutOfMemory) }
+    ensures { PacketAnswer
+        (⟦<SpaceKeys<H, P> as OpeningKeys<C>>⟧.opening keys.now parser.now versions.now grease expected.now)
+        bytes.items result }
 {
-    open_one(bytes, parser, versions, grease, keys, expected, true)
+    open_first(bytes, parser, versions, grease, keys, expected, true)
 }
 
 /// What is left of a datagram, whose packets are opened one after another.
@@ -287,15 +248,9 @@ impl Packets {
         expected: &Expected,
     ) -> Option<Result<Opened, OpenError>>
         requires { AreExpected expected.now }
-        ensures next { OpensNext (C.takes_memory parser.now) (⟦<SpaceKeys<H, P> as PairsOfKeys>⟧.pairs keys.now)
-            (read_by (C.parsed parser.now) versions.now grease) (expected_in expected.now)
+        ensures { NextAnswer
+            (⟦<SpaceKeys<H, P> as OpeningKeys<C>>⟧.opening keys.now parser.now versions.now grease expected.now)
             self.old.rest result self.new.rest }
-        ensures sealed { IfSome self.old.rest (λ left. (h : Header) (n : ℕ) (payload packet rest : List ℕ)
-            → Sealed (⟦<SpaceKeys<H, P> as PairsOfKeys>⟧.pairs keys.now (space_in h)) h n payload packet
-            → IsReadBack (read_by (C.parsed parser.now) versions.now grease) h rest
-            → ExpandsIn h (expected_in expected.now (space_in h)) n → left.items ≡ packet ++ rest
-            → OpensBack (⟦<SpaceKeys<H, P> as PairsOfKeys>⟧.pairs keys.now) h n payload rest result self.new.rest) }
-        ensures shorter { IsSome result → left_size self.new.rest < left_size self.old.rest }
     {
         let bytes = self.rest.take()?;
         match open_packet(bytes, parser, versions, grease, keys, expected) {
@@ -322,23 +277,16 @@ pub fn open_datagram<C: ConnectionIdParser, H: HeaderKey, P: PacketKey>(
     out: &mut Vec<Opened>,
 ) -> Result<(), OpenError>
     requires { AreExpected expected.now }
-    ensures opened { IfOk result (λ _. IsAppended (λ added. Ends (⟦<SpaceKeys<H, P> as PairsOfKeys>⟧.pairs keys.now)
-        (read_by (C.parsed parser.now) versions.now grease) (expected_in expected.now) bytes.items added) out.old.items out.new.items) }
-    ensures refused { IfErr result (λ e. (left : List ℕ)
-        × IsAppended (λ added. Steps (⟦<SpaceKeys<H, P> as PairsOfKeys>⟧.pairs keys.now)
-        (read_by (C.parsed parser.now) versions.now grease) (expected_in expected.now) bytes.items added left) out.old.items out.new.items
-        × PacketRefuses (C.takes_memory parser.now) (⟦<SpaceKeys<H, P> as PairsOfKeys>⟧.pairs keys.now)
-        (read_by (C.parsed parser.now) versions.now grease) (expected_in expected.now) left e) }
-    ensures sealed { (packets : List (Header × ℕ × List ℕ)) → Row (⟦<SpaceKeys<H, P> as PairsOfKeys>⟧.pairs keys.now)
-        (read_by (C.parsed parser.now) versions.now grease) (expected_in expected.now) packets bytes.items
-        → MatchResult result (λ _. IsAppended (λ added. AreBack (⟦<SpaceKeys<H, P> as PairsOfKeys>⟧.pairs keys.now) added packets) out.old.items out.new.items)
-        (λ e. (e ≡ OpenError.OutOfMemory)
-        × IsFront (⟦<SpaceKeys<H, P> as PairsOfKeys>⟧.pairs keys.now) packets out.old.items out.new.items) }
+    ensures { DatagramAnswer
+        (⟦<SpaceKeys<H, P> as OpeningKeys<C>>⟧.opening keys.now parser.now versions.now grease expected.now)
+        bytes.items result out.old.items out.new.items }
 {
     let mut left = Some(bytes);
     while let Some(bytes) = left.take() {
         let room = out.reserve(1).is_ok();
-        let (opened, rest) = match open_one(bytes, parser, versions, grease, keys, expected, room) {
+        let (opened, rest) = match open_first(
+            bytes, parser, versions, grease, keys, expected, room,
+        ) {
             Ok(parts) => parts,
             Err(e) => return Err(e),
         };

@@ -1,12 +1,14 @@
 //! What is said of packets names a pair of keys by these words.
-ghost use Rattle.std.specs.Prelude.{ℕ};
+ghost use Rattle.std.specs.Prelude.{ℕ, Bool, List};
 ghost use Rattle.quic_base.specs.declared.ids.SpaceId.{SpaceId};
-ghost use Rattle.quic_packets.specs.Pairs.{KeyPair};
-ghost use Rattle.quic_packets.specs.Spaces.{keys_in};
+ghost use Rattle.quic_packets.specs.declared.keys.Expected.{Expected};
+ghost use Rattle.quic_packets.specs.Opening.{Opening};
+ghost use Rattle.quic_packets.specs.Pairs.{KeyPair, expected_in, keys_in};
 
 use crate::keys::{Keys, SpaceKeys};
 use quic_base::ids::SpaceId;
 use quic_crypto::crypto::{HeaderKey, PacketKey};
+use quic_header_decode::parser::ConnectionIdParser;
 
 /// What has a pair of keys.
 pub trait PairOfKeys {
@@ -18,6 +20,13 @@ pub trait PairOfKeys {
 pub trait PairsOfKeys {
     // What the keys of a space do.
     ghost pairs: { Self → SpaceId → KeyPair };
+}
+
+/// What opens packets, beside a parser of ids.
+pub trait OpeningKeys<C> {
+    // What packets are opened with: by this parser, with these versions known; whether the fixed bit may be clear; and
+    // with these numbers expected.
+    ghost opening: { Self → C → List ℕ → Bool → Expected → Opening };
 }
 
 impl<H: HeaderKey, P: PacketKey> PairOfKeys for Keys<H, P> {
@@ -39,5 +48,21 @@ impl<H: HeaderKey, P: PacketKey> PairsOfKeys for SpaceKeys<H, P> {
       unprotected = H.unprotected (keys_in keys space).header;
       sealed = P.sealed (keys_in keys space).packet;
       opened = P.opened (keys_in keys space).packet;
+    } };
+}
+
+impl<C: ConnectionIdParser, H: HeaderKey, P: PacketKey> OpeningKeys<C> for SpaceKeys<H, P> {
+    ghost opening = { λ keys parser versions grease expected. record {
+      keys = λ space. record {
+        sample_len = H.sample_len (keys_in keys space).header;
+        tag_size = P.tag_size (keys_in keys space).packet;
+        protected = H.protected (keys_in keys space).header;
+        unprotected = H.unprotected (keys_in keys space).header;
+        sealed = P.sealed (keys_in keys space).packet;
+        opened = P.opened (keys_in keys space).packet;
+      };
+      options = record { parsed = C.parsed parser; versions = versions; grease = grease };
+      takes_memory = C.takes_memory parser;
+      expected = expected_in expected;
     } };
 }

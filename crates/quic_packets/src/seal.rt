@@ -64,8 +64,10 @@ fn write_packet(
 ) -> PartialEncode
     requires writable { IsWritable header.now }
     requires follow { CanFollow frames.now }
-    requires room { vec_len out.old + (header_size header.now + length (payload_of frames.now) + tag) ≤ vec_capacity out.old }
-    ensures items { out.new.items ≡ out.old.items ++ (header_bytes header.now ++ (payload_of frames.now ++ replicate tag 0)) }
+    requires room { vec_len out.old +
+        (header_size header.now + length (payload_of frames.now) + tag) ≤ vec_capacity out.old }
+    ensures items { out.new.items ≡ out.old.items
+        ++ (header_bytes header.now ++ (payload_of frames.now ++ replicate tag 0)) }
     ensures len { vec_len out.new ≡ vec_len out.old + (header_size header.now + length (payload_of frames.now) + tag) }
     ensures start { result.start ≡ vec_len out.old }
     ensures header_len { result.header_len ≡ header_size header.now }
@@ -91,12 +93,17 @@ fn finish_last<H: HeaderKey, P: PacketKey>(
     out: &mut Vec<u8>,
 )
     requires within { partial.start ≤ vec_len out.old }
-    requires room { IfSome partial.pn (λ pn. HasRoom pn.0 pn.1 partial.header_len (H.sample_len keys.now.header) (vec_len out.old - partial.start)) }
+    requires room { IfSome partial.pn
+        (λ pn. HasRoom pn.0 pn.1 partial.header_len (H.sample_len keys.now.header) (vec_len out.old - partial.start)) }
     requires tag { partial.header_len + P.tag_size keys.now.packet ≤ vec_len out.old - partial.start }
-    ensures sealed { IfSome partial.pn (λ pn. out.new.items ≡ take partial.start out.old.items ++ H.protected keys.now.header (partial.header_len - pn.0)
-        (finished pn partial.header_len (Some (P.tag_size keys.now.packet, P.sealed keys.now.packet number)) (drop partial.start out.old.items))) }
+    ensures sealed { IfSome partial.pn
+        (λ pn. out.new.items ≡ take partial.start out.old.items
+        ++ H.protected keys.now.header (partial.header_len - pn.0)
+        (finished pn partial.header_len (Some (P.tag_size keys.now.packet, P.sealed keys.now.packet number))
+        (drop partial.start out.old.items))) }
     ensures plain_bytes { IfSome partial.pn (λ pn. AreBytes
-        (finished pn partial.header_len (Some (P.tag_size keys.now.packet, P.sealed keys.now.packet number)) (drop partial.start out.old.items))) }
+        (finished pn partial.header_len (Some (P.tag_size keys.now.packet, P.sealed keys.now.packet number))
+        (drop partial.start out.old.items))) }
 {
     partial.finish(
         &mut out.as_mut_slice()[partial.start..],
@@ -134,14 +141,16 @@ pub fn seal_packet<H: HeaderKey, P: PacketKey>(
     requires small { number < 2 ^ 62 }
     requires some { 0 < length frames.now }
     requires follow { CanFollow frames.now }
-    ensures sealed { IfOk result (λ len. IsAppended (λ packet. SealedFrames (⟦<Keys<H, P> as PairOfKeys>⟧.pair keys.now)
-        header.now number frames.now packet) out.old.items out.new.items) }
-    ensures len { IfOk result (λ len. len ≡ header_size header.now + length (payload_of frames.now) + P.tag_size keys.now.packet) }
+    ensures sealed { IfOk result (λ _. IsAppended (SealedFrames (⟦<Keys<H, P> as PairOfKeys>⟧.pair keys.now)
+        header.now number frames.now) out.old.items out.new.items) }
+    ensures len { IfOk result
+        (λ len. len ≡ header_size header.now + length (payload_of frames.now) + P.tag_size keys.now.packet) }
     ensures unchanged { OnErr result (out.new.items ≡ out.old.items) }
     // Where the lengths are refused nothing is grown, and where a growth is refused the room stays.
     ensures untouched { IfErr result (λ e. e ≢ SealError.NoRoom → out.new ≡ out.old) }
     ensures capacity { OnErr result (vec_capacity out.new ≡ vec_capacity out.old) }
-    ensures refused { IfErr result (λ e. SealRefused e (P.tag_size keys.now.packet) header.now (H.sample_len keys.now.header) (payload_of frames.now) (vec_capacity out.old - vec_len out.old)) }
+    ensures refused { IfErr result (SealRefused (⟦<Keys<H, P> as PairOfKeys>⟧.pair keys.now)
+        header.now (payload_of frames.now) (vec_capacity out.old - vec_len out.old)) }
 {
     let tag = keys.packet.tag_len();
     let payload = payload_len(frames);

@@ -7,7 +7,7 @@ use Rattle.std.specs.Net.Socket.{v4_ip, v4_port, v6_ip, v6_port, IsSocketAddrV4,
 use Rattle.std.specs.declared.net.socket_addr.SocketAddrV4.{SocketAddrV4}
 use Rattle.std.specs.declared.net.socket_addr.SocketAddrV6.{SocketAddrV6}
 use Rattle.quic_base.specs.Number.{bytes_of}
-use Rattle.quic_base.specs.Varint.{short}
+use Rattle.quic_base.specs.Varint.{shortest_varint}
 use Rattle.quic_base.specs.ConnectionId.{long_id}
 use Rattle.quic_base.proofs.PublicLaws.{length-short, length-bytes_of}
 use Rattle.quic_params.specs.declared.parameter.Kind.{Kind}
@@ -25,7 +25,7 @@ use Rattle.quic_params.specs.Writing.{encoding, entry, piece, is_written, grease
 use Rattle.quic_params.proofs.Hosts.{octets_long}
 use Rattle.quic_params.proofs.Sizes.{size_below}
 
-short_below : (n : ℕ) → length (short n) ≤ 8
+short_below : (n : ℕ) → length (shortest_varint n) ≤ 8
 short_below n = omega (arith, length-short n, size_below n)
 
 v4_below : (o : Option SocketAddrV4) → IfSome o IsSocketAddrV4 → length (v4_bytes o) ≤ 6
@@ -60,7 +60,7 @@ value_below K.Address (V.Address a) t = address_below a t
 value_below _ _ t = elim t [ ]
 
 entry_below : (n : ℕ) (b : List ℕ) → length b ≤ 61 → length (entry n b) ≤ 77
-entry_below n b le = omega (arith, short_below n, short_below (length b), length-append (short n) (short (length b) ++ b), length-append (short (length b)) b)
+entry_below n b le = omega (arith, short_below n, short_below (length b), length-append (shortest_varint n) (shortest_varint (length b) ++ b), length-append (shortest_varint (length b)) b)
 
 either : (b : Bool) (l : List ℕ) → length l ≤ 77 → length (cond b l []) ≤ 77
 either true l le = le
@@ -94,9 +94,9 @@ pub written_below : (p : TransportParameters) → IsTypedRecord p → length (wr
 written_below p t =
     omega (arith, all_below (λ i. written_for p (id_of_index i)) (λ i. for_below p t (id_of_index i)) (order_of p.write_order), order_long p.write_order t.order)
 
-pub header_below : (number len : ℕ) → length (short number ++ short len) ≤ 16
-header_below number len = omega (arith, short_below number, short_below len, length-append (short number) (short len))
+pub header_below : (number len : ℕ) → length (shortest_varint number ++ shortest_varint len) ≤ 16
+header_below number len = omega (arith, short_below number, short_below len, length-append (shortest_varint number) (shortest_varint len))
 
 pub whole_below : (number : ℕ) (value : List ℕ) → length (entry number value) ≤ 16 + length value
 whole_below number value =
-    omega (arith, short_below number, short_below (length value), length-append (short number) (short (length value) ++ value), length-append (short (length value)) value)
+    omega (arith, short_below number, short_below (length value), length-append (shortest_varint number) (shortest_varint (length value) ++ value), length-append (shortest_varint (length value)) value)

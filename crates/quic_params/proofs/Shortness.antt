@@ -7,7 +7,7 @@ use Rattle.std.proofs.lemmas.List.{append-nil}
 use Rattle.std.proofs.Math.Pow.{pow-lt}
 use Rattle.quic_base.specs.Codec.{Takes, NoFront}
 use Rattle.quic_base.specs.Number.{IsNumber, num}
-use Rattle.quic_base.specs.Varint.{Encodes, short, size}
+use Rattle.quic_base.specs.Varint.{Encodes, shortest_varint, size}
 use Rattle.quic_base.proofs.PublicLaws.{shortest_encodes, length-short, encoded_bound}
 use Rattle.quic_params.proofs.Values.{empty_of_length, is_short}
 
@@ -54,14 +54,14 @@ whole k x b r t l =
 
 -- they are the shortest encoding of a number that has no shorter one
 pub shortest_is : (t x n : ℕ) (b r : List ℕ) → t < 4 → Takes (IsNumber (2 ^ t) x) b r → length b ≡ 2 ^ t → x ≡ t * 2 ^ bits t + n → least t ≤ n → n < 2 ^ bits t
-    → (n < 2 ^ 62) × (b ≡ short n)
+    → (n < 2 ^ 62) × (b ≡ shortest_varint n)
 shortest_is t x n b r lt taken l e low high =
     let i = whole (2 ^ t) x b r taken l in
     let s : Encodes n b = record { tag = t; tag_fits = lt; bytes = i.bytes; width = i.width; fits = high; value = i.value ∙ e } in
     ((encoded_bound n b s).0, is_short n b s (size_of t n lt low high ∙ sym l))
 
 -- and of no other
-pub shortest_was : (t x n : ℕ) (b r : List ℕ) → t < 4 → Takes (IsNumber (2 ^ t) x) b r → length b ≡ 2 ^ t → n < 2 ^ 62 → b ≡ short n
+pub shortest_was : (t x n : ℕ) (b r : List ℕ) → t < 4 → Takes (IsNumber (2 ^ t) x) b r → length b ≡ 2 ^ t → n < 2 ^ 62 → b ≡ shortest_varint n
     → (x ≡ t * 2 ^ bits t + n) × (least t ≤ n) × (n < 2 ^ bits t)
 shortest_was t x n b r lt taken l small e =
     let i = whole (2 ^ t) x b r taken l in
@@ -72,20 +72,20 @@ shortest_was t x n b r lt taken l small e =
     (sym i.value ∙ value, least_of t n lt size_is, subst (λ k. n < 2 ^ bits k) tag s.fits)
 
 -- bytes that are too few for their own number are none
-pub never_cut : (t n : ℕ) (b : List ℕ) → length b ≡ 2 ^ t → ((x : ℕ) → NoFront (IsNumber (2 ^ t) x) b) → n < 2 ^ 62 → b ≢ short n
+pub never_cut : (t n : ℕ) (b : List ℕ) → length b ≡ 2 ^ t → ((x : ℕ) → NoFront (IsNumber (2 ^ t) x) b) → n < 2 ^ 62 → b ≢ shortest_varint n
 never_cut t n b l cut small e =
     let s : Encodes n b = subst (Encodes n) (sym e) (shortest_encodes n small) in
     cut (num b) b [] (sym (append-nil b)) (record { bytes = s.bytes; width = l; value = refl })
 
 -- no encoding has another width
-pub never_width : (n : ℕ) (b : List ℕ) → length b ≢ 1 → length b ≢ 2 → length b ≢ 4 → length b ≢ 8 → b ≢ short n
+pub never_width : (n : ℕ) (b : List ℕ) → length b ≢ 1 → length b ≢ 2 → length b ≢ 4 → length b ≢ 8 → b ≢ shortest_varint n
 unfolding size
 never_width n b a1 a2 a4 a8 e = let l : length b ≡ size n = ap length e ∙ length-short n in grind (arith, nat_tests)
 
 -- whether an encoding's number is shortest for its width says whether its bytes are the shortest
 pub by_width : (t x y : ℕ) (b r : List ℕ) (result : Option ℕ) → t < 4 → Takes (IsNumber (2 ^ t) x) b r → length b ≡ 2 ^ t → y ≡ x
     → MatchOption result ((n : ℕ) → y ≡ t * 2 ^ bits t + n → least t ≤ n → 2 ^ bits t ≤ n) (λ n. (y ≡ t * 2 ^ bits t + n) × (least t ≤ n) × (n < 2 ^ bits t))
-    → MatchOption result ((n : ℕ) → n < 2 ^ 62 → b ≢ short n) (λ n. (n < 2 ^ 62) × (b ≡ short n))
+    → MatchOption result ((n : ℕ) → n < 2 ^ 62 → b ≢ shortest_varint n) (λ n. (n < 2 ^ 62) × (b ≡ shortest_varint n))
 by_width t x y b r None lt taken l same h = λ n small e.
     let w = shortest_was t x n b r lt taken l small e in
     let high : 2 ^ bits t ≤ n = h n (same ∙ w.0) w.1 in

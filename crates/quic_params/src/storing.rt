@@ -1,6 +1,6 @@
 //! Writes a list of parameters at the front of a slice.
 ghost use Rattle.std.specs.Prelude.{◌≡◌, ◌+◌, ◌<◌, ◌≤◌, ◌^◌, ◌++◌, length, take, drop, IfOk, IfErr, OnErr};
-ghost use Rattle.quic_base.specs.Varint.{short};
+ghost use Rattle.quic_base.specs.Varint.{shortest_varint};
 ghost use Rattle.quic_params.specs.Writing.{entry, written, written_for};
 
 use crate::parameter::TransportParameterId;
@@ -153,7 +153,7 @@ fn fill_header(number: u64, len: u64, room: &mut Room<HEADER_ROOM>)
     requires number { number < 2 ^ 62 }
     requires len { len < 2 ^ 62 }
     requires empty { room.old.len ≡ 0 }
-    ensures { take room.new.len room.new.bytes ≡ short number ++ short len }
+    ensures { take room.new.len room.new.bytes ≡ shortest_varint number ++ shortest_varint len }
 {
     match write_header_by_parts(number, len, room) {
         Ok(()) => {}

@@ -1,3 +1,6 @@
 //! Worked rows, answers of the Rust crate, and what no clause says.
 
-mod base;
+mod buffers;
+mod ids;
+mod numbers;
+mod shared;

@@ -2,7 +2,7 @@
 ghost use Rattle.std.specs.Prelude.{◌≡◌, ◌≤◌, ◌<◌, ◌^◌, ◌++◌, IsTrue, List, [], Ok, ℕ, length};
 ghost use Rattle.quic_header_encode.specs.Writing.{IsWritable, has_number};
 ghost use Rattle.quic_header_decode.specs.Grammar.{IsKnownVersion};
-ghost use Rattle.quic_header_decode.specs.Reading.{Context};
+ghost use Rattle.quic_header_decode.specs.Reading.{DecodeOptions};
 ghost use Rattle.quic_packets.specs.Opening.{ExpandsIn, IsReadBack};
 ghost use Rattle.quic_packets.specs.Sealing.{IsLowPart};
 
@@ -57,7 +57,7 @@ pub fn handshake(version: u32) -> Header
     ensures numbered { IsTrue (has_number result) }
     ensures low { IsLowPart result 0 }
     ensures found { ExpandsIn result 0 0 }
-    ensures read { (context : Context) (rest : List ℕ) → IsKnownVersion context version → IsReadBack context result rest }
+    ensures read { (context : DecodeOptions) (rest : List ℕ) → IsKnownVersion context version → IsReadBack context result rest }
 {
     Header::Long {
         ty: LongType::Handshake,
@@ -75,7 +75,7 @@ pub fn short(id: &[u8], number: u64) -> Header
     ensures numbered { IsTrue (has_number result) }
     ensures low { IsLowPart result number }
     ensures found { number ≤ 128 → ExpandsIn result 0 number }
-    ensures read { (context : Context) → ((tail : List ℕ) → context.parsed (id.now ++ tail) ≡ Ok (id.now, length id.now))
+    ensures read { (context : DecodeOptions) → ((tail : List ℕ) → context.parsed (id.now ++ tail) ≡ Ok (id.now, length id.now))
         → IsReadBack context result [] }
 {
     Header::Short {

@@ -5,7 +5,7 @@ use Rattle.std.proofs.lemmas.List.{append-nil}
 use Rattle.hex.specs.Hex.{encode_lower, encode_with, lower_digits}
 use Rattle.quic_base.specs.Number.{AreBytes}
 use Rattle.quic_frame_fields.specs.declared.frame.fault.Fault.{Fault}
-use Rattle.quic_frame_fields.specs.Payload.{Meaning, Found, AreFrames, IsBroken}
+use Rattle.quic_frame_fields.specs.Payload.{Meaning, TypedFrame, AreFrames, IsBroken}
 use Rattle.quic_frame_fields.specs.Reading.{Invalid, invalid, Item, Whole, Broken, items_of}
 use Rattle.quic_frames.specs.Least.{frame_in, shortest_frames}
 use Rattle.quic_frames.specs.Walk.{unplaced, given}
@@ -22,19 +22,19 @@ use Rattle.quic_text.specs.CanonText.{after_frame, frames_in, canon_line, canon_
 
 -- a payload of frames has a least one
 abbrev pub HasLeast : Type 0
-HasLeast = (found : List Found) (payload : List ℕ) → payload ≢ [] → AreFrames false found payload → IsLeast (shortest_frames (map frame_in found)) payload
+HasLeast = (found : List TypedFrame) (payload : List ℕ) → payload ≢ [] → AreFrames false found payload → IsLeast (shortest_frames (map frame_in found)) payload
 
-frames_in_all : (found : List Found) (items : List Item) → map unplaced items ≡ map given found → frames_in items ≡ Ok (map frame_in found)
+frames_in_all : (found : List TypedFrame) (items : List Item) → map unplaced items ≡ map given found → frames_in items ≡ Ok (map frame_in found)
 frames_in_all [] [] e = refl
 frames_in_all [] (i ∷ items) e = absurd cc
 frames_in_all (f ∷ found) [] e = absurd cc
 frames_in_all (f ∷ found) (Whole start stop g ∷ items) e =
     let head : g ≡ f = cc in
     let tails : map unplaced items ≡ map given found = cc in
-    ap (after_frame g.frame) (frames_in_all found items tails) ∙ ap (λ (h : Found). let r : Result (List Meaning) Invalid = Ok (h.frame ∷ map frame_in found) in r) head
+    ap (after_frame g.frame) (frames_in_all found items tails) ∙ ap (λ (h : TypedFrame). let r : Result (List Meaning) Invalid = Ok (h.frame ∷ map frame_in found) in r) head
 frames_in_all (f ∷ found) (Broken i ∷ items) e = absurd cc
 
-frames_in_broken : (found : List Found) (i : Invalid) (items : List Item) → map unplaced items ≡ map given found ++ Err i ∷ [] → frames_in items ≡ Err i
+frames_in_broken : (found : List TypedFrame) (i : Invalid) (items : List Item) → map unplaced items ≡ map given found ++ Err i ∷ [] → frames_in items ≡ Err i
 frames_in_broken [] i [] e = absurd cc
 frames_in_broken [] i (Whole start stop g ∷ items) e = absurd cc
 frames_in_broken [] i (Broken j ∷ items) e = let same : j ≡ i = cc in ap (λ (k : Invalid). let r : Result (List Meaning) Invalid = Err k in r) same
@@ -59,7 +59,7 @@ least_printed payload least has l =
     ∙ ap (λ (bytes : List ℕ). let ls : List Printed = Plain (encode_lower bytes) ∷ [] in ls) same
 
 -- the line of what is none
-pub broken_printed : (found : List Found) (payload : List ℕ) (type : Option ℕ) (reason : Fault) → AreBytes payload → IsBroken false None found payload type reason → canon_lines payload ≡ item_line (Broken (invalid type reason)) ∷ []
+pub broken_printed : (found : List TypedFrame) (payload : List ℕ) (type : Option ℕ) (reason : Fault) → AreBytes payload → IsBroken false None found payload type reason → canon_lines payload ≡ item_line (Broken (invalid type reason)) ∷ []
 broken_printed found payload type reason fits b =
     canon_some payload (broken_some false None found payload type reason b)
     ∙ ap (λ (r : Result (List Meaning) Invalid). canon_line r ∷ []) (frames_in_broken found (invalid type reason) (items_of false 0 None payload) (broken_are_items false found 0 None payload type reason fits b))
@@ -71,7 +71,7 @@ given_printed payload (Same b) has g =
 given_printed payload (Rewritten v) has g = least_printed payload v.items has g.0
 
 -- frames have no `error` line
-plain_items : (found : List Found) (items : List Item) → map unplaced items ≡ map given found → list_all is_plain (map item_line items) ≡ true
+plain_items : (found : List TypedFrame) (items : List Item) → map unplaced items ≡ map given found → list_all is_plain (map item_line items) ≡ true
 plain_items [] [] e = refl
 plain_items [] (i ∷ items) e = absurd cc
 plain_items (f ∷ found) [] e = absurd cc
@@ -79,7 +79,7 @@ plain_items (f ∷ found) (Whole start stop g ∷ items) e =
     let tails : map unplaced items ≡ map given found = cc in plain_items found items tails
 plain_items (f ∷ found) (Broken i ∷ items) e = absurd cc
 
-pub plain_frames : (strict : Bool) (found : List Found) (bytes : List ℕ) → bytes ≢ [] → AreFrames strict found bytes → list_all is_plain (frame_lines strict bytes) ≡ true
+pub plain_frames : (strict : Bool) (found : List TypedFrame) (bytes : List ℕ) → bytes ≢ [] → AreFrames strict found bytes → list_all is_plain (frame_lines strict bytes) ≡ true
 plain_frames strict found bytes some s =
     ap (list_all is_plain) (lines_some strict bytes some) ∙ plain_items found (items_of strict 0 None bytes) (frames_are_items strict found 0 None bytes s)
 

@@ -11,7 +11,7 @@ use Rattle.quic_header_decode.specs.declared.decode_error.PacketDecodeError.TheV
 use Rattle.quic_header_decode.specs.declared.protected.ProtectedHeader.{ProtectedHeader}
 use Rattle.quic_header_decode.specs.Datagram.{PlacedPacket, ArePackets, last, more, refused}
 use Rattle.quic_header_decode.specs.Grammar.{Cut, Uncut, CutAnswer}
-use Rattle.quic_header_decode.specs.Reading.{Context}
+use Rattle.quic_header_decode.specs.Reading.{DecodeOptions}
 use Rattle.quic_header_decode.specs.Refusal.{Refusal, NoMemory, RefusesHeader, refusal_of}
 use Rattle.quic_header_decode.proofs.Datagrams.{packets_again, some_packets}
 use Rattle.quic_header_decode.proofs.Steps.{match_ok}
@@ -41,11 +41,11 @@ version_written r old new text digits_shown n stored written =
     when_ok r (λ h. subst (λ (o : Option (List ℕ)). AppendsText old new (Some text ++? o)) eight h) written
 
 -- what a call answers that cuts a packet
-pub cut_given : (context : Context) (bytes : List ℕ) (h : ProtectedHeader) (p q : ℕ)
+pub cut_given : (context : DecodeOptions) (bytes : List ℕ) (h : ProtectedHeader) (p q : ℕ)
     → ((answer : Result (ProtectedHeader × ℕ × ℕ) Refusal) × CutAnswer context bytes answer × (answer ≡ Ok (h, p, q))) → Cut context bytes h p q
 cut_given context bytes h p q a = subst (CutAnswer context bytes) a.2 a.1
 
-pub refusal_given : (context : Context) (bytes : List ℕ) (e : PacketDecodeError) → refusal_of e ≢ NoMemory
+pub refusal_given : (context : DecodeOptions) (bytes : List ℕ) (e : PacketDecodeError) → refusal_of e ≢ NoMemory
     → ((answer : Result (ProtectedHeader × ℕ × ℕ) Refusal) × CutAnswer context bytes answer × RefusesHeader e answer) → Uncut context bytes (refusal_of e)
 refusal_given context bytes (error.UnsupportedVersion src dst version) some a = subst (CutAnswer context bytes) a.2 a.1
 refusal_given context bytes (error.InvalidHeader text) some a = subst (CutAnswer context bytes) a.2 a.1
@@ -56,7 +56,7 @@ abbrev pub lines : List PlacedPacket → Option Refusal → List ℕ
 lines ps refusal = flat_map shown (row_lines ps refusal)
 
 -- so it is with what is printed so far and the lines of the packets that are left
-abbrev pub Leads : Context → ℕ → List ℕ → List ℕ → (List ℕ → Type 0) → Type 0
+abbrev pub Leads : DecodeOptions → ℕ → List ℕ → List ℕ → (List ℕ → Type 0) → Type 0
 Leads context start bytes text P = (ps : List PlacedPacket) (refusal : Option Refusal) → ArePackets context start bytes ps refusal → P (text ++ lines ps refusal)
 
 pub text_first : (len : ℕ) (bytes left text : List ℕ) (P : List ℕ → Type 0) → AreBytes bytes → left ≡ bytes → P (text ++ flat_map shown (datagram_lines len bytes)) → Leads (with_ids_of len) 0 left text P
@@ -64,7 +64,7 @@ text_first len bytes left text P fits e all ps refusal are =
     let same = packets_again (with_ids_of len) bytes ps refusal fits (subst (λ (xs : List ℕ). ArePackets (with_ids_of len) 0 xs ps refusal) e are) in
     subst P (ap (λ (r : List PlacedPacket × Option Refusal). text ++ flat_map shown (row_lines r.0 r.1)) same) all
 
-pub text_more : (context : Context) (start stop q p : ℕ) (bytes rest text text' : List ℕ) (P : List ℕ → Type 0) (h : ProtectedHeader) → Cut context bytes h p q → q < length bytes → rest ≡ drop q bytes → stop ≡ start + q
+pub text_more : (context : DecodeOptions) (start stop q p : ℕ) (bytes rest text text' : List ℕ) (P : List ℕ → Type 0) (h : ProtectedHeader) → Cut context bytes h p q → q < length bytes → rest ≡ drop q bytes → stop ≡ start + q
     → text' ≡ text ++ shown (packet_line (record { start = start; stop = stop; header = h })) → Leads context start bytes text P → Leads context stop rest text' P
 text_more context start stop q p bytes rest text text' P h cut lt r s e so_far ps refusal are =
     let line : List ℕ = shown (packet_line (record { start = start; stop = start + q; header = h })) in
@@ -77,7 +77,7 @@ text_more context start stop q p bytes rest text text' P h cut lt r s e so_far p
 ended : (q : ℕ) (bytes : List ℕ) → q ≤ length bytes → drop q bytes ≡ [] → q ≡ length bytes
 ended q bytes within none = omega (arith, within, ap length none, length-drop q bytes)
 
-pub text_last : (context : Context) (start stop q p : ℕ) (bytes text text' : List ℕ) (P : List ℕ → Type 0) (h : ProtectedHeader) → Cut context bytes h p q → drop q bytes ≡ [] → stop ≡ start + q
+pub text_last : (context : DecodeOptions) (start stop q p : ℕ) (bytes text text' : List ℕ) (P : List ℕ → Type 0) (h : ProtectedHeader) → Cut context bytes h p q → drop q bytes ≡ [] → stop ≡ start + q
     → text' ≡ text ++ shown (packet_line (record { start = start; stop = stop; header = h })) → Leads context start bytes text P → P text'
 text_last context start stop q p bytes text text' P h cut none s e so_far =
     let end : q ≡ length bytes = ended q bytes cut.4 none in
@@ -87,7 +87,7 @@ text_last context start stop q p bytes text text' P h cut none s e so_far =
     subst P (sym (e' ∙ ap (λ (l : List ℕ). text ++ l) (sym (append-nil line))))
     (so_far (record { start = start; stop = start + length bytes; header = h } ∷ []) None (last start bytes h p (subst (λ (n : ℕ). Cut context bytes h p n) end cut)))
 
-pub text_refused : (context : Context) (start : ℕ) (bytes text text' : List ℕ) (P : List ℕ → Type 0) (e : Refusal) → Uncut context bytes e → text' ≡ text ++ shown (Error (refusal_text e))
+pub text_refused : (context : DecodeOptions) (start : ℕ) (bytes text text' : List ℕ) (P : List ℕ → Type 0) (e : Refusal) → Uncut context bytes e → text' ≡ text ++ shown (Error (refusal_text e))
     → Leads context start bytes text P → P text'
 text_refused context start bytes text text' P e uncut written so_far =
     let line : List ℕ = shown (Error (refusal_text e)) in
@@ -118,7 +118,7 @@ waits_broken len start left old mid new text all fits h begun =
     beginning_passed old mid new text (lines some.0 some.1) _ all refl (h some.0 some.1 some.2) begun
 
 -- and whether an `error` line is among the lines that are left says it of all
-abbrev pub LeadsClean : Context → ℕ → List ℕ → List Printed → Type 0
+abbrev pub LeadsClean : DecodeOptions → ℕ → List ℕ → List Printed → Type 0
 LeadsClean context start bytes all = (ps : List PlacedPacket) (refusal : Option Refusal) → ArePackets context start bytes ps refusal → list_all is_plain (row_lines ps refusal) ≡ list_all is_plain all
 
 pub clean_first : (len : ℕ) (bytes left : List ℕ) → AreBytes bytes → left ≡ bytes → LeadsClean (with_ids_of len) 0 left (datagram_lines len bytes)
@@ -126,18 +126,18 @@ clean_first len bytes left fits e ps refusal are =
     let same = packets_again (with_ids_of len) bytes ps refusal fits (subst (λ (xs : List ℕ). ArePackets (with_ids_of len) 0 xs ps refusal) e are) in
     ap (λ (r : List PlacedPacket × Option Refusal). list_all is_plain (row_lines r.0 r.1)) (sym same)
 
-pub clean_more : (context : Context) (start stop q p : ℕ) (bytes rest : List ℕ) (all : List Printed) (h : ProtectedHeader) → Cut context bytes h p q → q < length bytes → rest ≡ drop q bytes → stop ≡ start + q
+pub clean_more : (context : DecodeOptions) (start stop q p : ℕ) (bytes rest : List ℕ) (all : List Printed) (h : ProtectedHeader) → Cut context bytes h p q → q < length bytes → rest ≡ drop q bytes → stop ≡ start + q
     → LeadsClean context start bytes all → LeadsClean context stop rest all
 clean_more context start stop q p bytes rest all h cut lt r s so_far ps refusal are =
     let are' : ArePackets context (start + q) (drop q bytes) ps refusal =
     subst (λ (n : ℕ). ArePackets context n (drop q bytes) ps refusal) s (subst (λ (xs : List ℕ). ArePackets context stop xs ps refusal) r are) in
     so_far (record { start = start; stop = start + q; header = h } ∷ ps) refusal (more start bytes h p q ps refusal cut lt are')
 
-pub clean_last : (context : Context) (start q p : ℕ) (bytes : List ℕ) (all : List Printed) (h : ProtectedHeader) → Cut context bytes h p q → drop q bytes ≡ []
+pub clean_last : (context : DecodeOptions) (start q p : ℕ) (bytes : List ℕ) (all : List Printed) (h : ProtectedHeader) → Cut context bytes h p q → drop q bytes ≡ []
     → LeadsClean context start bytes all → true ≡ list_all is_plain all
 clean_last context start q p bytes all h cut none so_far =
     let end : q ≡ length bytes = ended q bytes cut.4 none in
     so_far (record { start = start; stop = start + length bytes; header = h } ∷ []) None (last start bytes h p (subst (λ (n : ℕ). Cut context bytes h p n) end cut))
 
-pub clean_refused : (context : Context) (start : ℕ) (bytes : List ℕ) (all : List Printed) (e : Refusal) → Uncut context bytes e → LeadsClean context start bytes all → false ≡ list_all is_plain all
+pub clean_refused : (context : DecodeOptions) (start : ℕ) (bytes : List ℕ) (all : List Printed) (e : Refusal) → Uncut context bytes e → LeadsClean context start bytes all → false ≡ list_all is_plain all
 clean_refused context start bytes all e uncut so_far = so_far [] (Some e) (refused start bytes e uncut)

@@ -7,7 +7,7 @@ use Rattle.quic_header_encode.specs.declared.long_type.LongType.{LongType}
 use Rattle.quic_header_encode.specs.declared.long_type.LongType.TheVariants.{Handshake, ZeroRtt}
 use Rattle.quic_header_decode.specs.Datagram.{PlacedPacket, packets_in}
 use Rattle.quic_header_decode.specs.Parsers.{fixed_parsed}
-use Rattle.quic_header_decode.specs.Reading.{Context}
+use Rattle.quic_header_decode.specs.Reading.{DecodeOptions}
 use Rattle.quic_header_decode.specs.Refusal.{Refusal, Invalid, Unsupported, NoMemory}
 use Rattle.quic_header_decode.specs.declared.protected.ProtectedHeader.{ProtectedHeader}
 use Rattle.quic_header_decode.specs.declared.protected.ProtectedHeader.TheVariants as head
@@ -15,7 +15,7 @@ use Rattle.quic_text.specs.Printed.{Printed, Plain, Error}
 
 -- how datagrams are read: ids of short headers have that many bytes, the versions are the usual ones, and the fixed bit
 -- is asked for
-abbrev pub with_ids_of : ℕ → Context
+abbrev pub with_ids_of : ℕ → DecodeOptions
 with_ids_of len = record { parsed = fixed_parsed len; versions = DEFAULT_SUPPORTED_VERSIONS.now; grease = false }
 
 -- an id in hexadecimal, and an empty one as a dash

@@ -11,7 +11,7 @@ ghost use Rattle.quic_text.specs.Text.{payload_lines};
 ghost use Rattle.quic_frame_fields.specs.declared.frame.fault.Fault.{Fault};
 ghost use Rattle.quic_frame_fields.specs.Reading.{Broken, invalid};
 ghost use Rattle.quic_frames.specs.Placed as frames;
-ghost use Rattle.quic_frame_fields.specs.Payload.{Found, IsBroken};
+ghost use Rattle.quic_frame_fields.specs.Payload.{TypedFrame, IsBroken};
 ghost use Rattle.quic_canon.specs.Least.{IsLeast};
 ghost use Rattle.quic_text.specs.FrameText.{item_line, empty_line};
 ghost use Rattle.quic_text.specs.Printed.{Plain, is_plain};
@@ -64,7 +64,7 @@ pub fn strict_printed()
 pub fn canonical_printed()
     ensures least { (payload least : List ℕ) → IsLeast least payload
         → payload_lines Mode.Canon payload ≡ Plain (encode_lower least) ∷ [] }
-    ensures broken { (found : List Found) (payload : List ℕ) (type : Option ℕ) (reason : Fault)
+    ensures broken { (found : List TypedFrame) (payload : List ℕ) (type : Option ℕ) (reason : Fault)
         → AreBytes payload → IsBroken false None found payload type reason
         → payload_lines Mode.Canon payload ≡ item_line (Broken (invalid type reason)) ∷ [] }
     ensures empty { payload_lines Mode.Canon [] ≡ empty_line ∷ [] }

@@ -74,8 +74,8 @@ impl StreamMeta {
     /// Where the range is reversed, its end or the stream's number is 2^62 or more, or there is too little room.
     #[inline]
     pub fn encode<B: Buffer + ?Sized>(&self, length: bool, out: &mut B) -> Result<usize, WriteError> {
-        let head = self.head()?;
-        out.put(|room| write(&head, length, room))
+        let header = self.header()?;
+        out.put(|room| write(&header, length, room))
     }
 
     /// How many bytes the frame has without its data.
@@ -91,11 +91,11 @@ impl StreamMeta {
     ///
     /// As [`StreamMeta::encode`], but for room.
     pub fn encoded_len(&self, length: bool) -> Result<usize, WriteError> {
-        len_of(&self.head()?, length)
+        len_of(&self.header()?, length)
     }
 
     #[inline]
-    fn head(&self) -> Result<sys::Frame, WriteError> {
+    fn header(&self) -> Result<sys::Frame, WriteError> {
         let datalen = length_of(&self.offsets)?;
         let (id, start) = (self.id.0, self.offsets.start);
         if id > varint::MAX {
@@ -121,8 +121,8 @@ impl CryptoMeta {
     /// Where the range is reversed, its end is 2^62 or more, or there is too little room.
     #[inline]
     pub fn encode<B: Buffer + ?Sized>(&self, out: &mut B) -> Result<usize, WriteError> {
-        let head = self.head()?;
-        out.put(|room| write(&head, true, room))
+        let header = self.header()?;
+        out.put(|room| write(&header, true, room))
     }
 
     /// How many bytes the frame has without its data.
@@ -136,11 +136,11 @@ impl CryptoMeta {
     ///
     /// As [`CryptoMeta::encode`], but for room.
     pub fn encoded_len(&self) -> Result<usize, WriteError> {
-        len_of(&self.head()?, true)
+        len_of(&self.header()?, true)
     }
 
     #[inline]
-    fn head(&self) -> Result<sys::Frame, WriteError> {
+    fn header(&self) -> Result<sys::Frame, WriteError> {
         let datalen = length_of(&self.offsets)?;
         Ok(sys::Frame { kind: 0x06, datalen, numbers: [0, self.offsets.start, 0, 0, 0], ..NO_FRAME })
     }
@@ -162,8 +162,8 @@ impl DatagramMeta {
     /// Where the length is 2^62 or more, or there is too little room.
     #[inline]
     pub fn encode<B: Buffer + ?Sized>(&self, length: bool, out: &mut B) -> Result<usize, WriteError> {
-        let head = self.head()?;
-        out.put(|room| write(&head, length, room))
+        let header = self.header()?;
+        out.put(|room| write(&header, length, room))
     }
 
     /// How many bytes the frame has without its data.
@@ -177,11 +177,11 @@ impl DatagramMeta {
     ///
     /// As [`DatagramMeta::encode`], but for room.
     pub fn encoded_len(&self, length: bool) -> Result<usize, WriteError> {
-        len_of(&self.head()?, length)
+        len_of(&self.header()?, length)
     }
 
     #[inline]
-    fn head(&self) -> Result<sys::Frame, WriteError> {
+    fn header(&self) -> Result<sys::Frame, WriteError> {
         let datalen = length_of(&(0..self.len))?;
         Ok(sys::Frame { kind: 0x30, datalen, ..NO_FRAME })
     }
@@ -198,16 +198,16 @@ fn length_of(offsets: &Range<u64>) -> Result<usize, WriteError> {
 
 // Writes a frame up to its data, with their length, which CRYPTO always has, or without.
 #[inline]
-fn write(head: &sys::Frame, length: bool, room: &mut Room) -> Result<(Filled, usize), WriteError> {
-    match sys::frame_header_write(head, !length, room) {
+fn write(header: &sys::Frame, length: bool, room: &mut Room) -> Result<(Filled, usize), WriteError> {
+    match sys::frame_header_write(header, !length, room) {
         Ok(filled) => Ok((filled, filled.len())),
         Err((sys::NO_ROOM, needed)) => Err(WriteError::NoRoom(needed)),
         Err(_) => Err(WriteError::OutOfRange("a number is 2^62 or more")),
     }
 }
 
-fn len_of(head: &sys::Frame, length: bool) -> Result<usize, WriteError> {
-    match write(head, length, &mut []) {
+fn len_of(header: &sys::Frame, length: bool) -> Result<usize, WriteError> {
+    match write(header, length, &mut []) {
         Err(WriteError::NoRoom(needed)) => Ok(needed),
         answer => answer.map(|(_, len)| len),
     }

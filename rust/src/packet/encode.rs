@@ -247,10 +247,11 @@ impl Header<'_> {
         }
         let PacketNumber { number: whole, len } = number;
         let flags = fixed | (u8::from(spin) << 5) | (u8::from(key_phase) << 2);
-        let said = sys::Said { kind: 4, flags, numberlen: len as u8, lengthlen: 0, version: 0, number: whole };
+        let fields =
+            sys::HeaderFields { kind: 4, flags, numberlen: len as u8, lengthlen: 0, version: 0, number: whole };
         let place = 1 + dst_cid.len();
         // The library looks at the id and the number by itself.
-        out.put(|room| match sys::short_write(&said, dst_cid, room) {
+        out.put(|room| match sys::short_write(&fields, dst_cid, room) {
             Ok(filled) => Ok((filled, PartialEncode { header_len: place + number.len, number: place, length: 0 })),
             Err(answer) if answer == i64::from(sys::NO_ROOM) => Err(WriteError::NoRoom(place + number.len)),
             Err(_) => Err(unwritable(&[dst_cid], Some(number), 1)),
@@ -290,8 +291,8 @@ impl Header<'_> {
         };
         let PacketNumber { number, len } = number.unwrap_or(PacketNumber { number: 0, len: 0 });
         let lengthlen = if kind < 3 { 2 } else { 0 };
-        let said = sys::Said { kind, flags, numberlen: len as u8, lengthlen, version, number };
-        Ok(Long { said, ids, token, header_len: self.encoded_len() })
+        let fields = sys::HeaderFields { kind, flags, numberlen: len as u8, lengthlen, version, number };
+        Ok(Long { fields, ids, token, header_len: self.encoded_len() })
     }
 }
 
@@ -299,7 +300,7 @@ const NOTHING: &[u8] = &[];
 
 // A long header as words and bytes.
 struct Long<'a> {
-    said: sys::Said,
+    fields: sys::HeaderFields,
     ids: [&'a [u8]; 2],
     token: &'a [u8],
     header_len: usize,
@@ -308,9 +309,9 @@ struct Long<'a> {
 impl Long<'_> {
     #[inline]
     fn encode<B: Buffer + ?Sized>(&self, out: &mut B) -> Result<PartialEncode, WriteError> {
-        let (header_len, number_len) = (self.header_len, usize::from(self.said.numberlen));
+        let (header_len, number_len) = (self.header_len, usize::from(self.fields.numberlen));
         let length = if number_len == 0 { 0 } else { 2 };
-        out.put(|room| match sys::header_write(&self.said, [self.ids[0], self.ids[1], self.token], room) {
+        out.put(|room| match sys::header_write(&self.fields, [self.ids[0], self.ids[1], self.token], room) {
             Ok(filled) => Ok((filled, PartialEncode { header_len, number: header_len - number_len, length })),
             Err(answer) => Err(refused(answer, header_len)),
         })

@@ -27,7 +27,7 @@
 //! ```
 mod datagram;
 mod encode;
-mod head;
+mod header;
 mod negotiation;
 mod number;
 mod opening;
@@ -35,7 +35,7 @@ mod protection;
 
 pub use datagram::{Packets, PacketsMut, PartialDecode};
 pub use encode::{Header, PartialEncode};
-pub use head::{HeaderError, HeaderPlaces, Versions};
+pub use header::{HeaderError, HeaderPlaces, Versions};
 pub use negotiation::VersionNegotiation;
 pub use number::PacketNumber;
 pub use opening::{Packet, PacketMut};

@@ -237,9 +237,9 @@ impl PacketPlace {
     // The sample of so many bytes, the first byte, and four bytes from the number's place on, each apart.
     #[inline]
     fn parts<'p>(&self, packet: &'p mut [u8], sample_len: usize) -> Option<(&'p [u8], &'p mut u8, &'p mut [u8; 4])> {
-        let (head, behind) = packet.split_at_mut_checked(self.place() + 4)?;
-        let (first, head) = head.split_first_mut()?;
-        Some((behind.get(..sample_len)?, first, head.last_chunk_mut()?))
+        let (header, behind) = packet.split_at_mut_checked(self.place() + 4)?;
+        let (first, header) = header.split_first_mut()?;
+        Some((behind.get(..sample_len)?, first, header.last_chunk_mut()?))
     }
 
     /// The same by a cipher that takes its mask off itself and gives none away, as that of `rustls` does. It is handed
@@ -306,7 +306,7 @@ impl PacketPlace {
         datagram: &[u8],
         mask: &[u8; 5],
         expected: u64,
-        head: &mut B,
+        header: &mut B,
     ) -> Result<Opened, crate::Error> {
         let packet = datagram.get(self.range()).ok_or(UnprotectError::NotThere)?;
         if expected > varint::MAX {
@@ -314,7 +314,7 @@ impl PacketPlace {
         }
         let place = Some(self.place()).filter(|place| *place != 0);
         let protected = place.and_then(|place| packet.get(..place + 4)).ok_or(UnprotectError::TooShort)?;
-        let told = head.put(|room| {
+        let told = header.put(|room| {
             if room.len() < protected.len() {
                 return Err(WriteError::NoRoom(protected.len()));
             }

@@ -1,7 +1,7 @@
 //! The functions of `quic_wire.h` that the library has; those of the header that C alone needs look for NULL.
 #[cfg(test)]
 use super::words::Gap;
-use super::words::{Canon, Frame, Frames, HeaderPlaces, Param, Params, Range, Ranges, Said};
+use super::words::{Canon, Frame, Frames, HeaderFields, HeaderPlaces, Param, Params, Range, Ranges};
 
 extern "C" {
     /// An archive of another version lacks it, so that it isn't linked.
@@ -69,14 +69,14 @@ extern "C" {
     ) -> i32;
     pub fn quic_wire_protect_(packet: *mut u8, len: usize, place: usize, mask: *const u8) -> i32;
     pub fn quic_wire_short_write_(
-        said: *const Said,
+        fields: *const HeaderFields,
         dst: *const u8,
         dst_len: usize,
         out: *mut u8,
         out_len: usize,
     ) -> i64;
     pub fn quic_wire_header_write_(
-        said: *const Said,
+        fields: *const HeaderFields,
         dst: *const u8,
         dst_len: usize,
         src: *const u8,

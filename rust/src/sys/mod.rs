@@ -11,7 +11,7 @@ mod c;
 mod c_alone;
 mod words;
 
-pub use words::{Canon, Frame, Frames, HeaderPlaces, Param, Params, Range, Ranges, Said};
+pub use words::{Canon, Frame, Frames, HeaderFields, HeaderPlaces, Param, Params, Range, Ranges};
 
 use crate::frame::Entry;
 use core::mem::MaybeUninit;
@@ -209,18 +209,18 @@ pub fn protect(packet: &mut [u8], place: usize, mask: &[u8; 5]) -> i32 {
 
 /// `Err` has the library's answer, below 0.
 #[inline]
-pub fn short_write(said: &Said, dst: &[u8], out: &mut Room) -> Result<Filled, i64> {
+pub fn short_write(fields: &HeaderFields, dst: &[u8], out: &mut Room) -> Result<Filled, i64> {
     let (to, room) = (out.as_mut_ptr().cast::<u8>(), out.len());
     // SAFETY: `dst` and `out` each give their own pointer and length; `out` is borrowed alone. Any words in `said`
     // serve. An answer above 0 is how many bytes at the front of `out` are initialised. The library looks at no other
     // memory and keeps no pointer.
-    let answer = unsafe { c::quic_wire_short_write_(said, dst.as_ptr(), dst.len(), to, room) };
+    let answer = unsafe { c::quic_wire_short_write_(fields, dst.as_ptr(), dst.len(), to, room) };
     usize::try_from(answer).map(Filled).map_err(|_| answer)
 }
 
 /// `Err` has the library's answer, below 0.
 #[inline]
-pub fn header_write(said: &Said, [dst, src, token]: [&[u8]; 3], out: &mut Room) -> Result<Filled, i64> {
+pub fn header_write(fields: &HeaderFields, [dst, src, token]: [&[u8]; 3], out: &mut Room) -> Result<Filled, i64> {
     let (to, room) = (out.as_mut_ptr().cast::<u8>(), out.len());
     let (dst, dst_len) = (dst.as_ptr(), dst.len());
     let (src, src_len) = (src.as_ptr(), src.len());
@@ -228,7 +228,7 @@ pub fn header_write(said: &Said, [dst, src, token]: [&[u8]; 3], out: &mut Room) 
     // SAFETY: both ids, the token and `out` each give their own pointer and length; `out` is borrowed alone. Any words
     // in `said` serve. An answer above 0 is how many bytes at the front of `out` are initialised. The library looks at
     // no other memory and keeps no pointer.
-    let answer = unsafe { c::quic_wire_header_write_(said, dst, dst_len, src, src_len, token, token_len, to, room) };
+    let answer = unsafe { c::quic_wire_header_write_(fields, dst, dst_len, src, src_len, token, token_len, to, room) };
     usize::try_from(answer).map(Filled).map_err(|_| answer)
 }
 

@@ -87,7 +87,7 @@ pub struct HeaderPlaces {
 /// The fields of a header other than its ids and its token.
 #[repr(C)]
 #[derive(Clone, Copy, Debug, Default, PartialEq, Eq, Hash)]
-pub struct Said {
+pub struct HeaderFields {
     pub kind: u8,
     pub flags: u8,
     pub numberlen: u8,
@@ -164,7 +164,7 @@ layout!(Ranges, 24, 8: begin 0 8, end 8 8, largest 16 8,);
 layout!(Canon, 24, 8: len 0 8, last_type 8 8, reason 16 8,);
 layout!(HeaderPlaces, 32, 8: kind 0 1, first 1 1, dcidlen 2 1, scidlen 3 1, version 4 4, header_end 8 4, end 12 4, token 16 4,
     tokenlen 20 4, len 24 8,);
-layout!(Said, 16, 8: kind 0 1, flags 1 1, numberlen 2 1, lengthlen 3 1, version 4 4, number 8 8,);
+layout!(HeaderFields, 16, 8: kind 0 1, flags 1 1, numberlen 2 1, lengthlen 3 1, version 4 4, number 8 8,);
 layout!(Params, 264, 8: present 0 4, reason 4 4, max_idle_timeout 8 8, max_udp_payload_size 16 8, initial_max_data 24 8,
     initial_max_stream_data_bidi_local 32 8, initial_max_stream_data_bidi_remote 40 8, initial_max_stream_data_uni 48 8,
     initial_max_streams_bidi 56 8, initial_max_streams_uni 64 8, ack_delay_exponent 72 8, max_ack_delay 80 8,

@@ -8,7 +8,7 @@ ghost use Rattle.quic_frame_fields.specs.Sets.{AreCounts, IsAckInRange, ranges_i
 ghost use Rattle.quic_frame_fields.specs.Shortest.{shortest_frame, shortest_below};
 ghost use Rattle.quic_base.specs.Writing.{Writes};
 ghost use Rattle.quic_frame_fields.specs.Putting.{Flushes};
-ghost use Rattle.quic_frame_fields.specs.Numbers.{all_short};
+ghost use Rattle.quic_frame_fields.specs.Numbers.{shortest_varints};
 
 use super::ack::{Ack, EcnCounts};
 use super::write;
@@ -120,7 +120,7 @@ fn store_two(chunk: &mut [u8; CHUNK], at: usize, gap: u64, len: u64) -> usize
     requires gap { gap < 2 ^ 62 }
     requires len { len < 2 ^ 62 }
     ensures near { result ≤ CHUNK }
-    ensures front { take result chunk.new ≡ take at chunk.old ++ all_short (gap ∷ len ∷ []) }
+    ensures front { take result chunk.new ≡ take at chunk.old ++ shortest_varints (gap ∷ len ∷ []) }
 {
     let at = write::store_number(chunk, at, gap);
     write::store_number(chunk, at, len)
@@ -158,7 +158,7 @@ fn encode_below<B: BufMut>(
 #[inline(always)]
 fn encode_counts<B: BufMut>(ecn: Option<EcnCounts>, out: &mut B) -> Result<(), NoRoom>
     requires { AreCounts ecn }
-    ensures { Writes result (all_short (count_numbers ecn))
+    ensures { Writes result (shortest_varints (count_numbers ecn))
         (B.written out.old) (B.spare out.old) (B.written out.new) (B.spare out.new) }
 {
     match ecn {
@@ -170,7 +170,7 @@ fn encode_counts<B: BufMut>(ecn: Option<EcnCounts>, out: &mut B) -> Result<(), N
 // How many bytes `encode_counts` appends.
 fn counts_len(ecn: Option<EcnCounts>) -> u128
     requires { AreCounts ecn }
-    ensures value { result ≡ length (all_short (count_numbers ecn)) }
+    ensures value { result ≡ length (shortest_varints (count_numbers ecn)) }
     ensures small { result ≤ 24 }
 {
     match ecn {

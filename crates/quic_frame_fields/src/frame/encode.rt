@@ -6,7 +6,7 @@ ghost use Rattle.quic_frame_fields.specs.Shortest.{shortest_frame, least_room, c
 ghost use Rattle.quic_frame_fields.specs.declared.frame.close.Close.TheVariants as closes;
 ghost use Rattle.quic_errors.specs.Types.{type_or_zero};
 ghost use Rattle.quic_base.specs.Writing.{Writes};
-ghost use Rattle.quic_frame_fields.specs.Numbers.{AreNumeric, all_short};
+ghost use Rattle.quic_frame_fields.specs.Numbers.{AreNumeric, shortest_varints};
 
 use super::{
     AckFrequency, ApplicationClose, Close, ConnectionClose, Crypto, Datagram, EcnCounts, FrameType,
@@ -125,7 +125,7 @@ impl EcnCounts {
         requires ect0 { self.now.ect0 < 2 ^ 62 }
         requires ect1 { self.now.ect1 < 2 ^ 62 }
         requires ce { self.now.ce < 2 ^ 62 }
-        ensures { Writes result (all_short (self.now.ect0 ∷ self.now.ect1 ∷ self.now.ce ∷ []))
+        ensures { Writes result (shortest_varints (self.now.ect0 ∷ self.now.ect1 ∷ self.now.ce ∷ []))
             (B.written out.old) (B.spare out.old) (B.written out.new) (B.spare out.new) }
     {
         write::numbers(out, &[self.ect0, self.ect1, self.ce])

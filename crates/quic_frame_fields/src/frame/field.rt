@@ -25,7 +25,7 @@ pub fn varint(bytes: &[u8]) -> Result<(u64, &[u8]), Fault>
 // The same, inlined into the caller, for fields of which most have one width.
 #[inline(always)]
 #[tactic(auto, using(crate::proofs::Varints::slices))]
-fn near_varint(bytes: &[u8]) -> Result<(u64, &[u8]), Fault>
+fn varint_inline(bytes: &[u8]) -> Result<(u64, &[u8]), Fault>
     ensures gives { Gives (λ x. (x.0, x.1.now)) result (varint_at bytes.now) }
     ensures bound { IfOk result (λ x. x.0 < 2 ^ 62) }
 {
@@ -38,7 +38,7 @@ fn near_varint(bytes: &[u8]) -> Result<(u64, &[u8]), Fault>
 /// The same, for numbers of which most have one byte.
 #[inline(always)]
 #[tactic(auto, using(crate::proofs::Gaps::one_at))]
-pub fn small_varint(bytes: &[u8]) -> Result<(u64, &[u8]), Fault>
+pub fn varint_mostly_one_byte(bytes: &[u8]) -> Result<(u64, &[u8]), Fault>
     ensures gives { Gives (λ x. (x.0, x.1.now)) result (varint_at bytes.now) }
     ensures bound { IfOk result (λ x. x.0 < 2 ^ 62) }
 {
@@ -57,7 +57,7 @@ fn block(greatest: u64, bytes: &[u8]) -> Result<(u64, &[u8]), Fault>
     ensures gives { Gives (λ x. (x.0, x.1.now)) result (block_at greatest bytes.now) }
     ensures bytes { AreBytes bytes.now }
 {
-    let (n, rest) = small_varint(bytes)?;
+    let (n, rest) = varint_mostly_one_byte(bytes)?;
     if n > greatest {
         return Err(Fault::Malformed);
     }
@@ -71,7 +71,7 @@ fn near_block(greatest: u64, bytes: &[u8]) -> Result<(u64, &[u8]), Fault>
     ensures gives { Gives (λ x. (x.0, x.1.now)) result (block_at greatest bytes.now) }
     ensures bytes { AreBytes bytes.now }
 {
-    let (length, rest) = near_varint(bytes)?;
+    let (length, rest) = varint_inline(bytes)?;
     if length > greatest {
         return Err(Fault::Malformed);
     }
@@ -85,7 +85,7 @@ fn gap(low: u64, bytes: &[u8]) -> Result<(u64, &[u8]), Fault>
     ensures gives { Gives (λ x. (x.0, x.1.now)) result (gap_at low bytes.now) }
     ensures bytes { AreBytes bytes.now }
 {
-    let (n, rest) = near_varint(bytes)?;
+    let (n, rest) = varint_inline(bytes)?;
     if low < 2 || n > low - 2 {
         return Err(Fault::Malformed);
     }
@@ -208,10 +208,10 @@ fn wide_front(low: u64, front: &[u8; 16]) -> Option<(u64, usize)>
     if (front[0] < 64) & (front[1] < 64) {
         return None;
     }
-    let Ok((between, rest)) = near_varint(front) else {
+    let Ok((between, rest)) = varint_inline(front) else {
         return None;
     };
-    let Ok((length, rest)) = near_varint(rest) else {
+    let Ok((length, rest)) = varint_inline(rest) else {
         return None;
     };
     let all = between + 2 + length;
@@ -275,7 +275,7 @@ pub fn blocks(greatest: u64, bytes: &[u8]) -> Result<(&[u8], &[u8]), Fault>
     ensures valid { IfOk result (λ x. IsBlocks greatest x.0.now) }
     ensures encoded { IfOk result (λ x. (ranges : List (ℕ × ℕ)) × AreBlocks greatest ranges x.0.now) }
 {
-    let (count, bytes) = small_varint(bytes)?;
+    let (count, bytes) = varint_mostly_one_byte(bytes)?;
     let (low, rest) = block(greatest, bytes)?;
     let rest = below(count, low, rest)?;
     Ok(bytes.split_at(bytes.len() - rest.len()))

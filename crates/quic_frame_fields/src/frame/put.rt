@@ -1,6 +1,6 @@
 //! Writes numbers and bytes at the front of a slice.
 ghost use Rattle.std.specs.Prelude.{◌≡◌, ◌<◌, ◌≤◌, ◌+◌, ◌^◌, ◌++◌, ℕ, List, Bool, length, take, drop, IfSome};
-ghost use Rattle.quic_frame_fields.specs.Numbers.{AreNumeric, AreEncoded, all_short};
+ghost use Rattle.quic_frame_fields.specs.Numbers.{AreNumeric, AreEncoded, shortest_varints};
 ghost use Rattle.quic_frame_fields.specs.Parts.{ack_meaning};
 ghost use Rattle.quic_frame_fields.specs.Putting.{Stores, Puts, Shortens};
 ghost use Rattle.quic_frame_fields.specs.Sets.{AreCounts, IsAckInRange, count_numbers};
@@ -17,7 +17,7 @@ use super::{Ack, EcnCounts, FrameType, Stream, field};
 pub fn numbers(dest: &mut [u8], numbers: &[u64]) -> Result<usize, usize>
     requires few { length numbers.now ≤ 5 }
     requires numeric { AreNumeric numbers.now }
-    ensures { Puts result (all_short numbers.now) dest.old dest.new }
+    ensures { Puts result (shortest_varints numbers.now) dest.old dest.new }
 {
     let mut head = [0; HEADER_ROOM];
     let len = store_numbers(&mut head, numbers);
@@ -29,7 +29,7 @@ pub fn numbers(dest: &mut [u8], numbers: &[u64]) -> Result<usize, usize>
 pub fn numbers_and_bytes(dest: &mut [u8], head: &[u64], tail: &[u8]) -> Result<usize, usize>
     requires few { length head.now ≤ 5 }
     requires numeric { AreNumeric head.now }
-    ensures { Puts result (all_short head.now ++ tail.now) dest.old dest.new }
+    ensures { Puts result (shortest_varints head.now ++ tail.now) dest.old dest.new }
 {
     let mut numbers = [0; HEADER_ROOM];
     let len = store_numbers(&mut numbers, head);
@@ -46,7 +46,7 @@ pub fn numbers_and_two(
     requires few { length head.now ≤ 5 }
     requires numeric { AreNumeric head.now }
     requires end { length end.now ≤ 64 }
-    ensures { Puts result (all_short head.now ++ (middle.now ++ end.now)) dest.old dest.new }
+    ensures { Puts result (shortest_varints head.now ++ (middle.now ++ end.now)) dest.old dest.new }
 {
     let mut numbers = [0; HEADER_ROOM];
     let len = store_numbers(&mut numbers, head);
@@ -58,8 +58,8 @@ pub fn numbers_and_two(
 pub fn numbers_at(dest: &mut [u8], at: usize, numbers: &[u64]) -> usize
     requires few { length numbers.now ≤ 5 }
     requires numeric { AreNumeric numbers.now }
-    requires room { at + length (all_short numbers.now) ≤ length dest.old }
-    ensures stores { Stores (all_short numbers.now) at dest.old result dest.new }
+    requires room { at + length (shortest_varints numbers.now) ≤ length dest.old }
+    ensures stores { Stores (shortest_varints numbers.now) at dest.old result dest.new }
     ensures len { length dest.new ≡ length dest.old }
 {
     let mut head = [0; HEADER_ROOM];
@@ -166,7 +166,7 @@ pub fn ack(dest: &mut [u8], ack: &Ack<'_>) -> Result<usize, usize>
 fn store_counts(counts: &mut [u8; HEADER_ROOM], ecn: Option<EcnCounts>) -> usize
     requires { AreCounts ecn }
     ensures within { result ≤ HEADER_ROOM }
-    ensures front { take result counts.new ≡ all_short (count_numbers ecn) }
+    ensures front { take result counts.new ≡ shortest_varints (count_numbers ecn) }
 {
     match ecn {
         None => 0,
@@ -179,7 +179,7 @@ fn store_counts(counts: &mut [u8; HEADER_ROOM], ecn: Option<EcnCounts>) -> usize
 fn store_shortened(dest: &mut [u8], at: usize, encoded: &[u8], len: usize) -> usize
     requires shortens { Shortens encoded.now len }
     requires room { at + len ≤ length dest.old }
-    ensures stores { (ns : List ℕ) → AreEncoded ns encoded.now → Stores (all_short ns) at dest.old result dest.new }
+    ensures stores { (ns : List ℕ) → AreEncoded ns encoded.now → Stores (shortest_varints ns) at dest.old result dest.new }
     ensures len { length dest.new ≡ length dest.old }
 {
     if len == encoded.len() {
@@ -193,7 +193,7 @@ fn store_shortened(dest: &mut [u8], at: usize, encoded: &[u8], len: usize) -> us
 fn store_each(dest: &mut [u8], at: usize, encoded: &[u8], len: usize) -> usize
     requires shortens { Shortens encoded.now len }
     requires room { at + len ≤ length dest.old }
-    ensures stores { (ns : List ℕ) → AreEncoded ns encoded.now → Stores (all_short ns) at dest.old result dest.new }
+    ensures stores { (ns : List ℕ) → AreEncoded ns encoded.now → Stores (shortest_varints ns) at dest.old result dest.new }
     ensures len { length dest.new ≡ length dest.old }
 {
     let mut at = at;

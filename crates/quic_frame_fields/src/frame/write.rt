@@ -1,10 +1,10 @@
 //! Appends numbers and bytes to a buffer.
 ghost use Rattle.std.specs.Prelude.{◌≡◌, ◌<◌, ◌≤◌, ◌+◌, ◌*◌, ◌^◌, ◌++◌, ℕ, List, take, length, get_or, IsOk, OnOk, OnErr, vec_len, vec_capacity};
 ghost use Rattle.quic_base.specs.ConnectionId.{long_id};
-ghost use Rattle.quic_base.specs.Varint.{short, size};
+ghost use Rattle.quic_base.specs.Varint.{shortest_varint, size};
 ghost use Rattle.quic_base.specs.Number.{AreBytes};
 ghost use Rattle.quic_base.specs.Writing.{Writes};
-ghost use Rattle.quic_frame_fields.specs.Numbers.{AreNumeric, AreEncoded, all_short};
+ghost use Rattle.quic_frame_fields.specs.Numbers.{AreNumeric, AreEncoded, shortest_varints};
 
 use super::field;
 use bytes::BufMut;
@@ -17,13 +17,13 @@ pub(super) const HEADER_ROOM: usize = 40;
 
 // Stores a number in its shortest encoding at a place, and answers where it ends.
 #[inline(always)]
-#[tactic(auto, unfolding(quic_base::specs::Varint::short, quic_base::specs::Varint::size, quic_base::specs::Number::bytes_of))]
+#[tactic(auto, unfolding(quic_base::specs::Varint::shortest_varint, quic_base::specs::Varint::size, quic_base::specs::Number::bytes_of))]
 pub(super) fn store_number(head: &mut [u8], at: usize, n: u64) -> usize
     requires numeric { n < 2 ^ 62 }
     requires room { at + 8 ≤ length head.old }
-    ensures end { result ≡ at + length (short n) }
+    ensures end { result ≡ at + length (shortest_varint n) }
     ensures near { result ≤ at + 8 }
-    ensures front { take result head.new ≡ take at head.old ++ short n }
+    ensures front { take result head.new ≡ take at head.old ++ shortest_varint n }
     ensures len { length head.new ≡ length head.old }
 {
     if n < 1 << 6 {
@@ -43,7 +43,7 @@ pub(super) fn store_numbers(head: &mut [u8], numbers: &[u64]) -> usize
     requires room { 8 * length numbers.now ≤ length head.old }
     requires numeric { AreNumeric numbers.now }
     ensures within { result ≤ 8 * length numbers.now }
-    ensures front { take result head.new ≡ all_short numbers.now }
+    ensures front { take result head.new ≡ shortest_varints numbers.now }
     ensures len { length head.new ≡ length head.old }
 {
     let mut at = 0;
@@ -60,7 +60,7 @@ pub(super) fn store_numbers(head: &mut [u8], numbers: &[u64]) -> usize
 pub fn numbers<B: BufMut>(out: &mut B, numbers: &[u64]) -> Result<(), NoRoom>
     requires few { length numbers.now ≤ 5 }
     requires numeric { AreNumeric numbers.now }
-    ensures { Writes result (all_short numbers.now) (B.written out.old) (B.spare out.old) (B.written out.new)
+    ensures { Writes result (shortest_varints numbers.now) (B.written out.old) (B.spare out.old) (B.written out.new)
         (B.spare out.new) }
 {
     let mut head = [0; HEADER_ROOM];
@@ -82,7 +82,7 @@ pub fn bytes<B: BufMut>(out: &mut B, bytes: &[u8]) -> Result<(), NoRoom>
 pub fn numbers_and_bytes<B: BufMut>(out: &mut B, head: &[u64], tail: &[u8]) -> Result<(), NoRoom>
     requires few { length head.now ≤ 5 }
     requires numeric { AreNumeric head.now }
-    ensures { Writes result (all_short head.now ++ tail.now) (B.written out.old) (B.spare out.old) (B.written out.new)
+    ensures { Writes result (shortest_varints head.now ++ tail.now) (B.written out.old) (B.spare out.old) (B.written out.new)
         (B.spare out.new) }
 {
     numbers(out, head)?;
@@ -112,9 +112,9 @@ pub fn size_of(n: u64) -> usize
 /// Appends the numbers that the bytes encode, in their shortest encodings, in the same way. The caller must know how
 /// many bytes these have: if the given bytes are as many, they are the shortest already, and are copied.
 pub fn shortened<B: BufMut>(out: &mut B, encoded: &[u8], len: u64) -> Result<(), NoRoom>
-    requires { (ns : List ℕ) → AreEncoded ns encoded.now → len ≡ length (all_short ns) }
+    requires { (ns : List ℕ) → AreEncoded ns encoded.now → len ≡ length (shortest_varints ns) }
     ensures { (ns : List ℕ) → AreEncoded ns encoded.now
-        → Writes result (all_short ns) (B.written out.old) (B.spare out.old) (B.written out.new) (B.spare out.new) }
+        → Writes result (shortest_varints ns) (B.written out.old) (B.spare out.old) (B.written out.new) (B.spare out.new) }
 {
     if len == encoded.len() as u64 {
         bytes(out, encoded)
@@ -126,7 +126,7 @@ pub fn shortened<B: BufMut>(out: &mut B, encoded: &[u8], len: u64) -> Result<(),
 // Appends the numbers one by one.
 fn each_shortened<B: BufMut>(out: &mut B, encoded: &[u8]) -> Result<(), NoRoom>
     ensures { (ns : List ℕ) → AreEncoded ns encoded.now
-        → Writes result (all_short ns) (B.written out.old) (B.spare out.old) (B.written out.new) (B.spare out.new) }
+        → Writes result (shortest_varints ns) (B.written out.old) (B.spare out.old) (B.written out.new) (B.spare out.new) }
 {
     let mut rest = encoded;
     while let Ok((number, after)) = field::varint(rest) {
@@ -152,7 +152,7 @@ fn ones(bytes: &[u8]) -> usize
 /// How many numbers the bytes encode, and how many bytes `shortened` appends of them.
 pub fn count_and_len(encoded: &[u8]) -> (u64, u64)
     ensures count { (ns : List ℕ) → AreEncoded ns encoded.now → result.0 ≡ length ns }
-    ensures len { (ns : List ℕ) → AreEncoded ns encoded.now → result.1 ≡ length (all_short ns) }
+    ensures len { (ns : List ℕ) → AreEncoded ns encoded.now → result.1 ≡ length (shortest_varints ns) }
     ensures small { result.1 ≤ length encoded.now }
     ensures bytes { AreBytes encoded.now }
 {
@@ -174,7 +174,7 @@ pub fn count_and_len(encoded: &[u8]) -> (u64, u64)
 #[inline(always)]
 pub fn numbers_len(numbers: &[u64]) -> u128
     requires { AreNumeric numbers.now }
-    ensures value { result ≡ length (all_short numbers.now) }
+    ensures value { result ≡ length (shortest_varints numbers.now) }
     ensures small { result ≤ 8 * length numbers.now }
 {
     let mut total = 0;
@@ -189,7 +189,7 @@ pub fn numbers_len(numbers: &[u64]) -> u128
 pub fn numbers_and_bytes_len(head: &[u64], tail: &[u8]) -> u128
     requires few { length head.now ≤ 5 }
     requires numeric { AreNumeric head.now }
-    ensures { result ≡ length (all_short head.now ++ tail.now) }
+    ensures { result ≡ length (shortest_varints head.now ++ tail.now) }
 {
     numbers_len(head) + tail.len() as u128
 }
@@ -199,10 +199,10 @@ pub fn numbers_and_bytes_len(head: &[u64], tail: &[u8]) -> u128
 pub fn append(out: &mut Vec<u8>, head: &[u64], tail: &[u8]) -> Result<(), NoRoom>
     requires few { length head.now ≤ 5 }
     requires numeric { AreNumeric head.now }
-    ensures ok { OnOk result (out.new.items ≡ out.old.items ++ (all_short head.now ++ tail.now)) }
+    ensures ok { OnOk result (out.new.items ≡ out.old.items ++ (shortest_varints head.now ++ tail.now)) }
     ensures err { OnErr result (out.new.items ≡ out.old.items) }
     ensures capacity { OnErr result (vec_capacity out.new ≡ vec_capacity out.old) }
-    ensures room { vec_len out.old + length (all_short head.now ++ tail.now) ≤ vec_capacity out.old → IsOk result }
+    ensures room { vec_len out.old + length (shortest_varints head.now ++ tail.now) ≤ vec_capacity out.old → IsOk result }
 {
     if out
         .reserve(numbers_len(head) as usize + tail.len())

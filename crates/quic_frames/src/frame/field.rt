@@ -27,7 +27,7 @@ fn bytes_of(n: u64, bytes: &[u8]) -> Result<(&[u8], &[u8]), Fault>
 /// one is inlined into the caller.
 #[inline(always)]
 #[tactic(auto, using(quic_frame_fields::proofs::Gaps::one_at))]
-pub(super) fn short_varint(bytes: &[u8]) -> Result<(u64, &[u8]), Fault>
+pub(super) fn varint_mostly_one_byte(bytes: &[u8]) -> Result<(u64, &[u8]), Fault>
     ensures gives { Gives (λ x. (x.0, x.1.now)) result (varint_at bytes.now) }
     ensures bound { IfOk result (λ x. x.0 < 2 ^ 62) }
 {
@@ -44,7 +44,7 @@ pub(super) fn short_varint(bytes: &[u8]) -> Result<(u64, &[u8]), Fault>
 /// STREAMs.
 #[inline(always)]
 #[tactic(auto, using(quic_frame_fields::proofs::Varints::slices))]
-pub(super) fn near_varint(bytes: &[u8]) -> Result<(u64, &[u8]), Fault>
+pub(super) fn varint_by_word(bytes: &[u8]) -> Result<(u64, &[u8]), Fault>
     ensures gives { Gives (λ x. (x.0, x.1.now)) result (varint_at bytes.now) }
     ensures bound { IfOk result (λ x. x.0 < 2 ^ 62) }
 {
@@ -70,7 +70,7 @@ pub(super) fn counted(bytes: &[u8]) -> Result<(&[u8], &[u8]), Fault>
 fn near_counted(bytes: &[u8]) -> Result<(&[u8], &[u8]), Fault>
     ensures { Gives (λ x. (x.0.now, x.1.now)) result (counted_at bytes.now) }
 {
-    let (n, rest) = near_varint(bytes)?;
+    let (n, rest) = varint_by_word(bytes)?;
     bytes_of(n, rest)
 }
 
@@ -81,7 +81,7 @@ pub(super) fn offset(is_written: bool, bytes: &[u8]) -> Result<(u64, &[u8]), Fau
         → Gives (λ x. (Number x.0 ∷ [], x.1.now)) result (field_at (offset_field is_written) before bytes.now) }
 {
     if is_written {
-        near_varint(bytes)
+        varint_by_word(bytes)
     } else {
         Ok((0, bytes))
     }

@@ -23,7 +23,7 @@ pub(super) struct FirstFrame<'a> {
 /// Reads the frame at the front of `bytes`. With `strict`, a type that is not in its shortest encoding is an error;
 /// `before`, the type of the frame before, is reported where no type can be read.
 #[inline(always)]
-pub(super) fn read_found(
+pub(super) fn read_typed_frame(
     strict: bool,
     before: Option<FrameType>,
     bytes: &[u8],
@@ -31,7 +31,7 @@ pub(super) fn read_found(
     ensures gives { GivesFound bytes.now result (found_at strict before bytes.now) }
     ensures bytes { AreBytes bytes.now }
 {
-    let Ok((number, rest)) = field::short_varint(bytes) else {
+    let Ok((number, rest)) = field::varint_mostly_one_byte(bytes) else {
         return Err(InvalidFrame {
             ty: before,
             reason: Fault::UnexpectedEnd.reason(),

@@ -4,9 +4,9 @@ ghost use Rattle.quic_base.specs.Number.{AreBytes};
 ghost use Rattle.quic_errors.specs.Codes.{IsError, protocol_violation};
 ghost use Rattle.quic_frame_fields.specs.Payload.{IsEither};
 ghost use Rattle.quic_frames.specs.Padding.{PassesPadding};
-ghost use Rattle.quic_frames.specs.Walk.{left, first_of, resumed, GivesFrames, GivesBroken};
+ghost use Rattle.quic_frames.specs.Walk.{left, first_of, resumed, GivesFrames, GivesBroken, BeginsWalk};
 
-use super::found::read_found;
+use super::found::read_typed_frame;
 use super::{Frame, FrameType, InvalidFrame};
 use crate::transport_error::Error;
 use std::marker::Model;
@@ -72,13 +72,7 @@ impl<'a> Iter<'a> {
 
     // `new`, or `strict` if the flag is set.
     fn begin(payload: &'a [u8], strict: bool) -> Result<Self, Error>
-        ensures empty { IsErr result ↔ (payload.now ≡ []) }
-        ensures refusal { IfErr result (λ e. IsError e protocol_violation (codes "packet payload is empty")) }
-        ensures first { IfOk result (λ it. it ≡ first_of strict payload.now) }
-        ensures either { IsEither strict None payload.now }
-        ensures frames { IfOk result (λ it. GivesFrames strict payload.now it) }
-        ensures broken { IfOk result (λ it. GivesBroken strict payload.now it) }
-        ensures few { IfOk result (λ it. length (left it) ≤ length payload.now) }
+        ensures { BeginsWalk strict payload.now result }
     {
         if payload.is_empty() {
             return Err(Error::PROTOCOL_VIOLATION("packet payload is empty"));
@@ -207,7 +201,7 @@ impl<'a> Iterator for Iter<'a> {
             self.offset += 1;
             return Some(Ok(Frame::Padding));
         }
-        match read_found(self.strict, self.last, rest) {
+        match read_typed_frame(self.strict, self.last, rest) {
             Ok(first) => {
                 self.last = Some(first.ty);
                 self.offset = self.payload.len() - first.rest.len();

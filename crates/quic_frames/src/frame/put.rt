@@ -1,7 +1,7 @@
 //! Frames, written at the front of a slice in their shortest form (RFC 9000, section 19).
 ghost use Rattle.std.specs.Prelude.{◌≡◌, ◌≢◌, ◌<◌, ◌^◌, ◌++◌, Bool, length, drop, IfSome, IsNone};
 ghost use Rattle.quic_base.specs.Number.{bytes_of};
-ghost use Rattle.quic_base.specs.Varint.{short};
+ghost use Rattle.quic_base.specs.Varint.{shortest_varint};
 ghost use Rattle.quic_frame_fields.specs.Parts.{close_meaning, new_id_meaning};
 ghost use Rattle.quic_frame_fields.specs.Putting.{Puts};
 ghost use Rattle.quic_frame_fields.specs.Shortest.{shortest_frame, close_reason};
@@ -9,7 +9,7 @@ ghost use Rattle.quic_frames.specs.InRange.{CanStand, InRange};
 ghost use Rattle.quic_frames.specs.Meaning.{meaning_of};
 ghost use Rattle.quic_frames.specs.declared.frame.Frame.TheVariants as frames;
 
-use super::whole::bit_of;
+use super::encode::bit_of;
 use super::{Close, Datagram, Frame, NewConnectionId, Stream};
 use quic_frame_fields::frame::encode::type_or_zero;
 use quic_frame_fields::frame::put;
@@ -118,7 +118,7 @@ fn put_new_id(new: &NewConnectionId, dest: &mut [u8]) -> Result<usize, usize>
 // A frame of a type and eight bytes.
 fn put_path(ty: u64, n: u64, dest: &mut [u8]) -> Result<usize, usize>
     requires { ty < 2 ^ 62 }
-    ensures { Puts result (short ty ++ bytes_of 8 n) dest.old dest.new }
+    ensures { Puts result (shortest_varint ty ++ bytes_of 8 n) dest.old dest.new }
 {
     put::numbers_and_bytes(dest, &[ty], &n.to_be_bytes())
 }

@@ -25,16 +25,16 @@ fn read_ack(has_counts: bool, bytes: &[u8]) -> Result<(Frame<'_>, &[u8]), Fault>
     ensures { GivesFrame (λ rest. rest.now) bytes.now result
         (row_at (if has_counts then table.ack_ecn_row else table.ack_row) bytes.now) }
 {
-    let (largest, rest) = field::near_varint(bytes)?;
-    let (delay, rest) = field::near_varint(rest)?;
+    let (largest, rest) = field::varint_by_word(bytes)?;
+    let (delay, rest) = field::varint_by_word(rest)?;
     let (blocks, rest) = blocks(largest, rest)?;
     if !has_counts {
         let ack = Ack::of_blocks(largest, delay, blocks, None);
         return Ok((Frame::Ack(ack), rest));
     }
-    let (ect0, rest) = field::short_varint(rest)?;
-    let (ect1, rest) = field::short_varint(rest)?;
-    let (ce, rest) = field::short_varint(rest)?;
+    let (ect0, rest) = field::varint_mostly_one_byte(rest)?;
+    let (ect1, rest) = field::varint_mostly_one_byte(rest)?;
+    let (ce, rest) = field::varint_mostly_one_byte(rest)?;
     let ecn = EcnCounts { ect0, ect1, ce };
     let ack = Ack::of_blocks(largest, delay, blocks, Some(ecn));
     Ok((Frame::Ack(ack), rest))
@@ -125,7 +125,7 @@ fn read_stream(
     ensures { GivesFrame (λ rest. rest.now) bytes.now result
         (row_at (table.stream_row has_offset has_length fin) bytes.now) }
 {
-    let (id, rest) = field::near_varint(bytes)?;
+    let (id, rest) = field::varint_by_word(bytes)?;
     let (offset, rest) = field::offset(has_offset, rest)?;
     let (bytes, rest) = field::near_data(has_length, rest)?;
     let stream = Stream {
@@ -182,8 +182,8 @@ fn new_connection_id(bytes: &[u8]) -> Result<(NewConnectionId, &[u8]), Fault>
     ensures { Gives (λ x. (meaning_of (frames.NewConnectionId x.0), x.1.now)) result
         (row_at table.new_connection_id_row bytes.now) }
 {
-    let (sequence, rest) = field::short_varint(bytes)?;
-    let (retire_prior_to, rest) = field::short_varint(rest)?;
+    let (sequence, rest) = field::varint_mostly_one_byte(bytes)?;
+    let (retire_prior_to, rest) = field::varint_mostly_one_byte(rest)?;
     if retire_prior_to > sequence {
         return Err(Fault::Malformed);
     }
@@ -287,10 +287,10 @@ fn ack_frequency(bytes: &[u8]) -> Result<(AckFrequency, &[u8]), Fault>
     ensures { Gives (λ x. (meaning_of (frames.AckFrequency x.0), x.1.now)) result
         (row_at table.ack_frequency_row bytes.now) }
 {
-    let (sequence, rest) = field::near_varint(bytes)?;
-    let (threshold, rest) = field::near_varint(rest)?;
-    let (delay, rest) = field::near_varint(rest)?;
-    let (reordering, rest) = field::near_varint(rest)?;
+    let (sequence, rest) = field::varint_by_word(bytes)?;
+    let (threshold, rest) = field::varint_by_word(rest)?;
+    let (delay, rest) = field::varint_by_word(rest)?;
+    let (reordering, rest) = field::varint_by_word(rest)?;
     let frequency = AckFrequency {
         sequence: VarInt::from_u64_unchecked(sequence),
         ack_eliciting_threshold: VarInt::from_u64_unchecked(threshold),

@@ -4,8 +4,7 @@ use quic_canon::canonical::{CanonError, canonical, canonical_of};
 use quic_canon::client::mean_the_same;
 use quic_checks::Checks;
 use quic_checks::codes::type_of;
-use quic_errors::frame_type::FrameType;
-use quic_frames::frame::InvalidFrame;
+use quic_frames::frame::{FrameType, InvalidFrame};
 use std::alloc::Global;
 use std::test::Fail;
 

@@ -1,8 +1,7 @@
 //! Errors of the calls, as they are displayed.
 use quic_canon::canonical::CanonError;
 use quic_checks::Checks;
-use quic_errors::frame_type::FrameType;
-use quic_frames::frame::InvalidFrame;
+use quic_frames::frame::{FrameType, InvalidFrame};
 use std::alloc::Global;
 use std::error::Error;
 use std::test::Fail;

@@ -2,8 +2,7 @@
 //! none does: `rt try --test --fail-alloc N` lets the Nth fail.
 use quic_canon::canonical::{CanonBytes, CanonError, canonical, canonical_of};
 use quic_checks::Checks;
-use quic_errors::frame_type::FrameType;
-use quic_frames::frame::InvalidFrame;
+use quic_frames::frame::{FrameType, InvalidFrame};
 use std::test::Fail;
 
 // A payload, and its shortest form.

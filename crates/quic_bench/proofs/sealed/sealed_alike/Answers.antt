@@ -1,8 +1,8 @@
 -- By the law of one packet.
 use Rattle.std.proofs.Common.{◌≡◌, ◌∙◌, rules}
 use Rattle.quic_header_encode.specs.Queries.{space_in}
-use Rattle.quic_packets.specs.Pairs.{KeyPair}
-use Rattle.quic_packets.specs.Spaces.{keys_in}
+use Rattle.quic_packets.specs.Pairs.{KeyPair, keys_in}
+use Rattle.quic_bench.proofs.Carried.{contents_of}
 use Rattle.quic_bench.proofs.RowOfOne.{sealed_same, reported_same}
 use Rattle.quic_bench.proofs.sealed.sealed_alike.Goals as goal
 
@@ -13,6 +13,6 @@ returns-clause-alike g c =
     let packet = c.args.packet.now in
     let start : c.new-one.result.items ≡ c.new-other.result.items = search rules in
     let alike = sealed_same pair packet.header.now packet.number packet.frames.now _ _
-    (λ payload a b. c.one_packet.ensures.packet pair packet.header.now packet.number payload a b) (λ a b. c.one_packet.ensures.payload packet.frames.now a b)
+    (λ payload a b. c.one_packet.ensures.packet pair (contents_of packet payload) a b) (λ a b. c.one_packet.ensures.payload packet.frames.now a b)
     _ _ start c.in_ok-seal.ensures.sealed c.in_ok-seal-2.ensures.sealed in
     c.eq.ensures ∙ reported_same _ _ _ _ c.as_slice.ensures.value c.as_slice-2.ensures.value alike

@@ -1,6 +1,6 @@
 use Rattle.std.proofs.Common.{◌≡◌, ℕ, List, [], ◌∷◌, ◌++◌, ◌∙◌, ◌-◌, length, ap, subst, sym, inl, inr, arith}
 use Rattle.quic_frame_fields.proofs.Putting.{stores_none, puts_stores}
-use Rattle.quic_frame_fields.specs.Numbers.{all_short}
+use Rattle.quic_frame_fields.specs.Numbers.{shortest_varints}
 use Rattle.quic_frame_fields.specs.Putting.{Stores}
 use Rattle.quic_c.specs.AckGaps.{ack_bytes, behind_type, counts_list, gap_numbers, greatest_of_words}
 use Rattle.quic_c.proofs.AckGaps.{first_byte, first_without, stored_ack, no_counts, numeric, room_of}
@@ -43,16 +43,16 @@ pub returns-then-ack-ne2 : goal.returns-then-ack-ne2
 returns-then-ack-ne2 c =
     let words = c.args.ack.now in
     let gaps = c.args.gaps.now in
-    let behind : List ℕ = all_short (behind_type words gaps) in
-    let middle : List ℕ = all_short (gap_numbers gaps) in
+    let behind : List ℕ = shortest_varints (behind_type words gaps) in
+    let middle : List ℕ = shortest_varints (gap_numbers gaps) in
     let room = (room_of words gaps (length c.args.dest.now) c.requires.ack.flags c.requires.room).all in
     let none : c.args.ack.now.flags ≡ 0 = elim c.requires.ack.flags [
       | inl none ↦ none
       | inr some ↦ absurd (c.if-ack-ne2.true some)
     ] in
     let is : ack_bytes words gaps ≡ (0x02 ∷ behind) ++ (middle ++ []) =
-    ap (λ (l : List ℕ). l ++ (middle ++ all_short (counts_list words))) (first_without words gaps none)
-    ∙ ap (λ (l : List ℕ). (0x02 ∷ behind) ++ (middle ++ all_short l)) (no_counts words none) in
+    ap (λ (l : List ℕ). l ++ (middle ++ shortest_varints (counts_list words))) (first_without words gaps none)
+    ∙ ap (λ (l : List ℕ). (0x02 ∷ behind) ++ (middle ++ shortest_varints l)) (no_counts words none) in
     let all = stored_ack 0x02 behind middle [] c.args.dest.now c.store_front-at.new.dest c.store_gaps-at.new.dest c.store_array.new.bytes c.store_array.new.bytes
     c.store_front-at.result c.store_gaps-at.result c.store_gaps-at.result c.store_array.result (omega (arith, room)) c.store_front-at.ensures.stores c.store_gaps-at.ensures.stores
     c.store_array.ensures.end c.store_array.ensures.front c.store_array.ensures.back (stores_none c.store_gaps-at.result c.store_array.new.bytes) in
@@ -63,9 +63,9 @@ pub returns : goal.returns
 returns c =
     let words = c.args.ack.now in
     let gaps = c.args.gaps.now in
-    let behind : List ℕ = all_short (behind_type words gaps) in
-    let middle : List ℕ = all_short (gap_numbers gaps) in
-    let end : List ℕ = all_short (counts_list words) in
+    let behind : List ℕ = shortest_varints (behind_type words gaps) in
+    let middle : List ℕ = shortest_varints (gap_numbers gaps) in
+    let end : List ℕ = shortest_varints (counts_list words) in
     let room = (room_of words gaps (length c.args.dest.now) c.requires.ack.flags c.requires.room).all in
     let is : ack_bytes words gaps ≡ (0x03 ∷ behind) ++ (middle ++ end) = ap (λ (l : List ℕ). l ++ (middle ++ end)) (first_byte words gaps c.if-ack-ne2.false) in
     let all = stored_ack 0x03 behind middle end c.args.dest.now c.store_front-at.new.dest c.store_gaps-at.new.dest c.store_array-2.new.bytes c.store_counts.new.dest

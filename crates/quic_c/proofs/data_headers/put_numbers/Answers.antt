@@ -1,7 +1,7 @@
 use Rattle.std.proofs.Common.{ℕ, List, add-one, ◌∙◌, get_or, take, arith}
-use Rattle.quic_base.specs.Varint.{short}
+use Rattle.quic_base.specs.Varint.{shortest_varint}
 use Rattle.quic_base.proofs.PublicLaws.{length-short}
-use Rattle.quic_frame_fields.specs.Numbers.{all_short}
+use Rattle.quic_frame_fields.specs.Numbers.{shortest_varints}
 use Rattle.quic_frame_fields.proofs.Numbers.{all_short-at, numeric_at}
 use Rattle.quic_frame_fields.proofs.Putting.{stores_more}
 use Rattle.quic_frame_fields.proofs.Encoding.{size_small}
@@ -24,5 +24,5 @@ loop-number-preserved c =
     record {
       near = omega (arith, c.loop-number.invariant.near, stores.count, length-short n, size_small n);
       len = c.store-at.ensures.len ∙ c.loop-number.invariant.len;
-      stores = rw (add-one, all_short-at ns i c.loop-number-test.true) (stores_more (all_short (take i ns)) (short n) c.args.dest.now c.loop-number.dest c.store-at.new.dest 0 c.loop-number.at c.store-at.result c.loop-number.invariant.stores stores);
+      stores = rw (add-one, all_short-at ns i c.loop-number-test.true) (stores_more (shortest_varints (take i ns)) (shortest_varint n) c.args.dest.now c.loop-number.dest c.store-at.new.dest 0 c.loop-number.at c.store-at.result c.loop-number.invariant.stores stores);
     }

@@ -1,5 +1,5 @@
 use Rattle.std.proofs.Common.{◌≡◌, ◌*◌, ◌≤◌, length, take}
-use Rattle.quic_frame_fields.specs.Numbers.{all_short}
+use Rattle.quic_frame_fields.specs.Numbers.{shortest_varints}
 use Rattle.quic_frame_fields.specs.Putting.{Stores}
 use Rattle.quic_c.proofs.data_headers.put_numbers.Given as goal
 
@@ -7,5 +7,5 @@ abbrev pub invariant-loop-number : goal.invariant-loop-number
 invariant-loop-number l = record {
   near : l.at ≤ 8 * l.number-index;
   len : length l.dest ≡ length l.fn.dest;
-  stores : Stores (all_short (take l.number-index l.numbers)) 0 l.fn.dest l.at l.dest;
+  stores : Stores (shortest_varints (take l.number-index l.numbers)) 0 l.fn.dest l.at l.dest;
 }

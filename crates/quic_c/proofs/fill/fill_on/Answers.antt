@@ -2,7 +2,7 @@ use Rattle.std.proofs.Common.{rules, refl, sym, subst, ap, inl, inr, ◌≡◌, 
 use Rattle.std.proofs.lemmas.List.{drop-set}
 use Rattle.quic_frames.specs.IterState.{IterState}
 use Rattle.quic_frames.specs.Walk.{invalid_of}
-use Rattle.quic_c.specs.declared.words.FrameWords.{FrameWords}
+use Rattle.quic_c.specs.declared.words.CFrame.{CFrame}
 use Rattle.quic_c.specs.Shown.{state_of}
 use Rattle.quic_c.specs.Answers.{IsRefusedFrame}
 use Rattle.quic_c.proofs.fill.fill_on.Goals as goal
@@ -25,7 +25,7 @@ returns-in-Err g c =
       invalid = λ _. record {
         entry = reported;
         invalid = record { reported = invalid_of c.in-Err.invalid; first = first; over = refl; words = c.show_invalid.ensures };
-        entries = ap (λ (l : List FrameWords). set l 0 reported) s.1 ∙ drop-set c.args.out.now 0 reported some;
+        entries = ap (λ (l : List CFrame). set l 0 reported) s.1 ∙ drop-set c.args.out.now 0 reported some;
       };
       room = search rules;
       outside = search rules;

@@ -2,7 +2,7 @@ use Rattle.std.proofs.Common.{arith, rules, refl, ap, inl, inr, ◌≡◌, ◌<�
 use Rattle.std.proofs.lemmas.List.{drop-set}
 use Rattle.quic_frames.proofs.Items.{all_read}
 use Rattle.quic_frames.specs.Walk.{left, first_of, invalid_of}
-use Rattle.quic_c.specs.declared.words.FrameWords.{FrameWords}
+use Rattle.quic_c.specs.declared.words.CFrame.{CFrame}
 use Rattle.quic_c.specs.Shown.{state_of, at_front}
 use Rattle.quic_c.specs.Answers.{IsRefusedFrame}
 use Rattle.quic_c.proofs.Filling.{kinds}
@@ -32,7 +32,7 @@ returns-in-Err-clause-invalid c =
     λ _. record {
       entry = reported;
       invalid = record { reported = invalid_of c.in-Err.invalid; first = it; over = refl; words = c.show_invalid.ensures };
-      entries = ap (λ (l : List FrameWords). set l 0 reported) s.1 ∙ drop-set c.args.out.now 0 reported room;
+      entries = ap (λ (l : List CFrame). set l 0 reported) s.1 ∙ drop-set c.args.out.now 0 reported room;
     }
 
 pub returns-in-Err-clause-frames : goal.returns-in-Err-clause-frames

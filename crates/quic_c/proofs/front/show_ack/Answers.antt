@@ -1,5 +1,5 @@
 use Rattle.std.proofs.Common.{◌≡◌, ◌+◌, ap, arith}
-use Rattle.quic_c.specs.declared.words.FrameWords.{FrameWords}
+use Rattle.quic_c.specs.declared.words.CFrame.{CFrame}
 use Rattle.quic_c.specs.Shown.{counts_flag}
 use Rattle.quic_c.proofs.GapFilling.{first_reads, first_stands, more_is}
 use Rattle.quic_c.proofs.front.show_ack.Goals as goal
@@ -19,7 +19,7 @@ returns c =
     let whole = c.fill_gaps-count.ensures.whole f.least f.below f.encoded in
     let count = c.fill_gaps-count.result.0 in
     let more = more_is count f.below c.fill_gaps-count.result.1 c.more_flag.result filled.one_each whole c.more_flag.ensures.value in
-    let flags : c.args.words.flags ≡ counts_flag c.args.ack.now.ecn = ap (λ (w : FrameWords). w.flags) c.requires in
+    let flags : c.args.words.flags ≡ counts_flag c.args.ack.now.ecn = ap (λ (w : CFrame). w.flags) c.requires in
     record {
       least = f.least;
       below = f.below;
@@ -27,5 +27,5 @@ returns c =
       first = f.first;
       gaps = filled;
       flags = omega (arith, flags, more);
-      others = ap (λ (w : FrameWords). record w { flags = c.args.words.flags + c.more_flag.result; data_offset = count; data_len = c.in-Ok.first }) c.requires;
+      others = ap (λ (w : CFrame). record w { flags = c.args.words.flags + c.more_flag.result; data_offset = count; data_len = c.in-Ok.first }) c.requires;
     }

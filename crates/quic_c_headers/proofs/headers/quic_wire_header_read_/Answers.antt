@@ -1,5 +1,5 @@
 -- There is one answer, and a packet that is reported to be whole is cut there.
-use Rattle.std.proofs.Common.{◌≡◌, ◌≤◌, ◌∙◌, ℕ, ap, sym, inr, pos, rules, to_z, w32}
+use Rattle.std.proofs.Common.{◌≡◌, ◌∙◌, ap, sym, inr, pos, rules, to_z, w32}
 use Rattle.quic_c_headers.specs.Reading.{Reported}
 use Rattle.quic_c_headers.proofs.Answered.{has_first, one_answer, whole_cut}
 use Rattle.quic_c_headers.proofs.headers.quic_wire_header_read_.Goals as goal

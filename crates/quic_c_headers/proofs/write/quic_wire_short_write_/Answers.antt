@@ -1,5 +1,5 @@
 -- What is written of a short header is what its words say.
-use Rattle.std.proofs.Common.{◌≡◌, ◌+◌, ◌-◌, ◌%◌, ◌≤◌, ◌∷◌, ◌++◌, ◌∙◌, ℕ, List, [], length, length-append, ap, inr, refl, arith, rules, to_z, w64}
+use Rattle.std.proofs.Common.{◌≡◌, ◌+◌, ◌-◌, ◌≤◌, ◌∷◌, ◌++◌, ◌∙◌, ℕ, List, [], length, length-append, ap, inr, refl, arith, rules, to_z, w64}
 use Rattle.std.specs.Prelude.{drop, pos, take}
 use Rattle.quic_base.specs.Number.{bytes_of}
 use Rattle.quic_base.proofs.PublicLaws.{length-bytes_of}

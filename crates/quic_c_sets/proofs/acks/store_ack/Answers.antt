@@ -1,6 +1,6 @@
 use Rattle.std.proofs.Common.{ℕ, List, ◌++◌, ◌-◌, ◌∷◌, [], get_or, take, arith}
 use Rattle.std.proofs.lemmas.List.{length-append}
-use Rattle.quic_frame_fields.specs.Numbers.{all_short}
+use Rattle.quic_frame_fields.specs.Numbers.{shortest_varints}
 use Rattle.quic_frame_fields.specs.Sets.{ranges_in}
 use Rattle.quic_frame_fields.specs.Shortest.{shortest_below}
 use Rattle.quic_frame_fields.proofs.Putting.{stores_more, puts_stores, puts_refused}
@@ -37,9 +37,9 @@ pub returns-then-dest-needed : goal.returns-then-dest-needed
 returns-then-dest-needed c last =
     let run = get_or c.args.runs.now (c.args.count - 1) nowhere in
     let whole = whole_ack c.args.delay c.args.runs.now c.args.count c.args.counts.now c.type_of-ty.result c.requires c.type_of-ty.ensures last in
-    let head : List ℕ = all_short (c.type_of-ty.result ∷ (run.end - 1) ∷ c.args.delay ∷ (c.args.count - 1) ∷ (run.end - 1 - run.start) ∷ []) in
+    let head : List ℕ = shortest_varints (c.type_of-ty.result ∷ (run.end - 1) ∷ c.args.delay ∷ (c.args.count - 1) ∷ (run.end - 1 - run.start) ∷ []) in
     let below : List ℕ = shortest_below run.start (ranges_in (runs_of (take (c.args.count - 1) c.args.runs.now))) in
-    let counts : List ℕ = all_short c.args.counts.now in
+    let counts : List ℕ = shortest_varints c.args.counts.now in
     rw whole (puts_refused (head ++ (below ++ counts)) c.args.dest.now _
     (omega (arith, length-append head (below ++ counts), length-append below counts, c.numbers_len.ensures.value, c.below_len.ensures.value, c.numbers_len-2.ensures.value)) c.if-dest-needed.true)
 
@@ -47,9 +47,9 @@ pub returns : goal.returns
 returns c last =
     let run = get_or c.args.runs.now (c.args.count - 1) nowhere in
     let whole = whole_ack c.args.delay c.args.runs.now c.args.count c.args.counts.now c.type_of-ty.result c.requires c.type_of-ty.ensures last in
-    let head : List ℕ = all_short (c.type_of-ty.result ∷ (run.end - 1) ∷ c.args.delay ∷ (c.args.count - 1) ∷ (run.end - 1 - run.start) ∷ []) in
+    let head : List ℕ = shortest_varints (c.type_of-ty.result ∷ (run.end - 1) ∷ c.args.delay ∷ (c.args.count - 1) ∷ (run.end - 1 - run.start) ∷ []) in
     let below : List ℕ = shortest_below run.start (ranges_in (runs_of (take (c.args.count - 1) c.args.runs.now))) in
-    let counts : List ℕ = all_short c.args.counts.now in
+    let counts : List ℕ = shortest_varints c.args.counts.now in
     let behind = stores_more below counts c.numbers_at-at.new.dest c.store_below-at.new.dest c.numbers_at.new.dest _ _ _ c.store_below-at.ensures.stores c.numbers_at.ensures.stores in
     let all = stores_more head (below ++ counts) c.args.dest.now c.numbers_at-at.new.dest c.numbers_at.new.dest 0 _ _ c.numbers_at-at.ensures.stores behind in
     rw whole (puts_stores (head ++ (below ++ counts)) c.args.dest.now c.numbers_at.new.dest _ all)

@@ -1,12 +1,12 @@
 use Rattle.std.proofs.Common.{leb, sym, rules, arith}
 use Rattle.std.proofs.lemmas.List.Sorted.{IsPartitionPoint-from_clause}
-use Rattle.quic_c_sets.specs.declared.words.RunWords.{RunWords}
+use Rattle.quic_c_sets.specs.declared.words.CRange.{CRange}
 use Rattle.quic_c_sets.proofs.Placing.{starts_place, starts_ordered, all_start_upto}
 use Rattle.quic_c_sets.proofs.places.count_starts_upto.Goals as goal
 
 pub returns-clause-count : goal.returns-clause-count
 returns-clause-count c =
-    let point = IsPartitionPoint-from_clause (λ (w : RunWords). leb w.start c.args.x) _ _ c.partition_point.ensures.partitioned (starts_ordered c.args.x c.args.runs.now c.requires) (λ a r q k. search rules) in
+    let point = IsPartitionPoint-from_clause (λ (w : CRange). leb w.start c.args.x) _ _ c.partition_point.ensures.partitioned (starts_ordered c.args.x c.args.runs.now c.requires) (λ a r q k. search rules) in
     sym (starts_place c.args.x c.partition_point.result c.args.runs.now c.partition_point.ensures.bound point)
 
 pub returns-then-runs-len-clause-count : goal.returns-then-runs-len-clause-count

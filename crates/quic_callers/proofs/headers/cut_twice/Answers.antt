@@ -2,13 +2,13 @@
 use Rattle.std.proofs.Common.{ℕ, List, sym, subst, eq-eqb}
 use Rattle.quic_base.specs.Number.{AreBytes}
 use Rattle.quic_header_decode.specs.Grammar.{Cut}
-use Rattle.quic_header_decode.specs.Reading.{Context}
+use Rattle.quic_header_decode.specs.Reading.{DecodeOptions}
 use Rattle.quic_callers.proofs.HeadersBack.{as_long}
 use Rattle.quic_callers.proofs.headers.cut_twice.Goals as goal
 
 pub returns : goal.returns
 returns g c =
-    let context : Context = record { parsed = g.C.ConnectionIdParser.parsed c.args.parser.now; versions = c.args.versions.now; grease = c.args.grease } in
+    let context : DecodeOptions = record { parsed = g.C.ConnectionIdParser.parsed c.args.parser.now; versions = c.args.versions.now; grease = c.args.grease } in
     let bytes : AreBytes c.args.one.items = subst AreBytes c.as_slice.ensures c.are_bytes.ensures in
     let one = c.in_ok-first.ensures in
     let other = c.in_ok-second.ensures in

@@ -5,13 +5,13 @@ use Rattle.quic_header_decode.specs.declared.protected.ProtectedHeader.TheVarian
 use Rattle.quic_header_encode.specs.Writing.{header_bytes}
 use Rattle.quic_header_encode.specs.declared.header.Header.TheVariants as header
 use Rattle.quic_header_decode.specs.Grammar.{HeaderAt}
-use Rattle.quic_header_decode.specs.Reading.{Context}
+use Rattle.quic_header_decode.specs.Reading.{DecodeOptions}
 use Rattle.quic_callers.proofs.HeadersBack.{fixed}
 use Rattle.quic_callers.proofs.headers.negotiation_read_back.Goals as goal
 
 pub returns-in-Ok-clause-back : goal.returns-in-Ok-clause-back
 returns-in-Ok-clause-back g c =
-    let context : Context = record { parsed = g.C.ConnectionIdParser.parsed c.args.parser.now; versions = c.args.versions.now; grease = c.args.grease } in
+    let context : DecodeOptions = record { parsed = g.C.ConnectionIdParser.parsed c.args.parser.now; versions = c.args.versions.now; grease = c.args.grease } in
     let dst : length c.args.ids.0 ≤ 20 = omega (arith, c.as_slice-dst.ensures.short, ap length c.as_slice-dst.ensures.value) in
     let src : length c.args.ids.1 ≤ 20 = omega (arith, c.as_slice-src.ensures.short, ap length c.as_slice-src.ensures.value) in
     let h : ProtectedHeader = head.VersionNegotiate c.args.random c.args.ids.0 c.args.ids.1 in
@@ -20,7 +20,7 @@ returns-in-Ok-clause-back g c =
 
 pub returns-clause-refused : goal.returns-clause-refused
 returns-clause-refused g c =
-    let context : Context = record { parsed = g.C.ConnectionIdParser.parsed c.args.parser.now; versions = c.args.versions.now; grease = c.args.grease } in
+    let context : DecodeOptions = record { parsed = g.C.ConnectionIdParser.parsed c.args.parser.now; versions = c.args.versions.now; grease = c.args.grease } in
     let dst : length c.args.ids.0 ≤ 20 = omega (arith, c.as_slice-dst.ensures.short, ap length c.as_slice-dst.ensures.value) in
     let src : length c.args.ids.1 ≤ 20 = omega (arith, c.as_slice-src.ensures.short, ap length c.as_slice-src.ensures.value) in
     let h : ProtectedHeader = head.VersionNegotiate c.args.random c.args.ids.0 c.args.ids.1 in

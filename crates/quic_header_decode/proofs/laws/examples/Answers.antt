@@ -2,7 +2,7 @@
 use Rattle.std.specs.Prelude.{◌≡◌, ℕ, ◌+◌, ◌++◌, List, [], ◌∷◌, length}
 use Rattle.std.proofs.Common.{arith, refl, ap, inl, inr, length-append}
 use Rattle.quic_base.specs.Number.{bytes_of}
-use Rattle.quic_base.specs.Varint.{short}
+use Rattle.quic_base.specs.Varint.{shortest_varint}
 use Rattle.quic_base.proofs.PublicLaws as law
 use Rattle.quic_header_decode.specs.Grammar.{Number, Bytes}
 use Rattle.quic_header_decode.proofs.Made.{fixed_set, initial_header}
@@ -12,7 +12,7 @@ one_zero : (let n : ℕ = 1 in n) ≡ 0 → ⊥
 one_zero e = omega (arith, e)
 
 pub returns-clause-initial : goal.returns-clause-initial
-unfolding short bytes_of
+unfolding shortest_varint bytes_of
 returns-clause-initial c = λ context rest known.
     let dst : List ℕ = 0x83 ∷ 0x94 ∷ 0xc8 ∷ 0xf0 ∷ 0x3e ∷ 0x51 ∷ 0x57 ∷ 0x08 ∷ [] in
     initial_header context (18 + length rest) (0xc0 ∷ 0x00 ∷ 0x00 ∷ 0x00 ∷ 0x01 ∷ 0x08 ∷ (dst ++ (0x00 ∷ 0x00 ∷ 0x44 ∷ 0x9e ∷ rest))) 0xc0 (0x00 ∷ []) [] (0x44 ∷ 0x9e ∷ []) rest
@@ -21,7 +21,7 @@ returns-clause-initial c = λ context rest known.
     (one_zero, known) refl (law.shortest_encodes 0 (omega arith)) (law.shortest_encodes 1182 (omega arith)) (omega arith) refl
 
 pub returns-clause-no_token : goal.returns-clause-no_token
-unfolding short bytes_of
+unfolding shortest_varint bytes_of
 returns-clause-no_token c = λ context known. inr (
   fixed_set context 0xc0 refl,
   inr (

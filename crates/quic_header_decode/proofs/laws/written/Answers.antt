@@ -3,7 +3,7 @@ use Rattle.std.specs.Prelude.{◌<◌, length}
 use Rattle.std.proofs.Common.{◌≡◌, ℕ, ◌+◌, ◌-◌, ◌/◌, ◌%◌, ◌≤◌, ◌∙◌, ◌++◌, Bool, true, false, List, [], ◌∷◌, cond, nat_eq, slice_index_or, bit_or, refl, ap, arith, append_assoc}
 use Rattle.std.proofs.lemmas.Nat.{or_shifted}
 use Rattle.std.proofs.lemmas.Bool.Decides.{nat_tests}
-use Rattle.quic_base.specs.Varint.{short}
+use Rattle.quic_base.specs.Varint.{shortest_varint}
 use Rattle.quic_base.proofs.PublicLaws as law
 use Rattle.quic_crypto.specs.declared.packet_number.PacketNumber.{PacketNumber}
 use Rattle.quic_crypto.specs.declared.packet_number.PacketNumber.TheVariants.{U8, U16, U24, U32}
@@ -67,7 +67,7 @@ returns-clause-initial c = λ context whole start n h len rest range known dst_l
     let first : ℕ = long_first h.version kind.Initial size in
     let byte = long_byte h.version first (size - 1) kind.Initial (omega (arith, bounds.0, bounds.1)) refl in
     let front : List ℕ = long_front first h.version h.dst_cid h.src_cid in
-    let count : List ℕ = short (length h.token) in
+    let count : List ℕ = shortest_varint (length h.token) in
     let behind : List ℕ = number_bytes h.number ++ rest in
     let text : ((front ++ (count ++ h.token)) ++ (len ++ number_bytes h.number)) ++ rest ≡ front ++ (count ++ (h.token ++ (len ++ behind))) =
     apart (front ++ (count ++ h.token)) len (number_bytes h.number) rest ∙ append_assoc front (count ++ h.token) (len ++ behind)

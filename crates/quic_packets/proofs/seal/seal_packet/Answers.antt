@@ -2,9 +2,9 @@
 use Rattle.std.proofs.Common.{rules, ◌≡◌, ℕ, ◌-◌, List, ◌++◌, length, sym, ap, ◌∙◌, arith, replicate, refl}
 use Rattle.quic_header_encode.specs.declared.header.Header.{Header}
 use Rattle.quic_packets.specs.Pairs.{KeyPair}
-use Rattle.quic_packets.specs.Sealing.{plain_packet, payload_of}
+use Rattle.quic_packets.specs.Sealing.{payload_of}
 use Rattle.quic_header_encode.specs.Writing.{header_size, header_bytes, size_in}
-use Rattle.quic_packets.proofs.Sealings.{sealed_end}
+use Rattle.quic_packets.proofs.Sealings.{plain_of, sealed_end}
 use Rattle.std.proofs.lemmas.Grind.{common_steps}
 use Rattle.quic_packets.proofs.seal.seal_packet.Goals as goal
 
@@ -23,7 +23,7 @@ returns-clause-sealed g c =
     c.finish_last.ensures.sealed c.finish_last.ensures.plain_bytes in
     let counted = c.payload_len-payload.ensures in
     let checked = c.in_default.ensures.none in (
-      keys.protected (header_size h - size_in h) (plain_packet keys h c.args.number (payload_of c.args.frames.now)),
+      keys.protected (header_size h - size_in h) (plain_of keys h c.args.number (payload_of c.args.frames.now)),
       record {
         payload = payload_of c.args.frames.now;
         is_payload = c.is_payload.ensures;

@@ -1,6 +1,6 @@
 use Rattle.std.proofs.Common.{List, ℕ, rules, ◌++◌, ◌∙◌, ap, refl, Err, arith}
 use Rattle.std.proofs.lemmas.Result.{err_from_is_err_and}
-use Rattle.quic_frame_fields.specs.Numbers.{all_short}
+use Rattle.quic_frame_fields.specs.Numbers.{shortest_varints}
 use Rattle.quic_frame_fields.proofs.Sets.{has_below}
 use Rattle.quic_frame_fields.proofs.AckParts.{holds_last, holds_more, holds_refused, next_held, refuses_held, run_numbers}
 use Rattle.quic_frame_fields.proofs.frame.ack_encode.encode_below.Goals as goal
@@ -30,7 +30,7 @@ store_two-at-requires-clause-len g c =
 pub loop-run-preserved : goal.loop-run-preserved
 loop-run-preserved g c =
     let flushes = c.in_ok-at.ensures.flushes in
-    let numbers : List ℕ = all_short (run_numbers c.loop-run.above c.in-Some.run') in
+    let numbers : List ℕ = shortest_varints (run_numbers c.loop-run.above c.in-Some.run') in
     record {
       near = c.store_two-at.ensures.near;
       holds = holds_more _ _ _ c.loop-run.above c.in-Some.run' c.next_back.new.self c.loop-run.runs _ _ _ _ _ _ c.loop-run.invariant.holds c.in-Some.ensures.steps flushes.begun flushes.room

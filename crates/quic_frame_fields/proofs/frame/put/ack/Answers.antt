@@ -1,6 +1,6 @@
 use Rattle.std.proofs.Common.{◌++◌, ◌∙◌, length, sym, subst, ap, arith}
 use Rattle.quic_base.specs.Number.{AreBytes}
-use Rattle.quic_frame_fields.specs.Numbers.{AreNumeric, AreEncoded, all_short}
+use Rattle.quic_frame_fields.specs.Numbers.{AreNumeric, AreEncoded, shortest_varints}
 use Rattle.quic_frame_fields.specs.Sets.{count_numbers}
 use Rattle.quic_frame_fields.specs.Shortest.{shortest_frame}
 use Rattle.quic_frame_fields.specs.Parts.{ack_meaning}
@@ -55,11 +55,11 @@ returns c last =
     let h = held_parts a (subst AreBytes c.additional.ensures c.count_and_len-numbers.ensures.bytes) c.requires in
     let one = c.store_bytes-at.ensures in
     let three = c.store_bytes.ensures in
-    let first = stores_of c.store_numbers-header_len.result c.store_numbers-header_len.new.head (all_short c.header_of.result) c.args.dest.now c.store_bytes-at.new.dest 0 _ c.store_numbers-header_len.ensures.front one.end one.front one.back in
+    let first = stores_of c.store_numbers-header_len.result c.store_numbers-header_len.new.head (shortest_varints c.header_of.result) c.args.dest.now c.store_bytes-at.new.dest 0 _ c.store_numbers-header_len.ensures.front one.end one.front one.back in
     let second = c.store_shortened-at.ensures.stores h.numbers (subst (AreEncoded h.numbers) (sym c.additional-2.ensures) h.encoded) in
-    let third = stores_of c.store_counts-counts_len.result c.store_counts-counts_len.new.counts (all_short (count_numbers c.ecn.result)) c.store_shortened-at.new.dest c.store_bytes.new.dest c.store_shortened-at.result _ c.store_counts-counts_len.ensures.front three.end three.front three.back in
-    let behind = stores_more (all_short h.numbers) (all_short (count_numbers c.ecn.result)) c.store_bytes-at.new.dest c.store_shortened-at.new.dest c.store_bytes.new.dest _ _ _ second third in
-    let whole = stores_more (all_short c.header_of.result) (all_short h.numbers ++ all_short (count_numbers c.ecn.result)) c.args.dest.now c.store_bytes-at.new.dest c.store_bytes.new.dest 0 _ _ first behind in
+    let third = stores_of c.store_counts-counts_len.result c.store_counts-counts_len.new.counts (shortest_varints (count_numbers c.ecn.result)) c.store_shortened-at.new.dest c.store_bytes.new.dest c.store_shortened-at.result _ c.store_counts-counts_len.ensures.front three.end three.front three.back in
+    let behind = stores_more (shortest_varints h.numbers) (shortest_varints (count_numbers c.ecn.result)) c.store_bytes-at.new.dest c.store_shortened-at.new.dest c.store_bytes.new.dest _ _ _ second third in
+    let whole = stores_more (shortest_varints c.header_of.result) (shortest_varints h.numbers ++ shortest_varints (count_numbers c.ecn.result)) c.args.dest.now c.store_bytes-at.new.dest c.store_bytes.new.dest 0 _ _ first behind in
     rw (held_whole a h last c.header_of.result c.ecn.result c.header_of.ensures c.ecn.ensures) (puts_stores _ c.args.dest.now c.store_bytes.new.dest _ whole)
 
 pub store_bytes-at-requires : goal.store_bytes-at-requires

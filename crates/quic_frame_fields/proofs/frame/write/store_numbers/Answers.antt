@@ -1,5 +1,5 @@
 use Rattle.std.proofs.Common.{ℕ, List, add-one, ap, ◌∙◌, ◌++◌, get_or, arith}
-use Rattle.quic_base.specs.Varint.{short}
+use Rattle.quic_base.specs.Varint.{shortest_varint}
 use Rattle.quic_frame_fields.proofs.Numbers.{all_short-at, numeric_at}
 use Rattle.std.proofs.lemmas.Grind.{common_steps}
 use Rattle.quic_frame_fields.proofs.frame.write.store_numbers.Goals as goal
@@ -11,7 +11,7 @@ loop-number-preserved c =
     record {
       near = omega (arith, c.loop-number.invariant.near, c.store_number-at.ensures.near);
       len = c.store_number-at.ensures.len ∙ c.loop-number.invariant.len;
-      front = rw (add-one, all_short-at ns i c.loop-number-test.true) (c.store_number-at.ensures.front ∙ ap (λ (ys : List ℕ). ys ++ short (get_or ns i 0)) c.loop-number.invariant.front);
+      front = rw (add-one, all_short-at ns i c.loop-number-test.true) (c.store_number-at.ensures.front ∙ ap (λ (ys : List ℕ). ys ++ shortest_varint (get_or ns i 0)) c.loop-number.invariant.front);
     }
 
 pub store_number-at-requires-clause-numeric : goal.store_number-at-requires-clause-numeric

@@ -1,6 +1,6 @@
 use Rattle.std.proofs.Common.{◌≡◌, ◌*◌, ◌≤◌, length, take}
-use Rattle.quic_frame_fields.specs.Numbers.{all_short}
+use Rattle.quic_frame_fields.specs.Numbers.{shortest_varints}
 use Rattle.quic_frame_fields.proofs.frame.write.store_numbers.Given as goal
 
 abbrev pub invariant-loop-number : goal.invariant-loop-number
-invariant-loop-number l = record { near : l.at ≤ 8 * l.number-index; len : length l.head ≡ length l.fn.head; front : take l.at l.head ≡ all_short (take l.number-index l.numbers) }
+invariant-loop-number l = record { near : l.at ≤ 8 * l.number-index; len : length l.head ≡ length l.fn.head; front : take l.at l.head ≡ shortest_varints (take l.number-index l.numbers) }

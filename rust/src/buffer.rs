@@ -80,7 +80,7 @@ impl Buffer for alloc::vec::Vec<u8> {}
 impl Put for alloc::vec::Vec<u8> {
     #[inline]
     fn put<T>(&mut self, mut write: impl FnMut(&mut Room) -> Result<(Filled, T), WriteError>) -> Result<T, WriteError> {
-        // The call stands here once, so that it goes in line with little code.
+        // The call is here once, so that it is inlined with little code.
         let mut is_grown = false;
         let (filled, told) = loop {
             match write(self.spare_capacity_mut()) {

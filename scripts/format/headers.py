@@ -268,7 +268,7 @@ def any_version():
     yield ""
     lines = ["Header Form (1) = 1", "Version-Specific Bits (7)", f"Version ({8 * width})", *ids]
     yield from figure("Long Header Packet", [*lines, "Version-Specific Data (..)"])
-    yield f"`AnyVersion`, crates/{PLACES}.antt; by it headers of unknown versions are read (`IsUnknown`)."
+    yield f"`AnyVersion`, crates/{PLACES}.antt; it reads unknown versions (`IsUnknown`)."
     yield from ["", "### Version Negotiation of any version (RFC 8999, 6)", ""]
     lines = ["Header Form (1) = 1", "Unused (7)", f"Version ({8 * width}) = {zero}", *ids]
     yield from figure("Version Negotiation Packet", [*lines, f"Supported Version ({8 * one}) ..."])

@@ -186,7 +186,7 @@ pub struct StopSending {
 /// ```
 #[derive(Clone, Copy, PartialEq, Eq, Hash)]
 pub struct Crypto<'a> {
-    /// Where they stand in it, in bytes.
+    /// The offset of the data in the CRYPTO stream, in bytes.
     pub offset: u64,
     /// The bytes, whose end should be below 2^62.
     pub data: &'a [u8],
@@ -218,7 +218,7 @@ pub struct NewToken<'a> {
 pub struct Stream<'a> {
     /// The stream.
     pub id: StreamId,
-    /// Where they stand in it, in bytes.
+    /// The offset of the data in the stream, in bytes.
     pub offset: u64,
     /// Whether it ends with them.
     pub fin: bool,

@@ -115,7 +115,7 @@ static void take_id(flow *f, const uint8_t *packet, const quic_wire_header *head
 }
 
 /* Opens an Initial packet by the keys of its flow, or else by those of its own id:
- * then it is a client's first one, or its first one behind a Retry, and the keys
+ * then it is a client's first one, or its first one after a Retry, and the keys
  * are the flow's from there on.  Returns NULL, or why it can't be opened. */
 static const char *open_initial(flow *f, unsigned *from, const uint8_t *packet,
                                 const quic_wire_header *header, opened *out) {

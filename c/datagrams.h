@@ -11,8 +11,8 @@
 #include <stdint.h>
 #include <string.h>
 
-/* Where a datagram comes from or goes to: an address with zeros behind it, and a
- * port, as they stand in it. */
+/* Where a datagram comes from or goes to: an address followed by zeros, and a
+ * port, as they are in it. */
 typedef struct endpoint {
   uint8_t address[16], port[2];
 } endpoint;
@@ -32,7 +32,7 @@ static uint32_t four_bytes(const uint8_t *at) {
   return (uint32_t)two_bytes(at) << 16 | (uint32_t)two_bytes(at + 2);
 }
 
-/* What stands before the IP packet in each kind of capture: |len| bytes, with an
+/* What comes before the IP packet in each kind of capture: |len| bytes, with an
  * EtherType at |type|, or none where that is |len|. */
 typedef struct link_header {
   int link;

@@ -43,7 +43,7 @@ static size_t open_packet(const keys *k, uint8_t *packet,
   return begin;
 }
 
-/* Seals a payload behind the header that is said.  Returns how long the packet
+/* Seals a payload after the header of these fields.  Returns how long the packet
  * is. */
 static size_t seal_packet(const keys *k, const quic_wire_header_fields *fields,
                           const uint8_t *dcid, size_t dcidlen,

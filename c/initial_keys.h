@@ -73,8 +73,8 @@ static void make_mask(const keys *k, const uint8_t *sample, uint8_t mask[5]) {
   memcpy(mask, block, 5);
 }
 
-/* Seals |len| bytes behind a header of |headerlen| to |out|, which may be their own
- * place, and puts the tag behind them; or opens them, of which the tag is then
+/* Seals |len| bytes after a header of |headerlen| to |out|, which may be their own
+ * place, and puts the tag after them; or opens them, of which the tag is then
  * the last.  Returns whether the tag is right. */
 static int crypt_payload(const keys *k, int seal, uint64_t number,
                          const uint8_t *header, size_t headerlen,

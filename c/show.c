@@ -1,7 +1,7 @@
 /* show MODE: all modes of `quic-show` by the calls for C, with the same text,
  * messages and status for each argument and each byte, but that it prints each
  * line before it reads the next: where a read fails, lines before it are
- * printed.  Each line's bytes stand in a block of just their length, so that a
+ * printed.  Each line's bytes are in a block of exactly their length, so that a
  * sanitizer or valgrind sees each byte that is read past it. */
 #define _POSIX_C_SOURCE 200809L
 #include <errno.h>

@@ -7,8 +7,8 @@ lists=$WORK/lists
 # row WHAT OWN OVER: a row of the table, of the peer as it is and over the library.
 row() { printf '%s\t%s\t%s\n' "$@" >>"$WORK/table"; }
 
-# step NAME COMMAND..: a step, whose output is kept in a log; where it fails the log's end is shown. It stands in no test,
-# in which bash would go on behind what fails.
+# step NAME COMMAND..: a step, whose output is kept in a log; where it fails the log's end is shown. It is never called
+# as a condition, in which bash would go on after a failure.
 step() {
     local log=$WORK/logs/$1.log status
     echo "peers: $1" >&2

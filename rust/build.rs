@@ -77,7 +77,7 @@ fn link(folder: &Path) {
     println!("cargo:lib={}", folder.display());
 }
 
-// Asks for it nevertheless, so that linking ends with one error of rustc behind this sentence.
+// Asks for it nevertheless, so that linking ends with one error of rustc after this sentence.
 fn miss(top: &Path, target: &str) {
     // A file that isn't there lets this be run again.
     println!("cargo:rerun-if-changed={}", top.join("native").join(target).join(archive()).display());

@@ -1,4 +1,4 @@
-// What stands beside the bytes: their shortest form, or another input. What differs is marked in both grids.
+// What is shown beside the bytes: their shortest form, or another input. What differs is marked in both grids.
 
 import { Comparison } from "./compare.js";
 import { Grid } from "./grid.js";
@@ -6,7 +6,7 @@ import { inspect } from "./inspector.js";
 import { spotIn } from "./views.js";
 
 export class Beside {
-  // |views| has what it stands beside.
+  // |views| has what it is shown beside.
   constructor(gridBox, views, inspector) {
     this.views = views;
     this.inspector = inspector;
@@ -33,7 +33,7 @@ export class Beside {
     this.views.grid.compare(null);
   }
 
-  // Lights what stands beside a spot of the views.
+  // Lights what is shown beside a spot of the views.
   light(spot) {
     if (!this.reading || this.isOwn) {
       return;
@@ -47,7 +47,7 @@ export class Beside {
     this.grid.light({ item, begin, end, place: -1, isActive: false });
   }
 
-  // Lights, and with |isActive| chooses, a byte here and what it stands beside.
+  // Lights, and with |isActive| chooses, a byte here and what it is shown beside.
   point(place, isActive) {
     const item = this.reading ? this.reading.indexAt(place) : -1;
     if (item < 0) {

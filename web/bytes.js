@@ -1,9 +1,9 @@
 // Bytes out of pasted text: hexadecimal with or without separators, dumps with offsets, base64.
 
 const HEX_DIGITS = /^[0-9a-f]*$/i;
-// What may stand between digits: blanks, the signs of lists in source code, 0x and \x.
+// What may be between digits: blanks, the signs of lists in source code, 0x and \x.
 const SEPARATORS = /0x|\\x|[\s:,;{}()[\]"']+/gi;
-// Its lines may end anywhere, but no blank stands in one.
+// Its lines may end anywhere, but no line has a blank.
 const BASE64 = /^(?:[A-Za-z0-9+/_-]+\s*\n)*[A-Za-z0-9+/_-]+={0,2}$/;
 
 // A line of a dump: its offset, a colon or blanks, and the rest; and as od prints it, with one blank between them.
@@ -13,7 +13,7 @@ const OD_LINE = /^\s*([0-9a-f]{6,16}) ((?:[0-9a-f]{2} )*[0-9a-f]{2})\s*(?:>.*<)?
 const END_LINE = /^\s*([0-9a-f]{4,16})\s*$/i;
 const LIKE_BEFORE = /^\s*\*\s*$/;
 
-// So many bytes may a line of a dump stand for that says: as before.
+// The greatest number of bytes that a line of a dump may mean that says: as before.
 const MAX_FILLED = 1 << 20;
 
 const DIGIT = new Int8Array(128).fill(-1);
@@ -111,7 +111,7 @@ class Dump {
 }
 
 // The dumps in a text whose offsets have this base, or null where a line belongs to none. The next one begins where
-// offsets begin with 0 again, or, behind an empty line, with any offset but the one that would go on.
+// offsets begin with 0 again, or, after an empty line, with any offset but the one that would go on.
 function dumpsWithBase(lines, base) {
   const dumps = [];
   let isBehindBlank = false;

@@ -62,7 +62,7 @@ export class Comparison {
   constructor(left, right, isPaired) {
     this.left = left;
     this.right = right;
-    // Of each byte whether it differs, and where the left ones stand on the right.
+    // Of each byte whether it differs, and where the left ones are on the right.
     this.leftDiffers = new Uint8Array(left.bytes.length).fill(1);
     this.rightDiffers = new Uint8Array(right.bytes.length).fill(1);
     this.places = new Int32Array(left.bytes.length).fill(-1);
@@ -140,14 +140,14 @@ export class Comparison {
     return -1;
   }
 
-  // Where bytes of the left stand on the right, as far as the first and the last of them do.
+  // Where bytes of the left are on the right, as far as the first and the last of them are.
   rangeBeside(begin, end) {
     const first = this.places[begin] ?? -1;
     const last = this.places[end - 1] ?? -1;
     return first < 0 || last < 0 ? [0, 0] : [first, last + 1];
   }
 
-  // The byte on the left that stands at |place| on the right, or -1.
+  // The byte on the left that is at |place| on the right, or -1.
   placeBeside(place) {
     return this.rightDiffers[place] ? -1 : this.places.indexOf(place);
   }

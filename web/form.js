@@ -10,7 +10,7 @@ export class Form {
     // What has no control: which of several inputs is shown, and what packets are opened by.
     this.at = 0;
     this.opened = {};
-    // Whether it was said how lines are taken.
+    // Whether the user chose how lines are taken.
     this.lines = "auto";
   }
 
@@ -44,7 +44,7 @@ export class Form {
     this.opened = { ...state.opened };
   }
 
-  // Forgets what was said of another text.
+  // Forgets the choice that was made for another text.
   forget() {
     this.lines = "auto";
     this.at = 0;

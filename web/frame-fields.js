@@ -58,7 +58,7 @@ function rangeFields(walk, smallest) {
   return greatest - length;
 }
 
-// The ranges behind those that have fields of their own, as one field.
+// The ranges after those that have fields of their own, as one field.
 function moreRanges(walk, count) {
   const begin = walk.place;
   let numbers = 2n * count;
@@ -148,7 +148,7 @@ function ackFrequencyFields(walk) {
 
 const stream = (walk) => walk.varint("Stream ID", showStream);
 
-// Of each kind the fields behind the type.
+// Of each kind the fields after the type.
 const BEHIND_TYPE = {
   0x01: () => {},
   0x02: ackFields,
@@ -199,7 +199,7 @@ const BEHIND_TYPE = {
   0xaf: ackFrequencyFields,
 };
 
-// The walk along the frame that begins at |begin|. For what is no frame |end| is the payload's.
+// The walk along the frame that begins at |begin|. For an invalid frame |end| is the payload's.
 export function frameFields(bytes, begin, end) {
   const walk = new Walk(bytes, begin, end);
   const type = walk.varint("Type", showType);

@@ -195,7 +195,7 @@ export class Library {
     );
   }
 
-  // The shortest payload with the same meaning, or what in it is no frame.
+  // The shortest payload with the same meaning, or the payload's invalid frame.
   canonical() {
     const output = aligned(this.input + this.length);
     this.reserve(output + this.length);
@@ -220,8 +220,8 @@ export class Library {
     return BigInt(spoken.length);
   }
 
-  // Reads the header of the packet that begins at |offset|, and returns 0 or the reason why there is none. Two things the
-  // library leaves to its caller: without grease the fixed bit is looked at first (RFC 9000, section 17), and an id of
+  // Reads the header of the packet that begins at |offset|, and returns 0 or the reason why there is none. The library
+  // leaves two things to its caller: without grease the fixed bit is tested first (RFC 9000, section 17), and an id of
   // more than 20 bytes is refused in other versions too.
   cutPacket(offset, { idLength, versions, grease }) {
     const first = new Uint8Array(this.memory.buffer)[this.input + offset];
@@ -274,8 +274,8 @@ export class Library {
     };
   }
 
-  // Takes the protection off a copy of the header of a packet, by a mask of five bytes: the first byte as it was, how
-  // many bytes the packet number has, and the number as it is written. Null where the packet is too short.
+  // Takes the protection off a copy of the header of a packet, by a mask of five bytes: the first byte without
+  // protection, how many bytes the packet number has, and the truncated number. Null if the packet is too short.
   unprotect({ begin, end, number }, mask) {
     const place = number - begin;
     const head = aligned(this.input + this.length);

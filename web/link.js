@@ -1,4 +1,4 @@
-// The part of the page's link behind #: the choices, and the inputs.
+// The part of the page's link after #: the choices, and the inputs.
 
 import { readText, toHex } from "./bytes.js";
 import { VERSIONS } from "./names.js";
@@ -9,7 +9,7 @@ const MAX_ID_LENGTH = 20;
 
 export const DEFAULT_STATE = {
   mode: "frames", strict: false, idLength: 8, side: "client", versions: VERSIONS, grease: false, text: "",
-  // How lines are taken, which of the inputs is shown, whether another one stands beside it and which, and of packets,
+  // How lines are taken, which of the inputs is shown, whether another one is beside it and which, and of packets,
   // by their index, what they are opened by.
   lines: "auto", at: 0, compare: false, other: "", opened: {},
 };
@@ -48,7 +48,7 @@ function choiceWords(words, state) {
   }
 }
 
-// What stands beside the input, and what packets are opened by.
+// What is shown beside the input, and what packets are opened by.
 function furtherWords(words, { mode, compare, other, opened }) {
   if (compare) {
     words.set("with", toHex(readText(other).bytes ?? []));
@@ -59,8 +59,8 @@ function furtherWords(words, { mode, compare, other, opened }) {
   }
 }
 
-// The fragment of a state, without its #. The bytes of the inputs stand in it as digits; a text of which a part is no
-// bytes, as it is.
+// The fragment of a state, without its #. The bytes of the inputs are in it as digits; a text that isn't all bytes is
+// in it unchanged.
 export function fragmentOf(state, entries) {
   const words = new URLSearchParams();
   words.set("read", state.mode);

@@ -41,7 +41,7 @@ export function frameTone(kind) {
   return FRAMES[kind][1];
 }
 
-// The kind of a type as it stands on the wire: one for all types of STREAM, of ACK and of DATAGRAM.
+// The kind of a type as it is on the wire: one for all types of STREAM, of ACK and of DATAGRAM.
 export function kindOfType(type) {
   if (type >= 0x08n && type <= 0x0fn) {
     return 0x08;
@@ -55,7 +55,7 @@ export function kindOfType(type) {
   return type < 256n && FRAMES[Number(type)] ? Number(type) : null;
 }
 
-// The name of a type as it stands on the wire.
+// The name of a type as it is on the wire.
 export function typeName(type) {
   if (type === 0x03n) {
     return "ACK_ECN";

@@ -172,7 +172,7 @@ export class Opened {
     this.views.show(this.payload, this.columns);
   }
 
-  // Follows a spot of the datagram: the payload of its packet where that is chosen, and the frame that stands under it.
+  // Follows a spot of the datagram: the payload of its packet where that is chosen, and the frame under it.
   follow(spot, line) {
     if (spot.isActive && this.viewed !== spot.item && this.notes[spot.item]?.fields[1].value) {
       this.view(spot.item);

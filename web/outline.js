@@ -24,7 +24,7 @@ export class Outline {
     this.on = on;
     this.reading = null;
     this.spot = null;
-    // The items that are open, by their index, and how many lines stand before the first, the second, ... of them.
+    // The items that are open, by their index, and how many lines come before the first, the second, ... of them.
     this.open = [];
     this.before = [];
     this.rows = new Rows(box, (index) => this.line(index));

@@ -95,7 +95,7 @@ class Page {
       byId("examples").append(button);
     }
     const { mode, text } = EXAMPLES[0];
-    // What stands behind # in the page's address, as far as the page knows.
+    // The part of the page's address after #, as far as the page knows.
     this.fragment = window.location.hash.slice(1);
     this.form.state = this.fragment ? stateOf(this.fragment) : { ...DEFAULT_STATE, mode, text };
     this.update();
@@ -232,7 +232,7 @@ class Page {
     byId("views").scrollIntoView({ block: "nearest" });
   }
 
-  // The other input, if one is to stand beside the bytes; else their shortest form.
+  // The other input, if one is to be shown beside the bytes; else their shortest form.
   showBeside() {
     const { reading } = this;
     const isOther = this.form.state.compare && reading !== null;
@@ -295,7 +295,7 @@ class Page {
     }
   }
 
-  // Says what is lit in the views, and lights it in what stands beside them.
+  // Says what is lit in the views, and lights it in what is shown beside them.
   lit(spot) {
     this.shortest.light(spot);
     this.other.light(spot);

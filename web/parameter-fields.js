@@ -50,7 +50,7 @@ function valueFields(walk, { kind, unit }) {
 
 const valueText = (kind, bytes) => (kind === "other" || bytes.length === 0 ? bytesText(bytes) : toHex(bytes));
 
-// The walk along the entry that begins at |begin|: it ends behind its value, or where it stops.
+// The walk along the entry that begins at |begin|: it ends after its value, or where it stops.
 export function parameterFields(bytes, begin) {
   const walk = new Walk(bytes, begin, bytes.length);
   const id = walk.varint("Parameter ID", (number) => `0x${number.toString(16).padStart(2, "0")}`);

@@ -1,4 +1,4 @@
-// What is shown of bytes: items one behind the other (frames, packets, parameters), each with fields, and the error
+// What is shown of bytes: items one after the other (frames, packets, parameters), each with fields, and the error
 // that ended them. Which items there are, what they say and why they end is the library's answer; the places of fields
 // are found by a walk, and an item says so where the two differ.
 
@@ -31,7 +31,7 @@ class Reading {
     this.kept = new Map();
   }
 
-  // How many items there are, what is none at the end among them.
+  // How many items there are, including an invalid one at the end.
   get count() {
     return this.begins.length - 1 + (this.hasRest ? 1 : 0);
   }
@@ -92,7 +92,7 @@ class Reading {
     return item.fields.findIndex((field) => field.begin <= place && place < field.end);
   }
 
-  // The item that is none, if there is one: what is left behind the whole ones.
+  // The invalid item, if there is one: what remains after the whole ones.
   get bad() {
     return this.whole;
   }
@@ -140,7 +140,7 @@ class FramesReading extends Reading {
     };
   }
 
-  // The walk along what is no frame, and the field in which that went wrong.
+  // The walk along an invalid frame, and the field in which it failed.
   walkRest() {
     const found = frameFields(this.bytes, this.rest, this.bytes.length);
     const { missing, wrong, fields: [type] } = found.walk;
@@ -257,7 +257,7 @@ class ParamsReading extends Reading {
     if (!record) {
       this.refused = this.findBad(reason);
       if (reason === PARAMS_MALFORMED) {
-        // Nothing behind the entry was read.
+        // Nothing after the entry was read.
         this.begins = this.begins.subarray(0, this.refused + 1);
       }
       this.error = this.describe(reason);
@@ -284,9 +284,9 @@ class ParamsReading extends Reading {
     this.begins = begins.all();
   }
 
-  // The entry with which the list came to be refused for this reason: the one behind the longest beginning of the list
-  // that isn't. Beginnings are read by the same call as the list. With each further entry what is refused stays so,
-  // but that a max_ack_delay may allow for a min_ack_delay before it.
+  // The entry with which the list came to be refused for this reason: the one after the longest prefix of the list that
+  // isn't. Prefixes are read by the same call as the list. A refused prefix remains so with each further entry, except
+  // that a max_ack_delay may allow for a min_ack_delay before it.
   findBad(reason) {
     const isRefused = (count) => {
       const answer = this.library.readParams(this.choices.side, this.begins[count]);
@@ -314,8 +314,8 @@ class ParamsReading extends Reading {
     };
   }
 
-  // The field of the refused entry that is at fault: what is cut off or no value of its kind; else a number that is
-  // out of range; else the entry's id, which stands in the list before or may not stand there.
+  // The field of the refused entry that is at fault: one that is cut off or no value of its kind; else a number that is
+  // out of range; else the entry's id, which is a repeat or is forbidden.
   faultOf(walk) {
     const number = walk.fields.find((field) => field.name === "Value" && field.number !== undefined);
     return walk.missing ?? walk.wrong ?? (this.reason === PARAMS_MALFORMED ? null : number) ?? walk.fields[0];
@@ -334,7 +334,7 @@ class ParamsReading extends Reading {
     return { kind: id, name, tone, summary, fields: walk.fields, agrees: this.agrees(walk, id, index) };
   }
 
-  // Whether a number in the list is the record's. A min_ack_delay may stand in it again, and then the last one counts.
+  // Whether a number in the list is the record's. A min_ack_delay may be in it again, and then the last one counts.
   agrees(walk, id, index) {
     const { name, kind } = parameterOf(id);
     if (!this.record || kind !== "number" || (id === MIN_ACK_DELAY && index !== this.lastMinDelay)) {

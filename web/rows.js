@@ -60,8 +60,8 @@ export class Rows {
     return whole <= MAX_HEIGHT ? 1 / this.height : (this.count - view / this.height) / (MAX_HEIGHT - view);
   }
 
-  // Draws before the next picture, once however often the box scrolls until then. Rows that move while a scroll is reported
-  // would be behind it where a browser scrolls by itself, and Firefox says so in its console.
+  // Draws before the next picture, once however often the box scrolls until then. Rows that move while a scroll is
+  // reported would lag where a browser scrolls by itself, and Firefox says so in its console.
   refreshSoon() {
     this.frame ??= requestAnimationFrame(() => {
       this.frame = null;

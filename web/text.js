@@ -8,7 +8,7 @@ import {
 
 const dashed = (bytes) => toHex(bytes) || "-";
 
-// The line of what is no frame.
+// The line of an invalid frame.
 function invalidLine(error) {
   if (error.empty) {
     return "error packet payload is empty";
@@ -77,7 +77,7 @@ const PRESENT = [
   [0x400, "min_ack_delay", (r) => `${r.min_ack_delay}`],
 ];
 
-// A preferred address as it stands in a list.
+// A preferred address as it is encoded in a list.
 function addressDigits(record) {
   const word = (number, digits) => number.toString(16).padStart(digits, "0");
   return toHex(record.preferred_v4) + word(record.preferred_v4_port, 4) + toHex(record.preferred_v6)
@@ -109,7 +109,7 @@ export function canonicalLine({ bytes, error }) {
   return error ? invalidLine(error) : toHex(bytes);
 }
 
-// The words behind `quic-show` that print these lines.
+// The arguments of `quic-show` that print these lines.
 export function command({ mode, strict, side, idLength }) {
   if (mode === "frames") {
     return strict ? "strict" : "frames";

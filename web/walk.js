@@ -50,7 +50,7 @@ export class Walk {
     return field;
   }
 
-  // The field lacks bytes, so nothing behind it can be found.
+  // The field lacks bytes, so nothing after it can be found.
   stop(name, wanted) {
     const left = this.left;
     const value = `${left} of ${count(wanted, "byte")}`;
@@ -106,7 +106,7 @@ export class Walk {
     return value;
   }
 
-  // The variable-length integer of so many bytes that stands next.
+  // The variable-length integer of so many bytes that comes next.
   peek(length) {
     const { bytes, place } = this;
     if (length === 8) {

@@ -26,7 +26,7 @@ extern uint64_t any(void);
 /* A number near some bound. */
 extern uint64_t edge(void);
 
-/* A small place, or one that is none. */
+/* A small place, or a number at a bound. */
 extern size_t place(void);
 
 /* Random bytes. */

@@ -12,7 +12,7 @@ void canonical_nulls(void) {
        canon.len == 1);
 }
 
-/* The next frame of both payloads is the same one, wherever its data stand, and
+/* The next frame of both payloads is the same one, wherever its data are, and
  * the ranges of an ACK are the same. */
 static void same_frame(const uint8_t *a, size_t alen, const quic_wire_frame *x,
                        const uint8_t *b, size_t blen,

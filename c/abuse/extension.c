@@ -54,7 +54,7 @@ void extension_nulls(void) {
   WANT(read_by(1, NULL, 0, 0, &frame, NULL, 0) == QUIC_WIRE_ERR_EMPTY);
 }
 
-/* What is reported of a frame that is left out. */
+/* The error of a frame of the extension, where that is left out. */
 static void told(const quic_wire_frame *frame, size_t begin, uint64_t type) {
   WANT(frame->begin == begin && quic_wire_error_type(frame) == type);
   WANT(quic_wire_error_reason(frame) == QUIC_WIRE_REASON_INVALID_FRAME_ID);

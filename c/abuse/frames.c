@@ -89,7 +89,7 @@ static size_t padding_in(const uint8_t *payload, const quic_wire_frame *entry) {
 }
 
 /* Runs of PADDING whose first types have 1, 2, 4 and 8 bytes, some with a PING
- * behind them: what either call gives of them has as many frames as are read. */
+ * after them: what either call gives of them has as many frames as are read. */
 void padding_any(void) {
   quic_wire_frames frames;
   quic_wire_frame filled[4];
@@ -264,7 +264,7 @@ void first_rubbish(const uint8_t *payload, size_t len) {
   WANT(!memcmp(first, filled, sizeof first));
 }
 
-/* Whether a type stands first that has more bytes than it needs. */
+/* Whether the bytes begin with a type that has more bytes than it needs. */
 static int has_long_type(const uint8_t *bytes, size_t len) {
   size_t width = len ? (size_t)1 << (bytes[0] >> 6) : 1, k;
   uint64_t type = len ? bytes[0] & 0x3f : 0;

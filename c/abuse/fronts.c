@@ -15,7 +15,7 @@ void fronts_nulls(void) {
 
 /* A frame of |n| bytes that was read at |at| is the next one of an iterator; of
  * an ACK the ranges too, of which |gaps| has as many as there was room for, and
- * behind them what it had |before|. */
+ * after them what it had |before|. */
 static void front_is_next(int basic, const uint8_t *payload, size_t len,
                           size_t at, size_t n, const quic_wire_frame *frame,
                           const quic_wire_gap gaps[3],
@@ -39,7 +39,7 @@ static void front_is_next(int basic, const uint8_t *payload, size_t len,
   WANT(!memcmp(&entry, &want, sizeof entry));
 }
 
-/* What is no frame at |at| is none for an iterator either. */
+/* An invalid frame at |at| is invalid for an iterator too. */
 static void front_refused(int basic, const uint8_t *payload, size_t len,
                           size_t at, const quic_wire_frame *frame,
                           quic_wire_frames *frames) {

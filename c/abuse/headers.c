@@ -46,7 +46,7 @@ void long_lengths(void) {
   WANT(!memcmp(packet, "\x80\0\x40\0", 5));
 }
 
-/* What was reported of a packet lies within it. */
+/* The places that were given of a packet are within it. */
 static void header_within(const uint8_t *packet, size_t left,
                           const quic_wire_header *header) {
   const uint8_t *sample;

@@ -1,5 +1,5 @@
-/* Headers of packets that are written: as a plain model has them, and read,
- * protected and opened behind that. */
+/* Headers of packets that are written: as a plain model has them, and then read,
+ * protected and opened. */
 #include "abuse.h"
 
 void headers_written_nulls(void) {
@@ -144,9 +144,9 @@ static int header_protected(const quic_wire_header_fields *h, uint8_t *packet,
   return answer;
 }
 
-/* A packet of a header that was written, and a body behind it: its length is set,
- * it is read as it was said, its protection is put on as by hand, and taken off
- * again. */
+/* A packet of a header that was written, and a body after it: its length is set,
+ * it is read back as its fields, its protection is put on as by hand, and taken
+ * off again. */
 static void header_cut(const quic_wire_header_fields *h,
                        const uint8_t *const parts[3], const size_t lens[3],
                        const uint8_t *written, size_t len) {

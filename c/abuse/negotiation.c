@@ -28,8 +28,8 @@ void negotiation_nulls(void) {
 }
 
 /* A version negotiation is read where it is one by a plain model, whole, cut off
- * behind so many bytes, and with a bit turned; its words are those that
- * quic_wire_header_read tells where it tells any. */
+ * after so many bytes, and with a bit turned; its words are those that
+ * quic_wire_header_read gives where it gives any. */
 static void negotiation_read(uint8_t *packet, size_t len, size_t cut) {
   static const uint32_t one[] = {1};
   quic_wire_header header, same;

@@ -65,7 +65,7 @@ static void further_made(struct further *f) {
   f->order[1] = 2, f->order[20] = 21; /* 22 2 20 .. 3 21 1 0 */
 }
 
-/* The entries behind and among those of the record. */
+/* The entries after and among those of the record. */
 static void further_written(const struct further *f) {
   static const uint8_t turned[] = {0x40, 244, 0, 4, 1, 9, 0x11, 4, 0,
                                    0,    0,   1, 1, 1, 5};
@@ -137,7 +137,7 @@ static void entries_nulls(void) {
   WANT(!quic_wire_param_is_known(QUIC_WIRE_PARAM_RESERVED(0)));
 }
 
-/* Further entries behind and among those of a client's record. */
+/* Further entries after and among those of a client's record. */
 void params_with(void) {
   struct further f;
   further_made(&f);
@@ -146,7 +146,7 @@ void params_with(void) {
   entries_nulls();
 }
 
-/* Bytes of a field, as an id that may be longer than it is said to be. */
+/* Bytes of a field, as an id that may be longer than its length says. */
 static uint32_t field(uint8_t *bytes, size_t room, uint32_t most) {
   uint32_t len = (uint32_t)(any() % 50 ? any() % (most + 1) : any());
   size_t k;
@@ -235,9 +235,9 @@ int params_written(uint32_t side) {
   return 1;
 }
 
-/* The entries of any list, one behind the other, each of which is written in at
+/* The entries of any list, one after the other, each of which is written in at
  * most as many bytes and read back.  Returns how many bytes of |further| were
- * filled with those that can stand beside a record, and |*count| how many of
+ * filled with those that can be beside a record, and |*count| how many of
  * these there are. */
 static size_t params_entries(const uint8_t *list, size_t len, uint8_t *further,
                              size_t room, size_t *count) {

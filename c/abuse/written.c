@@ -26,8 +26,8 @@ void written_nulls(void) {
   WANT(quic_wire_frame_header_write(&frame, 0, out, 8, NULL) == 0);
 }
 
-/* What has no data is written as it was read, whatever |data| and its place in
- * them are: a PING behind a MAX_DATA of five bytes, and the end of a stream. */
+/* A frame without data is written as it was read, whatever |data| and its place in
+ * them are: a PING after a MAX_DATA of five bytes, and the end of a stream. */
 void without_data(void) {
   static const uint8_t payload[] = {0x10, 0x80, 0x01, 0x00, 0x00, 0x01,
                                     0x0d, 0x04, 0x09};

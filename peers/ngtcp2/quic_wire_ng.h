@@ -9,8 +9,8 @@
 #include "quic_wire.h"
 #include "quic_wire_ng_releases.h"
 
-/* The number that is expected next after the greatest that came, or -1: behind
- * the last number there is none, and late ones still come. */
+/* The number that is expected next after the greatest that came, or -1: after the
+ * last number there is none, and late ones still come. */
 static inline uint64_t quic_wire_ng_expected(int64_t largest) {
   return (uint64_t)(largest < NGTCP2_MAX_PKT_NUM ? largest + 1 : largest);
 }
@@ -42,7 +42,7 @@ quic_wire_ng_unprotect(ngtcp2_pkt_hd *hd, uint8_t *header, const uint8_t *pkt,
   if (hp_mask(mask, hp, hp_ctx, sample) != 0) {
     return NGTCP2_ERR_CALLBACK_FAILURE;
   }
-  /* What quic_wire_unprotect_header does; the sample stands behind the head. */
+  /* What quic_wire_unprotect_header does; the sample is after the header. */
   memcpy(header, pkt, place + 4);
   len = quic_wire_unprotect(header, place + 4, place, mask,
                             quic_wire_ng_expected(largest), &number);

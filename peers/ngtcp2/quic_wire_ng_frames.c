@@ -9,8 +9,8 @@
 
 /* ---- Read */
 
-/* The ranges of an ACK stand in |dest| already, as ngtcp2 keeps them: each as
- * the gap above it and how many numbers it has behind its first, both less
+/* The ranges of an ACK are in |dest| already, as ngtcp2 keeps them: each as
+ * the gap above it and how many numbers it has after its first, both less
  * one.  Those that there was no room for were looked at, and are left out. */
 static int ack_of(ngtcp2_ack *dest, const quic_wire_frame *f) {
   dest->largest_ack = (int64_t)f->ack.largest;
@@ -191,7 +191,7 @@ ngtcp2_ssize ngtcp2_pkt_decode_frame(NG_BESIDE(ngtcp2_frame_decoder *room)
 }
 
 /* The readers of one kind each, which ngtcp2's tests call.  A decoder is a union
- * of what may stand beside a frame, so the place of either is one. */
+ * of what may be beside a frame, so the place of either is one. */
 #define READER_OF(NAME, TYPE, ROOM)                                            \
   ngtcp2_ssize ngtcp2_pkt_decode_##NAME##_frame(                               \
       TYPE *dest, const uint8_t *payload, size_t payloadlen) {                 \
@@ -236,7 +236,7 @@ static ngtcp2_ssize written(int answer, size_t n) {
   }
 }
 
-/* Writes a frame of up to three numbers, with |data| behind them. */
+/* Writes a frame of up to three numbers, followed by |data|. */
 static ngtcp2_ssize put(uint8_t *out, size_t outlen, uint16_t kind, uint64_t a,
                         uint64_t b, uint64_t c, const uint8_t *data,
                         size_t datalen, size_t taillen) {
@@ -304,7 +304,7 @@ ngtcp2_pkt_encode_new_connection_id_frame(uint8_t *out, size_t outlen,
              NGTCP2_STATELESS_RESET_TOKENLEN);
 }
 
-/* Writes |f| with the |cnt| pieces of |data| behind it, the last bytes of a
+/* Writes |f| followed by the |cnt| pieces of |data|, the last bytes of a
  * payload where |last| isn't 0. */
 static inline ngtcp2_ssize put_pieces(uint8_t *out, size_t outlen,
                                       quic_wire_frame *f, int last,

@@ -32,7 +32,7 @@ typedef ngtcp2_ack quic_wire_ng_ack_written;
 #  define NG_TOKENLEN(OWNER) ((OWNER)->token.len)
 #endif
 
-/* Where the vector of a frame's data stands, and the ranges of an ACK: in the
+/* Where the vector of a frame's data is, and the ranges of an ACK: in the
  * frame, by 1.24 in what is given beside it, which NG_BESIDE passes.  The token
  * of NEW_CONNECTION_ID. */
 #if QUIC_WIRE_NG_1_24

@@ -1,5 +1,5 @@
 //! capture [FILE..]: what the payloads of a capture hold, each the bytes of a file, as a reader of captures has them
-//! behind its ciphers: frames by their kind, the bytes of each stream, and what is lost to errors. Without a file it
+//! after decryption: frames by their kind, the bytes of each stream, and what is lost to errors. Without a file it
 //! reads payloads of its own.
 use quic_wire::frame::{Frame, Iter};
 use quic_wire::{Error, StreamId};
@@ -21,7 +21,7 @@ struct Sent {
 #[derive(Debug, Default, PartialEq)]
 struct Lost {
     payloads: usize,
-    /// From the front of what is no frame to the end of its payload.
+    /// From the beginning of an invalid frame to the end of its payload.
     bytes: usize,
 }
 

@@ -27,7 +27,7 @@ impl Display for Finding {
     }
 }
 
-/// What there is to say of each frame, or what is no frame.
+/// The remarks on each frame, or on the invalid one.
 fn check(payload: &[u8]) -> Result<Vec<Finding>, Error> {
     let (mut frames, mut findings, mut start) = (Iter::new(payload)?, Vec::new(), 0);
     while let Some(frame) = frames.next() {

@@ -1,6 +1,6 @@
 //! A datagram from end to end: two packets are written, sealed and opened again, what they hold is acknowledged, and
-//! one that was changed on its way is dropped. Where ciphers go stands [`NoProtection`], which hides nothing. No `std`
-//! is needed but for printing.
+//! one that was changed on its way is dropped. In place of ciphers it has [`NoProtection`], which hides nothing.
+//! `std` is needed for printing alone.
 use quic_wire::frame::{Ack, Crypto, Frame, Iter, StreamMeta};
 use quic_wire::packet::{Header, PacketNumber, PacketsMut};
 use quic_wire::range_set::ArrayRangeSet;
@@ -64,7 +64,7 @@ fn write() -> Result<Vec<u8>, Error> {
     })?;
     let short = Header::Short { spin: false, key_phase: true, dst_cid: ID, number: number(3)? };
     seal(&mut datagram, short, |out| {
-        // Data that lie in two places are put behind the frame's head.
+        // Data that are in two places are put after the frame's header.
         StreamMeta { id: StreamId(4), offsets: 100..106, fin: true }.encode(false, out)?;
         out.extend(b"abc");
         out.extend(b"def");

@@ -78,7 +78,7 @@ impl Sender {
         if ack.largest() >= self.next {
             return Err(Refused::NeverSent(ack.largest()));
         }
-        // The greatest first; numbers below 2^62 have one behind them.
+        // The greatest first; numbers below 2^62 have a successor.
         for range in ack {
             self.in_flight.remove(*range.start()..range.end() + 1)?;
         }

@@ -7,7 +7,7 @@ use core::mem::MaybeUninit;
 /// So what a `Vec` holds is written over only by way of a slice of it, `&mut vec[..]`.
 ///
 /// A slice of bytes that aren't initialised serves as well, such as a buffer's spare capacity; the answer says how many
-/// of them are then. What stands behind what is written stays, and everything where nothing is written.
+/// of them are then. Bytes after those that are written don't change, and none if nothing is written.
 ///
 /// ```
 /// use quic_wire::frame::Frame;
@@ -80,7 +80,7 @@ impl Buffer for alloc::vec::Vec<u8> {}
 impl Put for alloc::vec::Vec<u8> {
     #[inline]
     fn put<T>(&mut self, mut write: impl FnMut(&mut Room) -> Result<(Filled, T), WriteError>) -> Result<T, WriteError> {
-        // The call stands here once, so that it goes in line with little code.
+        // The call is here once, so that it is inlined with little code.
         let mut is_grown = false;
         let (filled, told) = loop {
             match write(self.spare_capacity_mut()) {

@@ -27,7 +27,7 @@ use core::fmt;
 pub enum CanonError {
     /// The payload has no frame.
     Empty,
-    /// Something in the payload is no frame.
+    /// The payload has an invalid frame.
     Invalid(InvalidFrame),
     /// There is less room than these bytes.
     NoRoom(usize),
@@ -57,7 +57,7 @@ impl core::error::Error for CanonError {}
 ///
 /// # Errors
 ///
-/// Where the payload is empty, something in it is no frame, or there is too little room.
+/// If the payload is empty or has an invalid frame, or if there is too little room.
 pub fn canonical<B: Buffer + ?Sized>(payload: &[u8], out: &mut B) -> Result<usize, CanonError> {
     let mut refused = CanonError::Empty;
     let written = out.put(|room| match sys::canonical(payload, room) {

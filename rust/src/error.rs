@@ -62,24 +62,24 @@ impl core::error::Error for WriteError {}
 pub enum Error {
     /// A payload has no frame.
     EmptyPayload,
-    /// Something in a payload is no frame.
+    /// A payload has an invalid frame.
     Frame(InvalidFrame),
-    /// A packet's version is none of those that are spoken.
+    /// A packet's version isn't supported.
     UnsupportedVersion(u32),
-    /// No packet begins at its place in a datagram, or none that is whole.
+    /// No packet begins at this place of a datagram, or it isn't whole.
     Packet(&'static str),
     /// The protection of a header can't be taken off or put on.
     Protection(UnprotectError),
     /// A list of transport parameters is refused.
     TransportParameters(transport_parameters::Error),
-    /// A set has no room left, or is none.
+    /// A set has no room left, or its entries are no set.
     Set(range_set::Error),
     /// Nothing was written.
     Write(WriteError),
 }
 
 impl Error {
-    /// The code with which a connection is closed for what its peer sent; none where a packet is dropped (RFC 9000,
+    /// The code to close the connection with if the peer caused the error; `None` if a packet is dropped (RFC 9000,
     /// sections 5.2 and 12.2) or the peer has no part in it.
     ///
     /// ```
@@ -89,7 +89,7 @@ impl Error {
     /// assert_eq!(Error::Packet("fixed bit unset").code(), None);
     /// ```
     ///
-    /// What is no frame is a `FRAME_ENCODING_ERROR`, but for a type that isn't in its shortest encoding (RFC 9000,
+    /// An invalid frame is a `FRAME_ENCODING_ERROR`, but for a type that isn't in its shortest encoding (RFC 9000,
     /// section 12.4), which strict iterators alone refuse ([`Iter::strict`](crate::frame::Iter::strict)).
     pub fn code(&self) -> Option<Code> {
         match self {

@@ -169,13 +169,13 @@ pub const MAX_CID_SIZE: usize = 20;
 /// ```
 #[derive(Clone, Copy, Default)]
 pub struct ConnectionId {
-    // At most 20; the bytes behind these are 0.
+    // At most 20; the bytes after these are 0.
     pub(crate) len: u32,
     pub(crate) bytes: [u8; MAX_CID_SIZE],
 }
 
 impl ConnectionId {
-    /// The id of these bytes; `None` where they are more than 20.
+    /// The id of these bytes; `None` if they are more than 20.
     ///
     /// ```
     /// use quic_wire::ConnectionId;

@@ -40,8 +40,8 @@ pub use crate::sys::Range as Run;
 pub enum Error {
     /// The set needs one run more than there is room for.
     NoRoom,
-    /// The first entries, so many, are no set: there are fewer, or one is empty or reversed, or does not begin behind
-    /// the end of the one before it.
+    /// The first `count` entries are no set: there are fewer, or one is empty or reversed, or doesn't begin after the
+    /// end of the one before it.
     NoRuns,
 }
 
@@ -65,8 +65,8 @@ fn answer(answer: i32) -> Result<bool, Error> {
     }
 }
 
-/// Puts the numbers of `range` into the set of the first `count` runs, and answers whether it changed. Runs behind the
-/// set keep what they hold, and nothing changes with an error.
+/// Puts the numbers of `range` into the set of the first `count` runs, and answers whether it changed. Runs after the
+/// set don't change, and nothing changes with an error.
 ///
 /// ```
 /// use quic_wire::range_set::{contains, insert, remove, Run};
@@ -197,8 +197,8 @@ impl<const N: usize> ArrayRangeSet<N> {
         self.insert(number..number.saturating_add(1))
     }
 
-    /// Puts numbers into the set; where there is no room for one run more, the run of the least numbers goes, theirs or
-    /// one that was there, and is answered.
+    /// Puts numbers into the set. If there is no room for one run more, the run of the least numbers, theirs or one
+    /// that was there, is dropped, and answered.
     ///
     /// ```
     /// use quic_wire::range_set::ArrayRangeSet;

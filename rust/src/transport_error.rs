@@ -58,7 +58,7 @@ codes! {
 }
 
 impl Code {
-    /// The code of this number. None where it is 2^62 or more.
+    /// The code of this number. `None` if it is 2^62 or more.
     ///
     /// ```
     /// use quic_wire::transport_error::Code;

@@ -13,7 +13,7 @@ use crate::{sys, WriteError};
 /// The greatest number, 2^62 - 1.
 pub const MAX: u64 = (1 << 62) - 1;
 
-/// The number that bytes begin with, and how many bytes it has, 1, 2, 4 or 8. None where they end within it.
+/// The number that bytes begin with, and how many bytes it has, 1, 2, 4 or 8. `None` if they end within it.
 ///
 /// ```
 /// use quic_wire::varint;

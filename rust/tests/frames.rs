@@ -85,7 +85,7 @@ fn an_iterator_goes_on_where_another_stopped() {
 }
 
 #[test]
-fn the_type_is_reported_as_it_stands() {
+fn the_type_is_reported_as_in_the_payload() {
     let payload = [0x0e, 0x04, 0x00, 0x01, b'x', 0x31, 0x00];
     let mut frames = Iter::new(&payload).unwrap();
     let stream = frames.next().unwrap().unwrap();
@@ -209,7 +209,7 @@ fn frames_are_written_at_the_end_of_a_buffer() {
     assert_eq!(frame.encode(false, &mut room[..]), Ok(3));
     assert_eq!(frame.encode(false, &mut room[..2]), Err(WriteError::NoRoom(3)));
 
-    // What can't be written leaves the vector as it was.
+    // A frame that can't be written doesn't change the vector.
     assert!(Frame::MaxData(1 << 62).encode(false, &mut packet).is_err());
     assert_eq!((packet.len(), canonical(&packet[..3], &mut packet.clone())), (7, Ok(3)));
 }

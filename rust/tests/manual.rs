@@ -14,7 +14,7 @@ fn help() -> String {
     String::from_utf8(output.stdout).unwrap()
 }
 
-// The names that stand behind a mark, as `json` does behind `--` in `--json`.
+// The names after a mark, as `json` is after `--` in `--json`.
 fn names<'a>(text: &'a str, mark: &str) -> BTreeSet<&'a str> {
     let is_of_name = |c: char| c.is_ascii_lowercase() || c == '-';
     let ends = text.match_indices(mark).map(|(begin, _)| &text[begin + mark.len()..]);

@@ -79,7 +79,7 @@ fn the_packets_of_a_datagram_are_opened_in_a_loop() {
     let lens: Vec<_> = seen.iter().map(|packet| (packet.header_data.len(), packet.payload.len())).collect();
     assert_eq!(lens, [(23, 37), (11, 29)]);
     assert_eq!((seen[1].src_cid(), seen[1].opened().number_len), (&[][..], 2));
-    // Each payload is written where it stands.
+    // Each payload is written in place.
     for packet in &mut seen {
         packet.payload.fill(0xee);
     }

@@ -77,7 +77,7 @@ fn what_is_out_of_range_is_named() {
     assert_eq!(quic_wire::Error::from(Error::IllegalValue).to_string(), "a transport parameter has an illegal value");
 }
 
-// Entries one behind the other.
+// Entries one after the other.
 fn list_of(all: &[Entry<'_>]) -> Vec<u8> {
     let mut list = vec![];
     for entry in all {

@@ -196,7 +196,7 @@ fn files_and_dumps_are_named() {
     assert_eq!((text.lines().collect::<Vec<_>>(), status), (all.iter().map(String::as_str).collect(), 1));
 }
 
-// The same bytes by each program, where it is installed: 1200 bytes, most of which `*` stands for.
+// The same bytes by each program, where it is installed: 1200 bytes, most of which are a `*`.
 #[test]
 fn dumps_of_programs_are_read_as_one() {
     let path = std::env::temp_dir().join(format!("quic-wire-dumped-{}", std::process::id()));

@@ -166,13 +166,13 @@ fn a_set_grows() {
     assert_eq!((format!("{set:?}"), set.clone()), ("{0..1, 297..298}".into(), set.clone()));
     assert_eq!(set.elts().rev().collect::<Vec<_>>(), [297, 0]);
     assert_eq!((set.pop_min(), set.peek_min()), (Some(0..1), Some(297..298)));
-    // What is left stands in the copy itself, and both go on.
+    // What remains is in the copy itself, and both go on.
     let mut copy = set.clone();
     assert!(copy.insert(5..7) && copy.insert(1..2) && set.insert(1..2) && set.insert(5..7) && copy == set);
     let mut out = vec![];
     assert_eq!(Ack::encode(0, copy.runs(), None, &mut out), Ok(11));
     set.clear();
     assert!(set.is_empty() && set == GrowingRangeSet::<0>::default());
-    // Two runs, and where they stand.
+    // Two runs, and where they are.
     assert_eq!(size_of_val(&set), 40);
 }

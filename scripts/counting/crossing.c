@@ -2,7 +2,7 @@
 // Prints how many items one round has, and a number that depends on all of them. WORK is frames (the numbers and the
 // length of each), many-frames (the same by calls that fill 16 entries, where a run of PADDING is one), ranges (of each
 // ACK, read too), acks (the same, frames and ranges by calls that fill 16), or packets (of each line as a datagram, the
-// headers with ids of 8 bytes). With a number in place of FILE: set-push (a run behind so many others), set-grow (the
+// headers with ids of 8 bytes). With a number in place of FILE: set-push (a run after so many others), set-grow (the
 // last of so many runs), set-contains (each of so many) or set-ack (of so many), each a thousand times, less what set-0
 // takes; or a call by itself, call-NAME of those in calls below, with ids of so many bytes or an ACK of so many ranges,
 // each a thousand times, less what call-none takes.

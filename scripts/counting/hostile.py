@@ -27,7 +27,7 @@ def ack(widths):
 
 
 def frames():
-    """Frames of numbers alone, each in 8 bytes (sections 19.4 to 19.16), and PING behind them."""
+    """Frames of numbers alone, each in 8 bytes (sections 19.4 to 19.16), and PING after them."""
     payload = b""
     while len(payload) < 1120:
         kind, count = random.choice([(0x04, 3), (0x05, 2), (0x10, 1), (0x11, 2), (0x14, 1), (0x15, 2), (0x19, 1)])

@@ -1,4 +1,4 @@
-"""Definitions of crates/*/specs as they stand there, and the figures that are made of them."""
+"""Definitions of crates/*/specs, word for word, and the figures that are made of them."""
 import functools
 import os
 import re
@@ -20,7 +20,7 @@ def source(file):
 
 @functools.cache
 def clauses(file, name):
-    """The clauses of a definition: for what stands left of `=`, what stands right of it, each in one line."""
+    """The clauses of a definition: the right side of `=` by the left side, each in one line."""
     found = re.findall(rf"^{name}((?: [^=\n]+)?) =((?:[ \n] *\S.*)(?:\n +.*)*)", source(file), re.M)
     return {left.strip(): " ".join(right.split()) for left, right in found}
 

@@ -57,7 +57,7 @@ NAMES = {
 }
 LENGTHS = {"Token": "Token Length", "Reason Phrase": "Reason Phrase Length"}
 COUNTS = ["ECT0 Count (i)", "ECT1 Count (i)", "ECN-CE Count (i)"]
-# The section of each frame; frames of one name stand in one figure.
+# The section of each frame; frames of one name share a figure.
 SECTIONS = {
     "Padding": "19.1", "Ping": "19.2", "Ack": "19.3", "ResetStream": "19.4", "StopSending": "19.5", "Crypto": "19.6",
     "NewToken": "19.7", "Stream": "19.8", "MaxData": "19.9", "MaxStreamData": "19.10", "MaxStreams": "19.11",

@@ -44,7 +44,7 @@ KINDS = {
         lambda: ["NAME (..)"],
     "(values ≡ []) × (bytes ≡ []) × Contains context.versions version": lambda: [],
 }
-# How a header is written: what stands before its length and its number, and with these.
+# How a header is written: the fields before its length and its number, and with these.
 WRITTEN = {
     "Version Negotiation": ("long_front (bit_or 128 random) 0 dst src", "<front..>"),
     "Initial": ("long_front (long_first h.version kind.Initial (number_size h.number)) h.version h.dst_cid h.src_cid"
@@ -72,7 +72,7 @@ MEANT["Handshake"] = MEANT["0-RTT"]
 
 
 def most_of_id():
-    """How long an id may be, behind the byte of its length."""
+    """How long an id may be, after the byte of its length."""
     said(LONG_ID, "long_id", "id", "length id ∷ id")
     return said(GRAMMAR, "IsId", "values bytes", (
         "(id : List ℕ) × (values ≡ Bytes id ∷ []) × (length id ≤ <most>) × (bytes ≡ long_id id)"))["most"]
@@ -90,7 +90,7 @@ def lines_of(field):
 
 
 def meant(head):
-    """What stands in place of the holes of what a header is meant to be."""
+    """What is in the holes of the text that a header should have."""
     return said(GRAMMAR, "IsHeader", f"whole first values {head.read}", MEANT[head.title])
 
 
@@ -99,7 +99,7 @@ def is_protected(head):
 
 
 def row(head):
-    """The fields of a header behind its first byte."""
+    """The fields of a header after its first byte."""
     rows = said(GRAMMAR, "header_row_of", "first version", (
         "if is_long first then <long..> ∷ row_behind_ids first version else <short..> ∷ []"))
     behind = said(GRAMMAR, "row_behind_ids", "first version", (
@@ -160,7 +160,7 @@ def unused(low, high):
 
 
 def behind(head):
-    """What stands behind the row of a header."""
+    """What follows the row of a header."""
     if not is_protected(head):
         return ["(..)"]
     said(FINISH, "IsNumberIn", "size", "number_size number ≡ number_len (slice_index packet 0)")
@@ -268,7 +268,7 @@ def any_version():
     yield ""
     lines = ["Header Form (1) = 1", "Version-Specific Bits (7)", f"Version ({8 * width})", *ids]
     yield from figure("Long Header Packet", [*lines, "Version-Specific Data (..)"])
-    yield f"`AnyVersion`, crates/{PLACES}.antt; by it headers of unknown versions are read (`IsUnknown`)."
+    yield f"`AnyVersion`, crates/{PLACES}.antt; it reads unknown versions (`IsUnknown`)."
     yield from ["", "### Version Negotiation of any version (RFC 8999, 6)", ""]
     lines = ["Header Form (1) = 1", "Unused (7)", f"Version ({8 * width}) = {zero}", *ids]
     yield from figure("Version Negotiation Packet", [*lines, f"Supported Version ({8 * one}) ..."])

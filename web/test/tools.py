@@ -29,7 +29,7 @@ NOTE = "return document.querySelector('.packet-note').textContent"
 
 
 def opened(browser, address):
-    """A mask and a payload from the RFC's examples give the headers and the frames that stand there."""
+    """A mask and a payload from the RFC's examples give the headers and the frames that are there."""
     browser.go(f"{address}#read=datagram&ids=0&hex=00")
     for datagram, length, mask, payload, first, lines, sample in OPENED:
         set_form(browser, {"mode": "datagram", "idLength": length}, datagram)
@@ -138,7 +138,7 @@ def picture(browser, address):
 # ---- links into the RFCs
 
 ACK_DRAFT = "the ACK frequency draft"
-# Of each type of frame, as it stands in the contents of the RFCs: the section that describes it.
+# Of each type of frame, as it is in the contents of the RFCs: the section that describes it.
 SECTIONS = {
     "00": "19.1", "01": "19.2", "0200000000": "19.3", "040000" "00": "19.4", "050000": "19.5", "060000": "19.6",
     "070161": "19.7", "0a0000": "19.8", "1000": "19.9", "110000": "19.10", "1200": "19.11", "1300": "19.11",

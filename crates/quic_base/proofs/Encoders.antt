@@ -1,4 +1,4 @@
--- Encoders one after the other: what stands after some of them, and what after one that was refused.
+-- Encoders one after the other: what is after some of them, and what after one that was refused.
 use Rattle.std.proofs.Common.{◌≡◌, ℕ, ◌+◌, List, [], ◌++◌, length, Result, Ok, Err, OnOk, OnErr, refl, sym, ap, subst, ◌∙◌, append_assoc, arith}
 use Rattle.std.proofs.lemmas.List.{length-append, append-nil}
 use Rattle.std.specs.Result.{is_ok}

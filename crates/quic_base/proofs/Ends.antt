@@ -1,4 +1,4 @@
--- The two ends of a list cover it, and a copy of them over zeros is the list with zeros behind it.
+-- The two ends of a list cover it, and a copy of them over zeros is the list with zeros after it.
 use Rattle.std.proofs.Common.{◌≡◌, ℕ, ◌+◌, ◌-◌, ◌≤◌, List, ◌++◌, length, take, drop, refl, sym, ap, ◌∙◌, arith}
 use Rattle.std.specs.List.{between}
 use Rattle.std.specs.Prelude.{replicate}
@@ -7,7 +7,7 @@ use Rattle.std.proofs.lemmas.Slice.{between_to_end, drop-append-drop}
 use Rattle.quic_base.specs.ConnectionId.{IsPadded}
 use borrow.Rule.Slice.PartMut.{put_mid}
 
--- xs behind the front of length m, over what began with the first k of xs
+-- xs after the front of length m, over what began with the first k of xs
 second : (k m n : ℕ) (xs to : List ℕ) → n ≡ length xs → m + k ≡ n → n ≤ k + k
     → put_mid m (n - m) (take k xs ++ drop k to) (drop m xs) ≡ xs ++ drop n to
 second k m n xs to is sum covers =
@@ -29,7 +29,7 @@ two_ends k xs to front back enough covers first last =
     ∙ ap (λ (ys : List ℕ). put_mid m (length xs - m) (take k xs ++ drop k to) ys) (last ∙ between_to_end xs m (length xs) (omega arith))
     ∙ second k m (length xs) xs to refl (omega (arith, enough)) covers
 
--- a list of at most 20 bytes with zeros behind it, up to 20 of them
+-- a list of at most 20 bytes with zeros after it, up to 20 of them
 pub padded_front : (xs zeros bytes : List ℕ) → zeros ≡ replicate 20 0 → bytes ≡ xs ++ drop (length xs) zeros → take (length xs) bytes ≡ xs
 padded_front xs zeros bytes are is = ap (take (length xs)) is ∙ take_at xs (drop (length xs) zeros) (length xs) refl
 

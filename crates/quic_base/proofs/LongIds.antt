@@ -1,4 +1,4 @@
--- Lemmas on connection ids: behind their length, their text, their order.
+-- Lemmas on connection ids: after their length, their text, their order.
 use Rattle.std.proofs.Common.{rules, nat_eq, true, ◌≡◌, ℕ, ◌+◌, ◌<◌, ◌≤◌, List, [], ◌∷◌, ◌++◌, length, get_or, take, false, ◌-◌, ◌^◌, refl, sym, ◌∙◌, ap, arith, length-append}
 use Rattle.quic_base.specs.Number.{AreBytes}
 use Rattle.quic_base.proofs.Numbers.{same_front, same_back}
@@ -14,7 +14,7 @@ use Rattle.std.specs.Cmp.Lexicographic.{pointwise, same_text}
 use Rattle.quic_base.specs.ConnectionId.{IsLongId, hex_pair}
 use Rattle.quic_base.specs.ConnectionIdOrder.{id_cmp, id_ties}
 
--- the length in front, and what is behind it
+-- the length in front, and what is after it
 pub behind_length : (old b new : List ℕ) (n : ℕ) → old ≡ b ++ new → length b ≡ 1 → n ≡ get_or b 0 0 → old ≡ n ∷ new
 behind_length old [] new n e l v = absurd (omega arith)
 behind_length old (x ∷ []) new n e l v = e ∙ ap (λ y. y ∷ new) (sym v)

@@ -54,7 +54,7 @@ is_number_8 = numbers.is_number_8
 pub length-bytes_of : (k n : ℕ) → length (bytes_of k n) ≡ k
 length-bytes_of = numbers.length-bytes_of
 
--- of fixed numbers, addresses and ids behind their length no encoding begins another
+-- of fixed numbers, addresses and ids after their length no encoding begins another
 pub number_unique : (k : ℕ) → IsPrefixFree (IsNumber k)
 number_unique = numbers.number_unique
 

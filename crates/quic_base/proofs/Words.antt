@@ -12,7 +12,7 @@ use Rattle.quic_base.specs.Varint.{Encodes}
 use Rattle.quic_base.proofs.Numbers.{same_front}
 use Rattle.quic_base.proofs.Readings.{number_taken}
 
--- What stands above the lowest bytes of a word: a number's width by its tag, and its value.
+-- What is above the lowest bytes of a word: a number's width by its tag, and its value.
 record IsWordOf (t b s word : ℕ) : Type 0 where
   tag : word / 2 ^ 62 ≡ t
   value : word % 2 ^ 62 / 2 ^ (64 - 8 * 2 ^ t) ≡ b % 64 * 256 ^ (2 ^ t - 1) + s

@@ -10,7 +10,7 @@ use Rattle.quic_base.specs.Number.{AreBytes}
 abbrev pub long_id : List ℕ → List ℕ
 long_id id = length id ∷ id
 
--- b is the id behind the byte of its length
+-- b is the byte of the id's length, and then the id
 pub record IsLongId (id b : List ℕ) : Type 0 where
   pub bytes : AreBytes id
   pub short : length id ≤ 20

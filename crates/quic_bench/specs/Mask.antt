@@ -12,12 +12,12 @@ mask_at at (suc count) s bytes = mask_at (at + 1) count s (slice_set bytes at (b
 abbrev pub first_masked : ℕ → List ℕ → List ℕ
 first_masked s bytes = slice_set bytes 0 (bit_xor (slice_index bytes 0) (s % first_unit (is_short bytes)))
 
--- the packet with the sample, four bytes behind the number's place, joined to its number and its first byte
+-- the packet whose number and first byte are combined with the sample, which is four bytes after the number's place
 abbrev pub mask_protect : ℕ → List ℕ → List ℕ
 mask_protect at packet =
     let s = slice_index packet (at + 4) in first_masked s (mask_at at (number_len (slice_index packet 0)) s packet)
 
--- the same, the first byte first, which tells how long the number is
+-- the same, beginning with the first byte, which has the number's length
 abbrev pub mask_unprotect : ℕ → List ℕ → List ℕ
 mask_unprotect at packet =
     let s = slice_index packet (at + 4) in

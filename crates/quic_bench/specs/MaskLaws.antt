@@ -94,7 +94,7 @@ first_before at count s first old from room =
       outside = λ i pos out. mask_out at count s mid i out ∙ get_or-set_other old 0 i first 0 (omega arith);
     }
 
--- what was masked twice, with the first byte put back, is as it was
+-- masking twice, with the first byte put back, gives the packet back
 masked_twice : (at count s x : ℕ) (old mid new : List ℕ) → 0 < at → Masked at count s x old mid
     → Masked at count s (get_or old 0 0) mid new → new ≡ old
 masked_twice at count s x old mid new from there back = same_number_lists new old (back.len ∙ there.len) (λ i lt.

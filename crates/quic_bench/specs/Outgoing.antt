@@ -31,7 +31,7 @@ pub record IsFoundAgain (opening : Opening) (packet : Outgoing) (rest : List ℕ
   pub head : IsReadBack opening.options packet.header.now rest
   pub number : ExpandsIn packet.header.now (opening.expected (space_in packet.header.now)) packet.number
 
--- bytes are two sealed packets, one behind the other
+-- bytes are two sealed packets, one after the other
 pub record AreSealed (keys : SpaceId → KeyPair) (first second : Outgoing) (bytes : List ℕ) : Type 0 where
   pub front : List ℕ
   pub back : List ℕ

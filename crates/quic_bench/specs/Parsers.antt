@@ -5,7 +5,7 @@ use Rattle.std.proofs.Common.{cond, Bool, true, false, arith, refl}
 use Rattle.std.proofs.lemmas.Bool.Decides.{nat_tests}
 use Rattle.quic_header_decode.specs.Refusal.{Refusal, Invalid, NoMemory}
 
--- an answer takes bytes that are there, and want of memory is no refusal
+-- an answer takes no more bytes than there are, and is never want of memory
 abbrev pub IsLawfulParser : List ℕ → Result (List ℕ × ℕ) Refusal → Type 0
 IsLawfulParser bytes answer = MatchResult answer (λ x. x.1 ≤ length bytes) (λ e. e ≢ NoMemory)
 

@@ -112,7 +112,7 @@ len_done payload total start state some (inl a) w none =
 len_done payload total start state some (inr b) w none =
     let r = w.walks.broken b.0 b.1 b.2 b.3 in absurd (not_empty r.0 (invalid b.1 b.2) (sym (ap (map unplaced) none) ∙ r.1))
 
--- something is no frame
+-- an invalid frame
 pub len_fails : (payload : List ℕ) (total start : ℕ) (state : IterState) (i : Invalid) → IsEither false None payload → LenWalk payload total start state → left state ≡ Broken i ∷ [] → IsReportedOf payload i
 len_fails payload total start state i (inl a) w is =
     let s = w.sums a.0 a.1 in absurd (no_error s.rest i (sym (ap (map unplaced) is) ∙ s.left_are))

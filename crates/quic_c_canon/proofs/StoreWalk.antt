@@ -1,4 +1,4 @@
--- A walk over a payload that writes its frames in their shortest encodings, one behind the other.
+-- A walk over a payload that writes its frames in their shortest encodings, one after the other.
 use Rattle.std.proofs.Common.{◌≡◌, ℕ, zero, suc, ◌+◌, ◌≤◌, eqb, false, List, [], ◌∷◌, ◌++◌, length, map, take, drop, Some, None, Result, Err, refl, sym, ap, ◌∙◌, subst, append_assoc, inl, inr, arith}
 use Rattle.std.specs.Prelude.{replicate}
 use Rattle.std.proofs.lemmas.List.{append-nil, length-append, length-take, length-drop, length-replicate, replicate-append-replicate, take-append-drop, drop-drop, drop_at, take_at}
@@ -17,7 +17,7 @@ use Rattle.quic_canon.proofs.LeastPayloads.{Shortest}
 use Rattle.quic_canon.proofs.Steps.{BeginsNone, Walks, walk_on, next_frame, frame_length, shortest_next, walk_begins, fails_err}
 use Rattle.quic_c_canon.proofs.PaddingBytes.{EachPads, padding_is}
 
--- The bytes of the frames so far stand at the front, with what stood behind them.
+-- The bytes of the frames so far are at the front, and the bytes after them didn't change.
 pub record Stores (payload old new : List ℕ) (at start : ℕ) (state : IterState) (found : List TypedFrame) : Type 0 where
   pub rest : List TypedFrame
   pub left_are : map unplaced (left state) ≡ map given rest
@@ -111,7 +111,7 @@ store_on payload old new out at end stop state next frame begins w f there ends 
           };
     }
 
--- bytes of 0 over those that stood at a place
+-- bytes of 0 over those that were at a place
 abbrev padded : List ℕ → ℕ → ℕ → List ℕ
 padded bytes at k = take at bytes ++ (replicate k 0 ++ drop (at + k) bytes)
 

@@ -18,7 +18,8 @@ abbrev pub reason_word : List ℕ → ℕ
 reason_word reason = if pointwise nat_eq reason (codes "unexpected end") then 1
     else if pointwise nat_eq reason (codes "invalid frame ID") then 2 else 3
 
--- The least payload of the meaning stands at the front, with what stood behind it, and its length was reported.
+-- The shortest payload of the meaning was written at the front, the bytes after it didn't change, and its length was
+-- reported.
 pub record GivesLeastLen (payload before after : List ℕ) (old new : CCanonical) : Type 0 where
   pub least : List ℕ
   pub is_least : IsLeast least payload
@@ -32,7 +33,7 @@ pub record LeastNeedsMore (payload before : List ℕ) (old new : CCanonical) : T
   pub full : length before < length least
   pub words : new ≡ record old { len = length least }
 
--- Frames and then something that is none: what reading tells of that.
+-- Frames and then an invalid one: the type and the reason that reading gives for it.
 pub record IsReportedOf (payload : List ℕ) (reported : Invalid) : Type 0 where
   pub found : List TypedFrame
   pub type : Option ℕ

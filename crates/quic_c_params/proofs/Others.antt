@@ -66,7 +66,7 @@ so_far_end n list rest c s es h has =
 
 -- ---- counted entries
 
--- So many entries are counted, which may stand among those of a record if those that are left may.
+-- So many entries are counted, which may be among those of a record if those that are left may.
 pub record Counted (list rest : List ℕ) (count : ℕ) : Type 0 where
   pub back : (left : List Entry) → AreInOrder left rest → AreOthers left → (es : List Entry) × AreInOrder es list × AreOthers es × (length es ≡ count + length left)
   pub on : (es : List Entry) → AreInOrder es list → AreOthers es → (left : List Entry) × AreInOrder left rest × AreOthers left × (length es ≡ count + length left)

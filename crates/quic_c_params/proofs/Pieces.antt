@@ -1,4 +1,4 @@
--- Pieces of a list, written one behind the other.
+-- Pieces of a list, written one after the other.
 use Rattle.std.proofs.Common.{◌≡◌, ℕ, zero, suc, ◌+◌, ◌-◌, ◌*◌, ◌<◌, ◌≤◌, ◌^◌, List, [], ◌∷◌, ◌++◌, length, take, drop, get_or, refl, sym, ◌∙◌, ap, subst, arith, length-append, append_assoc}
 use Rattle.std.specs.Prelude.{Result, Ok, Err}
 use Rattle.std.specs.List.{flat_map}
@@ -24,7 +24,7 @@ other_piece p es index number value le lt n v =
     ap (piece_at p es) (sym at) ∙ piece_of_other p es (index - rows) any_entry (omega (arith, le, lt))
     ∙ ap (λ (m : ℕ). entry m (get_or es (index - rows) any_entry).bytes) (sym n) ∙ ap (entry number) (sym v)
 
--- it can be written, and is no longer than the list that it stands in
+-- it can be written, and is no longer than the list that it is in
 pub other_there : (es : List Entry) (index : ℕ) → AreOthers es → rows ≤ index → index < rows + length es → IsOther (get_or es (index - rows) any_entry)
 other_there es index h le lt = other_at es (index - rows) any_entry h (omega (arith, le, lt))
 

@@ -16,15 +16,15 @@ abbrev pub TellsKnown : ℕ → ℕ → Type 0
 TellsKnown known number = ((known ≡ 1) × (id : TransportParameterId) × IsKnownParameter id number) ⊎ (known ≡ 0)
     × ((id : TransportParameterId) → ¬ (IsKnownParameter id number))
 
--- The words tell the entry at the front of a list: its number, the place of its value, behind which the next one
--- begins.
+-- The words describe the entry at the front of a list: its number, and the place of its value, after which the next
+-- entry begins.
 pub record GivesParameter (list : List ℕ) (words : CEntry) : Type 0 where
   pub entry : Takes (IsEntry words.id (take words.value_len (drop words.value list))) list
       (drop (words.value + words.value_len) list)
   pub within : words.value + words.value_len ≤ length list
 
--- Bytes are written at the front, with what stood behind them, and are counted; or there is less room than that, how
--- much they need is reported, and nothing changes.
+-- The bytes were written at the front, those after them didn't change, and their count is given; or there is less room
+-- than that, how much they need is reported, and nothing changed.
 pub record Lies (result : Result ℕ ℕ) (bytes old new : List ℕ) : Type 0 where
   pub count : IfOk result (λ n. n ≡ length bytes)
   pub front : IfOk result (λ n. new ≡ bytes ++ drop n old)
@@ -32,7 +32,7 @@ pub record Lies (result : Result ℕ ℕ) (bytes old new : List ℕ) : Type 0 wh
   pub full : OnErr result (length old < length bytes)
   pub same : OnErr result (new ≡ old)
 
--- Bytes stand at the front, with what stood behind them, and are counted.
+-- The bytes were written at the front, those after them didn't change, and their count is given.
 pub record StandsInList (bytes old new : List ℕ) (count : ℕ) : Type 0 where
   pub count_is : count ≡ length bytes
   pub front : new ≡ bytes ++ drop count old
@@ -46,21 +46,23 @@ pub record Lacks (bytes old : List ℕ) (needed : ℕ) : Type 0 where
 abbrev pub any_entry : Entry
 any_entry = record { number = 0; bytes = [] }
 
--- These are the entries of a list that may stand among those of a record, so many that a byte counts all of them.
+-- These are the entries of a list, all of which may be written among those of a record, and so few that a byte counts
+-- them together with the record's.
 pub record IsFurther (es : List Entry) (list : List ℕ) : Type 0 where
   pub entries : AreInOrder es list
   pub others : AreOthers es
   pub few : rows + length es ≤ 256
   pub short : length list < 2 ^ 40
 
--- The words say a record that the side reads back, the list further entries, and the order one of all of them, or none.
+-- The words describe a record that the side reads back, the list has further entries, and the order is one of all of
+-- them, or empty.
 pub record CanList (side : ℕ) (words : CParams) (further order : List ℕ) (p : TransportParameters)
     (es : List Entry) : Type 0 where
   pub record_is : CanWriteParams side words p
   pub further_are : IsFurther es further
   pub order_is : IsOrderOf (rows + length es) (asked (rows + length es) order)
 
--- The list of a record with further entries stands at the front, and the side reads that record of it.
+-- The list of a record with further entries was written at the front, and the side reads that record from it.
 pub record WroteList (side : ℕ) (words : CParams) (further order old new : List ℕ) (count : ℕ) : Type 0 where
   pub params : TransportParameters
   pub es : List Entry

@@ -1,4 +1,4 @@
--- The parameters that words say, and what the call answers that writes them.
+-- The parameters that words describe, and the answers of the call that writes them.
 use Rattle.std.specs.Prelude.{◌≡◌, ℕ, ◌<◌, List, ◌++◌, length, drop, Ok, None, is_some}
 use Rattle.quic_base.specs.declared.ids.Side.{Side}
 use Rattle.quic_params.specs.Meaning.{IsReadAnswer}
@@ -18,7 +18,7 @@ pub record DescribesParams (words : CParams) (p : TransportParameters) : Type 0 
   pub no_grease : p.grease_transport_parameter ≡ None
   pub no_order : p.write_order ≡ None
 
--- The words say a record that the side reads back.
+-- The words describe a record that the side reads back.
 pub record CanWriteParams (side : ℕ) (words : CParams) (p : TransportParameters) : Type 0 where
   pub reader : Side
   pub is_side : IsSide side reader
@@ -26,7 +26,7 @@ pub record CanWriteParams (side : ℕ) (words : CParams) (p : TransportParameter
   pub in_range : IsRecordInRange reader p
   pub read_back : IsReadAnswer reader (written p) (Ok p)
 
--- The list of such a record stands at the front, with what stood behind it, and is counted.
+-- The list of such a record was written at the front, the bytes after it didn't change, and its length is given.
 pub record WroteParams (side : ℕ) (words : CParams) (old new : List ℕ) (count : ℕ) : Type 0 where
   pub params : TransportParameters
   pub can : CanWriteParams side words params
@@ -40,7 +40,7 @@ pub record ParamsNeedMore (side : ℕ) (words : CParams) (old : List ℕ) (neede
   pub count_is : needed ≡ length (written params)
   pub full : length old < needed
 
--- The words say no such record.
+-- The words describe no such record.
 abbrev pub DescribesNoParams : ℕ → CParams → Type 0
 DescribesNoParams side words = (p : TransportParameters) → CanWriteParams side words p → ⊥
 

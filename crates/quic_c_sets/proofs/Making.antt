@@ -21,7 +21,7 @@ drop_seam xs zs n e = ap (λ (k : ℕ). drop k (xs ++ zs)) e ∙ drop-append_sea
 pub moved_none : (old : List CRange) (at from to : ℕ) → to ≤ from → old ≡ copy_within old from to at
 moved_none old at from to le = let none : to - from ≡ 0 = omega (arith, le) in rw none (paste_none old at (drop from old))
 
--- the runs from `to` on were moved behind those that take the place of others, and these were written
+-- the runs from `to` on were moved after those that take the place of others, and these were written
 module _ (old ys new vs : List CRange) (before from to after : ℕ) (some : before ≤ length old) (ordered : from ≤ to) (within : to ≤ before)
     (count : after ≡ from + length vs + (before - to)) (room : after ≤ length old) (moved : ys ≡ copy_within old to before (from + length vs))
     (is : new ≡ take from ys ++ (vs ++ drop (from + length vs) ys)) where

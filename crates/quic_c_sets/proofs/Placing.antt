@@ -11,7 +11,7 @@ use Rattle.quic_ranges.proofs.PlacesLemmas.{ends_below-all, ends_below-others, e
 use Rattle.quic_c_sets.specs.declared.words.CRange.{CRange}
 use Rattle.quic_c_sets.specs.Sets.{range_of, runs_of}
 
--- what stands past the end
+-- what is past the end
 abbrev pub nowhere : CRange
 nowhere = record { start = 0; end = 0 }
 
@@ -23,7 +23,7 @@ many words = length-map words range_of
 
 -- ---- whether words are runs
 
--- the words are maximal runs just where those from a place on are, behind a run with this end
+-- the words are maximal runs just where those from a place on are, after a run with this end
 pub record LooksOn (words : List CRange) (end at : ℕ) : Type 0 where
   pub further : IsMaximalRuns (runs_of words) → RunsFrom (end + 1) (runs_of (drop at words))
   pub back : RunsFrom (end + 1) (runs_of (drop at words)) → IsMaximalRuns (runs_of words)

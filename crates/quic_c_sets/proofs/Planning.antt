@@ -32,7 +32,7 @@ plans test words s fits runs = record { fits = fits; runs = subst (BecomesRunsOf
 abbrev IsCovered : List (Range ℕ) → Range ℕ → ℕ → Range ℕ → Type 0
 IsCovered rs x at d = (at < length rs) × ((get_or rs at d).start ≤ x.start) × (x.end ≤ (get_or rs at d).end)
 
--- where a union with the range changes nothing, the range lies inside a run
+-- where a union with the range changes nothing, the range is inside a run
 same_covered : (rs : List (Range ℕ)) (x d : Range ℕ) → IsMaximalRuns rs → x.start < x.end → IsRunsOf (in_union rs x) rs → IsCovered rs x (ends_below rs x.start) d
 same_covered rs x d h lt same = covered 0 x.start x.end d rs h lt (λ y lo hi. inside y (member rs y) lo hi (same.1 y)) where
   inside : (y : ℕ) (m : Bool) → x.start ≤ y → y < x.end → m ≡ (m || in_range x y) → m ≡ true

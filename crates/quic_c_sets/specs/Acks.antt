@@ -1,4 +1,4 @@
--- ACKs of the sets that words say (RFC 9000, section 19.3).
+-- ACKs of the sets that words describe (RFC 9000, section 19.3).
 use Rattle.std.specs.Prelude.{◌≡◌, ℕ, ◌<◌, ◌^◌, ◌⊎◌, true, List, [], ◌∷◌, length, Option, Some, None}
 use Rattle.quic_ranges.specs.Runs.{member}
 use Rattle.quic_frame_fields.specs.declared.frame.ack.EcnCounts.{EcnCounts}

@@ -17,7 +17,7 @@ words_of (Two front back) = front ∷ back ∷ []
 abbrev pub after_change : List CRange → Splice → List CRange
 after_change words s = take s.from words ++ (words_of s.by ++ drop s.to words)
 
--- The change lies inside the runs, and leaves at most one more.
+-- The change is within the runs, and adds at most one.
 pub record FitsRoom (words : List CRange) (s : Splice) : Type 0 where
   pub ordered : s.from ≤ s.to
   pub within : s.to ≤ length words

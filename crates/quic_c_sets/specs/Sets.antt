@@ -1,4 +1,4 @@
--- Sets of packet numbers, as the words of a caller's array say them.
+-- Sets of packet numbers, as the words of a caller's array describe them.
 use Rattle.std.specs.Prelude.{◌≡◌, ℕ, ◌+◌, ◌≤◌, Bool, List, length, take, drop, map}
 use Rattle.std.specs.declared.ops.Range.{Range}
 use Rattle.quic_ranges.specs.Runs.{IsMaximalRuns, IsRunsOf}
@@ -9,7 +9,7 @@ use Rattle.quic_c_sets.specs.declared.words.CRange.{CRange}
 abbrev pub span : ℕ → ℕ → Range ℕ
 span start end = record { start = start; end = end }
 
--- the range that the words of a run say
+-- the range that the words of a run describe
 abbrev pub range_of : CRange → Range ℕ
 range_of words = record { start = words.start; end = words.end }
 
@@ -25,8 +25,8 @@ pub record IsSet (words : List CRange) (count : ℕ) : Type 0 where
   pub within : count ≤ length words
   pub maximal : IsMaximalRuns (first_runs count words)
 
--- The first words were a set, and now the first are the set of the numbers that pass the test, which is another; what
--- stands behind these stood there.
+-- The first words were a set, and now the first are the set of the numbers that pass the test, which is another; the
+-- words after these didn't change.
 pub record Becomes (test : ℕ → Bool) (old : List CRange) (before : ℕ) (new : List CRange) (after : ℕ) : Type 0 where
   pub set : IsSet old before
   pub runs : BecomesRunsOf test (first_runs before old) (first_runs after new)

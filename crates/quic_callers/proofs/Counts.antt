@@ -54,7 +54,7 @@ counted_stream payload state next frame s n m w f is then = record {
       (came_len f.found frame f.says ∙ ap (λ (x : Frame). data_len (meaning_of x).name (meaning_of x).values) is) then;
 }
 
--- nothing is left, and nothing was no frame: all data were counted
+-- nothing is left, and no frame was invalid: all data were counted
 pub all_counted : (payload : List ℕ) (start state : IterState) (n : ℕ) → start ≡ first_of false payload → IsCounted payload state n → left state ≡ [] → IsEither false None payload → GivesFrames false payload start
     → GivesBroken false payload start → (found : List TypedFrame) × AreFrames false found payload × (n ≡ min (streams_len found) most)
 all_counted payload start state n first w none either frames broken =

@@ -27,7 +27,7 @@ not_exhausted range some = by_flag (range_inclusive_exhausted range) some
     by_flag true some = absurd (omega (arith, some))
     by_flag false some = refl
 
--- a number that a range gave stood first in it
+-- a number that a range gave came first in it
 pub number_came : (old new : RangeInclusive ℕ) (x : ℕ) → x ≡ range_inclusive_start old → range_inclusive_left gap new + 1 ≡ range_inclusive_left gap old
     → (range_inclusive_exhausted new ≡ false → range_inclusive_start new ≡ range_inclusive_start old + 1) → left_in old ≡ x ∷ left_in new
 number_came old new x first fewer on =

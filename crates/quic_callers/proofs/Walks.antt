@@ -1,4 +1,4 @@
--- A walk over a payload, up to what is no frame.
+-- A walk over a payload, up to an invalid frame.
 use Rattle.std.proofs.Common.{◌≡◌, ◌≢◌, ℕ, List, [], ◌∷◌, ◌++◌, map, Bool, true, false, Option, None, Result, Err, refl, sym, ap, subst, ◌∙◌, length, inl, inr, arith}
 use Rattle.std.proofs.lemmas.List.{append-nil}
 use Rattle.std.specs.Prelude.{codes, IsTrue, MatchBool}
@@ -106,7 +106,7 @@ same_frames (first ∷ found) (other ∷ others) e =
     let same = same_frames found others rest in
     cc
 
--- nothing is left, and nothing was no frame: the frames that came are those of the payload
+-- nothing is left, and no frame was invalid: the frames that came are those of the payload
 pub those_frames : (payload : List ℕ) (start state : IterState) → start ≡ first_of false payload → (w : IsOnTheWay payload state) → left state ≡ [] → IsEither false None payload → GivesFrames false payload start
     → GivesBroken false payload start → AreFrames false w.found payload
 those_frames payload start state first w none either frames broken = by_case either
@@ -118,7 +118,7 @@ those_frames payload start state first w none either frames broken = by_case eit
     by_case (inl s) = subst (λ found. AreFrames false found payload) (same_frames s.0 w.found (sym (frames s.0 s.1) ∙ items)) s.1
     by_case (inr s) = no_error w.found s.0 (invalid s.1 s.2) (sym items ∙ broken s.0 s.1 s.2 s.3)
 
--- nothing is left, and nothing was no frame
+-- nothing is left, and no frame was invalid
 pub all_frames : (payload : List ℕ) (start state : IterState) → start ≡ first_of false payload → IsOnTheWay payload state → left state ≡ [] → IsEither false None payload → GivesBroken false payload start
     → (found : List TypedFrame) × AreFrames false found payload
 all_frames payload start state first w none either broken = by_case either

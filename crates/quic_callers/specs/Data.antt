@@ -10,7 +10,7 @@ abbrev pub bytes_len : Option (List ℕ) → ℕ
 bytes_len None = 0
 bytes_len (Some bytes) = length bytes
 
--- how many bytes of data stand last in a frame of this name, if that is STREAM
+-- how many bytes of data end a frame of this name, if that is STREAM
 abbrev pub data_len : Name → List Value → ℕ
 data_len Stream values = bytes_len (last_bytes None values)
 data_len name values = 0

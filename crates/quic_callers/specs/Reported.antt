@@ -1,4 +1,4 @@
--- What is reported of a payload that can't be read.
+-- The error of a payload that can't be read.
 use Rattle.std.specs.Prelude.{◌≡◌, ◌⊎◌, ℕ, List, [], Option, None, false, codes}
 use Rattle.quic_errors.specs.Codes.{IsError, IsErrorOf, protocol_violation}
 use Rattle.quic_errors.specs.declared.transport_error.Error.{Error}
@@ -7,16 +7,15 @@ use Rattle.quic_frame_fields.specs.Reading.{reason_text}
 use Rattle.quic_frame_fields.specs.declared.frame.fault.Fault.{Fault}
 use Rattle.quic_frame_fields.specs.declared.frame.fault.Fault.TheVariants.{UnexpectedEnd}
 
--- The payload has no frame, or it is frames and then something that isn't one, and the error tells its type and its
--- reason.
+-- The payload has no frame, or it is frames and then an invalid one, and the error has its type and the reason.
 abbrev pub IsReported : List ℕ → Error → Type 0
 IsReported payload error =
     ((payload ≡ []) × IsError error protocol_violation (codes "packet payload is empty"))
     ⊎ ((found : List TypedFrame) × (type : Option ℕ) × (reason : Fault) × IsBroken false None found payload type reason
     × IsErrorOf type (reason_text reason) error)
 
--- No error stands in the bytes that what follows couldn't mend: they are none, or frames, or frames and then
--- something that is cut off.
+-- More bytes may make the payload valid: there are none yet, or they are frames, or frames and then one that is cut
+-- off.
 abbrev pub MayGoOn : List ℕ → Type 0
 MayGoOn front =
     (front ≡ []) ⊎ ((found : List TypedFrame) × AreFrames false found front)

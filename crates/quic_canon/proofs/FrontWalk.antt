@@ -162,7 +162,7 @@ front_done payload front start state some (inl a) w none =
 front_done payload front start state some (inr b) w none =
     let r = w.walks.broken b.0 b.1 b.2 b.3 in absurd (not_empty r.0 (invalid b.1 b.2) (sym (ap (map unplaced) none) ∙ r.1))
 
--- something is no frame
+-- an invalid frame
 pub front_fails : (payload : List ℕ) (front start : ℕ) (state : IterState) (i : Invalid) → IsEither false None payload → FrontWalk payload front start state → left state ≡ Broken i ∷ []
     → (found : List TypedFrame) × (type : Option ℕ) × (reason : Fault) × IsBroken false None found payload type reason × (i ≡ invalid type reason)
 front_fails payload front start state i (inl a) w is =

@@ -14,7 +14,7 @@ use Rattle.quic_canon.proofs.Steps.{BeginsNone, OneShortest, small_at}
 abbrev EachPads : ℕ → IterState → Type 0
 EachPads count old = (k : ℕ) → k < count → Finds (behind k old) frames.Padding (behind (suc k) old)
 
--- the place behind one more
+-- the place after one more
 behind_at : (payload : List ℕ) (front start k : ℕ) (old : IterState) → FrontWalk payload front start old → start + suc k ≡ (behind (suc k) old).offset
 behind_at payload front start k old w = let is = w.walks.start_is in omega (arith, is)
 
@@ -29,7 +29,7 @@ all_grow payload start count (suc k) old begins one w each le =
     grows_to payload (start + k) (start + k) (start + suc k) (behind k old) (behind (suc k) old) frames.Padding true begins one refl so_far f at
     (one_byte _ (meaning_of frames.Padding) (start + suc k - (start + k)) (omega arith) small) refl
 
--- behind a frame that isn't, they change nothing
+-- after a frame that isn't, they change nothing
 all_stay : (payload : List ℕ) (front start count k : ℕ) (old : IterState) → front ≢ start → FrontWalk payload front start old → EachPads count old → k ≤ count → FrontWalk payload front (start + k) (behind k old)
 all_stay payload front start count zero old differs w each le = subst (λ (n : ℕ). FrontWalk payload front n old) (omega arith) w
 all_stay payload front start count (suc k) old differs w each le =
@@ -65,7 +65,7 @@ padding_kept old new payload from stop later count state next begins one w p at 
     let passed = subst (RewriteWalk old new payload from (stop + count)) (sym p.comes) (all_kept old new payload from stop count count state begins one w p.each (omega arith)) in
     subst (λ (n : ℕ). RewriteWalk old new payload from n next) (sym passed.walks.start_is ∙ sym at) passed
 
--- the place by another name, behind PADDING and where none is passed
+-- the place by another name, after PADDING and where none is passed
 pub passed_as : (old out : Vec ℕ Global) (payload : List ℕ) (from stop later count : ℕ) (state next there : IterState) → BeginsNone → OneShortest → RewriteWalk old out payload from stop state → PassesPadding state count next → there ≡ next → later ≡ there.offset → RewriteWalk old out payload from later there
 passed_as old out payload from stop later count state next there begins one w p is at =
     subst (RewriteWalk old out payload from later) (sym is) (padding_kept old out payload from stop later count state next begins one w p (at ∙ ap (λ (x : IterState). x.offset) is))

@@ -8,7 +8,7 @@ use Rattle.quic_canon.specs.declared.canonical.CanonError.{CanonError}
 use Rattle.quic_canon.specs.declared.canonical.CanonError.TheVariants.{Empty, Invalid, OutOfMemory}
 use Rattle.quic_canon.specs.Least.{IsLeast, HasMeaning}
 
--- The payload is refused: it is empty, or broken as the reading tells, or one that only lacks memory.
+-- The payload is refused: it is empty, or has this invalid frame, or is valid but memory ran out.
 abbrev pub IsRefused : List ℕ → CanonError → Type 0
 IsRefused payload Empty = payload ≡ []
 IsRefused payload (Invalid i) =
@@ -16,7 +16,7 @@ IsRefused payload (Invalid i) =
     × (invalid_of i ≡ invalid type reason)
 IsRefused payload OutOfMemory = (payload ≢ []) × (found : List TypedFrame) × AreFrames false found payload
 
--- It is refused for what it is, and not for want of memory.
+-- It is refused because it is empty or invalid, and not for want of memory.
 abbrev pub IsWrong : List ℕ → CanonError → Type 0
 IsWrong payload e = IsRefused payload e × (e ≢ OutOfMemory)
 

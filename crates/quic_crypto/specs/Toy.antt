@@ -7,7 +7,7 @@ use Rattle.quic_base.specs.Number.{bytes_of}
 abbrev pub toy_tag : ℕ → List ℕ
 toy_tag number = bytes_of 8 number ++ replicate 8 0
 
--- the payload, and behind it the tag
+-- the payload, and after it the tag
 abbrev pub toy_seal : ℕ → List ℕ → List ℕ
 toy_seal number payload = payload ++ toy_tag number
 

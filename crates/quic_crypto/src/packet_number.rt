@@ -138,8 +138,8 @@ impl PacketNumber {
     }
 }
 
-// The number with this low part among as many successive numbers as the window has, which begin half a window below
-// the expected one.
+// The number with this low part among as many successive numbers as the window has, which begin half a window, less
+// one, below the expected one, or at 0.
 fn nearest(low: u64, window: u64, expected: u64) -> u64
     requires residue { low < window }
     requires even { window % 2 ≡ 0 }

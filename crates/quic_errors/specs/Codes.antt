@@ -101,12 +101,12 @@ abbrev pub reason_bytes : Reason → List ℕ
 reason_bytes (Static text) = text.now
 reason_bytes (Owned text) = string_bytes text
 
--- a reason that takes no memory
+-- a reason that needs no allocation
 abbrev pub is_static : Reason → Bool
 is_static (Static text) = true
 is_static (Owned text) = false
 
--- `: REASON`, where it is nonempty
+-- `: REASON`, if it is nonempty
 abbrev pub after_colon : List ℕ → List ℕ
 after_colon text = if length text == 0 then [] else codes ": " ++ text
 
@@ -125,12 +125,11 @@ pub record IsSameCode (one other : Error) : Type 0 where
   pub frame_is : other.frame ≡ one.frame
   pub reason_is : reason_bytes other.reason ≡ reason_bytes one.reason
 
--- the reason that is reported of a type that is not in its shortest encoding, where only that counts
+-- the reason for a type that is not in its shortest encoding, where it must be
 abbrev pub long_type_reason : List ℕ
 long_type_reason = codes "frame type not in shortest form"
 
--- The error is what is reported of something that is no frame: by another code where only the encoding of its type is
--- wrong.
+-- The error is that of an invalid frame. It has another code if only the encoding of the type is wrong.
 pub record IsErrorOf (ty : Option ℕ) (reason : List ℕ) (error : Error) : Type 0 where
   pub long_is : reason ≡ long_type_reason → error.code ≡ protocol_violation
   pub other_is : reason ≢ long_type_reason → error.code ≡ frame_encoding_error

@@ -131,7 +131,7 @@ same_ack greatest delay greatest' delay' ranges ranges' counts counts' e =
 
 -- ---- runs that are put together in a chunk
 
--- what was written of all the bytes, what is held behind it, and the runs that are left below another one
+-- what was written of all the bytes, what is held after it, and the runs that are left below another one
 pub record HoldsRuns (all held : List ℕ) (above : Range ℕ) (left : List (Range ℕ)) (written : List ℕ) (spare : ℕ) (written' : List ℕ) (spare' : ℕ) : Type 0 where
   pub before : List ℕ
   pub wrote : Wrote before written spare written' spare'
@@ -154,7 +154,7 @@ pub next_held : (all held : List ℕ) (above run : Range ℕ) (runs left : List 
 unfolding as_written
 next_held all held above run runs left w w1 s s1 x e = next_run all above run runs left [] (x.before ++ held) 0 0 (as_written all held above left w w1 s s1 x) e
 
--- a beginning of what was held was appended, and the next run is written behind the rest
+-- a beginning of what was held was appended, and the next run is written after the rest
 pub holds_more : (all held held' : List ℕ) (above run : Range ℕ) (runs left : List (Range ℕ)) (w w1 w2 : List ℕ) (s s1 s2 : ℕ) → HoldsRuns all held above left w s w1 s1 → left ≡ runs ++ run ∷ []
     → (b : IsBegun w1 held w2) → KeepsRoom w1 s1 w2 s2 → held' ≡ b.left ++ shortest_varints (run_numbers above run) → HoldsRuns all held' run runs w s w2 s2
 holds_more all held held' above run runs left w w1 w2 s s1 s2 x e b room is =

@@ -26,7 +26,7 @@ blocks_stand bytes a b c ty largest delay blocks rest fits one two three four =
     let second : a ≡ (g ++ (i ++ t.count_bytes)) ++ (blocks ++ rest) = h ∙ ap (λ (l : List ℕ). g ++ l) third ∙ sym (append_assoc g (i ++ t.count_bytes) (blocks ++ rest)) in
     (f ++ (g ++ (i ++ t.count_bytes)), e ∙ ap (λ (l : List ℕ). f ++ l) second ∙ sym (append_assoc f (g ++ (i ++ t.count_bytes)) (blocks ++ rest))))))
 
--- of two ways to cut bytes, what stands in front of the longer rest begins what stands in front of the shorter
+-- of two ways to cut bytes, what is in front of the longer rest begins what is in front of the shorter
 front_of : (front left head rest : List ℕ) → front ++ left ≡ head ++ rest → length left ≤ length rest → front ≡ head ++ take (length rest - length left) rest
 front_of front left head rest e fewer =
     let back = take (length rest - length left) rest in
@@ -36,7 +36,7 @@ front_of front left head rest e fewer =
     let long : length (head ++ back) ≡ length front = omega (arith, length-append head back, length-take (length rest - length left) rest, sizes) in
     sym (take_at front left (length front) refl) ∙ ap (take (length front)) whole ∙ take_at (head ++ back) over (length front) long
 
--- the blocks that are read of a frame's bytes stand there
+-- the blocks that are read of a frame's bytes are there
 pub stand_in_frame : (type : ℕ) (ack : Ack) (bytes behind front left : List ℕ) → AreBytes bytes → varint_at bytes ≡ Ok (type, behind) → ReadsBlocks (parts_of ack) behind left → bytes ≡ front ++ left → BlocksStand type ack front
 stand_in_frame type ack bytes behind front left fits e r cut =
     let a = parts_of ack in

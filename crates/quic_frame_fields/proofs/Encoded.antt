@@ -26,7 +26,7 @@ after_fits rest n after fits e = let t = varint_takes rest n after fits e in bac
 pub drop_fits : (k : ℕ) (rest : List ℕ) → AreBytes rest → AreBytes (drop k rest)
 drop_fits k rest fits = back_bytes (take k rest) (drop k rest) (subst AreBytes (sym (take-append-drop k rest)) fits)
 
--- what is read behind the first bytes
+-- what is read after the first bytes
 pub read_behind : (k : ℕ) (rest : List ℕ) (r : Result (ℕ × List ℕ) Fault) → varint_at (slice_range rest k (length rest)) ≡ r → varint_at (drop k rest) ≡ r
 read_behind k rest r e = ap varint_at (sym (take_whole (drop k rest) (length rest - k) (omega (arith, length-drop k rest)))) ∙ e
 

@@ -47,7 +47,7 @@ short_step greatest n m rest one two le =
 
 -- ---- what the step says
 
--- What is known where a range stands first.
+-- What is known where a range comes first.
 pub record SplitsFirst (greatest : ℕ) (bytes : List ℕ) (least next : ℕ) (rest : List ℕ) : Type 0 where
   pub bound : least ≤ greatest
   pub shorter : length rest < length bytes

@@ -1,4 +1,4 @@
--- Bytes that are written one behind the other at the front of a slice.
+-- Bytes that are written one after the other at the front of a slice.
 use Rattle.std.proofs.Common.{◌≡◌, ℕ, ◌+◌, ◌<◌, ◌≤◌, List, [], ◌∷◌, ◌++◌, length, take, drop, Ok, Err, refl, sym, ap, subst, ◌∙◌, append_assoc, arith}
 use Rattle.std.proofs.lemmas.List.{length-append, length-take, append-nil, take-append-drop, drop-drop}
 use Rattle.quic_base.specs.Number.{AreBytes}

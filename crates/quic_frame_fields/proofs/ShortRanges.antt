@@ -12,7 +12,7 @@ use Rattle.quic_frame_fields.proofs.Gaps.{by_range, short_range}
 
 -- ---- ranges one after the other
 
--- so many ranges of one byte for each number stand at the front
+-- so many ranges of one byte for each number are at the front
 abbrev IsShort : ℕ → List ℕ → Type 0
 IsShort zero bytes = Unit {0}
 IsShort (suc r) [] = ⊥
@@ -237,7 +237,7 @@ four_read front word all eight fits in_word is none sums =
     let same : word % 2 ^ 64 ≡ word = omega (arith, in_word) in
     shorts_read front word all 4 64 eight fits is (λ i lt. rw none (bit_at-zero i)) (omega arith) (omega arith) (rw same sums)
 
--- and of which one is, where its lowest such bit stands at a place
+-- and of which one is, where its lowest such bit is at a place
 pub some_few : (word place : ℕ) → word < 2 ^ 64 → bit_and word 0xc0c0_c0c0_c0c0_c0c0 ≢ 0 → place ≡ trailing_zeros w64 (bit_and word 0xc0c0_c0c0_c0c0_c0c0) → place / 16 < 4
 some_few word place in_word some is =
     let wide = bit_and word 0xc0c0_c0c0_c0c0_c0c0 in

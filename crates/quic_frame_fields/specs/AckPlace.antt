@@ -1,4 +1,4 @@
--- Where the blocks of an ACK stand in the bytes of its frame (RFC 9000, section 19.3).
+-- Where the blocks of an ACK are in the bytes of its frame (RFC 9000, section 19.3).
 use Rattle.std.specs.Prelude.{◌≡◌, ◌≤◌, ℕ, ◌-◌, List, [], ◌∷◌, ◌++◌, length, Result, Ok, Err, ◌==◌, ◌||◌, if◌then◌else◌}
 use Rattle.quic_frame_fields.specs.declared.frame.ack.Ack.{Ack}
 use Rattle.quic_frame_fields.specs.Acks.{AckParts, parts_of, ranges_acked}
@@ -8,7 +8,7 @@ use Rattle.quic_frame_fields.specs.declared.frame.fault.Fault.TheVariants.{Inval
 use Rattle.quic_base.specs.Reading.{◌>>=◌}
 use Rattle.quic_frame_fields.specs.Reading.{varint_at, blocks_at}
 
--- The blocks of an ACK stand in the bytes of its frame: behind the type, the greatest number, the delay, and how many
+-- The blocks of an ACK are in the bytes of its frame: after the type, the greatest number, the delay, and how many
 -- ranges are below the first.
 pub record BlocksStand (type : ℕ) (ack : Ack) (bytes : List ℕ) : Type 0 where
   pub head : List ℕ
@@ -33,8 +33,8 @@ ack_at bytes = do
   type ← varint_at bytes
   if (type.0 == 2) || (type.0 == 3) then behind_ack_type type.1 else Err InvalidFrameId
 
--- These are the greatest number, the delay and the blocks that the bytes behind a type begin with; no more is left of
--- the bytes than follows the blocks.
+-- These are the greatest number, the delay and the blocks that the bytes after a type begin with; no more bytes remain
+-- than follow the blocks.
 pub record ReadsBlocks (a : AckParts) (bytes left : List ℕ) : Type 0 where
   pub behind_largest : List ℕ
   pub behind_delay : List ℕ

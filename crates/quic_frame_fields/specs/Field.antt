@@ -1,5 +1,4 @@
--- What stands between the bytes of a frame: kinds of fields, and the bytes that encode each (RFC 9000, sections 16 and
--- 19).
+-- The fields of frames: their kinds, and the bytes that encode each (RFC 9000, sections 16 and 19).
 use Rattle.std.specs.Prelude.{◌≡◌, ⊤, ℕ, zero, suc, ◌+◌, ◌-◌, ◌≤◌, ◌<◌, List, [], ◌∷◌, ◌++◌, length, nat_lt, nat_le, ◌==◌, ◌||◌, Bool, true, false, if◌then◌else◌, ◌⊎◌}
 use Rattle.quic_base.specs.Codec.{NoFront}
 use Rattle.quic_base.specs.Number.{IsNumber}
@@ -33,7 +32,7 @@ pub data Field : Type 0 where
   -- no bytes and no value: of the two numbers before, the second is at most the first
   Ordered : Field
 
--- a field that takes all that is left
+-- a field that takes all remaining bytes
 abbrev pub is_rest : Field → Bool
 is_rest Rest = true
 is_rest _ = false
@@ -62,7 +61,7 @@ AreBlocks greatest (range ∷ ranges) bytes =
     (block others : List ℕ) × (bytes ≡ block ++ others) × (range.1 ≡ greatest) × (range.0 ≤ range.1)
     × Encodes (range.1 - range.0) block × AreBelow range.0 ranges others
 
--- Each range stands below the one before it, and a number of neither is between them.
+-- Each range is below the one before it, and a number of neither is between them.
 abbrev pub AreApart : List (ℕ × ℕ) → Type 0
 AreApart [] = ⊤
 AreApart (range ∷ []) = range.0 ≤ range.1
@@ -85,16 +84,15 @@ IsField Rest before values bytes = values ≡ Bytes bytes ∷ []
 IsField (Implied n) before values bytes = (values ≡ Number n ∷ []) × (bytes ≡ [])
 IsField Ordered before values bytes = (values ≡ []) × (bytes ≡ []) × (is_ordered before ≡ true)
 
--- no front of the bytes is a number
+-- no prefix of the bytes encodes a number
 abbrev pub NoNumber : List ℕ → Type 0
 NoNumber bytes = (n : ℕ) → NoFront (Encodes n) bytes
 
--- A number stands first, and the rest is as P says.
+-- A number comes first, and P holds of it and the rest.
 abbrev pub Begins : List ℕ → (ℕ → List ℕ → Type 0) → Type 0
 Begins bytes P = (n : ℕ) × (front back : List ℕ) × (bytes ≡ front ++ back) × Encodes n front × P n back
 
--- A number can't be read: it is cut off, or one by which a bound would be negative, or what comes after it can't be
--- read.
+-- A number can't be read: it is cut off, or it would make a bound negative, or what comes after it can't be read.
 abbrev pub NumberStops : List ℕ → Fault → (ℕ → Bool) → (ℕ → List ℕ → Type 0) → Type 0
 NumberStops bytes reason is_large After =
     (NoNumber bytes × (reason ≡ UnexpectedEnd))
@@ -119,7 +117,7 @@ abbrev pub BlocksStop : ℕ → List ℕ → Fault → Type 0
 BlocksStop greatest bytes reason = NumberStops bytes reason (λ count. false)
     (λ count rest. RangesStop count greatest rest reason)
 
--- why a field can't be read where it stands
+-- why a field can't be read here
 abbrev pub reason_of : Field → List ℕ → Fault
 reason_of Ordered bytes = Malformed
 reason_of Id [] = UnexpectedEnd
@@ -130,7 +128,7 @@ abbrev pub IsReason : Field → List Value → List ℕ → Fault → Type 0
 IsReason Blocks before bytes reason = BlocksStop (greatest_of before) bytes reason
 IsReason field before bytes reason = reason ≡ reason_of field bytes
 
--- No front of the bytes encodes such a field.
+-- No prefix of the bytes encodes such a field.
 pub record Stops (field : Field) (before : List Value) (bytes : List ℕ) (reason : Fault) : Type 0 where
   pub no_front : (values : List Value) (front back : List ℕ) → bytes ≡ front ++ back → IsField field before values front
       → ⊥

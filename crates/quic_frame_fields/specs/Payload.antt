@@ -18,7 +18,7 @@ pub record TypedFrame : Type 0 where
   pub type : ℕ
   pub frame : Meaning
 
--- The bytes encode a type, where it is strict in no other width than the least.
+-- The bytes encode a type; if strict, in its shortest encoding.
 pub record IsType (strict : Bool) (t : ℕ) (bytes : List ℕ) : Type 0 where
   pub encoded : Encodes t bytes
   pub shortest : strict ≡ true → bytes ≡ shortest_varint t
@@ -50,7 +50,7 @@ abbrev pub AreClosed : List TypedFrame → Type 0
 AreClosed [] = Unit {0}
 AreClosed (found ∷ others) = (is_open found.type ≡ false) × AreClosed others
 
--- A type stands first, and the rest is as P says.
+-- A type comes first, and P holds of the rest.
 pub record BeginsWithType (strict : Bool) (bytes : List ℕ) (t : ℕ) (P : List ℕ → Type 0) : Type 0 where
   pub front : List ℕ
   pub back : List ℕ
@@ -63,7 +63,7 @@ pub record LacksType (bytes : List ℕ) : Type 0 where
   pub some : bytes ≢ []
   pub no_front : NoNumber bytes
 
--- or one in another width than the least, where that counts,
+-- or the type is not in its shortest encoding, if strict,
 pub record HasLongType (strict : Bool) (bytes : List ℕ) (t : ℕ) : Type 0 where
   pub counts : strict ≡ true
   pub front : List ℕ
@@ -81,7 +81,7 @@ abbrev pub HasBrokenField : Bool → List ℕ → ℕ → Fault → Type 0
 HasBrokenField strict bytes t reason = BeginsWithType strict bytes t
     (λ back. (r : Row) × (row_of t ≡ Some r) × StopsWithin r.fields [] back reason)
 
--- The type and the reason that are reported of what can't be read, where the last type before was the one given.
+-- The type and the reason of the error for bytes that can't be read, after a frame of the given type.
 abbrev pub IsNoFrame : Bool → Option ℕ → List ℕ → Option ℕ → Fault → Type 0
 IsNoFrame strict before bytes type reason =
     (LacksType bytes × (type ≡ before) × (reason ≡ UnexpectedEnd))
@@ -89,7 +89,7 @@ IsNoFrame strict before bytes type reason =
     ⊎ ((t : ℕ) × HasUnknownType strict bytes t × (type ≡ Some t) × (reason ≡ InvalidFrameId))
     ⊎ ((t : ℕ) × HasBrokenField strict bytes t reason × (type ≡ Some t))
 
--- The bytes are these frames, and then something that isn't a frame.
+-- The bytes are these frames, followed by an invalid one.
 pub record IsBroken (strict : Bool) (before : Option ℕ) (found : List TypedFrame) (bytes : List ℕ) (type : Option ℕ)
     (reason : Fault) : Type 0 where
   pub front : List ℕ
@@ -99,7 +99,7 @@ pub record IsBroken (strict : Bool) (before : Option ℕ) (found : List TypedFra
   pub closed : AreClosed found
   pub no_frame : IsNoFrame strict (last_type before found) back type reason
 
--- The bytes are frames, or frames and then something that isn't one.
+-- The bytes are frames, or frames followed by an invalid one.
 abbrev pub IsEither : Bool → Option ℕ → List ℕ → Type 0
 IsEither strict before bytes =
     ((found : List TypedFrame) × AreFrames strict found bytes)

@@ -1,4 +1,4 @@
--- Reading from left to right, as functions: what readers compute. The grammar stands in `Field`, `Table` and `Payload`.
+-- Reading from left to right, as functions: what readers compute. The grammar is in `Field`, `Table` and `Payload`.
 use Rattle.std.specs.Prelude.{◌≡◌, ℕ, zero, suc, ◌+◌, ◌-◌, List, [], ◌∷◌, ◌++◌, length, take, drop, Option, Some, None, Result, Ok, Err, Bool, nat_lt, ◌==◌, ◌||◌, ◌&&◌, not, if◌then◌else◌, codes}
 use Rattle.quic_base.specs.Number.{num}
 use Rattle.quic_base.specs.Varint.{size}
@@ -102,7 +102,7 @@ abbrev pub first_and : ℕ → Result (ℕ × List ℕ) Fault → List (ℕ × �
 first_and greatest (Ok x) = (x.0, greatest) ∷ ranges_below (length x.1) x.0 x.1
 first_and greatest (Err e) = []
 
--- the ranges that the blocks of an ACK with this greatest number stand for
+-- the ranges that the blocks of an ACK with this greatest number encode
 unfoldable pub ranges_of : ℕ → List ℕ → List (ℕ × ℕ)
 ranges_of greatest bytes = first_and greatest (block_at greatest bytes)
 
@@ -152,7 +152,7 @@ in_row (Some r) bytes = row_at r bytes
 unfoldable pub frame_at : ℕ → List ℕ → Result (Meaning × List ℕ) Fault
 frame_at t bytes = in_row (row_of t) bytes
 
--- what is reported of the bytes that can't be read
+-- why bytes can't be read: the type and the reason
 pub record Invalid : Type 0 where
   pub type : Option ℕ
   pub reason : List ℕ
@@ -183,7 +183,7 @@ at_type strict before total (Err e) = Err (invalid before e)
 unfoldable pub found_at : Bool → Option ℕ → List ℕ → Result (TypedFrame × List ℕ) Invalid
 found_at strict before bytes = at_type strict before (length bytes) (varint_at bytes)
 
--- what stands in a payload: a frame from one place to another, or what can't be read
+-- an item of a payload: a frame from one place to another, or the error
 pub data Item : Type 0 where
   Whole : (start stop : ℕ) → TypedFrame → Item
   Broken : Invalid → Item

@@ -45,7 +45,7 @@ IsAckInRange a = AreNumeric (a.largest ∷ a.delay ∷ []) × AreCounts a.ecn
 
 -- ---- what encoders write. No public clause cites what follows.
 
--- the type of an ACK, which tells whether counts are given
+-- the type of an ACK, by whether counts are given
 abbrev pub ack_type : Option EcnCounts → ℕ
 ack_type None = 0x02
 ack_type (Some counts) = 0x03

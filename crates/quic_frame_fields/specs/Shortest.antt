@@ -10,7 +10,7 @@ use Rattle.quic_errors.specs.Types.{type_or_zero}
 use Rattle.quic_frame_fields.specs.declared.frame.close.Close.{Close}
 use Rattle.quic_frame_fields.specs.declared.frame.close.Close.TheVariants as closes
 
--- the blocks of ranges below one with the least number low, and of all ranges of an ACK behind their count
+-- the blocks of ranges below one with the least number low, and of all ranges of an ACK after their count
 abbrev pub shortest_below : ℕ → List (ℕ × ℕ) → List ℕ
 shortest_below low [] = []
 shortest_below low (range ∷ ranges) = shortest_varint (low - (range.1 + 2))

@@ -212,6 +212,6 @@ abbrev pub is_open_row : Option Row → Bool
 is_open_row None = false
 is_open_row (Some r) = has_rest r.fields
 
--- a frame of this type takes all that is left
+-- a frame of this type takes all remaining bytes
 abbrev pub is_open : ℕ → Bool
 is_open t = is_open_row (row_of t)

@@ -67,7 +67,7 @@ is_long_again false t front s l = absurd (true_is_not_false (sym l.counts))
 is_long_again true t front s l =
     not_false (eqb (length front) (size t)) (λ h. l.long ((short_least t front s).1 (same_size (length front) (size t) h ∙ sym (length-short t))))
 
--- the width of what stands in front
+-- the width of what is in front
 front_width : (bytes front back : List ℕ) → bytes ≡ front ++ back → length bytes - length back ≡ length front
 front_width bytes front back e = omega (arith, ap length e, length-append front back)
 
@@ -179,7 +179,7 @@ found_again strict before found front back frame closed =
     let two = fields_again frame.row.fields [] found.frame.values frame.field_bytes back (row_is_well found.type frame.row frame.in_table) row_closed frame.fields in
     ap (found_at strict before) regrouped ∙ one ∙ rw (frame.in_table, two, ← frame.name) refl
 
--- ---- what is no frame
+-- ---- an invalid frame
 
 pub record Tells (strict : Bool) (before : Option ℕ) (bytes : List ℕ) (reported : Invalid) : Type 0 where
   pub type : Option ℕ

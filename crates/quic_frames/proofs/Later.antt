@@ -70,7 +70,7 @@ fields_last (field ∷ fields) before bytes more e fits known (inr s) =
     let parts : bytes ++ more ≡ s.1 ++ (s.2 ++ more) = ap (λ (l : List ℕ). l ++ more) s.3 ∙ append_assoc s.1 s.2 more in
     inr (s.0, s.1, s.2 ++ more, parts, s.4, fields_last fields (before ++ s.0) s.2 more e (back_bytes s.1 (s.2 ++ more) (subst AreBytes parts fits)) known s.5)
 
--- ---- what is no frame
+-- ---- an invalid frame
 
 begins_on : (strict : Bool) (bytes more : List ℕ) (t : ℕ) (P Q : List ℕ → Type 0) → AreBytes (bytes ++ more) → ((back : List ℕ) → AreBytes (back ++ more) → P back → Q (back ++ more)) → BeginsWithType strict bytes t P → BeginsWithType strict (bytes ++ more) t Q
 begins_on strict bytes more t P Q fits lasts u =

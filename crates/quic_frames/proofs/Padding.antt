@@ -26,7 +26,7 @@ pads strict payload offset last fits some byte =
     subst (λ (n : ℕ). Finds (at_place strict payload offset last) frames.Padding (at_place strict payload n (Some 0))) stop
     (finds strict payload offset last 0 frames.Padding (drop (suc offset) payload) (tt, tt) fits (omega arith) some (found_padding strict last (drop offset payload) (drop (suc offset) payload) front))
 
--- the place behind some of them, by its parts
+-- the place after some of them, by its parts
 pads_on : (strict : Bool) (payload : List ℕ) (offset k : ℕ) (last : Option ℕ) → AreBytes (drop offset payload) → offset + k < length payload → get_or payload (offset + k) 0 ≡ 0
     → Finds (behind k (at_place strict payload offset last)) frames.Padding (behind (suc k) (at_place strict payload offset last))
 pads_on strict payload offset zero last fits some byte =

@@ -1,4 +1,4 @@
--- Where frames stand in a payload, as an iterator comes over it.
+-- Where frames are in a payload, as an iterator comes over it.
 use Rattle.std.proofs.Common.{◌≡◌, ◌≢◌, ℕ, ◌+◌, ◌-◌, ◌<◌, ◌≤◌, Bool, true, false, eqb, List, [], ◌∷◌, ◌++◌, length, take, drop, Option, Some, None, Ok, Err, refl, sym, ap, subst, ◌∙◌, append_assoc, inl, inr, arith}
 use Rattle.std.specs.Prelude.{◌⊎◌, slice_range}
 use Rattle.std.proofs.lemmas.List.{append-nil, length-append, length-drop, length-take, take_at, take-append-drop, drop_at, take_rest}
@@ -152,7 +152,7 @@ rest_is payload offset = take_rest payload offset
 
 -- ---- steps of an iterator
 
--- the blocks of an ACK stand in the bytes that are read
+-- the blocks of an ACK are in the bytes that are read
 stand_as_read : (type : ℕ) (frame : Frame) (bytes front left : List ℕ) → AreBytes bytes → bytes ≡ front ++ left → HasItsBlocksBehind type frame bytes left → StandsAsRead type frame front
 stand_as_read type (frames.Ack a) bytes front left fits cut h = stand_in_frame type a bytes h.0 front left fits h.1 h.2 cut
 stand_as_read type frame bytes front left fits cut h = tt
@@ -193,7 +193,7 @@ finds strict payload offset last ty frame rest apart fits le some e =
       );
     }
 
--- something that is no frame
+-- an invalid frame
 pub breaks : (strict : Bool) (payload : List ℕ) (offset : ℕ) (last : Option ℕ) (i : Invalid) → offset < length payload → found_at strict last (drop offset payload) ≡ Err i → left (at_place strict payload offset last) ≡ Broken i ∷ []
 breaks strict payload offset last i some e =
     items_broken strict offset last (drop offset payload) i (λ h. absurd (omega (arith, ap length h, length-drop offset payload, some))) e

@@ -1,4 +1,4 @@
--- The frame at the front, as the functions that read it tell it.
+-- The frame at the front, as the reading functions give it.
 use Rattle.std.specs.Prelude.{◌≡◌, ⊤, ℕ, List, Result, Ok, Err, IfOk}
 use Rattle.quic_frames.specs.declared.frame.Frame.{Frame}
 use Rattle.quic_frames.specs.declared.frame.Frame.TheVariants as frames
@@ -21,15 +21,15 @@ abbrev pub HasItsBlocks : Frame → List ℕ → List ℕ → Type 0
 HasItsBlocks (frames.Ack a) bytes left = ReadsBlocks (parts_of a) bytes left
 HasItsBlocks frame bytes left = ⊤
 
--- What the reader of a frame's fields returned of these bytes is what reading gives, no type is given as 0, and an
--- ACK has its blocks as they stand.
+-- The reader of a frame's fields returned what reading these bytes gives, no frame type of a close is 0, and an ACK has
+-- the bytes of its blocks.
 abbrev pub GivesFrame : {R : Type 0} → (R → List ℕ) → List ℕ → Result (Frame × R) Fault
     → Result (Meaning × List ℕ) Fault → Type 0
 GivesFrame left bytes result read =
     Gives (λ x. (meaning_of x.0, left x.1)) result read × IfOk result (λ x. HasNoTypeZero x.0)
     × IfOk result (λ x. HasItsBlocks x.0 bytes (left x.1))
 
--- The same of a frame whose type stands in front of its fields.
+-- The same of a frame whose bytes begin with its type.
 abbrev pub HasItsBlocksBehind : ℕ → Frame → List ℕ → List ℕ → Type 0
 HasItsBlocksBehind type (frames.Ack a) bytes left = (behind : List ℕ) × (varint_at bytes ≡ Ok (type, behind))
     × ReadsBlocks (parts_of a) behind left

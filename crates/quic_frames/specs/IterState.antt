@@ -1,8 +1,8 @@
 -- What a clause sees of an iterator over a payload.
 use Rattle.std.specs.Prelude.{ℕ, List, Option, Bool}
 
--- whether a type counts in its shortest encoding alone, the payload, the end of the last whole frame, the last type
--- that was read, and whether something was no frame
+-- whether a type must be in its shortest encoding, the payload, the end of the last whole frame, the last type that was
+-- read, and whether an invalid frame was met
 pub record IterState : Type 0 where
   pub strict : Bool
   pub payload : List ℕ

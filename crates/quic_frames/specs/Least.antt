@@ -16,7 +16,7 @@ abbrev pub shortest_frames : List Meaning → List ℕ
 shortest_frames [] = []
 shortest_frames (frame ∷ frames) = shortest_frame (is_end frames) frame ++ shortest_frames frames
 
--- a frame without the type that it has where it stands, and with the one by which it is written
+-- a frame without the type that it has in a payload, and with the type by which it is written
 abbrev pub frame_in : TypedFrame → Meaning
 frame_in found = found.frame
 

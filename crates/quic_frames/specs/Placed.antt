@@ -18,8 +18,8 @@ found_in p = p.found
 abbrev pub whole : Placed → Item
 whole p = Whole p.start p.stop p.found
 
--- The bytes that begin at start are these frames, one after another, an open one last only; it is said whether a type
--- counts in its shortest encoding alone.
+-- The bytes that begin at start are these frames, one after another, an open one last only. The first argument says
+-- whether a type must be in its shortest encoding.
 abbrev pub ArePlaced : Bool → ℕ → List Placed → List ℕ → Type 0
 ArePlaced strict start [] bytes = bytes ≡ []
 ArePlaced strict start (p ∷ ps) bytes =

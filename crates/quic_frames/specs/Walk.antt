@@ -27,7 +27,7 @@ left state = if state.is_broken then []
 abbrev pub first_of : Bool → List ℕ → IterState
 first_of strict payload = record { strict = strict; payload = payload; offset = 0; last = None; is_broken = false }
 
--- at a later place, behind a frame of this type
+-- at a later place, after a frame of this type
 abbrev pub resumed : List ℕ → ℕ → Option ℕ → Bool → IterState
 resumed payload offset last strict = record
     { strict = strict; payload = payload; offset = offset; last = last; is_broken = false }
@@ -45,7 +45,7 @@ abbrev pub GivesFrames : Bool → List ℕ → IterState → Type 0
 GivesFrames strict payload state = (found : List TypedFrame) → AreFrames strict found payload
     → map unplaced (left state) ≡ map given found
 
--- or those before what is none, and then what is reported of that.
+-- or those before an invalid frame, and then the error of that.
 abbrev pub GivesBroken : Bool → List ℕ → IterState → Type 0
 GivesBroken strict payload state =
     (found : List TypedFrame) (type : Option ℕ) (reason : Fault) → IsBroken strict None found payload type reason
@@ -60,7 +60,7 @@ abbrev pub last_bytes : Option (List ℕ) → List Value → Option (List ℕ)
 last_bytes before [] = before
 last_bytes before (value ∷ values) = last_bytes (bytes_of_value value) values
 
--- The frame stands in the payload from start to stop, and where its last value is bytes, they end there too.
+-- The frame is in the payload from start to stop, and if its last value is bytes, they end there too.
 pub record Stands (strict : Bool) (payload : List ℕ) (start stop : ℕ) (found : TypedFrame) : Type 0 where
   pub some : start < stop
   pub within : stop ≤ length payload
@@ -68,7 +68,7 @@ pub record Stands (strict : Bool) (payload : List ℕ) (start stop : ℕ) (found
   pub borrowed : (bytes : List ℕ) → last_bytes None found.frame.values ≡ Some bytes
       → slice_range payload (stop - length bytes) stop ≡ bytes
 
--- The bytes of an ACK's blocks are those that stand in the bytes of its frame, which has this type.
+-- The bytes of an ACK's blocks are those in the bytes of its frame, which has this type.
 abbrev pub StandsAsRead : ℕ → Frame → List ℕ → Type 0
 StandsAsRead type (frames.Ack a) bytes = BlocksStand type a bytes
 StandsAsRead type frame bytes = ⊤

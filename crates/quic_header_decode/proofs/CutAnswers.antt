@@ -46,7 +46,7 @@ cut_positive context bytes h p q cut =
 abbrev too_short : Refusal
 too_short = Invalid (codes "packet too short to contain payload length")
 
--- what a header's length makes of the bytes behind it
+-- what a header's length makes of the bytes after it
 abbrev cut_behind : ProtectedHeader → Option ℕ → ℕ → ℕ → Result (ProtectedHeader × ℕ × ℕ) Refusal
 cut_behind h o whole left =
     cond (nat_lt left (unwrap_or o left)) (Err too_short) (Ok (h, whole - left, whole - left + unwrap_or o left))

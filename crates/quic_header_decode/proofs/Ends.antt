@@ -17,7 +17,7 @@ use Rattle.quic_header_decode.specs.Reading.{DecodeOptions, len_in, at_end, bad_
 use Rattle.quic_header_decode.proofs.Steps.{take_front, drop_front}
 use Rattle.quic_header_decode.proofs.Headers.{Ids, id_values, long_row, ids_of, of_ids, stops_behind_ids, version_is}
 
--- bytes are replaced behind a front and so many others
+-- bytes are replaced after a front and so many others
 replaced : (front rest other bytes : List ℕ) (q len : ℕ) → bytes ≡ front ++ rest → q ≡ length front + len → take q bytes ++ other ≡ front ++ (take len rest ++ other)
 replaced front rest other bytes q len split at =
     let kept : take (length front + len) (front ++ rest) ≡ front ++ take len rest =
@@ -72,7 +72,7 @@ shifted whole whole' first v count left left' n len d s values (head.Initial h) 
     let same : left ≡ left0 = cc in
     (count0, left', start, omega (arith, stop, moved, same), (let all : six v d s count left' n ≡ six h.version h.dst_cid h.src_cid count0 left' h.len = cc in all))
 
--- The bytes are a front and then rest, and other bytes behind that front leave the header as it is.
+-- The bytes are a front and then rest, and other bytes after that front leave the header as it is.
 record Moves (context : DecodeOptions) (fields : List HeaderField) (before : List HeaderValue) (whole first : ℕ) (bytes rest : List ℕ) (h : ProtectedHeader) : Type 0 where
   front : List ℕ
   split : bytes ≡ front ++ rest
@@ -204,7 +204,7 @@ text_size NoMemory = 1
 abbrev past_token : Refusal
 past_token = Invalid (codes "token out of bounds")
 
--- a refusal that bytes behind may change
+-- a refusal that bytes after it may change
 abbrev IsPlain : Refusal → Type 0
 IsPlain e = (e ≡ at_end) ⊎ (e ≡ bad_id) ⊎ (e ≡ past_token)
 

@@ -13,7 +13,7 @@ use Rattle.quic_base.proofs.PublicLaws as law
 use Rattle.quic_header_decode.specs.Fields.{byte_at, word_at, long_id_at}
 use Rattle.quic_header_decode.proofs.Steps.{chosen, none_some, some_same, pair_parts, option_cases, otherwise, taken, some_pair, take_front, drop_front, some_none}
 
--- no front of the bytes is an id behind its length
+-- no front of the bytes is an id after its length
 abbrev pub NoId : List ℕ → Type 0
 NoId bytes = (id : List ℕ) → NoFront (IsLongId id) bytes
 
@@ -121,7 +121,7 @@ id_again id rest short =
     otherwise (nat_lt 20 (length id) || nat_lt (length (id ++ rest)) (length id)) None (Some (take (length id) (id ++ rest), drop (length id) (id ++ rest))) (Some (id, rest)) test
     (some_pair (take (length id) (id ++ rest)) id (drop (length id) (id ++ rest)) rest (take-append_seam id rest) (drop-append_seam id rest))
 
--- what stands behind its length is an id
+-- what is after its length is an id
 is_long_id : (bytes id rest : List ℕ) → AreBytes bytes → length id ≤ 20 → bytes ≡ long_id id ++ rest → IsLongId id (long_id id)
 is_long_id bytes id rest fits short split = record { bytes = λ i. front_fits bytes (long_id id) rest fits split (suc i); short = short; value = refl }
 

@@ -22,7 +22,7 @@ use Rattle.quic_header_decode.proofs.Rows.{Taken, row_at, row_again, row_found, 
 
 -- ---- the parts of a long header
 
--- the text begins with a version and two ids, and left is behind them
+-- the text begins with a version and two ids, and left is after them
 pub record Ids (text : List ℕ) (version : ℕ) (dst src left : List ℕ) : Type 0 where
   pub word : List ℕ
   pub is_word : IsNumber 4 version word

@@ -31,7 +31,7 @@ pub record LongStart (context : DecodeOptions) (bytes : List ℕ) (first version
 pub fixed_set : (context : DecodeOptions) (first : ℕ) → first / 64 % 2 ≡ 1 → is_fixed context first ≡ true
 fixed_set context first is = or_right context.grease (has_bit 0x40 first) (grind (arith, nat_tests))
 
--- what stands behind the first byte
+-- what is after the first byte
 abbrev behind : ℕ → List ℕ → List ℕ → List ℕ → List ℕ
 behind version dst src rest = bytes_of 4 version ++ (long_id dst ++ (long_id src ++ rest))
 
@@ -61,7 +61,7 @@ made context whole bytes first version dst src left rest values h start others i
       is,
     )
 
--- the row of a type, behind a version that is known
+-- the row of a type, after a version that is known
 typed : (context : DecodeOptions) (first version : ℕ) (ty : LongHeaderType) → IsKnownVersion context version → long_type version first ≡ ty → row_behind_ids first version ≡ Supported version ∷ typed_row ty
 typed context first version ty known is =
     let other : version ≢ 0 = known.0 in

@@ -57,7 +57,7 @@ known_found versions version e = known_at versions version (not_false (list_any 
 
 -- ---- a field
 
--- the values of a field and what is left behind it
+-- the values of a field and what is left after it
 abbrev pub Taken : Type 0
 Taken = List HeaderValue × List ℕ
 
@@ -84,7 +84,7 @@ shown : (a c : List HeaderValue) (b d : List ℕ) → a ≡ c → b ≡ d → (l
 shown a c b d e f =
     ap (λ (x : List HeaderValue). let r : Result Taken Refusal = Ok (x, b) in r) e ∙ ap (λ (y : List ℕ). let r : Result Taken Refusal = Ok (c, y) in r) f
 
--- a field that stands first is read
+-- a field that comes first is read
 
 id_next_again : (values : List HeaderValue) (front rest id : List ℕ) → values ≡ Bytes id ∷ [] → length id ≤ 20 → front ≡ length id ∷ id → id_next (front ++ rest) ≡ Ok (values, rest)
 id_next_again values front rest id is short text =
@@ -112,7 +112,7 @@ field_again context Length before values front rest d =
 field_again context ShortId before values front rest d =
     then_ok _ _ (d.0, length front) _ d.2 (shown _ values _ rest (sym d.1) (drop_front front rest (length front) refl))
 
--- and a field that is read stands first
+-- and a field that is read comes first
 
 field_found : (context : DecodeOptions) (field : HeaderField) (before values : List HeaderValue) (bytes rest : List ℕ) → AreBytes bytes → (field ≡ ShortId → TakesWithin context)
     → field_at context field before bytes ≡ Ok (values, rest) → BeginsWithField context field before values bytes rest

@@ -6,7 +6,7 @@ use Rattle.std.proofs.lemmas.Bool.Decides.{nat_tests}
 use Rattle.quic_header_decode.specs.Fields.{wide_id_at}
 use Rattle.quic_header_decode.proofs.Steps.{otherwise, some_pair}
 
--- an id of any version stands behind its length
+-- an id of any version is after its length
 wide_parts : (tail : List ℕ) (n : ℕ) → n ≤ length tail → wide_id_at (n ∷ tail) ≡ Some (take n tail, drop n tail)
 wide_parts tail n room =
     let test : nat_lt (length tail) n ≡ false = grind (arith, nat_tests) in

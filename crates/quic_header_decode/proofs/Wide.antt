@@ -199,7 +199,7 @@ typed_reported kind.Initial whole dst src version bytes s d v e = elim (bind_err
   ]
 ]
 
--- the ids of an unknown version behind the first byte
+-- the ids of an unknown version after the first byte
 abbrev Behind : List ℕ → List ℕ → ℕ → List ℕ → List ℕ → Type 0
 Behind versions text version dst src =
     (number : List ℕ) × (rest : List ℕ) × (text ≡ number ++ (long_id dst ++ (long_id src ++ rest))) × IsNumber 4 version number × (version ≢ 0)

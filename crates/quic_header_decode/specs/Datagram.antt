@@ -24,7 +24,7 @@ pub data ArePackets (context : DecodeOptions) : ℕ → List ℕ → List Placed
   refused : (start : ℕ) (bytes : List ℕ) (e : Refusal) → Uncut context bytes e
       → ArePackets context start bytes [] (Some e)
 
--- The same, step by step: what was cut first goes before what comes of the rest.
+-- The same, step by step: the packet that was cut first, and then those of the rest.
 abbrev pub and_then : (ℕ → List ℕ → List PlacedPacket × Option Refusal) → ℕ → List ℕ
     → Result (ProtectedHeader × ℕ × ℕ) Refusal → List PlacedPacket × Option Refusal
 and_then others start bytes (Err e) = ([], Some e)

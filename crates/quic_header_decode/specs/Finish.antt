@@ -9,12 +9,12 @@ use Rattle.quic_header_decode.specs.Refusal.{Refusal, Invalid, NoMemory}
 abbrev pub sample_refusal : Refusal
 sample_refusal = Invalid (codes "packet too short to extract header protection sample")
 
--- the number that stands in a packet at a place, of as many bytes as the first byte says
+-- the number in a packet at a place, of as many bytes as the first byte says
 pub record IsNumberIn (number : PacketNumber) (at : ℕ) (packet : List ℕ) : Type 0 where
   pub size : number_size number ≡ number_len (slice_index packet 0)
   pub within : at + number_size number ≤ length packet
   pub text : NumberAt number (slice_range packet at (at + number_size number))
 
--- a refusal for want of a sample where there is none, else for want of memory
+-- the error: if the packet has no sample, that it has none, else want of memory
 abbrev pub IsUnfinished : Type 0 → Refusal → Type 0
 IsUnfinished has e = ((has → ⊥) × (e ≡ sample_refusal)) ⊎ (has × (e ≡ NoMemory))

@@ -1,4 +1,4 @@
--- Which bytes are the header of a packet, and why others are none (RFC 9000, section 17).
+-- Which bytes are the header of a packet, and why others aren't (RFC 9000, section 17).
 use Rattle.std.specs.Prelude.{◌≡◌, ◌≢◌, ℕ, ◌+◌, ◌/◌, ◌%◌, ◌<◌, ◌≤◌, ◌⊎◌, Bool, true, false, List, [], ◌∷◌, ◌++◌, length, take, Result, Some, Ok, Err, Contains, nat_le, ◌==◌, ◌||◌, if◌then◌else◌, MatchOption, codes}
 use Rattle.quic_base.specs.Number.{has_bit, IsNumber, num}
 use Rattle.quic_base.specs.Varint.{Encodes}
@@ -39,7 +39,7 @@ pub data HeaderField : Type 0 where
   -- as many bytes as the parser of ids takes, since their length is not written (section 17.3.1)
   ShortId : HeaderField
 
--- behind the ids: of Initial (section 17.2.2); of 0-RTT and Handshake (17.2.3, 17.2.4); of Retry (17.2.5)
+-- after the ids: of Initial (section 17.2.2); of 0-RTT and Handshake (17.2.3, 17.2.4); of Retry (17.2.5)
 abbrev pub typed_row : LongHeaderType → List HeaderField
 typed_row kind.Initial = TokenLength ∷ Token ∷ Length ∷ []
 typed_row (kind.Standard ty) = Length ∷ []
@@ -49,12 +49,12 @@ typed_row kind.Retry = []
 abbrev pub row_behind_ids : ℕ → ℕ → List HeaderField
 row_behind_ids first version = if version == 0 then [] else Supported version ∷ typed_row (long_type version first)
 
--- the version is what the four bytes behind the first one say (RFC 8999, section 5.1)
+-- the version is the number in the four bytes after the first one (RFC 8999, section 5.1)
 abbrev pub header_row_of : ℕ → ℕ → List HeaderField
 header_row_of first version =
     if is_long first then Version ∷ DestinationId ∷ SourceId ∷ row_behind_ids first version else ShortId ∷ []
 
--- ---- which bytes are a field, and why others are none
+-- ---- which bytes are a field, and why others aren't
 
 pub data HeaderValue : Type 0 where
   Number : ℕ → HeaderValue
@@ -70,7 +70,7 @@ IsId values bytes = (id : List ℕ) × (values ≡ Bytes id ∷ []) × (length i
 abbrev pub IsVarint : List HeaderValue → List ℕ → Type 0
 IsVarint values bytes = (n : ℕ) × (values ≡ Number n ∷ []) × Encodes n bytes
 
--- Behind fields with the values before, and in front of rest, the bytes are a field of this kind, with these values.
+-- After fields with the values before, and in front of rest, the bytes are a field of this kind, with these values.
 -- The value of a token is how many bytes follow it, which gives its place.
 abbrev pub IsHeaderField : DecodeOptions → HeaderField → List HeaderValue → List HeaderValue → List ℕ → List ℕ → Type 0
 IsHeaderField context Version before values bytes rest = (n : ℕ) × (values ≡ Number n ∷ []) × IsNumber 4 n bytes
@@ -98,7 +98,7 @@ abbrev pub IsRefusal : DecodeOptions → HeaderField → List HeaderValue → Li
 IsRefusal context ShortId before bytes e = context.parsed bytes ≡ Err e
 IsRefusal context field before bytes e = e ≡ refusal_at field before
 
--- ---- which bytes are a row, and why others are none
+-- ---- which bytes are a row, and why others aren't
 
 -- The bytes are such a field, and then rest.
 abbrev pub BeginsWithField : DecodeOptions → HeaderField → List HeaderValue → List HeaderValue → List ℕ → List ℕ → Type 0
@@ -143,7 +143,7 @@ IsHeader whole first values (head.Initial h) =
     (count left : ℕ) × (h.token_pos.start + count ≡ h.token_pos.end) × (h.token_pos.end + left ≡ whole)
     × (values ≡ Number h.version ∷ Bytes h.dst_cid ∷ Bytes h.src_cid ∷ Number count ∷ Number left ∷ Number h.len ∷ [])
 
--- The bytes begin with this header, and rest is left behind it.
+-- The bytes begin with this header, and rest follows it.
 abbrev pub HeaderAt : DecodeOptions → ℕ → List ℕ → ProtectedHeader → List ℕ → Type 0
 HeaderAt context whole bytes h rest =
     (first : ℕ) × (text : List ℕ) × (values : List HeaderValue) × (bytes ≡ first ∷ text)
@@ -158,7 +158,7 @@ Refused context (first ∷ text) e =
     ((is_fixed context first ≡ false) × (e ≡ Invalid (codes "fixed bit unset")))
     ⊎ ((is_fixed context first ≡ true) × StopsWithinRow context (header_row_of first (num (take 4 text))) [] text e)
 
--- a header and what is left behind it, or a refusal, is what the bytes begin with
+-- the bytes begin with this header, which these bytes follow, or are refused with this error
 abbrev pub HeaderAnswer : DecodeOptions → ℕ → List ℕ → Result (ProtectedHeader × List ℕ) Refusal → Type 0
 HeaderAnswer context whole bytes (Ok found) = HeaderAt context whole bytes found.0 found.1
 HeaderAnswer context whole bytes (Err e) = Refused context bytes e

@@ -35,7 +35,7 @@ without_number (head.Initial h) got = ⊥
 without_number (head.Long ty dst src len version) got = ⊥
 without_number (head.Short spin dst) got = ⊥
 
--- the header of an open packet, which ends behind the number where it has one
+-- the header of an open packet, which ends after the number if it has one
 abbrev pub IsOpenedBy : Bool → ProtectedHeader → ℕ → Header → List ℕ → ℕ → Type 0
 IsOpenedBy true h at header packet end =
     (number : PacketNumber) × IsNumberIn number at packet × with_number h number packet header

@@ -1,4 +1,4 @@
--- What places in bytes say: the header whose fields stand there, or a refusal.
+-- Headers as places in bytes: the header whose fields are at these places, or an error.
 use Rattle.std.specs.Prelude.{◌≡◌, ◌≢◌, ℕ, ◌+◌, ◌-◌, ◌/◌, ◌%◌, ◌<◌, ◌≤◌, List, ◌∷◌, ◌++◌, drop, length, true, Option, Some, None, Result, Ok, Err, Contains, slice_range, codes, nat_lt, nat_eq, if◌then◌else◌}
 use Rattle.quic_base.specs.ConnectionId.{long_id}
 use Rattle.quic_base.specs.Number.{IsNumber}
@@ -40,7 +40,7 @@ dst_place kind.VersionNegotiate = 6
 abbrev pub dst_part : List ℕ → HeaderPlaces → List ℕ
 dst_part bytes x = slice_range bytes (dst_place x.kind) (dst_place x.kind + x.dst_len)
 
--- the sender's, behind the receiver's and its own length
+-- the sender's, after the receiver's and its own length
 abbrev pub src_part : List ℕ → HeaderPlaces → List ℕ
 src_part bytes x = slice_range bytes (6 + x.dst_len + 1) (6 + x.dst_len + 1 + x.src_len)
 
@@ -87,7 +87,7 @@ ids_end x = 6 + x.dst_len + 1 + x.src_len
 abbrev pub IsNowhere : Place → Type 0
 IsNowhere place = (place.start ≡ 0) × (place.end ≡ 0)
 
--- Where the fields of a header stand. What a kind lacks is 0.
+-- Where the fields of a header are. Fields that a kind doesn't have are 0.
 abbrev pub ArePlaces : HeaderKind → HeaderPlaces → Type 0
 ArePlaces kind.Initial x = (ids_end x < x.token.start) × (x.token.start ≤ x.token.end) × (x.token.end < x.header_end)
 ArePlaces kind.ZeroRtt x = (ids_end x < x.header_end) × IsNowhere x.token
@@ -97,7 +97,7 @@ ArePlaces kind.Short x = (1 + x.dst_len ≡ x.header_end) × (x.src_len ≡ 0) �
     × (x.version ≡ 0)
 ArePlaces kind.VersionNegotiate x = (ids_end x ≡ x.header_end) × IsNowhere x.token × (x.len ≡ 0) × (x.version ≡ 0)
 
--- The fields stand in the header, and the header in as many bytes.
+-- The fields are within the header, and the header within so many bytes.
 pub record ArePlacesWithin (x : HeaderPlaces) (whole : ℕ) : Type 0 where
   pub fields : ArePlaces x.kind x
   pub dst_few : x.dst_len ≤ 20
@@ -117,7 +117,7 @@ pub record IsLongFront (x : HeaderPlaces) (whole : ℕ) : Type 0 where
   pub len : x.len ≡ 0
   pub head : x.header_end ≤ whole
 
--- the ids of an unknown version stand in as many bytes
+-- the ids of an unknown version are within so many bytes
 abbrev pub IsSeen : Result HeaderPlaces ReadError → ℕ → Type 0
 IsSeen (Ok x) whole = ArePlacesWithin x whole
 IsSeen (Err (error.UnsupportedVersion version dst_len src_len)) whole = (dst_len ≤ 255) × (src_len ≤ 255)
@@ -135,14 +135,13 @@ ends_at x whole =
 
 -- ---- which bytes these are
 
--- The bytes begin with a long header of any version, up to its ids (RFC 8999, section 5.1), and rest is left behind
--- them.
+-- The bytes begin with a long header of any version, up to its ids (RFC 8999, section 5.1), and rest follows them.
 abbrev pub AnyVersion : List ℕ → ℕ → List ℕ → List ℕ → List ℕ → Type 0
 AnyVersion bytes version dst src rest =
     (first : ℕ) × (number : List ℕ) × (bytes ≡ first ∷ (number ++ (long_id dst ++ (long_id src ++ rest))))
     × (is_long first ≡ true) × IsNumber 4 version number
 
--- They do, and the version is none that is known.
+-- They do, and the version isn't known.
 abbrev pub IsUnknownVersion : DecodeOptions → List ℕ → ℕ → List ℕ → List ℕ → Type 0
 IsUnknownVersion context bytes version dst src =
     (rest : List ℕ) × AnyVersion bytes version dst src rest × (version ≢ 0) × (Contains context.versions version → ⊥)

@@ -81,8 +81,7 @@ header_at context whole bytes = do
       then (context.parsed first.1 >>= λ id. Ok (head.Short (nat_eq (first.0 / 32 % 2) 1) id.0, drop id.1 first.1))
       else long_at context.versions whole first.0 first.1)
 
--- a header whose fixed bit isn't looked at, with ids of so many bytes in short ones, and in long ones as many as stand
--- there
+-- a header whose fixed bit isn't checked, with ids of so many bytes in short ones, and of any length in long ones
 unfoldable pub wide_header_at : ℕ → List ℕ → ℕ → List ℕ → Result (ProtectedHeader × List ℕ) Refusal
 wide_header_at id_len versions whole bytes = do
   first ← ok_or (byte_at bytes) at_end
@@ -127,7 +126,7 @@ token_end (head.Retry dst src version) = 0
 token_end (head.Short spin dst) = 0
 token_end (head.VersionNegotiate random dst src) = 0
 
--- a header that ends at this place takes its first byte, and its token lies in it
+-- a header that ends at this place has its first byte, and its token is within it
 pub record IsPlaced (h : ProtectedHeader) (at : ℕ) : Type 0 where
   pub after_first : 0 < at
   pub token_order : token_start h ≤ token_end h

@@ -1,4 +1,4 @@
--- Why a packet can't be read: an error without where its text lies in memory.
+-- Why a packet can't be read: an error without the place of its text in memory.
 use Rattle.std.specs.Prelude.{◌≡◌, ℕ, List, Result, Ok, Err}
 use Rattle.quic_header_decode.specs.declared.decode_error.PacketDecodeError.{PacketDecodeError}
 use Rattle.quic_header_decode.specs.declared.decode_error.PacketDecodeError.TheVariants as error

@@ -17,14 +17,14 @@ pub size_small : (n : ℕ) → n < 64 → size n ≡ 1
 unfolding size
 size_small n h = grind (arith, nat_tests)
 
--- what stands behind a place stays, where it stays behind an earlier one
+-- what is after a place stays, where it stays after an earlier one
 pub stays : (a b : ℕ) (new old : List ℕ) → drop a new ≡ drop a old → a ≤ b → drop b new ≡ drop b old
 stays a b new old e le =
     let at : a + (b - a) ≡ b = omega arith in
     ap (λ (i : ℕ). drop i new) (sym at) ∙ sym (drop-drop (b - a) a new) ∙ ap (drop (b - a)) e
     ∙ drop-drop (b - a) a old ∙ ap (λ (i : ℕ). drop i old) at
 
--- what was written over bytes, where nothing behind it changed
+-- what was written over bytes, where nothing after it changed
 pub stored_over : (at end : ℕ) (old new bytes : List ℕ) → take end new ≡ take at old ++ bytes → drop end new ≡ drop end old
     → new ≡ take at old ++ (bytes ++ drop end old)
 stored_over at end old new bytes front back =
@@ -57,7 +57,7 @@ both_ends k n at xs head once twice is enough covers within first last =
     ap (λ (i : ℕ). take i twice) place ∙ last ∙ ap (λ (ys : List ℕ). ys ++ drop m xs) front
     ∙ append_assoc (take at head) (take m xs) (drop m xs) ∙ ap (λ (ys : List ℕ). take at head ++ ys) (take-append-drop m xs)
 
--- a token that is written stands behind its length in one byte
+-- a token that is written is after its length in one byte
 pub token_stored : (n : ℕ) (token front stored : List ℕ) → n ≡ length token → n < 64 → stored ≡ front ++ n ∷ [] → stored ++ token ≡ front ++ (shortest_varint (length token) ++ token)
 token_stored n token front stored is small e =
     ap (λ (ys : List ℕ). ys ++ token) e ∙ append_assoc front (n ∷ []) token
@@ -67,7 +67,7 @@ pub no_token_stored : (n : ℕ) (token front stored : List ℕ) → n ≡ length
 no_token_stored n [] front stored is none e = sym (append-nil stored) ∙ token_stored n [] front stored is (omega (arith, none)) e
 no_token_stored n (x ∷ xs) front stored is none e = absurd (omega arith)
 
--- a header was written behind what stood, where zeros had been put, and what is behind the header goes
+-- a header was written over zeros that had been appended, and those that remain after the header are removed
 pub stored_behind : (n k all : ℕ) (old zeros both head post rest bytes : List ℕ) → n ≡ length old → both ≡ old ++ zeros → k ≤ length head → n + k ≤ all
     → take k head ≡ bytes → take (n + k) (take all ((take n both ++ (head ++ post)) ++ rest)) ≡ old ++ bytes
 stored_behind n k all old zeros both head post rest bytes is stood within fits front =

@@ -173,7 +173,7 @@ version_by head.VersionNegotiate version = 0
 abbrev pub version_said : {I : Type 0} → HeaderRef I → ℕ
 version_said said = version_by said.kind said.version
 
--- a token behind its length, which an Initial header has
+-- a token after its length, which an Initial header has
 abbrev pub token_by : HeaderKind → List ℕ → List ℕ
 token_by head.Initial token = shortest_varint (length token) ++ token
 token_by head.ZeroRtt token = []
@@ -185,7 +185,7 @@ token_by head.VersionNegotiate token = []
 abbrev pub token_bytes : {I : Type 0} → HeaderRef I → List ℕ
 token_bytes said = token_by said.kind said.token.now
 
--- a length that isn't said yet and a number, which Initial, 0-RTT and Handshake headers have at their end
+-- zeros for the length and a number, which Initial, 0-RTT and Handshake headers have at their end
 abbrev pub end_by : HeaderKind → ℕ → PacketNumber → List ℕ
 end_by head.Initial len number = replicate len 0 ++ number_bytes number
 end_by head.ZeroRtt len number = replicate len 0 ++ number_bytes number
@@ -216,7 +216,7 @@ pub record HasStoreRoom {I : Type 0} (id : I → List ℕ) (room : I → ℕ) (s
   pub dst : room_by said.kind 1 6 + room said.dst_cid ≤ size
   pub src : room_by said.kind 0 (7 + length (id said.dst_cid) + room said.src_cid) ≤ size
 
--- the ids are written with nothing behind them
+-- the ids are written with nothing after them
 pub record IsExact {I : Type 0} (id : I → List ℕ) (room : I → ℕ) (said : HeaderRef I) : Type 0 where
   pub dst : length (id said.dst_cid) ≡ room said.dst_cid
   pub src : length (id said.src_cid) ≡ room said.src_cid

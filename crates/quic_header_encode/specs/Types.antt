@@ -28,7 +28,7 @@ type_code kind.Retry = 1
 type_code (kind.Standard ZeroRtt) = 2
 type_code (kind.Standard Handshake) = 3
 
--- where a type stands in a table
+-- the place of a type in a table
 abbrev pub place_of : LongHeaderType → List LongHeaderType → ℕ
 place_of ty [] = 0
 place_of ty (k ∷ ks) = if nat_eq (type_code k) (type_code ty) then 0 else 1 + place_of ty ks

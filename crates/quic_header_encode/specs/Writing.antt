@@ -1,5 +1,5 @@
--- The bytes of headers, and what becomes of a packet once its payload stands behind its header (RFC 9000, section 17;
--- RFC 9001, sections 5.3 and 5.4).
+-- The bytes of headers, and a packet that is finished after its payload was appended to its header (RFC 9000, section
+-- 17; RFC 9001, sections 5.3 and 5.4).
 use Rattle.std.specs.Prelude.{◌≡◌, IsTrue, IsOk, OnOk, OnErr, Result, Vec, vec_len, vec_capacity, ◌≤◌, take, drop, ℕ, ◌+◌, ◌-◌, ◌<◌, ◌^◌, Bool, true, false, Option, Some, None, List, [], ◌∷◌, ◌++◌, length, bit_or, if◌then◌else◌}
 use Rattle.std.specs.declared.alloc.Global.{Global}
 use Rattle.quic_base.specs.declared.coding.NoRoom.{NoRoom}
@@ -26,7 +26,7 @@ no_length = 0 ∷ 0 ∷ []
 abbrev pub bit : Bool → ℕ → ℕ
 bit b n = if b then n else 0
 
--- what stands in a header before its length and its number
+-- the fields of a header before its length and its number
 abbrev pub header_front : Header → List ℕ
 header_front (header.Initial h) =
     long_front (long_first h.version kind.Initial (number_size h.number)) h.version h.dst_cid h.src_cid
@@ -120,8 +120,8 @@ sealed_packet header_len (Some key) bytes =
 abbrev pub finished : ℕ × Bool → ℕ → Option (ℕ × (List ℕ → List ℕ → List ℕ)) → List ℕ → List ℕ
 finished pn header_len key bytes = sealed_packet header_len key (with_length pn.0 pn.1 header_len bytes)
 
--- A packet of that size has room for its number behind the first byte, for the two bytes of its length where it has
--- one, which is below 2^14 then, for its header, and for the sample, which begins four bytes behind the number's place.
+-- A packet of that size has room for its number after the first byte; for the two bytes of its length if it has one,
+-- which is then below 2^14; for its header; and for the sample, which begins four bytes after the number's place.
 pub record HasRoom (pn_len : ℕ) (write_len : Bool) (header_len sample_len size : ℕ) : Type 0 where
   pub head : pn_len < header_len
   pub length_place : IsTrue write_len → pn_len + 2 ≤ header_len

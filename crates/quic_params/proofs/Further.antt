@@ -53,7 +53,7 @@ abbrev own : List ℕ → List ℕ
 own [] = []
 own (i ∷ os) = cond (nat_lt i rows) (i ∷ own os) (own os)
 
--- how often the parameter stands at an index, which may be that of a further entry
+-- how often the parameter is at an index, which may be that of a further entry
 abbrev own_at : TransportParameterId → ℕ → ℕ
 own_at id i = cond (nat_lt i rows) (is_at id i) 0
 

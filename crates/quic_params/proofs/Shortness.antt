@@ -45,7 +45,7 @@ same_power a b e = elim (cases_lt a b) [
   ]
 ]
 
--- bytes of a number, and nothing behind them
+-- bytes of a number, and nothing after them
 whole : (k x : ℕ) (b r : List ℕ) → Takes (IsNumber k x) b r → length b ≡ k → IsNumber k x b
 whole k x b r t l =
     let split : length b ≡ length t.front + length r = ap length t.split ∙ length-append t.front r in
@@ -82,7 +82,7 @@ pub never_width : (n : ℕ) (b : List ℕ) → length b ≢ 1 → length b ≢ 2
 unfolding size
 never_width n b a1 a2 a4 a8 e = let l : length b ≡ size n = ap length e ∙ length-short n in grind (arith, nat_tests)
 
--- what is reported of an encoding's number tells it of the bytes
+-- whether an encoding's number is shortest for its width says whether its bytes are the shortest
 pub by_width : (t x y : ℕ) (b r : List ℕ) (result : Option ℕ) → t < 4 → Takes (IsNumber (2 ^ t) x) b r → length b ≡ 2 ^ t → y ≡ x
     → MatchOption result ((n : ℕ) → y ≡ t * 2 ^ bits t + n → least t ≤ n → 2 ^ bits t ≤ n) (λ n. (y ≡ t * 2 ^ bits t + n) × (least t ≤ n) × (n < 2 ^ bits t))
     → MatchOption result ((n : ℕ) → n < 2 ^ 62 → b ≢ shortest_varint n) (λ n. (n < 2 ^ 62) × (b ≡ shortest_varint n))

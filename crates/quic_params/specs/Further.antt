@@ -50,7 +50,7 @@ abbrev pub upward : ℕ → ℕ → List ℕ
 upward k zero = []
 upward k (suc n) = k ∷ upward (suc k) n
 
--- the order that is asked for, or the pieces as they stand where none is
+-- the order that is asked for, or that of the pieces' indices if none is
 abbrev pub asked : ℕ → List ℕ → List ℕ
 asked count [] = upward 0 count
 asked count (i ∷ order) = i ∷ order

@@ -1,4 +1,4 @@
--- A range that goes into the last run, or behind it.
+-- A range that goes into the last run, or after it.
 use Rattle.std.proofs.Common.{◌≡◌, ℕ, Bool, ◌+◌, ◌-◌, ◌<◌, ◌≤◌, suc, List, [], ◌∷◌, ◌++◌, length, take, drop, set, get_or, refl, ap, sym, ◌∙◌, subst, arith}
 use Rattle.std.specs.declared.ops.Range.{Range}
 use Rattle.quic_ranges.specs.Runs.{IsMaximalRuns, IsRunsOf, in_union}
@@ -17,12 +17,12 @@ ends_below-whole (r ∷ rs) x d h below =
     let count : length (r ∷ rs) ≡ suc (length (r ∷ rs) - 1) = omega arith in
     count ∙ sym (ends_below-all 0 x (length (r ∷ rs) - 1) d (r ∷ rs) h count last)
 
--- what stands before all elements, and behind them
+-- what is before all elements, and after them
 whole : {X : Type 0} (xs : List X) (v : X) → take (length xs) xs ++ v ∷ drop (length xs) xs ≡ xs ++ v ∷ []
 whole [] v = refl
 whole (x ∷ xs) v = ap (λ l. x ∷ l) (whole xs v)
 
--- a range behind all runs becomes a run of its own
+-- a range after all runs becomes a run of its own
 pub BecomesRunsOf-behind : (rs : List (Range ℕ)) (x d : Range ℕ) → IsMaximalRuns rs → x.start < x.end → (0 < length rs → (get_or rs (length rs - 1) d).end < x.start)
     → BecomesRunsOf (in_union rs x) rs (rs ++ x ∷ [])
 BecomesRunsOf-behind rs x d h lt below =

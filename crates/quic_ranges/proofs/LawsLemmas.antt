@@ -9,7 +9,7 @@ use Rattle.quic_ranges.specs.Numbers.{count_from, numbers, numbers_of, AscendFro
 use Rattle.quic_ranges.proofs.RunsLemmas.{member-below}
 use Rattle.quic_ranges.proofs.PlacesLemmas.{run-at}
 
--- a later run starts behind the end of an earlier one
+-- a later run starts after the end of an earlier one
 pub apart : (n i j : ℕ) (d : Range ℕ) (rs : List (Range ℕ)) → RunsFrom n rs → i < j → j < length rs → (get_or rs i d).end < (get_or rs j d).start
 apart n i j d [] h lt in' = absurd (omega arith)
 apart n i zero d (r ∷ rs) h lt in' = absurd (omega arith)
@@ -61,7 +61,7 @@ AscendFrom-numbers_of n (r ∷ rs) h =
     AscendFrom-count n r.start (r.end - r.start) (numbers_of rs) h.0
     (let lt : r.start < r.end = h.1 in AscendFrom-lower (r.end + 1) (r.start + (r.end - r.start)) (numbers_of rs) (omega arith) (AscendFrom-numbers_of (r.end + 1) rs h.2))
 
--- a number is one of those in a row exactly if it lies between their bounds
+-- a number is one of those in a row exactly if it is between their bounds
 any_count : (a n y : ℕ) → list_any (λ x. nat_eq x y) (count_from a n) ≡ (leb a y && ltb y (a + n))
 any_count a zero y = none a y where
   none : (a y : ℕ) → false ≡ (leb a y && ltb y (a + 0))

@@ -57,7 +57,7 @@ subtracted-skip n g (r ∷ rs) gs h lt le =
     ∙ ap (λ m. outside m r.end gs ++ subtracted rs (g ∷ gs)) same
     ∙ ap (λ l. outside r.start r.end gs ++ l) (subtracted-skip (r.end + 1) g rs gs h.2 lt (omega arith))
 
--- what is left of a run, and of those behind it, once the next of the others is seen to end with the run or before
+-- what is left of a run, and of those after it, once the next of the others is seen to end with the run or before
 pub difference-spent : (left rest ss whole : List (Range ℕ)) (s e j : ℕ) (d : Range ℕ) → IsMaximalRuns ss → RunsFrom (e + 1) rest → j < length ss → (get_or ss j d).end ≤ e
     → left ++ (outside s e (drop j ss) ++ subtracted rest (drop j ss)) ≡ whole
     → (left ++ piece s (get_or ss j d).start) ++ (outside (max s (get_or ss j d).end) e (drop (j + 1) ss) ++ subtracted rest (drop (j + 1) ss)) ≡ whole
@@ -72,7 +72,7 @@ difference-spent left rest ss whole s e j d k h lt le is =
     ∙ ap (λ l. left ++ (outside s e l ++ subtracted rest l)) (sym (drop-at ss j d lt))
     ∙ is
 
--- where the others are at their end, or the next of them ends behind the run, one piece is left of it
+-- where the others are at their end, or the next of them ends after the run, one piece is left of it
 outside-last : (s e m j : ℕ) (d : Range ℕ) (ss : List (Range ℕ)) → (j < length ss → e < (get_or ss j d).end) → (j < length ss → m ≡ min e (get_or ss j d).start) → (length ss ≤ j → m ≡ e)
     → outside s e (drop j ss) ≡ piece s m
 outside-last s e m j d ss behind cut whole = elim (cases_lt j (length ss)) [
@@ -97,7 +97,7 @@ pub difference-start : (left rs ss whole : List (Range ℕ)) (i : ℕ) (d : Rang
     → left ++ (outside (get_or rs i d).start (get_or rs i d).end ss ++ subtracted (drop (i + 1) rs) ss) ≡ whole
 difference-start left rs ss whole i d lt is = ap (λ l. left ++ subtracted l ss) (sym (drop-at rs i d lt)) ∙ is
 
--- behind the last of the runs
+-- after the last of the runs
 pub difference-end : (left rs gs ss : List (Range ℕ)) (i : ℕ) → IsMaximalRuns rs → IsMaximalRuns ss → length rs ≤ i → left ++ subtracted (drop i rs) gs ≡ subtracted rs ss → IsRunsOf (in_subtraction rs ss) left
 difference-end left rs gs ss i h k le is =
     let all : left ≡ subtracted rs ss = sym (append-nil left) ∙ ap (λ l. left ++ subtracted l gs) (sym (drop-past rs i le)) ∙ is in

@@ -94,7 +94,7 @@ ends_below-all n x (suc k) d (r ∷ rs) h e lt =
     let q : r.end < x = omega arith in
     rw (lt-ltb r.end x q) (ap suc (ends_below-all (r.end + 1) x k d rs h.2 (omega arith) lt))
 
--- where x lies in the last run or at its end, the others do
+-- where x is in the last run or at its end, the others end below x
 pub ends_below-others : (n x k : ℕ) (d : Range ℕ) (rs : List (Range ℕ)) → RunsFrom n rs → length rs ≡ suc k → (get_or rs k d).start ≤ x → x ≤ (get_or rs k d).end → ends_below rs x ≡ k
 ends_below-others n x k d [] h e le le' = absurd (omega arith)
 ends_below-others n x zero d (r ∷ rs) h e le le' = rw (le-ltb r.end x le') refl
@@ -164,7 +164,7 @@ inserted-same n a b d (r ∷ rs) h lt =
 abbrev IsCovered : List (Range ℕ) → ℕ → ℕ → Range ℕ → Type 0
 IsCovered rs a b d = (ends_below rs a < length rs) × ((get_or rs (ends_below rs a) d).start ≤ a) × (b ≤ (get_or rs (ends_below rs a) d).end)
 
--- a range whose numbers are members lies inside a run
+-- a range whose numbers are members is inside a run
 pub covered : (n a b : ℕ) (d : Range ℕ) (rs : List (Range ℕ)) → RunsFrom n rs → a < b → ((y : ℕ) → a ≤ y → y < b → member rs y ≡ true) → IsCovered rs a b d
 covered n a b d [] h lt all = absurd (false≢true (all a (omega arith) lt))
 covered n a b d (r ∷ rs) h lt all =
@@ -233,7 +233,7 @@ starts_upto-above n (suc k) x d (r ∷ rs) h lt le =
     let ih : k < starts_upto rs x = starts_upto-above (r.end + 1) k x d rs h.2 (omega arith) le in
     rw (le-leb r.start x q) (omega arith)
 
--- where a union with the range changes nothing, the range lies inside a run
+-- where a union with the range changes nothing, the range is inside a run
 same_covered : (rs : List (Range ℕ)) (x d : Range ℕ) → IsMaximalRuns rs → x.start < x.end → IsRunsOf (in_union rs x) rs → IsCovered rs x.start x.end d
 same_covered rs x d h lt same = covered 0 x.start x.end d rs h lt (λ y lo hi. inside y (member rs y) lo hi (same.1 y)) where
   inside : (y : ℕ) (m : Bool) → x.start ≤ y → y < x.end → m ≡ (m || in_range x y) → m ≡ true

@@ -182,7 +182,7 @@ member-pieces x y (r ∷ rs) =
 pub IsRunsOf-pieces : (x : Range ℕ) (rs : List (Range ℕ)) → IsMaximalRuns rs → IsRunsOf (in_intersection rs x) (pieces rs x)
 IsRunsOf-pieces x rs h = (RunsFrom-pieces 0 x rs h, λ y. member-pieces x y rs)
 
--- the runs behind the first
+-- the runs after the first
 pub IsMaximalRuns-rest : (r : Range ℕ) (rs ss : List (Range ℕ)) → ss ≡ r ∷ rs → IsMaximalRuns ss → IsMaximalRuns rs
 IsMaximalRuns-rest r rs ss e h = let all : IsMaximalRuns (r ∷ rs) = subst IsMaximalRuns e h in RunsFrom-lower (r.end + 1) 0 rs (omega arith) all.2
 
@@ -228,6 +228,6 @@ greatest-from n r (s ∷ rs) h =
       most : (z : ℕ) (m : Bool) → s.end ≤ r.end - 1 → (m ≡ true → z ≤ r.end - 1) → (in_range s z || m) ≡ true → z ≤ r.end - 1
       most z m le later e = grind (arith, nat_tests)
 
--- the last run ends behind the greatest member
+-- the last run ends after the greatest member
 pub IsGreatest-last : (r : Range ℕ) (rs ss : List (Range ℕ)) → ss ≡ rs ++ r ∷ [] → IsMaximalRuns ss → (r.start < r.end) × IsGreatest ss (r.end - 1)
 IsGreatest-last r rs ss e h = let at = greatest-from 0 r rs (subst IsMaximalRuns e h) in (at.1, subst (λ l. IsGreatest l (r.end - 1)) (sym e) at.2)

@@ -42,7 +42,7 @@ behind [] zs v (suc t) g e le = absurd (omega arith)
 behind (x ∷ xs) zs v (suc t) zero e le = absurd (omega arith)
 behind (x ∷ xs) zs v (suc t) (suc g) e le = behind xs zs v t g (omega arith) (omega arith)
 
--- ys still has the elements before f, and behind g those that were from t on
+-- ys still has the elements before f, and after g those that were from t on
 pub record Holds {X : Type 0} (xs ys : List X) (f t g : ℕ) : Type 0 where
   pub before : take f ys ≡ take f xs
   pub after : drop g ys ≡ drop t xs
@@ -75,7 +75,7 @@ drop-both [] (suc k) t t' e le = absurd (omega arith)
 drop-both (x ∷ xs) (suc k) t zero e le = absurd (omega arith)
 drop-both (x ∷ xs) (suc k) t (suc t') e le = drop-both xs k t t' (omega arith) (omega arith)
 
--- the same of the elements behind the first k
+-- the same of the elements after the first k
 pub spliced-behind : {X : Type 0} (xs ys ws vs : List X) (k f t f' t' g : ℕ) → k ≤ length xs → f' ≡ k + f → t' ≡ k + t → Holds xs ys f' t' g → ws ≡ take f' ys ++ (vs ++ drop g ys)
     → drop k ws ≡ take f (drop k xs) ++ (vs ++ drop t (drop k xs))
 spliced-behind xs ys ws vs k f t f' t' g le ef et h e =

@@ -51,11 +51,11 @@ member-subtracted m y (r ∷ rs) ss k =
       both : (i m o : Bool) → ((i && not o) || (m && not o)) ≡ ((i || m) && not o)
       both i m o = grind (arith, nat_tests)
 
--- what lies outside are the runs of the difference
+-- what is outside are the runs of the difference
 pub IsRunsOf-subtracted : (rs ss : List (Range ℕ)) → IsMaximalRuns rs → IsMaximalRuns ss → IsRunsOf (in_subtraction rs ss) (subtracted rs ss)
 IsRunsOf-subtracted rs ss h k = (RunsFrom-subtracted 0 0 rs ss h k, λ y. member-subtracted 0 y rs ss k)
 
--- nothing of an empty range lies outside
+-- nothing of an empty range is outside
 pub outside-none : (s e : ℕ) (gs : List (Range ℕ)) → e ≤ s → outside s e gs ≡ []
 outside-none s e [] le = piece-empty s e le
 outside-none s e (g ∷ gs) le =
@@ -84,7 +84,7 @@ outside-touched n s e (g ∷ gs) h lt =
       | inr q ↦ let all : starts_upto (g ∷ gs) e - 0 ≡ starts_upto (g ∷ gs) e = omega arith in rw (le-ltb g.end s q, all) (outside-front n s e (g ∷ gs) h)
     ]
 
--- a range has no pieces in runs behind it
+-- a range has no pieces in runs after it
 pieces-beyond : (n : ℕ) (x : Range ℕ) (gs : List (Range ℕ)) → RunsFrom n gs → x.end ≤ n → pieces gs x ≡ []
 pieces-beyond n x [] h le = refl
 pieces-beyond n x (g ∷ gs) h le =

@@ -11,12 +11,12 @@ abbrev pub pieces : List (Range ℕ) → Range ℕ → List (Range ℕ)
 pieces [] x = []
 pieces (r ∷ rs) x = piece (max r.start x.start) (min x.end r.end) ++ pieces rs x
 
--- what of start..end lies outside the runs
+-- the parts of start..end outside the runs
 abbrev pub outside : ℕ → ℕ → List (Range ℕ) → List (Range ℕ)
 outside start end [] = piece start end
 outside start end (r ∷ rs) = piece start (min end r.start) ++ outside (max start r.end) end rs
 
--- what of the runs lies outside the others
+-- the parts of the runs outside the others
 abbrev pub subtracted : List (Range ℕ) → List (Range ℕ) → List (Range ℕ)
 subtracted [] others = []
 subtracted (r ∷ rs) others = outside r.start r.end others ++ subtracted rs others

@@ -2,11 +2,11 @@
 use Rattle.std.specs.Prelude.{◌≡◌, ℕ, ◌+◌, ◌<◌, ◌≤◌, Bool, true, false, ◌&&◌, ◌||◌, not, nat_lt, nat_le, List, [], ◌∷◌, ◌++◌}
 use Rattle.std.specs.declared.ops.Range.{Range}
 
--- y lies in the range; in none that is empty or reversed
+-- y is in the range; an empty or reversed range has no number
 abbrev pub in_range : Range ℕ → ℕ → Bool
 in_range r y = nat_le r.start y && nat_lt y r.end
 
--- y lies in one of the ranges
+-- y is in one of the ranges
 abbrev pub member : List (Range ℕ) → ℕ → Bool
 member [] y = false
 member (r ∷ rs) y = in_range r y || member rs y

@@ -18,7 +18,7 @@ substitutes (Two r s) = r ∷ s ∷ []
 abbrev pub after_splice : List (Range ℕ) → Splice → List (Range ℕ)
 after_splice rs s = take s.from rs ++ (substitutes s.by ++ drop s.to rs)
 
--- the splice lies inside the runs, and leaves at most one more
+-- the splice is within the runs, and adds at most one
 pub record Fits (rs : List (Range ℕ)) (s : Splice) : Type 0 where
   pub ordered : s.from ≤ s.to
   pub within : s.to ≤ length rs
@@ -35,7 +35,7 @@ pub record BecomesRunsOf (p : ℕ → Bool) (rs after : List (Range ℕ)) : Type
   pub runs : IsRunsOf p after
   pub differs : IsRunsOf p rs → ⊥
 
--- what became of x, which was to go into the last of the runs rs, and what they are then
+-- what became of x, which was tried on the last of the runs rs, and what the runs are then
 abbrev pub Extends : Extension → List (Range ℕ) → Range ℕ → List (Range ℕ) → Type 0
 Extends Kept rs x after = (after ≡ rs) × IsRunsOf (in_union rs x) rs
 Extends Grown rs x after = BecomesRunsOf (in_union rs x) rs after

@@ -265,7 +265,7 @@ impl Played for ArrayRangeSet {
     }
 }
 
-// A separator, where something stands before it.
+// A separator, if something comes before it.
 fn separate(text: &mut String, separator: &str) -> Result<(), AllocError> {
     if text.is_empty() {
         return Ok(());
@@ -273,7 +273,7 @@ fn separate(text: &mut String, separator: &str) -> Result<(), AllocError> {
     text.push_str(separator)
 }
 
-// One more run, behind those that are there.
+// One more run, after those that are there.
 fn push_run(text: &mut String, separator: &str, run: Range<u64>) -> Result<(), AllocError> {
     separate(text, separator)?;
     let Range { start, end } = run;

@@ -73,7 +73,7 @@ fn show_id(text: &mut String, alloc: Global, digits: &str) -> Result<(), Fail> {
     Ok(())
 }
 
-// An id behind its length, and what is left.
+// An id after its length, and what remains.
 fn show_long_id(text: &mut String, alloc: Global, bytes: &[u8]) -> Result<(), Fail> {
     let mut left = bytes;
     match ConnectionId::decode_long(&mut left) {
@@ -111,7 +111,7 @@ fn write_close(out: &mut Vec<u8>, close: &ConnectionClose<'_>) -> Result<(), Fai
     Ok(())
 }
 
-// An error, and the bytes of the close that says it.
+// An error, and the bytes of the close that reports it.
 fn show_error(text: &mut String, alloc: Global, error: &Error) -> Result<(), Fail> {
     write!(text, "{error} | close ")?;
     let mut out = Vec::new(alloc);
@@ -133,7 +133,7 @@ fn show_error_of(
     show_error(text, alloc, &error)
 }
 
-// What stands behind the third word of a line.
+// The rest of a line after its third word.
 fn reason_of(line: &str) -> Result<&str, Fail> {
     let mut left = line;
     for _ in 0..3 {

@@ -11,7 +11,7 @@ pub(crate) fn varint(word: &str) -> Result<VarInt, Fail> {
     Ok(VarInt::from_u64(word.parse()?)?)
 }
 
-// Bytes in hexadecimal; `-` is none.
+// Bytes in hexadecimal; `-` stands for none.
 pub(crate) fn bytes_of(alloc: Global, word: &str) -> Result<Vec<u8>, Fail> {
     let digits = if word == "-" { "" } else { word };
     Ok(hex::decode(alloc, digits.as_bytes())?)
@@ -35,7 +35,7 @@ pub(crate) fn numbered<T: Codec + Drop>(alloc: Global, word: &str) -> Result<T, 
     read(bytes.as_slice())
 }
 
-// A type of frames; `-` is none.
+// A type of frames; `-` stands for none.
 pub(crate) fn type_of(alloc: Global, word: &str) -> Result<Option<FrameType>, Fail> {
     if word == "-" {
         return Ok(None);
@@ -50,7 +50,7 @@ pub(crate) fn print_digits(rt: &HostRuntime, bytes: &[u8]) -> Result<(), Fail> {
     Ok(())
 }
 
-// The same with a size behind them.
+// The same with a size after them.
 pub(crate) fn print_sized(rt: &HostRuntime, bytes: &[u8], size: usize) -> Result<(), Fail> {
     let digits = hex::encode(rt.alloc(), bytes)?;
     println!(rt; "{digits} size {size}")?;

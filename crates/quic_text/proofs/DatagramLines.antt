@@ -117,7 +117,7 @@ waits_broken len start left old mid new text all fits h begun =
     let some = some_packets (with_ids_of len) start left fits (fixed_takes len) in
     beginning_passed old mid new text (lines some.0 some.1) _ all refl (h some.0 some.1 some.2) begun
 
--- and whether an `error` line stands among the lines that are left says it of all
+-- and whether an `error` line is among the lines that are left says it of all
 abbrev pub LeadsClean : DecodeOptions → ℕ → List ℕ → List Printed → Type 0
 LeadsClean context start bytes all = (ps : List PlacedPacket) (refusal : Option Refusal) → ArePackets context start bytes ps refusal → list_all is_plain (row_lines ps refusal) ≡ list_all is_plain all
 

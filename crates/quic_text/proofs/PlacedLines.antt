@@ -8,7 +8,7 @@ use Rattle.quic_frames.proofs.Placing.{placed_items, broken_items}
 use Rattle.quic_text.specs.Printed.{Printed}
 use Rattle.quic_text.specs.FrameText.{item_line, frame_lines}
 
--- the lines of items, one behind the other
+-- the lines of items, one after the other
 lines_of_whole : (ps : List Placed) (others : List Item) → map item_line (map whole ps ++ others) ≡ map (λ p. item_line (whole p)) ps ++ map item_line others
 lines_of_whole [] others = refl
 lines_of_whole (p ∷ ps) others = ap (λ (l : List Printed). item_line (whole p) ∷ l) (lines_of_whole ps others)

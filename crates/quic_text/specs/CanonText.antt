@@ -11,13 +11,13 @@ abbrev pub after_frame : Meaning → Result (List Meaning) Invalid → Result (L
 after_frame frame (Ok frames) = Ok (frame ∷ frames)
 after_frame frame (Err i) = Err i
 
--- the frames of items, or what is reported of the one that is none
+-- the frames of items, or the error of the invalid one
 abbrev pub frames_in : List Item → Result (List Meaning) Invalid
 frames_in [] = Ok []
 frames_in (Whole start stop found ∷ items) = after_frame found.frame (frames_in items)
 frames_in (Broken i ∷ items) = Err i
 
--- the digits of the shortest payload of frames, and the line of `frames` for what is none
+-- the digits of the shortest payload of frames, or the `error` line of `frames` for an invalid payload
 abbrev pub canon_line : Result (List Meaning) Invalid → Printed
 canon_line (Ok frames) = Plain (encode_lower (shortest_frames frames))
 canon_line (Err i) = item_line (Broken i)

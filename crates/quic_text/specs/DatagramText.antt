@@ -58,7 +58,7 @@ abbrev pub refusal_lines : Option Refusal → List Printed
 refusal_lines None = []
 refusal_lines (Some e) = Error (refusal_text e) ∷ []
 
--- a line for each packet, and an `error` line for what is refused behind them
+-- a line for each packet, and an `error` line if the rest is refused
 abbrev pub row_lines : List PlacedPacket → Option Refusal → List Printed
 row_lines packets refusal = map packet_line packets ++ refusal_lines refusal
 

@@ -10,7 +10,7 @@ use Rattle.quic_text.specs.Printed.{Printed, Plain, Error}
 abbrev pub frame_line : ℕ → ℕ → ℕ → Printed
 frame_line start stop ty = Plain (decimal start ++ codes ".." ++ decimal stop ++ codes " " ++ name_of ty)
 
--- the line of a frame, and an `error` line for what is none
+-- the line of a frame, and an `error` line for an invalid one
 abbrev pub item_line : Item → Printed
 item_line (Whole start stop found) = frame_line start stop (type_of found.frame)
 item_line (Broken i) = Error (i.reason ++ in_type i.type)
@@ -19,7 +19,7 @@ item_line (Broken i) = Error (i.reason ++ in_type i.type)
 abbrev pub empty_line : Printed
 empty_line = Error (codes "packet payload is empty")
 
--- what is printed for a payload by `frames`, and by `strict`, where a type counts in its shortest encoding alone
+-- what `frames` prints for a payload, and `strict`, where a type must be in its shortest encoding
 abbrev pub frame_lines : Bool → List ℕ → List Printed
 frame_lines strict [] = empty_line ∷ []
 frame_lines strict (byte ∷ bytes) = map item_line (items_of strict 0 None (byte ∷ bytes))

@@ -38,6 +38,6 @@ printed mode input = flat_map (line_lines mode) (lines_of input)
 abbrev pub text_of : Mode → List ℕ → List ℕ
 text_of mode input = flat_map shown (printed mode input)
 
--- whether no `error` line stands in it
+-- whether it has no `error` line
 abbrev pub is_clean : Mode → List ℕ → Bool
 is_clean mode input = list_all is_plain (printed mode input)

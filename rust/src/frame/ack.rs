@@ -54,7 +54,7 @@ pub struct Ack<'a> {
     largest: u64,
     delay: u64,
     ecn: Option<EcnCounts>,
-    // The frame as it stands in its payload.
+    // The frame as it is in its payload.
     bytes: &'a [u8],
 }
 
@@ -207,8 +207,8 @@ impl<'a> Ack<'a> {
     ///
     /// # Errors
     ///
-    /// Where there is no run, where they are no sorted runs (see [`crate::range_set`]), or where a number in them, the
-    /// delay or a count is 2^62 or more; or where there is too little room.
+    /// If there is no run, if they are no sorted runs (see [`crate::range_set`]), or if a number in them, the delay or
+    /// a count is 2^62 or more; or if there is too little room.
     pub fn encode<B: Buffer + ?Sized>(
         delay: u64,
         runs: &[Run],

@@ -39,8 +39,8 @@ pub enum Close<'a> {
 pub struct ConnectionClose<'a> {
     /// The error.
     pub error_code: Code,
-    /// The type of the frame that caused it, where it is known. That of PADDING, 0, is refused where it is written: it
-    /// says that none is known, and is read as `None`.
+    /// The type of the frame that caused it, if it is known. That of PADDING, 0, can't be written: it means that none
+    /// is known, and is read as `None`.
     pub frame_type: Option<FrameType>,
     /// The reason phrase, which should be text.
     pub reason: &'a [u8],

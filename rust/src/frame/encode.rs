@@ -9,7 +9,7 @@ use core::mem::MaybeUninit;
 pub(super) const NO_FRAME: sys::Frame =
     sys::Frame { kind: 0, ty: 0, flags: 0, begin: 0, end: 0, data: 0, datalen: 0, numbers: [0; 5] };
 
-// An id and a token, as they stand one behind the other.
+// An id, and the token after it.
 type IdAndToken = [u8; MAX_CID_SIZE + 16];
 
 impl<'a> Frame<'a> {
@@ -29,10 +29,9 @@ impl<'a> Frame<'a> {
     ///
     /// # Errors
     ///
-    /// Where no such frame can be written: a number is 2^62 or more, an id has no length that it may have,
-    /// `retire_prior_to` is above `sequence`, or a close names PADDING; or where there is too little room. Whether
-    /// data end below 2^62 and limits on streams are at most 2^60 isn't looked at, nor when they are read: that is
-    /// the connection's to judge.
+    /// If no such frame can be written: a number is 2^62 or more, an id has a forbidden length, `retire_prior_to` is
+    /// above `sequence`, or a close names PADDING; or if there is too little room. Whether data end below 2^62 and
+    /// limits on streams are at most 2^60 isn't tested, nor when they are read: that is the connection's to judge.
     #[inline]
     pub fn encode<B: Buffer + ?Sized>(&self, last: bool, out: &mut B) -> Result<usize, WriteError> {
         out.put(|room| self.write(last, room).map(|filled| (filled, filled.len())))

@@ -1,4 +1,4 @@
-//! Frames without their data, which the writer puts behind them from where it has them.
+//! Frames without their data, which the caller writes after them.
 use super::encode::NO_FRAME;
 use super::StreamId;
 use crate::buffer::Buffer;
@@ -21,7 +21,7 @@ use core::ops::Range;
 pub struct StreamMeta {
     /// The stream.
     pub id: StreamId,
-    /// Where in the stream the data stand, in bytes.
+    /// The range of the data's offsets in the stream, in bytes.
     pub offsets: Range<u64>,
     /// Whether the stream ends with them.
     pub fin: bool,
@@ -37,7 +37,7 @@ pub struct StreamMeta {
 /// ```
 #[derive(Clone, Debug, Default, PartialEq, Eq, Hash)]
 pub struct CryptoMeta {
-    /// Where in the handshake the data stand, in bytes.
+    /// The range of the data's offsets in the CRYPTO stream, in bytes.
     pub offsets: Range<u64>,
 }
 

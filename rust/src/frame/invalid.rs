@@ -1,4 +1,4 @@
-//! What is no frame.
+//! Invalid frames.
 use super::FrameType;
 use core::fmt;
 
@@ -19,7 +19,7 @@ impl fmt::Display for EmptyPayload {
 
 impl core::error::Error for EmptyPayload {}
 
-/// The first thing in a payload that is no frame (`FRAME_ENCODING_ERROR`; RFC 9000, section 12.4).
+/// The first invalid frame of a payload (`FRAME_ENCODING_ERROR`; RFC 9000, section 12.4).
 ///
 /// ```
 /// use quic_wire::frame::{FrameType, InvalidFrame, Iter, Reason};
@@ -30,13 +30,13 @@ impl core::error::Error for EmptyPayload {}
 /// ```
 #[derive(Clone, Copy, Debug, PartialEq, Eq, Hash)]
 pub struct InvalidFrame {
-    /// The last type that was read, the broken frame's own included.
+    /// The last type that was read, the invalid frame's own included.
     pub ty: Option<FrameType>,
-    /// Why it is none.
+    /// Why the frame is invalid.
     pub reason: Reason,
 }
 
-/// Why something is no frame.
+/// Why a frame is invalid.
 ///
 /// ```
 /// use quic_wire::frame::{Iter, Reason};
@@ -51,11 +51,12 @@ pub struct InvalidFrame {
 pub enum Reason {
     /// A byte is missing.
     UnexpectedEnd,
-    /// The type is none of those that are read here.
+    /// The type is unknown.
     InvalidFrameId,
-    /// A field has a value that it may not have.
+    /// A field has a forbidden value.
     Malformed,
-    /// The type is not in its shortest encoding, which strict iterators alone tell ([`Iter::strict`](super::Iter::strict)).
+    /// The type is not in its shortest encoding; only strict iterators reject it
+    /// ([`Iter::strict`](super::Iter::strict)).
     LongType,
 }
 

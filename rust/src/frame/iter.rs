@@ -11,8 +11,8 @@ use core::iter::FusedIterator;
 use core::mem::MaybeUninit;
 use core::ops::Range;
 
-/// The frames of a payload, and then one [`InvalidFrame`] where something is none. A run of PADDING is a frame for each
-/// type, mostly a byte. It is 48 bytes; [`Iter::fill`] reads many frames with one call.
+/// The frames of a payload, and then one [`InvalidFrame`] if the rest isn't a valid frame. A run of PADDING is a frame
+/// for each type, mostly a byte. It is 48 bytes; [`Iter::fill`] reads many frames with one call.
 ///
 /// ```
 /// use quic_wire::frame::{Frame, Iter};
@@ -48,8 +48,8 @@ impl<'a> Iter<'a> {
         Iter::begin(payload, false)
     }
 
-    /// The same, where a type in another encoding than its shortest is no frame (RFC 9000, section 12.4). Other fields
-    /// may have any width.
+    /// The same, but a type that is not in its shortest encoding is an error (RFC 9000, section 12.4). Other fields may
+    /// have any width.
     ///
     /// ```
     /// use quic_wire::frame::{Frame, Iter, Reason};
@@ -95,8 +95,8 @@ impl<'a> Iter<'a> {
         Iter { basic: true, ..self }
     }
 
-    /// Goes on at a place in a payload, behind a frame of the type `last_type`: for an owner of the payload that can't
-    /// keep what borrows it, and keeps [`Iter::offset`] and [`Iter::last_type`]. None where the place is past the end.
+    /// Goes on at a place in a payload, after a frame of the type `last_type`: for an owner of the payload that can't
+    /// keep a borrow of it, and keeps [`Iter::offset`] and [`Iter::last_type`]. `None` if the place is past the end.
     ///
     /// ```
     /// use quic_wire::frame::{Frame, Iter};
@@ -131,7 +131,7 @@ impl<'a> Iter<'a> {
         self.state.offset
     }
 
-    /// The type of the last whole frame as it stands in the payload, with all bits of a STREAM, an ACK or a DATAGRAM.
+    /// The type of the last whole frame as it is in the payload, with all bits of a STREAM, an ACK or a DATAGRAM.
     ///
     /// ```
     /// use quic_wire::frame::Iter;
@@ -159,8 +159,8 @@ impl<'a> Iter<'a> {
     }
 
     /// Reads the next frames with one call, as many as there are entries, which the caller keeps from payload to
-    /// payload. A run of PADDING is one of them. `None` where nothing is left; what is no frame is reported once,
-    /// behind the frames before it.
+    /// payload. A run of PADDING is one of them. `None` if no frame remains; an invalid frame is reported once,
+    /// after the frames before it.
     ///
     /// ```
     /// use quic_wire::frame::{Entry, Frame, Iter};
@@ -197,7 +197,7 @@ impl<'a> Iterator for Iter<'a> {
     #[inline(always)]
     fn next(&mut self) -> Option<Self::Item> {
         let first = *self.payload.get(self.state.offset)?;
-        // PADDING in its shortest encoding needs no call. What is no frame doesn't begin so.
+        // PADDING in its shortest encoding needs no call. An invalid frame doesn't begin so.
         if first == 0x00 {
             self.state.offset += 1;
             self.state.last_type = 0x00;

@@ -117,7 +117,8 @@ pub enum Frame<'a> {
 
 impl Frame<'_> {
     /// The type that names the frame: ACK also with counts, 0x30 of each DATAGRAM. That of a STREAM has the bit for the
-    /// offset where it isn't 0, and never the one for the length; [`Iter::last_type`] has it as it stands.
+    /// offset where it isn't 0, and never the one for the length; [`Iter::last_type`] has the type as it is in the
+    /// payload.
     ///
     /// ```
     /// use quic_wire::frame::{Frame, FrameType};
@@ -185,7 +186,7 @@ pub struct StopSending {
 /// ```
 #[derive(Clone, Copy, PartialEq, Eq, Hash)]
 pub struct Crypto<'a> {
-    /// Where they stand in it, in bytes.
+    /// The offset of the data in the CRYPTO stream, in bytes.
     pub offset: u64,
     /// The bytes, whose end should be below 2^62.
     pub data: &'a [u8],
@@ -217,7 +218,7 @@ pub struct NewToken<'a> {
 pub struct Stream<'a> {
     /// The stream.
     pub id: StreamId,
-    /// Where they stand in it, in bytes.
+    /// The offset of the data in the stream, in bytes.
     pub offset: u64,
     /// Whether it ends with them.
     pub fin: bool,

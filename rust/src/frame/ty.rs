@@ -87,7 +87,7 @@ impl FrameType {
     /// `0x30`, without a length; `0x31` is with one (RFC 9221, section 4).
     pub const DATAGRAM: FrameType = FrameType(0x30);
 
-    /// The type of this number. None where it is 2^62 or more.
+    /// The type of this number. `None` if it is 2^62 or more.
     ///
     /// ```
     /// use quic_wire::frame::FrameType;

@@ -41,8 +41,8 @@ impl<'v> How<'v> {
     }
 }
 
-/// The packets of a datagram, one after another, and then one error where no packet begins. An empty datagram is one of
-/// these. The versions may live shorter than what is read.
+/// The packets of a datagram, one after another, and then one error if the rest doesn't begin with a packet. An empty
+/// datagram gives such an error. The borrow of the versions may be shorter than that of the datagram.
 ///
 /// ```
 /// use quic_wire::packet::Packets;
@@ -60,9 +60,9 @@ pub struct Packets<'a, 'v> {
 }
 
 impl<'a, 'v> Packets<'a, 'v> {
-    /// Begins at the front of a datagram. Ids of short headers have `cid_len` bytes; `versions` are those that are read
-    /// further than their ids; with `grease` the fixed bit may be clear (RFC 9287). Without, a version negotiation is
-    /// refused too where it is clear, though section 17.2.1 of RFC 9000 has clients ignore it there.
+    /// Begins at the front of a datagram. Ids of short headers have `cid_len` bytes; of versions that are not among
+    /// `versions` only the ids are read; with `grease` the fixed bit may be clear (RFC 9287). Without, a version
+    /// negotiation is also refused if it is clear, though section 17.2.1 of RFC 9000 has clients ignore it there.
     ///
     /// ```
     /// use quic_wire::packet::{Packets, DEFAULT_SUPPORTED_VERSIONS};
@@ -147,7 +147,7 @@ impl<'a> PartialDecode<'a> {
         &self.head
     }
 
-    /// Where the packet stands in its datagram, by which its protection is taken off.
+    /// The place of the packet in its datagram, by which its protection is taken off.
     ///
     /// ```
     /// use quic_wire::packet::Packets;
@@ -159,12 +159,12 @@ impl<'a> PartialDecode<'a> {
     ///
     /// # Panics
     ///
-    /// Where the packet ends at 4 GiB of its datagram or behind.
+    /// If the packet ends at 4 GiB of its datagram or later.
     pub fn place(&self) -> PacketPlace {
         self.head.place(self.begin)
     }
 
-    /// What its header says.
+    /// The fields of its header.
     ///
     /// ```
     /// use quic_wire::packet::{Packets, ProtectedHeader};
@@ -197,7 +197,7 @@ impl fmt::Debug for PartialDecode<'_> {
     }
 }
 
-/// The packets of a datagram that is opened where it stands. Each owns its part of it, so they are opened in a loop.
+/// The packets of a datagram that is opened in place. Each owns its part of it, so they are opened in a loop.
 ///
 /// ```
 /// use quic_wire::packet::PacketsMut;

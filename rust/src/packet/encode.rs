@@ -7,7 +7,7 @@ use crate::text::{Hex, Hex32, Short};
 use crate::{varint, WriteError};
 use core::fmt;
 
-/// What the header of a packet says that is written.
+/// The header of a packet that is written.
 ///
 /// ```
 /// use quic_wire::packet::{Header, PacketNumber};
@@ -96,7 +96,7 @@ pub enum Header<'a> {
 pub struct PartialEncode {
     /// How many bytes the header has, its number among them.
     pub header_len: usize,
-    /// Where its number begins, which is its end where it has none.
+    /// Where its number begins, which is its end if it has none.
     pub number: usize,
     // How many bytes its length has.
     length: usize,
@@ -143,7 +143,7 @@ impl PartialEncode {
         }
     }
 
-    /// Where the packet stands that these bytes are, and its number.
+    /// The place of the packet that these bytes are, and of its number.
     ///
     /// ```
     /// use quic_wire::packet::{Header, PacketNumber};
@@ -178,7 +178,7 @@ impl Header<'_> {
     /// ```
     #[inline]
     pub fn encoded_len(&self) -> usize {
-        // Any length may stand in a `PacketNumber`, though only some are written.
+        // A `PacketNumber` may have any length, though only some are written.
         match *self {
             Header::Initial { dst_cid, src_cid, token, number, .. } => {
                 let size = varint::len(token.len() as u64).unwrap_or(8);
@@ -209,9 +209,9 @@ impl Header<'_> {
     ///
     /// # Errors
     ///
-    /// Where nobody would read it: ids of more than 20 bytes, a number of 2^62 or more or not in one to four bytes, a
-    /// long header of version 0; where `random` lacks 0x40, which [`Packets`](super::Packets) asks for unless packets
-    /// are greased; or where there is too little room.
+    /// If nobody would read it: ids of more than 20 bytes, a number of 2^62 or more or not in one to four bytes, a long
+    /// header of version 0; if `random` lacks 0x40, which [`Packets`](super::Packets) requires unless packets are
+    /// greased; or if there is too little room.
     // In line always, where the kind of the header is known.
     #[inline(always)]
     pub fn encode<B: Buffer + ?Sized>(&self, out: &mut B) -> Result<PartialEncode, WriteError> {

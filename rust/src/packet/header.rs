@@ -31,9 +31,9 @@ pub struct HeaderPlaces(sys::HeaderPlaces);
 /// ```
 #[derive(Clone, Copy, Debug, PartialEq, Eq, Hash)]
 pub enum HeaderError {
-    /// The version is none of those that were given. Its version and its ids are reported, of up to 255 bytes (RFC 8999).
+    /// The version isn't among those that were given. It is given with the ids, of up to 255 bytes (RFC 8999).
     UnsupportedVersion(HeaderPlaces),
-    /// The bytes end within the packet. All of its header is reported.
+    /// The bytes end within the packet. All of its header is given.
     CutOff(HeaderPlaces),
     /// No header can be read.
     InvalidHeader(&'static str),
@@ -69,9 +69,10 @@ const ONE_RTT: u8 = 4;
 const VERSION_NEGOTIATION: u8 = 5;
 
 impl HeaderPlaces {
-    /// Reads the header of the packet that bytes begin with. Ids of short headers have `cid_len` bytes; `versions` are
-    /// those that are read further than their ids. The fixed bit isn't looked at: see [`HeaderPlaces::fixed_bit`]. Ids of a
-    /// version negotiation that are longer than 20 bytes are reported by [`HeaderPlaces::read_version_negotiation`] alone.
+    /// Reads the header of the packet that bytes begin with. Ids of short headers have `cid_len` bytes; of versions
+    /// that are not among `versions` only the ids are read. The fixed bit isn't checked: see
+    /// [`HeaderPlaces::fixed_bit`]. Only [`HeaderPlaces::read_version_negotiation`] reads ids of a version negotiation
+    /// that are longer than 20 bytes.
     ///
     /// ```
     /// use quic_wire::packet::{HeaderPlaces, HeaderError};
@@ -84,7 +85,7 @@ impl HeaderPlaces {
     ///
     /// # Errors
     ///
-    /// Where no header can be read, or its packet isn't whole or of another version; then what was read is reported.
+    /// If no header can be read, or its packet isn't whole or of another version; the fields that were read are given.
     ///
     /// # Panics
     ///
@@ -99,8 +100,8 @@ impl HeaderPlaces {
     }
 
     /// Where the short header ends that a packet begins with, whose id has `cid_len` bytes: where its number begins. It
-    /// is what [`HeaderPlaces::read`] tells of such a packet as [`HeaderPlaces::header_end`], with fewer instructions; `None` where no
-    /// short header begins there.
+    /// equals [`HeaderPlaces::header_end`] of [`HeaderPlaces::read`], with fewer instructions; `None` if no short
+    /// header begins there.
     ///
     /// ```
     /// use quic_wire::packet::HeaderPlaces;
@@ -118,9 +119,9 @@ impl HeaderPlaces {
     }
 
     /// Reads the header of the version negotiation that a packet is. Its ids are those of the packet that it answers,
-    /// which may be of any version, so they have up to 255 bytes (RFC 8999, section 6). [`HeaderPlaces::read`] tells the same
-    /// where both have at most 20, and refuses longer ones. `None` where no version negotiation begins there, or where
-    /// there are 4 GiB or more. The fixed bit isn't looked at.
+    /// which may be of any version, so they have up to 255 bytes (RFC 8999, section 6). [`HeaderPlaces::read`] gives
+    /// the same if both have at most 20, and refuses longer ones. `None` if no version negotiation begins there, or if
+    /// there are 4 GiB or more. The fixed bit isn't checked.
     ///
     /// ```
     /// use quic_wire::packet::{HeaderPlaces, VersionNegotiation};
@@ -156,7 +157,7 @@ impl HeaderPlaces {
         })
     }
 
-    /// The first byte as it stands.
+    /// The first byte, before protection is taken off.
     ///
     /// ```
     /// use quic_wire::packet::HeaderPlaces;
@@ -265,7 +266,7 @@ impl HeaderPlaces {
         &packet[start..start + usize::from(self.0.scidlen)]
     }
 
-    /// Where the token of an Initial packet stands in it; an empty range in others.
+    /// The place of an Initial packet's token in the packet; an empty range for others.
     ///
     /// ```
     /// use quic_wire::packet::HeaderPlaces;
@@ -299,7 +300,7 @@ impl HeaderPlaces {
     }
 
     /// The token of a Retry and the 16 bytes of its integrity tag (RFC 9000, section 17.2.5; RFC 9001, section 5.8).
-    /// None of another packet, and where it is too short.
+    /// `None` for another packet, and if it is too short.
     ///
     /// ```
     /// use quic_wire::packet::HeaderPlaces;
@@ -330,7 +331,8 @@ impl HeaderPlaces {
         Versions(if named { packet.get(self.header_end()..self.end()).unwrap_or_default() } else { &[] })
     }
 
-    /// How many bytes an Initial, Handshake or 0-RTT packet has from [`HeaderPlaces::header_end`] on, as it says; 0 of others.
+    /// The length in the header of an Initial, Handshake or 0-RTT packet: how many bytes it has from
+    /// [`HeaderPlaces::header_end`] on; 0 for others.
     ///
     /// ```
     /// use quic_wire::packet::HeaderPlaces;
@@ -344,7 +346,7 @@ impl HeaderPlaces {
         self.0.len
     }
 
-    /// Where the packet ends in its bytes; where they end, if it is cut off.
+    /// Where the packet ends in its bytes, or where they end if it is cut off.
     ///
     /// ```
     /// use quic_wire::packet::HeaderPlaces;
@@ -358,7 +360,7 @@ impl HeaderPlaces {
         self.0.end as usize
     }
 
-    /// Where the header ends; where the number begins, if the packet has one.
+    /// Where the header ends: if the packet has a number, where that begins.
     ///
     /// ```
     /// use quic_wire::packet::HeaderPlaces;
@@ -372,7 +374,8 @@ impl HeaderPlaces {
         self.0.header_end as usize
     }
 
-    /// Where the packet stands that begins at a place of its datagram. One without a number has no room for protection.
+    /// The place of the packet, which begins at a place of its datagram. One without a number has no room for
+    /// protection.
     ///
     /// ```
     /// use quic_wire::packet::HeaderPlaces;
@@ -384,7 +387,7 @@ impl HeaderPlaces {
     ///
     /// # Panics
     ///
-    /// Where the packet would end at 4 GiB or behind.
+    /// If the packet would end at 4 GiB or later.
     #[inline]
     pub fn place(&self, begin: usize) -> PacketPlace {
         let number = if self.is_protected() { self.header_end() } else { self.end() };

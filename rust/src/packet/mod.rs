@@ -1,7 +1,7 @@
 //! The packets of a datagram (RFC 9000, sections 12.2 and 17), and the protection of their headers (RFC 9001, section
 //! 5.4).
 //!
-//! A datagram is opened where it stands, packet by packet. The cipher is the caller's: it makes a mask of a sample.
+//! A datagram is opened in place, packet by packet. The cipher is the caller's: it makes a mask of a sample.
 //!
 //! ```
 //! use quic_wire::packet::{Header, LongType, PacketNumber, PacketsMut};
@@ -68,7 +68,7 @@ pub enum LongType {
     ZeroRtt,
 }
 
-/// What a header says before its protection is taken off.
+/// The fields of a header, before its protection is taken off.
 ///
 /// ```
 /// use quic_wire::packet::{HeaderPlaces, ProtectedHeader};
@@ -84,9 +84,9 @@ pub enum ProtectedHeader<'a> {
         dst_cid: &'a [u8],
         /// The sender's id.
         src_cid: &'a [u8],
-        /// Where the token stands in the packet.
+        /// The place of the token in the packet.
         token_pos: Range<usize>,
-        /// How many bytes the packet has behind its header, the number's bytes among them.
+        /// How many bytes the packet has after its header, including those of the packet number.
         len: u64,
         /// The version of QUIC.
         version: u32,
@@ -99,7 +99,7 @@ pub enum ProtectedHeader<'a> {
         dst_cid: &'a [u8],
         /// The sender's id.
         src_cid: &'a [u8],
-        /// How many bytes the packet has behind its header, the number's bytes among them.
+        /// How many bytes the packet has after its header, including those of the packet number.
         len: u64,
         /// The version of QUIC.
         version: u32,
@@ -190,7 +190,7 @@ impl fmt::Debug for ProtectedHeader<'_> {
 /// ```
 #[derive(Clone, Copy, PartialEq, Eq, Hash)]
 pub enum PacketDecodeError<'a> {
-    /// The version is none of those that were given (RFC 9000, section 6.1). The ids may have up to 255 bytes.
+    /// The version isn't among those that were given (RFC 9000, section 6.1). The ids may have up to 255 bytes.
     UnsupportedVersion {
         /// The sender's id.
         src_cid: &'a [u8],
@@ -199,7 +199,7 @@ pub enum PacketDecodeError<'a> {
         /// The version.
         version: u32,
     },
-    /// The header can't be read, or its length lies beyond the end.
+    /// The header can't be read, or its length goes beyond the end.
     InvalidHeader(&'static str),
 }
 

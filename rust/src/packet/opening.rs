@@ -1,9 +1,9 @@
-//! A packet that is opened where it stands (RFC 9001, section 5.4).
+//! A packet that is opened in place (RFC 9001, section 5.4).
 use super::{HeaderPlaces, Opened, ProtectedHeader, UnprotectError};
 use crate::text::Short;
 use core::fmt;
 
-/// A packet of a datagram that is opened where it stands.
+/// A packet of a datagram that is opened in place.
 ///
 /// ```
 /// use quic_wire::packet::PacketsMut;
@@ -49,7 +49,7 @@ impl<'a> PacketMut<'a> {
         &self.head
     }
 
-    /// What its header says.
+    /// The fields of its header.
     ///
     /// ```
     /// use quic_wire::packet::{PacketsMut, ProtectedHeader};
@@ -90,8 +90,8 @@ impl<'a> PacketMut<'a> {
         self.packet
     }
 
-    /// Takes the protection off its header by the mask that is made of a sample of so many bytes, and says its number
-    /// by the one that is expected next.
+    /// Takes the protection off its header by the mask that is made of a sample of so many bytes, and gives its number,
+    /// expanded by the one that is expected next.
     ///
     /// ```
     /// use quic_wire::packet::PacketsMut;
@@ -169,14 +169,14 @@ pub struct Packet<'a> {
     /// The header with the number, which the AEAD authenticates. Where fewer bytes are put in its place, what reads the
     /// header panics.
     pub header_data: &'a [u8],
-    /// The payload with its tag, to be opened where it stands.
+    /// The payload with its tag, to be opened in place.
     pub payload: &'a mut [u8],
     head: HeaderPlaces,
     opened: Opened,
 }
 
 impl<'a> Packet<'a> {
-    /// What its header says that was never under protection.
+    /// The fields of its header that were never under protection.
     ///
     /// ```
     /// use quic_wire::packet::{PacketsMut, ProtectedHeader};

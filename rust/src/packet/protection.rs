@@ -4,7 +4,7 @@ use crate::{sys, varint, WriteError};
 use core::fmt;
 use core::ops::Range;
 
-/// Where a packet and its number stand in its datagram: 12 bytes that borrow nothing.
+/// Where a packet and its number are in its datagram: 12 bytes that borrow nothing.
 ///
 /// ```
 /// use quic_wire::packet::{Packets, UnprotectError};
@@ -56,7 +56,7 @@ impl fmt::Display for UnprotectError {
 
 impl core::error::Error for UnprotectError {}
 
-/// A packet number, and what stands in a header once its protection is off.
+/// A packet number, and the fields of a header that are readable once its protection is off.
 ///
 /// ```
 /// use quic_wire::packet::Opened;
@@ -105,13 +105,13 @@ impl PacketPlace {
     ///
     /// ```
     /// use quic_wire::packet::PacketPlace;
-    /// // A packet of 100 bytes behind another one, whose header has 9 bytes before its number.
+    /// // A packet of 100 bytes after another one, whose header has 9 bytes before its number.
     /// assert_eq!(PacketPlace::new(50..150, 59).number(), 59);
     /// ```
     ///
     /// # Panics
     ///
-    /// Where the number doesn't begin in the packet, or the packet ends at 4 GiB or behind.
+    /// If the number doesn't begin in the packet, or the packet ends at 4 GiB or later.
     #[inline]
     pub fn new(packet: Range<usize>, number: usize) -> Self {
         assert!(packet.start <= number && number <= packet.end, "a packet's number begins in it");
@@ -174,8 +174,8 @@ impl PacketPlace {
         packet.get(start..start.saturating_add(len)).ok_or(UnprotectError::TooShort)
     }
 
-    /// Takes the protection off the packet's header by a mask (RFC 9001, section 5.4.1), and says its number by the one
-    /// that is expected next (RFC 9000, appendix A.3); with 0 it is what is written.
+    /// Takes the protection off the packet's header by a mask (RFC 9001, section 5.4.1), and gives its number, expanded
+    /// by the one that is expected next (RFC 9000, appendix A.3); with 0 it is the truncated number.
     ///
     /// ```
     /// use quic_wire::packet::PacketPlace;
@@ -282,7 +282,7 @@ impl PacketPlace {
         }
         let (sample, first, number) = self.parts(packet, sample_len).ok_or(UnprotectError::TooShort)?;
         take_off(sample, first, number);
-        // By a mask of zeros what stands there now is read.
+        // By a mask of zeros the number is read as it is now.
         self.open(packet, &[0; 5], expected)
     }
 

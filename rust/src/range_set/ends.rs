@@ -3,7 +3,7 @@
 use super::Run;
 use core::ops::Range;
 
-// How numbers come to a set that begin in its last run or behind it.
+// How numbers are put into a set that begin in its last run or after it.
 pub(super) enum AtEnd {
     // They are there, or none.
     Kept,

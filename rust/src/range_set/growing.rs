@@ -5,8 +5,8 @@ use alloc::vec::Vec;
 use core::ops::Range;
 use core::{fmt, hash};
 
-/// A set of packet numbers in any number of runs, of which up to `N` stand in the set itself and more in memory that it
-/// takes. Who keeps a set that a peer makes bounds it, by [`GrowingRangeSet::pop_min`] or as an
+/// A set of packet numbers in any number of runs: up to `N` are in the set itself, more in memory that it allocates. A
+/// set that a peer fills should be bounded, by [`GrowingRangeSet::pop_min`] or as an
 /// [`ArrayRangeSet`](super::ArrayRangeSet).
 ///
 /// ```
@@ -29,7 +29,7 @@ enum Runs<const N: usize> {
 }
 
 impl<const N: usize> GrowingRangeSet<N> {
-    /// The empty set, which takes no memory.
+    /// The empty set, which allocates no memory.
     ///
     /// ```
     /// use quic_wire::range_set::GrowingRangeSet;
@@ -137,7 +137,7 @@ impl<const N: usize> GrowingRangeSet<N> {
         }
     }
 
-    // Puts a run behind the others.
+    // Appends a run.
     #[inline]
     fn push(&mut self, run: Run) {
         match &mut self.0 {
@@ -316,7 +316,7 @@ impl<const N: usize> GrowingRangeSet<N> {
 }
 
 impl<const N: usize> Clone for GrowingRangeSet<N> {
-    // Few runs stand in the copy itself, wherever they stood before.
+    // Few runs are in the copy itself, wherever they were before.
     #[inline]
     fn clone(&self) -> Self {
         let (from, mut runs) = (self.runs(), [Run::default(); N]);

@@ -5,7 +5,7 @@
 //! reads only the bytes and items that a pointer and the length beside it name, writes only where the header says so,
 //! keeps no pointer, takes no memory, calls nothing back, and refuses all other words by an answer. It is machine code
 //! behind a C interface, so it may be given room that isn't initialised: it has no way to tell, and what it answers
-//! doesn't depend on what stood there.
+//! doesn't depend on the room's contents.
 mod c;
 #[cfg(test)]
 mod c_alone;
@@ -22,7 +22,7 @@ compile_error!("quic_wire is for machines whose pointers and lengths have 64 bit
 /// Room for bytes, initialised or not.
 pub type Room = [MaybeUninit<u8>];
 
-/// So many bytes stand at the front of the room that a call was given. Only this module makes one from nothing.
+/// How many bytes at the front of the room that a call was given are written. Only this module makes one from nothing.
 #[derive(Clone, Copy, Debug)]
 pub struct Filled(usize);
 
@@ -36,7 +36,7 @@ impl Filled {
         self.0
     }
 
-    /// Both, where the second call was given the room behind the bytes of the first.
+    /// Both, if the second call was given the room after the bytes of the first.
     #[inline]
     pub fn then(self, behind: Filled) -> Filled {
         Filled(self.0 + behind.0)
@@ -95,7 +95,7 @@ pub fn frames_fill(frames: &mut Frames, payload: &[u8], basic: bool, out: &mut [
     }
 }
 
-/// Reads one frame into its room: `ITEM` with it, `MALFORMED` with what is reported of it, or 0. With `basic`
+/// Reads one frame into its room: `ITEM` with it, `MALFORMED` with its type and the reason, or 0. With `basic`
 /// ACK_FREQUENCY and IMMEDIATE_ACK are of unknown types.
 #[inline]
 pub fn frames_next<'r>(

@@ -59,7 +59,7 @@ pub struct Ranges {
     pub largest: u64,
 }
 
-/// What is reported of the shortest form of a payload.
+/// The length of a payload's shortest form, or why it has none.
 #[repr(C)]
 #[derive(Clone, Copy, Debug, Default, PartialEq, Eq, Hash)]
 pub struct Canon {
@@ -84,7 +84,7 @@ pub struct HeaderPlaces {
     pub len: u64,
 }
 
-/// What a header says beside its ids and its token.
+/// The fields of a header other than its ids and its token.
 #[repr(C)]
 #[derive(Clone, Copy, Debug, Default, PartialEq, Eq, Hash)]
 pub struct HeaderFields {
@@ -140,7 +140,7 @@ pub struct Param {
     pub valuelen: usize,
 }
 
-// Each struct is the header's: its size, its alignment, and where each field stands and how long it is.
+// Each struct is the header's: its size, its alignment, and the place and size of each field.
 macro_rules! layout {
     ($type:ty, $size:literal, $align:literal: $($field:ident $at:literal $len:literal,)*) => {
         const _: () = {

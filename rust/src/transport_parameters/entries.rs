@@ -22,8 +22,8 @@ pub struct Entry<'a> {
 }
 
 impl<'a> Entry<'a> {
-    /// The nth of the parameters that have no meaning and that peers must pass, of the number `31 * n + 27` (RFC 9000,
-    /// section 18.1). None where that is 2^62 or more.
+    /// The nth of the parameters that have no meaning and that peers must ignore, of the number `31 * n + 27` (RFC
+    /// 9000, section 18.1). `None` if that is 2^62 or more.
     ///
     /// ```
     /// use quic_wire::transport_parameters::Entry;
@@ -83,8 +83,8 @@ impl fmt::Debug for Entry<'_> {
     }
 }
 
-/// The entries of a list in their order, known or not, and then one error where something is none. Whether a value is
-/// one of its kind isn't looked at, nor whether an entry is there twice.
+/// The entries of a list in their order, known or not, and then one error if the rest doesn't begin with an entry.
+/// Whether a value is valid for its parameter isn't tested, nor whether an entry is there twice.
 ///
 /// ```
 /// use quic_wire::transport_parameters::{entries, Entry};
@@ -143,9 +143,9 @@ impl TransportParameters {
     pub const ROWS: usize = 21;
 
     /// Writes the list that `side` sends with `further` entries, which the record has no fields for and which
-    /// [`Entry::write`] wrote one behind the other. `order` numbers the record's parameters by their rows, whether they
+    /// [`Entry::write`] wrote one after the other. `order` numbers the record's parameters by their rows, whether they
     /// are written or not, and the further entries from [`TransportParameters::ROWS`] on, and has each of these numbers
-    /// once; or it is empty, and then the further entries stand behind the others.
+    /// once; or it is empty, and then the further entries come after the others.
     ///
     /// ```
     /// use quic_wire::transport_parameters::{entries, Entry, TransportParameters};
@@ -188,7 +188,7 @@ impl TransportParameters {
 // The longest list of the record has 289 bytes.
 const OWN_ROOM: usize = 512;
 
-// Why entries can't stand beside those of a record, or else that their order is none.
+// Why entries can't be written among those of a record, or else that their order isn't one.
 #[cold]
 fn why_not(further: &[u8]) -> WriteError {
     let twice = |(i, entry): (usize, Entry<'_>)| entries(further).take(i).flatten().any(|before| before.id == entry.id);

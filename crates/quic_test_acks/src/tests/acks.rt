@@ -8,8 +8,8 @@ use quic_frames::transport_error::Error;
 use std::alloc::Global;
 use std::test::Fail;
 
-// What reads frames here owns nothing and answers whether all was as it has to be, and a test has its ways out before
-// its checks begin: they are alive to its end, so that each way out behind would have to drop them.
+// Helpers that read frames own nothing and return whether every fact held, and a test returns early only before its
+// checks begin: these live to its end, so that each later return would have to drop them.
 
 // Whether an acknowledgement has exactly these ranges, as they come.
 pub fn has_ranges(ack: &Ack<'_>, ranges: &[(u64, u64)]) -> bool {

@@ -65,7 +65,7 @@ fn is_cut_at_its_limit(alloc: Global) -> bool {
     answer == Err(NoRoom) && out.as_slice() == b"\x04\x40\x40".as_slice()
 }
 
-// A refusal by room leaves a beginning of the encoding behind what stood there.
+// After `NoRoom` a prefix of the encoding is after the buffer's contents.
 #[test]
 fn refusals_by_room(rt: HostRuntime) -> Result<(), Fail> {
     let mut checks = Checks::new(rt.alloc());
@@ -80,7 +80,7 @@ fn is_written_and_read(out: &mut BytesMut) -> bool {
         && read_reset(out) == Ok(reset())
 }
 
-// A number that lies in two chunks.
+// A number that is in two chunks.
 fn is_read_apart() -> bool {
     let Some((front, back)) = RESET_BYTES.split_at_checked(6) else {
         return false;

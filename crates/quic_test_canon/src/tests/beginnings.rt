@@ -17,7 +17,7 @@ fn frames_of(strict: bool, payload: &[u8]) -> Result<Iter<'_>, Error> {
     }
 }
 
-// Whether they tell of something that is none, with this type and this reason.
+// Whether they report an invalid frame, with this type and this reason.
 fn is_broken(strict: bool, payload: &[u8], ty: &Option<FrameType>, reason: &str) -> bool {
     let Ok(frames) = frames_of(strict, payload) else {
         return false;
@@ -116,7 +116,7 @@ fn beginnings_of_what_says_its_end(rt: HostRuntime) -> Result<(), Fail> {
     checks.verdict()
 }
 
-// Frames that go on to the end of the payload, each with its type and how many bytes stand before the data: with
+// Frames that go on to the end of the payload, each with its type and how many bytes come before the data: with
 // these it is whole, however many bytes of the data follow (RFC 9000, section 19.8; RFC 9221, section 4).
 const OPEN: &[(u8, usize, &[u8])] = &[
     (0x08, 2, b"\x08\x04hi"),
@@ -144,8 +144,8 @@ fn beginnings_of_what_goes_on_to_the_end(rt: HostRuntime) -> Result<(), Fail> {
     checks.verdict()
 }
 
-// NEW_CONNECTION_ID with a field that can't be: retired behind its own number, an id of no bytes, and one of 21. From
-// so many bytes on it is malformed, whatever is cut off behind them; before, it ends (RFC 9000, section 19.15).
+// NEW_CONNECTION_ID with a forbidden field: one that retires its own number, an id of no bytes, and one of 21. From so
+// many bytes on it is malformed, whatever is cut off after them; with fewer, it ends early (RFC 9000, section 19.15).
 const MALFORMED: &[(usize, &[u8])] = &[
     (3, b"\x18\x01\x02\x02\xaa\xbb0123456789abcdef"),
     (5, b"\x18\x40\x02\x00\x000123456789abcdef"),

@@ -36,7 +36,7 @@ fn what_is_appended(rt: HostRuntime) -> Result<(), Fail> {
     checks.verdict()
 }
 
-// Whether both calls refuse the payload with this error, and leave the vector as it was.
+// Whether both calls refuse the payload with this error, and don't change the vector.
 fn refuse(alloc: Global, payload: &[u8], error: &CanonError) -> Result<bool, Fail> {
     let mut out = Vec::new(alloc);
     out.push(7)?;

@@ -1,4 +1,4 @@
-//! What stands where a growth is refused. Each test passes whichever one allocation of its run fails, and where
+//! What remains if an allocation fails. Each test passes whichever one allocation of its run fails, and where
 //! none does: `rt try --test --fail-alloc N` lets the Nth fail.
 use quic_canon::canonical::{CanonBytes, CanonError, canonical, canonical_of};
 use quic_checks::Checks;

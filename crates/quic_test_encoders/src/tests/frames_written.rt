@@ -137,7 +137,7 @@ fn follows(iter: &mut Iter<'_>, last: bool) -> bool {
     }
 }
 
-// Whether the payload is this frame up to there, and behind it a PING or nothing.
+// Whether the payload is this frame up to there, and then a PING or nothing.
 fn is_read(alloc: Global, payload: &[u8], frame: &Frame<'_>, end: usize, last: bool) -> bool {
     let Some(mut iter) = Iter::new(payload).ok() else {
         return false;

@@ -277,7 +277,7 @@ fn write_datagram(out: &mut Vec<u8>, with_length: bool) -> Result<(), NoRoom> {
     datagram.encode(with_length, out)
 }
 
-// Whether it is written as a whole or not at all, behind the one byte that stands there.
+// Whether it is written as a whole or not at all, after the one byte that is there.
 fn is_whole_or_none(out: &mut Vec<u8>, with_length: bool, whole: &[u8]) -> bool {
     match write_datagram(out, with_length) {
         Ok(()) => out.as_slice() == whole,
@@ -300,7 +300,7 @@ fn stands_alone(alloc: Global, with_length: bool, whole: &[u8]) -> bool {
     }
 }
 
-// Whether it is written behind what stands there, and alone where nothing can be refused.
+// Whether it is appended to the buffer's contents, and written alone where nothing can be refused.
 fn writes_datagram(alloc: Global, with_length: bool, whole: &[u8]) -> bool {
     let Some((_, datagram)) = whole.split_first() else {
         return false;

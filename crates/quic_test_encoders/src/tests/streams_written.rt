@@ -94,7 +94,7 @@ fn are_a_frame(out: &mut Vec<u8>) -> bool {
     store_a_header_and_its_data(out) && is_the_stream_and_a_ping(out.as_slice())
 }
 
-// A header and the data behind it are a frame.
+// A header and the data after it are a frame.
 #[test]
 fn a_header_and_its_data(rt: HostRuntime) -> Result<(), Fail> {
     let mut checks = Checks::new(rt.alloc());
@@ -121,13 +121,13 @@ fn one_header_is_held(rt: HostRuntime) -> Result<(), Fail> {
     checks.verdict()
 }
 
-// Appends a datagram of two bytes, and answers whether this stands there then.
+// Appends a datagram of two bytes, and answers whether it is there then.
 fn appends(out: &mut Vec<u8>, with_length: bool, whole: &[u8]) -> bool {
     let datagram = Datagram { bytes: b"hi" };
     datagram.encode(with_length, out).is_ok() && out.as_slice() == whole
 }
 
-// The second one behind what stands there.
+// The second one after the buffer's contents.
 fn appends_both(out: &mut Vec<u8>) -> bool {
     appends(out, true, b"\x31\x02hi") && appends(out, false, b"\x31\x02hi\x30hi")
 }

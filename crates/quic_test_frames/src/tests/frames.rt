@@ -183,7 +183,7 @@ fn passes(iter: &mut Iter<'_>, count: usize, offset: usize) -> bool {
     iter.pass_padding() == count && iter.offset() == offset
 }
 
-// Eleven bytes of PADDING, PING, two of PADDING, a type that is none, and PADDING behind that.
+// Eleven bytes of PADDING, PING, two of PADDING, an unknown type, and PADDING after that.
 const PADDED: &[u8] = b"\0\0\0\0\0\0\0\0\0\0\0\x01\0\0\x21\0";
 
 fn passes_what_stands_next() -> bool {
@@ -201,7 +201,7 @@ fn passes_what_stands_next() -> bool {
         && iter.next().is_none()
 }
 
-// A type of two bytes is none that is passed.
+// A type of two bytes isn't skipped.
 fn passes_nothing_else() -> bool {
     let Some(mut iter) = Iter::new(b"\x40\0\x01").ok() else {
         return false;
@@ -265,7 +265,7 @@ fn an_owned_reason(rt: HostRuntime) -> Result<(), Fail> {
     checks.verdict()
 }
 
-// The types of one byte with a name of their own; limits, and what tells that one holds back, stand apart.
+// The types of one byte with a name of their own; limits and frames about blocked limits are listed separately.
 fn named(number: u8) -> Option<(FrameType, &'static str)> {
     Some(match number {
         0x00 => (FrameType::PADDING, "PADDING"),

@@ -8,10 +8,10 @@ use quic_packets::packet::{PacketDecodeError, PartialDecode, ProtectedHeader};
 use quic_text::{RunError, mode_of, run};
 use std::test::Fail;
 
-// A Handshake packet of ten bytes, and one byte behind it.
+// A Handshake packet of ten bytes, and one byte after it.
 const DATAGRAM: &[u8] = b"\xe0\x00\x00\x00\x01\x00\x00\x02\xaa\xbb\x41";
 
-// Reading a header takes no memory.
+// Reading a header allocates no memory.
 #[test]
 fn a_header_takes_no_memory(rt: HostRuntime) -> Result<(), Fail> {
     let mut checks = Checks::new(rt.alloc());
@@ -24,7 +24,7 @@ fn a_header_takes_no_memory(rt: HostRuntime) -> Result<(), Fail> {
     checks.verdict()
 }
 
-// Nor does cutting a packet with nothing behind it,
+// Nor does cutting a packet with nothing after it,
 #[test]
 fn one_packet_takes_no_memory(rt: HostRuntime) -> Result<(), Fail> {
     let mut checks = Checks::new(rt.alloc());

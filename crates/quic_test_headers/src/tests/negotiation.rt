@@ -18,7 +18,7 @@ fn refusal(alloc: Global, datagram: &[u8], grease: bool) -> Option<&'static str>
     }
 }
 
-// Every beginning of a version negotiation without ids, and why it is none where the fixed bit may be clear.
+// Every prefix of a version negotiation without ids, and why it isn't one where the fixed bit may be clear.
 const BEGINNINGS: &[(&[u8], Option<&str>)] = &[
     (b"", Some("unexpected end of packet")),
     (b"\x80", Some("unexpected end of packet")),

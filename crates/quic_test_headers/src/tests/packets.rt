@@ -49,7 +49,7 @@ fn is_the_same(alloc: Global, head: &'static [u8], payload: &[u8], are_zero: boo
     has(&packet, head, payload) && packet.reserved_bits_valid() == are_zero
 }
 
-// The bytes of a header and of a payload, and whether the reserved bits of the first byte are zero: there is none where
+// The bytes of a header and of a payload, and whether the reserved bits of the first byte are zero: they are not if
 // the header has no byte (RFC 9000, section 17.2).
 const ROWS: &[(&[u8], &[u8], bool)] = &[
     (

@@ -134,13 +134,13 @@ fn is_front(room: &[u8], bytes: &[u8]) -> bool {
     front == bytes && is_untouched(rest)
 }
 
-// Whether these bytes are written at the front, and what stands behind them stays.
+// Whether these bytes are written at the front, and those after them don't change.
 fn is_stored(params: &TransportParameters, bytes: &[u8]) -> bool {
     let mut room = [0xff; 90];
     params.write_into(&mut room) == Ok(bytes.len()) && is_front(&room, bytes)
 }
 
-// The same where there is just their room.
+// The same where there is room for exactly them.
 fn is_stored_in_its_room(params: &TransportParameters, bytes: &[u8]) -> bool {
     let mut room = [0xff; 90];
     let Some(just) = room.get_mut(..bytes.len()) else {

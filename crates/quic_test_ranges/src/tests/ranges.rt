@@ -223,7 +223,7 @@ fn array_copy_is(array: &ArrayRangeSet, runs: Runs) -> bool {
     array_is(&copy, runs)
 }
 
-// A clone of two runs, which stand without memory, and one of three.
+// A clone of two runs, which need no allocation, and one of three.
 fn clone_arrays(
     checks: &mut Checks,
     few: &mut ArrayRangeSet,

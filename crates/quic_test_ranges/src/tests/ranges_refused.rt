@@ -1,6 +1,6 @@
-// What stands after a refused growth. Each test passes whichever one growth of its run is refused, and
-// where none is: `rt try --test --fail-alloc N` refuses the Nth. After the refusal the set stands as
-// promised, and the same call then succeeds.
+// What remains after a failed allocation. Each test passes whichever one allocation of its run fails, and if none does:
+// `rt try --test --fail-alloc N` lets the Nth fail. Afterwards the set is as its contract promises, and the same call
+// then succeeds.
 use quic_base::coding::NoRoom;
 use quic_checks::Checks;
 use quic_ranges::range_set::{ArrayRangeSet, RangeSet, Replace};
@@ -103,7 +103,7 @@ pub(super) fn on_two_arrays<
     checks.verdict()
 }
 
-// Calls again where one growth was refused, after a look at what stands.
+// Calls again if an allocation failed, after a look at the set.
 macro_rules! twice {
     ($checks:ident, $call:expr, $stands:expr) => {
         match $call {
@@ -137,7 +137,7 @@ fn array_has(set: &ArrayRangeSet, count: u64) -> bool {
     rest.next().is_none()
 }
 
-// Whether the set has the first runs, and behind them the rest of the solid range.
+// Whether the set has the first runs, and after them the rest of the solid range.
 fn set_is_cut(set: &RangeSet, count: u64) -> bool {
     let mut rest = set.iter();
     for index in 0..count {

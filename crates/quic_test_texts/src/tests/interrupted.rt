@@ -11,7 +11,7 @@ const LINES: &[u8] = b"0001\n01\n";
 
 const TEXT: &[u8] = b"0..1 PADDING\n1..2 PING\n0..1 PING\n";
 
-// Gives or takes one byte a call, and is interrupted once, behind so many calls.
+// Gives or takes one byte with each call, and is interrupted once, after so many calls.
 #[derive(Drop)]
 struct Interrupted<T> {
     inner: T,
@@ -102,7 +102,7 @@ fn written_by(alloc: Global, writer: &mut Interrupted<&mut Vec<u8>>) -> Result<b
     run(alloc, Mode::Frames, &mut source, &mut sink)
 }
 
-// The bytes of the calls before it stand.
+// The bytes of the calls before it are kept.
 fn is_not_written_again(alloc: Global, out: &mut Vec<u8>, calls_before: usize) -> bool {
     let mut writer = Interrupted::new(out, calls_before as u64);
     let outcome = written_by(alloc, &mut writer);

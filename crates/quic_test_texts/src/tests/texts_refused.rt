@@ -18,7 +18,7 @@ fn is_same_or_none(copied: &Result<Error, NoRoom>, error: &Error) -> bool {
     }
 }
 
-// Whether what was copied stays as it was.
+// Whether the copied value doesn't change.
 fn is_left(error: &Error) -> bool {
     let copied: Result<Error, NoRoom> = error.try_clone();
     is(error, Code::NO_VIABLE_PATH, "a text of its own") && is_same_or_none(&copied, error)

@@ -96,7 +96,7 @@ pub fn has_xxd_offset(text: &[u8]) -> bool {
     split_at_colon(text).is_some()
 }
 
-// The digits of an offset, and what stands behind its colon.
+// The digits of an offset, and what follows its colon.
 fn split_at_colon(text: &[u8]) -> Option<(&[u8], &[u8])> {
     let end = text.iter().position(|byte| *byte == b':').filter(|end| *end >= 8)?;
     let (digits, rest) = text.split_at(end);
@@ -124,12 +124,12 @@ pub enum Step {
 pub struct Dump {
     form: Form,
     line: usize,
-    // Where its first byte stood in what was dumped.
+    // Where its first byte was in what was dumped.
     base: u64,
     bytes: Vec<u8>,
     // How many bytes its last row has.
     row: usize,
-    // Whether `*` was read behind that.
+    // Whether `*` was read after that.
     repeats: bool,
     // The first line that doesn't go on where the ones before it end.
     broken_at: Option<usize>,

@@ -32,7 +32,7 @@ pub fn show(payload: &[u8], strict: bool, output: &mut Output<impl Write>) -> io
     Ok(())
 }
 
-// How many types of PADDING stand there, in one byte or more.
+// How many types of PADDING are there, in one byte or more.
 fn padding(mut run: &[u8]) -> u64 {
     let mut count = 0;
     while let Some((_, len)) = varint::read(run) {

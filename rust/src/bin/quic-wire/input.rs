@@ -8,7 +8,7 @@ const NEITHER: &str = "not hexadecimal, nor a dump as xxd, hexdump -C or od -t x
 #[derive(Debug, PartialEq)]
 pub struct Piece {
     pub line: usize,
-    /// Or why there are none.
+    /// Or the reason why there are no bytes.
     pub bytes: Result<Vec<u8>, String>,
 }
 
@@ -57,7 +57,7 @@ impl<R: BufRead> Pieces<R> {
         Some(before)
     }
 
-    // A line behind what is whole.
+    // A line after what is whole.
     fn begin(&mut self, text: &[u8]) -> Option<Piece> {
         if self.is_behind_dump && text.trim_ascii().is_empty() {
             return None;

@@ -61,7 +61,7 @@ impl<W: Write> Output<W> {
         self.out.flush()
     }
 
-    /// What stands at a place: its name, which is its `key`, and its fields. Fields in `more` are for programs alone.
+    /// What is at a place: its name, which is its `key`, and its fields. Fields in `more` are for programs alone.
     pub fn item(
         &mut self,
         place: Range<usize>,
@@ -111,7 +111,7 @@ impl<W: Write> Output<W> {
         part.paint(self.look == Look::Coloured, text)
     }
 
-    // A line with fields behind it.
+    // A line with fields after it.
     fn behind(&self, mut line: String, fields: &[Field]) -> String {
         for (name, value) in fields {
             // Writing to a string doesn't fail.

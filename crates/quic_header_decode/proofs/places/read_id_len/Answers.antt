@@ -1,4 +1,4 @@
--- An id stands behind its length.
+-- An id is after its length.
 use Rattle.std.proofs.Common.{◌≡◌, ℕ, ◌-◌, List, ◌∷◌, drop, length, length-drop, sym, ap, ◌∙◌, arith}
 use Rattle.std.proofs.lemmas.List.{take_all}
 use Rattle.quic_header_decode.proofs.Scans.{wide_stands}

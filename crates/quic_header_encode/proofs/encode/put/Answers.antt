@@ -1,4 +1,4 @@
--- The header stays that was written behind what stood, and what is behind it goes.
+-- The header that was appended stays, and the bytes after it are removed.
 use Rattle.std.proofs.Common.{ℕ, List, ◌≡◌, ◌≤◌, ◌+◌, length, rules, ◌∙◌}
 use Rattle.quic_header_encode.proofs.Stores.{stored_behind}
 use Rattle.quic_header_encode.proofs.encode.put.Goals as goal

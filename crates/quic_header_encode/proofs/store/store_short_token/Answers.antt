@@ -1,4 +1,4 @@
--- A token behind its length, which is a byte.
+-- A token after its length, which is a byte.
 use Rattle.std.proofs.Common.{◌∙◌, length, refl, arith}
 use Rattle.quic_header_encode.proofs.Stores.{token_stored, no_token_stored, stays}
 use Rattle.quic_header_encode.proofs.store.store_short_token.Goals as goal

@@ -88,7 +88,7 @@ fn rows_that_are_left_out_are_repeated() {
 
 #[test]
 fn blank_lines_end_dumps() {
-    // Those behind a dump are no empty pieces; the last line is.
+    // Those after a dump are no empty pieces; the last line is.
     let text = "000000 01 02\n\n0000000 03\n0000001\n \n\n00000000  04\n\n00000000: 05\n\n06\n\n";
     let all = [(1, vec![1, 2]), (3, vec![3]), (7, vec![4]), (9, vec![5]), (11, vec![6]), (12, vec![])];
     assert_eq!(pieces(text), all.map(|(line, bytes)| (line, Ok(bytes))));
@@ -115,7 +115,7 @@ fn dumps_that_do_not_go_on_are_refused_once() {
     assert_eq!(errors("000000 01 02\n000002 0\nzz\n000003 03\n000004\n"), [broken(2)]);
     assert_eq!(errors("00000000  01 02  |..|\n00000003\n"), [broken(2)]);
     assert_eq!(errors("ffffffffffffffff  01  |.|\nfffffffffffffff0  01  |.|\n"), [broken(2)]);
-    // One of `xxd` is broken behind `*` alone.
+    // One of `xxd` is broken after `*` alone.
     let xxd = "00000000: 0001  ..\n*\n00000003: 01  .\n00000004: 02  .\n";
     assert_eq!(errors(xxd), [broken(3)]);
     let two = pieces("000000 01\n000002 03\n000000 04\n000001\n");

@@ -1,4 +1,4 @@
--- The payload is added to, and the tag goes behind it.
+-- The payload is added to, and the tag goes after it.
 use Rattle.std.proofs.Common.{◌≡◌, ◌-◌, ◌%◌, ℕ, List, length, take, map, arith, ◌∙◌}
 use Rattle.std.specs.Prelude.{slice_range}
 use Rattle.std.proofs.lemmas.List.{length-take, length-map}

@@ -29,26 +29,10 @@ returns-in_err-print_digits-in-Ok g c =
     }
 
 pub returns-in_err-push_str-in-Err-Empty : goal.returns-in_err-push_str-in-Err-Empty
-returns-in_err-push_str-in-Err-Empty g c = record {
-  printed = record {
-    ok = search rules;
-    err = on_err c.from_residual-in_err-push_str-in-Err-Empty.result (nothing_begun _ _);
-    failed = search rules;
-    read = search rules;
-  };
-  clean = search rules;
-}
+returns-in_err-push_str-in-Err-Empty g c = search (rules, nothing_begun)
 
 pub returns-in_err-print_invalid-in-Err-Invalid : goal.returns-in_err-print_invalid-in-Err-Invalid
-returns-in_err-print_invalid-in-Err-Invalid g c = record {
-  printed = record {
-    ok = search rules;
-    err = on_err c.from_residual-in_err-print_invalid-in-Err-Invalid.result (nothing_begun _ _);
-    failed = search rules;
-    read = search rules;
-  };
-  clean = search rules;
-}
+returns-in_err-print_invalid-in-Err-Invalid g c = search (rules, nothing_begun)
 
 pub returns-in_ok-print_digits-in-Ok : goal.returns-in_ok-print_digits-in-Ok
 returns-in_ok-print_digits-in-Ok g c =

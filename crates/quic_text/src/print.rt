@@ -1,12 +1,8 @@
 //! What is printed of one line.
-ghost use Rattle.std.specs.Prelude.{◌≡◌, ◌++◌, ◌||◌, IfOk, IfSome, IsErr, IsErrOf, None, Ok, OnErr, OnOk};
-ghost use Rattle.std.specs.String.{string_bytes};
-ghost use Rattle.std.specs.List.{flat_map, list_all};
+ghost use Rattle.std.specs.Prelude.{◌≡◌, IfOk, IfSome, IsErr, None, Ok};
 ghost use Rattle.hex.specs.Hex.{decode_of};
-ghost use Rattle.quic_text.specs.Printed.{shown, is_plain};
 ghost use Rattle.quic_text.specs.Text.{line_lines, payload_lines};
-ghost use Rattle.quic_text.specs.Status.{is_write};
-ghost use Rattle.quic_text.specs.Whole.{AppendsAllBut, AppendsBeginning};
+ghost use Rattle.quic_text.specs.Whole.{PrintsLines};
 
 mod canon;
 mod datagram;
@@ -33,14 +29,7 @@ pub(crate) fn print_line<W: Sink>(
     text: &mut String,
     sink: &mut W,
 ) -> Result<bool, RunError>
-    ensures ok { OnOk result (AppendsAllBut (W.taken sink.old) (W.taken sink.new) (string_bytes text.new)
-        (string_bytes text.old ++ flat_map shown (line_lines mode line.now))) }
-    ensures clean { IfOk result (λ clean. clean ≡ list_all is_plain (line_lines mode line.now)) }
-    ensures err { OnErr result
-        (AppendsBeginning (W.taken sink.old) (W.taken sink.new)
-        (string_bytes text.old ++ flat_map shown (line_lines mode line.now))) }
-    ensures failed { W.has_failed sink.new ≡ (W.has_failed sink.old || is_write result) }
-    ensures read { IsErrOf result RunError.Read → ⊥ }
+    ensures { PrintsLines W.taken W.has_failed (line_lines mode line.now) sink.old sink.new text.old text.new result }
 {
     match decoded(trim_return(line), bytes)? {
         Some(payload) => print_payload(alloc, mode, payload, text, sink),
@@ -70,14 +59,8 @@ fn print_payload<W: Sink>(
     text: &mut String,
     sink: &mut W,
 ) -> Result<bool, RunError>
-    ensures ok { OnOk result (AppendsAllBut (W.taken sink.old) (W.taken sink.new) (string_bytes text.new)
-        (string_bytes text.old ++ flat_map shown (payload_lines mode payload.now))) }
-    ensures clean { IfOk result (λ clean. clean ≡ list_all is_plain (payload_lines mode payload.now)) }
-    ensures err { OnErr result
-        (AppendsBeginning (W.taken sink.old) (W.taken sink.new)
-        (string_bytes text.old ++ flat_map shown (payload_lines mode payload.now))) }
-    ensures failed { W.has_failed sink.new ≡ (W.has_failed sink.old || is_write result) }
-    ensures read { IsErrOf result RunError.Read → ⊥ }
+    ensures { PrintsLines W.taken W.has_failed (payload_lines mode payload.now) sink.old sink.new
+        text.old text.new result }
 {
     match mode {
         Mode::Frames => print_frames(false, payload, text, sink),

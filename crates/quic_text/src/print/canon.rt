@@ -1,12 +1,8 @@
 //! What is printed of a payload in its shortest form.
-ghost use Rattle.std.specs.Prelude.{◌≡◌, ◌++◌, ◌||◌, IfOk, IsErrOf, OnErr, OnOk};
-ghost use Rattle.std.specs.String.{string_bytes};
-ghost use Rattle.std.specs.List.{flat_map, list_all};
 ghost use Rattle.hex.specs.Hex.{encode_lower};
-ghost use Rattle.quic_text.specs.Printed.{Plain, shown, is_plain};
+ghost use Rattle.quic_text.specs.Printed.{Plain, shown};
 ghost use Rattle.quic_text.specs.CanonText.{canon_lines};
-ghost use Rattle.quic_text.specs.Status.{is_write};
-ghost use Rattle.quic_text.specs.Whole.{AppendsAllBut, AppendsBeginning};
+ghost use Rattle.quic_text.specs.Whole.{Prints, PrintsLines};
 
 use super::frames::print_invalid;
 use crate::engine::RunError;
@@ -23,14 +19,7 @@ pub(super) fn print_canon<W: Sink>(
     text: &mut String,
     sink: &mut W,
 ) -> Result<bool, RunError>
-    ensures ok { OnOk result (AppendsAllBut (W.taken sink.old) (W.taken sink.new) (string_bytes text.new)
-        (string_bytes text.old ++ flat_map shown (canon_lines payload.now))) }
-    ensures clean { IfOk result (λ clean. clean ≡ list_all is_plain (canon_lines payload.now)) }
-    ensures err { OnErr result
-        (AppendsBeginning (W.taken sink.old) (W.taken sink.new)
-        (string_bytes text.old ++ flat_map shown (canon_lines payload.now))) }
-    ensures failed { W.has_failed sink.new ≡ (W.has_failed sink.old || is_write result) }
-    ensures read { IsErrOf result RunError.Read → ⊥ }
+    ensures { PrintsLines W.taken W.has_failed (canon_lines payload.now) sink.old sink.new text.old text.new result }
 {
     laws::one_least();
     match canonical_of(alloc, payload) {
@@ -57,13 +46,8 @@ fn print_digits<W: Sink>(
     text: &mut String,
     sink: &mut W,
 ) -> Result<(), RunError>
-    ensures ok { OnOk result (AppendsAllBut (W.taken sink.old) (W.taken sink.new) (string_bytes text.new)
-        (string_bytes text.old ++ shown (Plain (encode_lower bytes.now)))) }
-    ensures err { OnErr result
-        (AppendsBeginning (W.taken sink.old) (W.taken sink.new)
-        (string_bytes text.old ++ shown (Plain (encode_lower bytes.now)))) }
-    ensures failed { W.has_failed sink.new ≡ (W.has_failed sink.old || is_write result) }
-    ensures read { IsErrOf result RunError.Read → ⊥ }
+    ensures { Prints W.taken W.has_failed (shown (Plain (encode_lower bytes.now))) sink.old sink.new text.old text.new
+        result }
 {
     let mut rest = bytes;
     while PIECE < rest.len() {

@@ -1,14 +1,12 @@
 //! What is printed of a datagram's packets.
-ghost use Rattle.std.specs.Prelude.{◌≡◌, ◌≢◌, ◌++◌, ◌||◌, IfOk, IsErrOf, OnErr, OnOk, codes, false};
+ghost use Rattle.std.specs.Prelude.{◌≡◌, ◌≢◌, ◌++◌, OnOk, codes, false};
 ghost use Rattle.std.specs.Fmt.{decimal, digits};
 ghost use Rattle.std.specs.String.{string_bytes};
-ghost use Rattle.std.specs.List.{flat_map, list_all};
-ghost use Rattle.quic_text.specs.Printed.{Error, shown, is_plain};
+ghost use Rattle.quic_text.specs.Printed.{Error, shown};
 ghost use Rattle.quic_text.specs.DatagramText.{datagram_lines, header_text, id_or_dash, long_text, packet_line, eight_digits, refusal_text};
 ghost use Rattle.quic_header_decode.specs.Refusal.{NoMemory, refusal_of};
 ghost use Rattle.quic_text.specs.IdLens.{count};
-ghost use Rattle.quic_text.specs.Status.{is_write};
-ghost use Rattle.quic_text.specs.Whole.{AppendsAllBut, AppendsBeginning};
+ghost use Rattle.quic_text.specs.Whole.{PrintsLines};
 
 use crate::engine::RunError;
 use crate::id_len::IdLen;
@@ -32,14 +30,8 @@ pub(super) fn print_datagram<W: Sink>(
     text: &mut String,
     sink: &mut W,
 ) -> Result<bool, RunError>
-    ensures ok { OnOk result (AppendsAllBut (W.taken sink.old) (W.taken sink.new) (string_bytes text.new)
-        (string_bytes text.old ++ flat_map shown (datagram_lines (count id_len) datagram.now))) }
-    ensures clean { IfOk result (λ clean. clean ≡ list_all is_plain (datagram_lines (count id_len) datagram.now)) }
-    ensures err { OnErr result
-        (AppendsBeginning (W.taken sink.old) (W.taken sink.new)
-        (string_bytes text.old ++ flat_map shown (datagram_lines (count id_len) datagram.now))) }
-    ensures failed { W.has_failed sink.new ≡ (W.has_failed sink.old || is_write result) }
-    ensures read { IsErrOf result RunError.Read → ⊥ }
+    ensures { PrintsLines W.taken W.has_failed (datagram_lines (count id_len) datagram.now) sink.old sink.new
+        text.old text.new result }
 {
     let parser = FixedLengthConnectionIdParser::new(id_len.get());
     let mut left = BytesMut::copy_from_slice(alloc, datagram)?;

@@ -1,14 +1,12 @@
 //! What is printed of a payload's frames.
-ghost use Rattle.std.specs.Prelude.{◌≡◌, ◌++◌, ◌↔◌, ◌||◌, [], IfErr, IfOk, IsErr, IsErrOf, OnErr, OnOk, codes, false};
+ghost use Rattle.std.specs.Prelude.{◌≡◌, ◌++◌, ◌↔◌, [], IfErr, IfOk, IsErr, OnOk, codes, false};
 ghost use Rattle.std.specs.String.{string_bytes};
-ghost use Rattle.std.specs.List.{flat_map, list_all};
 ghost use Rattle.quic_frames.specs.Reading.{Broken};
 ghost use Rattle.quic_errors.specs.Codes.{IsError, protocol_violation};
 ghost use Rattle.quic_frames.specs.Walk.{first_of, invalid_of};
-ghost use Rattle.quic_text.specs.Printed.{shown, is_plain};
+ghost use Rattle.quic_text.specs.Printed.{shown};
 ghost use Rattle.quic_text.specs.FrameText.{frame_line, item_line, frame_lines};
-ghost use Rattle.quic_text.specs.Status.{is_write};
-ghost use Rattle.quic_text.specs.Whole.{AppendsAllBut, AppendsBeginning};
+ghost use Rattle.quic_text.specs.Whole.{PrintsLines};
 
 use crate::engine::RunError;
 use crate::output::pass_on_pieces;
@@ -25,14 +23,8 @@ pub(super) fn print_frames<W: Sink>(
     text: &mut String,
     sink: &mut W,
 ) -> Result<bool, RunError>
-    ensures ok { OnOk result (AppendsAllBut (W.taken sink.old) (W.taken sink.new) (string_bytes text.new)
-        (string_bytes text.old ++ flat_map shown (frame_lines strict payload.now))) }
-    ensures clean { IfOk result (λ clean. clean ≡ list_all is_plain (frame_lines strict payload.now)) }
-    ensures err { OnErr result
-        (AppendsBeginning (W.taken sink.old) (W.taken sink.new)
-        (string_bytes text.old ++ flat_map shown (frame_lines strict payload.now))) }
-    ensures failed { W.has_failed sink.new ≡ (W.has_failed sink.old || is_write result) }
-    ensures read { IsErrOf result RunError.Read → ⊥ }
+    ensures { PrintsLines W.taken W.has_failed (frame_lines strict payload.now) sink.old sink.new
+        text.old text.new result }
 {
     let mut frames = match frames_of(strict, payload) {
         Ok(frames) => frames,

@@ -1,4 +1,4 @@
-use Rattle.std.proofs.Common.{map, refl, sym, ◌∙◌}
+use Rattle.std.proofs.Common.{rules, map, refl, sym, ◌∙◌}
 use Rattle.std.proofs.Math.Bool.{or-false}
 use Rattle.std.specs.List.{flat_map}
 use Rattle.std.specs.String.{string_bytes}
@@ -9,17 +9,33 @@ use Rattle.quic_text.proofs.FrameLines.{text_more, clean_more}
 use Rattle.quic_text.proofs.PassingLemmas.{passed_on, beginning_passed, nothing_begun, on_err}
 use Rattle.quic_text.proofs.print.frames.print_frames.Goals as goal
 
-pub returns-in_err-writeln-in-Err-clause-err : goal.returns-in_err-writeln-in-Err-clause-err
-returns-in_err-writeln-in-Err-clause-err g c = on_err c.from_residual.result (nothing_begun _ _)
+pub returns-in_err-writeln-in-Err : goal.returns-in_err-writeln-in-Err
+returns-in_err-writeln-in-Err g c = record {
+  printed = record {
+    ok = search rules;
+    err = on_err c.from_residual.result (nothing_begun _ _);
+    failed = search rules;
+    read = search rules;
+  };
+  clean = search rules;
+}
 
-pub returns-in_err-pass_on_pieces-clause-err : goal.returns-in_err-pass_on_pieces-clause-err
-returns-in_err-pass_on_pieces-clause-err g c =
-    let old = c.loop-item.frames in
-    let new = c.next.new.self in
-    let finds : Finds old c.in-Ok-item.frame new = rw c.in-Ok-item.is at c.in-Some.ensures.steps in
-    let same = text_more old new c.in-Ok-item.frame (string_bytes c.loop-item.text) (string_bytes c.print_frame.new.text) _ finds (rw (← c.offset-end.ensures.value, ← c.loop-item.invariant.start, ← c.ty.ensures) c.in_ok-print_frame.ensures) refl in
-    on_err c.from_residual-in_err-pass_on_pieces.result
-    (beginning_passed _ _ _ (string_bytes c.print_frame.new.text) (flat_map shown (map item_line (left new))) _ _ same c.loop-item.invariant.passed c.in_err-pass_on_pieces.ensures.err)
+pub returns-in_err-pass_on_pieces : goal.returns-in_err-pass_on_pieces
+returns-in_err-pass_on_pieces g c = record {
+  printed = record {
+    ok = search rules;
+    err =
+        let old = c.loop-item.frames in
+        let new = c.next.new.self in
+        let finds : Finds old c.in-Ok-item.frame new = rw c.in-Ok-item.is at c.in-Some.ensures.steps in
+        let same = text_more old new c.in-Ok-item.frame (string_bytes c.loop-item.text) (string_bytes c.print_frame.new.text) _ finds (rw (← c.offset-end.ensures.value, ← c.loop-item.invariant.start, ← c.ty.ensures) c.in_ok-print_frame.ensures) refl in
+        on_err c.from_residual-in_err-pass_on_pieces.result
+        (beginning_passed _ _ _ (string_bytes c.print_frame.new.text) (flat_map shown (map item_line (left new))) _ _ same c.loop-item.invariant.passed c.in_err-pass_on_pieces.ensures.err);
+    failed = search rules;
+    read = search rules;
+  };
+  clean = search rules;
+}
 
 pub loop-item-preserved : goal.loop-item-preserved
 loop-item-preserved g c =

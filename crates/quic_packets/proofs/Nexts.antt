@@ -1,6 +1,6 @@
 -- A datagram's packets are opened one after another, from what is left of it.
-use Rattle.std.specs.Prelude.{◌≡◌, ℕ, ◌+◌, ◌<◌, List, [], ◌∷◌, ◌++◌, length, Option, Some, None, Result, Ok, Err, IfSome}
-use Rattle.std.proofs.Common.{sym, subst, refl, arith}
+use Rattle.std.specs.Prelude.{◌≡◌, ℕ, ◌+◌, ◌<◌, List, [], ◌∷◌, ◌++◌, length, Option, Some, None, Ok, Err, IfSome}
+use Rattle.std.proofs.Common.{sym, subst, arith}
 use Rattle.bytes.specs.Filled.{Filled}
 use Rattle.quic_packets.specs.declared.opening.Opened.{Opened}
 use Rattle.quic_packets.specs.declared.opening.OpenError.{OpenError}

@@ -1,5 +1,5 @@
 //! Packets are opened (RFC 9001, sections 5.3 and 5.4).
-ghost use Rattle.std.specs.Prelude.{◌≡◌, ℕ, ◌<◌, ◌^◌, List, ◌++◌, length, IfOk, IfErr, IsSome, IsTrue, false, MatchOption, None, Some};
+ghost use Rattle.std.specs.Prelude.{◌≡◌, ◌<◌, ◌^◌, length, IfOk, IfErr, IsSome, IsTrue, MatchOption, None, Some};
 ghost use Rattle.quic_crypto.specs.PacketNumbers.{IsInRange};
 ghost use Rattle.quic_header_decode.specs.Headers.{is_protected};
 ghost use Rattle.quic_header_decode.specs.Queries.{space_of};
@@ -125,8 +125,7 @@ fn open_plain<H: HeaderKey, P: PacketKey>(
     keys: &SpaceKeys<H, P>,
     expected: &Expected,
 ) -> Result<Opened, OpenError>
-    requires plain { is_protected partial.head ≡ false }
-    requires none { space_of partial.head ≡ None }
+    requires { space_of partial.head ≡ None }
     ensures opened { IfOk result (λ x. OpensPacket (⟦<SpaceKeys<H, P> as PairsOfKeys>⟧.pairs keys.now)
         (expected_in expected.now) partial (packet_of x)) }
     ensures refused { IfErr result (RefusesPacket (⟦<SpaceKeys<H, P> as PairsOfKeys>⟧.pairs keys.now)

@@ -1,9 +1,9 @@
 -- Packets that are sealed and opened again.
-use Rattle.std.specs.Prelude.{◌≡◌, ℕ, ◌<◌, ◌^◌, ◌⊎◌, IsTrue, List, ◌++◌, length, Some}
+use Rattle.std.specs.Prelude.{◌≡◌, ℕ, ◌<◌, ◌^◌, ◌⊎◌, List, ◌++◌, length, Some}
 use Rattle.quic_base.specs.declared.ids.SpaceId.{SpaceId}
 use Rattle.quic_frames.specs.InRange.{CanFollow}
 use Rattle.quic_header_encode.specs.Queries.{space_in}
-use Rattle.quic_header_encode.specs.Writing.{IsWritable, has_number}
+use Rattle.quic_header_encode.specs.Writing.{IsWritable}
 use Rattle.quic_packets.specs.declared.opening.OpenError.TheVariants as error
 use Rattle.quic_packets.specs.declared.opening.Opened.{Opened}
 use Rattle.quic_packets.specs.declared.seal.SealError.{SealError}
@@ -19,7 +19,6 @@ use Rattle.quic_bench.specs.declared.two_packets.Outgoing.{Outgoing}
 -- has frames, and they can be written one after another.
 pub record CanBeSealed (packet : Outgoing) : Type 0 where
   pub writable : IsWritable packet.header.now
-  pub protected : IsTrue (has_number packet.header.now)
   pub low : IsLowPart packet.header.now packet.number
   pub small : packet.number < 2 ^ 62
   pub some : 0 < length packet.frames.now

@@ -1,7 +1,8 @@
 -- Headers without protection, and the protected ones that they were (RFC 9000, section 17).
-use Rattle.std.specs.Prelude.{◌≡◌, ℕ, ◌+◌, ◌/◌, ◌%◌, Bool, true, false, List, slice_index, slice_range, nat_eq}
+use Rattle.std.specs.Prelude.{◌≡◌, ℕ, ◌+◌, ◌/◌, ◌%◌, Bool, true, false, List, slice_index, slice_range, nat_eq, is_some}
 use Rattle.quic_crypto.specs.declared.packet_number.PacketNumber.{PacketNumber}
 use Rattle.quic_crypto.specs.PacketNumbers.{number_size}
+use Rattle.quic_header_decode.specs.Queries.{space_of}
 use Rattle.quic_header_decode.specs.Finish.{IsNumberIn}
 use Rattle.quic_header_decode.specs.declared.protected.ProtectedHeader.{ProtectedHeader}
 use Rattle.quic_header_decode.specs.declared.protected.ProtectedHeader.TheVariants as head
@@ -10,11 +11,7 @@ use Rattle.quic_header_encode.specs.declared.header.Header.TheVariants as header
 
 -- Retry and version negotiation have no protection
 abbrev pub is_protected : ProtectedHeader → Bool
-is_protected (head.Initial h) = true
-is_protected (head.Long ty dst src len version) = true
-is_protected (head.Short spin dst) = true
-is_protected (head.Retry dst src version) = false
-is_protected (head.VersionNegotiate random dst src) = false
+is_protected h = is_some (space_of h)
 
 -- what a header says once its number is known, in an open packet
 abbrev pub with_number : ProtectedHeader → PacketNumber → List ℕ → Header → Type 0

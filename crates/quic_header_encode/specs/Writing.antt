@@ -1,8 +1,9 @@
 -- The bytes of headers, and a packet that is finished after its payload was appended to its header (RFC 9000, section
 -- 17; RFC 9001, sections 5.3 and 5.4).
-use Rattle.std.specs.Prelude.{◌≡◌, IsTrue, IsOk, OnOk, OnErr, Result, Vec, vec_len, vec_capacity, ◌≤◌, take, drop, ℕ, ◌+◌, ◌-◌, ◌<◌, ◌^◌, Bool, true, false, Option, Some, None, List, [], ◌∷◌, ◌++◌, length, bit_or, if◌then◌else◌}
+use Rattle.std.specs.Prelude.{◌≡◌, IsTrue, IsOk, OnOk, OnErr, Result, Vec, vec_len, vec_capacity, ◌≤◌, take, drop, ℕ, ◌+◌, ◌-◌, ◌<◌, ◌^◌, Bool, true, false, Option, Some, None, List, [], ◌∷◌, ◌++◌, length, bit_or, if◌then◌else◌, is_some}
 use Rattle.std.specs.declared.alloc.Global.{Global}
 use Rattle.quic_base.specs.declared.coding.NoRoom.{NoRoom}
+use Rattle.std.specs.Option.{option_map, option_map_or}
 use Rattle.quic_base.specs.Number.{bytes_of}
 use Rattle.quic_base.specs.Varint.{shortest_varint, size}
 use Rattle.quic_crypto.specs.Keys.{payload_in}
@@ -11,6 +12,7 @@ use Rattle.quic_header_encode.specs.declared.header.Header.{Header}
 use Rattle.quic_header_encode.specs.declared.header.Header.TheVariants as header
 use Rattle.quic_header_encode.specs.declared.long_type.LongHeaderType.{LongHeaderType}
 use Rattle.quic_header_encode.specs.declared.long_type.LongHeaderType.TheVariants as kind
+use Rattle.quic_header_encode.specs.Queries.{number_in}
 use Rattle.quic_header_encode.specs.Starts.{long_front}
 use Rattle.quic_header_encode.specs.Types.{first_byte}
 
@@ -70,22 +72,6 @@ header_size (header.Retry dst src version) = 7 + length dst + length src
 header_size (header.Short spin key_phase dst number) = 1 + length dst + number_size number
 header_size (header.VersionNegotiate random src dst) = 7 + length dst + length src
 
--- the length of a header's number, where it has one, and whether it has a length
-abbrev pub place_in : Header → Option (ℕ × Bool)
-place_in (header.Initial h) = Some (number_size h.number, true)
-place_in (header.Long ty dst src number version) = Some (number_size number, true)
-place_in (header.Retry dst src version) = None
-place_in (header.Short spin key_phase dst number) = Some (number_size number, false)
-place_in (header.VersionNegotiate random src dst) = None
-
--- how many bytes a header's number takes
-abbrev pub size_in : Header → ℕ
-size_in (header.Initial h) = number_size h.number
-size_in (header.Long ty dst src number version) = number_size number
-size_in (header.Retry dst src version) = 0
-size_in (header.Short spin key_phase dst number) = number_size number
-size_in (header.VersionNegotiate random src dst) = 0
-
 -- Initial, Handshake and 0-RTT packets say their length
 abbrev pub has_length : Header → Bool
 has_length (header.Initial h) = true
@@ -94,13 +80,17 @@ has_length (header.Retry dst src version) = false
 has_length (header.Short spin key_phase dst number) = false
 has_length (header.VersionNegotiate random src dst) = false
 
+-- the length of a header's number, where it has one, and whether it has a length
+abbrev pub place_in : Header → Option (ℕ × Bool)
+place_in h = option_map (λ number. (number_size number, has_length h)) (number_in h)
+
+-- how many bytes a header's number takes
+abbrev pub size_in : Header → ℕ
+size_in h = option_map_or number_size (number_in h) 0
+
 -- all packets have a number but Retry and version negotiation
 abbrev pub has_number : Header → Bool
-has_number (header.Initial h) = true
-has_number (header.Long ty dst src number version) = true
-has_number (header.Retry dst src version) = false
-has_number (header.Short spin key_phase dst number) = true
-has_number (header.VersionNegotiate random src dst) = false
+has_number h = is_some (number_in h)
 
 -- a packet whose header's length, where it has one, counts the bytes from the number on
 abbrev pub with_length : ℕ → Bool → ℕ → List ℕ → List ℕ

@@ -1,6 +1,6 @@
 -- A datagram's packets are opened one after another, from what is left of it.
-use Rattle.std.specs.Prelude.{◌≡◌, ℕ, ◌+◌, ◌<◌, List, [], ◌∷◌, ◌++◌, length, Option, Some, None, Result, Ok, Err, IfSome}
-use Rattle.std.proofs.Common.{sym, subst, refl, arith}
+use Rattle.std.specs.Prelude.{◌≡◌, ℕ, ◌+◌, ◌<◌, List, [], ◌∷◌, ◌++◌, length, Option, Some, None, Ok, Err, IfSome}
+use Rattle.std.proofs.Common.{sym, subst, arith}
 use Rattle.bytes.specs.Filled.{Filled}
 use Rattle.quic_packets.specs.declared.opening.Opened.{Opened}
 use Rattle.quic_packets.specs.declared.opening.OpenError.{OpenError}
@@ -15,15 +15,11 @@ less_left bytes (Some f) less = omega (arith, less)
 
 pub next_opened : {opening : Opening} {old : Option Filled} {left : Filled} {opened : Opened} {new : Option Filled} → PacketAnswer opening left.items (Ok (opened, new))
     → old ≡ Some left → NextAnswer opening old (Some (Ok opened)) new
-next_opened {opening} {old} {left} {opened} {new} first is =
-    subst (λ (o : Option Filled). NextAnswer opening o (Some (Ok opened)) new) (sym is)
-    (record { next = first.opened; shorter = λ some. less_left left.items new first.shorter; sealed = first.sealed })
+next_opened {opening} {old} {left} {opened} {new} first is = subst (λ (o : Option Filled). NextAnswer opening o (Some (Ok opened)) new) (sym is) first
 
 pub next_refused : {opening : Opening} {old : Option Filled} {left : Filled} {e : OpenError} {new : Option Filled} → PacketAnswer opening left.items (Err e)
     → old ≡ Some left → new ≡ None → NextAnswer opening old (Some (Err e)) new
-next_refused {opening} {old} {left} {e} {new} first is none =
-    subst (λ (o : Option Filled). NextAnswer opening o (Some (Err e)) new) (sym is)
-    (record { next = (first.refused, none); shorter = λ some. less_left left.items new (subst (λ (o : Option Filled). IfSome o (λ f. length f.items < length left.items)) (sym none) tt); sealed = first.sealed })
+next_refused {opening} {old} {left} {e} {new} first is none = subst (λ (o : Option Filled). NextAnswer opening o (Some (Err e)) new) (sym is) (first, none)
 
 -- ---- all packets
 

@@ -16,7 +16,7 @@ use Rattle.quic_header_encode.specs.Starts.{long_front}
 use Rattle.quic_header_encode.specs.declared.long_type.LongHeaderType.TheVariants as kind
 use Rattle.quic_header_encode.specs.Writing.{long_first, header_front, header_with, header_bytes, header_size, no_length, place_in, size_in, has_length, has_number, with_length, sealed_packet}
 use Rattle.quic_packets.specs.Pairs.{KeyPair}
-use Rattle.quic_packets.specs.Sealing.{Sealed, plain_packet, sealed_header, protected_len}
+use Rattle.quic_packets.specs.Sealing.{IsLowPart, Sealed, plain_packet, sealed_header, protected_len}
 use Rattle.quic_header_decode.proofs.Steps.{take_front, drop_front}
 
 -- a sealed packet, and what it is before its header is protected, by its parts
@@ -25,6 +25,14 @@ SealedOf keys h n payload bytes = Sealed keys (record { header = h; number = n; 
 
 abbrev pub plain_of : KeyPair → Header → ℕ → List ℕ → List ℕ
 plain_of keys h n payload = plain_packet keys (record { header = h; number = n; payload = payload })
+
+-- a header whose number is known to be a low part has one
+pub low_numbered : (h : Header) (n : ℕ) → IsLowPart h n → IsTrue (has_number h)
+low_numbered (header.Initial h) n low = refl
+low_numbered (header.Long ty dst src number version) n low = refl
+low_numbered (header.Retry dst src version) n low = absurd low
+low_numbered (header.Short spin key_phase dst number) n low = refl
+low_numbered (header.VersionNegotiate random src dst) n low = absurd low
 
 pub place_is : (h : Header) → IsTrue (has_number h) → place_in h ≡ Some (size_in h, has_length h)
 place_is (header.Initial h) e = refl

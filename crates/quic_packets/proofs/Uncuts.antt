@@ -1,6 +1,6 @@
 -- A refusal of the cut, as a refusal of the packet.
-use Rattle.std.specs.Prelude.{◌≡◌, ◌≢◌, ℕ, ◌<◌, ◌⊎◌, Bool, IsTrue, List, ◌++◌, length, take, drop, MatchOption, Option, None, Some, Result, Ok, Err}
-use Rattle.std.proofs.Common.{sym, ap, ◌∙◌, arith, subst, refl, inl, inr}
+use Rattle.std.specs.Prelude.{◌≡◌, ◌≢◌, ℕ, ◌<◌, ◌⊎◌, IsTrue, List, ◌++◌, length, take, drop, MatchOption, Option, None, Some, Result, Ok, Err}
+use Rattle.std.proofs.Common.{sym, ap, ◌∙◌, subst, refl, inl, inr}
 use Rattle.std.proofs.lemmas.List.{take-append-drop, length-take-le}
 use Rattle.quic_base.specs.declared.ids.SpaceId.{SpaceId}
 use Rattle.quic_header_decode.specs.declared.protected.ProtectedHeader.{ProtectedHeader}
@@ -13,7 +13,6 @@ use Rattle.quic_header_decode.specs.Queries.{space_of}
 use Rattle.quic_header_decode.specs.Reading.{DecodeOptions}
 use Rattle.quic_packets.specs.declared.opening.OpenError.{OpenError}
 use Rattle.quic_packets.specs.declared.opening.OpenError.TheVariants as refused
-use Rattle.quic_packets.specs.Pairs.{KeyPair}
 use Rattle.quic_packets.specs.Opening.{CutsFirst, IsDecode, Opening, RefusesPacket}
 use Rattle.quic_packets.specs.Opening as rule
 

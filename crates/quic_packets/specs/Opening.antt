@@ -1,5 +1,5 @@
 -- Packets that are opened: the first one of a datagram, the next one, and all of them.
-use Rattle.std.specs.Prelude.{◌≡◌, ◌≢◌, ℕ, ◌+◌, ◌<◌, ◌≤◌, ◌⊎◌, Bool, true, IsTrue, List, [], ◌∷◌, ◌++◌, length, map, Option, Some, None, ◌^◌, Result, Ok, Err, IfOk, IfErr, IfSome, IsSome, MatchOption, MatchResult}
+use Rattle.std.specs.Prelude.{◌≡◌, ◌≢◌, ℕ, ◌+◌, ◌<◌, ◌≤◌, ◌⊎◌, Bool, true, IsTrue, List, [], ◌∷◌, ◌++◌, length, map, Option, Some, None, ◌^◌, Result, Ok, Err, IfOk, IfErr, IfSome, MatchOption, MatchResult}
 use Rattle.bytes.specs.Filled.{Filled}
 use Rattle.quic_base.specs.declared.ids.SpaceId.{SpaceId}
 use Rattle.quic_crypto.specs.Keys.{HasSample}
@@ -229,32 +229,17 @@ pub record PacketAnswer (opening : Opening) (bytes : List ℕ)
   pub sealed : (contents : PacketContents) (rest : List ℕ) → BeginsSealed opening bytes contents rest
       → MatchResult result (λ x. ReturnsSealed opening contents rest x.0 x.1) (λ e. e ≡ error.OutOfMemory)
 
--- the next packet is opened of what is left, if anything is; after a refusal nothing is left
-abbrev pub OpensNext : Opening → Option Filled → Option (Result Opened OpenError) → Option Filled → Type 0
-OpensNext opening None result new = (result ≡ None) × (new ≡ None)
-OpensNext opening (Some left) None new = ⊥
-OpensNext opening (Some left) (Some (Ok opened)) new = OpensFirst opening left.items opened new
-OpensNext opening (Some left) (Some (Err e)) new = Refuses opening left.items e × (new ≡ None)
-
--- the same where a sealed packet is next
-abbrev pub ReturnsNext : Opening → PacketContents → List ℕ → Option (Result Opened OpenError) → Option Filled → Type 0
-ReturnsNext opening contents rest None new = ⊥
-ReturnsNext opening contents rest (Some (Ok opened)) new = ReturnsSealed opening contents rest opened new
-ReturnsNext opening contents rest (Some (Err e)) new = e ≡ error.OutOfMemory
+-- a call that opens the next packet of what is left, if anything is; after a refusal nothing is left
+abbrev pub NextAnswer : Opening → Option Filled → Option (Result Opened OpenError) → Option Filled → Type 0
+NextAnswer opening None result new = (result ≡ None) × (new ≡ None)
+NextAnswer opening (Some left) None new = ⊥
+NextAnswer opening (Some left) (Some (Ok opened)) new = PacketAnswer opening left.items (Ok (opened, new))
+NextAnswer opening (Some left) (Some (Err e)) new = PacketAnswer opening left.items (Err e) × (new ≡ None)
 
 -- how much is left, which each packet makes less
 abbrev pub left_size : Option Filled → ℕ
 left_size None = 0
 left_size (Some left) = 1 + length left.items
-
--- a call that opens the next packet
-pub record NextAnswer (opening : Opening) (old : Option Filled) (result : Option (Result Opened OpenError))
-    (new : Option Filled) : Type 0 where
-  pub next : OpensNext opening old result new
-  pub shorter : IsSome result → left_size new < left_size old
-  pub sealed : IfSome old (λ left. (contents : PacketContents) (rest : List ℕ)
-      → BeginsSealed opening left.items contents rest
-      → ReturnsNext opening contents rest result new)
 
 -- a call that opens all packets, and appends them: where one is refused, those before it
 pub record DatagramAnswer {X : Type 0} (opening : Opening) (bytes : List ℕ) (result : Result X OpenError)

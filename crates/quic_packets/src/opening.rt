@@ -1,10 +1,10 @@
 //! Packets are opened (RFC 9001, sections 5.3 and 5.4).
-ghost use Rattle.std.specs.Prelude.{◌≡◌, ℕ, ◌<◌, ◌^◌, List, ◌++◌, length, IfOk, IfErr, IfSome, IsTrue, false, MatchOption, None, Some};
+ghost use Rattle.std.specs.Prelude.{◌≡◌, ◌<◌, ◌^◌, length, IfOk, IfErr, IsSome, IsTrue, MatchOption, None, Some};
 ghost use Rattle.quic_crypto.specs.PacketNumbers.{IsInRange};
 ghost use Rattle.quic_header_decode.specs.Headers.{is_protected};
 ghost use Rattle.quic_header_decode.specs.Queries.{space_of};
 ghost use Rattle.quic_header_encode.specs.Queries.{number_in};
-ghost use Rattle.quic_packets.specs.Opening.{DatagramAnswer, PacketAnswer, NextAnswer, AreExpected, ExpandsIn, IsDecode, OpensPacket, OpensWithKey, RefusesPacket, RefusesWithKey, packet_of};
+ghost use Rattle.quic_packets.specs.Opening.{DatagramAnswer, PacketAnswer, NextAnswer, AreExpected, ExpandsIn, IsDecode, OpensPacket, OpensWithKey, RefusesPacket, RefusesWithKey, left_size, packet_of};
 ghost use Rattle.quic_packets.specs.Pairs.{expected_in};
 
 use crate::keys::{Expected, Keys, SpaceKeys};
@@ -125,8 +125,7 @@ fn open_plain<H: HeaderKey, P: PacketKey>(
     keys: &SpaceKeys<H, P>,
     expected: &Expected,
 ) -> Result<Opened, OpenError>
-    requires plain { is_protected partial.head ≡ false }
-    requires none { space_of partial.head ≡ None }
+    requires { space_of partial.head ≡ None }
     ensures opened { IfOk result (λ x. OpensPacket (⟦<SpaceKeys<H, P> as PairsOfKeys>⟧.pairs keys.now)
         (expected_in expected.now) partial (packet_of x)) }
     ensures refused { IfErr result (RefusesPacket (⟦<SpaceKeys<H, P> as PairsOfKeys>⟧.pairs keys.now)
@@ -175,9 +174,8 @@ fn open_first<C: ConnectionIdParser, H: HeaderKey, P: PacketKey>(
     room: bool,
 ) -> Result<(Opened, Option<BytesMut>), OpenError>
     requires { AreExpected expected.now }
-    ensures first { PacketAnswer
-        (⟦<SpaceKeys<H, P> as OpeningKeys<C>>⟧.opening keys.now parser.now versions.now grease expected.now)
-        bytes.items result }
+    ensures first { PacketAnswer (⟦<SpaceKeys<H, P> as OpeningKeys<C>>⟧.opening keys.now parser.now versions.now grease
+        expected.now) bytes.items result }
     ensures roomy { IfOk result (λ _. IsTrue room) }
 {
     are_bytes(bytes.as_slice());
@@ -212,9 +210,8 @@ pub fn open_packet<C: ConnectionIdParser, H: HeaderKey, P: PacketKey>(
     expected: &Expected,
 ) -> Result<(Opened, Option<BytesMut>), OpenError>
     requires { AreExpected expected.now }
-    ensures { PacketAnswer
-        (⟦<SpaceKeys<H, P> as OpeningKeys<C>>⟧.opening keys.now parser.now versions.now grease expected.now)
-        bytes.items result }
+    ensures { PacketAnswer (⟦<SpaceKeys<H, P> as OpeningKeys<C>>⟧.opening keys.now parser.now versions.now grease
+        expected.now) bytes.items result }
 {
     open_first(bytes, parser, versions, grease, keys, expected, true)
 }
@@ -248,9 +245,9 @@ impl Packets {
         expected: &Expected,
     ) -> Option<Result<Opened, OpenError>>
         requires { AreExpected expected.now }
-        ensures { NextAnswer
-            (⟦<SpaceKeys<H, P> as OpeningKeys<C>>⟧.opening keys.now parser.now versions.now grease expected.now)
-            self.old.rest result self.new.rest }
+        ensures next { NextAnswer (⟦<SpaceKeys<H, P> as OpeningKeys<C>>⟧.opening keys.now parser.now versions.now grease
+            expected.now) self.old.rest result self.new.rest }
+        ensures shorter { IsSome result → left_size self.new.rest < left_size self.old.rest }
     {
         let bytes = self.rest.take()?;
         match open_packet(bytes, parser, versions, grease, keys, expected) {
@@ -277,9 +274,8 @@ pub fn open_datagram<C: ConnectionIdParser, H: HeaderKey, P: PacketKey>(
     out: &mut Vec<Opened>,
 ) -> Result<(), OpenError>
     requires { AreExpected expected.now }
-    ensures { DatagramAnswer
-        (⟦<SpaceKeys<H, P> as OpeningKeys<C>>⟧.opening keys.now parser.now versions.now grease expected.now)
-        bytes.items result out.old.items out.new.items }
+    ensures { DatagramAnswer (⟦<SpaceKeys<H, P> as OpeningKeys<C>>⟧.opening keys.now parser.now versions.now grease
+        expected.now) bytes.items result out.old.items out.new.items }
 {
     let mut left = Some(bytes);
     while let Some(bytes) = left.take() {

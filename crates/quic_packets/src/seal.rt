@@ -2,7 +2,7 @@
 ghost use Rattle.std.specs.Prelude.{◌⊎◌, IfNone, MatchOption, ◌≡◌, ◌≢◌, ℕ, ◌+◌, ◌-◌, ◌≤◌, ◌<◌, ◌^◌, ◌++◌, length, min, vec_len, vec_capacity, IfOk, IfErr, OnErr, IsTrue, IfSome, Some, take, drop, replicate};
 ghost use Rattle.quic_base.specs.Number.{AreBytes};
 ghost use Rattle.quic_frames.specs.InRange.{CanFollow};
-ghost use Rattle.quic_header_encode.specs.Writing.{header_size, header_bytes, place_in, IsWritable, has_number, finished, HasRoom};
+ghost use Rattle.quic_header_encode.specs.Writing.{header_size, header_bytes, place_in, IsWritable, finished, HasRoom};
 ghost use Rattle.quic_packets.specs.Sealing.{SealedFrames, IsAppended, SealRefused, IsLowPart, payload_of};
 
 use crate::keys::Keys;
@@ -125,9 +125,9 @@ fn sum(a: usize, payload: u128, c: usize) -> Option<usize>
 /// growth, after the lengths are known.
 ///
 /// Of the refusals the first that holds is answered, and each leaves `out` as it was; `NoRoom` comes only where
-/// the spare room is less than what is written. The caller must give a protected header that `Header::encode` may write
-/// and whose number is the low part of `number`, a `number` below 2^62, and one or more frames that
-/// `Frame::encode` may write at their places.
+/// the spare room is less than what is written. The caller must give a header that `Header::encode` may write and whose
+/// number is the low part of `number`, a `number` below 2^62, and one or more frames that `Frame::encode` may write at
+/// their places.
 pub fn seal_packet<H: HeaderKey, P: PacketKey>(
     header: &Header,
     number: u64,
@@ -136,7 +136,6 @@ pub fn seal_packet<H: HeaderKey, P: PacketKey>(
     out: &mut Vec<u8>,
 ) -> Result<usize, SealError>
     requires writable { IsWritable header.now }
-    requires protected { IsTrue (has_number header.now) }
     requires low { IsLowPart header.now number }
     requires small { number < 2 ^ 62 }
     requires some { 0 < length frames.now }

@@ -1,4 +1,3 @@
-use Rattle.std.proofs.Common.{ℕ}
 use Rattle.quic_packets.specs.Opening.{Opening, left_size}
 use Rattle.quic_packets.specs.Pairs.{keys_in, expected_in}
 use Rattle.quic_packets.proofs.Nexts.{Reached}

@@ -1,5 +1,5 @@
 -- A packet without its protection: its number is in range, and the key opens it or not.
-use Rattle.std.proofs.Common.{rules, ◌≡◌, ℕ, List, Bool, true, length, ◌++◌, subst, refl, None, Some}
+use Rattle.std.proofs.Common.{rules, Bool, length, ◌++◌, subst, refl}
 use Rattle.quic_header_decode.specs.Headers.{IsOpenedBy}
 use Rattle.quic_packets.proofs.Opened.{opened_number}
 use Rattle.quic_packets.proofs.opening.open_protected.Goals as goal

@@ -4,7 +4,7 @@ use Rattle.quic_header_encode.specs.declared.header.Header.{Header}
 use Rattle.quic_packets.specs.Pairs.{KeyPair}
 use Rattle.quic_packets.specs.Sealing.{payload_of}
 use Rattle.quic_header_encode.specs.Writing.{header_size, header_bytes, size_in}
-use Rattle.quic_packets.proofs.Sealings.{plain_of, sealed_end}
+use Rattle.quic_packets.proofs.Sealings.{low_numbered, plain_of, sealed_end}
 use Rattle.std.proofs.lemmas.Grind.{common_steps}
 use Rattle.quic_packets.proofs.seal.seal_packet.Goals as goal
 
@@ -15,7 +15,7 @@ returns-clause-sealed g c =
     let kept : c.reserve.new.self.items ≡ c.args.out.now.items = c.reserve.ensures.items in
     let tag : c.tag_len-tag.result ≡ keys.tag_size = c.tag_len-tag.ensures in
     let done = sealed_end keys h c.args.number (payload_of c.args.frames.now) c.args.out.now.items c.write_packet-partial.new.out.items c.finish_last.new.out.items
-    c.write_packet-partial.result.start c.write_packet-partial.result.header_len c.write_packet-partial.result.pn c.requires.protected c.write_packet-partial.ensures.place
+    c.write_packet-partial.result.start c.write_packet-partial.result.header_len c.write_packet-partial.result.pn (low_numbered h c.args.number c.requires.low) c.write_packet-partial.ensures.place
     c.write_packet-partial.ensures.header_len
     (c.write_packet-partial.ensures.start ∙ sym c.as_slice-before.ensures.len ∙ ap length (c.as_slice-before.ensures.value ∙ kept))
     (c.write_packet-partial.ensures.items ∙ ap (λ (xs : List ℕ). xs ++ (header_bytes h ++ (payload_of c.args.frames.now ++ replicate c.tag_len-tag.result 0))) kept

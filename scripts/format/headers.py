@@ -14,6 +14,7 @@ WRITING = "quic_header_encode/specs/Writing"
 GRAMMAR = "quic_header_decode/specs/Grammar"
 HEADS = "quic_header_decode/specs/Headers"
 FINISH = "quic_header_decode/specs/Finish"
+SPACES = "quic_header_decode/specs/Queries"
 PLACES = "quic_header_decode/specs/Places"
 NEGOTIATION = "quic_c_headers/specs/Negotiation"
 
@@ -95,7 +96,8 @@ def meant(head):
 
 
 def is_protected(head):
-    return said(HEADS, "is_protected", head.read, "<answer>")["answer"] == "true"
+    said(HEADS, "is_protected", "h", "is_some (space_of h)")
+    return said(SPACES, "space_of", head.read, "<answer..>")["answer"] != "None"
 
 
 def row(head):

@@ -6,12 +6,16 @@ use Rattle.std.specs.Fmt.{digits}
 -- the types that have a name of their own (RFC 9000, section 19; the last is of the ACK frequency extension)
 abbrev pub names : List (ℕ × List ℕ)
 names =
-    (0x00, codes "PADDING") ∷ (0x01, codes "PING") ∷ (0x02, codes "ACK") ∷ (0x03, codes "ACK_ECN") ∷ (0x04, codes "RESET_STREAM")
+    (0x00, codes "PADDING") ∷ (0x01, codes "PING") ∷ (0x02, codes "ACK") ∷ (0x03, codes "ACK_ECN")
+    ∷ (0x04, codes "RESET_STREAM")
     ∷ (0x05, codes "STOP_SENDING") ∷ (0x06, codes "CRYPTO") ∷ (0x07, codes "NEW_TOKEN") ∷ (0x10, codes "MAX_DATA")
-    ∷ (0x11, codes "MAX_STREAM_DATA") ∷ (0x12, codes "MAX_STREAMS_BIDI") ∷ (0x13, codes "MAX_STREAMS_UNI") ∷ (0x14, codes "DATA_BLOCKED")
+    ∷ (0x11, codes "MAX_STREAM_DATA") ∷ (0x12, codes "MAX_STREAMS_BIDI") ∷ (0x13, codes "MAX_STREAMS_UNI")
+    ∷ (0x14, codes "DATA_BLOCKED")
     ∷ (0x15, codes "STREAM_DATA_BLOCKED") ∷ (0x16, codes "STREAMS_BLOCKED_BIDI") ∷ (0x17, codes "STREAMS_BLOCKED_UNI")
-    ∷ (0x18, codes "NEW_CONNECTION_ID") ∷ (0x19, codes "RETIRE_CONNECTION_ID") ∷ (0x1a, codes "PATH_CHALLENGE") ∷ (0x1b, codes "PATH_RESPONSE")
-    ∷ (0x1c, codes "CONNECTION_CLOSE") ∷ (0x1d, codes "APPLICATION_CLOSE") ∷ (0x1e, codes "HANDSHAKE_DONE") ∷ (0x1f, codes "IMMEDIATE_ACK")
+    ∷ (0x18, codes "NEW_CONNECTION_ID") ∷ (0x19, codes "RETIRE_CONNECTION_ID") ∷ (0x1a, codes "PATH_CHALLENGE")
+    ∷ (0x1b, codes "PATH_RESPONSE")
+    ∷ (0x1c, codes "CONNECTION_CLOSE") ∷ (0x1d, codes "APPLICATION_CLOSE") ∷ (0x1e, codes "HANDSHAKE_DONE")
+    ∷ (0x1f, codes "IMMEDIATE_ACK")
     ∷ (0xaf, codes "ACK_FREQUENCY") ∷ []
 
 -- the number in hexadecimal, in lower case, of at least two digits

@@ -103,4 +103,5 @@ pub record IsBroken (strict : Bool) (before : Option ℕ) (found : List TypedFra
 abbrev pub IsEither : Bool → Option ℕ → List ℕ → Type 0
 IsEither strict before bytes =
     ((found : List TypedFrame) × AreFrames strict found bytes)
-    ⊎ ((found : List TypedFrame) × (type : Option ℕ) × (reason : Fault) × IsBroken strict before found bytes type reason)
+    ⊎ ((found : List TypedFrame) × (type : Option ℕ) × (reason : Fault)
+    × IsBroken strict before found bytes type reason)

@@ -18,7 +18,8 @@ shortest_below low (range ∷ ranges) = shortest_varint (low - (range.1 + 2))
 
 abbrev pub shortest_blocks : List (ℕ × ℕ) → List ℕ
 shortest_blocks [] = []
-shortest_blocks (range ∷ ranges) = shortest_varint (length ranges) ++ (shortest_varint (range.1 - range.0) ++ shortest_below range.0 ranges)
+shortest_blocks (range ∷ ranges) = shortest_varint (length ranges)
+    ++ (shortest_varint (range.1 - range.0) ++ shortest_below range.0 ranges)
 
 -- a field with the first of these values
 abbrev pub shortest_of : Field → List Value → List ℕ
@@ -67,7 +68,8 @@ written_offset offset = if offset == 0 then [] else shortest_varint offset
 abbrev pub stream_header : ℕ → ℕ → Bool → Option ℕ → List ℕ
 stream_header id offset fin None = shortest_varint (named_type Stream (flag fin ∷ Number id ∷ Number offset ∷ []))
     ++ (shortest_varint id ++ written_offset offset)
-stream_header id offset fin (Some n) = shortest_varint (named_type Stream (flag fin ∷ Number id ∷ Number offset ∷ []) + 2)
+stream_header id offset fin (Some n) = shortest_varint
+    (named_type Stream (flag fin ∷ Number id ∷ Number offset ∷ []) + 2)
     ++ (shortest_varint id ++ (written_offset offset ++ shortest_varint n))
 
 -- ---- closes that are cut to their room

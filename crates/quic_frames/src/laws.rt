@@ -34,10 +34,12 @@ pub fn one_reading()
     ensures either { (strict : Bool) (bytes : List ℕ) → AreBytes bytes → IsEither strict None bytes }
     ensures one { (strict : Bool) (some others : List TypedFrame) (bytes : List ℕ)
         → AreFrames strict some bytes → AreFrames strict others bytes → some ≡ others }
-    ensures never_both { (strict : Bool) (some others : List TypedFrame) (bytes : List ℕ) (type : Option ℕ) (reason : Fault)
+    ensures never_both { (strict : Bool) (some others : List TypedFrame) (bytes : List ℕ) (type : Option ℕ)
+        (reason : Fault)
         → AreBytes bytes → AreFrames strict some bytes → IsBroken strict None others bytes type reason → ⊥ }
     // No frame that isn't open begins another one.
-    ensures begins_none { (strict : Bool) (one other : TypedFrame) (bytes longer rest : List ℕ) → is_open one.type ≡ false
+    ensures begins_none { (strict : Bool) (one other : TypedFrame) (bytes longer rest : List ℕ)
+        → is_open one.type ≡ false
         → IsFrame strict one bytes → IsFrame strict other longer → longer ≡ bytes ++ rest → bytes ≡ longer }
     // What is read where types must be in their shortest encodings is read alike where they may be in any.
     ensures relaxed { (strict : Bool) (found : List TypedFrame) (bytes : List ℕ)
@@ -54,7 +56,8 @@ pub fn lasting()
         → AreBytes (bytes ++ more) → reason ≢ UnexpectedEnd
         → IsBroken strict None found bytes type reason → IsBroken strict None found (bytes ++ more) type reason }
     // So no front of a payload without an error is `malformed`, has an `invalid frame ID`, or a long type.
-    ensures front { (strict : Bool) (found others : List TypedFrame) (bytes more : List ℕ) (type : Option ℕ) (reason : Fault)
+    ensures front { (strict : Bool) (found others : List TypedFrame) (bytes more : List ℕ) (type : Option ℕ)
+        (reason : Fault)
         → AreBytes (bytes ++ more) → AreFrames strict found (bytes ++ more)
         → IsBroken strict None others bytes type reason → reason ≡ UnexpectedEnd }
 {}

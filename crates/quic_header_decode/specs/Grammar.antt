@@ -101,12 +101,14 @@ IsRefusal context field before bytes e = e ≡ refusal_at field before
 -- ---- which bytes are a row, and why others aren't
 
 -- The bytes are such a field, and then rest.
-abbrev pub BeginsWithField : DecodeOptions → HeaderField → List HeaderValue → List HeaderValue → List ℕ → List ℕ → Type 0
+abbrev pub BeginsWithField : DecodeOptions → HeaderField → List HeaderValue → List HeaderValue → List ℕ → List ℕ
+    → Type 0
 BeginsWithField context field before values bytes rest =
     (front : List ℕ) × (bytes ≡ front ++ rest) × IsHeaderField context field before values front rest
 
 -- The bytes are the fields of a row, and then rest; the values grow from before to after.
-abbrev pub AreHeaderFields : DecodeOptions → List HeaderField → List HeaderValue → List HeaderValue → List ℕ → List ℕ → Type 0
+abbrev pub AreHeaderFields : DecodeOptions → List HeaderField → List HeaderValue → List HeaderValue → List ℕ → List ℕ
+    → Type 0
 AreHeaderFields context [] before after bytes rest = (after ≡ before) × (bytes ≡ rest)
 AreHeaderFields context (field ∷ fields) before after bytes rest =
     (values : List HeaderValue) × (left : List ℕ) × BeginsWithField context field before values bytes left

@@ -24,7 +24,8 @@ pub fn one_answer()
         → AreBytes bytes → HeaderAnswer context whole bytes one → HeaderAnswer context whole bytes other → one ≡ other }
     ensures cut { (context : DecodeOptions) (bytes : List ℕ) (one other : Result (ProtectedHeader × ℕ × ℕ) Refusal)
         → AreBytes bytes → CutAnswer context bytes one → CutAnswer context bytes other → one ≡ other }
-    ensures header_found { (context : DecodeOptions) (whole : ℕ) (bytes : List ℕ) → AreBytes bytes → length bytes ≤ whole
+    ensures header_found { (context : DecodeOptions) (whole : ℕ) (bytes : List ℕ) → AreBytes bytes
+        → length bytes ≤ whole
         → TakesWithin context
         → HeaderAnswer context whole bytes (header_at context whole bytes) }
     ensures cut_found { (context : DecodeOptions) (bytes : List ℕ) → AreBytes bytes → TakesWithin context
@@ -106,7 +107,8 @@ pub fn written()
         → IsKnownVersion context version → length dst ≤ 20 → length src ≤ 20
         → HeaderAt context whole (header_bytes (Header.Retry dst src version) ++ rest)
         (ProtectedHeader.Retry dst src version) rest }
-    ensures short { (context : DecodeOptions) (whole : ℕ) (spin key_phase : Bool) (dst rest : List ℕ) (number : PacketNumber)
+    ensures short { (context : DecodeOptions) (whole : ℕ) (spin key_phase : Bool) (dst rest : List ℕ)
+        (number : PacketNumber)
         → context.parsed (dst ++ (number_bytes number ++ rest)) ≡ Ok (dst, length dst)
         → HeaderAt context whole (header_bytes (Header.Short spin key_phase dst number) ++ rest)
         (ProtectedHeader.Short spin dst) (number_bytes number ++ rest) }

@@ -179,7 +179,8 @@ fn store_counts(counts: &mut [u8; HEADER_ROOM], ecn: Option<EcnCounts>) -> usize
 fn store_shortened(dest: &mut [u8], at: usize, encoded: &[u8], len: usize) -> usize
     requires shortens { Shortens encoded.now len }
     requires room { at + len ≤ length dest.old }
-    ensures stores { (ns : List ℕ) → AreEncoded ns encoded.now → Stores (shortest_varints ns) at dest.old result dest.new }
+    ensures stores { (ns : List ℕ) → AreEncoded ns encoded.now
+        → Stores (shortest_varints ns) at dest.old result dest.new }
     ensures len { length dest.new ≡ length dest.old }
 {
     if len == encoded.len() {
@@ -193,7 +194,8 @@ fn store_shortened(dest: &mut [u8], at: usize, encoded: &[u8], len: usize) -> us
 fn store_each(dest: &mut [u8], at: usize, encoded: &[u8], len: usize) -> usize
     requires shortens { Shortens encoded.now len }
     requires room { at + len ≤ length dest.old }
-    ensures stores { (ns : List ℕ) → AreEncoded ns encoded.now → Stores (shortest_varints ns) at dest.old result dest.new }
+    ensures stores { (ns : List ℕ) → AreEncoded ns encoded.now
+        → Stores (shortest_varints ns) at dest.old result dest.new }
     ensures len { length dest.new ≡ length dest.old }
 {
     let mut at = at;

@@ -82,7 +82,8 @@ pub fn bytes<B: BufMut>(out: &mut B, bytes: &[u8]) -> Result<(), NoRoom>
 pub fn numbers_and_bytes<B: BufMut>(out: &mut B, head: &[u64], tail: &[u8]) -> Result<(), NoRoom>
     requires few { length head.now ≤ 5 }
     requires numeric { AreNumeric head.now }
-    ensures { Writes result (shortest_varints head.now ++ tail.now) (B.written out.old) (B.spare out.old) (B.written out.new)
+    ensures { Writes result (shortest_varints head.now ++ tail.now) (B.written out.old) (B.spare out.old)
+        (B.written out.new)
         (B.spare out.new) }
 {
     numbers(out, head)?;
@@ -114,7 +115,8 @@ pub fn size_of(n: u64) -> usize
 pub fn shortened<B: BufMut>(out: &mut B, encoded: &[u8], len: u64) -> Result<(), NoRoom>
     requires { (ns : List ℕ) → AreEncoded ns encoded.now → len ≡ length (shortest_varints ns) }
     ensures { (ns : List ℕ) → AreEncoded ns encoded.now
-        → Writes result (shortest_varints ns) (B.written out.old) (B.spare out.old) (B.written out.new) (B.spare out.new) }
+        → Writes result (shortest_varints ns) (B.written out.old) (B.spare out.old) (B.written out.new)
+        (B.spare out.new) }
 {
     if len == encoded.len() as u64 {
         bytes(out, encoded)
@@ -126,7 +128,8 @@ pub fn shortened<B: BufMut>(out: &mut B, encoded: &[u8], len: u64) -> Result<(),
 // Appends the numbers one by one.
 fn each_shortened<B: BufMut>(out: &mut B, encoded: &[u8]) -> Result<(), NoRoom>
     ensures { (ns : List ℕ) → AreEncoded ns encoded.now
-        → Writes result (shortest_varints ns) (B.written out.old) (B.spare out.old) (B.written out.new) (B.spare out.new) }
+        → Writes result (shortest_varints ns) (B.written out.old) (B.spare out.old) (B.written out.new)
+        (B.spare out.new) }
 {
     let mut rest = encoded;
     while let Ok((number, after)) = field::varint(rest) {
@@ -202,7 +205,8 @@ pub fn append(out: &mut Vec<u8>, head: &[u64], tail: &[u8]) -> Result<(), NoRoom
     ensures ok { OnOk result (out.new.items ≡ out.old.items ++ (shortest_varints head.now ++ tail.now)) }
     ensures err { OnErr result (out.new.items ≡ out.old.items) }
     ensures capacity { OnErr result (vec_capacity out.new ≡ vec_capacity out.old) }
-    ensures room { vec_len out.old + length (shortest_varints head.now ++ tail.now) ≤ vec_capacity out.old → IsOk result }
+    ensures room { vec_len out.old + length (shortest_varints head.now ++ tail.now) ≤ vec_capacity out.old
+        → IsOk result }
 {
     if out
         .reserve(numbers_len(head) as usize + tail.len())

@@ -94,7 +94,7 @@ Advances old (Some (Err i)) new = (left old ≡ Broken (invalid_of i) ∷ []) ×
 -- ---- No public clause cites what follows.
 
 -- An iterator begins at the front of a payload, which is frames, or frames and then something that is none, and gives
--- just these; or the payload is empty, and that is reported.
+-- just these, at most an item for each byte; or the payload is empty, and that is reported.
 pub record BeginsWalk (strict : Bool) (payload : List ℕ) (result : Result IterState Error) : Type 0 where
   pub empty : IsErr result ↔ (payload ≡ [])
   pub refusal : IfErr result (λ e. IsError e protocol_violation (codes "packet payload is empty"))

@@ -2,7 +2,7 @@
 ghost use Rattle.hex.specs.Hex.{encode_lower};
 ghost use Rattle.quic_text.specs.Printed.{Plain, shown};
 ghost use Rattle.quic_text.specs.CanonText.{canon_lines};
-ghost use Rattle.quic_text.specs.Whole.{Prints, PrintsLines};
+ghost use Rattle.quic_text.specs.Whole.{PrintsBytes, PrintsLines};
 
 use super::frames::print_invalid;
 use crate::engine::RunError;
@@ -46,8 +46,8 @@ fn print_digits<W: Sink>(
     text: &mut String,
     sink: &mut W,
 ) -> Result<(), RunError>
-    ensures { Prints W.taken W.has_failed (shown (Plain (encode_lower bytes.now))) sink.old sink.new text.old text.new
-        result }
+    ensures { PrintsBytes W.taken W.has_failed (shown (Plain (encode_lower bytes.now))) sink.old sink.new
+        text.old text.new result }
 {
     let mut rest = bytes;
     while PIECE < rest.len() {

@@ -33,30 +33,16 @@ loop-left-init g c =
 
 pub returns-in_err-pass_on_pieces : goal.returns-in_err-pass_on_pieces
 returns-in_err-pass_on_pieces g c =
-    record {
-      printed = record {
-        ok = search rules;
-        err = on_err c.from_residual-in_err-pass_on_pieces.result
-            (waits_broken c.new-parser.result.expected_len c.loop-left.start c.loop-left.left.items _ _ _ (string_bytes c.loop-left.text) _ c.loop-left.invariant.fits c.loop-left.invariant.passed c.in_err-pass_on_pieces.ensures.err);
-        failed = search rules;
-        read = search rules;
-      };
-      clean = search rules;
-    }
+    let begun = on_err c.from_residual-in_err-pass_on_pieces.result
+    (waits_broken c.new-parser.result.expected_len c.loop-left.start c.loop-left.left.items _ _ _ (string_bytes c.loop-left.text) _ c.loop-left.invariant.fits c.loop-left.invariant.passed c.in_err-pass_on_pieces.ensures.err) in
+    search rules
 
 pub returns-in_err-print_packet-in-Ok : goal.returns-in_err-print_packet-in-Ok
 returns-in_err-print_packet-in-Ok g c =
-    record {
-      printed = record {
-        ok = search rules;
-        err = on_err c.from_residual-in_err-print_packet-in-Ok.result
-            (waits_begun c.new-parser.result.expected_len c.loop-left.start c.loop-left.left.items _ _ (string_bytes c.pass_on_pieces.new.text) _ c.loop-left.invariant.fits
-            (waits_less c.new-parser.result.expected_len c.loop-left.start c.loop-left.left.items _ _ _ (string_bytes c.loop-left.text) _ _ c.loop-left.invariant.passed c.in_ok-pass_on_pieces.ensures.ok));
-        failed = search rules;
-        read = search rules;
-      };
-      clean = search rules;
-    }
+    let begun = on_err c.from_residual-in_err-print_packet-in-Ok.result
+    (waits_begun c.new-parser.result.expected_len c.loop-left.start c.loop-left.left.items _ _ (string_bytes c.pass_on_pieces.new.text) _ c.loop-left.invariant.fits
+    (waits_less c.new-parser.result.expected_len c.loop-left.start c.loop-left.left.items _ _ _ (string_bytes c.loop-left.text) _ _ c.loop-left.invariant.passed c.in_ok-pass_on_pieces.ensures.ok)) in
+    search rules
 
 pub returns-in-None : goal.returns-in-None
 returns-in-None g c =
@@ -64,18 +50,12 @@ returns-in-None g c =
     let left : List ℕ = c.loop-left.left.items in
     let cut : Cut (with_ids_of c.new-parser.result.expected_len) left c.in-Ok.packet.head c.in-Ok.packet.header_end q = cut_given (with_ids_of c.new-parser.result.expected_len) left _ _ q c.in-Ok.ensures.answer.some in
     let none : drop q left ≡ [] = rw c.in-None.is at c.in-Ok.ensures.rest in
-    record {
-      printed = record {
-        ok = text_last (with_ids_of c.new-parser.result.expected_len) c.loop-left.start (c.loop-left.start + c.len.result) q c.in-Ok.packet.header_end left (string_bytes c.pass_on_pieces.new.text) (string_bytes c.print_packet.new.text)
-            (λ waits. AppendsAllBut (g.W.Sink.taken c.args.sink.now) (g.W.Sink.taken c.pass_on_pieces.new.sink) waits (string_bytes c.args.text.now ++ flat_map shown (datagram_lines (count c.args.id_len) c.args.datagram.now)))
-            c.in-Ok.packet.head cut none (ap (λ (n : ℕ). c.loop-left.start + n) c.len.ensures) (rw c.header.ensures at c.in_ok-print_packet-in-Ok.ensures)
-            (waits_less c.new-parser.result.expected_len c.loop-left.start c.loop-left.left.items _ _ _ (string_bytes c.loop-left.text) _ _ c.loop-left.invariant.passed c.in_ok-pass_on_pieces.ensures.ok);
-        err = search rules;
-        failed = search rules;
-        read = search rules;
-      };
-      clean = clean_last (with_ids_of c.new-parser.result.expected_len) c.loop-left.start q c.in-Ok.packet.header_end left (datagram_lines (count c.args.id_len) c.args.datagram.now) c.in-Ok.packet.head cut none c.loop-left.invariant.clean;
-    }
+    let waits = text_last (with_ids_of c.new-parser.result.expected_len) c.loop-left.start (c.loop-left.start + c.len.result) q c.in-Ok.packet.header_end left (string_bytes c.pass_on_pieces.new.text) (string_bytes c.print_packet.new.text)
+    (λ waits. AppendsAllBut (g.W.Sink.taken c.args.sink.now) (g.W.Sink.taken c.pass_on_pieces.new.sink) waits (string_bytes c.args.text.now ++ flat_map shown (datagram_lines (count c.args.id_len) c.args.datagram.now)))
+    c.in-Ok.packet.head cut none (ap (λ (n : ℕ). c.loop-left.start + n) c.len.ensures) (rw c.header.ensures at c.in_ok-print_packet-in-Ok.ensures)
+    (waits_less c.new-parser.result.expected_len c.loop-left.start c.loop-left.left.items _ _ _ (string_bytes c.loop-left.text) _ _ c.loop-left.invariant.passed c.in_ok-pass_on_pieces.ensures.ok) in
+    let plain = clean_last (with_ids_of c.new-parser.result.expected_len) c.loop-left.start q c.in-Ok.packet.header_end left (datagram_lines (count c.args.id_len) c.args.datagram.now) c.in-Ok.packet.head cut none c.loop-left.invariant.clean in
+    search rules
 
 pub loop-left-preserved : goal.loop-left-preserved
 loop-left-preserved g c =
@@ -99,31 +79,18 @@ loop-left-preserved g c =
 
 pub returns-in_err-print_refusal-in-Err : goal.returns-in_err-print_refusal-in-Err
 returns-in_err-print_refusal-in-Err g c =
-    record {
-      printed = record {
-        ok = search rules;
-        err = on_err c.from_residual-in_err-print_refusal-in-Err.result
-            (waits_begun c.new-parser.result.expected_len c.loop-left.start c.loop-left.left.items _ _ (string_bytes c.pass_on_pieces.new.text) _ c.loop-left.invariant.fits
-            (waits_less c.new-parser.result.expected_len c.loop-left.start c.loop-left.left.items _ _ _ (string_bytes c.loop-left.text) _ _ c.loop-left.invariant.passed c.in_ok-pass_on_pieces.ensures.ok));
-        failed = search rules;
-        read = search rules;
-      };
-      clean = search rules;
-    }
+    let begun = on_err c.from_residual-in_err-print_refusal-in-Err.result
+    (waits_begun c.new-parser.result.expected_len c.loop-left.start c.loop-left.left.items _ _ (string_bytes c.pass_on_pieces.new.text) _ c.loop-left.invariant.fits
+    (waits_less c.new-parser.result.expected_len c.loop-left.start c.loop-left.left.items _ _ _ (string_bytes c.loop-left.text) _ _ c.loop-left.invariant.passed c.in_ok-pass_on_pieces.ensures.ok)) in
+    search rules
 
 pub returns-in-Err : goal.returns-in-Err
 returns-in-Err g c =
     let left : List ℕ = c.loop-left.left.items in
     let uncut : Uncut (with_ids_of c.new-parser.result.expected_len) left (refusal_of c.in-Err.error) = refusal_given _ left c.in-Err.error c.in_ok-print_refusal-in-Err.ensures.memory c.in-Err.ensures.answer.some in
-    record {
-      printed = record {
-        ok = text_refused (with_ids_of c.new-parser.result.expected_len) c.loop-left.start left (string_bytes c.pass_on_pieces.new.text) (string_bytes c.print_refusal.new.text)
-            (λ waits. AppendsAllBut (g.W.Sink.taken c.args.sink.now) (g.W.Sink.taken c.pass_on_pieces.new.sink) waits (string_bytes c.args.text.now ++ flat_map shown (datagram_lines (count c.args.id_len) c.args.datagram.now)))
-            (refusal_of c.in-Err.error) uncut c.in_ok-print_refusal-in-Err.ensures.bytes
-            (waits_less c.new-parser.result.expected_len c.loop-left.start c.loop-left.left.items _ _ _ (string_bytes c.loop-left.text) _ _ c.loop-left.invariant.passed c.in_ok-pass_on_pieces.ensures.ok);
-        err = search rules;
-        failed = search rules;
-        read = search rules;
-      };
-      clean = clean_refused (with_ids_of c.new-parser.result.expected_len) c.loop-left.start left (datagram_lines (count c.args.id_len) c.args.datagram.now) (refusal_of c.in-Err.error) uncut c.loop-left.invariant.clean;
-    }
+    let waits = text_refused (with_ids_of c.new-parser.result.expected_len) c.loop-left.start left (string_bytes c.pass_on_pieces.new.text) (string_bytes c.print_refusal.new.text)
+    (λ waits. AppendsAllBut (g.W.Sink.taken c.args.sink.now) (g.W.Sink.taken c.pass_on_pieces.new.sink) waits (string_bytes c.args.text.now ++ flat_map shown (datagram_lines (count c.args.id_len) c.args.datagram.now)))
+    (refusal_of c.in-Err.error) uncut c.in_ok-print_refusal-in-Err.ensures.bytes
+    (waits_less c.new-parser.result.expected_len c.loop-left.start c.loop-left.left.items _ _ _ (string_bytes c.loop-left.text) _ _ c.loop-left.invariant.passed c.in_ok-pass_on_pieces.ensures.ok) in
+    let plain = clean_refused (with_ids_of c.new-parser.result.expected_len) c.loop-left.start left (datagram_lines (count c.args.id_len) c.args.datagram.now) (refusal_of c.in-Err.error) uncut c.loop-left.invariant.clean in
+    search rules

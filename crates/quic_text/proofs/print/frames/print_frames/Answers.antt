@@ -10,15 +10,7 @@ use Rattle.quic_text.proofs.PassingLemmas.{passed_on, beginning_passed, nothing_
 use Rattle.quic_text.proofs.print.frames.print_frames.Goals as goal
 
 pub returns-in_err-writeln-in-Err : goal.returns-in_err-writeln-in-Err
-returns-in_err-writeln-in-Err g c = record {
-  printed = record {
-    ok = search rules;
-    err = on_err c.from_residual.result (nothing_begun _ _);
-    failed = search rules;
-    read = search rules;
-  };
-  clean = search rules;
-}
+returns-in_err-writeln-in-Err g c = search (rules, nothing_begun)
 
 pub returns-in_err-pass_on_pieces : goal.returns-in_err-pass_on_pieces
 returns-in_err-pass_on_pieces g c = record {

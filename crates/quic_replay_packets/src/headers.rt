@@ -112,7 +112,7 @@ fn finish(partial: PartialEncode, whole: u64, packet: &mut [u8]) -> Result<(), F
     Ok(())
 }
 
-// The header that the words say. Each kind is read by a function of its own, which takes apart what stands behind its
+// The header that the words describe. Each kind is read by a function of its own, which takes apart what follows its
 // name.
 fn header_of(alloc: Global, words: &[&str]) -> Result<Header, Fail>
     ensures { IfOk result IsWritable }

@@ -119,7 +119,7 @@ fn refused_for_want_of_room(rt: HostRuntime) -> Result<(), Fail> {
     checks.verdict()
 }
 
-// First bytes of headers, and how many bytes a number takes behind them: one more than their lowest two bits say.
+// First bytes of headers, and how many bytes a number takes after them: one more than their lowest two bits.
 const LENGTHS: &[(u8, usize)] = &[
     (0x00, 1),
     (0x01, 2),

@@ -114,7 +114,7 @@ fn are_first(opened: &[Opened]) -> bool {
     true
 }
 
-// The packets before the one for which memory ran out stand.
+// After memory ran out for a packet, the packets before it are there.
 #[test]
 fn first_packets_stand(rt: HostRuntime) -> Result<(), Fail> {
     let Ok(bytes) = BytesMut::copy_from_slice(rt.alloc(), &WHOLE) else {
@@ -127,7 +127,7 @@ fn first_packets_stand(rt: HostRuntime) -> Result<(), Fail> {
     checks.verdict()
 }
 
-// Whether as many packets stand as payloads were opened by the keys, which are both where nothing was refused.
+// Whether there are as many packets as the keys have opened payloads, and both if nothing was refused.
 fn are_all_that_were_opened(
     opened: &mut Vec<Opened>,
     keys: &SpaceKeys<ToyHeaderKey, CountingKey>,
@@ -145,7 +145,7 @@ fn are_all_that_were_opened(
     opened.len() == opened_by(keys) && done.is_ok() == (opened.len() == 2)
 }
 
-// No packet is opened that doesn't stand then: a key that is used only so often is not used in vain.
+// Every packet that the keys opened is there afterwards: a key with a limit of uses is not used in vain.
 #[test]
 fn what_is_opened_stands(rt: HostRuntime) -> Result<(), Fail> {
     let Ok(bytes) = BytesMut::copy_from_slice(rt.alloc(), &WHOLE) else {

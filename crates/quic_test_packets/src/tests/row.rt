@@ -39,9 +39,9 @@ fn refused(text: &'static str) -> Result<(), OpenError> {
     Err(OpenError::Decode(PacketDecodeError::InvalidHeader(text)))
 }
 
-// What is answered to the first bytes of the row, and how many packets stand then. The Handshake packet takes 30 of
+// What is answered to the first bytes of the row, and how many packets there are then. The Handshake packet takes 30 of
 // them: its version ends at 5, its ids at 8, its length at 10. The 1-RTT packet has its id up to 32; four bytes and the
-// sample, which has 16, follow that at 52, and the tag that belongs to it ends at 60.
+// sample, which has 16, follow that up to 52, and its own tag ends at 60.
 fn wanted(len: usize) -> (Result<(), OpenError>, usize) {
     match len {
         0..=4 => (refused("unexpected end of packet"), 0),

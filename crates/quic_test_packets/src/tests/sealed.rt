@@ -42,7 +42,7 @@ fn first_stands(opened: &mut Vec<Opened>, datagram: BytesMut) -> bool {
         && first.payload.as_slice() == b"\x01\0\0".as_slice()
 }
 
-// A packet that was opened stands where memory runs out at the next one.
+// A packet that was opened is there if memory runs out at the next one.
 #[test]
 fn opened_packet_stands(rt: HostRuntime) -> Result<(), Fail> {
     let datagram = BytesMut::copy_from_slice(rt.alloc(), &WHOLE)?;
@@ -355,7 +355,7 @@ fn is_opened_as(alloc: Global, bytes: &[u8], wanted: Result<&[u8], &str>) -> boo
     is_answer(whole, wanted)
 }
 
-// A packet without protection as it stands, and a packet without a sample.
+// A packet without protection, returned unchanged, and a packet without a sample.
 #[test]
 fn not_sealed(rt: HostRuntime) -> Result<(), Fail> {
     let mut checks = Checks::new(rt.alloc());

@@ -20,7 +20,9 @@ delay_in words = slice_index words.numbers 1
 -- the counts of ECT(0), ECT(1) and ECN-CE, with flag 2
 abbrev pub counts_list : CFrame → List ℕ
 counts_list words =
-    if words.flags == 2 then slice_index words.numbers 2 ∷ slice_index words.numbers 3 ∷ slice_index words.numbers 4 ∷ [] else []
+    if words.flags == 2
+    then slice_index words.numbers 2 ∷ slice_index words.numbers 3 ∷ slice_index words.numbers 4 ∷ []
+    else []
 
 abbrev pub counts_said : List ℕ → Option EcnCounts
 counts_said (ect0 ∷ ect1 ∷ ce ∷ []) = Some (record { ect0 = ect0; ect1 = ect1; ce = ce })
@@ -45,7 +47,8 @@ pub record DescribesAck (words : CFrame) (gaps : List CGap) (low : ℕ) (below :
 -- the ACK
 abbrev pub ack_said : CFrame → ℕ → List (ℕ × ℕ) → Meaning
 ack_said words low below =
-    frame_of Ack (Number (greatest_of_words words) ∷ Number (delay_in words) ∷ Ranges ((low, greatest_of_words words) ∷ below) ∷ counts_of (counts_said (counts_list words)))
+    frame_of Ack (Number (greatest_of_words words) ∷ Number (delay_in words)
+    ∷ Ranges ((low, greatest_of_words words) ∷ below) ∷ counts_of (counts_said (counts_list words)))
 
 -- ---- No public clause cites what follows.
 
@@ -79,4 +82,5 @@ front_numbers words gaps = (if words.flags == 2 then 0x03 else 0x02) ∷ behind_
 
 -- the bytes that are written
 abbrev pub ack_bytes : CFrame → List CGap → List ℕ
-ack_bytes words gaps = shortest_varints (front_numbers words gaps) ++ (shortest_varints (gap_numbers gaps) ++ shortest_varints (counts_list words))
+ack_bytes words gaps = shortest_varints (front_numbers words gaps)
+    ++ (shortest_varints (gap_numbers gaps) ++ shortest_varints (counts_list words))

@@ -18,7 +18,10 @@ use Rattle.quic_c.specs.Shown.{state_of, type_word, shown, shown_invalid, frame_
 
 -- the number of a reason: 1 unexpected end, 2 invalid frame ID, 3 malformed, 4 frame type not in shortest form
 abbrev pub reason_in : List ℕ → ℕ
-reason_in reason = if pointwise nat_eq reason (codes "unexpected end") then 1 else if pointwise nat_eq reason (codes "invalid frame ID") then 2 else if pointwise nat_eq reason (codes "frame type not in shortest form") then 4 else 3
+reason_in reason = if pointwise nat_eq reason (codes "unexpected end") then 1
+    else if pointwise nat_eq reason (codes "invalid frame ID") then 2
+    else if pointwise nat_eq reason (codes "frame type not in shortest form") then 4
+    else 3
 
 -- what is reported of a frame of a kind if its type is unknown
 abbrev pub unknown_type : ℕ → Invalid
@@ -38,14 +41,16 @@ abbrev pub IsRefusedFrame : Bool → IterState → Invalid → Type 0
 IsRefusedFrame basic state reported = (left state ≡ Broken reported ∷ []) ⊎ (basic ≡ true) × IsUnknown state reported
 
 -- A frame was read at the place in the words, and its words were given: one of that extension only if these are known.
-pub record GivesFrameWords (basic : Bool) (old : CFrameIter) (payload : List ℕ) (new : CFrameIter) (out : CFrame) : Type 0 where
+pub record GivesFrameWords (basic : Bool) (old : CFrameIter) (payload : List ℕ) (new : CFrameIter)
+    (out : CFrame) : Type 0 where
   pub frame : Frame
   pub finds : Finds (state_of old payload) frame (state_of new payload)
   pub known : (basic ≡ true) × IsExtension (frame_kind_of frame) → ⊥
   pub words : out ≡ shown old.offset new.offset finds.found.type frame
 
 -- The next frame isn't given, and the reason is reported; nothing is left.
-pub record GivesInvalid (basic : Bool) (old : CFrameIter) (payload : List ℕ) (new : CFrameIter) (out : CFrame) : Type 0 where
+pub record GivesInvalid (basic : Bool) (old : CFrameIter) (payload : List ℕ) (new : CFrameIter)
+    (out : CFrame) : Type 0 where
   pub reported : Invalid
   pub first : IsRefusedFrame basic (state_of old payload) reported
   pub over : new ≡ record old { ended = 1 }
@@ -54,7 +59,8 @@ pub record GivesInvalid (basic : Bool) (old : CFrameIter) (payload : List ℕ) (
 -- What a call for the next frame answers and leaves; if `basic` is true, frames of that extension have unknown types. 1
 -- with the frame; 0 if none is left; -3 with what is reported of a frame that isn't given; -1 exactly if the place is
 -- outside of the payload. Nothing changes with 0 and -1.
-pub record AnswersNext (basic : Bool) (old : CFrameIter) (payload : List ℕ) (before : CFrame) (answer : ℤ) (new : CFrameIter) (after : CFrame) : Type 0 where
+pub record AnswersNext (basic : Bool) (old : CFrameIter) (payload : List ℕ) (before : CFrame) (answer : ℤ)
+    (new : CFrameIter) (after : CFrame) : Type 0 where
   pub answers : (answer ≡ pos 1) ⊎ (answer ≡ pos 0) ⊎ (answer ≡ negsuc 2) ⊎ (answer ≡ negsuc 0)
   pub frame : answer ≡ pos 1 → GivesFrameWords basic old payload new after
   pub end : answer ≡ pos 0 → left (state_of old payload) ≡ []
@@ -102,7 +108,9 @@ ack_front_at bytes = do
 
 -- If the bytes are an ACK to their end, it has this greatest number and these blocks.
 abbrev pub IsWholeAck : List ℕ → ℕ → List ℕ → Type 0
-IsWholeAck bytes largest blocks = (greatest : ℕ) (others : List ℕ) → ack_at bytes ≡ Ok (greatest, others, []) → (ack_at bytes ≡ Ok (largest, blocks, [])) × IsBlocks largest blocks
+IsWholeAck bytes largest blocks =
+    (greatest : ℕ) (others : List ℕ) → ack_at bytes ≡ Ok (greatest, others, [])
+    → (ack_at bytes ≡ Ok (largest, blocks, [])) × IsBlocks largest blocks
 
 -- The frame begins as an ACK without counts, and its greatest number and the place of everything after the count of its
 -- ranges were given. If the frame is an ACK to its end, that is the place of its blocks.
@@ -114,15 +122,20 @@ pub record GivesFront (frame : CFrame) (payload : List ℕ) (new : CRangeIter) :
   pub within : IsWithin new payload
   pub begins : frame.begin ≤ new.begin
   pub small : new.largest < 2 ^ 62
-  pub ack : (greatest : ℕ) (others : List ℕ) → ack_at (frame_of_words frame payload) ≡ Ok (greatest, others, []) → GivesPlace frame payload new
+  pub ack : (greatest : ℕ) (others : List ℕ) → ack_at (frame_of_words frame payload) ≡ Ok (greatest, others, [])
+      → GivesPlace frame payload new
 
 -- The place of the frame is outside of the payload, or there is no valid front of an ACK without counts.
 abbrev pub LacksFront : CFrame → List ℕ → Type 0
-LacksFront frame payload = (frame.end < frame.begin) ⊎ (length payload < frame.end) ⊎ IsErr (ack_front_at (frame_of_words frame payload))
+LacksFront frame payload =
+    (frame.end < frame.begin) ⊎ (length payload < frame.end)
+    ⊎ IsErr (ack_front_at (frame_of_words frame payload))
 
 -- The place of the frame is outside of the payload, or there is no valid ACK.
 abbrev pub LacksAck : CFrame → List ℕ → Type 0
-LacksAck frame payload = (frame.end < frame.begin) ⊎ (length payload < frame.end) ⊎ IsErr (ack_at (frame_of_words frame payload))
+LacksAck frame payload =
+    (frame.end < frame.begin) ⊎ (length payload < frame.end)
+    ⊎ IsErr (ack_at (frame_of_words frame payload))
 
 -- The first range of the blocks was given, and the blocks of the other ranges are left.
 pub record GivesRange (old : CRangeIter) (payload : List ℕ) (new : CRangeIter) (out : CRange) : Type 0 where
@@ -133,7 +146,9 @@ pub record GivesRange (old : CRangeIter) (payload : List ℕ) (new : CRangeIter)
   pub last : new.end ≡ old.end
   pub further : old.begin < new.begin
   pub within : IsWithin new payload
-  pub ranges : IsBlocks old.largest (blocks_in old payload) → ranges_of old.largest (blocks_in old payload) ≡ (out.start, old.largest) ∷ ranges_of new.largest (blocks_in new payload)
+  pub ranges : IsBlocks old.largest (blocks_in old payload)
+      → ranges_of old.largest (blocks_in old payload)
+      ≡ (out.start, old.largest) ∷ ranges_of new.largest (blocks_in new payload)
   pub valid : IsBlocks old.largest (blocks_in old payload) → blocks_left new.largest (blocks_in new payload) ≡ Ok []
 
 -- The bytes don't begin with a range, and why.
@@ -147,4 +162,5 @@ pub record LacksRange (ranges : CRangeIter) (payload : List ℕ) : Type 0 where
 -- they don't begin with a range.
 abbrev pub NamesNone : CRangeIter → List ℕ → Type 0
 NamesNone ranges payload =
-    (ranges.end < ranges.begin) ⊎ (length payload < ranges.end) ⊎ ((ranges.begin < ranges.end) × (2 ^ 62 ≤ ranges.largest)) ⊎ LacksRange ranges payload
+    (ranges.end < ranges.begin) ⊎ (length payload < ranges.end)
+    ⊎ ((ranges.begin < ranges.end) × (2 ^ 62 ≤ ranges.largest)) ⊎ LacksRange ranges payload

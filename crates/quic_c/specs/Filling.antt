@@ -34,14 +34,16 @@ HasNoFrame basic state = (left state ≡ []) ⊎ ((reported : Invalid) × IsRefu
 
 -- So many entries were filled, and those after them don't change; more were not filled, as there was no room or no
 -- frame.
-pub record Fills (basic : Bool) (old : IterState) (before : List CFrame) (new : IterState) (after : List CFrame) (count : ℕ) : Type 0 where
+pub record Fills (basic : Bool) (old : IterState) (before : List CFrame) (new : IterState) (after : List CFrame)
+    (count : ℕ) : Type 0 where
   pub few : count ≤ length before
   pub shows : Shows (GivesEntry basic) old (take count after) new
   pub kept : drop count after ≡ drop count before
   pub full : (count ≡ length before) ⊎ HasNoFrame basic new
 
 -- The next frame isn't given: the first entry reports that, and the others don't change.
-pub record TellsInvalid (basic : Bool) (old : CFrameIter) (payload : List ℕ) (before : List CFrame) (new : CFrameIter) (after : List CFrame) : Type 0 where
+pub record TellsInvalid (basic : Bool) (old : CFrameIter) (payload : List ℕ) (before : List CFrame) (new : CFrameIter)
+    (after : List CFrame) : Type 0 where
   pub entry : CFrame
   pub invalid : GivesInvalid basic old payload new entry
   pub entries : after ≡ entry ∷ drop 1 before
@@ -50,9 +52,11 @@ pub record TellsInvalid (basic : Bool) (old : CFrameIter) (payload : List ℕ) (
 -- 1 with how many entries were filled, at least one; 0 if no frame is left; -3 with what is reported of a frame that
 -- isn't given; -4 exactly if there is no entry and the place is in the payload; -1 exactly if it is outside. Nothing
 -- changes with 0, -4 and -1, and the count changes only with 1.
-pub record AnswersFill (basic : Bool) (old : CFrameIter) (payload : List ℕ) (before : List CFrame) (count_before : ℕ) (answer : ℤ) (new : CFrameIter) (after : List CFrame) (count : ℕ) : Type 0 where
+pub record AnswersFill (basic : Bool) (old : CFrameIter) (payload : List ℕ) (before : List CFrame) (count_before : ℕ)
+    (answer : ℤ) (new : CFrameIter) (after : List CFrame) (count : ℕ) : Type 0 where
   pub answers : (answer ≡ pos 1) ⊎ (answer ≡ pos 0) ⊎ (answer ≡ negsuc 2) ⊎ (answer ≡ negsuc 3) ⊎ (answer ≡ negsuc 0)
-  pub frames : answer ≡ pos 1 → (0 < count) × Fills basic (state_of old payload) before (state_of new payload) after count
+  pub frames : answer ≡ pos 1
+      → (0 < count) × Fills basic (state_of old payload) before (state_of new payload) after count
   pub end : answer ≡ pos 0 → left (state_of old payload) ≡ []
   pub invalid : answer ≡ negsuc 2 → TellsInvalid basic old payload before new after
   pub room : (answer ≡ negsuc 3) ↔ ((old.offset ≤ length payload) × (before ≡ []))
@@ -74,7 +78,8 @@ HasNoRange ranges payload = (ranges.begin ≡ ranges.end) ⊎ NamesNone ranges p
 
 -- So many entries were filled with ranges (RFC 9000, section 19.3.1), and those after them don't change; more were not
 -- filled, as there was no room or no range.
-pub record FillsRanges (old : CRangeIter) (payload : List ℕ) (before : List CRange) (new : CRangeIter) (after : List CRange) (count : ℕ) : Type 0 where
+pub record FillsRanges (old : CRangeIter) (payload : List ℕ) (before : List CRange) (new : CRangeIter)
+    (after : List CRange) (count : ℕ) : Type 0 where
   pub few : count ≤ length before
   pub shows : Shows (StepsOver payload) old (take count after) new
   pub kept : drop count after ≡ drop count before

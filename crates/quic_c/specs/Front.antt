@@ -45,7 +45,8 @@ pub record ShowsAck (stop type : ℕ) (ack : Ack) (before : List CGap) (words : 
   pub first : least + words.data_len ≡ ack.largest
   pub gaps : FillsGaps least below before after words.data_offset
   pub flags : words.flags ≡ counts_flag ack.ecn + more_flag words.data_offset below
-  pub others : words ≡ record (shown 0 stop type (frames.Ack ack)) { flags = words.flags; data_offset = words.data_offset; data_len = words.data_len }
+  pub others : words ≡ record (shown 0 stop type (frames.Ack ack))
+      { flags = words.flags; data_offset = words.data_offset; data_len = words.data_len }
 
 -- The words of a frame of this type up to a place; only an ACK fills entries.
 abbrev pub ShowsFront : ℕ → ℕ → Frame → List CGap → CFrame → List CGap → Type 0
@@ -55,7 +56,8 @@ ShowsFront stop type frame before words after = (words ≡ shown 0 stop type fra
 -- The frame at the front is given as the iterator over the payload gives it; if `basic` is true, it is a frame of RFC
 -- 9000 or DATAGRAM. A frame of PADDING (RFC 9000, section 19.1) includes the PADDING that follows, each byte of which
 -- is a frame. The rest of the payload begins where it ends.
-pub record ReadsFront (strict basic : Bool) (payload : List ℕ) (before : List CGap) (stop : ℕ) (words : CFrame) (after : List CGap) : Type 0 where
+pub record ReadsFront (strict basic : Bool) (payload : List ℕ) (before : List CGap) (stop : ℕ) (words : CFrame)
+    (after : List CGap) : Type 0 where
   pub frame : Frame
   pub next : IterState
   pub rest : IterState
@@ -75,8 +77,10 @@ pub record TellsNone (strict basic : Bool) (payload : List ℕ) (words : CFrame)
 
 -- What a call for the frame at the front answers and leaves: where the frame ends, with its words; -2 exactly if there
 -- is no byte, and nothing changes; -3 with what is reported of a frame that isn't given, and no entry changes.
-pub record AnswersRead (strict basic : Bool) (payload : List ℕ) (before : CFrame) (room : List CGap) (answer : ℤ) (after : CFrame) (gaps : List CGap) : Type 0 where
-  pub answers : (answer ≡ negsuc 1) ⊎ (answer ≡ negsuc 2) ⊎ ((stop : ℕ) × (answer ≡ pos stop) × ReadsFront strict basic payload room stop after gaps)
+pub record AnswersRead (strict basic : Bool) (payload : List ℕ) (before : CFrame) (room : List CGap) (answer : ℤ)
+    (after : CFrame) (gaps : List CGap) : Type 0 where
+  pub answers : (answer ≡ negsuc 1) ⊎ (answer ≡ negsuc 2)
+      ⊎ ((stop : ℕ) × (answer ≡ pos stop) × ReadsFront strict basic payload room stop after gaps)
   pub empty : (answer ≡ negsuc 1) ↔ (payload ≡ [])
   pub invalid : answer ≡ negsuc 2 → TellsNone strict basic payload after
   pub same : answer ≡ negsuc 1 → after ≡ before
@@ -97,4 +101,5 @@ or_else (Some type) before = Some type
 abbrev pub reported_behind : Option ℕ → List Item → List Item
 reported_behind before [] = []
 reported_behind before (Whole start stop found ∷ items) = Whole start stop found ∷ items
-reported_behind before (Broken reported ∷ items) = Broken (record reported { type = or_else reported.type before }) ∷ items
+reported_behind before (Broken reported ∷ items) =
+    Broken (record reported { type = or_else reported.type before }) ∷ items

@@ -41,7 +41,8 @@ pub record HasHeader (words : CFrame) (last : Bool) : Type 0 where
 abbrev pub data_header_by : (kind flags : ℕ) (numbers : List ℕ) (len : ℕ) (last : Bool) → List ℕ
 data_header_by kind flags numbers len last =
     if kind == 0x06 then shortest_varints (0x06 ∷ second_in numbers ∷ len ∷ [])
-    else if kind == 0x08 then stream_header (first_in numbers) (second_in numbers) (flags == 1) (if last then None else Some len)
+    else if kind == 0x08
+    then stream_header (first_in numbers) (second_in numbers) (flags == 1) (if last then None else Some len)
     else if last then shortest_varints (0x30 ∷ []) else shortest_varints (0x31 ∷ len ∷ [])
 
 abbrev pub data_header_bytes : CFrame → Bool → List ℕ

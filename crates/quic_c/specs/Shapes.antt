@@ -32,10 +32,14 @@ both_shape = shape true true false false false
 abbrev pub shapes : List (ℕ × Shape)
 shapes =
     (0x00, bare_shape) ∷ (0x01, bare_shape) ∷ (0x04, shape true true true false false) ∷ (0x05, both_shape)
-    ∷ (0x06, shape false true false false true) ∷ (0x07, shape false false false false true) ∷ (0x08, shape true true false false true)
-    ∷ (0x10, second_shape) ∷ (0x11, both_shape) ∷ (0x12, second_shape) ∷ (0x13, second_shape) ∷ (0x14, second_shape) ∷ (0x15, both_shape)
-    ∷ (0x16, second_shape) ∷ (0x17, second_shape) ∷ (0x18, shape true true false false true) ∷ (0x19, first_shape) ∷ (0x1a, first_shape)
-    ∷ (0x1b, first_shape) ∷ (0x1c, shape true true false false true) ∷ (0x1d, shape true false false false true) ∷ (0x1e, bare_shape)
+    ∷ (0x06, shape false true false false true) ∷ (0x07, shape false false false false true)
+    ∷ (0x08, shape true true false false true)
+    ∷ (0x10, second_shape) ∷ (0x11, both_shape) ∷ (0x12, second_shape) ∷ (0x13, second_shape) ∷ (0x14, second_shape)
+    ∷ (0x15, both_shape)
+    ∷ (0x16, second_shape) ∷ (0x17, second_shape) ∷ (0x18, shape true true false false true) ∷ (0x19, first_shape)
+    ∷ (0x1a, first_shape)
+    ∷ (0x1b, first_shape) ∷ (0x1c, shape true true false false true) ∷ (0x1d, shape true false false false true)
+    ∷ (0x1e, bare_shape)
     ∷ (0x1f, bare_shape) ∷ (0x30, shape false false false false true) ∷ (0xaf, shape true true true true false) ∷ []
 
 abbrev pub shape_of : ℕ → Option Shape
@@ -101,11 +105,13 @@ pub record FillsShape (type : ℕ) (is_fin : Bool) (given bytes behind : List �
 
 -- The bytes and the token are at the place in the words; if there are neither, that may be any place.
 pub record HasPieces (words : CFrame) (payload bytes behind : List ℕ) : Type 0 where
-  pub within : 0 < words.data_len + token_room words.kind → words.data_offset + words.data_len + token_room words.kind ≤ length payload
+  pub within : 0 < words.data_len + token_room words.kind
+      → words.data_offset + words.data_len + token_room words.kind ≤ length payload
   pub content : bytes ≡ take words.data_len (drop words.data_offset payload)
   pub width : length bytes ≡ words.data_len
   pub room : length behind ≡ token_room words.kind
-  pub token : kept_token words.kind behind ≡ take (token_room words.kind) (drop words.data_len (drop words.data_offset payload))
+  pub token : kept_token words.kind behind
+      ≡ take (token_room words.kind) (drop words.data_len (drop words.data_offset payload))
 
 -- The words describe data or a token, and the payload ends before these do.
 pub record LacksPieces (words : CFrame) (payload : List ℕ) : Type 0 where

@@ -29,7 +29,13 @@ type_in n = if nat_lt n (2 ^ 62) then Some n else None
 
 -- how far an iterator has come over a payload, by the words that the caller keeps
 abbrev pub state_of : CFrameIter → List ℕ → IterState
-state_of f payload = record { strict = is_strict f.strict; payload = payload; offset = f.offset; last = type_in f.last_type; is_broken = not (f.ended == 0) }
+state_of f payload = record {
+  strict = is_strict f.strict;
+  payload = payload;
+  offset = f.offset;
+  last = type_in f.last_type;
+  is_broken = not (f.ended == 0);
+}
 
 -- the kind of a frame: its type, 8 for every STREAM, 2 for every ACK and 0x30 for every DATAGRAM
 abbrev pub frame_kind_of : Frame → ℕ
@@ -85,7 +91,8 @@ frame_numbers_of (frames.PathChallenge n) = n ∷ 0 ∷ 0 ∷ 0 ∷ 0 ∷ []
 frame_numbers_of (frames.PathResponse n) = n ∷ 0 ∷ 0 ∷ 0 ∷ 0 ∷ []
 frame_numbers_of (frames.Close (closes.Connection c)) = c.error_code ∷ type_or_zero c.frame_type ∷ 0 ∷ 0 ∷ 0 ∷ []
 frame_numbers_of (frames.Close (closes.Application c)) = c.error_code ∷ 0 ∷ 0 ∷ 0 ∷ 0 ∷ []
-frame_numbers_of (frames.AckFrequency f) = f.sequence ∷ f.ack_eliciting_threshold ∷ f.request_max_ack_delay ∷ f.reordering_threshold ∷ 0 ∷ []
+frame_numbers_of (frames.AckFrequency f) = f.sequence ∷ f.ack_eliciting_threshold ∷ f.request_max_ack_delay
+    ∷ f.reordering_threshold ∷ 0 ∷ []
 frame_numbers_of frame = 0 ∷ 0 ∷ 0 ∷ 0 ∷ 0 ∷ []
 
 abbrev pub counts_flag : Option EcnCounts → ℕ
@@ -115,8 +122,26 @@ data_of frame = []
 
 -- the words of a frame that goes from start to stop in a payload and begins with this type
 abbrev pub shown : ℕ → ℕ → ℕ → Frame → CFrame
-shown start stop type frame = record { kind = frame_kind_of frame; ty = type; flags = flags_of frame; begin = start; end = stop; data_offset = stop - tail_of frame - length (data_of frame); data_len = length (data_of frame); numbers = frame_numbers_of frame }
+shown start stop type frame = record {
+  kind = frame_kind_of frame;
+  ty = type;
+  flags = flags_of frame;
+  begin = start;
+  end = stop;
+  data_offset = stop - tail_of frame - length (data_of frame);
+  data_len = length (data_of frame);
+  numbers = frame_numbers_of frame;
+}
 
 -- the words for an error, with the last type and the number of its reason, at the end of the last frame
 abbrev pub shown_invalid : ℕ → ℕ → ℕ → CFrame
-shown_invalid start ty reason = record { kind = 2 ^ 16 - 1; ty = 0; flags = reason; begin = start; end = start; data_offset = start; data_len = 0; numbers = ty ∷ 0 ∷ 0 ∷ 0 ∷ 0 ∷ [] }
+shown_invalid start ty reason = record {
+  kind = 2 ^ 16 - 1;
+  ty = 0;
+  flags = reason;
+  begin = start;
+  end = start;
+  data_offset = start;
+  data_len = 0;
+  numbers = ty ∷ 0 ∷ 0 ∷ 0 ∷ 0 ∷ [];
+}

@@ -54,7 +54,8 @@ abbrev pub DescribesNoFrame : CFrame → List ℕ → Bool → Type 0
 DescribesNoFrame words bytes last = (frame : Frame) → CanWriteFrame words bytes last frame → ⊥
 
 -- The answer, and what the call leaves, are right for the words and these bytes.
-pub record IsAnswer (words : CFrame) (bytes : List ℕ) (last : Bool) (answer : ℤ) (old new : List ℕ) (written : ℕ) : Type 0 where
+pub record IsAnswer (words : CFrame) (bytes : List ℕ) (last : Bool) (answer : ℤ) (old new : List ℕ)
+    (written : ℕ) : Type 0 where
   pub wrote : answer ≡ pos 0 → WroteFrame words bytes last old new written
   pub room : answer ≡ negsuc 3 → FrameNeedsMore words bytes last old written
   pub refused : answer ≡ negsuc 0 → DescribesNoFrame words bytes last

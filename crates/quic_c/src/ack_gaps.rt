@@ -247,13 +247,16 @@ pub extern "C" fn quic_wire_ack_gaps_write_(
     written: &mut usize,
 ) -> i32
     ensures answers { (result ≡ pos 0) ⊎ (result ≡ negsuc 3) ⊎ (result ≡ negsuc 0) }
-    ensures wrote { result ≡ pos 0 → (last : Bool) (low : ℕ) (below : List (ℕ × ℕ)) → DescribesAck ack.now gaps.now low below
+    ensures wrote { result ≡ pos 0 → (last : Bool) (low : ℕ) (below : List (ℕ × ℕ))
+        → DescribesAck ack.now gaps.now low below
         → Puts (Ok written.new) (shortest_frame last (ack_said ack.now low below)) out.old out.new }
     ensures room { result ≡ negsuc 3 → (last : Bool) (low : ℕ) (below : List (ℕ × ℕ))
         → DescribesAck ack.now gaps.now low below
         → Puts (Err written.new) (shortest_frame last (ack_said ack.now low below)) out.old out.new }
-    ensures says { (result ≡ negsuc 0) ⊎ ((low : ℕ) × (below : List (ℕ × ℕ)) × DescribesAck ack.now gaps.now low below) }
-    ensures refused { result ≡ negsuc 0 → (low : ℕ) (below : List (ℕ × ℕ)) → DescribesAck ack.now gaps.now low below → ⊥ }
+    ensures says { (result ≡ negsuc 0)
+        ⊎ ((low : ℕ) × (below : List (ℕ × ℕ)) × DescribesAck ack.now gaps.now low below) }
+    ensures refused { result ≡ negsuc 0 → (low : ℕ) (below : List (ℕ × ℕ))
+        → DescribesAck ack.now gaps.now low below → ⊥ }
     ensures same { (result ≡ negsuc 0) → (written.new ≡ written.old) × (out.new ≡ out.old) }
 {
     if has_room(gaps, out.len()) && is_ack(ack, gaps) {

@@ -128,5 +128,6 @@ pub extern "C" fn quic_wire_frame_header_write_(
 pub fn header_and_data()
     ensures { (words : CFrame) (bytes : List ℕ) (last : Bool) (frame : Frame) → IsHeaded words.kind
         → CanWriteFrame words bytes last frame
-        → HasHeader words last × (shortest_frame last (meaning_of frame) ≡ data_header_bytes words last ++ data_of frame) }
+        → HasHeader words last
+        × (shortest_frame last (meaning_of frame) ≡ data_header_bytes words last ++ data_of frame) }
 {}

@@ -152,7 +152,8 @@ pub extern "C" fn quic_wire_frames_first_(
 ) -> i32
     ensures answers { (result ≡ pos 1) ⊎ (result ≡ negsuc 1) ⊎ (result ≡ negsuc 2) ⊎ (result ≡ negsuc 3) }
     ensures frames { result ≡ pos 1
-        → (0 < count.new) × Fills false (first_of false payload.now) out.old (state_of frames.new payload.now) out.new count.new }
+        → (0 < count.new)
+        × Fills false (first_of false payload.now) out.old (state_of frames.new payload.now) out.new count.new }
     ensures empty { (result ≡ negsuc 1) ↔ (payload.now ≡ []) }
     ensures invalid { result ≡ negsuc 2 → TellsInvalid false (at_front 0) payload.now out.old frames.new out.new }
     ensures room { (result ≡ negsuc 3) ↔ ((0 < length payload.now) × (out.old ≡ [])) }

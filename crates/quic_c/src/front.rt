@@ -224,5 +224,6 @@ pub extern "C" fn quic_wire_frame_read_basic_(
 /// within a type, so that no type can be read, the iterator reports the type before.
 pub fn read_on()
     ensures { (strict : Bool) (offset : ℕ) (before : Option ℕ) (payload : List ℕ)
-        → left (resumed payload offset before strict) ≡ reported_behind before (map (behind offset) (left (first_of strict (drop offset payload)))) }
+        → left (resumed payload offset before strict)
+        ≡ reported_behind before (map (behind offset) (left (first_of strict (drop offset payload)))) }
 {}

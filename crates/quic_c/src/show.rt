@@ -44,7 +44,13 @@ fn with_data(kind: u16, flags: u32, numbers: [u64; 5], bytes: &[u8]) -> Parts
 
 #[inline(always)]
 pub(crate) fn parts_of(frame: &Frame<'_>) -> Parts
-    ensures { result ≡ record { kind = frame_kind_of frame.now; flags = flags_of frame.now; tail = tail_of frame.now; data_len = length (data_of frame.now); numbers = frame_numbers_of frame.now } }
+    ensures { result ≡ record {
+      kind = frame_kind_of frame.now;
+      flags = flags_of frame.now;
+      tail = tail_of frame.now;
+      data_len = length (data_of frame.now);
+      numbers = frame_numbers_of frame.now;
+    } }
 {
     match frame {
         Frame::Padding => without_data(0x00, [0; 5]),
@@ -140,7 +146,16 @@ pub(crate) fn parts_of(frame: &Frame<'_>) -> Parts
 // The words of a frame that begins and ends there and has this type, with those that depend on the frame alone.
 #[inline(always)]
 pub(crate) fn show_parts(begin: usize, end: usize, ty: u16, of_frame: Parts) -> CFrame
-    ensures { result ≡ record { kind = of_frame.kind; ty = ty; flags = of_frame.flags; begin = begin; end = end; data_offset = end - of_frame.tail - of_frame.data_len; data_len = of_frame.data_len; numbers = of_frame.numbers } }
+    ensures { result ≡ record {
+      kind = of_frame.kind;
+      ty = ty;
+      flags = of_frame.flags;
+      begin = begin;
+      end = end;
+      data_offset = end - of_frame.tail - of_frame.data_len;
+      data_len = of_frame.data_len;
+      numbers = of_frame.numbers;
+    } }
 {
     let numbers = of_frame.numbers;
     CFrame {

@@ -86,7 +86,12 @@ fn stop_sending<'a>(id: u64, code: u64) -> Frame<'a>
 #[inline(always)]
 fn ack_frequency<'a>(sequence: u64, threshold: u64, delay: u64, reordering: u64) -> Frame<'a>
     requires { AreNumeric (sequence ∷ threshold ∷ delay ∷ reordering ∷ []) }
-    ensures { result ≡ frames.AckFrequency (record { sequence = sequence; ack_eliciting_threshold = threshold; request_max_ack_delay = delay; reordering_threshold = reordering }) }
+    ensures { result ≡ frames.AckFrequency (record {
+      sequence = sequence;
+      ack_eliciting_threshold = threshold;
+      request_max_ack_delay = delay;
+      reordering_threshold = reordering;
+    }) }
 {
     Frame::AckFrequency(AckFrequency {
         sequence: varint(sequence),
@@ -177,7 +182,12 @@ fn streams_blocked<'a>(dir: Dir, limit: u64) -> Frame<'a>
 fn new_connection_id<'a>(sequence: u64, retire: u64, id: &[u8], token: &[u8]) -> Frame<'a>
     requires few { length id.now ≤ 20 }
     requires token { length token.now ≡ 16 }
-    ensures { result ≡ frames.NewConnectionId (record { sequence = sequence; retire_prior_to = retire; id = id.now; reset_token = token.now }) }
+    ensures { result ≡ frames.NewConnectionId (record {
+      sequence = sequence;
+      retire_prior_to = retire;
+      id = id.now;
+      reset_token = token.now;
+    }) }
 {
     let mut reset_token = [0; 16];
     reset_token.copy_from_slice(token);
@@ -314,7 +324,8 @@ pub extern "C" fn quic_wire_frame_write_(
     ensures answers { (result ≡ pos 0) ⊎ (result ≡ negsuc 3) ⊎ (result ≡ negsuc 0) }
     ensures wrote { result ≡ pos 0 → WroteFrame frame.now data.now (flag_of last) out.old out.new written.new }
     ensures room { result ≡ negsuc 3 → FrameNeedsMore frame.now data.now (flag_of last) out.old written.new }
-    ensures refused { result ≡ negsuc 0 → DescribesNoFrame frame.now data.now (flag_of last) × (written.new ≡ written.old) }
+    ensures refused { result ≡ negsuc 0
+        → DescribesNoFrame frame.now data.now (flag_of last) × (written.new ≡ written.old) }
     ensures same { (result ≡ pos 0) ⊎ (out.new ≡ out.old) }
     ensures any_data { LacksData frame.now → (others : List ℕ)
         → IsAnswer frame.now others (flag_of last) result out.old out.new written.new }

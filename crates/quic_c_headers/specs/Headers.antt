@@ -15,7 +15,10 @@ use Rattle.quic_c_headers.specs.declared.words.HeaderFields.{HeaderFields}
 -- the part of a number that is written in so many bytes
 abbrev pub part_of : ℕ → ℕ → PacketNumber
 part_of len number =
-    if len == 2 then U16 (number % 2 ^ 16) else if len == 3 then U24 (number % 2 ^ 24) else if len == 4 then U32 (number % 2 ^ 32) else U8 (number % 2 ^ 8)
+    if len == 2 then U16 (number % 2 ^ 16)
+    else if len == 3 then U24 (number % 2 ^ 24)
+    else if len == 4 then U32 (number % 2 ^ 32)
+    else U8 (number % 2 ^ 8)
 
 -- the word for a kind: 0 Initial, 1 0-RTT, 2 Handshake, 3 Retry, 4 1-RTT, 5 version negotiation
 abbrev pub header_word : Header → ℕ
@@ -32,7 +35,8 @@ abbrev pub DescribesFlags : ℕ → Bool → Header → Type 0
 DescribesFlags flags clear (header.Initial h) = clear ≡ has_bit 0x40 flags
 DescribesFlags flags clear (header.Long ty dst src number version) = clear ≡ has_bit 0x40 flags
 DescribesFlags flags clear (header.Retry dst src version) = clear ≡ has_bit 0x40 flags
-DescribesFlags flags clear (header.Short spin key_phase dst number) = (clear ≡ has_bit 0x40 flags) × (spin ≡ has_bit 0x20 flags) × (key_phase ≡ has_bit 0x04 flags)
+DescribesFlags flags clear (header.Short spin key_phase dst number) =
+    (clear ≡ has_bit 0x40 flags) × (spin ≡ has_bit 0x20 flags) × (key_phase ≡ has_bit 0x04 flags)
 DescribesFlags flags clear (header.VersionNegotiate random src dst) = (clear ≡ false) × (random ≡ flags % 128)
 
 -- A version other than 0, since version 0 means a version negotiation (RFC 9000, section 17.2.1); short headers and
@@ -71,7 +75,8 @@ LengthIs len (header.VersionNegotiate random src dst) = Unit {0}
 -- A number below 2^62, in so many bytes (RFC 9000, section 17.1), if the header has one.
 abbrev pub DescribesNumber : ℕ → ℕ → Option PacketNumber → Type 0
 DescribesNumber number len None = Unit {0}
-DescribesNumber number len (Some written) = (number < 2 ^ 62) × (len ≡ number_size written) × (low_part written ≡ number % window_of written)
+DescribesNumber number len (Some written) =
+    (number < 2 ^ 62) × (len ≡ number_size written) × (low_part written ≡ number % window_of written)
 
 -- The words, two ids and a token describe the header, with the fixed bit clear or set. What its kind lacks isn't looked
 -- at.
@@ -94,4 +99,5 @@ pub record CanWriteHeader (words : HeaderFields) (dst src token : List ℕ) (cle
 -- the bytes that are written: the header's, with so many zeros as its length, and with its fixed bit cleared if `clear`
 -- says so
 abbrev pub said_bytes : ℕ → Bool → Header → List ℕ
-said_bytes len clear head = let bytes = header_with (replicate len 0) head in begun_by (slice_index bytes 0 - bit clear 64) bytes
+said_bytes len clear head =
+    let bytes = header_with (replicate len 0) head in begun_by (slice_index bytes 0 - bit clear 64) bytes

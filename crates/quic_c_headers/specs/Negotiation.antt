@@ -32,4 +32,5 @@ version_bytes = flat_map (bytes_of 4)
 
 -- a packet: its header, with these seven low bits of the first byte, and versions
 abbrev pub negotiation_bytes : ℕ → List ℕ → List ℕ → List ℕ → List ℕ
-negotiation_bytes first dst src versions = header_bytes (header.VersionNegotiate (first % 128) src dst) ++ version_bytes versions
+negotiation_bytes first dst src versions =
+    header_bytes (header.VersionNegotiate (first % 128) src dst) ++ version_bytes versions

@@ -9,7 +9,8 @@ use Rattle.quic_c_headers.specs.declared.words.HeaderFields.{HeaderFields}
 
 -- A header of the kind can have this number and these sizes of the number and the length.
 pub record IsNumbered (words : HeaderFields) : Type 0 where
-  pub number : (words.kind ≤ 2) ⊎ (words.kind ≡ 4) → (1 ≤ words.number_len) × (words.number_len ≤ 4) × (words.number < 2 ^ 62)
+  pub number : (words.kind ≤ 2) ⊎ (words.kind ≡ 4)
+      → (1 ≤ words.number_len) × (words.number_len ≤ 4) × (words.number < 2 ^ 62)
   pub len : words.kind ≤ 2 → (words.length_len ≡ 2) ⊎ (words.length_len ≡ 4)
 
 -- A header of the kind can have these ids and this token.
@@ -45,4 +46,5 @@ numbered_bytes kind words dst src token =
     ++ (replicate words.length_len 0 ++ bytes_of words.number_len words.number)
 
 abbrev pub numbered_size : HeaderKind → HeaderFields → List ℕ → List ℕ → List ℕ → ℕ
-numbered_size kind words dst src token = 7 + length dst + length src + token_size kind token + (words.length_len + words.number_len)
+numbered_size kind words dst src token =
+    7 + length dst + length src + token_size kind token + (words.length_len + words.number_len)

@@ -13,7 +13,8 @@ unmasked_first mask first = bit_xor first (slice_index mask 0 % first_unit (nat_
 abbrev pub unmasked_at : ℕ → List ℕ → ℕ → List ℕ → List ℕ
 unmasked_at at mask zero bytes = bytes
 unmasked_at at mask (suc n) bytes =
-    slice_set (unmasked_at at mask n bytes) (at + n) (bit_xor (slice_index (unmasked_at at mask n bytes) (at + n)) (slice_index mask (n + 1)))
+    slice_set (unmasked_at at mask n bytes) (at + n)
+    (bit_xor (slice_index (unmasked_at at mask n bytes) (at + n)) (slice_index mask (n + 1)))
 
 -- a mask removed from a header whose number begins at a place; the number's size is in the unmasked first byte
 abbrev pub unmasked : ℕ → List ℕ → List ℕ → List ℕ

@@ -156,7 +156,8 @@ pub extern "C" fn quic_wire_short_read_(packet: &[u8], id_len: u32) -> usize
     ensures short { 0 < result → slice_index packet.now 0 < 128 }
     ensures within { result ≤ length packet.now }
     ensures none { result ≡ 0 → (20 < id_len) ⊎ (128 ≤ slice_index packet.now 0)
-        ⊎ ((h : ProtectedHeader) (rest : List ℕ) → HeaderAt (any_fixed id_len []) (length packet.now) packet.now h rest → ⊥) }
+        ⊎ ((h : ProtectedHeader) (rest : List ℕ)
+        → HeaderAt (any_fixed id_len []) (length packet.now) packet.now h rest → ⊥) }
 {
     one_reading();
     are_bytes(packet);

@@ -144,7 +144,8 @@ pub extern "C" fn quic_wire_negotiation_write_(
     ensures invalid { (result ≡ negsuc 0) ↔ ((255 < length dst.now) ⊎ (255 < length src.now)) }
     ensures wrote { result ≡ pos 0
         → dest.new ≡ negotiation_bytes first dst.now src.now versions.now ++ drop written.new dest.old }
-    ensures count { (result ≡ negsuc 0) ⊎ (written.new ≡ length (negotiation_bytes first dst.now src.now versions.now)) }
+    ensures count { (result ≡ negsuc 0)
+        ⊎ (written.new ≡ length (negotiation_bytes first dst.now src.now versions.now)) }
     ensures room { result ≡ negsuc 3 → length dest.old < length (negotiation_bytes first dst.now src.now versions.now) }
     ensures same { (result ≡ pos 0) ⊎ (dest.new ≡ dest.old) }
     ensures kept { result ≡ negsuc 0 → written.new ≡ written.old }

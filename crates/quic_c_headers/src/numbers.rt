@@ -49,7 +49,8 @@ fn store_encoding(value: u64, width: usize, dest: &mut [u8]) -> usize
     requires numeric { value < 2 ^ 62 }
     requires room { width ≤ length dest.old }
     requires fits { least_width value ≤ width }
-    ensures wrote { (result ≡ 0) ⊎ ((result ≡ width) × IsWidth width × (take result dest.new ≡ encoding_in width value)) }
+    ensures wrote { (result ≡ 0)
+        ⊎ ((result ≡ width) × IsWidth width × (take result dest.new ≡ encoding_in width value)) }
     ensures back { drop result dest.new ≡ drop result dest.old }
     ensures none { result ≡ 0 → IsWidth width → ⊥ }
     ensures same { (0 < result) ⊎ (dest.new ≡ dest.old) }

@@ -57,7 +57,8 @@ pub fn handshake(version: u32) -> Header
     ensures numbered { IsTrue (has_number result) }
     ensures low { IsLowPart result 0 }
     ensures found { ExpandsIn result 0 0 }
-    ensures read { (context : DecodeOptions) (rest : List ℕ) → IsKnownVersion context version → IsReadBack context result rest }
+    ensures read { (context : DecodeOptions) (rest : List ℕ) → IsKnownVersion context version
+        → IsReadBack context result rest }
 {
     Header::Long {
         ty: LongType::Handshake,
@@ -75,7 +76,8 @@ pub fn short(id: &[u8], number: u64) -> Header
     ensures numbered { IsTrue (has_number result) }
     ensures low { IsLowPart result number }
     ensures found { number ≤ 128 → ExpandsIn result 0 number }
-    ensures read { (context : DecodeOptions) → ((tail : List ℕ) → context.parsed (id.now ++ tail) ≡ Ok (id.now, length id.now))
+    ensures read { (context : DecodeOptions)
+        → ((tail : List ℕ) → context.parsed (id.now ++ tail) ≡ Ok (id.now, length id.now))
         → IsReadBack context result [] }
 {
     Header::Short {

@@ -72,7 +72,7 @@ abbrev pub counts_numbers : Option EcnCounts → List ℕ
 counts_numbers None = 0 ∷ 0 ∷ 0 ∷ []
 counts_numbers (Some e) = e.ect0 ∷ e.ect1 ∷ e.ce ∷ []
 
--- its five numbers, 0 where there are fewer
+-- its five numbers, with 0 for those that it lacks
 abbrev pub frame_numbers_of : Frame → List ℕ
 frame_numbers_of (frames.Ack a) = a.largest ∷ a.delay ∷ counts_numbers a.ecn
 frame_numbers_of (frames.ResetStream r) = r.id ∷ r.error_code ∷ r.final_offset ∷ 0 ∷ 0 ∷ []

@@ -163,7 +163,7 @@ pub data OpensAll (opening : Opening) : List ℕ → List OpenedPacket → Type 
 
 -- ---- sealed bytes
 
--- a header that is read back where these bytes follow its packet
+-- a header that is read back if these bytes follow its packet
 abbrev pub IsReadBack : DecodeOptions → Header → List ℕ → Type 0
 IsReadBack options (header.Initial h) rest =
     (h.version < 2 ^ 32) × IsKnownVersion options h.version × (length h.dst_cid ≤ 20) × (length h.src_cid ≤ 20)

@@ -131,7 +131,7 @@ fn open_plain<H: HeaderKey, P: PacketKey>(
     ensures refused { IfErr result (RefusesPacket (⟦<SpaceKeys<H, P> as PairsOfKeys>⟧.pairs keys.now)
         (expected_in expected.now) partial) }
 {
-    // It is read without a key, so any would do.
+    // No key is used to read it, so any would do.
     let packet = match partial.finish(Some(&keys.initial.header)) {
         Ok(packet) => packet,
         Err(e) => return Err(decode_error(&e)),

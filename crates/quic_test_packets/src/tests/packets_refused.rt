@@ -1,4 +1,4 @@
-//! Sealing and opening where memory is refused: each test holds whichever allocation fails, and where none does.
+//! Sealing and opening while memory is refused: each test holds whichever allocation fails, and also if none does.
 use crate::counting::{CountingKey, all_counting, opened_by};
 use crate::worked::{ALL_ZERO, all_toy, handshake, short, toy};
 use bytes::BytesMut;
@@ -54,7 +54,7 @@ fn are_both_sealed(out: &mut Vec<u8>) -> bool {
     seal_handshake(out) == Ok(30) && seal_short(out) == Ok(22) && out.as_slice() == WHOLE.as_slice()
 }
 
-// Where there is room, sealing takes no memory.
+// If there is room, sealing takes no memory.
 #[test]
 fn sealing_where_there_is_room(rt: HostRuntime) -> Result<(), Fail> {
     let mut out = Vec::new(rt.alloc());

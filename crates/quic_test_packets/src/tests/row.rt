@@ -14,7 +14,7 @@ use quic_packets::packet::{
 use std::alloc::Global;
 use std::test::Fail;
 
-// Opens a datagram whose short headers have ids of one byte, where these versions are spoken.
+// Opens a datagram whose short headers have ids of one byte, with these versions known.
 fn open(
     opened: &mut Vec<Opened>,
     alloc: Global,
@@ -211,7 +211,7 @@ fn is_unsealed_by_a_bit(alloc: Global, at: usize) -> bool {
     first_number(alloc, &changed) == Err(OpenError::Unsealed)
 }
 
-// The tag is the last 16 bytes of the first packet. Want of memory is not reported where there is memory.
+// The tag is the last 16 bytes of the first packet. `OutOfMemory` is not reported while there is memory.
 #[test]
 fn a_changed_tag(rt: HostRuntime) -> Result<(), Fail> {
     let mut checks = Checks::new(rt.alloc());

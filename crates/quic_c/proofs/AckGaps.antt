@@ -1,4 +1,4 @@
--- ACKs that words say by gap and length: there is one at most, and these are its bytes.
+-- ACKs that words describe by gap and length: there is one at most, and these are its bytes.
 use Rattle.std.proofs.Common.{append_assoc, ℤ, to_z, of_z, w32, ◌≡◌, ℕ, zero, suc, ◌+◌, ◌-◌, ◌*◌, ◌<◌, ◌≤◌, ◌^◌, Bool, true, false, ◌⊎◌, inl, inr, List, [], ◌∷◌, ◌++◌, length, refl, sym, ap, subst, ◌∙◌, arith}
 use Rattle.std.specs.Prelude.{◌↔◌, IsTrue, pos, negsuc, bit_or, nat_lt, drop, get_or, slice_index, take, ◌==◌, if◌then◌else◌}
 use Rattle.std.proofs.lemmas.Bool.Decides.{nat_tests}
@@ -19,7 +19,7 @@ use Rattle.quic_c.specs.declared.words.CGap.{CGap}
 use Rattle.quic_c.specs.AckGaps.{ack_bytes, ack_said, behind_type, counts_list, counts_said, delay_in, front_numbers, gap_numbers, greatest_of_words, AreUnder, Fit, IsAck, DescribesAck}
 use Rattle.quic_c.specs.Front.{gap_of, gaps_below}
 
--- ---- the ranges that gaps say
+-- ---- the ranges that gaps describe
 
 ranges_of : ℕ → List CGap → List (ℕ × ℕ)
 ranges_of low [] = []
@@ -75,7 +75,7 @@ counts_by flags a b c e = elim e [
   | inr some ↦ subst (λ (f : ℕ). count_numbers (counts_said (if f == 2 then a ∷ b ∷ c ∷ [] else [])) ≡ (if f == 2 then a ∷ b ∷ c ∷ [] else [])) (sym some) refl
 ]
 
--- the bytes of the ACK that words and gaps say
+-- the bytes of the ACK that words and gaps describe
 pub whole : (last : Bool) (words : CFrame) (gaps : List CGap) (low : ℕ) (below : List (ℕ × ℕ)) → DescribesAck words gaps low below
     → shortest_frame last (ack_said words low below) ≡ ack_bytes words gaps
 whole last words gaps low below s =
@@ -300,7 +300,7 @@ typed t bytes old mid new end first le x one front back =
       back = ap (λ (l : List ℕ). drop end l) is ∙ ap (λ (n : ℕ). drop n (t ∷ drop 1 mid)) next ∙ drop-drop k 1 mid ∙ ap (λ (n : ℕ). drop n mid) (sym count) ∙ x.back;
     }
 
--- the numbers behind the type, the gaps, the type and the counts were written, one after the other
+-- the numbers after the type, the gaps, the type and the counts were written, one after the other
 pub stored_ack : (t : ℕ) (behind middle end old front mid one new : List ℕ) (place at stop first : ℕ) → 1 ≤ length old → Stores behind 1 old place front → Stores middle place front at mid
     → first ≡ 0 + 1 → take first one ≡ take 0 mid ++ (t ∷ []) → drop first one ≡ drop first mid → Stores end at one stop new
     → Stores ((t ∷ behind) ++ (middle ++ end)) 0 old stop new

@@ -1,4 +1,4 @@
--- The header of a frame, and its data behind it.
+-- The header of a frame, followed by its data.
 use Rattle.std.proofs.Common.{◌≡◌, ℕ, ◌<◌, ◌^◌, List, [], ◌∷◌, ◌++◌, length, Bool, true, false, None, Some, refl, sym, ap, subst, ◌∙◌, inl, inr, arith}
 use Rattle.std.specs.Prelude.{◌==◌, ◌||◌, ◌⊎◌, if◌then◌else◌}
 use Rattle.quic_base.specs.declared.ids.Dir.TheVariants as dirs
@@ -33,7 +33,7 @@ never kind other h e apart =
     let same : ◌≡◌ {A = Bool} true false = sym yes ∙ apart in
     cc
 
--- what the law says of a frame
+-- what the law means for a frame
 abbrev IsCut : CFrame → Bool → Frame → Type 0
 IsCut words last frame = HasHeader words last × (shortest_frame last (meaning_of frame) ≡ data_header_bytes words last ++ data_of frame)
 

@@ -19,7 +19,7 @@ use Rattle.quic_c.specs.declared.words.CFrame.{CFrame}
 use Rattle.quic_c.specs.Answers.{GivesFront, GivesPlace, IsWholeAck, ack_front_at, frame_of_words}
 use Rattle.quic_c.proofs.Places.{at_place, place_given, stands_in}
 
--- what follows a number stands at the end, and is bytes
+-- what follows a number is at the end, and is bytes
 behind : (bytes : List ℕ) (n : ℕ) (rest : List ℕ) (P : Type 0) → AreBytes bytes → varint_at bytes ≡ Ok (n, rest) → ((front : List ℕ) → bytes ≡ front ++ rest → AreBytes rest → P) → P
 behind bytes n rest P fits e k =
     let t = varint_takes bytes n rest fits e in
@@ -54,11 +54,11 @@ blocks_read : (largest count : ℕ) (c d : List ℕ) → varint_at c ≡ Ok (cou
 unfolding blocks_at
 blocks_read largest count c d four = rw four refl
 
--- bytes of which nothing is left behind a front are that front
+-- bytes of which nothing is left after a front are that front
 all_in_front : (n : ℕ) (bytes : List ℕ) → drop n bytes ≡ [] → take n bytes ≡ bytes
 all_in_front n bytes e = sym (append-nil (take n bytes)) ∙ ap (λ (l : List ℕ). take n bytes ++ l) (sym e) ∙ take-append-drop n bytes
 
--- of an ACK that has nothing behind its blocks they are all that follows the count
+-- in an ACK that has nothing after its blocks they are all that follows the count
 pub whole_ack : (bytes a b c d : List ℕ) (largest delay count : ℕ) → AreBytes bytes → varint_at bytes ≡ Ok (2, a) → varint_at a ≡ Ok (largest, b) → varint_at b ≡ Ok (delay, c) → varint_at c ≡ Ok (count, d)
     → IsWholeAck bytes largest d
 whole_ack bytes a b c d largest delay count fits one two three four greatest others e =
@@ -104,7 +104,7 @@ pub lacks_count : (bytes a b c : List ℕ) (largest delay : ℕ) → AreBytes by
 lacks_count bytes a b c largest delay fits one two three cut =
     behind bytes 2 a _ fits one (λ f e fits1. behind a largest b _ fits1 two (λ g h fits2. behind b delay c _ fits2 three (λ i j fits3. is_err (ack_front_at bytes) (no_count bytes a b c largest delay one two three (varint_cut c fits3 cut)))))
 
--- what is said of the words of an ACK whose blocks end where it ends
+-- the facts about the words of an ACK whose blocks end where it ends
 pub front_given : (payload : List ℕ) (frame : CFrame) (largest : ℕ) (blocks : List ℕ) → frame.begin ≤ frame.end → frame.end ≤ length payload → ack_front_at (frame_of_words frame payload) ≡ Ok (largest, blocks)
     → largest < 2 ^ 62 → (front : List ℕ) × (frame_of_words frame payload ≡ front ++ blocks) → IsWholeAck (frame_of_words frame payload) largest blocks → GivesFront frame payload (at_place (frame.end - length blocks) frame.end largest)
 front_given payload frame largest blocks ordered within reads small parts is_whole =

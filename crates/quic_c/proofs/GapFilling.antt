@@ -57,7 +57,7 @@ gaps_begin least ranges blocks before encoded = record {
   kept = refl;
 }
 
--- The gap and the block at the front, and what is left behind them.
+-- The gap and the block at the front, and what is left after them.
 pub record NextGap (low : ℕ) (others : List (ℕ × ℕ)) (left : List ℕ) : Type 0 where
   pub range : ℕ × ℕ
   pub ranges : List (ℕ × ℕ)
@@ -140,7 +140,7 @@ gaps_end least ranges before left after count s full =
       full = full;
     }
 
--- no number is cut off where a gap or a block stands
+-- no number is cut off if there is a gap or a block
 pub gap_stands : (least : ℕ) (ranges : List (ℕ × ℕ)) (before : List CGap) (left : List ℕ) (after : List CGap) (count : ℕ) (e : Fault) → GapFilling least ranges before left after count → 0 < length left
     → varint_at left ≡ Err e → ⊥
 gap_stands least ranges before left after count e s some h =
@@ -178,7 +178,7 @@ gaps_full least ranges before (b ∷ left) after count s e fewer = absurd (omega
 
 -- ---- the first range of an ACK
 
--- The first range in blocks, and what is left behind it.
+-- The first range in blocks, and what is left after it.
 pub record FirstGap (ack : Ack) (bytes : List ℕ) : Type 0 where
   pub least : ℕ
   pub below : List (ℕ × ℕ)

@@ -1,4 +1,4 @@
--- Words say one meaning at most.
+-- Words describe one meaning at most.
 use Rattle.std.proofs.Common.{◌≡◌, ℕ, List, [], ◌∷◌, take, drop, Bool, refl, sym, ap, ◌∙◌}
 use Rattle.std.specs.Prelude.{◌==◌, if◌then◌else◌}
 use Rattle.quic_base.specs.declared.ids.Dir.TheVariants as dirs
@@ -25,7 +25,7 @@ abbrev fourth_in : List ℕ → ℕ
 fourth_in (a ∷ b ∷ c ∷ d ∷ numbers) = d
 fourth_in numbers = 0
 
--- what a frame of any kind but ACK says, by its words, its data and its token
+-- the meaning of a frame of any kind but ACK, by its words, its data and its token
 said_by : ℕ → ℕ → List ℕ → List ℕ → List ℕ → Meaning
 said_by kind flags ns bytes token =
     if kind == 0x00 then frame_of names.Padding []

@@ -26,7 +26,7 @@ at_place begin end largest = record { begin = begin; end = end; largest = larges
 abbrev pub range_words : ℕ → ℕ → CRange
 range_words start end = record { start = start; end = end }
 
--- what a step over the blocks at a place says of the words
+-- what a step over the blocks at a place means for the words
 pub range_given : (payload : List ℕ) (begin end largest least next : ℕ) (rest : List ℕ) → begin < end → end ≤ length payload → largest < 2 ^ 62
     → first_range_at largest (slice_range payload begin end) ≡ Ok (least, next, rest) → length rest < length (slice_range payload begin end)
     → drop (length (slice_range payload begin end) - length rest) (slice_range payload begin end) ≡ rest
@@ -49,7 +49,7 @@ range_given payload begin end largest least next rest some within small step sho
       valid = rw left valid;
     }
 
--- bytes that stand in a part, before what ends it
+-- bytes in a part, before what ends it
 pub stands_in : (payload : List ℕ) (begin end : ℕ) (front blocks rest : List ℕ) → begin ≤ end → end ≤ length payload → slice_range payload begin end ≡ front ++ (blocks ++ rest)
     → (begin + (length front + (length blocks + length rest)) ≡ end) × (slice_range payload (end - length rest - length blocks) (end - length rest) ≡ blocks)
 stands_in payload begin end front blocks rest ordered within parts =
@@ -64,7 +64,7 @@ stands_in payload begin end front blocks rest ordered within parts =
     sym (take-take (length blocks) (end - (begin + length front)) (drop (begin + length front) payload) room) ∙ ap (take (length blocks)) behind ∙ take_at blocks rest (length blocks) refl in
     (all, ap (λ (n : ℕ). slice_range payload n (end - length rest)) start ∙ ap (λ (n : ℕ). take n (drop (begin + length front) payload)) width ∙ cut)
 
--- what is said of the words of an ACK, where its blocks stand in it
+-- the facts about the words of an ACK, whose blocks are in it
 pub place_given : (payload : List ℕ) (frame : CFrame) (largest : ℕ) (blocks rest : List ℕ) → frame.begin ≤ frame.end → frame.end ≤ length payload → ack_at (frame_of_words frame payload) ≡ Ok (largest, blocks, rest)
     → largest < 2 ^ 62 → IsBlocks largest blocks → (front : List ℕ) × (frame_of_words frame payload ≡ front ++ (blocks ++ rest)) → GivesPlace frame payload (at_place (frame.end - length rest - length blocks) (frame.end - length rest) largest)
 place_given payload frame largest blocks rest ordered within reads small valid parts =

@@ -30,7 +30,7 @@ pub record RangeFilling (old : CRangeIter) (payload : List ℕ) (before : List C
   pub shows : Shows (StepsOver payload) old (take count after) (left_at old.end left largest)
   pub kept : drop count after ≡ drop count before
 
--- what a step over the bytes that are left says of the words
+-- what a step over the bytes that are left means for the words
 pub range_of_left : (payload : List ℕ) (end largest least next : ℕ) (left rest : List ℕ) → 0 < length left → length left ≤ end → end ≤ length payload → largest < 2 ^ 62
     → slice_range payload (end - length left) end ≡ left → first_range_at largest left ≡ Ok (least, next, rest) → length rest < length left → drop (length left - length rest) left ≡ rest
     → (IsBlocks largest left → ranges_of largest left ≡ (least, largest) ∷ ranges_of next rest) → (IsBlocks largest left → blocks_left next rest ≡ Ok [])
@@ -38,7 +38,7 @@ pub range_of_left : (payload : List ℕ) (end largest least next : ℕ) (left re
 range_of_left payload end largest least next left rest some short within small stands step shorter tail first valid =
     range_given payload (end - length left) end largest least next rest (omega arith) within small (rw stands step) (rw stands shorter) (rw stands tail) (rw stands first) (rw stands valid)
 
--- no range stands at the front of the bytes that are left
+-- the bytes that are left don't begin with a range
 pub none_of_left : (payload : List ℕ) (end largest : ℕ) (left : List ℕ) (reason : Fault) → 0 < length left → length left ≤ end → slice_range payload (end - length left) end ≡ left
     → first_range_at largest left ≡ Err reason → (IsBlocks largest left → ⊥) → HasNoRange (left_at end left largest) payload
 none_of_left payload end largest left reason some short stands step refused =

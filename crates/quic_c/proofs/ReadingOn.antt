@@ -8,7 +8,7 @@ use Rattle.quic_frame_fields.specs.Reading.{Invalid, invalid, Item, Whole, varin
 use Rattle.quic_frames.specs.Walk.{left, first_of, resumed}
 use Rattle.quic_c.specs.Front.{behind, reported_behind}
 
--- over bytes that stand before
+-- with places that count from bytes before
 items_behind : (strict : Bool) (n count start : ℕ) (before : Option ℕ) (bytes : List ℕ) → items_from strict n (count + start) before bytes ≡ map (behind count) (items_from strict n start before bytes)
 unfolding items_from
 items_behind strict zero count start before bytes = refl
@@ -24,7 +24,7 @@ items_behind strict (suc n) count start before (b ∷ bytes) = by_found (λ m ty
         ap (λ (m : ℕ). Whole (count + start) m x.0 ∷ items_from strict n m (Some x.0.type) x.1) stop
         ∙ ap (λ (l : List Item). Whole (count + start) (count + (start + len)) x.0 ∷ l) (again (start + len) (Some x.0.type) x.1)
 
--- behind another type
+-- after another type
 items_reported : (strict : Bool) (n start : ℕ) (before : Option ℕ) (bytes : List ℕ) → items_from strict n start before bytes ≡ reported_behind before (items_from strict n start None bytes)
 unfolding items_from found_at
 items_reported strict zero start before bytes = refl

@@ -1,4 +1,4 @@
--- What words say, and why they say no frame.
+-- What words describe, and why they describe no frame.
 use Rattle.std.proofs.Common.{◌≡◌, ℕ, ◌<◌, ◌≤◌, ◌^◌, List, [], ◌∷◌, length, take, drop, Option, None, Some, Bool, true, false, refl, sym, ap, subst, ◌∙◌, inl, inr, arith}
 use Rattle.std.specs.Prelude.{◌==◌, ◌&&◌, ℤ, if◌then◌else◌}
 use Rattle.std.proofs.lemmas.Bool.{cases_eq}

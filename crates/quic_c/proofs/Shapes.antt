@@ -63,7 +63,7 @@ fin_kept : (fin : Bool) → ◌≡◌ {A = ℕ} (if (if fin then 1 else 0) == 1 
 fin_kept true = refl
 fin_kept false = refl
 
--- a kind is looked up once for all that is said of it
+-- a kind is looked up once for all facts about it
 none_some : (s : Shape) → ◌≡◌ {A = Option Shape} (Some s) None → ⊥
 none_some s e = cc
 

@@ -48,7 +48,7 @@ row_fits t r e = found_fits t rows r refl e
 some_is : {t u : ℕ} → ◌≡◌ {A = Option ℕ} (Some t) (Some u) → t ≡ u
 some_is e = cc
 
--- the last type behind a frame that was found is its type
+-- the last type after a frame that was found is its type
 pub last_is : (old new : IterState) (frame : Frame) (finds : Finds old frame new) (t : ℕ) → new.last ≡ Some t → t ≡ finds.found.type
 last_is old new frame finds t e = some_is (sym e ∙ ap (λ (w : IterState). w.last) finds.comes)
 
@@ -63,7 +63,7 @@ last_fits old new frame finds t e =
 word_back : (t : ℕ) → t < 2 ^ 16 → type_in t ≡ Some t
 word_back t small = grind (arith, nat_tests)
 
--- where an iterator stands behind a frame, by its end and its type
+-- where an iterator is after a frame, by its end and its type
 pub behind_frame : (here next : IterState) (frame : Frame) (finds : Finds here frame next) (stop type : ℕ) → stop ≡ next.offset → type ≡ finds.found.type → type < 2 ^ 16 → further here stop (type_in type) ≡ next
 behind_frame here next frame finds stop type ends begins small =
     ap (λ (n : ℕ). further here n (type_in type)) ends ∙ ap (λ (l : Option ℕ). further here next.offset l) (word_back type small ∙ ap (λ (n : ℕ). Some n) begins) ∙ sym finds.comes
@@ -79,11 +79,11 @@ gives_frame basic old new payload out here next frame type finds known is_here i
     let f = found_between here next (state_of old payload) (state_of new payload) frame finds (sym is_here) (sym is_next) in
     record { frame = frame; finds = f.0; known = known; words = words ∙ ap (λ (n : ℕ). shown old.offset new.offset n frame) (begins ∙ ap (λ (x : TypedFrame). x.type) (sym f.1)) }
 
--- where a test says that a frame isn't one of the extension where these are of unknown types
+-- if a test finds that a frame isn't one of the extension, and these have unknown types
 pub is_kept : (basic test : Bool) (frame : Frame) → IsTrue test ↔ (basic ≡ true) × IsExtension (frame_kind_of frame) → test ≡ false → (basic ≡ true) × IsExtension (frame_kind_of frame) → ⊥
 is_kept basic test frame tests e x = false≢true (sym e ∙ tests.1 x)
 
--- a frame of the extension is refused where these are of unknown types
+-- a frame of the extension is refused if these have unknown types
 pub unknown_refused : (basic : Bool) (here next : IterState) (frame : Frame) (reported : Invalid) → Finds here frame next → (basic ≡ true) × IsExtension (frame_kind_of frame) → reported ≡ unknown_type (frame_kind_of frame) → IsRefusedFrame basic here reported
 unknown_refused basic here next frame reported finds is tells = inr (is.0, record { frame = frame; next = next; finds = finds; extension = is.1; is = tells })
 

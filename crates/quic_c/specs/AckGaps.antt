@@ -1,4 +1,4 @@
--- ACKs that words say by gap and length (RFC 9000, section 19.3).
+-- ACKs that words describe by gap and length (RFC 9000, section 19.3).
 use Rattle.std.specs.Prelude.{◌≡◌, ⊤, ℕ, ◌+◌, ◌-◌, ◌<◌, ◌≤◌, ◌^◌, ◌⊎◌, List, [], ◌∷◌, ◌++◌, length, slice_index, Option, Some, None, ◌==◌, if◌then◌else◌}
 use Rattle.quic_frame_fields.specs.declared.frame.ack.EcnCounts.{EcnCounts}
 use Rattle.quic_frame_fields.specs.Field.{Number, Ranges}
@@ -20,18 +20,20 @@ delay_in words = slice_index words.numbers 1
 -- the counts of ECT(0), ECT(1) and ECN-CE, with flag 2
 abbrev pub counts_list : CFrame → List ℕ
 counts_list words =
-    if words.flags == 2 then slice_index words.numbers 2 ∷ slice_index words.numbers 3 ∷ slice_index words.numbers 4 ∷ [] else []
+    if words.flags == 2
+    then slice_index words.numbers 2 ∷ slice_index words.numbers 3 ∷ slice_index words.numbers 4 ∷ []
+    else []
 
 abbrev pub counts_said : List ℕ → Option EcnCounts
 counts_said (ect0 ∷ ect1 ∷ ce ∷ []) = Some (record { ect0 = ect0; ect1 = ect1; ce = ce })
 counts_said counts = None
 
--- ranges one below the other, and all below one with the least number low: at least one number stands between two
+-- ranges one below the other, and all below one whose least number is low: at least one number is between two of them
 abbrev pub AreUnder : ℕ → List (ℕ × ℕ) → Type 0
 AreUnder low [] = ⊤
 AreUnder low (range ∷ ranges) = (range.0 ≤ range.1) × (range.1 + 2 ≤ low) × AreUnder range.0 ranges
 
--- The words and the gaps say an ACK, whose first range goes down to low, and whose others stand below it.
+-- The words and the gaps describe an ACK, whose first range goes down to low, and whose other ranges are below it.
 pub record DescribesAck (words : CFrame) (gaps : List CGap) (low : ℕ) (below : List (ℕ × ℕ)) : Type 0 where
   pub kind : words.kind ≡ 0x02
   pub flags : (words.flags ≡ 0) ⊎ (words.flags ≡ 2)
@@ -45,21 +47,22 @@ pub record DescribesAck (words : CFrame) (gaps : List CGap) (low : ℕ) (below :
 -- the ACK
 abbrev pub ack_said : CFrame → ℕ → List (ℕ × ℕ) → Meaning
 ack_said words low below =
-    frame_of Ack (Number (greatest_of_words words) ∷ Number (delay_in words) ∷ Ranges ((low, greatest_of_words words) ∷ below) ∷ counts_of (counts_said (counts_list words)))
+    frame_of Ack (Number (greatest_of_words words) ∷ Number (delay_in words)
+    ∷ Ranges ((low, greatest_of_words words) ∷ below) ∷ counts_of (counts_said (counts_list words)))
 
 -- ---- No public clause cites what follows.
 
--- the numbers of gaps, as they stand on the wire
+-- the numbers of gaps, as they are encoded
 abbrev pub gap_numbers : List CGap → List ℕ
 gap_numbers [] = []
 gap_numbers (g ∷ gaps) = g.gap ∷ g.len ∷ gap_numbers gaps
 
--- the ranges below one with the least number low are numbers from 0 on
+-- the ranges below one whose least number is low don't go below 0
 abbrev pub Fit : ℕ → List CGap → Type 0
 Fit low [] = ⊤
 Fit low (g ∷ gaps) = (g.gap + 2 + g.len ≤ low) × Fit (low - 2 - g.gap - g.len) gaps
 
--- Such words and gaps say an ACK.
+-- Such words and gaps describe an ACK.
 pub record IsAck (words : CFrame) (gaps : List CGap) : Type 0 where
   pub kind : words.kind ≡ 0x02
   pub flags : (words.flags ≡ 0) ⊎ (words.flags ≡ 2)
@@ -69,7 +72,7 @@ pub record IsAck (words : CFrame) (gaps : List CGap) : Type 0 where
   pub delay : delay_in words < 2 ^ 62
   pub counts : AreNumeric (counts_list words)
 
--- their numbers in front of the gaps, behind the type
+-- their numbers before the gaps, after the type
 abbrev pub behind_type : CFrame → List CGap → List ℕ
 behind_type words gaps = greatest_of_words words ∷ delay_in words ∷ length gaps ∷ words.data_len ∷ []
 
@@ -79,4 +82,5 @@ front_numbers words gaps = (if words.flags == 2 then 0x03 else 0x02) ∷ behind_
 
 -- the bytes that are written
 abbrev pub ack_bytes : CFrame → List CGap → List ℕ
-ack_bytes words gaps = shortest_varints (front_numbers words gaps) ++ (shortest_varints (gap_numbers gaps) ++ shortest_varints (counts_list words))
+ack_bytes words gaps = shortest_varints (front_numbers words gaps)
+    ++ (shortest_varints (gap_numbers gaps) ++ shortest_varints (counts_list words))

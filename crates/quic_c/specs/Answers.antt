@@ -18,13 +18,16 @@ use Rattle.quic_c.specs.Shown.{state_of, type_word, shown, shown_invalid, frame_
 
 -- the number of a reason: 1 unexpected end, 2 invalid frame ID, 3 malformed, 4 frame type not in shortest form
 abbrev pub reason_in : List ℕ → ℕ
-reason_in reason = if pointwise nat_eq reason (codes "unexpected end") then 1 else if pointwise nat_eq reason (codes "invalid frame ID") then 2 else if pointwise nat_eq reason (codes "frame type not in shortest form") then 4 else 3
+reason_in reason = if pointwise nat_eq reason (codes "unexpected end") then 1
+    else if pointwise nat_eq reason (codes "invalid frame ID") then 2
+    else if pointwise nat_eq reason (codes "frame type not in shortest form") then 4
+    else 3
 
--- what is reported of a frame of a kind whose type is unknown
+-- what is reported of a frame of a kind if its type is unknown
 abbrev pub unknown_type : ℕ → Invalid
 unknown_type kind = invalid (Some kind) InvalidFrameId
 
--- A frame of the extension for ACK frequency stands there, and is reported as one of an unknown type.
+-- A frame of the extension for ACK frequency is there, and is reported as one of an unknown type.
 pub record IsUnknown (state : IterState) (reported : Invalid) : Type 0 where
   pub frame : Frame
   pub next : IterState
@@ -32,29 +35,32 @@ pub record IsUnknown (state : IterState) (reported : Invalid) : Type 0 where
   pub extension : IsExtension (frame_kind_of frame)
   pub is : reported ≡ unknown_type (frame_kind_of frame)
 
--- What stands there isn't given, and this is reported of it: it is no frame, or a frame of that extension where these are
--- of unknown types.
+-- The next frame isn't given, and this is reported: the bytes aren't a valid frame, or it is a frame of that extension
+-- and these have unknown types.
 abbrev pub IsRefusedFrame : Bool → IterState → Invalid → Type 0
 IsRefusedFrame basic state reported = (left state ≡ Broken reported ∷ []) ⊎ (basic ≡ true) × IsUnknown state reported
 
--- A frame was found where the words stand, and its words were given: one of that extension only where these are known.
-pub record GivesFrameWords (basic : Bool) (old : CFrameIter) (payload : List ℕ) (new : CFrameIter) (out : CFrame) : Type 0 where
+-- A frame was read at the place in the words, and its words were given: one of that extension only if these are known.
+pub record GivesFrameWords (basic : Bool) (old : CFrameIter) (payload : List ℕ) (new : CFrameIter)
+    (out : CFrame) : Type 0 where
   pub frame : Frame
   pub finds : Finds (state_of old payload) frame (state_of new payload)
   pub known : (basic ≡ true) × IsExtension (frame_kind_of frame) → ⊥
   pub words : out ≡ shown old.offset new.offset finds.found.type frame
 
--- What stands there isn't given, and that is reported; nothing is left.
-pub record GivesInvalid (basic : Bool) (old : CFrameIter) (payload : List ℕ) (new : CFrameIter) (out : CFrame) : Type 0 where
+-- The next frame isn't given, and the reason is reported; nothing is left.
+pub record GivesInvalid (basic : Bool) (old : CFrameIter) (payload : List ℕ) (new : CFrameIter)
+    (out : CFrame) : Type 0 where
   pub reported : Invalid
   pub first : IsRefusedFrame basic (state_of old payload) reported
   pub over : new ≡ record old { ended = 1 }
   pub words : out ≡ shown_invalid old.offset (type_word reported.type) (reason_in reported.reason)
 
--- What a call for the next frame answers and leaves, where frames of that extension are of unknown types if `basic` is
--- true: 1 with the frame; 0 where none is left; -3 with what is reported of something that isn't given; -1 just where the
--- place lies outside the payload. Nothing changes with 0 and -1.
-pub record AnswersNext (basic : Bool) (old : CFrameIter) (payload : List ℕ) (before : CFrame) (answer : ℤ) (new : CFrameIter) (after : CFrame) : Type 0 where
+-- What a call for the next frame answers and leaves; if `basic` is true, frames of that extension have unknown types. 1
+-- with the frame; 0 if none is left; -3 with what is reported of a frame that isn't given; -1 exactly if the place is
+-- outside of the payload. Nothing changes with 0 and -1.
+pub record AnswersNext (basic : Bool) (old : CFrameIter) (payload : List ℕ) (before : CFrame) (answer : ℤ)
+    (new : CFrameIter) (after : CFrame) : Type 0 where
   pub answers : (answer ≡ pos 1) ⊎ (answer ≡ pos 0) ⊎ (answer ≡ negsuc 2) ⊎ (answer ≡ negsuc 0)
   pub frame : answer ≡ pos 1 → GivesFrameWords basic old payload new after
   pub end : answer ≡ pos 0 → left (state_of old payload) ≡ []
@@ -66,7 +72,7 @@ pub record AnswersNext (basic : Bool) (old : CFrameIter) (payload : List ℕ) (b
 abbrev pub blocks_in : CRangeIter → List ℕ → List ℕ
 blocks_in ranges payload = slice_range payload ranges.begin ranges.end
 
--- The place of some blocks lies in the payload.
+-- The place of the blocks is in the payload.
 pub record IsWithin (ranges : CRangeIter) (payload : List ℕ) : Type 0 where
   pub ordered : ranges.begin ≤ ranges.end
   pub ends : ranges.end ≤ length payload
@@ -94,7 +100,7 @@ behind_plain_type bytes = do
   count ← varint_at delay.1
   Ok (largest.0, count.1)
 
--- of an ACK without counts its greatest number, and what follows the count of its ranges (RFC 9000, section 19.3)
+-- for an ACK without counts its greatest number, and what follows the count of its ranges (RFC 9000, section 19.3)
 unfoldable pub ack_front_at : List ℕ → Result (ℕ × List ℕ) Fault
 ack_front_at bytes = do
   type ← varint_at bytes
@@ -102,10 +108,12 @@ ack_front_at bytes = do
 
 -- If the bytes are an ACK to their end, it has this greatest number and these blocks.
 abbrev pub IsWholeAck : List ℕ → ℕ → List ℕ → Type 0
-IsWholeAck bytes largest blocks = (greatest : ℕ) (others : List ℕ) → ack_at bytes ≡ Ok (greatest, others, []) → (ack_at bytes ≡ Ok (largest, blocks, [])) × IsBlocks largest blocks
+IsWholeAck bytes largest blocks =
+    (greatest : ℕ) (others : List ℕ) → ack_at bytes ≡ Ok (greatest, others, [])
+    → (ack_at bytes ≡ Ok (largest, blocks, [])) × IsBlocks largest blocks
 
--- The frame begins as an ACK without counts, and its greatest number and the place of all that follows the count of
--- its ranges were given. Where it is an ACK to its end, that is the place of its blocks.
+-- The frame begins as an ACK without counts, and its greatest number and the place of everything after the count of its
+-- ranges were given. If the frame is an ACK to its end, that is the place of its blocks.
 pub record GivesFront (frame : CFrame) (payload : List ℕ) (new : CRangeIter) : Type 0 where
   pub ordered : frame.begin ≤ frame.end
   pub ends : frame.end ≤ length payload
@@ -114,17 +122,22 @@ pub record GivesFront (frame : CFrame) (payload : List ℕ) (new : CRangeIter) :
   pub within : IsWithin new payload
   pub begins : frame.begin ≤ new.begin
   pub small : new.largest < 2 ^ 62
-  pub ack : (greatest : ℕ) (others : List ℕ) → ack_at (frame_of_words frame payload) ≡ Ok (greatest, others, []) → GivesPlace frame payload new
+  pub ack : (greatest : ℕ) (others : List ℕ) → ack_at (frame_of_words frame payload) ≡ Ok (greatest, others, [])
+      → GivesPlace frame payload new
 
--- The place of the frame lies outside the payload, or no front of an ACK without counts is read there.
+-- The place of the frame is outside of the payload, or there is no valid front of an ACK without counts.
 abbrev pub LacksFront : CFrame → List ℕ → Type 0
-LacksFront frame payload = (frame.end < frame.begin) ⊎ (length payload < frame.end) ⊎ IsErr (ack_front_at (frame_of_words frame payload))
+LacksFront frame payload =
+    (frame.end < frame.begin) ⊎ (length payload < frame.end)
+    ⊎ IsErr (ack_front_at (frame_of_words frame payload))
 
--- The place of the frame lies outside the payload, or no ACK is read there.
+-- The place of the frame is outside of the payload, or there is no valid ACK.
 abbrev pub LacksAck : CFrame → List ℕ → Type 0
-LacksAck frame payload = (frame.end < frame.begin) ⊎ (length payload < frame.end) ⊎ IsErr (ack_at (frame_of_words frame payload))
+LacksAck frame payload =
+    (frame.end < frame.begin) ⊎ (length payload < frame.end)
+    ⊎ IsErr (ack_at (frame_of_words frame payload))
 
--- The first range of the blocks was given, and what is left of the bytes are the blocks of the others.
+-- The first range of the blocks was given, and the blocks of the other ranges are left.
 pub record GivesRange (old : CRangeIter) (payload : List ℕ) (new : CRangeIter) (out : CRange) : Type 0 where
   pub some : old.begin < old.end
   pub small : old.largest < 2 ^ 62
@@ -133,18 +146,21 @@ pub record GivesRange (old : CRangeIter) (payload : List ℕ) (new : CRangeIter)
   pub last : new.end ≡ old.end
   pub further : old.begin < new.begin
   pub within : IsWithin new payload
-  pub ranges : IsBlocks old.largest (blocks_in old payload) → ranges_of old.largest (blocks_in old payload) ≡ (out.start, old.largest) ∷ ranges_of new.largest (blocks_in new payload)
+  pub ranges : IsBlocks old.largest (blocks_in old payload)
+      → ranges_of old.largest (blocks_in old payload)
+      ≡ (out.start, old.largest) ∷ ranges_of new.largest (blocks_in new payload)
   pub valid : IsBlocks old.largest (blocks_in old payload) → blocks_left new.largest (blocks_in new payload) ≡ Ok []
 
--- No range stands first, and why.
+-- The bytes don't begin with a range, and why.
 pub record LacksRange (ranges : CRangeIter) (payload : List ℕ) : Type 0 where
   pub some : ranges.begin < ranges.end
   pub reason : Fault
   pub step : first_range_at ranges.largest (blocks_in ranges payload) ≡ Err reason
   pub refused : IsBlocks ranges.largest (blocks_in ranges payload) → ⊥
 
--- The words name no blocks: the place lies outside the payload, or it has bytes, and the number is too large or no
--- range stands first.
+-- The words describe no blocks: the place is outside of the payload, or it has bytes, and the number is too large or
+-- they don't begin with a range.
 abbrev pub NamesNone : CRangeIter → List ℕ → Type 0
 NamesNone ranges payload =
-    (ranges.end < ranges.begin) ⊎ (length payload < ranges.end) ⊎ ((ranges.begin < ranges.end) × (2 ^ 62 ≤ ranges.largest)) ⊎ LacksRange ranges payload
+    (ranges.end < ranges.begin) ⊎ (length payload < ranges.end)
+    ⊎ ((ranges.begin < ranges.end) × (2 ^ 62 ≤ ranges.largest)) ⊎ LacksRange ranges payload

@@ -1,4 +1,4 @@
--- Frames into a caller's array, many with one call (RFC 9000, section 19).
+-- Frames stored in a caller's array, many with one call (RFC 9000, section 19).
 use Rattle.std.specs.Prelude.{◌≡◌, ℕ, ◌<◌, ◌≤◌, ◌⊎◌, ◌↔◌, ℤ, pos, negsuc, List, [], ◌∷◌, length, take, drop, Bool, true, Option}
 use Rattle.quic_frames.specs.declared.frame.Frame.{Frame}
 use Rattle.quic_frame_fields.specs.Reading.{Invalid}
@@ -12,8 +12,8 @@ use Rattle.quic_c.specs.declared.words.CRange.{CRange}
 use Rattle.quic_c.specs.declared.words.CRangeIter.{CRangeIter}
 use Rattle.quic_c.specs.Answers.{GivesInvalid, GivesRange, IsRefusedFrame, NamesNone}
 
--- One entry shows a frame, one of the extension for ACK frequency only where these are known; one of PADDING (RFC 9000,
--- section 19.1) shows also the PADDING that follows, a frame with each byte.
+-- One entry describes a frame, which is one of the extension for ACK frequency only if these are known; an entry of
+-- PADDING (RFC 9000, section 19.1) includes the PADDING that follows, each byte of which is a frame.
 pub record GivesEntry (basic : Bool) (old : IterState) (entry : CFrame) (new : IterState) : Type 0 where
   pub frame : Frame
   pub next : IterState
@@ -23,35 +23,40 @@ pub record GivesEntry (basic : Bool) (old : IterState) (entry : CFrame) (new : I
   pub one : 0 < frame_kind_of frame → new ≡ next
   pub words : entry ≡ shown old.offset new.offset finds.found.type frame
 
--- The entries show all that stands between two places, each by one step from where the one before it ends.
+-- The entries describe all frames between two places, each by one step from where the one before it ends.
 abbrev pub Shows : {P E : Type 0} → (P → E → P → Type 0) → P → List E → P → Type 0
 Shows step old [] new = old ≡ new
 Shows {P = P} step old (entry ∷ entries) new = (next : P) × step old entry next × Shows step next entries new
 
--- Nothing is left, or what stands next isn't given.
+-- Nothing is left, or the next frame isn't given.
 abbrev pub HasNoFrame : Bool → IterState → Type 0
 HasNoFrame basic state = (left state ≡ []) ⊎ ((reported : Invalid) × IsRefusedFrame basic state reported)
 
--- So many entries were filled, and those behind them kept; more were not, for want of room or of a frame.
-pub record Fills (basic : Bool) (old : IterState) (before : List CFrame) (new : IterState) (after : List CFrame) (count : ℕ) : Type 0 where
+-- So many entries were filled, and those after them don't change; more were not filled, as there was no room or no
+-- frame.
+pub record Fills (basic : Bool) (old : IterState) (before : List CFrame) (new : IterState) (after : List CFrame)
+    (count : ℕ) : Type 0 where
   pub few : count ≤ length before
   pub shows : Shows (GivesEntry basic) old (take count after) new
   pub kept : drop count after ≡ drop count before
   pub full : (count ≡ length before) ⊎ HasNoFrame basic new
 
--- What stands there isn't given: the first entry tells that, and the others were kept.
-pub record TellsInvalid (basic : Bool) (old : CFrameIter) (payload : List ℕ) (before : List CFrame) (new : CFrameIter) (after : List CFrame) : Type 0 where
+-- The next frame isn't given: the first entry reports that, and the others don't change.
+pub record TellsInvalid (basic : Bool) (old : CFrameIter) (payload : List ℕ) (before : List CFrame) (new : CFrameIter)
+    (after : List CFrame) : Type 0 where
   pub entry : CFrame
   pub invalid : GivesInvalid basic old payload new entry
   pub entries : after ≡ entry ∷ drop 1 before
 
--- What a call for the next frames answers and leaves, where frames of that extension are of unknown types if `basic` is
--- true: 1 with how many entries were filled, one at least; 0 where no frame is left; -3 with what is reported of something
--- that isn't given; -4 just where there is no entry and the place lies in the payload; -1 just where it lies outside.
--- Nothing changes with 0, -4 and -1, and the count with 1 alone.
-pub record AnswersFill (basic : Bool) (old : CFrameIter) (payload : List ℕ) (before : List CFrame) (count_before : ℕ) (answer : ℤ) (new : CFrameIter) (after : List CFrame) (count : ℕ) : Type 0 where
+-- What a call for the next frames answers and leaves; if `basic` is true, frames of that extension have unknown types.
+-- 1 with how many entries were filled, at least one; 0 if no frame is left; -3 with what is reported of a frame that
+-- isn't given; -4 exactly if there is no entry and the place is in the payload; -1 exactly if it is outside. Nothing
+-- changes with 0, -4 and -1, and the count changes only with 1.
+pub record AnswersFill (basic : Bool) (old : CFrameIter) (payload : List ℕ) (before : List CFrame) (count_before : ℕ)
+    (answer : ℤ) (new : CFrameIter) (after : List CFrame) (count : ℕ) : Type 0 where
   pub answers : (answer ≡ pos 1) ⊎ (answer ≡ pos 0) ⊎ (answer ≡ negsuc 2) ⊎ (answer ≡ negsuc 3) ⊎ (answer ≡ negsuc 0)
-  pub frames : answer ≡ pos 1 → (0 < count) × Fills basic (state_of old payload) before (state_of new payload) after count
+  pub frames : answer ≡ pos 1
+      → (0 < count) × Fills basic (state_of old payload) before (state_of new payload) after count
   pub end : answer ≡ pos 0 → left (state_of old payload) ≡ []
   pub invalid : answer ≡ negsuc 2 → TellsInvalid basic old payload before new after
   pub room : (answer ≡ negsuc 3) ↔ ((old.offset ≤ length payload) × (before ≡ []))
@@ -67,13 +72,14 @@ further state offset last = record state { offset = offset; last = last }
 abbrev pub StepsOver : List ℕ → CRangeIter → CRange → CRangeIter → Type 0
 StepsOver payload old range new = GivesRange old payload new range
 
--- No byte is left, or no range stands next.
+-- No byte is left, or the bytes don't begin with a range.
 abbrev pub HasNoRange : CRangeIter → List ℕ → Type 0
 HasNoRange ranges payload = (ranges.begin ≡ ranges.end) ⊎ NamesNone ranges payload
 
--- So many entries were filled with ranges (RFC 9000, section 19.3.1), and those behind them kept; more were not, for
--- want of room or of a range.
-pub record FillsRanges (old : CRangeIter) (payload : List ℕ) (before : List CRange) (new : CRangeIter) (after : List CRange) (count : ℕ) : Type 0 where
+-- So many entries were filled with ranges (RFC 9000, section 19.3.1), and those after them don't change; more were not
+-- filled, as there was no room or no range.
+pub record FillsRanges (old : CRangeIter) (payload : List ℕ) (before : List CRange) (new : CRangeIter)
+    (after : List CRange) (count : ℕ) : Type 0 where
   pub few : count ≤ length before
   pub shows : Shows (StepsOver payload) old (take count after) new
   pub kept : drop count after ≡ drop count before

@@ -13,18 +13,18 @@ use Rattle.quic_c.specs.declared.words.CGap.{CGap}
 use Rattle.quic_c.specs.Answers.{IsRefusedFrame, reason_in}
 use Rattle.quic_c.specs.Shown.{frame_kind_of, shown, shown_invalid, type_word, counts_flag, IsExtension}
 
--- a range, by its least and its greatest number, below one with the least number low: the numbers between the two,
--- less one, and its numbers, less one (RFC 9000, section 19.3.1)
+-- a range, by its least and its greatest number, below one whose least number is low: the count of numbers between the
+-- two, less one, and the count of its own, less one (RFC 9000, section 19.3.1)
 abbrev pub gap_of : ℕ → ℕ × ℕ → CGap
 gap_of low range = record { gap = low - (range.1 + 2); len = range.1 - range.0 }
 
--- the same of ranges, each of which stands below the one before it
+-- the same for ranges, each of which is below the one before it
 abbrev pub gaps_below : ℕ → List (ℕ × ℕ) → List CGap
 gaps_below low [] = []
 gaps_below low (range ∷ ranges) = gap_of low range ∷ gaps_below range.0 ranges
 
--- So many entries were filled with the first of the ranges below one with the least number low, and those behind them
--- kept; more were not, for want of room or of a range.
+-- So many entries were filled with the first of the ranges below one whose least number is low, and those after them
+-- don't change; more were not filled, as there was no room or no range.
 pub record FillsGaps (low : ℕ) (ranges : List (ℕ × ℕ)) (before after : List CGap) (count : ℕ) : Type 0 where
   pub few : count ≤ length before
   pub one_each : count ≤ length ranges
@@ -36,8 +36,8 @@ pub record FillsGaps (low : ℕ) (ranges : List (ℕ × ℕ)) (before after : Li
 abbrev pub more_flag : ℕ → List (ℕ × ℕ) → ℕ
 more_flag count ranges = if nat_lt count (length ranges) then 4 else 0
 
--- The words of an ACK of this type up to a place: its first range, less one, in the place of its data's length, and in that of
--- their offset how many entries were filled with the ranges below it.
+-- The words of an ACK of this type up to a place: its data's length is its first range, less one, and their offset is
+-- how many entries were filled with the ranges below it.
 pub record ShowsAck (stop type : ℕ) (ack : Ack) (before : List CGap) (words : CFrame) (after : List CGap) : Type 0 where
   pub least : ℕ
   pub below : List (ℕ × ℕ)
@@ -45,17 +45,19 @@ pub record ShowsAck (stop type : ℕ) (ack : Ack) (before : List CGap) (words : 
   pub first : least + words.data_len ≡ ack.largest
   pub gaps : FillsGaps least below before after words.data_offset
   pub flags : words.flags ≡ counts_flag ack.ecn + more_flag words.data_offset below
-  pub others : words ≡ record (shown 0 stop type (frames.Ack ack)) { flags = words.flags; data_offset = words.data_offset; data_len = words.data_len }
+  pub others : words ≡ record (shown 0 stop type (frames.Ack ack))
+      { flags = words.flags; data_offset = words.data_offset; data_len = words.data_len }
 
--- The words of a frame of this type up to a place; entries are filled for an ACK alone.
+-- The words of a frame of this type up to a place; only an ACK fills entries.
 abbrev pub ShowsFront : ℕ → ℕ → Frame → List CGap → CFrame → List CGap → Type 0
 ShowsFront stop type (frames.Ack a) before words after = ShowsAck stop type a before words after
 ShowsFront stop type frame before words after = (words ≡ shown 0 stop type frame) × (after ≡ before)
 
--- The frame at the front is reported, as the iterator over the payload gives it, and where just the frames of RFC 9000 and
--- DATAGRAM count it is one of these. One of PADDING (RFC 9000, section 19.1) stands also for the PADDING that follows, a
--- frame with each byte. What is left begins where it ends.
-pub record ReadsFront (strict basic : Bool) (payload : List ℕ) (before : List CGap) (stop : ℕ) (words : CFrame) (after : List CGap) : Type 0 where
+-- The frame at the front is given as the iterator over the payload gives it; if `basic` is true, it is a frame of RFC
+-- 9000 or DATAGRAM. A frame of PADDING (RFC 9000, section 19.1) includes the PADDING that follows, each byte of which
+-- is a frame. The rest of the payload begins where it ends.
+pub record ReadsFront (strict basic : Bool) (payload : List ℕ) (before : List CGap) (stop : ℕ) (words : CFrame)
+    (after : List CGap) : Type 0 where
   pub frame : Frame
   pub next : IterState
   pub rest : IterState
@@ -66,24 +68,27 @@ pub record ReadsFront (strict basic : Bool) (payload : List ℕ) (before : List 
   pub ends : stop ≡ rest.offset
   pub shows : ShowsFront stop finds.found.type frame before words after
 
--- No frame stands at the front, or just one of that extension where only those count, and that is reported.
+-- The bytes don't begin with a valid frame, or only with one of that extension and `basic` is true, and that is
+-- reported.
 pub record TellsNone (strict basic : Bool) (payload : List ℕ) (words : CFrame) : Type 0 where
   pub reported : Invalid
   pub first : IsRefusedFrame basic (first_of strict payload) reported
   pub is : words ≡ shown_invalid 0 (type_word reported.type) (reason_in reported.reason)
 
--- What a call for the frame at the front answers and leaves: where it ends, with its words; -2 just where there is no
--- byte, and nothing changes; -3 with what is reported of something that isn't given, and no entry changes.
-pub record AnswersRead (strict basic : Bool) (payload : List ℕ) (before : CFrame) (room : List CGap) (answer : ℤ) (after : CFrame) (gaps : List CGap) : Type 0 where
-  pub answers : (answer ≡ negsuc 1) ⊎ (answer ≡ negsuc 2) ⊎ ((stop : ℕ) × (answer ≡ pos stop) × ReadsFront strict basic payload room stop after gaps)
+-- What a call for the frame at the front answers and leaves: where the frame ends, with its words; -2 exactly if there
+-- is no byte, and nothing changes; -3 with what is reported of a frame that isn't given, and no entry changes.
+pub record AnswersRead (strict basic : Bool) (payload : List ℕ) (before : CFrame) (room : List CGap) (answer : ℤ)
+    (after : CFrame) (gaps : List CGap) : Type 0 where
+  pub answers : (answer ≡ negsuc 1) ⊎ (answer ≡ negsuc 2)
+      ⊎ ((stop : ℕ) × (answer ≡ pos stop) × ReadsFront strict basic payload room stop after gaps)
   pub empty : (answer ≡ negsuc 1) ↔ (payload ≡ [])
   pub invalid : answer ≡ negsuc 2 → TellsNone strict basic payload after
   pub same : answer ≡ negsuc 1 → after ≡ before
   pub kept : (answer ≡ negsuc 1) ⊎ (answer ≡ negsuc 2) → gaps ≡ room
 
--- ---- reading on behind a frame
+-- ---- reading on after a frame
 
--- an item over so many bytes that stand before it
+-- an item whose places count from so many bytes before it
 abbrev pub behind : ℕ → Item → Item
 behind count (Whole start stop found) = Whole (count + start) (count + stop) found
 behind count (Broken reported) = Broken reported
@@ -92,8 +97,9 @@ abbrev pub or_else : Option ℕ → Option ℕ → Option ℕ
 or_else None before = before
 or_else (Some type) before = Some type
 
--- what is reported first of something that is cut off within its type: the last type before
+-- what is reported first if the bytes end within a type: the type before
 abbrev pub reported_behind : Option ℕ → List Item → List Item
 reported_behind before [] = []
 reported_behind before (Whole start stop found ∷ items) = Whole start stop found ∷ items
-reported_behind before (Broken reported ∷ items) = Broken (record reported { type = or_else reported.type before }) ∷ items
+reported_behind before (Broken reported ∷ items) =
+    Broken (record reported { type = or_else reported.type before }) ∷ items

@@ -32,10 +32,14 @@ both_shape = shape true true false false false
 abbrev pub shapes : List (ℕ × Shape)
 shapes =
     (0x00, bare_shape) ∷ (0x01, bare_shape) ∷ (0x04, shape true true true false false) ∷ (0x05, both_shape)
-    ∷ (0x06, shape false true false false true) ∷ (0x07, shape false false false false true) ∷ (0x08, shape true true false false true)
-    ∷ (0x10, second_shape) ∷ (0x11, both_shape) ∷ (0x12, second_shape) ∷ (0x13, second_shape) ∷ (0x14, second_shape) ∷ (0x15, both_shape)
-    ∷ (0x16, second_shape) ∷ (0x17, second_shape) ∷ (0x18, shape true true false false true) ∷ (0x19, first_shape) ∷ (0x1a, first_shape)
-    ∷ (0x1b, first_shape) ∷ (0x1c, shape true true false false true) ∷ (0x1d, shape true false false false true) ∷ (0x1e, bare_shape)
+    ∷ (0x06, shape false true false false true) ∷ (0x07, shape false false false false true)
+    ∷ (0x08, shape true true false false true)
+    ∷ (0x10, second_shape) ∷ (0x11, both_shape) ∷ (0x12, second_shape) ∷ (0x13, second_shape) ∷ (0x14, second_shape)
+    ∷ (0x15, both_shape)
+    ∷ (0x16, second_shape) ∷ (0x17, second_shape) ∷ (0x18, shape true true false false true) ∷ (0x19, first_shape)
+    ∷ (0x1a, first_shape)
+    ∷ (0x1b, first_shape) ∷ (0x1c, shape true true false false true) ∷ (0x1d, shape true false false false true)
+    ∷ (0x1e, bare_shape)
     ∷ (0x1f, bare_shape) ∷ (0x30, shape false false false false true) ∷ (0xaf, shape true true true true false) ∷ []
 
 abbrev pub shape_of : ℕ → Option Shape
@@ -45,7 +49,7 @@ abbrev pub shows_data : Option Shape → Bool
 shows_data None = false
 shows_data (Some s) = s.has_data
 
--- The words say no data, or a kind that has none.
+-- The words describe no data, or a kind that has none.
 abbrev pub LacksData : CFrame → Type 0
 LacksData words = (words.data_len ≡ 0) ⊎ (shows_data (shape_of words.kind) ≡ false)
 
@@ -53,7 +57,7 @@ abbrev pub masked : List Bool → List ℕ → List ℕ
 masked (is_kept ∷ mask) (n ∷ ns) = (if is_kept then n else 0) ∷ masked mask ns
 masked mask ns = []
 
--- the numbers that a kind has, with 0 in place of the others
+-- the numbers that a kind has, and 0 for the others
 abbrev pub kept_numbers : Option Shape → List ℕ → List ℕ
 kept_numbers None numbers = []
 kept_numbers (Some s) numbers = masked s.numbers numbers
@@ -72,8 +76,8 @@ abbrev pub IsOrdered : List ℕ → Type 0
 IsOrdered (sequence ∷ retire ∷ ns) = retire ≤ sequence
 IsOrdered ns = ⊥
 
--- The numbers and the length can be those of a frame of the kind: what is written as a varint is below 2^62, and an
--- id has 1 to 20 bytes and comes after what is retired.
+-- A frame of the kind can have these numbers and this length: what is written as a varint is below 2^62, and an id has
+-- 1 to 20 bytes and a sequence number that isn't below its `retire_prior_to`.
 pub record IsSound (kind : ℕ) (numbers : List ℕ) (len : ℕ) : Type 0 where
   pub numeric : is_path kind ≡ false → AreNumeric numbers
   pub counted : is_open_kind kind ≡ false → len < 2 ^ 62
@@ -81,14 +85,14 @@ pub record IsSound (kind : ℕ) (numbers : List ℕ) (len : ℕ) : Type 0 where
   pub some : kind ≡ 0x18 → 0 < len
   pub few : kind ≡ 0x18 → len ≤ 20
 
--- how many bytes of a token stand behind the data
+-- how many bytes of a token follow the data
 abbrev pub token_room : ℕ → ℕ
 token_room kind = if kind == 0x18 then 16 else 0
 
 abbrev pub kept_token : ℕ → List ℕ → List ℕ
 kept_token kind token = if kind == 0x18 then token else []
 
--- The frame is of the kind and in range, and takes of the words what its kind has.
+-- The frame is of the kind and in range, and has those of the words that the kind has.
 pub record FillsShape (type : ℕ) (is_fin : Bool) (given bytes behind : List ℕ) (frame : Frame) : Type 0 where
   pub kind : frame_kind_of frame ≡ type
   pub flags : flags_of frame ≡ (if type == 0x08 && is_fin then 1 else 0)
@@ -99,20 +103,22 @@ pub record FillsShape (type : ℕ) (is_fin : Bool) (given bytes behind : List �
   pub no_ack : IsNoAck frame
   pub in_range : InRange frame
 
--- The bytes and the token stand where the words say; where there are neither, that may be anywhere.
+-- The bytes and the token are at the place in the words; if there are neither, that may be any place.
 pub record HasPieces (words : CFrame) (payload bytes behind : List ℕ) : Type 0 where
-  pub within : 0 < words.data_len + token_room words.kind → words.data_offset + words.data_len + token_room words.kind ≤ length payload
+  pub within : 0 < words.data_len + token_room words.kind
+      → words.data_offset + words.data_len + token_room words.kind ≤ length payload
   pub content : bytes ≡ take words.data_len (drop words.data_offset payload)
   pub width : length bytes ≡ words.data_len
   pub room : length behind ≡ token_room words.kind
-  pub token : kept_token words.kind behind ≡ take (token_room words.kind) (drop words.data_len (drop words.data_offset payload))
+  pub token : kept_token words.kind behind
+      ≡ take (token_room words.kind) (drop words.data_len (drop words.data_offset payload))
 
--- There is something to stand there, and the payload ends before.
+-- The words describe data or a token, and the payload ends before these do.
 pub record LacksPieces (words : CFrame) (payload : List ℕ) : Type 0 where
   pub some : 0 < words.data_len + token_room words.kind
   pub past : length payload < words.data_offset + words.data_len + token_room words.kind
 
--- The frame has the flags, the numbers and the length of the words.
+-- The frame has the flags, the numbers and the length in the words.
 pub record IsShown (words : CFrame) (frame : Frame) : Type 0 where
   pub flags : flags_of frame ≡ words.flags
   pub count : length (data_of frame) ≡ words.data_len

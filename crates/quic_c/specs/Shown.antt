@@ -1,4 +1,4 @@
--- What C sees of frames and of the way over a payload.
+-- Frames and iterators over a payload as C sees them.
 use Rattle.std.specs.Prelude.{◌≡◌, ℕ, ◌+◌, ◌-◌, ◌^◌, ◌⊎◌, List, [], ◌∷◌, length, nat_lt, Bool, Option, Some, None, not, ◌==◌, if◌then◌else◌}
 use Rattle.quic_base.specs.Ids.{dir_number}
 use Rattle.quic_errors.specs.Types.{type_or_zero}
@@ -15,7 +15,7 @@ abbrev pub type_word : Option ℕ → ℕ
 type_word None = 2 ^ 64 - 1
 type_word (Some n) = n
 
--- whether a type counts in its shortest encoding alone, by the word for that: any but 0 says so
+-- whether only the shortest encoding of a type counts, by the word for that: any word but 0 means so
 abbrev pub is_strict : ℕ → Bool
 is_strict strict = not (strict == 0)
 
@@ -23,13 +23,19 @@ is_strict strict = not (strict == 0)
 abbrev pub at_front : ℕ → CFrameIter
 at_front strict = record { offset = 0; last_type = 2 ^ 64 - 1; ended = 0; strict = strict }
 
--- a type in a word: every word from 2^62 on stands for none
+-- a type in a word: every word from 2^62 on means none
 abbrev pub type_in : ℕ → Option ℕ
 type_in n = if nat_lt n (2 ^ 62) then Some n else None
 
--- how far an iterator has come over a payload, by the words that are kept of it
+-- how far an iterator has come over a payload, by the words that the caller keeps
 abbrev pub state_of : CFrameIter → List ℕ → IterState
-state_of f payload = record { strict = is_strict f.strict; payload = payload; offset = f.offset; last = type_in f.last_type; is_broken = not (f.ended == 0) }
+state_of f payload = record {
+  strict = is_strict f.strict;
+  payload = payload;
+  offset = f.offset;
+  last = type_in f.last_type;
+  is_broken = not (f.ended == 0);
+}
 
 -- the kind of a frame: its type, 8 for every STREAM, 2 for every ACK and 0x30 for every DATAGRAM
 abbrev pub frame_kind_of : Frame → ℕ
@@ -66,7 +72,7 @@ abbrev pub counts_numbers : Option EcnCounts → List ℕ
 counts_numbers None = 0 ∷ 0 ∷ 0 ∷ []
 counts_numbers (Some e) = e.ect0 ∷ e.ect1 ∷ e.ce ∷ []
 
--- its five numbers, 0 where there are fewer
+-- its five numbers, with 0 for those that it lacks
 abbrev pub frame_numbers_of : Frame → List ℕ
 frame_numbers_of (frames.Ack a) = a.largest ∷ a.delay ∷ counts_numbers a.ecn
 frame_numbers_of (frames.ResetStream r) = r.id ∷ r.error_code ∷ r.final_offset ∷ 0 ∷ 0 ∷ []
@@ -85,20 +91,21 @@ frame_numbers_of (frames.PathChallenge n) = n ∷ 0 ∷ 0 ∷ 0 ∷ 0 ∷ []
 frame_numbers_of (frames.PathResponse n) = n ∷ 0 ∷ 0 ∷ 0 ∷ 0 ∷ []
 frame_numbers_of (frames.Close (closes.Connection c)) = c.error_code ∷ type_or_zero c.frame_type ∷ 0 ∷ 0 ∷ 0 ∷ []
 frame_numbers_of (frames.Close (closes.Application c)) = c.error_code ∷ 0 ∷ 0 ∷ 0 ∷ 0 ∷ []
-frame_numbers_of (frames.AckFrequency f) = f.sequence ∷ f.ack_eliciting_threshold ∷ f.request_max_ack_delay ∷ f.reordering_threshold ∷ 0 ∷ []
+frame_numbers_of (frames.AckFrequency f) = f.sequence ∷ f.ack_eliciting_threshold ∷ f.request_max_ack_delay
+    ∷ f.reordering_threshold ∷ 0 ∷ []
 frame_numbers_of frame = 0 ∷ 0 ∷ 0 ∷ 0 ∷ 0 ∷ []
 
 abbrev pub counts_flag : Option EcnCounts → ℕ
 counts_flag None = 0
 counts_flag (Some e) = 2
 
--- 1: a STREAM is the end of its stream; 2: an ACK has counts
+-- 1: a STREAM ends its stream (FIN); 2: an ACK has counts
 abbrev pub flags_of : Frame → ℕ
 flags_of (frames.Stream s) = if s.fin then 1 else 0
 flags_of (frames.Ack a) = counts_flag a.ecn
 flags_of frame = 0
 
--- the data that end where the frame ends: of a NEW_CONNECTION_ID those of the id end sixteen bytes before
+-- how many bytes of a frame follow its data: none, but sixteen, the token, follow the id of a NEW_CONNECTION_ID
 abbrev pub tail_of : Frame → ℕ
 tail_of (frames.NewConnectionId n) = 16
 tail_of frame = 0
@@ -113,10 +120,28 @@ data_of (frames.Close (closes.Connection c)) = c.reason.now
 data_of (frames.Close (closes.Application c)) = c.reason.now
 data_of frame = []
 
--- the words of a frame that stands in a payload from start to stop and begins with this type
+-- the words of a frame that goes from start to stop in a payload and begins with this type
 abbrev pub shown : ℕ → ℕ → ℕ → Frame → CFrame
-shown start stop type frame = record { kind = frame_kind_of frame; ty = type; flags = flags_of frame; begin = start; end = stop; data_offset = stop - tail_of frame - length (data_of frame); data_len = length (data_of frame); numbers = frame_numbers_of frame }
+shown start stop type frame = record {
+  kind = frame_kind_of frame;
+  ty = type;
+  flags = flags_of frame;
+  begin = start;
+  end = stop;
+  data_offset = stop - tail_of frame - length (data_of frame);
+  data_len = length (data_of frame);
+  numbers = frame_numbers_of frame;
+}
 
--- what is no frame, by the word of the last type and the number of its reason, at the end of the last frame
+-- the words for an error, with the last type and the number of its reason, at the end of the last frame
 abbrev pub shown_invalid : ℕ → ℕ → ℕ → CFrame
-shown_invalid start ty reason = record { kind = 2 ^ 16 - 1; ty = 0; flags = reason; begin = start; end = start; data_offset = start; data_len = 0; numbers = ty ∷ 0 ∷ 0 ∷ 0 ∷ 0 ∷ [] }
+shown_invalid start ty reason = record {
+  kind = 2 ^ 16 - 1;
+  ty = 0;
+  flags = reason;
+  begin = start;
+  end = start;
+  data_offset = start;
+  data_len = 0;
+  numbers = ty ∷ 0 ∷ 0 ∷ 0 ∷ 0 ∷ [];
+}

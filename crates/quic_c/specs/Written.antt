@@ -1,4 +1,4 @@
--- The frames that words say, and what the call answers that writes them.
+-- The frames that words describe, and what the call that writes them answers.
 use Rattle.std.specs.Prelude.{◌≡◌, ℕ, ◌+◌, ◌<◌, ◌≤◌, ◌==◌, ℤ, pos, negsuc, List, [], ◌++◌, length, take, drop, Bool, not}
 use Rattle.quic_frame_fields.specs.Shortest.{shortest_frame}
 use Rattle.quic_frames.specs.declared.frame.Frame.{Frame}
@@ -8,13 +8,13 @@ use Rattle.quic_frames.specs.Meaning.{meaning_of}
 use Rattle.quic_c.specs.declared.words.CFrame.{CFrame}
 use Rattle.quic_c.specs.Shown.{frame_kind_of, flags_of, frame_numbers_of, data_of, tail_of}
 
--- what stands behind the data of a NEW_CONNECTION_ID, its id: the token of a reset
+-- the reset token that follows the data of a NEW_CONNECTION_ID, which are its id
 abbrev pub token_of : Frame → List ℕ
 token_of (frames.NewConnectionId n) = n.reset_token
 token_of frame = []
 
--- The words say the frame, whose data stand in the bytes where the words say, with the token of a reset behind them.
--- Where there are neither, their place says nothing, nor does ever where the frame begins and ends in a payload.
+-- The words describe the frame, whose data are in the bytes at the place in the words, followed by the reset token. If
+-- there are neither, the place isn't looked at; where the frame begins and ends in a payload never is.
 pub record DescribesFrame (words : CFrame) (bytes : List ℕ) (frame : Frame) : Type 0 where
   pub kind : words.kind ≡ frame_kind_of frame
   pub flags : words.flags ≡ flags_of frame
@@ -24,37 +24,38 @@ pub record DescribesFrame (words : CFrame) (bytes : List ℕ) (frame : Frame) : 
   pub content : take words.data_len (drop words.data_offset bytes) ≡ data_of frame
   pub token : take (tail_of frame) (drop words.data_len (drop words.data_offset bytes)) ≡ token_of frame
 
--- The words say a frame that can be written there, the last of its payload or not, and is no ACK.
+-- The words describe a frame that can be written there, as the last of its payload or not, and that is no ACK.
 pub record CanWriteFrame (words : CFrame) (bytes : List ℕ) (last : Bool) (frame : Frame) : Type 0 where
   pub said : DescribesFrame words bytes frame
   pub kind : IsNoAck frame
   pub typed : IsTypedFrame frame
   pub stands : CanStand last frame
 
--- a flag of C
+-- a flag of C: 0 is false, any other number is true
 abbrev pub flag_of : ℕ → Bool
 flag_of n = not (n == 0)
 
--- The bytes of such a frame stand at the front, with what stood behind them, and are counted.
+-- The bytes of such a frame are at the front, the bytes after them didn't change, and they are counted.
 pub record WroteFrame (words : CFrame) (bytes : List ℕ) (last : Bool) (old new : List ℕ) (written : ℕ) : Type 0 where
   pub frame : Frame
   pub can : CanWriteFrame words bytes last frame
   pub count : written ≡ length (shortest_frame last (meaning_of frame))
   pub front : new ≡ shortest_frame last (meaning_of frame) ++ drop written old
 
--- There is less room than such a frame needs, and how much that is was reported.
+-- There is less room than such a frame needs, and how much it needs was reported.
 pub record FrameNeedsMore (words : CFrame) (bytes : List ℕ) (last : Bool) (old : List ℕ) (needed : ℕ) : Type 0 where
   pub frame : Frame
   pub can : CanWriteFrame words bytes last frame
   pub count : needed ≡ length (shortest_frame last (meaning_of frame))
   pub full : length old < needed
 
--- The words say no such frame.
+-- The words describe no such frame.
 abbrev pub DescribesNoFrame : CFrame → List ℕ → Bool → Type 0
 DescribesNoFrame words bytes last = (frame : Frame) → CanWriteFrame words bytes last frame → ⊥
 
--- The answer, and what the call leaves, are right of the words and these bytes.
-pub record IsAnswer (words : CFrame) (bytes : List ℕ) (last : Bool) (answer : ℤ) (old new : List ℕ) (written : ℕ) : Type 0 where
+-- The answer, and what the call leaves, are right for the words and these bytes.
+pub record IsAnswer (words : CFrame) (bytes : List ℕ) (last : Bool) (answer : ℤ) (old new : List ℕ)
+    (written : ℕ) : Type 0 where
   pub wrote : answer ≡ pos 0 → WroteFrame words bytes last old new written
   pub room : answer ≡ negsuc 3 → FrameNeedsMore words bytes last old written
   pub refused : answer ≡ negsuc 0 → DescribesNoFrame words bytes last

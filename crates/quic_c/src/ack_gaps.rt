@@ -1,4 +1,4 @@
-//! ACKs written by gap and length, as they stand on the wire (RFC 9000, section 19.3).
+//! Writes ACKs from gaps and lengths, the numbers that the wire has (RFC 9000, section 19.3).
 ghost use Rattle.std.specs.Prelude.{◌≡◌, ◌⊎◌, ◌↔◌, ◌+◌, ◌*◌, ◌<◌, ◌≤◌, ◌^◌, ◌++◌, ◌∷◌, ℕ, List, [], Bool, Ok, Err, IsTrue, length, pos, negsuc, ◌==◌, if◌then◌else◌};
 ghost use Rattle.quic_base.specs.Varint.{shortest_varint};
 ghost use Rattle.quic_frame_fields.specs.Numbers.{AreNumeric, shortest_varints};
@@ -10,7 +10,7 @@ use crate::words::{CFrame, CGap};
 use quic_base::coding::store_array;
 use quic_frame_fields::frame::write::{numbers_len, size_of};
 
-// The type, which tells whether there are counts.
+// The type, which depends on whether there are counts.
 #[inline(always)]
 fn type_of(ack: &CFrame) -> u64
     ensures { result ≡ (if ack.now.flags == 2 then 0x03 else 0x02) }
@@ -18,7 +18,7 @@ fn type_of(ack: &CFrame) -> u64
     if ack.flags == 2 { 0x03 } else { 0x02 }
 }
 
-// Stores two bytes, each by a store of its own: no word is made of them first.
+// Stores two bytes one by one, without making a word of them first.
 #[inline(always)]
 fn store_bytes(dest: &mut [u8], at: usize, one: u8, other: u8) -> usize
     requires { at + 2 ≤ length dest.old }
@@ -29,7 +29,7 @@ fn store_bytes(dest: &mut [u8], at: usize, one: u8, other: u8) -> usize
     store_array(dest, at, [other])
 }
 
-// Stores a number in its shortest encoding over the bytes at a place, and answers where it ends.
+// Stores a number in its shortest encoding at a place, and answers where it ends.
 #[inline(always)]
 #[tactic(auto, unfolding(quic_base::specs::Varint::shortest_varint, quic_base::specs::Varint::size, quic_base::specs::Number::bytes_of))]
 pub(crate) fn store(dest: &mut [u8], at: usize, n: u64) -> usize
@@ -49,7 +49,7 @@ pub(crate) fn store(dest: &mut [u8], at: usize, n: u64) -> usize
     }
 }
 
-// Whether all ranges that stand below one with the least number low are numbers from 0 on.
+// Whether the ranges below one whose least number is `low` don't go below 0.
 #[inline(always)]
 fn fit(low: u64, gaps: &[CGap]) -> bool
     ensures { IsTrue result ↔ Fit low gaps.now }
@@ -78,7 +78,7 @@ fn gaps_len(low: u64, gaps: &[CGap]) -> usize
     len
 }
 
-// Stores two numbers, one behind the other. Where both have one byte, one test tells that.
+// Stores two numbers, one after the other. If both take one byte, a single test finds that.
 #[inline(always)]
 fn store_two(dest: &mut [u8], at: usize, one: u64, other: u64) -> usize
     requires one { one < 2 ^ 62 }
@@ -94,7 +94,7 @@ fn store_two(dest: &mut [u8], at: usize, one: u64, other: u64) -> usize
     store(dest, at, other)
 }
 
-// Stores the gaps and lengths over the bytes at a place, and answers where they end.
+// Stores the gaps and lengths at a place, and answers where they end.
 #[inline(always)]
 fn store_gaps(dest: &mut [u8], at: usize, gaps: &[CGap]) -> usize
     requires numeric { AreNumeric (gap_numbers gaps.now) }
@@ -109,7 +109,7 @@ fn store_gaps(dest: &mut [u8], at: usize, gaps: &[CGap]) -> usize
     at
 }
 
-// Stores the numbers between the type and the gaps behind the first byte.
+// Stores the numbers between the type and the gaps, after the first byte.
 #[inline(always)]
 fn store_front(dest: &mut [u8], ack: &CFrame, gaps: &[CGap]) -> usize
     requires ack { IsAck ack.now gaps.now }
@@ -135,7 +135,7 @@ fn store_counts(dest: &mut [u8], at: usize, ack: &CFrame) -> usize
     store_two(dest, at, ack.numbers[3], ack.numbers[4])
 }
 
-// Stores the ACK at the front, and its type last, where the flags are looked at for the counts.
+// Stores the ACK at the front. Its type comes last, when the flags are tested for the counts.
 #[inline(always)]
 fn store_ack(ack: &CFrame, gaps: &[CGap], dest: &mut [u8]) -> usize
     requires ack { IsAck ack.now gaps.now }
@@ -169,7 +169,7 @@ fn ack_len(ack: &CFrame, gaps: &[CGap]) -> usize
     numbers_len(&front) as usize + gaps_len(greatest - first, gaps) + counts
 }
 
-// Whether so many bytes have room for the ACK, were each of its numbers a longest one.
+// Whether the room would be enough even if each number of the ACK took the most bytes.
 #[inline(always)]
 fn has_room(gaps: &[CGap], room: usize) -> bool
     ensures { IsTrue result → 64 + 16 * length gaps.now ≤ room }
@@ -177,7 +177,7 @@ fn has_room(gaps: &[CGap], room: usize) -> bool
     room / 16 >= gaps.len() + 4
 }
 
-// Whether the words and the gaps say an ACK.
+// Whether the words and the gaps describe an ACK.
 #[inline(always)]
 fn is_ack(ack: &CFrame, gaps: &[CGap]) -> bool
     ensures { IsTrue result ↔ IsAck ack.now gaps.now }
@@ -186,7 +186,7 @@ fn is_ack(ack: &CFrame, gaps: &[CGap]) -> bool
     ack.kind == 0x02 && are_numeric(ack) && first <= greatest && fit(greatest - first, gaps)
 }
 
-// The bits of all counts in one word, which is below 2^62 just where they are.
+// The counts joined by `or`: the result is below 2^62 exactly if each of them is.
 #[inline(always)]
 fn bits_of_counts(ack: &CFrame) -> u64
     ensures { result < 2 ^ 62 ↔ AreNumeric (counts_list ack.now) }
@@ -198,7 +198,7 @@ fn bits_of_counts(ack: &CFrame) -> u64
     }
 }
 
-// Whether the flags say counts or none, and these, the greatest number and the delay are numbers.
+// Whether the flags are 0 or 2, and the counts, the greatest number and the delay are below 2^62.
 #[inline(always)]
 fn are_numeric(ack: &CFrame) -> bool
     ensures { IsTrue result ↔ ((ack.now.flags ≡ 0) ⊎ (ack.now.flags ≡ 2))
@@ -210,7 +210,7 @@ fn are_numeric(ack: &CFrame) -> bool
     (ack.numbers[0] | ack.numbers[1] | bits_of_counts(ack)) < 1 << 62
 }
 
-// Writes the ACK where it fits, for which its bytes are counted first, or refuses it.
+// Writes the ACK if it fits, after its bytes were counted, or refuses it.
 #[inline(never)]
 fn write_counted(ack: &CFrame, gaps: &[CGap], out: &mut [u8], written: &mut usize) -> i32
     ensures answers { (result ≡ pos 0) ⊎ (result ≡ negsuc 3) ⊎ (result ≡ negsuc 0) }
@@ -232,13 +232,13 @@ fn write_counted(ack: &CFrame, gaps: &[CGap], out: &mut [u8], written: &mut usiz
     0
 }
 
-/// Writes an ACK in its shortest encoding at the front of `out`, of words and gaps as `quic_wire_frame_read_` tells
-/// them: the greatest number, the delay and with flag 2 the counts stand in the numbers, the first range, less one, in
-/// the place of the length of data, and the ranges below it, as gap and length, in `gaps`. Nothing else of the words
-/// is looked at but their kind and flags. It answers 0 with how many bytes were written, and what stood behind them
-/// stays; -4 with how many are needed where `out` has fewer; -1 just where the words and gaps say no ACK: the kind is
-/// another, the flags are neither 0 nor 2, a range goes below 0, or a number is 2^62 or more. `out` changes with 0
-/// alone, and `written` not with -1.
+/// Writes an ACK in its shortest encoding at the front of `out`, from the words and gaps that `quic_wire_frame_read_`
+/// fills: the numbers have the greatest packet number, the delay and, with flag 2, the counts; the length of data is
+/// the first range, less one; and `gaps` has the ranges below it, as gap and length. Of the other words only the kind
+/// and the flags are looked at. It answers 0 with how many bytes were written, and bytes after those don't change; -4
+/// with how many are needed, if `out` has fewer; -1 exactly if the words and gaps describe no ACK: the kind is another,
+/// the flags are neither 0 nor 2, a range goes below 0, or a number is 2^62 or more. `out` changes only with 0, and
+/// `written` doesn't change with -1.
 #[unsafe(no_mangle)]
 pub extern "C" fn quic_wire_ack_gaps_write_(
     ack: &CFrame,
@@ -247,13 +247,16 @@ pub extern "C" fn quic_wire_ack_gaps_write_(
     written: &mut usize,
 ) -> i32
     ensures answers { (result ≡ pos 0) ⊎ (result ≡ negsuc 3) ⊎ (result ≡ negsuc 0) }
-    ensures wrote { result ≡ pos 0 → (last : Bool) (low : ℕ) (below : List (ℕ × ℕ)) → DescribesAck ack.now gaps.now low below
+    ensures wrote { result ≡ pos 0 → (last : Bool) (low : ℕ) (below : List (ℕ × ℕ))
+        → DescribesAck ack.now gaps.now low below
         → Puts (Ok written.new) (shortest_frame last (ack_said ack.now low below)) out.old out.new }
     ensures room { result ≡ negsuc 3 → (last : Bool) (low : ℕ) (below : List (ℕ × ℕ))
         → DescribesAck ack.now gaps.now low below
         → Puts (Err written.new) (shortest_frame last (ack_said ack.now low below)) out.old out.new }
-    ensures says { (result ≡ negsuc 0) ⊎ ((low : ℕ) × (below : List (ℕ × ℕ)) × DescribesAck ack.now gaps.now low below) }
-    ensures refused { result ≡ negsuc 0 → (low : ℕ) (below : List (ℕ × ℕ)) → DescribesAck ack.now gaps.now low below → ⊥ }
+    ensures says { (result ≡ negsuc 0)
+        ⊎ ((low : ℕ) × (below : List (ℕ × ℕ)) × DescribesAck ack.now gaps.now low below) }
+    ensures refused { result ≡ negsuc 0 → (low : ℕ) (below : List (ℕ × ℕ))
+        → DescribesAck ack.now gaps.now low below → ⊥ }
     ensures same { (result ≡ negsuc 0) → (written.new ≡ written.old) × (out.new ≡ out.old) }
 {
     if has_room(gaps, out.len()) && is_ack(ack, gaps) {

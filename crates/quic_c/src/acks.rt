@@ -6,8 +6,8 @@ use crate::words::{CFrame, CRange, CRangeIter};
 use quic_base::varint::split_var;
 use quic_frames::frame::{split_ack, split_first_range};
 
-/// Begins at the greatest range of the ACK that stands where the frame's words say (RFC 9000, section 19.3). It
-/// answers 0, or -1 where the place lies outside the payload or no ACK is read there; then nothing changes.
+/// Begins at the greatest range of the ACK at the place in the frame's words (RFC 9000, section 19.3). It answers 0, or
+/// -1 if the place is outside of the payload or no ACK can be read there; then nothing changes.
 #[unsafe(no_mangle)]
 pub extern "C" fn quic_wire_ack_ranges_init_(
     ranges: &mut CRangeIter,
@@ -34,10 +34,10 @@ pub extern "C" fn quic_wire_ack_ranges_init_(
     0
 }
 
-/// The same for an ACK that was read of this payload (RFC 9000, section 19.3), without a second look at its blocks:
-/// where the frame begins as one without counts, all that follows the count of its ranges is taken for blocks, and
-/// where they are none, the call that comes to it says so. It answers 0, or -1 where the place lies outside the
-/// payload or no ACK is read there; then nothing changes.
+/// The same for an ACK that was already read from this payload (RFC 9000, section 19.3), without reading its blocks
+/// again: if the frame begins as an ACK without counts, everything after its count of ranges is taken for blocks, and
+/// invalid blocks are reported by the call that reaches them. It answers 0, or -1 if the place is outside of the
+/// payload or no ACK can be read there; then nothing changes.
 #[unsafe(no_mangle)]
 pub extern "C" fn quic_wire_ack_ranges_init_unchecked_(
     ranges: &mut CRangeIter,
@@ -66,7 +66,7 @@ pub extern "C" fn quic_wire_ack_ranges_init_unchecked_(
     0
 }
 
-// The greatest number of an ACK without counts, and what follows the count of its ranges.
+// The greatest number of an ACK without counts, and what follows its count of ranges.
 #[inline(always)]
 #[tactic(auto, unfolding(crate::specs::Answers::ack_front_at), using(quic_frame_fields::proofs::Varints::slices))]
 fn split_front(bytes: &[u8]) -> Option<(u64, &[u8])>
@@ -86,9 +86,10 @@ fn split_front(bytes: &[u8]) -> Option<(u64, &[u8])>
     Some((largest, blocks))
 }
 
-/// The next range of an ACK, the greatest first (RFC 9000, section 19.3.1). It answers 1 with the range; 0 just where
-/// the place lies in the payload and no byte is left; -1 where the words name no blocks: the place lies outside
-/// the payload, or the greatest number is 2^62 or more, or no block and gap stand first. Nothing changes but with 1.
+/// The next range of an ACK, the greatest first (RFC 9000, section 19.3.1). It answers 1 with the range; 0 exactly if
+/// the place is in the payload and no byte is left; -1 if the words describe no blocks: the place is outside of the
+/// payload, the greatest number is 2^62 or more, or the bytes don't begin with a valid block. Nothing changes unless it
+/// answers 1.
 #[unsafe(no_mangle)]
 pub extern "C" fn quic_wire_ack_ranges_next_(
     ranges: &mut CRangeIter,

@@ -1,4 +1,4 @@
-//! The headers of STREAM, CRYPTO and DATAGRAM frames, whose data the caller puts behind them.
+//! The headers of STREAM, CRYPTO and DATAGRAM frames, after which the caller puts the data.
 ghost use Rattle.std.specs.Prelude.{◌≡◌, ◌⊎◌, ◌↔◌, ◌<◌, ◌≤◌, ◌^◌, ◌++◌, List, ℕ, Bool, pos, negsuc, length, IsTrue, IfSome};
 ghost use Rattle.quic_frame_fields.specs.Numbers.{AreNumeric, shortest_varints};
 ghost use Rattle.quic_frame_fields.specs.Putting.{Puts};
@@ -15,7 +15,7 @@ use crate::words::CFrame;
 use quic_frame_fields::frame::put;
 use quic_frames::frame::FrameType;
 
-// Whether the words say a frame that has a head.
+// Whether the struct describes a frame that can be written without its data.
 fn has_header(words: &CFrame, last: bool) -> bool
     ensures { IsTrue result ↔ HasHeader words.now last }
 {
@@ -33,8 +33,8 @@ fn has_header(words: &CFrame, last: bool) -> bool
     }
 }
 
-// Puts at most five numbers in their shortest encodings at the front. Where there is room for five of the longest they
-// are written there one by one; else they are put together first, and the room is looked at then.
+// Writes at most five numbers in their shortest encodings at the front. If there is room for five of the longest, they
+// are written in place one by one; otherwise they are put together first, and then the room is tested.
 #[inline(always)]
 fn put_numbers(dest: &mut [u8], numbers: &[u64]) -> Result<usize, usize>
     requires few { length numbers.now ≤ 5 }
@@ -51,7 +51,7 @@ fn put_numbers(dest: &mut [u8], numbers: &[u64]) -> Result<usize, usize>
     Ok(at)
 }
 
-// Stores the header of a STREAM at the front, with the length of its data where that is given.
+// Stores the header of a STREAM at the front, with the length of its data if that is given.
 fn put_stream(
     id: u64,
     offset: u64,
@@ -73,7 +73,7 @@ fn put_stream(
     }
 }
 
-// Stores the header that the words say at the front.
+// Stores the header that the words describe at the front.
 fn put_header(words: &CFrame, last: bool, dest: &mut [u8]) -> Result<usize, usize>
     requires { HasHeader words.now last }
     ensures { Puts result (data_header_bytes words.now last) dest.old dest.new }
@@ -88,11 +88,11 @@ fn put_header(words: &CFrame, last: bool, dest: &mut [u8]) -> Result<usize, usiz
     }
 }
 
-/// Writes the shortest encoding of a STREAM, CRYPTO or DATAGRAM up to its data at the front of `out`, the last frame
-/// of its payload where `last` isn't 0 (RFC 9000, sections 19.6 and 19.8; RFC 9221, section 4). The words say how
-/// many bytes the data have; where these stand isn't looked at. It answers 0 with how many bytes were written, and
-/// what stood behind them stays; -4 with how many are needed where `out` has fewer; -1 where the words say no such
-/// frame that can be written. `out` changes with 0 alone, and `written` not with -1.
+/// Writes the shortest encoding of a STREAM, CRYPTO or DATAGRAM, without its data, at the front of `out`; if `last`
+/// isn't 0, as the last frame of its payload (RFC 9000, sections 19.6 and 19.8; RFC 9221, section 4). The words have
+/// the length of the data; their place isn't looked at. It answers 0 with how many bytes were written, and bytes after
+/// those don't change; -4 with how many are needed, if `out` has fewer; -1 if the words describe no such frame that can
+/// be written. `out` changes only with 0, and `written` doesn't change with -1.
 #[unsafe(no_mangle)]
 pub extern "C" fn quic_wire_frame_header_write_(
     frame: &CFrame,
@@ -123,9 +123,11 @@ pub extern "C" fn quic_wire_frame_header_write_(
     }
 }
 
-/// A header and then the data are the frame: what can be written whole has a header, and is that with its data behind it.
+/// A header followed by the data is the frame: a frame that can be written whole has a header, and its encoding is that
+/// header followed by its data.
 pub fn header_and_data()
     ensures { (words : CFrame) (bytes : List ℕ) (last : Bool) (frame : Frame) → IsHeaded words.kind
         → CanWriteFrame words bytes last frame
-        → HasHeader words last × (shortest_frame last (meaning_of frame) ≡ data_header_bytes words last ++ data_of frame) }
+        → HasHeader words last
+        × (shortest_frame last (meaning_of frame) ≡ data_header_bytes words last ++ data_of frame) }
 {}

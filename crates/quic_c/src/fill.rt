@@ -1,4 +1,4 @@
-//! The frames of a payload, as many with one call as the caller has room for.
+//! Reads the frames of a payload, as many with one call as the caller has room for.
 ghost use Rattle.std.specs.Prelude.{◌≡◌, ◌<◌, ◌≤◌, ◌↔◌, ◌⊎◌, [], true, false, pos, negsuc, length, IfOk, IfErr};
 ghost use Rattle.quic_frames.specs.Walk.{left, first_of, invalid_of};
 ghost use Rattle.quic_c.specs.Shown.{state_of, at_front};
@@ -13,16 +13,16 @@ use quic_frames::frame::{FrameType, InvalidFrame, Iter};
 // How far entries were filled.
 #[derive(Clone, Copy)]
 struct Filled {
-    // How many.
+    // How many were filled.
     count: usize,
-    // Where the last one ends.
+    // Where the last frame ends.
     end: usize,
     // The type of the last frame.
     last: Option<FrameType>,
 }
 
-// Fills entries with what stands next. Where that isn't given, it is reported if none was filled. There is a copy for
-// each caller, so that each goes into its own.
+// Fills entries with the next frames. If the first can't be given, its error is reported. Each caller has its own copy
+// of this function, into which it is inlined.
 #[inline(always)]
 fn fill<const COPY: usize>(
     iter: &mut Iter<'_>,
@@ -68,7 +68,7 @@ fn fill<const COPY: usize>(
     Ok(Filled { count, end, last })
 }
 
-// Fills entries with what stands next where the words say.
+// Fills entries with the next frames at the place in the words.
 #[inline(always)]
 fn fill_on<const COPY: usize>(
     frames: &mut CFrameIter,
@@ -108,11 +108,11 @@ fn fill_on<const COPY: usize>(
     }
 }
 
-/// The next frames (RFC 9000, section 19), as many as there is room for in `out`; a run of PADDING, a frame with each
-/// byte, is one entry. It answers 1 with how many entries were filled, one at least; 0 where no frame is left; -3,
-/// once, with the type and the reason in the first entry, where what stands next is no frame; -4 just where `out` has
-/// no entry and the place lies in the payload; -1 just where the place lies outside it. `count` changes with 1 alone,
-/// and nothing changes with 0, -4 and -1.
+/// The next frames (RFC 9000, section 19), as many as `out` has room for; a run of PADDING, each byte of which is a
+/// frame, is one entry. It answers 1 with how many entries were filled, at least one; 0 if no frame is left; -3, once,
+/// with the type and the reason in the first entry, if the next bytes aren't a valid frame; -4 exactly if `out` has no
+/// entry and the place is in the payload; -1 exactly if the place is outside of it. `count` changes only with 1, and
+/// nothing changes with 0, -4 and -1.
 #[unsafe(no_mangle)]
 pub extern "C" fn quic_wire_frames_fill_(
     frames: &mut CFrameIter,
@@ -125,7 +125,7 @@ pub extern "C" fn quic_wire_frames_fill_(
     fill_on::<1>(frames, payload, false, out, count)
 }
 
-/// The same, where a frame of the extension for ACK frequency is one of an unknown type: -3 is reported of it.
+/// The same, but a frame of the extension for ACK frequency has an unknown type, and is reported by -3.
 #[unsafe(no_mangle)]
 pub extern "C" fn quic_wire_frames_fill_basic_(
     frames: &mut CFrameIter,
@@ -138,11 +138,11 @@ pub extern "C" fn quic_wire_frames_fill_basic_(
     fill_on::<2>(frames, payload, true, out, count)
 }
 
-/// Begins at the front of a payload and reads its first frames (RFC 9000, section 19), as `quic_wire_frames_init_`
-/// and then `quic_wire_frames_fill_` do. It answers 1 with how many entries were filled, one at least; -2 just where
-/// the payload is empty, which is refused with PROTOCOL_VIOLATION (section 12.4); -3, with the type and the reason in
-/// the first entry, where what stands at the front is no frame; -4 just where there is a payload and `out` has no
-/// entry. `count` changes with 1 alone, and nothing changes with -2 and -4.
+/// Begins at the front of a payload and reads its first frames (RFC 9000, section 19), as `quic_wire_frames_init_` and
+/// then `quic_wire_frames_fill_` do. It answers 1 with how many entries were filled, at least one; -2 exactly if the
+/// payload is empty, which is a PROTOCOL_VIOLATION (section 12.4); -3, with the type and the reason in the first entry,
+/// if the payload doesn't begin with a valid frame; -4 exactly if the payload isn't empty and `out` has no entry.
+/// `count` changes only with 1, and nothing changes with -2 and -4.
 #[unsafe(no_mangle)]
 pub extern "C" fn quic_wire_frames_first_(
     frames: &mut CFrameIter,
@@ -152,7 +152,8 @@ pub extern "C" fn quic_wire_frames_first_(
 ) -> i32
     ensures answers { (result ≡ pos 1) ⊎ (result ≡ negsuc 1) ⊎ (result ≡ negsuc 2) ⊎ (result ≡ negsuc 3) }
     ensures frames { result ≡ pos 1
-        → (0 < count.new) × Fills false (first_of false payload.now) out.old (state_of frames.new payload.now) out.new count.new }
+        → (0 < count.new)
+        × Fills false (first_of false payload.now) out.old (state_of frames.new payload.now) out.new count.new }
     ensures empty { (result ≡ negsuc 1) ↔ (payload.now ≡ []) }
     ensures invalid { result ≡ negsuc 2 → TellsInvalid false (at_front 0) payload.now out.old frames.new out.new }
     ensures room { (result ≡ negsuc 3) ↔ ((0 < length payload.now) × (out.old ≡ [])) }

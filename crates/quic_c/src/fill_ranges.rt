@@ -1,4 +1,4 @@
-//! The ranges of an ACK, as many with one call as the caller has room for.
+//! Reads the ranges of an ACK, as many with one call as the caller has room for.
 ghost use Rattle.std.specs.Prelude.{◌≡◌, ◌⊎◌, ◌↔◌, ◌-◌, ◌<◌, ◌≤◌, [], pos, negsuc, length};
 ghost use Rattle.quic_c.specs.Answers.{IsWithin, NamesNone};
 ghost use Rattle.quic_c.specs.Filling.{FillsRanges};
@@ -6,7 +6,7 @@ ghost use Rattle.quic_c.specs.Filling.{FillsRanges};
 use crate::words::{CRange, CRangeIter};
 use quic_frames::frame::split_first_range;
 
-// Fills entries with the ranges that stand first in blocks: how many, and the blocks that are left.
+// Fills entries with the first ranges in blocks: how many, and the blocks that are left.
 #[inline(always)]
 fn fill_ranges(from: CRangeIter, payload: &[u8], out: &mut [CRange]) -> (usize, CRangeIter)
     requires { IsWithin from payload.now }
@@ -31,7 +31,7 @@ fn fill_ranges(from: CRangeIter, payload: &[u8], out: &mut [CRange]) -> (usize, 
     (count, words_at(end, left, largest))
 }
 
-// The words of blocks that end at a place.
+// The words for blocks that end at a place.
 #[inline(always)]
 fn words_at(end: usize, left: &[u8], largest: u64) -> CRangeIter
     requires { length left.now ≤ end }
@@ -44,10 +44,10 @@ fn words_at(end: usize, left: &[u8], largest: u64) -> CRangeIter
     }
 }
 
-/// The next ranges of an ACK, the greatest first (RFC 9000, section 19.3.1), as many as there is room for in `out`.
-/// It answers 1 with how many entries were filled, one at least; 0 where no byte is left; -4 just where `out` has no
-/// entry and the place lies in the payload; -1 where the words name no blocks, as `quic_wire_ack_ranges_next_` has
-/// it. Ranges that stand before what is none are given first. Nothing changes but with 1.
+/// The next ranges of an ACK, the greatest first (RFC 9000, section 19.3.1), as many as `out` has room for. It answers
+/// 1 with how many entries were filled, at least one; 0 if no byte is left; -4 exactly if `out` has no entry and the
+/// place is in the payload; -1 if the words describe no blocks, as for `quic_wire_ack_ranges_next_`. Ranges before an
+/// invalid block are given first. Nothing changes unless it answers 1.
 #[unsafe(no_mangle)]
 pub extern "C" fn quic_wire_ack_ranges_fill_(
     ranges: &mut CRangeIter,

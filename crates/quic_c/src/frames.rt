@@ -1,4 +1,4 @@
-//! The frames of a payload, one with each call.
+//! Reads the frames of a payload, one with each call.
 ghost use Rattle.std.specs.Prelude.{◌≡◌, ◌<◌, ◌≤◌, ◌^◌, ◌-◌, ◌↔◌, ◌⊎◌, ℕ, [], ◌∷◌, pos, negsuc, length, codes, IsTrue, true, false, None};
 ghost use Rattle.quic_frames.specs.declared.frame.Frame.{Frame};
 ghost use Rattle.quic_frame_fields.specs.Reading.{Invalid, Broken, invalid};
@@ -11,7 +11,7 @@ use crate::show::{parts_of, show};
 use crate::words::{CFrame, CFrameIter};
 use quic_frames::frame::{Frame, FrameType, InvalidFrame, Iter};
 
-// The type in a word.
+// The type in a word, if there is one.
 pub(crate) fn type_in(word: u64) -> Option<FrameType>
     ensures { result ≡ type_in word }
 {
@@ -21,7 +21,7 @@ pub(crate) fn type_in(word: u64) -> Option<FrameType>
     Some(FrameType::or_none(word).unwrap_or(FrameType::PADDING))
 }
 
-// The word of a type.
+// The word for a type.
 pub(crate) fn type_word(ty: Option<FrameType>) -> u64
     ensures value { result ≡ type_word ty }
     ensures back { type_in result ≡ ty }
@@ -32,7 +32,7 @@ pub(crate) fn type_word(ty: Option<FrameType>) -> u64
     }
 }
 
-// The type of a frame that was read last, as it stands there: each known type has fewer than 16 bits.
+// The type of the frame that was read last, as encoded in the payload: each known type has fewer than 16 bits.
 #[inline(always)]
 pub(crate) fn type_read(iter: &Iter<'_>) -> u64
     requires { (old : IterState) × (frame : Frame) × Finds old frame iter.now }
@@ -57,7 +57,7 @@ fn reason_in(reason: &str) -> u32
     }
 }
 
-// Whether the frame is one of the extension for ACK frequency, where these are of unknown types.
+// Whether the frame is one of the extension for ACK frequency, if `basic` makes these unknown.
 #[inline(always)]
 pub(crate) fn is_unknown(basic: bool, frame: &Frame<'_>) -> bool
     ensures { IsTrue result ↔ (basic ≡ true) × IsExtension (frame_kind_of frame.now) }
@@ -69,7 +69,7 @@ pub(crate) fn is_unknown(basic: bool, frame: &Frame<'_>) -> bool
     }
 }
 
-// What is reported of a frame of this kind where its type is unknown.
+// What is reported of a frame of this kind if its type is unknown.
 #[inline(never)]
 pub(crate) fn unknown(kind: u16) -> InvalidFrame
     ensures { invalid_of result ≡ unknown_type kind }
@@ -80,7 +80,7 @@ pub(crate) fn unknown(kind: u16) -> InvalidFrame
     }
 }
 
-// Begins at the front of a payload, by the word for strict reading.
+// Begins at the front of a payload, with the word for strict reading.
 #[inline(always)]
 fn begin(frames: &mut CFrameIter, payload: &[u8], strict: u32) -> i32
     ensures answers { (result ≡ pos 0) ⊎ (result ≡ negsuc 1) }
@@ -101,8 +101,8 @@ fn begin(frames: &mut CFrameIter, payload: &[u8], strict: u32) -> i32
     0
 }
 
-/// Begins at the front of a payload. It answers 0, or -2 just where the payload is empty, which is refused with
-/// PROTOCOL_VIOLATION (RFC 9000, section 12.4); then nothing changes.
+/// Begins at the front of a payload. It answers 0, or -2 exactly if the payload is empty, which is a PROTOCOL_VIOLATION
+/// (RFC 9000, section 12.4); then nothing changes.
 #[unsafe(no_mangle)]
 pub extern "C" fn quic_wire_frames_init_(frames: &mut CFrameIter, payload: &[u8]) -> i32
     ensures answers { (result ≡ pos 0) ⊎ (result ≡ negsuc 1) }
@@ -114,7 +114,7 @@ pub extern "C" fn quic_wire_frames_init_(frames: &mut CFrameIter, payload: &[u8]
     begin(frames, payload, 0)
 }
 
-/// The same, where a type in another encoding than its shortest is no frame (RFC 9000, section 12.4). Other fields may
+/// The same, but a type that is not in its shortest encoding is an error (RFC 9000, section 12.4). Other fields may
 /// have any width.
 #[unsafe(no_mangle)]
 pub extern "C" fn quic_wire_frames_init_strict_(frames: &mut CFrameIter, payload: &[u8]) -> i32
@@ -127,7 +127,7 @@ pub extern "C" fn quic_wire_frames_init_strict_(frames: &mut CFrameIter, payload
     begin(frames, payload, 1)
 }
 
-// What is no frame, reported as words.
+// An error as words.
 pub(crate) fn show_invalid(begin: usize, invalid: &InvalidFrame) -> CFrame
     ensures { result ≡ shown_invalid begin (type_word invalid.now.ty) (reason_in invalid.now.reason.now) }
 {
@@ -143,7 +143,7 @@ pub(crate) fn show_invalid(begin: usize, invalid: &InvalidFrame) -> CFrame
     }
 }
 
-// Tells, once, what stands at a place and isn't given.
+// Reports, once, why the frame at a place isn't given.
 #[inline(always)]
 fn refuse(begin: usize, invalid: &InvalidFrame, frames: &mut CFrameIter, out: &mut CFrame) -> i32
     ensures answer { result ≡ negsuc 2 }
@@ -155,9 +155,8 @@ fn refuse(begin: usize, invalid: &InvalidFrame, frames: &mut CFrameIter, out: &m
     -3
 }
 
-// The next frame of an iterator that stands where the words say. There is a copy for what begins with 0, PADDING, so
-// that the words of a run's many frames are stored by themselves; and each caller has its own, so that each goes into
-// it.
+// The next frame of an iterator at the place in the words. There is a copy for a first byte 0, PADDING, so that the
+// words of a run are stored by themselves; and each caller has its own copy, inlined into it.
 #[inline(always)]
 fn give_next<const COPY: usize>(
     iter: &mut Iter<'_>,
@@ -186,7 +185,7 @@ fn give_next<const COPY: usize>(
     }
 }
 
-// The next frame where the words stand, by a copy for PADDING and one for others.
+// The next frame at the place in the words, by one copy for PADDING and one for other frames.
 #[inline(always)]
 fn next_on<const PADDING: usize, const OTHER: usize>(
     frames: &mut CFrameIter,
@@ -210,9 +209,9 @@ fn next_on<const PADDING: usize, const OTHER: usize>(
     }
 }
 
-/// The next frame (RFC 9000, section 19). It answers 1 with the frame; 0 where none is left, and nothing changes; -3,
-/// once, with the type and the reason that are reported of something that is no frame; -1 just where the place lies
-/// outside the payload, and nothing changes.
+/// The next frame (RFC 9000, section 19). It answers 1 with the frame; 0 if none is left, and nothing changes; -3,
+/// once, with the type and the reason, if the next bytes aren't a valid frame; -1 exactly if the place is outside of
+/// the payload, and nothing changes.
 #[unsafe(no_mangle)]
 pub extern "C" fn quic_wire_frames_next_(
     frames: &mut CFrameIter,
@@ -224,7 +223,7 @@ pub extern "C" fn quic_wire_frames_next_(
     next_on::<0, 1>(frames, payload, false, out)
 }
 
-/// The same, where a frame of the extension for ACK frequency is one of an unknown type: -3 is reported of it.
+/// The same, but a frame of the extension for ACK frequency has an unknown type, and is reported by -3.
 #[unsafe(no_mangle)]
 pub extern "C" fn quic_wire_frames_next_basic_(
     frames: &mut CFrameIter,

@@ -1,4 +1,4 @@
-//! The frame at the front of what is left of a payload, and with an ACK its first ranges as they stand.
+//! Reads the frame at the front of the rest of a payload, and the first ranges of an ACK as gap and length.
 ghost use Rattle.std.specs.Prelude.{◌≡◌, ◌↔◌, ◌⊎◌, ◌<◌, ◌≤◌, ℕ, List, [], Bool, Option, drop, map, IsTrue, length, true, false, if◌then◌else◌};
 ghost use Rattle.quic_frame_fields.specs.Field.{AreBelow};
 ghost use Rattle.quic_frame_fields.specs.Reading.{Gives, varint_at};
@@ -16,8 +16,7 @@ use quic_base::varint::split_var;
 use quic_frame_fields::frame::fault::Fault;
 use quic_frames::frame::{Ack, Frame, Iter};
 
-// A number of any width and what follows it, made for numbers of which most have one byte, and read where the call
-// stands.
+// A number of any width and what follows it, made for numbers most of which have one byte, and inlined into the caller.
 #[inline(always)]
 #[tactic(auto, using(quic_frame_fields::proofs::Gaps::one_at, quic_frame_fields::proofs::Varints::slices))]
 fn number(bytes: &[u8]) -> Result<(u64, &[u8]), Fault>
@@ -34,7 +33,7 @@ fn number(bytes: &[u8]) -> Result<(u64, &[u8]), Fault>
     }
 }
 
-// Fills entries with the ranges that stand below another one, as they stand: how many, and whether none is left.
+// Fills entries with the ranges below another one, as gap and length: how many, and whether none is left.
 #[inline(always)]
 fn fill_gaps(blocks: &[u8], gaps: &mut [CGap]) -> (usize, bool)
     requires { (least : ℕ) × (ranges : List (ℕ × ℕ)) × AreBelow least ranges blocks.now }
@@ -59,7 +58,7 @@ fn fill_gaps(blocks: &[u8], gaps: &mut [CGap]) -> (usize, bool)
     (count, left.is_empty())
 }
 
-// The flag of an ACK of which not all ranges were filled.
+// The flag of an ACK whose ranges were not all filled.
 #[inline(always)]
 fn more_flag(is_whole: bool) -> u32
     ensures value { result ≡ (if is_whole then 0 else 4) }
@@ -68,7 +67,7 @@ fn more_flag(is_whole: bool) -> u32
     if is_whole { 0 } else { 4 }
 }
 
-// The words of an ACK that stands at the front, and as many of the ranges below its first as there are entries.
+// The words of an ACK at the front, and as many of the ranges below its first as there are entries.
 #[inline(always)]
 fn show_ack(words: CFrame, ack: &Ack<'_>, gaps: &mut [CGap]) -> CFrame
     requires { words ≡ shown 0 words.end words.ty (frames.Ack ack.now) }
@@ -93,7 +92,7 @@ fn show_ack(words: CFrame, ack: &Ack<'_>, gaps: &mut [CGap]) -> CFrame
     }
 }
 
-// The words of a frame of this type that stands at the front.
+// The words of a frame of this type at the front.
 #[inline(always)]
 fn show_front(end: usize, ty: u16, frame: &Frame<'_>, gaps: &mut [CGap]) -> CFrame
     ensures { ShowsFront end ty frame.now gaps.old result gaps.new }
@@ -105,7 +104,8 @@ fn show_front(end: usize, ty: u16, frame: &Frame<'_>, gaps: &mut [CGap]) -> CFra
     }
 }
 
-// Passes the PADDING that follows a frame of PADDING, and tells where the last of it ends, or else the frame.
+// Passes over the PADDING that follows a frame of PADDING, and answers where it ends; for another frame, where that
+// ends.
 #[inline(always)]
 #[tactic(auto, using(crate::proofs::Filling::passed_payload))]
 fn pass_run(iter: &mut Iter<'_>, frame: &Frame<'_>) -> usize
@@ -120,7 +120,7 @@ fn pass_run(iter: &mut Iter<'_>, frame: &Frame<'_>) -> usize
     iter.offset()
 }
 
-// Reads the frame at the front. There is a copy for each kind of first byte, so that what it can't be isn't looked at.
+// Reads the frame at the front. There is a copy for each kind of first byte, without tests for other kinds.
 #[inline(always)]
 fn read_front<const COPY: usize>(
     payload: &[u8],
@@ -156,7 +156,7 @@ fn read_front<const COPY: usize>(
     }
 }
 
-// An ACK, or what else begins as one, by a call.
+// An ACK, or another frame with the same first byte, by a call that isn't inlined.
 #[inline(never)]
 fn read_ack(payload: &[u8], strict: bool, basic: bool, out: &mut CFrame, gaps: &mut [CGap]) -> i64
     ensures { AnswersRead strict basic payload.now out.old gaps.old result out.new gaps.new }
@@ -167,7 +167,7 @@ fn read_ack(payload: &[u8], strict: bool, basic: bool, out: &mut CFrame, gaps: &
     read_front::<1>(payload, strict, basic, out, gaps)
 }
 
-// Reads the frame at the front, STREAM by a copy for the caller.
+// Reads the frame at the front; for STREAM by a copy that is inlined into the caller.
 #[inline(always)]
 fn read_by<const STREAM: usize>(
     payload: &[u8],
@@ -187,13 +187,13 @@ fn read_by<const STREAM: usize>(
     read_ack(payload, strict, basic, out, gaps)
 }
 
-/// Reads the frame at the front of what is left of a payload (RFC 9000, section 19), where a type in another encoding
-/// than its shortest is no frame if `strict` isn't 0 (section 12.4). It answers where the frame ends, with its words,
-/// whose places count from this front; a run of PADDING, a frame with each byte, is one. Of an ACK they tell the first
-/// range, less one, as the length of its data, and the ranges below it are filled into `gaps` as they stand, as many as
-/// there is room for: how many is reported as the offset of its data, and `flags` has 4 where there are more. It answers -2
-/// just where nothing is left; -3 with the type and the reason in `out` where no frame stands at the front. `out`
-/// doesn't change with -2, and `gaps` for an ACK alone.
+/// Reads the frame at the front of the rest of a payload (RFC 9000, section 19). If `strict` isn't 0, a type that is
+/// not in its shortest encoding is an error (section 12.4). It answers where the frame ends, with its words, whose
+/// places count from this front; a run of PADDING, each byte of which is a frame, is one. For an ACK the length of data
+/// is the first range, less one, and the ranges below it are filled into `gaps` as gap and length, as many as there is
+/// room for; the offset of data is how many were filled, and `flags` has 4 if there are more. It answers -2 exactly if
+/// nothing is left; -3 with the type and the reason in `out`, if the bytes don't begin with a valid frame. `out`
+/// doesn't change with -2, and `gaps` changes only for an ACK.
 #[unsafe(no_mangle)]
 pub extern "C" fn quic_wire_frame_read_(
     payload: &[u8],
@@ -206,7 +206,7 @@ pub extern "C" fn quic_wire_frame_read_(
     read_by::<2>(payload, strict != 0, false, out, gaps)
 }
 
-/// The same, where a frame of the extension for ACK frequency is one of an unknown type: -3 is reported of it.
+/// The same, but a frame of the extension for ACK frequency has an unknown type, and is reported by -3.
 #[unsafe(no_mangle)]
 pub extern "C" fn quic_wire_frame_read_basic_(
     payload: &[u8],
@@ -219,10 +219,11 @@ pub extern "C" fn quic_wire_frame_read_basic_(
     read_by::<3>(payload, strict != 0, true, out, gaps)
 }
 
-/// A payload is read frame by frame, each at the front of what is left: what an iterator gives from a place on is
-/// what it gives of the bytes there by themselves, each at a place that counts from the payload's front. What is cut
-/// off within its type, and so has none, is reported by the iterator with the type before.
+/// A payload can be read frame by frame, each at the front of what is left: what an iterator gives from a place on is
+/// what it gives for the bytes from there on alone, with places that count from the payload's front. If the bytes end
+/// within a type, so that no type can be read, the iterator reports the type before.
 pub fn read_on()
     ensures { (strict : Bool) (offset : ℕ) (before : Option ℕ) (payload : List ℕ)
-        → left (resumed payload offset before strict) ≡ reported_behind before (map (behind offset) (left (first_of strict (drop offset payload)))) }
+        → left (resumed payload offset before strict)
+        ≡ reported_behind before (map (behind offset) (left (first_of strict (drop offset payload)))) }
 {}

@@ -1,6 +1,5 @@
-//! The wire layer of QUIC for callers that write C: frames and the ranges of acknowledgements, one with
-//! each call. What a caller keeps between calls are plain words, and the bytes are given anew with each call. Every
-//! word may have every value: no export asks for anything.
+//! Functions exported to C: frames, and the ranges of ACKs. What a caller keeps between calls are structs of plain
+//! words, and the bytes are given again with each call. Every function is safe with any argument values.
 #![tactic(auto)]
 
 mod ack_gaps;

@@ -1,4 +1,4 @@
-//! A frame as words.
+//! Frames as words.
 ghost use Rattle.std.specs.Prelude.{◌≡◌, ◌-◌, length};
 ghost use Rattle.quic_c.specs.Shown.{frame_kind_of, flags_of, frame_numbers_of, data_of, tail_of, shown};
 
@@ -6,7 +6,7 @@ use crate::words::CFrame;
 use quic_base::ids::Dir;
 use quic_frames::frame::{Close, Frame};
 
-// What the words of a frame take from the frame alone, by one look at its kind.
+// The words that depend on the frame alone, found with one match on its kind.
 #[derive(Clone, Copy)]
 pub(crate) struct Parts {
     pub(crate) kind: u16,
@@ -44,7 +44,13 @@ fn with_data(kind: u16, flags: u32, numbers: [u64; 5], bytes: &[u8]) -> Parts
 
 #[inline(always)]
 pub(crate) fn parts_of(frame: &Frame<'_>) -> Parts
-    ensures { result ≡ record { kind = frame_kind_of frame.now; flags = flags_of frame.now; tail = tail_of frame.now; data_len = length (data_of frame.now); numbers = frame_numbers_of frame.now } }
+    ensures { result ≡ record {
+      kind = frame_kind_of frame.now;
+      flags = flags_of frame.now;
+      tail = tail_of frame.now;
+      data_len = length (data_of frame.now);
+      numbers = frame_numbers_of frame.now;
+    } }
 {
     match frame {
         Frame::Padding => without_data(0x00, [0; 5]),
@@ -137,10 +143,19 @@ pub(crate) fn parts_of(frame: &Frame<'_>) -> Parts
     }
 }
 
-// The words that begin and end there, of this type, with what is taken from a frame.
+// The words of a frame that begins and ends there and has this type, with those that depend on the frame alone.
 #[inline(always)]
 pub(crate) fn show_parts(begin: usize, end: usize, ty: u16, of_frame: Parts) -> CFrame
-    ensures { result ≡ record { kind = of_frame.kind; ty = ty; flags = of_frame.flags; begin = begin; end = end; data_offset = end - of_frame.tail - of_frame.data_len; data_len = of_frame.data_len; numbers = of_frame.numbers } }
+    ensures { result ≡ record {
+      kind = of_frame.kind;
+      ty = ty;
+      flags = of_frame.flags;
+      begin = begin;
+      end = end;
+      data_offset = end - of_frame.tail - of_frame.data_len;
+      data_len = of_frame.data_len;
+      numbers = of_frame.numbers;
+    } }
 {
     let numbers = of_frame.numbers;
     CFrame {
@@ -157,7 +172,7 @@ pub(crate) fn show_parts(begin: usize, end: usize, ty: u16, of_frame: Parts) -> 
     }
 }
 
-/// The words of a frame of this type that stands in a payload from `begin` to `end`.
+/// The words of a frame of this type, which in a payload goes from `begin` to `end`.
 #[inline(always)]
 pub(crate) fn show(begin: usize, end: usize, ty: u16, frame: &Frame<'_>) -> CFrame
     ensures { result ≡ shown begin end ty frame.now }

@@ -1,4 +1,4 @@
-//! The structs that C sees. Each of their words may hold any value, so nothing can be broken by them.
+//! The structs that C sees. Each of their words may have any value: no function relies on it.
 
 /// How far an iterator over a payload has come. The caller keeps it and gives the payload with each call.
 #[repr(C)]
@@ -6,11 +6,11 @@
 pub struct CFrameIter {
     /// The end of the last whole frame.
     pub offset: usize,
-    /// The type of the last frame as it stands there; from 2^62 on: none.
+    /// The type of the last frame as encoded in the payload; 2^62 or more: none.
     pub last_type: u64,
-    /// 0 until something was no frame.
+    /// 0 until something wasn't a valid frame.
     pub ended: u32,
-    /// Not 0: a type in another encoding than its shortest is no frame.
+    /// Not 0: a type that is not in its shortest encoding is an error.
     pub strict: u32,
 }
 
@@ -20,17 +20,17 @@ pub struct CFrameIter {
 pub struct CFrame {
     /// Its type, the same one for every STREAM, ACK and DATAGRAM.
     pub kind: u16,
-    /// Its type as it stands there; 0 of what is no frame. Writing doesn't look at it.
+    /// Its type as encoded in the payload; 0 if the bytes aren't a valid frame. Writing doesn't look at it.
     pub ty: u16,
-    /// 1: the end of a stream. 2: an ACK with counts.
+    /// 1: the end of a stream (FIN). 2: an ACK with counts.
     pub flags: u32,
     /// Where it begins in the payload.
     pub begin: usize,
     /// Where it ends.
     pub end: usize,
-    /// Where its data begin.
+    /// Where its data begin in the payload.
     pub data_offset: usize,
-    /// How many bytes these are.
+    /// How many bytes of data it has.
     pub data_len: usize,
     /// Its numbers.
     pub numbers: [u64; 5],
@@ -46,11 +46,11 @@ pub struct CRange {
     pub end: u64,
 }
 
-/// A range of an ACK below another one, as it stands there (RFC 9000, section 19.3.1).
+/// A range of an ACK below another one, as encoded in the payload (RFC 9000, section 19.3.1).
 #[repr(C)]
 #[derive(Clone, Copy)]
 pub struct CGap {
-    /// How many numbers stand between the two, less one.
+    /// How many numbers are between the two, less one.
     pub gap: u64,
     /// How many numbers it has, less one.
     pub len: u64,
@@ -68,7 +68,7 @@ pub struct CRangeIter {
     pub largest: u64,
 }
 
-// The sizes that every declaration of these structs in C must have.
+// The sizes that these structs must have in C.
 const _: () = prove!(std::mem::size_of::<CFrameIter>() == 24);
 
 const _: () = prove!(std::mem::size_of::<CFrame>() == 80);

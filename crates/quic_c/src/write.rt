@@ -1,4 +1,4 @@
-//! Frames, written from words into the caller's bytes.
+//! Writes frames from words into the caller's bytes.
 ghost use Rattle.std.specs.Prelude.{◌≡◌, ◌<◌, ◌≤◌, ◌^◌, ◌⊎◌, ◌↔◌, ℕ, Bool, List, [], ◌∷◌, pos, negsuc, length, false, IsTrue, IfSome, IsNone, None};
 ghost use Rattle.quic_frame_fields.specs.Numbers.{AreNumeric};
 ghost use Rattle.quic_frames.specs.declared.frame.Frame.{Frame};
@@ -27,7 +27,7 @@ fn are_varints(numbers: [u64; 5]) -> bool
     a <= max && b <= max && c <= max && d <= max && e <= max
 }
 
-// Whether the numbers and the length can be those of a frame of the kind.
+// Whether a frame of the kind can have these numbers and this length.
 fn is_sound(kind: u16, numbers: [u64; 5], len: usize) -> bool
     ensures { IsTrue result ↔ IsSound kind numbers len }
 {
@@ -40,7 +40,7 @@ fn is_sound(kind: u16, numbers: [u64; 5], len: usize) -> bool
     kind != 0x18 || retire <= sequence && 0 < len && len <= 20
 }
 
-// A number that is known to be a varint.
+// A number that was found to be a varint.
 #[inline(always)]
 fn varint(n: u64) -> VarInt
     requires { n < 2 ^ 62 }
@@ -86,7 +86,12 @@ fn stop_sending<'a>(id: u64, code: u64) -> Frame<'a>
 #[inline(always)]
 fn ack_frequency<'a>(sequence: u64, threshold: u64, delay: u64, reordering: u64) -> Frame<'a>
     requires { AreNumeric (sequence ∷ threshold ∷ delay ∷ reordering ∷ []) }
-    ensures { result ≡ frames.AckFrequency (record { sequence = sequence; ack_eliciting_threshold = threshold; request_max_ack_delay = delay; reordering_threshold = reordering }) }
+    ensures { result ≡ frames.AckFrequency (record {
+      sequence = sequence;
+      ack_eliciting_threshold = threshold;
+      request_max_ack_delay = delay;
+      reordering_threshold = reordering;
+    }) }
 {
     Frame::AckFrequency(AckFrequency {
         sequence: varint(sequence),
@@ -177,7 +182,12 @@ fn streams_blocked<'a>(dir: Dir, limit: u64) -> Frame<'a>
 fn new_connection_id<'a>(sequence: u64, retire: u64, id: &[u8], token: &[u8]) -> Frame<'a>
     requires few { length id.now ≤ 20 }
     requires token { length token.now ≡ 16 }
-    ensures { result ≡ frames.NewConnectionId (record { sequence = sequence; retire_prior_to = retire; id = id.now; reset_token = token.now }) }
+    ensures { result ≡ frames.NewConnectionId (record {
+      sequence = sequence;
+      retire_prior_to = retire;
+      id = id.now;
+      reset_token = token.now;
+    }) }
 {
     let mut reset_token = [0; 16];
     reset_token.copy_from_slice(token);
@@ -189,7 +199,8 @@ fn new_connection_id<'a>(sequence: u64, retire: u64, id: &[u8], token: &[u8]) ->
     })
 }
 
-// The frame of a kind with these words, of which it takes what the kind has; none of an unknown kind or of an ACK.
+// The frame of a kind with these words, of which it takes those that the kind has; `None` for an unknown kind and for
+// ACK.
 fn frame_of<'a>(
     kind: u16,
     is_fin: bool,
@@ -233,7 +244,7 @@ fn frame_of<'a>(
     }
 }
 
-// How many bytes of a token stand behind the data.
+// How many bytes of a token follow the data.
 #[inline(always)]
 fn token_room(kind: u16) -> usize
     ensures { result ≡ token_room kind }
@@ -241,8 +252,8 @@ fn token_room(kind: u16) -> usize
     if kind == 0x18 { 16 } else { 0 }
 }
 
-// The data that the words say, and the token of a reset behind them, which a NEW_CONNECTION_ID alone has. Where there
-// are neither, nothing of `data` is looked at.
+// The data at the place in the words, and the reset token after them, which only a NEW_CONNECTION_ID has. If there are
+// neither, `data` isn't looked at.
 fn pieces<'a>(words: &CFrame, data: &'a [u8]) -> Option<(&'a [u8], &'a [u8])>
     ensures some { IfSome result (λ p. HasPieces words.now data.now p.0.now p.1.now) }
     ensures none { IsNone result → LacksPieces words.now data.now }
@@ -262,7 +273,7 @@ fn pieces<'a>(words: &CFrame, data: &'a [u8]) -> Option<(&'a [u8], &'a [u8])>
     Some((front, &back[..room]))
 }
 
-// Whether the frame has the flags, the numbers and the length of the words.
+// Whether the frame has the flags, the numbers and the length in the words.
 fn is_shown(frame: &Frame<'_>, words: &CFrame) -> bool
     ensures { IsTrue result ↔ IsShown words.now frame.now }
 {
@@ -272,7 +283,7 @@ fn is_shown(frame: &Frame<'_>, words: &CFrame) -> bool
     parts.flags == words.flags && parts.data_len == words.data_len && numbers == wanted
 }
 
-// The frame that the words say, where it can be written.
+// The frame that the words describe, if it can be written.
 fn said<'a>(words: &CFrame, data: &'a [u8], last: bool) -> Option<Frame<'a>>
     ensures some { IfSome result (CanWriteFrame words.now data.now last) }
     ensures none { IsNone result → DescribesNoFrame words.now data.now last }
@@ -295,13 +306,13 @@ fn said<'a>(words: &CFrame, data: &'a [u8], last: bool) -> Option<Frame<'a>>
     Some(frame)
 }
 
-/// Writes the shortest encoding of the frame that the words say, the last of its payload where `last` isn't 0, at
-/// the front of `out` (RFC 9000, section 19). Its data, of a NEW_CONNECTION_ID the id with the sixteen bytes of its
-/// token behind it, stand in `data` where the words say. Where the words say no data, as those of a kind without any,
-/// neither `data` nor that place is looked at; where the frame begins and ends never is. It answers 0 with how many
-/// bytes were written, and what stood behind them stays; -4 with how many are needed where `out` has fewer; -1 where
-/// the words say no frame that can be written, or an ACK: these are written from sets. `out` changes with 0 alone, and
-/// `written` not with -1.
+/// Writes the shortest encoding of the frame that the words describe at the front of `out`; if `last` isn't 0, as the
+/// last frame of its payload (RFC 9000, section 19). Its data are read from `data` at the place in the words; for a
+/// NEW_CONNECTION_ID they are the id, and the sixteen bytes of its token follow it. If the words describe no data, or a
+/// kind that has none, neither `data` nor that place is looked at; the words for where the frame begins and ends never
+/// are. It answers 0 with how many bytes were written, and bytes after those don't change; -4 with how many are needed,
+/// if `out` has fewer; -1 if the words describe no frame that can be written, or an ACK: ACKs are written from sets.
+/// `out` changes only with 0, and `written` doesn't change with -1.
 #[unsafe(no_mangle)]
 pub extern "C" fn quic_wire_frame_write_(
     frame: &CFrame,
@@ -313,7 +324,8 @@ pub extern "C" fn quic_wire_frame_write_(
     ensures answers { (result ≡ pos 0) ⊎ (result ≡ negsuc 3) ⊎ (result ≡ negsuc 0) }
     ensures wrote { result ≡ pos 0 → WroteFrame frame.now data.now (flag_of last) out.old out.new written.new }
     ensures room { result ≡ negsuc 3 → FrameNeedsMore frame.now data.now (flag_of last) out.old written.new }
-    ensures refused { result ≡ negsuc 0 → DescribesNoFrame frame.now data.now (flag_of last) × (written.new ≡ written.old) }
+    ensures refused { result ≡ negsuc 0
+        → DescribesNoFrame frame.now data.now (flag_of last) × (written.new ≡ written.old) }
     ensures same { (result ≡ pos 0) ⊎ (out.new ≡ out.old) }
     ensures any_data { LacksData frame.now → (others : List ℕ)
         → IsAnswer frame.now others (flag_of last) result out.old out.new written.new }
@@ -334,8 +346,8 @@ pub extern "C" fn quic_wire_frame_write_(
     }
 }
 
-/// Words say one frame at most: each that the same words and bytes say has the same meaning, and so the same encoding.
-/// So an answer that is right of some words and bytes is the only one.
+/// Words describe one frame at most: all frames that the same words and bytes describe have the same meaning, and so
+/// the same encoding. So only one answer is right for given words and bytes.
 pub fn one_frame()
     ensures { (words : CFrame) (bytes : List ℕ) (last : Bool) (one other : Frame) → CanWriteFrame words bytes last one
         → CanWriteFrame words bytes last other → meaning_of one ≡ meaning_of other }

@@ -18,9 +18,9 @@ use Rattle.quic_header_decode.specs.Refusal.{Refusal, Unsupported, Invalid, NoMe
 use Rattle.quic_c_headers.specs.declared.words.CHeader.{CHeader}
 use Rattle.quic_c_headers.specs.Reading.{answer_word, header_words, whole_word, HasFirst, Reported}
 
--- ---- what a header says of its places
+-- ---- what a header has at its places
 
--- two lists of fields say the same, as far as a header of the kind has them
+-- two lists of fields are the same, as far as a header of the kind has them
 abbrev AreSame : HeaderKind → List ℕ → List ℕ → Place → Place → ℕ → ℕ → ℕ → ℕ → Type 0
 AreSame kind.Initial src other p q len n version v = (src ≡ other) × (p.start ≡ q.start) × (p.end ≡ q.end) × (len ≡ n) × (version ≡ v)
 AreSame kind.ZeroRtt src other p q len n version v = (src ≡ other) × (len ≡ n) × (version ≡ v)
@@ -72,7 +72,7 @@ src_is packet x y one two same =
     let b = slice_len (6 + y.dst_len + 1) y.src_len packet (omega arith) in
     sym a ∙ ap length same ∙ b
 
--- what else stands in the header
+-- the other fields of the header
 record Others (x y : HeaderPlaces) : Type 0 where
   src : x.src_len ≡ y.src_len
   start : x.token.start ≡ y.token.start
@@ -215,7 +215,7 @@ one_answer id_len versions packet old new words answer other law fits t u =
 
 -- ---- where a whole packet ends
 
--- a packet is cut where the words say
+-- a packet is cut at the place in the words
 abbrev IsCut : DecodeOptions → List ℕ → CHeader → Type 0
 IsCut context packet words = (h : ProtectedHeader) × Cut context packet h words.header_end words.end
 
@@ -240,7 +240,7 @@ cut_there context packet (Err error.SmallPacket) old new law right stored zero w
 cut_there context packet (Err error.MalformedCid) old new law right stored zero words = absurd (omega (arith, zero))
 cut_there context packet (Err error.TokenOutOfBounds) old new law right stored zero words = absurd (omega (arith, zero))
 
--- a packet that is reported to be whole is cut where the words say
+-- a packet that is reported to be complete is cut at the place in the words
 pub whole_cut : (id_len : ℕ) (versions packet : List ℕ) (old new : CHeader) (answer : ℕ) → Law → Reported id_len versions packet old answer new → answer ≡ 0
     → (h : ProtectedHeader) × Cut (any_fixed id_len versions) packet h new.header_end new.end
 whole_cut id_len versions packet old new answer law t zero =

@@ -58,7 +58,7 @@ at_in at (suc n) mask bytes i from below room =
       | inr other ↦ get_or-set_other before (at + n) i joined 0 other ∙ at_in at n mask bytes i from (omega arith) (omega arith)
     ]
 
--- the bytes behind the first one, and the first one, are as they were
+-- the bytes after the first one, and the first one, are as they were
 bytes_back : (start at n : ℕ) (mask bytes : List ℕ) (x : ℕ) → start < at → at + n ≤ length bytes
     → unmasked_at at mask n (set (unmasked_at at mask n (set bytes start x)) start (get_or bytes start 0)) ≡ bytes
 bytes_back start at n mask bytes x behind room =

@@ -28,7 +28,7 @@ use Rattle.quic_c_headers.specs.Reading.{Reported}
 parts_of_cons : (x y : ℕ) (xs ys : List ℕ) → x ∷ xs ≡ y ∷ ys → (x ≡ y) × (xs ≡ ys)
 parts_of_cons x y xs ys e = (cc, cc)
 
--- bytes begin with one id behind its length
+-- bytes begin with one id after its length
 pub one_id : (a b r s : List ℕ) → long_id a ++ r ≡ long_id b ++ s → (a ≡ b) × (r ≡ s)
 one_id a b r s e =
     let parts = parts_of_cons (length a) (length b) (a ++ r) (b ++ s) e in
@@ -38,7 +38,7 @@ word_is : (b : List ℕ) → length b ≡ 4 → from_be_bytes w32 b ≡ num b
 word_is (x ∷ y ∷ z ∷ w ∷ []) h = omega arith
 word_is b h = absurd (omega arith)
 
--- what a first byte and four more say of a version negotiation
+-- what a first byte and four more mean for a version negotiation
 pub record Front (first : ℕ) (version behind dst src rest : List ℕ) : Type 0 where
   pub long : 128 ≤ first
   pub zero : from_be_bytes w32 version ≡ 0
@@ -89,7 +89,7 @@ same_words packet dst src d s e f = rw (e, f) refl
 
 -- ---- what is reported of headers of all kinds
 
--- a part of a list, and what is left behind it
+-- a part of a list, and what is left after it
 part_at : (a n : ℕ) (packet front part rest : List ℕ) → packet ≡ front ++ (part ++ rest) → length front ≡ a → length part ≡ n
     → (slice_range packet a (a + n) ≡ part) × (drop (a + n) packet ≡ rest)
 part_at a n packet front part rest is from many =
@@ -112,7 +112,7 @@ places packet dst src = record {
   header_end = 7 + length dst + length src;
 }
 
--- the header that stands there, by its parts
+-- the header that is there, by its parts
 header_at : (context : DecodeOptions) (packet dst src rest d s left : List ℕ) (random : ℕ) → d ≡ dst → s ≡ src → left ≡ rest
     → HeaderAt context (length packet) packet (head.VersionNegotiate random dst src) rest → HeaderAt context (length packet) packet (head.VersionNegotiate random d s) left
 header_at context packet dst src rest d s left random e f g h = rw (e, f, g) h

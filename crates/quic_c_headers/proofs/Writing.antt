@@ -1,4 +1,4 @@
--- The header that words say, and its bytes.
+-- The header that words describe, and its bytes.
 use Rattle.std.proofs.Common.{◌≡◌, ℕ, ◌+◌, ◌-◌, ◌*◌, ◌/◌, ◌%◌, ◌<◌, ◌≤◌, ◌^◌, ◌⊎◌, Bool, false, List, [], ◌∷◌, ◌++◌, length, take, drop, replicate, IsTrue, refl, sym, ap, subst, ◌∙◌, inl, inr, arith, rules}
 use Rattle.std.specs.Prelude.{◌≢◌, bit_or, nat_eq}
 use Rattle.std.proofs.lemmas.Bool.{cases_eq}
@@ -29,7 +29,7 @@ clear_by kind.Retry flags = has_bit 64 flags
 clear_by kind.Short flags = has_bit 64 flags
 clear_by kind.VersionNegotiate flags = false
 
--- the header that they say
+-- the header that they describe
 abbrev pub header_said : HeaderKind → HeaderFields → List ℕ → List ℕ → List ℕ → Header
 header_said k words dst src token = header_of k words.flags words.version dst src token (part_of words.number_len words.number)
 
@@ -64,13 +64,13 @@ part_says len number some few = elim (cases_eq len 2) [
 
 -- ---- that it can be written
 
--- what is said of a number
+-- the facts about a number
 numbered : (words : HeaderFields) → IsNumbered words → (words.kind ≤ 2) ⊎ (words.kind ≡ 4)
     → (words.number < 2 ^ 62) × Part words.number words.number_len
 numbered words s kind =
     let n = s.number kind in (n.2, part_says words.number_len words.number n.0 n.1)
 
--- what is said of a sender's id
+-- the facts about a sender's id
 source_said : (words : HeaderFields) (dst src token from : List ℕ) → IsShaped words dst src token → (words.kind ≢ 4 → from ≡ src) → words.kind ≢ 4
     → (src ≡ from) × (length src ≤ 20)
 source_said words dst src token from s source other = (sym (source other), s.parts.src_few other)
@@ -249,7 +249,7 @@ low_bytes len number some few =
       ]
     ]
 
--- what is written of a short header is what its words say
+-- the bytes written for a short header are the header that its words describe
 pub short_bytes : (first : ℕ) (words : HeaderFields) (dst : List ℕ) → IsShaped words dst [] [] → words.kind ≡ 4
     → first ≡ first_word kind.Short words.flags + (words.number_len - 1)
     → (first ∷ dst) ++ bytes_of words.number_len words.number
@@ -273,7 +273,7 @@ with_length kind.Retry words e has = absurd (search (rules, has))
 with_length kind.Short words e has = absurd (search (rules, has))
 with_length kind.VersionNegotiate words e has = absurd (search (rules, has))
 
--- what is written of one, field behind field, is what its words say
+-- the bytes written for one, field after field, are the header that its words describe
 pub numbered_said : (k : HeaderKind) (words : HeaderFields) (dst src token : List ℕ) → IsTrue (carries_length k) → 1 ≤ words.number_len → words.number_len ≤ 4
     → numbered_bytes k words dst src token ≡ stored_said k words.length_len words dst src token
 numbered_said kind.Initial words dst src token has some few =

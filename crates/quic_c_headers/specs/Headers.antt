@@ -1,4 +1,4 @@
--- The headers that words say (RFC 9000, section 17).
+-- The headers that words describe (RFC 9000, section 17).
 use Rattle.quic_base.specs.Number.{has_bit}
 use Rattle.std.specs.Prelude.{◌≡◌, ℕ, ◌-◌, ◌%◌, ◌<◌, ◌≤◌, ◌^◌, ◌⊎◌, Bool, false, List, length, replicate, slice_index, Option, None, Some, ◌==◌, if◌then◌else◌}
 use Rattle.quic_crypto.specs.declared.packet_number.PacketNumber.{PacketNumber}
@@ -15,9 +15,12 @@ use Rattle.quic_c_headers.specs.declared.words.HeaderFields.{HeaderFields}
 -- the part of a number that is written in so many bytes
 abbrev pub part_of : ℕ → ℕ → PacketNumber
 part_of len number =
-    if len == 2 then U16 (number % 2 ^ 16) else if len == 3 then U24 (number % 2 ^ 24) else if len == 4 then U32 (number % 2 ^ 32) else U8 (number % 2 ^ 8)
+    if len == 2 then U16 (number % 2 ^ 16)
+    else if len == 3 then U24 (number % 2 ^ 24)
+    else if len == 4 then U32 (number % 2 ^ 32)
+    else U8 (number % 2 ^ 8)
 
--- the word of a kind: 0 Initial, 1 0-RTT, 2 Handshake, 3 Retry, 4 1-RTT, 5 version negotiation
+-- the word for a kind: 0 Initial, 1 0-RTT, 2 Handshake, 3 Retry, 4 1-RTT, 5 version negotiation
 abbrev pub header_word : Header → ℕ
 header_word (header.Initial h) = 0
 header_word (header.Long ZeroRtt dst src number version) = 1
@@ -26,17 +29,18 @@ header_word (header.Retry dst src version) = 3
 header_word (header.Short spin key_phase dst number) = 4
 header_word (header.VersionNegotiate random src dst) = 5
 
--- Of a short header 0x20 is the spin bit and 0x04 the key phase, of a version negotiation the seven low bits stand as they
--- are, and of the others and of a short header the fixed bit is clear where 0x40 is set (RFC 9287).
+-- For a short header 0x20 is the spin bit and 0x04 the key phase; for a version negotiation they are the seven low bits
+-- of the first byte; for the others and for a short header 0x40 clears the fixed bit (RFC 9287).
 abbrev pub DescribesFlags : ℕ → Bool → Header → Type 0
 DescribesFlags flags clear (header.Initial h) = clear ≡ has_bit 0x40 flags
 DescribesFlags flags clear (header.Long ty dst src number version) = clear ≡ has_bit 0x40 flags
 DescribesFlags flags clear (header.Retry dst src version) = clear ≡ has_bit 0x40 flags
-DescribesFlags flags clear (header.Short spin key_phase dst number) = (clear ≡ has_bit 0x40 flags) × (spin ≡ has_bit 0x20 flags) × (key_phase ≡ has_bit 0x04 flags)
+DescribesFlags flags clear (header.Short spin key_phase dst number) =
+    (clear ≡ has_bit 0x40 flags) × (spin ≡ has_bit 0x20 flags) × (key_phase ≡ has_bit 0x04 flags)
 DescribesFlags flags clear (header.VersionNegotiate random src dst) = (clear ≡ false) × (random ≡ flags % 128)
 
--- A version that isn't 0, by which a version negotiation is reported (RFC 9000, section 17.2.1); short headers and version
--- negotiations say none.
+-- A version other than 0, since version 0 means a version negotiation (RFC 9000, section 17.2.1); short headers and
+-- version negotiations have none.
 abbrev pub DescribesVersion : ℕ → Header → Type 0
 DescribesVersion version (header.Initial h) = (version ≡ h.version) × (0 < version)
 DescribesVersion version (header.Long ty dst src number named) = (version ≡ named) × (0 < version)
@@ -52,7 +56,7 @@ DescribesSource id (header.Retry dst src version) = (id ≡ src) × (length id �
 DescribesSource id (header.Short spin key_phase dst number) = Unit {0}
 DescribesSource id (header.VersionNegotiate random src dst) = (id ≡ src) × (length id ≤ 20)
 
--- the token, which an Initial packet alone has in its header
+-- the token, which only an Initial packet has in its header
 abbrev pub DescribesToken : List ℕ → Header → Type 0
 DescribesToken token (header.Initial h) = token ≡ h.token
 DescribesToken token (header.Long ty dst src number version) = Unit {0}
@@ -60,7 +64,7 @@ DescribesToken token (header.Retry dst src version) = Unit {0}
 DescribesToken token (header.Short spin key_phase dst number) = Unit {0}
 DescribesToken token (header.VersionNegotiate random src dst) = Unit {0}
 
--- how many bytes the length has, 2 or 4, of a header that says one
+-- how many bytes the length has, 2 or 4, if the header has one
 abbrev pub LengthIs : ℕ → Header → Type 0
 LengthIs len (header.Initial h) = (len ≡ 2) ⊎ (len ≡ 4)
 LengthIs len (header.Long ty dst src number version) = (len ≡ 2) ⊎ (len ≡ 4)
@@ -68,13 +72,14 @@ LengthIs len (header.Retry dst src version) = Unit {0}
 LengthIs len (header.Short spin key_phase dst number) = Unit {0}
 LengthIs len (header.VersionNegotiate random src dst) = Unit {0}
 
--- A number below 2^62, of which so many bytes are written (RFC 9000, section 17.1), where the header has one.
+-- A number below 2^62, in so many bytes (RFC 9000, section 17.1), if the header has one.
 abbrev pub DescribesNumber : ℕ → ℕ → Option PacketNumber → Type 0
 DescribesNumber number len None = Unit {0}
-DescribesNumber number len (Some written) = (number < 2 ^ 62) × (len ≡ number_size written) × (low_part written ≡ number % window_of written)
+DescribesNumber number len (Some written) =
+    (number < 2 ^ 62) × (len ≡ number_size written) × (low_part written ≡ number % window_of written)
 
--- The words, two ids and a token say the header, with a fixed bit that is clear or isn't. What its kind lacks isn't
--- looked at.
+-- The words, two ids and a token describe the header, with the fixed bit clear or set. What its kind lacks isn't looked
+-- at.
 pub record DescribesHeader (words : HeaderFields) (dst src token : List ℕ) (clear : Bool) (head : Header) : Type 0 where
   pub kind : words.kind ≡ header_word head
   pub flags : DescribesFlags words.flags clear head
@@ -85,13 +90,14 @@ pub record DescribesHeader (words : HeaderFields) (dst src token : List ℕ) (cl
   pub src_is : DescribesSource src head
   pub token_is : DescribesToken token head
 
--- They say a header that can be written: the receiver's id has at most 20 bytes.
+-- They describe a header that can be written: the receiver's id has at most 20 bytes.
 pub record CanWriteHeader (words : HeaderFields) (dst src token : List ℕ) (clear : Bool) (head : Header) : Type 0 where
   pub says : DescribesHeader words dst src token clear head
   pub dst_few : length dst ≤ 20
   pub writable : IsWritable head
 
--- the bytes that are written: the header's, with so many zeros as its length, and with its fixed bit cleared where that
--- is said
+-- the bytes that are written: the header's, with so many zeros as its length, and with its fixed bit cleared if `clear`
+-- says so
 abbrev pub said_bytes : ℕ → Bool → Header → List ℕ
-said_bytes len clear head = let bytes = header_with (replicate len 0) head in begun_by (slice_index bytes 0 - bit clear 64) bytes
+said_bytes len clear head =
+    let bytes = header_with (replicate len 0) head in begun_by (slice_index bytes 0 - bit clear 64) bytes

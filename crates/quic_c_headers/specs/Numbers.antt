@@ -5,7 +5,7 @@ use Rattle.quic_base.specs.Number.{bytes_of}
 abbrev pub least_width : ℕ → ℕ
 least_width v = if nat_lt v (2 ^ 6) then 1 else if nat_lt v (2 ^ 14) then 2 else if nat_lt v (2 ^ 30) then 4 else 8
 
--- a number in a width: the two highest bits are the tag
+-- a number encoded in a width: the two highest bits are the tag
 abbrev pub encoding_in : ℕ → ℕ → List ℕ
 encoding_in width v =
     if width == 1 then v ∷ [] else if width == 2 then bytes_of 2 (2 ^ 14 + v)
@@ -15,7 +15,8 @@ encoding_in width v =
 abbrev pub IsWidth : ℕ → Type 0
 IsWidth n = (n ≡ 1) ⊎ (n ≡ 2) ⊎ (n ≡ 4) ⊎ (n ≡ 8)
 
--- A number is encoded in n bytes, if as many are asked for as these or the fewest by 0, and there is that room.
+-- A number is encoded in n bytes: the width that is asked for, or the shortest if that is 0; and there is room for
+-- them.
 pub record CanEncode (value width room n : ℕ) : Type 0 where
   pub numeric : value < 2 ^ 62
   pub asked : (width ≡ 0) × (n ≡ least_width value) ⊎ (0 < width) × (n ≡ width)
@@ -23,7 +24,7 @@ pub record CanEncode (value width room n : ℕ) : Type 0 where
   pub enough : least_width value ≤ n
   pub within : n ≤ room
 
--- the low bytes of a packet number, of which there are so many, can be expanded by the number that is expected
+-- so many low bytes of a packet number can be expanded by the number that is expected
 pub record CanExpand (low count expected : ℕ) : Type 0 where
   pub some : 1 ≤ count
   pub few : count ≤ 4

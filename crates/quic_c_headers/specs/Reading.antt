@@ -1,4 +1,4 @@
--- What C sees of headers, and what the call answers that reads them.
+-- Headers as C sees them, and what the call that reads them answers.
 use Rattle.std.specs.Prelude.{◌≡◌, ℕ, ◌+◌, ◌-◌, List, length, Option, None, Some, Result, Ok, Err, slice_index, unwrap_or}
 use Rattle.quic_header_encode.specs.declared.long_type.HeaderKind.{HeaderKind}
 use Rattle.quic_header_encode.specs.declared.long_type.HeaderKind.TheVariants as kind
@@ -8,7 +8,7 @@ use Rattle.quic_header_decode.specs.declared.places.ReadError.TheVariants as err
 use Rattle.quic_header_decode.specs.Places.{any_fixed, ends_at, seen_in, IsSeen, ReadAnswer}
 use Rattle.quic_c_headers.specs.declared.words.CHeader.{CHeader}
 
--- the word of a kind: 0 Initial, 1 0-RTT, 2 Handshake, 3 Retry, 4 1-RTT, 5 version negotiation
+-- the word for a kind: 0 Initial, 1 0-RTT, 2 Handshake, 3 Retry, 4 1-RTT, 5 version negotiation
 abbrev pub kind_word : HeaderKind → ℕ
 kind_word kind.Initial = 0
 kind_word kind.ZeroRtt = 1
@@ -30,7 +30,7 @@ answer_word (Err error.SmallPacket) whole = 4
 answer_word (Err error.MalformedCid) whole = 5
 answer_word (Err error.TokenOutOfBounds) whole = 6
 
--- the words of what was read; where no header was, they stay
+-- the words for what was read; they don't change if no header was read
 abbrev pub header_words : List ℕ → Result HeaderPlaces ReadError → CHeader → CHeader
 header_words packet (Ok x) old = record {
   kind = kind_word x.kind;
@@ -61,12 +61,12 @@ header_words packet (Err error.SmallPacket) old = old
 header_words packet (Err error.MalformedCid) old = old
 header_words packet (Err error.TokenOutOfBounds) old = old
 
--- the first byte is reported as it stands
+-- the first byte is reported unchanged
 abbrev pub HasFirst : Result HeaderPlaces ReadError → List ℕ → Type 0
 HasFirst (Ok x) packet = x.first ≡ slice_index packet 0
 HasFirst (Err e) packet = Unit {0}
 
--- What the bytes begin with was read, and reported by the answer and the words.
+-- The front of the bytes was read, and is reported by the answer and the words.
 pub record Reported (id_len : ℕ) (versions packet : List ℕ) (old : CHeader) (answer : ℕ) (new : CHeader) : Type 0 where
   pub read : Result HeaderPlaces ReadError
   pub right : ReadAnswer (any_fixed id_len versions) packet (seen_in packet read)

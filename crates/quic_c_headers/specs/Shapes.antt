@@ -7,25 +7,26 @@ use Rattle.quic_header_encode.specs.Storing.{token_by, token_size, type_bits}
 use Rattle.quic_header_encode.specs.Starts.{long_front}
 use Rattle.quic_c_headers.specs.declared.words.HeaderFields.{HeaderFields}
 
--- The number, the count of its bytes and that of the length's are those of a header of the kind.
+-- A header of the kind can have this number and these sizes of the number and the length.
 pub record IsNumbered (words : HeaderFields) : Type 0 where
-  pub number : (words.kind ≤ 2) ⊎ (words.kind ≡ 4) → (1 ≤ words.number_len) × (words.number_len ≤ 4) × (words.number < 2 ^ 62)
+  pub number : (words.kind ≤ 2) ⊎ (words.kind ≡ 4)
+      → (1 ≤ words.number_len) × (words.number_len ≤ 4) × (words.number < 2 ^ 62)
   pub len : words.kind ≤ 2 → (words.length_len ≡ 2) ⊎ (words.length_len ≡ 4)
 
--- The ids and the token are those of a header of the kind.
+-- A header of the kind can have these ids and this token.
 pub record AreParts (kind : ℕ) (dst src token : List ℕ) : Type 0 where
   pub dst_few : length dst ≤ 20
   pub src_few : kind ≢ 4 → length src ≤ 20
   pub token_short : kind ≡ 0 → length token < 2 ^ 62
 
--- The words, the ids and the token are those of a header of the kind.
+-- A header of the kind can have these words, ids and token.
 pub record IsShaped (words : HeaderFields) (dst src token : List ℕ) : Type 0 where
   pub known : words.kind ≤ 5
   pub numbered : IsNumbered words
   pub named : words.kind < 4 → 0 < words.version
   pub parts : AreParts words.kind dst src token
 
--- what a first byte has beside its type and number, by the flags
+-- the bits of the first byte other than the type and the number's size, by the flags
 abbrev pub first_word : HeaderKind → ℕ → ℕ
 first_word kind.Initial flags = 192 - 64 * (flags / 64 % 2)
 first_word kind.ZeroRtt flags = 192 - 64 * (flags / 64 % 2)
@@ -38,11 +39,12 @@ first_word kind.VersionNegotiate flags = bit_or 128 (flags % 128)
 abbrev pub numbered_first : HeaderKind → HeaderFields → ℕ
 numbered_first kind words = 192 - 64 * (words.flags / 64 % 2) + type_bits kind words.version + (words.number_len - 1)
 
--- the bytes of its header: up to the ids' end, the token of an Initial, so many zeros as the length, and the number
+-- the bytes of its header: up to the ids' end, an Initial's token, so many zeros as the length, and the number
 abbrev pub numbered_bytes : HeaderKind → HeaderFields → List ℕ → List ℕ → List ℕ → List ℕ
 numbered_bytes kind words dst src token =
     (long_front (numbered_first kind words) words.version dst src ++ token_by kind token)
     ++ (replicate words.length_len 0 ++ bytes_of words.number_len words.number)
 
 abbrev pub numbered_size : HeaderKind → HeaderFields → List ℕ → List ℕ → List ℕ → ℕ
-numbered_size kind words dst src token = 7 + length dst + length src + token_size kind token + (words.length_len + words.number_len)
+numbered_size kind words dst src token =
+    7 + length dst + length src + token_size kind token + (words.length_len + words.number_len)

@@ -5,34 +5,35 @@ use Rattle.quic_crypto.specs.Keys.{first_unit, number_len}
 use Rattle.quic_crypto.specs.declared.packet_number.PacketNumber.{PacketNumber}
 use Rattle.quic_crypto.specs.PacketNumbers.{NumberAt, Expands, low_part, number_size, window_of}
 
--- the first byte with its mask taken off: five bits in a short header, four in a long one
+-- the first byte with its mask removed: from five bits in a short header, from four in a long one
 abbrev pub unmasked_first : List ℕ → ℕ → ℕ
 unmasked_first mask first = bit_xor first (slice_index mask 0 % first_unit (nat_lt first 128))
 
--- so many bytes of a mask, behind its first one, taken off the bytes at a place
+-- so many bytes of a mask, after its first one, removed from the bytes at a place
 abbrev pub unmasked_at : ℕ → List ℕ → ℕ → List ℕ → List ℕ
 unmasked_at at mask zero bytes = bytes
 unmasked_at at mask (suc n) bytes =
-    slice_set (unmasked_at at mask n bytes) (at + n) (bit_xor (slice_index (unmasked_at at mask n bytes) (at + n)) (slice_index mask (n + 1)))
+    slice_set (unmasked_at at mask n bytes) (at + n)
+    (bit_xor (slice_index (unmasked_at at mask n bytes) (at + n)) (slice_index mask (n + 1)))
 
--- a mask taken off a header whose number begins at a place, and has as many bytes as the first byte then says
+-- a mask removed from a header whose number begins at a place; the number's size is in the unmasked first byte
 abbrev pub unmasked : ℕ → List ℕ → List ℕ → List ℕ
 unmasked at mask bytes =
     let first = unmasked_first mask (slice_index bytes 0) in
     unmasked_at at mask (number_len first) (slice_set bytes 0 first)
 
--- a number of up to four bytes can begin at a place behind the first byte
+-- a number of up to four bytes can begin at a place after the first byte
 pub record HasNumber (place size : ℕ) : Type 0 where
   pub behind : 0 < place
   pub room : place + 4 ≤ size
 
--- The number stands at a place.
+-- The number is at a place.
 pub record StandsAt (number : PacketNumber) (at : ℕ) (bytes : List ℕ) : Type 0 where
   pub behind : List ℕ
   pub stands : Takes (NumberAt number) (drop at bytes) behind
 
--- The mask was taken off, and the number that stands there was given, by the one that is expected, with how many
--- bytes it has.
+-- The mask was removed, and the whole number, found from the one that is expected, was given, with how many bytes it
+-- has in the packet.
 pub record GivesNumber (place : ℕ) (mask : List ℕ) (expected : ℕ) (old new : List ℕ) (number count : ℕ) : Type 0 where
   pub unmask : new ≡ unmasked place mask old
   pub written : PacketNumber

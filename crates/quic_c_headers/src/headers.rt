@@ -1,4 +1,4 @@
-//! Headers of packets, with their protection on.
+//! Reads packet headers, which are still protected.
 ghost use Rattle.std.specs.Prelude.{◌≡◌, ◌+◌, ◌<◌, ◌≤◌, ◌⊎◌, ◌↔◌, ◌^◌, ◌∷◌, ℕ, List, [], Ok, drop, length, pos, negsuc, slice_index};
 ghost use Rattle.quic_header_decode.specs.Grammar.{Cut, HeaderAt};
 ghost use Rattle.quic_header_decode.specs.Places.{any_fixed, ArePlacesWithin, IsSeen};
@@ -10,7 +10,7 @@ use quic_base::coding::are_bytes;
 use quic_header_decode::laws::{one_reading, places_cut};
 use quic_header_decode::places::{HeaderKind, HeaderPlaces, ReadError, read_header, read_long};
 
-// The word of a kind.
+// The word for a kind.
 #[inline(always)]
 fn kind_word(kind: HeaderKind) -> u8
     ensures { result ≡ kind_word kind }
@@ -25,7 +25,7 @@ fn kind_word(kind: HeaderKind) -> u8
     }
 }
 
-// The words of a header, and whether its packet is whole: 0 or 7.
+// The words of a header, and whether its packet is complete (0) or cut off (7).
 #[inline(always)]
 fn show_header(packet: &[u8], places: HeaderPlaces, head: &mut CHeader) -> u32
     requires whole { length packet.now < 2 ^ 32 }
@@ -54,7 +54,7 @@ fn show_header(packet: &[u8], places: HeaderPlaces, head: &mut CHeader) -> u32
     answer
 }
 
-// Shows what was read, and answers 0, 7 or the reason.
+// Stores what was read in words, and answers 0, 7 or the reason.
 #[inline(always)]
 fn show(packet: &[u8], read: Result<HeaderPlaces, ReadError>, head: &mut CHeader) -> u32
     requires whole { length packet.now < 2 ^ 32 }
@@ -93,7 +93,7 @@ fn show(packet: &[u8], read: Result<HeaderPlaces, ReadError>, head: &mut CHeader
     }
 }
 
-// Shows a long head. It is a function of its own, so that a short header's caller saves no registers.
+// Stores a long header in words. It is a function of its own, so that a short header's caller saves no registers.
 #[inline(never)]
 fn show_long(packet: &[u8], first: u8, versions: &[u32], head: &mut CHeader) -> u32
     requires whole { length packet.now < 2 ^ 32 }
@@ -105,14 +105,14 @@ fn show_long(packet: &[u8], first: u8, versions: &[u32], head: &mut CHeader) -> 
     show(packet, read_long(packet, first, versions), head)
 }
 
-/// Reads the header of the packet that bytes begin with, be it whole or cut off behind its head. Ids of short headers
-/// have `id_len` bytes; `versions` are those that are read further than their ids. The fixed bit isn't looked at. It
-/// answers 0 with the header of a packet that is whole, and the place where it ends; 7 with the header of one that is cut
-/// off; 1 with the version and the ids, of up to 255 bytes (RFC 8999, section 5.1), of a version that isn't known; 2,
-/// 4, 5 or 6 where no header begins there, as the first field that can't be read says; -1 just where there are 2^32
-/// bytes or more, or `id_len` is above 20. `head` changes with 0, 7 and 1 alone.
+/// Reads the header of the packet at the front of the bytes, whether the packet is complete or ends after its header.
+/// Ids of short headers have `id_len` bytes; of versions other than `versions` only the ids are read. The fixed bit
+/// isn't looked at. It answers 0 with the header of a complete packet, and the place where that ends; 7 with the header
+/// of a packet that is cut off; 1 with the version and the ids, of up to 255 bytes (RFC 8999, section 5.1), if the
+/// version isn't known; 2, 4, 5 or 6 if the bytes don't begin with a header, by the first field that can't be read; -1
+/// exactly if there are 2^32 bytes or more, or `id_len` is above 20. `head` changes only with 0, 7 and 1.
 ///
-/// The fixed bit stands in `head.first`. In a version negotiation clients ignore it (RFC 9000, section 17.2.1).
+/// The fixed bit is in `head.first`. Clients ignore it in a version negotiation (RFC 9000, section 17.2.1).
 #[unsafe(no_mangle)]
 pub extern "C" fn quic_wire_header_read_(
     packet: &[u8],
@@ -124,11 +124,11 @@ pub extern "C" fn quic_wire_header_read_(
     ensures reported { (result ≡ negsuc 0)
         ⊎ ((answer : ℕ) × (result ≡ pos answer) × Reported id_len versions.now packet.now head.old answer head.new) }
     ensures same { result ≡ negsuc 0 → head.new ≡ head.old }
-    // There is one answer, and one way to tell it.
+    // Only one answer with its words is right.
     ensures one { (result ≡ negsuc 0)
         ⊎ ((answer : ℕ) (words : CHeader) → Reported id_len versions.now packet.now head.old answer words
         → (result ≡ pos answer) × (head.new ≡ words)) }
-    // The packet that is whole is the one that is cut from the bytes.
+    // The complete packet is the one that is cut from the bytes.
     ensures whole { result ≡ pos 0
         → (h : ProtectedHeader) × Cut (any_fixed id_len versions.now) packet.now h head.new.header_end head.new.end }
 {
@@ -146,9 +146,9 @@ pub extern "C" fn quic_wire_header_read_(
     show(packet, read_header(packet, id_len as usize, versions), head) as i32
 }
 
-/// Where the short header ends that a packet begins with, whose id has `id_len` bytes (RFC 9000, section 17.3); 0 just
-/// where none begins there: no byte or a long header's first byte stands there, the bytes end within the id, or `id_len`
-/// is above 20. The fixed bit isn't looked at.
+/// Where the short header at the front of a packet ends, whose id has `id_len` bytes (RFC 9000, section 17.3); 0
+/// exactly if there is none: there is no byte or the first byte of a long header, the bytes end within the id, or
+/// `id_len` is above 20. The fixed bit isn't looked at.
 #[unsafe(no_mangle)]
 pub extern "C" fn quic_wire_short_read_(packet: &[u8], id_len: u32) -> usize
     ensures read { 0 < result → (h : ProtectedHeader)
@@ -156,7 +156,8 @@ pub extern "C" fn quic_wire_short_read_(packet: &[u8], id_len: u32) -> usize
     ensures short { 0 < result → slice_index packet.now 0 < 128 }
     ensures within { result ≤ length packet.now }
     ensures none { result ≡ 0 → (20 < id_len) ⊎ (128 ≤ slice_index packet.now 0)
-        ⊎ ((h : ProtectedHeader) (rest : List ℕ) → HeaderAt (any_fixed id_len []) (length packet.now) packet.now h rest → ⊥) }
+        ⊎ ((h : ProtectedHeader) (rest : List ℕ)
+        → HeaderAt (any_fixed id_len []) (length packet.now) packet.now h rest → ⊥) }
 {
     one_reading();
     are_bytes(packet);

@@ -1,5 +1,5 @@
-//! Headers of packets for callers that write C: read, with their protection taken off and put on, and written. Every
-//! word may have every value: no export asks for anything.
+//! Functions exported to C: packet headers, read, with their protection taken off and put on, and written. Every
+//! function is safe with any argument values.
 #![tactic(auto)]
 
 mod headers;

@@ -9,7 +9,7 @@ use crate::write::first_word;
 use quic_base::coding::{are_bytes, store_array};
 use quic_header_encode::long_type::HeaderKind;
 
-// The id that bytes begin with, behind its length, and what follows it.
+// The id at the front of the bytes, after its length, and what follows it.
 #[inline(always)]
 fn split_id(bytes: &[u8]) -> Option<(&[u8], &[u8])>
     ensures read { MatchOption result ((id rest : List ℕ) → bytes.now ≡ long_id id ++ rest → ⊥)
@@ -20,7 +20,7 @@ fn split_id(bytes: &[u8]) -> Option<(&[u8], &[u8])>
     rest.split_at_checked(usize::from(*len))
 }
 
-// The ids of the version negotiation that bytes begin with.
+// The ids of the version negotiation at the front of the bytes.
 #[inline(always)]
 fn ids_of(packet: &[u8]) -> Option<(&[u8], &[u8])>
     ensures read { MatchOption result ((dst src rest : List ℕ) → IsNegotiation packet.now dst src rest → ⊥)
@@ -39,11 +39,11 @@ fn ids_of(packet: &[u8]) -> Option<(&[u8], &[u8])>
     Some((dst, src))
 }
 
-/// Reads the header of the version negotiation that a packet begins with, whose ids have up to 255 bytes; the versions
-/// stand behind the header, up to the packet's end. It answers 0 with the header; -3 just where none begins there: the
-/// highest bit of the first byte is clear, the version isn't 0, or the bytes end within the ids; -1 just where there
-/// are 2^32 bytes or more. `head` changes with 0 alone. Where both ids have at most 20 bytes, it is what
-/// `quic_wire_header_read_` tells.
+/// Reads the header of the version negotiation at the front of a packet, whose ids have up to 255 bytes; the versions
+/// are the bytes after the header, up to the packet's end. It answers 0 with the header; -3 exactly if there is none:
+/// the highest bit of the first byte is clear, the version isn't 0, or the bytes end within the ids; -1 exactly if
+/// there are 2^32 bytes or more. `head` changes only with 0. If both ids have at most 20 bytes, the header is the one
+/// that `quic_wire_header_read_` gives.
 #[unsafe(no_mangle)]
 pub extern "C" fn quic_wire_negotiation_read_(packet: &[u8], head: &mut CHeader) -> i32
     ensures answers { (result ≡ pos 0) ⊎ (result ≡ negsuc 2) ⊎ (result ≡ negsuc 0) }
@@ -53,7 +53,7 @@ pub extern "C" fn quic_wire_negotiation_read_(packet: &[u8], head: &mut CHeader)
         → head.new ≡ negotiation_words packet.now dst src }
     ensures none { result ≡ negsuc 2 → (dst src rest : List ℕ) → IsNegotiation packet.now dst src rest → ⊥ }
     ensures same { (result ≡ pos 0) ⊎ (head.new ≡ head.old) }
-    // It is what is reported of headers of all kinds.
+    // It agrees with what is reported for headers of all kinds.
     ensures agrees { result ≡ pos 0 → head.new.dst_len ≤ 20 → head.new.src_len ≤ 20
         → (id_len : ℕ) (versions : List ℕ) → Reported id_len versions packet.now head.old 0 head.new }
 {
@@ -78,7 +78,7 @@ pub extern "C" fn quic_wire_negotiation_read_(packet: &[u8], head: &mut CHeader)
     0
 }
 
-// Stores an id behind its length, and answers where it ends.
+// Stores an id after its length, and answers where it ends.
 #[inline(always)]
 fn store_id(dest: &mut [u8], at: usize, id: &[u8]) -> usize
     requires few { length id.now ≤ 255 }
@@ -127,10 +127,10 @@ fn store_packet(first: u8, dst: &[u8], src: &[u8], versions: &[u32], dest: &mut 
     store_versions(dest, at, versions)
 }
 
-/// Writes a version negotiation at the front of `dest`: the first byte, with its highest bit set, version 0, the ids
-/// of the receiver and of the sender, each behind its length, and the versions. It answers 0 with how many bytes were
-/// written, and what stood behind them stays; -4 with how many are needed where `dest` has fewer; -1 just where an id
-/// has more than 255 bytes. `dest` changes with 0 alone, and `written` not with -1.
+/// Writes a version negotiation at the front of `dest`: the first byte, with its highest bit set, version 0, the ids of
+/// the receiver and of the sender, each after its length, and the versions. It answers 0 with how many bytes were
+/// written, and bytes after those don't change; -4 with how many are needed, if `dest` has fewer; -1 exactly if an id
+/// has more than 255 bytes. `dest` changes only with 0, and `written` doesn't change with -1.
 #[unsafe(no_mangle)]
 pub extern "C" fn quic_wire_negotiation_write_(
     first: u8,
@@ -144,7 +144,8 @@ pub extern "C" fn quic_wire_negotiation_write_(
     ensures invalid { (result ≡ negsuc 0) ↔ ((255 < length dst.now) ⊎ (255 < length src.now)) }
     ensures wrote { result ≡ pos 0
         → dest.new ≡ negotiation_bytes first dst.now src.now versions.now ++ drop written.new dest.old }
-    ensures count { (result ≡ negsuc 0) ⊎ (written.new ≡ length (negotiation_bytes first dst.now src.now versions.now)) }
+    ensures count { (result ≡ negsuc 0)
+        ⊎ (written.new ≡ length (negotiation_bytes first dst.now src.now versions.now)) }
     ensures room { result ≡ negsuc 3 → length dest.old < length (negotiation_bytes first dst.now src.now versions.now) }
     ensures same { (result ≡ pos 0) ⊎ (dest.new ≡ dest.old) }
     ensures kept { result ≡ negsuc 0 → written.new ≡ written.old }

@@ -9,8 +9,8 @@ use quic_base::coding::store_array;
 use quic_base::varint::split_var;
 use quic_crypto::packet_number::PacketNumber;
 
-/// Reads the number that bytes begin with (RFC 9000, section 16), and answers how many bytes it takes; 0 just where
-/// they end within it, and then `value` stays.
+/// Reads the number at the front of the bytes (RFC 9000, section 16), and answers how many bytes it takes; 0 exactly if
+/// the bytes end within it, and then `value` doesn't change.
 #[unsafe(no_mangle)]
 pub extern "C" fn quic_wire_varint_read_(bytes: &[u8], value: &mut u64) -> usize
     ensures read { 0 < result → Takes (Encodes value.new) bytes.now (drop result bytes.now) }
@@ -26,7 +26,7 @@ pub extern "C" fn quic_wire_varint_read_(bytes: &[u8], value: &mut u64) -> usize
     }
 }
 
-// The least width in which a number is encoded.
+// The shortest width of a number's encoding.
 #[inline(always)]
 fn least_width(value: u64) -> usize
     ensures { result ≡ least_width value }
@@ -42,14 +42,15 @@ fn least_width(value: u64) -> usize
     }
 }
 
-// Stores a number in a width that it fits.
+// Stores a number in a width that is enough for it.
 #[inline(always)]
 #[tactic(auto, unfolding(quic_base::specs::Number::bytes_of))]
 fn store_encoding(value: u64, width: usize, dest: &mut [u8]) -> usize
     requires numeric { value < 2 ^ 62 }
     requires room { width ≤ length dest.old }
     requires fits { least_width value ≤ width }
-    ensures wrote { (result ≡ 0) ⊎ ((result ≡ width) × IsWidth width × (take result dest.new ≡ encoding_in width value)) }
+    ensures wrote { (result ≡ 0)
+        ⊎ ((result ≡ width) × IsWidth width × (take result dest.new ≡ encoding_in width value)) }
     ensures back { drop result dest.new ≡ drop result dest.old }
     ensures none { result ≡ 0 → IsWidth width → ⊥ }
     ensures same { (0 < result) ⊎ (dest.new ≡ dest.old) }
@@ -63,9 +64,9 @@ fn store_encoding(value: u64, width: usize, dest: &mut [u8]) -> usize
     }
 }
 
-/// Writes a number at the front of `dest` in `width` bytes, 1, 2, 4 or 8, or in as few as it takes if that is 0 (RFC
-/// 9000, section 16), and answers how many; what stands behind them stays. It answers 0 just where there is no such
-/// width, the number doesn't fit in it, as from 2^62 on, or `dest` has fewer bytes; then nothing changes.
+/// Writes a number at the front of `dest` in `width` bytes, 1, 2, 4 or 8, or in as few as it needs if `width` is 0 (RFC
+/// 9000, section 16), and answers how many; bytes after those don't change. It answers 0 exactly if there is no such
+/// width, the number doesn't fit in it, as any number from 2^62 on, or `dest` has fewer bytes; then nothing changes.
 #[unsafe(no_mangle)]
 pub extern "C" fn quic_wire_varint_write_(value: u64, width: u32, dest: &mut [u8]) -> usize
     ensures wrote { (result ≡ 0)
@@ -82,10 +83,10 @@ pub extern "C" fn quic_wire_varint_write_(value: u64, width: u32, dest: &mut [u8
     store_encoding(value, width, dest)
 }
 
-/// How many bytes of the number of a packet are written whose receiver has acknowledged `largest_acked`, as quinn-proto
-/// chooses them: 1 to 4 as twice the distance is below 2^8, 2^16, 2^24 or 2^32. Whoever expects a number from
-/// the acknowledged one to the one behind `number` finds `number` then (RFC 9000, appendix A.3). It answers -1 just
-/// where `largest_acked` is above `number`, or 2^31 or more below it.
+/// In how many bytes a packet number is written to a receiver that has acknowledged `largest_acked`, chosen as
+/// quinn-proto does: 1 to 4, as twice the distance is below 2^8, 2^16, 2^24 or 2^32. A receiver that expects a number
+/// from `largest_acked` up to the one after `number` finds `number` then (RFC 9000, appendix A.3). It answers -1
+/// exactly if `largest_acked` is above `number`, or 2^31 or more below it.
 #[unsafe(no_mangle)]
 pub extern "C" fn quic_wire_number_len_(number: u64, largest_acked: u64) -> i32
     ensures invalid { (result ≡ negsuc 0) ↔ ((number < largest_acked) ⊎ (largest_acked + 2 ^ 31 ≤ number)) }
@@ -100,9 +101,9 @@ pub extern "C" fn quic_wire_number_len_(number: u64, largest_acked: u64) -> i32
     PacketNumber::new(number, largest_acked).len() as i32
 }
 
-/// The whole number of which the low `count` bytes are written, 1 to 4, by the one that is expected next (RFC 9000,
-/// appendix A.3); `u64::MAX` just where there are more or no such bytes, `low` takes more, or `expected` is 2^62 or
-/// more. As of `PacketNumber::expand`, the number may be 2^62 or more where appendix A.3 gives one below.
+/// The whole packet number whose low `count` bytes, 1 to 4, are `low`, found from the one that is expected next (RFC
+/// 9000, appendix A.3); `u64::MAX` exactly if `count` isn't 1 to 4, `low` takes more bytes, or `expected` is 2^62 or
+/// more. As with `PacketNumber::expand`, the number may be 2^62 or more where appendix A.3 gives one below.
 #[unsafe(no_mangle)]
 pub extern "C" fn quic_wire_number_expand_(low: u64, count: u32, expected: u64) -> u64
     ensures expanded { CanExpand low count expected

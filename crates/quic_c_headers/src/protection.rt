@@ -1,4 +1,4 @@
-//! Protection is put on headers and taken off, by masks that the caller makes (RFC 9001, section 5.4).
+//! Puts protection on headers and takes it off, by masks that the caller makes (RFC 9001, section 5.4).
 ghost use Rattle.std.specs.Prelude.{◌≡◌, ◌⊎◌, ◌↔◌, ◌<◌, ◌≤◌, ◌+◌, ◌^◌, ℕ, pos, negsuc, length, slice_index, slice_set, IsTrue};
 ghost use Rattle.quic_crypto.specs.Keys.{number_len};
 ghost use Rattle.quic_crypto.specs.PacketNumbers.{number_size};
@@ -9,7 +9,7 @@ ghost use Rattle.quic_c_headers.specs.Unprotecting.{unmasked_first, unmasked_at,
 use quic_crypto::packet_number::PacketNumber;
 use quic_header_encode::store::set_len;
 
-// Puts a mask on the first byte: on five bits in a short header, on four in a long one.
+// Applies a mask to the first byte: to five bits in a short header, to four in a long one.
 #[inline(always)]
 fn mask_first(packet: &mut [u8], mask: &[u8; 5]) -> u8
     requires { 0 < length packet.old }
@@ -26,7 +26,7 @@ fn mask_first(packet: &mut [u8], mask: &[u8; 5]) -> u8
     first
 }
 
-// Puts a mask on as many bytes from a place on as the number has.
+// Applies a mask to the bytes of the number, which begins at a place.
 #[inline(always)]
 fn mask_number(packet: &mut [u8], at: usize, mask: &[u8; 5], count: usize)
     requires inside { at + 4 ≤ length packet.old }
@@ -47,7 +47,7 @@ fn mask_number(packet: &mut [u8], at: usize, mask: &[u8; 5], count: usize)
     }
 }
 
-// Takes the protection off the header of a packet whose number begins at a place, and answers the number that is written.
+// Takes the protection off the header of a packet whose number begins at a place, and answers the truncated number.
 #[inline(always)]
 fn unmask(packet: &mut [u8], at: usize, mask: &[u8; 5]) -> PacketNumber
     requires { HasNumber at (length packet.old) }
@@ -64,7 +64,7 @@ fn unmask(packet: &mut [u8], at: usize, mask: &[u8; 5]) -> PacketNumber
     written
 }
 
-// Whether a number of up to four bytes can begin at a place behind the first byte.
+// Whether a number of up to four bytes can begin at a place after the first byte.
 #[inline(always)]
 fn has_number(packet: &[u8], place: usize) -> bool
     ensures { IsTrue result ↔ HasNumber place (length packet.now) }
@@ -72,12 +72,12 @@ fn has_number(packet: &[u8], place: usize) -> bool
     packet.len() >= 4 && place != 0 && place <= packet.len() - 4
 }
 
-/// Takes the protection off the header of a packet whose number begins at `place`, by the mask that the caller made of
-/// the sample (RFC 9001, section 5.4.1), and gives the number by the one that is `expected` next (RFC 9000, appendix
-/// A.3). It answers how many bytes the number has: the payload begins behind them. It answers -1 just where
-/// `expected` is 2^62 or more; -3 just where it isn't and the place is 0 or has fewer than four bytes behind it.
-/// Nothing changes then, and otherwise the low bits of the first byte, five in a short header and four in a long one,
-/// and the number's bytes.
+/// Takes the protection off the header of a packet whose number begins at `place`, by the mask that the caller made
+/// from the sample (RFC 9001, section 5.4.1), and gives the whole number, found from the `expected` one (RFC 9000,
+/// appendix A.3). It answers how many bytes the number has: the payload begins after them. It answers -1 exactly if
+/// `expected` is 2^62 or more; -3 exactly if it isn't and the place is 0 or fewer than four bytes follow it. Nothing
+/// changes then; otherwise only the low bits of the first byte, five in a short header and four in a long one, and the
+/// number's bytes change.
 #[unsafe(no_mangle)]
 pub extern "C" fn quic_wire_unprotect_(
     packet: &mut [u8],
@@ -105,8 +105,8 @@ pub extern "C" fn quic_wire_unprotect_(
 }
 
 /// Puts the protection on the header of a packet whose payload is sealed and whose number begins at `place`, by the
-/// mask that the caller made of the sample (RFC 9001, section 5.4.1), and answers how many bytes the number has. It
-/// answers -3 just where the place is 0 or has fewer than four bytes behind it, and then nothing changes. Taking
+/// mask that the caller made from the sample (RFC 9001, section 5.4.1), and answers how many bytes the number has. It
+/// answers -3 exactly if the place is 0 or fewer than four bytes follow it, and then nothing changes. Taking the
 /// protection off by the same mask gives the bytes that were there.
 #[unsafe(no_mangle)]
 pub extern "C" fn quic_wire_protect_(packet: &mut [u8], place: usize, mask: &[u8; 5]) -> i32
@@ -125,9 +125,10 @@ pub extern "C" fn quic_wire_protect_(packet: &mut [u8], place: usize, mask: &[u8
     count as i32
 }
 
-/// Sets the length in the header of a packet whose number begins at `place`, to how many bytes it has from there on:
-/// `length_len` bytes before the place, 2 or 4 (RFC 9000, section 17.2). It answers 0; -1 just where it is another
-/// count of them, there is no such place, or there are 2^14 or 2^30 bytes or more, and then nothing changes.
+/// Sets the length in the header of a packet whose number begins at `place` to the count of bytes from there on. The
+/// length is in the `length_len` bytes before the place, 2 or 4 (RFC 9000, section 17.2). It answers 0; -1 exactly if
+/// `length_len` is another number, there is no such place, or there are 2^14 (with 2) or 2^30 (with 4) bytes or more,
+/// and then nothing changes.
 #[unsafe(no_mangle)]
 pub extern "C" fn quic_wire_set_len_(packet: &mut [u8], place: usize, length_len: u32) -> i32
     ensures answers { (result ≡ pos 0) ⊎ (result ≡ negsuc 0) }

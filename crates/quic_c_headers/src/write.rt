@@ -1,4 +1,4 @@
-//! Headers, written from words into the caller's bytes.
+//! Writes headers from words into the caller's bytes.
 ghost use Rattle.std.specs.Prelude.{◌≡◌, ◌≢◌, ◌+◌, ◌-◌, ◌%◌, ◌^◌, ◌<◌, ◌≤◌, ◌⊎◌, ◌↔◌, ◌++◌, ℕ, [], IsTrue, length, take, drop, replicate, pos, negsuc};
 ghost use Rattle.quic_base.specs.Number.{bytes_of};
 ghost use Rattle.quic_crypto.specs.PacketNumbers.{IsInRange};
@@ -18,7 +18,7 @@ use quic_header_encode::store::{
     Exact, HeaderRef, store_long_start, store_no_length, store_short, store_token,
 };
 
-// Whether the number, the count of its bytes and that of the length's are those of a header of the kind.
+// Whether a header of the kind can have this number and these sizes of the number and the length.
 #[inline(always)]
 fn is_numbered(said: &HeaderFields) -> bool
     requires { said.now.kind ≤ 5 }
@@ -31,7 +31,7 @@ fn is_numbered(said: &HeaderFields) -> bool
     0 < said.number_len && said.number_len <= 4 && said.number < 1 << 62 && fits
 }
 
-// Whether the ids and the token are those of a header of the kind.
+// Whether a header of the kind can have these ids and this token.
 #[inline(always)]
 fn are_parts(kind: u8, dst: &[u8], src: &[u8], token: &[u8]) -> bool
     ensures { IsTrue result ↔ AreParts kind dst.now src.now token.now }
@@ -39,7 +39,7 @@ fn are_parts(kind: u8, dst: &[u8], src: &[u8], token: &[u8]) -> bool
     dst.len() <= 20 && (kind == 4 || src.len() <= 20) && (kind != 0 || token.len() < 1 << 62)
 }
 
-// Whether the words, the ids and the token are those of a header of the kind.
+// Whether a header of the kind can have these words, ids and token.
 #[inline(always)]
 fn is_shaped(said: &HeaderFields, dst: &[u8], src: &[u8], token: &[u8]) -> bool
     ensures { IsTrue result ↔ IsShaped said.now dst.now src.now token.now }
@@ -50,7 +50,7 @@ fn is_shaped(said: &HeaderFields, dst: &[u8], src: &[u8], token: &[u8]) -> bool
         && are_parts(said.kind, dst, src, token)
 }
 
-// The sender's id, of headers that have one.
+// The sender's id, if the header has one.
 #[inline(always)]
 fn source_of<'a>(kind: u8, src: &'a [u8]) -> &'a [u8]
     ensures has { kind ≢ 4 → result.now ≡ src.now }
@@ -59,7 +59,7 @@ fn source_of<'a>(kind: u8, src: &'a [u8]) -> &'a [u8]
     if kind == 4 { &[] } else { src }
 }
 
-// The token, of headers that have one.
+// The token, if the header has one.
 #[inline(always)]
 fn token_of<'a>(kind: u8, token: &'a [u8]) -> &'a [u8]
     ensures has { kind ≡ 0 → result.now ≡ token.now }
@@ -68,7 +68,7 @@ fn token_of<'a>(kind: u8, token: &'a [u8]) -> &'a [u8]
     if kind == 0 { token } else { &[] }
 }
 
-// The part of a number that is written in one to four bytes.
+// The part of a number that is written, in one to four bytes.
 #[inline(always)]
 fn written_part(number: u64, len: u8) -> PacketNumber
     ensures value { result ≡ part_of len number }
@@ -82,7 +82,7 @@ fn written_part(number: u64, len: u8) -> PacketNumber
     }
 }
 
-// What the first byte has beside its type and number.
+// The bits of the first byte other than the type and the number's size.
 #[inline(always)]
 pub(crate) fn first_word(kind: HeaderKind, flags: u8) -> u8
     ensures { result ≡ first_word kind flags }
@@ -95,7 +95,7 @@ pub(crate) fn first_word(kind: HeaderKind, flags: u8) -> u8
     }
 }
 
-// How many bytes of length are written, where the header says one.
+// How many bytes the length takes, if the header has one.
 #[inline(always)]
 fn stored_length_len(said: &HeaderFields) -> usize
     ensures known { (result ≡ 2) ⊎ (result ≡ 4) }
@@ -104,8 +104,8 @@ fn stored_length_len(said: &HeaderFields) -> usize
     if said.length_len == 4 { 4 } else { 2 }
 }
 
-// The first byte of a short header. All its flags are taken over at once, and the fixed bit, which is clear where its
-// flag is set, is turned by a sum: so this takes few instructions.
+// The first byte of a short header. All its flags are taken over at once, and the fixed bit, which is clear if its flag
+// is set, is turned by a sum: so this takes few instructions.
 #[inline(always)]
 fn short_first(flags: u8, number_len: u8) -> u8
     requires some { 1 ≤ number_len }
@@ -117,11 +117,11 @@ fn short_first(flags: u8, number_len: u8) -> u8
     (64 + bits) % 128 + (number_len - 1)
 }
 
-/// Writes the short header that the words say with the receiver's id at the front of `dest`, as
-/// `quic_wire_header_write_` does, in fewer instructions, and answers how many bytes it has. It answers -4 where `dest`
-/// has fewer; -1 just where they say no header of this kind that can be written: the kind is another than 4, the id has
-/// more than 20 bytes, or the number is 2^62 or more or is written in no or more than four bytes. What stood behind the
-/// header stays, and all of it where nothing was written.
+/// Writes the short header that the words describe, with the receiver's id, at the front of `dest`, as
+/// `quic_wire_header_write_` does but in fewer instructions, and answers how many bytes it has. It answers -4 if `dest`
+/// has fewer; -1 exactly if the words describe no short header that can be written: the kind isn't 4, the id has more
+/// than 20 bytes, the number is 2^62 or more, or the number isn't written in 1 to 4 bytes. Bytes after the header don't
+/// change, and none changes if nothing is written.
 #[unsafe(no_mangle)]
 pub extern "C" fn quic_wire_short_write_(said: &HeaderFields, dst: &[u8], dest: &mut [u8]) -> i64
     ensures wrote { (result ≡ negsuc 3) ⊎ (result ≡ negsuc 0) ⊎ ((count : ℕ) × (result ≡ pos count)
@@ -176,7 +176,7 @@ fn store_front(
     store_long_start(dest, first, said.version, Exact(dst), Exact(src))
 }
 
-// Stores the token of an Initial header behind its length.
+// Stores the token of an Initial header after its length.
 #[inline(always)]
 fn store_own_token(kind: HeaderKind, dest: &mut [u8], at: usize, token: &[u8]) -> usize
     requires numeric { length token.now < 2 ^ 62 }
@@ -192,7 +192,7 @@ fn store_own_token(kind: HeaderKind, dest: &mut [u8], at: usize, token: &[u8]) -
     }
 }
 
-// Stores a length, which is 0, and the number.
+// Stores the length, which is 0, and the number.
 #[inline(always)]
 fn store_end(said: &HeaderFields, dest: &mut [u8], at: usize) -> usize
     requires known { (said.now.length_len ≡ 2) ⊎ (said.now.length_len ≡ 4) }
@@ -280,14 +280,14 @@ fn write_as(
     }
 }
 
-/// Writes the header that the words say with the ids of the receiver and of the sender and the token, with no
-/// protection on it, at the front of `dest` (RFC 9000, section 17), and answers how many bytes it has, at whose end
-/// the number stands. The length of an Initial, 0-RTT or Handshake packet is 0, until `quic_wire_set_len_`. What the
-/// kind lacks isn't looked at. What stood behind the header stays. It answers -4 where `dest` has fewer bytes; -1 just
-/// where they say no header that can be written: a kind above 5, an id of more than 20 bytes, a number of 2^62 or more
-/// or one that is written in no or more than four bytes, a length of other than 2 or 4 bytes, a token of 2^62 bytes,
-/// or version 0 in an Initial, 0-RTT, Handshake or Retry header, which would be a version negotiation (RFC 9000, section
-/// 17.2.1). Nothing changes then. A version negotiation is written with any low bits of its first byte.
+/// Writes the header that the words describe, with the ids of the receiver and of the sender and the token,
+/// unprotected, at the front of `dest` (RFC 9000, section 17), and answers how many bytes it has; a number is at their
+/// end. The length of an Initial, 0-RTT or Handshake packet is 0, until `quic_wire_set_len_`. What the kind lacks isn't
+/// looked at. Bytes after the header don't change. It answers -4 if `dest` has fewer bytes; -1 exactly if the arguments
+/// describe no header that can be written: a kind above 5, an id of more than 20 bytes, a number of 2^62 or more or one
+/// that isn't written in 1 to 4 bytes, a length of other than 2 or 4 bytes, a token of 2^62 bytes or more, or version 0
+/// in an Initial, 0-RTT, Handshake or Retry header, which would be a version negotiation (RFC 9000, section 17.2.1).
+/// Nothing changes then. A version negotiation is written with any low bits of its first byte.
 #[unsafe(no_mangle)]
 pub extern "C" fn quic_wire_header_write_(
     said: &HeaderFields,

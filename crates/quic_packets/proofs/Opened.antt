@@ -62,7 +62,7 @@ shape seal key laws packet front numbers first at fits sample at_is same =
       back = ap (key.unprotected at) same ∙ laws.restores at plain fits sample;
     }
 
--- the number that stands in a packet is the one that was written
+-- the number in a packet is the one that was written
 pub number_known : (number written : PacketNumber) (first : ℕ) (front body : List ℕ) (at : ℕ) → at ≡ length (first ∷ front) → first % 4 + 1 ≡ number_size written → IsInRange written
     → IsNumberIn number at ((first ∷ front) ++ (number_bytes written ++ body)) → number ≡ written
 number_known number written first front body at at_is size valid found =
@@ -80,7 +80,7 @@ number_encoded (U24 x) h =
     record { bytes = law.back_bytes (x / 256 ^ 3 % 256 ∷ []) (bytes_of 3 x) four.bytes; width = law.length-bytes_of 3 x; value = is_number_3 x h }
 number_encoded (U32 x) h = law.is_number_4 x h
 
--- the number that was written stands in a packet
+-- the number that was written is in the packet
 pub number_there : (number : PacketNumber) (first : ℕ) (front body : List ℕ) (at : ℕ) → at ≡ length (first ∷ front) → first % 4 + 1 ≡ number_size number → IsInRange number
     → IsNumberIn number at ((first ∷ front) ++ (number_bytes number ++ body))
 number_there number first front body at at_is size valid =

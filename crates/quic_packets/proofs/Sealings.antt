@@ -1,4 +1,4 @@
--- What is written behind a header, and sealed, is a sealed packet.
+-- A header, frames and room for a tag that were written and sealed are a sealed packet.
 use Rattle.std.specs.Prelude.{◌≡◌, ℕ, ◌+◌, ◌-◌, ◌≤◌, ◌^◌, Bool, IsTrue, List, ◌∷◌, ◌++◌, length, take, drop, Option, Some, None, slice_range, replicate, IfSome}
 use Rattle.std.proofs.Common.{sym, ap, ◌∙◌, arith, refl, subst, length-append, append_assoc}
 use Rattle.quic_base.specs.Varint.{shortest_varint, size}
@@ -19,7 +19,7 @@ use Rattle.quic_packets.specs.Pairs.{KeyPair}
 use Rattle.quic_packets.specs.Sealing.{IsLowPart, Sealed, plain_packet, sealed_header, protected_len}
 use Rattle.quic_header_decode.proofs.Steps.{take_front, drop_front}
 
--- a sealed packet, and what it is before its header is protected, by its parts
+-- a sealed packet, and the packet before its header is protected, by their parts
 abbrev pub SealedOf : KeyPair → Header → ℕ → List ℕ → List ℕ → Type 0
 SealedOf keys h n payload bytes = Sealed keys (record { header = h; number = n; payload = payload }) bytes
 
@@ -56,7 +56,7 @@ pub long_length : (first version : ℕ) (dst src : List ℕ) → length (long_fr
 long_length first version dst src =
     omega (arith, length-append (first ∷ bytes_of 4 version) (long_id dst ++ long_id src), length-append (long_id dst) (long_id src), length-bytes_of 4 version, length-append (bytes_of 4 version) (long_id dst ++ long_id src))
 
--- where a header's number stands
+-- where a header's number is
 pub front_length : (h : Header) → IsTrue (has_length h) → header_size h ≡ length (header_front h) + 2 + size_in h
 front_length (header.Initial h) e =
     let first : ℕ = long_first h.version kind.Initial (number_size h.number) in
@@ -129,7 +129,7 @@ size_within (header.VersionNegotiate random src dst) = omega arith
 counted : (whole head size payload tag : ℕ) → size ≤ head → whole ≡ head + (payload + tag) → whole - (head - size) ≡ size + payload + tag
 counted whole head size payload tag le sum = omega arith
 
--- what is written behind a header becomes the sealed packet
+-- the bytes written after a header become the sealed packet
 pub packet_sealed : (seal : List ℕ → List ℕ → List ℕ) (h : Header) (payload : List ℕ) (tag : ℕ) → IsTrue (has_number h)
     → sealed_packet (header_size h) (Some (tag, seal)) (with_length (size_in h) (has_length h) (header_size h) (header_bytes h ++ (payload ++ replicate tag 0)))
     ≡ sealed_header tag h payload ++ seal (sealed_header tag h payload) payload

@@ -1,4 +1,4 @@
--- Packets that are opened: the first one of a datagram, the next one, and all of them.
+-- Opening packets: the first one of a datagram, the next one, and all of them.
 use Rattle.std.specs.Prelude.{◌≡◌, ◌≢◌, ℕ, ◌+◌, ◌<◌, ◌≤◌, ◌⊎◌, Bool, true, IsTrue, List, [], ◌∷◌, ◌++◌, length, map, Option, Some, None, ◌^◌, Result, Ok, Err, IfOk, IfErr, IfSome, MatchOption, MatchResult}
 use Rattle.bytes.specs.Filled.{Filled}
 use Rattle.quic_base.specs.declared.ids.SpaceId.{SpaceId}
@@ -22,7 +22,7 @@ use Rattle.quic_packets.specs.declared.opening.Opened.{Opened}
 use Rattle.quic_packets.specs.Pairs.{KeyPair}
 use Rattle.quic_packets.specs.Sealing.{IsAppended, PacketContents, Sealed, sealed_header}
 
--- ---- what is handed in, and what comes out
+-- ---- what the caller gives, and what is returned
 
 -- what packets are opened with
 pub record Opening : Type 0 where
@@ -58,18 +58,18 @@ pub record CutsFirst (options : DecodeOptions) (bytes : List ℕ) (packet : CutP
   pub cut : Cut options bytes packet.head packet.header_end (length packet.bytes)
   pub text : bytes ≡ packet.bytes ++ rest
 
--- the number for which the one in the header stands
+-- the whole number for the truncated one in a header
 abbrev pub ExpandsIn : Header → ℕ → ℕ → Type 0
 ExpandsIn h expected n = MatchOption (number_in h) ⊥ (λ number. Expands (low_part number) (window_of number) expected n)
 
--- a packet without its header's protection
+-- a packet whose header protection was removed
 pub record UnlockedPacket : Type 0 where
   pub header : Header
   pub header_bytes : List ℕ
   pub sealed_payload : List ℕ
   pub number : ℕ
 
--- a key takes the protection off, and the number is found from the one that is expected
+-- a key removes the header protection, and the whole number is found from the one that is expected
 pub record Unlocks (key : KeyPair) (expected : ℕ) (cut : CutPacket) (packet : UnlockedPacket) : Type 0 where
   pub sample : HasSample key.sample_len cut.header_end cut.bytes
   pub whole : packet.header_bytes ++ packet.sealed_payload ≡ key.unprotected cut.header_end cut.bytes
@@ -77,7 +77,7 @@ pub record Unlocks (key : KeyPair) (expected : ℕ) (cut : CutPacket) (packet : 
       (packet.header_bytes ++ packet.sealed_payload) (length packet.header_bytes)
   pub number : ExpandsIn packet.header expected packet.number
 
--- the payload that a key opens, if it was sealed by it
+-- the payload that a key opens, if it was sealed by that key
 abbrev pub payload_opened : KeyPair → UnlockedPacket → Option (List ℕ)
 payload_opened key packet = key.opened packet.number packet.header_bytes packet.sealed_payload
 
@@ -90,14 +90,14 @@ pub record OpensWithKey (key : KeyPair) (expected : ℕ) (cut : CutPacket) (open
   pub number : opened.number ≡ Some unlocked.number
   pub payload : payload_opened key unlocked ≡ Some opened.payload
 
--- a Retry or version negotiation is given as it stands
+-- a Retry or version negotiation is returned unchanged
 pub record OpensPlain (cut : CutPacket) (opened : OpenedPacket) : Type 0 where
   pub header : without_number cut.head opened.header
   pub bytes : opened.header_bytes ++ opened.payload ≡ cut.bytes
   pub header_end : length opened.header_bytes ≡ cut.header_end
   pub number : opened.number ≡ None
 
--- the key of its space opens the packet; without a space it is given as it stands
+-- the key of its space opens the packet; without a space it is returned unchanged
 abbrev pub OpensPacket : (SpaceId → KeyPair) → (SpaceId → ℕ) → CutPacket → OpenedPacket → Type 0
 OpensPacket keys expected cut opened = MatchOption (space_of cut.head) (OpensPlain cut opened)
     (λ space. OpensWithKey (keys space) (expected space) cut opened)
@@ -115,7 +115,7 @@ abbrev pub RefusesPacket : (SpaceId → KeyPair) → (SpaceId → ℕ) → CutPa
 RefusesPacket keys expected cut e = MatchOption (space_of cut.head) (e ≡ error.OutOfMemory)
     (λ space. RefusesWithKey (keys space) (expected space) cut e)
 
--- the same refusal of a cut, which says want of memory in a word of its own
+-- the same error as a cut's; out of memory is an error of its own
 abbrev pub IsDecode : PacketDecodeError → OpenError → Type 0
 IsDecode e (error.Decode f) = (refusal_of f ≡ refusal_of e) × (refusal_of e ≢ NoMemory)
 IsDecode e error.Unsealed = ⊥
@@ -163,7 +163,7 @@ pub data OpensAll (opening : Opening) : List ℕ → List OpenedPacket → Type 
 
 -- ---- sealed bytes
 
--- a header that is read back where these bytes follow its packet
+-- a header that is read back if these bytes follow its packet
 abbrev pub IsReadBack : DecodeOptions → Header → List ℕ → Type 0
 IsReadBack options (header.Initial h) rest =
     (h.version < 2 ^ 32) × IsKnownVersion options h.version × (length h.dst_cid ≤ 20) × (length h.src_cid ≤ 20)
@@ -195,7 +195,7 @@ returned keys contents = record {
 abbrev pub returned_by : Opening → PacketContents → OpenedPacket
 returned_by opening contents = returned (opening.keys (space_in contents.header)) contents
 
--- a sealed packet comes back, and what follows it is left
+-- a sealed packet is opened again, and what follows it is left
 pub record ReturnsSealed (opening : Opening) (contents : PacketContents) (rest : List ℕ) (opened : Opened)
     (left : Option Filled) : Type 0 where
   pub packet : packet_of opened ≡ returned_by opening contents
@@ -213,12 +213,12 @@ pub data SealedRow (opening : Opening) : List PacketContents → List ℕ → Ty
 abbrev pub AreReturned : Opening → List PacketContents → List Opened → Type 0
 AreReturned opening packets opened = map packet_of opened ≡ map (returned_by opening) packets
 
--- the first of these packets came back, and were appended
+-- the first of these packets were opened again, and appended
 abbrev pub ReturnsFront : Opening → List PacketContents → List Opened → List Opened → Type 0
 ReturnsFront opening packets old new = (front back : List PacketContents) × (packets ≡ front ++ back)
     × IsAppended (AreReturned opening front) old new
 
--- ---- what the calls say
+-- ---- what the calls answer
 
 -- a call that opens the first packet
 pub record PacketAnswer (opening : Opening) (bytes : List ℕ)
@@ -229,19 +229,19 @@ pub record PacketAnswer (opening : Opening) (bytes : List ℕ)
   pub sealed : (contents : PacketContents) (rest : List ℕ) → BeginsSealed opening bytes contents rest
       → MatchResult result (λ x. ReturnsSealed opening contents rest x.0 x.1) (λ e. e ≡ error.OutOfMemory)
 
--- a call that opens the next packet of what is left, if anything is; after a refusal nothing is left
+-- a call that opens the next packet of what is left, if anything is; after an error nothing is left
 abbrev pub NextAnswer : Opening → Option Filled → Option (Result Opened OpenError) → Option Filled → Type 0
 NextAnswer opening None result new = (result ≡ None) × (new ≡ None)
 NextAnswer opening (Some left) None new = ⊥
 NextAnswer opening (Some left) (Some (Ok opened)) new = PacketAnswer opening left.items (Ok (opened, new))
 NextAnswer opening (Some left) (Some (Err e)) new = PacketAnswer opening left.items (Err e) × (new ≡ None)
 
--- how much is left, which each packet makes less
+-- how much is left, which becomes less with each packet
 abbrev pub left_size : Option Filled → ℕ
 left_size None = 0
 left_size (Some left) = 1 + length left.items
 
--- a call that opens all packets, and appends them: where one is refused, those before it
+-- a call that opens all packets, and appends them; if one is refused, it has appended those before it
 pub record DatagramAnswer {X : Type 0} (opening : Opening) (bytes : List ℕ) (result : Result X OpenError)
     (old new : List Opened) : Type 0 where
   pub opened : IfOk result (λ _. IsAppended (λ added. OpensAll opening bytes (map packet_of added)) old new)

@@ -1,5 +1,5 @@
--- Pairs of keys, as what is said of packets names them, and keys and expected numbers by the space of a packet's number
--- (RFC 9000, section 12.3).
+-- A header key and a packet key as one value, for contracts, and keys and expected numbers by the space of a packet's
+-- number (RFC 9000, section 12.3).
 use Rattle.std.specs.Prelude.{◌≡◌, ℕ, ◌+◌, ◌<◌, ◌^◌, List, length, Option, Some}
 use Rattle.quic_base.specs.Number.{AreBytes}
 use Rattle.quic_base.specs.declared.ids.SpaceId.{SpaceId}
@@ -10,9 +10,9 @@ use Rattle.quic_packets.specs.declared.keys.SpaceKeys.{SpaceKeys}
 use Rattle.quic_packets.specs.declared.keys.Expected.{Expected}
 
 -- What a header key and a packet key do (RFC 9001, sections 5.3 and 5.4): how many bytes are sampled; how many bytes
--- longer a sealed payload is; a packet with its header protected, whose number begins at a place, and with that taken
--- off; the sealed payload of a number, a header and a payload, and the payload of a number, a header and a sealed
--- payload where they belong together.
+-- longer a sealed payload is; a packet, whose number begins at a place, with its header protected, and with that
+-- protection removed; the sealed payload for a number, a header and a payload; and the payload for a number, a header
+-- and a sealed payload, if they belong together.
 pub record KeyPair : Type 0 where
   pub sample_len : ℕ
   pub tag_size : ℕ
@@ -21,8 +21,8 @@ pub record KeyPair : Type 0 where
   pub sealed : ℕ → List ℕ → List ℕ → List ℕ
   pub opened : ℕ → List ℕ → List ℕ → Option (List ℕ)
 
--- What a pair of keys must keep, as the traits of keys say: protecting changes a header's low bits and its number
--- alone, and is undone; a sealed payload is longer by the tag, and opens with its number and head.
+-- The laws of a pair of keys, as the traits of keys state them: protecting changes only a header's low bits and its
+-- number, and can be undone; a sealed payload is longer by the tag, and opens with its number and header.
 pub record IsLawful (keys : KeyPair) : Type 0 where
   pub protects : (at : ℕ) (packet : List ℕ) → AreBytes packet → HasSample keys.sample_len at packet
       → Protects at packet (keys.protected at packet)
@@ -33,7 +33,7 @@ pub record IsLawful (keys : KeyPair) : Type 0 where
   pub opens : (n : ℕ) (head payload : List ℕ) → n < 2 ^ 64 → AreBytes head → AreBytes payload
       → keys.opened n head (keys.sealed n head payload) ≡ Some payload
 
--- the keys of a space; 0-RTT packets share that of short ones
+-- the keys of a space; 0-RTT packets and short packets share one
 abbrev pub keys_in : {H P : Type 0} → SpaceKeys H P → SpaceId → Keys H P
 keys_in keys space.Initial = keys.initial
 keys_in keys space.Handshake = keys.handshake

@@ -1,4 +1,4 @@
--- Packets that are sealed (RFC 9000, section 12; RFC 9001, sections 5.3 and 5.4).
+-- Sealing packets (RFC 9000, section 12; RFC 9001, sections 5.3 and 5.4).
 use Rattle.std.specs.Prelude.{map, ◌≡◌, ℕ, ◌+◌, ◌-◌, ◌%◌, ◌<◌, ◌≤◌, ◌^◌, IsTrue, List, ◌++◌, length, MatchOption}
 use Rattle.quic_base.specs.Number.{AreBytes, bytes_of}
 use Rattle.quic_crypto.specs.PacketNumbers.{low_part, window_of}
@@ -13,7 +13,7 @@ use Rattle.quic_packets.specs.declared.seal.SealError.TheVariants as refusal
 use Rattle.quic_packets.specs.Pairs.{KeyPair}
 use Rattle.quic_header_encode.specs.Writing.{header_with, header_size, IsWritable, size_in, has_length}
 
--- what a packet says
+-- what is in a packet
 pub record PacketContents : Type 0 where
   pub header : Header
   -- the whole number
@@ -24,7 +24,7 @@ pub record PacketContents : Type 0 where
 abbrev pub IsLowPart : Header → ℕ → Type 0
 IsLowPart h n = MatchOption (number_in h) ⊥ (λ number. low_part number ≡ n % window_of number)
 
--- how many bytes stand from the number on, which is what a header's length counts
+-- how many bytes there are from the number on, which is a header's length
 abbrev pub protected_len : ℕ → Header → List ℕ → ℕ
 protected_len tag_size h payload = size_in h + length payload + tag_size
 
@@ -38,10 +38,10 @@ plain_packet keys packet =
     sealed_header keys.tag_size packet.header packet.payload
     ++ keys.sealed packet.number (sealed_header keys.tag_size packet.header packet.payload) packet.payload
 
--- Bytes are a packet of these contents, sealed by these keys: the header can be written, and its number is the low part
--- of the packet's, which is below 2^62; from the number on there are four bytes and the sample, and fewer than 2^14
--- where the header has a length; the bytes are the header with its length, and the sealed payload, the header being
--- protected.
+-- The bytes are a packet of these contents, sealed by these keys: the header can be written, and its number is the low
+-- part of the packet's, which is below 2^62; from the number on there are at least four bytes and the sample, and fewer
+-- than 2^14 if the header has a length; the bytes are the header with its length, then protected, and the sealed
+-- payload.
 pub record Sealed (keys : KeyPair) (packet : PacketContents) (bytes : List ℕ) : Type 0 where
   pub writable : IsWritable packet.header
   pub low : IsLowPart packet.header packet.number
@@ -52,9 +52,9 @@ pub record Sealed (keys : KeyPair) (packet : PacketContents) (bytes : List ℕ) 
   pub payload_bytes : AreBytes packet.payload
   pub text : bytes ≡ keys.protected (header_size packet.header - size_in packet.header) (plain_packet keys packet)
 
--- Why a packet is not sealed where there is so much spare room: the first of these, in this order. From the number on
+-- Why a packet is not sealed with so much spare room: the first of these that holds, in this order. From the number on
 -- there are fewer than four bytes and the sample; there are 2^14 or more, and the header has a length; the spare room
--- is less than the packet.
+-- is less than the packet needs.
 abbrev pub SealRefused : KeyPair → Header → List ℕ → ℕ → SealError → Type 0
 SealRefused keys h payload spare refusal.TooShort = protected_len keys.tag_size h payload < 4 + keys.sample_len
 SealRefused keys h payload spare refusal.TooLong =
@@ -65,15 +65,15 @@ SealRefused keys h payload spare refusal.NoRoom =
     × (IsTrue (has_length h) → protected_len keys.tag_size h payload < 2 ^ 14)
     × (spare < header_size h + length payload + keys.tag_size)
 
--- such values were appended
+-- values for which this holds were appended
 abbrev pub IsAppended : {X : Type 0} → (List X → Type 0) → List X → List X → Type 0
 IsAppended {X} IsSuch old new = (added : List X) × IsSuch added × (new ≡ old ++ added)
 
--- the payload that is written of frames
+-- the payload that is written for frames
 abbrev pub payload_of : List Frame → List ℕ
 payload_of frames = shortest_frames (map meaning_of frames)
 
--- bytes are a packet of this header, number and frames, sealed by these keys
+-- the bytes are a packet of this header, number and frames, sealed by these keys
 pub record SealedFrames (keys : KeyPair) (h : Header) (n : ℕ) (frames : List Frame) (bytes : List ℕ) : Type 0 where
   pub payload : List ℕ
   pub is_payload : IsPayload frames payload

@@ -25,7 +25,7 @@ pub struct SpaceKeys<H, P> {
 }
 
 impl<H, P> SpaceKeys<H, P> {
-    /// The keys of a space: 0-RTT packets, too, are of the space `Data`, whose keys are `app`.
+    /// The keys of a space. 0-RTT packets are of the space `Data`, as short ones are, so both use the keys `app`.
     pub fn of(&self, space: SpaceId) -> &Keys<H, P>
         ensures { result.now ≡ keys_in self.now space }
     {

@@ -1,4 +1,4 @@
-//! Laws of sealed packets, which no single call carries. The functions do nothing.
+//! Laws about sealed packets that no single call's contract gives. The functions do nothing.
 ghost use Rattle.std.specs.Prelude.{◌≡◌, List, ℕ};
 ghost use Rattle.quic_crypto.specs.PacketNumbers.{Expands, low_part, window_of};
 ghost use Rattle.quic_frames.specs.Written.{IsPayload};
@@ -11,12 +11,12 @@ use quic_crypto::packet_number::PacketNumber;
 use quic_frames::frame::Frame;
 pub use quic_header_decode::laws::{ends, one_answer, one_row_of_packets};
 
-/// Keys make one packet of a header, a number and a payload; frames have one least payload; and the number that is
-/// written stands for one number, by the one that is expected.
+/// The same keys, header, number and payload give one packet; frames have one shortest payload; and a truncated number
+/// stands for one whole number, given the number that is expected.
 pub fn one_packet()
     ensures packet { (keys : KeyPair) (contents : PacketContents) (one other : List ℕ)
         → Sealed keys contents one → Sealed keys contents other → one ≡ other }
-    // Frames have one payload that is the least.
+    // Frames have one payload that is the shortest.
     ensures payload { (frames : List Frame) (one other : List ℕ) → IsPayload frames one → IsPayload frames other
         → one ≡ other }
     ensures number { (number : PacketNumber) (expected one other : ℕ)
@@ -24,8 +24,8 @@ pub fn one_packet()
         → Expands (low_part number) (window_of number) expected other → one ≡ other }
 {}
 
-/// What was sealed by lawful keys can be opened by them, whatever follows it: it is cut where it ends, and gives its
-/// header, its number and its payload.
+/// A packet that was sealed by lawful keys can be opened by them, whatever bytes follow it: it is cut where it ends,
+/// and gives its header, its number and its payload.
 pub fn sealed_opens()
     ensures { (opening : Opening) (bytes : List ℕ) (contents : PacketContents) (rest : List ℕ)
         → IsLawful (opening.keys (space_in contents.header)) → BeginsSealed opening bytes contents rest

@@ -1,4 +1,4 @@
-//! Packets are opened (RFC 9001, sections 5.3 and 5.4).
+//! Opens packets (RFC 9001, sections 5.3 and 5.4).
 ghost use Rattle.std.specs.Prelude.{◌≡◌, ◌<◌, ◌^◌, length, IfOk, IfErr, IsSome, IsTrue, MatchOption, None, Some};
 ghost use Rattle.quic_crypto.specs.PacketNumbers.{IsInRange};
 ghost use Rattle.quic_header_decode.specs.Headers.{is_protected};
@@ -19,14 +19,14 @@ use quic_header_decode::parser::ConnectionIdParser;
 use quic_header_encode::header::Header;
 use thiserror::Error;
 
-/// Why a packet is not opened. The datagram is given up: nothing behind the packet is known then.
+/// Why a packet is not opened. The rest of the datagram is given up: what follows the packet isn't known then.
 #[derive(Clone, Copy, Debug, PartialEq, Eq, Drop, Error)]
 pub enum OpenError {
     /// No packet can be cut from the datagram, or the packet is too short for a sample. It never holds
     /// `PacketDecodeError::OutOfMemory`.
     #[error("{0}")]
     Decode(PacketDecodeError),
-    /// The packet was not sealed by the keys of its space, or not with the number that was expected.
+    /// The packet was not sealed by the keys of its space, or not with the number that was found from the expected one.
     #[error("packet not sealed by these keys")]
     Unsealed,
     /// Memory ran out.
@@ -37,17 +37,17 @@ pub enum OpenError {
 /// A packet that was opened, or one that has no protection.
 #[derive(Debug, Drop)]
 pub struct Opened {
-    /// The head.
+    /// The header.
     pub header: Header,
-    /// The header's bytes, without protection and with the length filled in, the packet number among them.
+    /// The header's bytes, unprotected and with the length filled in. They include the packet number.
     pub header_data: Bytes,
-    /// The whole packet number; none for Retry and version negotiation.
+    /// The whole packet number; `None` for Retry and version negotiation.
     pub number: Option<u64>,
-    /// The payload. What follows the header of a Retry or version negotiation.
+    /// The payload; for Retry and version negotiation what follows the header.
     pub payload: BytesMut,
 }
 
-// The refusal of a head.
+// The error for a header that can't be read.
 fn decode_error(e: &PacketDecodeError) -> OpenError
     ensures { IsDecode e.now result }
 {
@@ -68,7 +68,7 @@ fn decode_error(e: &PacketDecodeError) -> OpenError
     }
 }
 
-// The number for which the one in a header stands.
+// The whole number for the truncated one in a header.
 fn expand(header: &Header, expected: u64) -> u64
     requires valid { MatchOption (number_in header.now) ⊥ IsInRange }
     requires small { expected < 2 ^ 62 }
@@ -83,7 +83,7 @@ fn expand(header: &Header, expected: u64) -> u64
     }
 }
 
-// Opens a packet that has protection.
+// Opens a packet that is protected.
 fn open_protected<H: HeaderKey, P: PacketKey>(
     partial: PartialDecode,
     keys: &Keys<H, P>,
@@ -119,7 +119,7 @@ fn open_protected<H: HeaderKey, P: PacketKey>(
     }
 }
 
-// Gives a packet that has no protection as it stands.
+// Returns a packet that has no protection, unchanged.
 fn open_plain<H: HeaderKey, P: PacketKey>(
     partial: PartialDecode,
     keys: &SpaceKeys<H, P>,
@@ -131,7 +131,7 @@ fn open_plain<H: HeaderKey, P: PacketKey>(
     ensures refused { IfErr result (RefusesPacket (⟦<SpaceKeys<H, P> as PairsOfKeys>⟧.pairs keys.now)
         (expected_in expected.now) partial) }
 {
-    // It is read without a key, so any would do.
+    // No key is used to read it, so any would do.
     let packet = match partial.finish(Some(&keys.initial.header)) {
         Ok(packet) => packet,
         Err(e) => return Err(decode_error(&e)),
@@ -144,7 +144,7 @@ fn open_plain<H: HeaderKey, P: PacketKey>(
     })
 }
 
-// Opens a packet by the keys of its space, or gives it as it stands.
+// Opens a packet by the keys of its space, or returns it unchanged if it has no protection.
 fn open_part<H: HeaderKey, P: PacketKey>(
     partial: PartialDecode,
     keys: &SpaceKeys<H, P>,
@@ -162,8 +162,8 @@ fn open_part<H: HeaderKey, P: PacketKey>(
     }
 }
 
-// Cuts a datagram's first packet and opens it, and gives what follows it. Where there is no room for what is opened,
-// nothing is.
+// Cuts a datagram's first packet and opens it, and returns it with what follows it. Without `room` for the opened
+// packet, none is opened.
 fn open_first<C: ConnectionIdParser, H: HeaderKey, P: PacketKey>(
     bytes: BytesMut,
     parser: &C,
@@ -192,15 +192,15 @@ fn open_first<C: ConnectionIdParser, H: HeaderKey, P: PacketKey>(
     }
 }
 
-/// Opens a datagram's first packet by the keys and the expected number of its space, and gives what follows it.
-/// Ids of short headers are taken by `parser`; headers of other versions than `versions` are refused; with `grease`
-/// the fixed bit may be clear. A Retry or version negotiation is given as it stands, with no number.
+/// Opens a datagram's first packet with the keys and the expected number of its space, and returns it with what follows
+/// it. Ids of short headers are read by `parser`; headers of versions other than `versions` are refused; with `grease`
+/// the fixed bit may be clear. A Retry or version negotiation is returned unchanged, without a number.
 ///
-/// Refused with `Decode` only where `PartialDecode::new` or `PartialDecode::finish` refuses the packet, and with
-/// `Unsealed` only where the packet key answers `CryptoError`. Once a packet was cut, `OutOfMemory` may stand in place
-/// of every answer; before, where the parser takes memory. What was sealed by the keys handed in, with a number that is
-/// found from the expected one, is opened to the same header, number and payload, or memory ran out. The caller must
-/// give expected numbers below 2^62.
+/// Errors: `Decode` only if `PartialDecode::new` or `PartialDecode::finish` refuses the packet; `Unsealed` only if the
+/// packet key answers `CryptoError`. Once a packet was cut, any call may answer `OutOfMemory` instead; before that,
+/// only if the parser takes memory. A packet that was sealed by these keys, with a number that is found from the
+/// expected one, is opened to the same header, number and payload, unless memory runs out. The caller must give
+/// expected numbers below 2^62.
 pub fn open_packet<C: ConnectionIdParser, H: HeaderKey, P: PacketKey>(
     bytes: BytesMut,
     parser: &C,
@@ -216,10 +216,10 @@ pub fn open_packet<C: ConnectionIdParser, H: HeaderKey, P: PacketKey>(
     open_first(bytes, parser, versions, grease, keys, expected, true)
 }
 
-/// What is left of a datagram, whose packets are opened one after another.
+/// The rest of a datagram whose packets are opened one after another.
 #[derive(Debug, Drop)]
 pub struct Packets {
-    /// The bytes from the next packet on. None once nothing follows a packet, and after a refusal.
+    /// The bytes from the next packet on. `None` once nothing follows a packet, and after an error.
     pub rest: Option<BytesMut>,
 }
 
@@ -233,9 +233,9 @@ impl Packets {
         }
     }
 
-    /// Opens the next packet as `open_packet` does, and passes over it. Answers `None` once nothing is left. The keys
-    /// and the expected numbers may be others for each packet. After a refusal nothing is left: the datagram is given
-    /// up. The caller must give expected numbers below 2^62.
+    /// Opens the next packet as `open_packet` does, and moves past it. Answers `None` once nothing is left. Each call
+    /// may have other keys and other expected numbers. After an error nothing is left: the rest of the datagram is
+    /// given up. The caller must give expected numbers below 2^62.
     pub fn open_next<C: ConnectionIdParser, H: HeaderKey, P: PacketKey>(
         &mut self,
         parser: &C,
@@ -260,10 +260,10 @@ impl Packets {
     }
 }
 
-/// Opens a datagram's packets one after another, as `Packets::open_next` does, always with the expected numbers that
-/// are handed in, and appends them to `out`. There is room for a packet in `out` before it is opened, so after a
-/// refusal whatever was opened stands there. Of packets in a row that were sealed by the keys handed in all are opened,
-/// in order; where memory ran out, the first ones were. The caller must give expected numbers below 2^62.
+/// Opens a datagram's packets one after another, as `Packets::open_next` does, with the same expected numbers for all
+/// of them, and appends them to `out`. There is room in `out` for a packet before it is opened, so after an error `out`
+/// has every packet opened so far. If the packets in a row were sealed by these keys, all of them are opened, in order,
+/// or, if memory runs out, the first ones. The caller must give expected numbers below 2^62.
 pub fn open_datagram<C: ConnectionIdParser, H: HeaderKey, P: PacketKey>(
     bytes: BytesMut,
     parser: &C,

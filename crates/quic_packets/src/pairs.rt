@@ -1,4 +1,4 @@
-//! What is said of packets names a pair of keys by these words.
+//! A header key and a packet key as one value, for contracts.
 ghost use Rattle.std.specs.Prelude.{ℕ, Bool, List};
 ghost use Rattle.quic_base.specs.declared.ids.SpaceId.{SpaceId};
 ghost use Rattle.quic_packets.specs.declared.keys.Expected.{Expected};
@@ -10,22 +10,22 @@ use quic_base::ids::SpaceId;
 use quic_crypto::crypto::{HeaderKey, PacketKey};
 use quic_header_decode::parser::ConnectionIdParser;
 
-/// What has a pair of keys.
+/// A type that has a pair of keys.
 pub trait PairOfKeys {
     // What the keys do.
     ghost pair: { Self → KeyPair };
 }
 
-/// What has a pair of keys in each space.
+/// A type that has a pair of keys for each space.
 pub trait PairsOfKeys {
     // What the keys of a space do.
     ghost pairs: { Self → SpaceId → KeyPair };
 }
 
-/// What opens packets, beside a parser of ids.
+/// A type whose keys open packets, together with a parser of ids.
 pub trait OpeningKeys<C> {
-    // What packets are opened with: by this parser, with these versions known; whether the fixed bit may be clear; and
-    // with these numbers expected.
+    // What packets are opened with: this parser, these known versions, whether the fixed bit may be clear, and these
+    // expected numbers.
     ghost opening: { Self → C → List ℕ → Bool → Expected → Opening };
 }
 

@@ -1,4 +1,4 @@
-//! Packets are sealed (RFC 9001, sections 5.3 and 5.4).
+//! Seals packets (RFC 9001, sections 5.3 and 5.4).
 ghost use Rattle.std.specs.Prelude.{◌⊎◌, IfNone, MatchOption, ◌≡◌, ◌≢◌, ℕ, ◌+◌, ◌-◌, ◌≤◌, ◌<◌, ◌^◌, ◌++◌, length, min, vec_len, vec_capacity, IfOk, IfErr, OnErr, IsTrue, IfSome, Some, take, drop, replicate};
 ghost use Rattle.quic_base.specs.Number.{AreBytes};
 ghost use Rattle.quic_frames.specs.InRange.{CanFollow};
@@ -14,21 +14,21 @@ use quic_header_encode::encode::PartialEncode;
 use quic_header_encode::header::Header;
 use thiserror::Error;
 
-/// Why a packet is not sealed. Where several of these hold, the first of them is reported.
+/// Why a packet is not sealed. If several of these hold, the first of them is reported.
 #[derive(Clone, Copy, Debug, PartialEq, Eq, Error)]
 pub enum SealError {
-    /// The number, the payload and the tag have fewer bytes than four and the sample: PADDING helps.
+    /// The number, the payload and the tag have together fewer than four bytes and the sample: PADDING helps.
     #[error("packet too short for header protection sample")]
     TooShort,
-    /// The header has a length, and the number, the payload and the tag have 2^14 bytes or more.
+    /// The header has a length, and the number, the payload and the tag have together 2^14 bytes or more.
     #[error("packet too long for its length field")]
     TooLong,
-    /// The buffer's spare room is less than the packet, and there is no memory for more.
+    /// The buffer's spare room is less than the packet needs, and there is no memory for more.
     #[error("no room in buffer")]
     NoRoom,
 }
 
-// Why a packet of these lengths is not sealed, whose payload takes so many bytes as far as 128 bits hold it.
+// Why a packet of these lengths is not sealed. `payload` is its length, or 2^128 - 1 if that is greater.
 fn refused(
     number: usize,
     has_len: bool,
@@ -55,7 +55,7 @@ fn refused(
     None
 }
 
-// Appends a header, frames and room for a tag.
+// Appends a header, frames and zeros for the tag.
 fn write_packet(
     header: &Header,
     frames: &[Frame<'_>],
@@ -112,7 +112,7 @@ fn finish_last<H: HeaderKey, P: PacketKey>(
     );
 }
 
-// The sum, where it is a length.
+// The sum, if it fits a `usize`.
 fn sum(a: usize, payload: u128, c: usize) -> Option<usize>
     ensures { MatchOption result (usize.MAX < a + payload + c) (λ s. s ≡ a + payload + c) }
 {
@@ -120,13 +120,13 @@ fn sum(a: usize, payload: u128, c: usize) -> Option<usize>
     a.checked_add(payload)?.checked_add(c)
 }
 
-/// Appends a packet of this header, number and frames, sealed by the keys, and answers how many bytes that is. The
-/// frames are written by `Frame::encode`, the last one as the last, so in their shortest forms. There is one
-/// growth, after the lengths are known.
+/// Appends a packet of this header, number and frames, sealed by the keys, and answers how many bytes it has. The
+/// frames are written by `Frame::encode`, the last one as the last of its payload, so in their shortest forms. `out`
+/// grows at most once, after the lengths are known.
 ///
-/// Of the refusals the first that holds is answered, and each leaves `out` as it was; `NoRoom` comes only where
-/// the spare room is less than what is written. The caller must give a header that `Header::encode` may write and whose
-/// number is the low part of `number`, a `number` below 2^62, and one or more frames that `Frame::encode` may write at
+/// Of the errors that hold the first is reported, and each leaves `out` as it was; `NoRoom` comes only if the spare
+/// room is less than what would be written. The caller must give a header that `Header::encode` can write and whose
+/// number is the low part of `number`, a `number` below 2^62, and one or more frames that `Frame::encode` can write at
 /// their places.
 pub fn seal_packet<H: HeaderKey, P: PacketKey>(
     header: &Header,
@@ -145,7 +145,7 @@ pub fn seal_packet<H: HeaderKey, P: PacketKey>(
     ensures len { IfOk result
         (λ len. len ≡ header_size header.now + length (payload_of frames.now) + P.tag_size keys.now.packet) }
     ensures unchanged { OnErr result (out.new.items ≡ out.old.items) }
-    // Where the lengths are refused nothing is grown, and where a growth is refused the room stays.
+    // If the lengths are refused `out` doesn't grow, and if growing fails its capacity stays.
     ensures untouched { IfErr result (λ e. e ≢ SealError.NoRoom → out.new ≡ out.old) }
     ensures capacity { OnErr result (vec_capacity out.new ≡ vec_capacity out.old) }
     ensures refused { IfErr result (SealRefused (⟦<Keys<H, P> as PairOfKeys>⟧.pair keys.now)

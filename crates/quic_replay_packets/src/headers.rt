@@ -11,7 +11,7 @@ use std::test::Fail;
 
 // Most functions here borrow the bytes that they fill, so that their ways out have nothing to drop.
 
-// Writes each line's packet: its header alone where it has no number, else with its payload, sealed.
+// Writes each line's packet: its header alone if it has no number, otherwise with its payload, sealed.
 pub(crate) fn replay(rt: &HostRuntime, lines: &str) -> Result<(), Fail> {
     for line in lines.lines() {
         replay_line(rt, line)?;
@@ -112,7 +112,7 @@ fn finish(partial: PartialEncode, whole: u64, packet: &mut [u8]) -> Result<(), F
     Ok(())
 }
 
-// The header that the words say. Each kind is read by a function of its own, which takes apart what stands behind its
+// The header that the words describe. Each kind is read by a function of its own, which takes apart what follows its
 // name.
 fn header_of(alloc: Global, words: &[&str]) -> Result<Header, Fail>
     ensures { IfOk result IsWritable }

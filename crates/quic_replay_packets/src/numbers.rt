@@ -47,7 +47,7 @@ fn made_near(n: u64, acked: u64) -> Result<PacketNumber, Fail>
     Ok(PacketNumber::new(n, acked))
 }
 
-// The number for which each line's packet number stands, by the one that is expected.
+// The whole number for each line's packet number, found from the one that is expected.
 pub(crate) fn replay_expand(rt: &HostRuntime, lines: &str) -> Result<(), Fail> {
     for line in lines.lines() {
         print_whole(rt, expanded(line)?)?;

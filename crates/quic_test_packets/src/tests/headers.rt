@@ -7,7 +7,7 @@ use quic_packets::packet::Header;
 use std::alloc::Global;
 use std::test::Fail;
 
-// Whether the header is written as these bytes into what is empty.
+// Whether the header is written as these bytes into an empty vector.
 fn is_written(out: &mut Vec<u8>, head: &Header, bytes: &[u8]) -> bool
     requires { IsWritable head.now }
 {

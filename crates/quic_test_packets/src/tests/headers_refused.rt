@@ -1,5 +1,5 @@
-//! Headers and packet numbers written where memory is refused: each test holds whichever allocation fails, and where none
-//! does.
+//! Headers and packet numbers written while memory is refused: each test holds whichever allocation fails, and also if
+//! none does.
 ghost use Rattle.quic_crypto.specs.PacketNumbers.{IsInRange};
 ghost use Rattle.quic_header_encode.specs.Writing.{IsWritable};
 
@@ -11,10 +11,10 @@ use quic_packets::packet::{Header, PacketNumber};
 use std::alloc::Global;
 use std::test::Fail;
 
-// What stands where a header or a number is written.
+// The bytes before the header or number that is written.
 const BEFORE: &[u8] = b"before";
 
-// Whether these bytes stand behind that.
+// Whether these bytes follow those.
 fn are_behind(out: &[u8], bytes: &[u8]) -> bool {
     let Some((before, behind)) = out.split_at_checked(BEFORE.len()) else {
         return false;
@@ -22,7 +22,7 @@ fn are_behind(out: &[u8], bytes: &[u8]) -> bool {
     before == BEFORE && behind == bytes
 }
 
-// Whether the header is written behind what stands there, and is said to be; else nothing is.
+// Whether the header is written after the bytes that are there and the call says so; otherwise nothing is written.
 fn is_written_or_refused(out: &mut Vec<u8>, head: &Header, bytes: &[u8]) -> bool
     requires { IsWritable head.now }
 {
@@ -36,7 +36,7 @@ fn is_written_or_refused(out: &mut Vec<u8>, head: &Header, bytes: &[u8]) -> bool
     }
 }
 
-// Whether the header is written where there is room.
+// Whether the header is written if there is room.
 fn is_written_with_room(out: &mut Vec<u8>, head: &Header, bytes: &[u8]) -> bool
     requires { IsWritable head.now }
 {
@@ -101,7 +101,7 @@ fn headers(rt: HostRuntime) -> Result<(), Fail> {
     checks.verdict()
 }
 
-// Whether the number is written behind what stands there, or nothing is.
+// Whether the number is written after the bytes that are there, or nothing is.
 fn is_number_written_or_refused(out: &mut Vec<u8>, number: PacketNumber, bytes: &[u8]) -> bool
     requires { IsInRange number }
 {

@@ -64,7 +64,7 @@ fn shortest_is(out: &mut Vec<u8>, n: u64, acked: u64, bytes: &[u8]) -> bool {
     is_written_and_read(out, number, bytes)
 }
 
-// The shortest number of this one, where that one is acknowledged, is written as these bytes and read back.
+// The shortest number for this one, when that one is acknowledged, is written as these bytes and read back.
 #[test]
 fn written_and_read(rt: HostRuntime) -> Result<(), Fail> {
     let mut checks = Checks::new(rt.alloc());
@@ -86,7 +86,7 @@ fn wide_numbers_written_and_read(rt: HostRuntime) -> Result<(), Fail> {
     checks.verdict()
 }
 
-// A number that is read stands for another, by the one that is expected.
+// A truncated number stands for another, by the one that is expected.
 #[test]
 fn expanded(rt: HostRuntime) -> Result<(), Fail> {
     let mut checks = Checks::new(rt.alloc());
@@ -99,7 +99,7 @@ fn expanded(rt: HostRuntime) -> Result<(), Fail> {
     checks.verdict()
 }
 
-// Whether nothing is written where there is room for one byte less.
+// Whether nothing is written if there is room for one byte less.
 fn is_refused_where_full(alloc: Global, n: u64, acked: u64) -> bool {
     let Some(number) = shortest(n, acked) else {
         return false;
@@ -119,7 +119,7 @@ fn refused_for_want_of_room(rt: HostRuntime) -> Result<(), Fail> {
     checks.verdict()
 }
 
-// First bytes of headers, and how many bytes a number takes behind them: one more than their lowest two bits say.
+// First bytes of headers, and how many bytes a number takes after them: one more than their lowest two bits.
 const LENGTHS: &[(u8, usize)] = &[
     (0x00, 1),
     (0x01, 2),

@@ -1,4 +1,4 @@
-//! Sealing and opening where memory is refused: each test holds whichever allocation fails, and where none does.
+//! Sealing and opening while memory is refused: each test holds whichever allocation fails, and also if none does.
 use crate::counting::{CountingKey, all_counting, opened_by};
 use crate::worked::{ALL_ZERO, all_toy, handshake, short, toy};
 use bytes::BytesMut;
@@ -54,7 +54,7 @@ fn are_both_sealed(out: &mut Vec<u8>) -> bool {
     seal_handshake(out) == Ok(30) && seal_short(out) == Ok(22) && out.as_slice() == WHOLE.as_slice()
 }
 
-// Where there is room, sealing takes no memory.
+// If there is room, sealing takes no memory.
 #[test]
 fn sealing_where_there_is_room(rt: HostRuntime) -> Result<(), Fail> {
     let mut out = Vec::new(rt.alloc());
@@ -114,7 +114,7 @@ fn are_first(opened: &[Opened]) -> bool {
     true
 }
 
-// The packets before the one for which memory ran out stand.
+// After memory ran out for a packet, the packets before it are there.
 #[test]
 fn first_packets_stand(rt: HostRuntime) -> Result<(), Fail> {
     let Ok(bytes) = BytesMut::copy_from_slice(rt.alloc(), &WHOLE) else {
@@ -127,7 +127,7 @@ fn first_packets_stand(rt: HostRuntime) -> Result<(), Fail> {
     checks.verdict()
 }
 
-// Whether as many packets stand as payloads were opened by the keys, which are both where nothing was refused.
+// Whether there are as many packets as the keys have opened payloads, and both if nothing was refused.
 fn are_all_that_were_opened(
     opened: &mut Vec<Opened>,
     keys: &SpaceKeys<ToyHeaderKey, CountingKey>,
@@ -145,7 +145,7 @@ fn are_all_that_were_opened(
     opened.len() == opened_by(keys) && done.is_ok() == (opened.len() == 2)
 }
 
-// No packet is opened that doesn't stand then: a key that is used only so often is not used in vain.
+// Every packet that the keys opened is there afterwards: a key with a limit of uses is not used in vain.
 #[test]
 fn what_is_opened_stands(rt: HostRuntime) -> Result<(), Fail> {
     let Ok(bytes) = BytesMut::copy_from_slice(rt.alloc(), &WHOLE) else {

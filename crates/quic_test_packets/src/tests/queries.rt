@@ -1,4 +1,4 @@
-//! What headers say of their packets.
+//! What headers answer about their packets.
 use bytes::Bytes;
 use quic_base::ids::ConnectionId;
 use quic_checks::Checks;

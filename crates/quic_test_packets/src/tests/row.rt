@@ -14,7 +14,7 @@ use quic_packets::packet::{
 use std::alloc::Global;
 use std::test::Fail;
 
-// Opens a datagram whose short headers have ids of one byte, where these versions are spoken.
+// Opens a datagram whose short headers have ids of one byte, with these versions known.
 fn open(
     opened: &mut Vec<Opened>,
     alloc: Global,
@@ -39,9 +39,9 @@ fn refused(text: &'static str) -> Result<(), OpenError> {
     Err(OpenError::Decode(PacketDecodeError::InvalidHeader(text)))
 }
 
-// What is answered to the first bytes of the row, and how many packets stand then. The Handshake packet takes 30 of
+// What is answered to the first bytes of the row, and how many packets there are then. The Handshake packet takes 30 of
 // them: its version ends at 5, its ids at 8, its length at 10. The 1-RTT packet has its id up to 32; four bytes and the
-// sample, which has 16, follow that at 52, and the tag that belongs to it ends at 60.
+// sample, which has 16, follow that up to 52, and its own tag ends at 60.
 fn wanted(len: usize) -> (Result<(), OpenError>, usize) {
     match len {
         0..=4 => (refused("unexpected end of packet"), 0),
@@ -211,7 +211,7 @@ fn is_unsealed_by_a_bit(alloc: Global, at: usize) -> bool {
     first_number(alloc, &changed) == Err(OpenError::Unsealed)
 }
 
-// The tag is the last 16 bytes of the first packet. Want of memory is not reported where there is memory.
+// The tag is the last 16 bytes of the first packet. `OutOfMemory` is not reported while there is memory.
 #[test]
 fn a_changed_tag(rt: HostRuntime) -> Result<(), Fail> {
     let mut checks = Checks::new(rt.alloc());

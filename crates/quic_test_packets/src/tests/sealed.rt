@@ -13,8 +13,8 @@ use quic_packets::packet::{
 use std::alloc::Global;
 use std::test::Fail;
 
-// Most functions here borrow the bytes that they seal into, and answer whether all was as it has to be: a test has
-// nothing alive beside its checks and these bytes.
+// Most functions here borrow the bytes that they seal into, and answer whether all was as it has to be: a test holds
+// nothing but its checks and these bytes.
 
 // Appends PING, PADDING, PADDING in a Handshake packet.
 pub fn seal_handshake(out: &mut Vec<u8>, version: u32) -> Result<usize, SealError> {
@@ -23,7 +23,7 @@ pub fn seal_handshake(out: &mut Vec<u8>, version: u32) -> Result<usize, SealErro
     seal_packet(&header, 0, &frames, &toy(), out)
 }
 
-// Opens a datagram whose first packet has its id, and where there is no memory for the id of the second.
+// Opens a datagram whose first packet gets its id, while there is no memory for the id of the second.
 fn first_stands(opened: &mut Vec<Opened>, datagram: BytesMut) -> bool {
     let done = open_datagram(
         datagram,
@@ -42,7 +42,7 @@ fn first_stands(opened: &mut Vec<Opened>, datagram: BytesMut) -> bool {
         && first.payload.as_slice() == b"\x01\0\0".as_slice()
 }
 
-// A packet that was opened stands where memory runs out at the next one.
+// A packet that was opened is there if memory runs out at the next one.
 #[test]
 fn opened_packet_stands(rt: HostRuntime) -> Result<(), Fail> {
     let datagram = BytesMut::copy_from_slice(rt.alloc(), &WHOLE)?;
@@ -240,7 +240,7 @@ fn opened_number(datagram: Vec<u8>, app: u32) -> Result<Option<u64>, OpenError> 
     }
 }
 
-// The answer to a packet with the number 300; no number where it is not sealed.
+// The answer to a packet with the number 300; no number if it is not sealed.
 fn opens_300(alloc: Global, app: u32) -> Result<Option<u64>, OpenError> {
     let mut out = Vec::new(alloc);
     if seal_number_300(&mut out).is_err() {
@@ -355,7 +355,7 @@ fn is_opened_as(alloc: Global, bytes: &[u8], wanted: Result<&[u8], &str>) -> boo
     is_answer(whole, wanted)
 }
 
-// A packet without protection as it stands, and a packet without a sample.
+// A packet without protection, returned unchanged, and a packet without a sample.
 #[test]
 fn not_sealed(rt: HostRuntime) -> Result<(), Fail> {
     let mut checks = Checks::new(rt.alloc());

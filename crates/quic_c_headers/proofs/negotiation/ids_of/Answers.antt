@@ -1,4 +1,4 @@
--- The bytes begin with these ids behind a first byte and version 0, or with none.
+-- The bytes begin with these ids after a first byte and version 0, or with none.
 use Rattle.std.proofs.Common.{rules, sym, arith, ◌∙◌}
 use Rattle.quic_c_headers.proofs.Negotiated.{front_of, of_front, one_id}
 use Rattle.quic_c_headers.proofs.negotiation.ids_of.Goals.{then-first-lt128-via-then-first-lt128, then-first-lt128-via-else-first-lt128+then-from_be_bytes-ne0}

@@ -1,4 +1,4 @@
--- The ids that are reported are those that stand there, and a header of these is reported so.
+-- The ids that are reported are those in the packet, and a header with these is reported so.
 use Rattle.quic_c_headers.proofs.Negotiated.{same_ids, same_words, reported}
 use Rattle.quic_c_headers.proofs.negotiation.quic_wire_negotiation_read_.Goals as goal
 

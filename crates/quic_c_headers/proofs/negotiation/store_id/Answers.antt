@@ -1,4 +1,4 @@
--- The id stands behind its length.
+-- The id follows its length.
 use Rattle.std.proofs.Common.{ℕ, List, ◌+◌, ◌++◌, ◌∷◌, [], ◌∙◌, length, take, ap, arith}
 use Rattle.std.proofs.lemmas.List.{append_assoc}
 use Rattle.std.proofs.lemmas.Slice.{drop-put_mid, take-put_mid}

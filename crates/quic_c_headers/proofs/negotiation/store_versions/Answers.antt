@@ -1,4 +1,4 @@
--- Each version is written behind the one before.
+-- Each version is written after the one before.
 use Rattle.std.proofs.Common.{ℕ, List, ◌++◌, ◌∙◌, take, ap}
 use Rattle.quic_base.specs.Number.{bytes_of}
 use Rattle.quic_c_headers.proofs.Negotiated.{stored_more}

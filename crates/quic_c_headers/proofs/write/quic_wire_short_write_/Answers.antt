@@ -1,4 +1,4 @@
--- What is written of a short header is what its words say.
+-- The bytes written for a short header are the header that its words describe.
 use Rattle.std.proofs.Common.{◌≡◌, ◌+◌, ◌-◌, ◌≤◌, ◌∷◌, ◌++◌, ◌∙◌, ℕ, List, [], length, length-append, ap, inr, refl, arith, rules, to_z, w64}
 use Rattle.std.specs.Prelude.{drop, pos, take}
 use Rattle.quic_base.specs.Number.{bytes_of}

@@ -1,4 +1,4 @@
--- What has the shape of no header says no header, and what has one's is written as its bytes.
+-- Words without the shape of a header describe none, and a header that they describe is written as its bytes.
 use Rattle.std.proofs.Common.{◌≡◌, ◌+◌, ◌≤◌, ◌<◌, ◌∙◌, ℕ, List, length, IsTrue, ap, inl, inr, refl, arith, rules, to_z, w64}
 use Rattle.std.proofs.lemmas.Bool.{cases_lt}
 use Rattle.quic_crypto.specs.declared.packet_number.PacketNumber.{PacketNumber}

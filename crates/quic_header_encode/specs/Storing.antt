@@ -204,12 +204,12 @@ pub record HasLongRoom {I : Type 0} (id : I → List ℕ) (room : I → ℕ) (sa
   pub src : 7 + length (id said.dst_cid) + room said.src_cid ≤ size
 
 abbrev pub room_by : HeaderKind → ℕ → ℕ → ℕ
-room_by head.Initial shortest_varint long = long
-room_by head.ZeroRtt shortest_varint long = long
-room_by head.Handshake shortest_varint long = long
-room_by head.Retry shortest_varint long = long
-room_by head.Short shortest_varint long = shortest_varint
-room_by head.VersionNegotiate shortest_varint long = long
+room_by head.Initial short long = long
+room_by head.ZeroRtt short long = long
+room_by head.Handshake short long = long
+room_by head.Retry short long = long
+room_by head.Short short long = short
+room_by head.VersionNegotiate short long = long
 
 pub record HasStoreRoom {I : Type 0} (id : I → List ℕ) (room : I → ℕ) (said : HeaderRef I) (size : ℕ) : Type 0 where
   pub whole : stored_len id said ≤ size

@@ -1,5 +1,5 @@
 //! Opens packets (RFC 9001, sections 5.3 and 5.4).
-ghost use Rattle.std.specs.Prelude.{◌≡◌, ◌<◌, ◌^◌, length, IfOk, IfErr, IsSome, IsTrue, MatchOption, None, Some};
+ghost use Rattle.std.specs.Prelude.{◌≡◌, ◌<◌, ◌^◌, IfOk, IfErr, IsSome, IsTrue, MatchOption, None, Some};
 ghost use Rattle.quic_crypto.specs.PacketNumbers.{IsInRange};
 ghost use Rattle.quic_header_decode.specs.Headers.{is_protected};
 ghost use Rattle.quic_header_decode.specs.Queries.{space_of};

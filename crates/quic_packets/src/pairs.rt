@@ -41,26 +41,12 @@ impl<H: HeaderKey, P: PacketKey> PairOfKeys for Keys<H, P> {
 }
 
 impl<H: HeaderKey, P: PacketKey> PairsOfKeys for SpaceKeys<H, P> {
-    ghost pairs = { λ keys space. record {
-      sample_len = H.sample_len (keys_in keys space).header;
-      tag_size = P.tag_size (keys_in keys space).packet;
-      protected = H.protected (keys_in keys space).header;
-      unprotected = H.unprotected (keys_in keys space).header;
-      sealed = P.sealed (keys_in keys space).packet;
-      opened = P.opened (keys_in keys space).packet;
-    } };
+    ghost pairs = { λ keys space. ⟦<Keys<H, P> as PairOfKeys>⟧.pair (keys_in keys space) };
 }
 
 impl<C: ConnectionIdParser, H: HeaderKey, P: PacketKey> OpeningKeys<C> for SpaceKeys<H, P> {
     ghost opening = { λ keys parser versions grease expected. record {
-      keys = λ space. record {
-        sample_len = H.sample_len (keys_in keys space).header;
-        tag_size = P.tag_size (keys_in keys space).packet;
-        protected = H.protected (keys_in keys space).header;
-        unprotected = H.unprotected (keys_in keys space).header;
-        sealed = P.sealed (keys_in keys space).packet;
-        opened = P.opened (keys_in keys space).packet;
-      };
+      keys = ⟦<SpaceKeys<H, P> as PairsOfKeys>⟧.pairs keys;
       options = record { parsed = C.parsed parser; versions = versions; grease = grease };
       takes_memory = C.takes_memory parser;
       expected = expected_in expected;

@@ -2,7 +2,7 @@
 use Rattle.std.proofs.Common.{◌≡◌, ℕ, ◌+◌, ◌-◌, ◌≤◌, List, [], ◌∷◌, ◌++◌, length, take, drop, refl, sym, ap, subst, ◌∙◌, inl, inr, arith}
 use Rattle.std.proofs.Math.Seq.{drop-append-add, take-add}
 use Rattle.std.proofs.lemmas.Bool.{cases_eq}
-use Rattle.std.proofs.lemmas.List.{append_assoc, drop-take, length-take-le, take-append-le, take-take}
+use Rattle.std.proofs.lemmas.List.{drop-take, length-take-le, take-append-le, take-take}
 use Rattle.quic_base.specs.Number.{bytes_of}
 
 -- the last of its four bytes are what it has in fewer

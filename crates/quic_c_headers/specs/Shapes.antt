@@ -51,7 +51,8 @@ numbered_size kind words dst src token =
 
 -- the bytes of a short header: the first, the id and the number
 abbrev pub short_bytes : HeaderFields → List ℕ → List ℕ
-short_bytes words dst = (first_word kind.Short words.flags + (words.number_len - 1)) ∷ (dst ++ bytes_of words.number_len words.number)
+short_bytes words dst =
+    (first_word kind.Short words.flags + (words.number_len - 1)) ∷ (dst ++ bytes_of words.number_len words.number)
 
 abbrev pub short_size : HeaderFields → List ℕ → ℕ
 short_size words dst = 1 + length dst + words.number_len

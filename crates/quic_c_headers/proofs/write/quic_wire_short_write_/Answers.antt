@@ -1,5 +1,5 @@
 -- The bytes written for a short header are the header that its words describe.
-use Rattle.std.proofs.Common.{◌≡◌, ◌+◌, ◌≤◌, ◌++◌, ℕ, List, [], length, length-append, ap, inr, refl, arith, rules, to_z, w64}
+use Rattle.std.proofs.Common.{◌≡◌, ◌≤◌, ℕ, List, [], length, length-append, ap, inr, arith, rules, to_z, w64}
 use Rattle.std.specs.Prelude.{pos}
 use Rattle.quic_base.specs.Number.{bytes_of}
 use Rattle.quic_base.proofs.PublicLaws.{length-bytes_of}

@@ -1,5 +1,5 @@
 -- A short header is stored part behind part.
-use Rattle.std.proofs.Common.{◌≡◌, ◌+◌, ◌∙◌, ℕ, List, length, arith, rules}
+use Rattle.std.proofs.Common.{◌+◌, ◌∙◌, ℕ, List, length, arith, rules}
 use Rattle.quic_header_encode.proofs.Stores.{stays}
 use Rattle.quic_c_headers.proofs.write.store_short_parts.Goals as goal
 

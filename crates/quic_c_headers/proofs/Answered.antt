@@ -1,6 +1,6 @@
 -- What is reported of the header that bytes begin with is one answer, and where the packet is whole it is cut there.
-use Rattle.std.specs.Prelude.{◌≡◌, ℕ, ◌+◌, ◌-◌, ◌≤◌, List, length, drop, Option, None, Some, Result, Ok, Err, codes, slice_index, slice_range, unwrap_or, IfOk}
-use Rattle.std.proofs.Common.{refl, sym, ap, subst, ◌∙◌, arith, take, length-drop, length-take}
+use Rattle.std.specs.Prelude.{◌≡◌, ℕ, ◌+◌, ◌≤◌, List, length, drop, Option, None, Some, Result, Ok, Err, slice_index, slice_range, unwrap_or, IfOk}
+use Rattle.std.proofs.Common.{refl, sym, ap, subst, ◌∙◌, arith, length-drop, length-take}
 use Rattle.quic_base.specs.Number.{AreBytes}
 use Rattle.quic_header_encode.specs.declared.long_type.HeaderKind.{HeaderKind}
 use Rattle.quic_header_encode.specs.declared.long_type.HeaderKind.TheVariants as kind
@@ -12,7 +12,7 @@ use Rattle.quic_header_decode.specs.declared.protected.ProtectedHeader.{Protecte
 use Rattle.quic_header_decode.specs.declared.protected.ProtectedHeader.TheVariants as head
 use Rattle.quic_header_decode.specs.declared.protected.ProtectedInitialHeader.{ProtectedInitialHeader}
 use Rattle.quic_header_decode.specs.Grammar.{Cut, HeaderAt}
-use Rattle.quic_header_decode.specs.Places.{any_fixed, dst_part, src_part, dst_place, ends_at, header_placed, ids_end, header_in, refusal_in, seen_in, ArePlaces, IsNowhere, ArePlacesWithin, IsSeen, ReadAnswer}
+use Rattle.quic_header_decode.specs.Places.{any_fixed, dst_part, src_part, dst_place, ends_at, header_placed, ids_end, header_in, refusal_in, seen_in, ArePlaces, ArePlacesWithin, IsSeen, ReadAnswer}
 use Rattle.quic_header_decode.specs.Reading.{DecodeOptions}
 use Rattle.quic_header_decode.specs.Refusal.{Refusal, Unsupported, Invalid, NoMemory}
 use Rattle.quic_c_headers.specs.declared.words.CHeader.{CHeader}

@@ -1,4 +1,5 @@
 mod Answered
+mod Covered
 mod Masks
 mod Negotiated
 mod Shaping

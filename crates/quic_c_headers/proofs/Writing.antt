@@ -18,7 +18,8 @@ use Rattle.quic_header_encode.specs.Writing.{bit, header_with}
 use Rattle.quic_c_headers.specs.declared.words.HeaderFields.{HeaderFields}
 use Rattle.quic_c_headers.specs.Headers.{part_of, said_bytes, CanWriteHeader}
 use Rattle.quic_c_headers.specs.Reading.{kind_word}
-use Rattle.quic_c_headers.specs.Shapes.{first_word, numbered_bytes, numbered_first, IsNumbered, IsShaped}
+use Rattle.quic_c_headers.specs.Shapes.{first_word, numbered_bytes, numbered_first, short_bytes, IsNumbered, IsShaped}
+use Rattle.quic_c_headers.specs.Written.{WrotePacketHeader}
 
 -- whether the fixed bit is cleared
 abbrev pub clear_by : HeaderKind → ℕ → Bool
@@ -226,7 +227,7 @@ written n old new bytes said within front back same = (
   sym (length-take-le n new within) ∙ ap length (front ∙ same),
 )
 
--- ---- short headers by their first byte
+-- ---- short headers
 
 pub short_can : (words : HeaderFields) (dst : List ℕ) → IsShaped words dst [] [] → words.kind ≡ 4
     → CanWriteHeader words dst [] [] (clear_by kind.Short words.flags) (header_said kind.Short words dst [] [])
@@ -250,18 +251,28 @@ low_bytes len number some few =
     ]
 
 -- the bytes written for a short header are the header that its words describe
-pub short_bytes : (first : ℕ) (words : HeaderFields) (dst : List ℕ) → IsShaped words dst [] [] → words.kind ≡ 4
-    → first ≡ first_word kind.Short words.flags + (words.number_len - 1)
-    → (first ∷ dst) ++ bytes_of words.number_len words.number
-    ≡ said_bytes words.length_len (clear_by kind.Short words.flags) (header_said kind.Short words dst [] [])
-short_bytes first words dst s e is =
+pub short_said : (words : HeaderFields) (dst : List ℕ) → IsShaped words dst [] [] → words.kind ≡ 4
+    → short_bytes words dst ≡ said_bytes words.length_len (clear_by kind.Short words.flags) (header_said kind.Short words dst [] [])
+short_said words dst s e =
     let n = s.numbered.number (inr e) in
     let part : PacketNumber = part_of words.number_len words.number in
     let size : words.number_len ≡ number_size part = (part_says words.number_len words.number n.0 n.1).0 in
-    let byte : first ≡ first_word kind.Short words.flags + 0 + (number_size part - 1) = omega (arith, is, size) in
-    ap (λ (xs : List ℕ). (first ∷ dst) ++ xs) (sym (low_bytes words.number_len words.number n.0 n.1))
+    let byte : first_word kind.Short words.flags + (words.number_len - 1) ≡ first_word kind.Short words.flags + 0 + (number_size part - 1) = omega (arith, size) in
+    ap (λ (xs : List ℕ). (first_word kind.Short words.flags + (words.number_len - 1)) ∷ (dst ++ xs)) (sym (low_bytes words.number_len words.number n.0 n.1))
     ∙ ap (λ (f : ℕ). f ∷ (dst ++ number_bytes part)) byte
     ∙ bytes_said kind.Short words.length_len words dst [] [] s.numbered (sym e) (λ _. refl)
+
+pub short_wrote : (words : HeaderFields) (dst old new : List ℕ) (n : ℕ) → IsShaped words dst [] [] → words.kind ≡ 4
+    → n ≤ length new → take n new ≡ short_bytes words dst → drop n new ≡ drop n old → WrotePacketHeader words dst [] [] old new n
+short_wrote words dst old new n s e within front back =
+    let all = written n old new _ _ within front back (short_said words dst s e) in
+    record {
+      clear = clear_by kind.Short words.flags;
+      head = header_said kind.Short words dst [] [];
+      can = short_can words dst s e;
+      front = all.0;
+      count_is = all.1;
+    }
 
 -- ---- headers of packets with a number and a length
 

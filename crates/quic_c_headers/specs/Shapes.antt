@@ -1,5 +1,5 @@
 -- What a kind of header has.
-use Rattle.std.specs.Prelude.{◌≡◌, ◌≢◌, ℕ, ◌+◌, ◌-◌, ◌*◌, ◌/◌, ◌%◌, ◌<◌, ◌≤◌, ◌^◌, ◌⊎◌, List, ◌++◌, length, replicate, bit_or}
+use Rattle.std.specs.Prelude.{◌≡◌, ◌≢◌, ℕ, ◌+◌, ◌-◌, ◌*◌, ◌/◌, ◌%◌, ◌<◌, ◌≤◌, ◌^◌, ◌⊎◌, List, ◌∷◌, ◌++◌, length, take, drop, replicate, bit_or}
 use Rattle.quic_base.specs.Number.{bytes_of}
 use Rattle.quic_header_encode.specs.declared.long_type.HeaderKind.{HeaderKind}
 use Rattle.quic_header_encode.specs.declared.long_type.HeaderKind.TheVariants as kind
@@ -48,3 +48,25 @@ numbered_bytes kind words dst src token =
 abbrev pub numbered_size : HeaderKind → HeaderFields → List ℕ → List ℕ → List ℕ → ℕ
 numbered_size kind words dst src token =
     7 + length dst + length src + token_size kind token + (words.length_len + words.number_len)
+
+-- the bytes of a short header: the first, the id and the number
+abbrev pub short_bytes : HeaderFields → List ℕ → List ℕ
+short_bytes words dst =
+    (first_word kind.Short words.flags + (words.number_len - 1)) ∷ (dst ++ bytes_of words.number_len words.number)
+
+abbrev pub short_size : HeaderFields → List ℕ → ℕ
+short_size words dst = 1 + length dst + words.number_len
+
+-- A short header's number has 1 to 4 bytes, its id at most 20, and there is room for it.
+pub record HasShortRoom (words : HeaderFields) (dst : List ℕ) (room : ℕ) : Type 0 where
+  pub some : 1 ≤ words.number_len
+  pub few : words.number_len ≤ 4
+  pub dst_few : length dst ≤ 20
+  pub fits : short_size words dst ≤ room
+
+-- It stands at the front, up to its end, and what stood behind that is the same.
+pub record StoresShort (words : HeaderFields) (dst old new : List ℕ) (end : ℕ) : Type 0 where
+  pub size : end ≡ short_size words dst
+  pub front : take end new ≡ short_bytes words dst
+  pub back : drop end new ≡ drop end old
+  pub len : length new ≡ length old

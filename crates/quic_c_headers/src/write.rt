@@ -7,15 +7,16 @@ ghost use Rattle.quic_header_encode.specs.Storing.{token_by, token_size, IsTyped
 ghost use Rattle.quic_header_encode.specs.Starts.{long_front};
 ghost use Rattle.quic_c_headers.specs.Headers.{part_of};
 ghost use Rattle.quic_c_headers.specs.Reading.{kind_word};
-ghost use Rattle.quic_c_headers.specs.Shapes.{first_word, numbered_bytes, numbered_first, numbered_size, AreParts, IsNumbered, IsShaped};
+ghost use Rattle.quic_c_headers.specs.Shapes.{first_word, numbered_bytes, numbered_first, numbered_size, short_size, AreParts, HasShortRoom, IsNumbered, IsShaped, StoresShort};
 ghost use Rattle.quic_c_headers.specs.Written.{PacketHeaderNeedsMore, DescribesNoHeader, WrotePacketHeader};
 
 use crate::words::HeaderFields;
+use quic_base::coding::store_array;
 use quic_crypto::packet_number::PacketNumber;
 use quic_header_encode::fields::store_low;
 use quic_header_encode::long_type::HeaderKind;
 use quic_header_encode::store::{
-    Exact, HeaderRef, store_long_start, store_no_length, store_short, store_token,
+    Exact, HeaderRef, StoredId, store_long_start, store_no_length, store_short, store_token,
 };
 
 // Whether a header of the kind can have this number and these sizes of the number and the length.
@@ -110,11 +111,37 @@ fn stored_length_len(said: &HeaderFields) -> usize
 fn short_first(flags: u8, number_len: u8) -> u8
     requires some { 1 ≤ number_len }
     requires few { number_len ≤ 4 }
-    ensures value { result ≡ first_word kind.Short flags + (number_len - 1) }
-    ensures low { result % 4 + 1 ≡ number_len }
+    ensures { result ≡ first_word kind.Short flags + (number_len - 1) }
 {
     let bits = 64 * (flags / 64 % 2) + 32 * (flags / 32 % 2) + 4 * (flags / 4 % 2);
     (64 + bits) % 128 + (number_len - 1)
+}
+
+// Stores a short header at the front, field after field, and answers where it ends.
+#[inline(never)]
+fn store_short_parts(said: &HeaderFields, dst: &[u8], dest: &mut [u8]) -> usize
+    requires fits { HasShortRoom said.now dst.now (length dest.old) }
+    ensures { StoresShort said.now dst.now dest.old dest.new result }
+{
+    let first = short_first(said.flags, said.number_len);
+    let at = store_short(dest, first, Exact(dst));
+    store_low(dest, at, said.number, said.number_len as usize)
+}
+
+// The same for a header of more than four bytes: the number's lowest four bytes are stored, however many it has, and
+// then the id, over those that are too many.
+#[inline(always)]
+fn store_short_covered(said: &HeaderFields, dst: &[u8], dest: &mut [u8]) -> usize
+    requires fits { HasShortRoom said.now dst.now (length dest.old) }
+    requires many { 5 ≤ short_size said.now dst.now }
+    ensures { StoresShort said.now dst.now dest.old dest.new result }
+{
+    let behind_first = dst.len() + said.number_len as usize;
+    store_array(dest, 0, [short_first(said.flags, said.number_len)]);
+    let [_, _, _, _, fourth, third, second, last] = said.number.to_be_bytes();
+    store_array(dest, behind_first - 3, [fourth, third, second, last]);
+    Exact(dst).store(dest, 1);
+    behind_first + 1
 }
 
 /// Writes the short header that the words describe, with the receiver's id, at the front of `dest`, as
@@ -131,22 +158,17 @@ pub extern "C" fn quic_wire_short_write_(said: &HeaderFields, dst: &[u8], dest: 
     ensures short { (result ≡ negsuc 0) ⊎ (said.now.kind ≡ 4) }
     ensures same { (result ≡ negsuc 3) ⊎ (result ≡ negsuc 0) → dest.new ≡ dest.old }
 {
-    let HeaderFields {
-        kind,
-        flags,
-        number_len,
-        number,
-        ..
-    } = *said;
-    if kind != 4 || !is_shaped(said, dst, &[], &[]) {
+    if said.kind != 4 || !is_shaped(said, dst, &[], &[]) {
         return -1;
     }
-    if dest.len() <= dst.len() + number_len as usize {
+    let behind_first = dst.len() + said.number_len as usize;
+    if dest.len() <= behind_first {
         return -4;
     }
-    let first = short_first(flags, number_len);
-    let at = store_short(dest, first, Exact(dst));
-    store_low(dest, at, number, (first % 4) as usize + 1) as i64
+    if behind_first < 4 {
+        return store_short_parts(said, dst, dest) as i64;
+    }
+    store_short_covered(said, dst, dest) as i64
 }
 
 // Stores a long header up to its ids' end at the front.

@@ -64,7 +64,7 @@ int main(int argc, char **argv) {
         items_len = 1000;
         if (!strncmp(work, "number", 6)) sum = numbers(count_number, rounds, work[6] != '0');
         else if (!strncmp(work, "expand", 6)) sum = expansions(count_expand, rounds, work[6] != '0');
-        else sum = count_header(*work == 'i' ? 0 : *work == 'h' ? 1 : 2, 1000 * rounds);
+        else sum = count_head(*work == 'i' ? 0 : *work == 'h' ? 1 : 2, 1000 * rounds);
     }
     printf("%zu %llu\n", frames_len ? frames_len : items_len, (unsigned long long)sum);
     return 0;

@@ -55,7 +55,7 @@ int main(int argc, char **argv) {
         sum = of_a_file(work, rounds);
     } else if (!strncmp(work, "number", 6)) sum = numbers(quinn_count_number, rounds, work[6] != '0');
     else if (!strncmp(work, "expand", 6)) sum = expansions(quinn_count_expand, rounds, work[6] != '0');
-    else sum = quinn_count_header(*work == 'i' ? 0 : *work == 'h' ? 1 : 2, 1000 * rounds);
+    else sum = quinn_count_head(*work == 'i' ? 0 : *work == 'h' ? 1 : 2, 1000 * rounds);
     printf("%llu\n", (unsigned long long)sum);
     return 0;
 }

@@ -18,4 +18,4 @@ uint64_t quinn_count_params_read(const uint8_t *, size_t);
 uint64_t quinn_count_params_write(const uint8_t *, size_t, uint32_t);
 uint64_t quinn_count_number(uint64_t, uint64_t, uint32_t);
 uint64_t quinn_count_expand(uint32_t, uint32_t, uint64_t, uint32_t);
-uint64_t quinn_count_header(uint32_t, uint32_t);
+uint64_t quinn_count_head(uint32_t, uint32_t);

@@ -159,13 +159,13 @@ static void parameters(void) {
 }
 
 static u32 kind_of_header;
-static u64 head(void) { return count_header(kind_of_header, 10000); }
+static u64 head(void) { return count_head(kind_of_header, 10000); }
 static u64 ack_written(void) { return count_ack(operations, operations_len, 1000); }
 static u64 ack_set(void) { return count_ack(operations, operations_len, 0); }
 static u64 array(void) { return count_set(0, operations, operations_len); }
 static u64 vec(void) { return count_set(1, operations, operations_len); }
 #ifdef QUINN
-static u64 quinn_header(void) { return quinn_count_header(kind_of_header, 10000); }
+static u64 quinn_header(void) { return quinn_count_head(kind_of_header, 10000); }
 static u64 quinn_ack_written(void) { return quinn_ack_encode(operations, operations_len, 1000, 1000); }
 static u64 quinn_ack_set(void) { return quinn_ack_encode(operations, operations_len, 1000, 0); }
 static u64 quinn_array_set(void) { return quinn_array(operations, operations_len); }

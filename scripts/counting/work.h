@@ -21,7 +21,7 @@ u64 count_params_read(const uint8_t *, size_t);
 u64 count_params_write(const uint8_t *, size_t, u32);
 u64 count_number(u64, u64, u32);
 u64 count_expand(u32, u32, u64, u32);
-u64 count_header(u32, u32);
+u64 count_head(u32, u32);
 u64 count_ranges(const uint8_t *, size_t, u32);
 u64 count_encode(const uint8_t *, size_t, u32, u32);
 u64 count_set(u32, const u64 *, size_t);

@@ -29,12 +29,6 @@ shown old b s id mid n e f p =
     let l : length mid ≡ length id + length s = ap length t ∙ length-append id s in
     (h, omega arith)
 
-pub none_in_empty : (old : List ℕ) → length old < 1 → (id : List ℕ) → NoFront (IsLongId id) old
-none_in_empty [] l id b s e p =
-    let f : [] ≡ length id ∷ (id ++ s) = e ∙ ap (λ l. l ++ s) p.value in
-    cc
-none_in_empty (x ∷ xs) l id b s e p = absurd (omega arith)
-
 pub none_too_long : (old mid : List ℕ) (n : ℕ) → old ≡ n ∷ mid → 20 < n → (id : List ℕ) → NoFront (IsLongId id) old
 none_too_long old mid n e l id b s f p =
     let h = shown old b s id mid n e f p in

@@ -90,10 +90,6 @@ number_again n (b ∷ t) rest v =
     let long : ltb (length (t ++ rest)) more ≡ false = le-ltb _ _ (omega (arith, length-append t rest)) in
     rw (c.tag_is, long, take_at t rest more len, drop_at t rest more len, c.value) refl
 
--- what a decoder took is what reading finds
-pub taken_number : (n : ℕ) (bytes rest : List ℕ) → Takes (Encodes n) bytes rest → number_at bytes ≡ Some (n, rest)
-taken_number n bytes rest t = ap number_at t.split ∙ number_again n t.front rest t.is
-
 no_number_in : (bytes : List ℕ) (found : Option (ℕ × List ℕ)) → number_at bytes ≡ found → AreBytes bytes → ((v : ℕ) → NoFront (Encodes v) bytes) → found ≡ None
 no_number_in bytes None e fits none = refl
 no_number_in bytes (Some x) e fits none = let t = number_taken bytes x.0 x.1 fits e in absurd (none x.0 t.front x.1 t.split t.is)

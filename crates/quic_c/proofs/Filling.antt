@@ -51,9 +51,6 @@ pub record Filling (basic : Bool) (old : IterState) (before : List CFrame) (here
   pub shows : Shows (GivesEntry basic) old (take count after) here
   pub kept : drop count after ≡ drop count before
 
-pub filling_begins : (basic : Bool) (old : IterState) (before : List CFrame) (end : ℕ) → end ≡ old.offset → Filling basic old before old before 0 end
-filling_begins basic old before end e = record { few = omega arith; all = refl; place = sym e; comes = refl; shows = refl; kept = refl }
-
 pub kinds : (n : ℕ) → (n ≡ 0) ⊎ (0 < n)
 kinds zero = inl refl
 kinds (suc n) = inr (omega arith)
@@ -89,17 +86,3 @@ filling_ends basic old before here after count end last s e full =
     let is : here ≡ further old end last = s.comes ∙ ap (λ (n : ℕ). further old n here.last) s.place ∙ ap (further old end) (sym e) in
     let fills : Fills basic old before here after count = record { few = rw (← s.all) s.few; shows = s.shows; kept = s.kept; full = full } in
     subst (λ (w : IterState). Fills basic old before w after count) is fills
-
--- where nothing was filled
-pub filling_none : (basic : Bool) (old : IterState) (before : List CFrame) (here : IterState) (after : List CFrame) (count end : ℕ) → Filling basic old before here after count end → count ≡ 0 → (old ≡ here) × (after ≡ before)
-filling_none basic old before here after count end s none =
-    let shows : Shows (GivesEntry basic) old (take 0 after) here = rw none at s.shows in
-    let kept : drop 0 after ≡ drop 0 before = rw none at s.kept in
-    (shows, kept)
-
--- where it stops in front of what isn't given, which is reported if no entry was filled
-pub filling_stops : (basic : Bool) (old : IterState) (before : List CFrame) (here : IterState) (after : List CFrame) (count end : ℕ) (reported : Invalid) → Filling basic old before here after count end
-    → IsRefusedFrame basic here reported → count ≡ 0 → IsRefusedFrame basic old reported × (after ≡ before)
-filling_stops basic old before here after count end reported s refused none =
-    let n = filling_none basic old before here after count end s none in
-    (subst (λ (w : IterState). IsRefusedFrame basic w reported) (sym n.0) refused, n.1)

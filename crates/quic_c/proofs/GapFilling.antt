@@ -233,10 +233,6 @@ first_stands ack bytes reason e fits h =
 
 -- ---- flags
 
-pub flag_small : (ecn : Option EcnCounts) → counts_flag ecn ≤ 2
-flag_small None = omega arith
-flag_small (Some e) = omega arith
-
 below_test : (n m : ℕ) → n < m → true ≡ nat_lt n m
 below_test n m lt = grind (arith, nat_tests)
 

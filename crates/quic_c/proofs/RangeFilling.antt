@@ -45,22 +45,6 @@ none_of_left payload end largest left reason some short stands step refused =
     let lacks : LacksRange (left_at end left largest) payload = record { some = omega arith; reason = reason; step = rw stands step; refused = rw stands refused } in
     inr (inr (inr (inr lacks)))
 
-pub ranges_begin : (old : CRangeIter) (payload : List ℕ) (before : List CRange) → IsWithin old payload
-    → RangeFilling old payload before (slice_range payload old.begin old.end) old.largest before 0
-ranges_begin old payload before within =
-    let len = length-part payload old.begin old.end within.ends in
-    let ordered = within.ordered in
-    let place : old.end - length (slice_range payload old.begin old.end) ≡ old.begin = omega arith in
-    record {
-      few = omega arith;
-      all = refl;
-      ends = within.ends;
-      short = omega arith;
-      stands = ap (λ (n : ℕ). slice_range payload n old.end) place;
-      shows = ap (λ (n : ℕ). blocks_at n old.end old.largest) (sym place);
-      kept = refl;
-    }
-
 pub ranges_go_on : (old : CRangeIter) (payload : List ℕ) (before : List CRange) (left : List ℕ) (largest : ℕ) (after : List CRange) (count : ℕ) (rest : List ℕ) (next : ℕ) (entry : CRange)
     → RangeFilling old payload before left largest after count → count < length after → length rest < length left → drop (length left - length rest) left ≡ rest
     → GivesRange (left_at old.end left largest) payload (left_at old.end rest next) entry → RangeFilling old payload before rest next (set after count entry) (count + 1)

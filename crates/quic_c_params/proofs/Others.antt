@@ -34,9 +34,6 @@ nothing_left b es e h = subst (λ (l : List Entry). AreInOrder l b) e h
 abbrev pub SoFar : ℕ → List ℕ → List ℕ → Type 0
 SoFar n list rest = (es : List Entry) → AreInOrder es list → (left : List Entry) × AreInOrder left rest × (HasEntryNumber n es → HasEntryNumber n left) × (HasEntryNumber n left → HasEntryNumber n es)
 
-pub so_far_none : (n : ℕ) (list : List ℕ) → SoFar n list list
-so_far_none n list es h = (es, h, λ x. x, λ x. x)
-
 has_next : (n : ℕ) (left others : List Entry) (first : Entry) → left ≡ first ∷ others → first.number ≢ n → HasEntryNumber n left → HasEntryNumber n others
 has_next n left others first e ne h = elim (subst (HasEntryNumber n) e h) [
   | inl is ↦ absurd (ne is)
@@ -140,9 +137,6 @@ there_twice list rest behind n x count t has c es f =
 
 abbrev pub Passed : List ℕ → List ℕ → ℕ → Type 0
 Passed list rest k = (es : List Entry) → AreInOrder es list → AreInOrder (drop k es) rest
-
-pub passed_none : (list : List ℕ) → Passed list list 0
-passed_none list es h = h
 
 -- an entry that is there
 pub there : (list rest : List ℕ) (k : ℕ) (es : List Entry) → AreInOrder es list → k < length es → Passed list rest k → IsCutEntry rest → ⊥

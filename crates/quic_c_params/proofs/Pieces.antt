@@ -66,19 +66,6 @@ pub record CountedTo (p : TransportParameters) (further order : List ℕ) (k len
   pub value : (es : List Entry) → AreInOrder es further → len ≡ length (first_of p es order k)
   pub few : len ≤ k * 2 ^ 41
 
-pub counted_to_none : (p : TransportParameters) (further order : List ℕ) → CountedTo p further order 0 0
-counted_to_none p further order = record { value = λ es h. refl; few = omega arith }
-
-pub counted_to_more : (p : TransportParameters) (further order : List ℕ) (k index len n : ℕ) → k < length order → index ≡ get_or order k 0
-    → ((es : List Entry) → AreInOrder es further → n ≡ length (piece_at p es index)) → n ≤ 2 ^ 41 → CountedTo p further order k len → CountedTo p further order (k + 1) (len + n)
-counted_to_more p further order k index len n lt at is small c = record {
-  value = λ es h.
-      let a = ap length (first_more p es order k lt) in
-      let b = length-append (first_of p es order k) (piece_at p es (get_or order k 0)) in
-      omega (arith, a, b, c.value es h, is es h, ap (λ (i : ℕ). length (piece_at p es i)) at);
-  few = omega (arith, c.few, small);
-}
-
 pub counted_to_all : (p : TransportParameters) (further order : List ℕ) (count k len : ℕ) → count ≤ k → CountedTo p further (asked count order) k len → (any : List Entry) → AreInOrder any further → count ≡ rows + length any
     → IsOrderOf count (asked count order) → (es : List Entry) → AreInOrder es further → len ≡ length (listed p es order)
 counted_to_all p further order count k len le c any has same o es h =
@@ -91,9 +78,6 @@ pub record StoredTo (p : TransportParameters) (further order old : List ℕ) (k 
   pub front : (es : List Entry) → AreInOrder es further → take at new ≡ first_of p es order k
   pub back : drop at new ≡ drop at old
   pub long : length new ≡ length old
-
-pub stored_to_none : (p : TransportParameters) (further order old : List ℕ) → StoredTo p further order old 0 0 old
-stored_to_none p further order old = record { count = λ es h. refl; front = λ es h. refl; back = refl; long = refl }
 
 -- a piece that is written at the end of those that are, over the rest of the slice
 pub stored_to_more : (p : TransportParameters) (further order old new ys : List ℕ) (k index at n : ℕ) (result : Result ℕ ℕ) → k < length order → index ≡ get_or order k 0 → result ≡ Ok n

@@ -89,24 +89,6 @@ made old ys new before after more change some fits more_is count room moved is =
       behind = moved_behind old ys new vs before change.from change.to after some ordered within count' room moved' is;
     }
 
--- how many runs there are after a change
-length_after : (words : List CRange) (s : Splice) → FitsRoom words s → length (after_change words s) ≡ s.from + length (words_of s.by) + (length words - s.to)
-length_after words s fits =
-    let ordered = fits.ordered in
-    let within = fits.within in
-    omega (arith, ordered, within, length-append (take s.from words) (words_of s.by ++ drop s.to words), length-append (words_of s.by) (drop s.to words), length-take s.from words, length-drop s.to words)
-
-pub needs_more : (old : List CRange) (before after more : ℕ) (change : Splice) → before ≤ length old → FitsRoom (take before old) change → more ≡ length (words_of change.by)
-    → after ≡ change.from + more + (before - change.to) → length old < after → SetNeedsMore old before change
-needs_more old before after more change some fits more_is count lt =
-    let ordered = fits.ordered in
-    let within = fits.within in
-    let one = fits.one_more in
-    record {
-      full = omega (arith, some, ordered, within, one, more_is, count, lt, length-take before old);
-      more = omega (arith, some, ordered, within, one, more_is, count, lt, length-take before old, length_after (take before old) change fits);
-    }
-
 -- ---- what the calls answer
 
 pub becomes : (test : ℕ → Bool) (old new : List CRange) (before after : ℕ) (change : Splice) → IsSet old before → Plans test (take before old) change → Made old before change new after → Becomes test old before new after

@@ -28,27 +28,9 @@ pub record LooksOn (words : List CRange) (end at : ℕ) : Type 0 where
   pub further : IsMaximalRuns (runs_of words) → RunsFrom (end + 1) (runs_of (drop at words))
   pub back : RunsFrom (end + 1) (runs_of (drop at words)) → IsMaximalRuns (runs_of words)
 
-pub looks_first : (words : List CRange) → 0 < length words → (get_or words 0 nowhere).start < (get_or words 0 nowhere).end → LooksOn words (get_or words 0 nowhere).end 1
-looks_first [] some lt = absurd (omega (arith, some))
-looks_first (word ∷ words) some lt = record { further = λ h. h.2; back = λ h. (omega arith, lt, h) }
-
-pub not_first : (words : List CRange) → 0 < length words → (get_or words 0 nowhere).end ≤ (get_or words 0 nowhere).start → IsMaximalRuns (runs_of words) → ⊥
-not_first [] some le h = omega (arith, some)
-not_first (word ∷ words) some le h = omega (arith, h.1, le)
-
 at_place : (words : List CRange) (least at : ℕ) → at < length words → RunsFrom least (runs_of (drop at words))
     ≡ RunsFrom least (range_of (get_or words at nowhere) ∷ runs_of (drop (suc at) words))
 at_place words least at lt = ap (λ (l : List CRange). RunsFrom least (runs_of l)) (drop-cons words at nowhere lt)
-
-pub looks_more : (words : List CRange) (end at : ℕ) → at < length words → LooksOn words end at → end < (get_or words at nowhere).start
-    → (get_or words at nowhere).start < (get_or words at nowhere).end → LooksOn words (get_or words at nowhere).end (at + 1)
-looks_more words end at lt l above some =
-    let next : at + 1 ≡ suc at = omega arith in
-    let e : drop at words ≡ get_or words at nowhere ∷ drop (at + 1) words = rw next (drop-cons words at nowhere lt) in
-    record {
-      further = λ h. (subst (λ (l : List CRange). RunsFrom (end + 1) (runs_of l)) e (l.further h)).2;
-      back = λ h. l.back (subst (λ (l : List CRange). RunsFrom (end + 1) (runs_of l)) (sym e) (omega (arith, above), some, h));
-    }
 
 pub not_at : (words : List CRange) (end at : ℕ) → at < length words → LooksOn words end at
     → ((get_or words at nowhere).start ≤ end) ⊎ ((get_or words at nowhere).end ≤ (get_or words at nowhere).start) → IsMaximalRuns (runs_of words) → ⊥

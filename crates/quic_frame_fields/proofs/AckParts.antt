@@ -36,10 +36,6 @@ pub record WroteRuns (all : List ℕ) (above : Range ℕ) (left : List (Range �
   pub maximal : IsMaximalRuns (left ++ above ∷ [])
   pub bound : above.start < 2 ^ 62
 
-pub wrote_no_run : (above : Range ℕ) (runs : List (Range ℕ)) (w : List ℕ) (s : ℕ) → IsMaximalRuns (runs ++ above ∷ []) → above.start < 2 ^ 62
-    → WroteRuns (shortest_below above.start (ranges_in runs)) above runs w s w s
-wrote_no_run above runs w s maximal bound = record { before = []; wrote = wrote_nothing w s; parts = refl; maximal = maximal; bound = bound }
-
 abbrev pub run_numbers : Range ℕ → Range ℕ → List ℕ
 run_numbers above run = (above.start - run.end - 1) ∷ (run.end - 1 - run.start) ∷ []
 
@@ -63,25 +59,6 @@ next_run all above run runs left w w1 s s1 x e =
       numeric = (omega (arith, x.bound), (omega (arith, below.apart, x.bound), tt));
       parts = x.parts ∙ ap (λ (l : List ℕ). x.before ++ l) (one ∙ two);
     }
-
-pub wrote_run : {E : Type 0} (r : Result (Unit {0}) E) (all : List ℕ) (above run : Range ℕ) (runs left : List (Range ℕ)) (w w1 w2 : List ℕ) (s s1 s2 : ℕ) → WroteRuns all above left w s w1 s1 → left ≡ runs ++ run ∷ []
-    → Writes r (shortest_varints (run_numbers above run)) w1 s1 w2 s2 → r ≡ Ok tt → WroteRuns all run runs w s w2 s2
-wrote_run r all above run runs left w w1 w2 s s1 s2 x e y ok =
-    let n = next_run all above run runs left w w1 s s1 x e in
-    let now = shortest_varints (run_numbers above run) in
-    record {
-      before = x.before ++ now;
-      wrote = wrote_more r x.before now w w1 w2 s s1 s2 x.wrote y ok;
-      parts = n.parts ∙ sym (append_assoc x.before now (shortest_below run.start (ranges_in runs)));
-      maximal = n.below.maximal;
-      bound = omega (arith, n.below.some, n.below.apart, x.bound);
-    }
-
-pub refused_run : {D E : Type 0} (r : Result (Unit {0}) E) (refused : Result (Unit {0}) D) (d : D) (error : E) (all : List ℕ) (above run : Range ℕ) (runs left : List (Range ℕ)) (w w1 w2 : List ℕ) (s s1 s2 : ℕ)
-    → WroteRuns all above left w s w1 s1 → left ≡ runs ++ run ∷ [] → Writes r (shortest_varints (run_numbers above run)) w1 s1 w2 s2 → r ≡ Err error → refused ≡ Err d → Writes refused all w s w2 s2
-refused_run r refused d error all above run runs left w w1 w2 s s1 s2 x e y is was =
-    let n = next_run all above run runs left w w1 s s1 x e in
-    writes_within r refused d x.before (shortest_varints (run_numbers above run)) (shortest_below run.start (ranges_in runs)) all w w1 w2 s s1 s2 error n.parts x.wrote y is was
 
 -- an ACK of a set, by its greatest run and the runs below that
 pub record SetParts (delay : ℕ) (whole runs : List (Range ℕ)) (run : Range ℕ) (counts : Option EcnCounts) (ty count : ℕ) : Type 0 where
@@ -138,10 +115,6 @@ pub record HoldsRuns (all held : List ℕ) (above : Range ℕ) (left : List (Ran
   pub parts : all ≡ (before ++ held) ++ shortest_below above.start (ranges_in left)
   pub maximal : IsMaximalRuns (left ++ above ∷ [])
   pub bound : above.start < 2 ^ 62
-
-pub holds_first : (held : List ℕ) (above : Range ℕ) (runs : List (Range ℕ)) (w : List ℕ) (s : ℕ) → IsMaximalRuns (runs ++ above ∷ []) → above.start < 2 ^ 62
-    → HoldsRuns (held ++ shortest_below above.start (ranges_in runs)) held above runs w s w s
-holds_first held above runs w s maximal bound = record { before = []; wrote = wrote_nothing w s; parts = refl; maximal = maximal; bound = bound }
 
 -- as if what is held were written
 as_written : (all held : List ℕ) (above : Range ℕ) (left : List (Range ℕ)) (w w1 : List ℕ) (s s1 : ℕ) → (x : HoldsRuns all held above left w s w1 s1)

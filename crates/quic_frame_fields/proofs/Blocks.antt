@@ -389,9 +389,6 @@ gap_shorter low bytes x fits e =
 pub block_left : (greatest : ℕ) (bytes : List ℕ) (x : ℕ × List ℕ) → AreBytes bytes → block_at greatest bytes ≡ Ok x → AreBytes x.1
 block_left greatest bytes x fits e = (block_takes greatest bytes x fits e).1.left_fits
 
-pub gap_left : (low : ℕ) (bytes : List ℕ) (x : ℕ × List ℕ) → AreBytes bytes → gap_at low bytes ≡ Ok x → AreBytes x.1
-gap_left low bytes x fits e = (gap_takes low bytes x fits e).1.left_fits
-
 -- Reading so many pairs and then more of bytes is reading the more of what is left.
 pub record Comes (greatest : ℕ) (bytes : List ℕ) (low : ℕ) (rest : List ℕ) : Type 0 where
   pub pairs : ℕ
@@ -606,11 +603,3 @@ first_and_next greatest bytes least rest x (Next next others gap valid some rang
 pub has_next : (greatest : ℕ) (bytes : List ℕ) (least : ℕ) (rest : List ℕ) (e : Fault) → FirstOf greatest bytes least rest → 0 < length rest → gap_at least rest ≡ Err e → ⊥
 has_next greatest bytes least rest e (Last none ranges) some h = absurd (omega (arith, ap length none, some))
 has_next greatest bytes least rest e (Next next others gap valid more ranges) some h = ok_is_not_err (sym gap ∙ h)
-
--- the kind of a fault that is not the one
-pub or_cut : (e : Fault) → IsCutOrLarge e → (e ≡ Malformed → ⊥) → e ≡ UnexpectedEnd
-or_cut e k not_large = by_either k.either
-  where
-    by_either : (e ≡ UnexpectedEnd) ⊎ (e ≡ Malformed) → e ≡ UnexpectedEnd
-    by_either (inl cut) = cut
-    by_either (inr large) = absurd (not_large large)

@@ -91,9 +91,6 @@ pub record AreCounted (count total : ℕ) (ns : List ℕ) : Type 0 where
   pub many : count ≡ length ns
   pub long : total ≡ length (shortest_varints ns)
 
-pub count_none : AreCounted 0 0 []
-count_none = record { many = refl; long = refl }
-
 one_counted : (count total n more count' total' : ℕ) → more ≡ size n → count' ≡ count + 1 → total' ≡ total + more → (ns : List ℕ) → AreCounted count total ns → AreCounted count' total' (ns ++ n ∷ [])
 one_counted count total n more count' total' more_is c t ns a = record {
   many = let many = a.many in omega (arith, c, many, length-append ns (n ∷ []));

@@ -20,11 +20,6 @@ all_short-parts [] i lt = absurd (omega (arith, lt))
 all_short-parts (m ∷ ns) zero lt = refl
 all_short-parts (m ∷ ns) (suc i) lt = ap (λ (l : List ℕ). shortest_varint m ++ l) (all_short-parts ns i (omega (arith, lt))) ∙ sym (append_assoc (shortest_varint m) (shortest_varints (take i ns)) (shortest_varint (get_or ns i 0) ++ shortest_varints (drop (suc i) ns)))
 
--- how many bytes one number more takes
-pub all_short-longer : (ns : List ℕ) (i : ℕ) → i < length ns → length (shortest_varints (take (suc i) ns)) ≡ length (shortest_varints (take i ns)) + size (get_or ns i 0)
-all_short-longer ns i lt =
-    ap length (all_short-at ns i lt) ∙ length-append (shortest_varints (take i ns)) (shortest_varint (get_or ns i 0)) ∙ ap (λ (k : ℕ). length (shortest_varints (take i ns)) + k) (length-short (get_or ns i 0))
-
 pub take_whole : (ns : List ℕ) (i : ℕ) → length ns ≤ i → take i ns ≡ ns
 take_whole [] zero le = refl
 take_whole [] (suc i) le = refl

@@ -31,11 +31,6 @@ back_fits bytes front back fits split = law.back_bytes front back (subst AreByte
 
 -- ---- a byte
 
-pub byte_found : (bytes : List ℕ) (b : ℕ) (rest : List ℕ) → byte_at bytes ≡ Some (b, rest) → bytes ≡ b ∷ rest
-byte_found [] b rest e = absurd cc
-byte_found (c ∷ cs) b rest e =
-    let parts = pair_parts (some_same e) in ap (λ (x : ℕ). x ∷ cs) parts.0 ∙ ap (λ (xs : List ℕ). b ∷ xs) parts.1
-
 -- ---- four bytes
 
 word_split : (bytes : List ℕ) (n : ℕ) (rest : List ℕ) → AreBytes bytes → 4 ≤ length bytes
@@ -66,19 +61,6 @@ word_of text rest n four value =
     (some_pair (num (take 4 (text ++ rest))) n (drop 4 (text ++ rest)) rest
     (ap num (take_front text rest 4 four) ∙ value) (drop_front text rest 4 four))
 
-pub word_again : (n : ℕ) (rest : List ℕ) → n < 2 ^ 32 → word_at (bytes_of 4 n ++ rest) ≡ Some (n, rest)
-word_again n rest fits = let is = law.is_number_4 n fits in word_of (bytes_of 4 n) rest n is.width is.value
-
-pub word_short : (bytes : List ℕ) → length bytes < 4 → word_at bytes ≡ None
-word_short bytes short =
-    let test : nat_lt (length bytes) 4 ≡ true = grind (arith, nat_tests) in
-    taken (nat_lt (length bytes) 4) None (Some (num (take 4 bytes), drop 4 bytes)) None test refl
-
-pub word_none : (bytes : List ℕ) → word_at bytes ≡ None → length bytes < 4
-word_none bytes e =
-    let short : nat_lt (length bytes) 4 ≡ true = some_none (nat_lt (length bytes) 4) (num (take 4 bytes), drop 4 bytes) e in
-    grind (arith, nat_tests)
-
 -- ---- ids
 
 pub id_found : (bytes id rest : List ℕ) → long_id_at bytes ≡ Some (id, rest) → (length id ≤ 20) × (bytes ≡ long_id id ++ rest)
@@ -95,21 +77,6 @@ id_found (n ∷ bytes) id rest e =
             ap (λ (xs : List ℕ). n ∷ xs) (sym (take-append-drop n bytes)) ∙ ap (λ (m : ℕ). m ∷ (take n bytes ++ drop n bytes)) (sym len)
                 ∙ ap (λ (xs : List ℕ). length id ∷ (xs ++ drop n bytes)) parts.0 ∙ ap (λ (xs : List ℕ). length id ∷ (id ++ xs)) parts.1,
           )
-    ]
-
-pub id_none : (bytes : List ℕ) → long_id_at bytes ≡ None → NoId bytes
-id_none [] e id front rest split is = absurd (let same : [] ≡ long_id id ++ rest = split ∙ ap (λ (xs : List ℕ). xs ++ rest) is.value in cc)
-id_none (n ∷ bytes) e id front rest split is =
-    let same : n ∷ bytes ≡ long_id id ++ rest = split ∙ ap (λ (xs : List ℕ). xs ++ rest) is.value in
-    let size : n ≡ length id = cc in
-    let tail : bytes ≡ id ++ rest = cc in
-    let small : length id ≤ 20 = is.short in
-    let fits : nat_lt 20 n ≡ false = grind (arith, nat_tests) in
-    let room : length id ≤ length bytes = omega (arith, length-append id rest, ap length tail) in
-    let enough : nat_lt (length bytes) n ≡ false = grind (arith, nat_tests) in
-    elim (chosen {A = Option (List ℕ × List ℕ)} (nat_lt 20 n || nat_lt (length bytes) n) None (Some (take n bytes, drop n bytes)) None e) [
-      | inl bad ↦ absurd (let no : (nat_lt 20 n || nat_lt (length bytes) n) ≡ false = rw (fits, enough) in cc)
-      | inr good ↦ cc
     ]
 
 pub id_again : (id rest : List ℕ) → length id ≤ 20 → long_id_at (long_id id ++ rest) ≡ Some (id, rest)
@@ -143,9 +110,6 @@ var_again = law.number_again
 
 pub var_without : (bytes : List ℕ) → AreBytes bytes → NoNumber bytes → number_at bytes ≡ None
 var_without = law.no_number
-
-pub var_none : (bytes : List ℕ) → number_at bytes ≡ None → NoNumber bytes
-var_none = law.none_found
 
 -- ---- what calls of decoders took
 

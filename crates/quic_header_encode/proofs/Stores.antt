@@ -85,12 +85,4 @@ pub number_1 : (x : ℕ) → x < 2 ^ 8 → x ∷ [] ≡ bytes_of 1 x
 unfolding bytes_of
 number_1 x h = let a : byte_at 0 x ≡ x = omega arith in cc
 
-pub lead_3 : (x : ℕ) → x < 2 ^ 24 → take 3 (to_be_bytes w32 (x * 2 ^ 8)) ≡ bytes_of 3 x
-unfolding bytes_of
-lead_3 x h =
-    let a : byte_at 3 (x * 2 ^ 8) ≡ byte_at 2 x = omega arith in
-    let b : byte_at 2 (x * 2 ^ 8) ≡ byte_at 1 x = omega arith in
-    let c : byte_at 1 (x * 2 ^ 8) ≡ byte_at 0 x = omega arith in
-    cc
-
 pub ruleset numbers = (number_1)

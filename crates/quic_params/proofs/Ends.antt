@@ -33,10 +33,6 @@ drop_within count len mid le fits =
 
 -- ---- stops
 
--- at an entry that is cut off
-pub cut_left : (before : List Given) (old new : List ℕ) (error : Error) → IsCutEntry old → error ≡ Malformed → IsEnd new old → StopsAt before old error new
-cut_left before old new error cut is end = within_cut cut is end
-
 -- at an entry that is refused, whose header was read, and so many bytes of its value
 entry_left : (before : List Given) (old mid new : List ℕ) (n len count : ℕ) (error : Error) → Takes (Follows (Encodes n) (Encodes len)) old mid → len ≤ length mid
     → RefusesList before (at n (take len mid)) error → count ≤ len → new ≡ drop count mid → StopsAt before old error new

@@ -28,23 +28,6 @@ size_of (suc (suc zero)) n lt low high = grind (arith, nat_tests)
 size_of (suc (suc (suc zero))) n lt low high = grind (arith, nat_tests)
 size_of (suc (suc (suc (suc t)))) n lt low high = absurd (omega arith)
 
-least_of : (t n : ℕ) → t < 4 → size n ≡ 2 ^ t → least t ≤ n
-unfolding size
-least_of zero n lt s = omega arith
-least_of (suc zero) n lt s = grind (arith, nat_tests)
-least_of (suc (suc zero)) n lt s = grind (arith, nat_tests)
-least_of (suc (suc (suc zero))) n lt s = grind (arith, nat_tests)
-least_of (suc (suc (suc (suc t)))) n lt s = absurd (omega arith)
-
-same_power : (a b : ℕ) → 2 ^ a ≡ 2 ^ b → a ≡ b
-same_power a b e = elim (cases_lt a b) [
-  | inl lt ↦ (let l = pow-lt lt in absurd (omega arith))
-  | inr ge ↦ elim (cases_lt b a) [
-    | inl lt ↦ (let l = pow-lt lt in absurd (omega arith))
-    | inr le ↦ omega arith
-  ]
-]
-
 -- bytes of a number, and nothing after them
 whole : (k x : ℕ) (b r : List ℕ) → Takes (IsNumber k x) b r → length b ≡ k → IsNumber k x b
 whole k x b r t l =
@@ -59,36 +42,3 @@ shortest_is t x n b r lt taken l e low high =
     let i = whole (2 ^ t) x b r taken l in
     let s : Encodes n b = record { tag = t; tag_fits = lt; bytes = i.bytes; width = i.width; fits = high; value = i.value ∙ e } in
     ((encoded_bound n b s).0, is_short n b s (size_of t n lt low high ∙ sym l))
-
--- and of no other
-pub shortest_was : (t x n : ℕ) (b r : List ℕ) → t < 4 → Takes (IsNumber (2 ^ t) x) b r → length b ≡ 2 ^ t → n < 2 ^ 62 → b ≡ shortest_varint n
-    → (x ≡ t * 2 ^ bits t + n) × (least t ≤ n) × (n < 2 ^ bits t)
-shortest_was t x n b r lt taken l small e =
-    let i = whole (2 ^ t) x b r taken l in
-    let s : Encodes n b = subst (Encodes n) (sym e) (shortest_encodes n small) in
-    let tag : s.tag ≡ t = same_power s.tag t (sym s.width ∙ l) in
-    let value : num b ≡ t * 2 ^ bits t + n = subst (λ k. num b ≡ k * 2 ^ bits k + n) tag s.value in
-    let size_is : size n ≡ 2 ^ t = sym (length-short n) ∙ sym (ap length e) ∙ l in
-    (sym i.value ∙ value, least_of t n lt size_is, subst (λ k. n < 2 ^ bits k) tag s.fits)
-
--- bytes that are too few for their own number are none
-pub never_cut : (t n : ℕ) (b : List ℕ) → length b ≡ 2 ^ t → ((x : ℕ) → NoFront (IsNumber (2 ^ t) x) b) → n < 2 ^ 62 → b ≢ shortest_varint n
-never_cut t n b l cut small e =
-    let s : Encodes n b = subst (Encodes n) (sym e) (shortest_encodes n small) in
-    cut (num b) b [] (sym (append-nil b)) (record { bytes = s.bytes; width = l; value = refl })
-
--- no encoding has another width
-pub never_width : (n : ℕ) (b : List ℕ) → length b ≢ 1 → length b ≢ 2 → length b ≢ 4 → length b ≢ 8 → b ≢ shortest_varint n
-unfolding size
-never_width n b a1 a2 a4 a8 e = let l : length b ≡ size n = ap length e ∙ length-short n in grind (arith, nat_tests)
-
--- whether an encoding's number is shortest for its width says whether its bytes are the shortest
-pub by_width : (t x y : ℕ) (b r : List ℕ) (result : Option ℕ) → t < 4 → Takes (IsNumber (2 ^ t) x) b r → length b ≡ 2 ^ t → y ≡ x
-    → MatchOption result ((n : ℕ) → y ≡ t * 2 ^ bits t + n → least t ≤ n → 2 ^ bits t ≤ n) (λ n. (y ≡ t * 2 ^ bits t + n) × (least t ≤ n) × (n < 2 ^ bits t))
-    → MatchOption result ((n : ℕ) → n < 2 ^ 62 → b ≢ shortest_varint n) (λ n. (n < 2 ^ 62) × (b ≡ shortest_varint n))
-by_width t x y b r None lt taken l same h = λ n small e.
-    let w = shortest_was t x n b r lt taken l small e in
-    let high : 2 ^ bits t ≤ n = h n (same ∙ w.0) w.1 in
-    let low : n < 2 ^ bits t = w.2 in
-    omega arith
-by_width t x y b r (Some n) lt taken l same h = shortest_is t x n b r lt taken l (sym same ∙ h.0) h.1 h.2

@@ -92,11 +92,6 @@ difference-run left rest ss whole s e m j d behind cut end is =
     ∙ ap (λ l. left ++ (l ++ subtracted rest (drop j ss))) (sym (outside-last s e m j d ss behind cut end))
     ∙ is
 
--- the next of the runs
-pub difference-start : (left rs ss whole : List (Range ℕ)) (i : ℕ) (d : Range ℕ) → i < length rs → left ++ subtracted (drop i rs) ss ≡ whole
-    → left ++ (outside (get_or rs i d).start (get_or rs i d).end ss ++ subtracted (drop (i + 1) rs) ss) ≡ whole
-difference-start left rs ss whole i d lt is = ap (λ l. left ++ subtracted l ss) (sym (drop-at rs i d lt)) ∙ is
-
 -- after the last of the runs
 pub difference-end : (left rs gs ss : List (Range ℕ)) (i : ℕ) → IsMaximalRuns rs → IsMaximalRuns ss → length rs ≤ i → left ++ subtracted (drop i rs) gs ≡ subtracted rs ss → IsRunsOf (in_subtraction rs ss) left
 difference-end left rs gs ss i h k le is =

@@ -239,12 +239,6 @@ same_covered rs x d h lt same = covered 0 x.start x.end d rs h lt (λ y lo hi. i
   inside : (y : ℕ) (m : Bool) → x.start ≤ y → y < x.end → m ≡ (m || in_range x y) → m ≡ true
   inside y m lo hi e = grind (arith, nat_tests)
 
--- an empty range adds nothing
-pub IsRunsOf-void : (rs : List (Range ℕ)) (x : Range ℕ) → IsMaximalRuns rs → x.end ≤ x.start → IsRunsOf (in_union rs x) rs
-IsRunsOf-void rs x h le = (h, λ y. void y (member rs y)) where
-  void : (y : ℕ) (m : Bool) → m ≡ (m || in_range x y)
-  void y m = grind (arith, nat_tests)
-
 -- the runs of the union
 union_at : (rs ss : List (Range ℕ)) (x : Range ℕ) → IsMaximalRuns rs → x.start < x.end → inserted rs x.start x.end ≡ ss → IsRunsOf (in_union rs x) ss
 union_at rs ss x h lt e = let P : List (Range ℕ) → Type 0 = IsRunsOf (in_union rs x) in subst P e (IsRunsOf-inserted x.start x.end rs h lt)
@@ -432,12 +426,6 @@ member-at (suc k) y d (r ∷ rs) lt lo hi = there (in_range r y) (member rs y) (
 
 difference_at : (rs ss : List (Range ℕ)) (x : Range ℕ) → IsMaximalRuns rs → x.start < x.end → removed rs x.start x.end ≡ ss → IsRunsOf (in_difference rs x) ss
 difference_at rs ss x h lt e = let P : List (Range ℕ) → Type 0 = IsRunsOf (in_difference rs x) in subst P e (IsRunsOf-removed x.start x.end rs h lt)
-
--- an empty range takes nothing
-pub IsRunsOf-void_difference : (rs : List (Range ℕ)) (x : Range ℕ) → IsMaximalRuns rs → x.end ≤ x.start → IsRunsOf (in_difference rs x) rs
-IsRunsOf-void_difference rs x h le = (h, λ y. void y (member rs y)) where
-  void : (y : ℕ) (m : Bool) → m ≡ (m && not (in_range x y))
-  void y m = grind (arith, nat_tests)
 
 -- a range that no run overlaps takes nothing
 pub IsRunsOf-apart : (rs : List (Range ℕ)) (x : Range ℕ) (i j : ℕ) → IsMaximalRuns rs → x.start < x.end → i ≡ ends_below rs (x.start + 1) → j ≡ starts_upto rs (x.end - 1) → j ≤ i → IsRunsOf (in_difference rs x) rs

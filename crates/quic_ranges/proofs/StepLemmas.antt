@@ -5,17 +5,6 @@ use Rattle.std.specs.declared.ops.Range.{Range}
 use Rattle.quic_ranges.specs.Runs.{in_range, member, IsMaximalRuns, IsRunsOf, in_union, in_difference, in_sum, in_subtraction}
 use Rattle.quic_ranges.proofs.SubtractLemmas.{member-append}
 
--- before the first run
-pub IsRunsOf-sum_start : (rs : List (Range ℕ)) → IsMaximalRuns rs → IsRunsOf (in_sum rs []) rs
-IsRunsOf-sum_start rs h = (h, λ y. none (member rs y)) where
-  none : (m : Bool) → m ≡ (m || false)
-  none m = grind (arith, nat_tests)
-
-pub IsRunsOf-subtraction_start : (rs : List (Range ℕ)) → IsMaximalRuns rs → IsRunsOf (in_subtraction rs []) rs
-IsRunsOf-subtraction_start rs h = (h, λ y. none (member rs y)) where
-  none : (m : Bool) → m ≡ (m && not false)
-  none m = grind (arith, nat_tests)
-
 -- one run more
 pub IsRunsOf-sum_step : (rs done cur after : List (Range ℕ)) (r : Range ℕ) → IsRunsOf (in_sum rs done) cur → IsRunsOf (in_union cur r) after → IsRunsOf (in_sum rs (done ++ r ∷ [])) after
 IsRunsOf-sum_step rs done cur after r h k = (k.0, λ y. k.1 y ∙ step (member rs y) (member done y) (in_range r y) (member cur y) (member (done ++ r ∷ []) y) (h.1 y) (member-append y done (r ∷ []))) where

@@ -3,7 +3,7 @@ use Rattle.std.proofs.Common.{◌≡◌, ℕ, suc, ◌+◌, ◌-◌, ◌<◌, �
 use Rattle.std.proofs.lemmas.Bool.Decides.{nat_tests}
 use Rattle.std.proofs.lemmas.List.{map-append, take-map, drop-map}
 use Rattle.std.specs.declared.ops.Range.{Range}
-use Rattle.quic_ranges.specs.Pieces.{piece}
+use Rattle.quic_ranges.specs.Intersections.{as_runs}
 use Rattle.quic_ranges.specs.Places.{ends_below, starts_upto}
 use Rattle.quic_ranges.specs.Runs.{in_range, member, in_union, in_difference, IsMaximalRuns, IsRunsOf}
 use Rattle.quic_ranges.specs.Splices.{BecomesRunsOf}
@@ -103,7 +103,7 @@ difference_at rs ss x h lt e = let P : List (Range ℕ) → Type 0 = IsRunsOf (i
 
 -- a removal from the runs from i to below j
 becomes_less : (rs left : List (Range ℕ)) (x d : Range ℕ) (i j first_start last_end : ℕ) → IsMaximalRuns rs → x.start < x.end → i ≡ ends_below rs (x.start + 1) → j ≡ starts_upto rs (x.end - 1) → i < j
-    → first_start ≡ (get_or rs i d).start → last_end ≡ (get_or rs (j - 1) d).end → left ≡ piece first_start x.start ++ piece x.end last_end
+    → first_start ≡ (get_or rs i d).start → last_end ≡ (get_or rs (j - 1) d).end → left ≡ as_runs first_start x.start ++ as_runs x.end last_end
     → BecomesRunsOf (in_difference rs x) rs (take i rs ++ (left ++ drop j rs))
 becomes_less rs left x d i j first_start last_end h lt ei ej le es ee eb =
     let one : suc (x.end - 1) ≡ x.end = omega arith in
@@ -130,7 +130,7 @@ most (One run) = omega arith
 most (Two front back) = omega arith
 
 pub plan_removal : (words : List CRange) (x : CRange) (i j start end : ℕ) (by : Substitute) → IsMaximalRuns (runs_of words) → x.start < x.end → i ≡ ends_below (runs_of words) (x.start + 1) → j ≡ starts_upto (runs_of words) (x.end - 1)
-    → i < j → start ≡ (get_or words i nowhere).start → end ≡ (get_or words (j - 1) nowhere).end → runs_of (words_of by) ≡ piece start x.start ++ piece x.end end
+    → i < j → start ≡ (get_or words i nowhere).start → end ≡ (get_or words (j - 1) nowhere).end → runs_of (words_of by) ≡ as_runs start x.start ++ as_runs x.end end
     → Plans (in_difference (runs_of words) (range_of x)) words (record { from = i; to = j; by = by })
 plan_removal words x i j start end by h lt ei ej le es ee eb =
     let within = starts_upto-length (x.end - 1) (runs_of words) in

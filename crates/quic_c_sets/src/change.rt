@@ -1,6 +1,6 @@
 //! What a change does to the runs of a set: which of them are removed, and which take their place.
 ghost use Rattle.std.specs.Prelude.{◌≡◌, ◌≤◌, ◌<◌, ◌+◌, ◌++◌, length, take, drop, true, false, IfSome, IfNone};
-ghost use Rattle.quic_ranges.specs.Pieces.{piece};
+ghost use Rattle.quic_ranges.specs.Intersections.{as_runs};
 ghost use Rattle.quic_ranges.specs.Runs.{IsMaximalRuns, IsRunsOf, in_union, in_difference};
 ghost use Rattle.quic_c_sets.specs.Sets.{range_of, runs_of};
 ghost use Rattle.quic_c_sets.specs.Changes.{FitsRoom, Made, SetNeedsMore, Plans, words_of};
@@ -20,7 +20,7 @@ impl Substitute {
     // Both runs, without an empty or reversed one.
     #[inline(always)]
     fn of(front: CRange, back: CRange) -> Self
-        ensures { runs_of (words_of result) ≡ piece front.start front.end ++ piece back.start back.end }
+        ensures { runs_of (words_of result) ≡ as_runs front.start front.end ++ as_runs back.start back.end }
     {
         match (front.start < front.end, back.start < back.end) {
             (true, true) => Substitute::Two(front, back),

@@ -4,9 +4,9 @@ use Rattle.std.proofs.lemmas.List.{append-nil, get_or-drop, get_or-take, take_mo
 use Rattle.std.proofs.lemmas.Bool.{cases_lt}
 use Rattle.std.proofs.lemmas.Bool.Decides.{nat_tests}
 use Rattle.std.specs.declared.ops.Range.{Range}
-use Rattle.quic_ranges.specs.Pieces.{outside, piece, subtracted}
+use Rattle.quic_ranges.specs.Intersections.{outside, as_runs, subtracted}
 use Rattle.quic_ranges.specs.Runs.{in_range, member, RunsFrom, IsMaximalRuns, IsRunsOf, in_subtraction, in_sum, in_union}
-use Rattle.quic_ranges.proofs.PlacesLemmas.{piece-empty, run-at}
+use Rattle.quic_ranges.proofs.PlacesLemmas.{as_runs-empty, run-at}
 use Rattle.quic_ranges.proofs.SubtractLemmas.{member-append, outside-none, IsRunsOf-subtracted}
 use Rattle.quic_ranges.proofs.StepLemmas.{IsRunsOf-sum_step}
 
@@ -53,42 +53,42 @@ subtracted-skip n g [] gs h lt le = refl
 subtracted-skip n g (r ∷ rs) gs h lt le =
     let none : min r.end g.start ≤ r.start = omega arith in
     let same : max r.start g.end ≡ r.start = omega arith in
-    ap (λ l. (l ++ outside (max r.start g.end) r.end gs) ++ subtracted rs (g ∷ gs)) (piece-empty r.start (min r.end g.start) none)
+    ap (λ l. (l ++ outside (max r.start g.end) r.end gs) ++ subtracted rs (g ∷ gs)) (as_runs-empty r.start (min r.end g.start) none)
     ∙ ap (λ m. outside m r.end gs ++ subtracted rs (g ∷ gs)) same
     ∙ ap (λ l. outside r.start r.end gs ++ l) (subtracted-skip (r.end + 1) g rs gs h.2 lt (omega arith))
 
 -- what is left of a run, and of those after it, once the next of the others is seen to end with the run or before
 pub difference-spent : (left rest ss whole : List (Range ℕ)) (s e j : ℕ) (d : Range ℕ) → IsMaximalRuns ss → RunsFrom (e + 1) rest → j < length ss → (get_or ss j d).end ≤ e
     → left ++ (outside s e (drop j ss) ++ subtracted rest (drop j ss)) ≡ whole
-    → (left ++ piece s (get_or ss j d).start) ++ (outside (max s (get_or ss j d).end) e (drop (j + 1) ss) ++ subtracted rest (drop (j + 1) ss)) ≡ whole
+    → (left ++ as_runs s (get_or ss j d).start) ++ (outside (max s (get_or ss j d).end) e (drop (j + 1) ss) ++ subtracted rest (drop (j + 1) ss)) ≡ whole
 difference-spent left rest ss whole s e j d k h lt le is =
     let g = get_or ss j d in
     let at : (0 ≤ g.start) × (g.start < g.end) = run-at 0 j d ss k lt in
     let near : min e g.start ≡ g.start = omega arith in
-    append_assoc left (piece s g.start) (outside (max s g.end) e (drop (j + 1) ss) ++ subtracted rest (drop (j + 1) ss))
-    ∙ ap (λ l. left ++ l) (sym (append_assoc (piece s g.start) (outside (max s g.end) e (drop (j + 1) ss)) (subtracted rest (drop (j + 1) ss))))
-    ∙ ap (λ l. left ++ ((piece s g.start ++ outside (max s g.end) e (drop (j + 1) ss)) ++ l)) (sym (subtracted-skip (e + 1) g rest (drop (j + 1) ss) h at.1 (omega arith)))
-    ∙ ap (λ m. left ++ ((piece s m ++ outside (max s g.end) e (drop (j + 1) ss)) ++ subtracted rest (g ∷ drop (j + 1) ss))) (sym near)
+    append_assoc left (as_runs s g.start) (outside (max s g.end) e (drop (j + 1) ss) ++ subtracted rest (drop (j + 1) ss))
+    ∙ ap (λ l. left ++ l) (sym (append_assoc (as_runs s g.start) (outside (max s g.end) e (drop (j + 1) ss)) (subtracted rest (drop (j + 1) ss))))
+    ∙ ap (λ l. left ++ ((as_runs s g.start ++ outside (max s g.end) e (drop (j + 1) ss)) ++ l)) (sym (subtracted-skip (e + 1) g rest (drop (j + 1) ss) h at.1 (omega arith)))
+    ∙ ap (λ m. left ++ ((as_runs s m ++ outside (max s g.end) e (drop (j + 1) ss)) ++ subtracted rest (g ∷ drop (j + 1) ss))) (sym near)
     ∙ ap (λ l. left ++ (outside s e l ++ subtracted rest l)) (sym (drop-at ss j d lt))
     ∙ is
 
--- where the others are at their end, or the next of them ends after the run, one piece is left of it
+-- where the others are at their end, or the next of them ends after the run, one range is left of it
 outside-last : (s e m j : ℕ) (d : Range ℕ) (ss : List (Range ℕ)) → (j < length ss → e < (get_or ss j d).end) → (j < length ss → m ≡ min e (get_or ss j d).start) → (length ss ≤ j → m ≡ e)
-    → outside s e (drop j ss) ≡ piece s m
+    → outside s e (drop j ss) ≡ as_runs s m
 outside-last s e m j d ss behind cut whole = elim (cases_lt j (length ss)) [
   | inl lt ↦ let g = get_or ss j d in
       let far : e < g.end = behind lt in
       ap (outside s e) (drop-at ss j d lt)
-      ∙ ap (λ l. piece s (min e g.start) ++ l) (outside-none (max s g.end) e (drop (j + 1) ss) (omega arith))
-      ∙ append-nil (piece s (min e g.start))
-      ∙ ap (piece s) (sym (cut lt))
-  | inr le ↦ ap (outside s e) (drop-past ss j le) ∙ ap (piece s) (sym (whole le))
+      ∙ ap (λ l. as_runs s (min e g.start) ++ l) (outside-none (max s g.end) e (drop (j + 1) ss) (omega arith))
+      ∙ append-nil (as_runs s (min e g.start))
+      ∙ ap (as_runs s) (sym (cut lt))
+  | inr le ↦ ap (outside s e) (drop-past ss j le) ∙ ap (as_runs s) (sym (whole le))
 ]
 
 pub difference-run : (left rest ss whole : List (Range ℕ)) (s e m j : ℕ) (d : Range ℕ) → (j < length ss → e < (get_or ss j d).end) → (j < length ss → m ≡ min e (get_or ss j d).start) → (length ss ≤ j → m ≡ e)
-    → left ++ (outside s e (drop j ss) ++ subtracted rest (drop j ss)) ≡ whole → (left ++ piece s m) ++ subtracted rest (drop j ss) ≡ whole
+    → left ++ (outside s e (drop j ss) ++ subtracted rest (drop j ss)) ≡ whole → (left ++ as_runs s m) ++ subtracted rest (drop j ss) ≡ whole
 difference-run left rest ss whole s e m j d behind cut end is =
-    append_assoc left (piece s m) (subtracted rest (drop j ss))
+    append_assoc left (as_runs s m) (subtracted rest (drop j ss))
     ∙ ap (λ l. left ++ (l ++ subtracted rest (drop j ss))) (sym (outside-last s e m j d ss behind cut end))
     ∙ is
 

@@ -5,7 +5,7 @@ use Rattle.std.proofs.lemmas.Bool.{cond_both, ltb-true, lt-ltb, le-ltb, leb-true
 use Rattle.std.proofs.lemmas.Bool.Decides.{nat_tests}
 use Rattle.std.specs.List.Sorted.{IsPartitionPoint, IsPartitionedBy}
 use Rattle.std.specs.declared.ops.Range.{Range}
-use Rattle.quic_ranges.specs.Pieces.{piece}
+use Rattle.quic_ranges.specs.Intersections.{as_runs}
 use Rattle.quic_ranges.specs.Runs.{in_range, member, in_union, in_difference, RunsFrom, IsMaximalRuns, IsRunsOf}
 use Rattle.quic_ranges.specs.Places.{ends_below, starts_upto, hull}
 use Rattle.quic_ranges.specs.declared.range_set.sorted_runs.Substitute.{Substitute}
@@ -282,24 +282,24 @@ IsRunsOf-inside rs x d i h lt ei in' =
 -- what is left of the runs that a..b overlaps
 abbrev pub rest : List (Range ℕ) → ℕ → ℕ → List (Range ℕ)
 rest [] a b = []
-rest (r ∷ rs) a b = cond (ltb r.end (suc a)) (rest rs a b) (cond (ltb r.start b) (piece r.start (min r.end a) ++ (piece (max r.start b) r.end ++ rest rs a b)) [])
+rest (r ∷ rs) a b = cond (ltb r.end (suc a)) (rest rs a b) (cond (ltb r.start b) (as_runs r.start (min r.end a) ++ (as_runs (max r.start b) r.end ++ rest rs a b)) [])
 
-pub piece-full : (a b : ℕ) → a < b → piece a b ≡ range a b ∷ []
-piece-full a b lt = rw (lt-ltb a b lt) refl
+pub as_runs-full : (a b : ℕ) → a < b → as_runs a b ≡ range a b ∷ []
+as_runs-full a b lt = rw (lt-ltb a b lt) refl
 
-pub piece-empty : (a b : ℕ) → b ≤ a → piece a b ≡ []
-piece-empty a b le = rw (le-ltb a b le) refl
+pub as_runs-empty : (a b : ℕ) → b ≤ a → as_runs a b ≡ []
+as_runs-empty a b le = rw (le-ltb a b le) refl
 
 -- a run that the range does not overlap stays
 pub removed-kept : (a b : ℕ) (r : Range ℕ) (rs : List (Range ℕ)) → r.start < r.end → a < b → (r.end ≤ a) ⊎ (b ≤ r.start) → removed (r ∷ rs) a b ≡ r ∷ removed rs a b
 removed-kept a b r rs h lt (inl le) =
     let e1 : min r.end a ≡ r.end = omega arith in
     let e2 : r.end ≤ max r.start b = omega arith in
-    rw (e1, piece-full r.start r.end h, piece-empty (max r.start b) r.end e2) refl
+    rw (e1, as_runs-full r.start r.end h, as_runs-empty (max r.start b) r.end e2) refl
 removed-kept a b r rs h lt (inr le) =
     let e1 : min r.end a ≤ r.start = omega arith in
     let e2 : max r.start b ≡ r.start = omega arith in
-    rw (piece-empty r.start (min r.end a) e1, e2, piece-full r.start r.end h) refl
+    rw (as_runs-empty r.start (min r.end a) e1, e2, as_runs-full r.start r.end h) refl
 
 -- runs that begin at the range's end or later stay
 pub removed-beyond : (n a b : ℕ) (rs : List (Range ℕ)) → RunsFrom n rs → a < b → b ≤ n → removed rs a b ≡ rs
@@ -319,10 +319,10 @@ removed-places n a m (r ∷ rs) h le =
       | inr q ↦ elim (cases_lt r.start (suc m)) as (λ _. removed (r ∷ rs) a (suc m) ≡ take (ends_below (r ∷ rs) (suc a)) (r ∷ rs) ++ (rest (r ∷ rs) a (suc m) ++ drop (starts_upto (r ∷ rs) m) (r ∷ rs))) [
         | inl q2 ↦ let q3 : r.start ≤ m = omega arith in
             rw (le-ltb r.end (suc a) q, lt-ltb r.start (suc m) q2, le-leb r.start m q3)
-            (ap (λ l. piece r.start (min r.end a) ++ (piece (max r.start (suc m)) r.end ++ l))
+            (ap (λ l. as_runs r.start (min r.end a) ++ (as_runs (max r.start (suc m)) r.end ++ l))
             (removed-places (r.end + 1) a m rs h.2 le ∙ rw (ends_below-none (r.end + 1) (suc a) rs h.2 (omega arith)) refl)
-            ∙ sym (append_assoc (piece r.start (min r.end a)) (piece (max r.start (suc m)) r.end ++ rest rs a (suc m)) (drop (starts_upto rs m) rs)
-            ∙ ap (λ l. piece r.start (min r.end a) ++ l) (append_assoc (piece (max r.start (suc m)) r.end) (rest rs a (suc m)) (drop (starts_upto rs m) rs))))
+            ∙ sym (append_assoc (as_runs r.start (min r.end a)) (as_runs (max r.start (suc m)) r.end ++ rest rs a (suc m)) (drop (starts_upto rs m) rs)
+            ∙ ap (λ l. as_runs r.start (min r.end a) ++ l) (append_assoc (as_runs (max r.start (suc m)) r.end) (rest rs a (suc m)) (drop (starts_upto rs m) rs))))
         | inr q2 ↦ let q3 : m < r.start = omega arith in
             removed-kept a (suc m) r rs h.1 (omega arith) (inr q2)
             ∙ rw (le-ltb r.end (suc a) q, le-ltb r.start (suc m) q2, lt-leb r.start m q3) (ap (λ l. r ∷ l) (removed-beyond (r.end + 1) a (suc m) rs h.2 (omega arith) (omega arith)))
@@ -346,7 +346,7 @@ first_starts m k d (r ∷ rs) = elim (cases_lt m r.start) as (λ _. starts_upto 
 
 -- what `rest-at` says
 abbrev RestAt : List (Range ℕ) → ℕ → ℕ → ℕ → Range ℕ → Type 0
-RestAt rs a m k d = starts_upto rs m ≡ suc k → ends_below rs (suc a) ≤ k → rest rs a (suc m) ≡ piece (get_or rs (ends_below rs (suc a)) d).start a ++ piece (suc m) (get_or rs k d).end
+RestAt rs a m k d = starts_upto rs m ≡ suc k → ends_below rs (suc a) ≤ k → rest rs a (suc m) ≡ as_runs (get_or rs (ends_below rs (suc a)) d).start a ++ as_runs (suc m) (get_or rs k d).end
 
 -- what is left, by the first and the last run that the range overlaps
 pub rest-at : (n a m k : ℕ) (d : Range ℕ) (rs : List (Range ℕ)) → RunsFrom n rs → a ≤ m → RestAt rs a m k d
@@ -360,8 +360,8 @@ rest-at n a m zero d (r ∷ rs) h le =
             let e1 : min r.end a ≡ a = omega arith in
             let e2 : max r.start (suc m) ≡ suc m = omega arith in
             rw (le-ltb r.end (suc a) q, lt-ltb r.start (suc m) q3, le-leb r.start m q2) (λ is le'.
-            ap (λ l. piece r.start (min r.end a) ++ (piece (max r.start (suc m)) r.end ++ l)) (rest-none (r.end + 1) a m rs h.2 le (omega arith))
-            ∙ ap (λ l. piece r.start (min r.end a) ++ l) (append-nil (piece (max r.start (suc m)) r.end))
+            ap (λ l. as_runs r.start (min r.end a) ++ (as_runs (max r.start (suc m)) r.end ++ l)) (rest-none (r.end + 1) a m rs h.2 le (omega arith))
+            ∙ ap (λ l. as_runs r.start (min r.end a) ++ l) (append-nil (as_runs (max r.start (suc m)) r.end))
             ∙ rw (e1, e2) refl)
       ]
     ]
@@ -379,10 +379,10 @@ rest-at n a m (suc k) d (r ∷ rs) h le =
             let e1 : min r.end a ≡ a = omega arith in
             let e2 : r.end ≤ max r.start (suc m) = omega arith in
             let e3 : a ≤ (get_or rs 0 d).start = omega arith in
-            let step : rest rs a (suc m) ≡ piece (get_or rs (ends_below rs (suc a)) d).start a ++ piece (suc m) (get_or rs k d).end = rest-at (r.end + 1) a m k d rs h.2 le (omega arith) (omega arith) in
-            let none : piece (get_or rs (ends_below rs (suc a)) d).start a ++ piece (suc m) (get_or rs k d).end ≡ piece (suc m) (get_or rs k d).end = rw (first, piece-empty (get_or rs 0 d).start a e3) refl in
-            ap (λ l. piece r.start (min r.end a) ++ (piece (max r.start (suc m)) r.end ++ l)) (step ∙ none)
-            ∙ rw (e1, piece-empty (max r.start (suc m)) r.end e2) refl)
+            let step : rest rs a (suc m) ≡ as_runs (get_or rs (ends_below rs (suc a)) d).start a ++ as_runs (suc m) (get_or rs k d).end = rest-at (r.end + 1) a m k d rs h.2 le (omega arith) (omega arith) in
+            let none : as_runs (get_or rs (ends_below rs (suc a)) d).start a ++ as_runs (suc m) (get_or rs k d).end ≡ as_runs (suc m) (get_or rs k d).end = rw (first, as_runs-empty (get_or rs 0 d).start a e3) refl in
+            ap (λ l. as_runs r.start (min r.end a) ++ (as_runs (max r.start (suc m)) r.end ++ l)) (step ∙ none)
+            ∙ rw (e1, as_runs-empty (max r.start (suc m)) r.end e2) refl)
       ]
     ]
 
@@ -444,7 +444,7 @@ substitutes_most (Two r s) = omega arith
 
 -- a removal from the runs from i to below j
 pub Splices-removal : (rs : List (Range ℕ)) (x d : Range ℕ) (i j first_start last_end : ℕ) (by : Substitute) → IsMaximalRuns rs → x.start < x.end → i ≡ ends_below rs (x.start + 1) → j ≡ starts_upto rs (x.end - 1) → i < j
-    → first_start ≡ (get_or rs i d).start → last_end ≡ (get_or rs (j - 1) d).end → substitutes by ≡ piece first_start x.start ++ piece x.end last_end
+    → first_start ≡ (get_or rs i d).start → last_end ≡ (get_or rs (j - 1) d).end → substitutes by ≡ as_runs first_start x.start ++ as_runs x.end last_end
     → Splices (in_difference rs x) rs (record { from = i; to = j; by = by })
 Splices-removal rs x d i j first_start last_end by h lt ei ej le es ee eb =
     let one : suc (x.end - 1) ≡ x.end = omega arith in

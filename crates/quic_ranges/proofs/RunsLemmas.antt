@@ -4,7 +4,7 @@ use Rattle.std.proofs.lemmas.Bool.{false≢true, cond_both, ltb-true, ltb-false,
 use Rattle.std.proofs.lemmas.Bool.Decides.{nat_tests}
 use Rattle.std.specs.List.{remove}
 use Rattle.std.specs.declared.ops.Range.{Range}
-use Rattle.quic_ranges.specs.Pieces.{piece, pieces}
+use Rattle.quic_ranges.specs.Intersections.{as_runs, intersections}
 use Rattle.quic_ranges.specs.Runs.{in_range, member, RunsFrom, IsMaximalRuns, IsRunsOf, IsLeastMember, IsGreatest, in_union, in_difference, in_intersection}
 
 -- the range from a to b
@@ -19,7 +19,7 @@ inserted (r ∷ rs) a b = cond (ltb r.end a) (r ∷ inserted rs a b) (cond (ltb 
 -- the runs of the difference with a..b, which is not reversed
 abbrev pub removed : List (Range ℕ) → ℕ → ℕ → List (Range ℕ)
 removed [] a b = []
-removed (r ∷ rs) a b = piece r.start (min r.end a) ++ (piece (max r.start b) r.end ++ removed rs a b)
+removed (r ∷ rs) a b = as_runs r.start (min r.end a) ++ (as_runs (max r.start b) r.end ++ removed rs a b)
 
 -- a lower bound may be made lower
 pub RunsFrom-lower : (n m : ℕ) (rs : List (Range ℕ)) → m ≤ n → RunsFrom n rs → RunsFrom m rs
@@ -74,9 +74,9 @@ RunsFrom-inserted n a b (r ∷ rs) h lt =
 pub IsRunsOf-inserted : (a b : ℕ) (rs : List (Range ℕ)) → IsMaximalRuns rs → a < b → IsRunsOf (in_union rs (range a b)) (inserted rs a b)
 IsRunsOf-inserted a b rs h lt = (RunsFrom-lower (min 0 a) 0 _ (omega arith) (RunsFrom-inserted 0 a b rs h lt), λ y. member-inserted 0 a b y rs h lt)
 
--- a piece's members
-pub member-piece : (a b y : ℕ) (rest : List (Range ℕ)) → member (piece a b ++ rest) y ≡ (in_range (range a b) y || member rest y)
-member-piece a b y rest =
+-- the members of a range as runs
+pub member-as_runs : (a b y : ℕ) (rest : List (Range ℕ)) → member (as_runs a b ++ rest) y ≡ (in_range (range a b) y || member rest y)
+member-as_runs a b y rest =
     let P : List (Range ℕ) → Type 0 = λ l. member (l ++ rest) y ≡ (in_range (range a b) y || member rest y) in
     cond_both (ltb a b) _ _ P (λ _. refl) (λ e. empty_range a b y (member rest y) (ltb-false _ _ e)) where
       empty_range : (a b y : ℕ) (m : Bool) → b ≤ a → m ≡ (in_range (range a b) y || m)
@@ -90,13 +90,13 @@ cut s e a b y m t h1 h2 eq = grind (arith, nat_tests)
 pub member-removed : (n a b y : ℕ) (rs : List (Range ℕ)) → RunsFrom n rs → a < b → member (removed rs a b) y ≡ (member rs y && not (in_range (range a b) y))
 member-removed n a b y [] h lt = refl
 member-removed n a b y (r ∷ rs) h lt =
-    member-piece r.start (min r.end a) y (piece (max r.start b) r.end ++ removed rs a b)
-    ∙ ap (λ m. in_range (range r.start (min r.end a)) y || m) (member-piece (max r.start b) r.end y (removed rs a b))
+    member-as_runs r.start (min r.end a) y (as_runs (max r.start b) r.end ++ removed rs a b)
+    ∙ ap (λ m. in_range (range r.start (min r.end a)) y || m) (member-as_runs (max r.start b) r.end y (removed rs a b))
     ∙ cut r.start r.end a b y (member rs y) _ h.1 lt (member-removed (r.end + 1) a b y rs h.2 lt)
 
--- a piece in front of runs
-pub RunsFrom-piece : (n a b : ℕ) (rest : List (Range ℕ)) → n ≤ a → RunsFrom n rest → (a < b → RunsFrom (b + 1) rest) → RunsFrom n (piece a b ++ rest)
-RunsFrom-piece n a b rest le h next =
+-- a range in front of runs
+pub RunsFrom-as_runs : (n a b : ℕ) (rest : List (Range ℕ)) → n ≤ a → RunsFrom n rest → (a < b → RunsFrom (b + 1) rest) → RunsFrom n (as_runs a b ++ rest)
+RunsFrom-as_runs n a b rest le h next =
     let P : List (Range ℕ) → Type 0 = λ l. RunsFrom n (l ++ rest) in
     cond_both (ltb a b) _ _ P (λ e. (le, ltb-true _ _ e, next (ltb-true _ _ e))) (λ _. h)
 
@@ -105,11 +105,11 @@ pub RunsFrom-removed : (n a b : ℕ) (rs : List (Range ℕ)) → RunsFrom n rs �
 RunsFrom-removed n a b [] h lt = tt
 RunsFrom-removed n a b (r ∷ rs) h lt =
     let tail : RunsFrom (r.end + 1) (removed rs a b) = RunsFrom-removed (r.end + 1) a b rs h.2 lt in
-    let low : (m : ℕ) → m ≤ max r.start b → m ≤ r.end + 1 → RunsFrom m (piece (max r.start b) r.end ++ removed rs a b) =
-    λ m le le'. RunsFrom-piece m (max r.start b) r.end _ le (RunsFrom-lower (r.end + 1) m _ le' tail) (λ _. tail) in
+    let low : (m : ℕ) → m ≤ max r.start b → m ≤ r.end + 1 → RunsFrom m (as_runs (max r.start b) r.end ++ removed rs a b) =
+    λ m le le'. RunsFrom-as_runs m (max r.start b) r.end _ le (RunsFrom-lower (r.end + 1) m _ le' tail) (λ _. tail) in
     let le1 : r.start < r.end = h.1 in
     let le0 : n ≤ r.start = h.0 in
-    RunsFrom-piece n r.start (min r.end a) _ h.0 (low n (omega arith) (omega arith)) (λ q. low (min r.end a + 1) (omega arith) (omega arith))
+    RunsFrom-as_runs n r.start (min r.end a) _ h.0 (low n (omega arith) (omega arith)) (λ q. low (min r.end a + 1) (omega arith) (omega arith))
 
 -- the runs after a removal are those of the difference
 pub IsRunsOf-removed : (a b : ℕ) (rs : List (Range ℕ)) → IsMaximalRuns rs → a < b → IsRunsOf (in_difference rs (range a b)) (removed rs a b)
@@ -160,27 +160,27 @@ RunsFrom-unique n (r ∷ rs) (s ∷ ss) h k same =
 pub IsRunsOf-unique : (p : ℕ → Bool) (rs ss : List (Range ℕ)) → IsRunsOf p rs → IsRunsOf p ss → rs ≡ ss
 IsRunsOf-unique p rs ss h k = RunsFrom-unique 0 rs ss h.0 k.0 (λ y. h.1 y ∙ sym (k.1 y))
 
--- the pieces lie where the runs do
-pub RunsFrom-pieces : (n : ℕ) (x : Range ℕ) (rs : List (Range ℕ)) → RunsFrom n rs → RunsFrom n (pieces rs x)
-RunsFrom-pieces n x [] h = tt
-RunsFrom-pieces n x (r ∷ rs) h =
-    let tail : RunsFrom (r.end + 1) (pieces rs x) = RunsFrom-pieces (r.end + 1) x rs h.2 in
-    RunsFrom-piece n (max r.start x.start) (min x.end r.end) (pieces rs x) (omega arith) (RunsFrom-lower (r.end + 1) n _ (omega arith) tail)
+-- the intersections lie where the runs do
+pub RunsFrom-intersections : (n : ℕ) (x : Range ℕ) (rs : List (Range ℕ)) → RunsFrom n rs → RunsFrom n (intersections rs x)
+RunsFrom-intersections n x [] h = tt
+RunsFrom-intersections n x (r ∷ rs) h =
+    let tail : RunsFrom (r.end + 1) (intersections rs x) = RunsFrom-intersections (r.end + 1) x rs h.2 in
+    RunsFrom-as_runs n (max r.start x.start) (min x.end r.end) (intersections rs x) (omega arith) (RunsFrom-lower (r.end + 1) n _ (omega arith) tail)
     (λ lt. RunsFrom-lower (r.end + 1) (min x.end r.end + 1) _ (omega arith) tail)
 
 meet : (s e a b y : ℕ) (m t : Bool) → t ≡ (m && in_range (range a b) y) → (in_range (range (max s a) (min b e)) y || t) ≡ ((in_range (range s e) y || m) && in_range (range a b) y)
 meet s e a b y m t eq = grind (arith, nat_tests)
 
--- the members of the pieces
-pub member-pieces : (x : Range ℕ) (y : ℕ) (rs : List (Range ℕ)) → member (pieces rs x) y ≡ (member rs y && in_range x y)
-member-pieces x y [] = refl
-member-pieces x y (r ∷ rs) =
-    member-piece (max r.start x.start) (min x.end r.end) y (pieces rs x)
-    ∙ meet r.start r.end x.start x.end y (member rs y) _ (member-pieces x y rs)
+-- the members of the intersections
+pub member-intersections : (x : Range ℕ) (y : ℕ) (rs : List (Range ℕ)) → member (intersections rs x) y ≡ (member rs y && in_range x y)
+member-intersections x y [] = refl
+member-intersections x y (r ∷ rs) =
+    member-as_runs (max r.start x.start) (min x.end r.end) y (intersections rs x)
+    ∙ meet r.start r.end x.start x.end y (member rs y) _ (member-intersections x y rs)
 
--- the pieces are the runs of the intersection
-pub IsRunsOf-pieces : (x : Range ℕ) (rs : List (Range ℕ)) → IsMaximalRuns rs → IsRunsOf (in_intersection rs x) (pieces rs x)
-IsRunsOf-pieces x rs h = (RunsFrom-pieces 0 x rs h, λ y. member-pieces x y rs)
+-- the intersections are the runs of the intersection
+pub IsRunsOf-intersections : (x : Range ℕ) (rs : List (Range ℕ)) → IsMaximalRuns rs → IsRunsOf (in_intersection rs x) (intersections rs x)
+IsRunsOf-intersections x rs h = (RunsFrom-intersections 0 x rs h, λ y. member-intersections x y rs)
 
 -- the runs after the first
 pub IsMaximalRuns-rest : (r : Range ℕ) (rs ss : List (Range ℕ)) → ss ≡ r ∷ rs → IsMaximalRuns ss → IsMaximalRuns rs

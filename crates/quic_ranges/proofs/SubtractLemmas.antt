@@ -4,11 +4,11 @@ use Rattle.std.proofs.lemmas.List.{append-nil}
 use Rattle.std.proofs.lemmas.Bool.{lt-ltb, le-ltb, lt-leb, le-leb, cases_lt}
 use Rattle.std.proofs.lemmas.Bool.Decides.{nat_tests}
 use Rattle.std.specs.declared.ops.Range.{Range}
-use Rattle.quic_ranges.specs.Pieces.{outside, piece, pieces, subtracted}
+use Rattle.quic_ranges.specs.Intersections.{outside, as_runs, intersections, subtracted}
 use Rattle.quic_ranges.specs.Runs.{in_range, member, RunsFrom, IsMaximalRuns, IsRunsOf, in_subtraction}
 use Rattle.quic_ranges.specs.Places.{ends_below, starts_upto}
-use Rattle.quic_ranges.proofs.RunsLemmas.{range, RunsFrom-lower, RunsFrom-piece, member-piece, member-below}
-use Rattle.quic_ranges.proofs.PlacesLemmas.{piece-empty}
+use Rattle.quic_ranges.proofs.RunsLemmas.{range, RunsFrom-lower, RunsFrom-as_runs, member-as_runs, member-below}
+use Rattle.quic_ranges.proofs.PlacesLemmas.{as_runs-empty}
 
 pub member-append : (y : ℕ) (rs ss : List (Range ℕ)) → member (rs ++ ss) y ≡ (member rs y || member ss y)
 member-append y [] ss = refl
@@ -18,11 +18,11 @@ member-append y (r ∷ rs) ss = ap (λ m. in_range r y || m) (member-append y rs
 
 -- the members outside
 member-outside : (n s e y : ℕ) (gs : List (Range ℕ)) → RunsFrom n gs → member (outside s e gs) y ≡ (in_range (range s e) y && not (member gs y))
-member-outside n s e y [] h = ap (λ l. member l y) (sym (append-nil (piece s e))) ∙ member-piece s e y [] ∙ last (in_range (range s e) y) where
+member-outside n s e y [] h = ap (λ l. member l y) (sym (append-nil (as_runs s e))) ∙ member-as_runs s e y [] ∙ last (in_range (range s e) y) where
   last : (i : Bool) → (i || false) ≡ (i && not false)
   last i = grind (arith, nat_tests)
 member-outside n s e y (g ∷ gs) h =
-    member-piece s (min e g.start) y (outside (max s g.end) e gs)
+    member-as_runs s (min e g.start) y (outside (max s g.end) e gs)
     ∙ ap (λ m. in_range (range s (min e g.start)) y || m) (member-outside (g.end + 1) (max s g.end) e y gs h.2)
     ∙ step s e g.start g.end y (member gs y) h.1 (λ lt. member-below (g.end + 1) y gs h.2 lt) where
       step : (s e a b y : ℕ) (m : Bool) → a < b → (y < b + 1 → m ≡ false) → (in_range (range s (min e a)) y || (in_range (range (max s b) e) y && not m)) ≡ (in_range (range s e) y && not (in_range (range a b) y || m))
@@ -30,10 +30,10 @@ member-outside n s e y (g ∷ gs) h =
 
 -- the runs outside, in front of later ones
 RunsFrom-outside : (n m s e : ℕ) (gs tail : List (Range ℕ)) → n ≤ s → n ≤ e + 1 → RunsFrom m gs → RunsFrom (e + 1) tail → RunsFrom n (outside s e gs ++ tail)
-RunsFrom-outside n m s e [] tail le le' h t = RunsFrom-piece n s e tail le (RunsFrom-lower (e + 1) n tail le' t) (λ _. t)
+RunsFrom-outside n m s e [] tail le le' h t = RunsFrom-as_runs n s e tail le (RunsFrom-lower (e + 1) n tail le' t) (λ _. t)
 RunsFrom-outside n m s e (g ∷ gs) tail le le' h t =
-    rw (append_assoc (piece s (min e g.start)) (outside (max s g.end) e gs) tail)
-    (RunsFrom-piece n s (min e g.start) (outside (max s g.end) e gs ++ tail) le
+    rw (append_assoc (as_runs s (min e g.start)) (outside (max s g.end) e gs) tail)
+    (RunsFrom-as_runs n s (min e g.start) (outside (max s g.end) e gs ++ tail) le
     (RunsFrom-outside n (g.end + 1) (max s g.end) e gs tail (omega arith) le' h.2 t)
     (λ lt. RunsFrom-outside (min e g.start + 1) (g.end + 1) (max s g.end) e gs tail (let q : g.start < g.end = h.1 in omega arith) (omega arith) h.2 t))
 
@@ -57,9 +57,9 @@ IsRunsOf-subtracted rs ss h k = (RunsFrom-subtracted 0 0 rs ss h k, λ y. member
 
 -- nothing of an empty range is outside
 pub outside-none : (s e : ℕ) (gs : List (Range ℕ)) → e ≤ s → outside s e gs ≡ []
-outside-none s e [] le = piece-empty s e le
+outside-none s e [] le = as_runs-empty s e le
 outside-none s e (g ∷ gs) le =
-    ap (λ l. l ++ outside (max s g.end) e gs) (piece-empty s (min e g.start) (omega arith)) ∙ outside-none (max s g.end) e gs (omega arith)
+    ap (λ l. l ++ outside (max s g.end) e gs) (as_runs-empty s (min e g.start) (omega arith)) ∙ outside-none (max s g.end) e gs (omega arith)
 
 -- runs that start after the range's end take nothing of it
 outside-front : (n s e : ℕ) (gs : List (Range ℕ)) → RunsFrom n gs → outside s e (take (starts_upto gs e) gs) ≡ outside s e gs
@@ -67,8 +67,8 @@ outside-front n s e [] h = refl
 outside-front n s e (g ∷ gs) h =
     elim (cases_lt e g.start) as (λ _. outside s e (take (starts_upto (g ∷ gs) e) (g ∷ gs)) ≡ outside s e (g ∷ gs)) [
       | inl lt ↦ let q : min e g.start ≡ e = omega arith in
-          rw (lt-leb g.start e lt, q) (sym (append-nil (piece s e)) ∙ ap (λ l. piece s e ++ l) (sym (outside-none (max s g.end) e gs (omega arith))))
-      | inr le ↦ rw (le-leb g.start e le) (ap (λ l. piece s (min e g.start) ++ l) (outside-front (g.end + 1) (max s g.end) e gs h.2))
+          rw (lt-leb g.start e lt, q) (sym (append-nil (as_runs s e)) ∙ ap (λ l. as_runs s e ++ l) (sym (outside-none (max s g.end) e gs (omega arith))))
+      | inr le ↦ rw (le-leb g.start e le) (ap (λ l. as_runs s (min e g.start) ++ l) (outside-front (g.end + 1) (max s g.end) e gs h.2))
     ]
 
 -- nor do those that end before its start: the runs that it touches are all that matter
@@ -80,37 +80,37 @@ outside-touched n s e (g ∷ gs) h lt =
           let q2 : min e g.start ≤ s = omega arith in
           let q3 : max s g.end ≡ s = omega arith in
           let fewer : suc (starts_upto gs e) - suc (ends_below gs s) ≡ starts_upto gs e - ends_below gs s = omega arith in
-          rw (lt-ltb g.end s q, le-leb g.start e q1, piece-empty s (min e g.start) q2, q3, fewer) (outside-touched (g.end + 1) s e gs h.2 lt)
+          rw (lt-ltb g.end s q, le-leb g.start e q1, as_runs-empty s (min e g.start) q2, q3, fewer) (outside-touched (g.end + 1) s e gs h.2 lt)
       | inr q ↦ let all : starts_upto (g ∷ gs) e - 0 ≡ starts_upto (g ∷ gs) e = omega arith in rw (le-ltb g.end s q, all) (outside-front n s e (g ∷ gs) h)
     ]
 
--- a range has no pieces in runs after it
-pieces-beyond : (n : ℕ) (x : Range ℕ) (gs : List (Range ℕ)) → RunsFrom n gs → x.end ≤ n → pieces gs x ≡ []
-pieces-beyond n x [] h le = refl
-pieces-beyond n x (g ∷ gs) h le =
-    ap (λ l. l ++ pieces gs x) (piece-empty (max g.start x.start) (min x.end g.end) (omega arith)) ∙ pieces-beyond (g.end + 1) x gs h.2 (omega arith)
+-- a range has no intersections in runs after it
+intersections-beyond : (n : ℕ) (x : Range ℕ) (gs : List (Range ℕ)) → RunsFrom n gs → x.end ≤ n → intersections gs x ≡ []
+intersections-beyond n x [] h le = refl
+intersections-beyond n x (g ∷ gs) h le =
+    ap (λ l. l ++ intersections gs x) (as_runs-empty (max g.start x.start) (min x.end g.end) (omega arith)) ∙ intersections-beyond (g.end + 1) x gs h.2 (omega arith)
 
-pieces-front : (n : ℕ) (x : Range ℕ) (gs : List (Range ℕ)) → RunsFrom n gs → pieces (take (starts_upto gs x.end) gs) x ≡ pieces gs x
-pieces-front n x [] h = refl
-pieces-front n x (g ∷ gs) h =
-    elim (cases_lt x.end g.start) as (λ _. pieces (take (starts_upto (g ∷ gs) x.end) (g ∷ gs)) x ≡ pieces (g ∷ gs) x) [
-      | inl lt ↦ rw (lt-leb g.start x.end lt) (sym (pieces-beyond g.start x (g ∷ gs) (omega arith, h.1, h.2) (omega arith)))
-      | inr le ↦ rw (le-leb g.start x.end le) (ap (λ l. piece (max g.start x.start) (min x.end g.end) ++ l) (pieces-front (g.end + 1) x gs h.2))
+intersections-front : (n : ℕ) (x : Range ℕ) (gs : List (Range ℕ)) → RunsFrom n gs → intersections (take (starts_upto gs x.end) gs) x ≡ intersections gs x
+intersections-front n x [] h = refl
+intersections-front n x (g ∷ gs) h =
+    elim (cases_lt x.end g.start) as (λ _. intersections (take (starts_upto (g ∷ gs) x.end) (g ∷ gs)) x ≡ intersections (g ∷ gs) x) [
+      | inl lt ↦ rw (lt-leb g.start x.end lt) (sym (intersections-beyond g.start x (g ∷ gs) (omega arith, h.1, h.2) (omega arith)))
+      | inr le ↦ rw (le-leb g.start x.end le) (ap (λ l. as_runs (max g.start x.start) (min x.end g.end) ++ l) (intersections-front (g.end + 1) x gs h.2))
     ]
 
--- the pieces of a range lie in the runs that it touches
-pub pieces-touched : (n : ℕ) (x : Range ℕ) (gs : List (Range ℕ)) → RunsFrom n gs → x.start < x.end → pieces (slice_range gs (ends_below gs x.start) (starts_upto gs x.end)) x ≡ pieces gs x
-pieces-touched n x [] h lt = refl
-pieces-touched n x (g ∷ gs) h lt =
-    elim (cases_lt g.end x.start) as (λ _. pieces (slice_range (g ∷ gs) (ends_below (g ∷ gs) x.start) (starts_upto (g ∷ gs) x.end)) x ≡ pieces (g ∷ gs) x) [
+-- the intersections of a range lie in the runs that it touches
+pub intersections-touched : (n : ℕ) (x : Range ℕ) (gs : List (Range ℕ)) → RunsFrom n gs → x.start < x.end → intersections (slice_range gs (ends_below gs x.start) (starts_upto gs x.end)) x ≡ intersections gs x
+intersections-touched n x [] h lt = refl
+intersections-touched n x (g ∷ gs) h lt =
+    elim (cases_lt g.end x.start) as (λ _. intersections (slice_range (g ∷ gs) (ends_below (g ∷ gs) x.start) (starts_upto (g ∷ gs) x.end)) x ≡ intersections (g ∷ gs) x) [
       | inl q ↦ let q1 : g.start ≤ x.end = omega arith in
           let q2 : min x.end g.end ≤ max g.start x.start = omega arith in
           let fewer : suc (starts_upto gs x.end) - suc (ends_below gs x.start) ≡ starts_upto gs x.end - ends_below gs x.start = omega arith in
-          rw (lt-ltb g.end x.start q, le-leb g.start x.end q1, piece-empty (max g.start x.start) (min x.end g.end) q2, fewer) (pieces-touched (g.end + 1) x gs h.2 lt)
-      | inr q ↦ let all : starts_upto (g ∷ gs) x.end - 0 ≡ starts_upto (g ∷ gs) x.end = omega arith in rw (le-ltb g.end x.start q, all) (pieces-front n x (g ∷ gs) h)
+          rw (lt-ltb g.end x.start q, le-leb g.start x.end q1, as_runs-empty (max g.start x.start) (min x.end g.end) q2, fewer) (intersections-touched (g.end + 1) x gs h.2 lt)
+      | inr q ↦ let all : starts_upto (g ∷ gs) x.end - 0 ≡ starts_upto (g ∷ gs) x.end = omega arith in rw (le-ltb g.end x.start q, all) (intersections-front n x (g ∷ gs) h)
     ]
 
 -- nor has an empty range any
-pub pieces-void : (x : Range ℕ) (rs : List (Range ℕ)) → x.end ≤ x.start → pieces rs x ≡ []
-pieces-void x [] le = refl
-pieces-void x (r ∷ rs) le = ap (λ l. l ++ pieces rs x) (piece-empty (max r.start x.start) (min x.end r.end) (omega arith)) ∙ pieces-void x rs le
+pub intersections-void : (x : Range ℕ) (rs : List (Range ℕ)) → x.end ≤ x.start → intersections rs x ≡ []
+intersections-void x [] le = refl
+intersections-void x (r ∷ rs) le = ap (λ l. l ++ intersections rs x) (as_runs-empty (max r.start x.start) (min x.end r.end) (omega arith)) ∙ intersections-void x rs le

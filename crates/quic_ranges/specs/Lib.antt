@@ -1,6 +1,6 @@
 pub mod Runs
 pub mod Numbers
-pub mod Pieces
+pub mod Intersections
 pub mod Places
 pub mod Splices
 pub mod Replaced

@@ -5,7 +5,7 @@ use Rattle.quic_ranges.specs.declared.range_set.sorted_runs.Splice.{Splice}
 use Rattle.quic_ranges.specs.declared.range_set.sorted_runs.Substitute.{Substitute}
 use Rattle.quic_ranges.specs.declared.range_set.sorted_runs.Substitute.TheVariants.{Nothing, One, Two}
 use Rattle.quic_ranges.specs.declared.range_set.sorted_runs.Extension.{Extension}
-use Rattle.quic_ranges.specs.declared.range_set.sorted_runs.Extension.TheVariants.{Kept, Grown, Behind, Before}
+use Rattle.quic_ranges.specs.declared.range_set.sorted_runs.Extension.TheVariants.{Unchanged, Extended, AfterAll, BeforeLast}
 use Rattle.quic_ranges.specs.Runs.{IsRunsOf, in_union}
 
 -- the runs that take the place of others
@@ -37,7 +37,7 @@ pub record BecomesRunsOf (p : ℕ → Bool) (rs after : List (Range ℕ)) : Type
 
 -- what became of x, which was tried on the last of the runs rs, and what the runs are then
 abbrev pub Extends : Extension → List (Range ℕ) → Range ℕ → List (Range ℕ) → Type 0
-Extends Kept rs x after = (after ≡ rs) × IsRunsOf (in_union rs x) rs
-Extends Grown rs x after = BecomesRunsOf (in_union rs x) rs after
-Extends Behind rs x after = (after ≡ rs) × BecomesRunsOf (in_union rs x) rs (rs ++ x ∷ [])
-Extends Before rs x after = after ≡ rs
+Extends Unchanged rs x after = (after ≡ rs) × IsRunsOf (in_union rs x) rs
+Extends Extended rs x after = BecomesRunsOf (in_union rs x) rs after
+Extends AfterAll rs x after = (after ≡ rs) × BecomesRunsOf (in_union rs x) rs (rs ++ x ∷ [])
+Extends BeforeLast rs x after = after ≡ rs

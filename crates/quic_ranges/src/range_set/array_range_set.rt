@@ -4,7 +4,7 @@ ghost use Rattle.std.specs.declared.ops.Range.{Range};
 ghost use Rattle.smallvec.specs.SmallVec.{small_vec_len, HasRoomFor};
 ghost use Rattle.quic_ranges.specs.Runs.{IsMaximalRuns, IsRunsOf, IsLeastMember, IsGreatest, member, in_union, in_difference, in_subtraction};
 ghost use Rattle.quic_ranges.specs.Numbers.{numbers_of};
-ghost use Rattle.quic_ranges.specs.Pieces.{outside, subtracted};
+ghost use Rattle.quic_ranges.specs.Intersections.{outside, subtracted};
 ghost use Rattle.quic_ranges.specs.Splices.{Fits, after_splice};
 
 use crate::range_set::runs_iter::{EltIter, Iter};
@@ -214,13 +214,13 @@ fn join(runs: &mut SmallVec<Range<u64>, 2>, x: &Range<u64>) -> Result<bool, NoRo
     ensures capacity { runs.old.capacity ≤ runs.new.capacity }
 {
     match sorted_runs::extend_last(runs.as_mut_slice(), x) {
-        Extension::Kept => Ok(false),
-        Extension::Grown => Ok(true),
-        Extension::Behind => {
+        Extension::Unchanged => Ok(false),
+        Extension::Extended => Ok(true),
+        Extension::AfterAll => {
             runs.push(x.start..x.end).map_err(|_| NoRoom)?;
             Ok(true)
         }
-        Extension::Before => join_among(runs, x),
+        Extension::BeforeLast => join_among(runs, x),
     }
 }
 

@@ -4,7 +4,7 @@ ghost use Rattle.std.specs.Prelude.{◌≡◌, ◌<◌, ◌≤◌, ◌+◌, ◌^
 ghost use Rattle.std.specs.declared.ops.Range.{Range};
 ghost use Rattle.quic_ranges.specs.Runs.{IsMaximalRuns, IsRunsOf, member, in_union, in_difference};
 ghost use Rattle.quic_ranges.specs.Places.{ends_below, starts_upto};
-ghost use Rattle.quic_ranges.specs.Pieces.{piece, pieces, outside};
+ghost use Rattle.quic_ranges.specs.Intersections.{as_runs, intersections, outside};
 ghost use Rattle.quic_ranges.specs.Splices.{Extends, Splices, substitutes};
 
 use std::ops::Range;
@@ -55,7 +55,7 @@ pub(crate) enum Substitute {
 impl Substitute {
     // Both ranges, without an empty or reversed one.
     fn of(front: Range<u64>, back: Range<u64>) -> Self
-        ensures { substitutes result ≡ piece front.start front.end ++ piece back.start back.end }
+        ensures { substitutes result ≡ as_runs front.start front.end ++ as_runs back.start back.end }
     {
         match (front.start < front.end, back.start < back.end) {
             (true, true) => Substitute::Two(front, back),
@@ -117,13 +117,13 @@ pub(crate) struct Splice {
 #[derive(Clone, Copy)]
 pub(crate) enum Extension {
     // Every number of it is in the runs already.
-    Kept,
+    Unchanged,
     // The last run took it in, and ends with it now.
-    Grown,
+    Extended,
     // It is after every run and touches none, so it must become a run of its own.
-    Behind,
+    AfterAll,
     // It begins before the last run, so its place is still to be found.
-    Before,
+    BeforeLast,
 }
 
 // Puts `x` into the last run where it begins there or at the end of it.
@@ -132,20 +132,20 @@ pub(crate) fn extend_last(runs: &mut [Range<u64>], x: &Range<u64>) -> Extension
     ensures { Extends result runs.old x.now runs.new }
 {
     if x.end <= x.start {
-        return Extension::Kept;
+        return Extension::Unchanged;
     }
     let len = runs.len();
     if len == 0 || runs[len - 1].end < x.start {
-        return Extension::Behind;
+        return Extension::AfterAll;
     }
     if x.start < runs[len - 1].start {
-        return Extension::Before;
+        return Extension::BeforeLast;
     }
     if x.end <= runs[len - 1].end {
-        return Extension::Kept;
+        return Extension::Unchanged;
     }
     runs[len - 1].end = x.end;
-    Extension::Grown
+    Extension::Extended
 }
 
 // What an insertion of `x` does to the runs; `None` if every number of `x` is in them.
@@ -204,7 +204,7 @@ pub(crate) fn touched<'a>(runs: &'a [Range<u64>], x: &Range<u64>) -> &'a [Range<
     requires maximal { IsMaximalRuns runs.now }
     requires nonempty { x.now.start < x.now.end }
     ensures outside { outside x.now.start x.now.end result.now ≡ outside x.now.start x.now.end runs.now }
-    ensures pieces { pieces result.now x.now ≡ pieces runs.now x.now }
+    ensures intersections { intersections result.now x.now ≡ intersections runs.now x.now }
 {
     &runs[count_ends_below(runs, x.start)..count_starts_upto(runs, x.end)]
 }

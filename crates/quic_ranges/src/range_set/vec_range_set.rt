@@ -4,9 +4,9 @@ ghost use Rattle.std.specs.Borrow.{sem};
 ghost use Rattle.std.specs.Iterator.{YieldsFirst, item_count};
 ghost use Rattle.std.specs.declared.ops.Range.{Range};
 ghost use Rattle.quic_ranges.specs.Runs.{IsMaximalRuns, IsRunsOf, IsLeastMember, IsGreatest, TreatsBeginning, member, in_union, in_difference, in_intersection, in_sum, in_subtraction};
-ghost use Rattle.quic_ranges.specs.Pieces.{pieces};
+ghost use Rattle.quic_ranges.specs.Intersections.{intersections};
 ghost use Rattle.quic_ranges.specs.Numbers.{numbers_of};
-ghost use Rattle.quic_ranges.specs.Replaced.{Ends, pieces_left};
+ghost use Rattle.quic_ranges.specs.Replaced.{Ends, intersections_left};
 
 use crate::range_set::run_vec::RunVec;
 use crate::range_set::runs_iter::{EltIter, Iter};
@@ -169,14 +169,14 @@ impl RangeSet {
         ensures* union { sem 𝓛 (Ends self.entry
             (λ after. OnOk result (IsRunsOf (in_union self.old x) after)
             × OnErr result (after ≡ self.old))) }
-        ensures pieces { IfOk result
-            (λ found. IsRunsOf (in_intersection self.old x) (pieces_left found)) }
+        ensures intersections { IfOk result
+            (λ found. IsRunsOf (in_intersection self.old x) (intersections_left found)) }
         ensures void { x.end ≤ x.start → IsOk result }
     {
-        find_pieces(&mut self.replaced, self.runs.as_slice(), &x)?;
+        find_intersections(&mut self.replaced, self.runs.as_slice(), &x)?;
         join(&mut self.runs, &x)?;
         Ok(Replace {
-            pieces: self.replaced.iter(),
+            intersections: self.replaced.iter(),
         })
     }
 
@@ -265,19 +265,19 @@ impl<'a> IntoIterator for &'a RangeSet {
 /// The parts of a range that were in a set before `replace`, ascending. The set is borrowed while they are read.
 #[derive(Drop)]
 pub struct Replace<'a> {
-    pieces: slice::Iter<'a, Range<u64>>,
+    intersections: slice::Iter<'a, Range<u64>>,
 }
 
 impl<'a> Iterator for Replace<'a> {
     type Item = Range<u64>;
 
-    ghost next_gives = { YieldsFirst pieces_left };
+    ghost next_gives = { YieldsFirst intersections_left };
 
-    ghost remaining = { item_count pieces_left };
+    ghost remaining = { item_count intersections_left };
 
     fn next(&mut self) -> Option<Range<u64>> {
-        let piece = self.pieces.next()?;
-        Some(piece.start..piece.end)
+        let replaced = self.intersections.next()?;
+        Some(replaced.start..replaced.end)
     }
 }
 
@@ -291,13 +291,13 @@ fn join(runs: &mut RunVec, x: &Range<u64>) -> Result<bool, NoRoom>
         → length rs ≤ length runs.old → IsOk result }
 {
     match runs.extend_last(x) {
-        Extension::Kept => Ok(false),
-        Extension::Grown => Ok(true),
-        Extension::Behind => {
+        Extension::Unchanged => Ok(false),
+        Extension::Extended => Ok(true),
+        Extension::AfterAll => {
             runs.push(x.start..x.end)?;
             Ok(true)
         }
-        Extension::Before => join_among(runs, x),
+        Extension::BeforeLast => join_among(runs, x),
     }
 }
 
@@ -390,13 +390,13 @@ fn difference_of(
 }
 
 // Finds the parts of `x` that the runs hold.
-fn find_pieces(
+fn find_intersections(
     found: &mut Vec<Range<u64>>,
     runs: &[Range<u64>],
     x: &Range<u64>,
 ) -> Result<(), NoRoom>
     requires { IsMaximalRuns runs.now }
-    ensures pieces { OnOk result (found.new.items ≡ pieces runs.now x.now) }
+    ensures intersections { OnOk result (found.new.items ≡ intersections runs.now x.now) }
     ensures void { x.now.end ≤ x.now.start → IsOk result }
 {
     found.clear();

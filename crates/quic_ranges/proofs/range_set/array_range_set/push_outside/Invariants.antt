@@ -1,5 +1,5 @@
 use Rattle.std.proofs.Common.{◌≡◌, ◌≤◌, ◌++◌, drop}
-use Rattle.quic_ranges.specs.Pieces.{outside}
+use Rattle.quic_ranges.specs.Intersections.{outside}
 use Rattle.quic_ranges.proofs.range_set.array_range_set.push_outside.Given as goal
 
 -- what was pushed, and what is to come

@@ -1,7 +1,7 @@
 use Rattle.std.proofs.Common.{◌≤◌, arith, rules}
 use Rattle.quic_ranges.specs.Places.{ends_below, starts_upto}
 use Rattle.quic_ranges.proofs.PlacesLemmas.{ends_below-starts_upto}
-use Rattle.quic_ranges.proofs.SubtractLemmas.{outside-touched, pieces-touched}
+use Rattle.quic_ranges.proofs.SubtractLemmas.{outside-touched, intersections-touched}
 use Rattle.quic_ranges.proofs.range_set.sorted_runs.touched.Goals as goal
 
 pub slice_bounds-result-count : goal.slice_bounds-result-count
@@ -15,5 +15,5 @@ slice_bounds-result-start c =
 pub returns-clause-outside : goal.returns-clause-outside
 returns-clause-outside c = let same = outside-touched 0 c.args.x.now.start c.args.x.now.end c.args.runs.now c.requires.maximal c.requires.nonempty in rw (c.count_ends_below.ensures.count, c.count_starts_upto.ensures.count) same
 
-pub returns-clause-pieces : goal.returns-clause-pieces
-returns-clause-pieces c = let same = pieces-touched 0 c.args.x.now c.args.runs.now c.requires.maximal c.requires.nonempty in rw (c.count_ends_below.ensures.count, c.count_starts_upto.ensures.count) same
+pub returns-clause-intersections : goal.returns-clause-intersections
+returns-clause-intersections c = let same = intersections-touched 0 c.args.x.now c.args.runs.now c.requires.maximal c.requires.nonempty in rw (c.count_ends_below.ensures.count, c.count_starts_upto.ensures.count) same

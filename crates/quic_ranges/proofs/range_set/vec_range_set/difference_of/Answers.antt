@@ -1,7 +1,7 @@
 use Rattle.std.proofs.Common.{◌≡◌, ◌<◌, ◌≤◌, ◌++◌, length, get_or, min, ap, sym, ◌∙◌, arith}
 use Rattle.std.proofs.lemmas.List.{append-nil}
-use Rattle.quic_ranges.specs.Pieces.{piece}
-use Rattle.quic_ranges.proofs.PlacesLemmas.{piece-full, piece-empty}
+use Rattle.quic_ranges.specs.Intersections.{as_runs}
+use Rattle.quic_ranges.proofs.PlacesLemmas.{as_runs-full, as_runs-empty}
 use Rattle.quic_ranges.proofs.MergeLemmas.{difference-spent, difference-run, difference-end, RunsFrom-behind}
 use Rattle.std.proofs.lemmas.Grind.{common_steps}
 use Rattle.quic_ranges.proofs.range_set.vec_range_set.difference_of.Goals as goal
@@ -12,9 +12,9 @@ loop-next-preserved c =
     let run = get_or c.args.runs.now c.loop-run.run-index (record { start = 0; end = 0 }) in
     let other = get_or c.args.others.now c.loop-next.next (record { start = 0; end = 0 }) in
     let rest = RunsFrom-behind 0 c.loop-run.run-index (record { start = 0; end = 0 }) c.args.runs.now c.requires.runs (omega arith) in
-    let left : c.if-start-others.left ≡ c.loop-next.left ++ piece c.loop-next.start other.start = elim c.if-start-others.branch [
-      | then-start-others+in_ok-push w ↦ w.left-is ∙ w.in_ok-push.ensures.ok ∙ ap (λ l. c.loop-next.left ++ l) (sym (piece-full c.loop-next.start other.start w.if-start-others.true))
-      | else-start-others w ↦ w.left-is ∙ sym (append-nil c.loop-next.left) ∙ ap (λ l. c.loop-next.left ++ l) (sym (piece-empty c.loop-next.start other.start w.if-start-others.false))
+    let left : c.if-start-others.left ≡ c.loop-next.left ++ as_runs c.loop-next.start other.start = elim c.if-start-others.branch [
+      | then-start-others+in_ok-push w ↦ w.left-is ∙ w.in_ok-push.ensures.ok ∙ ap (λ l. c.loop-next.left ++ l) (sym (as_runs-full c.loop-next.start other.start w.if-start-others.true))
+      | else-start-others w ↦ w.left-is ∙ sym (append-nil c.loop-next.left) ∙ ap (λ l. c.loop-next.left ++ l) (sym (as_runs-empty c.loop-next.start other.start w.if-start-others.false))
     ] in
     rw (left, c.max-start.ensures) (difference-spent c.loop-next.left _ c.args.others.now _ c.loop-next.start run.end c.loop-next.next (record { start = 0; end = 0 }) c.requires.others rest (omega arith) c.if-others-next.true c.loop-next.invariant)
 
@@ -22,9 +22,9 @@ pub loop-run-preserved : goal.loop-run-preserved
 loop-run-preserved c =
     let run = get_or c.args.runs.now c.loop-run.run-index (record { start = 0; end = 0 }) in
     let other = get_or c.args.others.now c.loop-next.next (record { start = 0; end = 0 }) in
-    let left : c.if-start-end.left ≡ c.loop-next.left ++ piece c.loop-next.start c.if-next-others.end = elim c.if-start-end.branch [
-      | then-start-end+in_ok-push-2 w ↦ w.left-is ∙ w.in_ok-push-2.ensures.ok ∙ ap (λ l. c.loop-next.left ++ l) (sym (piece-full c.loop-next.start c.if-next-others.end w.if-start-end.true))
-      | else-start-end w ↦ w.left-is ∙ sym (append-nil c.loop-next.left) ∙ ap (λ l. c.loop-next.left ++ l) (sym (piece-empty c.loop-next.start c.if-next-others.end w.if-start-end.false))
+    let left : c.if-start-end.left ≡ c.loop-next.left ++ as_runs c.loop-next.start c.if-next-others.end = elim c.if-start-end.branch [
+      | then-start-end+in_ok-push-2 w ↦ w.left-is ∙ w.in_ok-push-2.ensures.ok ∙ ap (λ l. c.loop-next.left ++ l) (sym (as_runs-full c.loop-next.start c.if-next-others.end w.if-start-end.true))
+      | else-start-end w ↦ w.left-is ∙ sym (append-nil c.loop-next.left) ∙ ap (λ l. c.loop-next.left ++ l) (sym (as_runs-empty c.loop-next.start c.if-next-others.end w.if-start-end.false))
     ] in
     let behind : c.loop-next.next < length c.args.others.now → run.end < other.end = λ lt. elim c.loop-next-test.branch [
       | then-loop-next-test+else-others-next w ↦ w.if-others-next.false

@@ -1,5 +1,5 @@
 use Rattle.std.proofs.Common.{◌≡◌, ◌+◌, ◌-◌, ◌++◌, length, drop}
-use Rattle.quic_ranges.specs.Pieces.{outside, subtracted}
+use Rattle.quic_ranges.specs.Intersections.{outside, subtracted}
 use Rattle.quic_ranges.proofs.range_set.vec_range_set.difference_of.Given as goal
 
 -- what is left so far, and what is to come

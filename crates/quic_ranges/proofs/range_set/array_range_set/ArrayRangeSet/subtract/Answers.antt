@@ -1,6 +1,6 @@
 use Rattle.std.proofs.Common.{◌≡◌, ℕ, ◌<◌, List, length, ap, ◌∙◌, subst, arith}
 use Rattle.std.specs.declared.ops.Range.{Range}
-use Rattle.quic_ranges.specs.Pieces.{subtracted}
+use Rattle.quic_ranges.specs.Intersections.{subtracted}
 use Rattle.quic_ranges.specs.Runs.{IsRunsOf, in_subtraction}
 use Rattle.quic_ranges.proofs.RunsLemmas.{IsRunsOf-unique}
 use Rattle.quic_ranges.proofs.SubtractLemmas.{IsRunsOf-subtracted}

@@ -1,17 +1,17 @@
 use Rattle.std.proofs.Common.{arith, ◌≡◌, refl, ap, ◌∙◌}
 use Rattle.std.specs.Slice.Iter.{iter_rest}
-use Rattle.quic_ranges.specs.Pieces.{pieces}
-use Rattle.quic_ranges.proofs.RunsLemmas.{IsRunsOf-pieces}
+use Rattle.quic_ranges.specs.Intersections.{intersections}
+use Rattle.quic_ranges.proofs.RunsLemmas.{IsRunsOf-intersections}
 use Rattle.std.proofs.lemmas.Grind.{common_steps}
 use Rattle.quic_ranges.proofs.range_set.vec_range_set.RangeSet.replace.Goals as goal
 
 pub returns : goal.returns
 returns c =
-    let items : iter_rest c.iter.result ≡ pieces c.self.inside.runs c.args.x = c.iter.ensures.rest ∙ c.deref.ensures.value ∙ c.in_ok-find_pieces.ensures.pieces ∙ ap (λ l. pieces l c.args.x) c.as_slice.ensures in (
+    let items : iter_rest c.iter.result ≡ intersections c.self.inside.runs c.args.x = c.iter.ensures.rest ∙ c.deref.ensures.value ∙ c.in_ok-find_intersections.ensures.intersections ∙ ap (λ l. intersections l c.args.x) c.as_slice.ensures in (
       (refl, (λ _. tt), (rw (← c.self.view_is) c.in_ok-join.ensures.union, tt)),
       record {
         union = tt;
-        pieces = rw (items, ← c.self.view_is) (IsRunsOf-pieces c.args.x c.self.inside.runs c.self.invariant);
+        intersections = rw (items, ← c.self.view_is) (IsRunsOf-intersections c.args.x c.self.inside.runs c.self.invariant);
         void = λ _. refl;
       },
     )

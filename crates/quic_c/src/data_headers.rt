@@ -12,7 +12,7 @@ ghost use Rattle.quic_c.specs.declared.words.CFrame.{CFrame};
 
 use crate::ack_gaps::store;
 use crate::words::CFrame;
-use quic_frame_fields::frame::put;
+use quic_frame_fields::frame::write_into;
 use quic_frames::frame::FrameType;
 
 // Whether the struct describes a frame that can be written without its data.
@@ -42,7 +42,7 @@ fn put_numbers(dest: &mut [u8], numbers: &[u64]) -> Result<usize, usize>
     ensures { Puts result (shortest_varints numbers.now) dest.old dest.new }
 {
     if dest.len() < 40 {
-        return put::numbers(dest, numbers);
+        return write_into::numbers(dest, numbers);
     }
     let mut at = 0;
     for number in numbers {

@@ -9,7 +9,7 @@ use thiserror::Error;
 
 /// A payload's tag doesn't match the number, the header and the key that are to open it.
 #[derive(Clone, Copy, Debug, PartialEq, Eq, Error)]
-#[error("payload does not belong to the packet's number, head and key")]
+#[error("payload does not belong to the packet's number, header and key")]
 pub struct CryptoError;
 
 /// A key that hides the low bits of a header's first byte, and the packet number (RFC 9001, section 5.4). What

@@ -27,14 +27,14 @@ blocks_stand bytes a b c ty largest delay blocks rest fits one two three four =
     (f ++ (g ++ (i ++ t.count_bytes)), e ∙ ap (λ (l : List ℕ). f ++ l) second ∙ sym (append_assoc f (g ++ (i ++ t.count_bytes)) (blocks ++ rest))))))
 
 -- of two ways to cut bytes, what is in front of the longer rest begins what is in front of the shorter
-front_of : (front left head rest : List ℕ) → front ++ left ≡ head ++ rest → length left ≤ length rest → front ≡ head ++ take (length rest - length left) rest
-front_of front left head rest e fewer =
+front_of : (front left header rest : List ℕ) → front ++ left ≡ header ++ rest → length left ≤ length rest → front ≡ header ++ take (length rest - length left) rest
+front_of front left header rest e fewer =
     let back = take (length rest - length left) rest in
     let over = drop (length rest - length left) rest in
-    let whole : front ++ left ≡ (head ++ back) ++ over = e ∙ ap (λ (l : List ℕ). head ++ l) (sym (take-append-drop (length rest - length left) rest)) ∙ sym (append_assoc head back over) in
-    let sizes : length front + length left ≡ length head + length rest = sym (length-append front left) ∙ ap length e ∙ length-append head rest in
-    let long : length (head ++ back) ≡ length front = omega (arith, length-append head back, length-take (length rest - length left) rest, sizes) in
-    sym (take_at front left (length front) refl) ∙ ap (take (length front)) whole ∙ take_at (head ++ back) over (length front) long
+    let whole : front ++ left ≡ (header ++ back) ++ over = e ∙ ap (λ (l : List ℕ). header ++ l) (sym (take-append-drop (length rest - length left) rest)) ∙ sym (append_assoc header back over) in
+    let sizes : length front + length left ≡ length header + length rest = sym (length-append front left) ∙ ap length e ∙ length-append header rest in
+    let long : length (header ++ back) ≡ length front = omega (arith, length-append header back, length-take (length rest - length left) rest, sizes) in
+    sym (take_at front left (length front) refl) ∙ ap (take (length front)) whole ∙ take_at (header ++ back) over (length front) long
 
 -- the blocks that are read of a frame's bytes are there
 pub stand_in_frame : (type : ℕ) (ack : Ack) (bytes behind front left : List ℕ) → AreBytes bytes → varint_at bytes ≡ Ok (type, behind) → ReadsBlocks (parts_of ack) behind left → bytes ≡ front ++ left → BlocksStand type ack front
@@ -47,22 +47,22 @@ stand_in_frame type ack bytes behind front left fits e r cut =
     let d = varint_takes r.behind_largest a.delay r.behind_delay fits2 r.delay in
     let fits3 = back_bytes d.front r.behind_delay (subst AreBytes d.split fits2) in
     let b = blocks_take a.largest r.behind_delay a.additional r.behind_blocks fits3 r.blocks in
-    let head : List ℕ = t.front ++ (l.front ++ (d.front ++ b.count_bytes)) in
+    let header : List ℕ = t.front ++ (l.front ++ (d.front ++ b.count_bytes)) in
     let back : List ℕ = take (length r.behind_blocks - length left) r.behind_blocks in
     let four : r.behind_delay ≡ b.count_bytes ++ (a.additional ++ r.behind_blocks) = b.parts ∙ append_assoc b.count_bytes a.additional r.behind_blocks in
     let three : r.behind_largest ≡ (d.front ++ b.count_bytes) ++ (a.additional ++ r.behind_blocks) = d.split ∙ ap (λ (m : List ℕ). d.front ++ m) four ∙ sym (append_assoc d.front b.count_bytes (a.additional ++ r.behind_blocks)) in
     let two : behind ≡ (l.front ++ (d.front ++ b.count_bytes)) ++ (a.additional ++ r.behind_blocks) =
     l.split ∙ ap (λ (m : List ℕ). l.front ++ m) three ∙ sym (append_assoc l.front (d.front ++ b.count_bytes) (a.additional ++ r.behind_blocks)) in
-    let one : bytes ≡ head ++ (a.additional ++ r.behind_blocks) =
+    let one : bytes ≡ header ++ (a.additional ++ r.behind_blocks) =
     t.split ∙ ap (λ (m : List ℕ). t.front ++ m) two ∙ sym (append_assoc t.front (l.front ++ (d.front ++ b.count_bytes)) (a.additional ++ r.behind_blocks)) in
-    let here : front ≡ (head ++ a.additional) ++ back =
-    front_of front left (head ++ a.additional) r.behind_blocks (sym cut ∙ one ∙ sym (append_assoc head a.additional r.behind_blocks)) r.fewer in
+    let here : front ≡ (header ++ a.additional) ++ back =
+    front_of front left (header ++ a.additional) r.behind_blocks (sym cut ∙ one ∙ sym (append_assoc header a.additional r.behind_blocks)) r.fewer in
     let ranges : ranges_acked ack ≡ b.range ∷ b.ranges = ranges_are a.largest b.range b.ranges a.additional b.blocks in
     let count : length b.ranges ≡ length (ranges_acked ack) - 1 = omega (arith, ap length ranges) in
     record {
-      head = head;
+      header = header;
       back = back;
-      parts = here ∙ append_assoc head a.additional back;
+      parts = here ∙ append_assoc header a.additional back;
       numbers = (
         t.front,
         l.front ++ (d.front ++ b.count_bytes),

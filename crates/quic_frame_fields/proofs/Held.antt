@@ -77,16 +77,16 @@ pub held_many : (a : Ack) (h : HeldParts a) (encoded : List ℕ) (count : ℕ) �
 held_many a h encoded count is counted = ap (λ (n : ℕ). n / 2) (counted h.numbers (subst (AreEncoded h.numbers) (sym is) h.encoded)) ∙ h.many
 
 -- the same of a header and counts that were computed
-pub held_whole : (a : Ack) (h : HeldParts a) (last : Bool) (head : List ℕ) (counts : Option EcnCounts) → head ≡ header_numbers a → counts ≡ a.ecn
-    → shortest_frame last (ack_meaning a) ≡ shortest_varints head ++ (shortest_varints h.numbers ++ shortest_varints (count_numbers counts))
-held_whole a h last head counts header_is counts_are =
+pub held_whole : (a : Ack) (h : HeldParts a) (last : Bool) (header : List ℕ) (counts : Option EcnCounts) → header ≡ header_numbers a → counts ≡ a.ecn
+    → shortest_frame last (ack_meaning a) ≡ shortest_varints header ++ (shortest_varints h.numbers ++ shortest_varints (count_numbers counts))
+held_whole a h last header counts header_is counts_are =
     h.parts last ∙ ap (λ (l : List ℕ). shortest_varints l ++ (shortest_varints h.numbers ++ shortest_varints (count_numbers a.ecn))) (sym header_is)
-    ∙ ap (λ (k : Option EcnCounts). shortest_varints head ++ (shortest_varints h.numbers ++ shortest_varints (count_numbers k))) (sym counts_are)
+    ∙ ap (λ (k : Option EcnCounts). shortest_varints header ++ (shortest_varints h.numbers ++ shortest_varints (count_numbers k))) (sym counts_are)
 
-pub held_length : (a : Ack) (h : HeldParts a) (last : Bool) (head : List ℕ) (counts : Option EcnCounts) (first second third : ℕ) → head ≡ header_numbers a → counts ≡ a.ecn → first ≡ length (shortest_varints head)
+pub held_length : (a : Ack) (h : HeldParts a) (last : Bool) (header : List ℕ) (counts : Option EcnCounts) (first second third : ℕ) → header ≡ header_numbers a → counts ≡ a.ecn → first ≡ length (shortest_varints header)
     → second ≡ length (shortest_varints h.numbers) → third ≡ length (shortest_varints (count_numbers counts)) → first + second + third ≡ length (shortest_frame last (ack_meaning a))
-held_length a h last head counts first second third header_is counts_are one two three =
-    let whole = ap length (held_whole a h last head counts header_is counts_are) in
-    let front = length-append (shortest_varints head) (shortest_varints h.numbers ++ shortest_varints (count_numbers counts)) in
+held_length a h last header counts first second third header_is counts_are one two three =
+    let whole = ap length (held_whole a h last header counts header_is counts_are) in
+    let front = length-append (shortest_varints header) (shortest_varints h.numbers ++ shortest_varints (count_numbers counts)) in
     let back = length-append (shortest_varints h.numbers) (shortest_varints (count_numbers counts)) in
     omega (arith, whole, front, back, one, two, three)

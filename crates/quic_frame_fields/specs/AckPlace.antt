@@ -11,11 +11,11 @@ use Rattle.quic_frame_fields.specs.Reading.{varint_at, blocks_at}
 -- The blocks of an ACK are in the bytes of its frame: after the type, the greatest number, the delay, and how many
 -- ranges are below the first.
 pub record BlocksStand (type : ℕ) (ack : Ack) (bytes : List ℕ) : Type 0 where
-  pub head : List ℕ
+  pub header : List ℕ
   pub back : List ℕ
-  pub parts : bytes ≡ head ++ ((parts_of ack).additional ++ back)
+  pub parts : bytes ≡ header ++ ((parts_of ack).additional ++ back)
   pub numbers : AreEncoded (type ∷ (parts_of ack).largest ∷ (parts_of ack).delay ∷ (length (ranges_acked ack) - 1)
-      ∷ []) head
+      ∷ []) header
 
 -- ---- as readers find them
 

@@ -12,9 +12,9 @@ pub mod encode;
 pub mod fault;
 pub mod field;
 mod first_range;
-pub mod put;
 pub mod stream_meta;
 pub mod write;
+pub mod write_into;
 
 pub use ack::{Ack, AckError, AckIter, EcnCounts};
 pub use ack_place::split_ack;

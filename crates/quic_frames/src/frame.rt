@@ -10,7 +10,7 @@ mod field;
 mod found;
 mod in_range;
 mod iter;
-mod put;
+mod encode_into;
 mod reading;
 mod size_bound;
 

@@ -209,6 +209,6 @@ pub fn ack_len(ack: &Ack<'_>) -> u128
     ensures { (last : Bool) → result ≡ length (shortest_frame last (ack_meaning ack.now)) }
 {
     let (numbers, blocks) = write::count_and_len(ack.additional());
-    let head = write::numbers_len(&header_of(ack, numbers));
-    head + u128::from(blocks) + counts_len(ack.ecn())
+    let header_len = write::numbers_len(&header_of(ack, numbers));
+    header_len + u128::from(blocks) + counts_len(ack.ecn())
 }

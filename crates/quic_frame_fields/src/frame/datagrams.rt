@@ -22,8 +22,8 @@ impl Datagram<'_> {
             (shortest_frame (not with_length) (datagram_meaning self.now)) ≤ vec_capacity out.old → IsOk result }
     {
         if with_length {
-            let head = [0x31, self.bytes.len() as u64];
-            write::append(out, &head, self.bytes)
+            let numbers = [0x31, self.bytes.len() as u64];
+            write::append(out, &numbers, self.bytes)
         } else {
             write::append(out, &[0x30], self.bytes)
         }

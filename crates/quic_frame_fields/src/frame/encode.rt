@@ -210,9 +210,18 @@ impl ConnectionClose<'_> {
             → Writes result (shortest_frame last (connection_close self.now.error_code self.now.frame_type reason.now))
             (B.written out.old) (B.spare out.old) (B.written out.new) (B.spare out.new) }
     {
+        write::numbers_and_bytes(out, &self.numbers(reason), reason)
+    }
+
+    /// The numbers in front of this reason phrase.
+    #[inline]
+    pub fn numbers(&self, reason: &[u8]) -> [u64; 4]
+        ensures numbers { result ≡ 0x1c ∷ self.now.error_code ∷ type_or_zero self.now.frame_type
+            ∷ length reason.now ∷ [] }
+        ensures numeric { length reason.now < 2 ^ 62 → AreNumeric result }
+    {
         let ty = type_or_zero(self.frame_type);
-        let head = [0x1c, self.error_code.into(), ty, reason.len() as u64];
-        write::numbers_and_bytes(out, &head, reason)
+        [0x1c, self.error_code.into(), ty, reason.len() as u64]
     }
 }
 
@@ -246,8 +255,16 @@ impl ApplicationClose<'_> {
         ensures { (last : Bool) → Writes result (shortest_frame last (application_close self.now.error_code reason.now))
             (B.written out.old) (B.spare out.old) (B.written out.new) (B.spare out.new) }
     {
-        let head = [0x1d, self.error_code.into_inner(), reason.len() as u64];
-        write::numbers_and_bytes(out, &head, reason)
+        write::numbers_and_bytes(out, &self.numbers(reason), reason)
+    }
+
+    /// The numbers in front of this reason phrase.
+    #[inline]
+    pub fn numbers(&self, reason: &[u8]) -> [u64; 3]
+        ensures numbers { result ≡ 0x1d ∷ self.now.error_code ∷ length reason.now ∷ [] }
+        ensures numeric { length reason.now < 2 ^ 62 → AreNumeric result }
+    {
+        [0x1d, self.error_code.into_inner(), reason.len() as u64]
     }
 }
 

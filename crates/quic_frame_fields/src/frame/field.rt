@@ -35,7 +35,8 @@ fn varint_inline(bytes: &[u8]) -> Result<(u64, &[u8]), Fault>
     }
 }
 
-/// The same, for numbers of which most have one byte.
+/// A number of any width, below 2^62, and what follows it, made for numbers of which nearly all have one byte: reading
+/// such a one is inlined into the caller.
 #[inline(always)]
 #[tactic(auto, using(crate::proofs::Gaps::one_at))]
 pub fn varint_mostly_one_byte(bytes: &[u8]) -> Result<(u64, &[u8]), Fault>

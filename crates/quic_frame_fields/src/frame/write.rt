@@ -18,37 +18,37 @@ pub(super) const HEADER_ROOM: usize = 40;
 // Stores a number in its shortest encoding at a place, and answers where it ends.
 #[inline(always)]
 #[tactic(auto, unfolding(quic_base::specs::Varint::shortest_varint, quic_base::specs::Varint::size, quic_base::specs::Number::bytes_of))]
-pub(super) fn store_number(head: &mut [u8], at: usize, n: u64) -> usize
+pub(super) fn store_number(dest: &mut [u8], at: usize, n: u64) -> usize
     requires numeric { n < 2 ^ 62 }
-    requires room { at + 8 ≤ length head.old }
+    requires room { at + 8 ≤ length dest.old }
     ensures end { result ≡ at + length (shortest_varint n) }
     ensures near { result ≤ at + 8 }
-    ensures front { take result head.new ≡ take at head.old ++ shortest_varint n }
-    ensures len { length head.new ≡ length head.old }
+    ensures front { take result dest.new ≡ take at dest.old ++ shortest_varint n }
+    ensures len { length dest.new ≡ length dest.old }
 {
     if n < 1 << 6 {
-        store_array(head, at, [n as u8])
+        store_array(dest, at, [n as u8])
     } else if n < 1 << 14 {
-        store_array(head, at, ((1 << 14) + n as u16).to_be_bytes())
+        store_array(dest, at, ((1 << 14) + n as u16).to_be_bytes())
     } else if n < 1 << 30 {
-        store_array(head, at, ((2 << 30) + n as u32).to_be_bytes())
+        store_array(dest, at, ((2 << 30) + n as u32).to_be_bytes())
     } else {
-        store_array(head, at, ((3 << 62) + n).to_be_bytes())
+        store_array(dest, at, ((3 << 62) + n).to_be_bytes())
     }
 }
 
 // Stores numbers, one after the other, and answers where they end.
 #[inline(always)]
-pub(super) fn store_numbers(head: &mut [u8], numbers: &[u64]) -> usize
-    requires room { 8 * length numbers.now ≤ length head.old }
+pub(super) fn store_numbers(dest: &mut [u8], numbers: &[u64]) -> usize
+    requires room { 8 * length numbers.now ≤ length dest.old }
     requires numeric { AreNumeric numbers.now }
     ensures within { result ≤ 8 * length numbers.now }
-    ensures front { take result head.new ≡ shortest_varints numbers.now }
-    ensures len { length head.new ≡ length head.old }
+    ensures front { take result dest.new ≡ shortest_varints numbers.now }
+    ensures len { length dest.new ≡ length dest.old }
 {
     let mut at = 0;
     for number in numbers {
-        at = store_number(head, at, *number);
+        at = store_number(dest, at, *number);
     }
     at
 }
@@ -63,9 +63,9 @@ pub fn numbers<B: BufMut>(out: &mut B, numbers: &[u64]) -> Result<(), NoRoom>
     ensures { Writes result (shortest_varints numbers.now) (B.written out.old) (B.spare out.old) (B.written out.new)
         (B.spare out.new) }
 {
-    let mut head = [0; HEADER_ROOM];
-    let len = store_numbers(&mut head, numbers);
-    bytes(out, &head[..len])
+    let mut encoded = [0; HEADER_ROOM];
+    let len = store_numbers(&mut encoded, numbers);
+    bytes(out, &encoded[..len])
 }
 
 /// Appends bytes, in the same way.
@@ -79,14 +79,14 @@ pub fn bytes<B: BufMut>(out: &mut B, bytes: &[u8]) -> Result<(), NoRoom>
 }
 
 /// Appends numbers and then bytes, in the same way.
-pub fn numbers_and_bytes<B: BufMut>(out: &mut B, head: &[u64], tail: &[u8]) -> Result<(), NoRoom>
-    requires few { length head.now ≤ 5 }
-    requires numeric { AreNumeric head.now }
-    ensures { Writes result (shortest_varints head.now ++ tail.now) (B.written out.old) (B.spare out.old)
+pub fn numbers_and_bytes<B: BufMut>(out: &mut B, numbers: &[u64], tail: &[u8]) -> Result<(), NoRoom>
+    requires few { length numbers.now ≤ 5 }
+    requires numeric { AreNumeric numbers.now }
+    ensures { Writes result (shortest_varints numbers.now ++ tail.now) (B.written out.old) (B.spare out.old)
         (B.written out.new)
         (B.spare out.new) }
 {
-    numbers(out, head)?;
+    self::numbers(out, numbers)?;
     bytes(out, tail)
 }
 
@@ -189,30 +189,30 @@ pub fn numbers_len(numbers: &[u64]) -> u128
 
 /// How many bytes `numbers_and_bytes` appends.
 #[inline(always)]
-pub fn numbers_and_bytes_len(head: &[u64], tail: &[u8]) -> u128
-    requires few { length head.now ≤ 5 }
-    requires numeric { AreNumeric head.now }
-    ensures { result ≡ length (shortest_varints head.now ++ tail.now) }
+pub fn numbers_and_bytes_len(numbers: &[u64], tail: &[u8]) -> u128
+    requires few { length numbers.now ≤ 5 }
+    requires numeric { AreNumeric numbers.now }
+    ensures { result ≡ length (shortest_varints numbers.now ++ tail.now) }
 {
-    numbers_len(head) + tail.len() as u128
+    numbers_len(numbers) + tail.len() as u128
 }
 
 /// Appends numbers and then bytes to a vector. It reserves room for all of them at once, which can't fail if there is
 /// spare room for them. Answers `NoRoom` if that fails; `out` then doesn't change.
-pub fn append(out: &mut Vec<u8>, head: &[u64], tail: &[u8]) -> Result<(), NoRoom>
-    requires few { length head.now ≤ 5 }
-    requires numeric { AreNumeric head.now }
-    ensures ok { OnOk result (out.new.items ≡ out.old.items ++ (shortest_varints head.now ++ tail.now)) }
+pub fn append(out: &mut Vec<u8>, numbers: &[u64], tail: &[u8]) -> Result<(), NoRoom>
+    requires few { length numbers.now ≤ 5 }
+    requires numeric { AreNumeric numbers.now }
+    ensures ok { OnOk result (out.new.items ≡ out.old.items ++ (shortest_varints numbers.now ++ tail.now)) }
     ensures err { OnErr result (out.new.items ≡ out.old.items) }
     ensures capacity { OnErr result (vec_capacity out.new ≡ vec_capacity out.old) }
-    ensures room { vec_len out.old + length (shortest_varints head.now ++ tail.now) ≤ vec_capacity out.old
+    ensures room { vec_len out.old + length (shortest_varints numbers.now ++ tail.now) ≤ vec_capacity out.old
         → IsOk result }
 {
     if out
-        .reserve(numbers_len(head) as usize + tail.len())
+        .reserve(numbers_len(numbers) as usize + tail.len())
         .is_err()
     {
         return Err(NoRoom);
     }
-    numbers_and_bytes(out, head, tail)
+    numbers_and_bytes(out, numbers, tail)
 }

@@ -146,8 +146,8 @@ fn encode_datagram<B: BufMut>(
     if last {
         write::numbers_and_bytes(out, &[0x30], datagram.bytes)
     } else {
-        let head = [0x31, datagram.bytes.len() as u64];
-        write::numbers_and_bytes(out, &head, datagram.bytes)
+        let numbers = [0x31, datagram.bytes.len() as u64];
+        write::numbers_and_bytes(out, &numbers, datagram.bytes)
     }
 }
 
@@ -181,8 +181,8 @@ fn stream_len(stream: &Stream<'_>, last: bool) -> u128
     let length = stream.bytes.len();
     let offset_len = size_unless(stream.offset == 0, stream.offset);
     let length_len = size_unless(last, length as u64);
-    let head = 1 + write::size_of(stream.id.into()) + offset_len + length_len;
-    head as u128 + length as u128
+    let header_len = 1 + write::size_of(stream.id.into()) + offset_len + length_len;
+    header_len as u128 + length as u128
 }
 
 // The size of a number, 0 if it is left out.
@@ -203,8 +203,8 @@ fn datagram_len(datagram: &Datagram<'_>, last: bool) -> u128
     if last {
         write::numbers_and_bytes_len(&[0x30], datagram.bytes)
     } else {
-        let head = [0x31, datagram.bytes.len() as u64];
-        write::numbers_and_bytes_len(&head, datagram.bytes)
+        let numbers = [0x31, datagram.bytes.len() as u64];
+        write::numbers_and_bytes_len(&numbers, datagram.bytes)
     }
 }
 
@@ -215,25 +215,8 @@ fn close_len(close: &Close<'_>) -> u128
     ensures { (last : Bool) → result ≡ length (shortest_frame last (close_meaning close.now)) }
 {
     match close {
-        Close::Connection(
-            ConnectionClose {
-                error_code,
-                frame_type,
-                reason,
-            },
-        ) => {
-            let head = [
-                0x1c,
-                (*error_code).into(),
-                type_or_zero(*frame_type),
-                reason.len() as u64,
-            ];
-            write::numbers_and_bytes_len(&head, reason)
-        }
-        Close::Application(ApplicationClose { error_code, reason }) => {
-            let head = [0x1d, error_code.into_inner(), reason.len() as u64];
-            write::numbers_and_bytes_len(&head, reason)
-        }
+        Close::Connection(c) => write::numbers_and_bytes_len(&c.numbers(c.reason), c.reason),
+        Close::Application(c) => write::numbers_and_bytes_len(&c.numbers(c.reason), c.reason),
     }
 }
 
@@ -242,7 +225,7 @@ fn new_id_len(new: &NewConnectionId) -> u128
     requires { InRange (frames.NewConnectionId new.now) }
     ensures { (last : Bool) → result ≡ length (shortest_frame last (meaning_of (frames.NewConnectionId new.now))) }
 {
-    let head = write::numbers_len(&[0x18, new.sequence, new.retire_prior_to]);
+    let front = write::numbers_len(&[0x18, new.sequence, new.retire_prior_to]);
     let (id, token) = (new.id.as_slice(), new.reset_token.as_slice());
-    head + 1 + id.len() as u128 + token.len() as u128
+    front + 1 + id.len() as u128 + token.len() as u128
 }

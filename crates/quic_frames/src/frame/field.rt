@@ -23,23 +23,6 @@ fn bytes_of(n: u64, bytes: &[u8]) -> Result<(&[u8], &[u8]), Fault>
     Ok(bytes.split_at(n as usize))
 }
 
-/// A number of any width, and what follows it, made for numbers of which nearly all have one byte: reading such a
-/// one is inlined into the caller.
-#[inline(always)]
-#[tactic(auto, using(quic_frame_fields::proofs::Gaps::one_at))]
-pub(super) fn varint_mostly_one_byte(bytes: &[u8]) -> Result<(u64, &[u8]), Fault>
-    ensures gives { Gives (λ x. (x.0, x.1.now)) result (varint_at bytes.now) }
-    ensures bound { IfOk result (λ x. x.0 < 2 ^ 62) }
-{
-    if let Some((first, rest)) = bytes.split_first() {
-        if *first < 64 {
-            return Ok((u64::from(*first), rest));
-        }
-    }
-    let (number, rest) = varint(bytes)?;
-    Ok((number, rest))
-}
-
 /// A number of any width. Reading it is inlined into the caller, as for the fields of a STREAM, since most frames are
 /// STREAMs.
 #[inline(always)]

@@ -5,8 +5,9 @@ ghost use Rattle.quic_frame_fields.specs.Reading.{found_at, is_long_type};
 ghost use Rattle.quic_frames.specs.Found.{GivesFound};
 
 use super::reading::read_frame;
-use super::{Frame, FrameType, InvalidFrame, field};
+use super::{Frame, FrameType, InvalidFrame};
 use quic_frame_fields::frame::fault::Fault;
+use quic_frame_fields::frame::field::varint_mostly_one_byte;
 use quic_frame_fields::frame::write;
 
 /// The frame at the front of some bytes.
@@ -21,19 +22,19 @@ pub(super) struct FirstFrame<'a> {
 }
 
 /// Reads the frame at the front of `bytes`. With `strict`, a type that is not in its shortest encoding is an error;
-/// `before`, the type of the frame before, is reported where no type can be read.
+/// `last_type`, the type of the frame before, is reported where no type can be read.
 #[inline(always)]
 pub(super) fn read_typed_frame(
     strict: bool,
-    before: Option<FrameType>,
+    last_type: Option<FrameType>,
     bytes: &[u8],
 ) -> Result<FirstFrame<'_>, InvalidFrame>
-    ensures gives { GivesFound bytes.now result (found_at strict before bytes.now) }
+    ensures gives { GivesFound bytes.now result (found_at strict last_type bytes.now) }
     ensures bytes { AreBytes bytes.now }
 {
-    let Ok((number, rest)) = field::varint_mostly_one_byte(bytes) else {
+    let Ok((number, rest)) = varint_mostly_one_byte(bytes) else {
         return Err(InvalidFrame {
-            ty: before,
+            ty: last_type,
             reason: Fault::UnexpectedEnd.reason(),
         });
     };

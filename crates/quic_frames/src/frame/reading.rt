@@ -15,7 +15,7 @@ use crate::transport_error::Code;
 use quic_base::ids::{ConnectionId, Dir, ResetToken, StreamId};
 use quic_base::varint::VarInt;
 use quic_frame_fields::frame::fault::Fault;
-use quic_frame_fields::frame::field::{blocks, varint};
+use quic_frame_fields::frame::field::{blocks, varint, varint_mostly_one_byte};
 
 // An ACK, with counts or without. Both are read by one body, so that reading a frame stays small enough to go into
 // its callers.
@@ -32,9 +32,9 @@ fn read_ack(has_counts: bool, bytes: &[u8]) -> Result<(Frame<'_>, &[u8]), Fault>
         let ack = Ack::of_blocks(largest, delay, blocks, None);
         return Ok((Frame::Ack(ack), rest));
     }
-    let (ect0, rest) = field::varint_mostly_one_byte(rest)?;
-    let (ect1, rest) = field::varint_mostly_one_byte(rest)?;
-    let (ce, rest) = field::varint_mostly_one_byte(rest)?;
+    let (ect0, rest) = varint_mostly_one_byte(rest)?;
+    let (ect1, rest) = varint_mostly_one_byte(rest)?;
+    let (ce, rest) = varint_mostly_one_byte(rest)?;
     let ecn = EcnCounts { ect0, ect1, ce };
     let ack = Ack::of_blocks(largest, delay, blocks, Some(ecn));
     Ok((Frame::Ack(ack), rest))
@@ -182,8 +182,8 @@ fn new_connection_id(bytes: &[u8]) -> Result<(NewConnectionId, &[u8]), Fault>
     ensures { Gives (λ x. (meaning_of (frames.NewConnectionId x.0), x.1.now)) result
         (row_at table.new_connection_id_row bytes.now) }
 {
-    let (sequence, rest) = field::varint_mostly_one_byte(bytes)?;
-    let (retire_prior_to, rest) = field::varint_mostly_one_byte(rest)?;
+    let (sequence, rest) = varint_mostly_one_byte(bytes)?;
+    let (retire_prior_to, rest) = varint_mostly_one_byte(rest)?;
     if retire_prior_to > sequence {
         return Err(Fault::Malformed);
     }

@@ -10,8 +10,8 @@ header_of-requires c =
     let h = held_parts a (subst AreBytes c.additional.ensures c.count_and_len-numbers.ensures.bytes) c.requires in
     held_many a h c.additional.result.now c.count_and_len-numbers.result.0 c.additional.ensures c.count_and_len-numbers.ensures.count
 
-pub numbers_len-head-requires : goal.numbers_len-head-requires
-numbers_len-head-requires c =
+pub numbers_len-header_len-requires : goal.numbers_len-header_len-requires
+numbers_len-header_len-requires c =
     let h = held_parts c.args.ack.now (subst AreBytes c.additional.ensures c.count_and_len-numbers.ensures.bytes) c.requires in subst AreNumeric (sym c.header_of.ensures) h.numeric
 
 pub returns : goal.returns
@@ -19,4 +19,4 @@ returns c last =
     let a = c.args.ack.now in
     let h = held_parts a (subst AreBytes c.additional.ensures c.count_and_len-numbers.ensures.bytes) c.requires in
     let blocks = c.count_and_len-numbers.ensures.len h.numbers (subst (AreEncoded h.numbers) (sym c.additional.ensures) h.encoded) in
-    held_length a h last c.header_of.result c.ecn.result _ _ _ c.header_of.ensures c.ecn.ensures c.numbers_len-head.ensures.value (c.from.ensures ∙ blocks) c.counts_len.ensures.value
+    held_length a h last c.header_of.result c.ecn.result _ _ _ c.header_of.ensures c.ecn.ensures c.numbers_len-header_len.ensures.value (c.from.ensures ∙ blocks) c.counts_len.ensures.value

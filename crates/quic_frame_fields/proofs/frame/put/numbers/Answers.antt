@@ -1,5 +1,0 @@
-use Rattle.std.proofs.Common.{rules}
-use Rattle.quic_frame_fields.proofs.frame.put.numbers.Goals as goal
-
-pub returns : goal.returns
-returns c = search rules

@@ -8,7 +8,8 @@ use Rattle.quic_base.specs.Reading.{◌>>=◌}
 use Rattle.quic_frame_fields.specs.Reading.{block_at, gap_at, next_range_at, first_range_at, ranges_of, IsBlocks, blocks_left}
 use Rattle.quic_frame_fields.proofs.Steps.{bind_ok, bind_err, mapped_err, ok_is}
 use Rattle.quic_frame_fields.proofs.Gaps.{short_block, short_gap}
-use Rattle.quic_frame_fields.proofs.Blocks.{block_takes, gap_takes, block_shorter, gap_shorter, first_of, first_is_last, first_and_next, has_first, has_next, are_left, comes_first, first_stops, gap_stops, block_reason, gap_reason, IsCutOrLarge}
+use Rattle.quic_frame_fields.proofs.Blocks.{block_takes, gap_takes}
+use Rattle.quic_frame_fields.proofs.UncountedBlocks.{block_shorter, gap_shorter, first_of, first_is_last, first_and_next, has_first, has_next, are_left, comes_first, first_stops, gap_stops, block_reason, gap_reason, IsCutOrLarge}
 
 -- ---- step by step
 

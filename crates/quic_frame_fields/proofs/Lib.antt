@@ -1,6 +1,7 @@
 pub mod Varints
 pub mod Steps
 pub mod Blocks
+pub mod UncountedBlocks
 pub mod Gaps
 pub mod Apart
 pub mod Numbers

@@ -3,7 +3,7 @@ use Rattle.std.proofs.Common.{◌≡◌, ℕ, ◌-◌, ◌+◌, ◌≤◌, ◌<�
 use Rattle.quic_base.specs.Number.{AreBytes}
 use Rattle.quic_frame_fields.specs.Reading.{block_at, gap_at, ranges_of, blocks_left}
 use Rattle.quic_frame_fields.proofs.Gaps.{short_block, short_gap}
-use Rattle.quic_frame_fields.proofs.Blocks.{is_blocks, are_left, first_of, first_and_next}
+use Rattle.quic_frame_fields.proofs.UncountedBlocks.{is_blocks, are_left, first_of, first_and_next}
 
 pub short_first : (greatest n m : ℕ) (rest bytes : List ℕ) → AreBytes bytes → 0 < length bytes → blocks_left greatest bytes ≡ Ok [] → bytes ≡ n ∷ m ∷ rest → n < 64 → m < 64 → n + (m + 2) ≤ greatest
     → (ranges_of greatest bytes ≡ (greatest - n, greatest) ∷ ranges_of (greatest - (n + (m + 2))) rest) × (blocks_left (greatest - (n + (m + 2))) rest ≡ Ok [])

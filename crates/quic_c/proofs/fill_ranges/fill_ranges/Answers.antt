@@ -1,5 +1,5 @@
 use Rattle.std.proofs.Common.{length, inr, arith}
-use Rattle.quic_frame_fields.proofs.Blocks.{some_of}
+use Rattle.quic_frame_fields.proofs.UncountedBlocks.{some_of}
 use Rattle.quic_c.proofs.RangeFilling.{range_of_left, none_of_left, ranges_go_on, ranges_end}
 use Rattle.quic_c.proofs.fill_ranges.fill_ranges.Goals as goal
 

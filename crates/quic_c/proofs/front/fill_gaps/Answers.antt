@@ -1,5 +1,5 @@
 use Rattle.std.proofs.Common.{length, arith}
-use Rattle.quic_frame_fields.proofs.Blocks.{some_of}
+use Rattle.quic_frame_fields.proofs.UncountedBlocks.{some_of}
 use Rattle.quic_c.proofs.GapFilling.{gaps_begin, gap_stands, len_stands, gaps_go_on, gaps_end, gaps_whole, gaps_full}
 use Rattle.quic_c.proofs.front.fill_gaps.Goals as goal
 use Rattle.quic_c.proofs.front.fill_gaps.Goals.{then-loop-count-test+else-not-is_empty, else-loop-count-test}

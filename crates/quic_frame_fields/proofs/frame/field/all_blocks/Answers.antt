@@ -1,6 +1,6 @@
 use Rattle.std.proofs.Common.{length, List, ℕ, subst, arith}
 use Rattle.std.proofs.lemmas.Result.{err_from_is_err_and}
-use Rattle.quic_frame_fields.proofs.Blocks.{Comes, comes_first, comes_further, first_stops, gap_stops, block_stops, all_read, block_reason, gap_reason, block_shorter, gap_shorter, block_left, nothing_is, zero_of, some_of}
+use Rattle.quic_frame_fields.proofs.UncountedBlocks.{Comes, comes_first, comes_further, first_stops, gap_stops, block_stops, all_read, block_reason, gap_reason, block_shorter, gap_shorter, block_left, nothing_is, zero_of, some_of}
 use Rattle.quic_frame_fields.proofs.frame.field.all_blocks.Goals as goal
 
 pub returns-in_err-low-clause-err : goal.returns-in_err-low-clause-err

@@ -1,6 +1,6 @@
 use Rattle.std.proofs.Common.{length}
 use Rattle.quic_base.specs.Number.{AreBytes}
-use Rattle.quic_frame_fields.proofs.Blocks.{Comes}
+use Rattle.quic_frame_fields.proofs.UncountedBlocks.{Comes}
 use Rattle.quic_frame_fields.proofs.frame.field.all_blocks.Given as goal
 
 -- some pairs were read, and what is left are bytes

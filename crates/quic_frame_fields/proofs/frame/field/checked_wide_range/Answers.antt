@@ -1,6 +1,6 @@
 use Rattle.std.proofs.Common.{arith, length}
 use Rattle.std.proofs.lemmas.Result.{err_from_is_err_and}
-use Rattle.quic_frame_fields.proofs.Blocks.{zero_of, some_of}
+use Rattle.quic_frame_fields.proofs.UncountedBlocks.{zero_of, some_of}
 use Rattle.quic_frame_fields.proofs.FirstRanges.{no_block, last_block, no_gap_after, block_and_gap}
 use Rattle.std.proofs.lemmas.Grind.{common_steps}
 use Rattle.quic_frame_fields.proofs.frame.field.checked_wide_range.Goals as goal

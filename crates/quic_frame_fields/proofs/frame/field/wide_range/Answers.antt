@@ -1,5 +1,5 @@
 use Rattle.std.proofs.Common.{length}
-use Rattle.quic_frame_fields.proofs.Blocks.{is_blocks, are_left, first_of, has_first, first_is_last, first_and_next, has_next, zero_of, some_of}
+use Rattle.quic_frame_fields.proofs.UncountedBlocks.{is_blocks, are_left, first_of, has_first, first_is_last, first_and_next, has_next, zero_of, some_of}
 use Rattle.quic_frame_fields.proofs.frame.field.wide_range.Goals as goal
 
 pub unreachable-requires : goal.unreachable-requires

@@ -1,5 +1,5 @@
 use Rattle.std.proofs.Common.{length, rules}
-use Rattle.quic_frame_fields.proofs.Blocks.{no_ranges_left, zero_of}
+use Rattle.quic_frame_fields.proofs.UncountedBlocks.{no_ranges_left, zero_of}
 use Rattle.quic_frame_fields.proofs.frame.ack.AckIterIterator.next.Goals as goal
 
 pub returns-then-is_empty-clause-steps : goal.returns-then-is_empty-clause-steps

@@ -13,15 +13,19 @@ second : (k m n : ℕ) (xs to : List ℕ) → n ≡ length xs → m + k ≡ n �
 second k m n xs to is sum covers =
     let count : length (take k xs) ≡ k = length-take-le k xs (omega (arith, is, sum)) in
     let front : take m (take k xs ++ drop k to) ≡ take m xs =
-    take-append-le m (take k xs) (drop k to) (omega (arith, count, sum, covers)) ∙ take-take m k xs (omega (arith, sum, covers)) in
+    take-append-le m (take k xs) (drop k to) (omega (arith, count, sum, covers))
+    ∙ take-take m k xs (omega (arith, sum, covers)) in
     let back : drop (n - m) (drop m (take k xs ++ drop k to)) ≡ drop n to =
-    drop-drop (n - m) m (take k xs ++ drop k to) ∙ ap (λ (i : ℕ). drop i (take k xs ++ drop k to)) (let e : m + (n - m) ≡ n = omega (arith, sum) in e)
+    drop-drop (n - m) m (take k xs ++ drop k to)
+    ∙ ap (λ (i : ℕ). drop i (take k xs ++ drop k to)) (let e : m + (n - m) ≡ n = omega (arith, sum) in e)
     ∙ drop-append-drop k to (take k xs) n (omega (arith, sum)) count in
     ap (λ (ys : List ℕ). ys ++ (drop m xs ++ drop (n - m) (drop m (take k xs ++ drop k to)))) front
     ∙ ap (λ (ys : List ℕ). take m xs ++ (drop m xs ++ ys)) back
-    ∙ sym (append_assoc (take m xs) (drop m xs) (drop n to)) ∙ ap (λ (ys : List ℕ). ys ++ drop n to) (take-append-drop m xs)
+    ∙ sym (append_assoc (take m xs) (drop m xs) (drop n to))
+    ∙ ap (λ (ys : List ℕ). ys ++ drop n to) (take-append-drop m xs)
 
-pub two_ends : (k : ℕ) (xs to front back : List ℕ) → k ≤ length xs → length xs ≤ k + k → front ≡ take k xs → back ≡ between (length xs - k) (length xs) xs
+pub two_ends : (k : ℕ) (xs to front back : List ℕ) → k ≤ length xs → length xs ≤ k + k → front ≡ take k xs
+    → back ≡ between (length xs - k) (length xs) xs
     → put_mid (length xs - k) (length xs - (length xs - k)) (front ++ drop k to) back ≡ xs ++ drop (length xs) to
 two_ends k xs to front back enough covers first last =
     let m : ℕ = length xs - k in
@@ -30,12 +34,15 @@ two_ends k xs to front back enough covers first last =
     ∙ second k m (length xs) xs to refl (omega (arith, enough)) covers
 
 -- a list of at most 20 bytes with zeros after it, up to 20 of them
-pub padded_front : (xs zeros bytes : List ℕ) → zeros ≡ replicate 20 0 → bytes ≡ xs ++ drop (length xs) zeros → take (length xs) bytes ≡ xs
+pub padded_front : (xs zeros bytes : List ℕ) → zeros ≡ replicate 20 0 → bytes ≡ xs ++ drop (length xs) zeros
+    → take (length xs) bytes ≡ xs
 padded_front xs zeros bytes are is = ap (take (length xs)) is ∙ take_at xs (drop (length xs) zeros) (length xs) refl
 
-pub padded_zeros : (xs zeros bytes : List ℕ) → length xs ≤ 20 → zeros ≡ replicate 20 0 → bytes ≡ xs ++ drop (length xs) zeros → IsPadded (length xs) bytes
+pub padded_zeros : (xs zeros bytes : List ℕ) → length xs ≤ 20 → zeros ≡ replicate 20 0
+    → bytes ≡ xs ++ drop (length xs) zeros → IsPadded (length xs) bytes
 padded_zeros xs zeros bytes short are is =
-    let behind : drop (length xs) zeros ≡ replicate (20 - length xs) 0 = ap (drop (length xs)) are ∙ drop-replicate (length xs) 20 0 in
+    let behind : drop (length xs) zeros ≡ replicate (20 - length xs) 0 =
+        ap (drop (length xs)) are ∙ drop-replicate (length xs) 20 0 in
     record {
       short = short;
       width = omega (arith, ap length is, length-append xs (drop (length xs) zeros), length-drop (length xs) zeros, ap length are, length-replicate {A = ℕ} 20 0, short);

@@ -21,7 +21,8 @@ behind_length old (x ∷ []) new n e l v = e ∙ ap (λ y. y ∷ new) (sym v)
 behind_length old (x ∷ y ∷ ys) new n e l v = absurd (omega arith)
 
 -- a whole id in front shows its length, and that many bytes follow it
-shown : (old b s id mid : List ℕ) (n : ℕ) → old ≡ n ∷ mid → old ≡ b ++ s → IsLongId id b → (n ≡ length id) × (n ≤ length mid)
+shown : (old b s id mid : List ℕ) (n : ℕ) → old ≡ n ∷ mid → old ≡ b ++ s → IsLongId id b
+    → (n ≡ length id) × (n ≤ length mid)
 shown old b s id mid n e f p =
     let w : n ∷ mid ≡ length id ∷ (id ++ s) = sym e ∙ f ∙ ap (λ l. l ++ s) p.value in
     let h : n ≡ length id = cc in
@@ -34,12 +35,14 @@ none_too_long old mid n e l id b s f p =
     let h = shown old b s id mid n e f p in
     omega (arith, h.0, p.short)
 
-pub none_too_short : (old mid : List ℕ) (n : ℕ) → old ≡ n ∷ mid → length mid < n → (id : List ℕ) → NoFront (IsLongId id) old
+pub none_too_short : (old mid : List ℕ) (n : ℕ) → old ≡ n ∷ mid → length mid < n → (id : List ℕ)
+    → NoFront (IsLongId id) old
 none_too_short old mid n e l id b s f p =
     let h = shown old b s id mid n e f p in
     omega (arith, h.1)
 
-pub takes_long : (old mid id new : List ℕ) (n : ℕ) → old ≡ n ∷ mid → mid ≡ id ++ new → length id ≡ n → n ≤ 20 → AreBytes id → Takes (IsLongId id) old new
+pub takes_long : (old mid id new : List ℕ) (n : ℕ) → old ≡ n ∷ mid → mid ≡ id ++ new → length id ≡ n → n ≤ 20
+    → AreBytes id → Takes (IsLongId id) old new
 takes_long old mid id new n e f l h a = record {
   front = length id ∷ id;
   split = e ∙ ap (λ m. n ∷ m) f ∙ ap (λ k. k ∷ (id ++ new)) (sym l);
@@ -47,16 +50,19 @@ takes_long old mid id new n e f l h a = record {
 }
 
 -- an id has one encoding, and no encoding begins another
-pub long_id_unique : (id id' b c r s : List ℕ) → b ++ r ≡ c ++ s → IsLongId id b → IsLongId id' c → (id ≡ id') × (b ≡ c) × (r ≡ s)
+pub long_id_unique : (id id' b c r s : List ℕ) → b ++ r ≡ c ++ s → IsLongId id b → IsLongId id' c
+    → (id ≡ id') × (b ≡ c) × (r ≡ s)
 long_id_unique id id' b c r s e p q =
-    let w : length id ∷ (id ++ r) ≡ length id' ∷ (id' ++ s) = ap (λ l. l ++ r) (sym p.value) ∙ e ∙ ap (λ l. l ++ s) q.value in
+    let w : length id ∷ (id ++ r) ≡ length id' ∷ (id' ++ s) =
+        ap (λ l. l ++ r) (sym p.value) ∙ e ∙ ap (λ l. l ++ s) q.value in
     let l : length id ≡ length id' = cc in
     let t : id ++ r ≡ id' ++ s = cc in
     let f : id ≡ id' = same_front id id' r s l t in
     (f, p.value ∙ ap (λ i. length i ∷ i) f ∙ sym q.value, same_back id id' r s l t)
 
 -- one more byte of the text
-pub hex_more : (xs : List ℕ) (i : ℕ) → i < length xs → get_or xs i 0 < 256 → flat_map hex_pair (take i xs) ++ padded_integral (format_spec 32 0 4 2 (2 ^ 64 - 1)) false [] (digits 16 false (get_or xs i 0)) ≡ flat_map hex_pair (take (i + 1) xs)
+pub hex_more : (xs : List ℕ) (i : ℕ) → i < length xs → get_or xs i 0 < 256
+    → flat_map hex_pair (take i xs) ++ padded_integral (format_spec 32 0 4 2 (2 ^ 64 - 1)) false [] (digits 16 false (get_or xs i 0)) ≡ flat_map hex_pair (take (i + 1) xs)
 hex_more xs i l h =
     ap (λ t. flat_map hex_pair (take i xs) ++ t) (hex_byte false (get_or xs i 0) h)
     ∙ flat_map_more hex_pair [] (take i xs) (get_or xs i 0)

@@ -64,7 +64,8 @@ num_injective (x ∷ xs) (y ∷ ys) ha hb el en =
     let by : num ys < 256 ^ length xs = rw l (num_below ys (tail_bytes y ys hb)) in
     let e : x * 256 ^ length xs + num xs ≡ y * 256 ^ length xs + num ys = en ∙ ap (λ k. y * 256 ^ k + num ys) (sym l) in
     let hd : x ≡ y = same_lead x y (256 ^ length xs) (num xs) (num ys) bx by e in
-    let tl : xs ≡ ys = num_injective xs ys (tail_bytes x xs ha) (tail_bytes y ys hb) l (same_rest x y (256 ^ length xs) (num xs) (num ys) bx by e) in
+    let tl : xs ≡ ys =
+        num_injective xs ys (tail_bytes x xs ha) (tail_bytes y ys hb) l (same_rest x y (256 ^ length xs) (num xs) (num ys) bx by e) in
     cc
 
 -- what the program reads from k bytes
@@ -138,7 +139,8 @@ pub is_number_8 : (n : ℕ) → n < 2 ^ 64 → IsNumber 8 n (bytes_of 8 n)
 is_number_8 n h = record { bytes = bytes_of_are_bytes 8 n; width = length-bytes_of 8 n; value = num-bytes_of_8 n h }
 
 -- what is read from k bytes, and where there are fewer
-pub takes_number : (k : ℕ) (old new b : List ℕ) (n : ℕ) → old ≡ b ++ new → length b ≡ k → AreBytes b → num b ≡ n → Takes (IsNumber k n) old new
+pub takes_number : (k : ℕ) (old new b : List ℕ) (n : ℕ) → old ≡ b ++ new → length b ≡ k → AreBytes b → num b ≡ n
+    → Takes (IsNumber k n) old new
 takes_number k old new b n e l h v = record { front = b; split = e; is = record { bytes = h; width = l; value = v } }
 
 pub no_number : (k : ℕ) (r : List ℕ) → length r < k → (n : ℕ) → NoFront (IsNumber k n) r
@@ -147,14 +149,16 @@ no_number k r few n b s e is =
     omega (arith, is.width)
 
 -- a number of k bytes has one encoding
-pub number_unique : (k m n : ℕ) (b c r s : List ℕ) → b ++ r ≡ c ++ s → IsNumber k m b → IsNumber k n c → (m ≡ n) × (b ≡ c) × (r ≡ s)
+pub number_unique : (k m n : ℕ) (b c r s : List ℕ) → b ++ r ≡ c ++ s → IsNumber k m b → IsNumber k n c
+    → (m ≡ n) × (b ≡ c) × (r ≡ s)
 number_unique k m n b c r s e p q =
     let l : length b ≡ length c = p.width ∙ sym q.width in
     let f : b ≡ c = same_front b c r s l e in
     (sym p.value ∙ ap num f ∙ q.value, f, same_back b c r s l e)
 
 -- octets have one encoding
-pub octets_unique : (k : ℕ) (o p b c r s : List ℕ) → b ++ r ≡ c ++ s → IsOctets k o b → IsOctets k p c → (o ≡ p) × (b ≡ c) × (r ≡ s)
+pub octets_unique : (k : ℕ) (o p b c r s : List ℕ) → b ++ r ≡ c ++ s → IsOctets k o b → IsOctets k p c
+    → (o ≡ p) × (b ≡ c) × (r ≡ s)
 octets_unique k o p b c r s e x y =
     let l : length b ≡ length c = x.width ∙ sym y.width in
     let f : b ≡ c = same_front b c r s l e in
@@ -169,15 +173,18 @@ segments_of-octets_of (x ∷ xs) =
     rw (e, ih) refl
 
 -- an address has one encoding
-pub ipv4_unique : (x y : Ipv4Addr) (b c r s : List ℕ) → b ++ r ≡ c ++ s → IsOctets 4 (ipv4_octets x) b → IsOctets 4 (ipv4_octets y) c → (x ≡ y) × (b ≡ c) × (r ≡ s)
+pub ipv4_unique : (x y : Ipv4Addr) (b c r s : List ℕ) → b ++ r ≡ c ++ s → IsOctets 4 (ipv4_octets x) b
+    → IsOctets 4 (ipv4_octets y) c → (x ≡ y) × (b ≡ c) × (r ≡ s)
 ipv4_unique x y b c r s e p q =
     let u = octets_unique 4 (ipv4_octets x) (ipv4_octets y) b c r s e p q in
     (ap (λ (o : List ℕ). let a : Ipv4Addr = record { octets = o } in a) u.0, u.1, u.2)
 
-pub ipv6_unique : (x y : Ipv6Addr) (b c r s : List ℕ) → b ++ r ≡ c ++ s → IsOctets 16 (ipv6_octets x) b → IsOctets 16 (ipv6_octets y) c → (x ≡ y) × (b ≡ c) × (r ≡ s)
+pub ipv6_unique : (x y : Ipv6Addr) (b c r s : List ℕ) → b ++ r ≡ c ++ s → IsOctets 16 (ipv6_octets x) b
+    → IsOctets 16 (ipv6_octets y) c → (x ≡ y) × (b ≡ c) × (r ≡ s)
 ipv6_unique x y b c r s e p q =
     let u = octets_unique 16 (ipv6_octets x) (ipv6_octets y) b c r s e p q in
-    let same : x.segments ≡ y.segments = sym (segments_of-octets_of x.segments) ∙ ap segments_of u.0 ∙ segments_of-octets_of y.segments in
+    let same : x.segments ≡ y.segments =
+        sym (segments_of-octets_of x.segments) ∙ ap segments_of u.0 ∙ segments_of-octets_of y.segments in
     (ap (λ (o : List ℕ). let a : Ipv6Addr = record { segments = o } in a) same, u.1, u.2)
 
 -- joining octets by twos loses nothing
@@ -191,5 +198,7 @@ octets_of-segments_of (suc n) (x ∷ y ∷ b) l h =
     let ih : octets_of (segments_of b) ≡ b = octets_of-segments_of n b (omega arith) (λ i. h (suc (suc i))) in
     rw (div-mul-add x 256 y low, mod-mul-add x 256 y low, ih) refl
 
-pub takes_ipv6 : (old new b s : List ℕ) → old ≡ b ++ new → length b ≡ 16 → AreBytes b → s ≡ segments_of b → Takes (IsOctets 16 (octets_of s)) old new
-takes_ipv6 old new b s e l h v = record { front = b; split = e; is = record { bytes = h; width = l; value = sym (octets_of-segments_of 8 b l h) ∙ ap octets_of (sym v) } }
+pub takes_ipv6 : (old new b s : List ℕ) → old ≡ b ++ new → length b ≡ 16 → AreBytes b → s ≡ segments_of b
+    → Takes (IsOctets 16 (octets_of s)) old new
+takes_ipv6 old new b s e l h v =
+    record { front = b; split = e; is = record { bytes = h; width = l; value = sym (octets_of-segments_of 8 b l h) ∙ ap octets_of (sym v) } }

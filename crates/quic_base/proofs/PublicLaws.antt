@@ -75,11 +75,13 @@ pub length-short : (v : ℕ) → length (shortest_varint v) ≡ size v
 length-short = encodings.length-short
 
 -- no encoding begins another, and none encodes two numbers
-pub encodes_unique : (v u : ℕ) (b c r s : List ℕ) → b ++ r ≡ c ++ s → Encodes v b → Encodes u c → (v ≡ u) × (b ≡ c) × (r ≡ s)
+pub encodes_unique : (v u : ℕ) (b c r s : List ℕ) → b ++ r ≡ c ++ s → Encodes v b → Encodes u c
+    → (v ≡ u) × (b ≡ c) × (r ≡ s)
 encodes_unique = encodings.encodes_unique
 
 -- the shortest is as short as any other, and alone in that
-pub short_least : (v : ℕ) (b : List ℕ) → Encodes v b → (length (shortest_varint v) ≤ length b) × (length b ≡ length (shortest_varint v) → b ≡ shortest_varint v)
+pub short_least : (v : ℕ) (b : List ℕ) → Encodes v b
+    → (length (shortest_varint v) ≤ length b) × (length b ≡ length (shortest_varint v) → b ≡ shortest_varint v)
 short_least = encodings.short_least
 
 -- what is encoded is below 2^62, and no encoding is empty
@@ -87,7 +89,8 @@ pub encoded_bound : (v : ℕ) (b : List ℕ) → Encodes v b → (v < 2 ^ 62) ×
 encoded_bound v b p = ((encodings.encoded_bound v b p).0, (encodings.lead v b p).0)
 
 -- what reading finds is encoded, and what is encoded is found
-pub number_taken : (bytes : List ℕ) (n : ℕ) (rest : List ℕ) → AreBytes bytes → number_at bytes ≡ Some (n, rest) → Takes (Encodes n) bytes rest
+pub number_taken : (bytes : List ℕ) (n : ℕ) (rest : List ℕ) → AreBytes bytes → number_at bytes ≡ Some (n, rest)
+    → Takes (Encodes n) bytes rest
 number_taken = readings.number_taken
 
 pub number_again : (n : ℕ) (front rest : List ℕ) → Encodes n front → number_at (front ++ rest) ≡ Some (n, rest)
@@ -101,14 +104,16 @@ pub no_number : (bytes : List ℕ) → AreBytes bytes → ((v : ℕ) → NoFront
 no_number = readings.no_number
 
 -- what two decoders take, one after another
-pub takes_then : (K L : List ℕ → Type 0) (old mid new : List ℕ) → Takes K old mid → Takes L mid new → Takes (Follows K L) old new
+pub takes_then : (K L : List ℕ → Type 0) (old mid new : List ℕ) → Takes K old mid → Takes L mid new
+    → Takes (Follows K L) old new
 takes_then = codecs.takes_then
 
 -- where the first of two is cut off, and where the second is
 pub cut_first : (K L : List ℕ → Type 0) (old : List ℕ) → NoFront K old → NoFront (Follows K L) old
 cut_first = codecs.cut_first
 
-pub cut_second : {T : Type 0} (K : T → List ℕ → Type 0) (L : List ℕ → Type 0) (old mid : List ℕ) (x y : T) → IsPrefixFree K → Takes (K x) old mid → NoFront L mid → NoFront (Follows (K y) L) old
+pub cut_second : {T : Type 0} (K : T → List ℕ → Type 0) (L : List ℕ → Type 0) (old mid : List ℕ) (x y : T)
+    → IsPrefixFree K → Takes (K x) old mid → NoFront L mid → NoFront (Follows (K y) L) old
 cut_second = codecs.cut_second
 
 -- where the first of two encoders is refused, and where the second is
@@ -123,7 +128,8 @@ pub on_err : {T E P : Type 0} (r : Result T E) → P → OnErr r P
 on_err = codecs.on_err
 
 -- decoding an encoding gives the value and leaves the rest
-pub reads_back : {T E : Type 0} (K : T → List ℕ → Type 0) (r : Result T E) (x : T) (old b rest new : List ℕ) → IsPrefixFree K → K x b → old ≡ b ++ rest
+pub reads_back : {T E : Type 0} (K : T → List ℕ → Type 0) (r : Result T E) (x : T) (old b rest new : List ℕ)
+    → IsPrefixFree K → K x b → old ≡ b ++ rest
     → IfOk r (λ v. Takes (K v) old new) → OnErr r ((v : T) → NoFront (K v) old) → (r ≡ Ok x) × (new ≡ rest)
 reads_back = codecs.reads_back
 

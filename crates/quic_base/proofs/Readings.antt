@@ -21,7 +21,8 @@ width_of (suc (suc zero)) lt = record { one_more = refl; limit = refl }
 width_of (suc (suc (suc zero))) lt = record { one_more = refl; limit = refl }
 width_of (suc (suc (suc (suc n)))) lt = absurd (omega (arith, lt))
 
-encoded_by : (b more n : ℕ) (t : List ℕ) → b < 256 → AreBytes t → length t ≡ more → IsWidth (b / 64) more → n ≡ b % 64 * 256 ^ more + num t → Encodes n (b ∷ t)
+encoded_by : (b more n : ℕ) (t : List ℕ) → b < 256 → AreBytes t → length t ≡ more → IsWidth (b / 64) more
+    → n ≡ b % 64 * 256 ^ more + num t → Encodes n (b ∷ t)
 encoded_by b more n t lt fits len w n-is =
     let small : num t < 256 ^ more = subst (λ (k : ℕ). num t < 256 ^ k) len (num_below t fits) in
     let low : b % 64 < 64 = omega arith in
@@ -40,7 +41,8 @@ guard_some : {A : Type 0} (b : Bool) (x y : A) → cond b None (Some x) ≡ Some
 guard_some true x y e = absurd cc
 guard_some false x y e = (refl, cc)
 
-pub number_taken : (bytes : List ℕ) (n : ℕ) (rest : List ℕ) → AreBytes bytes → number_at bytes ≡ Some (n, rest) → Takes (Encodes n) bytes rest
+pub number_taken : (bytes : List ℕ) (n : ℕ) (rest : List ℕ) → AreBytes bytes → number_at bytes ≡ Some (n, rest)
+    → Takes (Encodes n) bytes rest
 unfolding number_at
 number_taken [] n rest fits e = absurd cc
 number_taken (b ∷ bs) n rest fits e =
@@ -67,10 +69,14 @@ record Cuts (tag b s n more : ℕ) : Type 0 where
 
 cut : (tag b s n : ℕ) → tag < 4 → s < 256 ^ (2 ^ tag - 1) → n < 64 * 256 ^ (2 ^ tag - 1)
     → b * 256 ^ (2 ^ tag - 1) + s ≡ tag * (64 * 256 ^ (2 ^ tag - 1)) + n → Cuts tag b s n (2 ^ tag - 1)
-cut zero b s n lt small fits e = record { tag_is = omega (arith, small, fits, e); value = omega (arith, small, fits, e) }
-cut (suc zero) b s n lt small fits e = record { tag_is = omega (arith, small, fits, e); value = omega (arith, small, fits, e) }
-cut (suc (suc zero)) b s n lt small fits e = record { tag_is = omega (arith, small, fits, e); value = omega (arith, small, fits, e) }
-cut (suc (suc (suc zero))) b s n lt small fits e = record { tag_is = omega (arith, small, fits, e); value = omega (arith, small, fits, e) }
+cut zero b s n lt small fits e =
+    record { tag_is = omega (arith, small, fits, e); value = omega (arith, small, fits, e) }
+cut (suc zero) b s n lt small fits e =
+    record { tag_is = omega (arith, small, fits, e); value = omega (arith, small, fits, e) }
+cut (suc (suc zero)) b s n lt small fits e =
+    record { tag_is = omega (arith, small, fits, e); value = omega (arith, small, fits, e) }
+cut (suc (suc (suc zero))) b s n lt small fits e =
+    record { tag_is = omega (arith, small, fits, e); value = omega (arith, small, fits, e) }
 cut (suc (suc (suc (suc k)))) b s n lt small fits e = absurd (omega (arith, lt))
 
 pub number_again : (n : ℕ) (front rest : List ℕ) → Encodes n front → number_at (front ++ rest) ≡ Some (n, rest)
@@ -90,9 +96,11 @@ number_again n (b ∷ t) rest v =
     let long : ltb (length (t ++ rest)) more ≡ false = le-ltb _ _ (omega (arith, length-append t rest)) in
     rw (c.tag_is, long, take_at t rest more len, drop_at t rest more len, c.value) refl
 
-no_number_in : (bytes : List ℕ) (found : Option (ℕ × List ℕ)) → number_at bytes ≡ found → AreBytes bytes → ((v : ℕ) → NoFront (Encodes v) bytes) → found ≡ None
+no_number_in : (bytes : List ℕ) (found : Option (ℕ × List ℕ)) → number_at bytes ≡ found → AreBytes bytes
+    → ((v : ℕ) → NoFront (Encodes v) bytes) → found ≡ None
 no_number_in bytes None e fits none = refl
-no_number_in bytes (Some x) e fits none = let t = number_taken bytes x.0 x.1 fits e in absurd (none x.0 t.front x.1 t.split t.is)
+no_number_in bytes (Some x) e fits none =
+    let t = number_taken bytes x.0 x.1 fits e in absurd (none x.0 t.front x.1 t.split t.is)
 
 -- where no front is a number, reading finds none
 pub no_number : (bytes : List ℕ) → AreBytes bytes → ((v : ℕ) → NoFront (Encodes v) bytes) → number_at bytes ≡ None
@@ -100,4 +108,5 @@ no_number bytes fits none = no_number_in bytes (number_at bytes) refl fits none
 
 -- and where it finds none, no front is one
 pub none_found : (bytes : List ℕ) → number_at bytes ≡ None → (v : ℕ) → NoFront (Encodes v) bytes
-none_found bytes e v b s split p = absurd (let h = number_again v b s p in let g : number_at (b ++ s) ≡ None = ap number_at (sym split) ∙ e in cc)
+none_found bytes e v b s split p =
+    absurd (let h = number_again v b s p in let g : number_at (b ++ s) ≡ None = ap number_at (sym split) ∙ e in cc)

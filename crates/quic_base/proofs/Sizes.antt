@@ -31,7 +31,8 @@ abbrev size_of_bit : ℕ → ℕ
 size_of_bit bit = if nat_lt bit 6 then 1 else if nat_lt bit 14 then 2 else if nat_lt bit 30 then 4 else 8
 
 abbrev table : List ℕ
-table = 1 ∷ 1 ∷ 1 ∷ 1 ∷ 1 ∷ 1 ∷ 2 ∷ 2 ∷ 2 ∷ 2 ∷ 2 ∷ 2 ∷ 2 ∷ 2 ∷ 4 ∷ 4 ∷ 4 ∷ 4 ∷ 4 ∷ 4 ∷ 4 ∷ 4 ∷ 4 ∷ 4 ∷ 4 ∷ 4 ∷ 4 ∷ 4 ∷ 4 ∷ 4 ∷ 8 ∷ 8 ∷ 8 ∷ 8 ∷ 8 ∷ 8 ∷ 8 ∷ 8 ∷ 8 ∷ 8 ∷ 8 ∷ 8 ∷ 8 ∷ 8 ∷ 8 ∷ 8 ∷ 8 ∷ 8 ∷ 8 ∷ 8 ∷ 8 ∷ 8 ∷ 8 ∷ 8 ∷ 8 ∷ 8 ∷ 8 ∷ 8 ∷ 8 ∷ 8 ∷ 8 ∷ 8 ∷ []
+table =
+    1 ∷ 1 ∷ 1 ∷ 1 ∷ 1 ∷ 1 ∷ 2 ∷ 2 ∷ 2 ∷ 2 ∷ 2 ∷ 2 ∷ 2 ∷ 2 ∷ 4 ∷ 4 ∷ 4 ∷ 4 ∷ 4 ∷ 4 ∷ 4 ∷ 4 ∷ 4 ∷ 4 ∷ 4 ∷ 4 ∷ 4 ∷ 4 ∷ 4 ∷ 4 ∷ 8 ∷ 8 ∷ 8 ∷ 8 ∷ 8 ∷ 8 ∷ 8 ∷ 8 ∷ 8 ∷ 8 ∷ 8 ∷ 8 ∷ 8 ∷ 8 ∷ 8 ∷ 8 ∷ 8 ∷ 8 ∷ 8 ∷ 8 ∷ 8 ∷ 8 ∷ 8 ∷ 8 ∷ 8 ∷ 8 ∷ 8 ∷ 8 ∷ 8 ∷ 8 ∷ 8 ∷ 8 ∷ []
 
 is_right : ℕ → Bool
 is_right bit = eqb (slice_index_or table bit 0) (size_of_bit bit)
@@ -41,7 +42,8 @@ unfolding all_below is_right
 in_table bit lt = eqb-true _ _ (each_below 62 is_right refl bit lt)
 
 below_bit : (bit n k : ℕ) → n < 2 ^ suc bit → bit < k → n < 2 ^ k
-below_bit bit n k high lt = omega (arith, high, pow-le-pow_right {n = 2} (omega arith) {i = suc bit} {j = k} (omega (arith, lt)))
+below_bit bit n k high lt =
+    omega (arith, high, pow-le-pow_right {n = 2} (omega arith) {i = suc bit} {j = k} (omega (arith, lt)))
 
 from_bit : (bit n k : ℕ) → 2 ^ bit ≤ n → k ≤ bit → 2 ^ k ≤ n
 from_bit bit n k low le = omega (arith, low, pow-le-pow_right {n = 2} (omega arith) {i = k} {j = bit} le)

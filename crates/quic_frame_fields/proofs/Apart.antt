@@ -9,16 +9,20 @@ use Rattle.quic_frame_fields.specs.Reading.{varint_at, block_at, gap_at, below_a
 use Rattle.quic_frame_fields.proofs.Steps.{bind_ok, guard_ok, ok_is}
 use Rattle.quic_frame_fields.proofs.Blocks.{ranges_are}
 
-pub one_list : (greatest : ℕ) (some others : List (ℕ × ℕ)) (bytes : List ℕ) → AreBlocks greatest some bytes → AreBlocks greatest others bytes → some ≡ others
+pub one_list : (greatest : ℕ) (some others : List (ℕ × ℕ)) (bytes : List ℕ) → AreBlocks greatest some bytes
+    → AreBlocks greatest others bytes → some ≡ others
 one_list greatest [] others bytes a b = absurd a
 one_list greatest (range ∷ ranges) [] bytes a b = absurd b
-one_list greatest (range ∷ ranges) (other ∷ others) bytes a b = sym (ranges_are greatest range ranges bytes a) ∙ ranges_are greatest other others bytes b
+one_list greatest (range ∷ ranges) (other ∷ others) bytes a b =
+    sym (ranges_are greatest range ranges bytes a) ∙ ranges_are greatest other others bytes b
 
-below_apart : (range : ℕ × ℕ) (ranges : List (ℕ × ℕ)) (bytes : List ℕ) → range.0 ≤ range.1 → AreBelow range.0 ranges bytes → AreApart (range ∷ ranges)
+below_apart : (range : ℕ × ℕ) (ranges : List (ℕ × ℕ)) (bytes : List ℕ) → range.0 ≤ range.1
+    → AreBelow range.0 ranges bytes → AreApart (range ∷ ranges)
 below_apart range [] bytes le a = le
 below_apart range (below ∷ ranges) bytes le a = (le, a.5, below_apart below ranges a.2 a.4 a.8)
 
-pub blocks_apart : (greatest : ℕ) (ranges : List (ℕ × ℕ)) (bytes : List ℕ) → AreBlocks greatest ranges bytes → AreApart ranges
+pub blocks_apart : (greatest : ℕ) (ranges : List (ℕ × ℕ)) (bytes : List ℕ) → AreBlocks greatest ranges bytes
+    → AreApart ranges
 blocks_apart greatest [] bytes a = absurd a
 blocks_apart greatest (range ∷ ranges) bytes a = below_apart range ranges a.1 a.4 a.6
 
@@ -38,7 +42,8 @@ gap_low low bytes x e =
     let g = guard_ok (ltb low (a.0.0 + 2)) Malformed (low - (a.0.0 + 2), a.0.1) x a.2 in
     omega (arith, ltb-false _ _ g.0, ap (λ (y : ℕ × List ℕ). y.0) g.1)
 
-range_apart : (low : ℕ) (bytes : List ℕ) (x : (ℕ × ℕ) × List ℕ) → range_at low bytes ≡ Ok x → (x.0.1 + 2 ≤ low) × (x.0.0 ≤ x.0.1)
+range_apart : (low : ℕ) (bytes : List ℕ) (x : (ℕ × ℕ) × List ℕ) → range_at low bytes ≡ Ok x
+    → (x.0.1 + 2 ≤ low) × (x.0.0 ≤ x.0.1)
 unfolding range_at
 range_apart low bytes x e =
     let a = bind_ok (gap_at low bytes) (λ gap. block_at gap.0 gap.1 >>= λ block. Ok ((block.0, gap.0), block.1)) x e in
@@ -46,13 +51,15 @@ range_apart low bytes x e =
     let same : ((b.0.0, a.0.0), b.0.1) ≡ x = ok_is ((b.0.0, a.0.0), b.0.1) x b.2 in
     subst (λ (y : (ℕ × ℕ) × List ℕ). (y.0.1 + 2 ≤ low) × (y.0.0 ≤ y.0.1)) same (gap_low low bytes a.0 a.1, block_low a.0.0 a.0.1 b.0 b.1)
 
-below_are_apart : (n : ℕ) (range : ℕ × ℕ) (bytes : List ℕ) → range.0 ≤ range.1 → AreApart (range ∷ ranges_below n range.0 bytes)
+below_are_apart : (n : ℕ) (range : ℕ × ℕ) (bytes : List ℕ) → range.0 ≤ range.1
+    → AreApart (range ∷ ranges_below n range.0 bytes)
 unfolding ranges_below
 below_are_apart zero range bytes le = le
 below_are_apart (suc n) range [] le = le
 below_are_apart (suc n) range (b ∷ bytes) le = by_range (range_at range.0 (b ∷ bytes)) refl (below_are_apart n)
   where
-    by_range : (r : Result ((ℕ × ℕ) × List ℕ) Fault) → range_at range.0 (b ∷ bytes) ≡ r → ((next : ℕ × ℕ) (left : List ℕ) → next.0 ≤ next.1 → AreApart (next ∷ ranges_below n next.0 left))
+    by_range : (r : Result ((ℕ × ℕ) × List ℕ) Fault) → range_at range.0 (b ∷ bytes) ≡ r
+        → ((next : ℕ × ℕ) (left : List ℕ) → next.0 ≤ next.1 → AreApart (next ∷ ranges_below n next.0 left))
         → AreApart (range ∷ range_and (ranges_below n) r)
     by_range (Err f) e others = le
     by_range (Ok x) e others = let a = range_apart range.0 (b ∷ bytes) x e in (le, a.0, others x.0 x.1 a.1)
@@ -65,10 +72,13 @@ pub record AreDown (greatest : ℕ) (ranges : List (ℕ × ℕ)) : Type 0 where
   pub apart : AreApart ranges
 
 -- ranges of bytes that are the blocks of an ACK
-pub acked_apart : (greatest : ℕ) (bytes : List ℕ) → IsBlocks greatest bytes → AreDown greatest (ranges_of greatest bytes)
+pub acked_apart : (greatest : ℕ) (bytes : List ℕ) → IsBlocks greatest bytes
+    → AreDown greatest (ranges_of greatest bytes)
 unfolding after_blocks ranges_of
 acked_apart greatest bytes v =
-    let a = bind_ok (block_at greatest bytes) (λ block. below_at (length (ranges_of greatest bytes) - 1) block.0 block.1) [] v in
-    let are : first_and greatest (block_at greatest bytes) ≡ (a.0.0, greatest) ∷ ranges_below (length a.0.1) a.0.0 a.0.1 = ap (first_and greatest) a.1 in
+    let a =
+        bind_ok (block_at greatest bytes) (λ block. below_at (length (ranges_of greatest bytes) - 1) block.0 block.1) [] v in
+    let are : first_and greatest (block_at greatest bytes) ≡ (a.0.0, greatest) ∷ ranges_below (length a.0.1) a.0.0 a.0.1 =
+        ap (first_and greatest) a.1 in
     let apart = below_are_apart (length a.0.1) (a.0.0, greatest) a.0.1 (block_low greatest bytes a.0 a.1) in
     record { first = (a.0.0, greatest); others = ranges_below (length a.0.1) a.0.0 a.0.1; are = are; top = refl; apart = subst AreApart (sym are) apart }

@@ -19,24 +19,30 @@ from_gap count (Ok g) = after_gap count g.0 (block_at g.0 g.1)
 from_gap count (Err e) = refl
 
 -- ranges are read one by one
-pub by_range : (count low : ℕ) (bytes : List ℕ) → below_at (suc count) low bytes ≡ (range_at low bytes >>= λ r. below_at count r.0.0 r.1)
+pub by_range : (count low : ℕ) (bytes : List ℕ)
+    → below_at (suc count) low bytes ≡ (range_at low bytes >>= λ r. below_at count r.0.0 r.1)
 unfolding below_at range_at
 by_range count low bytes = from_gap count (gap_at low bytes)
 
-pub goes_on : (left low high least : ℕ) (bytes after : List ℕ) (total : Result (List ℕ) Fault) → 0 < left → range_at low bytes ≡ Ok ((least, high), after) → below_at left low bytes ≡ total
+pub goes_on : (left low high least : ℕ) (bytes after : List ℕ) (total : Result (List ℕ) Fault) → 0 < left
+    → range_at low bytes ≡ Ok ((least, high), after) → below_at left low bytes ≡ total
     → below_at (left - 1) least after ≡ total
 goes_on left low high least bytes after total some r so_far =
     let k : left ≡ suc (left - 1) = omega arith in
-    let one : below_at left low bytes ≡ below_at (left - 1) least after = ap (λ (n : ℕ). below_at n low bytes) k ∙ rw (by_range (left - 1) low bytes, r) refl in
+    let one : below_at left low bytes ≡ below_at (left - 1) least after =
+        ap (λ (n : ℕ). below_at n low bytes) k ∙ rw (by_range (left - 1) low bytes, r) refl in
     sym one ∙ so_far
 
-pub range_ends : (left low : ℕ) (bytes : List ℕ) (e : Fault) (total : Result (List ℕ) Fault) → 0 < left → range_at low bytes ≡ Err e → below_at left low bytes ≡ total → total ≡ Err e
+pub range_ends : (left low : ℕ) (bytes : List ℕ) (e : Fault) (total : Result (List ℕ) Fault) → 0 < left
+    → range_at low bytes ≡ Err e → below_at left low bytes ≡ total → total ≡ Err e
 range_ends left low bytes e total some r so_far =
     let k : left ≡ suc (left - 1) = omega arith in
-    let one : below_at left low bytes ≡ Err e = ap (λ (n : ℕ). below_at n low bytes) k ∙ rw (by_range (left - 1) low bytes, r) refl in
+    let one : below_at left low bytes ≡ Err e =
+        ap (λ (n : ℕ). below_at n low bytes) k ∙ rw (by_range (left - 1) low bytes, r) refl in
     sym so_far ∙ one
 
-pub is_done : (left low : ℕ) (bytes : List ℕ) (total : Result (List ℕ) Fault) → left ≤ 0 → below_at left low bytes ≡ total → total ≡ Ok bytes
+pub is_done : (left low : ℕ) (bytes : List ℕ) (total : Result (List ℕ) Fault) → left ≤ 0
+    → below_at left low bytes ≡ total → total ≡ Ok bytes
 unfolding below_at
 is_done left low bytes total le so_far =
     let k : left ≡ 0 = omega arith in
@@ -51,7 +57,8 @@ one_at n rest lt =
     rw (q, r) search rules
 
 -- a block and a gap of one byte each
-pub short_block : (greatest n : ℕ) (rest : List ℕ) → n < 64 → n ≤ greatest → block_at greatest (n ∷ rest) ≡ Ok (greatest - n, rest)
+pub short_block : (greatest n : ℕ) (rest : List ℕ) → n < 64 → n ≤ greatest
+    → block_at greatest (n ∷ rest) ≡ Ok (greatest - n, rest)
 unfolding block_at
 short_block greatest n rest lt le =
     let no : nat_lt greatest n ≡ false = grind (arith, nat_tests) in
@@ -63,7 +70,8 @@ short_gap low n rest lt le =
     let no : nat_lt low (n + 2) ≡ false = grind (arith, nat_tests) in
     rw (one_at n rest lt, no) refl
 
-pub short_range : (low n m : ℕ) (rest : List ℕ) → n < 64 → m < 64 → n + 2 + m ≤ low → range_at low (n ∷ m ∷ rest) ≡ Ok ((low - (n + 2 + m), low - (n + 2)), rest)
+pub short_range : (low n m : ℕ) (rest : List ℕ) → n < 64 → m < 64 → n + 2 + m ≤ low
+    → range_at low (n ∷ m ∷ rest) ≡ Ok ((low - (n + 2 + m), low - (n + 2)), rest)
 unfolding range_at
 short_range low n m rest one two le =
     let k : low - (n + 2) - m ≡ low - (n + 2 + m) = omega arith in

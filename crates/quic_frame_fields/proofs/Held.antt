@@ -25,26 +25,34 @@ below_numbers low (range ∷ ranges) = (low - (range.1 + 2)) ∷ (range.1 - rang
 abbrev block_numbers : ℕ × ℕ → List (ℕ × ℕ) → List ℕ
 block_numbers range ranges = (range.1 - range.0) ∷ below_numbers range.0 ranges
 
-below_encoded : (low : ℕ) (ranges : List (ℕ × ℕ)) (bytes : List ℕ) → AreBelow low ranges bytes → AreEncoded (below_numbers low ranges) bytes
+below_encoded : (low : ℕ) (ranges : List (ℕ × ℕ)) (bytes : List ℕ) → AreBelow low ranges bytes
+    → AreEncoded (below_numbers low ranges) bytes
 below_encoded low [] bytes s = s
-below_encoded low (range ∷ ranges) bytes s = (s.0, s.1 ++ s.2, s.3, s.6, (s.1, s.2, refl, s.7, below_encoded range.0 ranges s.2 s.8))
+below_encoded low (range ∷ ranges) bytes s =
+    (s.0, s.1 ++ s.2, s.3, s.6, (s.1, s.2, refl, s.7, below_encoded range.0 ranges s.2 s.8))
 
-blocks_encoded : (greatest : ℕ) (range : ℕ × ℕ) (ranges : List (ℕ × ℕ)) (bytes : List ℕ) → AreBlocks greatest (range ∷ ranges) bytes → AreEncoded (block_numbers range ranges) bytes
+blocks_encoded : (greatest : ℕ) (range : ℕ × ℕ) (ranges : List (ℕ × ℕ)) (bytes : List ℕ)
+    → AreBlocks greatest (range ∷ ranges) bytes → AreEncoded (block_numbers range ranges) bytes
 blocks_encoded greatest range ranges bytes s = (s.0, s.1, s.2, s.5, below_encoded range.0 ranges s.1 s.6)
 
 below_count : (low : ℕ) (ranges : List (ℕ × ℕ)) → length (below_numbers low ranges) ≡ 2 * length ranges
 below_count low [] = refl
 below_count low (range ∷ ranges) = omega (arith, below_count range.0 ranges)
 
-below_short : (low : ℕ) (ranges : List (ℕ × ℕ)) → shortest_varints (below_numbers low ranges) ≡ shortest_below low ranges
+below_short : (low : ℕ) (ranges : List (ℕ × ℕ))
+    → shortest_varints (below_numbers low ranges) ≡ shortest_below low ranges
 below_short low [] = refl
-below_short low (range ∷ ranges) = ap (λ (l : List ℕ). shortest_varint (low - (range.1 + 2)) ++ (shortest_varint (range.1 - range.0) ++ l)) (below_short range.0 ranges)
+below_short low (range ∷ ranges) =
+    ap (λ (l : List ℕ). shortest_varint (low - (range.1 + 2)) ++ (shortest_varint (range.1 - range.0) ++ l)) (below_short range.0 ranges)
 
 -- a number in front of the second part
-moved : (ns : List ℕ) (n : ℕ) (below rest : List ℕ) → shortest_varints (ns ++ n ∷ []) ++ (below ++ rest) ≡ shortest_varints ns ++ ((shortest_varint n ++ below) ++ rest)
+moved : (ns : List ℕ) (n : ℕ) (below rest : List ℕ)
+    → shortest_varints (ns ++ n ∷ []) ++ (below ++ rest) ≡ shortest_varints ns ++ ((shortest_varint n ++ below) ++ rest)
 moved [] n below rest = simp (append_assoc, append-nil)
 moved (m ∷ ns) n below rest =
-    append_assoc (shortest_varint m) (shortest_varints (ns ++ n ∷ [])) (below ++ rest) ∙ ap (λ (l : List ℕ). shortest_varint m ++ l) (moved ns n below rest) ∙ sym (append_assoc (shortest_varint m) (shortest_varints ns) ((shortest_varint n ++ below) ++ rest))
+    append_assoc (shortest_varint m) (shortest_varints (ns ++ n ∷ [])) (below ++ rest)
+    ∙ ap (λ (l : List ℕ). shortest_varint m ++ l) (moved ns n below rest)
+    ∙ sym (append_assoc (shortest_varint m) (shortest_varints ns) ((shortest_varint n ++ below) ++ rest))
 
 pub record HeldParts (a : Ack) : Type 0 where
   pub numbers : List ℕ
@@ -73,20 +81,27 @@ held_parts a fits q =
     }
 
 -- how many ranges are below the first, by how many numbers were counted
-pub held_many : (a : Ack) (h : HeldParts a) (encoded : List ℕ) (count : ℕ) → encoded ≡ a.additional.now → ((ns : List ℕ) → AreEncoded ns encoded → count ≡ length ns) → count / 2 ≡ length (ranges_acked a) - 1
-held_many a h encoded count is counted = ap (λ (n : ℕ). n / 2) (counted h.numbers (subst (AreEncoded h.numbers) (sym is) h.encoded)) ∙ h.many
+pub held_many : (a : Ack) (h : HeldParts a) (encoded : List ℕ) (count : ℕ) → encoded ≡ a.additional.now
+    → ((ns : List ℕ) → AreEncoded ns encoded → count ≡ length ns) → count / 2 ≡ length (ranges_acked a) - 1
+held_many a h encoded count is counted =
+    ap (λ (n : ℕ). n / 2) (counted h.numbers (subst (AreEncoded h.numbers) (sym is) h.encoded)) ∙ h.many
 
 -- the same of a header and counts that were computed
-pub held_whole : (a : Ack) (h : HeldParts a) (last : Bool) (header : List ℕ) (counts : Option EcnCounts) → header ≡ header_numbers a → counts ≡ a.ecn
+pub held_whole : (a : Ack) (h : HeldParts a) (last : Bool) (header : List ℕ) (counts : Option EcnCounts)
+    → header ≡ header_numbers a → counts ≡ a.ecn
     → shortest_frame last (ack_meaning a) ≡ shortest_varints header ++ (shortest_varints h.numbers ++ shortest_varints (count_numbers counts))
 held_whole a h last header counts header_is counts_are =
-    h.parts last ∙ ap (λ (l : List ℕ). shortest_varints l ++ (shortest_varints h.numbers ++ shortest_varints (count_numbers a.ecn))) (sym header_is)
+    h.parts last
+    ∙ ap (λ (l : List ℕ). shortest_varints l ++ (shortest_varints h.numbers ++ shortest_varints (count_numbers a.ecn))) (sym header_is)
     ∙ ap (λ (k : Option EcnCounts). shortest_varints header ++ (shortest_varints h.numbers ++ shortest_varints (count_numbers k))) (sym counts_are)
 
-pub held_length : (a : Ack) (h : HeldParts a) (last : Bool) (header : List ℕ) (counts : Option EcnCounts) (first second third : ℕ) → header ≡ header_numbers a → counts ≡ a.ecn → first ≡ length (shortest_varints header)
-    → second ≡ length (shortest_varints h.numbers) → third ≡ length (shortest_varints (count_numbers counts)) → first + second + third ≡ length (shortest_frame last (ack_meaning a))
+pub held_length : (a : Ack) (h : HeldParts a) (last : Bool) (header : List ℕ) (counts : Option EcnCounts) (first second third : ℕ)
+    → header ≡ header_numbers a → counts ≡ a.ecn → first ≡ length (shortest_varints header)
+    → second ≡ length (shortest_varints h.numbers) → third ≡ length (shortest_varints (count_numbers counts))
+    → first + second + third ≡ length (shortest_frame last (ack_meaning a))
 held_length a h last header counts first second third header_is counts_are one two three =
     let whole = ap length (held_whole a h last header counts header_is counts_are) in
-    let front = length-append (shortest_varints header) (shortest_varints h.numbers ++ shortest_varints (count_numbers counts)) in
+    let front =
+        length-append (shortest_varints header) (shortest_varints h.numbers ++ shortest_varints (count_numbers counts)) in
     let back = length-append (shortest_varints h.numbers) (shortest_varints (count_numbers counts)) in
     omega (arith, whole, front, back, one, two, three)

@@ -10,15 +10,21 @@ numeric_at [] i n lt = absurd (omega (arith, lt))
 numeric_at (m ∷ ns) zero n lt = n.0
 numeric_at (m ∷ ns) (suc i) n lt = numeric_at ns i n.1 (omega (arith, lt))
 
-pub all_short-at : (ns : List ℕ) (i : ℕ) → i < length ns → shortest_varints (take (suc i) ns) ≡ shortest_varints (take i ns) ++ shortest_varint (get_or ns i 0)
+pub all_short-at : (ns : List ℕ) (i : ℕ) → i < length ns
+    → shortest_varints (take (suc i) ns) ≡ shortest_varints (take i ns) ++ shortest_varint (get_or ns i 0)
 all_short-at [] i lt = absurd (omega (arith, lt))
 all_short-at (m ∷ ns) zero lt = append-nil (shortest_varint m)
-all_short-at (m ∷ ns) (suc i) lt = ap (λ (l : List ℕ). shortest_varint m ++ l) (all_short-at ns i (omega (arith, lt))) ∙ sym (append_assoc (shortest_varint m) (shortest_varints (take i ns)) (shortest_varint (get_or ns i 0)))
+all_short-at (m ∷ ns) (suc i) lt =
+    ap (λ (l : List ℕ). shortest_varint m ++ l) (all_short-at ns i (omega (arith, lt)))
+    ∙ sym (append_assoc (shortest_varint m) (shortest_varints (take i ns)) (shortest_varint (get_or ns i 0)))
 
-pub all_short-parts : (ns : List ℕ) (i : ℕ) → i < length ns → shortest_varints ns ≡ shortest_varints (take i ns) ++ (shortest_varint (get_or ns i 0) ++ shortest_varints (drop (suc i) ns))
+pub all_short-parts : (ns : List ℕ) (i : ℕ) → i < length ns
+    → shortest_varints ns ≡ shortest_varints (take i ns) ++ (shortest_varint (get_or ns i 0) ++ shortest_varints (drop (suc i) ns))
 all_short-parts [] i lt = absurd (omega (arith, lt))
 all_short-parts (m ∷ ns) zero lt = refl
-all_short-parts (m ∷ ns) (suc i) lt = ap (λ (l : List ℕ). shortest_varint m ++ l) (all_short-parts ns i (omega (arith, lt))) ∙ sym (append_assoc (shortest_varint m) (shortest_varints (take i ns)) (shortest_varint (get_or ns i 0) ++ shortest_varints (drop (suc i) ns)))
+all_short-parts (m ∷ ns) (suc i) lt =
+    ap (λ (l : List ℕ). shortest_varint m ++ l) (all_short-parts ns i (omega (arith, lt)))
+    ∙ sym (append_assoc (shortest_varint m) (shortest_varints (take i ns)) (shortest_varint (get_or ns i 0) ++ shortest_varints (drop (suc i) ns)))
 
 pub take_whole : (ns : List ℕ) (i : ℕ) → length ns ≤ i → take i ns ≡ ns
 take_whole [] zero le = refl

@@ -29,10 +29,13 @@ pub stream_parts : (last fin : Bool) (id offset : ℕ) (bytes : List ℕ)
 stream_parts last fin id offset bytes = by_cases (eqb offset 0) last fin id offset bytes refl
 
 -- the same, with the length as code has it
-pub stream_parts_as : (last fin : Bool) (id offset : ℕ) (bytes : List ℕ) (counted : Option ℕ) → counted ≡ then_some (not last) (length bytes)
+pub stream_parts_as : (last fin : Bool) (id offset : ℕ) (bytes : List ℕ) (counted : Option ℕ)
+    → counted ≡ then_some (not last) (length bytes)
     → stream_header id offset fin counted ++ bytes ≡ shortest_frame last (frame_of Stream (flag fin ∷ Number id ∷ Number offset ∷ Bytes bytes ∷ []))
-stream_parts_as true fin id offset bytes counted e = ap (λ (n : Option ℕ). stream_header id offset fin n ++ bytes) e ∙ stream_parts true fin id offset bytes
-stream_parts_as false fin id offset bytes counted e = ap (λ (n : Option ℕ). stream_header id offset fin n ++ bytes) e ∙ stream_parts false fin id offset bytes
+stream_parts_as true fin id offset bytes counted e =
+    ap (λ (n : Option ℕ). stream_header id offset fin n ++ bytes) e ∙ stream_parts true fin id offset bytes
+stream_parts_as false fin id offset bytes counted e =
+    ap (λ (n : Option ℕ). stream_header id offset fin n ++ bytes) e ∙ stream_parts false fin id offset bytes
 
 -- ---- how many bytes they take
 
@@ -43,14 +46,16 @@ open_type true false = refl
 open_type false true = refl
 open_type false false = refl
 
-counted_type : (has_no_offset ends : Bool) → size (0x08 + (if has_no_offset then 0 else 4) + (if ends then 1 else 0) + 2) ≡ 1
+counted_type : (has_no_offset ends : Bool)
+    → size (0x08 + (if has_no_offset then 0 else 4) + (if ends then 1 else 0) + 2) ≡ 1
 unfolding size
 counted_type true true = refl
 counted_type true false = refl
 counted_type false true = refl
 counted_type false false = refl
 
-offset_length : (b : Bool) (offset : ℕ) → length (if b then [] else shortest_varint offset) ≡ (if b then 0 else size offset)
+offset_length : (b : Bool) (offset : ℕ)
+    → length (if b then [] else shortest_varint offset) ≡ (if b then 0 else size offset)
 offset_length true offset = refl
 offset_length false offset = length-short offset
 

@@ -18,7 +18,8 @@ or_end_err : (found : Option (ℕ × List ℕ)) (e : Fault) → or_end found ≡
 or_end_err None e h = cc
 or_end_err (Some x) e h = absurd cc
 
-pub varint_takes : (bytes : List ℕ) (n : ℕ) (rest : List ℕ) → AreBytes bytes → varint_at bytes ≡ Ok (n, rest) → Takes (Encodes n) bytes rest
+pub varint_takes : (bytes : List ℕ) (n : ℕ) (rest : List ℕ) → AreBytes bytes → varint_at bytes ≡ Ok (n, rest)
+    → Takes (Encodes n) bytes rest
 unfolding varint_at
 varint_takes bytes n rest fits e = number_taken bytes n rest fits (or_end_ok (number_at bytes) (n, rest) e)
 

@@ -17,15 +17,18 @@ eight_again n front rest s =
 pub eight_read : (n : ℕ) (bytes rest : List ℕ) → Takes (IsNumber 8 n) bytes rest → eight_at bytes ≡ Ok (n, rest)
 eight_read n bytes rest t = ap eight_at t.split ∙ eight_again n t.front rest t.is
 
-too_short : (bytes : List ℕ) → AreBytes bytes → ((n : ℕ) → NoFront (IsNumber 8 n) bytes) → (b : Bool) → ltb (length bytes) 8 ≡ b → b ≡ true
+too_short : (bytes : List ℕ) → AreBytes bytes → ((n : ℕ) → NoFront (IsNumber 8 n) bytes) → (b : Bool)
+    → ltb (length bytes) 8 ≡ b → b ≡ true
 too_short bytes fits none true e = refl
 too_short bytes fits none false e =
     let long : 8 ≤ length bytes = ltb-false _ _ e in
     let whole : take 8 bytes ++ drop 8 bytes ≡ bytes = take-append-drop 8 bytes in
-    let front_fits : AreBytes (take 8 bytes) = front_bytes (take 8 bytes) (drop 8 bytes) (subst AreBytes (sym whole) fits) in
+    let front_fits : AreBytes (take 8 bytes) =
+        front_bytes (take 8 bytes) (drop 8 bytes) (subst AreBytes (sym whole) fits) in
     absurd (none (num (take 8 bytes)) (take 8 bytes) (drop 8 bytes) (sym whole) (record { bytes = front_fits; width = omega (arith, length-take 8 bytes); value = refl }))
 
-pub eight_cut : (bytes : List ℕ) → AreBytes bytes → ((n : ℕ) → NoFront (IsNumber 8 n) bytes) → eight_at bytes ≡ Err UnexpectedEnd
+pub eight_cut : (bytes : List ℕ) → AreBytes bytes → ((n : ℕ) → NoFront (IsNumber 8 n) bytes)
+    → eight_at bytes ≡ Err UnexpectedEnd
 unfolding eight_at bytes_at
 eight_cut bytes fits none = rw (too_short bytes fits none (ltb (length bytes) 8) refl) refl
 

@@ -16,10 +16,12 @@ use Rattle.quic_frame_fields.specs.Numbers.{shortest_varints}
 use Rattle.quic_frame_fields.proofs.Encoding as parts
 use Rattle.quic_frame_fields.proofs.StreamParts as streams
 
-pub crypto_parts : (last : Bool) (offset : ℕ) (bytes : List ℕ) → shortest_frame last (frame_of Crypto (Number offset ∷ Bytes bytes ∷ [])) ≡ shortest_varints (0x06 ∷ offset ∷ length bytes ∷ []) ++ bytes
+pub crypto_parts : (last : Bool) (offset : ℕ) (bytes : List ℕ)
+    → shortest_frame last (frame_of Crypto (Number offset ∷ Bytes bytes ∷ [])) ≡ shortest_varints (0x06 ∷ offset ∷ length bytes ∷ []) ++ bytes
 crypto_parts = parts.crypto_parts
 
-pub token_parts : (last : Bool) (bytes : List ℕ) → shortest_frame last (frame_of NewToken (Bytes bytes ∷ [])) ≡ shortest_varints (0x07 ∷ length bytes ∷ []) ++ bytes
+pub token_parts : (last : Bool) (bytes : List ℕ)
+    → shortest_frame last (frame_of NewToken (Bytes bytes ∷ [])) ≡ shortest_varints (0x07 ∷ length bytes ∷ []) ++ bytes
 token_parts = parts.token_parts
 
 -- the length byte of an id is a number below 64
@@ -37,7 +39,8 @@ pub connection_close_parts : (last : Bool) (code ty : ℕ) (bytes : List ℕ)
     → shortest_frame last (frame_of ConnectionClose (Number code ∷ Number ty ∷ Bytes bytes ∷ [])) ≡ shortest_varints (0x1c ∷ code ∷ ty ∷ length bytes ∷ []) ++ bytes
 connection_close_parts = parts.connection_close_parts
 
-pub application_close_parts : (last : Bool) (code : ℕ) (bytes : List ℕ) → shortest_frame last (frame_of ApplicationClose (Number code ∷ Bytes bytes ∷ [])) ≡ shortest_varints (0x1d ∷ code ∷ length bytes ∷ []) ++ bytes
+pub application_close_parts : (last : Bool) (code : ℕ) (bytes : List ℕ)
+    → shortest_frame last (frame_of ApplicationClose (Number code ∷ Bytes bytes ∷ [])) ≡ shortest_varints (0x1d ∷ code ∷ length bytes ∷ []) ++ bytes
 application_close_parts = parts.application_close_parts
 
 pub datagram_counted : (bytes : List ℕ) → shortest_frame false (frame_of Datagram (Bytes bytes ∷ [])) ≡ shortest_varints (0x31 ∷ length bytes ∷ []) ++ bytes
@@ -51,20 +54,24 @@ pub stream_length : (last fin : Bool) (id offset : ℕ) (bytes : List ℕ)
     ≡ 1 + size id + (if eqb offset 0 then 0 else size offset) + (if last then 0 else size (length bytes)) + length bytes
 stream_length = streams.stream_length
 
-pub challenge_parts : (last : Bool) (n : ℕ) → shortest_frame last (frame_of PathChallenge (Number n ∷ [])) ≡ shortest_varint 0x1a ++ bytes_of 8 n
+pub challenge_parts : (last : Bool) (n : ℕ)
+    → shortest_frame last (frame_of PathChallenge (Number n ∷ [])) ≡ shortest_varint 0x1a ++ bytes_of 8 n
 unfolding shortest_frame
 challenge_parts last n = ap (λ (k : List ℕ). shortest_varint 0x1a ++ k) (append-nil (bytes_of 8 n))
 
-pub response_parts : (last : Bool) (n : ℕ) → shortest_frame last (frame_of PathResponse (Number n ∷ [])) ≡ shortest_varint 0x1b ++ bytes_of 8 n
+pub response_parts : (last : Bool) (n : ℕ)
+    → shortest_frame last (frame_of PathResponse (Number n ∷ [])) ≡ shortest_varint 0x1b ++ bytes_of 8 n
 unfolding shortest_frame
 response_parts last n = ap (λ (k : List ℕ). shortest_varint 0x1b ++ k) (append-nil (bytes_of 8 n))
 
-pub max_streams_parts : (last : Bool) (dir : Dir) (count : ℕ) → shortest_frame last (frame_of MaxStreams (Number (dir_number dir) ∷ Number count ∷ [])) ≡ shortest_varints ((0x12 + dir_number dir) ∷ count ∷ [])
+pub max_streams_parts : (last : Bool) (dir : Dir) (count : ℕ)
+    → shortest_frame last (frame_of MaxStreams (Number (dir_number dir) ∷ Number count ∷ [])) ≡ shortest_varints ((0x12 + dir_number dir) ∷ count ∷ [])
 unfolding shortest_frame
 max_streams_parts last Bi count = refl
 max_streams_parts last Uni count = refl
 
-pub streams_blocked_parts : (last : Bool) (dir : Dir) (limit : ℕ) → shortest_frame last (frame_of StreamsBlocked (Number (dir_number dir) ∷ Number limit ∷ [])) ≡ shortest_varints ((0x16 + dir_number dir) ∷ limit ∷ [])
+pub streams_blocked_parts : (last : Bool) (dir : Dir) (limit : ℕ)
+    → shortest_frame last (frame_of StreamsBlocked (Number (dir_number dir) ∷ Number limit ∷ [])) ≡ shortest_varints ((0x16 + dir_number dir) ∷ limit ∷ [])
 unfolding shortest_frame
 streams_blocked_parts last Bi limit = refl
 streams_blocked_parts last Uni limit = refl

@@ -35,7 +35,8 @@ bytes_again n front left len =
     rw (long, take_at front left n len, drop_at front left n len) refl
 
 -- a test with two failures
-chosen : {A : Type 0} (b : Bool) (d : Fault) (r : Result A Fault) (y : A) → cond b (Err d) r ≡ Ok y → (b ≡ false) × (r ≡ Ok y)
+chosen : {A : Type 0} (b : Bool) (d : Fault) (r : Result A Fault) (y : A) → cond b (Err d) r ≡ Ok y
+    → (b ≡ false) × (r ≡ Ok y)
 chosen true d r y e = absurd cc
 chosen false d r y e = (refl, e)
 
@@ -49,7 +50,8 @@ in_range n e = grind arith
 is_in_range : (n : ℕ) → 0 < n → n ≤ 20 → (eqb n 0 || ltb 20 n) ≡ false
 is_in_range n low high = grind arith
 
-field_takes : (field : Field) (before : List Value) (bytes : List ℕ) (x : List Value × List ℕ) → AreBytes bytes → field_at field before bytes ≡ Ok x → Takes (IsField field before x.0) bytes x.1
+field_takes : (field : Field) (before : List Value) (bytes : List ℕ) (x : List Value × List ℕ) → AreBytes bytes
+    → field_at field before bytes ≡ Ok x → Takes (IsField field before x.0) bytes x.1
 unfolding counted_at id_at eight_at
 field_takes Varint before bytes x fits e =
     let a = bind_ok (varint_at bytes) of_number x e in
@@ -83,8 +85,10 @@ field_takes Uint64 before bytes x fits e =
     let a = bind_ok (eight_at bytes) of_number x e in
     let b = bind_ok (bytes_at 8 bytes) (λ n. Ok (num n.0, n.1)) a.0 a.1 in
     let u = bytes_take 8 bytes b.0.0 b.0.1 b.1 in
-    let encoded : IsNumber 8 (num b.0.0) b.0.0 = record { bytes = front_bytes b.0.0 b.0.1 (subst AreBytes u.parts fits); width = u.len; value = refl } in
-    let here : Takes (IsField Uint64 before (Number (num b.0.0) ∷ [])) bytes b.0.1 = record { front = b.0.0; split = u.parts; is = (num b.0.0, refl, encoded) } in
+    let encoded : IsNumber 8 (num b.0.0) b.0.0 =
+        record { bytes = front_bytes b.0.0 b.0.1 (subst AreBytes u.parts fits); width = u.len; value = refl } in
+    let here : Takes (IsField Uint64 before (Number (num b.0.0) ∷ [])) bytes b.0.1 =
+        record { front = b.0.0; split = u.parts; is = (num b.0.0, refl, encoded) } in
     let same : (num b.0.0, b.0.1) ≡ a.0 = ok_is (num b.0.0, b.0.1) a.0 b.2 in
     subst (λ (y : List Value × List ℕ). Takes (IsField Uint64 before y.0) bytes y.1) (ok_is (Number a.0.0 ∷ [], a.0.1) x a.2)
     (subst (λ (y : ℕ × List ℕ). Takes (IsField Uint64 before (Number y.0 ∷ [])) bytes y.1) same here)
@@ -118,12 +122,14 @@ field_takes Ordered before bytes x fits e =
 abbrev ranged : List (ℕ × ℕ) → List ℕ → Result (List Value × List ℕ) Fault
 ranged r left = Ok (Ranges r ∷ [], left)
 
-field_again : (field : Field) (before values : List Value) (front left : List ℕ) → (is_rest field ≡ true → left ≡ []) → IsField field before values front
+field_again : (field : Field) (before values : List Value) (front left : List ℕ) → (is_rest field ≡ true → left ≡ [])
+    → IsField field before values front
     → field_at field before (front ++ left) ≡ Ok (values, left)
 unfolding counted_at id_at eight_at
 field_again Varint before values front left closed s = rw (varint_again s.0 front left s.2, s.1) refl
 field_again Counted before values front left closed s =
-    let regrouped : front ++ left ≡ s.0 ++ (s.1 ++ left) = ap (λ (l : List ℕ). l ++ left) s.4 ∙ append_assoc s.0 s.1 left in
+    let regrouped : front ++ left ≡ s.0 ++ (s.1 ++ left) =
+        ap (λ (l : List ℕ). l ++ left) s.4 ∙ append_assoc s.0 s.1 left in
     rw (regrouped, varint_again (length s.1) s.0 (s.1 ++ left) s.3, bytes_again (length s.1) s.1 left refl, s.2) refl
 field_again Id before values front left closed s =
     rw (s.4, is_in_range (length s.0) s.2 s.3, bytes_again (length s.0) s.0 left refl, s.1) refl
@@ -144,7 +150,8 @@ bytes_fail : (n : ℕ) (bytes : List ℕ) (e : Fault) → bytes_at n bytes ≡ E
 unfolding bytes_at
 bytes_fail n bytes e h = only_fault (ltb (length bytes) n) UnexpectedEnd e _ h
 
-id_fails : (b : Bool) (n : ℕ) (bytes : List ℕ) (e : Fault) → cond b (Err Malformed) (bytes_at n bytes) ≡ Err e → e ≡ cond b Malformed UnexpectedEnd
+id_fails : (b : Bool) (n : ℕ) (bytes : List ℕ) (e : Fault) → cond b (Err Malformed) (bytes_at n bytes) ≡ Err e
+    → e ≡ cond b Malformed UnexpectedEnd
 id_fails true n bytes e h = cc
 id_fails false n bytes e h = bytes_fail n bytes e h
 
@@ -160,20 +167,28 @@ eight_fails : (bytes : List ℕ) (e : Fault) → eight_at bytes ≡ Err e → e 
 unfolding eight_at
 eight_fails bytes e h = bytes_fail 8 bytes e (mapped_err (bytes_at 8 bytes) (λ n. (num n.0, n.1)) e h)
 
-pub field_fails : (field : Field) (before : List Value) (bytes : List ℕ) (e : Fault) → field_at field before bytes ≡ Err e → AreBytes bytes → IsReason field before bytes e × (is_rest field ≡ false)
+pub field_fails : (field : Field) (before : List Value) (bytes : List ℕ) (e : Fault)
+    → field_at field before bytes ≡ Err e → AreBytes bytes → IsReason field before bytes e × (is_rest field ≡ false)
 unfolding id_at
-field_fails Varint before bytes e h fits = (varint_fails bytes e (mapped_err (varint_at bytes) (λ x. (Number x.0 ∷ [], x.1)) e h), refl)
-field_fails Counted before bytes e h fits = (counted_fails bytes e (mapped_err (counted_at bytes) (λ x. (Bytes x.0 ∷ [], x.1)) e h), refl)
+field_fails Varint before bytes e h fits =
+    (varint_fails bytes e (mapped_err (varint_at bytes) (λ x. (Number x.0 ∷ [], x.1)) e h), refl)
+field_fails Counted before bytes e h fits =
+    (counted_fails bytes e (mapped_err (counted_at bytes) (λ x. (Bytes x.0 ∷ [], x.1)) e h), refl)
 field_fails Id before [] e h fits = (cc, refl)
-field_fails Id before (n ∷ bytes) e h fits = (id_fails (eqb n 0 || ltb 20 n) n bytes e (mapped_err (id_at (n ∷ bytes)) (λ x. (Bytes x.0 ∷ [], x.1)) e h), refl)
-field_fails Uint64 before bytes e h fits = (eight_fails bytes e (mapped_err (eight_at bytes) (λ x. (Number x.0 ∷ [], x.1)) e h), refl)
-field_fails Bytes16 before bytes e h fits = (bytes_fail 16 bytes e (mapped_err (bytes_at 16 bytes) (λ x. (Bytes x.0 ∷ [], x.1)) e h), refl)
-field_fails Blocks before bytes e h fits = (blocks_fail (greatest_of before) bytes e fits (mapped_err (blocks_at (greatest_of before) bytes) (λ x. (Ranges (ranges_of (greatest_of before) x.0) ∷ [], x.1)) e h), refl)
+field_fails Id before (n ∷ bytes) e h fits =
+    (id_fails (eqb n 0 || ltb 20 n) n bytes e (mapped_err (id_at (n ∷ bytes)) (λ x. (Bytes x.0 ∷ [], x.1)) e h), refl)
+field_fails Uint64 before bytes e h fits =
+    (eight_fails bytes e (mapped_err (eight_at bytes) (λ x. (Number x.0 ∷ [], x.1)) e h), refl)
+field_fails Bytes16 before bytes e h fits =
+    (bytes_fail 16 bytes e (mapped_err (bytes_at 16 bytes) (λ x. (Bytes x.0 ∷ [], x.1)) e h), refl)
+field_fails Blocks before bytes e h fits =
+    (blocks_fail (greatest_of before) bytes e fits (mapped_err (blocks_at (greatest_of before) bytes) (λ x. (Ranges (ranges_of (greatest_of before) x.0) ∷ [], x.1)) e h), refl)
 field_fails Rest before bytes e h fits = absurd cc
 field_fails (Implied n) before bytes e h fits = absurd cc
 field_fails Ordered before bytes e h fits = (only_fault_else (is_ordered before) Malformed e _ h, refl)
 
-pub field_stops : (field : Field) (before : List Value) (bytes : List ℕ) (e : Fault) → AreBytes bytes → field_at field before bytes ≡ Err e → Stops field before bytes e
+pub field_stops : (field : Field) (before : List Value) (bytes : List ℕ) (e : Fault) → AreBytes bytes
+    → field_at field before bytes ≡ Err e → Stops field before bytes e
 field_stops field before bytes e fits h =
     let f = field_fails field before bytes e h fits in
     record {
@@ -184,7 +199,8 @@ field_stops field before bytes e fits h =
       why = f.0;
     }
 
-same_reason : (field : Field) (before : List Value) (bytes : List ℕ) (d e : Fault) → AreBytes bytes → IsReason field before bytes d → IsReason field before bytes e → d ≡ e
+same_reason : (field : Field) (before : List Value) (bytes : List ℕ) (d e : Fault) → AreBytes bytes
+    → IsReason field before bytes d → IsReason field before bytes e → d ≡ e
 same_reason Blocks before bytes d e fits p q = blocks_reason (greatest_of before) bytes d e fits p q
 same_reason Varint before bytes d e fits p q = p ∙ sym q
 same_reason Counted before bytes d e fits p q = p ∙ sym q
@@ -195,9 +211,11 @@ same_reason Rest before bytes d e fits p q = p ∙ sym q
 same_reason (Implied n) before bytes d e fits p q = p ∙ sym q
 same_reason Ordered before bytes d e fits p q = p ∙ sym q
 
-pub stops_again : (field : Field) (before : List Value) (bytes : List ℕ) (e : Fault) → AreBytes bytes → Stops field before bytes e → field_at field before bytes ≡ Err e
+pub stops_again : (field : Field) (before : List Value) (bytes : List ℕ) (e : Fault) → AreBytes bytes
+    → Stops field before bytes e → field_at field before bytes ≡ Err e
 stops_again field before bytes e fits s =
-    let failed = err_of (field_at field before bytes) (λ x h. let t = field_takes field before bytes x fits h in s.no_front x.0 t.front x.1 t.split t.is) in
+    let failed =
+        err_of (field_at field before bytes) (λ x h. let t = field_takes field before bytes x fits h in s.no_front x.0 t.front x.1 t.split t.is) in
     let why = (field_fails field before bytes failed.0 failed.1 fits).0 in
     failed.1 ∙ ap (λ (f : Fault). Err f) (same_reason field before bytes failed.0 e fits why s.why)
 
@@ -209,8 +227,10 @@ pub record TakesAll (fields : List Field) (before after : List Value) (bytes lef
   pub encoded : AreFields fields before after front
   pub opens : has_rest fields ≡ true → left ≡ []
 
-rest_takes_all : (field : Field) (before : List Value) (bytes : List ℕ) (x : List Value × List ℕ) → field_at field before bytes ≡ Ok x → is_rest field ≡ true → x.1 ≡ []
-rest_takes_all Rest before bytes x e opens = sym (ap (λ (p : List Value × List ℕ). p.1) (ok_is (Bytes bytes ∷ [], []) x e))
+rest_takes_all : (field : Field) (before : List Value) (bytes : List ℕ) (x : List Value × List ℕ)
+    → field_at field before bytes ≡ Ok x → is_rest field ≡ true → x.1 ≡ []
+rest_takes_all Rest before bytes x e opens =
+    sym (ap (λ (p : List Value × List ℕ). p.1) (ok_is (Bytes bytes ∷ [], []) x e))
 rest_takes_all Blocks before bytes x e opens = absurd cc
 rest_takes_all Varint before bytes x e opens = absurd cc
 rest_takes_all Counted before bytes x e opens = absurd cc
@@ -220,11 +240,13 @@ rest_takes_all Bytes16 before bytes x e opens = absurd cc
 rest_takes_all (Implied n) before bytes x e opens = absurd cc
 rest_takes_all Ordered before bytes x e opens = absurd cc
 
-nothing_left : (b c : Bool) (bytes front left : List ℕ) → bytes ≡ front ++ left → (b ≡ true → bytes ≡ []) → (c ≡ true → left ≡ []) → (b || c) ≡ true → left ≡ []
+nothing_left : (b c : Bool) (bytes front left : List ℕ) → bytes ≡ front ++ left → (b ≡ true → bytes ≡ [])
+    → (c ≡ true → left ≡ []) → (b || c) ≡ true → left ≡ []
 nothing_left true c bytes front left parts p q opens = append_is_nil front left (sym parts ∙ p refl)
 nothing_left false c bytes front left parts p q opens = q opens
 
-pub fields_take : (fields : List Field) (before : List Value) (bytes : List ℕ) (x : List Value × List ℕ) → AreBytes bytes → fields_at fields before bytes ≡ Ok x → TakesAll fields before x.0 bytes x.1
+pub fields_take : (fields : List Field) (before : List Value) (bytes : List ℕ) (x : List Value × List ℕ)
+    → AreBytes bytes → fields_at fields before bytes ≡ Ok x → TakesAll fields before x.0 bytes x.1
 fields_take [] before bytes x fits e =
     subst (λ (y : List Value × List ℕ). TakesAll [] before y.0 bytes y.1) (ok_is (before, bytes) x e)
     (record { front = []; parts = refl; encoded = (refl, refl); opens = λ h. absurd cc })
@@ -253,7 +275,8 @@ or_false : (b : Bool) → (b || false) ≡ b
 or_false true = refl
 or_false false = refl
 
-pub fields_again : (fields : List Field) (before after : List Value) (front left : List ℕ) → is_well fields ≡ true → (has_rest fields ≡ true → left ≡ []) → AreFields fields before after front
+pub fields_again : (fields : List Field) (before after : List Value) (front left : List ℕ) → is_well fields ≡ true
+    → (has_rest fields ≡ true → left ≡ []) → AreFields fields before after front
     → fields_at fields before (front ++ left) ≡ Ok (after, left)
 fields_again [] before after front left well closed s = rw (s.0, s.1) refl
 fields_again (field ∷ []) before after front left well closed s =
@@ -264,13 +287,17 @@ fields_again (field ∷ []) before after front left well closed s =
 fields_again (field ∷ next ∷ fields) before after front left well closed s =
     let values = s.0 in
     let w = both (is_rest field) (is_well (next ∷ fields)) well in
-    let regrouped : front ++ left ≡ s.1 ++ (s.2 ++ left) = ap (λ (l : List ℕ). l ++ left) s.3 ∙ append_assoc s.1 s.2 left in
-    let one = field_again field before values s.1 (s.2 ++ left) (λ opens. absurd (true_is_not_false (sym opens ∙ w.0))) s.4 in
+    let regrouped : front ++ left ≡ s.1 ++ (s.2 ++ left) =
+        ap (λ (l : List ℕ). l ++ left) s.3 ∙ append_assoc s.1 s.2 left in
+    let one =
+        field_again field before values s.1 (s.2 ++ left) (λ opens. absurd (true_is_not_false (sym opens ∙ w.0))) s.4 in
     let others_closed : has_rest (next ∷ fields) ≡ true → left ≡ [] = λ opens. closed (rw w.0 opens) in
     let two = fields_again (next ∷ fields) (before ++ values) after s.2 left w.1 others_closed s.5 in
-    ap (fields_at (field ∷ next ∷ fields) before) regrouped ∙ ap (λ r. r >>= λ y. fields_at (next ∷ fields) (before ++ y.0) y.1) one ∙ two
+    ap (fields_at (field ∷ next ∷ fields) before) regrouped
+    ∙ ap (λ r. r >>= λ y. fields_at (next ∷ fields) (before ++ y.0) y.1) one ∙ two
 
-pub fields_stop : (fields : List Field) (before : List Value) (bytes : List ℕ) (e : Fault) → AreBytes bytes → fields_at fields before bytes ≡ Err e → StopsWithin fields before bytes e
+pub fields_stop : (fields : List Field) (before : List Value) (bytes : List ℕ) (e : Fault) → AreBytes bytes
+    → fields_at fields before bytes ≡ Err e → StopsWithin fields before bytes e
 fields_stop [] before bytes e fits h = absurd cc
 fields_stop (field ∷ fields) before bytes e fits h =
     elim (bind_err (field_at field before bytes) (λ y. fields_at fields (before ++ y.0) y.1) e h) [
@@ -287,14 +314,18 @@ fields_stop (field ∷ fields) before bytes e fits h =
           )
     ]
 
-pub fields_stop_again : (fields : List Field) (before : List Value) (bytes : List ℕ) (e : Fault) → AreBytes bytes → is_well fields ≡ true → StopsWithin fields before bytes e → fields_at fields before bytes ≡ Err e
+pub fields_stop_again : (fields : List Field) (before : List Value) (bytes : List ℕ) (e : Fault) → AreBytes bytes
+    → is_well fields ≡ true → StopsWithin fields before bytes e → fields_at fields before bytes ≡ Err e
 fields_stop_again [] before bytes e fits well s = absurd s
-fields_stop_again (field ∷ []) before bytes e fits well (inl first) = rw (stops_again field before bytes e fits first) refl
+fields_stop_again (field ∷ []) before bytes e fits well (inl first) =
+    rw (stops_again field before bytes e fits first) refl
 fields_stop_again (field ∷ []) before bytes e fits well (inr s) = absurd s.5
-fields_stop_again (field ∷ next ∷ fields) before bytes e fits well (inl first) = ap (λ r. r >>= λ y. fields_at (next ∷ fields) (before ++ y.0) y.1) (stops_again field before bytes e fits first)
+fields_stop_again (field ∷ next ∷ fields) before bytes e fits well (inl first) =
+    ap (λ r. r >>= λ y. fields_at (next ∷ fields) (before ++ y.0) y.1) (stops_again field before bytes e fits first)
 fields_stop_again (field ∷ next ∷ fields) before bytes e fits well (inr s) =
     let w = both (is_rest field) (is_well (next ∷ fields)) well in
     let all_fit = subst AreBytes s.3 fits in
     let one = field_again field before s.0 s.1 s.2 (λ opens. absurd (true_is_not_false (sym opens ∙ w.0))) s.4 in
     let two = fields_stop_again (next ∷ fields) (before ++ s.0) s.2 e (back_bytes s.1 s.2 all_fit) w.1 s.5 in
-    ap (fields_at (field ∷ next ∷ fields) before) s.3 ∙ ap (λ r. r >>= λ y. fields_at (next ∷ fields) (before ++ y.0) y.1) one ∙ two
+    ap (fields_at (field ∷ next ∷ fields) before) s.3
+    ∙ ap (λ r. r >>= λ y. fields_at (next ∷ fields) (before ++ y.0) y.1) one ∙ two

@@ -36,18 +36,24 @@ ack_range last a (Some counts) f =
     let c = v.1.1.1 in
     ((v.0, (v.1.0, tt)), (c.0, (c.1.0, (c.1.1.0, tt))))
 
-max_streams_range : (last : Bool) (dir : Dir) (n : ℕ) → FitsRow last (written_type last table.MaxStreams (Number (dir_number dir) ∷ Number n ∷ [])) (frame_of table.MaxStreams (Number (dir_number dir) ∷ Number n ∷ [])) → n < 2 ^ 62
+max_streams_range : (last : Bool) (dir : Dir) (n : ℕ)
+    → FitsRow last (written_type last table.MaxStreams (Number (dir_number dir) ∷ Number n ∷ [])) (frame_of table.MaxStreams (Number (dir_number dir) ∷ Number n ∷ []))
+    → n < 2 ^ 62
 max_streams_range last Bi n f = (in_row refl f).1.0
 max_streams_range last Uni n f = (in_row refl f).1.0
 
-streams_blocked_range : (last : Bool) (dir : Dir) (n : ℕ) → FitsRow last (written_type last table.StreamsBlocked (Number (dir_number dir) ∷ Number n ∷ [])) (frame_of table.StreamsBlocked (Number (dir_number dir) ∷ Number n ∷ [])) → n < 2 ^ 62
+streams_blocked_range : (last : Bool) (dir : Dir) (n : ℕ)
+    → FitsRow last (written_type last table.StreamsBlocked (Number (dir_number dir) ∷ Number n ∷ [])) (frame_of table.StreamsBlocked (Number (dir_number dir) ∷ Number n ∷ []))
+    → n < 2 ^ 62
 streams_blocked_range last Bi n f = (in_row refl f).1.0
 streams_blocked_range last Uni n f = (in_row refl f).1.0
 
 at_most : (m n : ℕ) → nat_le n m ≡ true → n ≤ m
 at_most m n e = grind (arith, nat_tests)
 
-pub can_stand : (last : Bool) (frame : Frame) → HasNoTypeZero frame → FitsRow last (written_type last (meaning_of frame).name (meaning_of frame).values) (meaning_of frame) → CanStand last frame
+pub can_stand : (last : Bool) (frame : Frame) → HasNoTypeZero frame
+    → FitsRow last (written_type last (meaning_of frame).name (meaning_of frame).values) (meaning_of frame)
+    → CanStand last frame
 can_stand last frames.Padding z f = closed_frame refl tt
 can_stand last frames.Ping z f = closed_frame refl tt
 can_stand last (frames.Ack a) z f = closed_frame refl (ack_range last a a.ecn f)
@@ -55,7 +61,8 @@ can_stand last (frames.ResetStream r) z f = closed_frame refl tt
 can_stand last (frames.StopSending s) z f = closed_frame refl tt
 can_stand last (frames.Crypto c) z f = let v = in_row refl f in closed_frame refl (v.0, (v.1.0, tt))
 can_stand last (frames.NewToken t) z f = closed_frame refl (in_row refl f).0
-can_stand last (frames.Stream s) z f = let v = stream_limits last s.fin s.id s.offset s.bytes.now f in record { in_range = v.0; counted = v.1 }
+can_stand last (frames.Stream s) z f =
+    let v = stream_limits last s.fin s.id s.offset s.bytes.now f in record { in_range = v.0; counted = v.1 }
 can_stand last (frames.MaxData n) z f = closed_frame refl tt
 can_stand last (frames.MaxStreamData id offset) z f = closed_frame refl (in_row refl f).1.0
 can_stand last (frames.MaxStreams dir count) z f = closed_frame refl (max_streams_range last dir count f)
@@ -77,5 +84,8 @@ can_stand last (frames.Datagram d) z f = record { in_range = tt; counted = datag
 can_stand last (frames.AckFrequency g) z f = closed_frame refl tt
 
 -- A frame that is encoded where it may stand can be written there.
-pub encoded_can_stand : (last : Bool) (t : ℕ) (frame : Frame) (bytes : List ℕ) → HasNoTypeZero frame → IsFrame false (record { type = t; frame = meaning_of frame }) bytes → (is_open t ≡ true → last ≡ true) → CanStand last frame
-encoded_can_stand last t frame bytes z f closed = can_stand last frame z (frame_least last (record { type = t; frame = meaning_of frame }) bytes f closed).fits
+pub encoded_can_stand : (last : Bool) (t : ℕ) (frame : Frame) (bytes : List ℕ) → HasNoTypeZero frame
+    → IsFrame false (record { type = t; frame = meaning_of frame }) bytes → (is_open t ≡ true → last ≡ true)
+    → CanStand last frame
+encoded_can_stand last t frame bytes z f closed =
+    can_stand last frame z (frame_least last (record { type = t; frame = meaning_of frame }) bytes f closed).fits

@@ -32,16 +32,20 @@ some_length (b ∷ bytes) some = omega arith
 abbrev pub end_of : ℕ → List ℕ → List ℕ → ℕ
 end_of start bytes rest = start + (length bytes - length rest)
 
-pub items_ok : (strict : Bool) (n start : ℕ) (before : Option ℕ) (bytes : List ℕ) (x : TypedFrame × List ℕ) → bytes ≢ [] → found_at strict before bytes ≡ Ok x
+pub items_ok : (strict : Bool) (n start : ℕ) (before : Option ℕ) (bytes : List ℕ) (x : TypedFrame × List ℕ) → bytes ≢ []
+    → found_at strict before bytes ≡ Ok x
     → items_from strict (suc n) start before bytes ≡ Whole start (end_of start bytes x.1) x.0 ∷ items_from strict n (end_of start bytes x.1) (Some x.0.type) x.1
 unfolding items_from
 items_ok strict n start before [] x some e = absurd (some refl)
-items_ok strict n start before (b ∷ bytes) x some e = ap (items_after (items_from strict n) start (length (b ∷ bytes))) e
+items_ok strict n start before (b ∷ bytes) x some e =
+    ap (items_after (items_from strict n) start (length (b ∷ bytes))) e
 
-items_err : (strict : Bool) (n start : ℕ) (before : Option ℕ) (bytes : List ℕ) (i : Invalid) → bytes ≢ [] → found_at strict before bytes ≡ Err i → items_from strict (suc n) start before bytes ≡ Broken i ∷ []
+items_err : (strict : Bool) (n start : ℕ) (before : Option ℕ) (bytes : List ℕ) (i : Invalid) → bytes ≢ []
+    → found_at strict before bytes ≡ Err i → items_from strict (suc n) start before bytes ≡ Broken i ∷ []
 unfolding items_from
 items_err strict n start before [] i some e = absurd (some refl)
-items_err strict n start before (b ∷ bytes) i some e = ap (items_after (items_from strict n) start (length (b ∷ bytes))) e
+items_err strict n start before (b ∷ bytes) i some e =
+    ap (items_after (items_from strict n) start (length (b ∷ bytes))) e
 
 pub items_none : (strict : Bool) (n start : ℕ) (before : Option ℕ) → items_from strict n start before [] ≡ []
 unfolding items_from
@@ -58,29 +62,35 @@ pub data Reads (strict : Bool) (before : Option ℕ) (bytes : List ℕ) : Type 0
   finds : (x : TypedFrame × List ℕ) → bytes ≢ [] → found_at strict before bytes ≡ Ok x → Reads strict before bytes
   fails : (i : Invalid) → bytes ≢ [] → found_at strict before bytes ≡ Err i → Reads strict before bytes
 
-result_of : (strict : Bool) (before : Option ℕ) (bytes : List ℕ) (r : Result (TypedFrame × List ℕ) Invalid) → bytes ≢ [] → found_at strict before bytes ≡ r → Reads strict before bytes
+result_of : (strict : Bool) (before : Option ℕ) (bytes : List ℕ) (r : Result (TypedFrame × List ℕ) Invalid) → bytes ≢ []
+    → found_at strict before bytes ≡ r → Reads strict before bytes
 result_of strict before bytes (Ok x) some e = finds x some e
 result_of strict before bytes (Err i) some e = fails i some e
 
 pub reads : (strict : Bool) (before : Option ℕ) (bytes : List ℕ) → Reads strict before bytes
 reads strict before [] = ends refl
-reads strict before (b ∷ bytes) = result_of strict before (b ∷ bytes) (found_at strict before (b ∷ bytes)) (λ e. cc) refl
+reads strict before (b ∷ bytes) =
+    result_of strict before (b ∷ bytes) (found_at strict before (b ∷ bytes)) (λ e. cc) refl
 
 -- what a frame leaves is shorter, and bytes
 record Shorter (bytes rest : List ℕ) : Type 0 where
   less : length rest < length bytes
   fits : AreBytes rest
 
-shorter : (strict : Bool) (before : Option ℕ) (bytes : List ℕ) (x : TypedFrame × List ℕ) → AreBytes bytes → found_at strict before bytes ≡ Ok x → Shorter bytes x.1
+shorter : (strict : Bool) (before : Option ℕ) (bytes : List ℕ) (x : TypedFrame × List ℕ) → AreBytes bytes
+    → found_at strict before bytes ≡ Ok x → Shorter bytes x.1
 shorter strict before bytes x fits e =
     let t = found_takes strict before bytes x fits e in
     let some = frame_some strict x.0 t.front t.frame in
     record { less = omega (arith, ap length t.parts, length-append t.front x.1, some); fits = back_bytes t.front x.1 (subst AreBytes t.parts fits) }
 
 -- as many steps as bytes are enough
-items_enough : (strict : Bool) (n m start : ℕ) (before : Option ℕ) (bytes : List ℕ) → AreBytes bytes → length bytes ≤ n → length bytes ≤ m → items_from strict n start before bytes ≡ items_from strict m start before bytes
-items_enough strict zero m start before bytes fits le _ = let e = nothing bytes le in rw (e, items_none strict zero start before, items_none strict m start before) refl
-items_enough strict (suc n) zero start before bytes fits _ le = let e = nothing bytes le in rw (e, items_none strict (suc n) start before, items_none strict zero start before) refl
+items_enough : (strict : Bool) (n m start : ℕ) (before : Option ℕ) (bytes : List ℕ) → AreBytes bytes → length bytes ≤ n
+    → length bytes ≤ m → items_from strict n start before bytes ≡ items_from strict m start before bytes
+items_enough strict zero m start before bytes fits le _ =
+    let e = nothing bytes le in rw (e, items_none strict zero start before, items_none strict m start before) refl
+items_enough strict (suc n) zero start before bytes fits _ le =
+    let e = nothing bytes le in rw (e, items_none strict (suc n) start before, items_none strict zero start before) refl
 items_enough strict (suc n) (suc m) start before bytes fits le_n le_m =
     elim (reads strict before bytes) [
       | ends e ↦ rw (e, items_none strict (suc n) start before, items_none strict (suc m) start before) refl
@@ -88,13 +98,17 @@ items_enough strict (suc n) (suc m) start before bytes fits le_n le_m =
           let less = shorter strict before bytes x fits e in
           let lt = less.less in
           let stop = end_of start bytes x.1 in
-          let others = items_enough strict n m stop (Some x.0.type) x.1 less.fits (omega (arith, lt)) (omega (arith, lt)) in
-          items_ok strict n start before bytes x some e ∙ ap (λ (l : List Item). Whole start stop x.0 ∷ l) others ∙ sym (items_ok strict m start before bytes x some e)
+          let others =
+              items_enough strict n m stop (Some x.0.type) x.1 less.fits (omega (arith, lt)) (omega (arith, lt)) in
+          items_ok strict n start before bytes x some e ∙ ap (λ (l : List Item). Whole start stop x.0 ∷ l) others
+          ∙ sym (items_ok strict m start before bytes x some e)
       | fails i some e ↦ items_err strict n start before bytes i some e ∙ sym (items_err strict m start before bytes i some e)
     ]
 
-items_few : (strict : Bool) (n start : ℕ) (before : Option ℕ) (bytes : List ℕ) → AreBytes bytes → length bytes ≤ n → length (items_from strict n start before bytes) ≤ length bytes
-items_few strict zero start before bytes fits le = let e = nothing bytes le in rw (e, items_none strict zero start before) (omega arith)
+items_few : (strict : Bool) (n start : ℕ) (before : Option ℕ) (bytes : List ℕ) → AreBytes bytes → length bytes ≤ n
+    → length (items_from strict n start before bytes) ≤ length bytes
+items_few strict zero start before bytes fits le =
+    let e = nothing bytes le in rw (e, items_none strict zero start before) (omega arith)
 items_few strict (suc n) start before bytes fits le =
     elim (reads strict before bytes) [
       | ends e ↦ rw (e, items_none strict (suc n) start before) (omega arith)
@@ -107,7 +121,9 @@ items_few strict (suc n) start before bytes fits le =
     ]
 
 -- the frames that a payload means are its items
-frames_give : (strict : Bool) (ps : List TypedFrame) (n start : ℕ) (before : Option ℕ) (bytes : List ℕ) → length bytes ≤ n → AreFrames strict ps bytes → map unplaced (items_from strict n start before bytes) ≡ map given ps
+frames_give : (strict : Bool) (ps : List TypedFrame) (n start : ℕ) (before : Option ℕ) (bytes : List ℕ)
+    → length bytes ≤ n → AreFrames strict ps bytes
+    → map unplaced (items_from strict n start before bytes) ≡ map given ps
 frames_give strict [] n start before bytes le s = rw (s, items_none strict n start before) refl
 frames_give strict (p ∷ ps) zero start before bytes le s =
     let some = frame_some strict p s.0 s.3 in
@@ -116,31 +132,37 @@ frames_give strict (p ∷ ps) (suc n) start before bytes le s =
     let some = frame_some strict p s.0 s.3 in
     let here = ap (found_at strict before) s.2 ∙ found_again strict before p s.0 s.1 s.3 s.4 in
     let sizes : length bytes ≡ length s.0 + length s.1 = ap length s.2 ∙ length-append s.0 s.1 in
-    let others = frames_give strict ps n (end_of start bytes s.1) (Some p.type) s.1 (omega (arith, le, sizes, some)) s.5 in
+    let others =
+        frames_give strict ps n (end_of start bytes s.1) (Some p.type) s.1 (omega (arith, le, sizes, some)) s.5 in
     ap (map unplaced) (items_ok strict n start before bytes (p, s.1) (is_some_bytes bytes (omega (arith, sizes, some))) here)
     ∙ ap (λ (l : List Reported). Ok p ∷ l) others
 
-begins_some : (strict : Bool) (bytes : List ℕ) (t : ℕ) (P : List ℕ → Type 0) → BeginsWithType strict bytes t P → bytes ≢ []
+begins_some : (strict : Bool) (bytes : List ℕ) (t : ℕ) (P : List ℕ → Type 0) → BeginsWithType strict bytes t P
+    → bytes ≢ []
 begins_some strict bytes t P u =
     let some = varint_some t u.front u.encoded.encoded in is_some_bytes bytes (omega (arith, some, ap length u.parts, length-append u.front u.back))
 
-pub no_frame_some : (strict : Bool) (before : Option ℕ) (bytes : List ℕ) (type : Option ℕ) (reason : Fault) → IsNoFrame strict before bytes type reason → bytes ≢ []
+pub no_frame_some : (strict : Bool) (before : Option ℕ) (bytes : List ℕ) (type : Option ℕ) (reason : Fault)
+    → IsNoFrame strict before bytes type reason → bytes ≢ []
 no_frame_some strict before bytes type reason (inl a) = a.0.some
 no_frame_some strict before bytes type reason (inr (inl a)) =
     let some = varint_some a.0 a.1.front a.1.encoded in is_some_bytes bytes (omega (arith, some, ap length a.1.parts, length-append a.1.front a.1.back))
 no_frame_some strict before bytes type reason (inr (inr (inl a))) = begins_some strict bytes a.0 _ a.1
 no_frame_some strict before bytes type reason (inr (inr (inr a))) = begins_some strict bytes a.0 _ a.1
 
-pub stops_at : (strict : Bool) (n start : ℕ) (before : Option ℕ) (bytes : List ℕ) (i : Invalid) → length bytes ≤ n → bytes ≢ [] → found_at strict before bytes ≡ Err i → items_from strict n start before bytes ≡ Broken i ∷ []
+pub stops_at : (strict : Bool) (n start : ℕ) (before : Option ℕ) (bytes : List ℕ) (i : Invalid) → length bytes ≤ n
+    → bytes ≢ [] → found_at strict before bytes ≡ Err i → items_from strict n start before bytes ≡ Broken i ∷ []
 stops_at strict zero start before bytes i le some e = absurd (some (nothing bytes le))
 stops_at strict (suc m) start before bytes i le some e = items_err strict m start before bytes i some e
 
 -- the frames before what is none, and what is reported of it, are the items
-broken_gives : (strict : Bool) (ps : List TypedFrame) (n start : ℕ) (before : Option ℕ) (bytes : List ℕ) (type : Option ℕ) (reason : Fault) → AreBytes bytes → length bytes ≤ n → IsBroken strict before ps bytes type reason
+broken_gives : (strict : Bool) (ps : List TypedFrame) (n start : ℕ) (before : Option ℕ) (bytes : List ℕ) (type : Option ℕ) (reason : Fault)
+    → AreBytes bytes → length bytes ≤ n → IsBroken strict before ps bytes type reason
     → map unplaced (items_from strict n start before bytes) ≡ map given ps ++ Err (invalid type reason) ∷ []
 broken_gives strict [] n start before bytes type reason fits le s =
     let whole : bytes ≡ s.back = s.parts ∙ ap (λ (l : List ℕ). l ++ s.back) s.frames in
-    let none : IsNoFrame strict before bytes type reason = subst (λ (l : List ℕ). IsNoFrame strict before l type reason) (sym whole) s.no_frame in
+    let none : IsNoFrame strict before bytes type reason =
+        subst (λ (l : List ℕ). IsNoFrame strict before l type reason) (sym whole) s.no_frame in
     let some = no_frame_some strict before bytes type reason none in
     let e = no_frame_again strict before bytes type reason fits none in
     ap (map unplaced) (stops_at strict n start before bytes (invalid type reason) le some e)
@@ -152,9 +174,12 @@ broken_gives strict (p ∷ ps) (suc m) start before bytes type reason fits le s 
     let f : AreFrames strict (p ∷ ps) s.front = s.frames in
     let left = f.1 ++ s.back in
     let some = frame_some strict p f.0 f.3 in
-    let regrouped : bytes ≡ f.0 ++ left = s.parts ∙ ap (λ (l : List ℕ). l ++ s.back) f.2 ∙ append_assoc f.0 f.1 s.back in
+    let regrouped : bytes ≡ f.0 ++ left =
+        s.parts ∙ ap (λ (l : List ℕ). l ++ s.back) f.2 ∙ append_assoc f.0 f.1 s.back in
     let sizes : length bytes ≡ length f.0 + length left = ap length regrouped ∙ length-append f.0 left in
-    let here = ap (found_at strict before) regrouped ∙ found_again strict before p f.0 left f.3 (λ opens. absurd (true_is_not_false (sym opens ∙ s.closed.0))) in
+    let here =
+        ap (found_at strict before) regrouped
+        ∙ found_again strict before p f.0 left f.3 (λ opens. absurd (true_is_not_false (sym opens ∙ s.closed.0))) in
     let others = broken_gives strict ps m (end_of start bytes left) (Some p.type) left type reason (back_bytes f.0 left (subst AreBytes regrouped fits)) (omega (arith, le, sizes, some))
     (record { front = f.1; back = s.back; parts = refl; frames = f.5; closed = s.closed.1; no_frame = s.no_frame }) in
     ap (map unplaced) (items_ok strict m start before bytes (p, left) (is_some_bytes bytes (omega (arith, sizes, some))) here)
@@ -167,14 +192,17 @@ back_is_nil [] back e = e
 back_is_nil (b ∷ front) back e = absurd cc
 
 -- what is broken is something
-pub broken_some : (strict : Bool) (before : Option ℕ) (ps : List TypedFrame) (bytes : List ℕ) (type : Option ℕ) (reason : Fault) → IsBroken strict before ps bytes type reason → bytes ≢ []
-broken_some strict before ps bytes type reason s none = no_frame_some strict (last_type before ps) s.back type reason s.no_frame (back_is_nil s.front s.back (sym s.parts ∙ none))
+pub broken_some : (strict : Bool) (before : Option ℕ) (ps : List TypedFrame) (bytes : List ℕ) (type : Option ℕ) (reason : Fault)
+    → IsBroken strict before ps bytes type reason → bytes ≢ []
+broken_some strict before ps bytes type reason s none =
+    no_frame_some strict (last_type before ps) s.back type reason s.no_frame (back_is_nil s.front s.back (sym s.parts ∙ none))
 
 closed_or : (b : Bool) (left : List ℕ) → (b ≡ true → left ≡ []) → left ≢ [] → b ≡ false
 closed_or true left opens some = absurd (some (opens refl))
 closed_or false left opens some = refl
 
-either_in : (strict : Bool) (n : ℕ) (before : Option ℕ) (bytes : List ℕ) → AreBytes bytes → length bytes ≤ n → IsEither strict before bytes
+either_in : (strict : Bool) (n : ℕ) (before : Option ℕ) (bytes : List ℕ) → AreBytes bytes → length bytes ≤ n
+    → IsEither strict before bytes
 either_in strict zero before bytes fits le = inl ([], nothing bytes le)
 either_in strict (suc n) before bytes fits le =
     elim (reads strict before bytes) [
@@ -187,7 +215,8 @@ either_in strict (suc n) before bytes fits le =
             | inl a ↦ inl (x.0 ∷ a.0, (t.front, x.1, t.parts, t.frame, t.opens, a.1))
             | inr a ↦
                 let s = a.3 in
-                let not_done : x.1 ≢ [] = λ h. no_frame_some strict (last_type (Some x.0.type) a.0) s.back a.1 a.2 s.no_frame (back_is_nil s.front s.back (sym s.parts ∙ h)) in
+                let not_done : x.1 ≢ [] =
+                    λ h. no_frame_some strict (last_type (Some x.0.type) a.0) s.back a.1 a.2 s.no_frame (back_is_nil s.front s.back (sym s.parts ∙ h)) in
                 inr (
                   x.0 ∷ a.0,
                   a.1,
@@ -212,20 +241,26 @@ is_either strict before bytes fits = either_in strict (length bytes) before byte
 
 -- ---- the items of a payload
 
-pub frames_are_items : (strict : Bool) (ps : List TypedFrame) (start : ℕ) (before : Option ℕ) (bytes : List ℕ) → AreFrames strict ps bytes → map unplaced (items_of strict start before bytes) ≡ map given ps
+pub frames_are_items : (strict : Bool) (ps : List TypedFrame) (start : ℕ) (before : Option ℕ) (bytes : List ℕ)
+    → AreFrames strict ps bytes → map unplaced (items_of strict start before bytes) ≡ map given ps
 unfolding items_of
-frames_are_items strict ps start before bytes s = frames_give strict ps (length bytes) start before bytes (omega arith) s
+frames_are_items strict ps start before bytes s =
+    frames_give strict ps (length bytes) start before bytes (omega arith) s
 
-pub broken_are_items : (strict : Bool) (ps : List TypedFrame) (start : ℕ) (before : Option ℕ) (bytes : List ℕ) (type : Option ℕ) (reason : Fault) → AreBytes bytes → IsBroken strict before ps bytes type reason
+pub broken_are_items : (strict : Bool) (ps : List TypedFrame) (start : ℕ) (before : Option ℕ) (bytes : List ℕ) (type : Option ℕ) (reason : Fault)
+    → AreBytes bytes → IsBroken strict before ps bytes type reason
     → map unplaced (items_of strict start before bytes) ≡ map given ps ++ Err (invalid type reason) ∷ []
 unfolding items_of
-broken_are_items strict ps start before bytes type reason fits s = broken_gives strict ps (length bytes) start before bytes type reason fits (omega arith) s
+broken_are_items strict ps start before bytes type reason fits s =
+    broken_gives strict ps (length bytes) start before bytes type reason fits (omega arith) s
 
-pub items_are_few : (strict : Bool) (start : ℕ) (before : Option ℕ) (bytes : List ℕ) → AreBytes bytes → length (items_of strict start before bytes) ≤ length bytes
+pub items_are_few : (strict : Bool) (start : ℕ) (before : Option ℕ) (bytes : List ℕ) → AreBytes bytes
+    → length (items_of strict start before bytes) ≤ length bytes
 unfolding items_of
 items_are_few strict start before bytes fits = items_few strict (length bytes) start before bytes fits (omega arith)
 
-pub items_found : (strict : Bool) (start : ℕ) (before : Option ℕ) (bytes : List ℕ) (x : TypedFrame × List ℕ) → AreBytes bytes → bytes ≢ [] → found_at strict before bytes ≡ Ok x
+pub items_found : (strict : Bool) (start : ℕ) (before : Option ℕ) (bytes : List ℕ) (x : TypedFrame × List ℕ)
+    → AreBytes bytes → bytes ≢ [] → found_at strict before bytes ≡ Ok x
     → items_of strict start before bytes ≡ Whole start (end_of start bytes x.1) x.0 ∷ items_of strict (end_of start bytes x.1) (Some x.0.type) x.1
 unfolding items_of
 items_found strict start before bytes x fits some e =
@@ -233,24 +268,33 @@ items_found strict start before bytes x fits some e =
     let lt = less.less in
     let more : suc (length bytes - 1) ≡ length bytes = omega (arith, lt) in
     let stop = end_of start bytes x.1 in
-    let enough = items_enough strict (length bytes - 1) (length x.1) stop (Some x.0.type) x.1 less.fits (omega (arith, lt)) (omega arith) in
-    ap (λ (n : ℕ). items_from strict n start before bytes) (sym more) ∙ items_ok strict (length bytes - 1) start before bytes x some e ∙ ap (λ (l : List Item). Whole start stop x.0 ∷ l) enough
+    let enough =
+        items_enough strict (length bytes - 1) (length x.1) stop (Some x.0.type) x.1 less.fits (omega (arith, lt)) (omega arith) in
+    ap (λ (n : ℕ). items_from strict n start before bytes) (sym more)
+    ∙ items_ok strict (length bytes - 1) start before bytes x some e
+    ∙ ap (λ (l : List Item). Whole start stop x.0 ∷ l) enough
 
-pub items_broken : (strict : Bool) (start : ℕ) (before : Option ℕ) (bytes : List ℕ) (i : Invalid) → bytes ≢ [] → found_at strict before bytes ≡ Err i → items_of strict start before bytes ≡ Broken i ∷ []
+pub items_broken : (strict : Bool) (start : ℕ) (before : Option ℕ) (bytes : List ℕ) (i : Invalid) → bytes ≢ []
+    → found_at strict before bytes ≡ Err i → items_of strict start before bytes ≡ Broken i ∷ []
 unfolding items_of
-items_broken strict start before bytes i some e = stops_at strict (length bytes) start before bytes i (omega arith) some e
+items_broken strict start before bytes i some e =
+    stops_at strict (length bytes) start before bytes i (omega arith) some e
 
 pub no_items : (strict : Bool) (start : ℕ) (before : Option ℕ) → items_of strict start before [] ≡ []
 unfolding items_of
 no_items strict start before = items_none strict 0 start before
 
 -- nothing is left exactly where no bytes are
-some_of : (strict : Bool) (start : ℕ) (before : Option ℕ) (bytes : List ℕ) → AreBytes bytes → Reads strict before bytes → items_of strict start before bytes ≡ [] → bytes ≡ []
+some_of : (strict : Bool) (start : ℕ) (before : Option ℕ) (bytes : List ℕ) → AreBytes bytes → Reads strict before bytes
+    → items_of strict start before bytes ≡ [] → bytes ≡ []
 some_of strict start before bytes fits (ends e) none = e
-some_of strict start before bytes fits (finds x some e) none = absurd (let h = items_found strict start before bytes x fits some e in cc)
-some_of strict start before bytes fits (fails i some e) none = absurd (let h = items_broken strict start before bytes i some e in cc)
+some_of strict start before bytes fits (finds x some e) none =
+    absurd (let h = items_found strict start before bytes x fits some e in cc)
+some_of strict start before bytes fits (fails i some e) none =
+    absurd (let h = items_broken strict start before bytes i some e in cc)
 
-pub all_read : (strict : Bool) (start : ℕ) (before : Option ℕ) (bytes : List ℕ) → AreBytes bytes → items_of strict start before bytes ≡ [] → bytes ≡ []
+pub all_read : (strict : Bool) (start : ℕ) (before : Option ℕ) (bytes : List ℕ) → AreBytes bytes
+    → items_of strict start before bytes ≡ [] → bytes ≡ []
 all_read strict start before bytes fits none = some_of strict start before bytes fits (reads strict before bytes) none
 
 -- ---- the payload has one reading
@@ -264,16 +308,20 @@ reported_same (p ∷ ps) (q ∷ qs) e =
     let tails : map given ps ≡ map given qs = cc in
     cc (head, reported_same ps qs tails)
 
-pub one_reading : (strict : Bool) (ps qs : List TypedFrame) (bytes : List ℕ) → AreFrames strict ps bytes → AreFrames strict qs bytes → ps ≡ qs
-one_reading strict ps qs bytes s t = reported_same ps qs (sym (frames_are_items strict ps 0 None bytes s) ∙ frames_are_items strict qs 0 None bytes t)
+pub one_reading : (strict : Bool) (ps qs : List TypedFrame) (bytes : List ℕ) → AreFrames strict ps bytes
+    → AreFrames strict qs bytes → ps ≡ qs
+one_reading strict ps qs bytes s t =
+    reported_same ps qs (sym (frames_are_items strict ps 0 None bytes s) ∙ frames_are_items strict qs 0 None bytes t)
 
 reported_differ : (ps qs : List TypedFrame) (i : Invalid) → map given ps ≡ map given qs ++ Err i ∷ [] → ⊥
 reported_differ [] [] i e = cc
 reported_differ [] (q ∷ qs) i e = cc
 reported_differ (p ∷ ps) [] i e = cc
-reported_differ (p ∷ ps) (q ∷ qs) i e = let tails : map given ps ≡ map given qs ++ Err i ∷ [] = cc in reported_differ ps qs i tails
+reported_differ (p ∷ ps) (q ∷ qs) i e =
+    let tails : map given ps ≡ map given qs ++ Err i ∷ [] = cc in reported_differ ps qs i tails
 
-pub never_both : (strict : Bool) (ps qs : List TypedFrame) (bytes : List ℕ) (type : Option ℕ) (reason : Fault) → AreBytes bytes → AreFrames strict ps bytes → IsBroken strict None qs bytes type reason → ⊥
+pub never_both : (strict : Bool) (ps qs : List TypedFrame) (bytes : List ℕ) (type : Option ℕ) (reason : Fault)
+    → AreBytes bytes → AreFrames strict ps bytes → IsBroken strict None qs bytes type reason → ⊥
 never_both strict ps qs bytes type reason fits s t =
     reported_differ ps qs (invalid type reason) (sym (frames_are_items strict ps 0 None bytes s) ∙ broken_are_items strict qs 0 None bytes type reason fits t)
 
@@ -281,20 +329,24 @@ abbrev found_of : TypedFrame × List ℕ → Result (TypedFrame × List ℕ) Inv
 found_of x = Ok x
 
 left_is : (f g : TypedFrame) (x y : List ℕ) → found_of (f, x) ≡ found_of (g, y) → x ≡ y
-left_is f g x y e = ap (λ (p : TypedFrame × List ℕ). p.1) (let same : (let q : TypedFrame × List ℕ = (f, x) in q) ≡ (g, y) = cc in same)
+left_is f g x y e =
+    ap (λ (p : TypedFrame × List ℕ). p.1) (let same : (let q : TypedFrame × List ℕ = (f, x) in q) ≡ (g, y) = cc in same)
 
 -- a frame that is not open begins no other
-pub begins_none : (strict : Bool) (f g : TypedFrame) (a b x : List ℕ) → is_open f.type ≡ false → IsFrame strict f a → IsFrame strict g b → b ≡ a ++ x → a ≡ b
+pub begins_none : (strict : Bool) (f g : TypedFrame) (a b x : List ℕ) → is_open f.type ≡ false → IsFrame strict f a
+    → IsFrame strict g b → b ≡ a ++ x → a ≡ b
 begins_none strict f g a b x closed first second e =
     let one = found_again strict None f a x first (λ opens. absurd (true_is_not_false (sym opens ∙ closed))) in
     let two = found_again strict None g b [] second (λ _. refl) in
-    let same : found_of (f, x) ≡ found_of (g, []) = sym one ∙ ap (found_at strict None) (sym e ∙ sym (append-nil b)) ∙ two in
+    let same : found_of (f, x) ≡ found_of (g, []) =
+        sym one ∙ ap (found_at strict None) (sym e ∙ sym (append-nil b)) ∙ two in
     let rest : x ≡ [] = left_is f g x [] same in
     sym (e ∙ ap (λ (l : List ℕ). a ++ l) rest ∙ append-nil a)
 
 -- ---- what is read where only the shortest types count
 
-frame_relaxed : (strict : Bool) (found : TypedFrame) (bytes : List ℕ) → IsFrame strict found bytes → IsFrame false found bytes
+frame_relaxed : (strict : Bool) (found : TypedFrame) (bytes : List ℕ) → IsFrame strict found bytes
+    → IsFrame false found bytes
 frame_relaxed strict found bytes f = record {
   type_bytes = f.type_bytes;
   field_bytes = f.field_bytes;
@@ -306,6 +358,8 @@ frame_relaxed strict found bytes f = record {
   fields = f.fields;
 }
 
-pub frames_relaxed : (strict : Bool) (found : List TypedFrame) (bytes : List ℕ) → AreFrames strict found bytes → AreFrames false found bytes
+pub frames_relaxed : (strict : Bool) (found : List TypedFrame) (bytes : List ℕ) → AreFrames strict found bytes
+    → AreFrames false found bytes
 frames_relaxed strict [] bytes s = s
-frames_relaxed strict (f ∷ found) bytes s = (s.0, s.1, s.2, frame_relaxed strict f s.0 s.3, s.4, frames_relaxed strict found s.1 s.5)
+frames_relaxed strict (f ∷ found) bytes s =
+    (s.0, s.1, s.2, frame_relaxed strict f s.0 s.3, s.4, frames_relaxed strict found s.1 s.5)

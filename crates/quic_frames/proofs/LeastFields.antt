@@ -25,7 +25,8 @@ at_most bytes least (inr lt) = omega (arith, lt)
 -- ---- numbers
 
 -- A number's encoding is the shortest one, or longer.
-pub number_least : (n : ℕ) (bytes : List ℕ) → Encodes n bytes → Encodes n (shortest_varint n) × AreOrExceed bytes (shortest_varint n)
+pub number_least : (n : ℕ) (bytes : List ℕ) → Encodes n bytes
+    → Encodes n (shortest_varint n) × AreOrExceed bytes (shortest_varint n)
 number_least n bytes s =
     let l = short_least n bytes s in (
       shortest_encodes n (encoded_bound n bytes s).0,
@@ -69,7 +70,8 @@ apart_few : (range : ℕ × ℕ) (ranges : List (ℕ × ℕ)) → AreApart (rang
 apart_few range [] a = omega arith
 apart_few range (below ∷ ranges) a = omega (arith, apart_few below ranges a.2, apart_first below ranges a.2, a.1)
 
-below_fit : (range : ℕ × ℕ) (ranges : List (ℕ × ℕ)) → range.1 < 2 ^ 62 → AreApart (range ∷ ranges) → FitBelow range.0 ranges
+below_fit : (range : ℕ × ℕ) (ranges : List (ℕ × ℕ)) → range.1 < 2 ^ 62 → AreApart (range ∷ ranges)
+    → FitBelow range.0 ranges
 below_fit range [] lt a = tt
 below_fit range (below ∷ ranges) lt a =
     let first = apart_first below ranges a.2 in
@@ -77,12 +79,14 @@ below_fit range (below ∷ ranges) lt a =
     (first, a.1, omega (arith, lt, a.0), omega (arith, small), below_fit below ranges small a.2)
 
 -- ranges that never touch, from a number that has an encoding
-pub blocks_fit : (range : ℕ × ℕ) (ranges : List (ℕ × ℕ)) → range.1 < 2 ^ 62 → AreApart (range ∷ ranges) → FitBlocks range.1 (range ∷ ranges)
+pub blocks_fit : (range : ℕ × ℕ) (ranges : List (ℕ × ℕ)) → range.1 < 2 ^ 62 → AreApart (range ∷ ranges)
+    → FitBlocks range.1 (range ∷ ranges)
 blocks_fit range ranges lt a =
     let first = apart_first range ranges a in
     (omega (arith, apart_few range ranges a, first, lt), refl, first, omega (arith, lt), below_fit range ranges lt a)
 
-below_encoded : (low : ℕ) (ranges : List (ℕ × ℕ)) → FitBelow low ranges → AreBelow low ranges (shortest_below low ranges)
+below_encoded : (low : ℕ) (ranges : List (ℕ × ℕ)) → FitBelow low ranges
+    → AreBelow low ranges (shortest_below low ranges)
 below_encoded low [] f = refl
 below_encoded low (range ∷ ranges) f = (
   shortest_varint (low - (range.1 + 2)),
@@ -96,7 +100,8 @@ below_encoded low (range ∷ ranges) f = (
   below_encoded range.0 ranges f.4,
 )
 
-below_least : (low : ℕ) (ranges : List (ℕ × ℕ)) (bytes : List ℕ) → AreBelow low ranges bytes → FitBelow low ranges × AreOrExceed bytes (shortest_below low ranges)
+below_least : (low : ℕ) (ranges : List (ℕ × ℕ)) (bytes : List ℕ) → AreBelow low ranges bytes
+    → FitBelow low ranges × AreOrExceed bytes (shortest_below low ranges)
 below_least low [] bytes s = (tt, inl s)
 below_least low (range ∷ ranges) bytes s =
     let gap = number_least (low - (range.1 + 2)) s.0 s.6 in
@@ -132,23 +137,27 @@ AllFit (field ∷ fields) before [] = ⊥
 AllFit (field ∷ fields) before (value ∷ values) = Fits field before value × AllFit fields (before ++ value ∷ []) values
 
 -- the shortest encoding of a field is one
-pub value_encoded : (field : Field) (before : List Value) (value : Value) (others : List Value) → Fits field before value
+pub value_encoded : (field : Field) (before : List Value) (value : Value) (others : List Value)
+    → Fits field before value
     → IsField field before (value ∷ []) (shortest_of field (value ∷ others)) × (values_after field (value ∷ others) ≡ others)
 value_encoded Varint before (Number n) others f = ((n, refl, shortest_encodes n f), refl)
-value_encoded Counted before (Bytes bytes) others f = ((shortest_varint (length bytes), bytes, refl, shortest_encodes (length bytes) f, refl), refl)
+value_encoded Counted before (Bytes bytes) others f =
+    ((shortest_varint (length bytes), bytes, refl, shortest_encodes (length bytes) f, refl), refl)
 value_encoded Id before (Bytes bytes) others f = ((bytes, refl, f.0, f.1, refl), refl)
 value_encoded Uint64 before (Number n) others f = ((n, refl, is_number_8 n f), refl)
 value_encoded Bytes16 before (Bytes bytes) others f = ((refl, f), refl)
 value_encoded Blocks before (Ranges (range ∷ ranges)) others f =
     let block = shortest_varint (range.1 - range.0) in
     let below = shortest_below range.0 ranges in
-    let encoded : AreBlocks (greatest_of before) (range ∷ ranges) (block ++ below) = (block, below, refl, f.1, f.2, shortest_encodes (range.1 - range.0) f.3, below_encoded range.0 ranges f.4) in
+    let encoded : AreBlocks (greatest_of before) (range ∷ ranges) (block ++ below) =
+        (block, below, refl, f.1, f.2, shortest_encodes (range.1 - range.0) f.3, below_encoded range.0 ranges f.4) in
     ((shortest_varint (length ranges), block ++ below, range, ranges, refl, refl, shortest_encodes (length ranges) f.0, encoded), refl)
 value_encoded Rest before (Bytes bytes) others f = (refl, refl)
 value_encoded (Implied n) before (Number m) others f = ((ap (λ (k : ℕ). Number k ∷ []) f, refl), refl)
 value_encoded field before value others f = absurd f
 
-encoded_then : (field : Field) (fields : List Field) (before : List Value) (value : Value) (values : List Value) → Fits field before value
+encoded_then : (field : Field) (fields : List Field) (before : List Value) (value : Value) (values : List Value)
+    → Fits field before value
     → AreFields fields (before ++ value ∷ []) ((before ++ value ∷ []) ++ values) (shortest_fields fields values)
     → AreFields (field ∷ fields) before (before ++ value ∷ values) (shortest_of field (value ∷ values) ++ shortest_fields fields (values_after field (value ∷ values)))
 encoded_then field fields before value values f s =
@@ -159,14 +168,16 @@ encoded_then field fields before value values f s =
     (value ∷ [], shortest_of field (value ∷ values), shortest_fields fields (values_after field (value ∷ values)), refl, one.0, others)
 
 -- The shortest encodings of fields with values that fit are encodings.
-pub fields_encoded : (fields : List Field) (before values : List Value) → AllFit fields before values → AreFields fields before (before ++ values) (shortest_fields fields values)
+pub fields_encoded : (fields : List Field) (before values : List Value) → AllFit fields before values
+    → AreFields fields before (before ++ values) (shortest_fields fields values)
 fields_encoded [] before values f = (ap (λ (l : List Value). before ++ l) f ∙ append-nil before, refl)
 fields_encoded (Ordered ∷ fields) before values f =
     let others : AreFields fields (before ++ []) (before ++ values) (shortest_fields fields values) =
     subst (λ (l : List Value). AreFields fields l (before ++ values) (shortest_fields fields values)) (sym (append-nil before)) (fields_encoded fields before values f.1) in
     ([], [], shortest_fields fields values, refl, (refl, refl, f.0), others)
 fields_encoded (field ∷ fields) before [] f = absurd f
-fields_encoded (field ∷ fields) before (value ∷ values) f = encoded_then field fields before value values f.0 (fields_encoded fields (before ++ value ∷ []) values f.1)
+fields_encoded (field ∷ fields) before (value ∷ values) f =
+    encoded_then field fields before value values f.0 (fields_encoded fields (before ++ value ∷ []) values f.1)
 
 -- what a field that is encoded has: its values fit before others that do, and no encoding is shorter than the shortest
 pub record LeastField (field : Field) (before values others : List Value) (bytes : List ℕ) : Type 0 where
@@ -174,7 +185,8 @@ pub record LeastField (field : Field) (before values others : List Value) (bytes
   pub least : AreOrExceed bytes (shortest_of field (values ++ others))
   pub others_left : values_after field (values ++ others) ≡ others
 
-pub field_least : (field : Field) (before values others : List Value) (bytes : List ℕ) → IsField field before values bytes → LeastField field before values others bytes
+pub field_least : (field : Field) (before values others : List Value) (bytes : List ℕ)
+    → IsField field before values bytes → LeastField field before values others bytes
 field_least Varint before values others bytes s =
     let a = number_least s.0 bytes s.2 in
     subst (λ (v : List Value). LeastField Varint before v others bytes) (sym s.1)
@@ -236,15 +248,18 @@ pub record LeastFields (fields : List Field) (before after : List Value) (bytes 
   pub fits : AllFit fields before values
   pub least : AreOrExceed bytes (shortest_fields fields values)
 
-pub fields_least : (fields : List Field) (before after : List Value) (bytes : List ℕ) → AreFields fields before after bytes → LeastFields fields before after bytes
-fields_least [] before after bytes s = record { values = []; grown = s.0 ∙ sym (append-nil before); fits = refl; least = inl s.1 }
+pub fields_least : (fields : List Field) (before after : List Value) (bytes : List ℕ)
+    → AreFields fields before after bytes → LeastFields fields before after bytes
+fields_least [] before after bytes s =
+    record { values = []; grown = s.0 ∙ sym (append-nil before); fits = refl; least = inl s.1 }
 fields_least (field ∷ fields) before after bytes s =
     let others = fields_least fields (before ++ s.0) after s.2 s.5 in
     let one = field_least field before s.0 others.values s.1 s.4 in
     let values = s.0 ++ others.values in
     let first : List ℕ = shortest_of field values in
     let second = shortest_fields fields others.values in
-    let whole : shortest_fields (field ∷ fields) values ≡ first ++ second = ap (λ (v : List Value). first ++ shortest_fields fields v) one.others_left in
+    let whole : shortest_fields (field ∷ fields) values ≡ first ++ second =
+        ap (λ (v : List Value). first ++ shortest_fields fields v) one.others_left in
     record {
       values = values;
       grown = others.grown ∙ append_assoc before s.0 others.values;

@@ -30,7 +30,9 @@ pub record FitsRow (last : Bool) (t : ℕ) (frame : Meaning) : Type 0 where
   pub fields : AllFit row.fields [] frame.values
 
 -- A frame that fits the row of the type by which it is written is encoded by its shortest encoding.
-pub frame_encoded : (strict last : Bool) (frame : Meaning) → FitsRow last (written_type last frame.name frame.values) frame → IsFrame strict (as_written last frame) (shortest_frame last frame)
+pub frame_encoded : (strict last : Bool) (frame : Meaning)
+    → FitsRow last (written_type last frame.name frame.values) frame
+    → IsFrame strict (as_written last frame) (shortest_frame last frame)
 unfolding shortest_frame
 frame_encoded strict last frame f =
     let t = written_type last frame.name frame.values in
@@ -53,11 +55,13 @@ abbrev Each : (ℕ → Row → Type 0) → List (ℕ × Row) → Type 0
 Each P [] = ⊤
 Each P (entry ∷ entries) = P entry.0 entry.1 × Each P entries
 
-found_row : (P : ℕ → Row → Type 0) (t : ℕ) (r : Row) (entries : List (ℕ × Row)) → Each P entries → lookup (λ u. eqb t u) entries ≡ Some r → P t r
+found_row : (P : ℕ → Row → Type 0) (t : ℕ) (r : Row) (entries : List (ℕ × Row)) → Each P entries
+    → lookup (λ u. eqb t u) entries ≡ Some r → P t r
 found_row P t r [] each e = absurd cc
 found_row P t r (entry ∷ entries) each e = by_test (eqb t entry.0) refl e (found_row P t r entries each.1)
   where
-    by_test : (b : Bool) → eqb t entry.0 ≡ b → cond b (Some entry.1) (lookup (λ u. eqb t u) entries) ≡ Some r → (lookup (λ u. eqb t u) entries ≡ Some r → P t r) → P t r
+    by_test : (b : Bool) → eqb t entry.0 ≡ b → cond b (Some entry.1) (lookup (λ u. eqb t u) entries) ≡ Some r
+        → (lookup (λ u. eqb t u) entries ≡ Some r → P t r) → P t r
     by_test true same here others =
         let type_is : entry.0 ≡ t = grind (arith, nat_tests) in
         let row_is : entry.1 ≡ r = cc in
@@ -78,19 +82,23 @@ record Stands (last : Bool) (t : ℕ) (r : Row) (values : List Value) (type_byte
   closed : is_open t ≡ true → last ≡ true
 
 abbrev IsLeastRow : ℕ → Row → Type 0
-IsLeastRow t r = (last : Bool) (values : List Value) (type_bytes field_bytes : List ℕ) → Stands last t r values type_bytes field_bytes → LeastFrame last (frame_of r.name values) (type_bytes ++ field_bytes)
+IsLeastRow t r =
+    (last : Bool) (values : List Value) (type_bytes field_bytes : List ℕ) → Stands last t r values type_bytes field_bytes → LeastFrame last (frame_of r.name values) (type_bytes ++ field_bytes)
 
 -- a frame that has the type by which it is written
-same_type : (last : Bool) (t : ℕ) (r : Row) (values : List Value) (type_bytes field_bytes : List ℕ) → Stands last t r values type_bytes field_bytes → written_type last r.name values ≡ t
+same_type : (last : Bool) (t : ℕ) (r : Row) (values : List Value) (type_bytes field_bytes : List ℕ)
+    → Stands last t r values type_bytes field_bytes → written_type last r.name values ≡ t
     → LeastFrame last (frame_of r.name values) (type_bytes ++ field_bytes)
 unfolding shortest_frame
 same_type last t r values type_bytes field_bytes s e =
     let a = fields_least r.fields [] values field_bytes s.fields in
     let n = number_least t type_bytes s.type_encoded in
-    let least : AreOrExceed field_bytes (shortest_fields r.fields values) = subst (λ (v : List Value). AreOrExceed field_bytes (shortest_fields r.fields v)) (sym a.grown) a.least in
+    let least : AreOrExceed field_bytes (shortest_fields r.fields values) =
+        subst (λ (v : List Value). AreOrExceed field_bytes (shortest_fields r.fields v)) (sym a.grown) a.least in
     let fits : AllFit r.fields [] values = subst (AllFit r.fields []) (sym a.grown) a.fits in
     let whole : shortest_frame last (frame_of r.name values) ≡ shortest_varint t ++ shortest_fields r.fields values =
-    ap (λ (u : ℕ). shortest_varint u ++ shortest_row (row_of u) values) e ∙ ap (λ (o : Option Row). shortest_varint t ++ shortest_row o values) s.in_table in
+    ap (λ (u : ℕ). shortest_varint u ++ shortest_row (row_of u) values) e
+    ∙ ap (λ (o : Option Row). shortest_varint t ++ shortest_row o values) s.in_table in
     record {
       fits = subst (λ (u : ℕ). FitsRow last u (frame_of r.name values)) (sym e)
           (record { small = (encoded_bound t type_bytes s.type_encoded).0; closed = s.closed; row = r; in_table = s.in_table; name = refl; fields = fits });
@@ -104,16 +112,21 @@ record HasRow (last : Bool) (t : ℕ) (r : Row) : Type 0 where
   small : t < 2 ^ 62
   one_byte : size t ≡ 1
 
-fits_row : (last : Bool) (t : ℕ) (r : Row) (values : List Value) → HasRow last t r → AllFit r.fields [] values → FitsRow last t (frame_of r.name values)
-fits_row last t r values h fields = record { small = h.small; closed = λ opens. sym h.opens ∙ opens; row = r; in_table = h.in_table; name = refl; fields = fields }
+fits_row : (last : Bool) (t : ℕ) (r : Row) (values : List Value) → HasRow last t r → AllFit r.fields [] values
+    → FitsRow last t (frame_of r.name values)
+fits_row last t r values h fields =
+    record { small = h.small; closed = λ opens. sym h.opens ∙ opens; row = r; in_table = h.in_table; name = refl; fields = fields }
 
 -- a frame that is written by another type, where its fields are shorter
-other_type : (last : Bool) (t : ℕ) (r : Row) (values : List Value) (type_bytes field_bytes : List ℕ) → written_type last r.name values ≡ t → HasRow last t r → AllFit r.fields [] values
-    → 0 < length type_bytes → length (shortest_fields r.fields values) < length field_bytes → LeastFrame last (frame_of r.name values) (type_bytes ++ field_bytes)
+other_type : (last : Bool) (t : ℕ) (r : Row) (values : List Value) (type_bytes field_bytes : List ℕ)
+    → written_type last r.name values ≡ t → HasRow last t r → AllFit r.fields [] values
+    → 0 < length type_bytes → length (shortest_fields r.fields values) < length field_bytes
+    → LeastFrame last (frame_of r.name values) (type_bytes ++ field_bytes)
 unfolding shortest_frame
 other_type last t r values type_bytes field_bytes e h fields some lt =
     let whole : shortest_frame last (frame_of r.name values) ≡ shortest_varint t ++ shortest_fields r.fields values =
-    ap (λ (u : ℕ). shortest_varint u ++ shortest_row (row_of u) values) e ∙ ap (λ (o : Option Row). shortest_varint t ++ shortest_row o values) h.in_table in
+    ap (λ (u : ℕ). shortest_varint u ++ shortest_row (row_of u) values) e
+    ∙ ap (λ (o : Option Row). shortest_varint t ++ shortest_row o values) h.in_table in
     let sizes = ap length whole ∙ length-append (shortest_varint t) (shortest_fields r.fields values) in
     record {
       fits = subst (λ (u : ℕ). FitsRow last u (frame_of r.name values)) (sym e) (fits_row last t r values h fields);
@@ -130,11 +143,15 @@ abbrev IsContent : Bool → List ℕ → List ℕ → Type 0
 IsContent true content bytes = bytes ≡ content
 IsContent false content bytes = (front : List ℕ) × Encodes (length content) front × (bytes ≡ front ++ content)
 
-offset_stands : (at_start : Bool) (before values : List Value) (bytes : List ℕ) → IsField (offset_field (not at_start)) before values bytes → (offset : ℕ) × (values ≡ Number offset ∷ []) × IsOffset at_start offset bytes
+offset_stands : (at_start : Bool) (before values : List Value) (bytes : List ℕ)
+    → IsField (offset_field (not at_start)) before values bytes
+    → (offset : ℕ) × (values ≡ Number offset ∷ []) × IsOffset at_start offset bytes
 offset_stands true before values bytes s = (0, s.0, (refl, s.1))
 offset_stands false before values bytes s = (s.0, s.1, s.2)
 
-content_stands : (end : Bool) (before values : List Value) (bytes : List ℕ) → IsField (data_field (not end)) before values bytes → (content : List ℕ) × (values ≡ Bytes content ∷ []) × IsContent end content bytes
+content_stands : (end : Bool) (before values : List Value) (bytes : List ℕ)
+    → IsField (data_field (not end)) before values bytes
+    → (content : List ℕ) × (values ≡ Bytes content ∷ []) × IsContent end content bytes
 content_stands true before values bytes s = (bytes, s, refl)
 content_stands false before values bytes s = (s.1, s.2, (s.0, s.3, s.4))
 
@@ -152,8 +169,10 @@ record Better (stood : Bool) (written : Bool) (least bytes : List ℕ) : Type 0 
 short_enough : (n : ℕ) (bytes : List ℕ) → Encodes n bytes → length (shortest_varint n) ≤ length bytes
 short_enough n bytes s = at_most bytes (shortest_varint n) (number_least n bytes s).1
 
-better_offset : (at_start : Bool) (offset : ℕ) (bytes : List ℕ) → IsOffset at_start offset bytes → (offset < 2 ^ 62) × Better at_start (eqb offset 0) (least_offset (eqb offset 0) offset) bytes
-better_offset true offset bytes s = (omega (arith, s.0), subst (λ (k : ℕ). Better true (eqb k 0) (least_offset (eqb k 0) k) bytes) (sym s.0) (record { no_longer = omega arith; shorter = inl refl }))
+better_offset : (at_start : Bool) (offset : ℕ) (bytes : List ℕ) → IsOffset at_start offset bytes
+    → (offset < 2 ^ 62) × Better at_start (eqb offset 0) (least_offset (eqb offset 0) offset) bytes
+better_offset true offset bytes s =
+    (omega (arith, s.0), subst (λ (k : ℕ). Better true (eqb k 0) (least_offset (eqb k 0) k) bytes) (sym s.0) (record { no_longer = omega arith; shorter = inl refl }))
 better_offset false offset bytes s = ((encoded_bound offset bytes s).0, by_test (eqb offset 0))
   where
     by_test : (b : Bool) → Better false b (least_offset b offset) bytes
@@ -162,10 +181,12 @@ better_offset false offset bytes s = ((encoded_bound offset bytes s).0, by_test 
 
 better_content : (end last : Bool) (content bytes : List ℕ) → (end ≡ true → last ≡ true) → IsContent end content bytes
     → (last ≡ false → length content < 2 ^ 62) × Better end last (least_content last content) bytes
-better_content true true content bytes closed s = (λ e. absurd (true_is_not_false e), record { no_longer = omega (arith, ap length s); shorter = inl refl })
+better_content true true content bytes closed s =
+    (λ e. absurd (true_is_not_false e), record { no_longer = omega (arith, ap length s); shorter = inl refl })
 better_content true false content bytes closed s = absurd (true_is_not_false (sym (closed refl)))
 better_content false true content bytes closed s =
-    let lt : length content < length bytes = omega (arith, varint_some (length content) s.0 s.1, ap length s.2, length-append s.0 content) in
+    let lt : length content < length bytes =
+        omega (arith, varint_some (length content) s.0 s.1, ap length s.2, length-append s.0 content) in
     (λ e. absurd (true_is_not_false e), record { no_longer = omega (arith, lt); shorter = inr lt })
 better_content false false content bytes closed s =
     let le = short_enough (length content) s.0 s.1 in
@@ -180,7 +201,8 @@ better_content false false content bytes closed s =
 abbrev stream_type : Bool → Bool → Bool → ℕ
 stream_type at_start last fin = 8 + cond at_start 0 4 + cond (eqb (cond fin 1 0) 1) 1 0 + cond last 0 2
 
-stream_type_is : (at_start last fin : Bool) → HasRow last (stream_type at_start last fin) (stream_row (not at_start) (not last) fin)
+stream_type_is : (at_start last fin : Bool)
+    → HasRow last (stream_type at_start last fin) (stream_row (not at_start) (not last) fin)
 unfolding size
 stream_type_is true true true = record { in_table = refl; opens = refl; small = omega arith; one_byte = refl }
 stream_type_is true true false = record { in_table = refl; opens = refl; small = omega arith; one_byte = refl }
@@ -207,7 +229,9 @@ record StreamParts (at_start end fin : Bool) (values : List Value) (bytes : List
   offset_is : IsOffset at_start offset offset_bytes
   content_is : IsContent end content content_bytes
 
-stream_parts : (at_start end fin : Bool) (values : List Value) (bytes : List ℕ) → AreFields (stream_row (not at_start) (not end) fin).fields [] values bytes → StreamParts at_start end fin values bytes
+stream_parts : (at_start end fin : Bool) (values : List Value) (bytes : List ℕ)
+    → AreFields (stream_row (not at_start) (not end) fin).fields [] values bytes
+    → StreamParts at_start end fin values bytes
 stream_parts at_start end fin values bytes s =
     let t = s.5 in
     let u = t.5 in
@@ -228,26 +252,33 @@ stream_parts at_start end fin values bytes s =
       content_is = d.2;
     }
   where
-    four : (a b c d after : List Value) (x y z w : Value) → after ≡ ((a ++ b) ++ c) ++ d → a ≡ x ∷ [] → b ≡ y ∷ [] → c ≡ z ∷ [] → d ≡ w ∷ [] → after ≡ x ∷ y ∷ z ∷ w ∷ []
+    four : (a b c d after : List Value) (x y z w : Value) → after ≡ ((a ++ b) ++ c) ++ d → a ≡ x ∷ [] → b ≡ y ∷ []
+        → c ≡ z ∷ [] → d ≡ w ∷ [] → after ≡ x ∷ y ∷ z ∷ w ∷ []
     four a b c d after x y z w e p q r t = rw (e, p, q, r, t) refl
 
-stream_bytes : (at_start last fin : Bool) (id offset : ℕ) (content : List ℕ) → shortest_fields (stream_row (not at_start) (not last) fin).fields (stream_values fin id offset content) ≡ shortest_varint id ++ (least_offset at_start offset ++ least_content last content)
+stream_bytes : (at_start last fin : Bool) (id offset : ℕ) (content : List ℕ)
+    → shortest_fields (stream_row (not at_start) (not last) fin).fields (stream_values fin id offset content) ≡ shortest_varint id ++ (least_offset at_start offset ++ least_content last content)
 stream_bytes true true fin id offset content = ap (λ (l : List ℕ). shortest_varint id ++ l) (append-nil content)
-stream_bytes true false fin id offset content = ap (λ (l : List ℕ). shortest_varint id ++ l) (append-nil (shortest_varint (length content) ++ content))
-stream_bytes false true fin id offset content = ap (λ (l : List ℕ). shortest_varint id ++ (shortest_varint offset ++ l)) (append-nil content)
-stream_bytes false false fin id offset content = ap (λ (l : List ℕ). shortest_varint id ++ (shortest_varint offset ++ l)) (append-nil (shortest_varint (length content) ++ content))
+stream_bytes true false fin id offset content =
+    ap (λ (l : List ℕ). shortest_varint id ++ l) (append-nil (shortest_varint (length content) ++ content))
+stream_bytes false true fin id offset content =
+    ap (λ (l : List ℕ). shortest_varint id ++ (shortest_varint offset ++ l)) (append-nil content)
+stream_bytes false false fin id offset content =
+    ap (λ (l : List ℕ). shortest_varint id ++ (shortest_varint offset ++ l)) (append-nil (shortest_varint (length content) ++ content))
 
 is_zero : (n : ℕ) → eqb n 0 ≡ true → n ≡ 0
 is_zero n e = grind (arith, nat_tests)
 
-stream_fits : (at_start last fin : Bool) (id offset : ℕ) (content : List ℕ) → eqb offset 0 ≡ at_start → id < 2 ^ 62 → offset < 2 ^ 62 → (last ≡ false → length content < 2 ^ 62)
+stream_fits : (at_start last fin : Bool) (id offset : ℕ) (content : List ℕ) → eqb offset 0 ≡ at_start → id < 2 ^ 62
+    → offset < 2 ^ 62 → (last ≡ false → length content < 2 ^ 62)
     → AllFit (stream_row (not at_start) (not last) fin).fields [] (stream_values fin id offset content)
 stream_fits true true fin id offset content e i o d = (refl, (i, (is_zero offset e, (tt, refl))))
 stream_fits true false fin id offset content e i o d = (refl, (i, (is_zero offset e, (d refl, refl))))
 stream_fits false true fin id offset content e i o d = (refl, (i, (o, (tt, refl))))
 stream_fits false false fin id offset content e i o d = (refl, (i, (o, (d refl, refl))))
 
-pub stream_row_fits : (last fin : Bool) (id offset : ℕ) (content : List ℕ) → id < 2 ^ 62 → offset < 2 ^ 62 → (last ≡ false → length content < 2 ^ 62)
+pub stream_row_fits : (last fin : Bool) (id offset : ℕ) (content : List ℕ) → id < 2 ^ 62 → offset < 2 ^ 62
+    → (last ≡ false → length content < 2 ^ 62)
     → FitsRow last (written_type last Stream (stream_values fin id offset content)) (frame_of Stream (stream_values fin id offset content))
 stream_row_fits last fin id offset content i o d =
     let start = eqb offset 0 in
@@ -257,33 +288,43 @@ row_is : (r s : Row) → (let o : Option Row = Some r in o) ≡ Some s → r ≡
 row_is r s e = cc
 
 -- the other way round: the values of a frame whose row is known
-pub in_row : {last : Bool} {t : ℕ} {frame : Meaning} {r : Row} → row_of t ≡ Some r → FitsRow last t frame → AllFit r.fields [] frame.values
-in_row {frame} {r} e f = subst (λ (x : Row). AllFit x.fields [] frame.values) (row_is f.row r (sym f.in_table ∙ e)) f.fields
+pub in_row : {last : Bool} {t : ℕ} {frame : Meaning} {r : Row} → row_of t ≡ Some r → FitsRow last t frame
+    → AllFit r.fields [] frame.values
+in_row {frame} {r} e f =
+    subst (λ (x : Row). AllFit x.fields [] frame.values) (row_is f.row r (sym f.in_table ∙ e)) f.fields
 
-pub stream_limits : (last fin : Bool) (id offset : ℕ) (content : List ℕ) → FitsRow last (written_type last Stream (stream_values fin id offset content)) (frame_of Stream (stream_values fin id offset content))
+pub stream_limits : (last fin : Bool) (id offset : ℕ) (content : List ℕ)
+    → FitsRow last (written_type last Stream (stream_values fin id offset content)) (frame_of Stream (stream_values fin id offset content))
     → (offset < 2 ^ 62) × (last ≡ false → length content < 2 ^ 62)
-stream_limits last fin id offset content f = by_cases (eqb offset 0) last (in_row (stream_type_is (eqb offset 0) last fin).in_table f)
+stream_limits last fin id offset content f =
+    by_cases (eqb offset 0) last (in_row (stream_type_is (eqb offset 0) last fin).in_table f)
   where
-    by_cases : (at_start last : Bool) → AllFit (stream_row (not at_start) (not last) fin).fields [] (stream_values fin id offset content) → (offset < 2 ^ 62) × (last ≡ false → length content < 2 ^ 62)
+    by_cases : (at_start last : Bool)
+        → AllFit (stream_row (not at_start) (not last) fin).fields [] (stream_values fin id offset content)
+        → (offset < 2 ^ 62) × (last ≡ false → length content < 2 ^ 62)
     by_cases true true v = (omega (arith, v.1.1.0), λ e. absurd (true_is_not_false e))
     by_cases true false v = (omega (arith, v.1.1.0), λ _. v.1.1.1.0)
     by_cases false true v = (v.1.1.0, λ e. absurd (true_is_not_false e))
     by_cases false false v = (v.1.1.0, λ _. v.1.1.1.0)
 
-stream_least : (at_start end fin : Bool) → IsLeastRow (stream_type at_start end fin) (stream_row (not at_start) (not end) fin)
+stream_least : (at_start end fin : Bool)
+    → IsLeastRow (stream_type at_start end fin) (stream_row (not at_start) (not end) fin)
 stream_least at_start end fin last values type_bytes field_bytes s =
     let p = stream_parts at_start end fin values field_bytes s.fields in
     let o = better_offset at_start p.offset p.offset_bytes p.offset_is in
-    let d = better_content end last p.content p.content_bytes (λ h. s.closed ((stream_type_is at_start end fin).opens ∙ h)) p.content_is in
+    let d =
+        better_content end last p.content p.content_bytes (λ h. s.closed ((stream_type_is at_start end fin).opens ∙ h)) p.content_is in
     let start = eqb p.offset 0 in
     let row = stream_row (not start) (not last) fin in
     let type_is : written_type last Stream values ≡ stream_type start last fin = ap (written_type last Stream) p.are in
     let fields : AllFit row.fields [] values =
     subst (AllFit row.fields []) (sym p.are) (stream_fits start last fin p.id p.offset p.content refl (encoded_bound p.id p.id_bytes p.id_is).0 o.0 d.0) in
     let sizes : length (shortest_fields row.fields values) ≡ length (shortest_varint p.id) + (length (least_offset start p.offset) + length (least_content last p.content)) =
-    ap (λ (v : List Value). length (shortest_fields row.fields v)) p.are ∙ ap length (stream_bytes start last fin p.id p.offset p.content)
+    ap (λ (v : List Value). length (shortest_fields row.fields v)) p.are
+    ∙ ap length (stream_bytes start last fin p.id p.offset p.content)
     ∙ lengths (shortest_varint p.id) (least_offset start p.offset) (least_content last p.content) in
-    let stood : length field_bytes ≡ length p.id_bytes + (length p.offset_bytes + length p.content_bytes) = ap length p.parts ∙ lengths p.id_bytes p.offset_bytes p.content_bytes in
+    let stood : length field_bytes ≡ length p.id_bytes + (length p.offset_bytes + length p.content_bytes) =
+        ap length p.parts ∙ lengths p.id_bytes p.offset_bytes p.content_bytes in
     let id_le = short_enough p.id p.id_bytes p.id_is in
     let other : length (shortest_fields row.fields values) < length field_bytes → LeastFrame last (frame_of Stream values) (type_bytes ++ field_bytes) =
     λ lt. other_type last (stream_type start last fin) row values type_bytes field_bytes type_is (stream_type_is start last fin) fields (varint_some (stream_type at_start end fin) type_bytes s.type_encoded) lt in
@@ -309,11 +350,13 @@ unfolding size
 datagram_type_is true = record { in_table = refl; opens = refl; small = omega arith; one_byte = refl }
 datagram_type_is false = record { in_table = refl; opens = refl; small = omega arith; one_byte = refl }
 
-datagram_bytes : (last : Bool) (content : List ℕ) → shortest_fields (datagram_row (not last)).fields (Bytes content ∷ []) ≡ least_content last content
+datagram_bytes : (last : Bool) (content : List ℕ)
+    → shortest_fields (datagram_row (not last)).fields (Bytes content ∷ []) ≡ least_content last content
 datagram_bytes true content = append-nil content
 datagram_bytes false content = append-nil (shortest_varint (length content) ++ content)
 
-datagram_fits : (last : Bool) (content : List ℕ) → (last ≡ false → length content < 2 ^ 62) → AllFit (datagram_row (not last)).fields [] (Bytes content ∷ [])
+datagram_fits : (last : Bool) (content : List ℕ) → (last ≡ false → length content < 2 ^ 62)
+    → AllFit (datagram_row (not last)).fields [] (Bytes content ∷ [])
 datagram_fits true content d = (tt, refl)
 datagram_fits false content d = (d refl, refl)
 
@@ -330,10 +373,12 @@ datagram_least end last values type_bytes field_bytes s =
     let c = content_stands end [] s.fields.0 s.fields.1 s.fields.4 in
     let content = c.0 in
     let are : values ≡ Bytes content ∷ [] = s.fields.5.0 ∙ c.1 in
-    let stood : length field_bytes ≡ length s.fields.1 = ap length (s.fields.3 ∙ ap (λ (l : List ℕ). s.fields.1 ++ l) s.fields.5.1 ∙ append-nil s.fields.1) in
+    let stood : length field_bytes ≡ length s.fields.1 =
+        ap length (s.fields.3 ∙ ap (λ (l : List ℕ). s.fields.1 ++ l) s.fields.5.1 ∙ append-nil s.fields.1) in
     let d = better_content end last content s.fields.1 (λ h. s.closed ((datagram_type_is end).opens ∙ h)) c.2 in
     let row = datagram_row (not last) in
-    let fields : AllFit row.fields [] values = subst (AllFit row.fields []) (sym are) (datagram_fits last content d.0) in
+    let fields : AllFit row.fields [] values =
+        subst (AllFit row.fields []) (sym are) (datagram_fits last content d.0) in
     let sizes : length (shortest_fields row.fields values) ≡ length (least_content last content) =
     ap (λ (v : List Value). length (shortest_fields row.fields v)) are ∙ ap length (datagram_bytes last content) in
     elim d.1.shorter [
@@ -345,25 +390,35 @@ datagram_least end last values type_bytes field_bytes s =
 -- ---- the other frames
 
 -- the type depends on the values at most as these rows show
-one_type : {t : ℕ} {r : Row} → row_of t ≡ Some r → ((last : Bool) (values : List Value) (bytes : List ℕ) → AreFields r.fields [] values bytes → written_type last r.name values ≡ t) → IsLeastRow t r
-one_type {t} {r} in_table e last values type_bytes field_bytes s = same_type last t r values type_bytes field_bytes s (e last values field_bytes s.fields)
+one_type : {t : ℕ} {r : Row} → row_of t ≡ Some r
+    → ((last : Bool) (values : List Value) (bytes : List ℕ) → AreFields r.fields [] values bytes → written_type last r.name values ≡ t)
+    → IsLeastRow t r
+one_type {t} {r} in_table e last values type_bytes field_bytes s =
+    same_type last t r values type_bytes field_bytes s (e last values field_bytes s.fields)
 
-ack_type : (last : Bool) (values : List Value) (bytes : List ℕ) → AreFields ack_row.fields [] values bytes → written_type last Ack values ≡ 2
+ack_type : (last : Bool) (values : List Value) (bytes : List ℕ) → AreFields ack_row.fields [] values bytes
+    → written_type last Ack values ≡ 2
 ack_type last values bytes s = let t = s.5 in let u = t.5 in rw (u.5.0, s.4.1, t.4.1, u.4.4) refl
 
-ack_ecn_type : (last : Bool) (values : List Value) (bytes : List ℕ) → AreFields ack_ecn_row.fields [] values bytes → written_type last Ack values ≡ 3
+ack_ecn_type : (last : Bool) (values : List Value) (bytes : List ℕ) → AreFields ack_ecn_row.fields [] values bytes
+    → written_type last Ack values ≡ 3
 ack_ecn_type last values bytes s =
     let t = s.5 in let u = t.5 in let v = u.5 in let w = v.5 in let x = w.5 in
     rw (x.5.0, s.4.1, t.4.1, u.4.4, v.4.1) refl
 
-max_streams_type : (dir : Dir) (last : Bool) (values : List Value) (bytes : List ℕ) → AreFields (max_streams_row dir).fields [] values bytes → written_type last MaxStreams values ≡ 0x12 + dir_number dir
+max_streams_type : (dir : Dir) (last : Bool) (values : List Value) (bytes : List ℕ)
+    → AreFields (max_streams_row dir).fields [] values bytes
+    → written_type last MaxStreams values ≡ 0x12 + dir_number dir
 max_streams_type dir last values bytes s = rw (s.5.5.0, s.4.0) refl
 
-streams_blocked_type : (dir : Dir) (last : Bool) (values : List Value) (bytes : List ℕ) → AreFields (streams_blocked_row dir).fields [] values bytes → written_type last StreamsBlocked values ≡ 0x16 + dir_number dir
+streams_blocked_type : (dir : Dir) (last : Bool) (values : List Value) (bytes : List ℕ)
+    → AreFields (streams_blocked_row dir).fields [] values bytes
+    → written_type last StreamsBlocked values ≡ 0x16 + dir_number dir
 streams_blocked_type dir last values bytes s = rw (s.5.5.0, s.4.0) refl
 
 -- a row whose name has one type
-plain : {t : ℕ} {r : Row} → row_of t ≡ Some r → ((last : Bool) (values : List Value) → written_type last r.name values ≡ t) → IsLeastRow t r
+plain : {t : ℕ} {r : Row} → row_of t ≡ Some r
+    → ((last : Bool) (values : List Value) → written_type last r.name values ≡ t) → IsLeastRow t r
 plain in_table e = one_type in_table (λ last values bytes s. e last values)
 
 infixr 5 ◌&◌
@@ -383,11 +438,13 @@ each_least =
     & plain refl (λ last values. refl) & plain refl (λ last values. refl) & plain refl (λ last values. refl) & plain refl (λ last values. refl)
     & datagram_least true & datagram_least false & plain refl (λ last values. refl) & tt
 
-pub frame_least : (last : Bool) (found : TypedFrame) (bytes : List ℕ) → IsFrame false found bytes → (is_open found.type ≡ true → last ≡ true) → LeastFrame last found.frame bytes
+pub frame_least : (last : Bool) (found : TypedFrame) (bytes : List ℕ) → IsFrame false found bytes
+    → (is_open found.type ≡ true → last ≡ true) → LeastFrame last found.frame bytes
 frame_least last found bytes f closed =
     let least = found_row IsLeastRow found.type f.row rows each_least f.in_table in
     let stands : Stands last found.type f.row found.frame.values f.type_bytes f.field_bytes =
     record { type_encoded = f.type_encoded.encoded; in_table = f.in_table; fields = f.fields; closed = closed } in
-    let frame_is : frame_of f.row.name found.frame.values ≡ found.frame = ap (λ (n : Name). frame_of n found.frame.values) (sym f.name) in
+    let frame_is : frame_of f.row.name found.frame.values ≡ found.frame =
+        ap (λ (n : Name). frame_of n found.frame.values) (sym f.name) in
     subst (λ (l : List ℕ). LeastFrame last found.frame l) (sym f.parts)
     (subst (λ (m : Meaning). LeastFrame last m (f.type_bytes ++ f.field_bytes)) frame_is (least last found.frame.values f.type_bytes f.field_bytes stands))

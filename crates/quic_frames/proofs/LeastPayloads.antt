@@ -12,14 +12,16 @@ use Rattle.quic_frames.proofs.LeastFrames.{FitsRow, frame_encoded, frame_least}
 -- Each frame fits the row of its type at its place.
 abbrev pub FitRows : List Meaning → Type 0
 FitRows [] = ⊤
-FitRows (frame ∷ frames) = FitsRow (is_end frames) (written_type (is_end frames) frame.name frame.values) frame × FitRows frames
+FitRows (frame ∷ frames) =
+    FitsRow (is_end frames) (written_type (is_end frames) frame.name frame.values) frame × FitRows frames
 
 nothing_after : (frames : List Meaning) → is_end frames ≡ true → shortest_frames frames ≡ []
 nothing_after [] e = refl
 nothing_after (frame ∷ frames) e = absurd cc
 
 -- Such frames are encoded by their shortest encodings.
-pub frames_encoded : (strict : Bool) (frames : List Meaning) → FitRows frames → AreFrames strict (all_written frames) (shortest_frames frames)
+pub frames_encoded : (strict : Bool) (frames : List Meaning) → FitRows frames
+    → AreFrames strict (all_written frames) (shortest_frames frames)
 frames_encoded strict [] f = refl
 frames_encoded strict (frame ∷ frames) f =
     let last = is_end frames in (
@@ -36,16 +38,19 @@ frames_written [] = refl
 frames_written (frame ∷ frames) = ap (λ (l : List Meaning). frame ∷ l) (frames_written frames)
 
 -- a frame with nothing after it is the last
-ends_if : (others : List TypedFrame) (back : List ℕ) → AreFrames false others back → back ≡ [] → is_end (map frame_in others) ≡ true
+ends_if : (others : List TypedFrame) (back : List ℕ) → AreFrames false others back → back ≡ []
+    → is_end (map frame_in others) ≡ true
 ends_if [] back s e = refl
-ends_if (found ∷ others) back s e = absurd (omega (arith, frame_some false found s.0 s.3, ap length e, ap length s.2, length-append s.0 s.1))
+ends_if (found ∷ others) back s e =
+    absurd (omega (arith, frame_some false found s.0 s.3, ap length e, ap length s.2, length-append s.0 s.1))
 
 pub record LeastFrames (frames : List Meaning) (bytes : List ℕ) : Type 0 where
   pub fit : FitRows frames
   pub least : AreOrExceed bytes (shortest_frames frames)
 
 -- Frames that are encoded fit their rows, and no other encoding is as short as the shortest.
-pub frames_least : (found : List TypedFrame) (bytes : List ℕ) → AreFrames false found bytes → LeastFrames (map frame_in found) bytes
+pub frames_least : (found : List TypedFrame) (bytes : List ℕ) → AreFrames false found bytes
+    → LeastFrames (map frame_in found) bytes
 frames_least [] bytes s = record { fit = tt; least = inl s }
 frames_least (found ∷ others) bytes s =
     let frames = map frame_in others in

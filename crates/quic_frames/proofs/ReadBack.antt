@@ -33,7 +33,8 @@ use Rattle.quic_frames.proofs.LeastFrames.{FitsRow, frame_encoded, stream_row_fi
 use Rattle.quic_frames.proofs.LeastPayloads.{FitRows, frames_encoded}
 
 -- a frame whose type is that of a row
-of_row : {last : Bool} {t : ℕ} {r : Row} {values : List Value} → t < 2 ^ 62 → is_open t ≡ false → row_of t ≡ Some r → AllFit r.fields [] values → FitsRow last t (frame_of r.name values)
+of_row : {last : Bool} {t : ℕ} {r : Row} {values : List Value} → t < 2 ^ 62 → is_open t ≡ false → row_of t ≡ Some r
+    → AllFit r.fields [] values → FitsRow last t (frame_of r.name values)
 of_row {r} lt is_closed in_table fields =
     record { small = lt; closed = λ opens. absurd (true_is_not_false (sym opens ∙ is_closed)); row = r; in_table = in_table; name = refl; fields = fields }
 
@@ -41,23 +42,30 @@ ranges_fit : (a : Ack) → a.largest < 2 ^ 62 → FitBlocks a.largest (ranges_ac
 ranges_fit a lt =
     let d = acked_apart a.largest a.additional.now a.valid in
     let apart : AreApart (d.first ∷ d.others) = subst AreApart d.are d.apart in
-    let fits : FitBlocks d.first.1 (d.first ∷ d.others) = blocks_fit d.first d.others (omega (arith, d.top, lt)) apart in
+    let fits : FitBlocks d.first.1 (d.first ∷ d.others) =
+        blocks_fit d.first d.others (omega (arith, d.top, lt)) apart in
     subst (FitBlocks a.largest) (sym d.are) (subst (λ (n : ℕ). FitBlocks n (d.first ∷ d.others)) d.top fits)
 
-pub ack_row_fits : (last : Bool) (greatest delay : ℕ) (ranges : List (ℕ × ℕ)) (counts : Option EcnCounts) → greatest < 2 ^ 62 → delay < 2 ^ 62 → FitBlocks greatest ranges → AreCounts counts
+pub ack_row_fits : (last : Bool) (greatest delay : ℕ) (ranges : List (ℕ × ℕ)) (counts : Option EcnCounts)
+    → greatest < 2 ^ 62 → delay < 2 ^ 62 → FitBlocks greatest ranges → AreCounts counts
     → FitsRow last (written_type last table.Ack (Number greatest ∷ Number delay ∷ Ranges ranges ∷ counts_of counts)) (frame_of table.Ack (Number greatest ∷ Number delay ∷ Ranges ranges ∷ counts_of counts))
-ack_row_fits last greatest delay ranges None high late blocks e = of_row (omega arith) refl refl (high, (late, (blocks, refl)))
-ack_row_fits last greatest delay ranges (Some counts) high late blocks e = of_row (omega arith) refl refl (high, (late, (blocks, (e.0, (e.1.0, (e.1.1.0, refl))))))
+ack_row_fits last greatest delay ranges None high late blocks e =
+    of_row (omega arith) refl refl (high, (late, (blocks, refl)))
+ack_row_fits last greatest delay ranges (Some counts) high late blocks e =
+    of_row (omega arith) refl refl (high, (late, (blocks, (e.0, (e.1.0, (e.1.1.0, refl))))))
 
-close_fits : (last : Bool) (c : Close) → IsTypedFrame (frames.Close c) → InRange (frames.Close c) → FitsRow last (written_type last (meaning_of (frames.Close c)).name (meaning_of (frames.Close c)).values) (meaning_of (frames.Close c))
+close_fits : (last : Bool) (c : Close) → IsTypedFrame (frames.Close c) → InRange (frames.Close c)
+    → FitsRow last (written_type last (meaning_of (frames.Close c)).name (meaning_of (frames.Close c)).values) (meaning_of (frames.Close c))
 close_fits last (closes.Connection c) t r = of_row (omega arith) refl refl (t.0, (t.1.0, (r.1, refl)))
 close_fits last (closes.Application c) t r = of_row (omega arith) refl refl (t, (r, refl))
 
-max_streams_fit : (last : Bool) (dir : Dir) (n : ℕ) → n < 2 ^ 62 → FitsRow last (written_type last table.MaxStreams (Number (dir_number dir) ∷ Number n ∷ [])) (frame_of table.MaxStreams (Number (dir_number dir) ∷ Number n ∷ []))
+max_streams_fit : (last : Bool) (dir : Dir) (n : ℕ) → n < 2 ^ 62
+    → FitsRow last (written_type last table.MaxStreams (Number (dir_number dir) ∷ Number n ∷ [])) (frame_of table.MaxStreams (Number (dir_number dir) ∷ Number n ∷ []))
 max_streams_fit last Bi n lt = of_row (omega arith) refl refl (refl, (lt, refl))
 max_streams_fit last Uni n lt = of_row (omega arith) refl refl (refl, (lt, refl))
 
-streams_blocked_fit : (last : Bool) (dir : Dir) (n : ℕ) → n < 2 ^ 62 → FitsRow last (written_type last table.StreamsBlocked (Number (dir_number dir) ∷ Number n ∷ [])) (frame_of table.StreamsBlocked (Number (dir_number dir) ∷ Number n ∷ []))
+streams_blocked_fit : (last : Bool) (dir : Dir) (n : ℕ) → n < 2 ^ 62
+    → FitsRow last (written_type last table.StreamsBlocked (Number (dir_number dir) ∷ Number n ∷ [])) (frame_of table.StreamsBlocked (Number (dir_number dir) ∷ Number n ∷ []))
 streams_blocked_fit last Bi n lt = of_row (omega arith) refl refl (refl, (lt, refl))
 streams_blocked_fit last Uni n lt = of_row (omega arith) refl refl (refl, (lt, refl))
 
@@ -65,7 +73,8 @@ is_at_most : (m n : ℕ) → n ≤ m → nat_le n m ≡ true
 is_at_most m n le = grind (arith, nat_tests)
 
 -- a frame that can be written fits the row of the type by which it is written
-pub frame_fits : (last : Bool) (frame : Frame) → IsTypedFrame frame → CanStand last frame → FitsRow last (written_type last (meaning_of frame).name (meaning_of frame).values) (meaning_of frame)
+pub frame_fits : (last : Bool) (frame : Frame) → IsTypedFrame frame → CanStand last frame
+    → FitsRow last (written_type last (meaning_of frame).name (meaning_of frame).values) (meaning_of frame)
 frame_fits last frames.Padding t c = of_row (omega arith) refl refl refl
 frame_fits last frames.Ping t c = of_row (omega arith) refl refl refl
 frame_fits last (frames.Ack a) t c =
@@ -92,10 +101,12 @@ frame_fits last (frames.Close d) t c = close_fits last d t c.in_range
 frame_fits last frames.HandshakeDone t c = of_row (omega arith) refl refl refl
 frame_fits last frames.ImmediateAck t c = of_row (omega arith) refl refl refl
 frame_fits last (frames.Datagram d) t c = datagram_row_fits last d.bytes.now c.counted
-frame_fits last (frames.AckFrequency f) t c = of_row (omega arith) refl refl (t.0, (t.1.0, (t.1.1.0, (t.1.1.1.0, refl))))
+frame_fits last (frames.AckFrequency f) t c =
+    of_row (omega arith) refl refl (t.0, (t.1.0, (t.1.1.0, (t.1.1.1.0, refl))))
 
 -- What is written of a frame is read back as this frame.
-pub frame_read_back : (strict last : Bool) (frame : Frame) → IsTypedFrame frame → CanStand last frame → IsFrame strict (as_written last (meaning_of frame)) (shortest_frame last (meaning_of frame))
+pub frame_read_back : (strict last : Bool) (frame : Frame) → IsTypedFrame frame → CanStand last frame
+    → IsFrame strict (as_written last (meaning_of frame)) (shortest_frame last (meaning_of frame))
 frame_read_back strict last frame t c = frame_encoded strict last (meaning_of frame) (frame_fits last frame t c)
 
 end_of_map : (fs : List Frame) → is_end fs ≡ is_end (map meaning_of fs)
@@ -104,21 +115,26 @@ end_of_map (frame ∷ fs) = refl
 
 frames_fit : (fs : List Frame) → AreTyped fs → CanFollow fs → FitRows (map meaning_of fs)
 frames_fit [] t c = tt
-frames_fit (frame ∷ fs) t c = (frame_fits (is_end (map meaning_of fs)) frame t.0 (subst (λ (last : Bool). CanStand last frame) (end_of_map fs) c.0), frames_fit fs t.1 c.1)
+frames_fit (frame ∷ fs) t c =
+    (frame_fits (is_end (map meaning_of fs)) frame t.0 (subst (λ (last : Bool). CanStand last frame) (end_of_map fs) c.0), frames_fit fs t.1 c.1)
 
-pub frames_read_back : (strict : Bool) (fs : List Frame) → AreTyped fs → CanFollow fs → AreFrames strict (all_written (map meaning_of fs)) (shortest_frames (map meaning_of fs))
+pub frames_read_back : (strict : Bool) (fs : List Frame) → AreTyped fs → CanFollow fs
+    → AreFrames strict (all_written (map meaning_of fs)) (shortest_frames (map meaning_of fs))
 frames_read_back strict fs t c = frames_encoded strict (map meaning_of fs) (frames_fit fs t c)
 
 -- An ACK of a set is read back as that.
-ranges_of_set : (ranges : List (ℕ × ℕ)) → ranges ≢ [] → greatest_in ranges < 2 ^ 62 → AreApart ranges → FitBlocks (greatest_in ranges) ranges
+ranges_of_set : (ranges : List (ℕ × ℕ)) → ranges ≢ [] → greatest_in ranges < 2 ^ 62 → AreApart ranges
+    → FitBlocks (greatest_in ranges) ranges
 ranges_of_set [] some lt apart = absurd (some refl)
 ranges_of_set (range ∷ ranges) some lt apart = blocks_fit range ranges lt apart
 
 some_ranges : (runs : List (Range ℕ)) → runs ≢ [] → ranges_in runs ≢ []
 some_ranges [] some none = some refl
-some_ranges (run ∷ runs) some none = absurd (omega (arith, ap length none, length-append (ranges_in runs) (ends_of run ∷ [])))
+some_ranges (run ∷ runs) some none =
+    absurd (omega (arith, ap length none, length-append (ranges_in runs) (ends_of run ∷ [])))
 
-pub set_read_back : (strict last : Bool) (delay : ℕ) (runs : List (Range ℕ)) (counts : Option EcnCounts) → IsMaximalRuns runs → runs ≢ [] → ((n : ℕ) → member runs n ≡ true → n < 2 ^ 62) → delay < 2 ^ 62 → AreCounts counts
+pub set_read_back : (strict last : Bool) (delay : ℕ) (runs : List (Range ℕ)) (counts : Option EcnCounts)
+    → IsMaximalRuns runs → runs ≢ [] → ((n : ℕ) → member runs n ≡ true → n < 2 ^ 62) → delay < 2 ^ 62 → AreCounts counts
     → IsFrame strict (as_written last (ack_of delay runs counts)) (shortest_frame last (ack_of delay runs counts))
 set_read_back strict last delay runs counts maximal some members late e =
     let ranges = ranges_in runs in

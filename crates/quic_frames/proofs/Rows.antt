@@ -9,7 +9,8 @@ cases_bool : (b : Bool) → (b ≡ true) ⊎ (b ≡ false)
 cases_bool true = inl refl
 cases_bool false = inr refl
 
-above_eight : (k : ℕ) → k < 8 → row_of (8 + k) ≡ Some (stream_row (not (eqb (bit_and (8 + k) 4) 0)) (not (eqb (bit_and (8 + k) 2) 0)) (not (eqb (bit_and (8 + k) 1) 0)))
+above_eight : (k : ℕ) → k < 8
+    → row_of (8 + k) ≡ Some (stream_row (not (eqb (bit_and (8 + k) 4) 0)) (not (eqb (bit_and (8 + k) 2) 0)) (not (eqb (bit_and (8 + k) 1) 0)))
 above_eight zero lt = refl
 above_eight (suc zero) lt = refl
 above_eight (suc (suc zero)) lt = refl
@@ -21,7 +22,8 @@ above_eight (suc (suc (suc (suc (suc (suc (suc zero))))))) lt = refl
 above_eight (suc (suc (suc (suc (suc (suc (suc (suc k)))))))) lt = absurd (omega (arith, lt))
 
 -- the row of a STREAM, by the bits of its type
-pub row_of_stream : (t : ℕ) → 8 ≤ t → t < 16 → row_of t ≡ Some (stream_row (not (eqb (bit_and t 4) 0)) (not (eqb (bit_and t 2) 0)) (not (eqb (bit_and t 1) 0)))
+pub row_of_stream : (t : ℕ) → 8 ≤ t → t < 16
+    → row_of t ≡ Some (stream_row (not (eqb (bit_and t 4) 0)) (not (eqb (bit_and t 2) 0)) (not (eqb (bit_and t 1) 0)))
 row_of_stream t low high =
     let e : 8 + (t - 8) ≡ t = omega arith in
     subst (λ (u : ℕ). row_of u ≡ Some (stream_row (not (eqb (bit_and u 4) 0)) (not (eqb (bit_and u 2) 0)) (not (eqb (bit_and u 1) 0)))) e (above_eight (t - 8) (omega arith))
@@ -34,7 +36,8 @@ first_and : (b c : Bool) → (b && c) ≡ true → (b ≡ true) × (c ≡ true)
 first_and true c h = (refl, h)
 first_and false c h = absurd cc
 
-found_well : (test : ℕ → Bool) (entries : List (ℕ × Row)) (r : Row) → all_well entries ≡ true → lookup test entries ≡ Some r → is_well r.fields ≡ true
+found_well : (test : ℕ → Bool) (entries : List (ℕ × Row)) (r : Row) → all_well entries ≡ true
+    → lookup test entries ≡ Some r → is_well r.fields ≡ true
 unfolding all_well
 found_well test [] r well e = absurd cc
 found_well test (entry ∷ entries) r well e =

@@ -10,14 +10,16 @@ use Rattle.quic_ranges.proofs.RunsLemmas.{member-below}
 use Rattle.quic_ranges.proofs.PlacesLemmas.{run-at}
 
 -- a later run starts after the end of an earlier one
-pub apart : (n i j : ℕ) (d : Range ℕ) (rs : List (Range ℕ)) → RunsFrom n rs → i < j → j < length rs → (get_or rs i d).end < (get_or rs j d).start
+pub apart : (n i j : ℕ) (d : Range ℕ) (rs : List (Range ℕ)) → RunsFrom n rs → i < j → j < length rs
+    → (get_or rs i d).end < (get_or rs j d).start
 apart n i j d [] h lt in' = absurd (omega arith)
 apart n i zero d (r ∷ rs) h lt in' = absurd (omega arith)
 apart n zero (suc j) d (r ∷ rs) h lt in' = let at = run-at (r.end + 1) j d rs h.2 (omega arith) in omega arith
 apart n (suc i) (suc j) d (r ∷ rs) h lt in' = apart (r.end + 1) i j d rs h.2 (omega arith) (omega arith)
 
 -- the number before a run is no member
-pub maximal : (n i y : ℕ) (d : Range ℕ) (rs : List (Range ℕ)) → RunsFrom n rs → i < length rs → y + 1 ≡ (get_or rs i d).start → member rs y ≡ false
+pub maximal : (n i y : ℕ) (d : Range ℕ) (rs : List (Range ℕ)) → RunsFrom n rs → i < length rs
+    → y + 1 ≡ (get_or rs i d).start → member rs y ≡ false
 maximal n i y d [] h in' e = refl
 maximal n zero y d (r ∷ rs) h in' e = member-below r.start y (r ∷ rs) (omega arith, h.1, h.2) (omega arith)
 maximal n (suc i) y d (r ∷ rs) h in' e =
@@ -27,9 +29,11 @@ maximal n (suc i) y d (r ∷ rs) h in' e =
       past r y m le e = grind (arith, nat_tests)
 
 -- nor is its end
-pub maximal_behind : (n i : ℕ) (d : Range ℕ) (rs : List (Range ℕ)) → RunsFrom n rs → i < length rs → member rs (get_or rs i d).end ≡ false
+pub maximal_behind : (n i : ℕ) (d : Range ℕ) (rs : List (Range ℕ)) → RunsFrom n rs → i < length rs
+    → member rs (get_or rs i d).end ≡ false
 maximal_behind n i d [] h in' = refl
-maximal_behind n zero d (r ∷ rs) h in' = past r r.end (member rs r.end) (omega arith) (member-below (r.end + 1) r.end rs h.2 (omega arith)) where
+maximal_behind n zero d (r ∷ rs) h in' =
+    past r r.end (member rs r.end) (omega arith) (member-below (r.end + 1) r.end rs h.2 (omega arith)) where
   past : (r : Range ℕ) (y : ℕ) (m : Bool) → r.end ≤ y → m ≡ false → (in_range r y || m) ≡ false
   past r y m le e = grind (arith, nat_tests)
 maximal_behind n (suc i) d (r ∷ rs) h in' =
@@ -38,11 +42,14 @@ maximal_behind n (suc i) d (r ∷ rs) h in' =
       past : (r : Range ℕ) (y : ℕ) (m : Bool) → r.end ≤ y → m ≡ false → (in_range r y || m) ≡ false
       past r y m le e = grind (arith, nat_tests)
 
-pub sum_of : (p q : ℕ → Bool) (rs ss ts : List (Range ℕ)) → IsRunsOf p rs → IsRunsOf q ss → IsRunsOf (in_sum rs ss) ts → IsRunsOf (λ y. p y || q y) ts
+pub sum_of : (p q : ℕ → Bool) (rs ss ts : List (Range ℕ)) → IsRunsOf p rs → IsRunsOf q ss → IsRunsOf (in_sum rs ss) ts
+    → IsRunsOf (λ y. p y || q y) ts
 sum_of p q rs ss ts h k l = (l.0, λ y. l.1 y ∙ ap (λ m. m || member ss y) (h.1 y) ∙ ap (λ m. p y || m) (k.1 y))
 
-pub difference_of : (p q : ℕ → Bool) (rs ss ts : List (Range ℕ)) → IsRunsOf p rs → IsRunsOf q ss → IsRunsOf (in_subtraction rs ss) ts → IsRunsOf (λ y. p y && not (q y)) ts
-difference_of p q rs ss ts h k l = (l.0, λ y. l.1 y ∙ ap (λ m. m && not (member ss y)) (h.1 y) ∙ ap (λ m. p y && not m) (k.1 y))
+pub difference_of : (p q : ℕ → Bool) (rs ss ts : List (Range ℕ)) → IsRunsOf p rs → IsRunsOf q ss
+    → IsRunsOf (in_subtraction rs ss) ts → IsRunsOf (λ y. p y && not (q y)) ts
+difference_of p q rs ss ts h k l =
+    (l.0, λ y. l.1 y ∙ ap (λ m. m && not (member ss y)) (h.1 y) ∙ ap (λ m. p y && not m) (k.1 y))
 
 -- a bound may be made lower
 AscendFrom-lower : (n m : ℕ) (xs : List ℕ) → m ≤ n → AscendFrom n xs → AscendFrom m xs
@@ -50,9 +57,11 @@ AscendFrom-lower n m [] le h = tt
 AscendFrom-lower n m (x ∷ xs) le h = (omega arith, h.1)
 
 -- numbers in a row, in front of later ones
-AscendFrom-count : (least a n : ℕ) (xs : List ℕ) → least ≤ a → AscendFrom (a + n) xs → AscendFrom least (count_from a n ++ xs)
+AscendFrom-count : (least a n : ℕ) (xs : List ℕ) → least ≤ a → AscendFrom (a + n) xs
+    → AscendFrom least (count_from a n ++ xs)
 AscendFrom-count least a zero xs le h = AscendFrom-lower (a + 0) least xs (omega arith) h
-AscendFrom-count least a (suc n) xs le h = (le, AscendFrom-count (suc a) (suc a) n xs (omega arith) (AscendFrom-lower (a + suc n) (suc a + n) xs (omega arith) h))
+AscendFrom-count least a (suc n) xs le h =
+    (le, AscendFrom-count (suc a) (suc a) n xs (omega arith) (AscendFrom-lower (a + suc n) (suc a + n) xs (omega arith) h))
 
 pub AscendFrom-numbers_of : (n : ℕ) (rs : List (Range ℕ)) → RunsFrom n rs → AscendFrom n (numbers_of rs)
 unfolding numbers

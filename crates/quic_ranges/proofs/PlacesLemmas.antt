@@ -48,7 +48,8 @@ inserted-places n a b (r ∷ rs) h lt =
     ]
 
 -- where no run is touched, the hull is the range itself
-pub hull-none : (n a b : ℕ) (rs : List (Range ℕ)) → RunsFrom n rs → a < b → starts_upto rs b ≤ ends_below rs a → hull rs a b ≡ range a b
+pub hull-none : (n a b : ℕ) (rs : List (Range ℕ)) → RunsFrom n rs → a < b → starts_upto rs b ≤ ends_below rs a
+    → hull rs a b ≡ range a b
 hull-none n a b [] h lt le = refl
 hull-none n a b (r ∷ rs) h lt le0 =
     (elim (cases_lt r.end a) as (λ _. starts_upto (r ∷ rs) b ≤ ends_below (r ∷ rs) a → hull (r ∷ rs) a b ≡ range a b) [
@@ -60,7 +61,8 @@ hull-none n a b (r ∷ rs) h lt le0 =
     ]) le0
 
 -- a run at a place is nonempty, and starts at the bound or later
-pub run-at : (n k : ℕ) (d : Range ℕ) (rs : List (Range ℕ)) → RunsFrom n rs → k < length rs → (n ≤ (get_or rs k d).start) × ((get_or rs k d).start < (get_or rs k d).end)
+pub run-at : (n k : ℕ) (d : Range ℕ) (rs : List (Range ℕ)) → RunsFrom n rs → k < length rs
+    → (n ≤ (get_or rs k d).start) × ((get_or rs k d).start < (get_or rs k d).end)
 run-at n k d [] h lt = absurd (omega arith)
 run-at n zero d (r ∷ rs) h lt = (h.0, h.1)
 run-at n (suc k) d (r ∷ rs) h lt = let ih = run-at (r.end + 1) k d rs h.2 (omega arith) in (omega arith, ih.1)
@@ -83,7 +85,8 @@ range_at : (a a' b b' : ℕ) → a ≡ a' → b ≡ b' → range a b ≡ range a
 range_at a a' b b' p q = ap (λ m. range m b) p ∙ ap (range a') q
 
 -- where the last run ends below x, all do
-pub ends_below-all : (n x k : ℕ) (d : Range ℕ) (rs : List (Range ℕ)) → RunsFrom n rs → length rs ≡ suc k → (get_or rs k d).end < x → ends_below rs x ≡ suc k
+pub ends_below-all : (n x k : ℕ) (d : Range ℕ) (rs : List (Range ℕ)) → RunsFrom n rs → length rs ≡ suc k
+    → (get_or rs k d).end < x → ends_below rs x ≡ suc k
 ends_below-all n x k d [] h e lt = absurd (omega arith)
 ends_below-all n x zero d (r ∷ rs) h e lt = rw (lt-ltb r.end x lt) (ap suc (none rs (omega arith))) where
   none : (ss : List (Range ℕ)) → length ss ≡ 0 → ends_below ss x ≡ 0
@@ -95,7 +98,8 @@ ends_below-all n x (suc k) d (r ∷ rs) h e lt =
     rw (lt-ltb r.end x q) (ap suc (ends_below-all (r.end + 1) x k d rs h.2 (omega arith) lt))
 
 -- where x is in the last run or at its end, the others end below x
-pub ends_below-others : (n x k : ℕ) (d : Range ℕ) (rs : List (Range ℕ)) → RunsFrom n rs → length rs ≡ suc k → (get_or rs k d).start ≤ x → x ≤ (get_or rs k d).end → ends_below rs x ≡ k
+pub ends_below-others : (n x k : ℕ) (d : Range ℕ) (rs : List (Range ℕ)) → RunsFrom n rs → length rs ≡ suc k
+    → (get_or rs k d).start ≤ x → x ≤ (get_or rs k d).end → ends_below rs x ≡ k
 ends_below-others n x k d [] h e le le' = absurd (omega arith)
 ends_below-others n x zero d (r ∷ rs) h e le le' = rw (le-ltb r.end x le') refl
 ends_below-others n x (suc k) d (r ∷ rs) h e le le' =
@@ -105,10 +109,12 @@ ends_below-others n x (suc k) d (r ∷ rs) h e le le' =
 
 -- what `hull-at` says
 abbrev HullAt : List (Range ℕ) → ℕ → ℕ → ℕ → Range ℕ → Type 0
-HullAt rs a b k d = starts_upto rs b ≡ suc k → ends_below rs a ≤ k → hull rs a b ≡ range (min a (get_or rs (ends_below rs a) d).start) (max b (get_or rs k d).end)
+HullAt rs a b k d =
+    starts_upto rs b ≡ suc k → ends_below rs a ≤ k → hull rs a b ≡ range (min a (get_or rs (ends_below rs a) d).start) (max b (get_or rs k d).end)
 
 -- the hull, by the first and the last run that a..b touches
-pub hull-at : (n a b k : ℕ) (d : Range ℕ) (rs : List (Range ℕ)) → RunsFrom n rs → a < b → starts_upto rs b ≡ suc k → ends_below rs a ≤ k
+pub hull-at : (n a b k : ℕ) (d : Range ℕ) (rs : List (Range ℕ)) → RunsFrom n rs → a < b → starts_upto rs b ≡ suc k
+    → ends_below rs a ≤ k
     → hull rs a b ≡ range (min a (get_or rs (ends_below rs a) d).start) (max b (get_or rs k d).end)
 hull-at n a b k d [] h lt is le = absurd (omega arith)
 hull-at n a b zero d (r ∷ rs) h lt is le =
@@ -128,25 +134,32 @@ hull-at n a b (suc k) d (r ∷ rs) h lt is le =
       | inr q ↦ elim (cases_lt b r.start) as (λ _. HullAt (r ∷ rs) a b (suc k) d) [
         | inl q2 ↦ rw (le-ltb r.end a q, lt-ltb b r.start q2, lt-leb r.start b q2) (λ is le. absurd (omega arith))
         | inr q2 ↦ rw (le-ltb r.end a q, le-ltb b r.start q2, le-leb r.start b q2) (λ is le.
-            let first : ends_below rs (min a r.start) ≡ 0 = ends_below-none (r.end + 1) (min a r.start) rs h.2 (omega arith) in
+            let first : ends_below rs (min a r.start) ≡ 0 =
+                ends_below-none (r.end + 1) (min a r.start) rs h.2 (omega arith) in
             let upto : starts_upto rs (max b r.end) ≡ suc k = starts_upto-max r.end b rs h.2 ∙ (omega arith) in
             let fits : starts_upto rs b ≤ length rs = starts_upto-length b rs in
-            let at0 : (r.end + 1 ≤ (get_or rs 0 d).start) × ((get_or rs 0 d).start < (get_or rs 0 d).end) = run-at (r.end + 1) 0 d rs h.2 (omega arith) in
-            let atk : (r.end + 1 ≤ (get_or rs k d).start) × ((get_or rs k d).start < (get_or rs k d).end) = run-at (r.end + 1) k d rs h.2 (omega arith) in
+            let at0 : (r.end + 1 ≤ (get_or rs 0 d).start) × ((get_or rs 0 d).start < (get_or rs 0 d).end) =
+                run-at (r.end + 1) 0 d rs h.2 (omega arith) in
+            let atk : (r.end + 1 ≤ (get_or rs k d).start) × ((get_or rs k d).start < (get_or rs k d).end) =
+                run-at (r.end + 1) k d rs h.2 (omega arith) in
             hull-at (r.end + 1) (min a r.start) (max b r.end) k d rs h.2 (omega arith) upto (omega arith)
             ∙ rw first (range_at _ _ _ _ (omega arith) (omega arith)))
       ]
     ]) is le
 
 -- a range before all runs
-pub inserted-beyond : (n a b : ℕ) (rs : List (Range ℕ)) → RunsFrom n rs → a < b → b < n → inserted rs a b ≡ range a b ∷ rs
+pub inserted-beyond : (n a b : ℕ) (rs : List (Range ℕ)) → RunsFrom n rs → a < b → b < n
+    → inserted rs a b ≡ range a b ∷ rs
 inserted-beyond n a b [] h lt q = refl
 inserted-beyond n a b (r ∷ rs) h lt q =
-    let q1 : a ≤ r.end = omega arith in let q2 : b < r.start = omega arith in rw (le-ltb r.end a q1, lt-ltb b r.start q2) refl
+    let q1 : a ≤ r.end = omega arith in
+    let q2 : b < r.start = omega arith in
+    rw (le-ltb r.end a q1, lt-ltb b r.start q2) refl
 
 -- what `inserted-same` says
 abbrev Same : List (Range ℕ) → ℕ → ℕ → Range ℕ → Type 0
-Same rs a b d = ends_below rs a < length rs → (get_or rs (ends_below rs a) d).start ≤ a → b ≤ (get_or rs (ends_below rs a) d).end → inserted rs a b ≡ rs
+Same rs a b d =
+    ends_below rs a < length rs → (get_or rs (ends_below rs a) d).start ≤ a → b ≤ (get_or rs (ends_below rs a) d).end → inserted rs a b ≡ rs
 
 -- a range inside a run adds nothing
 pub inserted-same : (n a b : ℕ) (d : Range ℕ) (rs : List (Range ℕ)) → RunsFrom n rs → a < b → Same rs a b d
@@ -162,10 +175,12 @@ inserted-same n a b d (r ∷ rs) h lt =
 
 -- what `covered` says
 abbrev IsCovered : List (Range ℕ) → ℕ → ℕ → Range ℕ → Type 0
-IsCovered rs a b d = (ends_below rs a < length rs) × ((get_or rs (ends_below rs a) d).start ≤ a) × (b ≤ (get_or rs (ends_below rs a) d).end)
+IsCovered rs a b d =
+    (ends_below rs a < length rs) × ((get_or rs (ends_below rs a) d).start ≤ a) × (b ≤ (get_or rs (ends_below rs a) d).end)
 
 -- a range whose numbers are members is inside a run
-pub covered : (n a b : ℕ) (d : Range ℕ) (rs : List (Range ℕ)) → RunsFrom n rs → a < b → ((y : ℕ) → a ≤ y → y < b → member rs y ≡ true) → IsCovered rs a b d
+pub covered : (n a b : ℕ) (d : Range ℕ) (rs : List (Range ℕ)) → RunsFrom n rs → a < b
+    → ((y : ℕ) → a ≤ y → y < b → member rs y ≡ true) → IsCovered rs a b d
 covered n a b d [] h lt all = absurd (false≢true (all a (omega arith) lt))
 covered n a b d (r ∷ rs) h lt all =
     elim (cases_lt r.end a) as (λ _. IsCovered (r ∷ rs) a b d) [
@@ -185,14 +200,16 @@ covered n a b d (r ∷ rs) h lt all =
       high q = elim (cases_lt r.end b) [ inl lo ↦ absurd (outside r r.end (member rs r.end) (inr (omega arith)) (member-below (r.end + 1) r.end rs h.2 (omega arith)) (all r.end q lo)) | inr le ↦ le ]
 
 -- the place that a partition by `ends_below`'s test gives
-pub ends_below-place : (x i : ℕ) (rs : List (Range ℕ)) → i ≤ length rs → IsPartitionPoint (λ (r : Range ℕ). ltb r.end x ≡ true) (λ r. ltb r.end x ≡ false) rs i → ends_below rs x ≡ i
+pub ends_below-place : (x i : ℕ) (rs : List (Range ℕ)) → i ≤ length rs
+    → IsPartitionPoint (λ (r : Range ℕ). ltb r.end x ≡ true) (λ r. ltb r.end x ≡ false) rs i → ends_below rs x ≡ i
 ends_below-place x i [] le p = omega arith
 ends_below-place x zero (r ∷ rs) le p = rw (p.1 0 r (omega arith) (omega arith)) refl
 ends_below-place x (suc i) (r ∷ rs) le p =
     rw (p.0 0 r (omega arith) (omega arith))
     (ap suc (ends_below-place x i rs (omega arith) (λ k d lo hi. p.0 (suc k) d (omega arith) (omega arith), λ k d lo hi. p.1 (suc k) d (omega arith) (omega arith))))
 
-pub starts_upto-place : (x i : ℕ) (rs : List (Range ℕ)) → i ≤ length rs → IsPartitionPoint (λ (r : Range ℕ). leb r.start x ≡ true) (λ r. leb r.start x ≡ false) rs i → starts_upto rs x ≡ i
+pub starts_upto-place : (x i : ℕ) (rs : List (Range ℕ)) → i ≤ length rs
+    → IsPartitionPoint (λ (r : Range ℕ). leb r.start x ≡ true) (λ r. leb r.start x ≡ false) rs i → starts_upto rs x ≡ i
 starts_upto-place x i [] le p = omega arith
 starts_upto-place x zero (r ∷ rs) le p = rw (p.1 0 r (omega arith) (omega arith)) refl
 starts_upto-place x (suc i) (r ∷ rs) le p =
@@ -200,22 +217,29 @@ starts_upto-place x (suc i) (r ∷ rs) le p =
     (ap suc (starts_upto-place x i rs (omega arith) (λ k d lo hi. p.0 (suc k) d (omega arith) (omega arith), λ k d lo hi. p.1 (suc k) d (omega arith) (omega arith))))
 
 -- runs ascend
-ascending : (n i j : ℕ) (d : Range ℕ) (rs : List (Range ℕ)) → RunsFrom n rs → i ≤ j → j < length rs → ((get_or rs i d).start ≤ (get_or rs j d).start) × ((get_or rs i d).end ≤ (get_or rs j d).end)
+ascending : (n i j : ℕ) (d : Range ℕ) (rs : List (Range ℕ)) → RunsFrom n rs → i ≤ j → j < length rs
+    → ((get_or rs i d).start ≤ (get_or rs j d).start) × ((get_or rs i d).end ≤ (get_or rs j d).end)
 ascending n i j d [] h le lt = absurd (omega arith)
 ascending n zero zero d (r ∷ rs) h le lt = (omega arith, omega arith)
-ascending n zero (suc j) d (r ∷ rs) h le lt = let p = run-at (r.end + 1) j d rs h.2 (omega arith) in (omega arith, omega arith)
+ascending n zero (suc j) d (r ∷ rs) h le lt =
+    let p = run-at (r.end + 1) j d rs h.2 (omega arith) in (omega arith, omega arith)
 ascending n (suc i) zero d (r ∷ rs) h le lt = absurd (omega arith)
 ascending n (suc i) (suc j) d (r ∷ rs) h le lt = ascending (r.end + 1) i j d rs h.2 (omega arith) (omega arith)
 
 -- what `partition_point` asks
-pub ends_partition : (x : ℕ) (rs : List (Range ℕ)) → IsMaximalRuns rs → IsPartitionedBy (λ (r : Range ℕ). ltb r.end x) rs
-ends_partition x rs h i j d le lt e = lt-ltb _ _ (let p = ascending 0 i j d rs h le lt in let q = ltb-true _ _ e in omega arith)
+pub ends_partition : (x : ℕ) (rs : List (Range ℕ)) → IsMaximalRuns rs
+    → IsPartitionedBy (λ (r : Range ℕ). ltb r.end x) rs
+ends_partition x rs h i j d le lt e =
+    lt-ltb _ _ (let p = ascending 0 i j d rs h le lt in let q = ltb-true _ _ e in omega arith)
 
-pub starts_partition : (x : ℕ) (rs : List (Range ℕ)) → IsMaximalRuns rs → IsPartitionedBy (λ (r : Range ℕ). leb r.start x) rs
-starts_partition x rs h i j d le lt e = le-leb _ _ (let p = ascending 0 i j d rs h le lt in let q = leb-true _ _ e in omega arith)
+pub starts_partition : (x : ℕ) (rs : List (Range ℕ)) → IsMaximalRuns rs
+    → IsPartitionedBy (λ (r : Range ℕ). leb r.start x) rs
+starts_partition x rs h i j d le lt e =
+    le-leb _ _ (let p = ascending 0 i j d rs h le lt in let q = leb-true _ _ e in omega arith)
 
 -- runs that end below a start before b
-pub ends_below-starts_upto : (n a b : ℕ) (rs : List (Range ℕ)) → RunsFrom n rs → a < b → ends_below rs a ≤ starts_upto rs b
+pub ends_below-starts_upto : (n a b : ℕ) (rs : List (Range ℕ)) → RunsFrom n rs → a < b
+    → ends_below rs a ≤ starts_upto rs b
 ends_below-starts_upto n a b [] h lt = omega arith
 ends_below-starts_upto n a b (r ∷ rs) h lt =
     elim (cases_lt r.end a) as (λ _. ends_below (r ∷ rs) a ≤ starts_upto (r ∷ rs) b) [
@@ -224,7 +248,8 @@ ends_below-starts_upto n a b (r ∷ rs) h lt =
     ]
 
 -- a run that starts at x or before is counted
-pub starts_upto-above : (n k x : ℕ) (d : Range ℕ) (rs : List (Range ℕ)) → RunsFrom n rs → k < length rs → (get_or rs k d).start ≤ x → k < starts_upto rs x
+pub starts_upto-above : (n k x : ℕ) (d : Range ℕ) (rs : List (Range ℕ)) → RunsFrom n rs → k < length rs
+    → (get_or rs k d).start ≤ x → k < starts_upto rs x
 starts_upto-above n k x d [] h lt le = absurd (omega arith)
 starts_upto-above n zero x d (r ∷ rs) h lt le = rw (le-leb r.start x le) (omega arith)
 starts_upto-above n (suc k) x d (r ∷ rs) h lt le =
@@ -234,17 +259,22 @@ starts_upto-above n (suc k) x d (r ∷ rs) h lt le =
     rw (le-leb r.start x q) (omega arith)
 
 -- where a union with the range changes nothing, the range is inside a run
-same_covered : (rs : List (Range ℕ)) (x d : Range ℕ) → IsMaximalRuns rs → x.start < x.end → IsRunsOf (in_union rs x) rs → IsCovered rs x.start x.end d
-same_covered rs x d h lt same = covered 0 x.start x.end d rs h lt (λ y lo hi. inside y (member rs y) lo hi (same.1 y)) where
+same_covered : (rs : List (Range ℕ)) (x d : Range ℕ) → IsMaximalRuns rs → x.start < x.end → IsRunsOf (in_union rs x) rs
+    → IsCovered rs x.start x.end d
+same_covered rs x d h lt same =
+    covered 0 x.start x.end d rs h lt (λ y lo hi. inside y (member rs y) lo hi (same.1 y)) where
   inside : (y : ℕ) (m : Bool) → x.start ≤ y → y < x.end → m ≡ (m || in_range x y) → m ≡ true
   inside y m lo hi e = grind (arith, nat_tests)
 
 -- the runs of the union
-union_at : (rs ss : List (Range ℕ)) (x : Range ℕ) → IsMaximalRuns rs → x.start < x.end → inserted rs x.start x.end ≡ ss → IsRunsOf (in_union rs x) ss
-union_at rs ss x h lt e = let P : List (Range ℕ) → Type 0 = IsRunsOf (in_union rs x) in subst P e (IsRunsOf-inserted x.start x.end rs h lt)
+union_at : (rs ss : List (Range ℕ)) (x : Range ℕ) → IsMaximalRuns rs → x.start < x.end → inserted rs x.start x.end ≡ ss
+    → IsRunsOf (in_union rs x) ss
+union_at rs ss x h lt e =
+    let P : List (Range ℕ) → Type 0 = IsRunsOf (in_union rs x) in subst P e (IsRunsOf-inserted x.start x.end rs h lt)
 
 -- an insertion that touches no run
-pub Splices-plain : (rs : List (Range ℕ)) (x : Range ℕ) (i j : ℕ) → IsMaximalRuns rs → x.start < x.end → i ≡ ends_below rs x.start → j ≡ starts_upto rs x.end → j ≤ i
+pub Splices-plain : (rs : List (Range ℕ)) (x : Range ℕ) (i j : ℕ) → IsMaximalRuns rs → x.start < x.end
+    → i ≡ ends_below rs x.start → j ≡ starts_upto rs x.end → j ≤ i
     → Splices (in_union rs x) rs (record { from = i; to = i; by = One (range x.start x.end) })
 Splices-plain rs x i j h lt ei ej le =
     let order : ends_below rs x.start ≤ starts_upto rs x.end = ends_below-starts_upto 0 x.start x.end rs h lt in
@@ -257,7 +287,8 @@ Splices-plain rs x i j h lt ei ej le =
     }
 
 -- an insertion that touches the runs from i to below j, and does not lie inside one
-pub Splices-touching : (rs : List (Range ℕ)) (x d : Range ℕ) (i j start end : ℕ) → IsMaximalRuns rs → x.start < x.end → i ≡ ends_below rs x.start → j ≡ starts_upto rs x.end → i < j
+pub Splices-touching : (rs : List (Range ℕ)) (x d : Range ℕ) (i j start end : ℕ) → IsMaximalRuns rs → x.start < x.end
+    → i ≡ ends_below rs x.start → j ≡ starts_upto rs x.end → i < j
     → start ≡ min x.start (get_or rs i d).start → end ≡ max x.end (get_or rs (j - 1) d).end
     → ((get_or rs i d).start ≤ x.start → x.end ≤ (get_or rs i d).end → ⊥)
     → Splices (in_union rs x) rs (record { from = i; to = j; by = One (range start end) })
@@ -267,22 +298,27 @@ Splices-touching rs x d i j start end h lt ei ej le es ee out =
       runs = union_at rs _ x h lt (inserted-places 0 x.start x.end rs h lt
           ∙ rw (← ei, ← ej, hull-at 0 x.start x.end (j - 1) d rs h lt (omega arith) (omega arith), ← ei, ← es, ← ee) refl);
       differs = λ same. let c : IsCovered rs x.start x.end d = same_covered rs x d h lt same in
-          let at : IsCovered rs x.start x.end d → ((get_or rs i d).start ≤ x.start) × (x.end ≤ (get_or rs i d).end) = rw ei (λ q. (q.1, q.2)) in
+          let at : IsCovered rs x.start x.end d → ((get_or rs i d).start ≤ x.start) × (x.end ≤ (get_or rs i d).end) =
+              rw ei (λ q. (q.1, q.2)) in
           out (at c).0 (at c).1;
     }
 
 -- an insertion inside a run
-pub IsRunsOf-inside : (rs : List (Range ℕ)) (x d : Range ℕ) (i : ℕ) → IsMaximalRuns rs → x.start < x.end → i ≡ ends_below rs x.start → i < length rs
+pub IsRunsOf-inside : (rs : List (Range ℕ)) (x d : Range ℕ) (i : ℕ) → IsMaximalRuns rs → x.start < x.end
+    → i ≡ ends_below rs x.start → i < length rs
     → (get_or rs i d).start ≤ x.start → x.end ≤ (get_or rs i d).end → IsRunsOf (in_union rs x) rs
 IsRunsOf-inside rs x d i h lt ei in' =
     let at : Same rs x.start x.end d = inserted-same 0 x.start x.end d rs h lt in
-    let at' : i < length rs → (get_or rs i d).start ≤ x.start → x.end ≤ (get_or rs i d).end → inserted rs x.start x.end ≡ rs = rw ei at in
+    let at' : i < length rs → (get_or rs i d).start ≤ x.start → x.end ≤ (get_or rs i d).end
+        → inserted rs x.start x.end ≡ rs =
+        rw ei at in
     λ le le'. union_at rs rs x h lt (at' in' le le')
 
 -- what is left of the runs that a..b overlaps
 abbrev pub rest : List (Range ℕ) → ℕ → ℕ → List (Range ℕ)
 rest [] a b = []
-rest (r ∷ rs) a b = cond (ltb r.end (suc a)) (rest rs a b) (cond (ltb r.start b) (as_runs r.start (min r.end a) ++ (as_runs (max r.start b) r.end ++ rest rs a b)) [])
+rest (r ∷ rs) a b =
+    cond (ltb r.end (suc a)) (rest rs a b) (cond (ltb r.start b) (as_runs r.start (min r.end a) ++ (as_runs (max r.start b) r.end ++ rest rs a b)) [])
 
 pub as_runs-full : (a b : ℕ) → a < b → as_runs a b ≡ range a b ∷ []
 as_runs-full a b lt = rw (lt-ltb a b lt) refl
@@ -291,7 +327,8 @@ pub as_runs-empty : (a b : ℕ) → b ≤ a → as_runs a b ≡ []
 as_runs-empty a b le = rw (le-ltb a b le) refl
 
 -- a run that the range does not overlap stays
-pub removed-kept : (a b : ℕ) (r : Range ℕ) (rs : List (Range ℕ)) → r.start < r.end → a < b → (r.end ≤ a) ⊎ (b ≤ r.start) → removed (r ∷ rs) a b ≡ r ∷ removed rs a b
+pub removed-kept : (a b : ℕ) (r : Range ℕ) (rs : List (Range ℕ)) → r.start < r.end → a < b → (r.end ≤ a) ⊎ (b ≤ r.start)
+    → removed (r ∷ rs) a b ≡ r ∷ removed rs a b
 removed-kept a b r rs h lt (inl le) =
     let e1 : min r.end a ≡ r.end = omega arith in
     let e2 : r.end ≤ max r.start b = omega arith in
@@ -304,7 +341,9 @@ removed-kept a b r rs h lt (inr le) =
 -- runs that begin at the range's end or later stay
 pub removed-beyond : (n a b : ℕ) (rs : List (Range ℕ)) → RunsFrom n rs → a < b → b ≤ n → removed rs a b ≡ rs
 removed-beyond n a b [] h lt le = refl
-removed-beyond n a b (r ∷ rs) h lt le = removed-kept a b r rs h.1 lt (inr (omega arith)) ∙ ap (λ l. r ∷ l) (removed-beyond (r.end + 1) a b rs h.2 lt (omega arith))
+removed-beyond n a b (r ∷ rs) h lt le =
+    removed-kept a b r rs h.1 lt (inr (omega arith))
+    ∙ ap (λ l. r ∷ l) (removed-beyond (r.end + 1) a b rs h.2 lt (omega arith))
 
 -- a removal, by places: the runs that end at a or before, what is left of the next, and those that start at b or
 -- later, where b is one more than m
@@ -341,12 +380,14 @@ rest-none n a m (r ∷ rs) h le =
 -- the first run starts at m or before if any does
 first_starts : (m k : ℕ) (d : Range ℕ) (rs : List (Range ℕ)) → starts_upto rs m ≡ suc k → (get_or rs 0 d).start ≤ m
 first_starts m k d [] = λ e. absurd (omega arith)
-first_starts m k d (r ∷ rs) = elim (cases_lt m r.start) as (λ _. starts_upto (r ∷ rs) m ≡ suc k → (get_or (r ∷ rs) 0 d).start ≤ m)
+first_starts m k d (r ∷ rs) =
+    elim (cases_lt m r.start) as (λ _. starts_upto (r ∷ rs) m ≡ suc k → (get_or (r ∷ rs) 0 d).start ≤ m)
     [ inl q ↦ rw (lt-leb r.start m q) (λ e. absurd (omega arith)) | inr q ↦ λ _. q ]
 
 -- what `rest-at` says
 abbrev RestAt : List (Range ℕ) → ℕ → ℕ → ℕ → Range ℕ → Type 0
-RestAt rs a m k d = starts_upto rs m ≡ suc k → ends_below rs (suc a) ≤ k → rest rs a (suc m) ≡ as_runs (get_or rs (ends_below rs (suc a)) d).start a ++ as_runs (suc m) (get_or rs k d).end
+RestAt rs a m k d =
+    starts_upto rs m ≡ suc k → ends_below rs (suc a) ≤ k → rest rs a (suc m) ≡ as_runs (get_or rs (ends_below rs (suc a)) d).start a ++ as_runs (suc m) (get_or rs k d).end
 
 -- what is left, by the first and the last run that the range overlaps
 pub rest-at : (n a m k : ℕ) (d : Range ℕ) (rs : List (Range ℕ)) → RunsFrom n rs → a ≤ m → RestAt rs a m k d
@@ -374,20 +415,24 @@ rest-at n a m (suc k) d (r ∷ rs) h le =
             rw (le-ltb r.end (suc a) q, lt-ltb r.start (suc m) q3, le-leb r.start m q2) (λ is le'.
             let first : ends_below rs (suc a) ≡ 0 = ends_below-none (r.end + 1) (suc a) rs h.2 (omega arith) in
             let fits : starts_upto rs m ≤ length rs = starts_upto-length m rs in
-            let at0 : (r.end + 1 ≤ (get_or rs 0 d).start) × ((get_or rs 0 d).start < (get_or rs 0 d).end) = run-at (r.end + 1) 0 d rs h.2 (omega arith) in
+            let at0 : (r.end + 1 ≤ (get_or rs 0 d).start) × ((get_or rs 0 d).start < (get_or rs 0 d).end) =
+                run-at (r.end + 1) 0 d rs h.2 (omega arith) in
             let near : (get_or rs 0 d).start ≤ m = first_starts m k d rs (omega arith) in
             let e1 : min r.end a ≡ a = omega arith in
             let e2 : r.end ≤ max r.start (suc m) = omega arith in
             let e3 : a ≤ (get_or rs 0 d).start = omega arith in
-            let step : rest rs a (suc m) ≡ as_runs (get_or rs (ends_below rs (suc a)) d).start a ++ as_runs (suc m) (get_or rs k d).end = rest-at (r.end + 1) a m k d rs h.2 le (omega arith) (omega arith) in
-            let none : as_runs (get_or rs (ends_below rs (suc a)) d).start a ++ as_runs (suc m) (get_or rs k d).end ≡ as_runs (suc m) (get_or rs k d).end = rw (first, as_runs-empty (get_or rs 0 d).start a e3) refl in
+            let step : rest rs a (suc m) ≡ as_runs (get_or rs (ends_below rs (suc a)) d).start a ++ as_runs (suc m) (get_or rs k d).end =
+                rest-at (r.end + 1) a m k d rs h.2 le (omega arith) (omega arith) in
+            let none : as_runs (get_or rs (ends_below rs (suc a)) d).start a ++ as_runs (suc m) (get_or rs k d).end ≡ as_runs (suc m) (get_or rs k d).end =
+                rw (first, as_runs-empty (get_or rs 0 d).start a e3) refl in
             ap (λ l. as_runs r.start (min r.end a) ++ (as_runs (max r.start (suc m)) r.end ++ l)) (step ∙ none)
             ∙ rw (e1, as_runs-empty (max r.start (suc m)) r.end e2) refl)
       ]
     ]
 
 -- where no run is overlapped, nothing is removed
-removed-none : (n a m : ℕ) (rs : List (Range ℕ)) → RunsFrom n rs → a ≤ m → starts_upto rs m ≤ ends_below rs (suc a) → removed rs a (suc m) ≡ rs
+removed-none : (n a m : ℕ) (rs : List (Range ℕ)) → RunsFrom n rs → a ≤ m → starts_upto rs m ≤ ends_below rs (suc a)
+    → removed rs a (suc m) ≡ rs
 removed-none n a m [] h le = λ e. refl
 removed-none n a m (r ∷ rs) h le =
     elim (cases_lt r.end (suc a)) as (λ _. starts_upto (r ∷ rs) m ≤ ends_below (r ∷ rs) (suc a) → removed (r ∷ rs) a (suc m) ≡ r ∷ rs) [
@@ -401,9 +446,11 @@ removed-none n a m (r ∷ rs) h le =
     ]
 
 -- the run after those that end below x ends at x or later
-pub ends_below-at : (x : ℕ) (d : Range ℕ) (rs : List (Range ℕ)) → ends_below rs x < length rs → x ≤ (get_or rs (ends_below rs x) d).end
+pub ends_below-at : (x : ℕ) (d : Range ℕ) (rs : List (Range ℕ)) → ends_below rs x < length rs
+    → x ≤ (get_or rs (ends_below rs x) d).end
 ends_below-at x d [] = λ lt. absurd (omega arith)
-ends_below-at x d (r ∷ rs) = elim (cases_lt r.end x) as (λ _. ends_below (r ∷ rs) x < length (r ∷ rs) → x ≤ (get_or (r ∷ rs) (ends_below (r ∷ rs) x) d).end)
+ends_below-at x d (r ∷ rs) =
+    elim (cases_lt r.end x) as (λ _. ends_below (r ∷ rs) x < length (r ∷ rs) → x ≤ (get_or (r ∷ rs) (ends_below (r ∷ rs) x) d).end)
     [ inl q ↦ rw (lt-ltb r.end x q) (λ lt. ends_below-at x d rs (omega arith)) | inr q ↦ rw (le-ltb r.end x q) (λ lt. q) ]
 
 -- a run that is counted starts at x or before
@@ -411,24 +458,30 @@ pub starts_upto-at : (x k : ℕ) (d : Range ℕ) (rs : List (Range ℕ)) → k <
 starts_upto-at x k d [] = λ lt. absurd (omega arith)
 starts_upto-at x zero d (r ∷ rs) = elim (cases_lt x r.start) as (λ _. 0 < starts_upto (r ∷ rs) x → r.start ≤ x)
     [ inl q ↦ rw (lt-leb r.start x q) (λ lt. absurd (omega arith)) | inr q ↦ λ _. q ]
-starts_upto-at x (suc k) d (r ∷ rs) = elim (cases_lt x r.start) as (λ _. suc k < starts_upto (r ∷ rs) x → (get_or rs k d).start ≤ x)
+starts_upto-at x (suc k) d (r ∷ rs) =
+    elim (cases_lt x r.start) as (λ _. suc k < starts_upto (r ∷ rs) x → (get_or rs k d).start ≤ x)
     [ inl q ↦ rw (lt-leb r.start x q) (λ lt. absurd (omega arith)) | inr q ↦ rw (le-leb r.start x q) (λ lt. starts_upto-at x k d rs (omega arith)) ]
 
 -- the numbers of a run are members
-pub member-at : (k y : ℕ) (d : Range ℕ) (rs : List (Range ℕ)) → k < length rs → (get_or rs k d).start ≤ y → y < (get_or rs k d).end → member rs y ≡ true
+pub member-at : (k y : ℕ) (d : Range ℕ) (rs : List (Range ℕ)) → k < length rs → (get_or rs k d).start ≤ y
+    → y < (get_or rs k d).end → member rs y ≡ true
 member-at k y d [] lt lo hi = absurd (omega arith)
 member-at zero y d (r ∷ rs) lt lo hi = here (member rs y) where
   here : (m : Bool) → (in_range r y || m) ≡ true
   here m = grind (arith, nat_tests)
-member-at (suc k) y d (r ∷ rs) lt lo hi = there (in_range r y) (member rs y) (member-at k y d rs (omega arith) lo hi) where
+member-at (suc k) y d (r ∷ rs) lt lo hi =
+    there (in_range r y) (member rs y) (member-at k y d rs (omega arith) lo hi) where
   there : (i m : Bool) → m ≡ true → (i || m) ≡ true
   there i m e = grind (arith, nat_tests)
 
-difference_at : (rs ss : List (Range ℕ)) (x : Range ℕ) → IsMaximalRuns rs → x.start < x.end → removed rs x.start x.end ≡ ss → IsRunsOf (in_difference rs x) ss
-difference_at rs ss x h lt e = let P : List (Range ℕ) → Type 0 = IsRunsOf (in_difference rs x) in subst P e (IsRunsOf-removed x.start x.end rs h lt)
+difference_at : (rs ss : List (Range ℕ)) (x : Range ℕ) → IsMaximalRuns rs → x.start < x.end
+    → removed rs x.start x.end ≡ ss → IsRunsOf (in_difference rs x) ss
+difference_at rs ss x h lt e =
+    let P : List (Range ℕ) → Type 0 = IsRunsOf (in_difference rs x) in subst P e (IsRunsOf-removed x.start x.end rs h lt)
 
 -- a range that no run overlaps takes nothing
-pub IsRunsOf-apart : (rs : List (Range ℕ)) (x : Range ℕ) (i j : ℕ) → IsMaximalRuns rs → x.start < x.end → i ≡ ends_below rs (x.start + 1) → j ≡ starts_upto rs (x.end - 1) → j ≤ i → IsRunsOf (in_difference rs x) rs
+pub IsRunsOf-apart : (rs : List (Range ℕ)) (x : Range ℕ) (i j : ℕ) → IsMaximalRuns rs → x.start < x.end
+    → i ≡ ends_below rs (x.start + 1) → j ≡ starts_upto rs (x.end - 1) → j ≤ i → IsRunsOf (in_difference rs x) rs
 IsRunsOf-apart rs x i j h lt ei ej le =
     let one : suc (x.end - 1) ≡ x.end = omega arith in
     let plus_one : suc x.start ≡ x.start + 1 = omega arith in
@@ -443,8 +496,10 @@ substitutes_most (One r) = omega arith
 substitutes_most (Two r s) = omega arith
 
 -- a removal from the runs from i to below j
-pub Splices-removal : (rs : List (Range ℕ)) (x d : Range ℕ) (i j first_start last_end : ℕ) (by : Substitute) → IsMaximalRuns rs → x.start < x.end → i ≡ ends_below rs (x.start + 1) → j ≡ starts_upto rs (x.end - 1) → i < j
-    → first_start ≡ (get_or rs i d).start → last_end ≡ (get_or rs (j - 1) d).end → substitutes by ≡ as_runs first_start x.start ++ as_runs x.end last_end
+pub Splices-removal : (rs : List (Range ℕ)) (x d : Range ℕ) (i j first_start last_end : ℕ) (by : Substitute)
+    → IsMaximalRuns rs → x.start < x.end → i ≡ ends_below rs (x.start + 1) → j ≡ starts_upto rs (x.end - 1) → i < j
+    → first_start ≡ (get_or rs i d).start → last_end ≡ (get_or rs (j - 1) d).end
+    → substitutes by ≡ as_runs first_start x.start ++ as_runs x.end last_end
     → Splices (in_difference rs x) rs (record { from = i; to = j; by = by })
 Splices-removal rs x d i j first_start last_end by h lt ei ej le es ee eb =
     let one : suc (x.end - 1) ≡ x.end = omega arith in
@@ -453,14 +508,17 @@ Splices-removal rs x d i j first_start last_end by h lt ei ej le es ee eb =
     let within : starts_upto rs (x.end - 1) ≤ length rs = starts_upto-length (x.end - 1) rs in
     let most : length (substitutes by) ≤ 2 = substitutes_most by in
     let what : rest rs x.start (suc (x.end - 1)) ≡ substitutes by =
-    rest-at 0 x.start (x.end - 1) (j - 1) d rs h (omega arith) (omega arith) (omega arith) ∙ rw (ei', ← es, ← ee, one) (sym eb) in
+    rest-at 0 x.start (x.end - 1) (j - 1) d rs h (omega arith) (omega arith) (omega arith)
+    ∙ rw (ei', ← es, ← ee, one) (sym eb) in
     record {
       fits = record { ordered = omega arith; within = omega arith; one_more = omega arith };
       runs = difference_at rs _ x h lt (ap (removed rs x.start) (sym one) ∙ removed-places 0 x.start (x.end - 1) rs h (omega arith) ∙ rw (what, ei', ← ej) refl);
       differs = λ same.
-          let hi : suc x.start ≤ (get_or rs i d).end = subst (λ k. suc x.start ≤ (get_or rs k d).end) ei' (ends_below-at (suc x.start) d rs (omega arith)) in
+          let hi : suc x.start ≤ (get_or rs i d).end =
+              subst (λ k. suc x.start ≤ (get_or rs k d).end) ei' (ends_below-at (suc x.start) d rs (omega arith)) in
           let lo : (get_or rs i d).start ≤ x.end - 1 = starts_upto-at (x.end - 1) i d rs (omega arith) in
-          let run : (0 ≤ (get_or rs i d).start) × ((get_or rs i d).start < (get_or rs i d).end) = run-at 0 i d rs h (omega arith) in
+          let run : (0 ≤ (get_or rs i d).start) × ((get_or rs i d).start < (get_or rs i d).end) =
+              run-at 0 i d rs h (omega arith) in
           taken (max x.start (get_or rs i d).start) (member rs (max x.start (get_or rs i d).start)) (omega arith) (omega arith)
           (member-at i (max x.start (get_or rs i d).start) d rs (omega arith) (omega arith) (omega arith)) (same.1 (max x.start (get_or rs i d).start));
     } where
@@ -477,7 +535,8 @@ member-before n y (r ∷ rs) h =
     ]
 
 -- a number is a member exactly if the last run that starts there or before ends after it
-pub member-place : (n y k : ℕ) (d : Range ℕ) (rs : List (Range ℕ)) → RunsFrom n rs → starts_upto rs y ≡ suc k → member rs y ≡ ltb y (get_or rs k d).end
+pub member-place : (n y k : ℕ) (d : Range ℕ) (rs : List (Range ℕ)) → RunsFrom n rs → starts_upto rs y ≡ suc k
+    → member rs y ≡ ltb y (get_or rs k d).end
 member-place n y k d [] h = λ e. absurd (omega arith)
 member-place n y zero d (r ∷ rs) h =
     elim (cases_lt y r.start) as (λ _. starts_upto (r ∷ rs) y ≡ 1 → member (r ∷ rs) y ≡ ltb y r.end) [
@@ -491,7 +550,8 @@ member-place n y (suc k) d (r ∷ rs) h =
       | inl lt ↦ rw (lt-leb r.start y lt) (λ e. absurd (omega arith))
       | inr le ↦ rw (le-leb r.start y le) (λ e.
           let fits : starts_upto rs y ≤ length rs = starts_upto-length y rs in
-          let at : (r.end + 1 ≤ (get_or rs k d).start) × ((get_or rs k d).start < (get_or rs k d).end) = run-at (r.end + 1) k d rs h.2 (omega arith) in
+          let at : (r.end + 1 ≤ (get_or rs k d).start) × ((get_or rs k d).start < (get_or rs k d).end) =
+              run-at (r.end + 1) k d rs h.2 (omega arith) in
           let near : (get_or rs k d).start ≤ y = starts_upto-at y k d rs (omega arith) in
           past r y (member rs y) (ltb y (get_or rs k d).end) (omega arith) (member-place (r.end + 1) y k d rs h.2 (omega arith)))
     ] where

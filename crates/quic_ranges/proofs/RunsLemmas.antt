@@ -14,7 +14,8 @@ range a b = record { start = a; end = b }
 -- the runs of the union with a..b, which is not reversed
 abbrev pub inserted : List (Range ℕ) → ℕ → ℕ → List (Range ℕ)
 inserted [] a b = range a b ∷ []
-inserted (r ∷ rs) a b = cond (ltb r.end a) (r ∷ inserted rs a b) (cond (ltb b r.start) (range a b ∷ r ∷ rs) (inserted rs (min a r.start) (max b r.end)))
+inserted (r ∷ rs) a b =
+    cond (ltb r.end a) (r ∷ inserted rs a b) (cond (ltb b r.start) (range a b ∷ r ∷ rs) (inserted rs (min a r.start) (max b r.end)))
 
 -- the runs of the difference with a..b, which is not reversed
 abbrev pub removed : List (Range ℕ) → ℕ → ℕ → List (Range ℕ)
@@ -35,7 +36,8 @@ member-below n y (r ∷ rs) h lt =
     grind (arith, nat_tests)
 
 -- joining a range with one that it touches
-joined : (a b s e y : ℕ) (m : Bool) → a < b → s < e → s ≤ b → a ≤ e → (m || in_range (range (min a s) (max b e)) y) ≡ ((in_range (range s e) y || m) || in_range (range a b) y)
+joined : (a b s e y : ℕ) (m : Bool) → a < b → s < e → s ≤ b → a ≤ e
+    → (m || in_range (range (min a s) (max b e)) y) ≡ ((in_range (range s e) y || m) || in_range (range a b) y)
 joined a b s e y m h1 h2 h3 h4 = grind (arith, nat_tests)
 
 -- a header that the inserted range leaves alone
@@ -46,7 +48,8 @@ front_head : (h m i : Bool) → (i || (h || m)) ≡ ((h || m) || i)
 front_head h m i = grind (arith, nat_tests)
 
 -- the members after an insertion
-pub member-inserted : (n a b y : ℕ) (rs : List (Range ℕ)) → RunsFrom n rs → a < b → member (inserted rs a b) y ≡ (member rs y || in_range (range a b) y)
+pub member-inserted : (n a b y : ℕ) (rs : List (Range ℕ)) → RunsFrom n rs → a < b
+    → member (inserted rs a b) y ≡ (member rs y || in_range (range a b) y)
 member-inserted n a b y [] h lt = grind (arith, nat_tests)
 member-inserted n a b y (r ∷ rs) h lt =
     let P : List (Range ℕ) → Type 0 = λ l. member l y ≡ (member (r ∷ rs) y || in_range (range a b) y) in
@@ -71,11 +74,14 @@ RunsFrom-inserted n a b (r ∷ rs) h lt =
     RunsFrom-lower (min (r.end + 1) (min a r.start)) (min n a) _ (omega arith) (RunsFrom-inserted (r.end + 1) (min a r.start) (max b r.end) rs h.2 (omega arith))))
 
 -- the runs after an insertion are those of the union
-pub IsRunsOf-inserted : (a b : ℕ) (rs : List (Range ℕ)) → IsMaximalRuns rs → a < b → IsRunsOf (in_union rs (range a b)) (inserted rs a b)
-IsRunsOf-inserted a b rs h lt = (RunsFrom-lower (min 0 a) 0 _ (omega arith) (RunsFrom-inserted 0 a b rs h lt), λ y. member-inserted 0 a b y rs h lt)
+pub IsRunsOf-inserted : (a b : ℕ) (rs : List (Range ℕ)) → IsMaximalRuns rs → a < b
+    → IsRunsOf (in_union rs (range a b)) (inserted rs a b)
+IsRunsOf-inserted a b rs h lt =
+    (RunsFrom-lower (min 0 a) 0 _ (omega arith) (RunsFrom-inserted 0 a b rs h lt), λ y. member-inserted 0 a b y rs h lt)
 
 -- the members of a range as runs
-pub member-as_runs : (a b y : ℕ) (rest : List (Range ℕ)) → member (as_runs a b ++ rest) y ≡ (in_range (range a b) y || member rest y)
+pub member-as_runs : (a b y : ℕ) (rest : List (Range ℕ))
+    → member (as_runs a b ++ rest) y ≡ (in_range (range a b) y || member rest y)
 member-as_runs a b y rest =
     let P : List (Range ℕ) → Type 0 = λ l. member (l ++ rest) y ≡ (in_range (range a b) y || member rest y) in
     cond_both (ltb a b) _ _ P (λ _. refl) (λ e. empty_range a b y (member rest y) (ltb-false _ _ e)) where
@@ -87,7 +93,8 @@ cut : (s e a b y : ℕ) (m t : Bool) → s < e → a < b → t ≡ (m && not (in
 cut s e a b y m t h1 h2 eq = grind (arith, nat_tests)
 
 -- the members after a removal
-pub member-removed : (n a b y : ℕ) (rs : List (Range ℕ)) → RunsFrom n rs → a < b → member (removed rs a b) y ≡ (member rs y && not (in_range (range a b) y))
+pub member-removed : (n a b y : ℕ) (rs : List (Range ℕ)) → RunsFrom n rs → a < b
+    → member (removed rs a b) y ≡ (member rs y && not (in_range (range a b) y))
 member-removed n a b y [] h lt = refl
 member-removed n a b y (r ∷ rs) h lt =
     member-as_runs r.start (min r.end a) y (as_runs (max r.start b) r.end ++ removed rs a b)
@@ -95,7 +102,8 @@ member-removed n a b y (r ∷ rs) h lt =
     ∙ cut r.start r.end a b y (member rs y) _ h.1 lt (member-removed (r.end + 1) a b y rs h.2 lt)
 
 -- a range in front of runs
-pub RunsFrom-as_runs : (n a b : ℕ) (rest : List (Range ℕ)) → n ≤ a → RunsFrom n rest → (a < b → RunsFrom (b + 1) rest) → RunsFrom n (as_runs a b ++ rest)
+pub RunsFrom-as_runs : (n a b : ℕ) (rest : List (Range ℕ)) → n ≤ a → RunsFrom n rest → (a < b → RunsFrom (b + 1) rest)
+    → RunsFrom n (as_runs a b ++ rest)
 RunsFrom-as_runs n a b rest le h next =
     let P : List (Range ℕ) → Type 0 = λ l. RunsFrom n (l ++ rest) in
     cond_both (ltb a b) _ _ P (λ e. (le, ltb-true _ _ e, next (ltb-true _ _ e))) (λ _. h)
@@ -112,7 +120,8 @@ RunsFrom-removed n a b (r ∷ rs) h lt =
     RunsFrom-as_runs n r.start (min r.end a) _ h.0 (low n (omega arith) (omega arith)) (λ q. low (min r.end a + 1) (omega arith) (omega arith))
 
 -- the runs after a removal are those of the difference
-pub IsRunsOf-removed : (a b : ℕ) (rs : List (Range ℕ)) → IsMaximalRuns rs → a < b → IsRunsOf (in_difference rs (range a b)) (removed rs a b)
+pub IsRunsOf-removed : (a b : ℕ) (rs : List (Range ℕ)) → IsMaximalRuns rs → a < b
+    → IsRunsOf (in_difference rs (range a b)) (removed rs a b)
 IsRunsOf-removed a b rs h lt = (RunsFrom-removed 0 a b rs h lt, λ y. member-removed 0 a b y rs h lt)
 
 -- the ranges with these ends are one
@@ -120,19 +129,24 @@ pub range_same : (r s : Range ℕ) → r.start ≡ s.start → r.end ≡ s.end �
 range_same r s p q = ap (λ m. range m r.end) p ∙ ap (range s.start) q
 
 -- the first run of one list is no later than that of another with the same members
-start_le : (n : ℕ) (r s : Range ℕ) (rs ss : List (Range ℕ)) → RunsFrom n (r ∷ rs) → RunsFrom n (s ∷ ss) → ((y : ℕ) → member (r ∷ rs) y ≡ member (s ∷ ss) y) → r.start ≤ s.start
-start_le n r s rs ss h k same = elim (cases_lt s.start r.start) [ inl lt ↦ absurd (clash r s s.start (member rs s.start) (member ss s.start) lt (omega arith) k.1 (member-below (r.end + 1) s.start rs h.2 (omega arith)) (same s.start)) | inr le ↦ le ] where
+start_le : (n : ℕ) (r s : Range ℕ) (rs ss : List (Range ℕ)) → RunsFrom n (r ∷ rs) → RunsFrom n (s ∷ ss)
+    → ((y : ℕ) → member (r ∷ rs) y ≡ member (s ∷ ss) y) → r.start ≤ s.start
+start_le n r s rs ss h k same =
+    elim (cases_lt s.start r.start) [ inl lt ↦ absurd (clash r s s.start (member rs s.start) (member ss s.start) lt (omega arith) k.1 (member-below (r.end + 1) s.start rs h.2 (omega arith)) (same s.start)) | inr le ↦ le ] where
   clash : (r s : Range ℕ) (y : ℕ) (m m' : Bool) → y < r.start → y ≡ s.start → s.start < s.end → m ≡ false → (in_range r y || m) ≡ (in_range s y || m') → ⊥
   clash r s y m m' lt e lt' e1 e2 = grind (arith, nat_tests)
 
 -- nor does it end later
-end_le : (n : ℕ) (r s : Range ℕ) (rs ss : List (Range ℕ)) → RunsFrom n (r ∷ rs) → RunsFrom n (s ∷ ss) → r.start ≡ s.start → ((y : ℕ) → member (r ∷ rs) y ≡ member (s ∷ ss) y) → r.end ≤ s.end
-end_le n r s rs ss h k e same = elim (cases_lt s.end r.end) [ inl lt ↦ absurd (clash r s s.end (member rs s.end) (member ss s.end) lt (omega arith) (omega arith) (member-below (s.end + 1) s.end ss k.2 (omega arith)) (same s.end)) | inr le ↦ le ] where
+end_le : (n : ℕ) (r s : Range ℕ) (rs ss : List (Range ℕ)) → RunsFrom n (r ∷ rs) → RunsFrom n (s ∷ ss)
+    → r.start ≡ s.start → ((y : ℕ) → member (r ∷ rs) y ≡ member (s ∷ ss) y) → r.end ≤ s.end
+end_le n r s rs ss h k e same =
+    elim (cases_lt s.end r.end) [ inl lt ↦ absurd (clash r s s.end (member rs s.end) (member ss s.end) lt (omega arith) (omega arith) (member-below (s.end + 1) s.end ss k.2 (omega arith)) (same s.end)) | inr le ↦ le ] where
   clash : (r s : Range ℕ) (y : ℕ) (m m' : Bool) → y < r.end → r.start ≤ y → y ≡ s.end → m' ≡ false → (in_range r y || m) ≡ (in_range s y || m') → ⊥
   clash r s y m m' lt le e e1 e2 = grind (arith, nat_tests)
 
 -- two lists of runs with the same members are equal
-pub RunsFrom-unique : (n : ℕ) (rs ss : List (Range ℕ)) → RunsFrom n rs → RunsFrom n ss → ((y : ℕ) → member rs y ≡ member ss y) → rs ≡ ss
+pub RunsFrom-unique : (n : ℕ) (rs ss : List (Range ℕ)) → RunsFrom n rs → RunsFrom n ss
+    → ((y : ℕ) → member rs y ≡ member ss y) → rs ≡ ss
 RunsFrom-unique n [] [] h k same = refl
 RunsFrom-unique n [] (s ∷ ss) h k same = absurd (nonempty s (member ss s.start) k.1 (same s.start)) where
   nonempty : (s : Range ℕ) (m : Bool) → s.start < s.end → false ≡ (in_range s s.start || m) → ⊥
@@ -152,7 +166,8 @@ RunsFrom-unique n (r ∷ rs) (s ∷ ss) h k same =
       | inl lt ↦ member-below (r.end + 1) y rs h.2 lt ∙ sym (member-below (r.end + 1) y ss kss lt)
       | inr le2 ↦ past r s y (member rs y) (member ss y) (omega arith) ends (same y)
     ] in
-    ap (λ l. r ∷ l) (RunsFrom-unique (r.end + 1) rs ss h.2 kss rest) ∙ ap (λ x. x ∷ ss) (range_same r s starts ends) where
+    ap (λ l. r ∷ l) (RunsFrom-unique (r.end + 1) rs ss h.2 kss rest)
+    ∙ ap (λ x. x ∷ ss) (range_same r s starts ends) where
       past : (r s : Range ℕ) (y : ℕ) (m m' : Bool) → r.end ≤ y → r.end ≡ s.end → (in_range r y || m) ≡ (in_range s y || m') → m ≡ m'
       past r s y m m' le e e2 = grind (arith, nat_tests)
 
@@ -161,30 +176,35 @@ pub IsRunsOf-unique : (p : ℕ → Bool) (rs ss : List (Range ℕ)) → IsRunsOf
 IsRunsOf-unique p rs ss h k = RunsFrom-unique 0 rs ss h.0 k.0 (λ y. h.1 y ∙ sym (k.1 y))
 
 -- the intersections lie where the runs do
-pub RunsFrom-intersections : (n : ℕ) (x : Range ℕ) (rs : List (Range ℕ)) → RunsFrom n rs → RunsFrom n (intersections rs x)
+pub RunsFrom-intersections : (n : ℕ) (x : Range ℕ) (rs : List (Range ℕ)) → RunsFrom n rs
+    → RunsFrom n (intersections rs x)
 RunsFrom-intersections n x [] h = tt
 RunsFrom-intersections n x (r ∷ rs) h =
     let tail : RunsFrom (r.end + 1) (intersections rs x) = RunsFrom-intersections (r.end + 1) x rs h.2 in
     RunsFrom-as_runs n (max r.start x.start) (min x.end r.end) (intersections rs x) (omega arith) (RunsFrom-lower (r.end + 1) n _ (omega arith) tail)
     (λ lt. RunsFrom-lower (r.end + 1) (min x.end r.end + 1) _ (omega arith) tail)
 
-meet : (s e a b y : ℕ) (m t : Bool) → t ≡ (m && in_range (range a b) y) → (in_range (range (max s a) (min b e)) y || t) ≡ ((in_range (range s e) y || m) && in_range (range a b) y)
+meet : (s e a b y : ℕ) (m t : Bool) → t ≡ (m && in_range (range a b) y)
+    → (in_range (range (max s a) (min b e)) y || t) ≡ ((in_range (range s e) y || m) && in_range (range a b) y)
 meet s e a b y m t eq = grind (arith, nat_tests)
 
 -- the members of the intersections
-pub member-intersections : (x : Range ℕ) (y : ℕ) (rs : List (Range ℕ)) → member (intersections rs x) y ≡ (member rs y && in_range x y)
+pub member-intersections : (x : Range ℕ) (y : ℕ) (rs : List (Range ℕ))
+    → member (intersections rs x) y ≡ (member rs y && in_range x y)
 member-intersections x y [] = refl
 member-intersections x y (r ∷ rs) =
     member-as_runs (max r.start x.start) (min x.end r.end) y (intersections rs x)
     ∙ meet r.start r.end x.start x.end y (member rs y) _ (member-intersections x y rs)
 
 -- the intersections are the runs of the intersection
-pub IsRunsOf-intersections : (x : Range ℕ) (rs : List (Range ℕ)) → IsMaximalRuns rs → IsRunsOf (in_intersection rs x) (intersections rs x)
+pub IsRunsOf-intersections : (x : Range ℕ) (rs : List (Range ℕ)) → IsMaximalRuns rs
+    → IsRunsOf (in_intersection rs x) (intersections rs x)
 IsRunsOf-intersections x rs h = (RunsFrom-intersections 0 x rs h, λ y. member-intersections x y rs)
 
 -- the runs after the first
 pub IsMaximalRuns-rest : (r : Range ℕ) (rs ss : List (Range ℕ)) → ss ≡ r ∷ rs → IsMaximalRuns ss → IsMaximalRuns rs
-IsMaximalRuns-rest r rs ss e h = let all : IsMaximalRuns (r ∷ rs) = subst IsMaximalRuns e h in RunsFrom-lower (r.end + 1) 0 rs (omega arith) all.2
+IsMaximalRuns-rest r rs ss e h =
+    let all : IsMaximalRuns (r ∷ rs) = subst IsMaximalRuns e h in RunsFrom-lower (r.end + 1) 0 rs (omega arith) all.2
 
 -- the same by a removal at the front
 pub IsMaximalRuns-remove_first : (rs : List (Range ℕ)) → IsMaximalRuns rs → IsMaximalRuns (remove rs 0)
@@ -192,7 +212,8 @@ IsMaximalRuns-remove_first [] h = tt
 IsMaximalRuns-remove_first (r ∷ rs) h = RunsFrom-lower (r.end + 1) 0 rs (omega arith) h.2
 
 -- the first run begins with the least member
-pub IsLeastMember-first : (r : Range ℕ) (rs ss : List (Range ℕ)) → ss ≡ r ∷ rs → IsMaximalRuns ss → IsLeastMember ss r.start
+pub IsLeastMember-first : (r : Range ℕ) (rs ss : List (Range ℕ)) → ss ≡ r ∷ rs → IsMaximalRuns ss
+    → IsLeastMember ss r.start
 IsLeastMember-first r rs ss e h = subst (λ l. IsLeastMember l r.start) (sym e) (first (subst IsMaximalRuns e h)) where
   here : (m : Bool) → r.start < r.end → (in_range r r.start || m) ≡ true
   here m lt = grind (arith, nat_tests)
@@ -204,7 +225,8 @@ IsLeastMember-first r rs ss e h = subst (λ l. IsLeastMember l r.start) (sym e) 
   }
 
 -- no member of the runs before a last one reaches its end
-greatest-from : (n : ℕ) (r : Range ℕ) (rs : List (Range ℕ)) → RunsFrom n (rs ++ r ∷ []) → (n ≤ r.start) × (r.start < r.end) × IsGreatest (rs ++ r ∷ []) (r.end - 1)
+greatest-from : (n : ℕ) (r : Range ℕ) (rs : List (Range ℕ)) → RunsFrom n (rs ++ r ∷ [])
+    → (n ≤ r.start) × (r.start < r.end) × IsGreatest (rs ++ r ∷ []) (r.end - 1)
 greatest-from n r [] h = (h.0, h.1, record { present = here h.1; greatest = λ z. most z }) where
   here : r.start < r.end → (in_range r (r.end - 1) || false) ≡ true
   here lt = grind (arith, nat_tests)
@@ -229,5 +251,7 @@ greatest-from n r (s ∷ rs) h =
       most z m le later e = grind (arith, nat_tests)
 
 -- the last run ends after the greatest member
-pub IsGreatest-last : (r : Range ℕ) (rs ss : List (Range ℕ)) → ss ≡ rs ++ r ∷ [] → IsMaximalRuns ss → (r.start < r.end) × IsGreatest ss (r.end - 1)
-IsGreatest-last r rs ss e h = let at = greatest-from 0 r rs (subst IsMaximalRuns e h) in (at.1, subst (λ l. IsGreatest l (r.end - 1)) (sym e) at.2)
+pub IsGreatest-last : (r : Range ℕ) (rs ss : List (Range ℕ)) → ss ≡ rs ++ r ∷ [] → IsMaximalRuns ss
+    → (r.start < r.end) × IsGreatest ss (r.end - 1)
+IsGreatest-last r rs ss e h =
+    let at = greatest-from 0 r rs (subst IsMaximalRuns e h) in (at.1, subst (λ l. IsGreatest l (r.end - 1)) (sym e) at.2)

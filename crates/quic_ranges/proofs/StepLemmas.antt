@@ -6,14 +6,18 @@ use Rattle.quic_ranges.specs.Runs.{in_range, member, IsMaximalRuns, IsRunsOf, in
 use Rattle.quic_ranges.proofs.SubtractLemmas.{member-append}
 
 -- one run more
-pub IsRunsOf-sum_step : (rs done cur after : List (Range ℕ)) (r : Range ℕ) → IsRunsOf (in_sum rs done) cur → IsRunsOf (in_union cur r) after → IsRunsOf (in_sum rs (done ++ r ∷ [])) after
-IsRunsOf-sum_step rs done cur after r h k = (k.0, λ y. k.1 y ∙ step (member rs y) (member done y) (in_range r y) (member cur y) (member (done ++ r ∷ []) y) (h.1 y) (member-append y done (r ∷ []))) where
+pub IsRunsOf-sum_step : (rs done cur after : List (Range ℕ)) (r : Range ℕ) → IsRunsOf (in_sum rs done) cur
+    → IsRunsOf (in_union cur r) after → IsRunsOf (in_sum rs (done ++ r ∷ [])) after
+IsRunsOf-sum_step rs done cur after r h k =
+    (k.0, λ y. k.1 y ∙ step (member rs y) (member done y) (in_range r y) (member cur y) (member (done ++ r ∷ []) y) (h.1 y) (member-append y done (r ∷ []))) where
   step : (m d i c e : Bool) → c ≡ (m || d) → e ≡ (d || (i || false)) → (c || i) ≡ (m || e)
   step m d i c e p q = grind (arith, nat_tests)
 
-pub IsRunsOf-subtraction_step : (rs done cur after : List (Range ℕ)) (r : Range ℕ) → IsRunsOf (in_subtraction rs done) cur → IsRunsOf (in_difference cur r) after
+pub IsRunsOf-subtraction_step : (rs done cur after : List (Range ℕ)) (r : Range ℕ)
+    → IsRunsOf (in_subtraction rs done) cur → IsRunsOf (in_difference cur r) after
     → IsRunsOf (in_subtraction rs (done ++ r ∷ [])) after
-IsRunsOf-subtraction_step rs done cur after r h k = (k.0, λ y. k.1 y ∙ step (member rs y) (member done y) (in_range r y) (member cur y) (member (done ++ r ∷ []) y) (h.1 y) (member-append y done (r ∷ []))) where
+IsRunsOf-subtraction_step rs done cur after r h k =
+    (k.0, λ y. k.1 y ∙ step (member rs y) (member done y) (in_range r y) (member cur y) (member (done ++ r ∷ []) y) (h.1 y) (member-append y done (r ∷ []))) where
   step : (m d i c e : Bool) → c ≡ (m && not d) → e ≡ (d || (i || false)) → (c && not i) ≡ (m && not e)
   step m d i c e p q = grind (arith, nat_tests)
 
@@ -23,7 +27,8 @@ on_err (Ok v) P p = tt
 on_err (Err e) P p = p
 
 -- where nothing would change, no run of the other set does
-pub IsRunsOf-sum_kept : (rs others done rest cur : List (Range ℕ)) (r : Range ℕ) → IsRunsOf (in_sum rs others) rs → others ≡ done ++ r ∷ rest → IsRunsOf (in_sum rs done) cur → IsRunsOf (in_union cur r) cur
+pub IsRunsOf-sum_kept : (rs others done rest cur : List (Range ℕ)) (r : Range ℕ) → IsRunsOf (in_sum rs others) rs
+    → others ≡ done ++ r ∷ rest → IsRunsOf (in_sum rs done) cur → IsRunsOf (in_union cur r) cur
 IsRunsOf-sum_kept rs others done rest cur r h parts k = (
   k.0,
   λ y.
@@ -32,7 +37,8 @@ IsRunsOf-sum_kept rs others done rest cur r h parts k = (
   step : (m d i t c o : Bool) → m ≡ (m || o) → o ≡ (d || (i || t)) → c ≡ (m || d) → c ≡ (c || i)
   step m d i t c o p q s = grind (arith, nat_tests)
 
-pub IsRunsOf-subtraction_kept : (rs others done rest cur : List (Range ℕ)) (r : Range ℕ) → IsRunsOf (in_subtraction rs others) rs → others ≡ done ++ r ∷ rest
+pub IsRunsOf-subtraction_kept : (rs others done rest cur : List (Range ℕ)) (r : Range ℕ)
+    → IsRunsOf (in_subtraction rs others) rs → others ≡ done ++ r ∷ rest
     → IsRunsOf (in_subtraction rs done) cur → IsRunsOf (in_difference cur r) cur
 IsRunsOf-subtraction_kept rs others done rest cur r h parts k = (
   k.0,

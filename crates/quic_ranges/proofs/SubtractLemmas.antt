@@ -12,13 +12,17 @@ use Rattle.quic_ranges.proofs.PlacesLemmas.{as_runs-empty}
 
 pub member-append : (y : ℕ) (rs ss : List (Range ℕ)) → member (rs ++ ss) y ≡ (member rs y || member ss y)
 member-append y [] ss = refl
-member-append y (r ∷ rs) ss = ap (λ m. in_range r y || m) (member-append y rs ss) ∙ assoc (in_range r y) (member rs y) (member ss y) where
+member-append y (r ∷ rs) ss =
+    ap (λ m. in_range r y || m) (member-append y rs ss) ∙ assoc (in_range r y) (member rs y) (member ss y) where
   assoc : (a b c : Bool) → (a || (b || c)) ≡ ((a || b) || c)
   assoc a b c = grind (arith, nat_tests)
 
 -- the members outside
-member-outside : (n s e y : ℕ) (gs : List (Range ℕ)) → RunsFrom n gs → member (outside s e gs) y ≡ (in_range (range s e) y && not (member gs y))
-member-outside n s e y [] h = ap (λ l. member l y) (sym (append-nil (as_runs s e))) ∙ member-as_runs s e y [] ∙ last (in_range (range s e) y) where
+member-outside : (n s e y : ℕ) (gs : List (Range ℕ)) → RunsFrom n gs
+    → member (outside s e gs) y ≡ (in_range (range s e) y && not (member gs y))
+member-outside n s e y [] h =
+    ap (λ l. member l y) (sym (append-nil (as_runs s e))) ∙ member-as_runs s e y []
+    ∙ last (in_range (range s e) y) where
   last : (i : Bool) → (i || false) ≡ (i && not false)
   last i = grind (arith, nat_tests)
 member-outside n s e y (g ∷ gs) h =
@@ -29,8 +33,10 @@ member-outside n s e y (g ∷ gs) h =
       step s e a b y m lt below = grind (arith, nat_tests)
 
 -- the runs outside, in front of later ones
-RunsFrom-outside : (n m s e : ℕ) (gs tail : List (Range ℕ)) → n ≤ s → n ≤ e + 1 → RunsFrom m gs → RunsFrom (e + 1) tail → RunsFrom n (outside s e gs ++ tail)
-RunsFrom-outside n m s e [] tail le le' h t = RunsFrom-as_runs n s e tail le (RunsFrom-lower (e + 1) n tail le' t) (λ _. t)
+RunsFrom-outside : (n m s e : ℕ) (gs tail : List (Range ℕ)) → n ≤ s → n ≤ e + 1 → RunsFrom m gs → RunsFrom (e + 1) tail
+    → RunsFrom n (outside s e gs ++ tail)
+RunsFrom-outside n m s e [] tail le le' h t =
+    RunsFrom-as_runs n s e tail le (RunsFrom-lower (e + 1) n tail le' t) (λ _. t)
 RunsFrom-outside n m s e (g ∷ gs) tail le le' h t =
     rw (append_assoc (as_runs s (min e g.start)) (outside (max s g.end) e gs) tail)
     (RunsFrom-as_runs n s (min e g.start) (outside (max s g.end) e gs ++ tail) le
@@ -39,9 +45,11 @@ RunsFrom-outside n m s e (g ∷ gs) tail le le' h t =
 
 RunsFrom-subtracted : (n m : ℕ) (rs ss : List (Range ℕ)) → RunsFrom n rs → RunsFrom m ss → RunsFrom n (subtracted rs ss)
 RunsFrom-subtracted n m [] ss h k = tt
-RunsFrom-subtracted n m (r ∷ rs) ss h k = RunsFrom-outside n m r.start r.end ss (subtracted rs ss) h.0 (omega arith) k (RunsFrom-subtracted (r.end + 1) m rs ss h.2 k)
+RunsFrom-subtracted n m (r ∷ rs) ss h k =
+    RunsFrom-outside n m r.start r.end ss (subtracted rs ss) h.0 (omega arith) k (RunsFrom-subtracted (r.end + 1) m rs ss h.2 k)
 
-member-subtracted : (m y : ℕ) (rs ss : List (Range ℕ)) → RunsFrom m ss → member (subtracted rs ss) y ≡ (member rs y && not (member ss y))
+member-subtracted : (m y : ℕ) (rs ss : List (Range ℕ)) → RunsFrom m ss
+    → member (subtracted rs ss) y ≡ (member rs y && not (member ss y))
 member-subtracted m y [] ss k = refl
 member-subtracted m y (r ∷ rs) ss k =
     member-append y (outside r.start r.end ss) (subtracted rs ss)
@@ -52,17 +60,20 @@ member-subtracted m y (r ∷ rs) ss k =
       both i m o = grind (arith, nat_tests)
 
 -- what is outside are the runs of the difference
-pub IsRunsOf-subtracted : (rs ss : List (Range ℕ)) → IsMaximalRuns rs → IsMaximalRuns ss → IsRunsOf (in_subtraction rs ss) (subtracted rs ss)
+pub IsRunsOf-subtracted : (rs ss : List (Range ℕ)) → IsMaximalRuns rs → IsMaximalRuns ss
+    → IsRunsOf (in_subtraction rs ss) (subtracted rs ss)
 IsRunsOf-subtracted rs ss h k = (RunsFrom-subtracted 0 0 rs ss h k, λ y. member-subtracted 0 y rs ss k)
 
 -- nothing of an empty range is outside
 pub outside-none : (s e : ℕ) (gs : List (Range ℕ)) → e ≤ s → outside s e gs ≡ []
 outside-none s e [] le = as_runs-empty s e le
 outside-none s e (g ∷ gs) le =
-    ap (λ l. l ++ outside (max s g.end) e gs) (as_runs-empty s (min e g.start) (omega arith)) ∙ outside-none (max s g.end) e gs (omega arith)
+    ap (λ l. l ++ outside (max s g.end) e gs) (as_runs-empty s (min e g.start) (omega arith))
+    ∙ outside-none (max s g.end) e gs (omega arith)
 
 -- runs that start after the range's end take nothing of it
-outside-front : (n s e : ℕ) (gs : List (Range ℕ)) → RunsFrom n gs → outside s e (take (starts_upto gs e) gs) ≡ outside s e gs
+outside-front : (n s e : ℕ) (gs : List (Range ℕ)) → RunsFrom n gs
+    → outside s e (take (starts_upto gs e) gs) ≡ outside s e gs
 outside-front n s e [] h = refl
 outside-front n s e (g ∷ gs) h =
     elim (cases_lt e g.start) as (λ _. outside s e (take (starts_upto (g ∷ gs) e) (g ∷ gs)) ≡ outside s e (g ∷ gs)) [
@@ -72,14 +83,16 @@ outside-front n s e (g ∷ gs) h =
     ]
 
 -- nor do those that end before its start: the runs that it touches are all that matter
-pub outside-touched : (n s e : ℕ) (gs : List (Range ℕ)) → RunsFrom n gs → s < e → outside s e (slice_range gs (ends_below gs s) (starts_upto gs e)) ≡ outside s e gs
+pub outside-touched : (n s e : ℕ) (gs : List (Range ℕ)) → RunsFrom n gs → s < e
+    → outside s e (slice_range gs (ends_below gs s) (starts_upto gs e)) ≡ outside s e gs
 outside-touched n s e [] h lt = refl
 outside-touched n s e (g ∷ gs) h lt =
     elim (cases_lt g.end s) as (λ _. outside s e (slice_range (g ∷ gs) (ends_below (g ∷ gs) s) (starts_upto (g ∷ gs) e)) ≡ outside s e (g ∷ gs)) [
       | inl q ↦ let q1 : g.start ≤ e = omega arith in
           let q2 : min e g.start ≤ s = omega arith in
           let q3 : max s g.end ≡ s = omega arith in
-          let fewer : suc (starts_upto gs e) - suc (ends_below gs s) ≡ starts_upto gs e - ends_below gs s = omega arith in
+          let fewer : suc (starts_upto gs e) - suc (ends_below gs s) ≡ starts_upto gs e - ends_below gs s =
+              omega arith in
           rw (lt-ltb g.end s q, le-leb g.start e q1, as_runs-empty s (min e g.start) q2, q3, fewer) (outside-touched (g.end + 1) s e gs h.2 lt)
       | inr q ↦ let all : starts_upto (g ∷ gs) e - 0 ≡ starts_upto (g ∷ gs) e = omega arith in rw (le-ltb g.end s q, all) (outside-front n s e (g ∷ gs) h)
     ]
@@ -88,9 +101,11 @@ outside-touched n s e (g ∷ gs) h lt =
 intersections-beyond : (n : ℕ) (x : Range ℕ) (gs : List (Range ℕ)) → RunsFrom n gs → x.end ≤ n → intersections gs x ≡ []
 intersections-beyond n x [] h le = refl
 intersections-beyond n x (g ∷ gs) h le =
-    ap (λ l. l ++ intersections gs x) (as_runs-empty (max g.start x.start) (min x.end g.end) (omega arith)) ∙ intersections-beyond (g.end + 1) x gs h.2 (omega arith)
+    ap (λ l. l ++ intersections gs x) (as_runs-empty (max g.start x.start) (min x.end g.end) (omega arith))
+    ∙ intersections-beyond (g.end + 1) x gs h.2 (omega arith)
 
-intersections-front : (n : ℕ) (x : Range ℕ) (gs : List (Range ℕ)) → RunsFrom n gs → intersections (take (starts_upto gs x.end) gs) x ≡ intersections gs x
+intersections-front : (n : ℕ) (x : Range ℕ) (gs : List (Range ℕ)) → RunsFrom n gs
+    → intersections (take (starts_upto gs x.end) gs) x ≡ intersections gs x
 intersections-front n x [] h = refl
 intersections-front n x (g ∷ gs) h =
     elim (cases_lt x.end g.start) as (λ _. intersections (take (starts_upto (g ∷ gs) x.end) (g ∷ gs)) x ≡ intersections (g ∷ gs) x) [
@@ -99,13 +114,15 @@ intersections-front n x (g ∷ gs) h =
     ]
 
 -- the intersections of a range lie in the runs that it touches
-pub intersections-touched : (n : ℕ) (x : Range ℕ) (gs : List (Range ℕ)) → RunsFrom n gs → x.start < x.end → intersections (slice_range gs (ends_below gs x.start) (starts_upto gs x.end)) x ≡ intersections gs x
+pub intersections-touched : (n : ℕ) (x : Range ℕ) (gs : List (Range ℕ)) → RunsFrom n gs → x.start < x.end
+    → intersections (slice_range gs (ends_below gs x.start) (starts_upto gs x.end)) x ≡ intersections gs x
 intersections-touched n x [] h lt = refl
 intersections-touched n x (g ∷ gs) h lt =
     elim (cases_lt g.end x.start) as (λ _. intersections (slice_range (g ∷ gs) (ends_below (g ∷ gs) x.start) (starts_upto (g ∷ gs) x.end)) x ≡ intersections (g ∷ gs) x) [
       | inl q ↦ let q1 : g.start ≤ x.end = omega arith in
           let q2 : min x.end g.end ≤ max g.start x.start = omega arith in
-          let fewer : suc (starts_upto gs x.end) - suc (ends_below gs x.start) ≡ starts_upto gs x.end - ends_below gs x.start = omega arith in
+          let fewer : suc (starts_upto gs x.end) - suc (ends_below gs x.start) ≡ starts_upto gs x.end - ends_below gs x.start =
+              omega arith in
           rw (lt-ltb g.end x.start q, le-leb g.start x.end q1, as_runs-empty (max g.start x.start) (min x.end g.end) q2, fewer) (intersections-touched (g.end + 1) x gs h.2 lt)
       | inr q ↦ let all : starts_upto (g ∷ gs) x.end - 0 ≡ starts_upto (g ∷ gs) x.end = omega arith in rw (le-ltb g.end x.start q, all) (intersections-front n x (g ∷ gs) h)
     ]
@@ -113,4 +130,6 @@ intersections-touched n x (g ∷ gs) h lt =
 -- nor has an empty range any
 pub intersections-void : (x : Range ℕ) (rs : List (Range ℕ)) → x.end ≤ x.start → intersections rs x ≡ []
 intersections-void x [] le = refl
-intersections-void x (r ∷ rs) le = ap (λ l. l ++ intersections rs x) (as_runs-empty (max r.start x.start) (min x.end r.end) (omega arith)) ∙ intersections-void x rs le
+intersections-void x (r ∷ rs) le =
+    ap (λ l. l ++ intersections rs x) (as_runs-empty (max r.start x.start) (min x.end r.end) (omega arith))
+    ∙ intersections-void x rs le

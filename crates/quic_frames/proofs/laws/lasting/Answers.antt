@@ -5,7 +5,8 @@ pub returns-clause-frames : goal.returns-clause-frames
 returns-clause-frames c = frames_stay
 
 pub returns-clause-error : goal.returns-clause-error
-returns-clause-error c = λ strict found bytes more type reason fits known b. error_lasts strict found bytes more type reason fits known b
+returns-clause-error c =
+    λ strict found bytes more type reason fits known b. error_lasts strict found bytes more type reason fits known b
 
 pub returns-clause-front : goal.returns-clause-front
 returns-clause-front c = only_cut

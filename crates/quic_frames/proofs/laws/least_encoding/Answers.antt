@@ -16,7 +16,8 @@ pub returns-clause-all_least : goal.returns-clause-all_least
 returns-clause-all_least c = λ found bytes s. (frames_least found bytes s).least
 
 pub returns-clause-all_encoded : goal.returns-clause-all_encoded
-returns-clause-all_encoded c = λ strict found bytes s. frames_encoded strict (map frame_in found) (frames_least found bytes s).fit
+returns-clause-all_encoded c =
+    λ strict found bytes s. frames_encoded strict (map frame_in found) (frames_least found bytes s).fit
 
 pub returns-clause-same : goal.returns-clause-same
 returns-clause-same c = frames_written

@@ -18,5 +18,6 @@ pub returns : goal.returns
 returns c last =
     let a = c.args.ack.now in
     let h = held_parts a (subst AreBytes c.additional.ensures c.count_and_len-numbers.ensures.bytes) c.requires in
-    let blocks = c.count_and_len-numbers.ensures.len h.numbers (subst (AreEncoded h.numbers) (sym c.additional.ensures) h.encoded) in
+    let blocks =
+        c.count_and_len-numbers.ensures.len h.numbers (subst (AreEncoded h.numbers) (sym c.additional.ensures) h.encoded) in
     held_length a h last c.header_of.result c.ecn.result _ _ _ c.header_of.ensures c.ecn.ensures c.numbers_len-header_len.ensures.value (c.from.ensures ∙ blocks) c.counts_len.ensures.value

@@ -14,7 +14,8 @@ header_of-requires g c =
     held_many a h c.additional.result.now c.count_and_len-numbers.result.0 c.additional.ensures c.count_and_len-numbers.ensures.count
 
 pub numbers-requires-clause-numeric : goal.numbers-requires-clause-numeric
-numbers-requires-clause-numeric g c = let h = held_parts c.args.ack.now (subst AreBytes c.additional.ensures c.count_and_len-numbers.ensures.bytes) c.requires in subst AreNumeric (sym c.header_of.ensures) h.numeric
+numbers-requires-clause-numeric g c =
+    let h = held_parts c.args.ack.now (subst AreBytes c.additional.ensures c.count_and_len-numbers.ensures.bytes) c.requires in subst AreNumeric (sym c.header_of.ensures) h.numeric
 
 pub returns-in_err-numbers : goal.returns-in_err-numbers
 returns-in_err-numbers g c last =
@@ -25,7 +26,8 @@ returns-in_err-numbers g c last =
     (writes_begun c.numbers.result c.from_residual.result p.0 _ _ _ _ _ _ _ c.numbers.ensures c.in_err-numbers.was p.1)
 
 pub shortened-requires : goal.shortened-requires
-shortened-requires g c ns s = c.count_and_len-numbers.ensures.len ns (subst (AreEncoded ns) (c.additional-2.ensures ∙ sym c.additional.ensures) s)
+shortened-requires g c ns s =
+    c.count_and_len-numbers.ensures.len ns (subst (AreEncoded ns) (c.additional-2.ensures ∙ sym c.additional.ensures) s)
 
 pub returns-in_err-shortened : goal.returns-in_err-shortened
 returns-in_err-shortened g c last =

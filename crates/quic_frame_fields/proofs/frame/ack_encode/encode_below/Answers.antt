@@ -12,16 +12,20 @@ returns-in_err-at g c =
     (refuses_held c.in_err-at.field-0.0 c.loop-run.at c.loop-run.chunk _ _ _ _ c.in_err-at.ensures.flushes) refl p.1
 
 pub overflow_sub-gap : goal.overflow_sub-gap
-overflow_sub-gap g c = let b = has_below c.next_back.new.self c.loop-run.runs c.in-Some.run' c.loop-run.above c.in-Some.ensures.steps c.loop-run.invariant.holds.maximal in omega (arith, b.apart)
+overflow_sub-gap g c =
+    let b = has_below c.next_back.new.self c.loop-run.runs c.in-Some.run' c.loop-run.above c.in-Some.ensures.steps c.loop-run.invariant.holds.maximal in omega (arith, b.apart)
 
 pub overflow_sub-gap-in-Some : goal.overflow_sub-gap-in-Some
-overflow_sub-gap-in-Some g c = let b = has_below c.next_back.new.self c.loop-run.runs c.in-Some.run' c.loop-run.above c.in-Some.ensures.steps c.loop-run.invariant.holds.maximal in omega (arith, b.apart)
+overflow_sub-gap-in-Some g c =
+    let b = has_below c.next_back.new.self c.loop-run.runs c.in-Some.run' c.loop-run.above c.in-Some.ensures.steps c.loop-run.invariant.holds.maximal in omega (arith, b.apart)
 
 pub overflow_sub-run : goal.overflow_sub-run
-overflow_sub-run g c = let b = has_below c.next_back.new.self c.loop-run.runs c.in-Some.run' c.loop-run.above c.in-Some.ensures.steps c.loop-run.invariant.holds.maximal in omega (arith, b.some)
+overflow_sub-run g c =
+    let b = has_below c.next_back.new.self c.loop-run.runs c.in-Some.run' c.loop-run.above c.in-Some.ensures.steps c.loop-run.invariant.holds.maximal in omega (arith, b.some)
 
 pub overflow_sub-run-in-Some : goal.overflow_sub-run-in-Some
-overflow_sub-run-in-Some g c = let b = has_below c.next_back.new.self c.loop-run.runs c.in-Some.run' c.loop-run.above c.in-Some.ensures.steps c.loop-run.invariant.holds.maximal in omega (arith, b.some)
+overflow_sub-run-in-Some g c =
+    let b = has_below c.next_back.new.self c.loop-run.runs c.in-Some.run' c.loop-run.above c.in-Some.ensures.steps c.loop-run.invariant.holds.maximal in omega (arith, b.some)
 
 pub store_two-at-requires-clause-len : goal.store_two-at-requires-clause-len
 store_two-at-requires-clause-len g c =
@@ -38,4 +42,5 @@ loop-run-preserved g c =
     }
 
 pub returns : goal.returns
-returns g c = holds_last c.bytes.result _ _ c.loop-run.above c.loop-run.runs _ _ _ _ _ _ c.loop-run.invariant.holds (search (rules, c.in_default)) c.bytes.ensures
+returns g c =
+    holds_last c.bytes.result _ _ c.loop-run.above c.loop-run.runs _ _ _ _ _ _ c.loop-run.invariant.holds (search (rules, c.in_default)) c.bytes.ensures

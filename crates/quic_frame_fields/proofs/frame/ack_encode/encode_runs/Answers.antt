@@ -8,17 +8,20 @@ use Rattle.quic_frame_fields.proofs.frame.ack_encode.encode_runs.Goals as goal
 
 pub overflow_sub-greatest : goal.overflow_sub-greatest
 overflow_sub-greatest g c =
-    let b = bounded c.next_back.new.self c.args.runs c.in-Some.first c.in-Some.ensures.steps c.requires.maximal c.requires.members in
+    let b =
+        bounded c.next_back.new.self c.args.runs c.in-Some.first c.in-Some.ensures.steps c.requires.maximal c.requires.members in
     omega (arith, b.some)
 
 pub overflow_sub-block : goal.overflow_sub-block
 overflow_sub-block g c =
-    let b = bounded c.next_back.new.self c.args.runs c.in-Some.first c.in-Some.ensures.steps c.requires.maximal c.requires.members in
+    let b =
+        bounded c.next_back.new.self c.args.runs c.in-Some.first c.in-Some.ensures.steps c.requires.maximal c.requires.members in
     omega (arith, b.some)
 
 pub encode_below-requires-clause-bound : goal.encode_below-requires-clause-bound
 encode_below-requires-clause-bound g c =
-    let b = bounded c.next_back.new.self c.args.runs c.in-Some.first c.in-Some.ensures.steps c.requires.maximal c.requires.members in
+    let b =
+        bounded c.next_back.new.self c.args.runs c.in-Some.first c.in-Some.ensures.steps c.requires.maximal c.requires.members in
     omega (arith, b.some, b.greatest)
 
 pub store_numbers-at-requires-clause-numeric : goal.store_numbers-at-requires-clause-numeric

@@ -31,8 +31,10 @@ returns-in_err-least-clause-err c =
 
 pub loop-rest-smaller : goal.loop-rest-smaller
 loop-rest-smaller c =
-    let one = gap_shorter c.loop-rest.low c.loop-rest.rest.now (c.in_ok-high.high, c.in_ok-high.after_gap.now) c.loop-rest.invariant.fits c.in_ok-high.ensures.gives in
-    let two = block_shorter c.in_ok-high.high c.in_ok-high.after_gap.now (c.in_ok-least.least, c.in_ok-least.after.now) c.in_ok-least.ensures.bytes c.in_ok-least.ensures.gives in
+    let one =
+        gap_shorter c.loop-rest.low c.loop-rest.rest.now (c.in_ok-high.high, c.in_ok-high.after_gap.now) c.loop-rest.invariant.fits c.in_ok-high.ensures.gives in
+    let two =
+        block_shorter c.in_ok-high.high c.in_ok-high.after_gap.now (c.in_ok-least.least, c.in_ok-least.after.now) c.in_ok-least.ensures.bytes c.in_ok-least.ensures.gives in
     omega (arith, one, two)
 
 pub loop-rest-preserved : goal.loop-rest-preserved

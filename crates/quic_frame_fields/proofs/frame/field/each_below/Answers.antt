@@ -4,7 +4,8 @@ use Rattle.quic_frame_fields.proofs.Gaps.{goes_on, range_ends, is_done}
 use Rattle.quic_frame_fields.proofs.frame.field.each_below.Goals as goal
 
 pub returns-then-others-eq0 : goal.returns-then-others-eq0
-returns-then-others-eq0 c = is_done c.pass_wide-others.result.0 c.pass_wide-others.result.1 c.pass_wide-others.result.2.now _ (omega arith) (c.pass_wide-others.ensures.same ∙ c.pass_short-others.ensures.same ∙ c.loop-behind.invariant)
+returns-then-others-eq0 c =
+    is_done c.pass_wide-others.result.0 c.pass_wide-others.result.1 c.pass_wide-others.result.2.now _ (omega arith) (c.pass_wide-others.ensures.same ∙ c.pass_short-others.ensures.same ∙ c.loop-behind.invariant)
 
 pub returns-in_err-least : goal.returns-in_err-least
 returns-in_err-least c =

@@ -13,7 +13,8 @@ returns-in_err-write_var g c ns s =
     (record { ok = e.ok; err = e.err; full = e.full; room = e.room }) c.in_err-write_var.was p.1
 
 pub loop-number-smaller : goal.loop-number-smaller
-loop-number-smaller g c = after_shorter c.loop-number.rest.now c.in-Ok.number c.in-Ok.after.now c.loop-number.invariant.fits c.in-Ok.ensures.gives
+loop-number-smaller g c =
+    after_shorter c.loop-number.rest.now c.in-Ok.number c.in-Ok.after.now c.loop-number.invariant.fits c.in-Ok.ensures.gives
 
 pub loop-number-preserved : goal.loop-number-preserved
 loop-number-preserved g c =
@@ -27,7 +28,8 @@ loop-number-preserved g c =
     }
 
 pub returns : goal.returns
-returns g c ns s = wrote_them ns _ _ _ _ (read_all _ c.loop-number.rest.now ns _ (c.loop-number.invariant.read ns s) c.in_default.ensures.gives)
+returns g c ns s =
+    wrote_them ns _ _ _ _ (read_all _ c.loop-number.rest.now ns _ (c.loop-number.invariant.read ns s) c.in_default.ensures.gives)
 
 pub loop-number-init : goal.loop-number-init
 loop-number-init g c = grind (arith, common_steps)

@@ -15,7 +15,8 @@ loop-number-preserved c =
     }
 
 pub store_number-at-requires-clause-numeric : goal.store_number-at-requires-clause-numeric
-store_number-at-requires-clause-numeric c = numeric_at c.args.numbers.now c.loop-number.number-index c.requires.numeric c.loop-number-test.true
+store_number-at-requires-clause-numeric c =
+    numeric_at c.args.numbers.now c.loop-number.number-index c.requires.numeric c.loop-number-test.true
 
 pub returns-clause-front : goal.returns-clause-front
 returns-clause-front c = grind (arith, common_steps)

@@ -4,7 +4,8 @@ use Rattle.std.proofs.lemmas.Grind.{common_steps}
 use Rattle.quic_frame_fields.proofs.frame.write_into.store_bytes.Goals as goal
 
 pub returns-clause-back : goal.returns-clause-back
-returns-clause-back c = drop-put_mid c.args.at _ c.args.dest.now c.copy_from_slice.new.self _ (omega arith) (omega arith) (omega arith)
+returns-clause-back c =
+    drop-put_mid c.args.at _ c.args.dest.now c.copy_from_slice.new.self _ (omega arith) (omega arith) (omega arith)
 
 pub returns-clause-front : goal.returns-clause-front
 returns-clause-front c = grind (arith, common_steps)

@@ -7,11 +7,13 @@ use Rattle.quic_frame_fields.proofs.frame.write_into.store_each.Goals as goal
 pub store_bytes-at-requires : goal.store_bytes-at-requires
 store_bytes-at-requires c =
     let i = c.loop-number.invariant in
-    let room = room_for_one c.args.encoded.now c.loop-number.rest.now c.in-Ok.after.now c.args.dest.now c.loop-number.dest c.in-Ok.number c.args.len c.args.at c.loop-number.at i.fits c.requires.shortens i.read c.in-Ok.ensures.gives in
+    let room =
+        room_for_one c.args.encoded.now c.loop-number.rest.now c.in-Ok.after.now c.args.dest.now c.loop-number.dest c.in-Ok.number c.args.len c.args.at c.loop-number.at i.fits c.requires.shortens i.read c.in-Ok.ensures.gives in
     rw c.store_number-end.ensures.front (omega (arith, room, c.requires.room))
 
 pub loop-number-smaller : goal.loop-number-smaller
-loop-number-smaller c = after_shorter c.loop-number.rest.now c.in-Ok.number c.in-Ok.after.now c.loop-number.invariant.fits c.in-Ok.ensures.gives
+loop-number-smaller c =
+    after_shorter c.loop-number.rest.now c.in-Ok.number c.in-Ok.after.now c.loop-number.invariant.fits c.in-Ok.ensures.gives
 
 pub loop-number-preserved : goal.loop-number-preserved
 loop-number-preserved c =

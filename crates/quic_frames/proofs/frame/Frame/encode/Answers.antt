@@ -54,7 +54,8 @@ returns-in-DataBlocked g c = rw c.in-DataBlocked.is c.numbers-in-DataBlocked.ens
 
 pub returns-in-StreamDataBlocked : goal.returns-in-StreamDataBlocked
 unfolding shortest_frame
-returns-in-StreamDataBlocked g c = rw c.in-StreamDataBlocked.is (rw c.from-in-StreamDataBlocked.ensures.0 at c.numbers-in-StreamDataBlocked.ensures)
+returns-in-StreamDataBlocked g c =
+    rw c.in-StreamDataBlocked.is (rw c.from-in-StreamDataBlocked.ensures.0 at c.numbers-in-StreamDataBlocked.ensures)
 
 pub returns-in-RetireConnectionId : goal.returns-in-RetireConnectionId
 unfolding shortest_frame
@@ -75,7 +76,9 @@ unfolding shortest_frame
 returns-in-HandshakeDone g c = rw c.in-HandshakeDone.is c.numbers-in-HandshakeDone.ensures
 
 pub returns-in-MaxStreams : goal.returns-in-MaxStreams
-returns-in-MaxStreams g c = rw (c.in-MaxStreams.is, max_streams_parts) (rw c.bit_of.ensures at c.numbers-in-MaxStreams.ensures)
+returns-in-MaxStreams g c =
+    rw (c.in-MaxStreams.is, max_streams_parts) (rw c.bit_of.ensures at c.numbers-in-MaxStreams.ensures)
 
 pub returns-in-StreamsBlocked : goal.returns-in-StreamsBlocked
-returns-in-StreamsBlocked g c = rw (c.in-StreamsBlocked.is, streams_blocked_parts) (rw c.bit_of-in-StreamsBlocked.ensures at c.numbers-in-StreamsBlocked.ensures)
+returns-in-StreamsBlocked g c =
+    rw (c.in-StreamsBlocked.is, streams_blocked_parts) (rw c.bit_of-in-StreamsBlocked.ensures at c.numbers-in-StreamsBlocked.ensures)

@@ -23,15 +23,18 @@ returns-in-Ping c = rw c.in-Ping.is c.numbers-in-Ping.ensures
 
 pub returns-in-ResetStream : goal.returns-in-ResetStream
 unfolding shortest_frame
-returns-in-ResetStream c = rw c.in-ResetStream.is (rw c.numbers-in-ResetStream.ensures.numbers at c.numbers-in-ResetStream-2.ensures)
+returns-in-ResetStream c =
+    rw c.in-ResetStream.is (rw c.numbers-in-ResetStream.ensures.numbers at c.numbers-in-ResetStream-2.ensures)
 
 pub returns-in-StopSending : goal.returns-in-StopSending
 unfolding shortest_frame
-returns-in-StopSending c = rw c.in-StopSending.is (rw c.numbers-in-StopSending.ensures.numbers at c.numbers-in-StopSending-2.ensures)
+returns-in-StopSending c =
+    rw c.in-StopSending.is (rw c.numbers-in-StopSending.ensures.numbers at c.numbers-in-StopSending-2.ensures)
 
 pub returns-in-AckFrequency : goal.returns-in-AckFrequency
 unfolding shortest_frame
-returns-in-AckFrequency c = rw c.in-AckFrequency.is (rw c.numbers-in-AckFrequency.ensures.numbers at c.numbers-in-AckFrequency-2.ensures)
+returns-in-AckFrequency c =
+    rw c.in-AckFrequency.is (rw c.numbers-in-AckFrequency.ensures.numbers at c.numbers-in-AckFrequency-2.ensures)
 
 pub returns-in-Crypto : goal.returns-in-Crypto
 returns-in-Crypto c = rw (c.in-Crypto.is, crypto_parts) c.numbers_and_bytes.ensures
@@ -59,7 +62,8 @@ returns-in-DataBlocked c = rw c.in-DataBlocked.is c.numbers-in-DataBlocked.ensur
 
 pub returns-in-StreamDataBlocked : goal.returns-in-StreamDataBlocked
 unfolding shortest_frame
-returns-in-StreamDataBlocked c = rw c.in-StreamDataBlocked.is (rw c.from-in-StreamDataBlocked.ensures.0 at c.numbers-in-StreamDataBlocked.ensures)
+returns-in-StreamDataBlocked c =
+    rw c.in-StreamDataBlocked.is (rw c.from-in-StreamDataBlocked.ensures.0 at c.numbers-in-StreamDataBlocked.ensures)
 
 pub returns-in-RetireConnectionId : goal.returns-in-RetireConnectionId
 unfolding shortest_frame
@@ -80,10 +84,12 @@ unfolding shortest_frame
 returns-in-HandshakeDone c = rw c.in-HandshakeDone.is c.numbers-in-HandshakeDone.ensures
 
 pub returns-in-MaxStreams : goal.returns-in-MaxStreams
-returns-in-MaxStreams c = rw (c.in-MaxStreams.is, max_streams_parts) (rw c.bit_of.ensures at c.numbers-in-MaxStreams.ensures)
+returns-in-MaxStreams c =
+    rw (c.in-MaxStreams.is, max_streams_parts) (rw c.bit_of.ensures at c.numbers-in-MaxStreams.ensures)
 
 pub returns-in-StreamsBlocked : goal.returns-in-StreamsBlocked
-returns-in-StreamsBlocked c = rw (c.in-StreamsBlocked.is, streams_blocked_parts) (rw c.bit_of-in-StreamsBlocked.ensures at c.numbers-in-StreamsBlocked.ensures)
+returns-in-StreamsBlocked c =
+    rw (c.in-StreamsBlocked.is, streams_blocked_parts) (rw c.bit_of-in-StreamsBlocked.ensures at c.numbers-in-StreamsBlocked.ensures)
 
 pub numbers-requires-in-StreamsBlocked-clause-numeric : goal.numbers-requires-in-StreamsBlocked-clause-numeric
 numbers-requires-in-StreamsBlocked-clause-numeric c = grind (arith, common_steps)

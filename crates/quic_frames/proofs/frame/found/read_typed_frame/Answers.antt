@@ -11,7 +11,8 @@ pub overflow_sub-bytes : goal.overflow_sub-bytes
 overflow_sub-bytes c =
     let fits : AreBytes c.args.bytes.now = λ i. (c.type_inv.bytes i).fits in
     let taken = varint_takes c.args.bytes.now c.in-Ok.number c.in-Ok.rest.now fits c.in-Ok.ensures.gives in
-    let total : length c.args.bytes.now ≡ length taken.front + length c.in-Ok.rest.now = ap length taken.split ∙ length-append taken.front c.in-Ok.rest.now in
+    let total : length c.args.bytes.now ≡ length taken.front + length c.in-Ok.rest.now =
+        ap length taken.split ∙ length-append taken.front c.in-Ok.rest.now in
     omega (arith, total)
 
 pub returns-in_default-clause-gives : goal.returns-in_default-clause-gives

@@ -23,9 +23,11 @@ returns-clause-ok c =
       | else-less-more+else-more-less w ↦ rw w.runs-is (Holds-same xs _ f t (f + c.len-more.result) (omega arith) refl)
     ] in
     let written : c.write.new.runs ≡ take f ys ++ (vs ++ drop (f + c.len-more.result) ys) =
-    c.write.ensures ∙ ap (λ l. take f l ++ (vs ++ drop (f + length vs) l)) c.as_mut_slice.ensures.value ∙ ap (λ m. take f ys ++ (vs ++ drop (f + m) ys)) (sym count) in
+    c.write.ensures ∙ ap (λ l. take f l ++ (vs ++ drop (f + length vs) l)) c.as_mut_slice.ensures.value
+    ∙ ap (λ m. take f ys ++ (vs ++ drop (f + m) ys)) (sym count) in
     let whole : length c.write.new.runs ≡ length ys = c.write.auto.runs ∙ ap length c.as_mut_slice.ensures.value in
-    take_at c.write.new.runs _ (length ys) whole ∙ spliced xs ys c.write.new.runs vs f t (f + c.len-more.result) held written
+    take_at c.write.new.runs _ (length ys) whole
+    ∙ spliced xs ys c.write.new.runs vs f t (f + c.len-more.result) held written
 
 pub write-requires : goal.write-requires
 write-requires c = grind (arith, common_steps)

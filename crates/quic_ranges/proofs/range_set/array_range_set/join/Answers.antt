@@ -12,22 +12,29 @@ use Rattle.quic_ranges.proofs.range_set.array_range_set.join.Goals.{After-join_a
 written_back : {X : Type 0} (xs ys : List X) → ys ≡ xs → refill (length xs) xs ys ≡ xs
 written_back xs ys e = take_at ys _ (length xs) (ap length e) ∙ e
 
-kept : (c : After-join_among) → refill (length c.args.runs.now.items) c.args.runs.now.items c.extend_last.new.runs ≡ c.args.runs.now.items
-kept c = written_back c.args.runs.now.items c.extend_last.new.runs (c.in-BeforeLast.ensures ∙ c.as_mut_slice.ensures.value)
+kept : (c : After-join_among)
+    → refill (length c.args.runs.now.items) c.args.runs.now.items c.extend_last.new.runs ≡ c.args.runs.now.items
+kept c =
+    written_back c.args.runs.now.items c.extend_last.new.runs (c.in-BeforeLast.ensures ∙ c.as_mut_slice.ensures.value)
 
 pub returns-in_err-map_err-in-AfterAll-clause-no_more_runs : goal.returns-in_err-map_err-in-AfterAll-clause-no_more_runs
 returns-in_err-map_err-in-AfterAll-clause-no_more_runs c rs h le =
-    let becomes : BecomesRunsOf (in_union c.args.runs.now.items c.args.x.now) c.args.runs.now.items (c.args.runs.now.items ++ c.args.x.now ∷ []) = rw (← c.as_mut_slice.ensures.value) c.in-AfterAll.ensures.1 in
-    let more : length rs ≡ length c.args.runs.now.items + 1 = length-pushed (in_union c.args.runs.now.items c.args.x.now) c.args.runs.now.items rs c.args.x.now becomes h in
+    let becomes : BecomesRunsOf (in_union c.args.runs.now.items c.args.x.now) c.args.runs.now.items (c.args.runs.now.items ++ c.args.x.now ∷ []) =
+        rw (← c.as_mut_slice.ensures.value) c.in-AfterAll.ensures.1 in
+    let more : length rs ≡ length c.args.runs.now.items + 1 =
+        length-pushed (in_union c.args.runs.now.items c.args.x.now) c.args.runs.now.items rs c.args.x.now becomes h in
     absurd (omega arith)
 
-behind : (c : In_ok-map_err-in-AfterAll) → BecomesRunsOf (in_union c.args.runs.now.items c.args.x.now) c.args.runs.now.items (c.args.runs.now.items ++ c.args.x.now ∷ [])
+behind : (c : In_ok-map_err-in-AfterAll)
+    → BecomesRunsOf (in_union c.args.runs.now.items c.args.x.now) c.args.runs.now.items (c.args.runs.now.items ++ c.args.x.now ∷ [])
 behind c = rw (← c.as_mut_slice.ensures.value) c.in-AfterAll.ensures.1
 
 pub returns-in_ok-map_err-in-AfterAll-clause-union : goal.returns-in_ok-map_err-in-AfterAll-clause-union
 returns-in_ok-map_err-in-AfterAll-clause-union c =
-    let same = written_back c.args.runs.now.items c.extend_last.new.runs (c.in-AfterAll.ensures.0 ∙ c.as_mut_slice.ensures.value) in
-    let pushed : c.push.new.self.items ≡ refill (length c.args.runs.now.items) c.args.runs.now.items c.extend_last.new.runs ++ c.args.x.now ∷ [] = search rules in
+    let same =
+        written_back c.args.runs.now.items c.extend_last.new.runs (c.in-AfterAll.ensures.0 ∙ c.as_mut_slice.ensures.value) in
+    let pushed : c.push.new.self.items ≡ refill (length c.args.runs.now.items) c.args.runs.now.items c.extend_last.new.runs ++ c.args.x.now ∷ [] =
+        search rules in
     rw (pushed, same) (behind c).runs
 
 pub returns-in-BeforeLast-clause-union : goal.returns-in-BeforeLast-clause-union
@@ -49,8 +56,10 @@ pub returns-in_ok-map_err-in-AfterAll-clause-changed : goal.returns-in_ok-map_er
 returns-in_ok-map_err-in-AfterAll-clause-changed c =
     (λ t e. (behind c).differs (rw e at (returns-in_ok-map_err-in-AfterAll-clause-union c)), λ ne. search rules)
 
-left_alone : (c : In-Unchanged) → refill (length c.args.runs.now.items) c.args.runs.now.items c.extend_last.new.runs ≡ c.args.runs.now.items
-left_alone c = written_back c.args.runs.now.items c.extend_last.new.runs (c.in-Unchanged.ensures.0 ∙ c.as_mut_slice.ensures.value)
+left_alone : (c : In-Unchanged)
+    → refill (length c.args.runs.now.items) c.args.runs.now.items c.extend_last.new.runs ≡ c.args.runs.now.items
+left_alone c =
+    written_back c.args.runs.now.items c.extend_last.new.runs (c.in-Unchanged.ensures.0 ∙ c.as_mut_slice.ensures.value)
 
 pub returns-in-Unchanged-clause-union : goal.returns-in-Unchanged-clause-union
 returns-in-Unchanged-clause-union c = rw (left_alone c) (rw c.as_mut_slice.ensures.value at c.in-Unchanged.ensures.1)
@@ -58,17 +67,21 @@ returns-in-Unchanged-clause-union c = rw (left_alone c) (rw c.as_mut_slice.ensur
 pub returns-in-Unchanged-clause-changed : goal.returns-in-Unchanged-clause-changed
 returns-in-Unchanged-clause-changed c = rw (left_alone c) (search rules)
 
-grown : (c : In-Extended) → BecomesRunsOf (in_union c.args.runs.now.items c.args.x.now) c.args.runs.now.items c.extend_last.new.runs
+grown : (c : In-Extended)
+    → BecomesRunsOf (in_union c.args.runs.now.items c.args.x.now) c.args.runs.now.items c.extend_last.new.runs
 grown c = rw (← c.as_mut_slice.ensures.value) c.in-Extended.ensures
 
-written : (c : In-Extended) → refill (length c.args.runs.now.items) c.args.runs.now.items c.extend_last.new.runs ≡ c.extend_last.new.runs
-written c = take_at c.extend_last.new.runs _ (length c.args.runs.now.items) (omega (arith, ap length c.as_mut_slice.ensures.value, c.extend_last.auto.runs))
+written : (c : In-Extended)
+    → refill (length c.args.runs.now.items) c.args.runs.now.items c.extend_last.new.runs ≡ c.extend_last.new.runs
+written c =
+    take_at c.extend_last.new.runs _ (length c.args.runs.now.items) (omega (arith, ap length c.as_mut_slice.ensures.value, c.extend_last.auto.runs))
 
 pub returns-in-Extended-clause-union : goal.returns-in-Extended-clause-union
 returns-in-Extended-clause-union c = rw (written c) (grown c).runs
 
 pub returns-in-Extended-clause-changed : goal.returns-in-Extended-clause-changed
-returns-in-Extended-clause-changed c = rw (written c) (λ t e. (grown c).differs (rw e at (grown c).runs), λ ne. search rules)
+returns-in-Extended-clause-changed c =
+    rw (written c) (λ t e. (grown c).differs (rw e at (grown c).runs), λ ne. search rules)
 
 pub returns-in_err-map_err-in-AfterAll-clause-err : goal.returns-in_err-map_err-in-AfterAll-clause-err
 returns-in_err-map_err-in-AfterAll-clause-err c = grind (arith, common_steps)

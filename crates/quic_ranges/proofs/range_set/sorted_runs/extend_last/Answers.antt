@@ -11,7 +11,9 @@ returns-then-len-eq0 c = (
 )
 
 pub returns-then-x-runs-2 : goal.returns-then-x-runs-2
-returns-then-x-runs-2 c = (refl, IsRunsOf-inside_last c.args.runs.now c.args.x.now (record { start = 0; end = 0 }) c.requires (omega arith) (omega arith) c.if-x-runs.false c.if-x-runs-2.true)
+returns-then-x-runs-2 c =
+    (refl, IsRunsOf-inside_last c.args.runs.now c.args.x.now (record { start = 0; end = 0 }) c.requires (omega arith) (omega arith) c.if-x-runs.false c.if-x-runs-2.true)
 
 pub returns : goal.returns
-returns c = BecomesRunsOf-grown c.args.runs.now c.args.x.now (record { start = 0; end = 0 }) c.requires (omega arith) c.if-x-runs.false c.if-runs-len.false c.if-x-runs-2.false
+returns c =
+    BecomesRunsOf-grown c.args.runs.now c.args.x.now (record { start = 0; end = 0 }) c.requires (omega arith) c.if-x-runs.false c.if-runs-len.false c.if-x-runs-2.false

@@ -11,7 +11,8 @@ pub loop-next-preserved : goal.loop-next-preserved
 loop-next-preserved c =
     let run = get_or c.args.runs.now c.loop-run.run-index (record { start = 0; end = 0 }) in
     let other = get_or c.args.others.now c.loop-next.next (record { start = 0; end = 0 }) in
-    let rest = RunsFrom-behind 0 c.loop-run.run-index (record { start = 0; end = 0 }) c.args.runs.now c.requires.runs (omega arith) in
+    let rest =
+        RunsFrom-behind 0 c.loop-run.run-index (record { start = 0; end = 0 }) c.args.runs.now c.requires.runs (omega arith) in
     let left : c.if-start-others.left ≡ c.loop-next.left ++ as_runs c.loop-next.start other.start = elim c.if-start-others.branch [
       | then-start-others+in_ok-push w ↦ w.left-is ∙ w.in_ok-push.ensures.ok ∙ ap (λ l. c.loop-next.left ++ l) (sym (as_runs-full c.loop-next.start other.start w.if-start-others.true))
       | else-start-others w ↦ w.left-is ∙ sym (append-nil c.loop-next.left) ∙ ap (λ l. c.loop-next.left ++ l) (sym (as_runs-empty c.loop-next.start other.start w.if-start-others.false))
@@ -41,7 +42,8 @@ loop-run-preserved c =
     rw left (difference-run c.loop-next.left _ c.args.others.now _ c.loop-next.start run.end c.if-next-others.end c.loop-next.next (record { start = 0; end = 0 }) behind cut whole c.loop-next.invariant)
 
 pub returns : goal.returns
-returns c = difference-end c.loop-run.left c.args.runs.now _ c.args.others.now c.loop-run.run-index c.requires.runs c.requires.others c.loop-run-test.false c.loop-run.invariant
+returns c =
+    difference-end c.loop-run.left c.args.runs.now _ c.args.others.now c.loop-run.run-index c.requires.runs c.requires.others c.loop-run-test.false c.loop-run.invariant
 
 pub loop-next-init : goal.loop-next-init
 loop-next-init c = grind (arith, common_steps)

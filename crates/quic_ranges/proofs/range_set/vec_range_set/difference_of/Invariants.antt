@@ -4,7 +4,8 @@ use Rattle.quic_ranges.proofs.range_set.vec_range_set.difference_of.Given as goa
 
 -- what is left so far, and what is to come
 abbrev pub invariant-loop-run : goal.invariant-loop-run
-invariant-loop-run l = l.left ++ subtracted (drop l.run-index l.runs) (drop l.next l.others) ≡ subtracted l.runs l.others
+invariant-loop-run l =
+    l.left ++ subtracted (drop l.run-index l.runs) (drop l.next l.others) ≡ subtracted l.runs l.others
 
 -- the same within a run
 abbrev pub invariant-loop-next : goal.invariant-loop-next

@@ -108,7 +108,8 @@ module _ {M : Type 1} {𝓤 : Ura M} (𝓛 : Logic 𝓤) (κ : Lft) (q : Share) 
         let seen : take a.len (ws ++ back) ≡ after d ws = take_front ws back a.len count_ws ∙ sym filled in
         let zeros = ap (λ k. drop_list k (ws ++ back)) (sym count_ws) ∙ drop-append_seam ws back ∙ f.1.1.zeros in
         let padded : IsPadded a.len (ws ++ back) = record { short = short; width = whole; zeros = zeros } in
-        let made : ent 𝓤 (emp 𝓤) (sem 𝓛 (the_opens.rest (after d ws) a')) = ex_i 𝓤 (λ (_ : (take a.len (ws ++ back) ≡ after d ws) × IsPadded a.len (ws ++ back)). emp 𝓤) (seen, padded) in
+        let made : ent 𝓤 (emp 𝓤) (sem 𝓛 (the_opens.rest (after d ws) a')) =
+            ex_i 𝓤 (λ (_ : (take a.len (ws ++ back) ≡ after d ws) × IsPadded a.len (ws ++ back)). emp 𝓤) (seen, padded) in
         qed 𝓛 (‵ (elements ws p) ∷ (‵ (elements back (past (length front))) ⊛ (‵ Length ⊛ raw (Left 𝓛 b o))) ∷ []) ∵
         move ! (1 ∷ []) $ split ! $ move ! (2 ∷ 0 ∷ []) $
         rewrite ! 1 (λ (k : ℕ). ‵ (elements back (past k))) (sym e) refl $
@@ -135,7 +136,8 @@ module _ {M : Type 1} {𝓤 : Ura M} (𝓛 : Logic 𝓤) (κ : Lft) (q : Share) 
     abbrev Post : Val → SProp 𝓤
     Post = (walk_of 𝓛 F.ended stayed clauses).post bound
 
-    exits : (f : Fields d) (δ : GName) → ent 𝓤 (Lent (take f.0.len f.0.bytes) f.0.len δ) (Post (slice_val (b, p) f.0.len))
+    exits : (f : Fields d) (δ : GName)
+        → ent 𝓤 (Lent (take f.0.len f.0.bytes) f.0.len δ) (Post (slice_val (b, p) f.0.len))
     exits f δ =
         let xs = take f.0.len f.0.bytes in
         qed 𝓛 (‵ ((MutSlice (named 0) κ u8).own_val (record { ref_ptr = (b, p); ghost_name = δ; now = xs }) (slice_val (b, p) f.0.len ∷ [])) ∷ ‵ (flft κ q) ∷ ‵ (follows Id (Array u8 0) γ δ (after d)) ∷ []) ∵

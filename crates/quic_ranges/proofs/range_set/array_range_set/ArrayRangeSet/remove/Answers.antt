@@ -8,9 +8,11 @@ use Rattle.quic_ranges.proofs.range_set.array_range_set.ArrayRangeSet.remove.Goa
 use Rattle.quic_ranges.proofs.range_set.array_range_set.ArrayRangeSet.remove.Goals.{After-from_residual}
 
 -- a refused change makes one run more
-more_runs : (c : After-from_residual) (rs : List (Range ℕ)) → IsRunsOf (in_difference c.args.self.now c.args.x) rs → length rs ≡ length c.self.inside.runs.items + 1
+more_runs : (c : After-from_residual) (rs : List (Range ℕ)) → IsRunsOf (in_difference c.args.self.now c.args.x) rs
+    → length rs ≡ length c.self.inside.runs.items + 1
 more_runs c rs h =
-    let splices : Splices (in_difference c.self.inside.runs.items c.args.x) c.self.inside.runs.items c.in-Some.change = rw (← c.as_slice.ensures) c.in-Some.ensures.some in
+    let splices : Splices (in_difference c.self.inside.runs.items c.args.x) c.self.inside.runs.items c.in-Some.change =
+        rw (← c.as_slice.ensures) c.in-Some.ensures.some in
     length-spliced (in_difference c.self.inside.runs.items c.args.x) c.self.inside.runs.items rs c.in-Some.change splices c.in_err-apply.ensures.more_runs (rw c.self.view_is h)
 
 pub returns-in_err-apply-clause-no_more_runs : goal.returns-in_err-apply-clause-no_more_runs

@@ -24,8 +24,10 @@ returns-clause-ok c =
       | else-less-more+else-more-less w ↦ rw w.self-inside-is (Holds-same xs _ f t (f + c.len-more.result) (omega arith) refl, refl)
     ] in
     let written : c.write.new.runs ≡ take f ys ++ (vs ++ drop (f + c.len-more.result) ys) =
-    c.write.ensures ∙ ap (λ l. take f l ++ (vs ++ drop (f + length vs) l)) c.as_mut_slice.ensures.value ∙ ap (λ m. take f ys ++ (vs ++ drop (f + m) ys)) (sym count) in
-    let main = spliced-behind xs ys c.write.new.runs vs k c.args.change.from c.args.change.to f t (f + c.len-more.result) c.self.invariant refl refl held.0 written in
+    c.write.ensures ∙ ap (λ l. take f l ++ (vs ++ drop (f + length vs) l)) c.as_mut_slice.ensures.value
+    ∙ ap (λ m. take f ys ++ (vs ++ drop (f + m) ys)) (sym count) in
+    let main =
+        spliced-behind xs ys c.write.new.runs vs k c.args.change.from c.args.change.to f t (f + c.len-more.result) c.self.invariant refl refl held.0 written in
     ap (drop c.if-less-more.self-inside.taken) (take_at c.write.new.runs _ _ (c.write.auto.runs ∙ c.as_mut_slice.ensures.len))
     ∙ subst (λ j. drop j c.write.new.runs ≡ after_splice c.args.self.now c.args.change) (sym held.1) (main ∙ ap (λ l. after_splice l c.args.change) c.self.view_is)
 

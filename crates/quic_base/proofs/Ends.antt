@@ -45,7 +45,8 @@ padded_zeros xs zeros bytes short are is =
         ap (drop (length xs)) are ∙ drop-replicate (length xs) 20 0 in
     record {
       short = short;
-      width = omega (arith, ap length is, length-append xs (drop (length xs) zeros), length-drop (length xs) zeros, ap length are, length-replicate {A = ℕ} 20 0, short);
+      width = omega (arith, ap length is, length-append xs (drop (length xs) zeros), length-drop (length xs) zeros,
+          ap length are, length-replicate {A = ℕ} 20 0, short);
       zeros = ap (drop (length xs)) is ∙ drop_at xs (drop (length xs) zeros) (length xs) refl ∙ behind;
     }
 

@@ -201,4 +201,5 @@ octets_of-segments_of (suc n) (x ∷ y ∷ b) l h =
 pub takes_ipv6 : (old new b s : List ℕ) → old ≡ b ++ new → length b ≡ 16 → AreBytes b → s ≡ segments_of b
     → Takes (IsOctets 16 (octets_of s)) old new
 takes_ipv6 old new b s e l h v =
-    record { front = b; split = e; is = record { bytes = h; width = l; value = sym (octets_of-segments_of 8 b l h) ∙ ap octets_of (sym v) } }
+    record { front = b; split = e; is = record { bytes = h; width = l;
+        value = sym (octets_of-segments_of 8 b l h) ∙ ap octets_of (sym v) } }

@@ -59,7 +59,8 @@ number_taken (b ∷ bs) n rest fits e =
     record {
       front = b ∷ take more bs;
       split = ap (λ (t : List ℕ). b ∷ t) (sym whole ∙ ap (λ (t : List ℕ). take more bs ++ t) rest-is);
-      is = encoded_by b more n (take more bs) lt (front_bytes (take more bs) (drop more bs) tail_fits) len (width_of (b / 64) tag) (sym n-is);
+      is = encoded_by b more n (take more bs) lt (front_bytes (take more bs) (drop more bs) tail_fits) len
+          (width_of (b / 64) tag) (sym n-is);
     }
 
 -- a number cut into its tag and its value
@@ -91,7 +92,8 @@ number_again n (b ∷ t) rest v =
     let small : num t < 256 ^ more = subst (λ (k : ℕ). num t < 256 ^ k) len (num_below t (λ i. v.bytes (suc i))) in
     let below : n < 64 * 256 ^ more = subst (λ (k : ℕ). n < k) w.limit v.fits in
     let e : b * 256 ^ more + num t ≡ v.tag * (64 * 256 ^ more) + n =
-    subst (λ (k : ℕ). b * 256 ^ k + num t ≡ v.tag * (64 * 256 ^ more) + n) len (subst (λ (k : ℕ). b * 256 ^ length t + num t ≡ v.tag * k + n) w.limit v.value) in
+    subst (λ (k : ℕ). b * 256 ^ k + num t ≡ v.tag * (64 * 256 ^ more) + n) len
+        (subst (λ (k : ℕ). b * 256 ^ length t + num t ≡ v.tag * k + n) w.limit v.value) in
     let c = cut v.tag b (num t) n v.tag_fits small below e in
     let long : ltb (length (t ++ rest)) more ≡ false = le-ltb _ _ (omega (arith, length-append t rest)) in
     rw (c.tag_is, long, take_at t rest more len, drop_at t rest more len, c.value) refl

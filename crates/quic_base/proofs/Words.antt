@@ -57,11 +57,14 @@ of_bytes : (t a b c d e f g i word : ℕ) (rest : List ℕ) → AreBytes (a ∷ 
     → word ≡ a * 256 ^ 7 + (b * 256 ^ 6 + (c * 256 ^ 5 + (d * 256 ^ 4 + (e * 256 ^ 3 + (f * 256 ^ 2 + (g * 256 + i))))))
     → IsWordOf t a (num (take (2 ^ t - 1) (b ∷ c ∷ d ∷ e ∷ f ∷ g ∷ i ∷ rest))) word
 of_bytes zero a b c d e f g i word rest fits lt t-is w =
-    word_of 0 a 0 (b * 256 ^ 6 + (c * 256 ^ 5 + (d * 256 ^ 4 + (e * 256 ^ 3 + (f * 256 ^ 2 + (g * 256 + i)))))) word lt t-is (omega arith) (omega (arith, fits 1, fits 2, fits 3, fits 4, fits 5, fits 6, fits 7)) (omega (arith, w))
+    word_of 0 a 0 (b * 256 ^ 6 + (c * 256 ^ 5 + (d * 256 ^ 4 + (e * 256 ^ 3 + (f * 256 ^ 2 + (g * 256 + i)))))) word lt
+        t-is (omega arith) (omega (arith, fits 1, fits 2, fits 3, fits 4, fits 5, fits 6, fits 7)) (omega (arith, w))
 of_bytes (suc zero) a b c d e f g i word rest fits lt t-is w =
-    word_of 1 a _ (c * 256 ^ 5 + (d * 256 ^ 4 + (e * 256 ^ 3 + (f * 256 ^ 2 + (g * 256 + i))))) word lt t-is (omega (arith, fits 1)) (omega (arith, fits 2, fits 3, fits 4, fits 5, fits 6, fits 7)) (omega (arith, w))
+    word_of 1 a _ (c * 256 ^ 5 + (d * 256 ^ 4 + (e * 256 ^ 3 + (f * 256 ^ 2 + (g * 256 + i))))) word lt t-is
+        (omega (arith, fits 1)) (omega (arith, fits 2, fits 3, fits 4, fits 5, fits 6, fits 7)) (omega (arith, w))
 of_bytes (suc (suc zero)) a b c d e f g i word rest fits lt t-is w =
-    word_of 2 a _ (e * 256 ^ 3 + (f * 256 ^ 2 + (g * 256 + i))) word lt t-is (omega (arith, fits 1, fits 2, fits 3)) (omega (arith, fits 4, fits 5, fits 6, fits 7)) (omega (arith, w))
+    word_of 2 a _ (e * 256 ^ 3 + (f * 256 ^ 2 + (g * 256 + i))) word lt t-is (omega (arith, fits 1, fits 2, fits 3))
+        (omega (arith, fits 4, fits 5, fits 6, fits 7)) (omega (arith, w))
 of_bytes (suc (suc (suc zero))) a b c d e f g i word rest fits lt t-is w =
     word_of 3 a _ 0 word lt t-is (omega (arith, fits 1, fits 2, fits 3, fits 4, fits 5, fits 6, fits 7)) (omega arith) (omega (arith, w))
 of_bytes (suc (suc (suc (suc t)))) a b c d e f g i word rest fits lt t-is w = absurd (omega (arith, lt))
@@ -71,7 +74,8 @@ reads_word : (word : ℕ) (front : List ℕ) → length front ≡ 8 → AreBytes
     → ReadsWord word front
 reads_word word (a ∷ b ∷ c ∷ d ∷ e ∷ f ∷ g ∷ i ∷ []) eight fits w =
     let lt : a < 256 = fits 0 in
-    by_tag (a / 64) a word (b ∷ c ∷ d ∷ e ∷ f ∷ g ∷ i ∷ []) (omega arith) refl (omega arith) (of_bytes (a / 64) a b c d e f g i word [] fits (omega arith) refl (omega (arith, w)))
+    by_tag (a / 64) a word (b ∷ c ∷ d ∷ e ∷ f ∷ g ∷ i ∷ []) (omega arith) refl (omega arith)
+        (of_bytes (a / 64) a b c d e f g i word [] fits (omega arith) refl (omega (arith, w)))
 reads_word word front eight fits w = absurd (omega (arith, eight))
 
 -- its operators

@@ -21,7 +21,8 @@ use Rattle.quic_frame_fields.proofs.Sets.{bounded, ranges_in-last, length-ranges
 
 pub ack_parts : (last : Bool) (greatest delay : ℕ) (range : ℕ × ℕ) (ranges : List (ℕ × ℕ)) (counts : Option EcnCounts)
     → shortest_frame last (frame_of Ack (Number greatest ∷ Number delay ∷ Ranges (range ∷ ranges) ∷ counts_of counts))
-    ≡ shortest_varints (ack_type counts ∷ greatest ∷ delay ∷ length ranges ∷ (range.1 - range.0) ∷ []) ++ (shortest_below range.0 ranges ++ shortest_varints (count_numbers counts))
+    ≡ shortest_varints (ack_type counts ∷ greatest ∷ delay ∷ length ranges ∷ (range.1 - range.0) ∷ [])
+        ++ (shortest_below range.0 ranges ++ shortest_varints (count_numbers counts))
 unfolding shortest_frame
 ack_parts last greatest delay range ranges None = simp (append_assoc, append-nil)
 ack_parts last greatest delay range ranges (Some counts) = simp (append_assoc, append-nil)
@@ -29,7 +30,8 @@ ack_parts last greatest delay range ranges (Some counts) = simp (append_assoc, a
 -- ---- the runs of a set, the greatest first
 
 -- what was written of all the bytes, and the runs that are left below another one
-pub record WroteRuns (all : List ℕ) (above : Range ℕ) (left : List (Range ℕ)) (written : List ℕ) (spare : ℕ) (written' : List ℕ) (spare' : ℕ) : Type 0 where
+pub record WroteRuns (all : List ℕ) (above : Range ℕ) (left : List (Range ℕ)) (written : List ℕ) (spare : ℕ)
+    (written' : List ℕ) (spare' : ℕ) : Type 0 where
   pub before : List ℕ
   pub wrote : Wrote before written spare written' spare'
   pub parts : all ≡ before ++ shortest_below above.start (ranges_in left)
@@ -45,17 +47,20 @@ pub record NextRun (all before : List ℕ) (above : Range ℕ) (run : Range ℕ)
   pub numeric : AreNumeric (run_numbers above run)
   pub parts : all ≡ before ++ (shortest_varints (run_numbers above run) ++ shortest_below run.start (ranges_in runs))
 
-pub next_run : (all : List ℕ) (above run : Range ℕ) (runs left : List (Range ℕ)) (w w1 : List ℕ) (s s1 : ℕ) (x : WroteRuns all above left w s w1 s1)
+pub next_run : (all : List ℕ) (above run : Range ℕ) (runs left : List (Range ℕ)) (w w1 : List ℕ) (s s1 : ℕ)
+    (x : WroteRuns all above left w s w1 s1)
     → left ≡ runs ++ run ∷ []
     → NextRun all x.before above run runs
 next_run all above run runs left w w1 s s1 x e =
     let below = has_below runs left run above e x.maximal in
     let bytes = shortest_below run.start (ranges_in runs) in
     let gap : above.start - ((run.end - 1) + 2) ≡ above.start - run.end - 1 = omega (arith, below.some) in
-    let one : shortest_below above.start (ranges_in left) ≡ shortest_varint (above.start - ((run.end - 1) + 2)) ++ (shortest_varint (run.end - 1 - run.start) ++ bytes) =
+    let one : shortest_below above.start (ranges_in left) ≡ shortest_varint (above.start - ((run.end - 1) + 2))
+        ++ (shortest_varint (run.end - 1 - run.start) ++ bytes) =
     ap (λ (l : List (Range ℕ)). shortest_below above.start (ranges_in l)) e
     ∙ ap (shortest_below above.start) (ranges_in-last runs run) in
-    let two : shortest_varint (above.start - ((run.end - 1) + 2)) ++ (shortest_varint (run.end - 1 - run.start) ++ bytes) ≡ shortest_varints (run_numbers above run) ++ bytes =
+    let two : shortest_varint (above.start - ((run.end - 1) + 2))
+        ++ (shortest_varint (run.end - 1 - run.start) ++ bytes) ≡ shortest_varints (run_numbers above run) ++ bytes =
         rw gap (simp (append_assoc, append-nil)) in
     record {
       below = below;
@@ -67,7 +72,8 @@ next_run all above run runs left w w1 s s1 x e =
 pub record SetParts (delay : ℕ) (whole runs : List (Range ℕ)) (run : Range ℕ) (counts : Option EcnCounts) (ty count : ℕ) : Type 0 where
   pub numeric : AreNumeric (ty ∷ (run.end - 1) ∷ delay ∷ count ∷ (run.end - 1 - run.start) ∷ [])
   pub parts : (last : Bool) → shortest_frame last (ack_of delay whole counts)
-      ≡ shortest_varints (ty ∷ (run.end - 1) ∷ delay ∷ count ∷ (run.end - 1 - run.start) ∷ []) ++ (shortest_below run.start (ranges_in runs) ++ shortest_varints (count_numbers counts))
+      ≡ shortest_varints (ty ∷ (run.end - 1) ∷ delay ∷ count ∷ (run.end - 1 - run.start) ∷ [])
+          ++ (shortest_below run.start (ranges_in runs) ++ shortest_varints (count_numbers counts))
 
 pub small_type : (counts : Option EcnCounts) → ack_type counts < 2 ^ 62
 small_type None = omega arith
@@ -83,7 +89,8 @@ set_parts delay whole runs run counts ty size e ty_is size_is delay_fits maximal
         omega (arith, size_is, ap length e, length-append runs (run ∷ []), length-ranges_in runs) in
     let ranges : ranges_in whole ≡ ends_of run ∷ ranges_in runs = ap ranges_in e ∙ ranges_in-last runs run in
     record {
-      numeric = (omega (arith, ty_is, small_type counts), (b.greatest, (delay_fits, (omega (arith, count, length-ranges_in runs, b.few), (omega (arith, b.greatest), tt)))));
+      numeric = (omega (arith, ty_is, small_type counts), (b.greatest,
+          (delay_fits, (omega (arith, count, length-ranges_in runs, b.few), (omega (arith, b.greatest), tt)))));
       parts = λ last. rw (ranges, ty_is, count) (ack_parts last (run.end - 1) delay (ends_of run) (ranges_in runs) counts);
     }
 
@@ -104,7 +111,8 @@ same_counts (Some some) (Some others) e =
     counts ect0 ect1 ce = record { ect0 = ect0; ect1 = ect1; ce = ce }
 
 pub same_ack : (greatest delay greatest' delay' : ℕ) (ranges ranges' : List (ℕ × ℕ)) (counts counts' : Option EcnCounts)
-    → frame_of Ack (Number greatest ∷ Number delay ∷ Ranges ranges ∷ counts_of counts) ≡ frame_of Ack (Number greatest' ∷ Number delay' ∷ Ranges ranges' ∷ counts_of counts')
+    → frame_of Ack (Number greatest ∷ Number delay ∷ Ranges ranges ∷ counts_of counts)
+        ≡ frame_of Ack (Number greatest' ∷ Number delay' ∷ Ranges ranges' ∷ counts_of counts')
     → (ranges ≡ ranges') × (delay ≡ delay') × (counts ≡ counts')
 same_ack greatest delay greatest' delay' ranges ranges' counts counts' e =
     let values = ap (λ (m : Meaning). m.values) e in
@@ -116,7 +124,8 @@ same_ack greatest delay greatest' delay' ranges ranges' counts counts' e =
 -- ---- runs that are put together in a chunk
 
 -- what was written of all the bytes, what is held after it, and the runs that are left below another one
-pub record HoldsRuns (all held : List ℕ) (above : Range ℕ) (left : List (Range ℕ)) (written : List ℕ) (spare : ℕ) (written' : List ℕ) (spare' : ℕ) : Type 0 where
+pub record HoldsRuns (all held : List ℕ) (above : Range ℕ) (left : List (Range ℕ)) (written : List ℕ) (spare : ℕ)
+    (written' : List ℕ) (spare' : ℕ) : Type 0 where
   pub before : List ℕ
   pub wrote : Wrote before written spare written' spare'
   pub parts : all ≡ (before ++ held) ++ shortest_below above.start (ranges_in left)
@@ -128,9 +137,11 @@ as_written : (all held : List ℕ) (above : Range ℕ) (left : List (Range ℕ))
     → (x : HoldsRuns all held above left w s w1 s1)
     → WroteRuns all above left [] 0 (x.before ++ held) 0
 as_written all held above left w w1 s s1 x =
-    record { before = x.before ++ held; wrote = record { stands = refl; room = omega arith }; parts = x.parts; maximal = x.maximal; bound = x.bound }
+    record { before = x.before ++ held; wrote = record { stands = refl; room = omega arith }; parts = x.parts;
+        maximal = x.maximal; bound = x.bound }
 
-pub next_held : (all held : List ℕ) (above run : Range ℕ) (runs left : List (Range ℕ)) (w w1 : List ℕ) (s s1 : ℕ) (x : HoldsRuns all held above left w s w1 s1)
+pub next_held : (all held : List ℕ) (above run : Range ℕ) (runs left : List (Range ℕ)) (w w1 : List ℕ) (s s1 : ℕ)
+    (x : HoldsRuns all held above left w s w1 s1)
     → left ≡ runs ++ run ∷ []
     → NextRun all (x.before ++ held) above run runs
 unfolding as_written
@@ -154,13 +165,15 @@ holds_more all held held' above run runs left w w1 w2 s s1 s2 x e b room is =
     record {
       before = x.before ++ b.done;
       wrote = record { stands = stands; room = omega (arith, kept, room) };
-      parts = n.parts ∙ ap (λ (l : List ℕ). (x.before ++ l) ++ (numbers ++ bytes)) b.whole ∙ moved ∙ ap (λ (l : List ℕ). ((x.before ++ b.done) ++ l) ++ bytes) (sym is);
+      parts = n.parts ∙ ap (λ (l : List ℕ). (x.before ++ l) ++ (numbers ++ bytes)) b.whole ∙ moved
+          ∙ ap (λ (l : List ℕ). ((x.before ++ b.done) ++ l) ++ bytes) (sym is);
       maximal = n.below.maximal;
       bound = omega (arith, n.below.some, n.below.apart, x.bound);
     }
 
 -- what was held was refused
-pub holds_refused : {D E : Type 0} (r : Result (Unit {0}) E) (refused : Result (Unit {0}) D) (d : D) (error : E) (all held : List ℕ) (above : Range ℕ) (left : List (Range ℕ)) (w w1 w2 : List ℕ) (s s1 s2 : ℕ)
+pub holds_refused : {D E : Type 0} (r : Result (Unit {0}) E) (refused : Result (Unit {0}) D) (d : D) (error : E)
+    (all held : List ℕ) (above : Range ℕ) (left : List (Range ℕ)) (w w1 w2 : List ℕ) (s s1 s2 : ℕ)
     → HoldsRuns all held above left w s w1 s1 → Writes r held w1 s1 w2 s2 → r ≡ Err error → refused ≡ Err d
     → Writes refused all w s w2 s2
 holds_refused r refused d error all held above left w w1 w2 s s1 s2 x y is was =
@@ -168,7 +181,8 @@ holds_refused r refused d error all held above left w w1 w2 s s1 s2 x y is was =
     writes_within r refused d x.before held bytes all w w1 w2 s s1 s2 error (x.parts ∙ append_assoc x.before held bytes) x.wrote y is was
 
 -- what is held is the rest
-pub holds_last : {E : Type 0} (r : Result (Unit {0}) E) (all held : List ℕ) (above : Range ℕ) (left : List (Range ℕ)) (w w1 w2 : List ℕ) (s s1 s2 : ℕ)
+pub holds_last : {E : Type 0} (r : Result (Unit {0}) E) (all held : List ℕ) (above : Range ℕ) (left : List (Range ℕ))
+    (w w1 w2 : List ℕ) (s s1 s2 : ℕ)
     → HoldsRuns all held above left w s w1 s1 → left ≡ [] → Writes r held w1 s1 w2 s2 → Writes r all w s w2 s2
 holds_last r all held above left w w1 w2 s s1 s2 x none y =
     let whole : all ≡ x.before ++ held =
@@ -203,4 +217,5 @@ pub writes_in_two : {E : Type 0} (r : Result (Unit {0}) E) (all front held below
     → all ≡ front ++ (below ++ counts) → held ≡ front
     → Writes r ((held ++ below) ++ counts) w s w1 s1 → Writes r all w s w1 s1
 writes_in_two r all front held below counts w w1 s s1 parts is x =
-    subst (λ (l : List ℕ). Writes r l w s w1 s1) (sym (parts ∙ sym (append_assoc front below counts) ∙ ap (λ (l : List ℕ). (l ++ below) ++ counts) (sym is))) x
+    subst (λ (l : List ℕ). Writes r l w s w1 s1) (sym (parts ∙ sym (append_assoc front below counts)
+        ∙ ap (λ (l : List ℕ). (l ++ below) ++ counts) (sym is))) x

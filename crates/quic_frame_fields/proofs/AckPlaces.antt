@@ -28,7 +28,8 @@ blocks_stand bytes a b c ty largest delay blocks rest fits one two three four =
         j ∙ ap (λ (l : List ℕ). i ++ l) last ∙ sym (append_assoc i t.count_bytes (blocks ++ rest)) in
     let second : a ≡ (g ++ (i ++ t.count_bytes)) ++ (blocks ++ rest) =
         h ∙ ap (λ (l : List ℕ). g ++ l) third ∙ sym (append_assoc g (i ++ t.count_bytes) (blocks ++ rest)) in
-    (f ++ (g ++ (i ++ t.count_bytes)), e ∙ ap (λ (l : List ℕ). f ++ l) second ∙ sym (append_assoc f (g ++ (i ++ t.count_bytes)) (blocks ++ rest))))))
+    (f ++ (g ++ (i ++ t.count_bytes)), e ∙ ap (λ (l : List ℕ). f ++ l) second
+        ∙ sym (append_assoc f (g ++ (i ++ t.count_bytes)) (blocks ++ rest))))))
 
 -- of two ways to cut bytes, what is in front of the longer rest begins what is in front of the shorter
 front_of : (front left header rest : List ℕ) → front ++ left ≡ header ++ rest → length left ≤ length rest
@@ -73,7 +74,8 @@ stand_in_frame type ack bytes behind front left fits e r cut =
     t.split ∙ ap (λ (m : List ℕ). t.front ++ m) two
     ∙ sym (append_assoc t.front (l.front ++ (d.front ++ b.count_bytes)) (a.additional ++ r.behind_blocks)) in
     let here : front ≡ (header ++ a.additional) ++ back =
-    front_of front left (header ++ a.additional) r.behind_blocks (sym cut ∙ one ∙ sym (append_assoc header a.additional r.behind_blocks)) r.fewer in
+    front_of front left (header ++ a.additional) r.behind_blocks
+        (sym cut ∙ one ∙ sym (append_assoc header a.additional r.behind_blocks)) r.fewer in
     let ranges : ranges_acked ack ≡ b.range ∷ b.ranges = ranges_are a.largest b.range b.ranges a.additional b.blocks in
     let count : length b.ranges ≡ length (ranges_acked ack) - 1 = omega (arith, ap length ranges) in
     record {
@@ -85,6 +87,8 @@ stand_in_frame type ack bytes behind front left fits e r cut =
         l.front ++ (d.front ++ b.count_bytes),
         refl,
         t.is,
-        (l.front, d.front ++ b.count_bytes, refl, l.is, (d.front, b.count_bytes, refl, d.is, (b.count_bytes, [], sym (append-nil b.count_bytes), subst (λ (n : ℕ). Encodes n b.count_bytes) count b.count, refl))),
+        (l.front, d.front ++ b.count_bytes, refl, l.is, (d.front, b.count_bytes, refl, d.is,
+            (b.count_bytes, [], sym (append-nil b.count_bytes),
+            subst (λ (n : ℕ). Encodes n b.count_bytes) count b.count, refl))),
       );
     }

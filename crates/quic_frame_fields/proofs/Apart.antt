@@ -81,4 +81,5 @@ acked_apart greatest bytes v =
     let are : first_and greatest (block_at greatest bytes) ≡ (a.0.0, greatest) ∷ ranges_below (length a.0.1) a.0.0 a.0.1 =
         ap (first_and greatest) a.1 in
     let apart = below_are_apart (length a.0.1) (a.0.0, greatest) a.0.1 (block_low greatest bytes a.0 a.1) in
-    record { first = (a.0.0, greatest); others = ranges_below (length a.0.1) a.0.0 a.0.1; are = are; top = refl; apart = subst AreApart (sym are) apart }
+    record { first = (a.0.0, greatest); others = ranges_below (length a.0.1) a.0.0 a.0.1; are = are; top = refl;
+        apart = subst AreApart (sym are) apart }

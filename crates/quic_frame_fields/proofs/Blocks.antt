@@ -29,7 +29,8 @@ block_takes greatest bytes x fits e =
     let t = varint_takes bytes a.0.0 a.0.1 fits a.1 in
     let back : a.0.0 ≡ greatest - (greatest - a.0.0) = omega arith in
     subst (λ (y : ℕ × List ℕ). (y.0 ≤ greatest) × TakesOne bytes y.1 (greatest - y.0)) g.1
-    (omega arith, record { front = t.front; parts = t.split; encoded = subst (λ (k : ℕ). Encodes k t.front) back t.is; left_fits = back_bytes t.front a.0.1 (subst AreBytes t.split fits) })
+    (omega arith, record { front = t.front; parts = t.split; encoded = subst (λ (k : ℕ). Encodes k t.front) back t.is;
+        left_fits = back_bytes t.front a.0.1 (subst AreBytes t.split fits) })
 
 pub block_again : (greatest low : ℕ) (front left : List ℕ) → low ≤ greatest → Encodes (greatest - low) front
     → block_at greatest (front ++ left) ≡ Ok (low, left)
@@ -49,7 +50,8 @@ gap_takes low bytes x fits e =
     let t = varint_takes bytes a.0.0 a.0.1 fits a.1 in
     let back : a.0.0 ≡ low - ((low - (a.0.0 + 2)) + 2) = omega arith in
     subst (λ (y : ℕ × List ℕ). (y.0 + 2 ≤ low) × TakesOne bytes y.1 (low - (y.0 + 2))) g.1
-    (omega arith, record { front = t.front; parts = t.split; encoded = subst (λ (k : ℕ). Encodes k t.front) back t.is; left_fits = back_bytes t.front a.0.1 (subst AreBytes t.split fits) })
+    (omega arith, record { front = t.front; parts = t.split; encoded = subst (λ (k : ℕ). Encodes k t.front) back t.is;
+        left_fits = back_bytes t.front a.0.1 (subst AreBytes t.split fits) })
 
 pub gap_again : (low high : ℕ) (front left : List ℕ) → high + 2 ≤ low → Encodes (low - (high + 2)) front
     → gap_at low (front ++ left) ≡ Ok (high, left)
@@ -81,7 +83,8 @@ below_takes (suc count) low bytes left fits e =
     record {
       front = g.1.front ++ (h.1.front ++ t.front);
       ranges = (b.0.0, a.0.0) ∷ t.ranges;
-      parts = g.1.parts ∙ ap (λ (l : List ℕ). g.1.front ++ l) (h.1.parts ∙ ap (λ (l : List ℕ). h.1.front ++ l) t.parts ∙ sym (append_assoc h.1.front t.front left))
+      parts = g.1.parts ∙ ap (λ (l : List ℕ). g.1.front ++ l)
+          (h.1.parts ∙ ap (λ (l : List ℕ). h.1.front ++ l) t.parts ∙ sym (append_assoc h.1.front t.front left))
           ∙ sym (append_assoc g.1.front (h.1.front ++ t.front) left);
       len = ap suc t.len;
       below = (g.1.front, h.1.front, t.front, refl, h.0, g.0, g.1.encoded, h.1.encoded, t.below);
@@ -116,7 +119,8 @@ below_are (range ∷ ranges) n low bytes le s =
   where
     step : (n : ℕ) (bytes : List ℕ) {block others : List ℕ} → length bytes ≤ n → 0 < length bytes
         → gap_at low bytes ≡ Ok (range.1, block) → block_at range.1 block ≡ Ok (range.0, others)
-        → ((m : ℕ) → length others ≤ m → ranges_below m range.0 others ≡ ranges) → length others < length bytes → ranges_below n low bytes ≡ range ∷ ranges
+        → ((m : ℕ) → length others ≤ m → ranges_below m range.0 others ≡ ranges) → length others < length bytes
+            → ranges_below n low bytes ≡ range ∷ ranges
     step n [] le some gap block rest lt = absurd (omega arith)
     step zero (b ∷ bytes) le some gap block rest lt = absurd (omega arith)
     step (suc n) (b ∷ bytes) le some gap block rest lt =
@@ -189,7 +193,8 @@ cut_off bytes left = (take (length bytes - length left) bytes, drop (length byte
 cut_is : (bytes front left : List ℕ) → bytes ≡ front ++ left → cut_off bytes left ≡ (front, left)
 cut_is bytes front left e =
     let len : length front ≡ length (front ++ left) - length left = omega (arith, length-append front left) in
-    rw (e, take_at front left (length (front ++ left) - length left) len, drop_at front left (length (front ++ left) - length left) len) refl
+    rw (e, take_at front left (length (front ++ left) - length left) len,
+        drop_at front left (length (front ++ left) - length left) len) refl
 
 pub blocks_take : (greatest : ℕ) (bytes back left : List ℕ) → AreBytes bytes
     → blocks_at greatest bytes ≡ Ok (back, left) → TakesBlocks greatest bytes back left
@@ -264,7 +269,8 @@ acked greatest bytes fits valid =
 
 -- ---- what can't be read
 
-number_fails : {A : Type 0} (bytes : List ℕ) (e : Fault) (is_large : ℕ → Bool) (k : ℕ × List ℕ → Result A Fault) (After : ℕ → List ℕ → Type 0)
+number_fails : {A : Type 0} (bytes : List ℕ) (e : Fault) (is_large : ℕ → Bool) (k : ℕ × List ℕ → Result A Fault)
+    (After : ℕ → List ℕ → Type 0)
     → AreBytes bytes
     → ((n : ℕ) (left : List ℕ) → AreBytes left → k (n, left) ≡ Err e → After n left)
     → (varint_at bytes >>= λ n. cond (is_large n.0) (Err Malformed) (k n)) ≡ Err e → NumberStops bytes e is_large After
@@ -289,7 +295,8 @@ number_fails bytes e is_large k After fits after h = by_result (varint_at bytes)
           sym same ∙ varint_fails bytes d v,
         )
 
-number_stops : {A : Type 0} (bytes : List ℕ) (e : Fault) (is_large : ℕ → Bool) (k : ℕ × List ℕ → Result A Fault) (After : ℕ → List ℕ → Type 0)
+number_stops : {A : Type 0} (bytes : List ℕ) (e : Fault) (is_large : ℕ → Bool) (k : ℕ × List ℕ → Result A Fault)
+    (After : ℕ → List ℕ → Type 0)
     → AreBytes bytes
     → ((n : ℕ) (left : List ℕ) → AreBytes left → After n left → k (n, left) ≡ Err e)
     → NumberStops bytes e is_large After → (varint_at bytes >>= λ n. cond (is_large n.0) (Err Malformed) (k n)) ≡ Err e
@@ -307,7 +314,8 @@ number_stops bytes e is_large k After fits after (inr (inr s)) =
 
 -- a step that tests a number, and what follows it
 tested : {A : Type 0} (r : Result (ℕ × List ℕ) Fault) (is_large : ℕ → Bool) (f : ℕ → ℕ) (k : ℕ × List ℕ → Result A Fault)
-    → ((r >>= λ n. cond (is_large n.0) (Err Malformed) (Ok (f n.0, n.1))) >>= k) ≡ (r >>= λ n. cond (is_large n.0) (Err Malformed) (k (f n.0, n.1)))
+    → ((r >>= λ n. cond (is_large n.0) (Err Malformed) (Ok (f n.0, n.1))) >>= k)
+        ≡ (r >>= λ n. cond (is_large n.0) (Err Malformed) (k (f n.0, n.1)))
 tested (Err e) is_large f k = refl
 tested (Ok x) is_large f k = by_test (is_large x.0)
   where
@@ -373,7 +381,8 @@ pub blocks_fail : (greatest : ℕ) (bytes : List ℕ) (e : Fault) → AreBytes b
 unfolding blocks_at
 blocks_fail greatest bytes e fits h =
     number_fails bytes e (λ count. false) (λ count. after_blocks count.0 greatest count.1 >>= cut_all count.1) _ fits
-    (λ count left left_fits g. ranges_fail count greatest left e left_fits (mapped_err (after_blocks count greatest left) (cut_off left) e g)) h
+    (λ count left left_fits g. ranges_fail count greatest left e left_fits
+        (mapped_err (after_blocks count greatest left) (cut_off left) e g)) h
 
 pub blocks_stop : (greatest : ℕ) (bytes : List ℕ) (e : Fault) → AreBytes bytes → BlocksStop greatest bytes e
     → blocks_at greatest bytes ≡ failure e

@@ -107,7 +107,8 @@ one_counted : (count total n more count' total' : ℕ) → more ≡ size n → c
     → (ns : List ℕ) → AreCounted count total ns → AreCounted count' total' (ns ++ n ∷ [])
 one_counted count total n more count' total' more_is c t ns a = record {
   many = let many = a.many in omega (arith, c, many, length-append ns (n ∷ []));
-  long = let long = a.long in omega (arith, t, long, more_is, ap length (all_short-last ns n), length-append (shortest_varints ns) (shortest_varint n), length-short n);
+  long = let long = a.long in omega (arith, t, long, more_is, ap length (all_short-last ns n),
+      length-append (shortest_varints ns) (shortest_varint n), length-short n);
 }
 
 same_counted : (count total count' total' : ℕ) → count' ≡ count + 0 → total' ≡ total + 0 → (ns : List ℕ)
@@ -144,15 +145,18 @@ ones_counted (suc k) [] count total count' total' ns fits le ones c t r = absurd
 ones_counted (suc k) (n ∷ rest) count total count' total' ns fits le ones c t r =
     let lt : n < 64 = ones 0 (omega arith) in
     let next =
-        read_more (AreCounted count total) (AreCounted (count + 1) (total + 1)) (n ∷ rest) ns n rest fits r (one_at n rest lt) (one_counted count total n 1 (count + 1) (total + 1) (sym (one_size n lt)) refl refl) in
-    ones_counted k rest (count + 1) (total + 1) count' total' ns (after_fits (n ∷ rest) n rest fits (one_at n rest lt)) (omega (arith, le)) (λ i i_lt. ones (suc i) (omega (arith, i_lt))) (omega (arith, c)) (omega (arith, t)) next
+        read_more (AreCounted count total) (AreCounted (count + 1) (total + 1)) (n ∷ rest) ns n rest fits r
+            (one_at n rest lt) (one_counted count total n 1 (count + 1) (total + 1) (sym (one_size n lt)) refl refl) in
+    ones_counted k rest (count + 1) (total + 1) count' total' ns (after_fits (n ∷ rest) n rest fits (one_at n rest lt))
+        (omega (arith, le)) (λ i i_lt. ones (suc i) (omega (arith, i_lt))) (omega (arith, c)) (omega (arith, t)) next
 
 -- one more, of any width
 pub more_counted : (rest : List ℕ) (count total n more count' total' : ℕ) (after ns : List ℕ) → AreBytes rest
     → varint_at rest ≡ Ok (n, after) → more ≡ size n → count' ≡ count + 1 → total' ≡ total + more
     → ReadSome (AreCounted count total) rest ns → ReadSome (AreCounted count' total') after ns
 more_counted rest count total n more count' total' after ns fits e more_is c t r =
-    read_more (AreCounted count total) (AreCounted count' total') rest ns n after fits r e (one_counted count total n more count' total' more_is c t)
+    read_more (AreCounted count total) (AreCounted count' total') rest ns n after fits r e
+        (one_counted count total n more count' total' more_is c t)
 
 -- the shortest encoding is no longer than the one that was read
 pub after_least : (rest : List ℕ) (n : ℕ) (after : List ℕ) → AreBytes rest → varint_at rest ≡ Ok (n, after)
@@ -167,7 +171,8 @@ longer_at ns i total more lt more_is e =
     let next : i + 1 ≡ suc i = omega arith in
     let parts : shortest_varints (take (i + 1) ns) ≡ shortest_varints (take i ns) ++ shortest_varint (get_or ns i 0) =
         ap (λ (k : ℕ). shortest_varints (take k ns)) next ∙ all_short-at ns i lt in
-    omega (arith, e, more_is, ap length parts, length-append (shortest_varints (take i ns)) (shortest_varint (get_or ns i 0)), length-short (get_or ns i 0))
+    omega (arith, e, more_is, ap length parts, length-append (shortest_varints (take i ns))
+        (shortest_varint (get_or ns i 0)), length-short (get_or ns i 0))
 
 -- bytes that are as long as the shortest encodings are these
 pub short_already : (ns bytes : List ℕ) → AreEncoded ns bytes
@@ -177,7 +182,8 @@ short_already (n ∷ ns) bytes s =
     let first = short_least n s.0 s.3 in
     let others = short_already ns s.1 s.4 in
     let parts : length bytes ≡ length s.0 + length s.1 = ap length s.2 ∙ length-append s.0 s.1 in
-    let wanted : length (shortest_varints (n ∷ ns)) ≡ length (shortest_varint n) + length (shortest_varints ns) = length-append (shortest_varint n) (shortest_varints ns) in (
+    let wanted : length (shortest_varints (n ∷ ns)) ≡ length (shortest_varint n)
+        + length (shortest_varints ns) = length-append (shortest_varint n) (shortest_varints ns) in (
       omega (arith, first.0, others.0, parts, wanted),
       λ same.
           s.2 ∙ ap (λ (l : List ℕ). l ++ s.1) (first.1 (omega (arith, same, parts, wanted, first.0, others.0)))
@@ -192,13 +198,15 @@ pub wrote_one : {E : Type 0} (r : Result (Unit {0}) E) (n : ℕ) (w w1 w2 : List
     → Writes r (shortest_varint n) w1 s1 w2 s2 → r ≡ Ok tt → (ns : List ℕ) → WroteThem w s w1 s1 ns
     → WroteThem w s w2 s2 (ns ++ n ∷ [])
 wrote_one r n w w1 w2 s s1 s2 x ok ns so_far =
-    subst (λ (l : List ℕ). Wrote l w s w2 s2) (sym (all_short-last ns n)) (wrote_more r (shortest_varints ns) (shortest_varint n) w w1 w2 s s1 s2 so_far x ok)
+    subst (λ (l : List ℕ). Wrote l w s w2 s2) (sym (all_short-last ns n))
+        (wrote_more r (shortest_varints ns) (shortest_varint n) w w1 w2 s s1 s2 so_far x ok)
 
 pub wrote_them : {E : Type 0} (ns w w1 : List ℕ) (s s1 : ℕ) → WroteThem w s w1 s1 ns
     → Writes {E = E} (Ok tt) (shortest_varints ns) w s w1 s1
 wrote_them ns w w1 s s1 x = record { ok = x.stands; err = tt; full = tt; room = x.room }
 
-pub refused_one : {D E : Type 0} (r : Result (Unit {0}) E) (refused : Result (Unit {0}) D) (d : D) (error : E) (rest ns : List ℕ) (n : ℕ) (after : List ℕ) (w w1 w2 : List ℕ) (s s1 s2 : ℕ)
+pub refused_one : {D E : Type 0} (r : Result (Unit {0}) E) (refused : Result (Unit {0}) D) (d : D) (error : E)
+    (rest ns : List ℕ) (n : ℕ) (after : List ℕ) (w w1 w2 : List ℕ) (s s1 s2 : ℕ)
     → AreBytes rest → ReadSome (WroteThem w s w1 s1) rest ns → varint_at rest ≡ Ok (n, after)
     → Writes r (shortest_varint n) w1 s1 w2 s2 → r ≡ Err error → refused ≡ Err d
     → Writes refused (shortest_varints ns) w s w2 s2
@@ -207,4 +215,5 @@ refused_one r refused d error rest ns n after w w1 w2 s s1 s2 fits x e y is was 
     let parts : shortest_varints ns ≡ shortest_varints x.before ++ (shortest_varint n ++ shortest_varints next.others) =
         ap shortest_varints (x.are ∙ ap (λ (l : List ℕ). x.before ++ l) next.are)
         ∙ all_short-append x.before (n ∷ next.others) in
-    writes_within r refused d (shortest_varints x.before) (shortest_varint n) (shortest_varints next.others) (shortest_varints ns) w w1 w2 s s1 s2 error parts x.holds y is was
+    writes_within r refused d (shortest_varints x.before) (shortest_varint n) (shortest_varints next.others)
+        (shortest_varints ns) w w1 w2 s s1 s2 error parts x.holds y is was

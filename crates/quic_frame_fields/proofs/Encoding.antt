@@ -39,28 +39,33 @@ unfolding shortest_frame
 token_parts last bytes = counted (0x07 ∷ []) bytes (length bytes)
 
 pub crypto_parts : (last : Bool) (offset : ℕ) (bytes : List ℕ)
-    → shortest_frame last (frame_of Crypto (Number offset ∷ Bytes bytes ∷ [])) ≡ shortest_varints (0x06 ∷ offset ∷ length bytes ∷ []) ++ bytes
+    → shortest_frame last (frame_of Crypto (Number offset ∷ Bytes bytes ∷ []))
+        ≡ shortest_varints (0x06 ∷ offset ∷ length bytes ∷ []) ++ bytes
 unfolding shortest_frame
 crypto_parts last offset bytes = counted (0x06 ∷ offset ∷ []) bytes (length bytes)
 
 pub connection_close_parts : (last : Bool) (code ty : ℕ) (bytes : List ℕ)
-    → shortest_frame last (frame_of ConnectionClose (Number code ∷ Number ty ∷ Bytes bytes ∷ [])) ≡ shortest_varints (0x1c ∷ code ∷ ty ∷ length bytes ∷ []) ++ bytes
+    → shortest_frame last (frame_of ConnectionClose (Number code ∷ Number ty ∷ Bytes bytes ∷ []))
+        ≡ shortest_varints (0x1c ∷ code ∷ ty ∷ length bytes ∷ []) ++ bytes
 unfolding shortest_frame
 connection_close_parts last code ty bytes = counted (0x1c ∷ code ∷ ty ∷ []) bytes (length bytes)
 
 pub application_close_parts : (last : Bool) (code : ℕ) (bytes : List ℕ)
-    → shortest_frame last (frame_of ApplicationClose (Number code ∷ Bytes bytes ∷ [])) ≡ shortest_varints (0x1d ∷ code ∷ length bytes ∷ []) ++ bytes
+    → shortest_frame last (frame_of ApplicationClose (Number code ∷ Bytes bytes ∷ []))
+        ≡ shortest_varints (0x1d ∷ code ∷ length bytes ∷ []) ++ bytes
 unfolding shortest_frame
 application_close_parts last code bytes = counted (0x1d ∷ code ∷ []) bytes (length bytes)
 
 pub id_parts : (last : Bool) (sequence retire : ℕ) (id token : List ℕ)
-    → shortest_frame last (frame_of NewConnectionId (Number sequence ∷ Number retire ∷ Bytes id ∷ Bytes token ∷ [])) ≡ shortest_varints (0x18 ∷ sequence ∷ retire ∷ []) ++ ((length id ∷ id) ++ token)
+    → shortest_frame last (frame_of NewConnectionId (Number sequence ∷ Number retire ∷ Bytes id ∷ Bytes token ∷ []))
+        ≡ shortest_varints (0x18 ∷ sequence ∷ retire ∷ []) ++ ((length id ∷ id) ++ token)
 unfolding shortest_frame
 id_parts last sequence retire id token =
     in_front (0x18 ∷ sequence ∷ retire ∷ []) ((length id ∷ id) ++ (token ++ []))
     ∙ ap (λ (k : List ℕ). shortest_varints (0x18 ∷ sequence ∷ retire ∷ []) ++ ((length id ∷ id) ++ k)) (append-nil token)
 
-pub datagram_counted : (bytes : List ℕ) → shortest_frame false (frame_of Datagram (Bytes bytes ∷ [])) ≡ shortest_varints (0x31 ∷ length bytes ∷ []) ++ bytes
+pub datagram_counted : (bytes : List ℕ) → shortest_frame false (frame_of Datagram (Bytes bytes ∷ []))
+    ≡ shortest_varints (0x31 ∷ length bytes ∷ []) ++ bytes
 unfolding shortest_frame
 datagram_counted bytes = counted (0x31 ∷ []) bytes (length bytes)
 
@@ -110,7 +115,8 @@ fits room least n total reason e le =
 
 pub connection_close_fits : (last : Bool) (room code ty : ℕ) (reason : List ℕ)
     → 1 + max 2 (size code) + size ty + size (length reason) ≤ room
-    → length (shortest_frame last (frame_of ConnectionClose (Number code ∷ Number ty ∷ Bytes (take (room - (1 + max 2 (size code) + size ty + size (length reason))) reason) ∷ []))) ≤ room
+    → length (shortest_frame last (frame_of ConnectionClose (Number code ∷ Number ty
+        ∷ Bytes (take (room - (1 + max 2 (size code) + size ty + size (length reason))) reason) ∷ []))) ≤ room
 unfolding size
 connection_close_fits last room code ty reason le =
     let least = 1 + max 2 (size code) + size ty + size (length reason) in
@@ -129,7 +135,8 @@ connection_close_fits last room code ty reason le =
 
 pub application_close_fits : (last : Bool) (room code : ℕ) (reason : List ℕ)
     → 1 + max 2 (size code) + size (length reason) ≤ room
-    → length (shortest_frame last (frame_of ApplicationClose (Number code ∷ Bytes (take (room - (1 + max 2 (size code) + size (length reason))) reason) ∷ []))) ≤ room
+    → length (shortest_frame last (frame_of ApplicationClose
+        (Number code ∷ Bytes (take (room - (1 + max 2 (size code) + size (length reason))) reason) ∷ []))) ≤ room
 unfolding size
 application_close_fits last room code reason le =
     let least = 1 + max 2 (size code) + size (length reason) in
@@ -150,9 +157,11 @@ close_fits last room (closes.Connection c) le =
     connection_close_fits last room c.error_code (type_or_zero c.frame_type) c.reason.now le
 close_fits last room (closes.Application c) le = application_close_fits last room c.error_code c.reason.now le
 
-pub datagram_counted_length : (bytes : List ℕ) → length (shortest_frame false (frame_of Datagram (Bytes bytes ∷ []))) ≡ length (shortest_varints (0x31 ∷ length bytes ∷ [])) + length bytes
+pub datagram_counted_length : (bytes : List ℕ) → length (shortest_frame false (frame_of Datagram (Bytes bytes ∷ [])))
+    ≡ length (shortest_varints (0x31 ∷ length bytes ∷ [])) + length bytes
 datagram_counted_length bytes =
     ap length (datagram_counted bytes) ∙ length-append (shortest_varints (0x31 ∷ length bytes ∷ [])) bytes
 
-pub datagram_open_length : (bytes : List ℕ) → length (shortest_frame true (frame_of Datagram (Bytes bytes ∷ []))) ≡ length (shortest_varints (0x30 ∷ [])) + length bytes
+pub datagram_open_length : (bytes : List ℕ) → length (shortest_frame true (frame_of Datagram (Bytes bytes ∷ [])))
+    ≡ length (shortest_varints (0x30 ∷ [])) + length bytes
 datagram_open_length bytes = ap length (datagram_open bytes) ∙ length-append (shortest_varints (0x30 ∷ [])) bytes

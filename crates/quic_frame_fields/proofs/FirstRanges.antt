@@ -51,7 +51,8 @@ short_step greatest n m rest one two le =
     let gap : gap_at (greatest - n) (m ∷ rest) ≡ Ok (greatest - (n + (m + 2)), rest) =
         rw (← all) (short_gap (greatest - n) m rest two (omega arith)) in
     let some : 0 < length (m ∷ rest) = omega arith in
-    block_and_gap greatest (greatest - n) (greatest - (n + (m + 2))) (n ∷ m ∷ rest) (m ∷ rest) rest (short_block greatest n (m ∷ rest) one (omega arith)) some gap
+    block_and_gap greatest (greatest - n) (greatest - (n + (m + 2))) (n ∷ m ∷ rest) (m ∷ rest) rest
+        (short_block greatest n (m ∷ rest) one (omega arith)) some gap
 
 -- ---- what the step says
 
@@ -91,7 +92,8 @@ splits_next greatest bytes least rest next others fits h g =
     let parts : bytes ≡ (b.1.front ++ t.1.front) ++ others =
         b.1.parts ∙ ap (λ (l : List ℕ). b.1.front ++ l) t.1.parts ∙ sym (append_assoc b.1.front t.1.front others) in
     let both =
-        λ (valid : IsBlocks greatest bytes). first_and_next greatest bytes least rest (next, others) (first_of greatest bytes least rest fits valid h) g in
+        λ (valid : IsBlocks greatest bytes). first_and_next greatest bytes least rest (next, others)
+            (first_of greatest bytes least rest fits valid h) g in
     record {
       bound = b.0;
       shorter = omega (arith, one, two);
@@ -109,10 +111,12 @@ splits_first greatest bytes x fits e =
   where
     by_rest : (least : ℕ) (rest : List ℕ) → block_at greatest bytes ≡ Ok (least, rest) → next_range_at least rest ≡ Ok x
         → SplitsFirst greatest bytes x.0 x.1 x.2
-    by_rest least [] h n = subst (λ (y : ℕ × ℕ × List ℕ). SplitsFirst greatest bytes y.0 y.1 y.2) (ok_is (least, 0, []) x n) (splits_last greatest bytes least fits h)
+    by_rest least [] h n = subst (λ (y : ℕ × ℕ × List ℕ). SplitsFirst greatest bytes y.0 y.1 y.2)
+        (ok_is (least, 0, []) x n) (splits_last greatest bytes least fits h)
     by_rest least (c ∷ rest) h n =
         let g = bind_ok (gap_at least (c ∷ rest)) (λ gap. Ok (least, gap.0, gap.1)) x n in
-        subst (λ (y : ℕ × ℕ × List ℕ). SplitsFirst greatest bytes y.0 y.1 y.2) (ok_is (least, g.0.0, g.0.1) x g.2) (splits_next greatest bytes least (c ∷ rest) g.0.0 g.0.1 fits h g.1)
+        subst (λ (y : ℕ × ℕ × List ℕ). SplitsFirst greatest bytes y.0 y.1 y.2) (ok_is (least, g.0.0, g.0.1) x g.2)
+            (splits_next greatest bytes least (c ∷ rest) g.0.0 g.0.1 fits h g.1)
 
 -- What is known where none does.
 pub record IsRefused (greatest : ℕ) (bytes : List ℕ) (e : Fault) : Type 0 where
@@ -125,7 +129,8 @@ pub none_first : (greatest : ℕ) (bytes : List ℕ) (e : Fault) → AreBytes by
 unfolding first_range_at
 none_first greatest bytes e fits h =
     elim (bind_err (block_at greatest bytes) (λ block. next_range_at block.0 block.1) e h) [
-      | inl b ↦ record { reason = block_reason greatest bytes e b; refused = first_stops greatest bytes e fits b; taken = λ valid. has_first greatest bytes e fits valid b }
+      | inl b ↦ record { reason = block_reason greatest bytes e b; refused = first_stops greatest bytes e fits b;
+          taken = λ valid. has_first greatest bytes e fits valid b }
       | inr g ↦ by_rest g.0.0 g.0.1 g.1 g.2
     ]
   where

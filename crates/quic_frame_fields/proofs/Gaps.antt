@@ -14,7 +14,8 @@ after_gap count high (Ok b) = refl
 after_gap count high (Err e) = refl
 
 from_gap : (count : ℕ) (gap : Result (ℕ × List ℕ) Fault)
-    → (gap >>= λ g. block_at g.0 g.1 >>= λ b. below_at count b.0 b.1) ≡ ((gap >>= λ g. block_at g.0 g.1 >>= λ b. Ok (as_range g.0 b)) >>= λ r. below_at count r.0.0 r.1)
+    → (gap >>= λ g. block_at g.0 g.1 >>= λ b. below_at count b.0 b.1)
+        ≡ ((gap >>= λ g. block_at g.0 g.1 >>= λ b. Ok (as_range g.0 b)) >>= λ r. below_at count r.0.0 r.1)
 from_gap count (Ok g) = after_gap count g.0 (block_at g.0 g.1)
 from_gap count (Err e) = refl
 

@@ -59,7 +59,8 @@ pub record HeldParts (a : Ack) : Type 0 where
   pub encoded : AreEncoded numbers a.additional.now
   pub many : length numbers / 2 ≡ length (ranges_acked a) - 1
   pub numeric : AreNumeric (header_numbers a)
-  pub parts : (last : Bool) → shortest_frame last (ack_meaning a) ≡ shortest_varints (header_numbers a) ++ (shortest_varints numbers ++ shortest_varints (count_numbers a.ecn))
+  pub parts : (last : Bool) → shortest_frame last (ack_meaning a) ≡ shortest_varints (header_numbers a)
+      ++ (shortest_varints numbers ++ shortest_varints (count_numbers a.ecn))
 
 pub held_parts : (a : Ack) → AreBytes a.additional.now → IsAckInRange a → HeldParts a
 held_parts a fits q =
@@ -77,7 +78,8 @@ held_parts a fits q =
       numeric = (small_type a.ecn, (q.0.0, (q.0.1.0, (omega (arith, count, few, ends, ordered, q.0.0), tt))));
       parts = λ last.
           rw (b.are, others, below_short b.range.0 b.ranges) (ack_parts last a.largest a.delay b.range b.ranges a.ecn
-          ∙ moved (ack_type a.ecn ∷ a.largest ∷ a.delay ∷ length b.ranges ∷ []) (b.range.1 - b.range.0) (shortest_below b.range.0 b.ranges) (shortest_varints (count_numbers a.ecn)));
+          ∙ moved (ack_type a.ecn ∷ a.largest ∷ a.delay ∷ length b.ranges ∷ []) (b.range.1 - b.range.0)
+              (shortest_below b.range.0 b.ranges) (shortest_varints (count_numbers a.ecn)));
     }
 
 -- how many ranges are below the first, by how many numbers were counted
@@ -89,11 +91,13 @@ held_many a h encoded count is counted =
 -- the same of a header and counts that were computed
 pub held_whole : (a : Ack) (h : HeldParts a) (last : Bool) (header : List ℕ) (counts : Option EcnCounts)
     → header ≡ header_numbers a → counts ≡ a.ecn
-    → shortest_frame last (ack_meaning a) ≡ shortest_varints header ++ (shortest_varints h.numbers ++ shortest_varints (count_numbers counts))
+    → shortest_frame last (ack_meaning a) ≡ shortest_varints header
+        ++ (shortest_varints h.numbers ++ shortest_varints (count_numbers counts))
 held_whole a h last header counts header_is counts_are =
     h.parts last
     ∙ ap (λ (l : List ℕ). shortest_varints l ++ (shortest_varints h.numbers ++ shortest_varints (count_numbers a.ecn))) (sym header_is)
-    ∙ ap (λ (k : Option EcnCounts). shortest_varints header ++ (shortest_varints h.numbers ++ shortest_varints (count_numbers k))) (sym counts_are)
+    ∙ ap (λ (k : Option EcnCounts). shortest_varints header ++ (shortest_varints h.numbers
+        ++ shortest_varints (count_numbers k))) (sym counts_are)
 
 pub held_length : (a : Ack) (h : HeldParts a) (last : Bool) (header : List ℕ) (counts : Option EcnCounts) (first second third : ℕ)
     → header ≡ header_numbers a → counts ≡ a.ecn → first ≡ length (shortest_varints header)

@@ -83,7 +83,8 @@ StoredThem at old end new ns = Stores (shortest_varints ns) at old end new
 pub stored_one : (n at place end : ℕ) (old one new : List ℕ) → Stores (shortest_varint n) place one end new
     → (ns : List ℕ) → StoredThem at old place one ns → StoredThem at old end new (ns ++ n ∷ [])
 stored_one n at place end old one new x ns so_far =
-    subst (λ (l : List ℕ). Stores l at old end new) (sym (all_short-last ns n)) (stores_more (shortest_varints ns) (shortest_varint n) old one new at place end so_far x)
+    subst (λ (l : List ℕ). Stores l at old end new) (sym (all_short-last ns n))
+        (stores_more (shortest_varints ns) (shortest_varint n) old one new at place end so_far x)
 
 -- the next number has room
 pub room_for_one : (encoded rest after old one : List ℕ) (n len at place : ℕ) → AreBytes rest
@@ -98,4 +99,6 @@ room_for_one encoded rest after old one n len at place fits s read e =
         ∙ all_short-append r.before (n ∷ next.others) in
     let long = s.long s.numbers s.encodes in
     let so_far = r.holds.count in
-    omega (arith, long, so_far, ap length parts, length-append (shortest_varints r.before) (shortest_varint n ++ shortest_varints next.others), length-append (shortest_varint n) (shortest_varints next.others))
+    omega (arith, long, so_far, ap length parts, length-append (shortest_varints r.before)
+        (shortest_varint n ++ shortest_varints next.others),
+        length-append (shortest_varint n) (shortest_varints next.others))

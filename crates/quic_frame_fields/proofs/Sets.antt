@@ -178,7 +178,8 @@ bounded runs whole run e h all =
     let maximal : IsMaximalRuns (runs ++ run ∷ []) = subst IsMaximalRuns e h in
     let apart : AreApart (ends_of run ∷ ranges_in runs) = subst AreApart ranges (are_apart whole h) in
     let first : IsGreatest whole (greatest_in (ends_of run ∷ ranges_in runs)) =
-    greatest_first whole (ends_of run ∷ ranges_in runs) (omega arith) apart (λ n. ap (λ (l : List (ℕ × ℕ)). is_in l n) (sym ranges) ∙ are_members whole n h) in
+    greatest_first whole (ends_of run ∷ ranges_in runs) (omega arith) apart
+        (λ n. ap (λ (l : List (ℕ × ℕ)). is_in l n) (sym ranges) ∙ are_members whole n h) in
     let some = (before_last 0 runs run maximal).1 in
     let greatest : run.end - 1 < 2 ^ 62 = all (run.end - 1) first.present in
     let few = few_below (ends_of run) (ranges_in runs) apart in

@@ -7,7 +7,8 @@ use Rattle.quic_frame_fields.proofs.UncountedBlocks.{is_blocks, are_left, first_
 
 pub short_first : (greatest n m : ℕ) (rest bytes : List ℕ) → AreBytes bytes → 0 < length bytes
     → blocks_left greatest bytes ≡ Ok [] → bytes ≡ n ∷ m ∷ rest → n < 64 → m < 64 → n + (m + 2) ≤ greatest
-    → (ranges_of greatest bytes ≡ (greatest - n, greatest) ∷ ranges_of (greatest - (n + (m + 2))) rest) × (blocks_left (greatest - (n + (m + 2))) rest ≡ Ok [])
+    → (ranges_of greatest bytes ≡ (greatest - n, greatest) ∷ ranges_of (greatest - (n + (m + 2))) rest)
+        × (blocks_left (greatest - (n + (m + 2))) rest ≡ Ok [])
 short_first greatest n m rest bytes fits some left front one two le =
     let valid = is_blocks greatest bytes some left in
     let block : block_at greatest bytes ≡ Ok (greatest - n, m ∷ rest) =

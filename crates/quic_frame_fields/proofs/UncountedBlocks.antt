@@ -113,7 +113,8 @@ goes_on : (pairs low : ℕ) (bytes left : List ℕ) → below_at pairs low bytes
 unfolding below_at
 goes_on zero low bytes left e = record {
   low_left = low;
-  same = λ more. let n : 0 + more ≡ more = omega arith in ap (λ (k : ℕ). below_at k low bytes) n ∙ ap (below_at more low) (ok_is bytes left e);
+  same = λ more. let n : 0 + more ≡ more = omega arith in ap (λ (k : ℕ). below_at k low bytes) n
+      ∙ ap (below_at more low) (ok_is bytes left e);
 }
 goes_on (suc pairs) low bytes left e =
     let a =
@@ -160,7 +161,8 @@ no_blocks_here : (greatest low : ℕ) (ranges : List (ℕ × ℕ)) (bytes rest :
 no_blocks_here greatest low [] bytes rest e c some stops s = s
 no_blocks_here greatest low (range ∷ ranges) bytes rest e c some stops s =
     let again = ranges_again greatest range ranges bytes [] s in
-    stops_short greatest low (length ranges) bytes rest e c some stops (ap (after_blocks (length ranges) greatest) (sym (append-nil bytes)) ∙ again)
+    stops_short greatest low (length ranges) bytes rest e c some stops
+        (ap (after_blocks (length ranges) greatest) (sym (append-nil bytes)) ∙ again)
 
 stops_here : (greatest low : ℕ) (bytes rest : List ℕ) (e : Fault) → AreBytes bytes → Comes greatest bytes low rest
     → 0 < length rest → ((more : ℕ) → below_at (suc more) low rest ≡ Err e) → AreNoBlocks greatest bytes e
@@ -205,7 +207,8 @@ first_stops greatest bytes e fits h = record {
 -- What the first block of some blocks says, and whether a gap and other blocks follow it.
 pub data FirstOf (greatest : ℕ) (bytes : List ℕ) (least : ℕ) (rest : List ℕ) : Type 0 where
   Last : rest ≡ [] → ranges_of greatest bytes ≡ (least, greatest) ∷ [] → FirstOf greatest bytes least rest
-  Next : (next : ℕ) (others : List ℕ) → gap_at least rest ≡ Ok (next, others) → IsBlocks next others → 0 < length others → ranges_of greatest bytes ≡ (least, greatest) ∷ ranges_of next others → FirstOf greatest bytes least rest
+  Next : (next : ℕ) (others : List ℕ) → gap_at least rest ≡ Ok (next, others) → IsBlocks next others → 0 < length others
+      → ranges_of greatest bytes ≡ (least, greatest) ∷ ranges_of next others → FirstOf greatest bytes least rest
 
 first_in : (greatest : ℕ) (range : ℕ × ℕ) (ranges : List (ℕ × ℕ)) (bytes : List ℕ) (least : ℕ) (rest : List ℕ)
     → AreBytes bytes → AreBlocks greatest (range ∷ ranges) bytes → block_at greatest bytes ≡ Ok (least, rest)
@@ -241,7 +244,8 @@ first_in greatest range (next ∷ ranges) bytes least rest fits s e =
     let count : length (ranges_of next.1 others) - 1 ≡ length ranges = omega (arith, ap length later) in
     let bounds : (range.0, range.1) ≡ (least, greatest) =
         ap (λ (p : ℕ). (p, range.1)) low_is ∙ ap (λ (q : ℕ). (least, q)) s.3 in
-    Next next.1 others (subst (λ (p : ℕ × List ℕ). gap_at p.0 p.1 ≡ Ok (next.1, others)) here gap) (ap (λ (k : ℕ). after_blocks k next.1 others) count ∙ whole)
+    Next next.1 others (subst (λ (p : ℕ × List ℕ). gap_at p.0 p.1 ≡ Ok (next.1, others)) here gap)
+        (ap (λ (k : ℕ). after_blocks k next.1 others) count ∙ whole)
     (omega (arith, length-append b.1 b.2, varint_some (next.1 - next.0) b.1 b.7))
     (all ∙ ap (λ (r : ℕ × ℕ). r ∷ next ∷ ranges) bounds ∙ ap (λ (l : List (ℕ × ℕ)). (least, greatest) ∷ l) (sym later))
 
@@ -304,7 +308,8 @@ pub first_and_next : (greatest : ℕ) (bytes : List ℕ) (least : ℕ) (rest : L
     → (ranges_of greatest bytes ≡ (least, greatest) ∷ ranges_of x.0 x.1) × IsBlocks x.0 x.1
 first_and_next greatest bytes least rest x (Last none ranges) e = absurd (no_gap least x rest (ap length none) e)
 first_and_next greatest bytes least rest x (Next next others gap valid some ranges) e =
-    subst (λ (p : ℕ × List ℕ). (ranges_of greatest bytes ≡ (least, greatest) ∷ ranges_of p.0 p.1) × IsBlocks p.0 p.1) (ok_is (next, others) x (sym gap ∙ e)) (ranges, valid)
+    subst (λ (p : ℕ × List ℕ). (ranges_of greatest bytes ≡ (least, greatest) ∷ ranges_of p.0 p.1) × IsBlocks p.0 p.1)
+        (ok_is (next, others) x (sym gap ∙ e)) (ranges, valid)
 
 pub has_next : (greatest : ℕ) (bytes : List ℕ) (least : ℕ) (rest : List ℕ) (e : Fault)
     → FirstOf greatest bytes least rest → 0 < length rest → gap_at least rest ≡ Err e → ⊥

@@ -63,13 +63,15 @@ wide_read low n m front middle after sixteen fits one two le = λ count rest som
     let t = varint_takes front n middle fits one in
     let fits_middle = back_bytes t.front middle (subst AreBytes t.split fits) in
     let range =
-        range_of_two low n m (front ++ rest) (middle ++ rest) (after ++ rest) (read_longer n front middle rest fits one) (read_longer m middle after rest fits_middle two) le in
+        range_of_two low n m (front ++ rest) (middle ++ rest) (after ++ rest) (read_longer n front middle rest fits one)
+            (read_longer m middle after rest fits_middle two) le in
     let k : count ≡ suc (count - 1) = omega arith in
     let read : below_at (suc (count - 1)) low (front ++ rest) ≡ below_at (count - 1) (low - (n + 2 + m)) (after ++ rest) =
         rw (by_range (count - 1) low (front ++ rest), range) refl in
     let left = (behind_two n m front middle after fits one two).1 in
     ap (λ (c : ℕ). below_at c low (front ++ rest)) k ∙ read
-    ∙ ap (λ (l : List ℕ). below_at (count - 1) (low - (n + 2 + m)) (l ++ rest)) (sym left ∙ ap (λ (s : ℕ). drop (s - length after) front) sixteen)
+    ∙ ap (λ (l : List ℕ). below_at (count - 1) (low - (n + 2 + m)) (l ++ rest))
+        (sym left ∙ ap (λ (s : ℕ). drop (s - length after) front) sixteen)
 
 -- a step of the loop
 pub wide_passes : (left low least taken : ℕ) (rest front : List ℕ) (total : Result (List ℕ) Fault)

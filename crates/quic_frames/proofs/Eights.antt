@@ -25,7 +25,8 @@ too_short bytes fits none false e =
     let whole : take 8 bytes ++ drop 8 bytes ≡ bytes = take-append-drop 8 bytes in
     let front_fits : AreBytes (take 8 bytes) =
         front_bytes (take 8 bytes) (drop 8 bytes) (subst AreBytes (sym whole) fits) in
-    absurd (none (num (take 8 bytes)) (take 8 bytes) (drop 8 bytes) (sym whole) (record { bytes = front_fits; width = omega (arith, length-take 8 bytes); value = refl }))
+    absurd (none (num (take 8 bytes)) (take 8 bytes) (drop 8 bytes) (sym whole)
+        (record { bytes = front_fits; width = omega (arith, length-take 8 bytes); value = refl }))
 
 pub eight_cut : (bytes : List ℕ) → AreBytes bytes → ((n : ℕ) → NoFront (IsNumber 8 n) bytes)
     → eight_at bytes ≡ Err UnexpectedEnd

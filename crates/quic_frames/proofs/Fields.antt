@@ -26,7 +26,8 @@ unfolding bytes_at
 bytes_take n bytes front left e =
     let g = guard_ok (ltb (length bytes) n) UnexpectedEnd (take n bytes, drop n bytes) (front, left) e in
     let long : n ≤ length bytes = ltb-false _ _ g.0 in
-    subst (λ (p : List ℕ × List ℕ). TakesBytes n bytes p.0 p.1) g.1 (record { parts = sym (take-append-drop n bytes); len = omega (arith, length-take n bytes) })
+    subst (λ (p : List ℕ × List ℕ). TakesBytes n bytes p.0 p.1) g.1
+        (record { parts = sym (take-append-drop n bytes); len = omega (arith, length-take n bytes) })
 
 bytes_again : (n : ℕ) (front left : List ℕ) → length front ≡ n → bytes_at n (front ++ left) ≡ Ok (front, left)
 unfolding bytes_at
@@ -102,7 +103,8 @@ field_takes Blocks before bytes x fits e =
     let a = bind_ok (blocks_at greatest bytes) (of_ranges greatest) x e in
     let t = blocks_take greatest bytes a.0.0 a.0.1 fits a.1 in
     let are : ranges_of greatest a.0.0 ≡ t.range ∷ t.ranges = ranges_are greatest t.range t.ranges a.0.0 t.blocks in
-    subst (λ (y : List Value × List ℕ). Takes (IsField Blocks before y.0) bytes y.1) (ok_is (Ranges (ranges_of greatest a.0.0) ∷ [], a.0.1) x a.2)
+    subst (λ (y : List Value × List ℕ). Takes (IsField Blocks before y.0) bytes y.1)
+        (ok_is (Ranges (ranges_of greatest a.0.0) ∷ [], a.0.1) x a.2)
     (record {
       front = t.count_bytes ++ a.0.0;
       split = t.parts;
@@ -182,7 +184,8 @@ field_fails Uint64 before bytes e h fits =
 field_fails Bytes16 before bytes e h fits =
     (bytes_fail 16 bytes e (mapped_err (bytes_at 16 bytes) (λ x. (Bytes x.0 ∷ [], x.1)) e h), refl)
 field_fails Blocks before bytes e h fits =
-    (blocks_fail (greatest_of before) bytes e fits (mapped_err (blocks_at (greatest_of before) bytes) (λ x. (Ranges (ranges_of (greatest_of before) x.0) ∷ [], x.1)) e h), refl)
+    (blocks_fail (greatest_of before) bytes e fits (mapped_err (blocks_at (greatest_of before) bytes)
+        (λ x. (Ranges (ranges_of (greatest_of before) x.0) ∷ [], x.1)) e h), refl)
 field_fails Rest before bytes e h fits = absurd cc
 field_fails (Implied n) before bytes e h fits = absurd cc
 field_fails Ordered before bytes e h fits = (only_fault_else (is_ordered before) Malformed e _ h, refl)
@@ -215,7 +218,8 @@ pub stops_again : (field : Field) (before : List Value) (bytes : List ℕ) (e : 
     → Stops field before bytes e → field_at field before bytes ≡ Err e
 stops_again field before bytes e fits s =
     let failed =
-        err_of (field_at field before bytes) (λ x h. let t = field_takes field before bytes x fits h in s.no_front x.0 t.front x.1 t.split t.is) in
+        err_of (field_at field before bytes) (λ x h. let t = field_takes field before bytes x fits h in s.no_front x.0
+            t.front x.1 t.split t.is) in
     let why = (field_fails field before bytes failed.0 failed.1 fits).0 in
     failed.1 ∙ ap (λ (f : Fault). Err f) (same_reason field before bytes failed.0 e fits why s.why)
 

@@ -92,11 +92,13 @@ varint_shorter (b ∷ bs) n rest e = by_test (ltb (length bs) more) e
         omega (arith, ap length r, length-drop more bs)
 
 -- the parts of an ACK, as they were read
-pub reads : (a : AckParts) (largest delay : ℕ) (bytes behind_largest behind_delay additional behind_blocks left : List ℕ) (ecn : Option EcnCounts)
+pub reads : (a : AckParts) (largest delay : ℕ) (bytes behind_largest behind_delay additional behind_blocks left : List
+    ℕ) (ecn : Option EcnCounts)
     → a ≡ record { largest = largest; delay = delay; additional = additional; ecn = ecn }
     → varint_at bytes ≡ Ok (largest, behind_largest) → varint_at behind_largest ≡ Ok (delay, behind_delay)
     → blocks_at largest behind_delay ≡ Ok (additional, behind_blocks) → length left ≤ length behind_blocks
     → ReadsBlocks a bytes left
 reads a largest delay bytes behind_largest behind_delay additional behind_blocks left ecn is one two three fewer =
     subst (λ (p : AckParts). ReadsBlocks p bytes left) (sym is)
-    (record { behind_largest = behind_largest; behind_delay = behind_delay; behind_blocks = behind_blocks; largest = one; delay = two; blocks = three; fewer = fewer })
+    (record { behind_largest = behind_largest; behind_delay = behind_delay; behind_blocks = behind_blocks;
+        largest = one; delay = two; blocks = three; fewer = fewer })

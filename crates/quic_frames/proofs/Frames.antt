@@ -69,7 +69,8 @@ is_long_again : (strict : Bool) (t : ℕ) (front : List ℕ) → Encodes t front
     → is_long_type strict t (length front) ≡ true
 is_long_again false t front s l = absurd (true_is_not_false (sym l.counts))
 is_long_again true t front s l =
-    not_false (eqb (length front) (size t)) (λ h. l.long ((short_least t front s).1 (same_size (length front) (size t) h ∙ sym (length-short t))))
+    not_false (eqb (length front) (size t)) (λ h. l.long ((short_least t front s).1
+        (same_size (length front) (size t) h ∙ sym (length-short t))))
 
 -- the width of what is in front
 front_width : (bytes front back : List ℕ) → bytes ≡ front ++ back → length bytes - length back ≡ length front
@@ -87,7 +88,8 @@ unfolding row_at
 row_takes r bytes x fits e =
     let a = bind_ok (fields_at r.fields [] bytes) (λ y. Ok (record { name = r.name; values = y.0 }, y.1)) x e in
     let made : Meaning × List ℕ = (record { name = r.name; values = a.0.0 }, a.0.1) in
-    subst (λ (y : Meaning × List ℕ). TakesRow r y.0 bytes y.1) (ok_is made x a.2) (record { name = refl; fields = fields_take r.fields [] bytes a.0 fits a.1 })
+    subst (λ (y : Meaning × List ℕ). TakesRow r y.0 bytes y.1) (ok_is made x a.2)
+        (record { name = refl; fields = fields_take r.fields [] bytes a.0 fits a.1 })
 
 in_row_ok : (o : Option Row) (bytes : List ℕ) (y : Meaning × List ℕ) → in_row o bytes ≡ Ok y
     → (r : Row) × (o ≡ Some r) × (row_at r bytes ≡ Ok y)
@@ -134,7 +136,8 @@ at_type_ok strict before total (Err f) x e = absurd cc
 
 at_type_err : (strict : Bool) (before : Option ℕ) (total : ℕ) (v : Result (ℕ × List ℕ) Fault) (i : Invalid)
     → at_type strict before total v ≡ Err i
-    → ((f : Fault) × (v ≡ Err f) × (i ≡ invalid before f)) ⊎ ((y : ℕ × List ℕ) × (v ≡ Ok y) × (with_type (is_long_type strict y.0 (total - length y.1)) total y ≡ Err i))
+    → ((f : Fault) × (v ≡ Err f) × (i ≡ invalid before f)) ⊎ ((y : ℕ × List ℕ) × (v ≡ Ok y)
+        × (with_type (is_long_type strict y.0 (total - length y.1)) total y ≡ Err i))
 at_type_err strict before total (Ok y) i e = inr (y, refl, e)
 at_type_err strict before total (Err f) i e = inl (f, refl, cc)
 
@@ -195,7 +198,8 @@ found_again strict before found front back frame closed =
     let one = type_again strict before found.type frame.type_bytes (frame.field_bytes ++ back) frame.type_encoded in
     let row_closed : has_rest frame.row.fields ≡ true → back ≡ [] = λ h. closed (ap is_open_row frame.in_table ∙ h) in
     let two =
-        fields_again frame.row.fields [] found.frame.values frame.field_bytes back (row_is_well found.type frame.row frame.in_table) row_closed frame.fields in
+        fields_again frame.row.fields [] found.frame.values frame.field_bytes back
+            (row_is_well found.type frame.row frame.in_table) row_closed frame.fields in
     ap (found_at strict before) regrouped ∙ one ∙ rw (frame.in_table, two, ← frame.name) refl
 
 -- ---- an invalid frame
@@ -227,7 +231,8 @@ found_fails strict before bytes i fits some e =
                   type = Some a.0.0;
                   reason = LongType;
                   is_reported = w.1;
-                  no_frame = inr (inl (a.0.0, record { counts = l.counts; front = t.front; back = a.0.1; parts = t.split; encoded = t.is; long = l.long }, refl, refl));
+                  no_frame = inr (inl (a.0.0, record { counts = l.counts; front = t.front; back = a.0.1;
+                      parts = t.split; encoded = t.is; long = l.long }, refl, refl));
                 }
             | inr w ↦
                 let encoded = is_type strict a.0.0 t.front t.is (wide ∙ w.0) in
@@ -237,7 +242,8 @@ found_fails strict before bytes i fits some e =
                     type = Some a.0.0;
                     reason = b.0;
                     is_reported = b.2;
-                    no_frame = inr (inr (inl (a.0.0, record { front = t.front; back = a.0.1; parts = t.split; encoded = encoded; then = c.0 }, refl, c.1)));
+                    no_frame = inr (inr (inl (a.0.0, record { front = t.front; back = a.0.1; parts = t.split;
+                        encoded = encoded; then = c.0 }, refl, c.1)));
                   }
                   | inr c ↦
                       let failed =
@@ -248,7 +254,8 @@ found_fails strict before bytes i fits some e =
                         type = Some a.0.0;
                         reason = b.0;
                         is_reported = b.2;
-                        no_frame = inr (inr (inr (a.0.0, record { front = t.front; back = a.0.1; parts = t.split; encoded = encoded; then = (c.0, c.1, stops) }, refl)));
+                        no_frame = inr (inr (inr (a.0.0, record { front = t.front; back = a.0.1; parts = t.split;
+                            encoded = encoded; then = (c.0, c.1, stops) }, refl)));
                       }
                 ]
           ]

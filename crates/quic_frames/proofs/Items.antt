@@ -34,7 +34,8 @@ end_of start bytes rest = start + (length bytes - length rest)
 
 pub items_ok : (strict : Bool) (n start : ℕ) (before : Option ℕ) (bytes : List ℕ) (x : TypedFrame × List ℕ) → bytes ≢ []
     → found_at strict before bytes ≡ Ok x
-    → items_from strict (suc n) start before bytes ≡ Whole start (end_of start bytes x.1) x.0 ∷ items_from strict n (end_of start bytes x.1) (Some x.0.type) x.1
+    → items_from strict (suc n) start before bytes ≡ Whole start (end_of start bytes x.1) x.0
+        ∷ items_from strict n (end_of start bytes x.1) (Some x.0.type) x.1
 unfolding items_from
 items_ok strict n start before [] x some e = absurd (some refl)
 items_ok strict n start before (b ∷ bytes) x some e =
@@ -82,7 +83,8 @@ shorter : (strict : Bool) (before : Option ℕ) (bytes : List ℕ) (x : TypedFra
 shorter strict before bytes x fits e =
     let t = found_takes strict before bytes x fits e in
     let some = frame_some strict x.0 t.front t.frame in
-    record { less = omega (arith, ap length t.parts, length-append t.front x.1, some); fits = back_bytes t.front x.1 (subst AreBytes t.parts fits) }
+    record { less = omega (arith, ap length t.parts, length-append t.front x.1, some);
+        fits = back_bytes t.front x.1 (subst AreBytes t.parts fits) }
 
 -- as many steps as bytes are enough
 items_enough : (strict : Bool) (n m start : ℕ) (before : Option ℕ) (bytes : List ℕ) → AreBytes bytes → length bytes ≤ n
@@ -140,13 +142,15 @@ frames_give strict (p ∷ ps) (suc n) start before bytes le s =
 begins_some : (strict : Bool) (bytes : List ℕ) (t : ℕ) (P : List ℕ → Type 0) → BeginsWithType strict bytes t P
     → bytes ≢ []
 begins_some strict bytes t P u =
-    let some = varint_some t u.front u.encoded.encoded in is_some_bytes bytes (omega (arith, some, ap length u.parts, length-append u.front u.back))
+    let some = varint_some t u.front u.encoded.encoded in is_some_bytes bytes
+        (omega (arith, some, ap length u.parts, length-append u.front u.back))
 
 pub no_frame_some : (strict : Bool) (before : Option ℕ) (bytes : List ℕ) (type : Option ℕ) (reason : Fault)
     → IsNoFrame strict before bytes type reason → bytes ≢ []
 no_frame_some strict before bytes type reason (inl a) = a.0.some
 no_frame_some strict before bytes type reason (inr (inl a)) =
-    let some = varint_some a.0 a.1.front a.1.encoded in is_some_bytes bytes (omega (arith, some, ap length a.1.parts, length-append a.1.front a.1.back))
+    let some = varint_some a.0 a.1.front a.1.encoded in is_some_bytes bytes
+        (omega (arith, some, ap length a.1.parts, length-append a.1.front a.1.back))
 no_frame_some strict before bytes type reason (inr (inr (inl a))) = begins_some strict bytes a.0 _ a.1
 no_frame_some strict before bytes type reason (inr (inr (inr a))) = begins_some strict bytes a.0 _ a.1
 
@@ -180,7 +184,8 @@ broken_gives strict (p ∷ ps) (suc m) start before bytes type reason fits le s 
     let here =
         ap (found_at strict before) regrouped
         ∙ found_again strict before p f.0 left f.3 (λ opens. absurd (true_is_not_false (sym opens ∙ s.closed.0))) in
-    let others = broken_gives strict ps m (end_of start bytes left) (Some p.type) left type reason (back_bytes f.0 left (subst AreBytes regrouped fits)) (omega (arith, le, sizes, some))
+    let others = broken_gives strict ps m (end_of start bytes left) (Some p.type) left type reason
+        (back_bytes f.0 left (subst AreBytes regrouped fits)) (omega (arith, le, sizes, some))
     (record { front = f.1; back = s.back; parts = refl; frames = f.5; closed = s.closed.1; no_frame = s.no_frame }) in
     ap (map unplaced) (items_ok strict m start before bytes (p, left) (is_some_bytes bytes (omega (arith, sizes, some))) here)
     ∙ ap (λ (l : List Reported). Ok p ∷ l) others
@@ -216,7 +221,8 @@ either_in strict (suc n) before bytes fits le =
             | inr a ↦
                 let s = a.3 in
                 let not_done : x.1 ≢ [] =
-                    λ h. no_frame_some strict (last_type (Some x.0.type) a.0) s.back a.1 a.2 s.no_frame (back_is_nil s.front s.back (sym s.parts ∙ h)) in
+                    λ h. no_frame_some strict (last_type (Some x.0.type) a.0) s.back a.1 a.2 s.no_frame
+                        (back_is_nil s.front s.back (sym s.parts ∙ h)) in
                 inr (
                   x.0 ∷ a.0,
                   a.1,
@@ -233,7 +239,8 @@ either_in strict (suc n) before bytes fits le =
           ]
       | fails i some e ↦
           let reported = found_fails strict before bytes i fits some e in
-          inr ([], reported.type, reported.reason, record { front = []; back = bytes; parts = refl; frames = refl; closed = tt; no_frame = reported.no_frame })
+          inr ([], reported.type, reported.reason, record { front = []; back = bytes; parts = refl; frames = refl;
+              closed = tt; no_frame = reported.no_frame })
     ]
 
 pub is_either : (strict : Bool) (before : Option ℕ) (bytes : List ℕ) → AreBytes bytes → IsEither strict before bytes
@@ -247,7 +254,8 @@ unfolding items_of
 frames_are_items strict ps start before bytes s =
     frames_give strict ps (length bytes) start before bytes (omega arith) s
 
-pub broken_are_items : (strict : Bool) (ps : List TypedFrame) (start : ℕ) (before : Option ℕ) (bytes : List ℕ) (type : Option ℕ) (reason : Fault)
+pub broken_are_items : (strict : Bool) (ps : List TypedFrame) (start : ℕ) (before : Option ℕ) (bytes : List ℕ)
+    (type : Option ℕ) (reason : Fault)
     → AreBytes bytes → IsBroken strict before ps bytes type reason
     → map unplaced (items_of strict start before bytes) ≡ map given ps ++ Err (invalid type reason) ∷ []
 unfolding items_of
@@ -261,7 +269,8 @@ items_are_few strict start before bytes fits = items_few strict (length bytes) s
 
 pub items_found : (strict : Bool) (start : ℕ) (before : Option ℕ) (bytes : List ℕ) (x : TypedFrame × List ℕ)
     → AreBytes bytes → bytes ≢ [] → found_at strict before bytes ≡ Ok x
-    → items_of strict start before bytes ≡ Whole start (end_of start bytes x.1) x.0 ∷ items_of strict (end_of start bytes x.1) (Some x.0.type) x.1
+    → items_of strict start before bytes ≡ Whole start (end_of start bytes x.1) x.0
+        ∷ items_of strict (end_of start bytes x.1) (Some x.0.type) x.1
 unfolding items_of
 items_found strict start before bytes x fits some e =
     let less = shorter strict before bytes x fits e in
@@ -323,7 +332,8 @@ reported_differ (p ∷ ps) (q ∷ qs) i e =
 pub never_both : (strict : Bool) (ps qs : List TypedFrame) (bytes : List ℕ) (type : Option ℕ) (reason : Fault)
     → AreBytes bytes → AreFrames strict ps bytes → IsBroken strict None qs bytes type reason → ⊥
 never_both strict ps qs bytes type reason fits s t =
-    reported_differ ps qs (invalid type reason) (sym (frames_are_items strict ps 0 None bytes s) ∙ broken_are_items strict qs 0 None bytes type reason fits t)
+    reported_differ ps qs (invalid type reason) (sym (frames_are_items strict ps 0 None bytes s)
+        ∙ broken_are_items strict qs 0 None bytes type reason fits t)
 
 abbrev found_of : TypedFrame × List ℕ → Result (TypedFrame × List ℕ) Invalid
 found_of x = Ok x

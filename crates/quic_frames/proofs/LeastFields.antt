@@ -112,7 +112,8 @@ below_least low (range ∷ ranges) bytes s =
     let short_others = shortest_below range.0 ranges in (
       (s.4, s.5, (encoded_bound (low - (range.1 + 2)) s.0 s.6).0, (encoded_bound (range.1 - range.0) s.1 s.7).0, others.0),
       subst (λ (l : List ℕ). AreOrExceed l (short_gap ++ (short_block ++ short_others))) (sym s.3)
-          (both_least short_gap (short_block ++ short_others) s.0 (s.1 ++ s.2) gap.1 (both_least short_block short_others s.1 s.2 block.1 others.1)),
+          (both_least short_gap (short_block ++ short_others) s.0 (s.1 ++ s.2) gap.1
+              (both_least short_block short_others s.1 s.2 block.1 others.1)),
     )
 
 -- ---- fields
@@ -159,12 +160,16 @@ value_encoded field before value others f = absurd f
 encoded_then : (field : Field) (fields : List Field) (before : List Value) (value : Value) (values : List Value)
     → Fits field before value
     → AreFields fields (before ++ value ∷ []) ((before ++ value ∷ []) ++ values) (shortest_fields fields values)
-    → AreFields (field ∷ fields) before (before ++ value ∷ values) (shortest_of field (value ∷ values) ++ shortest_fields fields (values_after field (value ∷ values)))
+    → AreFields (field ∷ fields) before (before ++ value ∷ values)
+        (shortest_of field (value ∷ values) ++ shortest_fields fields (values_after field (value ∷ values)))
 encoded_then field fields before value values f s =
     let one = value_encoded field before value values f in
-    let others : AreFields fields (before ++ value ∷ []) (before ++ value ∷ values) (shortest_fields fields (values_after field (value ∷ values))) =
-    subst (λ (after : List Value). AreFields fields (before ++ value ∷ []) after (shortest_fields fields (values_after field (value ∷ values)))) (append_assoc before (value ∷ []) values)
-    (subst (λ (left : List Value). AreFields fields (before ++ value ∷ []) ((before ++ value ∷ []) ++ values) (shortest_fields fields left)) (sym one.1) s) in
+    let others : AreFields fields (before ++ value ∷ []) (before ++ value ∷ values)
+        (shortest_fields fields (values_after field (value ∷ values))) =
+    subst (λ (after : List Value). AreFields fields (before ++ value ∷ []) after
+        (shortest_fields fields (values_after field (value ∷ values)))) (append_assoc before (value ∷ []) values)
+    (subst (λ (left : List Value). AreFields fields (before ++ value ∷ []) ((before ++ value ∷ []) ++ values)
+        (shortest_fields fields left)) (sym one.1) s) in
     (value ∷ [], shortest_of field (value ∷ values), shortest_fields fields (values_after field (value ∷ values)), refl, one.0, others)
 
 -- The shortest encodings of fields with values that fit are encodings.
@@ -173,7 +178,8 @@ pub fields_encoded : (fields : List Field) (before values : List Value) → AllF
 fields_encoded [] before values f = (ap (λ (l : List Value). before ++ l) f ∙ append-nil before, refl)
 fields_encoded (Ordered ∷ fields) before values f =
     let others : AreFields fields (before ++ []) (before ++ values) (shortest_fields fields values) =
-    subst (λ (l : List Value). AreFields fields l (before ++ values) (shortest_fields fields values)) (sym (append-nil before)) (fields_encoded fields before values f.1) in
+    subst (λ (l : List Value). AreFields fields l (before ++ values) (shortest_fields fields values))
+        (sym (append-nil before)) (fields_encoded fields before values f.1) in
     ([], [], shortest_fields fields values, refl, (refl, refl, f.0), others)
 fields_encoded (field ∷ fields) before [] f = absurd f
 fields_encoded (field ∷ fields) before (value ∷ values) f =
@@ -196,7 +202,8 @@ field_least Counted before values others bytes s =
     subst (λ (v : List Value). LeastField Counted before v others bytes) (sym s.2)
     (record {
       fits = λ fields f. ((encoded_bound (length s.1) s.0 s.3).0, f);
-      least = subst (λ (l : List ℕ). AreOrExceed l (shortest_varint (length s.1) ++ s.1)) (sym s.4) (both_least (shortest_varint (length s.1)) s.1 s.0 s.1 a.1 (inl refl));
+      least = subst (λ (l : List ℕ). AreOrExceed l (shortest_varint (length s.1) ++ s.1)) (sym s.4)
+          (both_least (shortest_varint (length s.1)) s.1 s.0 s.1 a.1 (inl refl));
       others_left = refl;
     })
 field_least Id before values others bytes s =
@@ -222,8 +229,10 @@ field_least Blocks before values others bytes s =
     subst (λ (v : List Value). LeastField Blocks before v others bytes) (sym s.4)
     (record {
       fits = λ fields f. (((encoded_bound (length ranges) s.0 s.6).0, b.3, b.4, (encoded_bound (range.1 - range.0) b.0 b.5).0, below.0), f);
-      least = subst (λ (l : List ℕ). AreOrExceed l (short_count ++ (short_block ++ short_below))) (sym (s.5 ∙ ap (λ (l : List ℕ). s.0 ++ l) b.2))
-          (both_least short_count (short_block ++ short_below) s.0 (b.0 ++ b.1) count.1 (both_least short_block short_below b.0 b.1 block.1 below.1));
+      least = subst (λ (l : List ℕ). AreOrExceed l (short_count ++ (short_block ++ short_below)))
+          (sym (s.5 ∙ ap (λ (l : List ℕ). s.0 ++ l) b.2))
+          (both_least short_count (short_block ++ short_below) s.0 (b.0 ++ b.1) count.1
+              (both_least short_block short_below b.0 b.1 block.1 below.1));
       others_left = refl;
     })
 field_least Rest before values others bytes s =
@@ -264,5 +273,6 @@ fields_least (field ∷ fields) before after bytes s =
       values = values;
       grown = others.grown ∙ append_assoc before s.0 others.values;
       fits = one.fits fields others.fits;
-      least = subst (AreOrExceed bytes) (sym whole) (subst (λ (l : List ℕ). AreOrExceed l (first ++ second)) (sym s.3) (both_least first second s.1 s.2 one.least others.least));
+      least = subst (AreOrExceed bytes) (sym whole) (subst (λ (l : List ℕ). AreOrExceed l (first ++ second)) (sym s.3)
+          (both_least first second s.1 s.2 one.least others.least));
     }

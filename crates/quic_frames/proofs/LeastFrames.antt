@@ -83,7 +83,9 @@ record Stands (last : Bool) (t : ℕ) (r : Row) (values : List Value) (type_byte
 
 abbrev IsLeastRow : ℕ → Row → Type 0
 IsLeastRow t r =
-    (last : Bool) (values : List Value) (type_bytes field_bytes : List ℕ) → Stands last t r values type_bytes field_bytes → LeastFrame last (frame_of r.name values) (type_bytes ++ field_bytes)
+    (last : Bool) (values : List Value) (type_bytes field_bytes : List ℕ)
+        → Stands last t r values type_bytes field_bytes → LeastFrame last (frame_of r.name values)
+        (type_bytes ++ field_bytes)
 
 -- a frame that has the type by which it is written
 same_type : (last : Bool) (t : ℕ) (r : Row) (values : List Value) (type_bytes field_bytes : List ℕ)
@@ -101,8 +103,10 @@ same_type last t r values type_bytes field_bytes s e =
     ∙ ap (λ (o : Option Row). shortest_varint t ++ shortest_row o values) s.in_table in
     record {
       fits = subst (λ (u : ℕ). FitsRow last u (frame_of r.name values)) (sym e)
-          (record { small = (encoded_bound t type_bytes s.type_encoded).0; closed = s.closed; row = r; in_table = s.in_table; name = refl; fields = fits });
-      least = subst (AreOrExceed (type_bytes ++ field_bytes)) (sym whole) (both_least (shortest_varint t) (shortest_fields r.fields values) type_bytes field_bytes n.1 least);
+          (record { small = (encoded_bound t type_bytes s.type_encoded).0; closed = s.closed; row = r;
+              in_table = s.in_table; name = refl; fields = fits });
+      least = subst (AreOrExceed (type_bytes ++ field_bytes)) (sym whole)
+          (both_least (shortest_varint t) (shortest_fields r.fields values) type_bytes field_bytes n.1 least);
     }
 
 -- a type of one byte, whose frames take all that is left where they are the last
@@ -172,7 +176,8 @@ short_enough n bytes s = at_most bytes (shortest_varint n) (number_least n bytes
 better_offset : (at_start : Bool) (offset : ℕ) (bytes : List ℕ) → IsOffset at_start offset bytes
     → (offset < 2 ^ 62) × Better at_start (eqb offset 0) (least_offset (eqb offset 0) offset) bytes
 better_offset true offset bytes s =
-    (omega (arith, s.0), subst (λ (k : ℕ). Better true (eqb k 0) (least_offset (eqb k 0) k) bytes) (sym s.0) (record { no_longer = omega arith; shorter = inl refl }))
+    (omega (arith, s.0), subst (λ (k : ℕ). Better true (eqb k 0) (least_offset (eqb k 0) k) bytes) (sym s.0)
+        (record { no_longer = omega arith; shorter = inl refl }))
 better_offset false offset bytes s = ((encoded_bound offset bytes s).0, by_test (eqb offset 0))
   where
     by_test : (b : Bool) → Better false b (least_offset b offset) bytes
@@ -246,7 +251,9 @@ stream_parts at_start end fin values bytes s =
       offset_bytes = u.1;
       content_bytes = v.1;
       are = four s.0 t.0 u.0 v.0 values _ _ _ _ v.5.0 s.4.0 t.4.1 o.1 d.1;
-      parts = s.3 ∙ ap (λ (l : List ℕ). l ++ s.2) s.4.1 ∙ t.3 ∙ ap (λ (l : List ℕ). t.1 ++ l) (u.3 ∙ ap (λ (l : List ℕ). u.1 ++ l) (v.3 ∙ ap (λ (l : List ℕ). v.1 ++ l) v.5.1 ∙ append-nil v.1));
+      parts = s.3 ∙ ap (λ (l : List ℕ). l ++ s.2) s.4.1 ∙ t.3
+          ∙ ap (λ (l : List ℕ). t.1 ++ l) (u.3 ∙ ap (λ (l : List ℕ). u.1 ++ l)
+          (v.3 ∙ ap (λ (l : List ℕ). v.1 ++ l) v.5.1 ∙ append-nil v.1));
       id_is = t.4.2;
       offset_is = o.2;
       content_is = d.2;
@@ -257,7 +264,8 @@ stream_parts at_start end fin values bytes s =
     four a b c d after x y z w e p q r t = rw (e, p, q, r, t) refl
 
 stream_bytes : (at_start last fin : Bool) (id offset : ℕ) (content : List ℕ)
-    → shortest_fields (stream_row (not at_start) (not last) fin).fields (stream_values fin id offset content) ≡ shortest_varint id ++ (least_offset at_start offset ++ least_content last content)
+    → shortest_fields (stream_row (not at_start) (not last) fin).fields (stream_values fin id offset content)
+        ≡ shortest_varint id ++ (least_offset at_start offset ++ least_content last content)
 stream_bytes true true fin id offset content = ap (λ (l : List ℕ). shortest_varint id ++ l) (append-nil content)
 stream_bytes true false fin id offset content =
     ap (λ (l : List ℕ). shortest_varint id ++ l) (append-nil (shortest_varint (length content) ++ content))
@@ -282,7 +290,9 @@ pub stream_row_fits : (last fin : Bool) (id offset : ℕ) (content : List ℕ) �
     → FitsRow last (written_type last Stream (stream_values fin id offset content)) (frame_of Stream (stream_values fin id offset content))
 stream_row_fits last fin id offset content i o d =
     let start = eqb offset 0 in
-    fits_row last (stream_type start last fin) (stream_row (not start) (not last) fin) (stream_values fin id offset content) (stream_type_is start last fin) (stream_fits start last fin id offset content refl i o d)
+    fits_row last (stream_type start last fin) (stream_row (not start) (not last) fin)
+        (stream_values fin id offset content) (stream_type_is start last fin)
+        (stream_fits start last fin id offset content refl i o d)
 
 row_is : (r s : Row) → (let o : Option Row = Some r in o) ≡ Some s → r ≡ s
 row_is r s e = cc
@@ -318,21 +328,27 @@ stream_least at_start end fin last values type_bytes field_bytes s =
     let row = stream_row (not start) (not last) fin in
     let type_is : written_type last Stream values ≡ stream_type start last fin = ap (written_type last Stream) p.are in
     let fields : AllFit row.fields [] values =
-    subst (AllFit row.fields []) (sym p.are) (stream_fits start last fin p.id p.offset p.content refl (encoded_bound p.id p.id_bytes p.id_is).0 o.0 d.0) in
-    let sizes : length (shortest_fields row.fields values) ≡ length (shortest_varint p.id) + (length (least_offset start p.offset) + length (least_content last p.content)) =
+    subst (AllFit row.fields []) (sym p.are) (stream_fits start last fin p.id p.offset p.content refl
+        (encoded_bound p.id p.id_bytes p.id_is).0 o.0 d.0) in
+    let sizes : length (shortest_fields row.fields values) ≡ length (shortest_varint p.id)
+        + (length (least_offset start p.offset) + length (least_content last p.content)) =
     ap (λ (v : List Value). length (shortest_fields row.fields v)) p.are
     ∙ ap length (stream_bytes start last fin p.id p.offset p.content)
     ∙ lengths (shortest_varint p.id) (least_offset start p.offset) (least_content last p.content) in
     let stood : length field_bytes ≡ length p.id_bytes + (length p.offset_bytes + length p.content_bytes) =
         ap length p.parts ∙ lengths p.id_bytes p.offset_bytes p.content_bytes in
     let id_le = short_enough p.id p.id_bytes p.id_is in
-    let other : length (shortest_fields row.fields values) < length field_bytes → LeastFrame last (frame_of Stream values) (type_bytes ++ field_bytes) =
-    λ lt. other_type last (stream_type start last fin) row values type_bytes field_bytes type_is (stream_type_is start last fin) fields (varint_some (stream_type at_start end fin) type_bytes s.type_encoded) lt in
+    let other : length (shortest_fields row.fields values) < length field_bytes
+        → LeastFrame last (frame_of Stream values) (type_bytes ++ field_bytes) =
+    λ lt. other_type last (stream_type start last fin) row values type_bytes field_bytes type_is
+        (stream_type_is start last fin) fields (varint_some (stream_type at_start end fin) type_bytes s.type_encoded)
+        lt in
     elim o.1.shorter [
       | inr lt ↦ other (omega (arith, sizes, stood, id_le, lt, d.1.no_longer))
       | inl same ↦ elim d.1.shorter [
         | inr lt ↦ other (omega (arith, sizes, stood, id_le, lt, o.1.no_longer))
-        | inl same2 ↦ same_type last (stream_type at_start end fin) (stream_row (not at_start) (not end) fin) values type_bytes field_bytes s
+        | inl same2 ↦ same_type last (stream_type at_start end fin) (stream_row (not at_start) (not end) fin) values
+            type_bytes field_bytes s
             (type_is ∙ ap (λ (b : Bool). stream_type b last fin) (sym same) ∙ ap (λ (b : Bool). stream_type at_start b fin) (sym same2))
       ]
     ]
@@ -360,11 +376,13 @@ datagram_fits : (last : Bool) (content : List ℕ) → (last ≡ false → lengt
 datagram_fits true content d = (tt, refl)
 datagram_fits false content d = (d refl, refl)
 
-pub datagram_row_fits : (last : Bool) (content : List ℕ) → (last ≡ false → length content < 2 ^ 62) → FitsRow last (datagram_type last) (frame_of Datagram (Bytes content ∷ []))
+pub datagram_row_fits : (last : Bool) (content : List ℕ) → (last ≡ false → length content < 2 ^ 62)
+    → FitsRow last (datagram_type last) (frame_of Datagram (Bytes content ∷ []))
 datagram_row_fits last content d =
     fits_row last (datagram_type last) (datagram_row (not last)) (Bytes content ∷ []) (datagram_type_is last) (datagram_fits last content d)
 
-pub datagram_limit : (last : Bool) (content : List ℕ) → FitsRow last (datagram_type last) (frame_of Datagram (Bytes content ∷ [])) → last ≡ false → length content < 2 ^ 62
+pub datagram_limit : (last : Bool) (content : List ℕ) → FitsRow last (datagram_type last)
+    (frame_of Datagram (Bytes content ∷ [])) → last ≡ false → length content < 2 ^ 62
 datagram_limit true content f e = absurd (true_is_not_false e)
 datagram_limit false content f e = (in_row (datagram_type_is false).in_table f).0
 
@@ -429,13 +447,18 @@ a & b = (a, b)
 each_least : Each IsLeastRow rows
 each_least =
     plain refl (λ last values. refl) & plain refl (λ last values. refl) & one_type refl ack_type & one_type refl ack_ecn_type
-    & plain refl (λ last values. refl) & plain refl (λ last values. refl) & plain refl (λ last values. refl) & plain refl (λ last values. refl)
+    & plain refl (λ last values. refl) & plain refl (λ last values. refl) & plain refl (λ last values. refl) & plain
+        refl (λ last values. refl)
     & stream_least true true false & stream_least true true true & stream_least true false false & stream_least true false true
     & stream_least false true false & stream_least false true true & stream_least false false false & stream_least false false true
-    & plain refl (λ last values. refl) & plain refl (λ last values. refl) & one_type refl (max_streams_type Bi) & one_type refl (max_streams_type Uni)
-    & plain refl (λ last values. refl) & plain refl (λ last values. refl) & one_type refl (streams_blocked_type Bi) & one_type refl (streams_blocked_type Uni)
-    & plain refl (λ last values. refl) & plain refl (λ last values. refl) & plain refl (λ last values. refl) & plain refl (λ last values. refl)
-    & plain refl (λ last values. refl) & plain refl (λ last values. refl) & plain refl (λ last values. refl) & plain refl (λ last values. refl)
+    & plain refl (λ last values. refl) & plain refl (λ last values. refl) & one_type refl (max_streams_type Bi) &
+        one_type refl (max_streams_type Uni)
+    & plain refl (λ last values. refl) & plain refl (λ last values. refl) & one_type refl (streams_blocked_type Bi) &
+        one_type refl (streams_blocked_type Uni)
+    & plain refl (λ last values. refl) & plain refl (λ last values. refl) & plain refl (λ last values. refl) & plain
+        refl (λ last values. refl)
+    & plain refl (λ last values. refl) & plain refl (λ last values. refl) & plain refl (λ last values. refl) & plain
+        refl (λ last values. refl)
     & datagram_least true & datagram_least false & plain refl (λ last values. refl) & tt
 
 pub frame_least : (last : Bool) (found : TypedFrame) (bytes : List ℕ) → IsFrame false found bytes
@@ -447,4 +470,5 @@ frame_least last found bytes f closed =
     let frame_is : frame_of f.row.name found.frame.values ≡ found.frame =
         ap (λ (n : Name). frame_of n found.frame.values) (sym f.name) in
     subst (λ (l : List ℕ). LeastFrame last found.frame l) (sym f.parts)
-    (subst (λ (m : Meaning). LeastFrame last m (f.type_bytes ++ f.field_bytes)) frame_is (least last found.frame.values f.type_bytes f.field_bytes stands))
+    (subst (λ (m : Meaning). LeastFrame last m (f.type_bytes ++ f.field_bytes)) frame_is
+        (least last found.frame.values f.type_bytes f.field_bytes stands))

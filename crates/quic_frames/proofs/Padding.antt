@@ -28,7 +28,8 @@ pads strict payload offset last fits some byte =
     let stop : length payload - length (drop (suc offset) payload) ≡ suc offset =
         omega (arith, length-drop (suc offset) payload) in
     subst (λ (n : ℕ). Finds (at_place strict payload offset last) frames.Padding (at_place strict payload n (Some 0))) stop
-    (finds strict payload offset last 0 frames.Padding (drop (suc offset) payload) (tt, tt) fits (omega arith) some (found_padding strict last (drop offset payload) (drop (suc offset) payload) front))
+    (finds strict payload offset last 0 frames.Padding (drop (suc offset) payload) (tt, tt) fits (omega arith) some
+        (found_padding strict last (drop offset payload) (drop (suc offset) payload) front))
 
 -- the place after some of them, by its parts
 pads_on : (strict : Bool) (payload : List ℕ) (offset k : ℕ) (last : Option ℕ) → AreBytes (drop offset payload)
@@ -37,7 +38,8 @@ pads_on : (strict : Bool) (payload : List ℕ) (offset k : ℕ) (last : Option �
 pads_on strict payload offset zero last fits some byte =
     let e : suc offset ≡ offset + 1 = omega arith in
     let z : offset + 0 ≡ offset = omega arith in
-    subst (λ (n : ℕ). Finds (at_place strict payload offset last) frames.Padding (at_place strict payload n (Some 0))) e (pads strict payload offset last fits (omega arith) (rw z at byte))
+    subst (λ (n : ℕ). Finds (at_place strict payload offset last) frames.Padding (at_place strict payload n (Some 0))) e
+        (pads strict payload offset last fits (omega arith) (rw z at byte))
 pads_on strict payload offset (suc k) last fits some byte =
     let e : suc (offset + suc k) ≡ offset + suc (suc k) = omega arith in
     subst (λ (n : ℕ). Finds (at_place strict payload (offset + suc k) (Some 0)) frames.Padding (at_place strict payload n (Some 0))) e
@@ -85,6 +87,9 @@ pub passes_here : (strict : Bool) (payload : List ℕ) (offset n : ℕ) (last : 
     → PassesPadding old n (walk strict payload (offset + n) (Some 0) b)
 passes_here strict payload offset n last b old bytes v f cut fits le few each over some =
     let all : PassesPadding (at_place strict payload offset last) n (at_place strict payload (offset + n) (Some 0)) =
-    subst (λ (w : IterState). PassesPadding (at_place strict payload offset last) n w) (behind_some n strict payload offset last some) (passes strict payload offset n last bytes cut fits le few each over) in
-    subst (λ (o : IterState). PassesPadding o n (walk strict payload (offset + n) (Some 0) b)) (is_not_broken strict payload offset last b old v f)
+    subst (λ (w : IterState). PassesPadding (at_place strict payload offset last) n w)
+        (behind_some n strict payload offset last some) (passes strict payload offset n last bytes cut fits le few each
+        over) in
+    subst (λ (o : IterState). PassesPadding o n (walk strict payload (offset + n) (Some 0) b))
+        (is_not_broken strict payload offset last b old v f)
     (subst (λ (c : Bool). PassesPadding (at_place strict payload offset last) n (walk strict payload (offset + n) (Some 0) c)) (sym f) all)

@@ -65,7 +65,8 @@ all_end_in (field ∷ fields) before after bytes last s e =
       | inl here ↦
           let whole : bytes ≡ s.1 = s.3 ∙ ap (λ (l : List ℕ). s.1 ++ l) here.1 ∙ append-nil s.1 in
           elim (field_adds field before s.0 s.1 s.4) [
-            | adds_none none nothing ↦ inl (sym (ap (last_bytes None) (ap (λ (l : List Value). before ++ l) none ∙ append-nil before)) ∙ here.0, whole ∙ nothing)
+            | adds_none none nothing ↦ inl (sym (ap (last_bytes None)
+                (ap (λ (l : List Value). before ++ l) none ∙ append-nil before)) ∙ here.0, whole ∙ nothing)
             | adds_other value none is ↦
                 let e1 : last_bytes None (before ++ value ∷ []) ≡ Some last =
                     ap (λ (l : List Value). last_bytes None (before ++ l)) (sym is) ∙ here.0 in
@@ -151,7 +152,8 @@ cut_stands strict payload offset stop found rest c =
                 let before_len : length before ≡ length c.first + length (c.frame.type_bytes ++ f.0) =
                     length-append c.first (c.frame.type_bytes ++ f.0) in
                 ap (λ (l : List ℕ). slice_range l (stop - length bytes) stop) all
-                ∙ middle_is before bytes rest (stop - length bytes) stop (omega (arith, sizes, before_len, c.ends)) (omega (arith, sizes, before_len, c.ends))
+                ∙ middle_is before bytes rest (stop - length bytes) stop (omega (arith, sizes, before_len, c.ends))
+                    (omega (arith, sizes, before_len, c.ends))
           ];
     }
 
@@ -215,12 +217,14 @@ finds strict payload offset last ty frame rest apart fits le some e =
       says = refl;
       distinct = apart.0;
       comes = refl;
-      first = items ∙ ap (λ (n : ℕ). Whole offset n found ∷ items_of strict n (Some ty) rest) same ∙ ap (λ (l : List ℕ). Whole offset stop found ∷ items_of strict stop (Some ty) l) (sym after);
+      first = items ∙ ap (λ (n : ℕ). Whole offset n found ∷ items_of strict n (Some ty) rest) same
+          ∙ ap (λ (l : List ℕ). Whole offset stop found ∷ items_of strict stop (Some ty) l) (sym after);
       stands = cut_stands strict payload offset stop found rest c;
       blocks = subst (λ (l : List ℕ). StandsAsRead ty frame l) (sym here) (stand_as_read ty frame bytes t.front rest fits t.parts apart.1);
       ends = λ opens. omega (arith, ap length (t.opens opens));
       is_done = (
-        (λ none. drop_nothing payload stop c.within (after ∙ all_read strict stop (Some ty) rest rest_fits (ap (items_of strict stop (Some ty)) (sym after) ∙ none))),
+        (λ none. drop_nothing payload stop c.within (after ∙ all_read strict stop (Some ty) rest rest_fits
+            (ap (items_of strict stop (Some ty)) (sym after) ∙ none))),
         (λ end. ap (items_of strict stop (Some ty)) (drop_all payload stop end) ∙ no_items strict stop (Some ty)),
       );
     }
@@ -265,7 +269,8 @@ fewer_left strict payload offset last found rest fits e =
         ap length (rest_is payload offset) ∙ length-drop offset payload in
     omega (arith, sizes, size)
 
-pub finds_here : (strict : Bool) (payload : List ℕ) (offset : ℕ) (last : Option ℕ) (b : Bool) (old : IterState) (ty : ℕ) (frame : Frame) (rest : List ℕ)
+pub finds_here : (strict : Bool) (payload : List ℕ) (offset : ℕ) (last : Option ℕ) (b : Bool) (old : IterState) (ty : ℕ)
+    (frame : Frame) (rest : List ℕ)
     → HasNoTypeZero frame → HasItsBlocksBehind ty frame (take (length payload - offset) (drop offset payload)) rest
     → walk strict payload offset last b ≡ old → b ≡ false → offset ≤ length payload
     → eqb (length (take (length payload - offset) (drop offset payload))) 0 ≡ false
@@ -275,9 +280,13 @@ pub finds_here : (strict : Bool) (payload : List ℕ) (offset : ℕ) (last : Opt
 finds_here strict payload offset last b old ty frame rest apart blocks v f le some fits e =
     let cut = rest_is payload offset in
     let here =
-        finds strict payload offset last ty frame rest (apart, subst (λ (l : List ℕ). HasItsBlocksBehind ty frame l rest) cut blocks) (subst AreBytes cut fits) le (some_bytes payload offset some) (ap (found_at strict last) (sym cut) ∙ e) in
-    subst (λ (o : IterState). Finds o frame (walk strict payload (length payload - length rest) (Some ty) b)) (is_not_broken strict payload offset last b old v f)
-    (subst (λ (c : Bool). Finds (at_place strict payload offset last) frame (walk strict payload (length payload - length rest) (Some ty) c)) (sym f) here)
+        finds strict payload offset last ty frame rest (apart,
+            subst (λ (l : List ℕ). HasItsBlocksBehind ty frame l rest) cut blocks) (subst AreBytes cut fits) le
+            (some_bytes payload offset some) (ap (found_at strict last) (sym cut) ∙ e) in
+    subst (λ (o : IterState). Finds o frame (walk strict payload (length payload - length rest) (Some ty) b))
+        (is_not_broken strict payload offset last b old v f)
+    (subst (λ (c : Bool). Finds (at_place strict payload offset last) frame
+        (walk strict payload (length payload - length rest) (Some ty) c)) (sym f) here)
 
 -- a byte of PADDING, the same
 pub padding_here : (strict : Bool) (payload : List ℕ) (offset : ℕ) (last : Option ℕ) (b : Bool) (old : IterState)
@@ -294,7 +303,9 @@ padding_here strict payload offset last b old v f le some fits front =
     let one = ap length front in
     let less = some_bytes payload offset some in
     let place : length payload - length rest ≡ offset + 1 = omega (arith, size, one, le, less) in
-    subst (λ (n : ℕ). Finds old frames.Padding (walk strict payload n (Some 0) b)) place (finds_here strict payload offset last b old 0 frames.Padding rest tt tt v f le some fits (found_padding strict last bytes rest front))
+    subst (λ (n : ℕ). Finds old frames.Padding (walk strict payload n (Some 0) b)) place
+        (finds_here strict payload offset last b old 0 frames.Padding rest tt tt v f le some fits
+        (found_padding strict last bytes rest front))
 
 pub breaks_here : (strict : Bool) (payload : List ℕ) (offset : ℕ) (last : Option ℕ) (b : Bool) (old : IterState) (i : Invalid)
     → walk strict payload offset last b ≡ old → b ≡ false

@@ -37,7 +37,8 @@ placed_in strict (p ∷ ps) (suc n) start before bytes le s =
     placed_first strict p n start before bytes s.0 s.1 s.2 some here s.5 s.6 (map whole ps)
     (placed_in strict ps n p.stop (Some p.found.type) s.1 (omega (arith, le, some, ap length s.2, length-append s.0 s.1)) s.7)
 
-broken_in : (strict : Bool) (ps : List Placed) (n start : ℕ) (before : Option ℕ) (bytes front back : List ℕ) (type : Option ℕ) (reason : Fault)
+broken_in : (strict : Bool) (ps : List Placed) (n start : ℕ) (before : Option ℕ) (bytes front back : List ℕ)
+    (type : Option ℕ) (reason : Fault)
     → AreBytes bytes → length bytes ≤ n → bytes ≡ front ++ back → ArePlaced strict start ps front
     → AreClosed (map found_in ps) → IsNoFrame strict (last_type before (map found_in ps)) back type reason
     → items_from strict n start before bytes ≡ map whole ps ++ Broken (invalid type reason) ∷ []
@@ -45,7 +46,8 @@ broken_in strict [] n start before bytes front back type reason fits le parts s 
     let all : bytes ≡ back = parts ∙ ap (λ (l : List ℕ). l ++ back) s in
     let none : IsNoFrame strict before bytes type reason =
         subst (λ (l : List ℕ). IsNoFrame strict before l type reason) (sym all) no_frame in
-    stops_at strict n start before bytes (invalid type reason) le (no_frame_some strict before bytes type reason none) (no_frame_again strict before bytes type reason fits none)
+    stops_at strict n start before bytes (invalid type reason) le (no_frame_some strict before bytes type reason none)
+        (no_frame_again strict before bytes type reason fits none)
 broken_in strict (p ∷ ps) zero start before bytes front back type reason fits le parts s closed no_frame =
     let some = frame_some strict p.found s.0 s.3 in
     absurd (omega (arith, le, some, ap length parts, length-append front back, ap length s.2, length-append s.0 s.1))
@@ -57,7 +59,9 @@ broken_in strict (p ∷ ps) (suc n) start before bytes front back type reason fi
         ap (found_at strict before) regrouped
         ∙ found_again strict before p.found s.0 left s.3 (λ opens. absurd (true_is_not_false (sym opens ∙ closed.0))) in
     placed_first strict p n start before bytes s.0 left regrouped some here s.5 s.6 (map whole ps ++ Broken (invalid type reason) ∷ [])
-    (broken_in strict ps n p.stop (Some p.found.type) left s.1 back type reason (back_bytes s.0 left (subst AreBytes regrouped fits)) (omega (arith, le, some, ap length regrouped, length-append s.0 left)) refl s.7 closed.1 no_frame)
+    (broken_in strict ps n p.stop (Some p.found.type) left s.1 back type reason
+        (back_bytes s.0 left (subst AreBytes regrouped fits))
+        (omega (arith, le, some, ap length regrouped, length-append s.0 left)) refl s.7 closed.1 no_frame)
 
 pub placed_items : (strict : Bool) (ps : List Placed) (bytes : List ℕ) → ArePlaced strict 0 ps bytes
     → items_of strict 0 None bytes ≡ map whole ps

@@ -10,7 +10,8 @@ cases_bool true = inl refl
 cases_bool false = inr refl
 
 above_eight : (k : ℕ) → k < 8
-    → row_of (8 + k) ≡ Some (stream_row (not (eqb (bit_and (8 + k) 4) 0)) (not (eqb (bit_and (8 + k) 2) 0)) (not (eqb (bit_and (8 + k) 1) 0)))
+    → row_of (8 + k) ≡ Some (stream_row (not (eqb (bit_and (8 + k) 4) 0)) (not (eqb (bit_and (8 + k) 2) 0))
+        (not (eqb (bit_and (8 + k) 1) 0)))
 above_eight zero lt = refl
 above_eight (suc zero) lt = refl
 above_eight (suc (suc zero)) lt = refl
@@ -26,7 +27,8 @@ pub row_of_stream : (t : ℕ) → 8 ≤ t → t < 16
     → row_of t ≡ Some (stream_row (not (eqb (bit_and t 4) 0)) (not (eqb (bit_and t 2) 0)) (not (eqb (bit_and t 1) 0)))
 row_of_stream t low high =
     let e : 8 + (t - 8) ≡ t = omega arith in
-    subst (λ (u : ℕ). row_of u ≡ Some (stream_row (not (eqb (bit_and u 4) 0)) (not (eqb (bit_and u 2) 0)) (not (eqb (bit_and u 1) 0)))) e (above_eight (t - 8) (omega arith))
+    subst (λ (u : ℕ). row_of u ≡ Some (stream_row (not (eqb (bit_and u 4) 0)) (not (eqb (bit_and u 2) 0))
+        (not (eqb (bit_and u 1) 0)))) e (above_eight (t - 8) (omega arith))
 
 all_well : List (ℕ × Row) → Bool
 all_well [] = true
@@ -43,7 +45,8 @@ found_well test [] r well e = absurd cc
 found_well test (entry ∷ entries) r well e =
     let w = first_and (is_well entry.1.fields) (all_well entries) well in
     elim (cases_bool (test entry.0)) [
-      | inl passes ↦ let here : Some entry.1 ≡ Some r = rw passes at e in let same : entry.1 ≡ r = cc in subst (λ (x : Row). is_well x.fields ≡ true) same w.0
+      | inl passes ↦ let here : Some entry.1 ≡ Some r = rw passes at e in let same : entry.1
+          ≡ r = cc in subst (λ (x : Row). is_well x.fields ≡ true) same w.0
       | inr fails ↦ found_well test entries r w.1 (rw fails at e)
     ]
 

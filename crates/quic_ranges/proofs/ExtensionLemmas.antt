@@ -49,10 +49,13 @@ BecomesRunsOf-grown rs x d h some lo hi grows =
         starts_upto-above 0 (length rs - 1) x.end d rs h (omega arith) (omega arith) in
     let most : starts_upto rs x.end ≤ length rs = starts_upto-length x.end rs in
     let to : length rs ≡ starts_upto rs x.end = omega arith in
-    let splices : Splices (in_union rs x) rs (record { from = length rs - 1; to = length rs; by = One (range (get_or rs (length rs - 1) d).start x.end) }) =
-    Splices-touching rs x d (length rs - 1) (length rs) (get_or rs (length rs - 1) d).start x.end h (omega arith) from to (omega arith) (omega arith) (omega arith) (λ _ le. absurd (omega arith)) in
+    let splices : Splices (in_union rs x) rs (record { from = length rs - 1; to = length rs;
+        by = One (range (get_or rs (length rs - 1) d).start x.end) }) =
+    Splices-touching rs x d (length rs - 1) (length rs) (get_or rs (length rs - 1) d).start x.end h (omega arith) from
+        to (omega arith) (omega arith) (omega arith) (λ _ le. absurd (omega arith)) in
     record {
-      runs = subst (IsRunsOf (in_union rs x)) (sym (set-one rs (length rs - 1) (length rs) (range (get_or rs (length rs - 1) d).start x.end) (omega arith) (omega arith))) splices.runs;
+      runs = subst (IsRunsOf (in_union rs x)) (sym (set-one rs (length rs - 1) (length rs)
+          (range (get_or rs (length rs - 1) d).start x.end) (omega arith) (omega arith))) splices.runs;
       differs = splices.differs;
     }
 
@@ -62,7 +65,8 @@ pub IsRunsOf-inside_last : (rs : List (Range ℕ)) (x d : Range ℕ) → IsMaxim
     → x.end ≤ (get_or rs (length rs - 1) d).end → IsRunsOf (in_union rs x) rs
 IsRunsOf-inside_last rs x d h lt some lo hi =
     let count : length rs ≡ suc (length rs - 1) = omega arith in
-    IsRunsOf-inside rs x d (length rs - 1) h lt (sym (ends_below-others 0 x.start (length rs - 1) d rs h count lo (omega arith))) (omega arith) lo hi
+    IsRunsOf-inside rs x d (length rs - 1) h lt (sym (ends_below-others 0 x.start (length rs - 1) d rs h count lo
+        (omega arith))) (omega arith) lo hi
 
 -- a run that is pushed makes one more of them, however the new set is listed
 pub length-pushed : (p : ℕ → Bool) (rs ss : List (Range ℕ)) (x : Range ℕ) → BecomesRunsOf p rs (rs ++ x ∷ [])

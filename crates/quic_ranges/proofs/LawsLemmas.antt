@@ -68,7 +68,8 @@ unfolding numbers
 AscendFrom-numbers_of n [] h = tt
 AscendFrom-numbers_of n (r ∷ rs) h =
     AscendFrom-count n r.start (r.end - r.start) (numbers_of rs) h.0
-    (let lt : r.start < r.end = h.1 in AscendFrom-lower (r.end + 1) (r.start + (r.end - r.start)) (numbers_of rs) (omega arith) (AscendFrom-numbers_of (r.end + 1) rs h.2))
+    (let lt : r.start < r.end = h.1 in AscendFrom-lower (r.end + 1) (r.start + (r.end - r.start)) (numbers_of rs)
+        (omega arith) (AscendFrom-numbers_of (r.end + 1) rs h.2))
 
 -- a number is one of those in a row exactly if it is between their bounds
 any_count : (a n y : ℕ) → list_any (λ x. nat_eq x y) (count_from a n) ≡ (leb a y && ltb y (a + n))

@@ -36,10 +36,12 @@ pub inserted-places : (n a b : ℕ) (rs : List (Range ℕ)) → RunsFrom n rs �
     → inserted rs a b ≡ take (ends_below rs a) rs ++ hull rs a b ∷ drop (starts_upto rs b) rs
 inserted-places n a b [] h lt = refl
 inserted-places n a b (r ∷ rs) h lt =
-    elim (cases_lt r.end a) as (λ _. inserted (r ∷ rs) a b ≡ take (ends_below (r ∷ rs) a) (r ∷ rs) ++ hull (r ∷ rs) a b ∷ drop (starts_upto (r ∷ rs) b) (r ∷ rs)) [
+    elim (cases_lt r.end a) as (λ _. inserted (r ∷ rs) a b ≡ take (ends_below (r ∷ rs) a) (r ∷ rs) ++ hull (r ∷ rs) a b
+        ∷ drop (starts_upto (r ∷ rs) b) (r ∷ rs)) [
       | inl q ↦ let q2 : r.start ≤ b = omega arith in
           rw (lt-ltb r.end a q, le-leb r.start b q2) (ap (λ l. r ∷ l) (inserted-places (r.end + 1) a b rs h.2 lt))
-      | inr q ↦ elim (cases_lt b r.start) as (λ _. inserted (r ∷ rs) a b ≡ take (ends_below (r ∷ rs) a) (r ∷ rs) ++ hull (r ∷ rs) a b ∷ drop (starts_upto (r ∷ rs) b) (r ∷ rs)) [
+      | inr q ↦ elim (cases_lt b r.start) as (λ _. inserted (r ∷ rs) a b ≡ take (ends_below (r ∷ rs) a) (r ∷ rs)
+          ++ hull (r ∷ rs) a b ∷ drop (starts_upto (r ∷ rs) b) (r ∷ rs)) [
         | inl q2 ↦ rw (le-ltb r.end a q, lt-ltb b r.start q2, lt-leb r.start b q2) refl
         | inr q2 ↦ rw (le-ltb r.end a q, le-ltb b r.start q2, le-leb r.start b q2)
             (inserted-places (r.end + 1) (min a r.start) (max b r.end) rs h.2 (omega arith)
@@ -53,7 +55,8 @@ pub hull-none : (n a b : ℕ) (rs : List (Range ℕ)) → RunsFrom n rs → a < 
 hull-none n a b [] h lt le = refl
 hull-none n a b (r ∷ rs) h lt le0 =
     (elim (cases_lt r.end a) as (λ _. starts_upto (r ∷ rs) b ≤ ends_below (r ∷ rs) a → hull (r ∷ rs) a b ≡ range a b) [
-      | inl q ↦ let q2 : r.start ≤ b = omega arith in rw (lt-ltb r.end a q, le-leb r.start b q2) (λ le. hull-none (r.end + 1) a b rs h.2 lt (omega arith))
+      | inl q ↦ let q2 : r.start ≤ b = omega arith in rw (lt-ltb r.end a q, le-leb r.start b q2)
+          (λ le. hull-none (r.end + 1) a b rs h.2 lt (omega arith))
       | inr q ↦ elim (cases_lt b r.start) as (λ _. starts_upto (r ∷ rs) b ≤ ends_below (r ∷ rs) a → hull (r ∷ rs) a b ≡ range a b) [
         | inl q2 ↦ rw (le-ltb r.end a q, lt-ltb b r.start q2) (λ _. refl)
         | inr q2 ↦ rw (le-ltb r.end a q, le-ltb b r.start q2, le-leb r.start b q2) (λ le. absurd (omega arith))
@@ -110,7 +113,8 @@ ends_below-others n x (suc k) d (r ∷ rs) h e le le' =
 -- what `hull-at` says
 abbrev HullAt : List (Range ℕ) → ℕ → ℕ → ℕ → Range ℕ → Type 0
 HullAt rs a b k d =
-    starts_upto rs b ≡ suc k → ends_below rs a ≤ k → hull rs a b ≡ range (min a (get_or rs (ends_below rs a) d).start) (max b (get_or rs k d).end)
+    starts_upto rs b ≡ suc k → ends_below rs a ≤ k → hull rs a b
+        ≡ range (min a (get_or rs (ends_below rs a) d).start) (max b (get_or rs k d).end)
 
 -- the hull, by the first and the last run that a..b touches
 pub hull-at : (n a b k : ℕ) (d : Range ℕ) (rs : List (Range ℕ)) → RunsFrom n rs → a < b → starts_upto rs b ≡ suc k
@@ -184,7 +188,8 @@ pub covered : (n a b : ℕ) (d : Range ℕ) (rs : List (Range ℕ)) → RunsFrom
 covered n a b d [] h lt all = absurd (false≢true (all a (omega arith) lt))
 covered n a b d (r ∷ rs) h lt all =
     elim (cases_lt r.end a) as (λ _. IsCovered (r ∷ rs) a b d) [
-      | inl q ↦ rw (lt-ltb r.end a q) (let ih : IsCovered rs a b d = covered (r.end + 1) a b d rs h.2 lt (λ y le le'. past r y (member rs y) (omega arith) (all y le le')) in (omega arith, ih.1, ih.2))
+      | inl q ↦ rw (lt-ltb r.end a q) (let ih : IsCovered rs a b d = covered (r.end + 1) a b d rs h.2 lt
+          (λ y le le'. past r y (member rs y) (omega arith) (all y le le')) in (omega arith, ih.1, ih.2))
       | inr q ↦ rw (le-ltb r.end a q) (omega arith, low q, high q)
     ] where
       past : (r : Range ℕ) (y : ℕ) (m : Bool) → r.end < y + 1 → (in_range r y || m) ≡ true → m ≡ true
@@ -194,10 +199,12 @@ covered n a b d (r ∷ rs) h lt all =
       outside r y m q e e' = grind (arith, nat_tests)
 
       low : a ≤ r.end → r.start ≤ a
-      low q = elim (cases_lt a r.start) [ inl lo ↦ absurd (outside r a (member rs a) (inl lo) (member-below (r.end + 1) a rs h.2 (omega arith)) (all a (omega arith) lt)) | inr le ↦ le ]
+      low q = elim (cases_lt a r.start) [ inl lo ↦ absurd (outside r a (member rs a) (inl lo)
+          (member-below (r.end + 1) a rs h.2 (omega arith)) (all a (omega arith) lt)) | inr le ↦ le ]
 
       high : a ≤ r.end → b ≤ r.end
-      high q = elim (cases_lt r.end b) [ inl lo ↦ absurd (outside r r.end (member rs r.end) (inr (omega arith)) (member-below (r.end + 1) r.end rs h.2 (omega arith)) (all r.end q lo)) | inr le ↦ le ]
+      high q = elim (cases_lt r.end b) [ inl lo ↦ absurd (outside r r.end (member rs r.end) (inr (omega arith))
+          (member-below (r.end + 1) r.end rs h.2 (omega arith)) (all r.end q lo)) | inr le ↦ le ]
 
 -- the place that a partition by `ends_below`'s test gives
 pub ends_below-place : (x i : ℕ) (rs : List (Range ℕ)) → i ≤ length rs
@@ -206,7 +213,8 @@ ends_below-place x i [] le p = omega arith
 ends_below-place x zero (r ∷ rs) le p = rw (p.1 0 r (omega arith) (omega arith)) refl
 ends_below-place x (suc i) (r ∷ rs) le p =
     rw (p.0 0 r (omega arith) (omega arith))
-    (ap suc (ends_below-place x i rs (omega arith) (λ k d lo hi. p.0 (suc k) d (omega arith) (omega arith), λ k d lo hi. p.1 (suc k) d (omega arith) (omega arith))))
+    (ap suc (ends_below-place x i rs (omega arith) (λ k d lo hi. p.0 (suc k) d (omega arith) (omega arith),
+        λ k d lo hi. p.1 (suc k) d (omega arith) (omega arith))))
 
 pub starts_upto-place : (x i : ℕ) (rs : List (Range ℕ)) → i ≤ length rs
     → IsPartitionPoint (λ (r : Range ℕ). leb r.start x ≡ true) (λ r. leb r.start x ≡ false) rs i → starts_upto rs x ≡ i
@@ -214,7 +222,8 @@ starts_upto-place x i [] le p = omega arith
 starts_upto-place x zero (r ∷ rs) le p = rw (p.1 0 r (omega arith) (omega arith)) refl
 starts_upto-place x (suc i) (r ∷ rs) le p =
     rw (p.0 0 r (omega arith) (omega arith))
-    (ap suc (starts_upto-place x i rs (omega arith) (λ k d lo hi. p.0 (suc k) d (omega arith) (omega arith), λ k d lo hi. p.1 (suc k) d (omega arith) (omega arith))))
+    (ap suc (starts_upto-place x i rs (omega arith) (λ k d lo hi. p.0 (suc k) d (omega arith) (omega arith),
+        λ k d lo hi. p.1 (suc k) d (omega arith) (omega arith))))
 
 -- runs ascend
 ascending : (n i j : ℕ) (d : Range ℕ) (rs : List (Range ℕ)) → RunsFrom n rs → i ≤ j → j < length rs
@@ -243,7 +252,9 @@ pub ends_below-starts_upto : (n a b : ℕ) (rs : List (Range ℕ)) → RunsFrom 
 ends_below-starts_upto n a b [] h lt = omega arith
 ends_below-starts_upto n a b (r ∷ rs) h lt =
     elim (cases_lt r.end a) as (λ _. ends_below (r ∷ rs) a ≤ starts_upto (r ∷ rs) b) [
-      | inl q ↦ let q2 : r.start ≤ b = omega arith in let ih : ends_below rs a ≤ starts_upto rs b = ends_below-starts_upto (r.end + 1) a b rs h.2 lt in rw (lt-ltb r.end a q, le-leb r.start b q2) (omega arith)
+      | inl q ↦ let q2 : r.start ≤ b = omega arith in let ih : ends_below rs a
+          ≤ starts_upto rs b = ends_below-starts_upto (r.end + 1) a b rs h.2 lt in rw
+          (lt-ltb r.end a q, le-leb r.start b q2) (omega arith)
       | inr q ↦ rw (le-ltb r.end a q) (omega arith)
     ]
 
@@ -280,10 +291,13 @@ Splices-plain rs x i j h lt ei ej le =
     let order : ends_below rs x.start ≤ starts_upto rs x.end = ends_below-starts_upto 0 x.start x.end rs h lt in
     let same_place : starts_upto rs x.end ≡ i = omega arith in
     record {
-      fits = let q : ends_below rs x.start ≤ length rs = ends_below-length x.start rs in record { ordered = omega arith; within = omega arith; one_more = omega arith };
-      runs = union_at rs _ x h lt (inserted-places 0 x.start x.end rs h lt ∙ rw (← ei, same_place, hull-none 0 x.start x.end rs h lt (omega arith)) refl);
+      fits = let q : ends_below rs x.start ≤ length rs = ends_below-length x.start rs in
+          record { ordered = omega arith; within = omega arith; one_more = omega arith };
+      runs = union_at rs _ x h lt (inserted-places 0 x.start x.end rs h lt
+          ∙ rw (← ei, same_place, hull-none 0 x.start x.end rs h lt (omega arith)) refl);
       differs = λ same. let c : IsCovered rs x.start x.end x = same_covered rs x x h lt same in
-          let above : ends_below rs x.start < starts_upto rs x.end = starts_upto-above 0 (ends_below rs x.start) x.end x rs h c.0 (omega arith) in omega arith;
+          let above : ends_below rs x.start < starts_upto rs x.end = starts_upto-above 0 (ends_below rs x.start) x.end x
+              rs h c.0 (omega arith) in omega arith;
     }
 
 -- an insertion that touches the runs from i to below j, and does not lie inside one
@@ -294,7 +308,8 @@ pub Splices-touching : (rs : List (Range ℕ)) (x d : Range ℕ) (i j start end 
     → Splices (in_union rs x) rs (record { from = i; to = j; by = One (range start end) })
 Splices-touching rs x d i j start end h lt ei ej le es ee out =
     record {
-      fits = let q : starts_upto rs x.end ≤ length rs = starts_upto-length x.end rs in record { ordered = omega arith; within = omega arith; one_more = omega arith };
+      fits = let q : starts_upto rs x.end ≤ length rs = starts_upto-length x.end rs in
+          record { ordered = omega arith; within = omega arith; one_more = omega arith };
       runs = union_at rs _ x h lt (inserted-places 0 x.start x.end rs h lt
           ∙ rw (← ei, ← ej, hull-at 0 x.start x.end (j - 1) d rs h lt (omega arith) (omega arith), ← ei, ← es, ← ee) refl);
       differs = λ same. let c : IsCovered rs x.start x.end d = same_covered rs x d h lt same in
@@ -318,7 +333,8 @@ IsRunsOf-inside rs x d i h lt ei in' =
 abbrev pub rest : List (Range ℕ) → ℕ → ℕ → List (Range ℕ)
 rest [] a b = []
 rest (r ∷ rs) a b =
-    cond (ltb r.end (suc a)) (rest rs a b) (cond (ltb r.start b) (as_runs r.start (min r.end a) ++ (as_runs (max r.start b) r.end ++ rest rs a b)) [])
+    cond (ltb r.end (suc a)) (rest rs a b) (cond (ltb r.start b)
+        (as_runs r.start (min r.end a) ++ (as_runs (max r.start b) r.end ++ rest rs a b)) [])
 
 pub as_runs-full : (a b : ℕ) → a < b → as_runs a b ≡ range a b ∷ []
 as_runs-full a b lt = rw (lt-ltb a b lt) refl
@@ -351,20 +367,26 @@ pub removed-places : (n a m : ℕ) (rs : List (Range ℕ)) → RunsFrom n rs →
     → removed rs a (suc m) ≡ take (ends_below rs (suc a)) rs ++ (rest rs a (suc m) ++ drop (starts_upto rs m) rs)
 removed-places n a m [] h le = refl
 removed-places n a m (r ∷ rs) h le =
-    elim (cases_lt r.end (suc a)) as (λ _. removed (r ∷ rs) a (suc m) ≡ take (ends_below (r ∷ rs) (suc a)) (r ∷ rs) ++ (rest (r ∷ rs) a (suc m) ++ drop (starts_upto (r ∷ rs) m) (r ∷ rs))) [
+    elim (cases_lt r.end (suc a)) as (λ _. removed (r ∷ rs) a (suc m) ≡ take (ends_below (r ∷ rs) (suc a)) (r ∷ rs)
+        ++ (rest (r ∷ rs) a (suc m) ++ drop (starts_upto (r ∷ rs) m) (r ∷ rs))) [
       | inl q ↦ let q2 : r.start ≤ m = omega arith in
           removed-kept a (suc m) r rs h.1 (omega arith) (inl (omega arith))
           ∙ rw (lt-ltb r.end (suc a) q, le-leb r.start m q2) (ap (λ l. r ∷ l) (removed-places (r.end + 1) a m rs h.2 le))
-      | inr q ↦ elim (cases_lt r.start (suc m)) as (λ _. removed (r ∷ rs) a (suc m) ≡ take (ends_below (r ∷ rs) (suc a)) (r ∷ rs) ++ (rest (r ∷ rs) a (suc m) ++ drop (starts_upto (r ∷ rs) m) (r ∷ rs))) [
+      | inr q ↦ elim (cases_lt r.start (suc m)) as (λ _. removed (r ∷ rs) a (suc m)
+          ≡ take (ends_below (r ∷ rs) (suc a)) (r ∷ rs) ++ (rest (r ∷ rs) a (suc m)
+          ++ drop (starts_upto (r ∷ rs) m) (r ∷ rs))) [
         | inl q2 ↦ let q3 : r.start ≤ m = omega arith in
             rw (le-ltb r.end (suc a) q, lt-ltb r.start (suc m) q2, le-leb r.start m q3)
             (ap (λ l. as_runs r.start (min r.end a) ++ (as_runs (max r.start (suc m)) r.end ++ l))
             (removed-places (r.end + 1) a m rs h.2 le ∙ rw (ends_below-none (r.end + 1) (suc a) rs h.2 (omega arith)) refl)
-            ∙ sym (append_assoc (as_runs r.start (min r.end a)) (as_runs (max r.start (suc m)) r.end ++ rest rs a (suc m)) (drop (starts_upto rs m) rs)
-            ∙ ap (λ l. as_runs r.start (min r.end a) ++ l) (append_assoc (as_runs (max r.start (suc m)) r.end) (rest rs a (suc m)) (drop (starts_upto rs m) rs))))
+            ∙ sym (append_assoc (as_runs r.start (min r.end a))
+                (as_runs (max r.start (suc m)) r.end ++ rest rs a (suc m)) (drop (starts_upto rs m) rs)
+            ∙ ap (λ l. as_runs r.start (min r.end a) ++ l) (append_assoc (as_runs (max r.start (suc m)) r.end)
+                (rest rs a (suc m)) (drop (starts_upto rs m) rs))))
         | inr q2 ↦ let q3 : m < r.start = omega arith in
             removed-kept a (suc m) r rs h.1 (omega arith) (inr q2)
-            ∙ rw (le-ltb r.end (suc a) q, le-ltb r.start (suc m) q2, lt-leb r.start m q3) (ap (λ l. r ∷ l) (removed-beyond (r.end + 1) a (suc m) rs h.2 (omega arith) (omega arith)))
+            ∙ rw (le-ltb r.end (suc a) q, le-ltb r.start (suc m) q2, lt-leb r.start m q3)
+                (ap (λ l. r ∷ l) (removed-beyond (r.end + 1) a (suc m) rs h.2 (omega arith) (omega arith)))
       ]
     ]
 
@@ -387,7 +409,8 @@ first_starts m k d (r ∷ rs) =
 -- what `rest-at` says
 abbrev RestAt : List (Range ℕ) → ℕ → ℕ → ℕ → Range ℕ → Type 0
 RestAt rs a m k d =
-    starts_upto rs m ≡ suc k → ends_below rs (suc a) ≤ k → rest rs a (suc m) ≡ as_runs (get_or rs (ends_below rs (suc a)) d).start a ++ as_runs (suc m) (get_or rs k d).end
+    starts_upto rs m ≡ suc k → ends_below rs (suc a) ≤ k → rest rs a (suc m)
+        ≡ as_runs (get_or rs (ends_below rs (suc a)) d).start a ++ as_runs (suc m) (get_or rs k d).end
 
 -- what is left, by the first and the last run that the range overlaps
 pub rest-at : (n a m k : ℕ) (d : Range ℕ) (rs : List (Range ℕ)) → RunsFrom n rs → a ≤ m → RestAt rs a m k d
@@ -401,14 +424,16 @@ rest-at n a m zero d (r ∷ rs) h le =
             let e1 : min r.end a ≡ a = omega arith in
             let e2 : max r.start (suc m) ≡ suc m = omega arith in
             rw (le-ltb r.end (suc a) q, lt-ltb r.start (suc m) q3, le-leb r.start m q2) (λ is le'.
-            ap (λ l. as_runs r.start (min r.end a) ++ (as_runs (max r.start (suc m)) r.end ++ l)) (rest-none (r.end + 1) a m rs h.2 le (omega arith))
+            ap (λ l. as_runs r.start (min r.end a) ++ (as_runs (max r.start (suc m)) r.end ++ l))
+                (rest-none (r.end + 1) a m rs h.2 le (omega arith))
             ∙ ap (λ l. as_runs r.start (min r.end a) ++ l) (append-nil (as_runs (max r.start (suc m)) r.end))
             ∙ rw (e1, e2) refl)
       ]
     ]
 rest-at n a m (suc k) d (r ∷ rs) h le =
     elim (cases_lt r.end (suc a)) as (λ _. RestAt (r ∷ rs) a m (suc k) d) [
-      | inl q ↦ let q2 : r.start ≤ m = omega arith in rw (lt-ltb r.end (suc a) q, le-leb r.start m q2) (λ is le'. rest-at (r.end + 1) a m k d rs h.2 le (omega arith) (omega arith))
+      | inl q ↦ let q2 : r.start ≤ m = omega arith in rw (lt-ltb r.end (suc a) q, le-leb r.start m q2)
+          (λ is le'. rest-at (r.end + 1) a m k d rs h.2 le (omega arith) (omega arith))
       | inr q ↦ elim (cases_lt m r.start) as (λ _. RestAt (r ∷ rs) a m (suc k) d) [
         | inl q2 ↦ rw (lt-leb r.start m q2) (λ is le'. absurd (omega arith))
         | inr q2 ↦ let q3 : r.start < suc m = omega arith in
@@ -423,7 +448,8 @@ rest-at n a m (suc k) d (r ∷ rs) h le =
             let e3 : a ≤ (get_or rs 0 d).start = omega arith in
             let step : rest rs a (suc m) ≡ as_runs (get_or rs (ends_below rs (suc a)) d).start a ++ as_runs (suc m) (get_or rs k d).end =
                 rest-at (r.end + 1) a m k d rs h.2 le (omega arith) (omega arith) in
-            let none : as_runs (get_or rs (ends_below rs (suc a)) d).start a ++ as_runs (suc m) (get_or rs k d).end ≡ as_runs (suc m) (get_or rs k d).end =
+            let none : as_runs (get_or rs (ends_below rs (suc a)) d).start a ++ as_runs (suc m) (get_or rs k d).end
+                ≡ as_runs (suc m) (get_or rs k d).end =
                 rw (first, as_runs-empty (get_or rs 0 d).start a e3) refl in
             ap (λ l. as_runs r.start (min r.end a) ++ (as_runs (max r.start (suc m)) r.end ++ l)) (step ∙ none)
             ∙ rw (e1, as_runs-empty (max r.start (suc m)) r.end e2) refl)
@@ -438,9 +464,12 @@ removed-none n a m (r ∷ rs) h le =
     elim (cases_lt r.end (suc a)) as (λ _. starts_upto (r ∷ rs) m ≤ ends_below (r ∷ rs) (suc a) → removed (r ∷ rs) a (suc m) ≡ r ∷ rs) [
       | inl q ↦ let q2 : r.start ≤ m = omega arith in
           let kept = removed-kept a (suc m) r rs h.1 (omega arith) (inl (omega arith)) in
-          rw (lt-ltb r.end (suc a) q, le-leb r.start m q2) (λ e. kept ∙ ap (λ l. r ∷ l) (removed-none (r.end + 1) a m rs h.2 le (omega arith)))
-      | inr q ↦ elim (cases_lt m r.start) as (λ _. starts_upto (r ∷ rs) m ≤ ends_below (r ∷ rs) (suc a) → removed (r ∷ rs) a (suc m) ≡ r ∷ rs) [
-        | inl q2 ↦ λ e. removed-kept a (suc m) r rs h.1 (omega arith) (inr q2) ∙ ap (λ l. r ∷ l) (removed-beyond (r.end + 1) a (suc m) rs h.2 (omega arith) (omega arith))
+          rw (lt-ltb r.end (suc a) q, le-leb r.start m q2) (λ e. kept
+              ∙ ap (λ l. r ∷ l) (removed-none (r.end + 1) a m rs h.2 le (omega arith)))
+      | inr q ↦ elim (cases_lt m r.start) as (λ _. starts_upto (r ∷ rs) m ≤ ends_below (r ∷ rs) (suc a)
+          → removed (r ∷ rs) a (suc m) ≡ r ∷ rs) [
+        | inl q2 ↦ λ e. removed-kept a (suc m) r rs h.1 (omega arith) (inr q2)
+            ∙ ap (λ l. r ∷ l) (removed-beyond (r.end + 1) a (suc m) rs h.2 (omega arith) (omega arith))
         | inr q2 ↦ rw (le-ltb r.end (suc a) q, le-leb r.start m q2) (λ e. absurd (omega arith))
       ]
     ]
@@ -460,7 +489,8 @@ starts_upto-at x zero d (r ∷ rs) = elim (cases_lt x r.start) as (λ _. 0 < sta
     [ inl q ↦ rw (lt-leb r.start x q) (λ lt. absurd (omega arith)) | inr q ↦ λ _. q ]
 starts_upto-at x (suc k) d (r ∷ rs) =
     elim (cases_lt x r.start) as (λ _. suc k < starts_upto (r ∷ rs) x → (get_or rs k d).start ≤ x)
-    [ inl q ↦ rw (lt-leb r.start x q) (λ lt. absurd (omega arith)) | inr q ↦ rw (le-leb r.start x q) (λ lt. starts_upto-at x k d rs (omega arith)) ]
+    [ inl q ↦ rw (lt-leb r.start x q) (λ lt. absurd (omega arith)) | inr q ↦ rw (le-leb r.start x q)
+        (λ lt. starts_upto-at x k d rs (omega arith)) ]
 
 -- the numbers of a run are members
 pub member-at : (k y : ℕ) (d : Range ℕ) (rs : List (Range ℕ)) → k < length rs → (get_or rs k d).start ≤ y
@@ -512,7 +542,8 @@ Splices-removal rs x d i j first_start last_end by h lt ei ej le es ee eb =
     ∙ rw (ei', ← es, ← ee, one) (sym eb) in
     record {
       fits = record { ordered = omega arith; within = omega arith; one_more = omega arith };
-      runs = difference_at rs _ x h lt (ap (removed rs x.start) (sym one) ∙ removed-places 0 x.start (x.end - 1) rs h (omega arith) ∙ rw (what, ei', ← ej) refl);
+      runs = difference_at rs _ x h lt (ap (removed rs x.start) (sym one)
+          ∙ removed-places 0 x.start (x.end - 1) rs h (omega arith) ∙ rw (what, ei', ← ej) refl);
       differs = λ same.
           let hi : suc x.start ≤ (get_or rs i d).end =
               subst (λ k. suc x.start ≤ (get_or rs k d).end) ei' (ends_below-at (suc x.start) d rs (omega arith)) in
@@ -520,7 +551,8 @@ Splices-removal rs x d i j first_start last_end by h lt ei ej le es ee eb =
           let run : (0 ≤ (get_or rs i d).start) × ((get_or rs i d).start < (get_or rs i d).end) =
               run-at 0 i d rs h (omega arith) in
           taken (max x.start (get_or rs i d).start) (member rs (max x.start (get_or rs i d).start)) (omega arith) (omega arith)
-          (member-at i (max x.start (get_or rs i d).start) d rs (omega arith) (omega arith) (omega arith)) (same.1 (max x.start (get_or rs i d).start));
+          (member-at i (max x.start (get_or rs i d).start) d rs (omega arith) (omega arith) (omega arith))
+              (same.1 (max x.start (get_or rs i d).start));
     } where
       taken : (y : ℕ) (m : Bool) → x.start ≤ y → y < x.end → m ≡ true → m ≡ (m && not (in_range x y)) → ⊥
       taken y m lo hi e e' = grind (arith, nat_tests)

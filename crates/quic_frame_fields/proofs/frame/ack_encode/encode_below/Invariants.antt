@@ -7,7 +7,8 @@ use Rattle.quic_frame_fields.proofs.frame.ack_encode.encode_below.Given as goal
 abbrev pub invariant-loop-run : goal.invariant-loop-run
 invariant-loop-run g l = record {
   near : l.at ≤ 64;
-  holds : HoldsRuns (take l.fn.at l.fn.chunk ++ shortest_below l.fn.above.start (ranges_in l.fn.runs)) (take l.at l.chunk) l.above l.runs (g.B.BufMut.written l.fn.out) (g.B.BufMut.spare l.fn.out)
+  holds : HoldsRuns (take l.fn.at l.fn.chunk ++ shortest_below l.fn.above.start (ranges_in l.fn.runs))
+      (take l.at l.chunk) l.above l.runs (g.B.BufMut.written l.fn.out) (g.B.BufMut.spare l.fn.out)
       (g.B.BufMut.written l.out) (g.B.BufMut.spare l.out);
 }
 

@@ -11,7 +11,8 @@ pub loop-number-preserved : goal.loop-number-preserved
 loop-number-preserved c =
     let i = c.loop-number.number-index in
     record {
-      value = longer_at c.args.numbers.now i c.loop-number.total c.size_of-total.result c.loop-number-test.true c.size_of-total.ensures.value c.loop-number.invariant.value;
+      value = longer_at c.args.numbers.now i c.loop-number.total c.size_of-total.result c.loop-number-test.true
+          c.size_of-total.ensures.value c.loop-number.invariant.value;
       small = omega (arith, c.loop-number.invariant.small, c.size_of-total.ensures.small);
     }
 

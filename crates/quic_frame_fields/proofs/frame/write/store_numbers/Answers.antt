@@ -11,7 +11,9 @@ loop-number-preserved c =
     record {
       near = omega (arith, c.loop-number.invariant.near, c.store_number-at.ensures.near);
       len = c.store_number-at.ensures.len ∙ c.loop-number.invariant.len;
-      front = rw (add-one, all_short-at ns i c.loop-number-test.true) (c.store_number-at.ensures.front ∙ ap (λ (ys : List ℕ). ys ++ shortest_varint (get_or ns i 0)) c.loop-number.invariant.front);
+      front = rw (add-one, all_short-at ns i c.loop-number-test.true)
+          (c.store_number-at.ensures.front ∙ ap (λ (ys : List ℕ). ys ++ shortest_varint (get_or ns i 0))
+          c.loop-number.invariant.front);
     }
 
 pub store_number-at-requires-clause-numeric : goal.store_number-at-requires-clause-numeric

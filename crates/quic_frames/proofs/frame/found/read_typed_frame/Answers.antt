@@ -22,18 +22,24 @@ returns-in_default-clause-gives c =
 pub returns-in-Ok-read_frame-clause-gives : goal.returns-in-Ok-read_frame-clause-gives
 returns-in-Ok-read_frame-clause-gives c =
     let given = c.in-Ok-read_frame.ensures in (
-      found_whole c.args.strict c.args.last_type c.of-ty.result c.args.bytes.now c.in-Ok.rest.now (meaning_of c.in-Ok-read_frame.frame) c.in-Ok-read_frame.rest.now (search rules) (sym c.is_long.ensures ∙ c.if-is_long.false) (rw (← c.into_inner.ensures) given.0),
+      found_whole c.args.strict c.args.last_type c.of-ty.result c.args.bytes.now c.in-Ok.rest.now
+          (meaning_of c.in-Ok-read_frame.frame) c.in-Ok-read_frame.rest.now (search rules)
+          (sym c.is_long.ensures ∙ c.if-is_long.false) (rw (← c.into_inner.ensures) given.0),
       given.1,
-      behind_type c.of-ty.result c.in-Ok-read_frame.frame c.args.bytes.now c.in-Ok.rest.now c.in-Ok-read_frame.rest.now (search rules) given.2,
+      behind_type c.of-ty.result c.in-Ok-read_frame.frame c.args.bytes.now c.in-Ok.rest.now c.in-Ok-read_frame.rest.now
+          (search rules) given.2,
     )
 
 pub returns-in-Err-clause-gives : goal.returns-in-Err-clause-gives
 returns-in-Err-clause-gives c =
-    rw c.reason-in-Err.ensures (found_none c.args.strict c.args.last_type c.of-ty.result c.args.bytes.now c.in-Ok.rest.now c.in-Err.fault (search rules) (sym c.is_long.ensures ∙ c.if-is_long.false) (rw (← c.into_inner.ensures) c.in-Err.ensures.0))
+    rw c.reason-in-Err.ensures (found_none c.args.strict c.args.last_type c.of-ty.result c.args.bytes.now
+        c.in-Ok.rest.now c.in-Err.fault (search rules) (sym c.is_long.ensures ∙ c.if-is_long.false)
+        (rw (← c.into_inner.ensures) c.in-Err.ensures.0))
 
 pub returns-then-is_long-clause-gives : goal.returns-then-is_long-clause-gives
 returns-then-is_long-clause-gives c =
-    rw c.reason-then-is_long.ensures (found_long c.args.strict c.args.last_type c.of-ty.result c.args.bytes.now c.in-Ok.rest.now (search rules) (sym c.is_long.ensures ∙ c.if-is_long.true))
+    rw c.reason-then-is_long.ensures (found_long c.args.strict c.args.last_type c.of-ty.result c.args.bytes.now
+        c.in-Ok.rest.now (search rules) (sym c.is_long.ensures ∙ c.if-is_long.true))
 
 pub returns-in-Err-clause-bytes : goal.returns-in-Err-clause-bytes
 returns-in-Err-clause-bytes c = grind (arith, common_steps)

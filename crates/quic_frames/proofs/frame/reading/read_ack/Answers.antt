@@ -14,6 +14,8 @@ returns c =
     let fewer : length c.in_ok-ce.rest.now ≤ length c.in_ok-blocks.rest.now = omega (arith, one, two, three) in (
       grind (arith, common_steps),
       tt,
-      reads _ c.in_ok-largest.largest c.in_ok-delay.delay c.args.bytes.now c.in_ok-largest.rest.now c.in_ok-delay.rest.now c.in_ok-blocks.blocks.now c.in_ok-blocks.rest.now c.in_ok-ce.rest.now _ c.of_blocks-ack-2.ensures
+      reads _ c.in_ok-largest.largest c.in_ok-delay.delay c.args.bytes.now c.in_ok-largest.rest.now
+          c.in_ok-delay.rest.now c.in_ok-blocks.blocks.now c.in_ok-blocks.rest.now c.in_ok-ce.rest.now _
+          c.of_blocks-ack-2.ensures
           c.in_ok-largest.ensures.gives c.in_ok-delay.ensures.gives c.in_ok-blocks.ensures.gives fewer,
     )

@@ -16,9 +16,11 @@ returns-clause-ok c =
     let ys = c.if-less-more.runs.items in
     let count = c.len-more.ensures.count in
     let held : Holds xs ys f t (f + c.len-more.result) = elim c.if-less-more.branch [
-      | then-less-more+in_ok-map_err w ↦ rw w.runs-is (let items : w.insert.new.self.items ≡ insert xs t (record { start = 0; end = 0 }) = search rules in
+      | then-less-more+in_ok-map_err w ↦ rw w.runs-is (let items : w.insert.new.self.items
+          ≡ insert xs t (record { start = 0; end = 0 }) = search rules in
           Holds-insert xs _ f t (f + c.len-more.result) _ (omega arith) (omega arith) (omega arith) items)
-      | else-less-more+then-more-less w ↦ rw w.runs-is (let kept = w.drop-drain.ensures.items w.drain.ensures.ready.2 ∙ w.drain.ensures.kept in
+      | else-less-more+then-more-less w ↦ rw w.runs-is (let kept = w.drop-drain.ensures.items w.drain.ensures.ready.2
+          ∙ w.drain.ensures.kept in
           Holds-drain xs _ f t (f + c.len-more.result) (omega arith) (omega arith) (search rules))
       | else-less-more+else-more-less w ↦ rw w.runs-is (Holds-same xs _ f t (f + c.len-more.result) (omega arith) refl)
     ] in

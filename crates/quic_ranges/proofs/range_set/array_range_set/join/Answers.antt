@@ -19,7 +19,8 @@ kept c =
 
 pub returns-in_err-map_err-in-AfterAll-clause-no_more_runs : goal.returns-in_err-map_err-in-AfterAll-clause-no_more_runs
 returns-in_err-map_err-in-AfterAll-clause-no_more_runs c rs h le =
-    let becomes : BecomesRunsOf (in_union c.args.runs.now.items c.args.x.now) c.args.runs.now.items (c.args.runs.now.items ++ c.args.x.now ∷ []) =
+    let becomes : BecomesRunsOf (in_union c.args.runs.now.items c.args.x.now) c.args.runs.now.items
+        (c.args.runs.now.items ++ c.args.x.now ∷ []) =
         rw (← c.as_mut_slice.ensures.value) c.in-AfterAll.ensures.1 in
     let more : length rs ≡ length c.args.runs.now.items + 1 =
         length-pushed (in_union c.args.runs.now.items c.args.x.now) c.args.runs.now.items rs c.args.x.now becomes h in
@@ -33,7 +34,8 @@ pub returns-in_ok-map_err-in-AfterAll-clause-union : goal.returns-in_ok-map_err-
 returns-in_ok-map_err-in-AfterAll-clause-union c =
     let same =
         written_back c.args.runs.now.items c.extend_last.new.runs (c.in-AfterAll.ensures.0 ∙ c.as_mut_slice.ensures.value) in
-    let pushed : c.push.new.self.items ≡ refill (length c.args.runs.now.items) c.args.runs.now.items c.extend_last.new.runs ++ c.args.x.now ∷ [] =
+    let pushed : c.push.new.self.items ≡ refill (length c.args.runs.now.items) c.args.runs.now.items
+        c.extend_last.new.runs ++ c.args.x.now ∷ [] =
         search rules in
     rw (pushed, same) (behind c).runs
 
@@ -74,7 +76,8 @@ grown c = rw (← c.as_mut_slice.ensures.value) c.in-Extended.ensures
 written : (c : In-Extended)
     → refill (length c.args.runs.now.items) c.args.runs.now.items c.extend_last.new.runs ≡ c.extend_last.new.runs
 written c =
-    take_at c.extend_last.new.runs _ (length c.args.runs.now.items) (omega (arith, ap length c.as_mut_slice.ensures.value, c.extend_last.auto.runs))
+    take_at c.extend_last.new.runs _ (length c.args.runs.now.items)
+        (omega (arith, ap length c.as_mut_slice.ensures.value, c.extend_last.auto.runs))
 
 pub returns-in-Extended-clause-union : goal.returns-in-Extended-clause-union
 returns-in-Extended-clause-union c = rw (written c) (grown c).runs

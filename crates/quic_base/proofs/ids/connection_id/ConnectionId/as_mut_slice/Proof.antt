@@ -118,10 +118,12 @@ module _ {M : Type 1} {𝓤 : Ura M} (𝓛 : Logic 𝓤) (κ : Lft) (q : Share) 
         by ! (Plain-in Id Inside the_opens 𝓛 full_share (after d ws) a' made b o)
 
   abbrev Lent : List ℕ → ℕ → GName → SProp 𝓤
-  Lent xs k δ = sep 𝓤 (sem 𝓛 ((MutSlice (named 0) κ u8).own_val (record { ref_ptr = (b, p); ghost_name = δ; now = xs }) (slice_val (b, p) k ∷ []))) (sep 𝓤 (A.lft κ q) (sem 𝓛 (follows Id (Array u8 0) γ δ (after d))))
+  Lent xs k δ = sep 𝓤 (sem 𝓛 ((MutSlice (named 0) κ u8).own_val (record { ref_ptr = (b, p); ghost_name = δ; now = xs })
+      (slice_val (b, p) k ∷ []))) (sep 𝓤 (A.lft κ q) (sem 𝓛 (follows Id (Array u8 0) γ δ (after d))))
 
   abbrev lent : List ℕ → ℕ → GName → Item 𝓤
-  lent xs k δ = ‵ ((MutSlice (named 0) κ u8).own_val (record { ref_ptr = (b, p); ghost_name = δ; now = xs }) (slice_val (b, p) k ∷ [])) ⊛ ‵ (flft κ q) ⊛ ‵ (follows Id (Array u8 0) γ δ (after d))
+  lent xs k δ = ‵ ((MutSlice (named 0) κ u8).own_val (record { ref_ptr = (b, p); ghost_name = δ; now = xs })
+      (slice_val (b, p) k ∷ [])) ⊛ ‵ (flft κ q) ⊛ ‵ (follows Id (Array u8 0) γ δ (after d))
 
   module _ (at_mem : Memory → SProp 𝓤) (run : Routine → Fun 𝓤) where
     abbrev clauses : Clauses 𝓤 F.ended
@@ -140,33 +142,41 @@ module _ {M : Type 1} {𝓤 : Ura M} (𝓛 : Logic 𝓤) (κ : Lft) (q : Share) 
         → ent 𝓤 (Lent (take f.0.len f.0.bytes) f.0.len δ) (Post (slice_val (b, p) f.0.len))
     exits f δ =
         let xs = take f.0.len f.0.bytes in
-        qed 𝓛 (‵ ((MutSlice (named 0) κ u8).own_val (record { ref_ptr = (b, p); ghost_name = δ; now = xs }) (slice_val (b, p) f.0.len ∷ [])) ∷ ‵ (flft κ q) ∷ ‵ (follows Id (Array u8 0) γ δ (after d)) ∷ []) ∵
-        suffices ! _ (ends_at 𝓛 F.ended stayed clauses bound (slice_val (b, p) f.0.len) (record { ref_ptr = (b, p); ghost_name = δ; now = xs }) (tt, tt) (tt, tt)) $
+        qed 𝓛 (‵ ((MutSlice (named 0) κ u8).own_val (record { ref_ptr = (b, p); ghost_name = δ; now = xs })
+            (slice_val (b, p) f.0.len ∷ [])) ∷ ‵ (flft κ q) ∷ ‵ (follows Id (Array u8 0) γ δ (after d)) ∷ []) ∵
+        suffices ! _ (ends_at 𝓛 F.ended stayed clauses bound (slice_val (b, p) f.0.len)
+            (record { ref_ptr = (b, p); ghost_name = δ; now = xs }) (tt, tt) (tt, tt)) $
         nothing ! $ nothing ! $ fjoin ! $ join ! $ nothing ! $ move ! (2 ∷ 0 ∷ []) $ join ! $ join ! $ frame ! $ says ! f.1.0 $ done !
 
     module _ (C : Calls 𝓤 H) (Λ : Loops 𝓤 H) where
-      walk : ent 𝓤 (on_entry 𝓛 F.ended.signature (κ, tt) (q, tt) (self, tt) (vptr b o ∷ [], tt)) (WpFn 𝓤 H C Λ code.function (vptr b o ∷ []) Post)
+      walk : ent 𝓤 (on_entry 𝓛 F.ended.signature (κ, tt) (q, tt) (self, tt) (vptr b o ∷ [], tt))
+          (WpFn 𝓤 H C Λ code.function (vptr b o ∷ []) Post)
       walk =
           qed 𝓛 ((‵ (flft κ q) ⊛ ‵ ftrue) ∷ ‵ (owns (MutRef (named 0) κ Id ∷ []) (self, tt) (vptr b o ∷ [], tt)) ∷ []) ∵
           enter ! C Λ code.function (vptr b o ∷ []) _ $
           alloc_all ! (λ l. pass_all ! refl ((tt, tt), tt) $
           move ! (1 ∷ []) $ fsplit ! $ fsplit3 ! $ drop ! $ move ! (3 ∷ []) $ split ! $ move ! (2 ∷ 3 ∷ 0 ∷ []) $
           open_ref ! tt (mem Id) {b = b} {o = o} $
-          use1 𝓛 (some (λ (f : Fields d). ‵ (part_at Inside full_share f.0 b o))) (plain_out Id Inside the_opens 𝓛 full_share d b o) $ pick ! (λ f.
+          use1 𝓛 (some (λ (f : Fields d). ‵ (part_at Inside full_share f.0 b o)))
+              (plain_out Id Inside the_opens 𝓛 full_share d b o) $ pick ! (λ f.
           let a : Inside.Denot = f.0 in
           let short : a.len ≤ 20 = f.1.1.short in
           let xs : List ℕ = take a.len a.bytes in
           let front_at : Fml = cells (mem u8) xs b p in
-          use1 𝓛 (given (length a.bytes ≡ 20) (‵ (cells (mem u8) a.bytes b p) ⊛ (‵ (fat full_share (ty_int w32) b (len_at o) (vint w32 a.len)) ⊛ raw (Left 𝓛 b o)))) (fields_out 𝓛 b o a) $
+          use1 𝓛 (given (length a.bytes ≡ 20) (‵ (cells (mem u8) a.bytes b p)
+              ⊛ (‵ (fat full_share (ty_int w32) b (len_at o) (vint w32 a.len)) ⊛ raw (Left 𝓛 b o))))
+              (fields_out 𝓛 b o a) $
           learn ! (λ long. split3 ! $
           let count : length xs ≡ a.len = length-take-le a.len a.bytes (omega arith) in
           let room : Room u8 (length xs) = (omega arith, omega arith) in
           sets ! (of_opd ! (load ! (through ! refl (fld ! refl (stop !))) (look ! 1 refl))) refl (tt, record { fits = omega arith }) $
           sets ! (un ! (get ! refl) (record { fits = omega arith })) refl (tt, record { fits = omega arith }) $
           sets ! (addr ! (through ! refl (fld ! refl (stop !)))) refl (tt, tt) $
-          sets ! (agg ! (and_then ! (get ! refl) (and_then ! (get ! refl) (no_more !)))) refl (tt, (tt, (record { fits = omega arith }, tt))) $
+          sets ! (agg ! (and_then ! (get ! refl) (and_then ! (get ! refl) (no_more !)))) refl
+              (tt, (tt, (record { fits = omega arith }, tt))) $
           rewrite ! 0 (λ (ys : List ℕ). ‵ (cells (mem u8) ys b p)) (sym (take-append-drop a.len a.bytes)) refl $
-          use1 𝓛 (‵ front_at ⊛ ‵ (cells (mem u8) (drop_list a.len a.bytes) b (at p (mem u8).size (length xs)))) (cut_app 𝓛 (mem u8) xs (drop_list a.len a.bytes) b p) $
+          use1 𝓛 (‵ front_at ⊛ ‵ (cells (mem u8) (drop_list a.len a.bytes) b (at p (mem u8).size (length xs))))
+              (cut_app 𝓛 (mem u8) xs (drop_list a.len a.bytes) b p) $
           split ! $ move ! (2 ∷ 3 ∷ []) $ join ! $ move ! (2 ∷ 0 ∷ []) $ join ! $ move ! (2 ∷ 3 ∷ 4 ∷ 1 ∷ 0 ∷ []) $ group ! 5 $
           use1 𝓛 (later (some (lent xs (length xs))))
           (lends_Elements 𝓛 Id u8 (after d) (named 0) κ q b o b p γ xs room (Rest f) (put f long) (Id.coded.code d) (Id.coded.code d)) $
@@ -177,9 +187,12 @@ module _ {M : Type 1} {𝓤 : Ura M} (𝓛 : Logic 𝓤) (κ : Lft) (q : Share) 
 meets : {M : Type 1} {𝓤 : Ura M} (𝓛 : Logic 𝓤) (at_mem : Memory → SProp 𝓤) (run : Routine → Fun 𝓤) (𝓣 : Tables 𝓤 𝓛.H)
     → Meets 𝓛 F.ended.signature (WpFn 𝓤 𝓛.H 𝓣.C 𝓣.Λ code.function) (closing 𝓛 F.ended (F.clauses 𝓛 at_mem run))
 meets {𝓤 = 𝓤} 𝓛 at_mem run 𝓣 =
-    walk_Meets 𝓛 F.ended stayed (Goes-spent_ref 𝓛 1 (0 ∷ []) tt (plain (λ _. Id)), tt) (F.clauses 𝓛 at_mem run) (WpFn 𝓤 𝓛.H 𝓣.C 𝓣.Λ code.function) (WpFn-mono 𝓤 𝓛.H 𝓛.laws 𝓣 code.function)
-    (walked 𝓛 F.ended stayed (F.clauses 𝓛 at_mem run) (WpFn 𝓤 𝓛.H 𝓣.C 𝓣.Λ code.function) (λ κs. (mut_vals, tt)) (λ κs. (mut_Tells (named 0) κs.0 Id, tt))
-    (λ κs qs bounds a g are. via 𝓤 _ (fst∗ 𝓤 _ (emp 𝓤)) (walk 𝓛 κs.0 qs.0 a.0.ref_ptr.0 a.0.ref_ptr.1 a.0.ghost_name a.0.now at_mem run 𝓣.C 𝓣.Λ)))
+    walk_Meets 𝓛 F.ended stayed (Goes-spent_ref 𝓛 1 (0 ∷ []) tt (plain (λ _. Id)), tt) (F.clauses 𝓛 at_mem run)
+        (WpFn 𝓤 𝓛.H 𝓣.C 𝓣.Λ code.function) (WpFn-mono 𝓤 𝓛.H 𝓛.laws 𝓣 code.function)
+    (walked 𝓛 F.ended stayed (F.clauses 𝓛 at_mem run) (WpFn 𝓤 𝓛.H 𝓣.C 𝓣.Λ code.function) (λ κs. (mut_vals, tt))
+        (λ κs. (mut_Tells (named 0) κs.0 Id, tt))
+    (λ κs qs bounds a g are. via 𝓤 _ (fst∗ 𝓤 _ (emp 𝓤)) (walk 𝓛 κs.0 qs.0 a.0.ref_ptr.0 a.0.ref_ptr.1 a.0.ghost_name
+        a.0.now at_mem run 𝓣.C 𝓣.Λ)))
 
 pub as_mut_slice_spec : {M : Type 1} → stated.statement M
 unfolding tables_of

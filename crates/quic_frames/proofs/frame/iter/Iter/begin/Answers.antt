@@ -11,7 +11,8 @@ returns c = record {
   first = search rules;
   either = is_either c.args.strict None c.args.payload.now (λ i. (c.type_inv.payload i).fits);
   frames = λ found s. frames_are_items c.args.strict found 0 None c.args.payload.now s;
-  broken = λ found type reason s. broken_are_items c.args.strict found 0 None c.args.payload.now type reason (λ i. (c.type_inv.payload i).fits) s;
+  broken = λ found type reason s. broken_are_items c.args.strict found 0 None c.args.payload.now type reason
+      (λ i. (c.type_inv.payload i).fits) s;
   few = items_are_few c.args.strict 0 None c.args.payload.now (λ i. (c.type_inv.payload i).fits);
 }
 

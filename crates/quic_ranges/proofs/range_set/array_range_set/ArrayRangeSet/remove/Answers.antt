@@ -13,7 +13,8 @@ more_runs : (c : After-from_residual) (rs : List (Range ℕ)) → IsRunsOf (in_d
 more_runs c rs h =
     let splices : Splices (in_difference c.self.inside.runs.items c.args.x) c.self.inside.runs.items c.in-Some.change =
         rw (← c.as_slice.ensures) c.in-Some.ensures.some in
-    length-spliced (in_difference c.self.inside.runs.items c.args.x) c.self.inside.runs.items rs c.in-Some.change splices c.in_err-apply.ensures.more_runs (rw c.self.view_is h)
+    length-spliced (in_difference c.self.inside.runs.items c.args.x) c.self.inside.runs.items rs c.in-Some.change
+        splices c.in_err-apply.ensures.more_runs (rw c.self.view_is h)
 
 pub returns-in_err-apply-clause-no_more_runs : goal.returns-in_err-apply-clause-no_more_runs
 returns-in_err-apply-clause-no_more_runs c rs h le =

@@ -9,7 +9,8 @@ use Rattle.quic_ranges.proofs.range_set.array_range_set.ArrayRangeSet.subtract.G
 pub returns-in_err-left-clause-inline : goal.returns-in_err-left-clause-inline
 returns-in_err-left-clause-inline c rs h le =
     let runs : IsRunsOf (in_subtraction c.args.self.now c.args.other.now) (subtracted c.args.self.now c.args.other.now) =
-    rw (← c.self.view_is, ← c.other.view_is) (IsRunsOf-subtracted c.self.inside.runs.items c.other.inside.runs.items c.self.invariant.0 c.other.invariant.0) in
+    rw (← c.self.view_is, ← c.other.view_is) (IsRunsOf-subtracted c.self.inside.runs.items c.other.inside.runs.items
+        c.self.invariant.0 c.other.invariant.0) in
     let same : length rs ≡ length (subtracted c.args.self.now c.args.other.now) =
         ap length (IsRunsOf-unique (in_subtraction c.args.self.now c.args.other.now) rs _ h runs) in
     let whole : subtracted c.as_slice.result.now c.as_slice-2.result.now ≡ subtracted c.args.self.now c.args.other.now =

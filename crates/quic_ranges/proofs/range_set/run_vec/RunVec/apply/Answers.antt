@@ -18,18 +18,22 @@ returns-clause-ok c =
     let count = c.len-more.ensures.count in
     let rest : length c.args.self.now ≡ length xs - k = ap length (sym c.self.view_is) ∙ length-drop k xs in
     let held : Holds xs ys f t (f + c.len-more.result) × (c.if-less-more.self-inside.taken ≡ k) = elim c.if-less-more.branch [
-      | then-less-more+in_ok-map_err w ↦ rw w.self-inside-is (let items : w.insert.new.self.items ≡ insert xs t (record { start = 0; end = 0 }) = search rules in
+      | then-less-more+in_ok-map_err w ↦ rw w.self-inside-is
+          (let items : w.insert.new.self.items ≡ insert xs t (record { start = 0; end = 0 }) = search rules in
           (Holds-insert xs _ f t (f + c.len-more.result) _ (omega arith) (omega arith) (omega arith) items, refl))
-      | else-less-more+then-more-less w ↦ rw w.self-inside-is (Holds-drain xs _ f t (f + c.len-more.result) (omega arith) (omega arith) (search rules), refl)
+      | else-less-more+then-more-less w ↦ rw w.self-inside-is
+          (Holds-drain xs _ f t (f + c.len-more.result) (omega arith) (omega arith) (search rules), refl)
       | else-less-more+else-more-less w ↦ rw w.self-inside-is (Holds-same xs _ f t (f + c.len-more.result) (omega arith) refl, refl)
     ] in
     let written : c.write.new.runs ≡ take f ys ++ (vs ++ drop (f + c.len-more.result) ys) =
     c.write.ensures ∙ ap (λ l. take f l ++ (vs ++ drop (f + length vs) l)) c.as_mut_slice.ensures.value
     ∙ ap (λ m. take f ys ++ (vs ++ drop (f + m) ys)) (sym count) in
     let main =
-        spliced-behind xs ys c.write.new.runs vs k c.args.change.from c.args.change.to f t (f + c.len-more.result) c.self.invariant refl refl held.0 written in
+        spliced-behind xs ys c.write.new.runs vs k c.args.change.from c.args.change.to f t (f + c.len-more.result)
+            c.self.invariant refl refl held.0 written in
     ap (drop c.if-less-more.self-inside.taken) (take_at c.write.new.runs _ _ (c.write.auto.runs ∙ c.as_mut_slice.ensures.len))
-    ∙ subst (λ j. drop j c.write.new.runs ≡ after_splice c.args.self.now c.args.change) (sym held.1) (main ∙ ap (λ l. after_splice l c.args.change) c.self.view_is)
+    ∙ subst (λ j. drop j c.write.new.runs ≡ after_splice c.args.self.now c.args.change) (sym held.1)
+        (main ∙ ap (λ l. after_splice l c.args.change) c.self.view_is)
 
 pub drain-requires-clause-in_bounds : goal.drain-requires-clause-in_bounds
 drain-requires-clause-in_bounds c = grind (arith, common_steps)

@@ -5,8 +5,10 @@ use Rattle.quic_ranges.proofs.range_set.vec_range_set.RangeSet.subtract.Goals as
 
 pub loop-run-preserved : goal.loop-run-preserved
 loop-run-preserved c = record {
-  parts = c.loop-run.invariant.parts ∙ ap (λ l. c.loop-run.yielded ++ l) c.in-Some.ensures.steps ∙ sym (append_assoc c.loop-run.yielded (c.in-Some.run' ∷ []) c.next.new.self);
-  runs = IsRunsOf-subtraction_step c.args.self.now c.loop-run.yielded c.loop-run.self-inside.runs c.cut.new.runs c.in-Some.run' c.loop-run.invariant.runs c.in_ok-cut.ensures.difference;
+  parts = c.loop-run.invariant.parts ∙ ap (λ l. c.loop-run.yielded ++ l) c.in-Some.ensures.steps
+      ∙ sym (append_assoc c.loop-run.yielded (c.in-Some.run' ∷ []) c.next.new.self);
+  runs = IsRunsOf-subtraction_step c.args.self.now c.loop-run.yielded c.loop-run.self-inside.runs c.cut.new.runs
+      c.in-Some.run' c.loop-run.invariant.runs c.in_ok-cut.ensures.difference;
 }
 
 pub returns-in_err-cut-clause-err : goal.returns-in_err-cut-clause-err
@@ -22,7 +24,8 @@ pub returns-in_err-cut-clause-no_change : goal.returns-in_err-cut-clause-no_chan
 returns-in_err-cut-clause-no_change c h =
     let parts = c.loop-run.invariant.parts ∙ ap (λ l. c.loop-run.yielded ++ l) c.in-Some.ensures.steps in
     let kept =
-        IsRunsOf-subtraction_kept c.args.self.now c.args.other.now c.loop-run.yielded c.next.new.self c.loop-run.self-inside.runs c.in-Some.run' h parts c.loop-run.invariant.runs in
+        IsRunsOf-subtraction_kept c.args.self.now c.args.other.now c.loop-run.yielded c.next.new.self
+            c.loop-run.self-inside.runs c.in-Some.run' h parts c.loop-run.invariant.runs in
     let never : false ≡ true = c.in_err-cut.ensures.no_more_runs c.loop-run.self-inside.runs kept (omega arith) in
     absurd cc
 

@@ -7,7 +7,8 @@ use Rattle.std.specs.List.Sorted.{IsPartitionPoint, IsPartitionedBy}
 use Rattle.std.specs.declared.ops.Range.{Range}
 use Rattle.quic_ranges.specs.Runs.{RunsFrom, IsMaximalRuns, member}
 use Rattle.quic_ranges.specs.Places.{ends_below, starts_upto}
-use Rattle.quic_ranges.proofs.PlacesLemmas.{ends_below-all, ends_below-others, ends_partition, starts_partition, starts_upto-above, starts_upto-length, member-place}
+use Rattle.quic_ranges.proofs.PlacesLemmas.{ends_below-all, ends_below-others, ends_partition, starts_partition, starts_upto-above, starts_upto-length}
+use Rattle.quic_ranges.proofs.RemovalLemmas.{member-place}
 use Rattle.quic_c_sets.specs.declared.words.CRange.{CRange}
 use Rattle.quic_c_sets.specs.Sets.{range_of, runs_of}
 

@@ -8,7 +8,8 @@ use Rattle.quic_ranges.specs.Places.{ends_below, starts_upto}
 use Rattle.quic_ranges.specs.Runs.{in_range, member, in_union, in_difference, IsMaximalRuns, IsRunsOf}
 use Rattle.quic_ranges.specs.Splices.{BecomesRunsOf}
 use Rattle.quic_ranges.proofs.RunsLemmas.{range, inserted, removed, IsRunsOf-inserted, IsRunsOf-removed}
-use Rattle.quic_ranges.proofs.PlacesLemmas.{IsRunsOf-inside, covered, ends_below-at, ends_below-length, ends_below-starts_upto, hull-at, hull-none, inserted-places, member-at, removed-places, rest, rest-at, run-at, starts_upto-above, starts_upto-at, starts_upto-length}
+use Rattle.quic_ranges.proofs.PlacesLemmas.{IsRunsOf-inside, covered, ends_below-length, ends_below-starts_upto, hull-at, hull-none, inserted-places, run-at, starts_upto-above, starts_upto-length}
+use Rattle.quic_ranges.proofs.RemovalLemmas.{ends_below-at, member-at, removed-places, rest, rest-at, starts_upto-at}
 use Rattle.quic_c_sets.specs.declared.words.CRange.{CRange}
 use Rattle.quic_c_sets.specs.declared.change.Splice.{Splice}
 use Rattle.quic_c_sets.specs.declared.change.Substitute.{Substitute}

@@ -6,7 +6,7 @@ ghost use Rattle.quic_ranges.specs.Runs.{IsMaximalRuns, IsGreatest, member};
 ghost use Rattle.quic_frame_fields.specs.Acks.{parts_of, ranges_acked};
 ghost use Rattle.quic_frame_fields.specs.Field.{AreApart, AreBlocks};
 ghost use Rattle.quic_frames.specs.Found.{found_as};
-ghost use Rattle.quic_frame_fields.specs.Sets.{AreCounts};
+ghost use Rattle.quic_frame_fields.specs.Sets.{AreCounts, ranges_in, greatest_in, is_in, ack_of};
 ghost use Rattle.quic_frames.specs.InRange.{IsTypedFrame, AreTyped, HasNoTypeZero, CanStand, CanFollow};
 ghost use Rattle.quic_frames.specs.Least.{AreOrExceed, shortest_frames, frame_in, as_written, all_written};
 ghost use Rattle.quic_frames.specs.Meaning.{meaning_of};
@@ -15,7 +15,6 @@ ghost use Rattle.quic_frame_fields.specs.Reading.{Broken, IsBlocks, invalid, ite
 ghost use Rattle.quic_errors.specs.Codes.{long_type_reason};
 ghost use Rattle.quic_frames.specs.Placed.{Placed, ArePlaced, IsPlacedBroken, whole};
 ghost use Rattle.quic_frames.specs.Walk.{given, left, resumed, unplaced};
-ghost use Rattle.quic_frame_fields.specs.Sets.{ranges_in, greatest_in, is_in, ack_of};
 ghost use Rattle.quic_frame_fields.specs.Shortest.{shortest_frame, stream_header};
 ghost use Rattle.quic_frame_fields.specs.declared.frame.Stream.{Stream};
 ghost use Rattle.quic_frame_fields.specs.Table.{is_open};

@@ -1,5 +1,6 @@
 pub mod RunsLemmas
 pub mod PlacesLemmas
+pub mod RemovalLemmas
 mod NumbersLemmas
 mod SubtractLemmas
 pub mod SpliceLemmas

@@ -6,7 +6,8 @@ use Rattle.std.proofs.lemmas.Bool.Decides.{nat_tests}
 use Rattle.std.specs.declared.ops.Range.{Range}
 use Rattle.quic_ranges.specs.Intersections.{outside, as_runs, subtracted}
 use Rattle.quic_ranges.specs.Runs.{in_range, member, RunsFrom, IsMaximalRuns, IsRunsOf, in_subtraction, in_sum, in_union}
-use Rattle.quic_ranges.proofs.PlacesLemmas.{as_runs-empty, run-at}
+use Rattle.quic_ranges.proofs.PlacesLemmas.{run-at}
+use Rattle.quic_ranges.proofs.RemovalLemmas.{as_runs-empty}
 use Rattle.quic_ranges.proofs.SubtractLemmas.{member-append, outside-none, IsRunsOf-subtracted}
 use Rattle.quic_ranges.proofs.StepLemmas.{IsRunsOf-sum_step}
 

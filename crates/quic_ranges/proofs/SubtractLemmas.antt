@@ -8,7 +8,7 @@ use Rattle.quic_ranges.specs.Intersections.{outside, as_runs, intersections, sub
 use Rattle.quic_ranges.specs.Runs.{in_range, member, RunsFrom, IsMaximalRuns, IsRunsOf, in_subtraction}
 use Rattle.quic_ranges.specs.Places.{ends_below, starts_upto}
 use Rattle.quic_ranges.proofs.RunsLemmas.{range, RunsFrom-lower, RunsFrom-as_runs, member-as_runs, member-below}
-use Rattle.quic_ranges.proofs.PlacesLemmas.{as_runs-empty}
+use Rattle.quic_ranges.proofs.RemovalLemmas.{as_runs-empty}
 
 pub member-append : (y : ℕ) (rs ss : List (Range ℕ)) → member (rs ++ ss) y ≡ (member rs y || member ss y)
 member-append y [] ss = refl

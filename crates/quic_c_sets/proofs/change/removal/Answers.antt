@@ -1,5 +1,5 @@
 use Rattle.std.proofs.Common.{arith, refl}
-use Rattle.quic_ranges.proofs.PlacesLemmas.{IsRunsOf-apart}
+use Rattle.quic_ranges.proofs.RemovalLemmas.{IsRunsOf-apart}
 use Rattle.quic_c_sets.specs.Sets.{range_of, runs_of}
 use Rattle.quic_c_sets.proofs.Planning.{plan_removal}
 use Rattle.quic_c_sets.proofs.change.removal.Goals as goal

@@ -1,6 +1,6 @@
 use Rattle.std.proofs.Common.{◌≡◌, ◌-◌, arith, sym, ◌∙◌, suc}
 use Rattle.std.proofs.lemmas.Bool.{le-ltb}
-use Rattle.quic_ranges.proofs.PlacesLemmas.{member-before}
+use Rattle.quic_ranges.proofs.RemovalLemmas.{member-before}
 use Rattle.quic_ranges.specs.Places.{starts_upto}
 use Rattle.quic_c_sets.specs.Sets.{runs_of}
 use Rattle.quic_c_sets.proofs.Placing.{member_at}

@@ -1,6 +1,6 @@
 use Rattle.std.proofs.Common.{◌≡◌, ◌-◌, arith, sym, ◌∙◌, suc}
 use Rattle.std.proofs.lemmas.Bool.{le-ltb}
-use Rattle.quic_ranges.proofs.PlacesLemmas.{member-before, member-place}
+use Rattle.quic_ranges.proofs.RemovalLemmas.{member-before, member-place}
 use Rattle.quic_ranges.specs.Places.{starts_upto}
 use Rattle.quic_ranges.proofs.range_set.sorted_runs.contains.Goals as goal
 

@@ -1,5 +1,5 @@
 use Rattle.std.proofs.Common.{arith, refl}
-use Rattle.quic_ranges.proofs.PlacesLemmas.{Splices-removal, IsRunsOf-apart}
+use Rattle.quic_ranges.proofs.RemovalLemmas.{Splices-removal, IsRunsOf-apart}
 use Rattle.quic_ranges.proofs.range_set.sorted_runs.removal.Goals as goal
 
 pub returns-then-from-to-clause-none : goal.returns-then-from-to-clause-none

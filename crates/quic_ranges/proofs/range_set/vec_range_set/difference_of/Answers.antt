@@ -1,7 +1,7 @@
 use Rattle.std.proofs.Common.{◌≡◌, ◌<◌, ◌≤◌, ◌++◌, length, get_or, min, ap, sym, ◌∙◌, arith}
 use Rattle.std.proofs.lemmas.List.{append-nil}
 use Rattle.quic_ranges.specs.Intersections.{as_runs}
-use Rattle.quic_ranges.proofs.PlacesLemmas.{as_runs-full, as_runs-empty}
+use Rattle.quic_ranges.proofs.RemovalLemmas.{as_runs-full, as_runs-empty}
 use Rattle.quic_ranges.proofs.MergeLemmas.{difference-spent, difference-run, difference-end, RunsFrom-behind}
 use Rattle.std.proofs.lemmas.Grind.{common_steps}
 use Rattle.quic_ranges.proofs.range_set.vec_range_set.difference_of.Goals as goal

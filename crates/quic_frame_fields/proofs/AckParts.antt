@@ -16,7 +16,7 @@ use Rattle.quic_base.specs.Codec.{IsBegun, KeepsRoom}
 use Rattle.quic_base.specs.Writing.{Writes}
 use Rattle.quic_frame_fields.specs.Numbers.{AreNumeric, shortest_varints}
 use Rattle.quic_frame_fields.specs.Putting.{Flushes}
-use Rattle.quic_base.proofs.Encoders.{Wrote, wrote_nothing, wrote_more, writes_last, writes_within}
+use Rattle.quic_base.proofs.Encoders.{Wrote, writes_last, writes_within}
 use Rattle.quic_frame_fields.proofs.Sets.{bounded, ranges_in-last, length-ranges_in, HasBelow, has_below}
 
 pub ack_parts : (last : Bool) (greatest delay : ℕ) (range : ℕ × ℕ) (ranges : List (ℕ × ℕ)) (counts : Option EcnCounts)

@@ -1,8 +1,7 @@
 -- Numbers in their shortest encodings, one after the other.
-use Rattle.std.proofs.Common.{◌≡◌, ℕ, zero, suc, ◌+◌, ◌<◌, ◌≤◌, ◌^◌, List, [], ◌∷◌, ◌++◌, length, take, drop, get_or, refl, sym, ap, ◌∙◌, append_assoc, arith}
-use Rattle.std.proofs.lemmas.List.{length-append, append-nil}
-use Rattle.quic_base.specs.Varint.{shortest_varint, size}
-use Rattle.quic_base.proofs.PublicLaws.{length-short}
+use Rattle.std.proofs.Common.{◌≡◌, ℕ, zero, suc, ◌<◌, ◌≤◌, ◌^◌, List, [], ◌∷◌, ◌++◌, length, take, drop, get_or, refl, sym, ap, ◌∙◌, append_assoc, arith}
+use Rattle.std.proofs.lemmas.List.{append-nil}
+use Rattle.quic_base.specs.Varint.{shortest_varint}
 use Rattle.quic_frame_fields.specs.Numbers.{shortest_varints, AreNumeric}
 
 pub numeric_at : (ns : List ℕ) (i : ℕ) → AreNumeric ns → i < length ns → get_or ns i 0 < 2 ^ 62

@@ -2,7 +2,7 @@
 use Rattle.std.proofs.Common.{◌≡◌, ℕ, Bool, false, ◌&&◌, ◌||◌, not, List, [], ◌∷◌, ◌++◌, ap, ◌∙◌, arith, Result, Ok, Err, OnErr}
 use Rattle.std.proofs.lemmas.Bool.Decides.{nat_tests}
 use Rattle.std.specs.declared.ops.Range.{Range}
-use Rattle.quic_ranges.specs.Runs.{in_range, member, IsMaximalRuns, IsRunsOf, in_union, in_difference, in_sum, in_subtraction}
+use Rattle.quic_ranges.specs.Runs.{in_range, member, IsRunsOf, in_union, in_difference, in_sum, in_subtraction}
 use Rattle.quic_ranges.proofs.SubtractLemmas.{member-append}
 
 -- one run more

@@ -18,8 +18,12 @@ pub put_writes : {D E : Type 0} (put : Result (Unit {0}) D) (result : Result (Un
 put_writes (Ok u) (Ok v) bytes w s w' s' n ok err room same l =
     record { ok = ok; err = tt; full = tt; room = omega (arith, ap length ok, length-append w bytes) }
 put_writes (Err d) (Err e) bytes w s w' s' n ok err room same l =
-    record { ok = tt; err = record { done = []; left = bytes; whole = refl; stands = err ∙ sym (append-nil w) };
-        full = omega (arith, room.0); room = omega (arith, ap length err, room.1) }
+    record {
+      ok = tt;
+      err = record { done = []; left = bytes; whole = refl; stands = err ∙ sym (append-nil w) };
+      full = omega (arith, room.0);
+      room = omega (arith, ap length err, room.1);
+    }
 put_writes (Ok u) (Err e) bytes w s w' s' n ok err room same l = cc
 put_writes (Err d) (Ok v) bytes w s w' s' n ok err room same l = cc
 
@@ -82,7 +86,7 @@ pub writes_within : {D E : Type 0} (result : Result (Unit {0}) E) (refused : Res
     → Writes refused whole w s w2 s2
 writes_within result refused d a b c whole w w1 w2 s s1 s2 e parts so_far x is r =
     subst (λ k. Writes refused k w s w2 s2) (sym parts) (writes_last refused a (b ++ c) w w1 w2 s s1 s2 so_far
-        (writes_begun result refused d b c w1 w2 s1 s2 e x is r))
+    (writes_begun result refused d b c w1 w2 s1 s2 e x is r))
 
 -- the last of three encoders, after two that were not refused
 pub writes_third : {E F : Type 0} (second : Result (Unit {0}) E) (third : Result (Unit {0}) F) (a b c w w1 w2 w3 : List ℕ) (s s1 s2 s3 : ℕ)
@@ -90,4 +94,4 @@ pub writes_third : {E F : Type 0} (second : Result (Unit {0}) E) (third : Result
     → Writes third (a ++ (b ++ c)) w s w3 s3
 writes_third second third a b c w w1 w2 w3 s s1 s2 s3 first x is y =
     subst (λ k. Writes third k w s w3 s3) (append_assoc a b c)
-        (writes_last third (a ++ b) c w w2 w3 s s2 s3 (wrote_more second a b w w1 w2 s s1 s2 first x is) y)
+    (writes_last third (a ++ b) c w w2 w3 s s2 s3 (wrote_more second a b w w1 w2 s s1 s2 first x is) y)

@@ -42,11 +42,18 @@ pub padded_zeros : (xs zeros bytes : List ℕ) → length xs ≤ 20 → zeros �
     → bytes ≡ xs ++ drop (length xs) zeros → IsPadded (length xs) bytes
 padded_zeros xs zeros bytes short are is =
     let behind : drop (length xs) zeros ≡ replicate (20 - length xs) 0 =
-        ap (drop (length xs)) are ∙ drop-replicate (length xs) 20 0 in
+    ap (drop (length xs)) are ∙ drop-replicate (length xs) 20 0 in
     record {
       short = short;
-      width = omega (arith, ap length is, length-append xs (drop (length xs) zeros), length-drop (length xs) zeros,
-          ap length are, length-replicate {A = ℕ} 20 0, short);
+      width = omega (
+        arith,
+        ap length is,
+        length-append xs (drop (length xs) zeros),
+        length-drop (length xs) zeros,
+        ap length are,
+        length-replicate {A = ℕ} 20 0,
+        short,
+      );
       zeros = ap (drop (length xs)) is ∙ drop_at xs (drop (length xs) zeros) (length xs) refl ∙ behind;
     }
 

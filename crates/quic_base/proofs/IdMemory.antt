@@ -66,14 +66,14 @@ module _ {M : Type 1} {𝓤 : Ura M} (𝓛 : Logic 𝓤) (b o : ℕ) where
 
   pub fields_out : (v : the_row.Denot) → ent 𝓤 (sem 𝓛 (part_at the_row full_share v b o))
       (guard 𝓤 (length v.bytes ≡ 20) (sep 𝓤 (sem 𝓛 (cells (mem u8) v.bytes b (bytes_at o)))
-          (sep 𝓤 (sem 𝓛 (fat full_share (ty_int w32) b (len_at o) (vint w32 v.len))) Left)))
+      (sep 𝓤 (sem 𝓛 (fat full_share (ty_int w32) b (len_at o) (vint w32 v.len))) Left)))
   fields_out v =
       let lone = len_laws.single in
       let lones = (array_laws u8 byte_laws 20).single in
       qed 𝓛 (‵ (part_at the_row full_share v b o) ∷ []) ∵
       rewrite ! 0 (λ (f : Fml). ‵ f) (as_tuple v b o) refl $
       use1 𝓛 (‵ (fsep (part_at u32 full_share v.len b (len_at o))
-          (fsep (part_at (Array u8 20) full_share v.bytes b (bytes_at o)) ftrue)) ⊛ raw Left)
+      (fsep (part_at (Array u8 20) full_share v.bytes b (bytes_at o)) ftrue)) ⊛ raw Left)
       (Struct-left 𝓛 full_share the_type.name fields (lone, (lones, tt)) (v.len, (v.bytes, tt)) b o) $
       split ! $ fsplit ! $
       use1 𝓛 (‵ (fat full_share (ty_int w32) b (len_at o) (vint w32 v.len))) (uint_out 𝓛 full_share w32 v.len b (len_at o)) $
@@ -85,8 +85,8 @@ module _ {M : Type 1} {𝓤 : Ura M} (𝓛 : Logic 𝓤) (b o : ℕ) where
 
   pub fields_in : (v : the_row.Denot) → length v.bytes ≡ 20
       → ent 𝓤 (sep 𝓤 (sem 𝓛 (cells (mem u8) v.bytes b (bytes_at o)))
-          (sep 𝓤 (sem 𝓛 (fat full_share (ty_int w32) b (len_at o) (vint w32 v.len))) Left))
-          (sem 𝓛 (part_at the_row full_share v b o))
+      (sep 𝓤 (sem 𝓛 (fat full_share (ty_int w32) b (len_at o) (vint w32 v.len))) Left))
+      (sem 𝓛 (part_at the_row full_share v b o))
   fields_in v long =
       qed 𝓛 (‵ (cells (mem u8) v.bytes b (bytes_at o)) ∷ (‵ (fat full_share (ty_int w32) b (len_at o) (vint w32 v.len)) ⊛ raw Left) ∷ []) ∵
       use1 𝓛 (‵ (row u8 full_share v.bytes b (bytes_at o))) (whole_out 𝓛 u8 v.bytes b (bytes_at o)) $

@@ -54,7 +54,7 @@ pub long_id_unique : (id id' b c r s : List ℕ) → b ++ r ≡ c ++ s → IsLon
     → (id ≡ id') × (b ≡ c) × (r ≡ s)
 long_id_unique id id' b c r s e p q =
     let w : length id ∷ (id ++ r) ≡ length id' ∷ (id' ++ s) =
-        ap (λ l. l ++ r) (sym p.value) ∙ e ∙ ap (λ l. l ++ s) q.value in
+    ap (λ l. l ++ r) (sym p.value) ∙ e ∙ ap (λ l. l ++ s) q.value in
     let l : length id ≡ length id' = cc in
     let t : id ++ r ≡ id' ++ s = cc in
     let f : id ≡ id' = same_front id id' r s l t in
@@ -63,7 +63,7 @@ long_id_unique id id' b c r s e p q =
 -- one more byte of the text
 pub hex_more : (xs : List ℕ) (i : ℕ) → i < length xs → get_or xs i 0 < 256
     → flat_map hex_pair (take i xs) ++ padded_integral (format_spec 32 0 4 2 (2 ^ 64 - 1)) false []
-        (digits 16 false (get_or xs i 0)) ≡ flat_map hex_pair (take (i + 1) xs)
+    (digits 16 false (get_or xs i 0)) ≡ flat_map hex_pair (take (i + 1) xs)
 hex_more xs i l h =
     ap (λ t. flat_map hex_pair (take i xs) ++ t) (hex_byte false (get_or xs i 0) h)
     ∙ flat_map_more hex_pair [] (take i xs) (get_or xs i 0)

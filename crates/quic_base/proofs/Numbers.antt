@@ -65,7 +65,7 @@ num_injective (x ∷ xs) (y ∷ ys) ha hb el en =
     let e : x * 256 ^ length xs + num xs ≡ y * 256 ^ length xs + num ys = en ∙ ap (λ k. y * 256 ^ k + num ys) (sym l) in
     let hd : x ≡ y = same_lead x y (256 ^ length xs) (num xs) (num ys) bx by e in
     let tl : xs ≡ ys =
-        num_injective xs ys (tail_bytes x xs ha) (tail_bytes y ys hb) l (same_rest x y (256 ^ length xs) (num xs) (num ys) bx by e) in
+    num_injective xs ys (tail_bytes x xs ha) (tail_bytes y ys hb) l (same_rest x y (256 ^ length xs) (num xs) (num ys) bx by e) in
     cc
 
 -- what the program reads from k bytes
@@ -184,7 +184,7 @@ pub ipv6_unique : (x y : Ipv6Addr) (b c r s : List ℕ) → b ++ r ≡ c ++ s �
 ipv6_unique x y b c r s e p q =
     let u = octets_unique 16 (ipv6_octets x) (ipv6_octets y) b c r s e p q in
     let same : x.segments ≡ y.segments =
-        sym (segments_of-octets_of x.segments) ∙ ap segments_of u.0 ∙ segments_of-octets_of y.segments in
+    sym (segments_of-octets_of x.segments) ∙ ap segments_of u.0 ∙ segments_of-octets_of y.segments in
     (ap (λ (o : List ℕ). let a : Ipv6Addr = record { segments = o } in a) same, u.1, u.2)
 
 -- joining octets by twos loses nothing
@@ -201,5 +201,12 @@ octets_of-segments_of (suc n) (x ∷ y ∷ b) l h =
 pub takes_ipv6 : (old new b s : List ℕ) → old ≡ b ++ new → length b ≡ 16 → AreBytes b → s ≡ segments_of b
     → Takes (IsOctets 16 (octets_of s)) old new
 takes_ipv6 old new b s e l h v =
-    record { front = b; split = e; is = record { bytes = h; width = l;
-        value = sym (octets_of-segments_of 8 b l h) ∙ ap octets_of (sym v) } }
+    record {
+      front = b;
+      split = e;
+      is = record {
+        bytes = h;
+        width = l;
+        value = sym (octets_of-segments_of 8 b l h) ∙ ap octets_of (sym v);
+      };
+    }

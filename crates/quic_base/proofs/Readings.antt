@@ -93,7 +93,7 @@ number_again n (b ∷ t) rest v =
     let below : n < 64 * 256 ^ more = subst (λ (k : ℕ). n < k) w.limit v.fits in
     let e : b * 256 ^ more + num t ≡ v.tag * (64 * 256 ^ more) + n =
     subst (λ (k : ℕ). b * 256 ^ k + num t ≡ v.tag * (64 * 256 ^ more) + n) len
-        (subst (λ (k : ℕ). b * 256 ^ length t + num t ≡ v.tag * k + n) w.limit v.value) in
+    (subst (λ (k : ℕ). b * 256 ^ length t + num t ≡ v.tag * k + n) w.limit v.value) in
     let c = cut v.tag b (num t) n v.tag_fits small below e in
     let long : ltb (length (t ++ rest)) more ≡ false = le-ltb _ _ (omega (arith, length-append t rest)) in
     rw (c.tag_is, long, take_at t rest more len, drop_at t rest more len, c.value) refl

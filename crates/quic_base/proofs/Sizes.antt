@@ -33,8 +33,8 @@ size_of_bit bit = if nat_lt bit 6 then 1 else if nat_lt bit 14 then 2 else if na
 abbrev table : List ℕ
 table =
     1 ∷ 1 ∷ 1 ∷ 1 ∷ 1 ∷ 1 ∷ 2 ∷ 2 ∷ 2 ∷ 2 ∷ 2 ∷ 2 ∷ 2 ∷ 2 ∷ 4 ∷ 4 ∷ 4 ∷ 4 ∷ 4 ∷ 4 ∷ 4 ∷ 4 ∷ 4 ∷ 4 ∷ 4 ∷ 4 ∷ 4 ∷ 4 ∷ 4
-        ∷ 4 ∷ 8 ∷ 8 ∷ 8 ∷ 8 ∷ 8 ∷ 8 ∷ 8 ∷ 8 ∷ 8 ∷ 8 ∷ 8 ∷ 8 ∷ 8 ∷ 8 ∷ 8 ∷ 8 ∷ 8 ∷ 8 ∷ 8 ∷ 8 ∷ 8 ∷ 8 ∷ 8 ∷ 8 ∷ 8 ∷ 8 ∷ 8
-        ∷ 8 ∷ 8 ∷ 8 ∷ 8 ∷ 8 ∷ []
+    ∷ 4 ∷ 8 ∷ 8 ∷ 8 ∷ 8 ∷ 8 ∷ 8 ∷ 8 ∷ 8 ∷ 8 ∷ 8 ∷ 8 ∷ 8 ∷ 8 ∷ 8 ∷ 8 ∷ 8 ∷ 8 ∷ 8 ∷ 8 ∷ 8 ∷ 8 ∷ 8 ∷ 8 ∷ 8 ∷ 8 ∷ 8 ∷ 8
+    ∷ 8 ∷ 8 ∷ 8 ∷ 8 ∷ 8 ∷ []
 
 is_right : ℕ → Bool
 is_right bit = eqb (slice_index_or table bit 0) (size_of_bit bit)
@@ -56,8 +56,16 @@ low_bit bit n low small = grind (arith, from_bit bit n 62 low)
 by_bit : (bit n : ℕ) → 2 ^ bit ≤ n → n < 2 ^ suc bit → size_of_bit bit ≡ size n
 unfolding size
 by_bit bit n low high =
-    grind (arith, nat_tests, below_bit bit n 6 high, below_bit bit n 14 high, below_bit bit n 30 high,
-        from_bit bit n 6 low, from_bit bit n 14 low, from_bit bit n 30 low)
+    grind (
+      arith,
+      nat_tests,
+      below_bit bit n 6 high,
+      below_bit bit n 14 high,
+      below_bit bit n 30 high,
+      from_bit bit n 6 low,
+      from_bit bit n 14 low,
+      from_bit bit n 30 low,
+    )
 
 -- the lowest bit doesn't matter
 same_size : (n : ℕ) → size (bit_or n 1) ≡ size n

@@ -58,13 +58,13 @@ of_bytes : (t a b c d e f g i word : ℕ) (rest : List ℕ) → AreBytes (a ∷ 
     → IsWordOf t a (num (take (2 ^ t - 1) (b ∷ c ∷ d ∷ e ∷ f ∷ g ∷ i ∷ rest))) word
 of_bytes zero a b c d e f g i word rest fits lt t-is w =
     word_of 0 a 0 (b * 256 ^ 6 + (c * 256 ^ 5 + (d * 256 ^ 4 + (e * 256 ^ 3 + (f * 256 ^ 2 + (g * 256 + i)))))) word lt
-        t-is (omega arith) (omega (arith, fits 1, fits 2, fits 3, fits 4, fits 5, fits 6, fits 7)) (omega (arith, w))
+    t-is (omega arith) (omega (arith, fits 1, fits 2, fits 3, fits 4, fits 5, fits 6, fits 7)) (omega (arith, w))
 of_bytes (suc zero) a b c d e f g i word rest fits lt t-is w =
     word_of 1 a _ (c * 256 ^ 5 + (d * 256 ^ 4 + (e * 256 ^ 3 + (f * 256 ^ 2 + (g * 256 + i))))) word lt t-is
-        (omega (arith, fits 1)) (omega (arith, fits 2, fits 3, fits 4, fits 5, fits 6, fits 7)) (omega (arith, w))
+    (omega (arith, fits 1)) (omega (arith, fits 2, fits 3, fits 4, fits 5, fits 6, fits 7)) (omega (arith, w))
 of_bytes (suc (suc zero)) a b c d e f g i word rest fits lt t-is w =
     word_of 2 a _ (e * 256 ^ 3 + (f * 256 ^ 2 + (g * 256 + i))) word lt t-is (omega (arith, fits 1, fits 2, fits 3))
-        (omega (arith, fits 4, fits 5, fits 6, fits 7)) (omega (arith, w))
+    (omega (arith, fits 4, fits 5, fits 6, fits 7)) (omega (arith, w))
 of_bytes (suc (suc (suc zero))) a b c d e f g i word rest fits lt t-is w =
     word_of 3 a _ 0 word lt t-is (omega (arith, fits 1, fits 2, fits 3, fits 4, fits 5, fits 6, fits 7)) (omega arith) (omega (arith, w))
 of_bytes (suc (suc (suc (suc t)))) a b c d e f g i word rest fits lt t-is w = absurd (omega (arith, lt))
@@ -75,7 +75,7 @@ reads_word : (word : ℕ) (front : List ℕ) → length front ≡ 8 → AreBytes
 reads_word word (a ∷ b ∷ c ∷ d ∷ e ∷ f ∷ g ∷ i ∷ []) eight fits w =
     let lt : a < 256 = fits 0 in
     by_tag (a / 64) a word (b ∷ c ∷ d ∷ e ∷ f ∷ g ∷ i ∷ []) (omega arith) refl (omega arith)
-        (of_bytes (a / 64) a b c d e f g i word [] fits (omega arith) refl (omega (arith, w)))
+    (of_bytes (a / 64) a b c d e f g i word [] fits (omega arith) refl (omega (arith, w)))
 reads_word word front eight fits w = absurd (omega (arith, eight))
 
 -- its operators
@@ -90,11 +90,11 @@ front_of : (n width : ℕ) (bytes : List ℕ) → width ≤ length bytes → Tak
     → Encodes n (take width bytes)
 front_of n width bytes le t =
     let whole : t.front ++ drop width bytes ≡ take width bytes ++ drop width bytes =
-        sym t.split ∙ sym (take-append-drop width bytes) in
+    sym t.split ∙ sym (take-append-drop width bytes) in
     let sizes : length bytes ≡ length t.front + length (drop width bytes) =
-        ap length t.split ∙ length-append t.front (drop width bytes) in
+    ap length t.split ∙ length-append t.front (drop width bytes) in
     let len : length t.front ≡ length (take width bytes) =
-        omega (arith, sizes, length-drop width bytes, length-take-le width bytes le, le) in
+    omega (arith, sizes, length-drop width bytes, length-take-le width bytes le, le) in
     subst (Encodes n) (same_front t.front (take width bytes) _ _ len whole) t.is
 
 pub by_shifts : (word width : ℕ) (front : List ℕ) → length front ≡ 8 → AreBytes front → word ≡ from_be_bytes w64 front

@@ -22,7 +22,7 @@ use Rattle.quic_frame_fields.proofs.Sets.{bounded, ranges_in-last, length-ranges
 pub ack_parts : (last : Bool) (greatest delay : ℕ) (range : ℕ × ℕ) (ranges : List (ℕ × ℕ)) (counts : Option EcnCounts)
     → shortest_frame last (frame_of Ack (Number greatest ∷ Number delay ∷ Ranges (range ∷ ranges) ∷ counts_of counts))
     ≡ shortest_varints (ack_type counts ∷ greatest ∷ delay ∷ length ranges ∷ (range.1 - range.0) ∷ [])
-        ++ (shortest_below range.0 ranges ++ shortest_varints (count_numbers counts))
+    ++ (shortest_below range.0 ranges ++ shortest_varints (count_numbers counts))
 unfolding shortest_frame
 ack_parts last greatest delay range ranges None = simp (append_assoc, append-nil)
 ack_parts last greatest delay range ranges (Some counts) = simp (append_assoc, append-nil)
@@ -56,12 +56,12 @@ next_run all above run runs left w w1 s s1 x e =
     let bytes = shortest_below run.start (ranges_in runs) in
     let gap : above.start - ((run.end - 1) + 2) ≡ above.start - run.end - 1 = omega (arith, below.some) in
     let one : shortest_below above.start (ranges_in left) ≡ shortest_varint (above.start - ((run.end - 1) + 2))
-        ++ (shortest_varint (run.end - 1 - run.start) ++ bytes) =
+    ++ (shortest_varint (run.end - 1 - run.start) ++ bytes) =
     ap (λ (l : List (Range ℕ)). shortest_below above.start (ranges_in l)) e
     ∙ ap (shortest_below above.start) (ranges_in-last runs run) in
     let two : shortest_varint (above.start - ((run.end - 1) + 2))
-        ++ (shortest_varint (run.end - 1 - run.start) ++ bytes) ≡ shortest_varints (run_numbers above run) ++ bytes =
-        rw gap (simp (append_assoc, append-nil)) in
+    ++ (shortest_varint (run.end - 1 - run.start) ++ bytes) ≡ shortest_varints (run_numbers above run) ++ bytes =
+    rw gap (simp (append_assoc, append-nil)) in
     record {
       below = below;
       numeric = (omega (arith, x.bound), (omega (arith, below.apart, x.bound), tt));
@@ -73,7 +73,7 @@ pub record SetParts (delay : ℕ) (whole runs : List (Range ℕ)) (run : Range �
   pub numeric : AreNumeric (ty ∷ (run.end - 1) ∷ delay ∷ count ∷ (run.end - 1 - run.start) ∷ [])
   pub parts : (last : Bool) → shortest_frame last (ack_of delay whole counts)
       ≡ shortest_varints (ty ∷ (run.end - 1) ∷ delay ∷ count ∷ (run.end - 1 - run.start) ∷ [])
-          ++ (shortest_below run.start (ranges_in runs) ++ shortest_varints (count_numbers counts))
+      ++ (shortest_below run.start (ranges_in runs) ++ shortest_varints (count_numbers counts))
 
 pub small_type : (counts : Option EcnCounts) → ack_type counts < 2 ^ 62
 small_type None = omega arith
@@ -86,11 +86,16 @@ pub set_parts : (delay : ℕ) (whole runs : List (Range ℕ)) (run : Range ℕ) 
 set_parts delay whole runs run counts ty size e ty_is size_is delay_fits maximal all =
     let b = bounded runs whole run e maximal all in
     let count : size - 1 ≡ length (ranges_in runs) =
-        omega (arith, size_is, ap length e, length-append runs (run ∷ []), length-ranges_in runs) in
+    omega (arith, size_is, ap length e, length-append runs (run ∷ []), length-ranges_in runs) in
     let ranges : ranges_in whole ≡ ends_of run ∷ ranges_in runs = ap ranges_in e ∙ ranges_in-last runs run in
     record {
-      numeric = (omega (arith, ty_is, small_type counts), (b.greatest,
-          (delay_fits, (omega (arith, count, length-ranges_in runs, b.few), (omega (arith, b.greatest), tt)))));
+      numeric = (
+        omega (arith, ty_is, small_type counts),
+        (
+          b.greatest,
+          (delay_fits, (omega (arith, count, length-ranges_in runs, b.few), (omega (arith, b.greatest), tt))),
+        ),
+      );
       parts = λ last. rw (ranges, ty_is, count) (ack_parts last (run.end - 1) delay (ends_of run) (ranges_in runs) counts);
     }
 
@@ -112,7 +117,7 @@ same_counts (Some some) (Some others) e =
 
 pub same_ack : (greatest delay greatest' delay' : ℕ) (ranges ranges' : List (ℕ × ℕ)) (counts counts' : Option EcnCounts)
     → frame_of Ack (Number greatest ∷ Number delay ∷ Ranges ranges ∷ counts_of counts)
-        ≡ frame_of Ack (Number greatest' ∷ Number delay' ∷ Ranges ranges' ∷ counts_of counts')
+    ≡ frame_of Ack (Number greatest' ∷ Number delay' ∷ Ranges ranges' ∷ counts_of counts')
     → (ranges ≡ ranges') × (delay ≡ delay') × (counts ≡ counts')
 same_ack greatest delay greatest' delay' ranges ranges' counts counts' e =
     let values = ap (λ (m : Meaning). m.values) e in
@@ -137,8 +142,13 @@ as_written : (all held : List ℕ) (above : Range ℕ) (left : List (Range ℕ))
     → (x : HoldsRuns all held above left w s w1 s1)
     → WroteRuns all above left [] 0 (x.before ++ held) 0
 as_written all held above left w w1 s s1 x =
-    record { before = x.before ++ held; wrote = record { stands = refl; room = omega arith }; parts = x.parts;
-        maximal = x.maximal; bound = x.bound }
+    record {
+      before = x.before ++ held;
+      wrote = record { stands = refl; room = omega arith };
+      parts = x.parts;
+      maximal = x.maximal;
+      bound = x.bound;
+    }
 
 pub next_held : (all held : List ℕ) (above run : Range ℕ) (runs left : List (Range ℕ)) (w w1 : List ℕ) (s s1 : ℕ)
     (x : HoldsRuns all held above left w s w1 s1)
@@ -158,10 +168,10 @@ holds_more all held held' above run runs left w w1 w2 s s1 s2 x e b room is =
     let bytes : List ℕ = shortest_below run.start (ranges_in runs) in
     let numbers : List ℕ = shortest_varints (run_numbers above run) in
     let stands : w2 ≡ w ++ (x.before ++ b.done) =
-        b.stands ∙ ap (λ (l : List ℕ). l ++ b.done) x.wrote.stands ∙ append_assoc w x.before b.done in
+    b.stands ∙ ap (λ (l : List ℕ). l ++ b.done) x.wrote.stands ∙ append_assoc w x.before b.done in
     let kept = x.wrote.room in
     let moved : (x.before ++ (b.done ++ b.left)) ++ (numbers ++ bytes) ≡ ((x.before ++ b.done) ++ (b.left ++ numbers)) ++ bytes =
-        simp (append_assoc) in
+    simp (append_assoc) in
     record {
       before = x.before ++ b.done;
       wrote = record { stands = stands; room = omega (arith, kept, room) };
@@ -186,8 +196,8 @@ pub holds_last : {E : Type 0} (r : Result (Unit {0}) E) (all held : List ℕ) (a
     → HoldsRuns all held above left w s w1 s1 → left ≡ [] → Writes r held w1 s1 w2 s2 → Writes r all w s w2 s2
 holds_last r all held above left w w1 w2 s s1 s2 x none y =
     let whole : all ≡ x.before ++ held =
-        x.parts ∙ ap (λ (l : List (Range ℕ)). (x.before ++ held) ++ shortest_below above.start (ranges_in l)) none
-        ∙ append-nil (x.before ++ held) in
+    x.parts ∙ ap (λ (l : List (Range ℕ)). (x.before ++ held) ++ shortest_below above.start (ranges_in l)) none
+    ∙ append-nil (x.before ++ held) in
     subst (λ (l : List ℕ). Writes r l w s w2 s2) (sym whole) (writes_last r x.before held w w1 w2 s s1 s2 x.wrote y)
 
 -- nothing was appended of what is held, all of it, or, where it was refused, a beginning
@@ -218,4 +228,4 @@ pub writes_in_two : {E : Type 0} (r : Result (Unit {0}) E) (all front held below
     → Writes r ((held ++ below) ++ counts) w s w1 s1 → Writes r all w s w1 s1
 writes_in_two r all front held below counts w w1 s s1 parts is x =
     subst (λ (l : List ℕ). Writes r l w s w1 s1) (sym (parts ∙ sym (append_assoc front below counts)
-        ∙ ap (λ (l : List ℕ). (l ++ below) ++ counts) (sym is))) x
+    ∙ ap (λ (l : List ℕ). (l ++ below) ++ counts) (sym is))) x

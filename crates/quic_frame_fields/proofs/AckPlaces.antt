@@ -25,11 +25,13 @@ blocks_stand bytes a b c ty largest delay blocks rest fits one two three four =
     let t = blocks_take largest c blocks rest fits3 four in
     let last : c ≡ t.count_bytes ++ (blocks ++ rest) = t.parts ∙ append_assoc t.count_bytes blocks rest in
     let third : b ≡ (i ++ t.count_bytes) ++ (blocks ++ rest) =
-        j ∙ ap (λ (l : List ℕ). i ++ l) last ∙ sym (append_assoc i t.count_bytes (blocks ++ rest)) in
+    j ∙ ap (λ (l : List ℕ). i ++ l) last ∙ sym (append_assoc i t.count_bytes (blocks ++ rest)) in
     let second : a ≡ (g ++ (i ++ t.count_bytes)) ++ (blocks ++ rest) =
-        h ∙ ap (λ (l : List ℕ). g ++ l) third ∙ sym (append_assoc g (i ++ t.count_bytes) (blocks ++ rest)) in
-    (f ++ (g ++ (i ++ t.count_bytes)), e ∙ ap (λ (l : List ℕ). f ++ l) second
-        ∙ sym (append_assoc f (g ++ (i ++ t.count_bytes)) (blocks ++ rest))))))
+    h ∙ ap (λ (l : List ℕ). g ++ l) third ∙ sym (append_assoc g (i ++ t.count_bytes) (blocks ++ rest)) in (
+      f ++ (g ++ (i ++ t.count_bytes)),
+      e ∙ ap (λ (l : List ℕ). f ++ l) second
+          ∙ sym (append_assoc f (g ++ (i ++ t.count_bytes)) (blocks ++ rest)),
+    ))))
 
 -- of two ways to cut bytes, what is in front of the longer rest begins what is in front of the shorter
 front_of : (front left header rest : List ℕ) → front ++ left ≡ header ++ rest → length left ≤ length rest
@@ -38,12 +40,12 @@ front_of front left header rest e fewer =
     let back = take (length rest - length left) rest in
     let over = drop (length rest - length left) rest in
     let whole : front ++ left ≡ (header ++ back) ++ over =
-        e ∙ ap (λ (l : List ℕ). header ++ l) (sym (take-append-drop (length rest - length left) rest))
-        ∙ sym (append_assoc header back over) in
+    e ∙ ap (λ (l : List ℕ). header ++ l) (sym (take-append-drop (length rest - length left) rest))
+    ∙ sym (append_assoc header back over) in
     let sizes : length front + length left ≡ length header + length rest =
-        sym (length-append front left) ∙ ap length e ∙ length-append header rest in
+    sym (length-append front left) ∙ ap length e ∙ length-append header rest in
     let long : length (header ++ back) ≡ length front =
-        omega (arith, length-append header back, length-take (length rest - length left) rest, sizes) in
+    omega (arith, length-append header back, length-take (length rest - length left) rest, sizes) in
     sym (take_at front left (length front) refl) ∙ ap (take (length front)) whole
     ∙ take_at (header ++ back) over (length front) long
 
@@ -63,10 +65,10 @@ stand_in_frame type ack bytes behind front left fits e r cut =
     let header : List ℕ = t.front ++ (l.front ++ (d.front ++ b.count_bytes)) in
     let back : List ℕ = take (length r.behind_blocks - length left) r.behind_blocks in
     let four : r.behind_delay ≡ b.count_bytes ++ (a.additional ++ r.behind_blocks) =
-        b.parts ∙ append_assoc b.count_bytes a.additional r.behind_blocks in
+    b.parts ∙ append_assoc b.count_bytes a.additional r.behind_blocks in
     let three : r.behind_largest ≡ (d.front ++ b.count_bytes) ++ (a.additional ++ r.behind_blocks) =
-        d.split ∙ ap (λ (m : List ℕ). d.front ++ m) four
-        ∙ sym (append_assoc d.front b.count_bytes (a.additional ++ r.behind_blocks)) in
+    d.split ∙ ap (λ (m : List ℕ). d.front ++ m) four
+    ∙ sym (append_assoc d.front b.count_bytes (a.additional ++ r.behind_blocks)) in
     let two : behind ≡ (l.front ++ (d.front ++ b.count_bytes)) ++ (a.additional ++ r.behind_blocks) =
     l.split ∙ ap (λ (m : List ℕ). l.front ++ m) three
     ∙ sym (append_assoc l.front (d.front ++ b.count_bytes) (a.additional ++ r.behind_blocks)) in
@@ -75,7 +77,7 @@ stand_in_frame type ack bytes behind front left fits e r cut =
     ∙ sym (append_assoc t.front (l.front ++ (d.front ++ b.count_bytes)) (a.additional ++ r.behind_blocks)) in
     let here : front ≡ (header ++ a.additional) ++ back =
     front_of front left (header ++ a.additional) r.behind_blocks
-        (sym cut ∙ one ∙ sym (append_assoc header a.additional r.behind_blocks)) r.fewer in
+    (sym cut ∙ one ∙ sym (append_assoc header a.additional r.behind_blocks)) r.fewer in
     let ranges : ranges_acked ack ≡ b.range ∷ b.ranges = ranges_are a.largest b.range b.ranges a.additional b.blocks in
     let count : length b.ranges ≡ length (ranges_acked ack) - 1 = omega (arith, ap length ranges) in
     record {
@@ -87,8 +89,24 @@ stand_in_frame type ack bytes behind front left fits e r cut =
         l.front ++ (d.front ++ b.count_bytes),
         refl,
         t.is,
-        (l.front, d.front ++ b.count_bytes, refl, l.is, (d.front, b.count_bytes, refl, d.is,
-            (b.count_bytes, [], sym (append-nil b.count_bytes),
-            subst (λ (n : ℕ). Encodes n b.count_bytes) count b.count, refl))),
+        (
+          l.front,
+          d.front ++ b.count_bytes,
+          refl,
+          l.is,
+          (
+            d.front,
+            b.count_bytes,
+            refl,
+            d.is,
+            (
+              b.count_bytes,
+              [],
+              sym (append-nil b.count_bytes),
+              subst (λ (n : ℕ). Encodes n b.count_bytes) count b.count,
+              refl,
+            ),
+          ),
+        ),
       );
     }

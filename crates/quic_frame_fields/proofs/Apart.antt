@@ -77,9 +77,14 @@ pub acked_apart : (greatest : ℕ) (bytes : List ℕ) → IsBlocks greatest byte
 unfolding after_blocks ranges_of
 acked_apart greatest bytes v =
     let a =
-        bind_ok (block_at greatest bytes) (λ block. below_at (length (ranges_of greatest bytes) - 1) block.0 block.1) [] v in
+    bind_ok (block_at greatest bytes) (λ block. below_at (length (ranges_of greatest bytes) - 1) block.0 block.1) [] v in
     let are : first_and greatest (block_at greatest bytes) ≡ (a.0.0, greatest) ∷ ranges_below (length a.0.1) a.0.0 a.0.1 =
-        ap (first_and greatest) a.1 in
+    ap (first_and greatest) a.1 in
     let apart = below_are_apart (length a.0.1) (a.0.0, greatest) a.0.1 (block_low greatest bytes a.0 a.1) in
-    record { first = (a.0.0, greatest); others = ranges_below (length a.0.1) a.0.0 a.0.1; are = are; top = refl;
-        apart = subst AreApart (sym are) apart }
+    record {
+      first = (a.0.0, greatest);
+      others = ranges_below (length a.0.1) a.0.0 a.0.1;
+      are = are;
+      top = refl;
+      apart = subst AreApart (sym are) apart;
+    }

@@ -28,9 +28,15 @@ block_takes greatest bytes x fits e =
     let small : a.0.0 ≤ greatest = ltb-false _ _ g.0 in
     let t = varint_takes bytes a.0.0 a.0.1 fits a.1 in
     let back : a.0.0 ≡ greatest - (greatest - a.0.0) = omega arith in
-    subst (λ (y : ℕ × List ℕ). (y.0 ≤ greatest) × TakesOne bytes y.1 (greatest - y.0)) g.1
-    (omega arith, record { front = t.front; parts = t.split; encoded = subst (λ (k : ℕ). Encodes k t.front) back t.is;
-        left_fits = back_bytes t.front a.0.1 (subst AreBytes t.split fits) })
+    subst (λ (y : ℕ × List ℕ). (y.0 ≤ greatest) × TakesOne bytes y.1 (greatest - y.0)) g.1 (
+      omega arith,
+      record {
+        front = t.front;
+        parts = t.split;
+        encoded = subst (λ (k : ℕ). Encodes k t.front) back t.is;
+        left_fits = back_bytes t.front a.0.1 (subst AreBytes t.split fits);
+      },
+    )
 
 pub block_again : (greatest low : ℕ) (front left : List ℕ) → low ≤ greatest → Encodes (greatest - low) front
     → block_at greatest (front ++ left) ≡ Ok (low, left)
@@ -49,9 +55,15 @@ gap_takes low bytes x fits e =
     let small : a.0.0 + 2 ≤ low = ltb-false _ _ g.0 in
     let t = varint_takes bytes a.0.0 a.0.1 fits a.1 in
     let back : a.0.0 ≡ low - ((low - (a.0.0 + 2)) + 2) = omega arith in
-    subst (λ (y : ℕ × List ℕ). (y.0 + 2 ≤ low) × TakesOne bytes y.1 (low - (y.0 + 2))) g.1
-    (omega arith, record { front = t.front; parts = t.split; encoded = subst (λ (k : ℕ). Encodes k t.front) back t.is;
-        left_fits = back_bytes t.front a.0.1 (subst AreBytes t.split fits) })
+    subst (λ (y : ℕ × List ℕ). (y.0 + 2 ≤ low) × TakesOne bytes y.1 (low - (y.0 + 2))) g.1 (
+      omega arith,
+      record {
+        front = t.front;
+        parts = t.split;
+        encoded = subst (λ (k : ℕ). Encodes k t.front) back t.is;
+        left_fits = back_bytes t.front a.0.1 (subst AreBytes t.split fits);
+      },
+    )
 
 pub gap_again : (low high : ℕ) (front left : List ℕ) → high + 2 ≤ low → Encodes (low - (high + 2)) front
     → gap_at low (front ++ left) ≡ Ok (high, left)
@@ -75,7 +87,7 @@ below_takes zero low bytes left fits e =
     record { front = []; ranges = []; parts = ok_is bytes left e; len = refl; below = refl }
 below_takes (suc count) low bytes left fits e =
     let a =
-        bind_ok (gap_at low bytes) (λ gap. block_at gap.0 gap.1 >>= λ block. below_at count block.0 block.1) left e in
+    bind_ok (gap_at low bytes) (λ gap. block_at gap.0 gap.1 >>= λ block. below_at count block.0 block.1) left e in
     let b = bind_ok (block_at a.0.0 a.0.1) (λ block. below_at count block.0 block.1) left a.2 in
     let g = gap_takes low bytes a.0 fits a.1 in
     let h = block_takes a.0.0 a.0.1 b.0 g.1.left_fits b.1 in
@@ -111,7 +123,7 @@ below_are [] zero low bytes le s = refl
 below_are [] (suc n) low bytes le s = rw s refl
 below_are (range ∷ ranges) n low bytes le s =
     let sizes : length bytes ≡ length s.0 + (length s.1 + length s.2) =
-        ap length s.3 ∙ length-append s.0 (s.1 ++ s.2) ∙ ap (λ (k : ℕ). length s.0 + k) (length-append s.1 s.2) in
+    ap length s.3 ∙ length-append s.0 (s.1 ++ s.2) ∙ ap (λ (k : ℕ). length s.0 + k) (length-append s.1 s.2) in
     let some : 0 < length s.0 = varint_some (low - (range.1 + 2)) s.0 s.6 in
     let gap = ap (gap_at low) s.3 ∙ gap_again low range.1 s.0 (s.1 ++ s.2) s.5 s.6 in
     let block = block_again range.1 range.0 s.1 s.2 s.4 s.7 in
@@ -120,7 +132,7 @@ below_are (range ∷ ranges) n low bytes le s =
     step : (n : ℕ) (bytes : List ℕ) {block others : List ℕ} → length bytes ≤ n → 0 < length bytes
         → gap_at low bytes ≡ Ok (range.1, block) → block_at range.1 block ≡ Ok (range.0, others)
         → ((m : ℕ) → length others ≤ m → ranges_below m range.0 others ≡ ranges) → length others < length bytes
-            → ranges_below n low bytes ≡ range ∷ ranges
+        → ranges_below n low bytes ≡ range ∷ ranges
     step n [] le some gap block rest lt = absurd (omega arith)
     step zero (b ∷ bytes) le some gap block rest lt = absurd (omega arith)
     step (suc n) (b ∷ bytes) le some gap block rest lt =
@@ -180,7 +192,7 @@ pub ranges_again : (greatest : ℕ) (range : ℕ × ℕ) (ranges : List (ℕ × 
 unfolding after_blocks
 ranges_again greatest range ranges front left s =
     let regrouped : front ++ left ≡ s.0 ++ (s.1 ++ left) =
-        ap (λ (l : List ℕ). l ++ left) s.2 ∙ append_assoc s.0 s.1 left in
+    ap (λ (l : List ℕ). l ++ left) s.2 ∙ append_assoc s.0 s.1 left in
     let v : Encodes (greatest - range.0) s.0 = subst (λ (k : ℕ). Encodes (k - range.0) s.0) s.3 s.5 in
     let le : range.0 ≤ greatest = subst (λ (k : ℕ). range.0 ≤ k) s.3 s.4 in
     let one = block_again greatest range.0 s.0 (s.1 ++ left) le v in
@@ -193,20 +205,23 @@ cut_off bytes left = (take (length bytes - length left) bytes, drop (length byte
 cut_is : (bytes front left : List ℕ) → bytes ≡ front ++ left → cut_off bytes left ≡ (front, left)
 cut_is bytes front left e =
     let len : length front ≡ length (front ++ left) - length left = omega (arith, length-append front left) in
-    rw (e, take_at front left (length (front ++ left) - length left) len,
-        drop_at front left (length (front ++ left) - length left) len) refl
+    rw (
+      e,
+      take_at front left (length (front ++ left) - length left) len,
+      drop_at front left (length (front ++ left) - length left) len,
+    ) refl
 
 pub blocks_take : (greatest : ℕ) (bytes back left : List ℕ) → AreBytes bytes
     → blocks_at greatest bytes ≡ Ok (back, left) → TakesBlocks greatest bytes back left
 unfolding blocks_at
 blocks_take greatest bytes back left fits e =
     let a =
-        bind_ok (varint_at bytes) (λ count. after_blocks count.0 greatest count.1 >>= λ l. Ok (cut_off count.1 l)) (back, left) e in
+    bind_ok (varint_at bytes) (λ count. after_blocks count.0 greatest count.1 >>= λ l. Ok (cut_off count.1 l)) (back, left) e in
     let b = bind_ok (after_blocks a.0.0 greatest a.0.1) (λ l. Ok (cut_off a.0.1 l)) (back, left) a.2 in
     let t = varint_takes bytes a.0.0 a.0.1 fits a.1 in
     let r = ranges_take a.0.0 greatest a.0.1 b.0 (back_bytes t.front a.0.1 (subst AreBytes t.split fits)) b.1 in
     let same : (r.front, b.0) ≡ (back, left) =
-        sym (cut_is a.0.1 r.front b.0 r.parts) ∙ ok_is (cut_off a.0.1 b.0) (back, left) b.2 in
+    sym (cut_is a.0.1 r.front b.0 r.parts) ∙ ok_is (cut_off a.0.1 b.0) (back, left) b.2 in
     subst (λ (p : List ℕ × List ℕ). TakesBlocks greatest bytes p.0 p.1) same
     (record {
       count_bytes = t.front;
@@ -258,7 +273,7 @@ blocks_of greatest bytes fits valid =
     let t = ranges_take (length (ranges_of greatest bytes) - 1) greatest bytes [] fits valid in
     let whole : bytes ≡ t.front = t.parts ∙ append-nil t.front in
     let blocks : AreBlocks greatest (t.range ∷ t.ranges) bytes =
-        subst (AreBlocks greatest (t.range ∷ t.ranges)) (sym whole) t.blocks in
+    subst (AreBlocks greatest (t.range ∷ t.ranges)) (sym whole) t.blocks in
     record { range = t.range; ranges = t.ranges; are = ranges_are greatest t.range t.ranges bytes blocks; blocks = blocks }
 
 -- the ranges that are read of valid blocks are theirs
@@ -302,7 +317,7 @@ number_stops : {A : Type 0} (bytes : List ℕ) (e : Fault) (is_large : ℕ → B
     → NumberStops bytes e is_large After → (varint_at bytes >>= λ n. cond (is_large n.0) (Err Malformed) (k n)) ≡ Err e
 number_stops bytes e is_large k After fits after (inl s) =
     let failed =
-        err_of (varint_at bytes) (λ x h. let t = varint_takes bytes x.0 x.1 fits h in s.0 x.0 t.front x.1 t.split t.is) in
+    err_of (varint_at bytes) (λ x h. let t = varint_takes bytes x.0 x.1 fits h in s.0 x.0 t.front x.1 t.split t.is) in
     rw (failed.1, varint_fails bytes failed.0 failed.1, s.1) refl
 number_stops bytes e is_large k After fits after (inr (inl s)) =
     let one = ap varint_at s.3 ∙ varint_again s.0 s.1 s.2 s.4 in
@@ -315,7 +330,7 @@ number_stops bytes e is_large k After fits after (inr (inr s)) =
 -- a step that tests a number, and what follows it
 tested : {A : Type 0} (r : Result (ℕ × List ℕ) Fault) (is_large : ℕ → Bool) (f : ℕ → ℕ) (k : ℕ × List ℕ → Result A Fault)
     → ((r >>= λ n. cond (is_large n.0) (Err Malformed) (Ok (f n.0, n.1))) >>= k)
-        ≡ (r >>= λ n. cond (is_large n.0) (Err Malformed) (k (f n.0, n.1)))
+    ≡ (r >>= λ n. cond (is_large n.0) (Err Malformed) (k (f n.0, n.1)))
 tested (Err e) is_large f k = refl
 tested (Ok x) is_large f k = by_test (is_large x.0)
   where
@@ -338,8 +353,8 @@ below_fails (suc count) low bytes e fits h =
     number_fails bytes e (λ gap. ltb low (gap + 2)) (λ n. after_gap count (low - (n.0 + 2), n.1)) _ fits
     (λ gap left left_fits g.
     let g1 =
-        sym (tested (varint_at left) (λ block. ltb (low - (gap + 2)) block) (λ block. low - (gap + 2) - block) (after_block count))
-        ∙ g in
+    sym (tested (varint_at left) (λ block. ltb (low - (gap + 2)) block) (λ block. low - (gap + 2) - block) (after_block count))
+    ∙ g in
     number_fails left e (λ block. ltb (low - (gap + 2)) block) (λ n. after_block count (low - (gap + 2) - n.0, n.1)) _ left_fits
     (λ block others others_fit f. below_fails count (low - (gap + 2) - block) others e others_fit f) g1) h1
 
@@ -360,8 +375,8 @@ pub ranges_fail : (count greatest : ℕ) (bytes : List ℕ) (e : Fault) → AreB
 unfolding after_blocks block_at
 ranges_fail count greatest bytes e fits g =
     let g1 =
-        sym (tested (varint_at bytes) (λ block. ltb greatest block) (λ block. greatest - block) (after_block count))
-        ∙ g in
+    sym (tested (varint_at bytes) (λ block. ltb greatest block) (λ block. greatest - block) (after_block count))
+    ∙ g in
     number_fails bytes e (λ block. ltb greatest block) (λ n. after_block count (greatest - n.0, n.1)) _ fits
     (λ block others others_fit f. below_fails count (greatest - block) others e others_fit f) g1
 
@@ -382,7 +397,7 @@ unfolding blocks_at
 blocks_fail greatest bytes e fits h =
     number_fails bytes e (λ count. false) (λ count. after_blocks count.0 greatest count.1 >>= cut_all count.1) _ fits
     (λ count left left_fits g. ranges_fail count greatest left e left_fits
-        (mapped_err (after_blocks count greatest left) (cut_off left) e g)) h
+    (mapped_err (after_blocks count greatest left) (cut_off left) e g)) h
 
 pub blocks_stop : (greatest : ℕ) (bytes : List ℕ) (e : Fault) → AreBytes bytes → BlocksStop greatest bytes e
     → blocks_at greatest bytes ≡ failure e

@@ -45,7 +45,7 @@ pub next_number : (ns bytes : List ℕ) (n : ℕ) (after : List ℕ) → AreByte
 next_number [] bytes n after fits s e = absurd (omega (arith, after_shorter bytes n after fits e, ap length s))
 next_number (k ∷ ns) bytes n after fits s e =
     let pair : (k, s.1) ≡ (n, after) =
-        ok_is (k, s.1) (n, after) (sym (varint_again k s.0 s.1 s.3) ∙ ap varint_at (sym s.2) ∙ e) in
+    ok_is (k, s.1) (n, after) (sym (varint_again k s.0 s.1 s.3) ∙ ap varint_at (sym s.2) ∙ e) in
     record {
       others = ns;
       are = ap (λ (p : ℕ × List ℕ). p.0 ∷ ns) pair;
@@ -107,8 +107,15 @@ one_counted : (count total n more count' total' : ℕ) → more ≡ size n → c
     → (ns : List ℕ) → AreCounted count total ns → AreCounted count' total' (ns ++ n ∷ [])
 one_counted count total n more count' total' more_is c t ns a = record {
   many = let many = a.many in omega (arith, c, many, length-append ns (n ∷ []));
-  long = let long = a.long in omega (arith, t, long, more_is, ap length (all_short-last ns n),
-      length-append (shortest_varints ns) (shortest_varint n), length-short n);
+  long = let long = a.long in omega (
+    arith,
+    t,
+    long,
+    more_is,
+    ap length (all_short-last ns n),
+    length-append (shortest_varints ns) (shortest_varint n),
+    length-short n,
+  );
 }
 
 same_counted : (count total count' total' : ℕ) → count' ≡ count + 0 → total' ≡ total + 0 → (ns : List ℕ)
@@ -145,10 +152,10 @@ ones_counted (suc k) [] count total count' total' ns fits le ones c t r = absurd
 ones_counted (suc k) (n ∷ rest) count total count' total' ns fits le ones c t r =
     let lt : n < 64 = ones 0 (omega arith) in
     let next =
-        read_more (AreCounted count total) (AreCounted (count + 1) (total + 1)) (n ∷ rest) ns n rest fits r
-            (one_at n rest lt) (one_counted count total n 1 (count + 1) (total + 1) (sym (one_size n lt)) refl refl) in
+    read_more (AreCounted count total) (AreCounted (count + 1) (total + 1)) (n ∷ rest) ns n rest fits r
+    (one_at n rest lt) (one_counted count total n 1 (count + 1) (total + 1) (sym (one_size n lt)) refl refl) in
     ones_counted k rest (count + 1) (total + 1) count' total' ns (after_fits (n ∷ rest) n rest fits (one_at n rest lt))
-        (omega (arith, le)) (λ i i_lt. ones (suc i) (omega (arith, i_lt))) (omega (arith, c)) (omega (arith, t)) next
+    (omega (arith, le)) (λ i i_lt. ones (suc i) (omega (arith, i_lt))) (omega (arith, c)) (omega (arith, t)) next
 
 -- one more, of any width
 pub more_counted : (rest : List ℕ) (count total n more count' total' : ℕ) (after ns : List ℕ) → AreBytes rest
@@ -156,7 +163,7 @@ pub more_counted : (rest : List ℕ) (count total n more count' total' : ℕ) (a
     → ReadSome (AreCounted count total) rest ns → ReadSome (AreCounted count' total') after ns
 more_counted rest count total n more count' total' after ns fits e more_is c t r =
     read_more (AreCounted count total) (AreCounted count' total') rest ns n after fits r e
-        (one_counted count total n more count' total' more_is c t)
+    (one_counted count total n more count' total' more_is c t)
 
 -- the shortest encoding is no longer than the one that was read
 pub after_least : (rest : List ℕ) (n : ℕ) (after : List ℕ) → AreBytes rest → varint_at rest ≡ Ok (n, after)
@@ -170,9 +177,16 @@ pub longer_at : (ns : List ℕ) (i total more : ℕ) → i < length ns → more 
 longer_at ns i total more lt more_is e =
     let next : i + 1 ≡ suc i = omega arith in
     let parts : shortest_varints (take (i + 1) ns) ≡ shortest_varints (take i ns) ++ shortest_varint (get_or ns i 0) =
-        ap (λ (k : ℕ). shortest_varints (take k ns)) next ∙ all_short-at ns i lt in
-    omega (arith, e, more_is, ap length parts, length-append (shortest_varints (take i ns))
-        (shortest_varint (get_or ns i 0)), length-short (get_or ns i 0))
+    ap (λ (k : ℕ). shortest_varints (take k ns)) next ∙ all_short-at ns i lt in
+    omega (
+      arith,
+      e,
+      more_is,
+      ap length parts,
+      length-append (shortest_varints (take i ns))
+          (shortest_varint (get_or ns i 0)),
+      length-short (get_or ns i 0),
+    )
 
 -- bytes that are as long as the shortest encodings are these
 pub short_already : (ns bytes : List ℕ) → AreEncoded ns bytes
@@ -183,7 +197,7 @@ short_already (n ∷ ns) bytes s =
     let others = short_already ns s.1 s.4 in
     let parts : length bytes ≡ length s.0 + length s.1 = ap length s.2 ∙ length-append s.0 s.1 in
     let wanted : length (shortest_varints (n ∷ ns)) ≡ length (shortest_varint n)
-        + length (shortest_varints ns) = length-append (shortest_varint n) (shortest_varints ns) in (
+    + length (shortest_varints ns) = length-append (shortest_varint n) (shortest_varints ns) in (
       omega (arith, first.0, others.0, parts, wanted),
       λ same.
           s.2 ∙ ap (λ (l : List ℕ). l ++ s.1) (first.1 (omega (arith, same, parts, wanted, first.0, others.0)))
@@ -199,7 +213,7 @@ pub wrote_one : {E : Type 0} (r : Result (Unit {0}) E) (n : ℕ) (w w1 w2 : List
     → WroteThem w s w2 s2 (ns ++ n ∷ [])
 wrote_one r n w w1 w2 s s1 s2 x ok ns so_far =
     subst (λ (l : List ℕ). Wrote l w s w2 s2) (sym (all_short-last ns n))
-        (wrote_more r (shortest_varints ns) (shortest_varint n) w w1 w2 s s1 s2 so_far x ok)
+    (wrote_more r (shortest_varints ns) (shortest_varint n) w w1 w2 s s1 s2 so_far x ok)
 
 pub wrote_them : {E : Type 0} (ns w w1 : List ℕ) (s s1 : ℕ) → WroteThem w s w1 s1 ns
     → Writes {E = E} (Ok tt) (shortest_varints ns) w s w1 s1
@@ -213,7 +227,7 @@ pub refused_one : {D E : Type 0} (r : Result (Unit {0}) E) (refused : Result (Un
 refused_one r refused d error rest ns n after w w1 w2 s s1 s2 fits x e y is was =
     let next = next_number x.left rest n after fits x.numbers e in
     let parts : shortest_varints ns ≡ shortest_varints x.before ++ (shortest_varint n ++ shortest_varints next.others) =
-        ap shortest_varints (x.are ∙ ap (λ (l : List ℕ). x.before ++ l) next.are)
-        ∙ all_short-append x.before (n ∷ next.others) in
+    ap shortest_varints (x.are ∙ ap (λ (l : List ℕ). x.before ++ l) next.are)
+    ∙ all_short-append x.before (n ∷ next.others) in
     writes_within r refused d (shortest_varints x.before) (shortest_varint n) (shortest_varints next.others)
-        (shortest_varints ns) w w1 w2 s s1 s2 error parts x.holds y is was
+    (shortest_varints ns) w w1 w2 s s1 s2 error parts x.holds y is was

@@ -40,25 +40,25 @@ token_parts last bytes = counted (0x07 ∷ []) bytes (length bytes)
 
 pub crypto_parts : (last : Bool) (offset : ℕ) (bytes : List ℕ)
     → shortest_frame last (frame_of Crypto (Number offset ∷ Bytes bytes ∷ []))
-        ≡ shortest_varints (0x06 ∷ offset ∷ length bytes ∷ []) ++ bytes
+    ≡ shortest_varints (0x06 ∷ offset ∷ length bytes ∷ []) ++ bytes
 unfolding shortest_frame
 crypto_parts last offset bytes = counted (0x06 ∷ offset ∷ []) bytes (length bytes)
 
 pub connection_close_parts : (last : Bool) (code ty : ℕ) (bytes : List ℕ)
     → shortest_frame last (frame_of ConnectionClose (Number code ∷ Number ty ∷ Bytes bytes ∷ []))
-        ≡ shortest_varints (0x1c ∷ code ∷ ty ∷ length bytes ∷ []) ++ bytes
+    ≡ shortest_varints (0x1c ∷ code ∷ ty ∷ length bytes ∷ []) ++ bytes
 unfolding shortest_frame
 connection_close_parts last code ty bytes = counted (0x1c ∷ code ∷ ty ∷ []) bytes (length bytes)
 
 pub application_close_parts : (last : Bool) (code : ℕ) (bytes : List ℕ)
     → shortest_frame last (frame_of ApplicationClose (Number code ∷ Bytes bytes ∷ []))
-        ≡ shortest_varints (0x1d ∷ code ∷ length bytes ∷ []) ++ bytes
+    ≡ shortest_varints (0x1d ∷ code ∷ length bytes ∷ []) ++ bytes
 unfolding shortest_frame
 application_close_parts last code bytes = counted (0x1d ∷ code ∷ []) bytes (length bytes)
 
 pub id_parts : (last : Bool) (sequence retire : ℕ) (id token : List ℕ)
     → shortest_frame last (frame_of NewConnectionId (Number sequence ∷ Number retire ∷ Bytes id ∷ Bytes token ∷ []))
-        ≡ shortest_varints (0x18 ∷ sequence ∷ retire ∷ []) ++ ((length id ∷ id) ++ token)
+    ≡ shortest_varints (0x18 ∷ sequence ∷ retire ∷ []) ++ ((length id ∷ id) ++ token)
 unfolding shortest_frame
 id_parts last sequence retire id token =
     in_front (0x18 ∷ sequence ∷ retire ∷ []) ((length id ∷ id) ++ (token ++ []))
@@ -116,7 +116,7 @@ fits room least n total reason e le =
 pub connection_close_fits : (last : Bool) (room code ty : ℕ) (reason : List ℕ)
     → 1 + max 2 (size code) + size ty + size (length reason) ≤ room
     → length (shortest_frame last (frame_of ConnectionClose (Number code ∷ Number ty
-        ∷ Bytes (take (room - (1 + max 2 (size code) + size ty + size (length reason))) reason) ∷ []))) ≤ room
+    ∷ Bytes (take (room - (1 + max 2 (size code) + size ty + size (length reason))) reason) ∷ []))) ≤ room
 unfolding size
 connection_close_fits last room code ty reason le =
     let least = 1 + max 2 (size code) + size ty + size (length reason) in
@@ -125,7 +125,7 @@ connection_close_fits last room code ty reason le =
     let parts = ap length (connection_close_parts last code ty kept) in
     let one = length-append (shortest_varints (0x1c ∷ code ∷ ty ∷ length kept ∷ [])) kept in
     let two =
-        length-append (shortest_varint 0x1c) (shortest_varint code ++ (shortest_varint ty ++ (shortest_varint (length kept) ++ []))) in
+    length-append (shortest_varint 0x1c) (shortest_varint code ++ (shortest_varint ty ++ (shortest_varint (length kept) ++ []))) in
     let three = length-append (shortest_varint code) (shortest_varint ty ++ (shortest_varint (length kept) ++ [])) in
     let four = length-append (shortest_varint ty) (shortest_varint (length kept) ++ []) in
     let five = length-append (shortest_varint (length kept)) [] in
@@ -136,7 +136,7 @@ connection_close_fits last room code ty reason le =
 pub application_close_fits : (last : Bool) (room code : ℕ) (reason : List ℕ)
     → 1 + max 2 (size code) + size (length reason) ≤ room
     → length (shortest_frame last (frame_of ApplicationClose
-        (Number code ∷ Bytes (take (room - (1 + max 2 (size code) + size (length reason))) reason) ∷ []))) ≤ room
+    (Number code ∷ Bytes (take (room - (1 + max 2 (size code) + size (length reason))) reason) ∷ []))) ≤ room
 unfolding size
 application_close_fits last room code reason le =
     let least = 1 + max 2 (size code) + size (length reason) in

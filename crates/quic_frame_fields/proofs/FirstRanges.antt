@@ -49,10 +49,10 @@ pub short_step : (greatest n m : ℕ) (rest : List ℕ) → n < 64 → m < 64 �
 short_step greatest n m rest one two le =
     let all : greatest - n - (m + 2) ≡ greatest - (n + (m + 2)) = omega arith in
     let gap : gap_at (greatest - n) (m ∷ rest) ≡ Ok (greatest - (n + (m + 2)), rest) =
-        rw (← all) (short_gap (greatest - n) m rest two (omega arith)) in
+    rw (← all) (short_gap (greatest - n) m rest two (omega arith)) in
     let some : 0 < length (m ∷ rest) = omega arith in
     block_and_gap greatest (greatest - n) (greatest - (n + (m + 2))) (n ∷ m ∷ rest) (m ∷ rest) rest
-        (short_block greatest n (m ∷ rest) one (omega arith)) some gap
+    (short_block greatest n (m ∷ rest) one (omega arith)) some gap
 
 -- ---- what the step says
 
@@ -90,10 +90,10 @@ splits_next greatest bytes least rest next others fits h g =
     let one = block_shorter greatest bytes (least, rest) fits h in
     let two = gap_shorter least rest (next, others) b.1.left_fits g in
     let parts : bytes ≡ (b.1.front ++ t.1.front) ++ others =
-        b.1.parts ∙ ap (λ (l : List ℕ). b.1.front ++ l) t.1.parts ∙ sym (append_assoc b.1.front t.1.front others) in
+    b.1.parts ∙ ap (λ (l : List ℕ). b.1.front ++ l) t.1.parts ∙ sym (append_assoc b.1.front t.1.front others) in
     let both =
-        λ (valid : IsBlocks greatest bytes). first_and_next greatest bytes least rest (next, others)
-            (first_of greatest bytes least rest fits valid h) g in
+    λ (valid : IsBlocks greatest bytes). first_and_next greatest bytes least rest (next, others)
+    (first_of greatest bytes least rest fits valid h) g in
     record {
       bound = b.0;
       shorter = omega (arith, one, two);
@@ -116,7 +116,7 @@ splits_first greatest bytes x fits e =
     by_rest least (c ∷ rest) h n =
         let g = bind_ok (gap_at least (c ∷ rest)) (λ gap. Ok (least, gap.0, gap.1)) x n in
         subst (λ (y : ℕ × ℕ × List ℕ). SplitsFirst greatest bytes y.0 y.1 y.2) (ok_is (least, g.0.0, g.0.1) x g.2)
-            (splits_next greatest bytes least (c ∷ rest) g.0.0 g.0.1 fits h g.1)
+        (splits_next greatest bytes least (c ∷ rest) g.0.0 g.0.1 fits h g.1)
 
 -- What is known where none does.
 pub record IsRefused (greatest : ℕ) (bytes : List ℕ) (e : Fault) : Type 0 where
@@ -129,8 +129,11 @@ pub none_first : (greatest : ℕ) (bytes : List ℕ) (e : Fault) → AreBytes by
 unfolding first_range_at
 none_first greatest bytes e fits h =
     elim (bind_err (block_at greatest bytes) (λ block. next_range_at block.0 block.1) e h) [
-      | inl b ↦ record { reason = block_reason greatest bytes e b; refused = first_stops greatest bytes e fits b;
-          taken = λ valid. has_first greatest bytes e fits valid b }
+      | inl b ↦ record {
+        reason = block_reason greatest bytes e b;
+        refused = first_stops greatest bytes e fits b;
+        taken = λ valid. has_first greatest bytes e fits valid b;
+      }
       | inr g ↦ by_rest g.0.0 g.0.1 g.1 g.2
     ]
   where

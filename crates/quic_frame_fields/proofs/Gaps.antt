@@ -15,7 +15,7 @@ after_gap count high (Err e) = refl
 
 from_gap : (count : ℕ) (gap : Result (ℕ × List ℕ) Fault)
     → (gap >>= λ g. block_at g.0 g.1 >>= λ b. below_at count b.0 b.1)
-        ≡ ((gap >>= λ g. block_at g.0 g.1 >>= λ b. Ok (as_range g.0 b)) >>= λ r. below_at count r.0.0 r.1)
+    ≡ ((gap >>= λ g. block_at g.0 g.1 >>= λ b. Ok (as_range g.0 b)) >>= λ r. below_at count r.0.0 r.1)
 from_gap count (Ok g) = after_gap count g.0 (block_at g.0 g.1)
 from_gap count (Err e) = refl
 
@@ -31,7 +31,7 @@ pub goes_on : (left low high least : ℕ) (bytes after : List ℕ) (total : Resu
 goes_on left low high least bytes after total some r so_far =
     let k : left ≡ suc (left - 1) = omega arith in
     let one : below_at left low bytes ≡ below_at (left - 1) least after =
-        ap (λ (n : ℕ). below_at n low bytes) k ∙ rw (by_range (left - 1) low bytes, r) refl in
+    ap (λ (n : ℕ). below_at n low bytes) k ∙ rw (by_range (left - 1) low bytes, r) refl in
     sym one ∙ so_far
 
 pub range_ends : (left low : ℕ) (bytes : List ℕ) (e : Fault) (total : Result (List ℕ) Fault) → 0 < left
@@ -39,7 +39,7 @@ pub range_ends : (left low : ℕ) (bytes : List ℕ) (e : Fault) (total : Result
 range_ends left low bytes e total some r so_far =
     let k : left ≡ suc (left - 1) = omega arith in
     let one : below_at left low bytes ≡ Err e =
-        ap (λ (n : ℕ). below_at n low bytes) k ∙ rw (by_range (left - 1) low bytes, r) refl in
+    ap (λ (n : ℕ). below_at n low bytes) k ∙ rw (by_range (left - 1) low bytes, r) refl in
     sym so_far ∙ one
 
 pub is_done : (left low : ℕ) (bytes : List ℕ) (total : Result (List ℕ) Fault) → left ≤ 0

@@ -79,7 +79,7 @@ held_parts a fits q =
       parts = λ last.
           rw (b.are, others, below_short b.range.0 b.ranges) (ack_parts last a.largest a.delay b.range b.ranges a.ecn
           ∙ moved (ack_type a.ecn ∷ a.largest ∷ a.delay ∷ length b.ranges ∷ []) (b.range.1 - b.range.0)
-              (shortest_below b.range.0 b.ranges) (shortest_varints (count_numbers a.ecn)));
+          (shortest_below b.range.0 b.ranges) (shortest_varints (count_numbers a.ecn)));
     }
 
 -- how many ranges are below the first, by how many numbers were counted
@@ -92,12 +92,12 @@ held_many a h encoded count is counted =
 pub held_whole : (a : Ack) (h : HeldParts a) (last : Bool) (header : List ℕ) (counts : Option EcnCounts)
     → header ≡ header_numbers a → counts ≡ a.ecn
     → shortest_frame last (ack_meaning a) ≡ shortest_varints header
-        ++ (shortest_varints h.numbers ++ shortest_varints (count_numbers counts))
+    ++ (shortest_varints h.numbers ++ shortest_varints (count_numbers counts))
 held_whole a h last header counts header_is counts_are =
     h.parts last
     ∙ ap (λ (l : List ℕ). shortest_varints l ++ (shortest_varints h.numbers ++ shortest_varints (count_numbers a.ecn))) (sym header_is)
     ∙ ap (λ (k : Option EcnCounts). shortest_varints header ++ (shortest_varints h.numbers
-        ++ shortest_varints (count_numbers k))) (sym counts_are)
+    ++ shortest_varints (count_numbers k))) (sym counts_are)
 
 pub held_length : (a : Ack) (h : HeldParts a) (last : Bool) (header : List ℕ) (counts : Option EcnCounts) (first second third : ℕ)
     → header ≡ header_numbers a → counts ≡ a.ecn → first ≡ length (shortest_varints header)
@@ -106,6 +106,6 @@ pub held_length : (a : Ack) (h : HeldParts a) (last : Bool) (header : List ℕ) 
 held_length a h last header counts first second third header_is counts_are one two three =
     let whole = ap length (held_whole a h last header counts header_is counts_are) in
     let front =
-        length-append (shortest_varints header) (shortest_varints h.numbers ++ shortest_varints (count_numbers counts)) in
+    length-append (shortest_varints header) (shortest_varints h.numbers ++ shortest_varints (count_numbers counts)) in
     let back = length-append (shortest_varints h.numbers) (shortest_varints (count_numbers counts)) in
     omega (arith, whole, front, back, one, two, three)

@@ -24,7 +24,7 @@ all_short-parts (m ∷ ns) zero lt = refl
 all_short-parts (m ∷ ns) (suc i) lt =
     ap (λ (l : List ℕ). shortest_varint m ++ l) (all_short-parts ns i (omega (arith, lt)))
     ∙ sym (append_assoc (shortest_varint m) (shortest_varints (take i ns))
-        (shortest_varint (get_or ns i 0) ++ shortest_varints (drop (suc i) ns)))
+    (shortest_varint (get_or ns i 0) ++ shortest_varints (drop (suc i) ns)))
 
 pub take_whole : (ns : List ℕ) (i : ℕ) → length ns ≤ i → take i ns ≡ ns
 take_whole [] zero le = refl

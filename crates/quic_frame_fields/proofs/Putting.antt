@@ -36,11 +36,11 @@ pub puts_three : (front middle end old one two new : List ℕ) (at place n : ℕ
     → drop n new ≡ drop n two → Puts (Ok n) (front ++ (middle ++ end)) old new
 puts_three front middle end old one two new at place n r s t p q o u v w =
     let count : n ≡ length (front ++ (middle ++ end)) =
-        omega (arith, length-append front (middle ++ end), length-append middle end) in
+    omega (arith, length-append front (middle ++ end), length-append middle end) in
     let first : drop place one ≡ drop place old = rw s (further at (length middle) one old u) in
     let back : drop n two ≡ drop n old = rw t (further place (length end) two old (v ∙ first)) in
     let all : take n new ≡ (front ++ middle) ++ end =
-        o ∙ ap (λ (l : List ℕ). l ++ end) (q ∙ ap (λ (l : List ℕ). l ++ middle) p) in
+    o ∙ ap (λ (l : List ℕ). l ++ end) (q ∙ ap (λ (l : List ℕ). l ++ middle) p) in
     puts (front ++ (middle ++ end)) old new n count (all ∙ append_assoc front middle end) (w ∙ back)
 
 -- ---- numbers that are written one after the other
@@ -84,7 +84,7 @@ pub stored_one : (n at place end : ℕ) (old one new : List ℕ) → Stores (sho
     → (ns : List ℕ) → StoredThem at old place one ns → StoredThem at old end new (ns ++ n ∷ [])
 stored_one n at place end old one new x ns so_far =
     subst (λ (l : List ℕ). Stores l at old end new) (sym (all_short-last ns n))
-        (stores_more (shortest_varints ns) (shortest_varint n) old one new at place end so_far x)
+    (stores_more (shortest_varints ns) (shortest_varint n) old one new at place end so_far x)
 
 -- the next number has room
 pub room_for_one : (encoded rest after old one : List ℕ) (n len at place : ℕ) → AreBytes rest
@@ -95,10 +95,16 @@ room_for_one encoded rest after old one n len at place fits s read e =
     let r = read s.numbers s.encodes in
     let next = next_number r.left rest n after fits r.numbers e in
     let parts : shortest_varints s.numbers ≡ shortest_varints r.before ++ (shortest_varint n ++ shortest_varints next.others) =
-        ap shortest_varints (r.are ∙ ap (λ (l : List ℕ). r.before ++ l) next.are)
-        ∙ all_short-append r.before (n ∷ next.others) in
+    ap shortest_varints (r.are ∙ ap (λ (l : List ℕ). r.before ++ l) next.are)
+    ∙ all_short-append r.before (n ∷ next.others) in
     let long = s.long s.numbers s.encodes in
     let so_far = r.holds.count in
-    omega (arith, long, so_far, ap length parts, length-append (shortest_varints r.before)
-        (shortest_varint n ++ shortest_varints next.others),
-        length-append (shortest_varint n) (shortest_varints next.others))
+    omega (
+      arith,
+      long,
+      so_far,
+      ap length parts,
+      length-append (shortest_varints r.before)
+          (shortest_varint n ++ shortest_varints next.others),
+      length-append (shortest_varint n) (shortest_varints next.others),
+    )

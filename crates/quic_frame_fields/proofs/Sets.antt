@@ -40,7 +40,7 @@ pub has_below : (runs left : List (Range ℕ)) (run above : Range ℕ) → left 
     → IsMaximalRuns (left ++ above ∷ []) → HasBelow runs run above
 has_below runs left run above e h =
     let whole : IsMaximalRuns ((runs ++ run ∷ []) ++ above ∷ []) =
-        subst (λ (l : List (Range ℕ)). IsMaximalRuns (l ++ above ∷ [])) e h in
+    subst (λ (l : List (Range ℕ)). IsMaximalRuns (l ++ above ∷ [])) e h in
     let maximal = (before_last 0 (runs ++ run ∷ []) above whole).0 in
     record { some = (before_last 0 runs run maximal).1; apart = last_apart 0 runs run above whole; maximal = maximal }
 
@@ -93,7 +93,7 @@ are_above : (least : ℕ) (runs : List (Range ℕ)) → RunsFrom least runs → 
 are_above least [] h = tt
 are_above least (run ∷ runs) h =
     let others =
-        above_lower least (run.end + 1) (ranges_in runs) (omega (arith, h.0, h.1)) (are_above (run.end + 1) runs h.2) in
+    above_lower least (run.end + 1) (ranges_in runs) (omega (arith, h.0, h.1)) (are_above (run.end + 1) runs h.2) in
     above_last least (ranges_in runs) (ends_of run) others h.0
 
 apart_last : (ranges : List (ℕ × ℕ)) (range : ℕ × ℕ) → AreApart ranges → AreAbove (range.1 + 2) ranges
@@ -106,7 +106,7 @@ runs_apart : (least : ℕ) (runs : List (Range ℕ)) → RunsFrom least runs →
 runs_apart least [] h = tt
 runs_apart least (run ∷ runs) h =
     let above =
-        above_lower ((run.end - 1) + 2) (run.end + 1) (ranges_in runs) (omega (arith, h.1)) (are_above (run.end + 1) runs h.2) in
+    above_lower ((run.end - 1) + 2) (run.end + 1) (ranges_in runs) (omega (arith, h.1)) (are_above (run.end + 1) runs h.2) in
     apart_last (ranges_in runs) (ends_of run) (runs_apart (run.end + 1) runs h.2) above (omega (arith, h.1))
 
 pub are_apart : (runs : List (Range ℕ)) → IsMaximalRuns runs → AreApart (ranges_in runs)
@@ -179,7 +179,7 @@ bounded runs whole run e h all =
     let apart : AreApart (ends_of run ∷ ranges_in runs) = subst AreApart ranges (are_apart whole h) in
     let first : IsGreatest whole (greatest_in (ends_of run ∷ ranges_in runs)) =
     greatest_first whole (ends_of run ∷ ranges_in runs) (omega arith) apart
-        (λ n. ap (λ (l : List (ℕ × ℕ)). is_in l n) (sym ranges) ∙ are_members whole n h) in
+    (λ n. ap (λ (l : List (ℕ × ℕ)). is_in l n) (sym ranges) ∙ are_members whole n h) in
     let some = (before_last 0 runs run maximal).1 in
     let greatest : run.end - 1 < 2 ^ 62 = all (run.end - 1) first.present in
     let few = few_below (ends_of run) (ranges_in runs) apart in

@@ -74,7 +74,7 @@ evens p q r s word p-fits q-fits r-fits s-fits e =
 sum_is : (a b c d e f g h word : ℕ) → AreShort (a ∷ b ∷ c ∷ d ∷ e ∷ f ∷ g ∷ h ∷ [])
     → word ≡ from_le_bytes w64 (a ∷ b ∷ c ∷ d ∷ e ∷ f ∷ g ∷ h ∷ [])
     → (bit_and word 0x00ff_00ff_00ff_00ff + bit_and (word / 2 ^ 8) 0x00ff_00ff_00ff_00ff)
-        * 0x0001_0001_0001_0001 % 2 ^ 64 / 2 ^ 48 ≡ a + (b + (c + (d + (e + (f + (g + h))))))
+    * 0x0001_0001_0001_0001 % 2 ^ 64 / 2 ^ 48 ≡ a + (b + (c + (d + (e + (f + (g + h))))))
 sum_is a b c d e f g h word short is =
     let a-small : a < 64 = short 0 in
     let b-small : b < 64 = short 1 in
@@ -85,17 +85,17 @@ sum_is a b c d e f g h word short is =
     let g-small : g < 64 = short 6 in
     let h-small : h < 64 = short 7 in
     let even =
-        evens (b * 256 + a) (d * 256 + c) (f * 256 + e) (h * 256 + g) word (omega arith) (omega arith) (omega arith)
-            (omega arith) (omega (arith, is)) in
+    evens (b * 256 + a) (d * 256 + c) (f * 256 + e) (h * 256 + g) word (omega arith) (omega arith) (omega arith)
+    (omega arith) (omega (arith, is)) in
     let odd =
-        evens (c * 256 + b) (e * 256 + d) (g * 256 + f) h (word / 2 ^ 8) (omega arith) (omega arith) (omega arith)
-            (omega arith) (omega (arith, is)) in
+    evens (c * 256 + b) (e * 256 + d) (g * 256 + f) h (word / 2 ^ 8) (omega arith) (omega arith) (omega arith)
+    (omega arith) (omega (arith, is)) in
     rw (even, odd) (omega arith)
 
 -- the same of any list of eight bytes
 pub sum_of_bytes : (bytes : List ℕ) (word : ℕ) → length bytes ≡ 8 → AreShort bytes → word ≡ from_le_bytes w64 bytes
     → (bit_and word 0x00ff_00ff_00ff_00ff + bit_and (word / 2 ^ 8) 0x00ff_00ff_00ff_00ff)
-        * 0x0001_0001_0001_0001 % 2 ^ 64 / 2 ^ 48 ≡ sum bytes
+    * 0x0001_0001_0001_0001 % 2 ^ 64 / 2 ^ 48 ≡ sum bytes
 sum_of_bytes (a ∷ b ∷ c ∷ d ∷ e ∷ f ∷ g ∷ h ∷ []) word eight short is =
     sum_is a b c d e f g h word short is ∙ omega arith
 sum_of_bytes bytes word eight short is = absurd (omega (arith, eight))
@@ -133,7 +133,7 @@ byte_below : (k low b high word bound : ℕ) → Clear (bit_and word 0xc0c0_c0c0
     → k + 7 < bound → b < 64
 byte_below k low b high word bound clear fits less is six seven lt =
     byte_small k low b high word fits less is (bit_clear word 0xc0c0_c0c0_c0c0_c0c0 (k + 6) bound clear six
-        (omega (arith, lt))) (bit_clear word 0xc0c0_c0c0_c0c0_c0c0 (k + 7) bound clear seven lt)
+    (omega (arith, lt))) (bit_clear word 0xc0c0_c0c0_c0c0_c0c0 (k + 7) bound clear seven lt)
 
 -- the bytes at the front, by the place of that bit
 bytes_below : (a b c d e f g h word i bound : ℕ) → Clear (bit_and word 0xc0c0_c0c0_c0c0_c0c0) bound
@@ -151,21 +151,21 @@ bytes_below a b c d e f g h word i bound clear fits is lt under =
     let h-fits : h < 256 = fits 7 in
     pick i lt under
     (λ u. byte_below 0 0 a (b + 256 * (c + 256 * (d + 256 * (e + 256 * (f + 256 * (g + 256 * h)))))) word bound clear
-        a-fits (omega arith) (omega (arith, is)) refl refl u)
+    a-fits (omega arith) (omega (arith, is)) refl refl u)
     (λ u. byte_below 8 a b (c + 256 * (d + 256 * (e + 256 * (f + 256 * (g + 256 * h))))) word bound clear b-fits
-        (omega arith) (omega (arith, is)) refl refl u)
+    (omega arith) (omega (arith, is)) refl refl u)
     (λ u. byte_below 16 (a + 256 * b) c (d + 256 * (e + 256 * (f + 256 * (g + 256 * h)))) word bound clear c-fits
-        (omega arith) (omega (arith, is)) refl refl u)
+    (omega arith) (omega (arith, is)) refl refl u)
     (λ u. byte_below 24 (a + 256 * (b + 256 * c)) d (e + 256 * (f + 256 * (g + 256 * h))) word bound clear d-fits
-        (omega arith) (omega (arith, is)) refl refl u)
+    (omega arith) (omega (arith, is)) refl refl u)
     (λ u. byte_below 32 (a + 256 * (b + 256 * (c + 256 * d))) e (f + 256 * (g + 256 * h)) word bound clear e-fits
-        (omega arith) (omega (arith, is)) refl refl u)
+    (omega arith) (omega (arith, is)) refl refl u)
     (λ u. byte_below 40 (a + 256 * (b + 256 * (c + 256 * (d + 256 * e)))) f (g + 256 * h) word bound clear f-fits
-        (omega arith) (omega (arith, is)) refl refl u)
+    (omega arith) (omega (arith, is)) refl refl u)
     (λ u. byte_below 48 (a + 256 * (b + 256 * (c + 256 * (d + 256 * (e + 256 * f))))) g h word bound clear g-fits
-        (omega arith) (omega (arith, is)) refl refl u)
+    (omega arith) (omega (arith, is)) refl refl u)
     (λ u. byte_below 56 (a + 256 * (b + 256 * (c + 256 * (d + 256 * (e + 256 * (f + 256 * g)))))) h 0 word bound clear
-        h-fits (omega arith) (omega (arith, is)) refl refl u)
+    h-fits (omega arith) (omega (arith, is)) refl refl u)
   where
     pick : (i : ℕ) → i < 8 → 8 * i + 7 < bound
         → (7 < bound → a < 64) → (15 < bound → b < 64)
@@ -193,7 +193,7 @@ IsSumOf word all =
 abbrev pub ReadsShort : List ℕ → ℕ → ℕ → Type 0
 ReadsShort front r all =
     (count low : ℕ) (rest : List ℕ) → r ≤ count → all ≤ low → below_at count low (front ++ rest)
-        ≡ below_at (count - r) (low - all) (drop (2 * r) front ++ rest)
+    ≡ below_at (count - r) (low - all) (drop (2 * r) front ++ rest)
 
 eight_short : (a b c d e f g h : ℕ) → a < 64 → b < 64 → c < 64 → d < 64 → e < 64 → f < 64 → g < 64 → h < 64
     → AreShort (a ∷ b ∷ c ∷ d ∷ e ∷ f ∷ g ∷ h ∷ [])
@@ -215,11 +215,11 @@ by_count : (r : ℕ) (a b c d e f g h word all : ℕ)
     → word ≡ from_le_bytes w64 (a ∷ b ∷ c ∷ d ∷ e ∷ f ∷ g ∷ h ∷ []) → r ≤ 4 → IsSumOf (word % 2 ^ (16 * r)) all
     → (count low : ℕ) (rest : List ℕ) → r ≤ count → all + 2 * r ≤ low
     → below_at count low ((a ∷ b ∷ c ∷ d ∷ e ∷ f ∷ g ∷ h ∷ []) ++ rest)
-        ≡ below_at (count - r) (low - (all + 2 * r)) (drop (2 * r) (a ∷ b ∷ c ∷ d ∷ e ∷ f ∷ g ∷ h ∷ []) ++ rest)
+    ≡ below_at (count - r) (low - (all + 2 * r)) (drop (2 * r) (a ∷ b ∷ c ∷ d ∷ e ∷ f ∷ g ∷ h ∷ []) ++ rest)
 by_count zero a b c d e f g h word all short fits is few sums count low rest less le =
     let z : 0 < 64 = omega arith in
     let all-is =
-        sums (0 ∷ 0 ∷ 0 ∷ 0 ∷ 0 ∷ 0 ∷ 0 ∷ 0 ∷ []) refl (eight_short 0 0 0 0 0 0 0 0 z z z z z z z z) (omega (arith, is)) in
+    sums (0 ∷ 0 ∷ 0 ∷ 0 ∷ 0 ∷ 0 ∷ 0 ∷ 0 ∷ []) refl (eight_short 0 0 0 0 0 0 0 0 z z z z z z z z) (omega (arith, is)) in
     let spans : all + 2 * 0 ≡ spanned 0 (a ∷ b ∷ c ∷ d ∷ e ∷ f ∷ g ∷ h ∷ rest) = omega (arith, all-is) in
     rw spans (shorts_below 0 count low (a ∷ b ∷ c ∷ d ∷ e ∷ f ∷ g ∷ h ∷ rest) tt less (rw spans at le))
 by_count (suc zero) a b c d e f g h word all short fits is few sums count low rest less le =
@@ -227,8 +227,8 @@ by_count (suc zero) a b c d e f g h word all short fits is few sums count low re
     let two : b < 64 = short 1 (omega arith) in
     let z : 0 < 64 = omega arith in
     let all-is =
-        sums (a ∷ b ∷ 0 ∷ 0 ∷ 0 ∷ 0 ∷ 0 ∷ 0 ∷ []) refl (eight_short a b 0 0 0 0 0 0 one two z z z z z z)
-            (omega (arith, is, fits 0, fits 1)) in
+    sums (a ∷ b ∷ 0 ∷ 0 ∷ 0 ∷ 0 ∷ 0 ∷ 0 ∷ []) refl (eight_short a b 0 0 0 0 0 0 one two z z z z z z)
+    (omega (arith, is, fits 0, fits 1)) in
     let spans : all + 2 * 1 ≡ spanned 1 (a ∷ b ∷ c ∷ d ∷ e ∷ f ∷ g ∷ h ∷ rest) = omega (arith, all-is) in
     rw spans (shorts_below 1 count low (a ∷ b ∷ c ∷ d ∷ e ∷ f ∷ g ∷ h ∷ rest) (one, two, tt) less (rw spans at le))
 by_count (suc (suc zero)) a b c d e f g h word all short fits is few sums count low rest less le =
@@ -238,8 +238,8 @@ by_count (suc (suc zero)) a b c d e f g h word all short fits is few sums count 
     let four : d < 64 = short 3 (omega arith) in
     let z : 0 < 64 = omega arith in
     let all-is =
-        sums (a ∷ b ∷ c ∷ d ∷ 0 ∷ 0 ∷ 0 ∷ 0 ∷ []) refl (eight_short a b c d 0 0 0 0 one two three four z z z z)
-            (omega (arith, is, fits 0, fits 1, fits 2, fits 3)) in
+    sums (a ∷ b ∷ c ∷ d ∷ 0 ∷ 0 ∷ 0 ∷ 0 ∷ []) refl (eight_short a b c d 0 0 0 0 one two three four z z z z)
+    (omega (arith, is, fits 0, fits 1, fits 2, fits 3)) in
     let spans : all + 2 * 2 ≡ spanned 2 (a ∷ b ∷ c ∷ d ∷ e ∷ f ∷ g ∷ h ∷ rest) = omega (arith, all-is) in
     rw spans (shorts_below 2 count low (a ∷ b ∷ c ∷ d ∷ e ∷ f ∷ g ∷ h ∷ rest) (one, two, (three, four, tt)) less (rw spans at le))
 by_count (suc (suc (suc zero))) a b c d e f g h word all short fits is few sums count low rest less le =
@@ -251,11 +251,11 @@ by_count (suc (suc (suc zero))) a b c d e f g h word all short fits is few sums 
     let six : f < 64 = short 5 (omega arith) in
     let z : 0 < 64 = omega arith in
     let all-is =
-        sums (a ∷ b ∷ c ∷ d ∷ e ∷ f ∷ 0 ∷ 0 ∷ []) refl (eight_short a b c d e f 0 0 one two three four five six z z)
-            (omega (arith, is, fits 0, fits 1, fits 2, fits 3, fits 4, fits 5)) in
+    sums (a ∷ b ∷ c ∷ d ∷ e ∷ f ∷ 0 ∷ 0 ∷ []) refl (eight_short a b c d e f 0 0 one two three four five six z z)
+    (omega (arith, is, fits 0, fits 1, fits 2, fits 3, fits 4, fits 5)) in
     let spans : all + 2 * 3 ≡ spanned 3 (a ∷ b ∷ c ∷ d ∷ e ∷ f ∷ g ∷ h ∷ rest) = omega (arith, all-is) in
     rw spans (shorts_below 3 count low (a ∷ b ∷ c ∷ d ∷ e ∷ f ∷ g ∷ h ∷ rest) (one, two, (three, four, (five, six, tt)))
-        less (rw spans at le))
+    less (rw spans at le))
 by_count (suc (suc (suc (suc zero)))) a b c d e f g h word all short fits is few sums count low rest less le =
     let one : a < 64 = short 0 (omega arith) in
     let two : b < 64 = short 1 (omega arith) in
@@ -266,11 +266,11 @@ by_count (suc (suc (suc (suc zero)))) a b c d e f g h word all short fits is few
     let seven : g < 64 = short 6 (omega arith) in
     let eight : h < 64 = short 7 (omega arith) in
     let all-is =
-        sums (a ∷ b ∷ c ∷ d ∷ e ∷ f ∷ g ∷ h ∷ []) refl (eight_short a b c d e f g h one two three four five six seven
-            eight) (omega (arith, is, fits 0, fits 1, fits 2, fits 3, fits 4, fits 5, fits 6, fits 7)) in
+    sums (a ∷ b ∷ c ∷ d ∷ e ∷ f ∷ g ∷ h ∷ []) refl (eight_short a b c d e f g h one two three four five six seven
+    eight) (omega (arith, is, fits 0, fits 1, fits 2, fits 3, fits 4, fits 5, fits 6, fits 7)) in
     let spans : all + 2 * 4 ≡ spanned 4 (a ∷ b ∷ c ∷ d ∷ e ∷ f ∷ g ∷ h ∷ rest) = omega (arith, all-is) in
     rw spans (shorts_below 4 count low (a ∷ b ∷ c ∷ d ∷ e ∷ f ∷ g ∷ h ∷ rest)
-        (one, two, (three, four, (five, six, (seven, eight, tt)))) less (rw spans at le))
+    (one, two, (three, four, (five, six, (seven, eight, tt)))) less (rw spans at le))
 by_count (suc (suc (suc (suc (suc r))))) a b c d e f g h word all short fits is few sums count low rest less le =
     absurd (omega (arith, few))
 
@@ -279,7 +279,7 @@ shorts_read : (front : List ℕ) (word all r bound : ℕ) → length front ≡ 8
     → IsSumOf (word % 2 ^ (16 * r)) all → ReadsShort front r (all + 2 * r)
 shorts_read (a ∷ b ∷ c ∷ d ∷ e ∷ f ∷ g ∷ h ∷ []) word all r bound eight fits is clear within few sums =
     by_count r a b c d e f g h word all (λ i lt. bytes_below a b c d e f g h word i bound clear fits is
-        (omega (arith, lt, few)) (omega (arith, lt, within))) fits is few sums
+    (omega (arith, lt, few)) (omega (arith, lt, within))) fits is few sums
 shorts_read front word all r bound eight fits is clear within few sums = absurd (omega (arith, eight))
 
 -- eight bytes of which none is 64 or more
@@ -296,7 +296,7 @@ pub some_few : (word place : ℕ) → word < 2 ^ 64 → bit_and word 0xc0c0_c0c0
 some_few word place in_word some is =
     let wide = bit_and word 0xc0c0_c0c0_c0c0_c0c0 in
     let lowest =
-        (bit_at-trailing_zeros w64 wide (positive wide some) (omega (arith, and_le_l word 0xc0c0_c0c0_c0c0_c0c0, in_word))).0 in
+    (bit_at-trailing_zeros w64 wide (positive wide some) (omega (arith, and_le_l word 0xc0c0_c0c0_c0c0_c0c0, in_word))).0 in
     omega (arith, lowest, is)
   where
     positive : (n : ℕ) → n ≢ 0 → 0 < n
@@ -320,10 +320,10 @@ some_read front word all place eight fits in_word is some place-is sums =
     let wide = bit_and word 0xc0c0_c0c0_c0c0_c0c0 in
     let few = some_few word place in_word some place-is in
     let short : bit_and word (1 * 2 ^ (16 * (place / 16)) % 2 ^ 64 - 1) ≡ word % 2 ^ (16 * (place / 16)) =
-        ap (bit_and word) (mask_is (place / 16) few) ∙ and_mask word (16 * (place / 16)) in
+    ap (bit_and word) (mask_is (place / 16) few) ∙ and_mask word (16 * (place / 16)) in
     shorts_read front word all (place / 16) place eight fits is
     (λ i lt. zeros_below wide i (omega (arith, and_le_l word 0xc0c0_c0c0_c0c0_c0c0, in_word))
-        (omega (arith, lt, place-is))) (omega arith) (omega (arith, few))
+    (omega (arith, lt, place-is))) (omega arith) (omega (arith, few))
     (λ bytes len short_bytes same. sums bytes len short_bytes (short ∙ same))
 
 -- a step of the loop
@@ -333,7 +333,7 @@ pub shorts_pass : (left low r all : ℕ) (rest front : List ℕ) (total : Result
 shorts_pass left low r all rest front total is long few reads less le so_far =
     let eight : length front ≡ 8 = ap length is ∙ length-take-le 8 rest long in
     let whole : rest ≡ front ++ drop 8 rest =
-        sym (take-append-drop 8 rest) ∙ ap (λ (l : List ℕ). l ++ drop 8 rest) (sym is) in
+    sym (take-append-drop 8 rest) ∙ ap (λ (l : List ℕ). l ++ drop 8 rest) (sym is) in
     let cut : take (length rest - 2 * r) (drop (2 * r) rest) ≡ drop (2 * r) front ++ drop 8 rest =
     take_rest rest (2 * r) ∙ ap (drop (2 * r)) whole
     ∙ drop-append-le (2 * r) front (drop 8 rest) (omega (arith, few, eight)) in

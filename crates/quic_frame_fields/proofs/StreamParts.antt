@@ -32,7 +32,7 @@ stream_parts last fin id offset bytes = by_cases (eqb offset 0) last fin id offs
 pub stream_parts_as : (last fin : Bool) (id offset : ℕ) (bytes : List ℕ) (counted : Option ℕ)
     → counted ≡ then_some (not last) (length bytes)
     → stream_header id offset fin counted ++ bytes ≡ shortest_frame last
-        (frame_of Stream (flag fin ∷ Number id ∷ Number offset ∷ Bytes bytes ∷ []))
+    (frame_of Stream (flag fin ∷ Number id ∷ Number offset ∷ Bytes bytes ∷ []))
 stream_parts_as true fin id offset bytes counted e =
     ap (λ (n : Option ℕ). stream_header id offset fin n ++ bytes) e ∙ stream_parts true fin id offset bytes
 stream_parts_as false fin id offset bytes counted e =

@@ -88,13 +88,13 @@ unfolding below_at
 all_read greatest low bytes fits c =
     let n : c.pairs + 0 ≡ c.pairs = omega arith in
     let e : after_blocks c.pairs greatest bytes ≡ Ok [] =
-        ap (λ (k : ℕ). after_blocks k greatest bytes) (sym n) ∙ c.same 0 in
+    ap (λ (k : ℕ). after_blocks k greatest bytes) (sym n) ∙ c.same 0 in
     let t = ranges_take c.pairs greatest bytes [] fits e in
     let whole : bytes ≡ t.front = t.parts ∙ append-nil t.front in
     let blocks : AreBlocks greatest (t.range ∷ t.ranges) bytes =
-        subst (AreBlocks greatest (t.range ∷ t.ranges)) (sym whole) t.blocks in
+    subst (AreBlocks greatest (t.range ∷ t.ranges)) (sym whole) t.blocks in
     let count : length (ranges_of greatest bytes) - 1 ≡ c.pairs =
-        omega (arith, ap length (ranges_are greatest t.range t.ranges bytes blocks), t.len) in
+    omega (arith, ap length (ranges_are greatest t.range t.ranges bytes blocks), t.len) in
     ap (λ (k : ℕ). after_blocks k greatest bytes) count ∙ e
 
 -- reading that goes on after so many pairs
@@ -118,7 +118,7 @@ goes_on zero low bytes left e = record {
 }
 goes_on (suc pairs) low bytes left e =
     let a =
-        bind_ok (gap_at low bytes) (λ gap. block_at gap.0 gap.1 >>= λ block. below_at pairs block.0 block.1) left e in
+    bind_ok (gap_at low bytes) (λ gap. block_at gap.0 gap.1 >>= λ block. below_at pairs block.0 block.1) left e in
     let b = bind_ok (block_at a.0.0 a.0.1) (λ block. below_at pairs block.0 block.1) left a.2 in
     let t = goes_on pairs b.0.0 b.0.1 left b.2 in
     record {
@@ -143,7 +143,7 @@ stops_short greatest low count bytes rest e c some stops h =
           let t = goes_on count b.0.0 b.0.1 [] b.2 in
           let n : count + suc (c.pairs - count - 1) ≡ c.pairs + 0 = omega (arith, lt) in
           let fails : after_blocks (count + suc (c.pairs - count - 1)) greatest bytes ≡ failure UnexpectedEnd =
-              rw b.1 (t.same (suc (c.pairs - count - 1)) ∙ none_of_nothing (c.pairs - count - 1) t.low_left) in
+          rw b.1 (t.same (suc (c.pairs - count - 1)) ∙ none_of_nothing (c.pairs - count - 1) t.low_left) in
           ok_is_not_err (sym (c.same 0) ∙ ap (λ (k : ℕ). after_blocks k greatest bytes) (sym n) ∙ fails)
       | inr le ↦ further (count - c.pairs) (omega (arith, le))
     ]
@@ -151,7 +151,7 @@ stops_short greatest low count bytes rest e c some stops h =
     further : (d : ℕ) → c.pairs + d ≡ count → ⊥
     further zero same =
         let none : rest ≡ [] =
-            ok_is rest [] (sym (c.same 0) ∙ ap (λ (k : ℕ). after_blocks k greatest bytes) same ∙ h) in
+        ok_is rest [] (sym (c.same 0) ∙ ap (λ (k : ℕ). after_blocks k greatest bytes) same ∙ h) in
         absurd (omega (arith, ap length none, some))
     further (suc d) same = ok_is_not_err (sym h ∙ ap (λ (k : ℕ). after_blocks k greatest bytes) (sym same) ∙ c.same (suc d) ∙ stops d)
 
@@ -162,7 +162,7 @@ no_blocks_here greatest low [] bytes rest e c some stops s = s
 no_blocks_here greatest low (range ∷ ranges) bytes rest e c some stops s =
     let again = ranges_again greatest range ranges bytes [] s in
     stops_short greatest low (length ranges) bytes rest e c some stops
-        (ap (after_blocks (length ranges) greatest) (sym (append-nil bytes)) ∙ again)
+    (ap (after_blocks (length ranges) greatest) (sym (append-nil bytes)) ∙ again)
 
 stops_here : (greatest low : ℕ) (bytes rest : List ℕ) (e : Fault) → AreBytes bytes → Comes greatest bytes low rest
     → 0 < length rest → ((more : ℕ) → below_at (suc more) low rest ≡ Err e) → AreNoBlocks greatest bytes e
@@ -217,35 +217,35 @@ first_in greatest range [] bytes least rest fits s e =
     let v : Encodes (greatest - range.0) s.0 = subst (λ (k : ℕ). Encodes (k - range.0) s.0) s.3 s.5 in
     let le : range.0 ≤ greatest = subst (λ (k : ℕ). range.0 ≤ k) s.3 s.4 in
     let here : (range.0, s.1) ≡ (least, rest) =
-        ok_is (range.0, s.1) (least, rest) (sym (block_again greatest range.0 s.0 s.1 le v) ∙ ap (block_at greatest) (sym s.2) ∙ e) in
+    ok_is (range.0, s.1) (least, rest) (sym (block_again greatest range.0 s.0 s.1 le v) ∙ ap (block_at greatest) (sym s.2) ∙ e) in
     let low_is : range.0 ≡ least = ap (λ (p : ℕ × List ℕ). p.0) here in
     let rest_is : s.1 ≡ rest = ap (λ (p : ℕ × List ℕ). p.1) here in
     let ranges = ranges_are greatest range [] bytes s in
     let bounds : (range.0, range.1) ≡ (least, greatest) =
-        ap (λ (p : ℕ). (p, range.1)) low_is ∙ ap (λ (q : ℕ). (least, q)) s.3 in
+    ap (λ (p : ℕ). (p, range.1)) low_is ∙ ap (λ (q : ℕ). (least, q)) s.3 in
     Last (sym rest_is ∙ s.6) (ranges ∙ ap (λ (r : ℕ × ℕ). r ∷ []) bounds)
 first_in greatest range (next ∷ ranges) bytes least rest fits s e =
     let v : Encodes (greatest - range.0) s.0 = subst (λ (k : ℕ). Encodes (k - range.0) s.0) s.3 s.5 in
     let le : range.0 ≤ greatest = subst (λ (k : ℕ). range.0 ≤ k) s.3 s.4 in
     let here : (range.0, s.1) ≡ (least, rest) =
-        ok_is (range.0, s.1) (least, rest) (sym (block_again greatest range.0 s.0 s.1 le v) ∙ ap (block_at greatest) (sym s.2) ∙ e) in
+    ok_is (range.0, s.1) (least, rest) (sym (block_again greatest range.0 s.0 s.1 le v) ∙ ap (block_at greatest) (sym s.2) ∙ e) in
     let low_is : range.0 ≡ least = ap (λ (p : ℕ × List ℕ). p.0) here in
     let rest_is : s.1 ≡ rest = ap (λ (p : ℕ × List ℕ). p.1) here in
     let b = s.6 in
     let others = b.1 ++ b.2 in
     let gap : gap_at range.0 s.1 ≡ Ok (next.1, others) =
-        ap (gap_at range.0) b.3 ∙ gap_again range.0 next.1 b.0 others b.5 b.6 in
+    ap (gap_at range.0) b.3 ∙ gap_again range.0 next.1 b.0 others b.5 b.6 in
     let blocks : AreBlocks next.1 (next ∷ ranges) others = (b.1, b.2, refl, refl, b.4, b.7, b.8) in
     let all = ranges_are greatest range (next ∷ ranges) bytes s in
     let later = ranges_are next.1 next ranges others blocks in
     let whole : after_blocks (length ranges) next.1 others ≡ Ok [] =
-        ap (after_blocks (length ranges) next.1) (sym (append-nil others))
-        ∙ ranges_again next.1 next ranges others [] blocks in
+    ap (after_blocks (length ranges) next.1) (sym (append-nil others))
+    ∙ ranges_again next.1 next ranges others [] blocks in
     let count : length (ranges_of next.1 others) - 1 ≡ length ranges = omega (arith, ap length later) in
     let bounds : (range.0, range.1) ≡ (least, greatest) =
-        ap (λ (p : ℕ). (p, range.1)) low_is ∙ ap (λ (q : ℕ). (least, q)) s.3 in
+    ap (λ (p : ℕ). (p, range.1)) low_is ∙ ap (λ (q : ℕ). (least, q)) s.3 in
     Next next.1 others (subst (λ (p : ℕ × List ℕ). gap_at p.0 p.1 ≡ Ok (next.1, others)) here gap)
-        (ap (λ (k : ℕ). after_blocks k next.1 others) count ∙ whole)
+    (ap (λ (k : ℕ). after_blocks k next.1 others) count ∙ whole)
     (omega (arith, length-append b.1 b.2, varint_some (next.1 - next.0) b.1 b.7))
     (all ∙ ap (λ (r : ℕ × ℕ). r ∷ next ∷ ranges) bounds ∙ ap (λ (l : List (ℕ × ℕ)). (least, greatest) ∷ l) (sym later))
 
@@ -309,7 +309,7 @@ pub first_and_next : (greatest : ℕ) (bytes : List ℕ) (least : ℕ) (rest : L
 first_and_next greatest bytes least rest x (Last none ranges) e = absurd (no_gap least x rest (ap length none) e)
 first_and_next greatest bytes least rest x (Next next others gap valid some ranges) e =
     subst (λ (p : ℕ × List ℕ). (ranges_of greatest bytes ≡ (least, greatest) ∷ ranges_of p.0 p.1) × IsBlocks p.0 p.1)
-        (ok_is (next, others) x (sym gap ∙ e)) (ranges, valid)
+    (ok_is (next, others) x (sym gap ∙ e)) (ranges, valid)
 
 pub has_next : (greatest : ℕ) (bytes : List ℕ) (least : ℕ) (rest : List ℕ) (e : Fault)
     → FirstOf greatest bytes least rest → 0 < length rest → gap_at least rest ≡ Err e → ⊥

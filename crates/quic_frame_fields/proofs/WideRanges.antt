@@ -43,13 +43,13 @@ behind_two n m front middle after fits one two =
     let fits_middle = back_bytes t.front middle (subst AreBytes t.split fits) in
     let u = varint_takes middle m after fits_middle two in
     let split : front ≡ (t.front ++ u.front) ++ after =
-        t.split ∙ ap (λ (l : List ℕ). t.front ++ l) u.split ∙ sym (append_assoc t.front u.front after) in
+    t.split ∙ ap (λ (l : List ℕ). t.front ++ l) u.split ∙ sym (append_assoc t.front u.front after) in
     let sizes : length front ≡ length (t.front ++ u.front) + length after =
-        ap length split ∙ length-append (t.front ++ u.front) after in
+    ap length split ∙ length-append (t.front ++ u.front) after in
     let size : length front - length after ≡ length (t.front ++ u.front) = omega (arith, sizes) in (
       omega (arith, sizes),
       ap (λ (k : ℕ). drop k front) size ∙ ap (drop (length (t.front ++ u.front))) split
-      ∙ drop-append_seam (t.front ++ u.front) after,
+          ∙ drop-append_seam (t.front ++ u.front) after,
     )
 
 pub wide_few : (n m : ℕ) (front middle after : List ℕ) → AreBytes front → varint_at front ≡ Ok (n, middle)
@@ -63,15 +63,15 @@ wide_read low n m front middle after sixteen fits one two le = λ count rest som
     let t = varint_takes front n middle fits one in
     let fits_middle = back_bytes t.front middle (subst AreBytes t.split fits) in
     let range =
-        range_of_two low n m (front ++ rest) (middle ++ rest) (after ++ rest) (read_longer n front middle rest fits one)
-            (read_longer m middle after rest fits_middle two) le in
+    range_of_two low n m (front ++ rest) (middle ++ rest) (after ++ rest) (read_longer n front middle rest fits one)
+    (read_longer m middle after rest fits_middle two) le in
     let k : count ≡ suc (count - 1) = omega arith in
     let read : below_at (suc (count - 1)) low (front ++ rest) ≡ below_at (count - 1) (low - (n + 2 + m)) (after ++ rest) =
-        rw (by_range (count - 1) low (front ++ rest), range) refl in
+    rw (by_range (count - 1) low (front ++ rest), range) refl in
     let left = (behind_two n m front middle after fits one two).1 in
     ap (λ (c : ℕ). below_at c low (front ++ rest)) k ∙ read
     ∙ ap (λ (l : List ℕ). below_at (count - 1) (low - (n + 2 + m)) (l ++ rest))
-        (sym left ∙ ap (λ (s : ℕ). drop (s - length after) front) sixteen)
+    (sym left ∙ ap (λ (s : ℕ). drop (s - length after) front) sixteen)
 
 -- a step of the loop
 pub wide_passes : (left low least taken : ℕ) (rest front : List ℕ) (total : Result (List ℕ) Fault)
@@ -81,7 +81,7 @@ pub wide_passes : (left low least taken : ℕ) (rest front : List ℕ) (total : 
 wide_passes left low least taken rest front total is long few reads some so_far =
     let sixteen : length front ≡ 16 = ap length is ∙ length-take-le 16 rest long in
     let whole : rest ≡ front ++ drop 16 rest =
-        sym (take-append-drop 16 rest) ∙ ap (λ (l : List ℕ). l ++ drop 16 rest) (sym is) in
+    sym (take-append-drop 16 rest) ∙ ap (λ (l : List ℕ). l ++ drop 16 rest) (sym is) in
     let cut : take (length rest - taken) (drop taken rest) ≡ drop taken front ++ drop 16 rest =
     take_rest rest taken ∙ ap (drop taken) whole
     ∙ drop-append-le taken front (drop 16 rest) (omega (arith, few, sixteen)) in

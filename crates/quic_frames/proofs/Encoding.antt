@@ -18,7 +18,7 @@ use Rattle.quic_frame_fields.proofs.StreamParts as streams
 
 pub crypto_parts : (last : Bool) (offset : ℕ) (bytes : List ℕ)
     → shortest_frame last (frame_of Crypto (Number offset ∷ Bytes bytes ∷ []))
-        ≡ shortest_varints (0x06 ∷ offset ∷ length bytes ∷ []) ++ bytes
+    ≡ shortest_varints (0x06 ∷ offset ∷ length bytes ∷ []) ++ bytes
 crypto_parts = parts.crypto_parts
 
 pub token_parts : (last : Bool) (bytes : List ℕ)
@@ -32,19 +32,19 @@ short_small n lt = grind (arith, nat_tests)
 
 pub new_id_parts : (last : Bool) (sequence retire : ℕ) (id token : List ℕ) → length id ≤ 20
     → shortest_frame last (frame_of NewConnectionId (Number sequence ∷ Number retire ∷ Bytes id ∷ Bytes token ∷ []))
-        ≡ shortest_varints (0x18 ∷ sequence ∷ retire ∷ length id ∷ []) ++ (id ++ token)
+    ≡ shortest_varints (0x18 ∷ sequence ∷ retire ∷ length id ∷ []) ++ (id ++ token)
 new_id_parts last sequence retire id token le =
     let small : shortest_varint (length id) ≡ length id ∷ [] = short_small (length id) (omega (arith, le)) in
     parts.id_parts last sequence retire id token ∙ simp (small, append_assoc)
 
 pub connection_close_parts : (last : Bool) (code ty : ℕ) (bytes : List ℕ)
     → shortest_frame last (frame_of ConnectionClose (Number code ∷ Number ty ∷ Bytes bytes ∷ []))
-        ≡ shortest_varints (0x1c ∷ code ∷ ty ∷ length bytes ∷ []) ++ bytes
+    ≡ shortest_varints (0x1c ∷ code ∷ ty ∷ length bytes ∷ []) ++ bytes
 connection_close_parts = parts.connection_close_parts
 
 pub application_close_parts : (last : Bool) (code : ℕ) (bytes : List ℕ)
     → shortest_frame last (frame_of ApplicationClose (Number code ∷ Bytes bytes ∷ []))
-        ≡ shortest_varints (0x1d ∷ code ∷ length bytes ∷ []) ++ bytes
+    ≡ shortest_varints (0x1d ∷ code ∷ length bytes ∷ []) ++ bytes
 application_close_parts = parts.application_close_parts
 
 pub datagram_counted : (bytes : List ℕ) → shortest_frame false (frame_of Datagram (Bytes bytes ∷ []))
@@ -71,25 +71,28 @@ response_parts last n = ap (λ (k : List ℕ). shortest_varint 0x1b ++ k) (appen
 
 pub max_streams_parts : (last : Bool) (dir : Dir) (count : ℕ)
     → shortest_frame last (frame_of MaxStreams (Number (dir_number dir) ∷ Number count ∷ []))
-        ≡ shortest_varints ((0x12 + dir_number dir) ∷ count ∷ [])
+    ≡ shortest_varints ((0x12 + dir_number dir) ∷ count ∷ [])
 unfolding shortest_frame
 max_streams_parts last Bi count = refl
 max_streams_parts last Uni count = refl
 
 pub streams_blocked_parts : (last : Bool) (dir : Dir) (limit : ℕ)
     → shortest_frame last (frame_of StreamsBlocked (Number (dir_number dir) ∷ Number limit ∷ []))
-        ≡ shortest_varints ((0x16 + dir_number dir) ∷ limit ∷ [])
+    ≡ shortest_varints ((0x16 + dir_number dir) ∷ limit ∷ [])
 unfolding shortest_frame
 streams_blocked_parts last Bi limit = refl
 streams_blocked_parts last Uni limit = refl
 
 pub new_id_length : (last : Bool) (sequence retire : ℕ) (id token : List ℕ)
     → length (shortest_frame last (frame_of NewConnectionId (Number sequence ∷ Number retire ∷ Bytes id ∷ Bytes token
-        ∷ []))) ≡ length (shortest_varints (0x18 ∷ sequence ∷ retire ∷ [])) + 1 + length id + length token
+    ∷ []))) ≡ length (shortest_varints (0x18 ∷ sequence ∷ retire ∷ [])) + 1 + length id + length token
 new_id_length last sequence retire id token =
-    omega (arith, ap length (parts.id_parts last sequence retire id token),
-        length-append (shortest_varints (0x18 ∷ sequence ∷ retire ∷ [])) ((length id ∷ id) ++ token),
-        length-append (length id ∷ id) token)
+    omega (
+      arith,
+      ap length (parts.id_parts last sequence retire id token),
+      length-append (shortest_varints (0x18 ∷ sequence ∷ retire ∷ [])) ((length id ∷ id) ++ token),
+      length-append (length id ∷ id) token,
+    )
 
 pub challenge_length : (last : Bool) (n : ℕ) → length (shortest_frame last (frame_of PathChallenge (Number n ∷ []))) ≡ 9
 unfolding shortest_varint bytes_of

@@ -27,7 +27,7 @@ bytes_take n bytes front left e =
     let g = guard_ok (ltb (length bytes) n) UnexpectedEnd (take n bytes, drop n bytes) (front, left) e in
     let long : n ≤ length bytes = ltb-false _ _ g.0 in
     subst (λ (p : List ℕ × List ℕ). TakesBytes n bytes p.0 p.1) g.1
-        (record { parts = sym (take-append-drop n bytes); len = omega (arith, length-take n bytes) })
+    (record { parts = sym (take-append-drop n bytes); len = omega (arith, length-take n bytes) })
 
 bytes_again : (n : ℕ) (front left : List ℕ) → length front ≡ n → bytes_at n (front ++ left) ≡ Ok (front, left)
 unfolding bytes_at
@@ -87,9 +87,9 @@ field_takes Uint64 before bytes x fits e =
     let b = bind_ok (bytes_at 8 bytes) (λ n. Ok (num n.0, n.1)) a.0 a.1 in
     let u = bytes_take 8 bytes b.0.0 b.0.1 b.1 in
     let encoded : IsNumber 8 (num b.0.0) b.0.0 =
-        record { bytes = front_bytes b.0.0 b.0.1 (subst AreBytes u.parts fits); width = u.len; value = refl } in
+    record { bytes = front_bytes b.0.0 b.0.1 (subst AreBytes u.parts fits); width = u.len; value = refl } in
     let here : Takes (IsField Uint64 before (Number (num b.0.0) ∷ [])) bytes b.0.1 =
-        record { front = b.0.0; split = u.parts; is = (num b.0.0, refl, encoded) } in
+    record { front = b.0.0; split = u.parts; is = (num b.0.0, refl, encoded) } in
     let same : (num b.0.0, b.0.1) ≡ a.0 = ok_is (num b.0.0, b.0.1) a.0 b.2 in
     subst (λ (y : List Value × List ℕ). Takes (IsField Uint64 before y.0) bytes y.1) (ok_is (Number a.0.0 ∷ [], a.0.1) x a.2)
     (subst (λ (y : ℕ × List ℕ). Takes (IsField Uint64 before (Number y.0 ∷ [])) bytes y.1) same here)
@@ -104,7 +104,7 @@ field_takes Blocks before bytes x fits e =
     let t = blocks_take greatest bytes a.0.0 a.0.1 fits a.1 in
     let are : ranges_of greatest a.0.0 ≡ t.range ∷ t.ranges = ranges_are greatest t.range t.ranges a.0.0 t.blocks in
     subst (λ (y : List Value × List ℕ). Takes (IsField Blocks before y.0) bytes y.1)
-        (ok_is (Ranges (ranges_of greatest a.0.0) ∷ [], a.0.1) x a.2)
+    (ok_is (Ranges (ranges_of greatest a.0.0) ∷ [], a.0.1) x a.2)
     (record {
       front = t.count_bytes ++ a.0.0;
       split = t.parts;
@@ -131,7 +131,7 @@ unfolding counted_at id_at eight_at
 field_again Varint before values front left closed s = rw (varint_again s.0 front left s.2, s.1) refl
 field_again Counted before values front left closed s =
     let regrouped : front ++ left ≡ s.0 ++ (s.1 ++ left) =
-        ap (λ (l : List ℕ). l ++ left) s.4 ∙ append_assoc s.0 s.1 left in
+    ap (λ (l : List ℕ). l ++ left) s.4 ∙ append_assoc s.0 s.1 left in
     rw (regrouped, varint_again (length s.1) s.0 (s.1 ++ left) s.3, bytes_again (length s.1) s.1 left refl, s.2) refl
 field_again Id before values front left closed s =
     rw (s.4, is_in_range (length s.0) s.2 s.3, bytes_again (length s.0) s.0 left refl, s.1) refl
@@ -183,9 +183,11 @@ field_fails Uint64 before bytes e h fits =
     (eight_fails bytes e (mapped_err (eight_at bytes) (λ x. (Number x.0 ∷ [], x.1)) e h), refl)
 field_fails Bytes16 before bytes e h fits =
     (bytes_fail 16 bytes e (mapped_err (bytes_at 16 bytes) (λ x. (Bytes x.0 ∷ [], x.1)) e h), refl)
-field_fails Blocks before bytes e h fits =
-    (blocks_fail (greatest_of before) bytes e fits (mapped_err (blocks_at (greatest_of before) bytes)
-        (λ x. (Ranges (ranges_of (greatest_of before) x.0) ∷ [], x.1)) e h), refl)
+field_fails Blocks before bytes e h fits = (
+  blocks_fail (greatest_of before) bytes e fits (mapped_err (blocks_at (greatest_of before) bytes)
+      (λ x. (Ranges (ranges_of (greatest_of before) x.0) ∷ [], x.1)) e h),
+  refl,
+)
 field_fails Rest before bytes e h fits = absurd cc
 field_fails (Implied n) before bytes e h fits = absurd cc
 field_fails Ordered before bytes e h fits = (only_fault_else (is_ordered before) Malformed e _ h, refl)
@@ -218,8 +220,8 @@ pub stops_again : (field : Field) (before : List Value) (bytes : List ℕ) (e : 
     → Stops field before bytes e → field_at field before bytes ≡ Err e
 stops_again field before bytes e fits s =
     let failed =
-        err_of (field_at field before bytes) (λ x h. let t = field_takes field before bytes x fits h in s.no_front x.0
-            t.front x.1 t.split t.is) in
+    err_of (field_at field before bytes) (λ x h. let t = field_takes field before bytes x fits h in s.no_front x.0
+    t.front x.1 t.split t.is) in
     let why = (field_fails field before bytes failed.0 failed.1 fits).0 in
     failed.1 ∙ ap (λ (f : Fault). Err f) (same_reason field before bytes failed.0 e fits why s.why)
 
@@ -292,9 +294,9 @@ fields_again (field ∷ next ∷ fields) before after front left well closed s =
     let values = s.0 in
     let w = both (is_rest field) (is_well (next ∷ fields)) well in
     let regrouped : front ++ left ≡ s.1 ++ (s.2 ++ left) =
-        ap (λ (l : List ℕ). l ++ left) s.3 ∙ append_assoc s.1 s.2 left in
+    ap (λ (l : List ℕ). l ++ left) s.3 ∙ append_assoc s.1 s.2 left in
     let one =
-        field_again field before values s.1 (s.2 ++ left) (λ opens. absurd (true_is_not_false (sym opens ∙ w.0))) s.4 in
+    field_again field before values s.1 (s.2 ++ left) (λ opens. absurd (true_is_not_false (sym opens ∙ w.0))) s.4 in
     let others_closed : has_rest (next ∷ fields) ≡ true → left ≡ [] = λ opens. closed (rw w.0 opens) in
     let two = fields_again (next ∷ fields) (before ++ values) after s.2 left w.1 others_closed s.5 in
     ap (fields_at (field ∷ next ∷ fields) before) regrouped

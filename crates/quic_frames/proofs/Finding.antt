@@ -100,5 +100,12 @@ pub reads : (a : AckParts) (largest delay : ℕ) (bytes behind_largest behind_de
     → ReadsBlocks a bytes left
 reads a largest delay bytes behind_largest behind_delay additional behind_blocks left ecn is one two three fewer =
     subst (λ (p : AckParts). ReadsBlocks p bytes left) (sym is)
-    (record { behind_largest = behind_largest; behind_delay = behind_delay; behind_blocks = behind_blocks;
-        largest = one; delay = two; blocks = three; fewer = fewer })
+    (record {
+      behind_largest = behind_largest;
+      behind_delay = behind_delay;
+      behind_blocks = behind_blocks;
+      largest = one;
+      delay = two;
+      blocks = three;
+      fewer = fewer;
+    })

@@ -70,7 +70,7 @@ is_long_again : (strict : Bool) (t : ℕ) (front : List ℕ) → Encodes t front
 is_long_again false t front s l = absurd (true_is_not_false (sym l.counts))
 is_long_again true t front s l =
     not_false (eqb (length front) (size t)) (λ h. l.long ((short_least t front s).1
-        (same_size (length front) (size t) h ∙ sym (length-short t))))
+    (same_size (length front) (size t) h ∙ sym (length-short t))))
 
 -- the width of what is in front
 front_width : (bytes front back : List ℕ) → bytes ≡ front ++ back → length bytes - length back ≡ length front
@@ -89,7 +89,7 @@ row_takes r bytes x fits e =
     let a = bind_ok (fields_at r.fields [] bytes) (λ y. Ok (record { name = r.name; values = y.0 }, y.1)) x e in
     let made : Meaning × List ℕ = (record { name = r.name; values = a.0.0 }, a.0.1) in
     subst (λ (y : Meaning × List ℕ). TakesRow r y.0 bytes y.1) (ok_is made x a.2)
-        (record { name = refl; fields = fields_take r.fields [] bytes a.0 fits a.1 })
+    (record { name = refl; fields = fields_take r.fields [] bytes a.0 fits a.1 })
 
 in_row_ok : (o : Option Row) (bytes : List ℕ) (y : Meaning × List ℕ) → in_row o bytes ≡ Ok y
     → (r : Row) × (o ≡ Some r) × (row_at r bytes ≡ Ok y)
@@ -137,7 +137,7 @@ at_type_ok strict before total (Err f) x e = absurd cc
 at_type_err : (strict : Bool) (before : Option ℕ) (total : ℕ) (v : Result (ℕ × List ℕ) Fault) (i : Invalid)
     → at_type strict before total v ≡ Err i
     → ((f : Fault) × (v ≡ Err f) × (i ≡ invalid before f)) ⊎ ((y : ℕ × List ℕ) × (v ≡ Ok y)
-        × (with_type (is_long_type strict y.0 (total - length y.1)) total y ≡ Err i))
+    × (with_type (is_long_type strict y.0 (total - length y.1)) total y ≡ Err i))
 at_type_err strict before total (Ok y) i e = inr (y, refl, e)
 at_type_err strict before total (Err f) i e = inl (f, refl, cc)
 
@@ -159,7 +159,7 @@ found_takes strict before bytes x fits e =
     let c = in_row_ok (row_of a.0.0) a.0.1 b.0 b.1 in
     let t = varint_takes bytes a.0.0 a.0.1 fits a.1 in
     let short_enough : is_long_type strict a.0.0 (length t.front) ≡ false =
-        ap (is_long_type strict a.0.0) (sym (front_width bytes t.front a.0.1 t.split)) ∙ w.0 in
+    ap (is_long_type strict a.0.0) (sym (front_width bytes t.front a.0.1 t.split)) ∙ w.0 in
     let u = row_takes c.0 a.0.1 b.0 (back_bytes t.front a.0.1 (subst AreBytes t.split fits)) c.2 in
     subst (λ (y : TypedFrame × List ℕ). TakesFound strict y.0 bytes y.1) b.2
     (record {
@@ -194,12 +194,12 @@ pub found_again : (strict : Bool) (before : Option ℕ) (found : TypedFrame) (fr
 unfolding frame_at row_at
 found_again strict before found front back frame closed =
     let regrouped : front ++ back ≡ frame.type_bytes ++ (frame.field_bytes ++ back) =
-        ap (λ (l : List ℕ). l ++ back) frame.parts ∙ append_assoc frame.type_bytes frame.field_bytes back in
+    ap (λ (l : List ℕ). l ++ back) frame.parts ∙ append_assoc frame.type_bytes frame.field_bytes back in
     let one = type_again strict before found.type frame.type_bytes (frame.field_bytes ++ back) frame.type_encoded in
     let row_closed : has_rest frame.row.fields ≡ true → back ≡ [] = λ h. closed (ap is_open_row frame.in_table ∙ h) in
     let two =
-        fields_again frame.row.fields [] found.frame.values frame.field_bytes back
-            (row_is_well found.type frame.row frame.in_table) row_closed frame.fields in
+    fields_again frame.row.fields [] found.frame.values frame.field_bytes back
+    (row_is_well found.type frame.row frame.in_table) row_closed frame.fields in
     ap (found_at strict before) regrouped ∙ one ∙ rw (frame.in_table, two, ← frame.name) refl
 
 -- ---- an invalid frame
@@ -231,8 +231,19 @@ found_fails strict before bytes i fits some e =
                   type = Some a.0.0;
                   reason = LongType;
                   is_reported = w.1;
-                  no_frame = inr (inl (a.0.0, record { counts = l.counts; front = t.front; back = a.0.1;
-                      parts = t.split; encoded = t.is; long = l.long }, refl, refl));
+                  no_frame = inr (inl (
+                    a.0.0,
+                    record {
+                      counts = l.counts;
+                      front = t.front;
+                      back = a.0.1;
+                      parts = t.split;
+                      encoded = t.is;
+                      long = l.long;
+                    },
+                    refl,
+                    refl,
+                  ));
                 }
             | inr w ↦
                 let encoded = is_type strict a.0.0 t.front t.is (wide ∙ w.0) in
@@ -242,20 +253,39 @@ found_fails strict before bytes i fits some e =
                     type = Some a.0.0;
                     reason = b.0;
                     is_reported = b.2;
-                    no_frame = inr (inr (inl (a.0.0, record { front = t.front; back = a.0.1; parts = t.split;
-                        encoded = encoded; then = c.0 }, refl, c.1)));
+                    no_frame = inr (inr (inl (
+                      a.0.0,
+                      record {
+                        front = t.front;
+                        back = a.0.1;
+                        parts = t.split;
+                        encoded = encoded;
+                        then = c.0;
+                      },
+                      refl,
+                      c.1,
+                    )));
                   }
                   | inr c ↦
                       let failed =
-                          mapped_err (fields_at c.0.fields [] a.0.1) (λ y. (record { name = c.0.name; values = y.0 }, y.1)) b.0 c.2 in
+                      mapped_err (fields_at c.0.fields [] a.0.1) (λ y. (record { name = c.0.name; values = y.0 }, y.1)) b.0 c.2 in
                       let stops =
-                          fields_stop c.0.fields [] a.0.1 b.0 (back_bytes t.front a.0.1 (subst AreBytes t.split fits)) failed in
+                      fields_stop c.0.fields [] a.0.1 b.0 (back_bytes t.front a.0.1 (subst AreBytes t.split fits)) failed in
                       record {
                         type = Some a.0.0;
                         reason = b.0;
                         is_reported = b.2;
-                        no_frame = inr (inr (inr (a.0.0, record { front = t.front; back = a.0.1; parts = t.split;
-                            encoded = encoded; then = (c.0, c.1, stops) }, refl)));
+                        no_frame = inr (inr (inr (
+                          a.0.0,
+                          record {
+                            front = t.front;
+                            back = a.0.1;
+                            parts = t.split;
+                            encoded = encoded;
+                            then = (c.0, c.1, stops);
+                          },
+                          refl,
+                        )));
                       }
                 ]
           ]
@@ -267,7 +297,7 @@ pub no_frame_again : (strict : Bool) (before : Option ℕ) (bytes : List ℕ) (t
 unfolding found_at frame_at row_at
 no_frame_again strict before bytes type reason fits (inl a) =
     let failed =
-        err_of (varint_at bytes) (λ x h. let t = varint_takes bytes x.0 x.1 fits h in a.0.no_front x.0 t.front x.1 t.split t.is) in
+    err_of (varint_at bytes) (λ x h. let t = varint_takes bytes x.0 x.1 fits h in a.0.no_front x.0 t.front x.1 t.split t.is) in
     let why = varint_fails bytes failed.0 failed.1 in
     rw (failed.1, why, a.1, a.2) refl
 no_frame_again strict before bytes type reason fits (inr (inl a)) =
@@ -286,5 +316,5 @@ no_frame_again strict before bytes type reason fits (inr (inr (inr a))) =
     let one = ap (found_at strict before) u.parts ∙ type_again strict before a.0 u.front u.back u.encoded in
     let back_fits = back_bytes u.front u.back (subst AreBytes u.parts fits) in
     let two =
-        fields_stop_again u.then.0.fields [] u.back reason back_fits (row_is_well a.0 u.then.0 u.then.1) u.then.2 in
+    fields_stop_again u.then.0.fields [] u.back reason back_fits (row_is_well a.0 u.then.0 u.then.1) u.then.2 in
     one ∙ rw (u.then.1, two, a.2) refl

@@ -29,8 +29,8 @@ closed_frame {last} {frame} none r = record { in_range = r; counted = λ _. omeg
 
 ack_range : (last : Bool) (a : Ack) (ecn : Option EcnCounts)
     → FitsRow last (written_type last table.Ack (Number a.largest ∷ Number a.delay ∷ Ranges (ranges_acked a)
-        ∷ counts_of ecn)) (frame_of table.Ack (Number a.largest ∷ Number a.delay ∷ Ranges (ranges_acked a)
-        ∷ counts_of ecn))
+    ∷ counts_of ecn)) (frame_of table.Ack (Number a.largest ∷ Number a.delay ∷ Ranges (ranges_acked a)
+    ∷ counts_of ecn))
     → AreNumeric (a.largest ∷ a.delay ∷ []) × AreCounts ecn
 ack_range last a None f = let v = in_row refl f in ((v.0, (v.1.0, tt)), tt)
 ack_range last a (Some counts) f =
@@ -40,14 +40,14 @@ ack_range last a (Some counts) f =
 
 max_streams_range : (last : Bool) (dir : Dir) (n : ℕ)
     → FitsRow last (written_type last table.MaxStreams (Number (dir_number dir) ∷ Number n ∷ []))
-        (frame_of table.MaxStreams (Number (dir_number dir) ∷ Number n ∷ []))
+    (frame_of table.MaxStreams (Number (dir_number dir) ∷ Number n ∷ []))
     → n < 2 ^ 62
 max_streams_range last Bi n f = (in_row refl f).1.0
 max_streams_range last Uni n f = (in_row refl f).1.0
 
 streams_blocked_range : (last : Bool) (dir : Dir) (n : ℕ)
     → FitsRow last (written_type last table.StreamsBlocked (Number (dir_number dir) ∷ Number n ∷ []))
-        (frame_of table.StreamsBlocked (Number (dir_number dir) ∷ Number n ∷ []))
+    (frame_of table.StreamsBlocked (Number (dir_number dir) ∷ Number n ∷ []))
     → n < 2 ^ 62
 streams_blocked_range last Bi n f = (in_row refl f).1.0
 streams_blocked_range last Uni n f = (in_row refl f).1.0

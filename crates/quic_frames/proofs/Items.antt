@@ -35,7 +35,7 @@ end_of start bytes rest = start + (length bytes - length rest)
 pub items_ok : (strict : Bool) (n start : ℕ) (before : Option ℕ) (bytes : List ℕ) (x : TypedFrame × List ℕ) → bytes ≢ []
     → found_at strict before bytes ≡ Ok x
     → items_from strict (suc n) start before bytes ≡ Whole start (end_of start bytes x.1) x.0
-        ∷ items_from strict n (end_of start bytes x.1) (Some x.0.type) x.1
+    ∷ items_from strict n (end_of start bytes x.1) (Some x.0.type) x.1
 unfolding items_from
 items_ok strict n start before [] x some e = absurd (some refl)
 items_ok strict n start before (b ∷ bytes) x some e =
@@ -83,8 +83,10 @@ shorter : (strict : Bool) (before : Option ℕ) (bytes : List ℕ) (x : TypedFra
 shorter strict before bytes x fits e =
     let t = found_takes strict before bytes x fits e in
     let some = frame_some strict x.0 t.front t.frame in
-    record { less = omega (arith, ap length t.parts, length-append t.front x.1, some);
-        fits = back_bytes t.front x.1 (subst AreBytes t.parts fits) }
+    record {
+      less = omega (arith, ap length t.parts, length-append t.front x.1, some);
+      fits = back_bytes t.front x.1 (subst AreBytes t.parts fits);
+    }
 
 -- as many steps as bytes are enough
 items_enough : (strict : Bool) (n m start : ℕ) (before : Option ℕ) (bytes : List ℕ) → AreBytes bytes → length bytes ≤ n
@@ -101,7 +103,7 @@ items_enough strict (suc n) (suc m) start before bytes fits le_n le_m =
           let lt = less.less in
           let stop = end_of start bytes x.1 in
           let others =
-              items_enough strict n m stop (Some x.0.type) x.1 less.fits (omega (arith, lt)) (omega (arith, lt)) in
+          items_enough strict n m stop (Some x.0.type) x.1 less.fits (omega (arith, lt)) (omega (arith, lt)) in
           items_ok strict n start before bytes x some e ∙ ap (λ (l : List Item). Whole start stop x.0 ∷ l) others
           ∙ sym (items_ok strict m start before bytes x some e)
       | fails i some e ↦ items_err strict n start before bytes i some e ∙ sym (items_err strict m start before bytes i some e)
@@ -135,7 +137,7 @@ frames_give strict (p ∷ ps) (suc n) start before bytes le s =
     let here = ap (found_at strict before) s.2 ∙ found_again strict before p s.0 s.1 s.3 s.4 in
     let sizes : length bytes ≡ length s.0 + length s.1 = ap length s.2 ∙ length-append s.0 s.1 in
     let others =
-        frames_give strict ps n (end_of start bytes s.1) (Some p.type) s.1 (omega (arith, le, sizes, some)) s.5 in
+    frames_give strict ps n (end_of start bytes s.1) (Some p.type) s.1 (omega (arith, le, sizes, some)) s.5 in
     ap (map unplaced) (items_ok strict n start before bytes (p, s.1) (is_some_bytes bytes (omega (arith, sizes, some))) here)
     ∙ ap (λ (l : List Reported). Ok p ∷ l) others
 
@@ -143,14 +145,14 @@ begins_some : (strict : Bool) (bytes : List ℕ) (t : ℕ) (P : List ℕ → Typ
     → bytes ≢ []
 begins_some strict bytes t P u =
     let some = varint_some t u.front u.encoded.encoded in is_some_bytes bytes
-        (omega (arith, some, ap length u.parts, length-append u.front u.back))
+    (omega (arith, some, ap length u.parts, length-append u.front u.back))
 
 pub no_frame_some : (strict : Bool) (before : Option ℕ) (bytes : List ℕ) (type : Option ℕ) (reason : Fault)
     → IsNoFrame strict before bytes type reason → bytes ≢ []
 no_frame_some strict before bytes type reason (inl a) = a.0.some
 no_frame_some strict before bytes type reason (inr (inl a)) =
     let some = varint_some a.0 a.1.front a.1.encoded in is_some_bytes bytes
-        (omega (arith, some, ap length a.1.parts, length-append a.1.front a.1.back))
+    (omega (arith, some, ap length a.1.parts, length-append a.1.front a.1.back))
 no_frame_some strict before bytes type reason (inr (inr (inl a))) = begins_some strict bytes a.0 _ a.1
 no_frame_some strict before bytes type reason (inr (inr (inr a))) = begins_some strict bytes a.0 _ a.1
 
@@ -166,7 +168,7 @@ broken_gives : (strict : Bool) (ps : List TypedFrame) (n start : ℕ) (before : 
 broken_gives strict [] n start before bytes type reason fits le s =
     let whole : bytes ≡ s.back = s.parts ∙ ap (λ (l : List ℕ). l ++ s.back) s.frames in
     let none : IsNoFrame strict before bytes type reason =
-        subst (λ (l : List ℕ). IsNoFrame strict before l type reason) (sym whole) s.no_frame in
+    subst (λ (l : List ℕ). IsNoFrame strict before l type reason) (sym whole) s.no_frame in
     let some = no_frame_some strict before bytes type reason none in
     let e = no_frame_again strict before bytes type reason fits none in
     ap (map unplaced) (stops_at strict n start before bytes (invalid type reason) le some e)
@@ -179,13 +181,13 @@ broken_gives strict (p ∷ ps) (suc m) start before bytes type reason fits le s 
     let left = f.1 ++ s.back in
     let some = frame_some strict p f.0 f.3 in
     let regrouped : bytes ≡ f.0 ++ left =
-        s.parts ∙ ap (λ (l : List ℕ). l ++ s.back) f.2 ∙ append_assoc f.0 f.1 s.back in
+    s.parts ∙ ap (λ (l : List ℕ). l ++ s.back) f.2 ∙ append_assoc f.0 f.1 s.back in
     let sizes : length bytes ≡ length f.0 + length left = ap length regrouped ∙ length-append f.0 left in
     let here =
-        ap (found_at strict before) regrouped
-        ∙ found_again strict before p f.0 left f.3 (λ opens. absurd (true_is_not_false (sym opens ∙ s.closed.0))) in
+    ap (found_at strict before) regrouped
+    ∙ found_again strict before p f.0 left f.3 (λ opens. absurd (true_is_not_false (sym opens ∙ s.closed.0))) in
     let others = broken_gives strict ps m (end_of start bytes left) (Some p.type) left type reason
-        (back_bytes f.0 left (subst AreBytes regrouped fits)) (omega (arith, le, sizes, some))
+    (back_bytes f.0 left (subst AreBytes regrouped fits)) (omega (arith, le, sizes, some))
     (record { front = f.1; back = s.back; parts = refl; frames = f.5; closed = s.closed.1; no_frame = s.no_frame }) in
     ap (map unplaced) (items_ok strict m start before bytes (p, left) (is_some_bytes bytes (omega (arith, sizes, some))) here)
     ∙ ap (λ (l : List Reported). Ok p ∷ l) others
@@ -221,8 +223,8 @@ either_in strict (suc n) before bytes fits le =
             | inr a ↦
                 let s = a.3 in
                 let not_done : x.1 ≢ [] =
-                    λ h. no_frame_some strict (last_type (Some x.0.type) a.0) s.back a.1 a.2 s.no_frame
-                        (back_is_nil s.front s.back (sym s.parts ∙ h)) in
+                λ h. no_frame_some strict (last_type (Some x.0.type) a.0) s.back a.1 a.2 s.no_frame
+                (back_is_nil s.front s.back (sym s.parts ∙ h)) in
                 inr (
                   x.0 ∷ a.0,
                   a.1,
@@ -239,8 +241,19 @@ either_in strict (suc n) before bytes fits le =
           ]
       | fails i some e ↦
           let reported = found_fails strict before bytes i fits some e in
-          inr ([], reported.type, reported.reason, record { front = []; back = bytes; parts = refl; frames = refl;
-              closed = tt; no_frame = reported.no_frame })
+          inr (
+            [],
+            reported.type,
+            reported.reason,
+            record {
+              front = [];
+              back = bytes;
+              parts = refl;
+              frames = refl;
+              closed = tt;
+              no_frame = reported.no_frame;
+            },
+          )
     ]
 
 pub is_either : (strict : Bool) (before : Option ℕ) (bytes : List ℕ) → AreBytes bytes → IsEither strict before bytes
@@ -270,7 +283,7 @@ items_are_few strict start before bytes fits = items_few strict (length bytes) s
 pub items_found : (strict : Bool) (start : ℕ) (before : Option ℕ) (bytes : List ℕ) (x : TypedFrame × List ℕ)
     → AreBytes bytes → bytes ≢ [] → found_at strict before bytes ≡ Ok x
     → items_of strict start before bytes ≡ Whole start (end_of start bytes x.1) x.0
-        ∷ items_of strict (end_of start bytes x.1) (Some x.0.type) x.1
+    ∷ items_of strict (end_of start bytes x.1) (Some x.0.type) x.1
 unfolding items_of
 items_found strict start before bytes x fits some e =
     let less = shorter strict before bytes x fits e in
@@ -278,7 +291,7 @@ items_found strict start before bytes x fits some e =
     let more : suc (length bytes - 1) ≡ length bytes = omega (arith, lt) in
     let stop = end_of start bytes x.1 in
     let enough =
-        items_enough strict (length bytes - 1) (length x.1) stop (Some x.0.type) x.1 less.fits (omega (arith, lt)) (omega arith) in
+    items_enough strict (length bytes - 1) (length x.1) stop (Some x.0.type) x.1 less.fits (omega (arith, lt)) (omega arith) in
     ap (λ (n : ℕ). items_from strict n start before bytes) (sym more)
     ∙ items_ok strict (length bytes - 1) start before bytes x some e
     ∙ ap (λ (l : List Item). Whole start stop x.0 ∷ l) enough
@@ -333,7 +346,7 @@ pub never_both : (strict : Bool) (ps qs : List TypedFrame) (bytes : List ℕ) (t
     → AreBytes bytes → AreFrames strict ps bytes → IsBroken strict None qs bytes type reason → ⊥
 never_both strict ps qs bytes type reason fits s t =
     reported_differ ps qs (invalid type reason) (sym (frames_are_items strict ps 0 None bytes s)
-        ∙ broken_are_items strict qs 0 None bytes type reason fits t)
+    ∙ broken_are_items strict qs 0 None bytes type reason fits t)
 
 abbrev found_of : TypedFrame × List ℕ → Result (TypedFrame × List ℕ) Invalid
 found_of x = Ok x
@@ -349,7 +362,7 @@ begins_none strict f g a b x closed first second e =
     let one = found_again strict None f a x first (λ opens. absurd (true_is_not_false (sym opens ∙ closed))) in
     let two = found_again strict None g b [] second (λ _. refl) in
     let same : found_of (f, x) ≡ found_of (g, []) =
-        sym one ∙ ap (found_at strict None) (sym e ∙ sym (append-nil b)) ∙ two in
+    sym one ∙ ap (found_at strict None) (sym e ∙ sym (append-nil b)) ∙ two in
     let rest : x ≡ [] = left_is f g x [] same in
     sym (e ∙ ap (λ (l : List ℕ). a ++ l) rest ∙ append-nil a)
 

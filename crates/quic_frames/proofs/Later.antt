@@ -34,14 +34,14 @@ below_lasts zero low bytes more reason known s = absurd s
 below_lasts (suc count) low bytes more reason known s =
     number_lasts bytes more reason (λ gap. ltb low (gap + 2)) _ _ known
     (λ gap left t. number_lasts left more reason (λ block. ltb (low - (gap + 2)) block) _ _ known
-        (λ block others u. below_lasts count (low - (gap + 2) - block) others more reason known u) t) s
+    (λ block others u. below_lasts count (low - (gap + 2) - block) others more reason known u) t) s
 
 blocks_last : (greatest : ℕ) (bytes more : List ℕ) (reason : Fault) → reason ≢ UnexpectedEnd
     → BlocksStop greatest bytes reason → BlocksStop greatest (bytes ++ more) reason
 blocks_last greatest bytes more reason known s =
     number_lasts bytes more reason (λ count. false) _ _ known
     (λ count left t. number_lasts left more reason (λ block. ltb greatest block) _ _ known
-        (λ block others u. below_lasts count (greatest - block) others more reason known u) t) s
+    (λ block others u. below_lasts count (greatest - block) others more reason known u) t) s
 
 -- a test that tells the fault before the bytes do
 tested_last : (b : Bool) (e : Fault) → e ≡ cond b Malformed UnexpectedEnd → e ≢ UnexpectedEnd
@@ -66,7 +66,7 @@ field_lasts Id before [] more e fits known h =
     absurd (known (field_fails Id before [] e h (front_bytes [] more fits)).0)
 field_lasts Id before (n ∷ bytes) more e fits known h =
     let t =
-        tested_last (eqb n 0 || ltb 20 n) e (field_fails Id before (n ∷ bytes) e h (front_bytes (n ∷ bytes) more fits)).0 known in
+    tested_last (eqb n 0 || ltb 20 n) e (field_fails Id before (n ∷ bytes) e h (front_bytes (n ∷ bytes) more fits)).0 known in
     rw (t.0, t.1) refl
 field_lasts Uint64 before bytes more e fits known h =
     absurd (known (field_fails Uint64 before bytes e h (front_bytes bytes more fits)).0)
@@ -75,7 +75,7 @@ field_lasts Bytes16 before bytes more e fits known h =
 field_lasts Blocks before bytes more e fits known h =
     let s = (field_fails Blocks before bytes e h (front_bytes bytes more fits)).0 in
     ap (λ r. r >>= of_ranges (greatest_of before)) (blocks_stop (greatest_of before) (bytes ++ more) e fits
-        (blocks_last (greatest_of before) bytes more e known s))
+    (blocks_last (greatest_of before) bytes more e known s))
 field_lasts Rest before bytes more e fits known h = absurd cc
 field_lasts (Implied n) before bytes more e fits known h = absurd cc
 field_lasts Ordered before bytes more e fits known h = ordered_last (is_ordered before) bytes more e h
@@ -85,11 +85,18 @@ fields_last : (fields : List Field) (before : List Value) (bytes more : List ℕ
 fields_last [] before bytes more e fits known s = absurd s
 fields_last (field ∷ fields) before bytes more e fits known (inl s) =
     inl (field_stops field before (bytes ++ more) e fits (field_lasts field before bytes more e fits known
-        (stops_again field before bytes e (front_bytes bytes more fits) s)))
+    (stops_again field before bytes e (front_bytes bytes more fits) s)))
 fields_last (field ∷ fields) before bytes more e fits known (inr s) =
     let parts : bytes ++ more ≡ s.1 ++ (s.2 ++ more) = ap (λ (l : List ℕ). l ++ more) s.3 ∙ append_assoc s.1 s.2 more in
-    inr (s.0, s.1, s.2 ++ more, parts, s.4, fields_last fields (before ++ s.0) s.2 more e
-        (back_bytes s.1 (s.2 ++ more) (subst AreBytes parts fits)) known s.5)
+    inr (
+      s.0,
+      s.1,
+      s.2 ++ more,
+      parts,
+      s.4,
+      fields_last fields (before ++ s.0) s.2 more e
+          (back_bytes s.1 (s.2 ++ more) (subst AreBytes parts fits)) known s.5,
+    )
 
 -- ---- an invalid frame
 
@@ -98,7 +105,7 @@ begins_on : (strict : Bool) (bytes more : List ℕ) (t : ℕ) (P Q : List ℕ �
     → BeginsWithType strict (bytes ++ more) t Q
 begins_on strict bytes more t P Q fits lasts u =
     let parts : bytes ++ more ≡ u.front ++ (u.back ++ more) =
-        ap (λ (l : List ℕ). l ++ more) u.parts ∙ append_assoc u.front u.back more in
+    ap (λ (l : List ℕ). l ++ more) u.parts ∙ append_assoc u.front u.back more in
     record {
       front = u.front;
       back = u.back ++ more;
@@ -113,14 +120,28 @@ no_frame_lasts : (strict : Bool) (before : Option ℕ) (bytes more : List ℕ) (
 no_frame_lasts strict before bytes more type reason fits known (inl a) = absurd (known a.2)
 no_frame_lasts strict before bytes more type reason fits known (inr (inl a)) =
     let u = a.1 in
-    inr (inl (a.0, record { counts = u.counts; front = u.front; back = u.back ++ more;
-        parts = ap (λ (l : List ℕ). l ++ more) u.parts ∙ append_assoc u.front u.back more; encoded = u.encoded;
-        long = u.long }, a.2, a.3))
+    inr (inl (
+      a.0,
+      record {
+        counts = u.counts;
+        front = u.front;
+        back = u.back ++ more;
+        parts = ap (λ (l : List ℕ). l ++ more) u.parts ∙ append_assoc u.front u.back more;
+        encoded = u.encoded;
+        long = u.long;
+      },
+      a.2,
+      a.3,
+    ))
 no_frame_lasts strict before bytes more type reason fits known (inr (inr (inl a))) =
     inr (inr (inl (a.0, begins_on strict bytes more a.0 _ _ fits (λ back bounds none. none) a.1, a.2, a.3)))
 no_frame_lasts strict before bytes more type reason fits known (inr (inr (inr a))) =
-    inr (inr (inr (a.0, begins_on strict bytes more a.0 _ _ fits
-        (λ back bounds s. (s.0, s.1, fields_last s.0.fields [] back more reason bounds known s.2)) a.1, a.2)))
+    inr (inr (inr (
+      a.0,
+      begins_on strict bytes more a.0 _ _ fits
+          (λ back bounds s. (s.0, s.1, fields_last s.0.fields [] back more reason bounds known s.2)) a.1,
+      a.2,
+    )))
 
 -- An error that isn't a cut stays, whatever follows.
 pub error_lasts : (strict : Bool) (found : List TypedFrame) (bytes more : List ℕ) (type : Option ℕ) (reason : Fault)
@@ -128,7 +149,7 @@ pub error_lasts : (strict : Bool) (found : List TypedFrame) (bytes more : List �
     → IsBroken strict None found (bytes ++ more) type reason
 error_lasts strict found bytes more type reason fits known b =
     let parts : bytes ++ more ≡ b.front ++ (b.back ++ more) =
-        ap (λ (l : List ℕ). l ++ more) b.parts ∙ append_assoc b.front b.back more in
+    ap (λ (l : List ℕ). l ++ more) b.parts ∙ append_assoc b.front b.back more in
     record {
       front = b.front;
       back = b.back ++ more;
@@ -146,13 +167,13 @@ pub only_cut : (strict : Bool) (found others : List TypedFrame) (bytes more : Li
 only_cut strict found others bytes more type UnexpectedEnd fits s b = refl
 only_cut strict found others bytes more type InvalidFrameId fits s b =
     absurd (never_both strict found others (bytes ++ more) type InvalidFrameId fits s
-        (error_lasts strict others bytes more type InvalidFrameId fits (λ e. cc) b))
+    (error_lasts strict others bytes more type InvalidFrameId fits (λ e. cc) b))
 only_cut strict found others bytes more type Malformed fits s b =
     absurd (never_both strict found others (bytes ++ more) type Malformed fits s
-        (error_lasts strict others bytes more type Malformed fits (λ e. cc) b))
+    (error_lasts strict others bytes more type Malformed fits (λ e. cc) b))
 only_cut strict found others bytes more type LongType fits s b =
     absurd (never_both strict found others (bytes ++ more) type LongType fits s
-        (error_lasts strict others bytes more type LongType fits (λ e. cc) b))
+    (error_lasts strict others bytes more type LongType fits (λ e. cc) b))
 
 -- ---- frames
 
@@ -167,10 +188,10 @@ stop_is start bytes front back e = omega (arith, ap length e, length-append fron
 frames_on : (strict : Bool) (found : List TypedFrame) (start : ℕ) (before : Option ℕ) (bytes more : List ℕ)
     → AreBytes (bytes ++ more) → AreFrames strict found bytes → AreClosed found
     → items_of strict start before (bytes ++ more) ≡ items_of strict start before bytes
-        ++ items_of strict (start + length bytes) (last_type before found) more
+    ++ items_of strict (start + length bytes) (last_type before found) more
 frames_on strict [] start before bytes more fits s closed =
     let none : items_of strict start before bytes ≡ [] =
-        ap (items_of strict start before) s ∙ no_items strict start before in
+    ap (items_of strict start before) s ∙ no_items strict start before in
     let same : start ≡ start + length bytes = omega (arith, ap length s) in
     ap (λ (l : List ℕ). items_of strict start before (l ++ more)) s ∙ ap (λ (n : ℕ). items_of strict n before more) same
     ∙ ap (λ (l : List Item). l ++ items_of strict (start + length bytes) before more) (sym none)
@@ -178,29 +199,29 @@ frames_on strict (p ∷ ps) start before bytes more fits s closed =
     let parts : bytes ++ more ≡ s.0 ++ (s.1 ++ more) = ap (λ (l : List ℕ). l ++ more) s.2 ∙ append_assoc s.0 s.1 more in
     let some = frame_some strict p s.0 s.3 in
     let open_less : (back : List ℕ) → is_open p.type ≡ true → back ≡ [] =
-        λ back opens. absurd (true_is_not_false (sym opens ∙ closed.0)) in
+    λ back opens. absurd (true_is_not_false (sym opens ∙ closed.0)) in
     let long =
-        ap (found_at strict before) parts
-        ∙ found_again strict before p s.0 (s.1 ++ more) s.3 (open_less (s.1 ++ more)) in
+    ap (found_at strict before) parts
+    ∙ found_again strict before p s.0 (s.1 ++ more) s.3 (open_less (s.1 ++ more)) in
     let here = ap (found_at strict before) s.2 ∙ found_again strict before p s.0 s.1 s.3 (open_less s.1) in
     let one =
-        items_found strict start before (bytes ++ more) (p, s.1 ++ more) fits
-            (λ e. some_front s.0 (s.1 ++ more) some (sym parts ∙ e)) long in
+    items_found strict start before (bytes ++ more) (p, s.1 ++ more) fits
+    (λ e. some_front s.0 (s.1 ++ more) some (sym parts ∙ e)) long in
     let two =
-        items_found strict start before bytes (p, s.1) (front_bytes bytes more fits) (λ e. some_front s.0 s.1 some (sym s.2 ∙ e)) here in
+    items_found strict start before bytes (p, s.1) (front_bytes bytes more fits) (λ e. some_front s.0 s.1 some (sym s.2 ∙ e)) here in
     let stop = start + length s.0 in
     let stop_long : start + (length (bytes ++ more) - length (s.1 ++ more)) ≡ stop =
-        stop_is start (bytes ++ more) s.0 (s.1 ++ more) parts in
+    stop_is start (bytes ++ more) s.0 (s.1 ++ more) parts in
     let stop_here : start + (length bytes - length s.1) ≡ stop = stop_is start bytes s.0 s.1 s.2 in
     let at_end : stop + length s.1 ≡ start + length bytes = omega (arith, ap length s.2, length-append s.0 s.1) in
     let others =
-        frames_on strict ps stop (Some p.type) s.1 more (back_bytes s.0 (s.1 ++ more) (subst AreBytes parts fits)) s.5 closed.1 in
+    frames_on strict ps stop (Some p.type) s.1 more (back_bytes s.0 (s.1 ++ more) (subst AreBytes parts fits)) s.5 closed.1 in
     one ∙ ap (λ (n : ℕ). Whole start n p ∷ items_of strict n (Some p.type) (s.1 ++ more)) stop_long
     ∙ ap (λ (l : List Item). Whole start stop p ∷ l) others
     ∙ ap (λ (n : ℕ). Whole start stop p ∷ (items_of strict stop (Some p.type) s.1
-        ++ items_of strict n (last_type (Some p.type) ps) more)) at_end
+    ++ items_of strict n (last_type (Some p.type) ps) more)) at_end
     ∙ ap (λ (l : List Item). l ++ items_of strict (start + length bytes) (last_type (Some p.type) ps) more)
-        (sym (two ∙ ap (λ (n : ℕ). Whole start n p ∷ items_of strict n (Some p.type) s.1) stop_here))
+    (sym (two ∙ ap (λ (n : ℕ). Whole start n p ∷ items_of strict n (Some p.type) s.1) stop_here))
 
 -- Frames that aren't open stay in their places, whatever follows.
 pub frames_stay : (strict : Bool) (found : List TypedFrame) (bytes more : List ℕ) → AreBytes (bytes ++ more)

@@ -113,7 +113,7 @@ below_least low (range ∷ ranges) bytes s =
       (s.4, s.5, (encoded_bound (low - (range.1 + 2)) s.0 s.6).0, (encoded_bound (range.1 - range.0) s.1 s.7).0, others.0),
       subst (λ (l : List ℕ). AreOrExceed l (short_gap ++ (short_block ++ short_others))) (sym s.3)
           (both_least short_gap (short_block ++ short_others) s.0 (s.1 ++ s.2) gap.1
-              (both_least short_block short_others s.1 s.2 block.1 others.1)),
+          (both_least short_block short_others s.1 s.2 block.1 others.1)),
     )
 
 -- ---- fields
@@ -151,7 +151,7 @@ value_encoded Blocks before (Ranges (range ∷ ranges)) others f =
     let block = shortest_varint (range.1 - range.0) in
     let below = shortest_below range.0 ranges in
     let encoded : AreBlocks (greatest_of before) (range ∷ ranges) (block ++ below) =
-        (block, below, refl, f.1, f.2, shortest_encodes (range.1 - range.0) f.3, below_encoded range.0 ranges f.4) in
+    (block, below, refl, f.1, f.2, shortest_encodes (range.1 - range.0) f.3, below_encoded range.0 ranges f.4) in
     ((shortest_varint (length ranges), block ++ below, range, ranges, refl, refl, shortest_encodes (length ranges) f.0, encoded), refl)
 value_encoded Rest before (Bytes bytes) others f = (refl, refl)
 value_encoded (Implied n) before (Number m) others f = ((ap (λ (k : ℕ). Number k ∷ []) f, refl), refl)
@@ -161,15 +161,15 @@ encoded_then : (field : Field) (fields : List Field) (before : List Value) (valu
     → Fits field before value
     → AreFields fields (before ++ value ∷ []) ((before ++ value ∷ []) ++ values) (shortest_fields fields values)
     → AreFields (field ∷ fields) before (before ++ value ∷ values)
-        (shortest_of field (value ∷ values) ++ shortest_fields fields (values_after field (value ∷ values)))
+    (shortest_of field (value ∷ values) ++ shortest_fields fields (values_after field (value ∷ values)))
 encoded_then field fields before value values f s =
     let one = value_encoded field before value values f in
     let others : AreFields fields (before ++ value ∷ []) (before ++ value ∷ values)
-        (shortest_fields fields (values_after field (value ∷ values))) =
+    (shortest_fields fields (values_after field (value ∷ values))) =
     subst (λ (after : List Value). AreFields fields (before ++ value ∷ []) after
-        (shortest_fields fields (values_after field (value ∷ values)))) (append_assoc before (value ∷ []) values)
+    (shortest_fields fields (values_after field (value ∷ values)))) (append_assoc before (value ∷ []) values)
     (subst (λ (left : List Value). AreFields fields (before ++ value ∷ []) ((before ++ value ∷ []) ++ values)
-        (shortest_fields fields left)) (sym one.1) s) in
+    (shortest_fields fields left)) (sym one.1) s) in
     (value ∷ [], shortest_of field (value ∷ values), shortest_fields fields (values_after field (value ∷ values)), refl, one.0, others)
 
 -- The shortest encodings of fields with values that fit are encodings.
@@ -179,7 +179,7 @@ fields_encoded [] before values f = (ap (λ (l : List Value). before ++ l) f ∙
 fields_encoded (Ordered ∷ fields) before values f =
     let others : AreFields fields (before ++ []) (before ++ values) (shortest_fields fields values) =
     subst (λ (l : List Value). AreFields fields l (before ++ values) (shortest_fields fields values))
-        (sym (append-nil before)) (fields_encoded fields before values f.1) in
+    (sym (append-nil before)) (fields_encoded fields before values f.1) in
     ([], [], shortest_fields fields values, refl, (refl, refl, f.0), others)
 fields_encoded (field ∷ fields) before [] f = absurd f
 fields_encoded (field ∷ fields) before (value ∷ values) f =
@@ -232,7 +232,7 @@ field_least Blocks before values others bytes s =
       least = subst (λ (l : List ℕ). AreOrExceed l (short_count ++ (short_block ++ short_below)))
           (sym (s.5 ∙ ap (λ (l : List ℕ). s.0 ++ l) b.2))
           (both_least short_count (short_block ++ short_below) s.0 (b.0 ++ b.1) count.1
-              (both_least short_block short_below b.0 b.1 block.1 below.1));
+          (both_least short_block short_below b.0 b.1 block.1 below.1));
       others_left = refl;
     })
 field_least Rest before values others bytes s =
@@ -268,7 +268,7 @@ fields_least (field ∷ fields) before after bytes s =
     let first : List ℕ = shortest_of field values in
     let second = shortest_fields fields others.values in
     let whole : shortest_fields (field ∷ fields) values ≡ first ++ second =
-        ap (λ (v : List Value). first ++ shortest_fields fields v) one.others_left in
+    ap (λ (v : List Value). first ++ shortest_fields fields v) one.others_left in
     record {
       values = values;
       grown = others.grown ∙ append_assoc before s.0 others.values;

@@ -84,8 +84,8 @@ record Stands (last : Bool) (t : ℕ) (r : Row) (values : List Value) (type_byte
 abbrev IsLeastRow : ℕ → Row → Type 0
 IsLeastRow t r =
     (last : Bool) (values : List Value) (type_bytes field_bytes : List ℕ)
-        → Stands last t r values type_bytes field_bytes → LeastFrame last (frame_of r.name values)
-        (type_bytes ++ field_bytes)
+    → Stands last t r values type_bytes field_bytes → LeastFrame last (frame_of r.name values)
+    (type_bytes ++ field_bytes)
 
 -- a frame that has the type by which it is written
 same_type : (last : Bool) (t : ℕ) (r : Row) (values : List Value) (type_bytes field_bytes : List ℕ)
@@ -96,15 +96,21 @@ same_type last t r values type_bytes field_bytes s e =
     let a = fields_least r.fields [] values field_bytes s.fields in
     let n = number_least t type_bytes s.type_encoded in
     let least : AreOrExceed field_bytes (shortest_fields r.fields values) =
-        subst (λ (v : List Value). AreOrExceed field_bytes (shortest_fields r.fields v)) (sym a.grown) a.least in
+    subst (λ (v : List Value). AreOrExceed field_bytes (shortest_fields r.fields v)) (sym a.grown) a.least in
     let fits : AllFit r.fields [] values = subst (AllFit r.fields []) (sym a.grown) a.fits in
     let whole : shortest_frame last (frame_of r.name values) ≡ shortest_varint t ++ shortest_fields r.fields values =
     ap (λ (u : ℕ). shortest_varint u ++ shortest_row (row_of u) values) e
     ∙ ap (λ (o : Option Row). shortest_varint t ++ shortest_row o values) s.in_table in
     record {
       fits = subst (λ (u : ℕ). FitsRow last u (frame_of r.name values)) (sym e)
-          (record { small = (encoded_bound t type_bytes s.type_encoded).0; closed = s.closed; row = r;
-              in_table = s.in_table; name = refl; fields = fits });
+          (record {
+            small = (encoded_bound t type_bytes s.type_encoded).0;
+            closed = s.closed;
+            row = r;
+            in_table = s.in_table;
+            name = refl;
+            fields = fits;
+          });
       least = subst (AreOrExceed (type_bytes ++ field_bytes)) (sym whole)
           (both_least (shortest_varint t) (shortest_fields r.fields values) type_bytes field_bytes n.1 least);
     }
@@ -175,9 +181,11 @@ short_enough n bytes s = at_most bytes (shortest_varint n) (number_least n bytes
 
 better_offset : (at_start : Bool) (offset : ℕ) (bytes : List ℕ) → IsOffset at_start offset bytes
     → (offset < 2 ^ 62) × Better at_start (eqb offset 0) (least_offset (eqb offset 0) offset) bytes
-better_offset true offset bytes s =
-    (omega (arith, s.0), subst (λ (k : ℕ). Better true (eqb k 0) (least_offset (eqb k 0) k) bytes) (sym s.0)
-        (record { no_longer = omega arith; shorter = inl refl }))
+better_offset true offset bytes s = (
+  omega (arith, s.0),
+  subst (λ (k : ℕ). Better true (eqb k 0) (least_offset (eqb k 0) k) bytes) (sym s.0)
+      (record { no_longer = omega arith; shorter = inl refl }),
+)
 better_offset false offset bytes s = ((encoded_bound offset bytes s).0, by_test (eqb offset 0))
   where
     by_test : (b : Bool) → Better false b (least_offset b offset) bytes
@@ -191,7 +199,7 @@ better_content true true content bytes closed s =
 better_content true false content bytes closed s = absurd (true_is_not_false (sym (closed refl)))
 better_content false true content bytes closed s =
     let lt : length content < length bytes =
-        omega (arith, varint_some (length content) s.0 s.1, ap length s.2, length-append s.0 content) in
+    omega (arith, varint_some (length content) s.0 s.1, ap length s.2, length-append s.0 content) in
     (λ e. absurd (true_is_not_false e), record { no_longer = omega (arith, lt); shorter = inr lt })
 better_content false false content bytes closed s =
     let le = short_enough (length content) s.0 s.1 in
@@ -265,7 +273,7 @@ stream_parts at_start end fin values bytes s =
 
 stream_bytes : (at_start last fin : Bool) (id offset : ℕ) (content : List ℕ)
     → shortest_fields (stream_row (not at_start) (not last) fin).fields (stream_values fin id offset content)
-        ≡ shortest_varint id ++ (least_offset at_start offset ++ least_content last content)
+    ≡ shortest_varint id ++ (least_offset at_start offset ++ least_content last content)
 stream_bytes true true fin id offset content = ap (λ (l : List ℕ). shortest_varint id ++ l) (append-nil content)
 stream_bytes true false fin id offset content =
     ap (λ (l : List ℕ). shortest_varint id ++ l) (append-nil (shortest_varint (length content) ++ content))
@@ -291,8 +299,8 @@ pub stream_row_fits : (last fin : Bool) (id offset : ℕ) (content : List ℕ) �
 stream_row_fits last fin id offset content i o d =
     let start = eqb offset 0 in
     fits_row last (stream_type start last fin) (stream_row (not start) (not last) fin)
-        (stream_values fin id offset content) (stream_type_is start last fin)
-        (stream_fits start last fin id offset content refl i o d)
+    (stream_values fin id offset content) (stream_type_is start last fin)
+    (stream_fits start last fin id offset content refl i o d)
 
 row_is : (r s : Row) → (let o : Option Row = Some r in o) ≡ Some s → r ≡ s
 row_is r s e = cc
@@ -323,26 +331,26 @@ stream_least at_start end fin last values type_bytes field_bytes s =
     let p = stream_parts at_start end fin values field_bytes s.fields in
     let o = better_offset at_start p.offset p.offset_bytes p.offset_is in
     let d =
-        better_content end last p.content p.content_bytes (λ h. s.closed ((stream_type_is at_start end fin).opens ∙ h)) p.content_is in
+    better_content end last p.content p.content_bytes (λ h. s.closed ((stream_type_is at_start end fin).opens ∙ h)) p.content_is in
     let start = eqb p.offset 0 in
     let row = stream_row (not start) (not last) fin in
     let type_is : written_type last Stream values ≡ stream_type start last fin = ap (written_type last Stream) p.are in
     let fields : AllFit row.fields [] values =
     subst (AllFit row.fields []) (sym p.are) (stream_fits start last fin p.id p.offset p.content refl
-        (encoded_bound p.id p.id_bytes p.id_is).0 o.0 d.0) in
+    (encoded_bound p.id p.id_bytes p.id_is).0 o.0 d.0) in
     let sizes : length (shortest_fields row.fields values) ≡ length (shortest_varint p.id)
-        + (length (least_offset start p.offset) + length (least_content last p.content)) =
+    + (length (least_offset start p.offset) + length (least_content last p.content)) =
     ap (λ (v : List Value). length (shortest_fields row.fields v)) p.are
     ∙ ap length (stream_bytes start last fin p.id p.offset p.content)
     ∙ lengths (shortest_varint p.id) (least_offset start p.offset) (least_content last p.content) in
     let stood : length field_bytes ≡ length p.id_bytes + (length p.offset_bytes + length p.content_bytes) =
-        ap length p.parts ∙ lengths p.id_bytes p.offset_bytes p.content_bytes in
+    ap length p.parts ∙ lengths p.id_bytes p.offset_bytes p.content_bytes in
     let id_le = short_enough p.id p.id_bytes p.id_is in
     let other : length (shortest_fields row.fields values) < length field_bytes
-        → LeastFrame last (frame_of Stream values) (type_bytes ++ field_bytes) =
+    → LeastFrame last (frame_of Stream values) (type_bytes ++ field_bytes) =
     λ lt. other_type last (stream_type start last fin) row values type_bytes field_bytes type_is
-        (stream_type_is start last fin) fields (varint_some (stream_type at_start end fin) type_bytes s.type_encoded)
-        lt in
+    (stream_type_is start last fin) fields (varint_some (stream_type at_start end fin) type_bytes s.type_encoded)
+    lt in
     elim o.1.shorter [
       | inr lt ↦ other (omega (arith, sizes, stood, id_le, lt, d.1.no_longer))
       | inl same ↦ elim d.1.shorter [
@@ -392,11 +400,11 @@ datagram_least end last values type_bytes field_bytes s =
     let content = c.0 in
     let are : values ≡ Bytes content ∷ [] = s.fields.5.0 ∙ c.1 in
     let stood : length field_bytes ≡ length s.fields.1 =
-        ap length (s.fields.3 ∙ ap (λ (l : List ℕ). s.fields.1 ++ l) s.fields.5.1 ∙ append-nil s.fields.1) in
+    ap length (s.fields.3 ∙ ap (λ (l : List ℕ). s.fields.1 ++ l) s.fields.5.1 ∙ append-nil s.fields.1) in
     let d = better_content end last content s.fields.1 (λ h. s.closed ((datagram_type_is end).opens ∙ h)) c.2 in
     let row = datagram_row (not last) in
     let fields : AllFit row.fields [] values =
-        subst (AllFit row.fields []) (sym are) (datagram_fits last content d.0) in
+    subst (AllFit row.fields []) (sym are) (datagram_fits last content d.0) in
     let sizes : length (shortest_fields row.fields values) ≡ length (least_content last content) =
     ap (λ (v : List Value). length (shortest_fields row.fields v)) are ∙ ap length (datagram_bytes last content) in
     elim d.1.shorter [
@@ -448,17 +456,17 @@ each_least : Each IsLeastRow rows
 each_least =
     plain refl (λ last values. refl) & plain refl (λ last values. refl) & one_type refl ack_type & one_type refl ack_ecn_type
     & plain refl (λ last values. refl) & plain refl (λ last values. refl) & plain refl (λ last values. refl) & plain
-        refl (λ last values. refl)
+    refl (λ last values. refl)
     & stream_least true true false & stream_least true true true & stream_least true false false & stream_least true false true
     & stream_least false true false & stream_least false true true & stream_least false false false & stream_least false false true
     & plain refl (λ last values. refl) & plain refl (λ last values. refl) & one_type refl (max_streams_type Bi) &
-        one_type refl (max_streams_type Uni)
+    one_type refl (max_streams_type Uni)
     & plain refl (λ last values. refl) & plain refl (λ last values. refl) & one_type refl (streams_blocked_type Bi) &
-        one_type refl (streams_blocked_type Uni)
+    one_type refl (streams_blocked_type Uni)
     & plain refl (λ last values. refl) & plain refl (λ last values. refl) & plain refl (λ last values. refl) & plain
-        refl (λ last values. refl)
+    refl (λ last values. refl)
     & plain refl (λ last values. refl) & plain refl (λ last values. refl) & plain refl (λ last values. refl) & plain
-        refl (λ last values. refl)
+    refl (λ last values. refl)
     & datagram_least true & datagram_least false & plain refl (λ last values. refl) & tt
 
 pub frame_least : (last : Bool) (found : TypedFrame) (bytes : List ℕ) → IsFrame false found bytes
@@ -468,7 +476,7 @@ frame_least last found bytes f closed =
     let stands : Stands last found.type f.row found.frame.values f.type_bytes f.field_bytes =
     record { type_encoded = f.type_encoded.encoded; in_table = f.in_table; fields = f.fields; closed = closed } in
     let frame_is : frame_of f.row.name found.frame.values ≡ found.frame =
-        ap (λ (n : Name). frame_of n found.frame.values) (sym f.name) in
+    ap (λ (n : Name). frame_of n found.frame.values) (sym f.name) in
     subst (λ (l : List ℕ). LeastFrame last found.frame l) (sym f.parts)
     (subst (λ (m : Meaning). LeastFrame last m (f.type_bytes ++ f.field_bytes)) frame_is
-        (least last found.frame.values f.type_bytes f.field_bytes stands))
+    (least last found.frame.values f.type_bytes f.field_bytes stands))

@@ -24,12 +24,12 @@ pub pads : (strict : Bool) (payload : List ℕ) (offset : ℕ) (last : Option �
     → Finds (at_place strict payload offset last) frames.Padding (at_place strict payload (suc offset) (Some 0))
 pads strict payload offset last fits some byte =
     let front : drop offset payload ≡ 0 ∷ drop (suc offset) payload =
-        drop-cons payload offset 0 some ∙ ap (λ (n : ℕ). n ∷ drop (suc offset) payload) byte in
+    drop-cons payload offset 0 some ∙ ap (λ (n : ℕ). n ∷ drop (suc offset) payload) byte in
     let stop : length payload - length (drop (suc offset) payload) ≡ suc offset =
-        omega (arith, length-drop (suc offset) payload) in
+    omega (arith, length-drop (suc offset) payload) in
     subst (λ (n : ℕ). Finds (at_place strict payload offset last) frames.Padding (at_place strict payload n (Some 0))) stop
     (finds strict payload offset last 0 frames.Padding (drop (suc offset) payload) (tt, tt) fits (omega arith) some
-        (found_padding strict last (drop offset payload) (drop (suc offset) payload) front))
+    (found_padding strict last (drop offset payload) (drop (suc offset) payload) front))
 
 -- the place after some of them, by its parts
 pads_on : (strict : Bool) (payload : List ℕ) (offset k : ℕ) (last : Option ℕ) → AreBytes (drop offset payload)
@@ -39,7 +39,7 @@ pads_on strict payload offset zero last fits some byte =
     let e : suc offset ≡ offset + 1 = omega arith in
     let z : offset + 0 ≡ offset = omega arith in
     subst (λ (n : ℕ). Finds (at_place strict payload offset last) frames.Padding (at_place strict payload n (Some 0))) e
-        (pads strict payload offset last fits (omega arith) (rw z at byte))
+    (pads strict payload offset last fits (omega arith) (rw z at byte))
 pads_on strict payload offset (suc k) last fits some byte =
     let e : suc (offset + suc k) ≡ offset + suc (suc k) = omega arith in
     subst (λ (n : ℕ). Finds (at_place strict payload (offset + suc k) (Some 0)) frames.Padding (at_place strict payload n (Some 0))) e
@@ -56,21 +56,21 @@ passes strict payload offset zero last bytes cut fits le few each over = record 
   over = λ _ some.
       let room : 0 < length bytes = omega (arith, ap length cut, length-drop offset payload) in
       let e : get_or bytes 0 0 ≡ get_or payload offset 0 =
-          ap (λ (l : List ℕ). get_or l 0 0) cut ∙ get_or-drop offset payload 0 0
-          ∙ ap (λ (n : ℕ). get_or payload n 0) (add-zero offset) in
+      ap (λ (l : List ℕ). get_or l 0 0) cut ∙ get_or-drop offset payload 0 0
+      ∙ ap (λ (n : ℕ). get_or payload n 0) (add-zero offset) in
       rw (← e) (over room);
 }
 passes strict payload offset (suc n) last bytes cut fits le few each over = record {
   each = λ k lt.
       let room : offset + k < length payload = omega (arith, lt, ap length cut, length-drop offset payload) in
       let e : get_or payload (offset + k) 0 ≡ 0 =
-          sym (get_or-drop offset payload k 0) ∙ ap (λ (l : List ℕ). get_or l k 0) (sym cut) ∙ each k lt in
+      sym (get_or-drop offset payload k 0) ∙ ap (λ (l : List ℕ). get_or l k 0) (sym cut) ∙ each k lt in
       pads_on strict payload offset k last (subst AreBytes cut fits) room e;
   comes = refl;
   over = λ _ some.
       let room : suc n < length bytes = omega (arith, ap length cut, length-drop offset payload) in
       let e : get_or bytes (suc n) 0 ≡ get_or payload (offset + suc n) 0 =
-          ap (λ (l : List ℕ). get_or l (suc n) 0) cut ∙ get_or-drop offset payload (suc n) 0 in
+      ap (λ (l : List ℕ). get_or l (suc n) 0) cut ∙ get_or-drop offset payload (suc n) 0 in
       rw (← e) (over room);
 }
 
@@ -88,8 +88,8 @@ pub passes_here : (strict : Bool) (payload : List ℕ) (offset n : ℕ) (last : 
 passes_here strict payload offset n last b old bytes v f cut fits le few each over some =
     let all : PassesPadding (at_place strict payload offset last) n (at_place strict payload (offset + n) (Some 0)) =
     subst (λ (w : IterState). PassesPadding (at_place strict payload offset last) n w)
-        (behind_some n strict payload offset last some) (passes strict payload offset n last bytes cut fits le few each
-        over) in
+    (behind_some n strict payload offset last some) (passes strict payload offset n last bytes cut fits le few each
+    over) in
     subst (λ (o : IterState). PassesPadding o n (walk strict payload (offset + n) (Some 0) b))
-        (is_not_broken strict payload offset last b old v f)
+    (is_not_broken strict payload offset last b old v f)
     (subst (λ (c : Bool). PassesPadding (at_place strict payload offset last) n (walk strict payload (offset + n) (Some 0) c)) (sym f) all)

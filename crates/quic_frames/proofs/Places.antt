@@ -65,15 +65,18 @@ all_end_in (field ∷ fields) before after bytes last s e =
       | inl here ↦
           let whole : bytes ≡ s.1 = s.3 ∙ ap (λ (l : List ℕ). s.1 ++ l) here.1 ∙ append-nil s.1 in
           elim (field_adds field before s.0 s.1 s.4) [
-            | adds_none none nothing ↦ inl (sym (ap (last_bytes None)
-                (ap (λ (l : List Value). before ++ l) none ∙ append-nil before)) ∙ here.0, whole ∙ nothing)
+            | adds_none none nothing ↦ inl (
+              sym (ap (last_bytes None)
+                  (ap (λ (l : List Value). before ++ l) none ∙ append-nil before)) ∙ here.0,
+              whole ∙ nothing,
+            )
             | adds_other value none is ↦
                 let e1 : last_bytes None (before ++ value ∷ []) ≡ Some last =
-                    ap (λ (l : List Value). last_bytes None (before ++ l)) (sym is) ∙ here.0 in
+                ap (λ (l : List Value). last_bytes None (before ++ l)) (sym is) ∙ here.0 in
                 absurd (none_is_some (bytes_of_value value) last none (sym (last_bytes-push None before value) ∙ e1))
             | adds_bytes front back is parts ↦
                 let e1 : last_bytes None (before ++ Bytes back ∷ []) ≡ Some last =
-                    ap (λ (l : List Value). last_bytes None (before ++ l)) (sym is) ∙ here.0 in
+                ap (λ (l : List Value). last_bytes None (before ++ l)) (sym is) ∙ here.0 in
                 let same : back ≡ last = some_is back last (sym (last_bytes-push None before (Bytes back)) ∙ e1) in
                 inr (front, whole ∙ parts ∙ ap (λ (l : List ℕ). front ++ l) same)
           ]
@@ -106,11 +109,11 @@ cut_at : (strict : Bool) (payload : List ℕ) (offset : ℕ) (found : TypedFrame
 cut_at strict payload offset found rest le t =
     let first : List ℕ = take offset payload in
     let whole : payload ≡ first ++ (t.front ++ rest) =
-        sym (take-append-drop offset payload) ∙ ap (λ (l : List ℕ). take offset payload ++ l) t.parts in
+    sym (take-append-drop offset payload) ∙ ap (λ (l : List ℕ). take offset payload ++ l) t.parts in
     let begins : length first ≡ offset = omega (arith, length-take offset payload) in
     let sizes : length payload ≡ length first + (length t.front + length rest) =
-        ap length whole ∙ length-append first (t.front ++ rest)
-        ∙ ap (λ (n : ℕ). length first + n) (length-append t.front rest) in
+    ap length whole ∙ length-append first (t.front ++ rest)
+    ∙ ap (λ (n : ℕ). length first + n) (length-append t.front rest) in
     let some = frame_some strict found t.front t.frame in
     record {
       first = first;
@@ -129,8 +132,8 @@ cut_stands : (strict : Bool) (payload : List ℕ) (offset stop : ℕ) (found : T
     → Cut strict payload offset stop found rest → Stands strict payload offset stop found
 cut_stands strict payload offset stop found rest c =
     let here : slice_range payload offset stop ≡ c.front =
-        ap (λ (l : List ℕ). slice_range l offset stop) c.whole
-        ∙ middle_is c.first c.front rest offset stop c.begins c.ends in
+    ap (λ (l : List ℕ). slice_range l offset stop) c.whole
+    ∙ middle_is c.first c.front rest offset stop c.begins c.ends in
     record {
       some = c.some;
       within = c.within;
@@ -141,19 +144,19 @@ cut_stands strict payload offset stop found rest c =
             | inr f ↦
                 let before = c.first ++ (c.frame.type_bytes ++ f.0) in
                 let front_is : c.front ≡ (c.frame.type_bytes ++ f.0) ++ bytes =
-                    c.frame.parts ∙ ap (λ (l : List ℕ). c.frame.type_bytes ++ l) f.1
-                    ∙ sym (append_assoc c.frame.type_bytes f.0 bytes) in
+                c.frame.parts ∙ ap (λ (l : List ℕ). c.frame.type_bytes ++ l) f.1
+                ∙ sym (append_assoc c.frame.type_bytes f.0 bytes) in
                 let all : payload ≡ before ++ (bytes ++ rest) =
                 c.whole ∙ ap (λ (l : List ℕ). c.first ++ (l ++ rest)) front_is
                 ∙ ap (λ (l : List ℕ). c.first ++ l) (append_assoc (c.frame.type_bytes ++ f.0) bytes rest)
                 ∙ sym (append_assoc c.first (c.frame.type_bytes ++ f.0) (bytes ++ rest)) in
                 let sizes : length c.front ≡ length (c.frame.type_bytes ++ f.0) + length bytes =
-                    ap length front_is ∙ length-append (c.frame.type_bytes ++ f.0) bytes in
+                ap length front_is ∙ length-append (c.frame.type_bytes ++ f.0) bytes in
                 let before_len : length before ≡ length c.first + length (c.frame.type_bytes ++ f.0) =
-                    length-append c.first (c.frame.type_bytes ++ f.0) in
+                length-append c.first (c.frame.type_bytes ++ f.0) in
                 ap (λ (l : List ℕ). slice_range l (stop - length bytes) stop) all
                 ∙ middle_is before bytes rest (stop - length bytes) stop (omega (arith, sizes, before_len, c.ends))
-                    (omega (arith, sizes, before_len, c.ends))
+                (omega (arith, sizes, before_len, c.ends))
           ];
     }
 
@@ -209,9 +212,9 @@ finds strict payload offset last ty frame rest apart fits le some e =
     let items = items_found strict offset last bytes (found, rest) fits some_left e in
     let rest_fits : AreBytes rest = back_bytes t.front rest (subst AreBytes t.parts fits) in
     let long : length t.front ≡ stop - offset =
-        omega (arith, ap length t.parts, length-append t.front rest, size, le) in
+    omega (arith, ap length t.parts, length-append t.front rest, size, le) in
     let here : slice_range payload offset stop ≡ t.front =
-        ap (take (stop - offset)) t.parts ∙ take_at t.front rest (stop - offset) long in
+    ap (take (stop - offset)) t.parts ∙ take_at t.front rest (stop - offset) long in
     record {
       found = found;
       says = refl;
@@ -254,7 +257,7 @@ some_bytes : (payload : List ℕ) (offset : ℕ)
     → eqb (length (take (length payload - offset) (drop offset payload))) 0 ≡ false → offset < length payload
 some_bytes payload offset e =
     let size : length (take (length payload - offset) (drop offset payload)) ≡ length payload - offset =
-        ap length (rest_is payload offset) ∙ length-drop offset payload in
+    ap length (rest_is payload offset) ∙ length-drop offset payload in
     let some : eqb (length payload - offset) 0 ≡ false = rw size at e in
     grind (arith, nat_tests)
 
@@ -266,7 +269,7 @@ fewer_left strict payload offset last found rest fits e =
     let t = found_takes strict last _ (found, rest) fits e in
     let sizes = ap length t.parts ∙ length-append t.front rest in
     let size : length (take (length payload - offset) (drop offset payload)) ≡ length payload - offset =
-        ap length (rest_is payload offset) ∙ length-drop offset payload in
+    ap length (rest_is payload offset) ∙ length-drop offset payload in
     omega (arith, sizes, size)
 
 pub finds_here : (strict : Bool) (payload : List ℕ) (offset : ℕ) (last : Option ℕ) (b : Bool) (old : IterState) (ty : ℕ)
@@ -280,13 +283,15 @@ pub finds_here : (strict : Bool) (payload : List ℕ) (offset : ℕ) (last : Opt
 finds_here strict payload offset last b old ty frame rest apart blocks v f le some fits e =
     let cut = rest_is payload offset in
     let here =
-        finds strict payload offset last ty frame rest (apart,
-            subst (λ (l : List ℕ). HasItsBlocksBehind ty frame l rest) cut blocks) (subst AreBytes cut fits) le
-            (some_bytes payload offset some) (ap (found_at strict last) (sym cut) ∙ e) in
+    finds strict payload offset last ty frame rest (
+      apart,
+      subst (λ (l : List ℕ). HasItsBlocksBehind ty frame l rest) cut blocks,
+    ) (subst AreBytes cut fits) le
+    (some_bytes payload offset some) (ap (found_at strict last) (sym cut) ∙ e) in
     subst (λ (o : IterState). Finds o frame (walk strict payload (length payload - length rest) (Some ty) b))
-        (is_not_broken strict payload offset last b old v f)
+    (is_not_broken strict payload offset last b old v f)
     (subst (λ (c : Bool). Finds (at_place strict payload offset last) frame
-        (walk strict payload (length payload - length rest) (Some ty) c)) (sym f) here)
+    (walk strict payload (length payload - length rest) (Some ty) c)) (sym f) here)
 
 -- a byte of PADDING, the same
 pub padding_here : (strict : Bool) (payload : List ℕ) (offset : ℕ) (last : Option ℕ) (b : Bool) (old : IterState)
@@ -299,13 +304,13 @@ padding_here strict payload offset last b old v f le some fits front =
     let bytes = take (length payload - offset) (drop offset payload) in
     let rest = drop 1 bytes in
     let size : length bytes ≡ length payload - offset =
-        ap length (rest_is payload offset) ∙ length-drop offset payload in
+    ap length (rest_is payload offset) ∙ length-drop offset payload in
     let one = ap length front in
     let less = some_bytes payload offset some in
     let place : length payload - length rest ≡ offset + 1 = omega (arith, size, one, le, less) in
     subst (λ (n : ℕ). Finds old frames.Padding (walk strict payload n (Some 0) b)) place
-        (finds_here strict payload offset last b old 0 frames.Padding rest tt tt v f le some fits
-        (found_padding strict last bytes rest front))
+    (finds_here strict payload offset last b old 0 frames.Padding rest tt tt v f le some fits
+    (found_padding strict last bytes rest front))
 
 pub breaks_here : (strict : Bool) (payload : List ℕ) (offset : ℕ) (last : Option ℕ) (b : Bool) (old : IterState) (i : Invalid)
     → walk strict payload offset last b ≡ old → b ≡ false
@@ -316,7 +321,7 @@ breaks_here strict payload offset last b old i v f some e =
     let cut = rest_is payload offset in
     let is = is_not_broken strict payload offset last b old v f in (
       ap left (sym is)
-      ∙ breaks strict payload offset last i (some_bytes payload offset some) (ap (found_at strict last) (sym cut) ∙ e),
+          ∙ breaks strict payload offset last i (some_bytes payload offset some) (ap (found_at strict last) (sym cut) ∙ e),
       ap (λ (o : IterState). record o { is_broken = true }) is,
     )
 
@@ -330,7 +335,7 @@ pub is_over_here : (strict : Bool) (payload : List ℕ) (offset : ℕ) (last : O
     → eqb (length (take (length payload - offset) (drop offset payload))) 0 ≡ true → left old ≡ []
 is_over_here strict payload offset last b old v f none =
     let size : length (take (length payload - offset) (drop offset payload)) ≡ length (drop offset payload) =
-        ap length (rest_is payload offset) in
+    ap length (rest_is payload offset) in
     let zero_left : length (drop offset payload) ≡ 0 =
-        let n : eqb (length (drop offset payload)) 0 ≡ true = rw size at none in grind (arith, nat_tests) in
+    let n : eqb (length (drop offset payload)) 0 ≡ true = rw size at none in grind (arith, nat_tests) in
     ap left (sym (is_not_broken strict payload offset last b old v f)) ∙ is_over strict payload offset last zero_left

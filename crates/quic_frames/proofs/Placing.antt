@@ -45,9 +45,9 @@ broken_in : (strict : Bool) (ps : List Placed) (n start : ℕ) (before : Option 
 broken_in strict [] n start before bytes front back type reason fits le parts s closed no_frame =
     let all : bytes ≡ back = parts ∙ ap (λ (l : List ℕ). l ++ back) s in
     let none : IsNoFrame strict before bytes type reason =
-        subst (λ (l : List ℕ). IsNoFrame strict before l type reason) (sym all) no_frame in
+    subst (λ (l : List ℕ). IsNoFrame strict before l type reason) (sym all) no_frame in
     stops_at strict n start before bytes (invalid type reason) le (no_frame_some strict before bytes type reason none)
-        (no_frame_again strict before bytes type reason fits none)
+    (no_frame_again strict before bytes type reason fits none)
 broken_in strict (p ∷ ps) zero start before bytes front back type reason fits le parts s closed no_frame =
     let some = frame_some strict p.found s.0 s.3 in
     absurd (omega (arith, le, some, ap length parts, length-append front back, ap length s.2, length-append s.0 s.1))
@@ -56,12 +56,12 @@ broken_in strict (p ∷ ps) (suc n) start before bytes front back type reason fi
     let some = frame_some strict p.found s.0 s.3 in
     let regrouped : bytes ≡ s.0 ++ left = parts ∙ ap (λ (l : List ℕ). l ++ back) s.2 ∙ append_assoc s.0 s.1 back in
     let here =
-        ap (found_at strict before) regrouped
-        ∙ found_again strict before p.found s.0 left s.3 (λ opens. absurd (true_is_not_false (sym opens ∙ closed.0))) in
+    ap (found_at strict before) regrouped
+    ∙ found_again strict before p.found s.0 left s.3 (λ opens. absurd (true_is_not_false (sym opens ∙ closed.0))) in
     placed_first strict p n start before bytes s.0 left regrouped some here s.5 s.6 (map whole ps ++ Broken (invalid type reason) ∷ [])
     (broken_in strict ps n p.stop (Some p.found.type) left s.1 back type reason
-        (back_bytes s.0 left (subst AreBytes regrouped fits))
-        (omega (arith, le, some, ap length regrouped, length-append s.0 left)) refl s.7 closed.1 no_frame)
+    (back_bytes s.0 left (subst AreBytes regrouped fits))
+    (omega (arith, le, some, ap length regrouped, length-append s.0 left)) refl s.7 closed.1 no_frame)
 
 pub placed_items : (strict : Bool) (ps : List Placed) (bytes : List ℕ) → ArePlaced strict 0 ps bytes
     → items_of strict 0 None bytes ≡ map whole ps

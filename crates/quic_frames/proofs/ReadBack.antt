@@ -36,21 +36,27 @@ use Rattle.quic_frames.proofs.LeastPayloads.{FitRows, frames_encoded}
 of_row : {last : Bool} {t : ℕ} {r : Row} {values : List Value} → t < 2 ^ 62 → is_open t ≡ false → row_of t ≡ Some r
     → AllFit r.fields [] values → FitsRow last t (frame_of r.name values)
 of_row {r} lt is_closed in_table fields =
-    record { small = lt; closed = λ opens. absurd (true_is_not_false (sym opens ∙ is_closed)); row = r;
-        in_table = in_table; name = refl; fields = fields }
+    record {
+      small = lt;
+      closed = λ opens. absurd (true_is_not_false (sym opens ∙ is_closed));
+      row = r;
+      in_table = in_table;
+      name = refl;
+      fields = fields;
+    }
 
 ranges_fit : (a : Ack) → a.largest < 2 ^ 62 → FitBlocks a.largest (ranges_acked a)
 ranges_fit a lt =
     let d = acked_apart a.largest a.additional.now a.valid in
     let apart : AreApart (d.first ∷ d.others) = subst AreApart d.are d.apart in
     let fits : FitBlocks d.first.1 (d.first ∷ d.others) =
-        blocks_fit d.first d.others (omega (arith, d.top, lt)) apart in
+    blocks_fit d.first d.others (omega (arith, d.top, lt)) apart in
     subst (FitBlocks a.largest) (sym d.are) (subst (λ (n : ℕ). FitBlocks n (d.first ∷ d.others)) d.top fits)
 
 pub ack_row_fits : (last : Bool) (greatest delay : ℕ) (ranges : List (ℕ × ℕ)) (counts : Option EcnCounts)
     → greatest < 2 ^ 62 → delay < 2 ^ 62 → FitBlocks greatest ranges → AreCounts counts
     → FitsRow last (written_type last table.Ack (Number greatest ∷ Number delay ∷ Ranges ranges ∷ counts_of counts))
-        (frame_of table.Ack (Number greatest ∷ Number delay ∷ Ranges ranges ∷ counts_of counts))
+    (frame_of table.Ack (Number greatest ∷ Number delay ∷ Ranges ranges ∷ counts_of counts))
 ack_row_fits last greatest delay ranges None high late blocks e =
     of_row (omega arith) refl refl (high, (late, (blocks, refl)))
 ack_row_fits last greatest delay ranges (Some counts) high late blocks e =
@@ -63,13 +69,13 @@ close_fits last (closes.Application c) t r = of_row (omega arith) refl refl (t, 
 
 max_streams_fit : (last : Bool) (dir : Dir) (n : ℕ) → n < 2 ^ 62
     → FitsRow last (written_type last table.MaxStreams (Number (dir_number dir) ∷ Number n ∷ []))
-        (frame_of table.MaxStreams (Number (dir_number dir) ∷ Number n ∷ []))
+    (frame_of table.MaxStreams (Number (dir_number dir) ∷ Number n ∷ []))
 max_streams_fit last Bi n lt = of_row (omega arith) refl refl (refl, (lt, refl))
 max_streams_fit last Uni n lt = of_row (omega arith) refl refl (refl, (lt, refl))
 
 streams_blocked_fit : (last : Bool) (dir : Dir) (n : ℕ) → n < 2 ^ 62
     → FitsRow last (written_type last table.StreamsBlocked (Number (dir_number dir) ∷ Number n ∷ []))
-        (frame_of table.StreamsBlocked (Number (dir_number dir) ∷ Number n ∷ []))
+    (frame_of table.StreamsBlocked (Number (dir_number dir) ∷ Number n ∷ []))
 streams_blocked_fit last Bi n lt = of_row (omega arith) refl refl (refl, (lt, refl))
 streams_blocked_fit last Uni n lt = of_row (omega arith) refl refl (refl, (lt, refl))
 
@@ -119,9 +125,11 @@ end_of_map (frame ∷ fs) = refl
 
 frames_fit : (fs : List Frame) → AreTyped fs → CanFollow fs → FitRows (map meaning_of fs)
 frames_fit [] t c = tt
-frames_fit (frame ∷ fs) t c =
-    (frame_fits (is_end (map meaning_of fs)) frame t.0 (subst (λ (last : Bool). CanStand last frame) (end_of_map fs)
-        c.0), frames_fit fs t.1 c.1)
+frames_fit (frame ∷ fs) t c = (
+  frame_fits (is_end (map meaning_of fs)) frame t.0 (subst (λ (last : Bool). CanStand last frame) (end_of_map fs)
+      c.0),
+  frames_fit fs t.1 c.1,
+)
 
 pub frames_read_back : (strict : Bool) (fs : List Frame) → AreTyped fs → CanFollow fs
     → AreFrames strict (all_written (map meaning_of fs)) (shortest_frames (map meaning_of fs))
@@ -147,4 +155,4 @@ set_read_back strict last delay runs counts maximal some members late e =
     let high = members (greatest_in ranges) greatest.present in
     frame_encoded strict last (ack_of delay runs counts)
     (ack_row_fits last (greatest_in ranges) delay ranges counts high late
-        (ranges_of_set ranges (some_ranges runs some) high (are_apart runs maximal)) e)
+    (ranges_of_set ranges (some_ranges runs some) high (are_apart runs maximal)) e)

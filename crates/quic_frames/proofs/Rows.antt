@@ -11,7 +11,7 @@ cases_bool false = inr refl
 
 above_eight : (k : ℕ) → k < 8
     → row_of (8 + k) ≡ Some (stream_row (not (eqb (bit_and (8 + k) 4) 0)) (not (eqb (bit_and (8 + k) 2) 0))
-        (not (eqb (bit_and (8 + k) 1) 0)))
+    (not (eqb (bit_and (8 + k) 1) 0)))
 above_eight zero lt = refl
 above_eight (suc zero) lt = refl
 above_eight (suc (suc zero)) lt = refl
@@ -28,7 +28,7 @@ pub row_of_stream : (t : ℕ) → 8 ≤ t → t < 16
 row_of_stream t low high =
     let e : 8 + (t - 8) ≡ t = omega arith in
     subst (λ (u : ℕ). row_of u ≡ Some (stream_row (not (eqb (bit_and u 4) 0)) (not (eqb (bit_and u 2) 0))
-        (not (eqb (bit_and u 1) 0)))) e (above_eight (t - 8) (omega arith))
+    (not (eqb (bit_and u 1) 0)))) e (above_eight (t - 8) (omega arith))
 
 all_well : List (ℕ × Row) → Bool
 all_well [] = true

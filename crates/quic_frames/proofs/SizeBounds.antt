@@ -73,7 +73,7 @@ pub new_id_bound : (last : Bool) (sequence retire : ℕ) (id token : List ℕ) �
 unfolding size
 new_id_bound last sequence retire id token short_id of_16 =
     let some =
-        bound 0x18 (sequence ∷ retire ∷ []) ((length id ∷ id) ++ token) _ refl (id_parts last sequence retire id token) in
+    bound 0x18 (sequence ∷ retire ∷ []) ((length id ∷ id) ++ token) _ refl (id_parts last sequence retire id token) in
     omega (arith, some, length-append (length id ∷ id) token, short_id, of_16)
 
 pub stream_bound : (fin : Bool) (id offset : ℕ) (bytes : List ℕ)

@@ -6,11 +6,11 @@ use quic_base::varint::VarInt;
 
 mod bounds;
 mod encode;
+mod encode_into;
 mod field;
 mod found;
 mod in_range;
 mod iter;
-mod encode_into;
 mod reading;
 mod size_bound;
 

@@ -33,7 +33,7 @@ BecomesRunsOf-behind rs x d h lt below =
     let most : starts_upto rs x.end ≤ length rs = starts_upto-length x.end rs in
     let to : length rs ≡ starts_upto rs x.end = omega arith in
     let splices : Splices (in_union rs x) rs (record { from = length rs; to = length rs; by = One (range x.start x.end) }) =
-        Splices-plain rs x (length rs) (length rs) h lt from to (omega arith) in
+    Splices-plain rs x (length rs) (length rs) h lt from to (omega arith) in
     record { runs = subst (IsRunsOf (in_union rs x)) (whole rs x) splices.runs; differs = splices.differs }
 
 -- the last run takes in a range that begins there or at its end
@@ -44,15 +44,18 @@ pub BecomesRunsOf-grown : (rs : List (Range ℕ)) (x d : Range ℕ) → IsMaxima
 BecomesRunsOf-grown rs x d h some lo hi grows =
     let count : length rs ≡ suc (length rs - 1) = omega arith in
     let from : length rs - 1 ≡ ends_below rs x.start =
-        sym (ends_below-others 0 x.start (length rs - 1) d rs h count lo hi) in
+    sym (ends_below-others 0 x.start (length rs - 1) d rs h count lo hi) in
     let above : length rs - 1 < starts_upto rs x.end =
-        starts_upto-above 0 (length rs - 1) x.end d rs h (omega arith) (omega arith) in
+    starts_upto-above 0 (length rs - 1) x.end d rs h (omega arith) (omega arith) in
     let most : starts_upto rs x.end ≤ length rs = starts_upto-length x.end rs in
     let to : length rs ≡ starts_upto rs x.end = omega arith in
-    let splices : Splices (in_union rs x) rs (record { from = length rs - 1; to = length rs;
-        by = One (range (get_or rs (length rs - 1) d).start x.end) }) =
+    let splices : Splices (in_union rs x) rs (record {
+      from = length rs - 1;
+      to = length rs;
+      by = One (range (get_or rs (length rs - 1) d).start x.end);
+    }) =
     Splices-touching rs x d (length rs - 1) (length rs) (get_or rs (length rs - 1) d).start x.end h (omega arith) from
-        to (omega arith) (omega arith) (omega arith) (λ _ le. absurd (omega arith)) in
+    to (omega arith) (omega arith) (omega arith) (λ _ le. absurd (omega arith)) in
     record {
       runs = subst (IsRunsOf (in_union rs x)) (sym (set-one rs (length rs - 1) (length rs)
           (range (get_or rs (length rs - 1) d).start x.end) (omega arith) (omega arith))) splices.runs;
@@ -66,7 +69,7 @@ pub IsRunsOf-inside_last : (rs : List (Range ℕ)) (x d : Range ℕ) → IsMaxim
 IsRunsOf-inside_last rs x d h lt some lo hi =
     let count : length rs ≡ suc (length rs - 1) = omega arith in
     IsRunsOf-inside rs x d (length rs - 1) h lt (sym (ends_below-others 0 x.start (length rs - 1) d rs h count lo
-        (omega arith))) (omega arith) lo hi
+    (omega arith))) (omega arith) lo hi
 
 -- a run that is pushed makes one more of them, however the new set is listed
 pub length-pushed : (p : ℕ → Bool) (rs ss : List (Range ℕ)) (x : Range ℕ) → BecomesRunsOf p rs (rs ++ x ∷ [])

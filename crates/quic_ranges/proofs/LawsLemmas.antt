@@ -34,8 +34,8 @@ pub maximal_behind : (n i : ℕ) (d : Range ℕ) (rs : List (Range ℕ)) → Run
 maximal_behind n i d [] h in' = refl
 maximal_behind n zero d (r ∷ rs) h in' =
     past r r.end (member rs r.end) (omega arith) (member-below (r.end + 1) r.end rs h.2 (omega arith)) where
-  past : (r : Range ℕ) (y : ℕ) (m : Bool) → r.end ≤ y → m ≡ false → (in_range r y || m) ≡ false
-  past r y m le e = grind (arith, nat_tests)
+      past : (r : Range ℕ) (y : ℕ) (m : Bool) → r.end ≤ y → m ≡ false → (in_range r y || m) ≡ false
+      past r y m le e = grind (arith, nat_tests)
 maximal_behind n (suc i) d (r ∷ rs) h in' =
     let at = run-at (r.end + 1) i d rs h.2 (omega arith) in
     past r (get_or rs i d).end (member rs (get_or rs i d).end) (omega arith) (maximal_behind (r.end + 1) i d rs h.2 (omega arith)) where
@@ -69,7 +69,7 @@ AscendFrom-numbers_of n [] h = tt
 AscendFrom-numbers_of n (r ∷ rs) h =
     AscendFrom-count n r.start (r.end - r.start) (numbers_of rs) h.0
     (let lt : r.start < r.end = h.1 in AscendFrom-lower (r.end + 1) (r.start + (r.end - r.start)) (numbers_of rs)
-        (omega arith) (AscendFrom-numbers_of (r.end + 1) rs h.2))
+    (omega arith) (AscendFrom-numbers_of (r.end + 1) rs h.2))
 
 -- a number is one of those in a row exactly if it is between their bounds
 any_count : (a n y : ℕ) → list_any (λ x. nat_eq x y) (count_from a n) ≡ (leb a y && ltb y (a + n))

@@ -27,7 +27,7 @@ IsRunsOf-sum_run rs ss cur after i d lt h k = rw (take_more rs i d lt) (
   λ y.
       k.1 y
       ∙ step (member (take i rs) y) (member ss y) (in_range (get_or rs i d) y) (member cur y)
-          (member (take i rs ++ get_or rs i d ∷ []) y) (h.1 y) (member-append y (take i rs) (get_or rs i d ∷ [])),
+      (member (take i rs ++ get_or rs i d ∷ []) y) (h.1 y) (member-append y (take i rs) (get_or rs i d ∷ [])),
 ) where
   step : (m s i c e : Bool) → c ≡ (m || s) → e ≡ (m || (i || false)) → (c || i) ≡ (e || s)
   step m s i c e p q = grind (arith, nat_tests)
@@ -72,16 +72,16 @@ pub difference-spent : (left rest ss whole : List (Range ℕ)) (s e j : ℕ) (d 
     → RunsFrom (e + 1) rest → j < length ss → (get_or ss j d).end ≤ e
     → left ++ (outside s e (drop j ss) ++ subtracted rest (drop j ss)) ≡ whole
     → (left ++ as_runs s (get_or ss j d).start) ++ (outside (max s (get_or ss j d).end) e (drop (j + 1) ss)
-        ++ subtracted rest (drop (j + 1) ss)) ≡ whole
+    ++ subtracted rest (drop (j + 1) ss)) ≡ whole
 difference-spent left rest ss whole s e j d k h lt le is =
     let g = get_or ss j d in
     let at : (0 ≤ g.start) × (g.start < g.end) = run-at 0 j d ss k lt in
     let near : min e g.start ≡ g.start = omega arith in
     append_assoc left (as_runs s g.start) (outside (max s g.end) e (drop (j + 1) ss) ++ subtracted rest (drop (j + 1) ss))
     ∙ ap (λ l. left ++ l) (sym (append_assoc (as_runs s g.start) (outside (max s g.end) e (drop (j + 1) ss))
-        (subtracted rest (drop (j + 1) ss))))
+    (subtracted rest (drop (j + 1) ss))))
     ∙ ap (λ l. left ++ ((as_runs s g.start ++ outside (max s g.end) e (drop (j + 1) ss)) ++ l))
-        (sym (subtracted-skip (e + 1) g rest (drop (j + 1) ss) h at.1 (omega arith)))
+    (sym (subtracted-skip (e + 1) g rest (drop (j + 1) ss) h at.1 (omega arith)))
     ∙ ap (λ m. left ++ ((as_runs s m ++ outside (max s g.end) e (drop (j + 1) ss)) ++ subtracted rest (g ∷ drop (j + 1) ss))) (sym near)
     ∙ ap (λ l. left ++ (outside s e l ++ subtracted rest l)) (sym (drop-at ss j d lt))
     ∙ is
@@ -115,5 +115,5 @@ pub difference-end : (left rs gs ss : List (Range ℕ)) (i : ℕ) → IsMaximalR
     → left ++ subtracted (drop i rs) gs ≡ subtracted rs ss → IsRunsOf (in_subtraction rs ss) left
 difference-end left rs gs ss i h k le is =
     let all : left ≡ subtracted rs ss =
-        sym (append-nil left) ∙ ap (λ l. left ++ subtracted l gs) (sym (drop-past rs i le)) ∙ is in
+    sym (append-nil left) ∙ ap (λ l. left ++ subtracted l gs) (sym (drop-past rs i le)) ∙ is in
     rw all (IsRunsOf-subtracted rs ss h k)

@@ -66,7 +66,7 @@ elts-back f b rs ss v le lt none none' view =
     sym view ∙ ap (λ l. l ++ (numbers_of ss ++ numbers b)) (numbers-none f.start f.end le)
     ∙ ap (λ l. numbers_of l ++ numbers b) none ∙ numbers-first b.start b.end lt
     ∙ ap (λ l. b.start ∷ l) (sym (ap (λ l. l ++ (numbers_of rs ++ numbers (range (b.start + 1) b.end)))
-        (numbers-none f.start f.end le) ∙ ap (λ l. numbers_of l ++ numbers (range (b.start + 1) b.end)) none'))
+    (numbers-none f.start f.end le) ∙ ap (λ l. numbers_of l ++ numbers (range (b.start + 1) b.end)) none'))
 
 pub elts-none : (f b : Range ℕ) (rs : List (Range ℕ)) → f.end ≤ f.start → b.end ≤ b.start → rs ≡ []
     → numbers f ++ (numbers_of rs ++ numbers b) ≡ []

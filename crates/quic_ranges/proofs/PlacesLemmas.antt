@@ -34,16 +34,16 @@ pub inserted-places : (n a b : ℕ) (rs : List (Range ℕ)) → RunsFrom n rs �
 inserted-places n a b [] h lt = refl
 inserted-places n a b (r ∷ rs) h lt =
     elim (cases_lt r.end a) as (λ _. inserted (r ∷ rs) a b ≡ take (ends_below (r ∷ rs) a) (r ∷ rs) ++ hull (r ∷ rs) a b
-        ∷ drop (starts_upto (r ∷ rs) b) (r ∷ rs)) [
+    ∷ drop (starts_upto (r ∷ rs) b) (r ∷ rs)) [
       | inl q ↦ let q2 : r.start ≤ b = omega arith in
           rw (lt-ltb r.end a q, le-leb r.start b q2) (ap (λ l. r ∷ l) (inserted-places (r.end + 1) a b rs h.2 lt))
       | inr q ↦ elim (cases_lt b r.start) as (λ _. inserted (r ∷ rs) a b ≡ take (ends_below (r ∷ rs) a) (r ∷ rs)
           ++ hull (r ∷ rs) a b ∷ drop (starts_upto (r ∷ rs) b) (r ∷ rs)) [
-        | inl q2 ↦ rw (le-ltb r.end a q, lt-ltb b r.start q2, lt-leb r.start b q2) refl
-        | inr q2 ↦ rw (le-ltb r.end a q, le-ltb b r.start q2, le-leb r.start b q2)
-            (inserted-places (r.end + 1) (min a r.start) (max b r.end) rs h.2 (omega arith)
-            ∙ rw (ends_below-none (r.end + 1) (min a r.start) rs h.2 (omega arith), starts_upto-max r.end b rs h.2) refl)
-      ]
+            | inl q2 ↦ rw (le-ltb r.end a q, lt-ltb b r.start q2, lt-leb r.start b q2) refl
+            | inr q2 ↦ rw (le-ltb r.end a q, le-ltb b r.start q2, le-leb r.start b q2)
+                (inserted-places (r.end + 1) (min a r.start) (max b r.end) rs h.2 (omega arith)
+                ∙ rw (ends_below-none (r.end + 1) (min a r.start) rs h.2 (omega arith), starts_upto-max r.end b rs h.2) refl)
+          ]
     ]
 
 -- where no run is touched, the hull is the range itself
@@ -111,7 +111,7 @@ ends_below-others n x (suc k) d (r ∷ rs) h e le le' =
 abbrev HullAt : List (Range ℕ) → ℕ → ℕ → ℕ → Range ℕ → Type 0
 HullAt rs a b k d =
     starts_upto rs b ≡ suc k → ends_below rs a ≤ k → hull rs a b
-        ≡ range (min a (get_or rs (ends_below rs a) d).start) (max b (get_or rs k d).end)
+    ≡ range (min a (get_or rs (ends_below rs a) d).start) (max b (get_or rs k d).end)
 
 -- the hull, by the first and the last run that a..b touches
 pub hull-at : (n a b k : ℕ) (d : Range ℕ) (rs : List (Range ℕ)) → RunsFrom n rs → a < b → starts_upto rs b ≡ suc k
@@ -136,13 +136,13 @@ hull-at n a b (suc k) d (r ∷ rs) h lt is le =
         | inl q2 ↦ rw (le-ltb r.end a q, lt-ltb b r.start q2, lt-leb r.start b q2) (λ is le. absurd (omega arith))
         | inr q2 ↦ rw (le-ltb r.end a q, le-ltb b r.start q2, le-leb r.start b q2) (λ is le.
             let first : ends_below rs (min a r.start) ≡ 0 =
-                ends_below-none (r.end + 1) (min a r.start) rs h.2 (omega arith) in
+            ends_below-none (r.end + 1) (min a r.start) rs h.2 (omega arith) in
             let upto : starts_upto rs (max b r.end) ≡ suc k = starts_upto-max r.end b rs h.2 ∙ (omega arith) in
             let fits : starts_upto rs b ≤ length rs = starts_upto-length b rs in
             let at0 : (r.end + 1 ≤ (get_or rs 0 d).start) × ((get_or rs 0 d).start < (get_or rs 0 d).end) =
-                run-at (r.end + 1) 0 d rs h.2 (omega arith) in
+            run-at (r.end + 1) 0 d rs h.2 (omega arith) in
             let atk : (r.end + 1 ≤ (get_or rs k d).start) × ((get_or rs k d).start < (get_or rs k d).end) =
-                run-at (r.end + 1) k d rs h.2 (omega arith) in
+            run-at (r.end + 1) k d rs h.2 (omega arith) in
             hull-at (r.end + 1) (min a r.start) (max b r.end) k d rs h.2 (omega arith) upto (omega arith)
             ∙ rw first (range_at _ _ _ _ (omega arith) (omega arith)))
       ]
@@ -196,12 +196,18 @@ covered n a b d (r ∷ rs) h lt all =
       outside r y m q e e' = grind (arith, nat_tests)
 
       low : a ≤ r.end → r.start ≤ a
-      low q = elim (cases_lt a r.start) [ inl lo ↦ absurd (outside r a (member rs a) (inl lo)
-          (member-below (r.end + 1) a rs h.2 (omega arith)) (all a (omega arith) lt)) | inr le ↦ le ]
+      low q = elim (cases_lt a r.start) [
+        | inl lo ↦ absurd (outside r a (member rs a) (inl lo)
+            (member-below (r.end + 1) a rs h.2 (omega arith)) (all a (omega arith) lt))
+        | inr le ↦ le
+      ]
 
       high : a ≤ r.end → b ≤ r.end
-      high q = elim (cases_lt r.end b) [ inl lo ↦ absurd (outside r r.end (member rs r.end) (inr (omega arith))
-          (member-below (r.end + 1) r.end rs h.2 (omega arith)) (all r.end q lo)) | inr le ↦ le ]
+      high q = elim (cases_lt r.end b) [
+        | inl lo ↦ absurd (outside r r.end (member rs r.end) (inr (omega arith))
+            (member-below (r.end + 1) r.end rs h.2 (omega arith)) (all r.end q lo))
+        | inr le ↦ le
+      ]
 
 -- the place that a partition by `ends_below`'s test gives
 pub ends_below-place : (x i : ℕ) (rs : List (Range ℕ)) → i ≤ length rs
@@ -210,8 +216,10 @@ ends_below-place x i [] le p = omega arith
 ends_below-place x zero (r ∷ rs) le p = rw (p.1 0 r (omega arith) (omega arith)) refl
 ends_below-place x (suc i) (r ∷ rs) le p =
     rw (p.0 0 r (omega arith) (omega arith))
-    (ap suc (ends_below-place x i rs (omega arith) (λ k d lo hi. p.0 (suc k) d (omega arith) (omega arith),
-        λ k d lo hi. p.1 (suc k) d (omega arith) (omega arith))))
+    (ap suc (ends_below-place x i rs (omega arith) (
+      λ k d lo hi. p.0 (suc k) d (omega arith) (omega arith),
+      λ k d lo hi. p.1 (suc k) d (omega arith) (omega arith),
+    )))
 
 pub starts_upto-place : (x i : ℕ) (rs : List (Range ℕ)) → i ≤ length rs
     → IsPartitionPoint (λ (r : Range ℕ). leb r.start x ≡ true) (λ r. leb r.start x ≡ false) rs i → starts_upto rs x ≡ i
@@ -219,8 +227,10 @@ starts_upto-place x i [] le p = omega arith
 starts_upto-place x zero (r ∷ rs) le p = rw (p.1 0 r (omega arith) (omega arith)) refl
 starts_upto-place x (suc i) (r ∷ rs) le p =
     rw (p.0 0 r (omega arith) (omega arith))
-    (ap suc (starts_upto-place x i rs (omega arith) (λ k d lo hi. p.0 (suc k) d (omega arith) (omega arith),
-        λ k d lo hi. p.1 (suc k) d (omega arith) (omega arith))))
+    (ap suc (starts_upto-place x i rs (omega arith) (
+      λ k d lo hi. p.0 (suc k) d (omega arith) (omega arith),
+      λ k d lo hi. p.1 (suc k) d (omega arith) (omega arith),
+    )))
 
 -- runs ascend
 ascending : (n i j : ℕ) (d : Range ℕ) (rs : List (Range ℕ)) → RunsFrom n rs → i ≤ j → j < length rs
@@ -271,8 +281,8 @@ same_covered : (rs : List (Range ℕ)) (x d : Range ℕ) → IsMaximalRuns rs �
     → IsCovered rs x.start x.end d
 same_covered rs x d h lt same =
     covered 0 x.start x.end d rs h lt (λ y lo hi. inside y (member rs y) lo hi (same.1 y)) where
-  inside : (y : ℕ) (m : Bool) → x.start ≤ y → y < x.end → m ≡ (m || in_range x y) → m ≡ true
-  inside y m lo hi e = grind (arith, nat_tests)
+      inside : (y : ℕ) (m : Bool) → x.start ≤ y → y < x.end → m ≡ (m || in_range x y) → m ≡ true
+      inside y m lo hi e = grind (arith, nat_tests)
 
 -- the runs of the union
 union_at : (rs ss : List (Range ℕ)) (x : Range ℕ) → IsMaximalRuns rs → x.start < x.end → inserted rs x.start x.end ≡ ss
@@ -294,7 +304,7 @@ Splices-plain rs x i j h lt ei ej le =
           ∙ rw (← ei, same_place, hull-none 0 x.start x.end rs h lt (omega arith)) refl);
       differs = λ same. let c : IsCovered rs x.start x.end x = same_covered rs x x h lt same in
           let above : ends_below rs x.start < starts_upto rs x.end = starts_upto-above 0 (ends_below rs x.start) x.end x
-              rs h c.0 (omega arith) in omega arith;
+          rs h c.0 (omega arith) in omega arith;
     }
 
 -- an insertion that touches the runs from i to below j, and does not lie inside one
@@ -311,7 +321,7 @@ Splices-touching rs x d i j start end h lt ei ej le es ee out =
           ∙ rw (← ei, ← ej, hull-at 0 x.start x.end (j - 1) d rs h lt (omega arith) (omega arith), ← ei, ← es, ← ee) refl);
       differs = λ same. let c : IsCovered rs x.start x.end d = same_covered rs x d h lt same in
           let at : IsCovered rs x.start x.end d → ((get_or rs i d).start ≤ x.start) × (x.end ≤ (get_or rs i d).end) =
-              rw ei (λ q. (q.1, q.2)) in
+          rw ei (λ q. (q.1, q.2)) in
           out (at c).0 (at c).1;
     }
 
@@ -322,6 +332,6 @@ pub IsRunsOf-inside : (rs : List (Range ℕ)) (x d : Range ℕ) (i : ℕ) → Is
 IsRunsOf-inside rs x d i h lt ei in' =
     let at : Same rs x.start x.end d = inserted-same 0 x.start x.end d rs h lt in
     let at' : i < length rs → (get_or rs i d).start ≤ x.start → x.end ≤ (get_or rs i d).end
-        → inserted rs x.start x.end ≡ rs =
-        rw ei at in
+    → inserted rs x.start x.end ≡ rs =
+    rw ei at in
     λ le le'. union_at rs rs x h lt (at' in' le le')

@@ -18,7 +18,7 @@ abbrev pub rest : List (Range ℕ) → ℕ → ℕ → List (Range ℕ)
 rest [] a b = []
 rest (r ∷ rs) a b =
     cond (ltb r.end (suc a)) (rest rs a b) (cond (ltb r.start b)
-        (as_runs r.start (min r.end a) ++ (as_runs (max r.start b) r.end ++ rest rs a b)) [])
+    (as_runs r.start (min r.end a) ++ (as_runs (max r.start b) r.end ++ rest rs a b)) [])
 
 pub as_runs-full : (a b : ℕ) → a < b → as_runs a b ≡ range a b ∷ []
 as_runs-full a b lt = rw (lt-ltb a b lt) refl
@@ -52,26 +52,26 @@ pub removed-places : (n a m : ℕ) (rs : List (Range ℕ)) → RunsFrom n rs →
 removed-places n a m [] h le = refl
 removed-places n a m (r ∷ rs) h le =
     elim (cases_lt r.end (suc a)) as (λ _. removed (r ∷ rs) a (suc m) ≡ take (ends_below (r ∷ rs) (suc a)) (r ∷ rs)
-        ++ (rest (r ∷ rs) a (suc m) ++ drop (starts_upto (r ∷ rs) m) (r ∷ rs))) [
+    ++ (rest (r ∷ rs) a (suc m) ++ drop (starts_upto (r ∷ rs) m) (r ∷ rs))) [
       | inl q ↦ let q2 : r.start ≤ m = omega arith in
           removed-kept a (suc m) r rs h.1 (omega arith) (inl (omega arith))
           ∙ rw (lt-ltb r.end (suc a) q, le-leb r.start m q2) (ap (λ l. r ∷ l) (removed-places (r.end + 1) a m rs h.2 le))
       | inr q ↦ elim (cases_lt r.start (suc m)) as (λ _. removed (r ∷ rs) a (suc m)
           ≡ take (ends_below (r ∷ rs) (suc a)) (r ∷ rs) ++ (rest (r ∷ rs) a (suc m)
           ++ drop (starts_upto (r ∷ rs) m) (r ∷ rs))) [
-        | inl q2 ↦ let q3 : r.start ≤ m = omega arith in
-            rw (le-ltb r.end (suc a) q, lt-ltb r.start (suc m) q2, le-leb r.start m q3)
-            (ap (λ l. as_runs r.start (min r.end a) ++ (as_runs (max r.start (suc m)) r.end ++ l))
-            (removed-places (r.end + 1) a m rs h.2 le ∙ rw (ends_below-none (r.end + 1) (suc a) rs h.2 (omega arith)) refl)
-            ∙ sym (append_assoc (as_runs r.start (min r.end a))
+            | inl q2 ↦ let q3 : r.start ≤ m = omega arith in
+                rw (le-ltb r.end (suc a) q, lt-ltb r.start (suc m) q2, le-leb r.start m q3)
+                (ap (λ l. as_runs r.start (min r.end a) ++ (as_runs (max r.start (suc m)) r.end ++ l))
+                (removed-places (r.end + 1) a m rs h.2 le ∙ rw (ends_below-none (r.end + 1) (suc a) rs h.2 (omega arith)) refl)
+                ∙ sym (append_assoc (as_runs r.start (min r.end a))
                 (as_runs (max r.start (suc m)) r.end ++ rest rs a (suc m)) (drop (starts_upto rs m) rs)
-            ∙ ap (λ l. as_runs r.start (min r.end a) ++ l) (append_assoc (as_runs (max r.start (suc m)) r.end)
+                ∙ ap (λ l. as_runs r.start (min r.end a) ++ l) (append_assoc (as_runs (max r.start (suc m)) r.end)
                 (rest rs a (suc m)) (drop (starts_upto rs m) rs))))
-        | inr q2 ↦ let q3 : m < r.start = omega arith in
-            removed-kept a (suc m) r rs h.1 (omega arith) (inr q2)
-            ∙ rw (le-ltb r.end (suc a) q, le-ltb r.start (suc m) q2, lt-leb r.start m q3)
+            | inr q2 ↦ let q3 : m < r.start = omega arith in
+                removed-kept a (suc m) r rs h.1 (omega arith) (inr q2)
+                ∙ rw (le-ltb r.end (suc a) q, le-ltb r.start (suc m) q2, lt-leb r.start m q3)
                 (ap (λ l. r ∷ l) (removed-beyond (r.end + 1) a (suc m) rs h.2 (omega arith) (omega arith)))
-      ]
+          ]
     ]
 
 -- nothing is left of no run
@@ -94,7 +94,7 @@ first_starts m k d (r ∷ rs) =
 abbrev RestAt : List (Range ℕ) → ℕ → ℕ → ℕ → Range ℕ → Type 0
 RestAt rs a m k d =
     starts_upto rs m ≡ suc k → ends_below rs (suc a) ≤ k → rest rs a (suc m)
-        ≡ as_runs (get_or rs (ends_below rs (suc a)) d).start a ++ as_runs (suc m) (get_or rs k d).end
+    ≡ as_runs (get_or rs (ends_below rs (suc a)) d).start a ++ as_runs (suc m) (get_or rs k d).end
 
 -- what is left, by the first and the last run that the range overlaps
 pub rest-at : (n a m k : ℕ) (d : Range ℕ) (rs : List (Range ℕ)) → RunsFrom n rs → a ≤ m → RestAt rs a m k d
@@ -109,7 +109,7 @@ rest-at n a m zero d (r ∷ rs) h le =
             let e2 : max r.start (suc m) ≡ suc m = omega arith in
             rw (le-ltb r.end (suc a) q, lt-ltb r.start (suc m) q3, le-leb r.start m q2) (λ is le'.
             ap (λ l. as_runs r.start (min r.end a) ++ (as_runs (max r.start (suc m)) r.end ++ l))
-                (rest-none (r.end + 1) a m rs h.2 le (omega arith))
+            (rest-none (r.end + 1) a m rs h.2 le (omega arith))
             ∙ ap (λ l. as_runs r.start (min r.end a) ++ l) (append-nil (as_runs (max r.start (suc m)) r.end))
             ∙ rw (e1, e2) refl)
       ]
@@ -125,16 +125,16 @@ rest-at n a m (suc k) d (r ∷ rs) h le =
             let first : ends_below rs (suc a) ≡ 0 = ends_below-none (r.end + 1) (suc a) rs h.2 (omega arith) in
             let fits : starts_upto rs m ≤ length rs = starts_upto-length m rs in
             let at0 : (r.end + 1 ≤ (get_or rs 0 d).start) × ((get_or rs 0 d).start < (get_or rs 0 d).end) =
-                run-at (r.end + 1) 0 d rs h.2 (omega arith) in
+            run-at (r.end + 1) 0 d rs h.2 (omega arith) in
             let near : (get_or rs 0 d).start ≤ m = first_starts m k d rs (omega arith) in
             let e1 : min r.end a ≡ a = omega arith in
             let e2 : r.end ≤ max r.start (suc m) = omega arith in
             let e3 : a ≤ (get_or rs 0 d).start = omega arith in
             let step : rest rs a (suc m) ≡ as_runs (get_or rs (ends_below rs (suc a)) d).start a ++ as_runs (suc m) (get_or rs k d).end =
-                rest-at (r.end + 1) a m k d rs h.2 le (omega arith) (omega arith) in
+            rest-at (r.end + 1) a m k d rs h.2 le (omega arith) (omega arith) in
             let none : as_runs (get_or rs (ends_below rs (suc a)) d).start a ++ as_runs (suc m) (get_or rs k d).end
-                ≡ as_runs (suc m) (get_or rs k d).end =
-                rw (first, as_runs-empty (get_or rs 0 d).start a e3) refl in
+            ≡ as_runs (suc m) (get_or rs k d).end =
+            rw (first, as_runs-empty (get_or rs 0 d).start a e3) refl in
             ap (λ l. as_runs r.start (min r.end a) ++ (as_runs (max r.start (suc m)) r.end ++ l)) (step ∙ none)
             ∙ rw (e1, as_runs-empty (max r.start (suc m)) r.end e2) refl)
       ]
@@ -149,13 +149,13 @@ removed-none n a m (r ∷ rs) h le =
       | inl q ↦ let q2 : r.start ≤ m = omega arith in
           let kept = removed-kept a (suc m) r rs h.1 (omega arith) (inl (omega arith)) in
           rw (lt-ltb r.end (suc a) q, le-leb r.start m q2) (λ e. kept
-              ∙ ap (λ l. r ∷ l) (removed-none (r.end + 1) a m rs h.2 le (omega arith)))
+          ∙ ap (λ l. r ∷ l) (removed-none (r.end + 1) a m rs h.2 le (omega arith)))
       | inr q ↦ elim (cases_lt m r.start) as (λ _. starts_upto (r ∷ rs) m ≤ ends_below (r ∷ rs) (suc a)
           → removed (r ∷ rs) a (suc m) ≡ r ∷ rs) [
-        | inl q2 ↦ λ e. removed-kept a (suc m) r rs h.1 (omega arith) (inr q2)
-            ∙ ap (λ l. r ∷ l) (removed-beyond (r.end + 1) a (suc m) rs h.2 (omega arith) (omega arith))
-        | inr q2 ↦ rw (le-ltb r.end (suc a) q, le-leb r.start m q2) (λ e. absurd (omega arith))
-      ]
+            | inl q2 ↦ λ e. removed-kept a (suc m) r rs h.1 (omega arith) (inr q2)
+                ∙ ap (λ l. r ∷ l) (removed-beyond (r.end + 1) a (suc m) rs h.2 (omega arith) (omega arith))
+            | inr q2 ↦ rw (le-ltb r.end (suc a) q, le-leb r.start m q2) (λ e. absurd (omega arith))
+          ]
     ]
 
 -- the run after those that end below x ends at x or later
@@ -172,9 +172,11 @@ starts_upto-at x k d [] = λ lt. absurd (omega arith)
 starts_upto-at x zero d (r ∷ rs) = elim (cases_lt x r.start) as (λ _. 0 < starts_upto (r ∷ rs) x → r.start ≤ x)
     [ inl q ↦ rw (lt-leb r.start x q) (λ lt. absurd (omega arith)) | inr q ↦ λ _. q ]
 starts_upto-at x (suc k) d (r ∷ rs) =
-    elim (cases_lt x r.start) as (λ _. suc k < starts_upto (r ∷ rs) x → (get_or rs k d).start ≤ x)
-    [ inl q ↦ rw (lt-leb r.start x q) (λ lt. absurd (omega arith)) | inr q ↦ rw (le-leb r.start x q)
-        (λ lt. starts_upto-at x k d rs (omega arith)) ]
+    elim (cases_lt x r.start) as (λ _. suc k < starts_upto (r ∷ rs) x → (get_or rs k d).start ≤ x) [
+      | inl q ↦ rw (lt-leb r.start x q) (λ lt. absurd (omega arith))
+      | inr q ↦ rw (le-leb r.start x q)
+          (λ lt. starts_upto-at x k d rs (omega arith))
+    ]
 
 -- the numbers of a run are members
 pub member-at : (k y : ℕ) (d : Range ℕ) (rs : List (Range ℕ)) → k < length rs → (get_or rs k d).start ≤ y
@@ -185,8 +187,8 @@ member-at zero y d (r ∷ rs) lt lo hi = here (member rs y) where
   here m = grind (arith, nat_tests)
 member-at (suc k) y d (r ∷ rs) lt lo hi =
     there (in_range r y) (member rs y) (member-at k y d rs (omega arith) lo hi) where
-  there : (i m : Bool) → m ≡ true → (i || m) ≡ true
-  there i m e = grind (arith, nat_tests)
+      there : (i m : Bool) → m ≡ true → (i || m) ≡ true
+      there i m e = grind (arith, nat_tests)
 
 difference_at : (rs ss : List (Range ℕ)) (x : Range ℕ) → IsMaximalRuns rs → x.start < x.end
     → removed rs x.start x.end ≡ ss → IsRunsOf (in_difference rs x) ss
@@ -230,13 +232,13 @@ Splices-removal rs x d i j first_start last_end by h lt ei ej le es ee eb =
           ∙ removed-places 0 x.start (x.end - 1) rs h (omega arith) ∙ rw (what, ei', ← ej) refl);
       differs = λ same.
           let hi : suc x.start ≤ (get_or rs i d).end =
-              subst (λ k. suc x.start ≤ (get_or rs k d).end) ei' (ends_below-at (suc x.start) d rs (omega arith)) in
+          subst (λ k. suc x.start ≤ (get_or rs k d).end) ei' (ends_below-at (suc x.start) d rs (omega arith)) in
           let lo : (get_or rs i d).start ≤ x.end - 1 = starts_upto-at (x.end - 1) i d rs (omega arith) in
           let run : (0 ≤ (get_or rs i d).start) × ((get_or rs i d).start < (get_or rs i d).end) =
-              run-at 0 i d rs h (omega arith) in
+          run-at 0 i d rs h (omega arith) in
           taken (max x.start (get_or rs i d).start) (member rs (max x.start (get_or rs i d).start)) (omega arith) (omega arith)
           (member-at i (max x.start (get_or rs i d).start) d rs (omega arith) (omega arith) (omega arith))
-              (same.1 (max x.start (get_or rs i d).start));
+          (same.1 (max x.start (get_or rs i d).start));
     } where
       taken : (y : ℕ) (m : Bool) → x.start ≤ y → y < x.end → m ≡ true → m ≡ (m && not (in_range x y)) → ⊥
       taken y m lo hi e e' = grind (arith, nat_tests)
@@ -267,7 +269,7 @@ member-place n y (suc k) d (r ∷ rs) h =
       | inr le ↦ rw (le-leb r.start y le) (λ e.
           let fits : starts_upto rs y ≤ length rs = starts_upto-length y rs in
           let at : (r.end + 1 ≤ (get_or rs k d).start) × ((get_or rs k d).start < (get_or rs k d).end) =
-              run-at (r.end + 1) k d rs h.2 (omega arith) in
+          run-at (r.end + 1) k d rs h.2 (omega arith) in
           let near : (get_or rs k d).start ≤ y = starts_upto-at y k d rs (omega arith) in
           past r y (member rs y) (ltb y (get_or rs k d).end) (omega arith) (member-place (r.end + 1) y k d rs h.2 (omega arith)))
     ] where

@@ -66,14 +66,17 @@ RunsFrom-inserted n a b [] h lt = (omega arith, lt, tt)
 RunsFrom-inserted n a b (r ∷ rs) h lt =
     let P : List (Range ℕ) → Type 0 = RunsFrom (min n a) in
     cond_both (ltb r.end a) _ _ P
-    (λ e. let q : r.end < a = ltb-true _ _ e in
-    (omega arith, h.1, RunsFrom-lower (min (r.end + 1) a) (r.end + 1) (inserted rs a b) (omega arith)
-        (RunsFrom-inserted (r.end + 1) a b rs h.2 lt)))
+    (λ e. let q : r.end < a = ltb-true _ _ e in (
+      omega arith,
+      h.1,
+      RunsFrom-lower (min (r.end + 1) a) (r.end + 1) (inserted rs a b) (omega arith)
+          (RunsFrom-inserted (r.end + 1) a b rs h.2 lt),
+    ))
     (λ e1. cond_both (ltb b r.start) _ _ P
     (λ e2. let q : b < r.start = ltb-true _ _ e2 in (omega arith, lt, (omega arith, h.1, h.2)))
     (λ e2. let q1 : a ≤ r.end = ltb-false _ _ e1 in
     RunsFrom-lower (min (r.end + 1) (min a r.start)) (min n a) _ (omega arith)
-        (RunsFrom-inserted (r.end + 1) (min a r.start) (max b r.end) rs h.2 (omega arith))))
+    (RunsFrom-inserted (r.end + 1) (min a r.start) (max b r.end) rs h.2 (omega arith))))
 
 -- the runs after an insertion are those of the union
 pub IsRunsOf-inserted : (a b : ℕ) (rs : List (Range ℕ)) → IsMaximalRuns rs → a < b
@@ -92,7 +95,7 @@ member-as_runs a b y rest =
 
 cut : (s e a b y : ℕ) (m t : Bool) → s < e → a < b → t ≡ (m && not (in_range (range a b) y))
     → (in_range (range s (min e a)) y || (in_range (range (max s b) e) y || t))
-        ≡ ((in_range (range s e) y || m) && not (in_range (range a b) y))
+    ≡ ((in_range (range s e) y || m) && not (in_range (range a b) y))
 cut s e a b y m t h1 h2 eq = grind (arith, nat_tests)
 
 -- the members after a removal
@@ -121,7 +124,7 @@ RunsFrom-removed n a b (r ∷ rs) h lt =
     let le1 : r.start < r.end = h.1 in
     let le0 : n ≤ r.start = h.0 in
     RunsFrom-as_runs n r.start (min r.end a) _ h.0 (low n (omega arith) (omega arith))
-        (λ q. low (min r.end a + 1) (omega arith) (omega arith))
+    (λ q. low (min r.end a + 1) (omega arith) (omega arith))
 
 -- the runs after a removal are those of the difference
 pub IsRunsOf-removed : (a b : ℕ) (rs : List (Range ℕ)) → IsMaximalRuns rs → a < b
@@ -136,21 +139,27 @@ range_same r s p q = ap (λ m. range m r.end) p ∙ ap (range s.start) q
 start_le : (n : ℕ) (r s : Range ℕ) (rs ss : List (Range ℕ)) → RunsFrom n (r ∷ rs) → RunsFrom n (s ∷ ss)
     → ((y : ℕ) → member (r ∷ rs) y ≡ member (s ∷ ss) y) → r.start ≤ s.start
 start_le n r s rs ss h k same =
-    elim (cases_lt s.start r.start) [ inl lt ↦ absurd (clash r s s.start (member rs s.start) (member ss s.start) lt
-        (omega arith) k.1 (member-below (r.end + 1) s.start rs h.2 (omega arith)) (same s.start)) | inr le ↦ le ] where
-  clash : (r s : Range ℕ) (y : ℕ) (m m' : Bool) → y < r.start → y ≡ s.start → s.start < s.end → m ≡ false
-      → (in_range r y || m) ≡ (in_range s y || m') → ⊥
-  clash r s y m m' lt e lt' e1 e2 = grind (arith, nat_tests)
+    elim (cases_lt s.start r.start) [
+      | inl lt ↦ absurd (clash r s s.start (member rs s.start) (member ss s.start) lt
+          (omega arith) k.1 (member-below (r.end + 1) s.start rs h.2 (omega arith)) (same s.start))
+      | inr le ↦ le
+    ] where
+      clash : (r s : Range ℕ) (y : ℕ) (m m' : Bool) → y < r.start → y ≡ s.start → s.start < s.end → m ≡ false
+          → (in_range r y || m) ≡ (in_range s y || m') → ⊥
+      clash r s y m m' lt e lt' e1 e2 = grind (arith, nat_tests)
 
 -- nor does it end later
 end_le : (n : ℕ) (r s : Range ℕ) (rs ss : List (Range ℕ)) → RunsFrom n (r ∷ rs) → RunsFrom n (s ∷ ss)
     → r.start ≡ s.start → ((y : ℕ) → member (r ∷ rs) y ≡ member (s ∷ ss) y) → r.end ≤ s.end
 end_le n r s rs ss h k e same =
-    elim (cases_lt s.end r.end) [ inl lt ↦ absurd (clash r s s.end (member rs s.end) (member ss s.end) lt (omega arith)
-        (omega arith) (member-below (s.end + 1) s.end ss k.2 (omega arith)) (same s.end)) | inr le ↦ le ] where
-  clash : (r s : Range ℕ) (y : ℕ) (m m' : Bool) → y < r.end → r.start ≤ y → y ≡ s.end → m' ≡ false → (in_range r y || m)
-      ≡ (in_range s y || m') → ⊥
-  clash r s y m m' lt le e e1 e2 = grind (arith, nat_tests)
+    elim (cases_lt s.end r.end) [
+      | inl lt ↦ absurd (clash r s s.end (member rs s.end) (member ss s.end) lt (omega arith)
+          (omega arith) (member-below (s.end + 1) s.end ss k.2 (omega arith)) (same s.end))
+      | inr le ↦ le
+    ] where
+      clash : (r s : Range ℕ) (y : ℕ) (m m' : Bool) → y < r.end → r.start ≤ y → y ≡ s.end → m' ≡ false → (in_range r y || m)
+          ≡ (in_range s y || m') → ⊥
+      clash r s y m m' lt le e e1 e2 = grind (arith, nat_tests)
 
 -- two lists of runs with the same members are equal
 pub RunsFrom-unique : (n : ℕ) (rs ss : List (Range ℕ)) → RunsFrom n rs → RunsFrom n ss
@@ -190,7 +199,7 @@ RunsFrom-intersections n x [] h = tt
 RunsFrom-intersections n x (r ∷ rs) h =
     let tail : RunsFrom (r.end + 1) (intersections rs x) = RunsFrom-intersections (r.end + 1) x rs h.2 in
     RunsFrom-as_runs n (max r.start x.start) (min x.end r.end) (intersections rs x) (omega arith)
-        (RunsFrom-lower (r.end + 1) n _ (omega arith) tail)
+    (RunsFrom-lower (r.end + 1) n _ (omega arith) tail)
     (λ lt. RunsFrom-lower (r.end + 1) (min x.end r.end + 1) _ (omega arith) tail)
 
 meet : (s e a b y : ℕ) (m t : Bool) → t ≡ (m && in_range (range a b) y)
@@ -230,8 +239,11 @@ IsLeastMember-first r rs ss e h = subst (λ l. IsLeastMember l r.start) (sym e) 
   first : IsMaximalRuns (r ∷ rs) → IsLeastMember (r ∷ rs) r.start
   first h = record {
     present = here (member rs r.start) h.1;
-    least = λ z present. elim (cases_lt z r.start) [ inl lt ↦ absurd
-        (false≢true (sym (member-below r.start z (r ∷ rs) (omega arith, h.1, h.2) lt) ∙ present)) | inr le ↦ le ];
+    least = λ z present. elim (cases_lt z r.start) [
+      | inl lt ↦ absurd
+          (false≢true (sym (member-below r.start z (r ∷ rs) (omega arith, h.1, h.2) lt) ∙ present))
+      | inr le ↦ le
+    ];
   }
 
 -- no member of the runs before a last one reaches its end

@@ -14,8 +14,8 @@ pub member-append : (y : ℕ) (rs ss : List (Range ℕ)) → member (rs ++ ss) y
 member-append y [] ss = refl
 member-append y (r ∷ rs) ss =
     ap (λ m. in_range r y || m) (member-append y rs ss) ∙ assoc (in_range r y) (member rs y) (member ss y) where
-  assoc : (a b c : Bool) → (a || (b || c)) ≡ ((a || b) || c)
-  assoc a b c = grind (arith, nat_tests)
+      assoc : (a b c : Bool) → (a || (b || c)) ≡ ((a || b) || c)
+      assoc a b c = grind (arith, nat_tests)
 
 -- the members outside
 member-outside : (n s e y : ℕ) (gs : List (Range ℕ)) → RunsFrom n gs
@@ -23,8 +23,8 @@ member-outside : (n s e y : ℕ) (gs : List (Range ℕ)) → RunsFrom n gs
 member-outside n s e y [] h =
     ap (λ l. member l y) (sym (append-nil (as_runs s e))) ∙ member-as_runs s e y []
     ∙ last (in_range (range s e) y) where
-  last : (i : Bool) → (i || false) ≡ (i && not false)
-  last i = grind (arith, nat_tests)
+      last : (i : Bool) → (i || false) ≡ (i && not false)
+      last i = grind (arith, nat_tests)
 member-outside n s e y (g ∷ gs) h =
     member-as_runs s (min e g.start) y (outside (max s g.end) e gs)
     ∙ ap (λ m. in_range (range s (min e g.start)) y || m) (member-outside (g.end + 1) (max s g.end) e y gs h.2)
@@ -44,7 +44,7 @@ RunsFrom-outside n m s e (g ∷ gs) tail le le' h t =
     (RunsFrom-as_runs n s (min e g.start) (outside (max s g.end) e gs ++ tail) le
     (RunsFrom-outside n (g.end + 1) (max s g.end) e gs tail (omega arith) le' h.2 t)
     (λ lt. RunsFrom-outside (min e g.start + 1) (g.end + 1) (max s g.end) e gs tail
-        (let q : g.start < g.end = h.1 in omega arith) (omega arith) h.2 t))
+    (let q : g.start < g.end = h.1 in omega arith) (omega arith) h.2 t))
 
 RunsFrom-subtracted : (n m : ℕ) (rs ss : List (Range ℕ)) → RunsFrom n rs → RunsFrom m ss → RunsFrom n (subtracted rs ss)
 RunsFrom-subtracted n m [] ss h k = tt
@@ -82,7 +82,7 @@ outside-front n s e (g ∷ gs) h =
     elim (cases_lt e g.start) as (λ _. outside s e (take (starts_upto (g ∷ gs) e) (g ∷ gs)) ≡ outside s e (g ∷ gs)) [
       | inl lt ↦ let q : min e g.start ≡ e = omega arith in
           rw (lt-leb g.start e lt, q) (sym (append-nil (as_runs s e))
-              ∙ ap (λ l. as_runs s e ++ l) (sym (outside-none (max s g.end) e gs (omega arith))))
+          ∙ ap (λ l. as_runs s e ++ l) (sym (outside-none (max s g.end) e gs (omega arith))))
       | inr le ↦ rw (le-leb g.start e le) (ap (λ l. as_runs s (min e g.start) ++ l) (outside-front (g.end + 1) (max s g.end) e gs h.2))
     ]
 
@@ -92,14 +92,14 @@ pub outside-touched : (n s e : ℕ) (gs : List (Range ℕ)) → RunsFrom n gs �
 outside-touched n s e [] h lt = refl
 outside-touched n s e (g ∷ gs) h lt =
     elim (cases_lt g.end s) as (λ _. outside s e (slice_range (g ∷ gs) (ends_below (g ∷ gs) s) (starts_upto (g ∷ gs) e))
-        ≡ outside s e (g ∷ gs)) [
+    ≡ outside s e (g ∷ gs)) [
       | inl q ↦ let q1 : g.start ≤ e = omega arith in
           let q2 : min e g.start ≤ s = omega arith in
           let q3 : max s g.end ≡ s = omega arith in
           let fewer : suc (starts_upto gs e) - suc (ends_below gs s) ≡ starts_upto gs e - ends_below gs s =
-              omega arith in
+          omega arith in
           rw (lt-ltb g.end s q, le-leb g.start e q1, as_runs-empty s (min e g.start) q2, q3, fewer)
-              (outside-touched (g.end + 1) s e gs h.2 lt)
+          (outside-touched (g.end + 1) s e gs h.2 lt)
       | inr q ↦ let all : starts_upto (g ∷ gs) e - 0 ≡ starts_upto (g ∷ gs) e = omega arith in rw
           (le-ltb g.end s q, all) (outside-front n s e (g ∷ gs) h)
     ]
@@ -127,13 +127,17 @@ pub intersections-touched : (n : ℕ) (x : Range ℕ) (gs : List (Range ℕ)) �
 intersections-touched n x [] h lt = refl
 intersections-touched n x (g ∷ gs) h lt =
     elim (cases_lt g.end x.start) as (λ _. intersections (slice_range (g ∷ gs) (ends_below (g ∷ gs) x.start)
-        (starts_upto (g ∷ gs) x.end)) x ≡ intersections (g ∷ gs) x) [
+    (starts_upto (g ∷ gs) x.end)) x ≡ intersections (g ∷ gs) x) [
       | inl q ↦ let q1 : g.start ≤ x.end = omega arith in
           let q2 : min x.end g.end ≤ max g.start x.start = omega arith in
           let fewer : suc (starts_upto gs x.end) - suc (ends_below gs x.start) ≡ starts_upto gs x.end - ends_below gs x.start =
-              omega arith in
-          rw (lt-ltb g.end x.start q, le-leb g.start x.end q1, as_runs-empty (max g.start x.start) (min x.end g.end) q2,
-              fewer) (intersections-touched (g.end + 1) x gs h.2 lt)
+          omega arith in
+          rw (
+            lt-ltb g.end x.start q,
+            le-leb g.start x.end q1,
+            as_runs-empty (max g.start x.start) (min x.end g.end) q2,
+            fewer,
+          ) (intersections-touched (g.end + 1) x gs h.2 lt)
       | inr q ↦ let all : starts_upto (g ∷ gs) x.end - 0 ≡ starts_upto (g ∷ gs) x.end = omega arith in rw
           (le-ltb g.end x.start q, all) (intersections-front n x (g ∷ gs) h)
     ]

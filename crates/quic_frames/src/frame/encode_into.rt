@@ -31,7 +31,8 @@ impl Frame<'_> {
             Frame::ResetStream(reset) => write_into::numbers(dest, &reset.numbers()),
             Frame::StopSending(stop) => write_into::numbers(dest, &stop.numbers()),
             Frame::Crypto(c) => {
-                write_into::numbers_and_bytes(dest, &[0x06, c.offset, c.bytes.len() as u64], c.bytes)
+                let numbers = [0x06, c.offset, c.bytes.len() as u64];
+                write_into::numbers_and_bytes(dest, &numbers, c.bytes)
             }
             Frame::NewToken(t) => {
                 write_into::numbers_and_bytes(dest, &[0x07, t.token.len() as u64], t.token)
@@ -41,7 +42,9 @@ impl Frame<'_> {
             Frame::MaxStreamData { id, offset } => {
                 write_into::numbers(dest, &[0x11, u64::from(*id), *offset])
             }
-            Frame::MaxStreams { dir, count } => write_into::numbers(dest, &[0x12 + bit_of(*dir), *count]),
+            Frame::MaxStreams { dir, count } => {
+                write_into::numbers(dest, &[0x12 + bit_of(*dir), *count])
+            }
             Frame::DataBlocked { offset } => write_into::numbers(dest, &[0x14, *offset]),
             Frame::StreamDataBlocked { id, offset } => {
                 write_into::numbers(dest, &[0x15, u64::from(*id), *offset])

@@ -5,4 +5,4 @@ use Rattle.quic_base.proofs.varint.split_var_by_word.Goals as goal
 pub returns-clause-read : goal.returns-clause-read
 returns-clause-read c =
     takes_slice _ c.number_of_word-number.result.1 c.args.bytes.now c.in-Some.front.now (search rules)
-        c.number_of_word-number.ensures.width c.number_of_word-number.ensures.encoded
+    c.number_of_word-number.ensures.width c.number_of_word-number.ensures.encoded

@@ -67,25 +67,25 @@ from_spec 𝓤 𝓛 𝓜 𝓡 wired =
     -- each field owns what it owned in the struct, at the one value that it may have
     fpick ! (λ vss. fsplit ! $ feq_l ! (λ same. fsplit ! $
     peeks ! Ty _ (shows 𝓛 Ty) e.ty vss.0 (λ one_ty. rewrite ! 0 (λ (us : List Val). ‵ (Ty.own_val e.ty us))
-        (ty_laws.low-is e.ty vss.0 one_ty) refl $
+    (ty_laws.low-is e.ty vss.0 one_ty) refl $
     peeks ! Ty _ (shows 𝓛 Ty) e.ty tys (λ is_ty. move ! (1 ∷ []) $ fsplit ! $
     peeks ! Text _ (shows 𝓛 Text) e.reason vss.1.0 (λ one_text. rewrite ! 0
-        (λ (us : List Val). ‵ (Text.own_val e.reason us)) (text_laws.low-is e.reason vss.1.0 one_text) refl $
+    (λ (us : List Val). ‵ (Text.own_val e.reason us)) (text_laws.low-is e.reason vss.1.0 one_text) refl $
     peeks ! Text _ (shows 𝓛 Text) e.reason texts (λ is_text.
     fjoin ! $ move ! (1 ∷ 0 ∷ []) $ fjoin ! $ nothing ! $ join ! $ nothing ! $ move ! (1 ∷ 0 ∷ []) $ use2 𝓛 (raw (G.pre z)) (id⊢ 𝓤 _) $
     enter ! _ _ _ _ _ $ alloc_all ! (λ l. pass_all ! refl ((lawful from_type from_laws.the_laws 𝓛).typed e _ are.0) $
     sets ! (of_opd ! (get_in ! (fld ! refl (stop !)) (sub ! 0 refl (whole !)))) refl
-        ((ty_laws.lawful 𝓛).typed (ty_field.into e.ty) tys is_ty).0 $
+    ((ty_laws.lawful 𝓛).typed (ty_field.into e.ty) tys is_ty).0 $
     sets ! (of_opd ! (get_in ! (fld ! refl (stop !)) (sub ! 1 refl (whole !)))) refl ((text_laws.lawful 𝓛).typed e.reason texts is_text).0 $
     calls_at ! (framed 𝓤 𝓛.H 𝓜 (tables 𝓤 𝓛.H 𝓜 𝓡 𝓡.env)) G (met 𝓤 𝓛 𝓜 𝓡 (code.calls-quic_errors::invalid_frame::error_of 𝓡.env wired)) z
     (and_then ! (get ! refl) (and_then ! (get ! refl) (no_more !))) (λ v.
     use1 𝓛 (later (some (λ (r : To.Denot). (‵ ftrue ⊛ ‵ (To.own_val r (v ∷ []))) ⊛
     some (λ (ws : Unit {0} × (Unit {0} × Unit {0})). ‵ (lasts g.ended tt z.0.3 ws)
-        ⊛ raw (fact 𝓤 (IsErrorOf e.ty e.reason.now r)))))) (id⊢ 𝓤 _) $
+    ⊛ raw (fact 𝓤 (IsErrorOf e.ty e.reason.now r)))))) (id⊢ 𝓤 _) $
     await ! tt $ pick ! (λ r. split ! $ split ! $ drop ! $ peeks ! To _ (shows 𝓛 To) r (v ∷ []) (λ made.
     move ! (1 ∷ []) $ pick ! (λ ws. split ! $ drop ! $ heard ! _ (λ is_error.
     lands_as ! refl refl ((lawful to_type to_laws.the_laws 𝓛).typed r (v ∷ []) made).0 $
     returns ! (look_at ! 0 refl) $ free_all ! refl $
     suffices ! _ (ends_at 𝓛 f.ended stayed c ((κs, qs, bounds, a, (from_laws.lowered e ∷ [], tt)), tt) v r (tt, tt)
-        (tt, tt)) $ says ! is_error $
+    (tt, tt)) $ says ! is_error $
     nothing ! $ nothing ! $ join ! $ nothing ! $ done !)))))))))))))

@@ -13,13 +13,13 @@ header_of-requires c =
 pub numbers_len-header_len-requires : goal.numbers_len-header_len-requires
 numbers_len-header_len-requires c =
     let h = held_parts c.args.ack.now (subst AreBytes c.additional.ensures c.count_and_len-numbers.ensures.bytes)
-        c.requires in subst AreNumeric (sym c.header_of.ensures) h.numeric
+    c.requires in subst AreNumeric (sym c.header_of.ensures) h.numeric
 
 pub returns : goal.returns
 returns c last =
     let a = c.args.ack.now in
     let h = held_parts a (subst AreBytes c.additional.ensures c.count_and_len-numbers.ensures.bytes) c.requires in
     let blocks =
-        c.count_and_len-numbers.ensures.len h.numbers (subst (AreEncoded h.numbers) (sym c.additional.ensures) h.encoded) in
+    c.count_and_len-numbers.ensures.len h.numbers (subst (AreEncoded h.numbers) (sym c.additional.ensures) h.encoded) in
     held_length a h last c.header_of.result c.ecn.result _ _ _ c.header_of.ensures c.ecn.ensures
-        c.numbers_len-header_len.ensures.value (c.from.ensures ∙ blocks) c.counts_len.ensures.value
+    c.numbers_len-header_len.ensures.value (c.from.ensures ∙ blocks) c.counts_len.ensures.value

@@ -16,7 +16,7 @@ header_of-requires g c =
 pub numbers-requires-clause-numeric : goal.numbers-requires-clause-numeric
 numbers-requires-clause-numeric g c =
     let h = held_parts c.args.ack.now (subst AreBytes c.additional.ensures c.count_and_len-numbers.ensures.bytes)
-        c.requires in subst AreNumeric (sym c.header_of.ensures) h.numeric
+    c.requires in subst AreNumeric (sym c.header_of.ensures) h.numeric
 
 pub returns-in_err-numbers : goal.returns-in_err-numbers
 returns-in_err-numbers g c last =
@@ -37,7 +37,7 @@ returns-in_err-shortened g c last =
     let p = err_from_is_err_and c.from_residual-in_err-shortened.result c.from_residual-in_err-shortened.ensures.1 in
     let blocks = c.shortened.ensures h.numbers (subst (AreEncoded h.numbers) (sym c.additional-2.ensures) h.encoded) in
     writes_within c.shortened.result c.from_residual-in_err-shortened.result p.0 _ _ _ _ _ _ _ _ _ _ _
-        (held_whole a h last c.header_of.result a.ecn c.header_of.ensures refl)
+    (held_whole a h last c.header_of.result a.ecn c.header_of.ensures refl)
     (wrote_first c.numbers.result _ _ _ _ _ c.numbers.ensures c.in_ok-numbers.was) blocks c.in_err-shortened.was p.1
 
 pub returns : goal.returns
@@ -47,8 +47,8 @@ returns g c last =
     let blocks = c.shortened.ensures h.numbers (subst (AreEncoded h.numbers) (sym c.additional-2.ensures) h.encoded) in
     rw (held_whole a h last c.header_of.result c.ecn.result c.header_of.ensures c.ecn.ensures)
     (writes_third c.shortened.result c.encode_counts.result _ _ _ _ _ _ _ _ _ _ _
-        (wrote_first c.numbers.result _ _ _ _ _ c.numbers.ensures c.in_ok-numbers.was) blocks c.in_ok-shortened.was
-        c.encode_counts.ensures)
+    (wrote_first c.numbers.result _ _ _ _ _ c.numbers.ensures c.in_ok-numbers.was) blocks c.in_ok-shortened.was
+    c.encode_counts.ensures)
 
 pub encode_counts-requires : goal.encode_counts-requires
 encode_counts-requires g c = grind (arith, common_steps)

@@ -13,20 +13,20 @@ overflow_sub-bytes c =
     let fits : AreBytes c.args.bytes.now = λ i. (c.type_inv.bytes i).fits in
     let t = varint_takes c.args.bytes.now c.in_ok-count.count bytes fits c.in_ok-count.ensures.gives in
     let e : after_blocks c.in_ok-count.count c.args.greatest bytes ≡ Ok c.in_ok-rest.rest.now =
-        rw (c.in_ok-low.ensures.gives, c.in_ok-rest.ensures) refl in
+    rw (c.in_ok-low.ensures.gives, c.in_ok-rest.ensures) refl in
     ranges_shorter c.in_ok-count.count c.args.greatest bytes _ (back_bytes t.front bytes (subst AreBytes t.split fits)) e
 
 pub returns-clause-valid : goal.returns-clause-valid
 unfolding blocks_at after_blocks
 returns-clause-valid c =
     let e : blocks_at c.args.greatest c.args.bytes.now ≡ Ok (c.split_at.result.0.now, c.split_at.result.1.now) =
-        search rules in
+    search rules in
     blocks_valid c.args.greatest c.args.bytes.now _ _ (λ i. (c.type_inv.bytes i).fits) e
 
 pub returns-clause-encoded : goal.returns-clause-encoded
 unfolding blocks_at after_blocks
 returns-clause-encoded c =
     let e : blocks_at c.args.greatest c.args.bytes.now ≡ Ok (c.split_at.result.0.now, c.split_at.result.1.now) =
-        search rules in
+    search rules in
     let t = blocks_take c.args.greatest c.args.bytes.now _ _ (λ i. (c.type_inv.bytes i).fits) e in
     (t.range ∷ t.ranges, t.blocks)

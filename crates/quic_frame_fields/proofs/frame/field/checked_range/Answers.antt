@@ -5,4 +5,4 @@ pub returns-then-all-greatest-clause-gives : goal.returns-then-all-greatest-clau
 returns-then-all-greatest-clause-gives c =
     let numbers = c.in-Some.ensures in
     rw numbers.0 (short_step c.args.greatest c.in-Some.length c.in-Some.between c.in-Some.rest.now numbers.1 numbers.2
-        c.if-all-greatest.true)
+    c.if-all-greatest.true)

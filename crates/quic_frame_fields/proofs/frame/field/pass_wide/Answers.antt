@@ -8,5 +8,5 @@ loop-left-preserved c = record {
   same = wide_passes c.loop-left.left c.loop-left.low c.in-Some-wide_front.least c.in-Some-wide_front.taken
       c.loop-left.rest.now c.in-Some.front.now _
       c.in-Some.ensures.cases.same c.in-Some.ensures.cases.enough c.in-Some-wide_front.ensures.within
-          c.in-Some-wide_front.ensures.read (omega arith) c.loop-left.invariant.same;
+      c.in-Some-wide_front.ensures.read (omega arith) c.loop-left.invariant.same;
 }

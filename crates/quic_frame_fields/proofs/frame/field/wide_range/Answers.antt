@@ -11,30 +11,30 @@ pub returns-then-is_empty-clause-first : goal.returns-then-is_empty-clause-first
 returns-then-is_empty-clause-first c =
     let valid = is_blocks c.args.greatest c.args.blocks.now c.requires.some c.requires.valid in
     let first =
-        first_of c.args.greatest c.args.blocks.now c.in-Ok.least c.in-Ok.rest.now c.in-Ok.ensures.bytes valid c.in-Ok.ensures.gives in
+    first_of c.args.greatest c.args.blocks.now c.in-Ok.least c.in-Ok.rest.now c.in-Ok.ensures.bytes valid c.in-Ok.ensures.gives in
     first_is_last c.args.greatest c.args.blocks.now c.in-Ok.least c.in-Ok.rest.now first
-        (zero_of (length c.in-Ok.rest.now) c.if-is_empty.ensures)
+    (zero_of (length c.in-Ok.rest.now) c.if-is_empty.ensures)
 
 pub unreachable-requires-in_default-gap : goal.unreachable-requires-in_default-gap
 unreachable-requires-in_default-gap c =
     let valid = is_blocks c.args.greatest c.args.blocks.now c.requires.some c.requires.valid in
     let first =
-        first_of c.args.greatest c.args.blocks.now c.in-Ok.least c.in-Ok.rest.now c.in-Ok.ensures.bytes valid c.in-Ok.ensures.gives in
+    first_of c.args.greatest c.args.blocks.now c.in-Ok.least c.in-Ok.rest.now c.in-Ok.ensures.bytes valid c.in-Ok.ensures.gives in
     has_next c.args.greatest c.args.blocks.now c.in-Ok.least c.in-Ok.rest.now _ first
-        (some_of (length c.in-Ok.rest.now) c.if-is_empty.ensures) c.in_default-gap.ensures.gives
+    (some_of (length c.in-Ok.rest.now) c.if-is_empty.ensures) c.in_default-gap.ensures.gives
 
 pub returns-clause-first : goal.returns-clause-first
 returns-clause-first c =
     let valid = is_blocks c.args.greatest c.args.blocks.now c.requires.some c.requires.valid in
     let first =
-        first_of c.args.greatest c.args.blocks.now c.in-Ok.least c.in-Ok.rest.now c.in-Ok.ensures.bytes valid c.in-Ok.ensures.gives in
+    first_of c.args.greatest c.args.blocks.now c.in-Ok.least c.in-Ok.rest.now c.in-Ok.ensures.bytes valid c.in-Ok.ensures.gives in
     (first_and_next c.args.greatest c.args.blocks.now c.in-Ok.least c.in-Ok.rest.now
-        (c.in-Ok-gap.next, c.in-Ok-gap.others.now) first c.in-Ok-gap.ensures.gives).0
+    (c.in-Ok-gap.next, c.in-Ok-gap.others.now) first c.in-Ok-gap.ensures.gives).0
 
 pub returns-clause-valid : goal.returns-clause-valid
 returns-clause-valid c =
     let valid = is_blocks c.args.greatest c.args.blocks.now c.requires.some c.requires.valid in
     let first =
-        first_of c.args.greatest c.args.blocks.now c.in-Ok.least c.in-Ok.rest.now c.in-Ok.ensures.bytes valid c.in-Ok.ensures.gives in
+    first_of c.args.greatest c.args.blocks.now c.in-Ok.least c.in-Ok.rest.now c.in-Ok.ensures.bytes valid c.in-Ok.ensures.gives in
     are_left c.in-Ok-gap.next c.in-Ok-gap.others.now (first_and_next c.args.greatest c.args.blocks.now c.in-Ok.least
-        c.in-Ok.rest.now (c.in-Ok-gap.next, c.in-Ok-gap.others.now) first c.in-Ok-gap.ensures.gives).1
+    c.in-Ok.rest.now (c.in-Ok-gap.next, c.in-Ok-gap.others.now) first c.in-Ok-gap.ensures.gives).1

@@ -9,10 +9,10 @@ returns-in_default-clause-count c ns s =
     let n = c.ones-n.result in
     let rest = c.loop-number.rest.now in
     let r =
-        ones_counted n rest c.loop-number.count c.loop-number.len (c.loop-number.count + n) (c.loop-number.len + n) ns
-            i.fits c.ones-n.ensures.within c.ones-n.ensures.ones refl refl (i.read ns s) in
+    ones_counted n rest c.loop-number.count c.loop-number.len (c.loop-number.count + n) (c.loop-number.len + n) ns
+    i.fits c.ones-n.ensures.within c.ones-n.ensures.ones refl refl (i.read ns s) in
     (read_all (AreCounted (c.loop-number.count + n) (c.loop-number.len + n)) (drop n rest) ns c.in_default.field-0 r
-        (read_behind n rest _ c.in_default.ensures.gives)).many
+    (read_behind n rest _ c.in_default.ensures.gives)).many
 
 pub returns-in_default-clause-len : goal.returns-in_default-clause-len
 returns-in_default-clause-len c ns s =
@@ -20,18 +20,18 @@ returns-in_default-clause-len c ns s =
     let n = c.ones-n.result in
     let rest = c.loop-number.rest.now in
     let r =
-        ones_counted n rest c.loop-number.count c.loop-number.len (c.loop-number.count + n) (c.loop-number.len + n) ns
-            i.fits c.ones-n.ensures.within c.ones-n.ensures.ones refl refl (i.read ns s) in
+    ones_counted n rest c.loop-number.count c.loop-number.len (c.loop-number.count + n) (c.loop-number.len + n) ns
+    i.fits c.ones-n.ensures.within c.ones-n.ensures.ones refl refl (i.read ns s) in
     (read_all (AreCounted (c.loop-number.count + n) (c.loop-number.len + n)) (drop n rest) ns c.in_default.field-0 r
-        (read_behind n rest _ c.in_default.ensures.gives)).long
+    (read_behind n rest _ c.in_default.ensures.gives)).long
 
 pub loop-number-smaller : goal.loop-number-smaller
 loop-number-smaller c =
     let n = c.ones-n.result in
     let rest = c.loop-number.rest.now in
     let lt =
-        after_shorter (drop n rest) c.in-Ok.number c.in-Ok.after.now (drop_fits n rest c.loop-number.invariant.fits)
-            (read_behind n rest _ c.in-Ok.ensures.gives) in
+    after_shorter (drop n rest) c.in-Ok.number c.in-Ok.after.now (drop_fits n rest c.loop-number.invariant.fits)
+    (read_behind n rest _ c.in-Ok.ensures.gives) in
     omega (arith, lt, length-drop n rest)
 
 pub loop-number-preserved : goal.loop-number-preserved
@@ -50,10 +50,10 @@ loop-number-preserved c =
     record {
       read = λ ns s.
           let r =
-              ones_counted n rest c.loop-number.count c.loop-number.len (c.loop-number.count + n)
-                  (c.loop-number.len + n) ns i.fits within c.ones-n.ensures.ones refl refl (i.read ns s) in
+          ones_counted n rest c.loop-number.count c.loop-number.len (c.loop-number.count + n)
+          (c.loop-number.len + n) ns i.fits within c.ones-n.ensures.ones refl refl (i.read ns s) in
           more_counted (drop n rest) (c.loop-number.count + n) (c.loop-number.len + n) number c.size_of.result _ _ after
-              ns fits gives more (omega arith) (omega arith) r;
+          ns fits gives more (omega arith) (omega arith) r;
       few = let few = i.few in omega (arith, lt, few, within, length-drop n rest);
       small = let small = i.small in omega (arith, least, small, within, more, length-drop n rest);
       fits = after_fits (drop n rest) number after fits gives;

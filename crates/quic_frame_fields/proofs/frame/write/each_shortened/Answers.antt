@@ -10,7 +10,7 @@ returns-in_err-write_var g c ns s =
     let e = c.write_var.ensures in
     let i = c.loop-number.invariant in
     refused_one c.write_var.result c.from_residual.result p.0 _ c.loop-number.rest.now ns c.in-Ok.number
-        c.in-Ok.after.now _ _ _ _ _ _ i.fits (i.read ns s) c.in-Ok.ensures.gives
+    c.in-Ok.after.now _ _ _ _ _ _ i.fits (i.read ns s) c.in-Ok.ensures.gives
     (record { ok = e.ok; err = e.err; full = e.full; room = e.room }) c.in_err-write_var.was p.1
 
 pub loop-number-smaller : goal.loop-number-smaller
@@ -25,7 +25,7 @@ loop-number-preserved g c =
       read = λ ns s.
           read_more _ _ c.loop-number.rest.now ns c.in-Ok.number c.in-Ok.after.now i.fits (i.read ns s) c.in-Ok.ensures.gives
           (wrote_one c.write_var.result c.in-Ok.number _ _ _ _ _ _
-              (record { ok = e.ok; err = e.err; full = e.full; room = e.room }) c.in_ok-write_var.was);
+          (record { ok = e.ok; err = e.err; full = e.full; room = e.room }) c.in_ok-write_var.was);
       fits = after_fits c.loop-number.rest.now c.in-Ok.number c.in-Ok.after.now i.fits c.in-Ok.ensures.gives;
     }
 

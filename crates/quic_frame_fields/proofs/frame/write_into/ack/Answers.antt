@@ -18,25 +18,25 @@ header_of-requires c =
 pub store_numbers-header_len-requires-clause-numeric : goal.store_numbers-header_len-requires-clause-numeric
 store_numbers-header_len-requires-clause-numeric c =
     let h = held_parts c.args.ack.now (subst AreBytes c.additional.ensures c.count_and_len-numbers.ensures.bytes)
-        c.requires in subst AreNumeric (sym c.header_of.ensures) h.numeric
+    c.requires in subst AreNumeric (sym c.header_of.ensures) h.numeric
 
 pub returns-then-dest-needed : goal.returns-then-dest-needed
 returns-then-dest-needed c last =
     let a = c.args.ack.now in
     let h = held_parts a (subst AreBytes c.additional.ensures c.count_and_len-numbers.ensures.bytes) c.requires in
     let blocks =
-        c.count_and_len-numbers.ensures.len h.numbers (subst (AreEncoded h.numbers) (sym c.additional.ensures) h.encoded) in
+    c.count_and_len-numbers.ensures.len h.numbers (subst (AreEncoded h.numbers) (sym c.additional.ensures) h.encoded) in
     let front =
-        taken c.store_numbers-header_len.result 40 c.store_numbers-header_len.new.dest _
-            (omega (arith, c.store_numbers-header_len.ensures.within, ap length c.header_of.ensures))
-            c.store_numbers-header_len.ensures.len c.store_numbers-header_len.ensures.front in
+    taken c.store_numbers-header_len.result 40 c.store_numbers-header_len.new.dest _
+    (omega (arith, c.store_numbers-header_len.ensures.within, ap length c.header_of.ensures))
+    c.store_numbers-header_len.ensures.len c.store_numbers-header_len.ensures.front in
     let end =
-        taken c.store_counts-counts_len.result 40 c.store_counts-counts_len.new.counts _
-            c.store_counts-counts_len.ensures.within c.store_counts-counts_len.array_long
-            c.store_counts-counts_len.ensures.front in
+    taken c.store_counts-counts_len.result 40 c.store_counts-counts_len.new.counts _
+    c.store_counts-counts_len.ensures.within c.store_counts-counts_len.array_long
+    c.store_counts-counts_len.ensures.front in
     puts_refused (shortest_frame last (ack_meaning a)) c.args.dest.now _
-        (held_length a h last c.header_of.result c.ecn.result _ _ _ c.header_of.ensures c.ecn.ensures front blocks end)
-        c.if-dest-needed.true
+    (held_length a h last c.header_of.result c.ecn.result _ _ _ c.header_of.ensures c.ecn.ensures front blocks end)
+    c.if-dest-needed.true
 
 pub store_shortened-at-requires-clause-shortens : goal.store_shortened-at-requires-clause-shortens
 store_shortened-at-requires-clause-shortens c =
@@ -54,20 +54,30 @@ store_bytes-requires c =
     let a = c.args.ack.now in
     let h = held_parts a (subst AreBytes c.additional.ensures c.count_and_len-numbers.ensures.bytes) c.requires in
     let blocks =
-        c.count_and_len-numbers.ensures.len h.numbers (subst (AreEncoded h.numbers) (sym c.additional.ensures) h.encoded) in
+    c.count_and_len-numbers.ensures.len h.numbers (subst (AreEncoded h.numbers) (sym c.additional.ensures) h.encoded) in
     let middle =
-        (c.store_shortened-at.ensures.stores h.numbers (subst (AreEncoded h.numbers) (sym c.additional-2.ensures) h.encoded)).count in
+    (c.store_shortened-at.ensures.stores h.numbers (subst (AreEncoded h.numbers) (sym c.additional-2.ensures) h.encoded)).count in
     let front =
-        taken c.store_numbers-header_len.result 40 c.store_numbers-header_len.new.dest _
-            (omega (arith, c.store_numbers-header_len.ensures.within, ap length c.header_of.ensures))
-            c.store_numbers-header_len.ensures.len c.store_numbers-header_len.ensures.front in
+    taken c.store_numbers-header_len.result 40 c.store_numbers-header_len.new.dest _
+    (omega (arith, c.store_numbers-header_len.ensures.within, ap length c.header_of.ensures))
+    c.store_numbers-header_len.ensures.len c.store_numbers-header_len.ensures.front in
     let end =
-        taken c.store_counts-counts_len.result 40 c.store_counts-counts_len.new.counts _
-            c.store_counts-counts_len.ensures.within c.store_counts-counts_len.array_long
-            c.store_counts-counts_len.ensures.front in
-    omega (arith, blocks, middle, front, end, ap length c.store_numbers-header_len.ensures.front,
-        ap length c.store_counts-counts_len.ensures.front, c.store_bytes-at.ensures.end, c.if-dest-needed.false,
-        c.store_shortened-at.ensures.len, c.store_bytes-at.ensures.len)
+    taken c.store_counts-counts_len.result 40 c.store_counts-counts_len.new.counts _
+    c.store_counts-counts_len.ensures.within c.store_counts-counts_len.array_long
+    c.store_counts-counts_len.ensures.front in
+    omega (
+      arith,
+      blocks,
+      middle,
+      front,
+      end,
+      ap length c.store_numbers-header_len.ensures.front,
+      ap length c.store_counts-counts_len.ensures.front,
+      c.store_bytes-at.ensures.end,
+      c.if-dest-needed.false,
+      c.store_shortened-at.ensures.len,
+      c.store_bytes-at.ensures.len,
+    )
 
 pub returns : goal.returns
 returns c last =
@@ -76,24 +86,24 @@ returns c last =
     let one = c.store_bytes-at.ensures in
     let three = c.store_bytes.ensures in
     let first =
-        stores_of c.store_numbers-header_len.result c.store_numbers-header_len.new.dest
-            (shortest_varints c.header_of.result) c.args.dest.now c.store_bytes-at.new.dest 0 _
-            c.store_numbers-header_len.ensures.front one.end one.front one.back in
+    stores_of c.store_numbers-header_len.result c.store_numbers-header_len.new.dest
+    (shortest_varints c.header_of.result) c.args.dest.now c.store_bytes-at.new.dest 0 _
+    c.store_numbers-header_len.ensures.front one.end one.front one.back in
     let second =
-        c.store_shortened-at.ensures.stores h.numbers (subst (AreEncoded h.numbers) (sym c.additional-2.ensures) h.encoded) in
+    c.store_shortened-at.ensures.stores h.numbers (subst (AreEncoded h.numbers) (sym c.additional-2.ensures) h.encoded) in
     let third =
-        stores_of c.store_counts-counts_len.result c.store_counts-counts_len.new.counts
-            (shortest_varints (count_numbers c.ecn.result)) c.store_shortened-at.new.dest c.store_bytes.new.dest
-            c.store_shortened-at.result _ c.store_counts-counts_len.ensures.front three.end three.front three.back in
+    stores_of c.store_counts-counts_len.result c.store_counts-counts_len.new.counts
+    (shortest_varints (count_numbers c.ecn.result)) c.store_shortened-at.new.dest c.store_bytes.new.dest
+    c.store_shortened-at.result _ c.store_counts-counts_len.ensures.front three.end three.front three.back in
     let behind =
-        stores_more (shortest_varints h.numbers) (shortest_varints (count_numbers c.ecn.result))
-            c.store_bytes-at.new.dest c.store_shortened-at.new.dest c.store_bytes.new.dest _ _ _ second third in
+    stores_more (shortest_varints h.numbers) (shortest_varints (count_numbers c.ecn.result))
+    c.store_bytes-at.new.dest c.store_shortened-at.new.dest c.store_bytes.new.dest _ _ _ second third in
     let whole =
-        stores_more (shortest_varints c.header_of.result) (shortest_varints h.numbers
-            ++ shortest_varints (count_numbers c.ecn.result)) c.args.dest.now c.store_bytes-at.new.dest
-            c.store_bytes.new.dest 0 _ _ first behind in
+    stores_more (shortest_varints c.header_of.result) (shortest_varints h.numbers
+    ++ shortest_varints (count_numbers c.ecn.result)) c.args.dest.now c.store_bytes-at.new.dest
+    c.store_bytes.new.dest 0 _ _ first behind in
     rw (held_whole a h last c.header_of.result c.ecn.result c.header_of.ensures c.ecn.ensures)
-        (puts_stores _ c.args.dest.now c.store_bytes.new.dest _ whole)
+    (puts_stores _ c.args.dest.now c.store_bytes.new.dest _ whole)
 
 pub store_bytes-at-requires : goal.store_bytes-at-requires
 store_bytes-at-requires c = grind (arith, common_steps)

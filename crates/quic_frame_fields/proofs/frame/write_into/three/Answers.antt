@@ -9,7 +9,7 @@ returns c =
     let second = c.store_bytes-at-2.ensures in
     let more = c.store_bytes.ensures in
     puts_three c.args.front.now c.args.middle.now c.args.end.now c.args.dest.now c.store_bytes-at.new.dest
-        c.store_bytes-at-2.new.dest c.store_bytes.new.dest _ _ _
+    c.store_bytes-at-2.new.dest c.store_bytes.new.dest _ _ _
     one.end second.end more.end one.front second.front more.front one.back second.back more.back
 
 pub returns-then-dest-needed : goal.returns-then-dest-needed

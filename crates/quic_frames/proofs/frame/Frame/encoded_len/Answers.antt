@@ -87,4 +87,4 @@ returns-in-MaxStreams c =
 pub returns-in-StreamsBlocked : goal.returns-in-StreamsBlocked
 returns-in-StreamsBlocked c =
     rw (c.in-StreamsBlocked.is, streams_blocked_parts) (rw c.bit_of-in-StreamsBlocked.ensures at
-        c.numbers_len-in-StreamsBlocked.ensures.value)
+    c.numbers_len-in-StreamsBlocked.ensures.value)

@@ -6,5 +6,8 @@ pub returns : goal.returns
 returns c last =
     let x = c.args.new.now in
     let few : length x.id ≤ 20 = c.requires.3 in
-    rw (new_id_parts last x.sequence x.retire_prior_to x.id x.reset_token few, ← c.as_slice-id.ensures.value,
-        ← c.as_slice-token.ensures.value) c.numbers_and_two.ensures
+    rw (
+      new_id_parts last x.sequence x.retire_prior_to x.id x.reset_token few,
+      ← c.as_slice-id.ensures.value,
+      ← c.as_slice-token.ensures.value,
+    ) c.numbers_and_two.ensures

@@ -6,4 +6,4 @@ pub returns : goal.returns
 returns c =
     let s = c.args.stream.now in
     rw (sym (stream_parts_as c.args.last s.fin s.id s.offset s.bytes.now c.then_some-counted.result
-        c.then_some-counted.ensures)) c.stream.ensures
+    c.then_some-counted.ensures)) c.stream.ensures

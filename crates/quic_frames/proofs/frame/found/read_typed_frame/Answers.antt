@@ -12,7 +12,7 @@ overflow_sub-bytes c =
     let fits : AreBytes c.args.bytes.now = λ i. (c.type_inv.bytes i).fits in
     let taken = varint_takes c.args.bytes.now c.in-Ok.number c.in-Ok.rest.now fits c.in-Ok.ensures.gives in
     let total : length c.args.bytes.now ≡ length taken.front + length c.in-Ok.rest.now =
-        ap length taken.split ∙ length-append taken.front c.in-Ok.rest.now in
+    ap length taken.split ∙ length-append taken.front c.in-Ok.rest.now in
     omega (arith, total)
 
 pub returns-in_default-clause-gives : goal.returns-in_default-clause-gives
@@ -33,13 +33,13 @@ returns-in-Ok-read_frame-clause-gives c =
 pub returns-in-Err-clause-gives : goal.returns-in-Err-clause-gives
 returns-in-Err-clause-gives c =
     rw c.reason-in-Err.ensures (found_none c.args.strict c.args.last_type c.of-ty.result c.args.bytes.now
-        c.in-Ok.rest.now c.in-Err.fault (search rules) (sym c.is_long.ensures ∙ c.if-is_long.false)
-        (rw (← c.into_inner.ensures) c.in-Err.ensures.0))
+    c.in-Ok.rest.now c.in-Err.fault (search rules) (sym c.is_long.ensures ∙ c.if-is_long.false)
+    (rw (← c.into_inner.ensures) c.in-Err.ensures.0))
 
 pub returns-then-is_long-clause-gives : goal.returns-then-is_long-clause-gives
 returns-then-is_long-clause-gives c =
     rw c.reason-then-is_long.ensures (found_long c.args.strict c.args.last_type c.of-ty.result c.args.bytes.now
-        c.in-Ok.rest.now (search rules) (sym c.is_long.ensures ∙ c.if-is_long.true))
+    c.in-Ok.rest.now (search rules) (sym c.is_long.ensures ∙ c.if-is_long.true))
 
 pub returns-in-Err-clause-bytes : goal.returns-in-Err-clause-bytes
 returns-in-Err-clause-bytes c = grind (arith, common_steps)

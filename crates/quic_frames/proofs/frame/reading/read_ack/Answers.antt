@@ -8,7 +8,7 @@ pub returns : goal.returns
 unfolding row_at
 returns c =
     let one =
-        varint_shorter c.in_ok-blocks.rest.now c.in_ok-ect0.ect0 c.in_ok-ect0.rest.now c.in_ok-ect0.ensures.gives in
+    varint_shorter c.in_ok-blocks.rest.now c.in_ok-ect0.ect0 c.in_ok-ect0.rest.now c.in_ok-ect0.ensures.gives in
     let two = varint_shorter c.in_ok-ect0.rest.now c.in_ok-ect1.ect1 c.in_ok-ect1.rest.now c.in_ok-ect1.ensures.gives in
     let three = varint_shorter c.in_ok-ect1.rest.now c.in_ok-ce.ce c.in_ok-ce.rest.now c.in_ok-ce.ensures.gives in
     let fewer : length c.in_ok-ce.rest.now ≤ length c.in_ok-blocks.rest.now = omega (arith, one, two, three) in (

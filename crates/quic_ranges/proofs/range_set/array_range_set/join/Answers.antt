@@ -20,10 +20,10 @@ kept c =
 pub returns-in_err-map_err-in-AfterAll-clause-no_more_runs : goal.returns-in_err-map_err-in-AfterAll-clause-no_more_runs
 returns-in_err-map_err-in-AfterAll-clause-no_more_runs c rs h le =
     let becomes : BecomesRunsOf (in_union c.args.runs.now.items c.args.x.now) c.args.runs.now.items
-        (c.args.runs.now.items ++ c.args.x.now ∷ []) =
-        rw (← c.as_mut_slice.ensures.value) c.in-AfterAll.ensures.1 in
+    (c.args.runs.now.items ++ c.args.x.now ∷ []) =
+    rw (← c.as_mut_slice.ensures.value) c.in-AfterAll.ensures.1 in
     let more : length rs ≡ length c.args.runs.now.items + 1 =
-        length-pushed (in_union c.args.runs.now.items c.args.x.now) c.args.runs.now.items rs c.args.x.now becomes h in
+    length-pushed (in_union c.args.runs.now.items c.args.x.now) c.args.runs.now.items rs c.args.x.now becomes h in
     absurd (omega arith)
 
 behind : (c : In_ok-map_err-in-AfterAll)
@@ -33,10 +33,10 @@ behind c = rw (← c.as_mut_slice.ensures.value) c.in-AfterAll.ensures.1
 pub returns-in_ok-map_err-in-AfterAll-clause-union : goal.returns-in_ok-map_err-in-AfterAll-clause-union
 returns-in_ok-map_err-in-AfterAll-clause-union c =
     let same =
-        written_back c.args.runs.now.items c.extend_last.new.runs (c.in-AfterAll.ensures.0 ∙ c.as_mut_slice.ensures.value) in
+    written_back c.args.runs.now.items c.extend_last.new.runs (c.in-AfterAll.ensures.0 ∙ c.as_mut_slice.ensures.value) in
     let pushed : c.push.new.self.items ≡ refill (length c.args.runs.now.items) c.args.runs.now.items
-        c.extend_last.new.runs ++ c.args.x.now ∷ [] =
-        search rules in
+    c.extend_last.new.runs ++ c.args.x.now ∷ [] =
+    search rules in
     rw (pushed, same) (behind c).runs
 
 pub returns-in-BeforeLast-clause-union : goal.returns-in-BeforeLast-clause-union
@@ -77,7 +77,7 @@ written : (c : In-Extended)
     → refill (length c.args.runs.now.items) c.args.runs.now.items c.extend_last.new.runs ≡ c.extend_last.new.runs
 written c =
     take_at c.extend_last.new.runs _ (length c.args.runs.now.items)
-        (omega (arith, ap length c.as_mut_slice.ensures.value, c.extend_last.auto.runs))
+    (omega (arith, ap length c.as_mut_slice.ensures.value, c.extend_last.auto.runs))
 
 pub returns-in-Extended-clause-union : goal.returns-in-Extended-clause-union
 returns-in-Extended-clause-union c = rw (written c) (grown c).runs

@@ -7,7 +7,7 @@ use Rattle.quic_ranges.proofs.range_set.sorted_runs.contains.Goals as goal
 pub returns-then-after-gt0 : goal.returns-then-after-gt0
 returns-then-after-gt0 c =
     let count : starts_upto c.args.runs.now c.args.x ≡ suc (c.count_starts_upto-after.result - 1) =
-        sym c.count_starts_upto-after.ensures.count ∙ (omega arith) in
+    sym c.count_starts_upto-after.ensures.count ∙ (omega arith) in
     sym (member-place 0 c.args.x (c.count_starts_upto-after.result - 1) (record { start = 0; end = 0 }) c.args.runs.now c.requires count)
 
 pub returns-else-after-gt0 : goal.returns-else-after-gt0

@@ -12,7 +12,7 @@ loop-next-preserved c =
     let run = get_or c.args.runs.now c.loop-run.run-index (record { start = 0; end = 0 }) in
     let other = get_or c.args.others.now c.loop-next.next (record { start = 0; end = 0 }) in
     let rest =
-        RunsFrom-behind 0 c.loop-run.run-index (record { start = 0; end = 0 }) c.args.runs.now c.requires.runs (omega arith) in
+    RunsFrom-behind 0 c.loop-run.run-index (record { start = 0; end = 0 }) c.args.runs.now c.requires.runs (omega arith) in
     let left : c.if-start-others.left ≡ c.loop-next.left ++ as_runs c.loop-next.start other.start = elim c.if-start-others.branch [
       | then-start-others+in_ok-push w ↦ w.left-is ∙ w.in_ok-push.ensures.ok
           ∙ ap (λ l. c.loop-next.left ++ l) (sym (as_runs-full c.loop-next.start other.start w.if-start-others.true))
@@ -20,8 +20,8 @@ loop-next-preserved c =
           ∙ ap (λ l. c.loop-next.left ++ l) (sym (as_runs-empty c.loop-next.start other.start w.if-start-others.false))
     ] in
     rw (left, c.max-start.ensures) (difference-spent c.loop-next.left _ c.args.others.now _ c.loop-next.start run.end
-        c.loop-next.next (record { start = 0; end = 0 }) c.requires.others rest (omega arith) c.if-others-next.true
-        c.loop-next.invariant)
+    c.loop-next.next (record { start = 0; end = 0 }) c.requires.others rest (omega arith) c.if-others-next.true
+    c.loop-next.invariant)
 
 pub loop-run-preserved : goal.loop-run-preserved
 loop-run-preserved c =
@@ -40,7 +40,7 @@ loop-run-preserved c =
       | else-loop-next-test w ↦ absurd (omega arith)
     ] in
     let cut : c.loop-next.next < length c.args.others.now → c.if-next-others.end
-        ≡ min run.end other.start = λ lt. elim c.if-next-others.branch [
+    ≡ min run.end other.start = λ lt. elim c.if-next-others.branch [
       | then-next-others w ↦ w.end-is ∙ w.min-end.ensures
       | else-next-others w ↦ absurd (omega arith)
     ] in
@@ -49,12 +49,12 @@ loop-run-preserved c =
       | else-next-others w ↦ w.end-is
     ] in
     rw left (difference-run c.loop-next.left _ c.args.others.now _ c.loop-next.start run.end c.if-next-others.end
-        c.loop-next.next (record { start = 0; end = 0 }) behind cut whole c.loop-next.invariant)
+    c.loop-next.next (record { start = 0; end = 0 }) behind cut whole c.loop-next.invariant)
 
 pub returns : goal.returns
 returns c =
     difference-end c.loop-run.left c.args.runs.now _ c.args.others.now c.loop-run.run-index c.requires.runs
-        c.requires.others c.loop-run-test.false c.loop-run.invariant
+    c.requires.others c.loop-run-test.false c.loop-run.invariant
 
 pub loop-next-init : goal.loop-next-init
 loop-next-init c = grind (arith, common_steps)

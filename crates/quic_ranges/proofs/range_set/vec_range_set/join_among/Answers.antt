@@ -8,10 +8,10 @@ use Rattle.quic_ranges.proofs.range_set.vec_range_set.join_among.Goals as goal
 pub returns-in_err-apply-clause-no_more_runs : goal.returns-in_err-apply-clause-no_more_runs
 returns-in_err-apply-clause-no_more_runs c rs h le =
     let splices : Splices (in_union c.args.runs.now c.args.x.now) c.args.runs.now c.in-Some.change =
-        rw (← c.as_slice.ensures) c.in-Some.ensures.some in
+    rw (← c.as_slice.ensures) c.in-Some.ensures.some in
     let more : length rs ≡ length c.args.runs.now + 1 =
-        length-spliced (in_union c.args.runs.now c.args.x.now) c.args.runs.now rs c.in-Some.change splices
-            c.in_err-apply.ensures.more_runs h in
+    length-spliced (in_union c.args.runs.now c.args.x.now) c.args.runs.now rs c.in-Some.change splices
+    c.in_err-apply.ensures.more_runs h in
     absurd (omega arith)
 
 pub returns-clause-union : goal.returns-clause-union

@@ -20,13 +20,13 @@ loop-run-preserved c = record {
 pub loop-other-preserved : goal.loop-other-preserved
 loop-other-preserved c =
     let next : c.loop-run.next + (c.loop-other.other-index + 1) ≡ c.loop-run.next + c.loop-other.other-index + 1 =
-        omega arith in
+    omega arith in
     let run =
-        run-behind c.args.others.now c.loop-run.next (length c.args.others.now - c.loop-run.next)
-            c.loop-other.other-index (record { start = 0; end = 0 }) (omega arith) in
+    run-behind c.args.others.now c.loop-run.next (length c.args.others.now - c.loop-run.next)
+    c.loop-other.other-index (record { start = 0; end = 0 }) (omega arith) in
     rw next (IsRunsOf-sum_next c.args.runs.now c.args.others.now c.loop-other.sum c.join-in-loop-other.new.runs
-        (c.loop-run.next + c.loop-other.other-index) (record { start = 0; end = 0 }) (omega arith)
-        c.loop-other.invariant (rw run at c.in_ok-join-3.ensures.union))
+    (c.loop-run.next + c.loop-other.other-index) (record { start = 0; end = 0 }) (omega arith)
+    c.loop-other.invariant (rw run at c.in_ok-join-3.ensures.union))
 
 pub loop-other-init : goal.loop-other-init
 loop-other-init c = grind (arith, common_steps)

@@ -109,7 +109,7 @@ module _ {M : Type 1} {𝓤 : Ura M} (𝓛 : Logic 𝓤) (κ : Lft) (q : Share) 
         let zeros = ap (λ k. drop_list k (ws ++ back)) (sym count_ws) ∙ drop-append_seam ws back ∙ f.1.1.zeros in
         let padded : IsPadded a.len (ws ++ back) = record { short = short; width = whole; zeros = zeros } in
         let made : ent 𝓤 (emp 𝓤) (sem 𝓛 (the_opens.rest (after d ws) a')) =
-            ex_i 𝓤 (λ (_ : (take a.len (ws ++ back) ≡ after d ws) × IsPadded a.len (ws ++ back)). emp 𝓤) (seen, padded) in
+        ex_i 𝓤 (λ (_ : (take a.len (ws ++ back) ≡ after d ws) × IsPadded a.len (ws ++ back)). emp 𝓤) (seen, padded) in
         qed 𝓛 (‵ (elements ws p) ∷ (‵ (elements back (past (length front))) ⊛ (‵ Length ⊛ raw (Left 𝓛 b o))) ∷ []) ∵
         move ! (1 ∷ []) $ split ! $ move ! (2 ∷ 0 ∷ []) $
         rewrite ! 1 (λ (k : ℕ). ‵ (elements back (past k))) (sym e) refl $
@@ -143,9 +143,9 @@ module _ {M : Type 1} {𝓤 : Ura M} (𝓛 : Logic 𝓤) (κ : Lft) (q : Share) 
     exits f δ =
         let xs = take f.0.len f.0.bytes in
         qed 𝓛 (‵ ((MutSlice (named 0) κ u8).own_val (record { ref_ptr = (b, p); ghost_name = δ; now = xs })
-            (slice_val (b, p) f.0.len ∷ [])) ∷ ‵ (flft κ q) ∷ ‵ (follows Id (Array u8 0) γ δ (after d)) ∷ []) ∵
+        (slice_val (b, p) f.0.len ∷ [])) ∷ ‵ (flft κ q) ∷ ‵ (follows Id (Array u8 0) γ δ (after d)) ∷ []) ∵
         suffices ! _ (ends_at 𝓛 F.ended stayed clauses bound (slice_val (b, p) f.0.len)
-            (record { ref_ptr = (b, p); ghost_name = δ; now = xs }) (tt, tt) (tt, tt)) $
+        (record { ref_ptr = (b, p); ghost_name = δ; now = xs }) (tt, tt) (tt, tt)) $
         nothing ! $ nothing ! $ fjoin ! $ join ! $ nothing ! $ move ! (2 ∷ 0 ∷ []) $ join ! $ join ! $ frame ! $ says ! f.1.0 $ done !
 
     module _ (C : Calls 𝓤 H) (Λ : Loops 𝓤 H) where
@@ -158,14 +158,14 @@ module _ {M : Type 1} {𝓤 : Ura M} (𝓛 : Logic 𝓤) (κ : Lft) (q : Share) 
           move ! (1 ∷ []) $ fsplit ! $ fsplit3 ! $ drop ! $ move ! (3 ∷ []) $ split ! $ move ! (2 ∷ 3 ∷ 0 ∷ []) $
           open_ref ! tt (mem Id) {b = b} {o = o} $
           use1 𝓛 (some (λ (f : Fields d). ‵ (part_at Inside full_share f.0 b o)))
-              (plain_out Id Inside the_opens 𝓛 full_share d b o) $ pick ! (λ f.
+          (plain_out Id Inside the_opens 𝓛 full_share d b o) $ pick ! (λ f.
           let a : Inside.Denot = f.0 in
           let short : a.len ≤ 20 = f.1.1.short in
           let xs : List ℕ = take a.len a.bytes in
           let front_at : Fml = cells (mem u8) xs b p in
           use1 𝓛 (given (length a.bytes ≡ 20) (‵ (cells (mem u8) a.bytes b p)
-              ⊛ (‵ (fat full_share (ty_int w32) b (len_at o) (vint w32 a.len)) ⊛ raw (Left 𝓛 b o))))
-              (fields_out 𝓛 b o a) $
+          ⊛ (‵ (fat full_share (ty_int w32) b (len_at o) (vint w32 a.len)) ⊛ raw (Left 𝓛 b o))))
+          (fields_out 𝓛 b o a) $
           learn ! (λ long. split3 ! $
           let count : length xs ≡ a.len = length-take-le a.len a.bytes (omega arith) in
           let room : Room u8 (length xs) = (omega arith, omega arith) in
@@ -173,10 +173,10 @@ module _ {M : Type 1} {𝓤 : Ura M} (𝓛 : Logic 𝓤) (κ : Lft) (q : Share) 
           sets ! (un ! (get ! refl) (record { fits = omega arith })) refl (tt, record { fits = omega arith }) $
           sets ! (addr ! (through ! refl (fld ! refl (stop !)))) refl (tt, tt) $
           sets ! (agg ! (and_then ! (get ! refl) (and_then ! (get ! refl) (no_more !)))) refl
-              (tt, (tt, (record { fits = omega arith }, tt))) $
+          (tt, (tt, (record { fits = omega arith }, tt))) $
           rewrite ! 0 (λ (ys : List ℕ). ‵ (cells (mem u8) ys b p)) (sym (take-append-drop a.len a.bytes)) refl $
           use1 𝓛 (‵ front_at ⊛ ‵ (cells (mem u8) (drop_list a.len a.bytes) b (at p (mem u8).size (length xs))))
-              (cut_app 𝓛 (mem u8) xs (drop_list a.len a.bytes) b p) $
+          (cut_app 𝓛 (mem u8) xs (drop_list a.len a.bytes) b p) $
           split ! $ move ! (2 ∷ 3 ∷ []) $ join ! $ move ! (2 ∷ 0 ∷ []) $ join ! $ move ! (2 ∷ 3 ∷ 4 ∷ 1 ∷ 0 ∷ []) $ group ! 5 $
           use1 𝓛 (later (some (lent xs (length xs))))
           (lends_Elements 𝓛 Id u8 (after d) (named 0) κ q b o b p γ xs room (Rest f) (put f long) (Id.coded.code d) (Id.coded.code d)) $
@@ -188,11 +188,11 @@ meets : {M : Type 1} {𝓤 : Ura M} (𝓛 : Logic 𝓤) (at_mem : Memory → SPr
     → Meets 𝓛 F.ended.signature (WpFn 𝓤 𝓛.H 𝓣.C 𝓣.Λ code.function) (closing 𝓛 F.ended (F.clauses 𝓛 at_mem run))
 meets {𝓤 = 𝓤} 𝓛 at_mem run 𝓣 =
     walk_Meets 𝓛 F.ended stayed (Goes-spent_ref 𝓛 1 (0 ∷ []) tt (plain (λ _. Id)), tt) (F.clauses 𝓛 at_mem run)
-        (WpFn 𝓤 𝓛.H 𝓣.C 𝓣.Λ code.function) (WpFn-mono 𝓤 𝓛.H 𝓛.laws 𝓣 code.function)
+    (WpFn 𝓤 𝓛.H 𝓣.C 𝓣.Λ code.function) (WpFn-mono 𝓤 𝓛.H 𝓛.laws 𝓣 code.function)
     (walked 𝓛 F.ended stayed (F.clauses 𝓛 at_mem run) (WpFn 𝓤 𝓛.H 𝓣.C 𝓣.Λ code.function) (λ κs. (mut_vals, tt))
-        (λ κs. (mut_Tells (named 0) κs.0 Id, tt))
+    (λ κs. (mut_Tells (named 0) κs.0 Id, tt))
     (λ κs qs bounds a g are. via 𝓤 _ (fst∗ 𝓤 _ (emp 𝓤)) (walk 𝓛 κs.0 qs.0 a.0.ref_ptr.0 a.0.ref_ptr.1 a.0.ghost_name
-        a.0.now at_mem run 𝓣.C 𝓣.Λ)))
+    a.0.now at_mem run 𝓣.C 𝓣.Λ)))
 
 pub as_mut_slice_spec : {M : Type 1} → stated.statement M
 unfolding tables_of

@@ -9,7 +9,7 @@ returns-then-count-gt0 c =
     let self = c.self.inside in
     let seen = c.zeros-count.ensures in
     passes_here self.strict self.payload.now self.offset c.zeros-count.result self.last self.is_broken _ _
-        c.self.view_is c.if-self.false (rest_is self.payload.now self.offset) seen.bytes
+    c.self.view_is c.if-self.false (rest_is self.payload.now self.offset) seen.bytes
     c.self.invariant seen.within seen.each seen.over (omega arith)
 
 pub returns-else-count-gt0 : goal.returns-else-count-gt0

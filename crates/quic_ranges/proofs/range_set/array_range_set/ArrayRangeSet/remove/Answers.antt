@@ -12,9 +12,9 @@ more_runs : (c : After-from_residual) (rs : List (Range ℕ)) → IsRunsOf (in_d
     → length rs ≡ length c.self.inside.runs.items + 1
 more_runs c rs h =
     let splices : Splices (in_difference c.self.inside.runs.items c.args.x) c.self.inside.runs.items c.in-Some.change =
-        rw (← c.as_slice.ensures) c.in-Some.ensures.some in
+    rw (← c.as_slice.ensures) c.in-Some.ensures.some in
     length-spliced (in_difference c.self.inside.runs.items c.args.x) c.self.inside.runs.items rs c.in-Some.change
-        splices c.in_err-apply.ensures.more_runs (rw c.self.view_is h)
+    splices c.in_err-apply.ensures.more_runs (rw c.self.view_is h)
 
 pub returns-in_err-apply-clause-no_more_runs : goal.returns-in_err-apply-clause-no_more_runs
 returns-in_err-apply-clause-no_more_runs c rs h le =

@@ -29,11 +29,11 @@ returns-clause-ok c =
     c.write.ensures ∙ ap (λ l. take f l ++ (vs ++ drop (f + length vs) l)) c.as_mut_slice.ensures.value
     ∙ ap (λ m. take f ys ++ (vs ++ drop (f + m) ys)) (sym count) in
     let main =
-        spliced-behind xs ys c.write.new.runs vs k c.args.change.from c.args.change.to f t (f + c.len-more.result)
-            c.self.invariant refl refl held.0 written in
+    spliced-behind xs ys c.write.new.runs vs k c.args.change.from c.args.change.to f t (f + c.len-more.result)
+    c.self.invariant refl refl held.0 written in
     ap (drop c.if-less-more.self-inside.taken) (take_at c.write.new.runs _ _ (c.write.auto.runs ∙ c.as_mut_slice.ensures.len))
     ∙ subst (λ j. drop j c.write.new.runs ≡ after_splice c.args.self.now c.args.change) (sym held.1)
-        (main ∙ ap (λ l. after_splice l c.args.change) c.self.view_is)
+    (main ∙ ap (λ l. after_splice l c.args.change) c.self.view_is)
 
 pub drain-requires-clause-in_bounds : goal.drain-requires-clause-in_bounds
 drain-requires-clause-in_bounds c = grind (arith, common_steps)

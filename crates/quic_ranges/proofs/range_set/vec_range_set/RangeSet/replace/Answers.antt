@@ -8,8 +8,8 @@ use Rattle.quic_ranges.proofs.range_set.vec_range_set.RangeSet.replace.Goals as 
 pub returns : goal.returns
 returns c =
     let items : iter_rest c.iter.result ≡ intersections c.self.inside.runs c.args.x = c.iter.ensures.rest
-        ∙ c.deref.ensures.value ∙ c.in_ok-find_intersections.ensures.intersections
-        ∙ ap (λ l. intersections l c.args.x) c.as_slice.ensures in (
+    ∙ c.deref.ensures.value ∙ c.in_ok-find_intersections.ensures.intersections
+    ∙ ap (λ l. intersections l c.args.x) c.as_slice.ensures in (
       (refl, (λ _. tt), (rw (← c.self.view_is) c.in_ok-join.ensures.union, tt)),
       record {
         union = tt;

@@ -24,8 +24,8 @@ pub returns-in_err-cut-clause-no_change : goal.returns-in_err-cut-clause-no_chan
 returns-in_err-cut-clause-no_change c h =
     let parts = c.loop-run.invariant.parts ∙ ap (λ l. c.loop-run.yielded ++ l) c.in-Some.ensures.steps in
     let kept =
-        IsRunsOf-subtraction_kept c.args.self.now c.args.other.now c.loop-run.yielded c.next.new.self
-            c.loop-run.self-inside.runs c.in-Some.run' h parts c.loop-run.invariant.runs in
+    IsRunsOf-subtraction_kept c.args.self.now c.args.other.now c.loop-run.yielded c.next.new.self
+    c.loop-run.self-inside.runs c.in-Some.run' h parts c.loop-run.invariant.runs in
     let never : false ≡ true = c.in_err-cut.ensures.no_more_runs c.loop-run.self-inside.runs kept (omega arith) in
     absurd cc
 

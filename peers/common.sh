@@ -67,7 +67,7 @@ parts() {
     python3 "$here/count.py" "$@" | while IFS=$'\t' read -r what own over; do row "$what" "$own" "$over"; done
 }
 
-# compared WHAT OWN OVER: a row of what the readers of both said of a list.
+# compared WHAT OWN OVER: a row of what the readers of both answered for a list.
 compared() {
     local lines panics refused read_on other
     read -r lines panics refused read_on other < <(python3 "$here/compare.py" "$2" "$3")

@@ -42,8 +42,8 @@ fn installed_for(target: &str) -> Option<PathBuf> {
         return None;
     }
     let program = env::var_os("PKG_CONFIG").unwrap_or_else(|| "pkg-config".into());
-    let told = Command::new(program).args(["--variable=libdir", NAME]).output().ok()?;
-    let folder = String::from_utf8(told.stdout).ok()?;
+    let output = Command::new(program).args(["--variable=libdir", NAME]).output().ok()?;
+    let folder = String::from_utf8(output.stdout).ok()?;
     if folder.trim().is_empty() {
         None
     } else {

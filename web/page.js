@@ -21,7 +21,7 @@ import { count } from "./walk.js";
 
 // In milliseconds.
 const LINK_DELAY = 300;
-const SAID_FOR = 3000;
+const SHOWN_FOR = 3000;
 const NOT_COPIED = "It is the page’s address";
 
 const byId = (id) => document.getElementById(id);
@@ -39,10 +39,10 @@ async function copied(text) {
 }
 
 // Says something on a button for a while.
-function sayOn(button, said) {
+function sayOn(button, text) {
   button.dataset.name ??= button.textContent;
-  button.textContent = said;
-  setTimeout(() => { button.textContent = button.dataset.name; }, SAID_FOR);
+  button.textContent = text;
+  setTimeout(() => { button.textContent = button.dataset.name; }, SHOWN_FOR);
 }
 
 // The module's bytes: those in the page, or else those beside it.
@@ -182,8 +182,8 @@ class Page {
 
   async copyLink() {
     this.writeLink();
-    const said = isLinked(this.found.entries) ? "Copied" : "Copied, without the bytes: they are too many";
-    sayOn(byId("link"), (await copied(window.location.href)) ? said : NOT_COPIED);
+    const message = isLinked(this.found.entries) ? "Copied" : "Copied, without the bytes: they are too many";
+    sayOn(byId("link"), (await copied(window.location.href)) ? message : NOT_COPIED);
   }
 
   async copyShortest(button, bytes) {

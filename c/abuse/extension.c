@@ -55,7 +55,7 @@ void extension_nulls(void) {
 }
 
 /* The error of a frame of the extension, where that is left out. */
-static void told(const quic_wire_frame *frame, size_t begin, uint64_t type) {
+static void reported(const quic_wire_frame *frame, size_t begin, uint64_t type) {
   WANT(frame->begin == begin && quic_wire_error_type(frame) == type);
   WANT(quic_wire_error_reason(frame) == QUIC_WIRE_REASON_INVALID_FRAME_ID);
 }
@@ -75,16 +75,16 @@ static void left_out(const uint8_t *bytes, size_t len, uint64_t type) {
   WANT(next_by(0, &one, payload, 6 + len, &frame) == 1 && frame.kind == type);
   one = frames;
   WANT(next_by(1, &one, payload, 6 + len, &frame) == QUIC_WIRE_ERR_MALFORMED);
-  told(&frame, 6, type);
+  reported(&frame, 6, type);
   WANT(one.offset == 6 && one.ended && one.last_type == QUIC_WIRE_MAX_DATA);
   WANT(next_by(1, &one, payload, 6 + len, &frame) == 0);
   WANT(next_by(0, &one, payload, 6 + len, &frame) == 0);
   WANT(fill_by(1, &frames, payload, 6 + len, filled, 4, &count) ==
        QUIC_WIRE_ERR_MALFORMED);
-  told(&filled[0], 6, type);
+  reported(&filled[0], 6, type);
   WANT(!memcmp(&frames, &one, sizeof one));
   WANT(read_by(1, bytes, len, 0, &frame, NULL, 0) == QUIC_WIRE_ERR_MALFORMED);
-  told(&frame, 0, type);
+  reported(&frame, 0, type);
   frames = begin(0);
   WANT(fill_by(0, &frames, payload, 6 + len, filled, 4, &count) == 1);
   WANT(count == 4 && frames.offset == 6 + len && filled[3].kind == type);

@@ -104,7 +104,7 @@ void header_rubbish(void) {
                                    QUIC_WIRE_DATAGRAM};
   static uint8_t data[70], whole[128];
   uint8_t header[48];
-  size_t room = any() % 48, n = 77, all = 77, told = 77, k;
+  size_t room = any() % 48, n = 77, all = 77, counted = 77, k;
   int last = (int)(any() % 2), answer, written;
   quic_wire_frame frame;
   memset(&frame, 0, sizeof frame);
@@ -118,8 +118,8 @@ void header_rubbish(void) {
   answer = quic_wire_frame_header_write(&frame, last, header, room, &n);
   written = quic_wire_frame_write(&frame, data, sizeof data, last, whole,
                                   sizeof whole, &all);
-  WANT(quic_wire_frame_len(&frame, data, sizeof data, last, &told) == written);
-  WANT(told == all);
+  WANT(quic_wire_frame_len(&frame, data, sizeof data, last, &counted) == written);
+  WANT(counted == all);
   if (frame.kind != kinds[0] && frame.kind != kinds[1] &&
       frame.kind != kinds[2]) {
     WANT(answer == INVALID);

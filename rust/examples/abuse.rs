@@ -96,14 +96,14 @@ fn frames(random: &mut Random) {
     assert!(one.next().is_none());
     let mut entries = vec![Entry::default(); 1 + random.below(9) as usize];
     let (mut many, mut given) = (begin(), Vec::new());
-    let told = loop {
+    let reported = loop {
         match many.fill(&mut entries) {
             Some(Ok(batch)) => given.extend(batch),
             Some(Err(error)) => break Some(error),
             None => break None,
         }
     };
-    assert_eq!(told, end);
+    assert_eq!(reported, end);
     assert!(!basic || !all.iter().any(|item| matches!(item.1, Frame::ImmediateAck | Frame::AckFrequency(_))));
     let is_padding = |frame: &Frame<'_>| *frame == Frame::Padding;
     let others = |all: &[(std::ops::Range<usize>, Frame<'_>)]| {
@@ -179,12 +179,12 @@ fn datagrams(random: &mut Random) {
         let in_place = place.unprotect(&mut copy, &mask, expected);
         let apart = place.unprotect_header(&datagram, &mask, expected, &mut head);
         match in_place {
-            Ok(told) => {
-                assert_eq!(apart, Ok(told));
+            Ok(reported) => {
+                assert_eq!(apart, Ok(reported));
                 assert_eq!(head, copy[place.range().start..place.number() + 4]);
                 assert_eq!(
-                    PacketNumber::expand(truncated(&copy, place, told.number_len), told.number_len, expected),
-                    Some(told.number)
+                    PacketNumber::expand(truncated(&copy, place, reported.number_len), reported.number_len, expected),
+                    Some(reported.number)
                 );
                 place.protect(&mut copy, &mask).unwrap();
                 assert_eq!(copy, datagram);
@@ -200,7 +200,10 @@ fn datagrams(random: &mut Random) {
             expected,
         ) {
             Ok(packet) => {
-                assert_eq!((packet.dst_cid(), Ok(packet.number())), (same.dst_cid(), in_place.map(|told| told.number)))
+                assert_eq!(
+                    (packet.dst_cid(), Ok(packet.number())),
+                    (same.dst_cid(), in_place.map(|place| place.number))
+                )
             }
             Err(_) => assert!(in_place.is_err() || place.sample(&datagram, sample_len).is_err()),
         }

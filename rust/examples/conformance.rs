@@ -94,9 +94,9 @@ fn longer_frames_are_found_in_their_places() {
     let [shortest, longer, broken] = OWN.map(|(_, payload)| payload);
     assert_eq!((check(shortest), refused(shortest)), (Ok(vec![]), Ok(())));
     let findings = check(longer).unwrap();
-    let told: Vec<String> = findings.iter().map(Finding::to_string).collect();
+    let reported: Vec<String> = findings.iter().map(Finding::to_string).collect();
     assert_eq!(
-        told,
+        reported,
         [
             "0..2 PING: 2 bytes, 1 would do, its type is not in shortest form",
             "2..7 MAX_DATA: 5 bytes, 2 would do",

@@ -82,7 +82,7 @@ impl Put for alloc::vec::Vec<u8> {
     fn put<T>(&mut self, mut write: impl FnMut(&mut Room) -> Result<(Filled, T), WriteError>) -> Result<T, WriteError> {
         // The call is here once, so that it is inlined with little code.
         let mut is_grown = false;
-        let (filled, told) = loop {
+        let (filled, reported) = loop {
             match write(self.spare_capacity_mut()) {
                 Err(WriteError::NoRoom(needed)) if !is_grown => {
                     self.reserve(needed);
@@ -96,6 +96,6 @@ impl Put for alloc::vec::Vec<u8> {
         // SAFETY: `filled` was made by calls that were given the front of the spare capacity, so these bytes are
         // initialised, and `len` isn't above the capacity.
         unsafe { self.set_len(len) };
-        Ok(told)
+        Ok(reported)
     }
 }

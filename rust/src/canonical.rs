@@ -62,10 +62,10 @@ pub fn canonical<B: Buffer + ?Sized>(payload: &[u8], out: &mut B) -> Result<usiz
     let mut refused = CanonError::Empty;
     let written = out.put(|room| match sys::canonical(payload, room) {
         Ok(filled) => Ok((filled, filled.len())),
-        Err((sys::NO_ROOM, told)) => Err(WriteError::NoRoom(told.len)),
-        Err((answer, told)) => {
+        Err((sys::NO_ROOM, reported)) => Err(WriteError::NoRoom(reported.len)),
+        Err((answer, reported)) => {
             if answer != sys::EMPTY {
-                refused = CanonError::Invalid(frame::invalid_by(told.last_type, told.reason));
+                refused = CanonError::Invalid(frame::invalid_by(reported.last_type, reported.reason));
             }
             Err(WriteError::OutOfRange("no payload"))
         }

@@ -40,10 +40,10 @@ fn a_packet_is_opened_where_it_stands() {
     assert_eq!(place.sample(&datagram, 5), Err(UnprotectError::TooShort));
     assert_eq!(place.unprotect(&mut datagram, &mask, 1 << 62), Err(UnprotectError::Expected));
     assert_eq!(place.unprotect(&mut datagram[..6], &mask, 300), Err(UnprotectError::NotThere));
-    let told = Opened { number: 300, number_len: 1, payload: 4, first: 0x40 };
+    let reported = Opened { number: 300, number_len: 1, payload: 4, first: 0x40 };
 
     let mut head = vec![];
-    assert_eq!(place.unprotect_header(&datagram, &mask, 300, &mut head), Ok(told));
+    assert_eq!(place.unprotect_header(&datagram, &mask, 300, &mut head), Ok(reported));
     assert_eq!((head.len(), &head[..4]), (7, &[0x40, 0xaa, 0xbb, 0x2c][..]));
     let few = place.unprotect_header(&datagram, &mask, 300, &mut head[..6]);
     assert_eq!(few, Err(Error::Write(WriteError::NoRoom(7))));
@@ -54,7 +54,7 @@ fn a_packet_is_opened_where_it_stands() {
     assert_eq!((front, none.len()), (Err(Error::Protection(UnprotectError::TooShort)), 0));
 
     let opened = place.unprotect_with(&mut datagram, 4, |sample| [0x1f, 5, 5, sample[1], 5], 300).unwrap();
-    assert_eq!(opened, told);
+    assert_eq!(opened, reported);
     assert!(!opened.key_phase() && opened.reserved_bits_valid());
     assert!(size_of::<PacketPlace>() == 12 && size_of::<HeaderPlaces>() == 32);
     assert_eq!(datagram, [0x40, 0xaa, 0xbb, 0x2c, 1, 2, 3, 4, 5, 6, 7]);
@@ -74,8 +74,8 @@ fn the_packets_of_a_datagram_are_opened_in_a_loop() {
             seen.push(packet.open_with(16, |_| [9; 5], 0).unwrap());
         }
     }
-    let told = |i: usize| (seen[i].number(), seen[i].key_phase(), seen[i].token(), seen[i].reserved_bits_valid());
-    assert_eq!((told(0), told(1)), ((5, false, &[1, 2, 3][..], true), (6, true, &[][..], true)));
+    let reported = |i: usize| (seen[i].number(), seen[i].key_phase(), seen[i].token(), seen[i].reserved_bits_valid());
+    assert_eq!((reported(0), reported(1)), ((5, false, &[1, 2, 3][..], true), (6, true, &[][..], true)));
     let lens: Vec<_> = seen.iter().map(|packet| (packet.header_data.len(), packet.payload.len())).collect();
     assert_eq!(lens, [(23, 37), (11, 29)]);
     assert_eq!((seen[1].src_cid(), seen[1].opened().number_len), (&[][..], 2));
@@ -89,13 +89,13 @@ fn the_packets_of_a_datagram_are_opened_in_a_loop() {
 #[test]
 fn reserved_bits_are_reported() {
     let opened = |first| Opened { number: 0, number_len: 1, payload: 0, first };
-    let told = [0x40, 0x44, 0x48, 0x50, 0xc0, 0xc4, 0xc8].map(|first| {
+    let reported = [0x40, 0x44, 0x48, 0x50, 0xc0, 0xc4, 0xc8].map(|first| {
         let opened = opened(first);
         (opened.key_phase(), opened.reserved_bits_valid())
     });
     let all =
         [(false, true), (true, true), (false, false), (false, false), (false, true), (false, false), (false, false)];
-    assert_eq!(told, all);
+    assert_eq!(reported, all);
 }
 
 #[test]
@@ -352,7 +352,8 @@ fn every_header_is_read_back() {
         assert_eq!((read.dst_cid(), read.data()), (ID, &packet[..]));
         let head = read.head();
         assert_eq!(head.header_end() + if head.is_protected() { 2 } else { 0 }, written.header_len);
-        let told = (head.src_cid(&packet), head.token(&packet), head.retry(&packet), head.versions(&packet).count());
+        let reported =
+            (head.src_cid(&packet), head.token(&packet), head.retry(&packet), head.versions(&packet).count());
         let wanted = match header {
             Header::Initial { token, .. } => (src_cid, token, None, 0),
             Header::Long { .. } => (src_cid, &[][..], None, 0),
@@ -360,7 +361,7 @@ fn every_header_is_read_back() {
             Header::Short { .. } => (&[][..], &[][..], None, 0),
             Header::VersionNegotiate { .. } => (src_cid, &[][..], None, 5),
         };
-        assert_eq!(told, wanted);
+        assert_eq!(reported, wanted);
         assert!(!format!("{header:?} {read:?} {head:?}").contains("0808080808080808080808080808080808"));
     }
 }

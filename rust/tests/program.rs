@@ -91,8 +91,8 @@ fn other_programs_read_objects() {
     assert_eq!((text.lines().collect::<Vec<_>>(), status), (objects.to_vec(), 1));
     let list = "0105\n04010911040000000101\n";
     let object = r#"{"line":2,"initial_max_data":9,"unknown":[{"id":17,"value":"00000001"}],"order":[4,17]}"#;
-    let told = lines(&["params", "--json", "--side=server"], list);
-    assert_eq!(told, [r#"{"line":1,"error":"malformed"}"#, r#"{"line":2,"error":"malformed"}"#]);
+    let reported = lines(&["params", "--json", "--side=server"], list);
+    assert_eq!(reported, [r#"{"line":1,"error":"malformed"}"#, r#"{"line":2,"error":"malformed"}"#]);
     assert_eq!(lines(&["params", "--json"], &list.replace("0101\n", "01\n"))[1], object);
     assert_eq!(lines(&["params"], "040109\n"), ["1: initial_max_data=9", "1: order=4"]);
 }
@@ -121,8 +121,8 @@ fn packets_are_printed_with_what_a_refusal_tells() {
         lines(&["datagram", "--grease", "--cid-len", "2"], "21aabb"),
         ["1: 0..3 short dst=aabb spin=true number_at=3"]
     );
-    let told = lines(&["datagram", "--versions", "0x9,1"], "f000000009020102020405ff");
-    assert_eq!(told, ["1: 0..12 retry dst=0102 src=0405 version=00000009 rest=ff"]);
+    let reported = lines(&["datagram", "--versions", "0x9,1"], "f000000009020102020405ff");
+    assert_eq!(reported, ["1: 0..12 retry dst=0102 src=0405 version=00000009 rest=ff"]);
 }
 
 #[test]

@@ -135,15 +135,15 @@ fn sets_change_as_the_library_changes_them() {
             assert_eq!(growing::<2>(&set, |set| set.pop_min() == range), popped);
         }
         for x in ranges() {
-            let told = |what| format!("{what} {x:?} of {set:?}");
+            let reported = |what| format!("{what} {x:?} of {set:?}");
             let insert = |room| asked(&set, room, |runs, count| range_set::insert(runs, count, x.clone()));
-            assert_eq!(array::<4>(&set, |set| set.insert(x.clone())), insert(4), "{}", told("insert"));
-            assert_eq!(growing::<0>(&set, |set| set.insert(x.clone())), insert(5), "{}", told("insert"));
-            assert_eq!(growing::<2>(&set, |set| set.insert(x.clone())), insert(5), "{}", told("insert"));
+            assert_eq!(array::<4>(&set, |set| set.insert(x.clone())), insert(4), "{}", reported("insert"));
+            assert_eq!(growing::<0>(&set, |set| set.insert(x.clone())), insert(5), "{}", reported("insert"));
+            assert_eq!(growing::<2>(&set, |set| set.insert(x.clone())), insert(5), "{}", reported("insert"));
             let remove = |room| asked(&set, room, |runs, count| range_set::remove(runs, count, x.clone()));
-            assert_eq!(array::<4>(&set, |set| set.remove(x.clone())), remove(4), "{}", told("remove"));
-            assert_eq!(growing::<0>(&set, |set| set.remove(x.clone())), remove(5), "{}", told("remove"));
-            assert_eq!(growing::<2>(&set, |set| set.remove(x.clone())), remove(5), "{}", told("remove"));
+            assert_eq!(array::<4>(&set, |set| set.remove(x.clone())), remove(4), "{}", reported("remove"));
+            assert_eq!(growing::<0>(&set, |set| set.remove(x.clone())), remove(5), "{}", reported("remove"));
+            assert_eq!(growing::<2>(&set, |set| set.remove(x.clone())), remove(5), "{}", reported("remove"));
         }
     }
 }

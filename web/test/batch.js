@@ -56,17 +56,17 @@ function gaps() {
   let end = 0;
   const found = [];
   for (const line of document.querySelectorAll("#outline .line")) {
-    const said = line.querySelector(".place")?.textContent.split("..").map(Number);
+    const range = line.querySelector(".place")?.textContent.split("..").map(Number);
     if (line.classList.contains("item")) {
       if (place !== end) {
         found.push(`fields end at ${place} and not at ${end}`);
       }
-      [place, end] = said;
-    } else if (said) {
-      if (said[0] !== place) {
-        found.push(`a field at ${said[0]} and not at ${place}`);
+      [place, end] = range;
+    } else if (range) {
+      if (range[0] !== place) {
+        found.push(`a field at ${range[0]} and not at ${place}`);
       }
-      place = said[1];
+      place = range[1];
     }
   }
   return found;
@@ -100,8 +100,8 @@ function faults(line, printed, canon) {
     found.push(`items ${whole}`);
   }
   const error = /^error (.*)$/m.exec(printed);
-  const isSaid = !error || status.textContent.includes(`: ${error[1]}.`);
-  if (Boolean(error) !== status.classList.contains("bad") || !isSaid) {
+  const isReported = !error || status.textContent.includes(`: ${error[1]}.`);
+  if (Boolean(error) !== status.classList.contains("bad") || !isReported) {
     found.push(`status ${status.textContent}`);
   }
   if (items.some((item) => item.isError) && !document.querySelector("#outline .field.fault")) {

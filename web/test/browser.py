@@ -142,7 +142,7 @@ class Chromium(Browser):
                       deviceScaleFactor=2 if is_phone else 1)
 
     def media(self, **features):
-        """What the system is said to prefer: prefers-color-scheme, forced-colors, prefers-reduced-motion."""
+        """What the system is set to prefer: prefers-color-scheme, forced-colors, prefers-reduced-motion."""
         self.devtools("Emulation.setEmulatedMedia",
                       features=[{"name": name, "value": value} for name, value in features.items()])
 
@@ -251,12 +251,12 @@ class Firefox(Browser):
 
     def errors(self):
         """What the console was told of the page since the last call."""
-        return self.inside("""const said = Services.console.getMessageArray().filter(
+        return self.inside("""const messages = Services.console.getMessageArray().filter(
             (one) => one instanceof Ci.nsIScriptError && /index\\.html/.test(one.sourceName)).map(String);
-            Services.console.reset(); return said;""")
+            Services.console.reset(); return messages;""")
 
     def media(self, **features):
-        """What the system is said to prefer: prefers-color-scheme, forced-colors, prefers-reduced-motion."""
+        """What the system is set to prefer: prefers-color-scheme, forced-colors, prefers-reduced-motion."""
         for name, _ in self.MEDIA.values():
             self.inside("Services.prefs.clearUserPref(arguments[0]);", name)
         for feature in features.items():

@@ -66,9 +66,9 @@ def several(browser, address):
         for at, (digits, _) in enumerate(inputs):
             browser.run("document.querySelectorAll('#list .entry')[arguments[0]].click()", at)
             same(browser.run(BYTES), digits, f"input {at + 1} of {text!r}")
-            said = f"Input {at + 1} of {len(inputs)}." + (" 1 line without bytes is left out." if left else "")
-            if not browser.run(STATUS).replace(" Show it", "").strip().endswith(said):
-                raise Failed(f"{text!r}: {browser.run(STATUS)!r} and not {said!r}")
+            want = f"Input {at + 1} of {len(inputs)}." + (" 1 line without bytes is left out." if left else "")
+            if not browser.run(STATUS).replace(" Show it", "").strip().endswith(want):
+                raise Failed(f"{text!r}: {browser.run(STATUS)!r} and not {want!r}")
     browser.run(SET_INPUT, SAME_ROWS)
     same(browser.run(BYTES), "00" * 48 + "0101", "a dump with rows like the one before")
     by_keys(browser)
@@ -119,10 +119,10 @@ STRIP = "return document.querySelector('#outline svg').getAttribute('aria-label'
 def choices(browser, address):
     """Versions, the fixed bit and lengths of ids count; the strip says what it draws."""
     browser.go(f"{address}#read=datagram")
-    for form, text, said in CHOICES:
+    for form, text, want in CHOICES:
         set_form(browser, form, text)
         status = browser.run(STATUS)
-        if said not in status:
+        if want not in status:
             raise Failed(f"{form} {text}: {status!r}")
     set_form(browser, {"mode": "frames"}, "02406419020301" "0a0502")
     same(browser.run(STRIP), "18 of 26 packets, in 3 ranges", "the strip")
@@ -178,12 +178,12 @@ def further_links(browser, address):
 
 def copied_link(browser, address):
     """The button writes the link at once, and says where bytes are too many for it."""
-    for size, said in ((65536, "Copied"), (65537, "Copied, without the bytes: they are too many")):
+    for size, want in ((65536, "Copied"), (65537, "Copied, without the bytes: they are too many")):
         browser.go(f"{address}#read=frames&hex=01")
         browser.run(SET_INPUT, "01" * size)
         browser.run("document.getElementById('link').click()")
         same(len(browser.run("return location.hash")) > 2 * 65536, size == 65536, f"a link of {size} bytes")
         text = browser.until("const { textContent } = document.getElementById('link');"
                              "return textContent !== 'Copy link' && textContent", "what the button says")
-        if text not in (said, "It is the page’s address"):
+        if text not in (want, "It is the page’s address"):
             raise Failed(f"the button says {text!r}")

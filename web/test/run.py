@@ -89,9 +89,9 @@ def pages(browser, host, words):
 def says_its_commit(browser, top):
     """The page says of which commit it is, as far as the repository has one."""
     done = subprocess.run(["git", "-C", top, "rev-parse", "HEAD"], capture_output=True, text=True, check=False)
-    said = browser.run("return document.getElementById('built').textContent")
-    if done.returncode == 0 and done.stdout.strip() not in said:
-        raise Failed(f"the page says of itself: {said}")
+    built = browser.run("return document.getElementById('built').textContent")
+    if done.returncode == 0 and done.stdout.strip() not in built:
+        raise Failed(f"the page says of itself: {built}")
 
 
 def features(browser, host):

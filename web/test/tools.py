@@ -57,14 +57,14 @@ def opened(browser, address):
 
 
 def wrongly_opened(browser):
-    """What can't be a mask or the payload of this packet is said."""
-    for field, text, said in (("mask", "aefefe7d", "Mask: 4 of 5 bytes."), ("mask", "x.z", "Mask: neither hexadecimal"),
+    """What can't be a mask or the payload of this packet is reported."""
+    for field, text, want in (("mask", "aefefe7d", "Mask: 4 of 5 bytes."), ("mask", "x.z", "Mask: neither hexadecimal"),
                               ("plain", "0101", "The payload of this packet has 1 byte, and here are 2."),
                               ("plain", "0", "Payload: an odd number of digits: 1.")):
         set_field(browser, ".packet [data-name=mask]", "aefefe7d03")
         set_field(browser, ".packet [data-name=plain]", "01")
         set_field(browser, f".packet [data-name={field}]", text)
-        if said not in browser.run(NOTE):
+        if want not in browser.run(NOTE):
             raise Failed(f"{text!r} as {field}: {browser.run(NOTE)!r}")
     set_form(browser, {"mode": "datagram", "idLength": 0}, "40010203")
     if "too short" not in browser.run(NOTE):
@@ -174,8 +174,8 @@ def linked(browser):
         if not match:
             raise Failed(f"the link of {name}: {address}")
         number, section, draft = match.groups()
-        said = f"RFC {number}, section {section}" if number else f"{ACK_DRAFT}, section {draft}"
-        same((text, rel, target), (said, "noreferrer", "_blank"), f"the link of {name}")
+        want = f"RFC {number}, section {section}" if number else f"{ACK_DRAFT}, section {draft}"
+        same((text, rel, target), (want, "noreferrer", "_blank"), f"the link of {name}")
     if not found:
         raise Failed("no links")
     return [(name, text.replace("RFC 9000, section ", "")) for name, text, *_ in found]

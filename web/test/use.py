@@ -52,7 +52,7 @@ def walk_tree(browser):
     now = browser.run(ACTIVE)
     same((now["box"], now["field"]), ("grid", last["field"]), "Enter in the tree")
     if not now["inspector"]:
-        raise Failed("nothing is said of what is lit")
+        raise Failed("nothing names what is lit")
     same(stops(browser, 2), ["outline", "RFC 9000, section 12.4"], "behind the grid the tree, then the section")
 
 

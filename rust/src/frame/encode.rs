@@ -167,8 +167,8 @@ impl<'a> Frame<'a> {
 
 // The shortest form of a frame, or of more, that was read.
 fn rewrite(bytes: &[u8], room: &mut [MaybeUninit<u8>]) -> Result<Filled, WriteError> {
-    sys::canonical(bytes, room).map_err(|(answer, told)| match answer {
-        sys::NO_ROOM => WriteError::NoRoom(told.len),
+    sys::canonical(bytes, room).map_err(|(answer, reported)| match answer {
+        sys::NO_ROOM => WriteError::NoRoom(reported.len),
         _ => WriteError::OutOfRange("what was read is no frame any more"),
     })
 }

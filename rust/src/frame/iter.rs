@@ -206,7 +206,7 @@ impl<'a> Iterator for Iter<'a> {
         let mut room = MaybeUninit::uninit();
         match sys::frames_next(&mut self.state, self.payload, self.basic, &mut room) {
             (sys::ITEM, Some(frame)) => Some(Ok(frame_of(self.payload, frame))),
-            (_, Some(told)) => Some(Err(invalid_of(told))),
+            (_, Some(reported)) => Some(Err(invalid_of(reported))),
             (_, None) => None,
         }
     }
@@ -297,8 +297,8 @@ impl fmt::Debug for Batch<'_, '_> {
     }
 }
 
-fn invalid_of(told: &sys::Frame) -> InvalidFrame {
-    invalid_by(told.numbers[0], u64::from(told.flags))
+fn invalid_of(reported: &sys::Frame) -> InvalidFrame {
+    invalid_by(reported.numbers[0], u64::from(reported.flags))
 }
 
 // Slices are taken with Rust's own tests, though the library proves the places.
@@ -362,7 +362,7 @@ fn rare_frame_of<'a>(payload: &'a [u8], f: &sys::Frame, data: &'a [u8]) -> Frame
             request_max_ack_delay: c,
             reordering_threshold: d,
         }),
-        kind => unreachable!("the library told of the kind {kind}"),
+        kind => unreachable!("the library reported of the kind {kind}"),
     }
 }
 
@@ -377,8 +377,8 @@ mod tests {
             let mut frames = Iter { basic, ..Iter::begin(&payload, strict).unwrap() };
             assert_eq!(frames.next(), Some(Ok(Frame::Ping)));
             let (mut state, mut room) = (frames.state, MaybeUninit::uninit());
-            let (answer, told) = sys::frames_next(&mut state, &payload, basic, &mut room);
-            assert_eq!((answer, told.map(|frame| frame_of(&payload, frame))), (sys::ITEM, Some(Frame::Padding)));
+            let (answer, reported) = sys::frames_next(&mut state, &payload, basic, &mut room);
+            assert_eq!((answer, reported.map(|frame| frame_of(&payload, frame))), (sys::ITEM, Some(Frame::Padding)));
             assert_eq!((frames.next(), frames.state), (Some(Ok(Frame::Padding)), state));
         }
     }

@@ -355,26 +355,26 @@ impl fmt::Debug for Header<'_> {
             Header::Short { number, .. } => ("Short", Some(number)),
             Header::VersionNegotiate { .. } => ("VersionNegotiate", None),
         };
-        let mut told = f.debug_struct(name);
+        let mut shown = f.debug_struct(name);
         match self {
-            Header::Initial { dst_cid, src_cid, version, token, .. } => told
+            Header::Initial { dst_cid, src_cid, version, token, .. } => shown
                 .field("dst_cid", &Hex(dst_cid))
                 .field("src_cid", &Hex(src_cid))
                 .field("version", &Hex32(*version))
                 .field("token", &Short(token)),
             Header::Long { dst_cid, src_cid, version, .. } | Header::Retry { dst_cid, src_cid, version } => {
-                told.field("dst_cid", &Hex(dst_cid)).field("src_cid", &Hex(src_cid)).field("version", &Hex32(*version))
+                shown.field("dst_cid", &Hex(dst_cid)).field("src_cid", &Hex(src_cid)).field("version", &Hex32(*version))
             }
             Header::Short { spin, key_phase, dst_cid, .. } => {
-                told.field("dst_cid", &Hex(dst_cid)).field("spin", spin).field("key_phase", key_phase)
+                shown.field("dst_cid", &Hex(dst_cid)).field("spin", spin).field("key_phase", key_phase)
             }
             Header::VersionNegotiate { random, src_cid, dst_cid } => {
-                told.field("dst_cid", &Hex(dst_cid)).field("src_cid", &Hex(src_cid)).field("random", random)
+                shown.field("dst_cid", &Hex(dst_cid)).field("src_cid", &Hex(src_cid)).field("random", random)
             }
         };
         if let Some(number) = number {
-            told.field("number", number);
+            shown.field("number", number);
         }
-        told.finish()
+        shown.finish()
     }
 }

@@ -161,22 +161,22 @@ impl fmt::Debug for ProtectedHeader<'_> {
             ProtectedHeader::Short { .. } => ("Short", None, None),
             ProtectedHeader::VersionNegotiate { src_cid, .. } => ("VersionNegotiate", Some(src_cid), None),
         };
-        let mut told = f.debug_struct(name);
-        told.field("dst_cid", &Hex(self.dst_cid()));
+        let mut reported = f.debug_struct(name);
+        reported.field("dst_cid", &Hex(self.dst_cid()));
         if let Some(src_cid) = src_cid {
-            told.field("src_cid", &Hex(src_cid));
+            reported.field("src_cid", &Hex(src_cid));
         }
         if let Some(version) = version {
-            told.field("version", &Hex32(*version));
+            reported.field("version", &Hex32(*version));
         }
         match self {
-            ProtectedHeader::Initial { token_pos, len, .. } => told.field("token_pos", token_pos).field("len", len),
-            ProtectedHeader::Long { len, .. } => told.field("len", len),
-            ProtectedHeader::Short { spin, .. } => told.field("spin", spin),
-            ProtectedHeader::VersionNegotiate { random, .. } => told.field("random", random),
-            ProtectedHeader::Retry { .. } => &mut told,
+            ProtectedHeader::Initial { token_pos, len, .. } => reported.field("token_pos", token_pos).field("len", len),
+            ProtectedHeader::Long { len, .. } => reported.field("len", len),
+            ProtectedHeader::Short { spin, .. } => reported.field("spin", spin),
+            ProtectedHeader::VersionNegotiate { random, .. } => reported.field("random", random),
+            ProtectedHeader::Retry { .. } => &mut reported,
         };
-        told.finish()
+        reported.finish()
     }
 }
 

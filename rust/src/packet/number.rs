@@ -83,9 +83,9 @@ mod tests {
         for distance in distances.map(|distance: u64| [distance.saturating_sub(1), distance, distance + 1]).concat() {
             for largest_acked in [0, 1, 0xff, 0xabe8_b3c1, (1 << 62) - 1, u64::MAX / 2] {
                 let number = largest_acked + distance;
-                let told = sys::number_len(number, largest_acked);
+                let reported = sys::number_len(number, largest_acked);
                 let len = PacketNumber::new(number, largest_acked).map_or(-1, |number| number.len as i32);
-                assert_eq!(len, told, "of {number}, {largest_acked} acknowledged");
+                assert_eq!(len, reported, "of {number}, {largest_acked} acknowledged");
                 if distance != 0 {
                     assert_eq!(
                         (PacketNumber::new(largest_acked, number), sys::number_len(largest_acked, number)),

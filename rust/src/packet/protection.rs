@@ -314,14 +314,14 @@ impl PacketPlace {
         }
         let place = Some(self.place()).filter(|place| *place != 0);
         let protected = place.and_then(|place| packet.get(..place + 4)).ok_or(UnprotectError::TooShort)?;
-        let told = header.put(|room| {
+        let reported = header.put(|room| {
             if room.len() < protected.len() {
                 return Err(WriteError::NoRoom(protected.len()));
             }
             let (filled, bytes) = sys::copied(protected, room);
             Ok((filled, self.open(bytes, mask, expected)))
         });
-        Ok(told??)
+        Ok(reported??)
     }
 
     /// Puts the protection on the header of a packet whose payload is sealed.

@@ -154,11 +154,11 @@ fn the_first_frames_are_those_of_an_iterator() {
             return;
         }
         let (mut iter, mut entries) = (Iter::new(&payload).unwrap(), [Entry(rubbish); 6]);
-        let told = match iter.fill(&mut entries[..room]).unwrap() {
+        let reported = match iter.fill(&mut entries[..room]).unwrap() {
             Ok(batch) => (ITEM, batch.len()),
             Err(_) => (MALFORMED, 77),
         };
-        assert_eq!(((answer, count), out), (told, entries.map(|entry| entry.0)));
+        assert_eq!(((answer, count), out), (reported, entries.map(|entry| entry.0)));
         assert_eq!((frames.offset, FrameType::new(frames.last_type)), (iter.offset(), iter.last_type()));
         assert_eq!((frames.ended != 0, frames.strict), (answer == MALFORMED, 0));
     });
@@ -187,32 +187,32 @@ fn front(random: &mut Random, payload: &[u8], strict: u32, basic: bool) -> Optio
     };
     let (mut iter, mut entries) = (if basic { iter.without_ack_frequency() } else { iter }, [Entry::default()]);
     let is_read = iter.fill(&mut entries).unwrap().is_ok();
-    let [Entry(told)] = entries;
+    let [Entry(reported)] = entries;
     if !is_read {
         assert_eq!((answer, gaps), (MALFORMED.into(), [NO_GAP; 5]));
-        assert_eq!((frame.ty, frame.numbers[0], frame.flags), (0, told.numbers[0], told.flags));
+        assert_eq!((frame.ty, frame.numbers[0], frame.flags), (0, reported.numbers[0], reported.flags));
         return None;
     }
     assert_eq!((answer, frame.end), (iter.offset() as i64, iter.offset()));
     if frame.kind == 2 {
-        ack_at_front(random, &payload[..frame.end], told, frame, gaps, room);
+        ack_at_front(random, &payload[..frame.end], reported, frame, gaps, room);
     } else {
-        assert_eq!((frame, gaps), (told, [NO_GAP; 5]));
+        assert_eq!((frame, gaps), (reported, [NO_GAP; 5]));
     }
     Some(frame.end)
 }
 
 // The ranges of an ACK are those of `Ack`, as gaps of which there is room for so many; and as ranges, some at a time.
-fn ack_at_front(random: &mut Random, bytes: &[u8], told: Frame, frame: Frame, gaps: [Gap; 5], room: usize) {
+fn ack_at_front(random: &mut Random, bytes: &[u8], reported: Frame, frame: Frame, gaps: [Gap; 5], room: usize) {
     let ack = Ack::from_bytes(bytes).unwrap();
     let ranges: Vec<_> = ack.iter().map(|range| Range { start: *range.start(), end: range.end() + 1 }).collect();
     let gap = |two: &[Range]| Gap { gap: two[0].start - two[1].end - 1, len: two[1].end - two[1].start - 1 };
     let all: Vec<_> = ranges.windows(2).map(gap).collect();
     let count = all.len().min(room);
     assert!(gaps[..count] == all[..count] && gaps[count..].iter().all(|gap| *gap == NO_GAP));
-    let flags = told.flags | if count < all.len() { 4 } else { 0 };
+    let flags = reported.flags | if count < all.len() { 4 } else { 0 };
     let datalen = (ranges[0].end - ranges[0].start - 1) as usize;
-    assert_eq!(frame, Frame { flags, data: count, datalen, ..told });
+    assert_eq!(frame, Frame { flags, data: count, datalen, ..reported });
 
     let mut shortest = [0; 200];
     let len = crate::frame::Frame::Ack(ack).encode(false, &mut shortest).unwrap();
@@ -223,7 +223,7 @@ fn ack_at_front(random: &mut Random, bytes: &[u8], told: Frame, frame: Frame, ga
 
     let init = [ack_ranges_init, super::ack_ranges_init_unchecked][random.below(2)];
     let mut state = Ranges { begin: 7, end: 7, largest: 7 };
-    assert_eq!(init(&mut state, bytes, &told), OK);
+    assert_eq!(init(&mut state, bytes, &reported), OK);
     let mut filled = vec![];
     while filled_from(random, &mut state, bytes, &mut filled) == ITEM {}
     assert_eq!((filled, state.begin), (ranges, state.end));

@@ -162,12 +162,12 @@ pub fn frame_header_write(frame: &Frame, last: bool, out: &mut Room) -> Result<F
 
 #[inline]
 pub fn canonical(payload: &[u8], out: &mut Room) -> Result<Filled, (i32, Canon)> {
-    let mut told = Canon::default();
+    let mut reported = Canon::default();
     let (to, room) = (out.as_mut_ptr().cast::<u8>(), out.len());
-    // SAFETY: `payload` and `out` each give their own pointer and length; `out` and `told` are borrowed alone. With 0
-    // the first `told.len` bytes of `out` are initialised. The library looks at no other memory and keeps no pointer.
-    let answer = unsafe { c::quic_wire_canonical_(payload.as_ptr(), payload.len(), to, room, &mut told) };
-    wrote(answer, told.len).map_err(|(answer, _)| (answer, told))
+    // SAFETY: `payload` and `out` each give their own pointer and length; `out` and `reported` are borrowed alone. With 0
+    // the first `reported.len` bytes of `out` are initialised. The library looks at no other memory and keeps no pointer.
+    let answer = unsafe { c::quic_wire_canonical_(payload.as_ptr(), payload.len(), to, room, &mut reported) };
+    wrote(answer, reported.len).map_err(|(answer, _)| (answer, reported))
 }
 
 #[inline]
@@ -211,7 +211,7 @@ pub fn protect(packet: &mut [u8], place: usize, mask: &[u8; 5]) -> i32 {
 #[inline]
 pub fn short_write(fields: &HeaderFields, dst: &[u8], out: &mut Room) -> Result<Filled, i64> {
     let (to, room) = (out.as_mut_ptr().cast::<u8>(), out.len());
-    // SAFETY: `dst` and `out` each give their own pointer and length; `out` is borrowed alone. Any words in `said`
+    // SAFETY: `dst` and `out` each give their own pointer and length; `out` is borrowed alone. Any words in `fields`
     // serve. An answer above 0 is how many bytes at the front of `out` are initialised. The library looks at no other
     // memory and keeps no pointer.
     let answer = unsafe { c::quic_wire_short_write_(fields, dst.as_ptr(), dst.len(), to, room) };
@@ -226,7 +226,7 @@ pub fn header_write(fields: &HeaderFields, [dst, src, token]: [&[u8]; 3], out: &
     let (src, src_len) = (src.as_ptr(), src.len());
     let (token, token_len) = (token.as_ptr(), token.len());
     // SAFETY: both ids, the token and `out` each give their own pointer and length; `out` is borrowed alone. Any words
-    // in `said` serve. An answer above 0 is how many bytes at the front of `out` are initialised. The library looks at
+    // in `fields` serve. An answer above 0 is how many bytes at the front of `out` are initialised. The library looks at
     // no other memory and keeps no pointer.
     let answer = unsafe { c::quic_wire_header_write_(fields, dst, dst_len, src, src_len, token, token_len, to, room) };
     usize::try_from(answer).map(Filled).map_err(|_| answer)

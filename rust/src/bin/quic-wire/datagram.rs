@@ -19,7 +19,7 @@ pub fn show(datagram: &[u8], how: &Datagrams, output: &mut Output<impl Write>) -
                 output.item(begin..begin + head.end(), ("packet", name), &fields, &first)?;
                 begin += head.end();
             }
-            Err(error) => return output.error_with(&error.to_string(), Some(begin), &told(&error, rest, begin)),
+            Err(error) => return output.error_with(&error.to_string(), Some(begin), &reported(&error, rest, begin)),
         }
         if begin == datagram.len() {
             return Ok(());
@@ -28,7 +28,7 @@ pub fn show(datagram: &[u8], how: &Datagrams, output: &mut Output<impl Write>) -
 }
 
 // What a refusal tells of the header.
-fn told(error: &HeaderError, rest: &[u8], begin: usize) -> Vec<Field> {
+fn reported(error: &HeaderError, rest: &[u8], begin: usize) -> Vec<Field> {
     match error {
         HeaderError::UnsupportedVersion(head) => {
             vec![("dst", Bytes(head.dst_cid(rest).into())), ("src", Bytes(head.src_cid(rest).into()))]

@@ -68,8 +68,8 @@ impl Line {
         let bytes = unhex(groups).filter(|bytes| !bytes.is_empty())?;
         let shown = shown.get(2..).unwrap_or_default();
         // A byte is a character of the text, in which an editor may have cut off spaces; `xxd -b` has fewer characters.
-        let untold = bytes.get(shown.len()..).unwrap_or_default();
-        if !shown.is_empty() && untold.iter().any(|byte| *byte != b' ') {
+        let left = bytes.get(shown.len()..).unwrap_or_default();
+        if !shown.is_empty() && left.iter().any(|byte| *byte != b' ') {
             return None;
         }
         // Digits that are lacking leave spaces before the text.

@@ -132,7 +132,7 @@ static void print_packet(const uint8_t *packet, size_t begin,
   putchar('\n');
 }
 
-/* Why no packet begins here, or 0 and its head. */
+/* Why no packet begins here, or 0 and its header. */
 static int read_header(const uint8_t *bytes, size_t len, uint32_t cidlen,
                        quic_wire_header *header) {
   static const uint32_t versions[] = {0x00000001, 0xff00001d, 0xff00001e,

@@ -40,8 +40,8 @@ def apply(edits, tree):
     """Writes the files that the edits change, once all of them are known to be the right ones."""
     changed = {}
     for part in re.split(r"(?m)^= ", edits)[1:]:
-        head, _, body = part.partition("\n")
-        name, before, after = head.split()
+        first, _, body = part.partition("\n")
+        name, before, after = first.split()
         text = (tree / name).read_text()
         if digest(text) != before:
             sys.exit(f"apply: {tree / name} is not the file that the edits were made for")

@@ -278,20 +278,20 @@ export class Library {
   // protection, how many bytes the packet number has, and the truncated number. Null if the packet is too short.
   unprotect({ begin, end, number }, mask) {
     const place = number - begin;
-    const head = aligned(this.input + this.length);
-    const given = head + aligned(place + 4);
+    const header = aligned(this.input + this.length);
+    const given = header + aligned(place + 4);
     this.reserve(given + 16);
     const memory = new Uint8Array(this.memory.buffer);
     memory.set(mask, given);
     const answer = this.calls.quic_wire_unprotect_header(
-      this.at(this.input + begin), this.at(end - begin), this.at(place), this.at(given), 0n, this.at(head),
+      this.at(this.input + begin), this.at(end - begin), this.at(place), this.at(given), 0n, this.at(header),
       this.at(place + 4), this.at(this.count),
     );
     if (answer < OK) {
       return null;
     }
     const written = new DataView(this.memory.buffer).getBigUint64(this.count, true);
-    return { first: memory[head], numberLength: answer, number: written };
+    return { first: memory[header], numberLength: answer, number: written };
   }
 
   // What a side reads in the first |length| bytes of a list: a copy of the struct, or why the list is refused.

@@ -104,7 +104,7 @@ export class Opened {
     const sample = this.reading.bytes.subarray(begin, Math.min(begin + SAMPLE_LENGTH, packet.end));
     const isShort = sample.length < SAMPLE_LENGTH;
     note.replaceChildren(...faults.map((fault) => element("strong", "fault", `${fault}. `)), isShort
-      ? "The packet is too short for a sample." : "The mask is what the cipher of the head makes of the sample ",
+      ? "The packet is too short for a sample." : "The mask is what the cipher of the header makes of the sample ",
     ...(isShort ? [] : [element("code", "", toHex(sample)), `, bytes ${begin} to ${begin + SAMPLE_LENGTH - 1}.`]));
   }
 
@@ -113,7 +113,7 @@ export class Opened {
     const { packet, fields } = this.notes[index];
     const mask = bytesIn(fields[0].value, MASK_LENGTH);
     const plain = bytesIn(fields[1].value);
-    const head = mask.bytes && this.reading.library.unprotect(packet, mask.bytes);
+    const header = mask.bytes && this.reading.library.unprotect(packet, mask.bytes);
     const faults = [];
     fields[0].setAttribute("aria-invalid", Boolean(mask.fault));
     fields[1].setAttribute("aria-invalid", Boolean(plain.fault));
@@ -123,13 +123,13 @@ export class Opened {
     if (plain.fault) {
       faults.push(`Payload: ${plain.fault}`);
     }
-    if (head && plain.bytes) {
-      const room = packet.end - packet.number - head.numberLength - TAG;
+    if (header && plain.bytes) {
+      const room = packet.end - packet.number - header.numberLength - TAG;
       const isOff = plain.bytes.length !== room;
       faults.push(...(isOff ? [`The payload of this packet has ${count(Math.max(0, room), "byte")}, and here are ${
         plain.bytes.length}`] : []));
     }
-    this.reading.open(index, head ? mask.bytes : null, head && plain.bytes ? this.framesOf(plain.bytes) : []);
+    this.reading.open(index, header ? mask.bytes : null, header && plain.bytes ? this.framesOf(plain.bytes) : []);
     this.viewed = plain.bytes ? index : -1;
     this.say(index, faults);
   }

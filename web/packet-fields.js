@@ -116,9 +116,9 @@ export function packetFields(bytes, begin, end, kind, choices) {
   return walk;
 }
 
-// The fields of a packet whose header has no protection left: |head| has the first byte and the packet number.
-export function openedFields(fields, { begin, end, number, kind }, head) {
-  const { first, numberLength } = head;
+// The fields of a packet whose header has no protection left: |header| has the first byte and the packet number.
+export function openedFields(fields, { begin, end, number, kind }, header) {
+  const { first, numberLength } = header;
   const low = `Packet Number Length ${numberLength} (${bits(first, 2)})`;
   const reserved = (shift) => `Reserved Bits ${bits(first >> shift, 2)}`;
   const value = kind === SHORT
@@ -130,7 +130,7 @@ export function openedFields(fields, { begin, end, number, kind }, head) {
   return [
     { ...fields[0], value, note: `0x${first.toString(16)}, unprotected` },
     ...fields.slice(1).filter((field) => field.end <= number && field.begin > begin),
-    { name: "Packet Number", begin: number, end: behind, value: `${head.number}`, note: "as it is written" },
+    { name: "Packet Number", begin: number, end: behind, value: `${header.number}`, note: "as it is written" },
     { name: "Packet Payload, protected", begin: behind, end, value: count(end - behind, "byte"), opaque: true },
   ];
 }

@@ -231,13 +231,13 @@ class DatagramReading extends Reading {
 
   // What an opened packet has otherwise: the fields of its header, and the frames of its payload.
   opened({ fields }, packet, { mask, inner }) {
-    const head = mask && this.library.unprotect(packet, mask);
-    if (!head) {
+    const header = mask && this.library.unprotect(packet, mask);
+    if (!header) {
       return {};
     }
-    const begin = packet.number + head.numberLength;
+    const begin = packet.number + header.numberLength;
     return {
-      fields: openedFields(fields, packet, head), inner: inner.map((line) => ({ ...line, begin, end: packet.end })),
+      fields: openedFields(fields, packet, header), inner: inner.map((line) => ({ ...line, begin, end: packet.end })),
     };
   }
 

@@ -65,7 +65,7 @@ static void header_within(const uint8_t *packet, size_t left,
 }
 
 /* Reads any bytes as packets, and takes protection off any of them: in place, and
- * in a copy of the head. */
+ * in a copy of the header. */
 void packet_rubbish(uint8_t *datagram, size_t len) {
   static const uint32_t versions[] = {1, 0x6b3343cf};
   uint8_t mask[5], copy[40];

@@ -90,7 +90,7 @@ static size_t model_long(const quic_wire_header_fields *h,
 }
 
 /* A header as RFC 9000, section 17, and RFC 9369 draw it, by a plain model: its
- * length, or 0 where there is no such head. */
+ * length, or 0 where there is no such header. */
 static size_t model_header(const quic_wire_header_fields *h,
                            const uint8_t *const parts[3], const size_t lens[3],
                            uint8_t *out) {

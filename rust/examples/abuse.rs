@@ -149,11 +149,11 @@ fn frame_headers(random: &mut Random) {
         (CryptoMeta { offsets: offsets.clone() }.encode(two), crypto),
         (DatagramMeta { len: data.len() as u64 }.encode(length, three), datagram),
     ];
-    for ((answer, frame), head) in answers.into_iter().zip(headers) {
+    for ((answer, frame), places) in answers.into_iter().zip(headers) {
         let mut whole = vec![];
         let wanted = frame.encode(!length && !matches!(frame, Frame::Crypto(_)), &mut whole);
         match answer {
-            Ok(len) => assert_eq!((len + data.len(), [head, data.clone()].concat()), (wanted.unwrap(), whole)),
+            Ok(len) => assert_eq!((len + data.len(), [places, data.clone()].concat()), (wanted.unwrap(), whole)),
             Err(_) => assert!(wanted.is_err() || offsets.end > varint::MAX),
         }
     }
@@ -168,20 +168,20 @@ fn datagrams(random: &mut Random) {
     let short = HeaderPlaces::read(&datagram, cid_len, VERSIONS)
         .ok()
         .filter(HeaderPlaces::is_short)
-        .map(|head| head.header_end());
+        .map(|places| places.header_end());
     assert_eq!(HeaderPlaces::short_header_end(&datagram, cid_len), short);
     let mut opened = datagram.clone();
     let mut cut = Packets::new(&datagram, cid_len, VERSIONS, grease);
     for packet in PacketsMut::new(&mut opened, cid_len, VERSIONS, grease) {
         let (Ok(packet), Ok(same)) = (packet, cut.next().unwrap()) else { return };
         assert_eq!((packet.header(), packet.data()), (same.header(), same.data()));
-        let (place, mut copy, mut head) = (same.place(), datagram.clone(), vec![]);
+        let (place, mut copy, mut places) = (same.place(), datagram.clone(), vec![]);
         let in_place = place.unprotect(&mut copy, &mask, expected);
-        let apart = place.unprotect_header(&datagram, &mask, expected, &mut head);
+        let apart = place.unprotect_header(&datagram, &mask, expected, &mut places);
         match in_place {
             Ok(reported) => {
                 assert_eq!(apart, Ok(reported));
-                assert_eq!(head, copy[place.range().start..place.number() + 4]);
+                assert_eq!(places, copy[place.range().start..place.number() + 4]);
                 assert_eq!(
                     PacketNumber::expand(truncated(&copy, place, reported.number_len), reported.number_len, expected),
                     Some(reported.number)
@@ -237,16 +237,16 @@ fn headers(random: &mut Random) {
     let payload = random.bytes(90);
     packet.extend(&payload);
     written.set_len(&mut packet).unwrap();
-    let head = HeaderPlaces::read(&packet, dst.len(), VERSIONS).unwrap();
-    assert_eq!((head.dst_cid(&packet), head.end()), (dst_cid, packet.len()));
-    let number_len = if head.is_protected() { number.len } else { 0 };
+    let places = HeaderPlaces::read(&packet, dst.len(), VERSIONS).unwrap();
+    assert_eq!((places.dst_cid(&packet), places.end()), (dst_cid, packet.len()));
+    let number_len = if places.is_protected() { number.len } else { 0 };
     assert_eq!(
-        (head.header_end() + number_len, written.header_len),
+        (places.header_end() + number_len, written.header_len),
         (written.header_len, packet.len() - payload.len())
     );
     for len in 0..packet.len() {
         if let Err(HeaderError::CutOff(cut)) = HeaderPlaces::read(&packet[..len], dst.len(), VERSIONS) {
-            assert_eq!((cut.dst_cid(&packet), cut.header_end(), cut.end()), (dst_cid, head.header_end(), len));
+            assert_eq!((cut.dst_cid(&packet), cut.header_end(), cut.end()), (dst_cid, places.header_end(), len));
         }
     }
 }
@@ -319,14 +319,14 @@ fn negotiations(random: &mut Random) {
         return;
     };
     assert_eq!((packet.len(), packet.len()), (len, answer.encoded_len()));
-    let head = HeaderPlaces::read_version_negotiation(&packet).unwrap();
-    assert_eq!((head.dst_cid(&packet), head.src_cid(&packet)), (dst_cid, src_cid));
-    assert!(head.versions(&packet).eq(versions));
+    let places = HeaderPlaces::read_version_negotiation(&packet).unwrap();
+    assert_eq!((places.dst_cid(&packet), places.src_cid(&packet)), (dst_cid, src_cid));
+    assert!(places.versions(&packet).eq(versions));
     let damaged = random.below(len as u64) as usize;
     packet[damaged] ^= 1 << random.below(8);
-    if let Some(head) = HeaderPlaces::read_version_negotiation(&packet) {
-        let longest = head.dst_cid(&packet).len().max(head.src_cid(&packet).len());
-        assert_eq!(HeaderPlaces::read(&packet, 0, VERSIONS).ok(), (longest <= 20).then_some(head));
+    if let Some(places) = HeaderPlaces::read_version_negotiation(&packet) {
+        let longest = places.dst_cid(&packet).len().max(places.src_cid(&packet).len());
+        assert_eq!(HeaderPlaces::read(&packet, 0, VERSIONS).ok(), (longest <= 20).then_some(places));
     }
 }
 

@@ -42,12 +42,12 @@ fn a_packet_is_opened_where_it_stands() {
     assert_eq!(place.unprotect(&mut datagram[..6], &mask, 300), Err(UnprotectError::NotThere));
     let reported = Opened { number: 300, number_len: 1, payload: 4, first: 0x40 };
 
-    let mut head = vec![];
-    assert_eq!(place.unprotect_header(&datagram, &mask, 300, &mut head), Ok(reported));
-    assert_eq!((head.len(), &head[..4]), (7, &[0x40, 0xaa, 0xbb, 0x2c][..]));
-    let few = place.unprotect_header(&datagram, &mask, 300, &mut head[..6]);
+    let mut places = vec![];
+    assert_eq!(place.unprotect_header(&datagram, &mask, 300, &mut places), Ok(reported));
+    assert_eq!((places.len(), &places[..4]), (7, &[0x40, 0xaa, 0xbb, 0x2c][..]));
+    let few = place.unprotect_header(&datagram, &mask, 300, &mut places[..6]);
     assert_eq!(few, Err(Error::Write(WriteError::NoRoom(7))));
-    let late = place.unprotect_header(&datagram, &mask, 1 << 62, &mut head[..]);
+    let late = place.unprotect_header(&datagram, &mask, 1 << 62, &mut places[..]);
     assert_eq!(late, Err(Error::Protection(UnprotectError::Expected)));
     let mut none = vec![];
     let front = PacketPlace::new(0..11, 0).unprotect_header(&datagram, &mask, 300, &mut none);
@@ -103,10 +103,10 @@ fn a_retry_has_nothing_to_be_opened() {
     let mut datagram = vec![0xf0, 0, 0, 0, 1, 1, 0xaa, 0, b't', b'o', b'k'];
     datagram.extend([9; 16]);
     let before = datagram.clone();
-    let head = *Packets::new(&datagram, 0, &[1], false).next().unwrap().unwrap().head();
-    assert_eq!((head.is_protected(), head.header_end()), (false, 8));
-    assert_eq!(head.retry(&datagram), Some((&b"tok"[..], &[9; 16])));
-    assert_eq!(head.place(0).unprotect(&mut datagram, &[0xff; 5], 0), Err(UnprotectError::TooShort));
+    let places = *Packets::new(&datagram, 0, &[1], false).next().unwrap().unwrap().header_places();
+    assert_eq!((places.is_protected(), places.header_end()), (false, 8));
+    assert_eq!(places.retry(&datagram), Some((&b"tok"[..], &[9; 16])));
+    assert_eq!(places.place(0).unprotect(&mut datagram, &[0xff; 5], 0), Err(UnprotectError::TooShort));
     let packet = PacketsMut::new(&mut datagram, 0, &[1], false).next().unwrap().unwrap();
     assert_eq!(packet.open_with(0, |_| [0xff; 5], 0).err(), Some(UnprotectError::TooShort));
     let packet = PacketsMut::new(&mut datagram, 0, &[1], false).next().unwrap().unwrap();
@@ -119,14 +119,14 @@ fn a_packet_is_sealed_and_opened() {
     assert_eq!((number.len, number.truncated()), (1, 0x34));
     assert_eq!(PacketNumber::new(1, 2), None);
     let (dst_cid, src_cid) = (&[1, 2, 3][..], &[4][..]);
-    let head = Header::Long { ty: LongType::Handshake, dst_cid, src_cid, number, version: 1 };
+    let places = Header::Long { ty: LongType::Handshake, dst_cid, src_cid, number, version: 1 };
     let mut datagram = vec![0x55];
-    let written = head.encode(&mut datagram).unwrap();
+    let written = places.encode(&mut datagram).unwrap();
     datagram.resize(1 + 34, 0xa5);
     let packet = &mut datagram[1..];
     written.set_len(packet).unwrap();
     assert_eq!(packet[..15], [0xe0, 0, 0, 0, 1, 3, 1, 2, 3, 1, 4, 0x40, 21, 0x34, 0xa5]);
-    assert_eq!((written.header_len, written.number, head.encoded_len()), (14, 13, 14));
+    assert_eq!((written.header_len, written.number, places.encoded_len()), (14, 13, 14));
     let before = packet.to_vec();
     let place = written.place(packet);
     assert_eq!((place.number(), place.sample(packet, 16)), (13, Ok(&[0xa5; 16][..])));
@@ -213,7 +213,7 @@ fn a_sample_is_there_where_a_header_is_opened() {
 #[test]
 fn calls_panic_on_these_arguments() {
     let packet = [0xc0, 0, 0, 0, 1, 1, 0xaa, 1, 0xbb, 1, 0x77, 2, 9, 9];
-    let head = HeaderPlaces::read(&packet, 20, &[1]).unwrap();
+    let places = HeaderPlaces::read(&packet, 20, &[1]).unwrap();
     let number = PacketNumber { number: 9, len: 2 };
     let written = Header::Short { spin: false, key_phase: false, dst_cid: ID, number }.encode(&mut [0; 11]).unwrap();
     let mut frames = quic_wire::frame::Iter::new(&[1]).unwrap();
@@ -222,20 +222,20 @@ fn calls_panic_on_these_arguments() {
         &mut || _ = PacketsMut::new(&mut [], 21, &[1], false),
         &mut || _ = HeaderPlaces::read(&packet, 21, &[1]),
         &mut || _ = HeaderPlaces::read(&[], usize::MAX, &[1]),
-        &mut || _ = head.dst_cid(&packet[..6]),
-        &mut || _ = head.src_cid(&packet[..8]),
-        &mut || _ = head.token(&packet[..10]),
-        &mut || _ = head.header(&packet[..8]),
-        &mut || _ = head.place((1 << 32) - 14),
-        &mut || _ = head.place(usize::MAX),
+        &mut || _ = places.dst_cid(&packet[..6]),
+        &mut || _ = places.src_cid(&packet[..8]),
+        &mut || _ = places.token(&packet[..10]),
+        &mut || _ = places.header(&packet[..8]),
+        &mut || _ = places.place((1 << 32) - 14),
+        &mut || _ = places.place(usize::MAX),
         &mut || _ = PacketPlace::new(3..9, 2),
         &mut || _ = PacketPlace::new(0..1 << 32, 2),
         &mut || _ = written.place(&[0; 8]),
     ];
     let panics = |call: &mut dyn FnMut()| catch_unwind(AssertUnwindSafe(call)).is_err();
     assert!(calls.into_iter().all(panics) && panics(&mut || _ = frames.fill(&mut [])));
-    assert_eq!(head.place((1 << 32) - 15).range().end, (1 << 32) - 1);
-    assert_eq!((head.header(&packet[..9]), written.place(&[0; 9]).number()), (head.header(&packet), 9));
+    assert_eq!(places.place((1 << 32) - 15).range().end, (1 << 32) - 1);
+    assert_eq!((places.header(&packet[..9]), written.place(&[0; 9]).number()), (places.header(&packet), 9));
 }
 
 #[test]
@@ -298,7 +298,7 @@ fn headers_that_nobody_reads_are_refused() {
     assert!(Packets::new(&out, 0, &[1], false).next().unwrap().is_err());
     let greased = Packets::new(&out, 0, &[1], true).next().unwrap().unwrap();
     assert_eq!(greased.header(), ProtectedHeader::VersionNegotiate { random: 0x3f, src_cid: &[], dst_cid: ID });
-    assert_eq!(greased.head().versions(&out).collect::<Vec<_>>(), [1]);
+    assert_eq!(greased.header_places().versions(&out).collect::<Vec<_>>(), [1]);
 }
 
 #[test]
@@ -313,11 +313,11 @@ fn a_version_negotiation_is_written_with_ids_of_any_length() {
     let short = bytes.len() - 1;
     assert_eq!(answer.encode(&mut room[..short]), Err(WriteError::NoRoom(bytes.len())));
     assert_eq!(room, [0xa5; 300]);
-    let head = HeaderPlaces::read_version_negotiation(&bytes).unwrap();
-    assert_eq!(head.header(&bytes), ProtectedHeader::VersionNegotiate { random: 0x7f, dst_cid, src_cid });
-    assert_eq!((head.header_end(), head.end(), head.is_protected()), (7 + 255 + 21, bytes.len(), false));
-    assert_eq!(head.versions(&bytes).collect::<Vec<_>>(), versions);
-    assert!((0..head.header_end()).all(|len| HeaderPlaces::read_version_negotiation(&bytes[..len]).is_none()));
+    let places = HeaderPlaces::read_version_negotiation(&bytes).unwrap();
+    assert_eq!(places.header(&bytes), ProtectedHeader::VersionNegotiate { random: 0x7f, dst_cid, src_cid });
+    assert_eq!((places.header_end(), places.end(), places.is_protected()), (7 + 255 + 21, bytes.len(), false));
+    assert_eq!(places.versions(&bytes).collect::<Vec<_>>(), versions);
+    assert!((0..places.header_end()).all(|len| HeaderPlaces::read_version_negotiation(&bytes[..len]).is_none()));
     let other = [0x80, 0, 0, 0, 1, 0, 0];
     assert_eq!(HeaderPlaces::read_version_negotiation(&other), None);
     let too_long = VersionNegotiation { src_cid: &[9; 256], ..answer };
@@ -350,10 +350,10 @@ fn every_header_is_read_back() {
         written.set_len(&mut packet).unwrap();
         let read = Packets::new(&packet, 8, &[version], false).next().unwrap().unwrap();
         assert_eq!((read.dst_cid(), read.data()), (ID, &packet[..]));
-        let head = read.head();
-        assert_eq!(head.header_end() + if head.is_protected() { 2 } else { 0 }, written.header_len);
+        let places = read.header_places();
+        assert_eq!(places.header_end() + if places.is_protected() { 2 } else { 0 }, written.header_len);
         let reported =
-            (head.src_cid(&packet), head.token(&packet), head.retry(&packet), head.versions(&packet).count());
+            (places.src_cid(&packet), places.token(&packet), places.retry(&packet), places.versions(&packet).count());
         let wanted = match header {
             Header::Initial { token, .. } => (src_cid, token, None, 0),
             Header::Long { .. } => (src_cid, &[][..], None, 0),
@@ -362,22 +362,22 @@ fn every_header_is_read_back() {
             Header::VersionNegotiate { .. } => (src_cid, &[][..], None, 5),
         };
         assert_eq!(reported, wanted);
-        assert!(!format!("{header:?} {read:?} {head:?}").contains("0808080808080808080808080808080808"));
+        assert!(!format!("{header:?} {read:?} {places:?}").contains("0808080808080808080808080808080808"));
     }
 }
 
 #[test]
 fn a_header_is_reported_where_its_packet_is_cut_off() {
     let datagram = [0xc0, 0, 0, 0, 1, 1, 0xaa, 0, 0, 0x44, 0xb0, 1];
-    let Err(HeaderError::CutOff(head)) = HeaderPlaces::read(&datagram, 0, &[1]) else { panic!() };
-    assert_eq!((head.dst_cid(&datagram), head.header_end(), head.end()), (&[0xaa][..], 11, 12));
-    assert_eq!(head.len_field(), 0x4b0);
+    let Err(HeaderError::CutOff(places)) = HeaderPlaces::read(&datagram, 0, &[1]) else { panic!() };
+    assert_eq!((places.dst_cid(&datagram), places.header_end(), places.end()), (&[0xaa][..], 11, 12));
+    assert_eq!(places.len_field(), 0x4b0);
     let mut unknown = vec![0xc0, 0, 0, 0, 9, 255];
     unknown.extend([1; 255]);
     unknown.extend([1, 2]);
     let error = HeaderPlaces::read(&unknown, 0, &[1]).unwrap_err();
-    let HeaderError::UnsupportedVersion(head) = error else { panic!() };
-    assert_eq!((head.version(), head.dst_cid(&unknown).len(), head.src_cid(&unknown)), (9, 255, &[2][..]));
+    let HeaderError::UnsupportedVersion(places) = error else { panic!() };
+    assert_eq!((places.version(), places.dst_cid(&unknown).len(), places.src_cid(&unknown)), (9, 255, &[2][..]));
     assert_eq!(Error::from(error), Error::UnsupportedVersion(9));
 }
 

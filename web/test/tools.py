@@ -9,7 +9,7 @@ from common import click_example, same, set_field, set_form, turn
 LINES = """return [...document.querySelectorAll(arguments[0] + " .line")].map((line) => [
     line.querySelector(".name").textContent, line.querySelector(".value")?.textContent ?? ""]);"""
 
-# RFC 9001, appendix A.3: the server's Initial packet, its mask, its payload; A.5: a packet with a short head.
+# RFC 9001, appendix A.3: the server's Initial packet, its mask, its payload; A.5: a packet with a short header.
 SERVER_INITIAL = (
     "cf000000010008f067a5502a4262b5004075c0d95a482cd0991cd25b0aac406a5816b6394100f37a1c69797554780bb38cc5a99f5ede4cf7"
     "3c3ec2493a1839b3dbcba3f6ea46c5b7684df3548e7ddeb9c3bf9c73cc3f3bded74b562bfb19fb84022f8ef4cdd93795d77d06edbb7aaf2f"
@@ -19,7 +19,7 @@ SERVER_PAYLOAD = (
     "24001d00209d3c940d89690b84d08a60993c144eca684d1081287c834d5311bcf32bb9da1a002b00020304")
 CHACHA20 = "4cfe4189655e5cd55c41f69080575d7999c25a5bfb"
 OPENED = [
-    # The datagram, the length of ids, mask and payload; the head without protection, and the lines under the packet.
+    # The datagram, the length of ids, mask and payload; the header without protection, and the lines under the packet.
     (SERVER_INITIAL, 8, "2ec0d8356a", SERVER_PAYLOAD, "0xc1",
      {"Packet Number": "1", "ACK": "0", "CRYPTO": "offset 0, 90 bytes"}, "2cd0991cd25b0aac406a5816b6394100"),
     (CHACHA20, 0, "ae fe fe 7d 03", "01", "0x42",

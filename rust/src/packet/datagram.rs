@@ -17,10 +17,10 @@ fn read_packet(rest: &[u8], how: &How<'_>) -> Result<HeaderPlaces, HeaderError> 
 #[cold]
 fn error_of(rest: &[u8], error: HeaderError) -> PacketDecodeError<'_> {
     match error {
-        HeaderError::UnsupportedVersion(head) => PacketDecodeError::UnsupportedVersion {
-            src_cid: head.src_cid(rest),
-            dst_cid: head.dst_cid(rest),
-            version: head.version(),
+        HeaderError::UnsupportedVersion(places) => PacketDecodeError::UnsupportedVersion {
+            src_cid: places.src_cid(rest),
+            dst_cid: places.dst_cid(rest),
+            version: places.version(),
         },
         _ => PacketDecodeError::InvalidHeader(error.reason()),
     }
@@ -84,15 +84,15 @@ impl<'a> Iterator for Packets<'a, '_> {
     #[inline]
     fn next(&mut self) -> Option<Self::Item> {
         let rest = self.rest.take()?;
-        let head = match read_packet(rest, &self.how) {
-            Ok(head) => head,
+        let places = match read_packet(rest, &self.how) {
+            Ok(places) => places,
             Err(error) => return Some(Err(error_of(rest, error))),
         };
-        let (packet, rest) = rest.split_at(head.end());
+        let (packet, rest) = rest.split_at(places.end());
         let begin = self.begin;
         self.begin += packet.len();
         self.rest = (!rest.is_empty()).then_some(rest);
-        Some(Ok(PartialDecode { head, packet, begin }))
+        Some(Ok(PartialDecode { places, packet, begin }))
     }
 }
 
@@ -115,7 +115,7 @@ impl fmt::Debug for Packets<'_, '_> {
 /// ```
 #[derive(Clone, Copy)]
 pub struct PartialDecode<'a> {
-    head: HeaderPlaces,
+    places: HeaderPlaces,
     packet: &'a [u8],
     begin: usize,
 }
@@ -140,11 +140,11 @@ impl<'a> PartialDecode<'a> {
     /// use quic_wire::packet::Packets;
     /// let datagram = [0xc0, 0, 0, 0, 1, 1, 0xaa, 1, 0xbb, 1, 0x77, 2, 9, 9];
     /// let packet = Packets::new(&datagram, 0, &[1], false).next().unwrap()?;
-    /// assert_eq!(packet.head().token(packet.data()), [0x77]);
+    /// assert_eq!(packet.header_places().token(packet.data()), [0x77]);
     /// # Ok::<(), quic_wire::Error>(())
     /// ```
-    pub fn head(&self) -> &HeaderPlaces {
-        &self.head
+    pub fn header_places(&self) -> &HeaderPlaces {
+        &self.places
     }
 
     /// The place of the packet in its datagram, by which its protection is taken off.
@@ -161,7 +161,7 @@ impl<'a> PartialDecode<'a> {
     ///
     /// If the packet ends at 4 GiB of its datagram or later.
     pub fn place(&self) -> PacketPlace {
-        self.head.place(self.begin)
+        self.places.place(self.begin)
     }
 
     /// The fields of its header.
@@ -174,7 +174,7 @@ impl<'a> PartialDecode<'a> {
     /// # Ok::<(), quic_wire::Error>(())
     /// ```
     pub fn header(&self) -> ProtectedHeader<'a> {
-        self.head.header(self.packet)
+        self.places.header(self.packet)
     }
 
     /// The receiver's id.
@@ -187,7 +187,7 @@ impl<'a> PartialDecode<'a> {
     /// # Ok::<(), quic_wire::Error>(())
     /// ```
     pub fn dst_cid(&self) -> &'a [u8] {
-        self.head.dst_cid(self.packet)
+        self.places.dst_cid(self.packet)
     }
 }
 
@@ -239,13 +239,13 @@ impl<'a> Iterator for PacketsMut<'a, '_> {
     #[inline]
     fn next(&mut self) -> Option<Self::Item> {
         let rest = self.rest.take()?;
-        let head = match read_packet(rest, &self.how) {
-            Ok(head) => head,
+        let places = match read_packet(rest, &self.how) {
+            Ok(places) => places,
             Err(error) => return Some(Err(error_of(rest, error))),
         };
-        let (packet, rest) = rest.split_at_mut(head.end());
+        let (packet, rest) = rest.split_at_mut(places.end());
         self.rest = (!rest.is_empty()).then_some(rest);
-        Some(Ok(PacketMut::new(head, packet)))
+        Some(Ok(PacketMut::new(places, packet)))
     }
 }
 

@@ -52,7 +52,7 @@ impl HeaderError {
 impl fmt::Display for HeaderError {
     fn fmt(&self, f: &mut fmt::Formatter<'_>) -> fmt::Result {
         match self {
-            HeaderError::UnsupportedVersion(head) => write!(f, "unsupported version {:x}", head.version()),
+            HeaderError::UnsupportedVersion(places) => write!(f, "unsupported version {:x}", places.version()),
             _ => f.write_str(self.reason()),
         }
     }
@@ -92,10 +92,10 @@ impl HeaderPlaces {
     /// Where `cid_len` is above 20.
     #[inline]
     pub fn read(bytes: &[u8], cid_len: usize, versions: &[u32]) -> Result<HeaderPlaces, HeaderError> {
-        let mut head = sys::HeaderPlaces::default();
-        match sys::header_read(bytes, u32::try_from(cid_len).unwrap_or(u32::MAX), versions, &mut head) {
-            0 => Ok(HeaderPlaces(head)),
-            reason => Err(HeaderPlaces(head).error(reason, cid_len)),
+        let mut places = sys::HeaderPlaces::default();
+        match sys::header_read(bytes, u32::try_from(cid_len).unwrap_or(u32::MAX), versions, &mut places) {
+            0 => Ok(HeaderPlaces(places)),
+            reason => Err(HeaderPlaces(places).error(reason, cid_len)),
         }
     }
 
@@ -135,9 +135,9 @@ impl HeaderPlaces {
     /// # Ok::<(), quic_wire::WriteError>(())
     /// ```
     pub fn read_version_negotiation(packet: &[u8]) -> Option<HeaderPlaces> {
-        let mut head = sys::HeaderPlaces::default();
-        match sys::negotiation_read(packet, &mut head) {
-            0 => Some(HeaderPlaces(head)),
+        let mut places = sys::HeaderPlaces::default();
+        match sys::negotiation_read(packet, &mut places) {
+            0 => Some(HeaderPlaces(places)),
             _ => None,
         }
     }

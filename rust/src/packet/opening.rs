@@ -13,14 +13,14 @@ use core::fmt;
 /// # Ok::<(), quic_wire::Error>(())
 /// ```
 pub struct PacketMut<'a> {
-    head: HeaderPlaces,
+    places: HeaderPlaces,
     packet: &'a mut [u8],
 }
 
 impl<'a> PacketMut<'a> {
     // Of a packet that is these bytes.
-    pub(super) fn new(head: HeaderPlaces, packet: &'a mut [u8]) -> Self {
-        PacketMut { head, packet }
+    pub(super) fn new(places: HeaderPlaces, packet: &'a mut [u8]) -> Self {
+        PacketMut { places, packet }
     }
 
     /// The packet's bytes.
@@ -42,11 +42,11 @@ impl<'a> PacketMut<'a> {
     /// use quic_wire::packet::PacketsMut;
     /// let mut datagram = [0x40, 7, 0, 1, 2, 3, 4, 5, 6];
     /// let packet = PacketsMut::new(&mut datagram, 1, &[1], false).next().unwrap()?;
-    /// assert_eq!(packet.head().header_end(), 2);
+    /// assert_eq!(packet.header_places().header_end(), 2);
     /// # Ok::<(), quic_wire::Error>(())
     /// ```
-    pub fn head(&self) -> &HeaderPlaces {
-        &self.head
+    pub fn header_places(&self) -> &HeaderPlaces {
+        &self.places
     }
 
     /// The fields of its header.
@@ -59,7 +59,7 @@ impl<'a> PacketMut<'a> {
     /// # Ok::<(), quic_wire::Error>(())
     /// ```
     pub fn header(&self) -> ProtectedHeader<'_> {
-        self.head.header(self.packet)
+        self.places.header(self.packet)
     }
 
     /// The receiver's id.
@@ -72,7 +72,7 @@ impl<'a> PacketMut<'a> {
     /// # Ok::<(), quic_wire::Error>(())
     /// ```
     pub fn dst_cid(&self) -> &[u8] {
-        self.head.dst_cid(self.packet)
+        self.places.dst_cid(self.packet)
     }
 
     /// All of its bytes, of which the packet is given up: for a Retry and a version negotiation, which have no
@@ -82,7 +82,7 @@ impl<'a> PacketMut<'a> {
     /// use quic_wire::packet::PacketsMut;
     /// let mut datagram = [0xc0, 0, 0, 0, 0, 0, 0, 0, 0, 0, 1];
     /// let packet = PacketsMut::new(&mut datagram, 0, &[1], false).next().unwrap()?;
-    /// let header = *packet.head();
+    /// let header = *packet.header_places();
     /// assert_eq!(header.versions(packet.into_data()).collect::<Vec<_>>(), [1]);
     /// # Ok::<(), quic_wire::Error>(())
     /// ```
@@ -112,7 +112,7 @@ impl<'a> PacketMut<'a> {
         mask: impl FnOnce(&[u8]) -> [u8; 5],
         expected: u64,
     ) -> Result<Packet<'a>, UnprotectError> {
-        let opened = self.head.place(0).unprotect_with(self.packet, sample_len, mask, expected)?;
+        let opened = self.places.place(0).unprotect_with(self.packet, sample_len, mask, expected)?;
         Ok(self.opened(opened))
     }
 
@@ -138,14 +138,14 @@ impl<'a> PacketMut<'a> {
         take_off: impl FnOnce(&[u8], &mut u8, &mut [u8; 4]),
         expected: u64,
     ) -> Result<Packet<'a>, UnprotectError> {
-        let opened = self.head.place(0).unprotect_by(self.packet, sample_len, take_off, expected)?;
+        let opened = self.places.place(0).unprotect_by(self.packet, sample_len, take_off, expected)?;
         Ok(self.opened(opened))
     }
 
     #[inline]
     fn opened(self, opened: Opened) -> Packet<'a> {
         let (header_data, payload) = self.packet.split_at_mut(opened.payload);
-        Packet { head: self.head, opened, header_data, payload }
+        Packet { places: self.places, opened, header_data, payload }
     }
 }
 
@@ -171,7 +171,7 @@ pub struct Packet<'a> {
     pub header_data: &'a [u8],
     /// The payload with its tag, to be opened in place.
     pub payload: &'a mut [u8],
-    head: HeaderPlaces,
+    places: HeaderPlaces,
     opened: Opened,
 }
 
@@ -187,7 +187,7 @@ impl<'a> Packet<'a> {
     /// # Ok::<(), quic_wire::Error>(())
     /// ```
     pub fn header(&self) -> ProtectedHeader<'a> {
-        self.head.header(self.header_data)
+        self.places.header(self.header_data)
     }
 
     /// The receiver's id.
@@ -201,7 +201,7 @@ impl<'a> Packet<'a> {
     /// # Ok::<(), quic_wire::Error>(())
     /// ```
     pub fn dst_cid(&self) -> &'a [u8] {
-        self.head.dst_cid(self.header_data)
+        self.places.dst_cid(self.header_data)
     }
 
     /// The sender's id, empty in a short header.
@@ -215,7 +215,7 @@ impl<'a> Packet<'a> {
     /// # Ok::<(), quic_wire::Error>(())
     /// ```
     pub fn src_cid(&self) -> &'a [u8] {
-        self.head.src_cid(self.header_data)
+        self.places.src_cid(self.header_data)
     }
 
     /// The token of an Initial packet, empty in others.
@@ -228,7 +228,7 @@ impl<'a> Packet<'a> {
     /// # Ok::<(), quic_wire::Error>(())
     /// ```
     pub fn token(&self) -> &'a [u8] {
-        self.head.token(self.header_data)
+        self.places.token(self.header_data)
     }
 
     /// The whole number.

@@ -286,7 +286,7 @@ impl PacketPlace {
         self.open(packet, &[0; 5], expected)
     }
 
-    /// The same of a datagram that stays as it is: its header is written to `head` without its protection, with four
+    /// The same of a datagram that stays as it is: its header is written to `places` without its protection, with four
     /// bytes from the number's place on, of which `number_len` are the number's.
     ///
     /// ```
@@ -300,7 +300,7 @@ impl PacketPlace {
     ///
     /// # Errors
     ///
-    /// As [`PacketPlace::unprotect`], and where `head` has too little room. Nothing is written then.
+    /// As [`PacketPlace::unprotect`], and where `places` has too little room. Nothing is written then.
     pub fn unprotect_header<B: Buffer + ?Sized>(
         &self,
         datagram: &[u8],

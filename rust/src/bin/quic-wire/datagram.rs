@@ -13,11 +13,11 @@ pub fn show(datagram: &[u8], how: &Datagrams, output: &mut Output<impl Write>) -
             return output.error("fixed bit unset", Some(begin));
         }
         match HeaderPlaces::read(rest, how.cid_len, &how.versions) {
-            Ok(head) => {
-                let (name, fields) = fields(&head, &rest[..head.end()], begin);
-                let first = [("first", Number(head.first().into()))];
-                output.item(begin..begin + head.end(), ("packet", name), &fields, &first)?;
-                begin += head.end();
+            Ok(places) => {
+                let (name, fields) = fields(&places, &rest[..places.end()], begin);
+                let first = [("first", Number(places.first().into()))];
+                output.item(begin..begin + places.end(), ("packet", name), &fields, &first)?;
+                begin += places.end();
             }
             Err(error) => return output.error_with(&error.to_string(), Some(begin), &reported(&error, rest, begin)),
         }
@@ -30,18 +30,18 @@ pub fn show(datagram: &[u8], how: &Datagrams, output: &mut Output<impl Write>) -
 // What a refusal tells of the header.
 fn reported(error: &HeaderError, rest: &[u8], begin: usize) -> Vec<Field> {
     match error {
-        HeaderError::UnsupportedVersion(head) => {
-            vec![("dst", Bytes(head.dst_cid(rest).into())), ("src", Bytes(head.src_cid(rest).into()))]
+        HeaderError::UnsupportedVersion(places) => {
+            vec![("dst", Bytes(places.dst_cid(rest).into())), ("src", Bytes(places.src_cid(rest).into()))]
         }
-        HeaderError::CutOff(head) => fields(head, rest, begin).1,
+        HeaderError::CutOff(places) => fields(places, rest, begin).1,
         HeaderError::InvalidHeader(_) => vec![],
     }
 }
 
-fn fields(head: &HeaderPlaces, packet: &[u8], begin: usize) -> (&'static str, Vec<Field>) {
-    let number_at = ("number_at", Number((begin + head.header_end()) as u64));
+fn fields(places: &HeaderPlaces, packet: &[u8], begin: usize) -> (&'static str, Vec<Field>) {
+    let number_at = ("number_at", Number((begin + places.header_end()) as u64));
     let ids = |dst: &[u8], src: &[u8]| vec![("dst", Bytes(dst.into())), ("src", Bytes(src.into()))];
-    match head.header(packet) {
+    match places.header(packet) {
         ProtectedHeader::Initial { dst_cid, src_cid, token_pos, len, version } => {
             let token_at = ("token_at", Number((begin + token_pos.start) as u64));
             let token = ("token", Bytes(packet[token_pos].into()));
@@ -57,8 +57,8 @@ fn fields(head: &HeaderPlaces, packet: &[u8], begin: usize) -> (&'static str, Ve
             )
         }
         ProtectedHeader::Retry { dst_cid, src_cid, version } => {
-            let rest = packet[head.header_end()..].into();
-            let more = match head.retry(packet) {
+            let rest = packet[places.header_end()..].into();
+            let more = match places.retry(packet) {
                 Some((token, tag)) => vec![("token", Bytes(token.into())), ("tag", Bytes(tag.to_vec()))],
                 None => vec![("rest", Bytes(rest))],
             };
@@ -68,7 +68,7 @@ fn fields(head: &HeaderPlaces, packet: &[u8], begin: usize) -> (&'static str, Ve
             ("short", vec![("dst", Bytes(dst_cid.into())), ("spin", Flag(spin)), number_at])
         }
         ProtectedHeader::VersionNegotiate { dst_cid, src_cid, .. } => {
-            let versions = head.versions(packet).collect();
+            let versions = places.versions(packet).collect();
             ("version-negotiation", [&ids(dst_cid, src_cid)[..], &[("versions", Versions(versions))]].concat())
         }
     }

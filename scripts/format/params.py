@@ -40,20 +40,20 @@ BOUNDS = {
 
 
 def identifiers():
-    """The parameters by their number: place in the table, kind, whether once."""
+    """The parameters: name, number, kind, whether once."""
     for name, text in clauses(TABLE, "row").items():
         found = matched("<how> <index> <number> <kind..>", text)
         if not found or found["how"] not in ("single", "repeated"):
             fail(f"row {name} in crates/{TABLE}.antt", text)
         if listed(clauses(TABLE, "ids")[""], "ids")[found["index"]:][:1] != [name]:
             fail(f"row {name} in crates/{TABLE}.antt", f"{text}: not its place in ids")
-        yield name, found["index"], found["number"], found["kind"].strip("()"), found["how"] == "single"
+        yield name, found["number"], found["kind"].strip("()"), found["how"] == "single"
 
 
 def fields():
-    """The fields of a record, at their places in the table."""
-    slots = listed(clauses(RECORD, "slots")["p"], f"slots in crates/{RECORD}.antt")
-    return [(re.findall(r"\bp\.(\w+)", slot) or [""])[0] for slot in slots]
+    """The field of a record for each parameter."""
+    values = {left.split()[-1]: text for left, text in clauses(RECORD, "value_of").items()}
+    return {name: (re.findall(r"\bparams\.(\w+)", text) or [""])[0] for name, text in values.items()}
 
 
 def value_of(kind):
@@ -92,9 +92,9 @@ def snake(name):
 def rows():
     """The table of parameters, in the order of their numbers."""
     reported, held = bounds(), fields()
-    for name, index, number, kind, once in sorted(identifiers(), key=lambda it: it[2]):
+    for name, number, kind, once in sorted(identifiers(), key=lambda it: it[1]):
         value, default = value_of(kind)
-        must = ", ".join(reported.pop(held[index], []) + ["may repeat"] * (not once))
+        must = ", ".join(reported.pop(held[name], []) + ["may repeat"] * (not once))
         section = f"({SECTIONS[name]})" if name in SECTIONS else ""
         yield [f"{number:#04x}", NAMES.get(name, snake(name)), value, default, f"{must} {section}".strip()]
     if reported:
@@ -149,7 +149,7 @@ def page():
     yield (
         f"Rows (`row`, crates/{TABLE}.antt) have these names but {others}. Values (`IsEncoded`, crates/{VALUE}.antt)"
         " (i) are in the shortest width unless in any; (..) are passed. Without a default what isn't there is absent"
-        f" (`default_of`). What must be, `IsValid` says, crates/{MEANING}.antt, of names of `slots`,"
+        f" (`default_of`). What must be, `IsValid` says, crates/{MEANING}.antt, of names of `value_of`,"
         f" crates/{RECORD}.antt. Numbers {free['step']} * N + {free['first']} are reserved (`IsReserved`,"
         f" crates/{RESERVED}.antt).")
     yield from ["", "### Preferred Address (18.2)", ""]

@@ -23,7 +23,7 @@ use Rattle.quic_params.proofs.Entries.{entry_unique}
 use Rattle.quic_params.proofs.Progress.{entry_some}
 use Rattle.quic_params.proofs.Least.{is_entry}
 use Rattle.quic_params.proofs.Orders.{downward, all_once, downward_below}
-use Rattle.quic_params.proofs.Again.{IsSound, Reads, add, at_itself, all_held, given_after, given_by, gives, is_at, plain_valid, reads_entry, reads_none, reads_parameter, sound_of, times}
+use Rattle.quic_params.proofs.Again.{IsSound, Reads, add, at_itself, all_given, given_after, given_by, gives, is_at, plain_valid, reads_entry, reads_none, reads_parameter, sound_of, times}
 
 -- ---- pieces
 
@@ -150,7 +150,7 @@ read_further p es order s h o =
     let start : Reads [] [] = record { es = []; list = record { entries = refl; gives = refl } } in
     let one = own_once (length es) order o in
     let r = reads_mixed p es order s h (all_below (rows + length es) order (order_within (rows + length es) order o)) [] [] (λ id. omega (arith, one id)) (λ id le g. g) start in
-    record { es = r.es; given = given_by p (own order) []; list = r.list; is_record = record { slots_are = all_held p (own order) one; no_grease = refl; no_order = refl } }
+    record { es = r.es; given = given_by p (own order) []; list = r.list; is_record = record { values = all_given p (own order) one; no_grease = refl; no_order = refl } }
 
 pub answers_further : (side : Side) (p : TransportParameters) (es : List Entry) (order : List ℕ) → IsTypedRecord p → IsRecordInRange side p → AreOthers es → IsOrderOf (rows + length es) order
     → IsReadAnswer side (flat_map (piece_at p es) order) (Ok (plain p))

@@ -18,7 +18,8 @@ use Rattle.quic_params.specs.declared.value.PreferredAddress.{PreferredAddress}
 use Rattle.quic_params.specs.declared.value.Value.{Value}
 use Rattle.quic_params.specs.declared.value.Value.TheVariants as V
 use Rattle.quic_params.specs.Order.{IsOrder, id_of_index, order_of}
-use Rattle.quic_params.specs.Range.{IsTypedRecord, IsTypedAs, IsTypedAddress, IsFree, slot}
+use Rattle.quic_params.specs.Range.{IsTypedRecord, IsTypedAs, IsTypedAddress, IsFree}
+use Rattle.quic_params.specs.Record.{value_of}
 use Rattle.quic_params.specs.Reserved.{Reserved}
 use Rattle.quic_params.specs.Table.{row}
 use Rattle.quic_params.specs.Writing.{encoding, entry, piece, is_written, grease_bytes, of_kind, written, written_for, v4_bytes, v6_bytes}
@@ -80,7 +81,7 @@ kind_below _ a b l m = m
 
 pub for_below : (p : TransportParameters) → IsTypedRecord p → (id : TransportParameterId) → length (written_for p id) ≤ 77
 unfolding written_for
-for_below p t id = kind_below (row id).kind (grease_bytes p.grease_transport_parameter) (piece id (slot p id)) (grease_below p.grease_transport_parameter t.grease) (piece_below id (slot p id) (t.values id))
+for_below p t id = kind_below (row id).kind (grease_bytes p.grease_transport_parameter) (piece id (value_of p id)) (grease_below p.grease_transport_parameter t.grease) (piece_below id (value_of p id) (t.values id))
 
 all_below : (f : ℕ → List ℕ) → ((i : ℕ) → length (f i) ≤ 77) → (l : List ℕ) → length (flat_map f l) ≤ 77 * length l
 all_below f h [] = omega arith

@@ -70,7 +70,7 @@ pub stops_in : (whole old left : List ℕ) (p : TransportParameters) (seen : Lis
     → ((before : List Given) → Holds p seen before → StopsAtEntry before old e) → ((before : List Given) → Holds p seen before → StopsAt before old e left) → StopsIn whole e left
 stops_in whole old left p seen e h lt stop at = record {
   bad = record {
-    es = h.es;
+    entries = h.entries;
     given = h.given;
     front = h.front;
     rest = old;

@@ -1,5 +1,5 @@
 //! Writes a list of parameters at the front of a slice.
-ghost use Rattle.std.specs.Prelude.{◌≡◌, ◌+◌, ◌<◌, ◌≤◌, ◌^◌, ◌++◌, length, take, drop, IfOk, IfErr, OnErr};
+ghost use Rattle.std.specs.Prelude.{◌≡◌, ◌+◌, ◌-◌, ◌<◌, ◌≤◌, ◌^◌, ◌++◌, length, take, drop, IfOk, IfErr, OnErr};
 ghost use Rattle.quic_base.specs.Varint.{shortest_varint};
 ghost use Rattle.quic_params.specs.Writing.{shortest_entry, written, written_for};
 
@@ -25,8 +25,6 @@ struct Room<const N: usize> {
 }
 
 impl<const N: usize> BufMut for Room<N> {
-    ghost use Rattle.std.specs.Prelude.{◌-◌, take};
-
     ghost written = { λ r. take r.len r.bytes };
 
     ghost spare = { λ r. N - r.len };

@@ -9,7 +9,7 @@ use Rattle.quic_params.specs.declared.parameter.TransportParameterId.{TransportP
 use Rattle.quic_params.specs.Entry.{Entry, IsEntry, IsCutEntry, IsKnownParameter}
 use Rattle.quic_params.specs.Further.{AreInOrder, AreOthers, HasEntryNumber, IsOther, IsOrderOf, upward, asked}
 use Rattle.quic_params.specs.Table.{rows}
-use Rattle.quic_params.proofs.Again.{get_upward}
+use Rattle.quic_params.proofs.ReadBack.{get_upward}
 use Rattle.quic_params.proofs.Further.{next, order_within}
 use Rattle.quic_c_params.specs.Lists.{any_entry, IsFurther}
 

@@ -23,7 +23,7 @@ use Rattle.quic_params.proofs.Entries.{entry_unique}
 use Rattle.quic_params.proofs.Progress.{entry_some}
 use Rattle.quic_params.proofs.Least.{is_entry}
 use Rattle.quic_params.proofs.Orders.{downward, all_once, downward_below}
-use Rattle.quic_params.proofs.Again.{IsSound, Reads, add, at_itself, all_given, given_after, given_by, gives, is_at, plain_valid, reads_entry, reads_none, reads_parameter, sound_of, times}
+use Rattle.quic_params.proofs.ReadBack.{IsSound, Reads, add, at_itself, all_given, given_after, given_by, gives, is_at, plain_valid, reads_entry, reads_none, reads_parameter, sound_of, times}
 
 -- ---- encoded_entries
 

@@ -25,7 +25,7 @@ use Rattle.quic_params.proofs.Least.{is_entry}
 use Rattle.quic_params.proofs.Orders.{downward, all_once, downward_below}
 use Rattle.quic_params.proofs.ReadBack.{IsSound, Reads, add, at_itself, all_given, given_after, given_by, gives, is_at, plain_valid, reads_entry, reads_none, reads_parameter, sound_of, times}
 
--- ---- encoded_entries
+-- ---- what is written at an index
 
 abbrev pub encoded_at : TransportParameters → List Entry → ℕ → List ℕ
 encoded_at p es i = get_or (encoded_entries p es) i []

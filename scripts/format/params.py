@@ -20,40 +20,40 @@ SECTIONS = {
 }
 # What a value is by its kind, from the clause of IsEncoded of a kind with such a value.
 KINDS = {
-    "(n < 2 ^ 62) × (b ≡ shortest_varint n)": lambda: "(i)",
-    "Encodes n b": lambda: "(i), any width",
-    "b ≡ []": lambda: "(0)",
-    "(b ≡ t) × (length t ≡ <width>)": lambda width: f"({8 * width})",
-    "(b ≡ id) × (length id ≤ <most>)": lambda most: f"(0..{8 * most})",
-    "IsAddress a b": lambda: "Preferred Address",
+    "(number < 2 ^ 62) × (bytes ≡ shortest_varint number)": lambda: "(i)",
+    "Encodes number bytes": lambda: "(i), any width",
+    "bytes ≡ []": lambda: "(0)",
+    "(bytes ≡ token) × (length token ≡ <width>)": lambda width: f"({8 * width})",
+    "(bytes ≡ id) × (length id ≤ <most>)": lambda most: f"(0..{8 * most})",
+    "IsAddress address bytes": lambda: "Preferred Address",
 }
 # What a side takes, from a field of IsValid: the parameter that is spoken of, and what it must be.
 BOUNDS = {
-    "p.<name> ≤ <most>": lambda most: f"at most {most}",
-    "p.<name> ≤ 2 ^ <most>": lambda most: f"at most 2^{most}",
-    "p.<name> < 2 ^ <most>": lambda most: f"below 2^{most}",
-    "<least> ≤ p.<name>": lambda least: f"at least {least}",
-    "IfSome p.<name> (λ d. d ≤ <unit> * p.<other>)": lambda unit, other: f"at most {unit} times {other}",
-    "IfSome p.<name> (λ a. a.connection_id ≢ [])": lambda: "Connection ID nonempty",
-    "side ≡ <side> → p.<name> ≡ None": lambda side: f"from a {side.lower()}",
+    "params.<name> ≤ <most>": lambda most: f"at most {most}",
+    "params.<name> ≤ 2 ^ <most>": lambda most: f"at most 2^{most}",
+    "params.<name> < 2 ^ <most>": lambda most: f"below 2^{most}",
+    "<least> ≤ params.<name>": lambda least: f"at least {least}",
+    "IfSome params.<name> (λ delay. delay ≤ <unit> * params.<other>)": lambda unit, other: f"at most {unit} times {other}",
+    "IfSome params.<name> (λ preferred. preferred.connection_id ≢ [])": lambda: "Connection ID nonempty",
+    "side ≡ <side> → params.<name> ≡ None": lambda side: f"from a {side.lower()}",
 }
 
 
 def identifiers():
-    """The parameters by their number: place in the table, kind, whether once."""
+    """The parameters: name, number, kind, whether once."""
     for name, text in clauses(TABLE, "row").items():
         found = matched("<how> <index> <number> <kind..>", text)
         if not found or found["how"] not in ("single", "repeated"):
             fail(f"row {name} in crates/{TABLE}.antt", text)
         if listed(clauses(TABLE, "ids")[""], "ids")[found["index"]:][:1] != [name]:
             fail(f"row {name} in crates/{TABLE}.antt", f"{text}: not its place in ids")
-        yield name, found["index"], found["number"], found["kind"].strip("()"), found["how"] == "single"
+        yield name, found["number"], found["kind"].strip("()"), found["how"] == "single"
 
 
 def fields():
-    """The fields of a record, at their places in the table."""
-    slots = listed(clauses(RECORD, "slots")["p"], f"slots in crates/{RECORD}.antt")
-    return [(re.findall(r"\bp\.(\w+)", slot) or [""])[0] for slot in slots]
+    """The field of a record for each parameter."""
+    values = {left.split()[-1]: text for left, text in clauses(RECORD, "value_of").items()}
+    return {name: (re.findall(r"\bparams\.(\w+)", text) or [""])[0] for name, text in values.items()}
 
 
 def value_of(kind):
@@ -66,7 +66,7 @@ def value_of(kind):
     for template, words in KINDS.items():
         found = matched(template, encoded.get(head, ""))
         if found is not None:
-            said(VALUE, "default_of", "(K.Integer d)", "Some (V.Number d)")
+            said(VALUE, "default_of", "(K.Integer default)", "Some (V.Number default)")
             return words(**found), default
     return fail(f"IsEncoded {head} in crates/{VALUE}.antt", encoded.get(head, ""))
 
@@ -92,9 +92,9 @@ def snake(name):
 def rows():
     """The table of parameters, in the order of their numbers."""
     reported, held = bounds(), fields()
-    for name, index, number, kind, once in sorted(identifiers(), key=lambda it: it[2]):
+    for name, number, kind, once in sorted(identifiers(), key=lambda it: it[1]):
         value, default = value_of(kind)
-        must = ", ".join(reported.pop(held[index], []) + ["may repeat"] * (not once))
+        must = ", ".join(reported.pop(held[name], []) + ["may repeat"] * (not once))
         section = f"({SECTIONS[name]})" if name in SECTIONS else ""
         yield [f"{number:#04x}", NAMES.get(name, snake(name)), value, default, f"{must} {section}".strip()]
     if reported:
@@ -103,20 +103,20 @@ def rows():
 
 def address():
     """The figure of a preferred address."""
-    said(ADDRESS, "AreAddressFields", "whole", "b ≡ v4 ++ v6 ++ id ++ a.stateless_reset_token")
+    said(ADDRESS, "AreAddressFields", "whole", "bytes ≡ v4 ++ v6 ++ id ++ address.stateless_reset_token")
     lines, absent = [], []
-    for version, flow in ((4, ""), (6, " × (v6_flowinfo s ≡ 0) × (v6_scope_id s ≡ 0)")):
-        none = said(ADDRESS, f"IsV{version}", "None b", "b ≡ replicate <width> 0")["width"]
-        found = said(ADDRESS, f"IsV{version}", "(Some s) b", (
-            f"(b ≢ replicate {none} 0) × (ip port : List ℕ) × (b ≡ ip ++ port) × IsOctets <ip> (ipv{version}_octets"
-            f" (v{version}_ip s)) ip × IsNumber <port> (v{version}_port s) port{flow}"))
+    for version, flow in ((4, ""), (6, " × (v6_flowinfo socket ≡ 0) × (v6_scope_id socket ≡ 0)")):
+        none = said(ADDRESS, f"IsV{version}", "None bytes", "bytes ≡ replicate <width> 0")["width"]
+        found = said(ADDRESS, f"IsV{version}", "(Some socket) bytes", (
+            f"(bytes ≢ replicate {none} 0) × (ip port : List ℕ) × (bytes ≡ ip ++ port) × IsOctets <ip> (ipv{version}_octets"
+            f" (v{version}_ip socket)) ip × IsNumber <port> (v{version}_port socket) port{flow}"))
         lines += [f"IPv{version} Address ({8 * found['ip']})", f"IPv{version} Port ({8 * found['port']})"]
         absent.append(none)
     said(LONG_ID, "IsLongId", "value", "b ≡ long_id id")
     said(LONG_ID, "long_id", "id", "length id ∷ id")
     most = said(LONG_ID, "IsLongId", "short", "length id ≤ <most>")["most"]
-    token = said(ADDRESS, "AreAddressFields", "is_token", "length a.stateless_reset_token ≡ <width>")["width"]
-    said(ADDRESS, "IsAddress", "a b", "AreAddressFields a b × ¬ (HasNoAddress a)")
+    token = said(ADDRESS, "AreAddressFields", "is_token", "length address.stateless_reset_token ≡ <width>")["width"]
+    said(ADDRESS, "IsAddress", "address bytes", "AreAddressFields address bytes × ¬ (HasNoAddress address)")
     yield from figure("Preferred Address", [
         *lines, "Connection ID Length (8)", f"Connection ID (0..{8 * most})", f"Stateless Reset Token ({8 * token})"])
     yield (
@@ -127,13 +127,16 @@ def address():
 def page():
     """Lists of parameters, and each parameter."""
     said(ENTRY, "IsEntry", "number bytes", "Follows (Encodes number) (Follows (Encodes (length bytes)) (Is bytes))")
-    said(ENTRY, "AreEntries", "(e ∷ es) b", "Follows (AreEntries es) (IsEntry e.number e.bytes) b")
+    said(ENTRY, "AreEntries", "(last ∷ earlier) bytes", (
+        "Follows (AreEntries earlier) (IsEntry last.number last.bytes) bytes"))
     said(ENTRY, "IsRepeat", "id before", "((row id).once ≡ true) × IsGiven id before")
     said(ENTRY, "Accepts", "Passed", (
-        "((id : TransportParameterId) → ¬ (IsKnownParameter id e.number)) → after ≡ before → Accepts before e after"))
+        "((id : TransportParameterId) → ¬ (IsKnownParameter id entry.number)) → after ≡ before → Accepts before entry"
+        " after"))
     said(ENTRY, "Accepts", "Taken", (
-        "(id : TransportParameterId) (value : Value) → IsKnownParameter id e.number → ¬ (IsRepeat id before) → IsEncoded"
-        " (row id).kind value e.bytes → after ≡ record { id = id; value = value } ∷ before → Accepts before e after"))
+        "(id : TransportParameterId) (value : Value) → IsKnownParameter id entry.number → ¬ (IsRepeat id before)"
+        " → IsEncoded (row id).kind value entry.bytes → after ≡ record { id = id; value = value } ∷ before"
+        " → Accepts before entry after"))
     said(ENTRY, "IsKnownParameter", "number_is", "(row id).number ≡ number")
     free = said(RESERVED, "IsReserved", "number", "number % <step> ≡ <first>")
     yield from ["## Transport parameters", "", "### Lists (18)", ""]
@@ -149,7 +152,7 @@ def page():
     yield (
         f"Rows (`row`, crates/{TABLE}.antt) have these names but {others}. Values (`IsEncoded`, crates/{VALUE}.antt)"
         " (i) are in the shortest width unless in any; (..) are passed. Without a default what isn't there is absent"
-        f" (`default_of`). What must be, `IsValid` says, crates/{MEANING}.antt, of names of `slots`,"
+        f" (`default_of`). What must be, `IsValid` says, crates/{MEANING}.antt, of names of `value_of`,"
         f" crates/{RECORD}.antt. Numbers {free['step']} * N + {free['first']} are reserved (`IsReserved`,"
         f" crates/{RESERVED}.antt).")
     yield from ["", "### Preferred Address (18.2)", ""]

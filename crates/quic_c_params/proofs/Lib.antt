@@ -1,4 +1,4 @@
-mod Said
+mod DescribedParams
 mod Places
 mod Others
-mod Pieces
+mod StoredEntries

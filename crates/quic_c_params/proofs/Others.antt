@@ -9,7 +9,7 @@ use Rattle.quic_params.specs.declared.parameter.TransportParameterId.{TransportP
 use Rattle.quic_params.specs.Entry.{Entry, IsEntry, IsCutEntry, IsKnownParameter}
 use Rattle.quic_params.specs.Further.{AreInOrder, AreOthers, HasEntryNumber, IsOther, IsOrderOf, upward, asked}
 use Rattle.quic_params.specs.Table.{rows}
-use Rattle.quic_params.proofs.Again.{get_upward}
+use Rattle.quic_params.proofs.ReadBack.{get_upward}
 use Rattle.quic_params.proofs.Further.{next, order_within}
 use Rattle.quic_c_params.specs.Lists.{any_entry, IsFurther}
 
@@ -95,7 +95,7 @@ counted_more list rest behind n x count t u once lt c = record {
 pub counted_all : (list rest : List ℕ) (count : ℕ) → rest ≡ [] → length list < 2 ^ 40 → Counted list rest count → (es : List Entry) × IsFurther es list × (length es ≡ count)
 counted_all list rest count e lt c =
     let a = c.back [] e tt in
-    (a.0, record { entries = a.1; others = a.2; few = omega (arith, a.3, c.few); short = lt }, a.3 ∙ omega arith)
+    (a.0, record { encoded = a.1; others = a.2; few = omega (arith, a.3, c.few); short = lt }, a.3 ∙ omega arith)
 
 -- what was looked up
 known_there : (n : ℕ) (r : Option TransportParameterId) → is_some r ≡ true → MatchOption r ((id : TransportParameterId) → ¬ (IsKnownParameter id n)) (λ id. IsKnownParameter id n) → (id : TransportParameterId) × IsKnownParameter id n
@@ -109,12 +109,12 @@ unknown_there n None e h = h
 -- what refuses a list
 pub cut_off : (list rest : List ℕ) (count : ℕ) → IsCutEntry rest → rest ≢ [] → Counted list rest count → (es : List Entry) → IsFurther es list → ⊥
 cut_off list rest count cut some c es f =
-    let a = c.on es f.entries f.others in
+    let a = c.on es f.encoded f.others in
     some (nothing_left rest a.0 (none_cut rest a.0 cut a.1) a.1)
 
 pub too_many : (list rest behind : List ℕ) (n : ℕ) (x : List ℕ) (count : ℕ) → Takes (IsEntry n x) rest behind → rows + count ≡ 256 → Counted list rest count → (es : List Entry) → IsFurther es list → ⊥
 too_many list rest behind n x count t full c es f =
-    let a = c.on es f.entries f.others in
+    let a = c.on es f.encoded f.others in
     let g = next n x rest behind a.0 t a.1 in
     omega (arith, f.few, a.3, ap length g.whole, full)
 
@@ -122,14 +122,14 @@ pub known_one : (list rest behind : List ℕ) (n : ℕ) (x : List ℕ) (count : 
     → MatchOption r ((id : TransportParameterId) → ¬ (IsKnownParameter id n)) (λ id. IsKnownParameter id n) → Counted list rest count → (es : List Entry) → IsFurther es list → ⊥
 known_one list rest behind n x count r t some m c es f =
     let k = known_there n r some m in
-    let a = c.on es f.entries f.others in
+    let a = c.on es f.encoded f.others in
     let g = next n x rest behind a.0 t a.1 in
     (others_of a.0 g.others g.first g.whole a.2).0.unknown k.0 (subst (IsKnownParameter k.0) (sym g.number) k.1)
 
 pub there_twice : (list rest behind : List ℕ) (n : ℕ) (x : List ℕ) (count : ℕ) → Takes (IsEntry n x) rest behind
     → ((es : List Entry) → AreInOrder es behind → HasEntryNumber n es) → Counted list rest count → (es : List Entry) → IsFurther es list → ⊥
 there_twice list rest behind n x count t has c es f =
-    let a = c.on es f.entries f.others in
+    let a = c.on es f.encoded f.others in
     let g = next n x rest behind a.0 t a.1 in
     (others_of a.0 g.others g.first g.whole a.2).1 (subst (λ (m : ℕ). HasEntryNumber m g.others) (sym g.number) (has g.others g.behind))
 

@@ -5,7 +5,7 @@ use Rattle.quic_base.specs.Codec.{Takes}
 use Rattle.quic_params.specs.Entry.{IsEntry}
 use Rattle.quic_c_params.specs.Lists.{GivesParameter}
 
--- where the value of the first entry lies
+-- where the value of the first entry is
 pub gives_entry : (list value rest : List ℕ) (id : ℕ) → Takes (IsEntry id value) list rest
     → GivesParameter list (record { id = id; value = length list - length rest - length value; value_len = length value })
 gives_entry list value rest id t =

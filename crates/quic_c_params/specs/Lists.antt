@@ -25,7 +25,7 @@ pub record GivesParameter (list : List ℕ) (words : CEntry) : Type 0 where
 
 -- The bytes were written at the front, those after them didn't change, and their count is given; or there is less room
 -- than that, how much they need is reported, and nothing changed.
-pub record Lies (result : Result ℕ ℕ) (bytes old new : List ℕ) : Type 0 where
+pub record StoresBytes (result : Result ℕ ℕ) (bytes old new : List ℕ) : Type 0 where
   pub count : IfOk result (λ n. n ≡ length bytes)
   pub front : IfOk result (λ n. new ≡ bytes ++ drop n old)
   pub needed : IfErr result (λ n. n ≡ length bytes)
@@ -33,12 +33,12 @@ pub record Lies (result : Result ℕ ℕ) (bytes old new : List ℕ) : Type 0 wh
   pub same : OnErr result (new ≡ old)
 
 -- The bytes were written at the front, those after them didn't change, and their count is given.
-pub record StandsInList (bytes old new : List ℕ) (count : ℕ) : Type 0 where
+pub record WroteBytes (bytes old new : List ℕ) (count : ℕ) : Type 0 where
   pub count_is : count ≡ length bytes
   pub front : new ≡ bytes ++ drop count old
 
 -- There is less room than bytes need, and how much that is was reported.
-pub record Lacks (bytes old : List ℕ) (needed : ℕ) : Type 0 where
+pub record BytesNeedMore (bytes old : List ℕ) (needed : ℕ) : Type 0 where
   pub count_is : needed ≡ length bytes
   pub full : length old < needed
 
@@ -48,36 +48,36 @@ any_entry = record { number = 0; bytes = [] }
 
 -- These are the entries of a list, all of which may be written among those of a record, and so few that a byte counts
 -- them together with the record's.
-pub record IsFurther (es : List Entry) (list : List ℕ) : Type 0 where
-  pub entries : AreInOrder es list
-  pub others : AreOthers es
-  pub few : rows + length es ≤ 256
+pub record IsFurther (entries : List Entry) (list : List ℕ) : Type 0 where
+  pub encoded : AreInOrder entries list
+  pub others : AreOthers entries
+  pub few : rows + length entries ≤ 256
   pub short : length list < 2 ^ 40
 
 -- The words describe a record that the side reads back, the list has further entries, and the order is one of all of
 -- them, or empty.
-pub record CanList (side : ℕ) (words : CParams) (further order : List ℕ) (p : TransportParameters)
-    (es : List Entry) : Type 0 where
-  pub record_is : CanWriteParams side words p
-  pub further_are : IsFurther es further
-  pub order_is : IsOrderOf (rows + length es) (asked (rows + length es) order)
+pub record CanList (side : ℕ) (words : CParams) (further order : List ℕ) (params : TransportParameters)
+    (entries : List Entry) : Type 0 where
+  pub record_is : CanWriteParams side words params
+  pub further_are : IsFurther entries further
+  pub order_is : IsOrderOf (rows + length entries) (asked (rows + length entries) order)
 
 -- The list of a record with further entries was written at the front, and the side reads that record from it.
 pub record WroteList (side : ℕ) (words : CParams) (further order old new : List ℕ) (count : ℕ) : Type 0 where
   pub params : TransportParameters
-  pub es : List Entry
-  pub can : CanList side words further order params es
-  pub stands : StandsInList (listed params es order) old new count
-  pub read_back : IsReadAnswer can.record_is.reader (listed params es order) (Ok params)
+  pub entries : List Entry
+  pub can : CanList side words further order params entries
+  pub wrote : WroteBytes (listed params entries order) old new count
+  pub read_back : IsReadAnswer can.record_is.reader (listed params entries order) (Ok params)
 
 -- There is less room than that list needs, and how much that is was reported.
-pub record ListLacks (side : ℕ) (words : CParams) (further order old : List ℕ) (needed : ℕ) : Type 0 where
+pub record ListNeedsMore (side : ℕ) (words : CParams) (further order old : List ℕ) (needed : ℕ) : Type 0 where
   pub params : TransportParameters
-  pub es : List Entry
-  pub can : CanList side words further order params es
-  pub lacks : Lacks (listed params es order) old needed
+  pub entries : List Entry
+  pub can : CanList side words further order params entries
+  pub needs_more : BytesNeedMore (listed params entries order) old needed
 
 -- There is no such list.
 abbrev pub DescribesNoList : ℕ → CParams → List ℕ → List ℕ → Type 0
-DescribesNoList side words further order = (p : TransportParameters) (es : List Entry)
-    → CanList side words further order p es → ⊥
+DescribesNoList side words further order = (params : TransportParameters) (entries : List Entry)
+    → CanList side words further order params entries → ⊥

@@ -12,19 +12,19 @@ use Rattle.quic_c_params.specs.Shown.{params_words, v4_in, v6_in}
 
 -- The words are those of the record, whose fields hold what their types do; it has neither grease nor an order of
 -- writing.
-pub record DescribesParams (words : CParams) (p : TransportParameters) : Type 0 where
-  pub words_are : words ≡ params_words p
-  pub typed : IsTypedRecord p
-  pub no_grease : p.grease_transport_parameter ≡ None
-  pub no_order : p.write_order ≡ None
+pub record DescribesParams (words : CParams) (params : TransportParameters) : Type 0 where
+  pub words_are : words ≡ params_words params
+  pub typed : IsTypedRecord params
+  pub no_grease : params.grease_transport_parameter ≡ None
+  pub no_order : params.write_order ≡ None
 
 -- The words describe a record that the side reads back.
-pub record CanWriteParams (side : ℕ) (words : CParams) (p : TransportParameters) : Type 0 where
+pub record CanWriteParams (side : ℕ) (words : CParams) (params : TransportParameters) : Type 0 where
   pub reader : Side
   pub is_side : IsSide side reader
-  pub said : DescribesParams words p
-  pub in_range : IsRecordInRange reader p
-  pub read_back : IsReadAnswer reader (written p) (Ok p)
+  pub described : DescribesParams words params
+  pub in_range : IsRecordInRange reader params
+  pub read_back : IsReadAnswer reader (written params) (Ok params)
 
 -- The list of such a record was written at the front, the bytes after it didn't change, and its length is given.
 pub record WroteParams (side : ℕ) (words : CParams) (old new : List ℕ) (count : ℕ) : Type 0 where
@@ -42,18 +42,18 @@ pub record ParamsNeedMore (side : ℕ) (words : CParams) (old : List ℕ) (neede
 
 -- The words describe no such record.
 abbrev pub DescribesNoParams : ℕ → CParams → Type 0
-DescribesNoParams side words = (p : TransportParameters) → CanWriteParams side words p → ⊥
+DescribesNoParams side words = (params : TransportParameters) → CanWriteParams side words params → ⊥
 
 -- the bits are those of what the record has
-pub record HasFlags (flags : Flags) (p : TransportParameters) : Type 0 where
-  pub token : flags.token ≡ is_some p.stateless_reset_token
-  pub stays : flags.stays ≡ p.disable_active_migration
-  pub datagram : flags.datagram ≡ is_some p.max_datagram_frame_size
-  pub address : flags.address ≡ is_some p.preferred_address
-  pub v4 : flags.v4 ≡ is_some (v4_in p.preferred_address)
-  pub v6 : flags.v6 ≡ is_some (v6_in p.preferred_address)
-  pub original : flags.original ≡ is_some p.original_dst_cid
-  pub initial : flags.initial ≡ is_some p.initial_src_cid
-  pub retry : flags.retry ≡ is_some p.retry_src_cid
-  pub grease : flags.grease ≡ p.grease_quic_bit
-  pub delay : flags.delay ≡ is_some p.min_ack_delay
+pub record HasFlags (flags : Flags) (params : TransportParameters) : Type 0 where
+  pub token : flags.token ≡ is_some params.stateless_reset_token
+  pub stays : flags.stays ≡ params.disable_active_migration
+  pub datagram : flags.datagram ≡ is_some params.max_datagram_frame_size
+  pub address : flags.address ≡ is_some params.preferred_address
+  pub v4 : flags.v4 ≡ is_some (v4_in params.preferred_address)
+  pub v6 : flags.v6 ≡ is_some (v6_in params.preferred_address)
+  pub original : flags.original ≡ is_some params.original_dst_cid
+  pub initial : flags.initial ≡ is_some params.initial_src_cid
+  pub retry : flags.retry ≡ is_some params.retry_src_cid
+  pub grease : flags.grease ≡ params.grease_quic_bit
+  pub delay : flags.delay ≡ is_some params.min_ack_delay

@@ -1,8 +1,8 @@
 //! The entries of a list of transport parameters, whether a record has them or not (RFC 9000, section 18).
 ghost use Rattle.std.specs.Prelude.{◌≡◌, ◌≢◌, ◌⊎◌, ◌↔◌, ◌<◌, ◌≤◌, ◌^◌, ℕ, [], length, pos, negsuc};
 ghost use Rattle.quic_params.specs.Entry.{IsCutEntry};
-ghost use Rattle.quic_params.specs.Writing.{entry};
-ghost use Rattle.quic_c_params.specs.Lists.{GivesParameter, Lacks, StandsInList, TellsKnown};
+ghost use Rattle.quic_params.specs.Writing.{shortest_entry};
+ghost use Rattle.quic_c_params.specs.Lists.{GivesParameter, BytesNeedMore, WroteBytes, TellsKnown};
 
 use crate::words::CEntry;
 use quic_params::transport_parameters::{known, split_entry, write_entry_into};
@@ -58,8 +58,8 @@ pub extern "C" fn quic_wire_param_write_(
     written: &mut usize,
 ) -> i32
     ensures answers { (result ≡ pos 0) ⊎ (result ≡ negsuc 3) ⊎ (result ≡ negsuc 0) }
-    ensures wrote { result ≡ pos 0 → StandsInList (entry id value.now) dest.old dest.new written.new }
-    ensures room { result ≡ negsuc 3 → Lacks (entry id value.now) dest.old written.new }
+    ensures wrote { result ≡ pos 0 → WroteBytes (shortest_entry id value.now) dest.old dest.new written.new }
+    ensures room { result ≡ negsuc 3 → BytesNeedMore (shortest_entry id value.now) dest.old written.new }
     ensures refused { (result ≡ negsuc 0) ↔ ((2 ^ 62 ≤ id) ⊎ (2 ^ 62 ≤ length value.now)) }
     ensures same { (result ≡ pos 0) ⊎ (dest.new ≡ dest.old) }
     ensures same_count { result ≡ negsuc 0 → written.new ≡ written.old }

@@ -13,7 +13,7 @@ pub(crate) const ROWS: usize = TransportParameterId::SUPPORTED.len();
 
 // Whether a list of entries has one of this number.
 fn has_number(list: &[u8], number: u64) -> bool
-    ensures { (es : List Entry) → AreInOrder es list.now → IsTrue result ↔ HasEntryNumber number es }
+    ensures { (entries : List Entry) → AreInOrder entries list.now → IsTrue result ↔ HasEntryNumber number entries }
 {
     let mut rest = list;
     while let Some((other, _, behind)) = split_entry(rest) {
@@ -27,8 +27,8 @@ fn has_number(list: &[u8], number: u64) -> bool
 
 // How many entries a list has, if all of them may be written among those of a record.
 pub(crate) fn count_further(list: &[u8]) -> Option<usize>
-    ensures some { IfSome result (λ n. (es : List Entry) × IsFurther es list.now × (length es ≡ n)) }
-    ensures none { IsNone result → (es : List Entry) → IsFurther es list.now → ⊥ }
+    ensures some { IfSome result (λ n. (entries : List Entry) × IsFurther entries list.now × (length entries ≡ n)) }
+    ensures none { IsNone result → (entries : List Entry) → IsFurther entries list.now → ⊥ }
 {
     if list.len() >= 1 << 40 {
         return None;
@@ -48,9 +48,9 @@ pub(crate) fn count_further(list: &[u8]) -> Option<usize>
 
 // The entry at an index: its number, and the bytes of its value.
 pub(crate) fn nth(list: &[u8], index: usize) -> (u64, &[u8])
-    requires { (es : List Entry) × AreInOrder es list.now × (index < length es) }
-    ensures { (es : List Entry) → AreInOrder es list.now
-        → (result.0 ≡ (get_or es index any_entry).number) × (result.1.now ≡ (get_or es index any_entry).bytes) }
+    requires { (entries : List Entry) × AreInOrder entries list.now × (index < length entries) }
+    ensures { (entries : List Entry) → AreInOrder entries list.now
+        → (result.0 ≡ (get_or entries index any_entry).number) × (result.1.now ≡ (get_or entries index any_entry).bytes) }
 {
     let mut rest = list;
     for _ in 0..index {

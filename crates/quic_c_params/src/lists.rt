@@ -2,17 +2,17 @@
 ghost use Rattle.std.specs.Prelude.{◌≡◌, ◌⊎◌, ◌+◌, ◌*◌, ◌<◌, ◌≤◌, ◌^◌, ◌++◌, ◌↔◌, ℕ, List, [], get_or, length, take, drop, pos, negsuc, IfOk, IfErr, IfSome, IsNone, OnErr};
 ghost use Rattle.std.specs.List.{flat_map};
 ghost use Rattle.quic_params.specs.Entry.{Entry};
-ghost use Rattle.quic_params.specs.Further.{AreInOrder, IsOrderOf, asked, listed, pieces};
+ghost use Rattle.quic_params.specs.Further.{AreInOrder, IsOrderOf, asked, listed, encoded_entries};
 ghost use Rattle.quic_params.specs.Order.{id_of_index};
 ghost use Rattle.quic_params.specs.Table.{rows};
-ghost use Rattle.quic_params.specs.Writing.{entry, written_for};
+ghost use Rattle.quic_params.specs.Writing.{shortest_entry, written_for};
 ghost use Rattle.quic_params.specs.declared.record.TransportParameters.{TransportParameters};
-ghost use Rattle.quic_c_params.specs.Lists.{CanList, IsFurther, Lies, ListLacks, DescribesNoList, WroteList};
+ghost use Rattle.quic_c_params.specs.Lists.{CanList, IsFurther, StoresBytes, ListNeedsMore, DescribesNoList, WroteList};
 
 use crate::further::{ROWS, count_further, index_at, is_order, nth};
 use crate::read::side_of;
 use crate::words::CParams;
-use crate::write::said;
+use crate::write::described;
 use quic_params::laws;
 use quic_params::transport_parameters::{
     TransportParameterId, TransportParameters, write_entry_into,
@@ -32,7 +32,7 @@ fn store_row(
     id: TransportParameterId,
     dest: &mut [u8],
 ) -> Result<usize, usize>
-    ensures lies { Lies result (written_for params.now id) dest.old dest.new }
+    ensures stores { StoresBytes result (written_for params.now id) dest.old dest.new }
     ensures few { length (written_for params.now id) ≤ 77 }
 {
     params.write_one_into(id, dest)
@@ -42,25 +42,25 @@ fn store_row(
 fn store_entry(number: u64, value: &[u8], dest: &mut [u8]) -> Result<usize, usize>
     requires number { number < 2 ^ 62 }
     requires len { length value.now < 2 ^ 62 }
-    ensures lies { Lies result (entry number value.now) dest.old dest.new }
-    ensures few { length (entry number value.now) ≤ 16 + length value.now }
+    ensures stores { StoresBytes result (shortest_entry number value.now) dest.old dest.new }
+    ensures few { length (shortest_entry number value.now) ≤ 16 + length value.now }
 {
     write_entry_into(number, value, dest)
 }
 
-// Stores the piece at an index at the front of a slice: a row of the record, or a further entry. If the slice is
-// shorter, it doesn't change, and the error is how many bytes the piece has.
-fn store_piece(
+// Stores the entry at an index at the front of a slice: a row of the record, or a further entry. If the slice is
+// shorter, it doesn't change, and the error is how many bytes the entry has.
+fn store_entry_at(
     params: &TransportParameters,
     further: &[u8],
     index: usize,
     dest: &mut [u8],
 ) -> Result<usize, usize>
-    requires there { (es : List Entry) × IsFurther es further.now × (index < rows + length es) }
-    ensures lies { (es : List Entry) → AreInOrder es further.now
-        → Lies result (get_or (pieces params.now es) index []) dest.old dest.new }
-    ensures few { (es : List Entry) → AreInOrder es further.now
-        → length (get_or (pieces params.now es) index []) ≤ 77 + length further.now }
+    requires there { (entries : List Entry) × IsFurther entries further.now × (index < rows + length entries) }
+    ensures stores { (entries : List Entry) → AreInOrder entries further.now
+        → StoresBytes result (get_or (encoded_entries params.now entries) index []) dest.old dest.new }
+    ensures few { (entries : List Entry) → AreInOrder entries further.now
+        → length (get_or (encoded_entries params.now entries) index []) ≤ 77 + length further.now }
 {
     if index < ROWS {
         return store_row(params, row_at(index), dest);
@@ -69,12 +69,12 @@ fn store_piece(
     store_entry(number, value, dest)
 }
 
-// How many pieces a list has with these further entries, if they are such, and the order is one of all.
-fn count_pieces(further: &[u8], order: &[u8]) -> Option<usize>
-    ensures some { IfSome result (λ n. (es : List Entry) × IsFurther es further.now × (n ≡ rows + length es)
+// How many entries a list has with these further entries, if they are such, and the order is one of all.
+fn count_entries(further: &[u8], order: &[u8]) -> Option<usize>
+    ensures some { IfSome result (λ n. (entries : List Entry) × IsFurther entries further.now × (n ≡ rows + length entries)
         × IsOrderOf n (asked n order.now)) }
-    ensures none { IsNone result → (es : List Entry) → IsFurther es further.now
-        → IsOrderOf (rows + length es) (asked (rows + length es) order.now) → ⊥ }
+    ensures none { IsNone result → (entries : List Entry) → IsFurther entries further.now
+        → IsOrderOf (rows + length entries) (asked (rows + length entries) order.now) → ⊥ }
 {
     let count = ROWS + count_further(further)?;
     if is_order(count, order) {
@@ -84,24 +84,24 @@ fn count_pieces(further: &[u8], order: &[u8]) -> Option<usize>
     }
 }
 
-// How many bytes the list has whose pieces are in an order.
+// How many bytes the list has whose entries are in an order.
 fn list_len(params: &TransportParameters, further: &[u8], count: usize, order: &[u8]) -> usize
-    requires there { (es : List Entry) × IsFurther es further.now × (count ≡ rows + length es) }
+    requires there { (entries : List Entry) × IsFurther entries further.now × (count ≡ rows + length entries) }
     requires order { IsOrderOf count (asked count order.now) }
-    ensures { (es : List Entry) → AreInOrder es further.now → result ≡ length (listed params.now es order.now) }
+    ensures { (entries : List Entry) → AreInOrder entries further.now → result ≡ length (listed params.now entries order.now) }
 {
     let mut len = 0;
     for place in 0..count {
         let index = index_at(count, order, place);
-        len += match store_piece(params, further, index, &mut []) {
-            Ok(piece_len) => piece_len,
-            Err(piece_len) => piece_len,
+        len += match store_entry_at(params, further, index, &mut []) {
+            Ok(entry_len) => entry_len,
+            Err(entry_len) => entry_len,
         };
     }
     len
 }
 
-// Stores the pieces in an order over the front of a slice that has room for them.
+// Stores the entries in an order over the front of a slice that has room for them.
 fn store_list(
     params: &TransportParameters,
     further: &[u8],
@@ -109,18 +109,18 @@ fn store_list(
     order: &[u8],
     dest: &mut [u8],
 )
-    requires there { (es : List Entry) × IsFurther es further.now × (count ≡ rows + length es) }
+    requires there { (entries : List Entry) × IsFurther entries further.now × (count ≡ rows + length entries) }
     requires order { IsOrderOf count (asked count order.now) }
-    requires room { (es : List Entry) → AreInOrder es further.now
-        → length (listed params.now es order.now) ≤ length dest.old }
-    ensures { (es : List Entry) → AreInOrder es further.now
-        → dest.new ≡ listed params.now es order.now ++ drop (length (listed params.now es order.now)) dest.old }
+    requires room { (entries : List Entry) → AreInOrder entries further.now
+        → length (listed params.now entries order.now) ≤ length dest.old }
+    ensures { (entries : List Entry) → AreInOrder entries further.now
+        → dest.new ≡ listed params.now entries order.now ++ drop (length (listed params.now entries order.now)) dest.old }
 {
     let mut at = 0;
     for place in 0..count {
         let index = index_at(count, order, place);
-        match store_piece(params, further, index, &mut dest[at..]) {
-            Ok(piece_len) => at += piece_len,
+        match store_entry_at(params, further, index, &mut dest[at..]) {
+            Ok(entry_len) => at += entry_len,
             Err(_) => unreachable!(),
         }
     }
@@ -147,7 +147,7 @@ pub extern "C" fn quic_wire_params_write_with_(
     ensures answers { (result ≡ pos 0) ⊎ (result ≡ negsuc 3) ⊎ (result ≡ negsuc 0) }
     ensures wrote { result ≡ pos 0
         → WroteList side words.now further.now order.now dest.old dest.new written.new }
-    ensures room { result ≡ negsuc 3 → ListLacks side words.now further.now order.now dest.old written.new }
+    ensures room { result ≡ negsuc 3 → ListNeedsMore side words.now further.now order.now dest.old written.new }
     ensures refused { result ≡ negsuc 0 → DescribesNoList side words.now further.now order.now }
     ensures same { (result ≡ pos 0) ⊎ (dest.new ≡ dest.old) }
     ensures same_count { result ≡ negsuc 0 → written.new ≡ written.old }
@@ -155,10 +155,10 @@ pub extern "C" fn quic_wire_params_write_with_(
     let Some(reader) = side_of(side) else {
         return -1;
     };
-    let Some(params) = said(reader, words) else {
+    let Some(params) = described(reader, words) else {
         return -1;
     };
-    let Some(count) = count_pieces(further, order) else {
+    let Some(count) = count_entries(further, order) else {
         return -1;
     };
     laws::further();

@@ -156,7 +156,7 @@ fn address_in(words: &CParams, flags: Flags) -> Option<PreferredAddress>
 
 // The record that the words describe, if they describe one.
 fn record_in(words: &CParams) -> TransportParameters
-    ensures said { (side : Side) (p : TransportParameters) → DescribesParams words.now p → IsRecordInRange side p
+    ensures described { (side : Side) (p : TransportParameters) → DescribesParams words.now p → IsRecordInRange side p
         → result ≡ p }
     ensures no_grease { result.grease_transport_parameter ≡ None }
     ensures no_order { result.write_order ≡ None }
@@ -204,7 +204,7 @@ fn same_words(a: &CParams, b: &CParams) -> bool
 }
 
 // The record that the words describe, if the side reads it back.
-pub(crate) fn said(side: Side, words: &CParams) -> Option<TransportParameters>
+pub(crate) fn described(side: Side, words: &CParams) -> Option<TransportParameters>
     ensures some { IfSome result
         (λ p. DescribesParams words.now p × IsRecordInRange side p × IsReadAnswer side (written p) (Ok p)) }
     ensures none { IsNone result → (p : TransportParameters) → DescribesParams words.now p → IsRecordInRange side p
@@ -242,7 +242,7 @@ pub extern "C" fn quic_wire_params_write_(
     let Some(reader) = side_of(side) else {
         return -1;
     };
-    let Some(params) = said(reader, words) else {
+    let Some(params) = described(reader, words) else {
         return -1;
     };
     match params.write_into(dest) {

@@ -10,7 +10,7 @@ use Rattle.quic_params.specs.declared.parameter.TransportParameterId.{TransportP
 use Rattle.quic_params.specs.declared.record.TransportParameters.{TransportParameters}
 use Rattle.quic_params.specs.Table.{row}
 use Rattle.quic_params.specs.Value.{IsNoValue}
-use Rattle.quic_params.specs.Entry.{Given, IsCutEntry, IsEnd, IsKnownParameter, RefusesList, StopsAtEntry, StopsAt, StopsIn, within_cut, within_entry}
+use Rattle.quic_params.specs.Entry.{Given, IsEnd, IsKnownParameter, RefusesList, StopsAtEntry, StopsAt, StopsIn, within_entry}
 use Rattle.quic_params.specs.State.{Holds}
 use Rattle.quic_params.proofs.Entries.{at, entry_taken}
 use Rattle.quic_params.proofs.Progress.{HasRead}
@@ -70,7 +70,7 @@ pub stops_in : (whole old left : List ℕ) (p : TransportParameters) (seen : Lis
     → ((before : List Given) → Holds p seen before → StopsAtEntry before old e) → ((before : List Given) → Holds p seen before → StopsAt before old e left) → StopsIn whole e left
 stops_in whole old left p seen e h lt stop at = record {
   bad = record {
-    es = h.es;
+    entries = h.entries;
     given = h.given;
     front = h.front;
     rest = old;

@@ -17,29 +17,29 @@ use Rattle.quic_params.specs.Entry.{Entry, Given, IsEntry, IsGiven, Passed, AreE
 use Rattle.quic_params.specs.Meaning.{IsMeant, IsReadAnswer}
 use Rattle.quic_params.specs.Order.{id_of_index}
 use Rattle.quic_params.specs.Range.{IsTypedRecord, IsRecordInRange, plain}
-use Rattle.quic_params.specs.Writing.{entry, written_for}
-use Rattle.quic_params.specs.Further.{AreInOrder, IsRecordOf, IsOther, AreOthers, pieces, IsOrderOf}
+use Rattle.quic_params.specs.Writing.{shortest_entry, written_for}
+use Rattle.quic_params.specs.Further.{AreInOrder, IsRecordOf, IsOther, AreOthers, encoded_entries, IsOrderOf}
 use Rattle.quic_params.proofs.Entries.{entry_unique}
 use Rattle.quic_params.proofs.Progress.{entry_some}
 use Rattle.quic_params.proofs.Least.{is_entry}
 use Rattle.quic_params.proofs.Orders.{downward, all_once, downward_below}
-use Rattle.quic_params.proofs.Again.{IsSound, Reads, add, at_itself, all_held, given_after, given_by, gives, is_at, plain_valid, reads_entry, reads_none, reads_parameter, sound_of, times}
+use Rattle.quic_params.proofs.ReadBack.{IsSound, Reads, add, at_itself, all_given, given_after, given_by, gives, is_at, plain_valid, reads_entry, reads_none, reads_parameter, sound_of, times}
 
--- ---- pieces
+-- ---- what is written at an index
 
-abbrev pub piece_at : TransportParameters → List Entry → ℕ → List ℕ
-piece_at p es i = get_or (pieces p es) i []
+abbrev pub encoded_at : TransportParameters → List Entry → ℕ → List ℕ
+encoded_at p es i = get_or (encoded_entries p es) i []
 
 abbrev bytes_of_entry : Entry → List ℕ
-bytes_of_entry e = entry e.number e.bytes
+bytes_of_entry e = shortest_entry e.number e.bytes
 
-pub piece_of_row : (p : TransportParameters) (es : List Entry) (i : ℕ) → i < rows → piece_at p es i ≡ written_for p (id_of_index i)
-piece_of_row p es i lt =
+pub encoded_row : (p : TransportParameters) (es : List Entry) (i : ℕ) → i < rows → encoded_at p es i ≡ written_for p (id_of_index i)
+encoded_row p es i lt =
     let w : List (List ℕ) = map (written_for p) ids in
     get_or_append_left w (map bytes_of_entry es) [] i lt ∙ get_or-map (written_for p) ids i MaxIdleTimeout [] lt
 
-pub piece_of_other : (p : TransportParameters) (es : List Entry) (j : ℕ) (d : Entry) → j < length es → piece_at p es (rows + j) ≡ bytes_of_entry (get_or es j d)
-piece_of_other p es j d lt =
+pub encoded_further : (p : TransportParameters) (es : List Entry) (j : ℕ) (d : Entry) → j < length es → encoded_at p es (rows + j) ≡ bytes_of_entry (get_or es j d)
+encoded_further p es j d lt =
     get_or-append-add (map (written_for p) ids) (map bytes_of_entry es) j [] ∙ get_or-map bytes_of_entry es j d [] lt
 
 pub other_at : (es : List Entry) (j : ℕ) (d : Entry) → AreOthers es → j < length es → IsOther (get_or es j d)
@@ -107,22 +107,22 @@ abbrev Once : List ℕ → Type 0
 Once os = (id : TransportParameterId) → times id os ≤ 1
 
 abbrev Then : TransportParameters → List Entry → List ℕ → List ℕ → Type 0
-Then p es os mine = (before : List Given) (front : List ℕ) → Once mine → Free mine before → Reads before front → Reads (given_by p mine before) (front ++ flat_map (piece_at p es) os)
+Then p es os mine = (before : List Given) (front : List ℕ) → Once mine → Free mine before → Reads before front → Reads (given_by p mine before) (front ++ flat_map (encoded_at p es) os)
 
 reads_row : (p : TransportParameters) (es : List Entry) (i : ℕ) (os mine : List ℕ) → IsSound p → i < rows → Then p es os mine → Then p es (i ∷ os) (i ∷ mine)
 reads_row p es i os mine s lt rest before front once free r =
     let o : TransportParameterId = id_of_index i in
     let here : 1 ≤ times o (i ∷ mine) = omega (arith, at_itself i) in
     let x : Reads (add o (gives p o) before) (front ++ written_for p o) = reads_parameter p o before front s (free o here) r in
-    let y : Reads (add o (gives p o) before) (front ++ piece_at p es i) = subst (λ (b : List ℕ). Reads (add o (gives p o) before) (front ++ b)) (sym (piece_of_row p es i lt)) x in
+    let y : Reads (add o (gives p o) before) (front ++ encoded_at p es i) = subst (λ (b : List ℕ). Reads (add o (gives p o) before) (front ++ b)) (sym (encoded_row p es i lt)) x in
     let once' : Once mine = λ id. omega (arith, once id) in
     let free' : Free mine (add o (gives p o) before) = λ id h g.
     elim (given_after id o (gives p o) before g) [
       | inl e ↦ let again : 1 ≤ times o mine = subst (λ (j : TransportParameterId). 1 ≤ times j mine) (sym e) h in omega (arith, at_itself i, again, once o)
       | inr b ↦ free id (omega (arith, h)) b
     ] in
-    subst (Reads (given_by p mine (add o (gives p o) before))) (append_assoc front (piece_at p es i) (flat_map (piece_at p es) os))
-    (rest (add o (gives p o) before) (front ++ piece_at p es i) once' free' y)
+    subst (Reads (given_by p mine (add o (gives p o) before))) (append_assoc front (encoded_at p es i) (flat_map (encoded_at p es) os))
+    (rest (add o (gives p o) before) (front ++ encoded_at p es i) once' free' y)
 
 reads_other : (p : TransportParameters) (es : List Entry) (i : ℕ) (os mine : List ℕ) → AreOthers es → rows ≤ i → i < rows + length es → Then p es os mine → Then p es (i ∷ os) mine
 reads_other p es i os mine h le lt rest before front once free r =
@@ -132,10 +132,10 @@ reads_other p es i os mine h le lt rest before front once free r =
     let small : j < length es = omega (arith, le, lt) in
     let is : IsOther e = other_at es j d h small in
     let at : rows + j ≡ i = omega (arith, le) in
-    let same : piece_at p es i ≡ entry e.number e.bytes = ap (piece_at p es) (sym at) ∙ piece_of_other p es j d small in
-    let x : Reads before (front ++ piece_at p es i) = subst (λ (b : List ℕ). Reads before (front ++ b)) (sym same)
-    (reads_entry before before front (entry e.number e.bytes) e r (is_entry e.number e.bytes is.numeric is.short) (Passed is.unknown refl)) in
-    subst (Reads (given_by p mine before)) (append_assoc front (piece_at p es i) (flat_map (piece_at p es) os)) (rest before (front ++ piece_at p es i) once free x)
+    let same : encoded_at p es i ≡ shortest_entry e.number e.bytes = ap (encoded_at p es) (sym at) ∙ encoded_further p es j d small in
+    let x : Reads before (front ++ encoded_at p es i) = subst (λ (b : List ℕ). Reads before (front ++ b)) (sym same)
+    (reads_entry before before front (shortest_entry e.number e.bytes) e r (is_entry e.number e.bytes is.numeric is.short) (Passed is.unknown refl)) in
+    subst (Reads (given_by p mine before)) (append_assoc front (encoded_at p es i) (flat_map (encoded_at p es) os)) (rest before (front ++ encoded_at p es i) once free x)
 
 reads_either : (t : Bool) (p : TransportParameters) (es : List Entry) (i : ℕ) (os mine : List ℕ) → nat_lt i rows ≡ t → IsSound p → AreOthers es → i < rows + length es → Then p es os mine → Then p es (i ∷ os) (cond t (i ∷ mine) mine)
 reads_either true p es i os mine e s h lt rest = reads_row p es i os mine s (grind (arith, nat_tests)) rest
@@ -145,15 +145,15 @@ reads_mixed : (p : TransportParameters) (es : List Entry) (os : List ℕ) → Is
 reads_mixed p es [] s h b = λ before front once free r. reads_none before front r
 reads_mixed p es (i ∷ os) s h b = reads_either (nat_lt i rows) p es i os (own os) refl s h b.0 (reads_mixed p es os s h b.1)
 
-pub read_further : (p : TransportParameters) (es : List Entry) (order : List ℕ) → IsSound p → AreOthers es → IsOrderOf (rows + length es) order → IsMeant (plain p) (flat_map (piece_at p es) order)
+pub read_further : (p : TransportParameters) (es : List Entry) (order : List ℕ) → IsSound p → AreOthers es → IsOrderOf (rows + length es) order → IsMeant (plain p) (flat_map (encoded_at p es) order)
 read_further p es order s h o =
-    let start : Reads [] [] = record { es = []; list = record { entries = refl; gives = refl } } in
+    let start : Reads [] [] = record { entries = []; list = record { encoded = refl; gives = refl } } in
     let one = own_once (length es) order o in
     let r = reads_mixed p es order s h (all_below (rows + length es) order (order_within (rows + length es) order o)) [] [] (λ id. omega (arith, one id)) (λ id le g. g) start in
-    record { es = r.es; given = given_by p (own order) []; list = r.list; is_record = record { slots_are = all_held p (own order) one; no_grease = refl; no_order = refl } }
+    record { entries = r.entries; given = given_by p (own order) []; list = r.list; is_record = record { values = all_given p (own order) one; no_grease = refl; no_order = refl } }
 
 pub answers_further : (side : Side) (p : TransportParameters) (es : List Entry) (order : List ℕ) → IsTypedRecord p → IsRecordInRange side p → AreOthers es → IsOrderOf (rows + length es) order
-    → IsReadAnswer side (flat_map (piece_at p es) order) (Ok (plain p))
+    → IsReadAnswer side (flat_map (encoded_at p es) order) (Ok (plain p))
 answers_further side p es order t h others o = (read_further p es order (sound_of side p t h) others o, plain_valid side p h.valid)
 
 -- ---- the entries of a list
@@ -186,9 +186,9 @@ in_order_from (e ∷ es) fs a b p q =
 pub of_record : (side : Side) (b : List ℕ) (p : TransportParameters) → IsReadAnswer side b (Ok p) → (es : List Entry) × AreInOrder es b × IsRecordOf es p
 of_record side b p h =
     let m : IsMeant p b = h.0 in (
-      reverse m.es,
-      subst (AreInOrder (reverse m.es)) (append-nil b) (in_order_from m.es [] b [] m.list.entries refl),
-      record { given = m.given; gives = subst (λ (l : List Entry). Give l m.given) (sym (reverse-reverse m.es)) m.list.gives; is_record = m.is_record },
+      reverse m.entries,
+      subst (AreInOrder (reverse m.entries)) (append-nil b) (in_order_from m.entries [] b [] m.list.encoded refl),
+      record { given = m.given; gives = subst (λ (l : List Entry). Give l m.given) (sym (reverse-reverse m.entries)) m.list.gives; is_record = m.is_record },
     )
 
 -- the entry at the front

@@ -18,10 +18,11 @@ use Rattle.quic_params.specs.declared.value.PreferredAddress.{PreferredAddress}
 use Rattle.quic_params.specs.declared.value.Value.{Value}
 use Rattle.quic_params.specs.declared.value.Value.TheVariants as V
 use Rattle.quic_params.specs.Order.{IsOrder, id_of_index, order_of}
-use Rattle.quic_params.specs.Range.{IsTypedRecord, IsTypedAs, IsTypedAddress, IsFree, slot}
+use Rattle.quic_params.specs.Range.{IsTypedRecord, IsTypedAs, IsTypedAddress, IsFree}
+use Rattle.quic_params.specs.Record.{value_of}
 use Rattle.quic_params.specs.Reserved.{Reserved}
 use Rattle.quic_params.specs.Table.{row}
-use Rattle.quic_params.specs.Writing.{encoding, entry, piece, is_written, grease_bytes, of_kind, written, written_for, v4_bytes, v6_bytes}
+use Rattle.quic_params.specs.Writing.{encoding, shortest_entry, encoded_entry, is_written, grease_bytes, of_kind, written, written_for, v4_bytes, v6_bytes}
 use Rattle.quic_params.proofs.Hosts.{octets_long}
 use Rattle.quic_params.proofs.Sizes.{size_below}
 
@@ -59,16 +60,16 @@ value_below K.Id (V.Id x) t = omega (arith, t)
 value_below K.Address (V.Address a) t = address_below a t
 value_below _ _ t = elim t [ ]
 
-entry_below : (n : ℕ) (b : List ℕ) → length b ≤ 61 → length (entry n b) ≤ 77
+entry_below : (n : ℕ) (b : List ℕ) → length b ≤ 61 → length (shortest_entry n b) ≤ 77
 entry_below n b le = omega (arith, short_below n, short_below (length b), length-append (shortest_varint n) (shortest_varint (length b) ++ b), length-append (shortest_varint (length b)) b)
 
 either : (b : Bool) (l : List ℕ) → length l ≤ 77 → length (cond b l []) ≤ 77
 either true l le = le
 either false l le = omega arith
 
-piece_below : (id : TransportParameterId) (o : Option Value) → IfSome o (IsTypedAs (row id).kind) → length (piece id o) ≤ 77
-piece_below id None t = omega arith
-piece_below id (Some v) t = either (is_written (row id).kind v) (entry (row id).number (encoding v)) (entry_below (row id).number (encoding v) (value_below (row id).kind v t))
+encoded_below : (id : TransportParameterId) (o : Option Value) → IfSome o (IsTypedAs (row id).kind) → length (encoded_entry id o) ≤ 77
+encoded_below id None t = omega arith
+encoded_below id (Some v) t = either (is_written (row id).kind v) (shortest_entry (row id).number (encoding v)) (entry_below (row id).number (encoding v) (value_below (row id).kind v t))
 
 grease_below : (g : Option Reserved) → IfSome g IsFree → length (grease_bytes g) ≤ 77
 grease_below None t = omega arith
@@ -80,7 +81,7 @@ kind_below _ a b l m = m
 
 pub for_below : (p : TransportParameters) → IsTypedRecord p → (id : TransportParameterId) → length (written_for p id) ≤ 77
 unfolding written_for
-for_below p t id = kind_below (row id).kind (grease_bytes p.grease_transport_parameter) (piece id (slot p id)) (grease_below p.grease_transport_parameter t.grease) (piece_below id (slot p id) (t.values id))
+for_below p t id = kind_below (row id).kind (grease_bytes p.grease_transport_parameter) (encoded_entry id (value_of p id)) (grease_below p.grease_transport_parameter t.grease) (encoded_below id (value_of p id) (t.values id))
 
 all_below : (f : ℕ → List ℕ) → ((i : ℕ) → length (f i) ≤ 77) → (l : List ℕ) → length (flat_map f l) ≤ 77 * length l
 all_below f h [] = omega arith
@@ -97,6 +98,6 @@ written_below p t =
 pub header_below : (number len : ℕ) → length (shortest_varint number ++ shortest_varint len) ≤ 16
 header_below number len = omega (arith, short_below number, short_below len, length-append (shortest_varint number) (shortest_varint len))
 
-pub whole_below : (number : ℕ) (value : List ℕ) → length (entry number value) ≤ 16 + length value
+pub whole_below : (number : ℕ) (value : List ℕ) → length (shortest_entry number value) ≤ 16 + length value
 whole_below number value =
     omega (arith, short_below number, short_below (length value), length-append (shortest_varint number) (shortest_varint (length value) ++ value), length-append (shortest_varint (length value)) value)

@@ -1,14 +1,11 @@
 -- The shortest encoding of a number by its width, which is 2 to the power of a tag.
-use Rattle.std.proofs.Common.{◌≡◌, ◌≢◌, ℕ, zero, suc, ◌+◌, ◌-◌, ◌*◌, ◌^◌, ◌<◌, ◌≤◌, inl, inr, List, [], ◌++◌, length, length-append, refl, sym, ◌∙◌, ap, subst, arith}
-use Rattle.std.specs.Prelude.{Option, Some, None, MatchOption}
-use Rattle.std.proofs.lemmas.Bool.{cases_lt}
+use Rattle.std.proofs.Common.{◌≡◌, ℕ, zero, suc, ◌+◌, ◌-◌, ◌*◌, ◌^◌, ◌<◌, ◌≤◌, List, ◌++◌, length, length-append, sym, ◌∙◌, ap, subst, arith}
 use Rattle.std.proofs.lemmas.Bool.Decides.{nat_tests}
 use Rattle.std.proofs.lemmas.List.{append-nil}
-use Rattle.std.proofs.Math.Pow.{pow-lt}
-use Rattle.quic_base.specs.Codec.{Takes, NoFront}
-use Rattle.quic_base.specs.Number.{IsNumber, num}
+use Rattle.quic_base.specs.Codec.{Takes}
+use Rattle.quic_base.specs.Number.{IsNumber}
 use Rattle.quic_base.specs.Varint.{Encodes, shortest_varint, size}
-use Rattle.quic_base.proofs.PublicLaws.{shortest_encodes, length-short, encoded_bound}
+use Rattle.quic_base.proofs.PublicLaws.{encoded_bound}
 use Rattle.quic_params.proofs.Values.{empty_of_length, is_short}
 
 -- the bits of a number of this width

@@ -7,54 +7,56 @@ use Rattle.quic_params.specs.declared.record.TransportParameters.{TransportParam
 use Rattle.quic_params.specs.Table.{ids, rows}
 use Rattle.quic_params.specs.Entry.{Entry, Given, IsEntry, IsKnownParameter, Give}
 use Rattle.quic_params.specs.Record.{IsRecord}
-use Rattle.quic_params.specs.Writing.{entry, written_for}
+use Rattle.quic_params.specs.Writing.{shortest_entry, written_for}
 
--- b is these entries in their order
+-- the bytes are these entries in their order
 abbrev pub AreInOrder : List Entry → List ℕ → Type 0
-AreInOrder [] b = b ≡ []
-AreInOrder (e ∷ es) b = Follows (IsEntry e.number e.bytes) (AreInOrder es) b
+AreInOrder [] bytes = bytes ≡ []
+AreInOrder (first ∷ others) bytes = Follows (IsEntry first.number first.bytes) (AreInOrder others) bytes
 
 -- the record has what the entries give, each accepted after those before it
-pub record IsRecordOf (es : List Entry) (p : TransportParameters) : Type 0 where
+pub record IsRecordOf (entries : List Entry) (params : TransportParameters) : Type 0 where
   pub given : List Given
-  pub gives : Give (reverse es) given
-  pub is_record : IsRecord given p
+  pub gives : Give (reverse entries) given
+  pub is_record : IsRecord given params
 
 -- an entry that can be written and that no record has
-pub record IsOther (e : Entry) : Type 0 where
-  pub numeric : e.number < 2 ^ 62
-  pub short : length e.bytes < 2 ^ 62
-  pub unknown : (id : TransportParameterId) → ¬ (IsKnownParameter id e.number)
+pub record IsOther (entry : Entry) : Type 0 where
+  pub numeric : entry.number < 2 ^ 62
+  pub short : length entry.bytes < 2 ^ 62
+  pub unknown : (id : TransportParameterId) → ¬ (IsKnownParameter id entry.number)
 
 -- an entry of this number is among these
 abbrev pub HasEntryNumber : ℕ → List Entry → Type 0
-HasEntryNumber n [] = ⊥
-HasEntryNumber n (e ∷ es) = (e.number ≡ n) ⊎ HasEntryNumber n es
+HasEntryNumber number [] = ⊥
+HasEntryNumber number (first ∷ others) = (first.number ≡ number) ⊎ HasEntryNumber number others
 
 -- entries that no record has, and none of them twice
 abbrev pub AreOthers : List Entry → Type 0
 AreOthers [] = Unit {0}
-AreOthers (e ∷ es) = IsOther e × ¬ (HasEntryNumber e.number es) × AreOthers es
+AreOthers (first ∷ others) = IsOther first × ¬ (HasEntryNumber first.number others) × AreOthers others
 
 -- what is written for each row of the table, and then further entries in their least widths
-abbrev pub pieces : TransportParameters → List Entry → List (List ℕ)
-pieces p es = map (written_for p) ids ++ map (λ e. entry e.number e.bytes) es
+abbrev pub encoded_entries : TransportParameters → List Entry → List (List ℕ)
+encoded_entries params further = map (written_for params) ids
+    ++ map (λ entry. shortest_entry entry.number entry.bytes) further
 
--- as many numbers as there are pieces, and the index of each among them
+-- so many numbers, and each index below their count among them
 pub record IsOrderOf (count : ℕ) (order : List ℕ) : Type 0 where
   pub width : length order ≡ count
-  pub each : (i : ℕ) → i < count → Contains order i
+  pub each : (index : ℕ) → index < count → Contains order index
 
--- the numbers from k on
+-- so many numbers, each one more than that before it
 abbrev pub upward : ℕ → ℕ → List ℕ
-upward k zero = []
-upward k (suc n) = k ∷ upward (suc k) n
+upward from zero = []
+upward from (suc count) = from ∷ upward (suc from) count
 
--- the order that is asked for, or that of the pieces' indices if none is
+-- the order that is asked for, or that of the indices if none is
 abbrev pub asked : ℕ → List ℕ → List ℕ
 asked count [] = upward 0 count
-asked count (i ∷ order) = i ∷ order
+asked count (first ∷ others) = first ∷ others
 
--- the list of a record with further entries, its pieces in an order
+-- the list of a record with further entries, in an order
 abbrev pub listed : TransportParameters → List Entry → List ℕ → List ℕ
-listed p es order = flat_map (λ i. get_or (pieces p es) i []) (asked (rows + length es) order)
+listed params further order = flat_map (λ index. get_or (encoded_entries params further) index [])
+    (asked (rows + length further) order)

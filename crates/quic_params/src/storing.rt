@@ -1,7 +1,7 @@
 //! Writes a list of parameters at the front of a slice.
-ghost use Rattle.std.specs.Prelude.{◌≡◌, ◌+◌, ◌<◌, ◌≤◌, ◌^◌, ◌++◌, length, take, drop, IfOk, IfErr, OnErr};
+ghost use Rattle.std.specs.Prelude.{◌≡◌, ◌+◌, ◌-◌, ◌<◌, ◌≤◌, ◌^◌, ◌++◌, length, take, drop, IfOk, IfErr, OnErr};
 ghost use Rattle.quic_base.specs.Varint.{shortest_varint};
-ghost use Rattle.quic_params.specs.Writing.{entry, written, written_for};
+ghost use Rattle.quic_params.specs.Writing.{shortest_entry, written, written_for};
 
 use crate::parameter::TransportParameterId;
 use crate::record::TransportParameters;
@@ -25,8 +25,6 @@ struct Room<const N: usize> {
 }
 
 impl<const N: usize> BufMut for Room<N> {
-    ghost use Rattle.std.specs.Prelude.{◌-◌, take};
-
     ghost written = { λ r. take r.len r.bytes };
 
     ghost spare = { λ r. N - r.len };
@@ -168,12 +166,12 @@ fn fill_header(number: u64, len: u64, room: &mut Room<HEADER_ROOM>)
 pub fn write_entry_into(number: u64, value: &[u8], dest: &mut [u8]) -> Result<usize, usize>
     requires number { number < 2 ^ 62 }
     requires len { length value.now < 2 ^ 62 }
-    ensures count { IfOk result (λ n. n ≡ length (entry number value.now)) }
-    ensures front { IfOk result (λ n. dest.new ≡ entry number value.now ++ drop n dest.old) }
-    ensures needed { IfErr result (λ n. n ≡ length (entry number value.now)) }
-    ensures full { OnErr result (length dest.old < length (entry number value.now)) }
+    ensures count { IfOk result (λ n. n ≡ length (shortest_entry number value.now)) }
+    ensures front { IfOk result (λ n. dest.new ≡ shortest_entry number value.now ++ drop n dest.old) }
+    ensures needed { IfErr result (λ n. n ≡ length (shortest_entry number value.now)) }
+    ensures full { OnErr result (length dest.old < length (shortest_entry number value.now)) }
     ensures same { OnErr result (dest.new ≡ dest.old) }
-    ensures few { length (entry number value.now) ≤ 16 + length value.now }
+    ensures few { length (shortest_entry number value.now) ≤ 16 + length value.now }
 {
     let mut room = Room::<HEADER_ROOM>::new();
     fill_header(number, value.len() as u64, &mut room);

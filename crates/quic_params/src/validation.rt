@@ -1,5 +1,5 @@
 //! Which records a side accepts (RFC 9000, sections 7.4 and 18.2).
-ghost use Rattle.std.specs.Prelude.{◌≡◌, ◌↔◌, IsTrue, IfSome, MatchResult};
+ghost use Rattle.std.specs.Prelude.{◌≡◌, ◌↔◌, IsTrue, IfErr, IfSome, MatchResult, None, OnOk};
 ghost use Rattle.quic_params.specs.Meaning.{IsValid};
 ghost use Rattle.quic_params.specs.Range.{IsRecordInRange, IsEncodableAddress, IsEncodableV4, IsEncodableV6};
 
@@ -45,22 +45,29 @@ impl TransportParameters {
         }
         match side {
             Side::Client => Ok(()),
-            Side::Server => {
-                if self.original_dst_cid.is_some() {
-                    return Err(Error::IllegalValue);
-                }
-                if self.preferred_address.is_some() {
-                    return Err(Error::IllegalValue);
-                }
-                if self.retry_src_cid.is_some() {
-                    return Err(Error::IllegalValue);
-                }
-                if self.stateless_reset_token.is_some() {
-                    return Err(Error::IllegalValue);
-                }
-                Ok(())
-            }
+            Side::Server => self.check_sent_by_client(),
         }
+    }
+
+    // Whether a client may send the record: it has none of the values that only servers send.
+    fn check_sent_by_client(&self) -> Result<(), Error>
+        ensures ok { OnOk result ((self.now.original_dst_cid ≡ None) × (self.now.preferred_address ≡ None)
+            × (self.now.retry_src_cid ≡ None) × (self.now.stateless_reset_token ≡ None)) }
+        ensures err { IfErr result (λ e. ¬ (IsValid Side.Server self.now) × (e ≡ Error.IllegalValue)) }
+    {
+        if self.original_dst_cid.is_some() {
+            return Err(Error::IllegalValue);
+        }
+        if self.preferred_address.is_some() {
+            return Err(Error::IllegalValue);
+        }
+        if self.retry_src_cid.is_some() {
+            return Err(Error::IllegalValue);
+        }
+        if self.stateless_reset_token.is_some() {
+            return Err(Error::IllegalValue);
+        }
+        Ok(())
     }
 
     /// Whether this side reads the record back from what is written of it: the side accepts it, and its preferred

@@ -1,11 +1,10 @@
 //! Reading the value of a parameter, which fills the bytes of its entry.
-ghost use Rattle.std.specs.Prelude.{◌≡◌, ◌≢◌, ◌+◌, ◌<◌, ◌≤◌, ◌^◌, ℕ, length, IfOk, IfErr, MatchOption};
+ghost use Rattle.std.specs.Prelude.{◌≡◌, ◌≢◌, ◌++◌, ◌<◌, ◌≤◌, ◌^◌, ℕ, List, length, IfOk, IfErr, IfSome, IsNone, MatchOption, OnOk};
 ghost use Rattle.quic_base.specs.Varint.{Encodes, shortest_varint};
 ghost use Rattle.quic_params.specs.Address.{IsAddress, IsV4, IsV6, AreAddressFields};
 ghost use Rattle.quic_base.specs.Codec.{NoFront};
 ghost use Rattle.quic_base.specs.Number.{IsNumber, IsOctets};
 ghost use Rattle.std.specs.Net.Addr.{ipv4_octets, ipv6_octets};
-ghost use Rattle.std.specs.Prelude.{List, ◌++◌, IsNone, IfSome, OnOk};
 ghost use Rattle.quic_params.specs.Record.{Sets};
 ghost use Rattle.quic_params.specs.State.{PutsParameter};
 ghost use Rattle.quic_params.specs.Table.{row};
@@ -56,7 +55,7 @@ fn integer(bytes: &[u8]) -> Option<VarInt>
 impl TransportParameters {
     // Puts the value that the bytes encode into its field.
     #[tactic(auto, using(crate::proofs::Values::values))]
-    pub(crate) fn put(
+    pub(crate) fn decode_value(
         &mut self,
         id: TransportParameterId,
         kind: Kind,
@@ -79,38 +78,28 @@ impl TransportParameters {
                 };
                 self.set_number(id, n);
             }
-            Kind::Flag => {
-                if !bytes.is_empty() {
-                    return Err(Error::Malformed);
-                }
-                self.set_flag(id);
-            }
+            Kind::Flag if bytes.is_empty() => self.set_flag(id),
             Kind::Token => {
                 let Some(token) = token(bytes) else {
                     return Err(Error::Malformed);
                 };
                 self.set_token(id, token);
             }
-            Kind::Id => {
-                if bytes.len() > MAX_CID_SIZE {
-                    return Err(Error::Malformed);
-                }
-                self.put_cid(id, bytes);
-            }
+            Kind::Id if bytes.len() <= MAX_CID_SIZE => self.decode_cid(id, bytes),
             Kind::Address => match address_of(bytes) {
                 Ok(address) => self.set_address(id, address),
                 Err(e) => return Err(e),
             },
-            Kind::Skipped => return Err(Error::Malformed),
+            Kind::Flag | Kind::Id | Kind::Skipped => return Err(Error::Malformed),
         }
         Ok(())
     }
 
     // Puts the connection id of these bytes into its field.
     #[inline(never)]
-    fn put_cid(&mut self, id: TransportParameterId, bytes: &[u8])
+    fn decode_cid(&mut self, id: TransportParameterId, bytes: &[u8])
         requires kind { (row id).kind ≡ Kind.Id }
-        requires shortest_varint { length bytes.now ≤ MAX_CID_SIZE }
+        requires short { length bytes.now ≤ MAX_CID_SIZE }
         ensures { Sets id (Value.Id bytes.now) self.old self.new }
     {
         self.set_cid(id, ConnectionId::new(bytes));

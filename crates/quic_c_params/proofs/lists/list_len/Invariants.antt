@@ -1,5 +1,5 @@
 use Rattle.quic_params.specs.Further.{asked}
-use Rattle.quic_c_params.proofs.Pieces.{CountedTo}
+use Rattle.quic_c_params.proofs.StoredEntries.{CountedTo}
 use Rattle.quic_c_params.proofs.lists.list_len.Given as goal
 
 abbrev pub invariant-loop-place : goal.invariant-loop-place

@@ -1,5 +1,5 @@
 use Rattle.quic_params.specs.Further.{asked}
-use Rattle.quic_c_params.proofs.Pieces.{StoredTo}
+use Rattle.quic_c_params.proofs.StoredEntries.{StoredTo}
 use Rattle.quic_c_params.proofs.lists.store_list.Given as goal
 
 abbrev pub invariant-loop-place : goal.invariant-loop-place

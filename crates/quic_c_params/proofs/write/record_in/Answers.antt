@@ -1,11 +1,11 @@
 use Rattle.std.proofs.Common.{ap}
 use Rattle.quic_params.specs.declared.parameter.TransportParameterId.TheVariants as ids
 use Rattle.quic_c_params.specs.declared.words.CParams.{CParams}
-use Rattle.quic_c_params.proofs.Said.{same_fields, typed_number, typed_id, typed_address}
+use Rattle.quic_c_params.proofs.DescribedParams.{same_fields, typed_number, typed_id, typed_address}
 use Rattle.quic_c_params.proofs.write.record_in.Goals as goal
 
-pub returns-clause-said : goal.returns-clause-said
-returns-clause-said c = λ side p says range.
+pub returns-clause-described : goal.returns-clause-described
+returns-clause-described c = λ side p says range.
     let w = says.words_are in
     let t = says.typed.values in
     let f = c.flags_in-flags.ensures p (ap (λ (x : CParams). x.present) w) in

@@ -1,4 +1,4 @@
-use Rattle.quic_params.proofs.Answers.{answer_is}
+use Rattle.quic_params.proofs.AnswerAsFunction.{answer_is}
 use Rattle.quic_params.proofs.laws.answer_as_a_function.Goals as goal
 
 pub returns : goal.returns

@@ -1,4 +1,4 @@
-use Rattle.quic_params.proofs.Again.{answers_again, answers_in_order}
+use Rattle.quic_params.proofs.ReadBack.{answers_again, answers_in_order}
 use Rattle.quic_params.proofs.laws.read_back.Goals as goal
 
 pub returns-clause-own : goal.returns-clause-own

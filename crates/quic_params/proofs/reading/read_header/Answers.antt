@@ -1,5 +1,5 @@
 use Rattle.std.proofs.Common.{arith, refl}
-use Rattle.quic_params.proofs.Entries.{cut_id, cut_length, cut_value, heads}
+use Rattle.quic_params.proofs.Entries.{cut_id, cut_length, cut_value, entry_headers}
 use Rattle.quic_params.proofs.Ends.{end_taken, end_dropped, end_whole}
 use Rattle.quic_params.proofs.reading.read_header.Goals as goal
 
@@ -13,7 +13,7 @@ pub returns-then-remaining-len-clause-cut : goal.returns-then-remaining-len-clau
 returns-then-remaining-len-clause-cut g c = (cut_value _ _ _ _ _ c.in-Ok.ensures.ok c.in-Ok-get_var.ensures.ok (omega arith), refl)
 
 pub returns-clause-ok : goal.returns-clause-ok
-returns-clause-ok g c = grind (arith, heads)
+returns-clause-ok g c = grind (arith, entry_headers)
 
 pub returns-in_default-clause-left : goal.returns-in_default-clause-left
 returns-in_default-clause-left g c = end_dropped 1 _ _ c.in_default.ensures.left

@@ -1,5 +1,5 @@
--- Pieces of a list, written one after the other.
-use Rattle.std.proofs.Common.{◌≡◌, ℕ, zero, suc, ◌+◌, ◌-◌, ◌*◌, ◌<◌, ◌≤◌, ◌^◌, List, [], ◌∷◌, ◌++◌, length, take, drop, get_or, refl, sym, ◌∙◌, ap, subst, arith, length-append, append_assoc}
+-- The entries of a list, stored one after the other.
+use Rattle.std.proofs.Common.{◌≡◌, ℕ, zero, suc, ◌+◌, ◌-◌, ◌*◌, ◌<◌, ◌≤◌, ◌^◌, List, [], ◌∷◌, ◌++◌, length, take, drop, get_or, sym, ◌∙◌, ap, subst, arith, length-append, append_assoc}
 use Rattle.std.specs.Prelude.{Result, Ok, Err}
 use Rattle.std.specs.List.{flat_map}
 use borrow.Rule.Slice.PartMut.{put_mid}
@@ -9,20 +9,20 @@ use Rattle.quic_params.specs.declared.record.TransportParameters.{TransportParam
 use Rattle.quic_params.specs.Entry.{Entry}
 use Rattle.quic_params.specs.Further.{AreInOrder, AreOthers, IsOther, IsOrderOf, asked, listed}
 use Rattle.quic_params.specs.Table.{rows}
-use Rattle.quic_params.specs.Writing.{entry}
-use Rattle.quic_params.proofs.Further.{in_order_once, other_at, piece_at, piece_of_other}
-use Rattle.quic_c_params.specs.Lists.{any_entry, Lies}
+use Rattle.quic_params.specs.Writing.{shortest_entry}
+use Rattle.quic_params.proofs.Further.{in_order_once, other_at, encoded_at, encoded_further}
+use Rattle.quic_c_params.specs.Lists.{any_entry, StoresBytes}
 
-pub lies_as : (result : Result ℕ ℕ) (bytes same old new : List ℕ) → same ≡ bytes → Lies result bytes old new → Lies result same old new
-lies_as result bytes same old new e l = subst (λ (b : List ℕ). Lies result b old new) (sym e) l
+pub stores_as : (result : Result ℕ ℕ) (bytes same old new : List ℕ) → same ≡ bytes → StoresBytes result bytes old new → StoresBytes result same old new
+stores_as result bytes same old new e l = subst (λ (b : List ℕ). StoresBytes result b old new) (sym e) l
 
--- the piece at an index that is no row's
-pub other_piece : (p : TransportParameters) (es : List Entry) (index number : ℕ) (value : List ℕ) → rows ≤ index → index < rows + length es
-    → number ≡ (get_or es (index - rows) any_entry).number → value ≡ (get_or es (index - rows) any_entry).bytes → piece_at p es index ≡ entry number value
-other_piece p es index number value le lt n v =
+-- the entry at an index that is no row's
+pub further_encoded : (p : TransportParameters) (es : List Entry) (index number : ℕ) (value : List ℕ) → rows ≤ index → index < rows + length es
+    → number ≡ (get_or es (index - rows) any_entry).number → value ≡ (get_or es (index - rows) any_entry).bytes → encoded_at p es index ≡ shortest_entry number value
+further_encoded p es index number value le lt n v =
     let at : rows + (index - rows) ≡ index = omega (arith, le) in
-    ap (piece_at p es) (sym at) ∙ piece_of_other p es (index - rows) any_entry (omega (arith, le, lt))
-    ∙ ap (λ (m : ℕ). entry m (get_or es (index - rows) any_entry).bytes) (sym n) ∙ ap (entry number) (sym v)
+    ap (encoded_at p es) (sym at) ∙ encoded_further p es (index - rows) any_entry (omega (arith, le, lt))
+    ∙ ap (λ (m : ℕ). shortest_entry m (get_or es (index - rows) any_entry).bytes) (sym n) ∙ ap (shortest_entry number) (sym v)
 
 -- it can be written, and is no longer than the list that it is in
 pub other_there : (es : List Entry) (index : ℕ) → AreOthers es → rows ≤ index → index < rows + length es → IsOther (get_or es (index - rows) any_entry)
@@ -47,19 +47,19 @@ pub value_short : (es : List Entry) (b value : List ℕ) (index : ℕ) → AreIn
     → value ≡ (get_or es (index - rows) any_entry).bytes → length value ≤ length b
 value_short es b value index h le lt v = omega (arith, ap length v, value_within es b (index - rows) h (omega (arith, le, lt)))
 
--- ---- pieces in an order
+-- ---- entries in an order
 
 -- the first of them
 abbrev pub first_of : TransportParameters → List Entry → List ℕ → ℕ → List ℕ
-first_of p es order k = flat_map (piece_at p es) (take k order)
+first_of p es order k = flat_map (encoded_at p es) (take k order)
 
-pub first_more : (p : TransportParameters) (es : List Entry) (order : List ℕ) (k : ℕ) → k < length order → first_of p es order (k + 1) ≡ first_of p es order k ++ piece_at p es (get_or order k 0)
+pub first_more : (p : TransportParameters) (es : List Entry) (order : List ℕ) (k : ℕ) → k < length order → first_of p es order (k + 1) ≡ first_of p es order k ++ encoded_at p es (get_or order k 0)
 first_more p es order k lt =
-    ap (flat_map (piece_at p es)) (take_more order k 0 lt) ∙ flat_map-append (piece_at p es) (take k order) (get_or order k 0 ∷ [])
-    ∙ ap (λ l. first_of p es order k ++ l) (append-nil (piece_at p es (get_or order k 0)))
+    ap (flat_map (encoded_at p es)) (take_more order k 0 lt) ∙ flat_map-append (encoded_at p es) (take k order) (get_or order k 0 ∷ [])
+    ∙ ap (λ l. first_of p es order k ++ l) (append-nil (encoded_at p es (get_or order k 0)))
 
-pub first_all : (p : TransportParameters) (es : List Entry) (order : List ℕ) (k : ℕ) → length order ≤ k → first_of p es order k ≡ flat_map (piece_at p es) order
-first_all p es order k le = ap (flat_map (piece_at p es)) (take_all k order le)
+pub first_all : (p : TransportParameters) (es : List Entry) (order : List ℕ) (k : ℕ) → length order ≤ k → first_of p es order k ≡ flat_map (encoded_at p es) order
+first_all p es order k le = ap (flat_map (encoded_at p es)) (take_all k order le)
 
 -- so many of them are counted
 pub record CountedTo (p : TransportParameters) (further order : List ℕ) (k len : ℕ) : Type 0 where
@@ -70,7 +70,7 @@ pub counted_to_all : (p : TransportParameters) (further order : List ℕ) (count
     → IsOrderOf count (asked count order) → (es : List Entry) → AreInOrder es further → len ≡ length (listed p es order)
 counted_to_all p further order count k len le c any has same o es h =
     let e : rows + length es ≡ count = omega (arith, ap length (in_order_once any es further has h), same) in
-    c.value es h ∙ ap length (first_all p es (asked count order) k (omega (arith, o.width, le))) ∙ ap (λ (n : ℕ). length (flat_map (piece_at p es) (asked n order))) (sym e)
+    c.value es h ∙ ap length (first_all p es (asked count order) k (omega (arith, o.width, le))) ∙ ap (λ (n : ℕ). length (flat_map (encoded_at p es) (asked n order))) (sym e)
 
 -- so many of them are written
 pub record StoredTo (p : TransportParameters) (further order old : List ℕ) (k at : ℕ) (new : List ℕ) : Type 0 where
@@ -79,34 +79,34 @@ pub record StoredTo (p : TransportParameters) (further order old : List ℕ) (k 
   pub back : drop at new ≡ drop at old
   pub long : length new ≡ length old
 
--- a piece that is written at the end of those that are, over the rest of the slice
+-- an entry that is written at the end of those that are, over the rest of the slice
 pub stored_to_more : (p : TransportParameters) (further order old new ys : List ℕ) (k index at n : ℕ) (result : Result ℕ ℕ) → k < length order → index ≡ get_or order k 0 → result ≡ Ok n
-    → ((es : List Entry) → AreInOrder es further → Lies result (piece_at p es index) (drop at new) ys) → (any : List Entry) → AreInOrder any further → at ≤ length new
+    → ((es : List Entry) → AreInOrder es further → StoresBytes result (encoded_at p es index) (drop at new) ys) → (any : List Entry) → AreInOrder any further → at ≤ length new
     → length ys ≡ length (drop at new) → StoredTo p further order old k at new → StoredTo p further order old (k + 1) (at + n) (take at new ++ ys)
-stored_to_more p further order old new ys k index at n result lt is ok lies any has le same_room l =
-    let lie : (es : List Entry) → AreInOrder es further → Lies (Ok n) (piece_at p es index) (drop at new) ys = λ es h. subst (λ (r : Result ℕ ℕ). Lies r (piece_at p es index) (drop at new) ys) ok (lies es h) in
+stored_to_more p further order old new ys k index at n result lt is ok stores any has le same_room l =
+    let stored : (es : List Entry) → AreInOrder es further → StoresBytes (Ok n) (encoded_at p es index) (drop at new) ys = λ es h. subst (λ (r : Result ℕ ℕ). StoresBytes r (encoded_at p es index) (drop at new) ys) ok (stores es h) in
     let long : length (take at new) ≡ at = omega (arith, length-take at new, le) in
-    let piece : List ℕ = piece_at p any index in
-    let mine = lie any has in
-    let many : n ≡ length piece = mine.count in
-    let ys_are : ys ≡ piece ++ drop n (drop at new) = mine.front in
-    let whole : take at new ++ ys ≡ (take at new ++ piece) ++ drop n (drop at new) = ap (λ r. take at new ++ r) ys_are ∙ sym (append_assoc (take at new) piece (drop n (drop at new))) in
-    let end : length (take at new ++ piece) ≡ at + n = length-append (take at new) piece ∙ omega (arith, long, many) in
+    let own : List ℕ = encoded_at p any index in
+    let mine = stored any has in
+    let many : n ≡ length own = mine.count in
+    let ys_are : ys ≡ own ++ drop n (drop at new) = mine.front in
+    let whole : take at new ++ ys ≡ (take at new ++ own) ++ drop n (drop at new) = ap (λ r. take at new ++ r) ys_are ∙ sym (append_assoc (take at new) own (drop n (drop at new))) in
+    let end : length (take at new ++ own) ≡ at + n = length-append (take at new) own ∙ omega (arith, long, many) in
     record {
-      count = λ es h. omega (arith, l.count es h, (lie es h).count, ap (λ (i : ℕ). length (piece_at p es i)) is, ap length (first_more p es order k lt), length-append (first_of p es order k) (piece_at p es (get_or order k 0)));
+      count = λ es h. omega (arith, l.count es h, (stored es h).count, ap (λ (i : ℕ). length (encoded_at p es i)) is, ap length (first_more p es order k lt), length-append (first_of p es order k) (encoded_at p es (get_or order k 0)));
       front = λ es h.
-          let same : piece ≡ piece_at p es index = ap (λ (x : List Entry). piece_at p x index) (in_order_once any es further has h) in
-          ap (take (at + n)) whole ∙ take_at (take at new ++ piece) (drop n (drop at new)) (at + n) end
-          ∙ ap (λ r. r ++ piece) (l.front es h) ∙ ap (λ r. first_of p es order k ++ r) (same ∙ ap (piece_at p es) is) ∙ sym (first_more p es order k lt);
+          let same : own ≡ encoded_at p es index = ap (λ (x : List Entry). encoded_at p x index) (in_order_once any es further has h) in
+          ap (take (at + n)) whole ∙ take_at (take at new ++ own) (drop n (drop at new)) (at + n) end
+          ∙ ap (λ r. r ++ own) (l.front es h) ∙ ap (λ r. first_of p es order k ++ r) (same ∙ ap (encoded_at p es) is) ∙ sym (first_more p es order k lt);
       back =
-          ap (drop (at + n)) whole ∙ drop_at (take at new ++ piece) (drop n (drop at new)) (at + n) end ∙ ap (drop n) l.back ∙ drop-drop n at old;
+          ap (drop (at + n)) whole ∙ drop_at (take at new ++ own) (drop n (drop at new)) (at + n) end ∙ ap (drop n) l.back ∙ drop-drop n at old;
       long = omega (arith, length-append (take at new) ys, long, same_room, length-drop at new, le, l.long);
     }
 
-first_within : (p : TransportParameters) (es : List Entry) (order : List ℕ) (k : ℕ) → length (first_of p es order k) ≤ length (flat_map (piece_at p es) order)
+first_within : (p : TransportParameters) (es : List Entry) (order : List ℕ) (k : ℕ) → length (first_of p es order k) ≤ length (flat_map (encoded_at p es) order)
 first_within p es order k =
-    let whole = ap (flat_map (piece_at p es)) (sym (take-append-drop k order)) ∙ flat_map-append (piece_at p es) (take k order) (drop k order) in
-    omega (arith, ap length whole, length-append (first_of p es order k) (flat_map (piece_at p es) (drop k order)))
+    let whole = ap (flat_map (encoded_at p es)) (sym (take-append-drop k order)) ∙ flat_map-append (encoded_at p es) (take k order) (drop k order) in
+    omega (arith, ap length whole, length-append (first_of p es order k) (flat_map (encoded_at p es) (drop k order)))
 
 asked_same : (further : List ℕ) (count : ℕ) (any es : List Entry) → AreInOrder any further → count ≡ rows + length any → AreInOrder es further → rows + length es ≡ count
 asked_same further count any es has same h = omega (arith, ap length (in_order_once any es further has h), same)
@@ -116,27 +116,27 @@ pub stored_within : (p : TransportParameters) (further order old new : List ℕ)
     → ((es : List Entry) → AreInOrder es further → length (listed p es order) ≤ length old) → StoredTo p further (asked count order) old k at new → at ≤ length new
 stored_within p further order old new count k at any has same room l =
     let e = asked_same further count any any has same has in
-    omega (arith, l.count any has, first_within p any (asked count order) k, ap (λ (n : ℕ). length (flat_map (piece_at p any) (asked n order))) e, room any has, l.long)
+    omega (arith, l.count any has, first_within p any (asked count order) k, ap (λ (n : ℕ). length (flat_map (encoded_at p any) (asked n order))) e, room any has, l.long)
 
--- and so has the next piece
+-- and so has the next entry
 pub next_within : (p : TransportParameters) (further order old new ys : List ℕ) (count k index at n : ℕ) (result : Result ℕ ℕ) (any : List Entry) → AreInOrder any further → count ≡ rows + length any
     → ((es : List Entry) → AreInOrder es further → length (listed p es order) ≤ length old) → StoredTo p further (asked count order) old k at new
     → k < length (asked count order) → index ≡ get_or (asked count order) k 0 → result ≡ Err n
-    → ((es : List Entry) → AreInOrder es further → Lies result (piece_at p es index) (drop at new) ys) → ⊥
-next_within p further order old new ys count k index at n result any has same room l lt is err lies =
+    → ((es : List Entry) → AreInOrder es further → StoresBytes result (encoded_at p es index) (drop at new) ys) → ⊥
+next_within p further order old new ys count k index at n result any has same room l lt is err stores =
     let e = asked_same further count any any has same has in
-    let lie : Lies (Err n) (piece_at p any index) (drop at new) ys = subst (λ (r : Result ℕ ℕ). Lies r (piece_at p any index) (drop at new) ys) err (lies any has) in
+    let stored : StoresBytes (Err n) (encoded_at p any index) (drop at new) ys = subst (λ (r : Result ℕ ℕ). StoresBytes r (encoded_at p any index) (drop at new) ys) err (stores any has) in
     omega (
       arith,
-      lie.full,
+      stored.full,
       length-drop at new,
       l.count any has,
       l.long,
       ap length (first_more p any (asked count order) k lt),
-      length-append (first_of p any (asked count order) k) (piece_at p any (get_or (asked count order) k 0)),
-      ap (λ (i : ℕ). length (piece_at p any i)) is,
+      length-append (first_of p any (asked count order) k) (encoded_at p any (get_or (asked count order) k 0)),
+      ap (λ (i : ℕ). length (encoded_at p any i)) is,
       first_within p any (asked count order) (k + 1),
-      ap (λ (m : ℕ). length (flat_map (piece_at p any) (asked m order))) e,
+      ap (λ (m : ℕ). length (flat_map (encoded_at p any) (asked m order))) e,
       room any has,
     )
 
@@ -145,7 +145,7 @@ pub stored_to_all : (p : TransportParameters) (further order old new : List ℕ)
 stored_to_all p further order old new count k at le l any has same o es h =
     let e = asked_same further count any es has same h in
     let whole : first_of p es (asked count order) k ≡ listed p es order =
-    first_all p es (asked count order) k (omega (arith, o.width, le)) ∙ ap (λ (n : ℕ). flat_map (piece_at p es) (asked n order)) (sym e) in
+    first_all p es (asked count order) k (omega (arith, o.width, le)) ∙ ap (λ (n : ℕ). flat_map (encoded_at p es) (asked n order)) (sym e) in
     sym (take-append-drop at new) ∙ ap (λ r. r ++ drop at new) (l.front es h ∙ whole)
     ∙ ap (λ r. listed p es order ++ r) (l.back ∙ ap (λ (n : ℕ). drop n old) (l.count es h ∙ ap length whole))
 

@@ -1,6 +1,6 @@
 use Rattle.std.proofs.Common.{refl}
 use Rattle.quic_params.proofs.Written.{refused_first, then_last}
-use Rattle.quic_params.proofs.writing.write_id_and_token.Goals as goal
+use Rattle.quic_params.proofs.value_encode.write_id_and_token.Goals as goal
 
 pub returns-in_err-write_long_id : goal.returns-in_err-write_long_id
 returns-in_err-write_long_id g c = refused_first _ c.write_long_id.result _ _ _ _ _ _ _ _ _ refl c.write_long_id.ensures c.in_err-write_long_id.was c.from_residual.ensures.1

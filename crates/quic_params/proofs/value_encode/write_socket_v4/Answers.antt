@@ -1,6 +1,6 @@
 use Rattle.std.proofs.Common.{refl}
 use Rattle.quic_params.proofs.Written.{refused_first, then_last}
-use Rattle.quic_params.proofs.writing.write_socket_v4.Goals as goal
+use Rattle.quic_params.proofs.value_encode.write_socket_v4.Goals as goal
 
 pub returns-in_err-write_ip_v4 : goal.returns-in_err-write_ip_v4
 returns-in_err-write_ip_v4 g c = refused_first _ c.write_ip_v4.result _ _ _ _ _ _ _ _ _ refl c.write_ip_v4.ensures c.in_err-write_ip_v4.was c.from_residual.ensures.1

@@ -1,6 +1,6 @@
 use Rattle.std.proofs.Common.{refl}
 use Rattle.quic_params.proofs.Written.{refused_first, then_last}
-use Rattle.quic_params.proofs.writing.write_socket_v6.Goals as goal
+use Rattle.quic_params.proofs.value_encode.write_socket_v6.Goals as goal
 
 pub returns-in_err-write_ip_v6 : goal.returns-in_err-write_ip_v6
 returns-in_err-write_ip_v6 g c = refused_first _ c.write_ip_v6.result _ _ _ _ _ _ _ _ _ refl c.write_ip_v6.ensures c.in_err-write_ip_v6.was c.from_residual.ensures.1

@@ -9,3 +9,7 @@ pub record Writes {E : Type 0} (result : Result (Unit {0}) E) (bytes written : L
   pub err : OnErr result (IsBegun written bytes written')
   pub full : OnErr result (spare < length bytes)
   pub room : KeepsRoom written spare written' spare'
+
+-- The bytes are appended to a buffer; or there is less room than that, and at most a prefix of them is appended.
+abbrev pub WritesTo : {W E : Type 0} → (W → List ℕ) → (W → ℕ) → List ℕ → W → W → Result (Unit {0}) E → Type 0
+WritesTo contents room bytes old new result = Writes result bytes (contents old) (room old) (contents new) (room new)

@@ -5,7 +5,8 @@ ghost use Rattle.std.specs.Net.Socket.{v4_ip, v4_port, v6_ip, v6_port};
 ghost use Rattle.quic_base.specs.ConnectionId.{long_id};
 ghost use Rattle.quic_base.specs.Number.{bytes_of};
 ghost use Rattle.quic_base.specs.Varint.{shortest_varint};
-ghost use Rattle.quic_params.specs.Writing.{WritesTo, encoding, v4_bytes, v6_bytes};
+ghost use Rattle.quic_base.specs.Writing.{WritesTo};
+ghost use Rattle.quic_params.specs.Writing.{encoding, v4_bytes, v6_bytes};
 
 use crate::value::{PreferredAddress, Value};
 use bytes::BufMut;

@@ -6,7 +6,7 @@ ghost use Rattle.quic_frame_fields.specs.Acks.{ranges_acked};
 ghost use Rattle.quic_frame_fields.specs.Parts.{ack_meaning};
 ghost use Rattle.quic_frame_fields.specs.Sets.{AreCounts, IsAckInRange, ranges_in, ack_of, ack_type, count_numbers, header_numbers};
 ghost use Rattle.quic_frame_fields.specs.Shortest.{shortest_frame, shortest_below};
-ghost use Rattle.quic_base.specs.Writing.{Writes};
+ghost use Rattle.quic_base.specs.Writing.{WritesTo};
 ghost use Rattle.quic_frame_fields.specs.Putting.{Flushes};
 ghost use Rattle.quic_frame_fields.specs.Numbers.{shortest_varints};
 
@@ -36,8 +36,8 @@ impl Ack<'_> {
         requires delay { delay < 2 ^ 62 }
         requires counts { AreCounts (option_copied ecn) }
         ensures { (last : Bool)
-            → Writes result (shortest_frame last (ack_of delay ranges.now (option_copied ecn.entry)))
-            (B.written out.old) (B.spare out.old) (B.written out.new) (B.spare out.new) }
+            → WritesTo B.written B.spare (shortest_frame last (ack_of delay ranges.now (option_copied ecn.entry)))
+            out.old out.new result }
     {
         encode_runs(delay, ranges.iter(), ranges.len(), ecn.copied(), out)
     }
@@ -54,8 +54,8 @@ impl Ack<'_> {
         requires members { (n : ℕ) → member set.now n ≡ true → n < 2 ^ 62 }
         requires delay { delay < 2 ^ 62 }
         requires counts { AreCounts (option_copied ecn) }
-        ensures { (last : Bool) → Writes result (shortest_frame last (ack_of delay set.now (option_copied ecn.entry)))
-            (B.written out.old) (B.spare out.old) (B.written out.new) (B.spare out.new) }
+        ensures { (last : Bool) → WritesTo B.written B.spare
+            (shortest_frame last (ack_of delay set.now (option_copied ecn.entry))) out.old out.new result }
     {
         encode_runs(delay, set.iter(), set.len(), ecn.copied(), out)
     }
@@ -75,8 +75,8 @@ fn encode_runs<B: BufMut>(
     requires members { (n : ℕ) → member runs n ≡ true → n < 2 ^ 62 }
     requires delay { delay < 2 ^ 62 }
     requires counts { AreCounts ecn }
-    ensures { (last : Bool) → Writes result (shortest_frame last (ack_of delay runs.entry ecn))
-        (B.written out.old) (B.spare out.old) (B.written out.new) (B.spare out.new) }
+    ensures { (last : Bool) → WritesTo B.written B.spare (shortest_frame last (ack_of delay runs.entry ecn))
+        out.old out.new result }
 {
     let mut runs = runs;
     let Some(first) = runs.next_back() else {
@@ -139,8 +139,8 @@ fn encode_below<B: BufMut>(
     requires held { at ≤ CHUNK }
     requires runs { IsMaximalRuns (runs ++ above ∷ []) }
     requires bound { above.start < 2 ^ 62 }
-    ensures { Writes result (take at chunk.old ++ shortest_below above.start (ranges_in runs.entry))
-        (B.written out.old) (B.spare out.old) (B.written out.new) (B.spare out.new) }
+    ensures { WritesTo B.written B.spare (take at chunk.old ++ shortest_below above.start (ranges_in runs.entry))
+        out.old out.new result }
 {
     let mut at = at;
     let mut above = above;
@@ -158,8 +158,7 @@ fn encode_below<B: BufMut>(
 #[inline(always)]
 fn encode_counts<B: BufMut>(ecn: Option<EcnCounts>, out: &mut B) -> Result<(), NoRoom>
     requires { AreCounts ecn }
-    ensures { Writes result (shortest_varints (count_numbers ecn))
-        (B.written out.old) (B.spare out.old) (B.written out.new) (B.spare out.new) }
+    ensures { WritesTo B.written B.spare (shortest_varints (count_numbers ecn)) out.old out.new result }
 {
     match ecn {
         None => Ok(()),
@@ -193,8 +192,8 @@ pub(super) fn header_of(ack: &Ack<'_>, numbers: u64) -> [u64; 4]
 /// appends that of a set. It allocates no memory.
 pub fn encode_ack<B: BufMut>(ack: &Ack<'_>, out: &mut B) -> Result<(), NoRoom>
     requires { IsAckInRange ack.now }
-    ensures { (last : Bool) → Writes result (shortest_frame last (ack_meaning ack.now))
-        (B.written out.old) (B.spare out.old) (B.written out.new) (B.spare out.new) }
+    ensures { (last : Bool) → WritesTo B.written B.spare (shortest_frame last (ack_meaning ack.now))
+        out.old out.new result }
 {
     let (numbers, blocks) = write::count_and_len(ack.additional());
     write::numbers(out, &header_of(ack, numbers))?;

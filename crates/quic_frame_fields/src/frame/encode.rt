@@ -5,7 +5,7 @@ ghost use Rattle.quic_frame_fields.specs.Parts.{application_close, connection_cl
 ghost use Rattle.quic_frame_fields.specs.Shortest.{shortest_frame, least_room, close_reason, close_in};
 ghost use Rattle.quic_frame_fields.specs.declared.frame.close.Close.TheVariants as closes;
 ghost use Rattle.quic_errors.specs.Types.{type_or_zero};
-ghost use Rattle.quic_base.specs.Writing.{Writes};
+ghost use Rattle.quic_base.specs.Writing.{Writes, WritesTo};
 ghost use Rattle.quic_frame_fields.specs.Numbers.{AreNumeric, shortest_varints};
 
 use super::{
@@ -21,8 +21,8 @@ impl ResetStream {
     /// contents, and may have a prefix of the frame after them.
     #[tactic(auto, unfolding(crate::specs::Shortest::shortest_frame))]
     pub fn encode<B: BufMut>(&self, out: &mut B) -> Result<(), NoRoom>
-        ensures { (last : Bool) → Writes result (shortest_frame last (reset_meaning self.now))
-            (B.written out.old) (B.spare out.old) (B.written out.new) (B.spare out.new) }
+        ensures { (last : Bool) → WritesTo B.written B.spare (shortest_frame last (reset_meaning self.now))
+            out.old out.new result }
     {
         write::numbers(out, &self.numbers())
     }
@@ -41,8 +41,8 @@ impl StopSending {
     /// Appends the frame, as `ResetStream::encode` does.
     #[tactic(auto, unfolding(crate::specs::Shortest::shortest_frame))]
     pub fn encode<B: BufMut>(&self, out: &mut B) -> Result<(), NoRoom>
-        ensures { (last : Bool) → Writes result (shortest_frame last (stop_meaning self.now))
-            (B.written out.old) (B.spare out.old) (B.written out.new) (B.spare out.new) }
+        ensures { (last : Bool) → WritesTo B.written B.spare (shortest_frame last (stop_meaning self.now))
+            out.old out.new result }
     {
         write::numbers(out, &self.numbers())
     }
@@ -60,8 +60,8 @@ impl AckFrequency {
     /// Appends the frame, as `ResetStream::encode` does.
     #[tactic(auto, unfolding(crate::specs::Shortest::shortest_frame))]
     pub fn encode<B: BufMut>(&self, out: &mut B) -> Result<(), NoRoom>
-        ensures { (last : Bool) → Writes result (shortest_frame last (frequency_meaning self.now))
-            (B.written out.old) (B.spare out.old) (B.written out.new) (B.spare out.new) }
+        ensures { (last : Bool) → WritesTo B.written B.spare (shortest_frame last (frequency_meaning self.now))
+            out.old out.new result }
     {
         write::numbers(out, &self.numbers())
     }
@@ -88,8 +88,8 @@ impl Crypto<'_> {
     pub fn encode<B: BufMut>(&self, out: &mut B) -> Result<(), NoRoom>
         requires offset { self.now.offset < 2 ^ 62 }
         requires length { length self.now.bytes.now < 2 ^ 62 }
-        ensures { (last : Bool) → Writes result (shortest_frame last (crypto_meaning self.now))
-            (B.written out.old) (B.spare out.old) (B.written out.new) (B.spare out.new) }
+        ensures { (last : Bool) → WritesTo B.written B.spare (shortest_frame last (crypto_meaning self.now))
+            out.old out.new result }
     {
         let length = self.bytes.len() as u64;
         write::numbers_and_bytes(out, &[0x06, self.offset, length], self.bytes)
@@ -101,8 +101,8 @@ impl NewToken<'_> {
     #[tactic(auto, using(crate::proofs::Encoding::token_parts))]
     pub fn encode<B: BufMut>(&self, out: &mut B) -> Result<(), NoRoom>
         requires { length self.now.token.now < 2 ^ 62 }
-        ensures { (last : Bool) → Writes result (shortest_frame last (token_meaning self.now))
-            (B.written out.old) (B.spare out.old) (B.written out.new) (B.spare out.new) }
+        ensures { (last : Bool) → WritesTo B.written B.spare (shortest_frame last (token_meaning self.now))
+            out.old out.new result }
     {
         let length = self.token.len() as u64;
         write::numbers_and_bytes(out, &[0x07, length], self.token)
@@ -125,8 +125,8 @@ impl EcnCounts {
         requires ect0 { self.now.ect0 < 2 ^ 62 }
         requires ect1 { self.now.ect1 < 2 ^ 62 }
         requires ce { self.now.ce < 2 ^ 62 }
-        ensures { Writes result (shortest_varints (self.now.ect0 ∷ self.now.ect1 ∷ self.now.ce ∷ []))
-            (B.written out.old) (B.spare out.old) (B.written out.new) (B.spare out.new) }
+        ensures { WritesTo B.written B.spare (shortest_varints (self.now.ect0 ∷ self.now.ect1 ∷ self.now.ce ∷ []))
+            out.old out.new result }
     {
         write::numbers(out, &[self.ect0, self.ect1, self.ce])
     }
@@ -138,8 +138,8 @@ impl NewConnectionId {
     pub fn encode<B: BufMut>(&self, out: &mut B) -> Result<(), NoRoom>
         requires sequence { self.now.sequence < 2 ^ 62 }
         requires retire { self.now.retire_prior_to < 2 ^ 62 }
-        ensures { (last : Bool) → Writes result (shortest_frame last (new_id_meaning self.now))
-            (B.written out.old) (B.spare out.old) (B.written out.new) (B.spare out.new) }
+        ensures { (last : Bool) → WritesTo B.written B.spare (shortest_frame last (new_id_meaning self.now))
+            out.old out.new result }
     {
         write::numbers(out, &[0x18, self.sequence, self.retire_prior_to])?;
         write::id_and_bytes(out, &self.id, self.reset_token.as_slice())
@@ -194,8 +194,8 @@ impl ConnectionClose<'_> {
         requires reason { length self.now.reason.now < 2 ^ 62 }
         requires room { least_room (closes.Connection self.now) ≤ max_len }
         ensures writes { (last : Bool)
-            → Writes result (shortest_frame last (close_in max_len (closes.Connection self.now)))
-            (B.written out.old) (B.spare out.old) (B.written out.new) (B.spare out.new) }
+            → WritesTo B.written B.spare (shortest_frame last (close_in max_len (closes.Connection self.now)))
+            out.old out.new result }
         ensures fits { (last : Bool)
             → length (shortest_frame last (close_in max_len (closes.Connection self.now))) ≤ max_len }
     {
@@ -207,8 +207,9 @@ impl ConnectionClose<'_> {
     pub fn encode_with<B: BufMut>(&self, out: &mut B, reason: &[u8]) -> Result<(), NoRoom>
         requires { length reason.now < 2 ^ 62 }
         ensures { (last : Bool)
-            → Writes result (shortest_frame last (connection_close self.now.error_code self.now.frame_type reason.now))
-            (B.written out.old) (B.spare out.old) (B.written out.new) (B.spare out.new) }
+            → WritesTo B.written B.spare
+            (shortest_frame last (connection_close self.now.error_code self.now.frame_type reason.now))
+            out.old out.new result }
     {
         write::numbers_and_bytes(out, &self.numbers(reason), reason)
     }
@@ -240,8 +241,8 @@ impl ApplicationClose<'_> {
         requires reason { length self.now.reason.now < 2 ^ 62 }
         requires room { least_room (closes.Application self.now) ≤ max_len }
         ensures writes { (last : Bool)
-            → Writes result (shortest_frame last (close_in max_len (closes.Application self.now)))
-            (B.written out.old) (B.spare out.old) (B.written out.new) (B.spare out.new) }
+            → WritesTo B.written B.spare (shortest_frame last (close_in max_len (closes.Application self.now)))
+            out.old out.new result }
         ensures fits { (last : Bool)
             → length (shortest_frame last (close_in max_len (closes.Application self.now))) ≤ max_len }
     {
@@ -252,8 +253,8 @@ impl ApplicationClose<'_> {
     #[tactic(auto, using(crate::proofs::Encoding::application_close_parts))]
     pub fn encode_with<B: BufMut>(&self, out: &mut B, reason: &[u8]) -> Result<(), NoRoom>
         requires { length reason.now < 2 ^ 62 }
-        ensures { (last : Bool) → Writes result (shortest_frame last (application_close self.now.error_code reason.now))
-            (B.written out.old) (B.spare out.old) (B.written out.new) (B.spare out.new) }
+        ensures { (last : Bool) → WritesTo B.written B.spare
+            (shortest_frame last (application_close self.now.error_code reason.now)) out.old out.new result }
     {
         write::numbers_and_bytes(out, &self.numbers(reason), reason)
     }
@@ -285,8 +286,8 @@ impl Close<'_> {
     pub fn encode<B: BufMut>(&self, out: &mut B, max_len: usize) -> Result<(), NoRoom>
         requires reason { length (close_reason self.now) < 2 ^ 62 }
         requires room { least_room self.now ≤ max_len }
-        ensures writes { (last : Bool) → Writes result (shortest_frame last (close_in max_len self.now))
-            (B.written out.old) (B.spare out.old) (B.written out.new) (B.spare out.new) }
+        ensures writes { (last : Bool) → WritesTo B.written B.spare (shortest_frame last (close_in max_len self.now))
+            out.old out.new result }
         ensures fits { (last : Bool) → length (shortest_frame last (close_in max_len self.now)) ≤ max_len }
     {
         match self {

@@ -1,7 +1,7 @@
 //! STREAM frames whose data the caller appends (RFC 9000, section 19.8).
 ghost use Rattle.std.specs.Prelude.{◌≡◌, ◌≤◌, ◌<◌, ◌-◌, ◌^◌, ◌++◌, ℕ, List, length, Some, None, IfSome, true, false, if◌then◌else◌};
 ghost use Rattle.quic_frame_fields.specs.Shortest.{shortest_frame, stream_header};
-ghost use Rattle.quic_base.specs.Writing.{Writes};
+ghost use Rattle.quic_base.specs.Writing.{WritesTo};
 
 use super::{FrameType, Stream, write};
 use bytes::BufMut;
@@ -46,10 +46,8 @@ impl StreamMeta {
         requires ordered { self.now.offsets.start ≤ self.now.offsets.end }
         requires start { self.now.offsets.start < 2 ^ 62 }
         requires counted { with_length ≡ true → self.now.offsets.end - self.now.offsets.start < 2 ^ 62 }
-        ensures { Writes result
-            (stream_header self.now.id self.now.offsets.start self.now.fin
-            (if with_length then Some (self.now.offsets.end - self.now.offsets.start) else None))
-            (B.written out.old) (B.spare out.old) (B.written out.new) (B.spare out.new) }
+        ensures { WritesTo B.written B.spare (stream_header self.now.id self.now.offsets.start self.now.fin
+            (if with_length then Some (self.now.offsets.end - self.now.offsets.start) else None)) out.old out.new result }
     {
         let Range { start, end } = self.offsets;
         let counted = with_length.then_some(end - start);
@@ -68,8 +66,7 @@ pub fn encode_header<B: BufMut>(
 ) -> Result<(), NoRoom>
     requires offset { offset < 2 ^ 62 }
     requires counted { IfSome counted (λ n. n < 2 ^ 62) }
-    ensures { Writes result (stream_header id offset fin counted)
-        (B.written out.old) (B.spare out.old) (B.written out.new) (B.spare out.new) }
+    ensures { WritesTo B.written B.spare (stream_header id offset fin counted) out.old out.new result }
 {
     let ty = FrameType::of_stream(offset != 0, fin).into_inner();
     let id = u64::from(id);

@@ -3,7 +3,7 @@ ghost use Rattle.std.specs.Prelude.{◌≡◌, ◌<◌, ◌≤◌, ◌+◌, ◌*
 ghost use Rattle.quic_base.specs.ConnectionId.{long_id};
 ghost use Rattle.quic_base.specs.Varint.{shortest_varint, size};
 ghost use Rattle.quic_base.specs.Number.{AreBytes};
-ghost use Rattle.quic_base.specs.Writing.{Writes};
+ghost use Rattle.quic_base.specs.Writing.{WritesTo};
 ghost use Rattle.quic_frame_fields.specs.Numbers.{AreNumeric, AreEncoded, shortest_varints};
 
 use super::field;
@@ -60,8 +60,7 @@ pub(super) fn store_numbers(dest: &mut [u8], numbers: &[u64]) -> usize
 pub fn numbers<B: BufMut>(out: &mut B, numbers: &[u64]) -> Result<(), NoRoom>
     requires few { length numbers.now ≤ 5 }
     requires numeric { AreNumeric numbers.now }
-    ensures { Writes result (shortest_varints numbers.now) (B.written out.old) (B.spare out.old) (B.written out.new)
-        (B.spare out.new) }
+    ensures { WritesTo B.written B.spare (shortest_varints numbers.now) out.old out.new result }
 {
     let mut encoded = [0; HEADER_ROOM];
     let len = store_numbers(&mut encoded, numbers);
@@ -70,7 +69,7 @@ pub fn numbers<B: BufMut>(out: &mut B, numbers: &[u64]) -> Result<(), NoRoom>
 
 /// Appends bytes, in the same way.
 pub fn bytes<B: BufMut>(out: &mut B, bytes: &[u8]) -> Result<(), NoRoom>
-    ensures { Writes result bytes.now (B.written out.old) (B.spare out.old) (B.written out.new) (B.spare out.new) }
+    ensures { WritesTo B.written B.spare bytes.now out.old out.new result }
 {
     match out.put_slice(bytes) {
         Ok(()) => Ok(()),
@@ -82,9 +81,7 @@ pub fn bytes<B: BufMut>(out: &mut B, bytes: &[u8]) -> Result<(), NoRoom>
 pub fn numbers_and_bytes<B: BufMut>(out: &mut B, numbers: &[u64], tail: &[u8]) -> Result<(), NoRoom>
     requires few { length numbers.now ≤ 5 }
     requires numeric { AreNumeric numbers.now }
-    ensures { Writes result (shortest_varints numbers.now ++ tail.now) (B.written out.old) (B.spare out.old)
-        (B.written out.new)
-        (B.spare out.new) }
+    ensures { WritesTo B.written B.spare (shortest_varints numbers.now ++ tail.now) out.old out.new result }
 {
     self::numbers(out, numbers)?;
     bytes(out, tail)
@@ -92,8 +89,7 @@ pub fn numbers_and_bytes<B: BufMut>(out: &mut B, numbers: &[u64], tail: &[u8]) -
 
 /// Appends an id after its length, and bytes, in the same way.
 pub fn id_and_bytes<B: BufMut>(out: &mut B, id: &ConnectionId, tail: &[u8]) -> Result<(), NoRoom>
-    ensures { Writes result (long_id id.now ++ tail.now) (B.written out.old) (B.spare out.old) (B.written out.new)
-        (B.spare out.new) }
+    ensures { WritesTo B.written B.spare (long_id id.now ++ tail.now) out.old out.new result }
 {
     id.encode_long(out)?;
     bytes(out, tail)
@@ -115,8 +111,7 @@ pub fn size_of(n: u64) -> usize
 pub fn shortened<B: BufMut>(out: &mut B, encoded: &[u8], len: u64) -> Result<(), NoRoom>
     requires { (ns : List ℕ) → AreEncoded ns encoded.now → len ≡ length (shortest_varints ns) }
     ensures { (ns : List ℕ) → AreEncoded ns encoded.now
-        → Writes result (shortest_varints ns) (B.written out.old) (B.spare out.old) (B.written out.new)
-        (B.spare out.new) }
+        → WritesTo B.written B.spare (shortest_varints ns) out.old out.new result }
 {
     if len == encoded.len() as u64 {
         bytes(out, encoded)
@@ -128,8 +123,7 @@ pub fn shortened<B: BufMut>(out: &mut B, encoded: &[u8], len: u64) -> Result<(),
 // Appends the numbers one by one.
 fn each_shortened<B: BufMut>(out: &mut B, encoded: &[u8]) -> Result<(), NoRoom>
     ensures { (ns : List ℕ) → AreEncoded ns encoded.now
-        → Writes result (shortest_varints ns) (B.written out.old) (B.spare out.old) (B.written out.new)
-        (B.spare out.new) }
+        → WritesTo B.written B.spare (shortest_varints ns) out.old out.new result }
 {
     let mut rest = encoded;
     while let Ok((number, after)) = field::varint(rest) {

@@ -7,7 +7,7 @@ ghost use Rattle.quic_frames.specs.InRange.{CanStand, InRange};
 ghost use Rattle.quic_frame_fields.specs.Parts.{close_meaning};
 ghost use Rattle.quic_frames.specs.Meaning.{meaning_of};
 ghost use Rattle.quic_frame_fields.specs.Shortest.{shortest_frame, close_reason};
-ghost use Rattle.quic_base.specs.Writing.{Writes};
+ghost use Rattle.quic_base.specs.Writing.{WritesTo};
 ghost use Rattle.quic_frames.specs.declared.frame.Frame.TheVariants as frames;
 
 use super::{
@@ -30,8 +30,7 @@ impl Frame<'_> {
     #[tactic(auto, unfolding(quic_frame_fields::specs::Shortest::shortest_frame))]
     pub fn encode<B: BufMut>(&self, last: bool, out: &mut B) -> Result<(), NoRoom>
         requires { CanStand last self.now }
-        ensures { Writes result (shortest_frame last (meaning_of self.now))
-            (B.written out.old) (B.spare out.old) (B.written out.new) (B.spare out.new) }
+        ensures { WritesTo B.written B.spare (shortest_frame last (meaning_of self.now)) out.old out.new result }
     {
         match self {
             Frame::Padding => write::numbers(out, &[0x00]),
@@ -124,8 +123,8 @@ pub(super) fn bit_of(dir: Dir) -> u64
 // A STREAM, the last frame of its payload or not.
 fn encode_stream<B: BufMut>(stream: &Stream<'_>, last: bool, out: &mut B) -> Result<(), NoRoom>
     requires { CanStand last (frames.Stream stream.now) }
-    ensures { Writes result (shortest_frame last (meaning_of (frames.Stream stream.now)))
-        (B.written out.old) (B.spare out.old) (B.written out.new) (B.spare out.new) }
+    ensures { WritesTo B.written B.spare (shortest_frame last (meaning_of (frames.Stream stream.now)))
+        out.old out.new result }
 {
     let counted = (!last).then_some(stream.bytes.len() as u64);
     encode_header(out, stream.id, stream.offset, stream.fin, counted)?;
@@ -140,8 +139,8 @@ fn encode_datagram<B: BufMut>(
     out: &mut B,
 ) -> Result<(), NoRoom>
     requires { CanStand last (frames.Datagram datagram.now) }
-    ensures { Writes result (shortest_frame last (meaning_of (frames.Datagram datagram.now)))
-        (B.written out.old) (B.spare out.old) (B.written out.new) (B.spare out.new) }
+    ensures { WritesTo B.written B.spare (shortest_frame last (meaning_of (frames.Datagram datagram.now)))
+        out.old out.new result }
 {
     if last {
         write::numbers_and_bytes(out, &[0x30], datagram.bytes)
@@ -154,8 +153,8 @@ fn encode_datagram<B: BufMut>(
 // A close with its whole reason.
 fn encode_close<B: BufMut>(close: &Close<'_>, out: &mut B) -> Result<(), NoRoom>
     requires { length (close_reason close.now) < 2 ^ 62 }
-    ensures { (last : Bool) → Writes result (shortest_frame last (close_meaning close.now))
-        (B.written out.old) (B.spare out.old) (B.written out.new) (B.spare out.new) }
+    ensures { (last : Bool) → WritesTo B.written B.spare (shortest_frame last (close_meaning close.now))
+        out.old out.new result }
 {
     match close {
         Close::Connection(close) => close.encode_with(out, close.reason),
@@ -166,8 +165,7 @@ fn encode_close<B: BufMut>(close: &Close<'_>, out: &mut B) -> Result<(), NoRoom>
 // A frame of a type and eight bytes.
 fn encode_path<B: BufMut>(ty: u64, n: u64, out: &mut B) -> Result<(), NoRoom>
     requires { ty < 2 ^ 62 }
-    ensures { Writes result (shortest_varint ty ++ bytes_of 8 n)
-        (B.written out.old) (B.spare out.old) (B.written out.new) (B.spare out.new) }
+    ensures { WritesTo B.written B.spare (shortest_varint ty ++ bytes_of 8 n) out.old out.new result }
 {
     write::numbers_and_bytes(out, &[ty], &n.to_be_bytes())
 }

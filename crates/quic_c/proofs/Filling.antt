@@ -9,7 +9,7 @@ use Rattle.quic_frames.specs.IterState.{IterState}
 use Rattle.quic_frames.specs.Walk.{Finds}
 use Rattle.quic_frames.specs.Padding.{PassesPadding, behind}
 use Rattle.quic_c.specs.declared.words.CFrame.{CFrame}
-use Rattle.quic_c.specs.Shown.{frame_kind_of, shown, IsExtension}
+use Rattle.quic_c.specs.Shown.{frame_kind_of, frame_words, IsExtension}
 use Rattle.quic_c.specs.Answers.{IsRefusedFrame}
 use Rattle.quic_frame_fields.specs.Reading.{Invalid}
 use Rattle.quic_c.specs.Filling.{GivesEntry, Shows, HasNoFrame, Fills, further}
@@ -64,10 +64,10 @@ next_further here next new frame f run one =
 
 pub filling_goes_on : (basic : Bool) (old : IterState) (before : List CFrame) (here : IterState) (after : List CFrame) (count end : ℕ) (next new : IterState) (frame : Frame) (entry : CFrame) (stop type : ℕ)
     → Filling basic old before here after count end → count < length after → (finds : Finds here frame next) → ((basic ≡ true) × IsExtension (frame_kind_of frame) → ⊥) → (frame_kind_of frame ≡ 0 → (more : ℕ) × PassesPadding next more new) → (0 < frame_kind_of frame → new ≡ next)
-    → stop ≡ new.offset → type ≡ finds.found.type → entry ≡ shown end stop type frame → Filling basic old before new (set after count entry) (count + 1) stop
+    → stop ≡ new.offset → type ≡ finds.found.type → entry ≡ frame_words end stop type frame → Filling basic old before new (set after count entry) (count + 1) stop
 filling_goes_on basic old before here after count end next new frame entry stop type s room f known run one e begins words =
-    let same_words : entry ≡ shown here.offset new.offset f.found.type frame =
-    words ∙ ap (λ (n : ℕ). shown n stop type frame) (sym s.place) ∙ ap (λ (n : ℕ). shown here.offset n type frame) e ∙ ap (λ (n : ℕ). shown here.offset new.offset n frame) begins in
+    let same_words : entry ≡ frame_words here.offset new.offset f.found.type frame =
+    words ∙ ap (λ (n : ℕ). frame_words n stop type frame) (sym s.place) ∙ ap (λ (n : ℕ). frame_words here.offset n type frame) e ∙ ap (λ (n : ℕ). frame_words here.offset new.offset n frame) begins in
     let gives : GivesEntry basic here entry new = record { frame = frame; next = next; finds = f; known = known; run = run; one = one; words = same_words } in
     let front : take (count + 1) (set after count entry) ≡ take count after ++ entry ∷ [] = take_more_set after count entry room in
     record {

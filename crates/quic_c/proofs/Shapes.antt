@@ -8,7 +8,7 @@ use Rattle.quic_frames.specs.declared.frame.Frame.{Frame}
 use Rattle.quic_frames.specs.declared.frame.Frame.TheVariants as frames
 use Rattle.quic_frames.specs.InRange.{IsNoAck, IsTypedFrame, InRange, open_data}
 use Rattle.quic_c.specs.Shown.{frame_kind_of, flags_of, frame_numbers_of, data_of, tail_of}
-use Rattle.quic_c.specs.Shapes.{IsSound, Shape, shape, bare_shape, first_shape, second_shape, both_shape, shape_of, masked, kept_numbers, kept_data, token_room}
+use Rattle.quic_c.specs.Shapes.{IsSound, Shape, shape, bare_shape, first_shape, second_shape, both_shape, shape_of, kept_by_mask, kept_numbers, kept_data, token_room}
 
 zero_fits : 0 < 2 ^ 62
 zero_fits = omega arith
@@ -67,7 +67,7 @@ fin_kept false = refl
 none_some : (s : Shape) → ◌≡◌ {A = Option Shape} (Some s) None → ⊥
 none_some s e = cc
 
-kept_by : (frame : Frame) (s : Shape) → shape_of (frame_kind_of frame) ≡ Some s → masked s.numbers (frame_numbers_of frame) ≡ frame_numbers_of frame → (if s.has_data then data_of frame else []) ≡ data_of frame
+kept_by : (frame : Frame) (s : Shape) → shape_of (frame_kind_of frame) ≡ Some s → kept_by_mask s.numbers (frame_numbers_of frame) ≡ frame_numbers_of frame → (if s.has_data then data_of frame else []) ≡ data_of frame
     → ◌≡◌ {A = ℕ} (if frame_kind_of frame == 0x08 && flags_of frame == 1 then 1 else 0) (flags_of frame) → tail_of frame ≡ token_room (frame_kind_of frame) → Keeps frame
 kept_by frame s e numbers content flags tail = record {
   known = λ none. none_some s (sym e ∙ none);

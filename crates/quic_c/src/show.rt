@@ -2,7 +2,7 @@
 ghost use Rattle.std.specs.Prelude.{◌≡◌, ◌+◌, ◌-◌, ◌<◌, ◌^◌, [], ◌∷◌, length, if◌then◌else◌};
 ghost use Rattle.quic_base.specs.Ids.{dir_number};
 ghost use Rattle.quic_frames.specs.declared.frame.Frame.TheVariants as frames;
-ghost use Rattle.quic_c.specs.Shown.{frame_kind_of, flags_of, frame_numbers_of, data_of, tail_of, shown, counts_flag, counts_numbers};
+ghost use Rattle.quic_c.specs.Shown.{frame_kind_of, flags_of, frame_numbers_of, data_of, tail_of, frame_words, counts_flag, counts_numbers};
 
 use crate::words::CFrame;
 use quic_base::ids::Dir;
@@ -235,7 +235,7 @@ pub(crate) fn show_parts(begin: usize, end: usize, ty: u16, of_frame: Parts) -> 
 /// The words of a frame of this type, which in a payload goes from `begin` to `end`.
 #[inline(always)]
 pub(crate) fn show(begin: usize, end: usize, ty: u16, frame: &Frame<'_>) -> CFrame
-    ensures { result ≡ shown begin end ty frame.now }
+    ensures { result ≡ frame_words begin end ty frame.now }
 {
     show_parts(begin, end, ty, parts_of(frame))
 }

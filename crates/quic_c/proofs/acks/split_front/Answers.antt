@@ -10,8 +10,8 @@ returns-clause-gives c =
     let one = plain_type c.args.bytes.now c.in_ok-ty.behind_type.now c.in_ok-ty.ty (omega arith) c.in_ok-ty.ensures.read in
     rw (one, varint_read _ _ _ c.in_ok-largest.ensures.read, varint_read _ _ _ c.in_ok-behind_delay.ensures.read, varint_read _ _ _ c.in_ok-blocks.ensures.read) refl
 
-pub returns-clause-stands : goal.returns-clause-stands
-returns-clause-stands c =
+pub returns-clause-suffix : goal.returns-clause-suffix
+returns-clause-suffix c =
     front_stands c.args.bytes.now c.in_ok-ty.behind_type.now c.in_ok-largest.behind_largest.now c.in_ok-behind_delay.behind_delay.now c.in_ok-blocks.blocks.now c.in_ok-ty.ty c.in_ok-largest.largest c.in_ok-behind_delay.field-0-0 c.in_ok-blocks.field-0-0
     (λ i. (c.type_inv.bytes i).fits) (varint_read _ _ _ c.in_ok-ty.ensures.read) (varint_read _ _ _ c.in_ok-largest.ensures.read) (varint_read _ _ _ c.in_ok-behind_delay.ensures.read) (varint_read _ _ _ c.in_ok-blocks.ensures.read)
 

@@ -1,6 +1,6 @@
 use Rattle.std.proofs.Common.{◌≡◌, inl, inr, refl, true, Some, subst, ap, arith}
 use Rattle.quic_frames.specs.Walk.{invalid_of, Finds, Advances}
-use Rattle.quic_c.specs.Shown.{frame_kind_of, shown, IsExtension}
+use Rattle.quic_c.specs.Shown.{frame_kind_of, frame_words, IsExtension}
 use Rattle.quic_c.specs.Answers.{IsRefusedFrame, unknown_type}
 use Rattle.quic_c.proofs.Filling.{filling_ends, filling_goes_on}
 use Rattle.quic_c.proofs.Types.{is_kept, unknown_refused}
@@ -15,7 +15,7 @@ loop-count-preserved g c =
     let stop = c.offset-end-in-Some-Ok.result in
     let ty = c.type_read-ty.result in
     let begins = c.type_read-ty.ensures.value here.iter frame finds in
-    let words : c.show_parts.result ≡ shown here.end stop ty frame = rw c.parts_of-parts.ensures at c.show_parts.ensures in
+    let words : c.show_parts.result ≡ frame_words here.end stop ty frame = rw c.parts_of-parts.ensures at c.show_parts.ensures in
     let kind : c.parts_of-parts.result.kind ≡ frame_kind_of frame = ap (λ p. p.kind) c.parts_of-parts.ensures in
     let known : (c.args.basic ≡ true) × IsExtension (frame_kind_of frame) → ⊥ = is_kept _ _ frame c.is_unknown.ensures c.if-is_unknown.false in
     elim c.if-parts-eq0.branch [
